@@ -6,8 +6,10 @@ mod line;
 mod reading;
 mod sink;
 mod source;
+mod text;
 
 pub use line::{LINE_LIMIT, Line};
 pub use reading::{Reading, parse};
 pub use sink::{Sink, Unwritten, WriteSink, send};
 pub use source::{ReadSource, Source, Unread};
+pub use text::text_of;
