@@ -29,7 +29,7 @@ at-end : (more : List ℕ) (new : Known) → new ≡ Some more → IsAtEnd new �
 at-end more new e h = subst IsAtEnd e h
 
 -- the lines before the one that is being read are replied to
-replied-to : (n : ℕ) (done before : List ℕ) (after : Known) (run : declared.Run) (lines : List (List ℕ)) (s : Stands n done before after run) → s.lines ≡ lines
+abbrev replied-to : (n : ℕ) (done before : List ℕ) (after : Known) (run : declared.Run) (lines : List (List ℕ)) (s : Stands n done before after run) → s.lines ≡ lines
     → RepliedTo n lines before after
 replied-to n done before after run lines s same = record {
   replies = s.replies;

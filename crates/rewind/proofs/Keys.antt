@@ -1,8 +1,8 @@
 -- An object's keys.
-use Rattle.std.proofs.Common.{◌≡◌, ◌∙◌, ℕ, List, [], ◌∷◌, ◌++◌, length, map, refl, sym, ap, Some, Bool, true, false, String, Global, string_bytes}
-use Rattle.serde_json.specs.View.{view, members_view}
+use Rattle.std.proofs.Common.{◌≡◌, ℕ, List, [], ◌∷◌, map, refl, ap, Some, false, String, Global, string_bytes}
+use Rattle.serde_json.specs.View.{members_view}
 use Rattle.serde_json.specs.declared.value.Value.{Value}
-use Rattle.serde_json.specs.Data.{Data, null, boolean, number, string, array, object, Members, Items, item, unsigned}
+use Rattle.serde_json.specs.Data.{Data, null, boolean, number, string, array, object, Members, unsigned}
 use Rattle.serde_json.specs.Find.{as_object}
 use Rattle.serde_json.specs.View.{items_of}
 use Rattle.serde_json.specs.Written.{items_have_float}

@@ -1,5 +1,4 @@
 pub mod DriverLaws
-pub mod FaultLaws
 pub mod Keys
 pub mod OptionReads
 pub mod RunLaws

@@ -1,26 +1,21 @@
 -- What a caller reads of an option after a parse, where the words give it. The first lemmas are clap's own, which it keeps private.
-use Rattle.std.proofs.Common.{◌++◌, ◌||◌, ◌≡◌, ◌⊎◌, ◌∙◌, ◌<◌, ◌≤◌, ap, ℕ, ℤ, Bool, true, false, List, [], ◌∷◌, length, is_some, Option, Some, None, refl, sym, subst, inl, inr, arith, ◌^◌}
+use Rattle.std.proofs.Common.{◌++◌, ◌||◌, ◌≡◌, ◌∙◌, ◌<◌, ◌≤◌, ap, ℕ, Bool, true, false, List, [], ◌∷◌, length, is_some, Option, Some, None, refl, sym, subst, inl, inr, arith, ◌^◌}
 use Rattle.std.specs.List.{All, slice_index_or}
 use Rattle.std.specs.Str.{bytes_eq}
-use Rattle.std.specs.Prelude.{option_map, slice_get, unwrap_or, pos, ◌≤ℤ◌, Ok, Err, Result}
+use Rattle.std.specs.Prelude.{option_map, slice_get, unwrap_or, pos, Ok, Result}
 use Rattle.std.specs.Borrow.{Bor}
-use Rattle.std.specs.Str.Parse.{IsNumeral, ParsesUnsigned, digits_value, starts_with_minus, without_leading_plus}
-use Rattle.std.proofs.Common.{◌==◌, cond, drop}
-use Rattle.std.proofs.lemmas.Bool.{ne_eqb}
-use Rattle.std.proofs.lemmas.Str.Parse.{digit_from_value}
+use Rattle.std.specs.Str.Parse.{ParsesUnsigned}
 use Rattle.clap.specs.Lexer.{without_minus}
 use Rattle.std.proofs.lemmas.Slice.Eq.{bytes_eq-Decides}
 use Rattle.std.proofs.lemmas.List.Elements.{All-get_or}
-use Rattle.std.proofs.lemmas.Int.{ints}
-use Rattle.clap.specs.Facts.{args_of, groups_of, IsParsed, Entry, EntryPasses, ValuesPass, PassesArg, HasReading, least_values, parser_of, parser_of_value}
+use Rattle.clap.specs.Facts.{args_of, groups_of, Entry, EntryPasses, ValuesPass, PassesArg, HasReading, parser_of, parser_of_value}
 use Rattle.clap.specs.Built.{IsPlain, IsPlainArg, IsParsedFrom, IsAuto, AddsArg, SameRules}
-use Rattle.clap.specs.Matches.{matched_of, first_value, one_text, found_of, has_subcommand, ReadsOne}
+use Rattle.clap.specs.Matches.{matched_of, first_value, one_text, found_of, ReadsOne}
 use Rattle.clap.specs.declared.parser.matches.Found.{Found}
-use Rattle.clap.specs.Values.{Accepts, IsSignedIn, read_as, reading_of}
+use Rattle.clap.specs.Values.{Accepts, read_as, reading_of}
 use Rattle.clap.specs.declared.builder.value_parser.Reading.{Reading}
-use Rattle.clap.proofs.CallerLemmas.{entry_by_id, same_rules_by_id, required_has_value, added_plain}
+use Rattle.clap.proofs.CallerLemmas.{entry_by_id, same_rules_by_id, added_plain}
 use Rattle.std.proofs.lemmas.List.Elements.{All-nil}
-use Rattle.clap.specs.declared.builder.action.ArgAction.TheVariants.{Set}
 use Rattle.clap.specs.declared.builder.arg.Arg.{Arg}
 use Rattle.clap.specs.declared.builder.command.Command.{Command}
 use Rattle.clap.specs.declared.builder.command.Command.TheViews.{out-Command}
@@ -28,9 +23,7 @@ use Rattle.clap.specs.declared.builder.value_parser.ValueParser.{ValueParser}
 use Rattle.clap.specs.declared.parser.matches.ArgMatches.{ArgMatches}
 use Rattle.clap.specs.declared.parser.matches.MatchedArg.{MatchedArg}
 use Rattle.std.proofs.Common.{zero, suc, ap₂, true≢false}
-use Rattle.std.proofs.lemmas.List.Elements.{All-push}
 use Rattle.clap.specs.Built.{FitsChain}
-use Rattle.clap.specs.Walk.{one_of, rows_of}
 use Rattle.clap.specs.declared.builder.value_parser.ValueParser.TheVariants as vp
 use Rattle.clap.proofs.CallerReads.{signed_reads}
 use Rattle.rewind.specs.Options.{number_or_one}

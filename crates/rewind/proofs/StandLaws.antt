@@ -6,7 +6,7 @@ use Rattle.std.proofs.lemmas.List.{append-nil}
 use Rattle.std.proofs.Math.Seq.{take-append-add}
 use Rattle.std.specs.Io.KnownBytes.{Appends}
 use Rattle.serde_json.specs.Data.{Data}
-use Rattle.rewind_lines.specs.Front.{Front, front_of}
+use Rattle.rewind_lines.specs.Front.{front_of}
 use Rattle.rewind_lines.specs.Lines.{lines_of, reading_of}
 use Rattle.rewind_lines.specs.Texts.{reply_text, text_of}
 use Rattle.rewind_lines.proofs.Cut.{lines-byte, lines-empty, lines-front, lines-newline}
@@ -47,13 +47,16 @@ written-on n done before after b run s bs h =
 pub ends-memory : (n : ℕ) (done more before : List ℕ) (after : Option (List ℕ)) (run : declared.Run) → Stands n done before after run
     → EndsEarly n (done ++ more) before after fault.Memory
 unfolding EndsEarly Faulted
-ends-memory n done more before after run s = (length s.lines, record {
-  replies = s.replies;
-  phase = phase_of run.stage;
-  run = rw (lines-front done more s.lines s.part s.split) s.ran;
-  goes_on = phase_of-goes_on run.stage;
-  written = s.written;
-})
+ends-memory n done more before after run s = (
+  length s.lines,
+  record {
+    replies = s.replies;
+    phase = phase_of run.stage;
+    run = rw (lines-front done more s.lines s.part s.split) s.ran;
+    goes_on = phase_of-goes_on run.stage;
+    written = s.written;
+  },
+)
 
 take-lines : (ls : List (List ℕ)) → take (length ls) ls ≡ ls
 take-lines ls = take_whole (length ls) ls (omega arith)
@@ -86,14 +89,16 @@ unfolding EndsEarly Faulted
 ends-write n done before after b run text count new k s a h =
     let sent : text_of s.replies ++ take k text ≡ take (length (text_of s.replies) + k) (text_of (s.replies ++ a.replies)) =
     ap (λ t. text_of s.replies ++ take k t) a.is_text
-    ∙ (sym (take-append-add (text_of s.replies) (text_of a.replies) k) ∙ ap (take (length (text_of s.replies) + k)) (sym (text_of-append s.replies a.replies))) in
-    (length (lines_of done), record {
-      replies = s.replies ++ a.replies;
-      phase = new;
-      run = rw (take-lines (lines_of done)) (all-ran n done before after run s a.replies new a.answers);
-      sent = length (text_of s.replies) + k;
-      written = written-on n done before after b run s (take k text) h ∙ ap (λ t. Some (before ++ t)) sent;
-    })
+    ∙ (sym (take-append-add (text_of s.replies) (text_of a.replies) k) ∙ ap (take (length (text_of s.replies) + k)) (sym (text_of-append s.replies a.replies))) in (
+      length (lines_of done),
+      record {
+        replies = s.replies ++ a.replies;
+        phase = new;
+        run = rw (take-lines (lines_of done)) (all-ran n done before after run s a.replies new a.answers);
+        sent = length (text_of s.replies) + k;
+        written = written-on n done before after b run s (take k text) h ∙ ap (λ t. Some (before ++ t)) sent;
+      },
+    )
 
 all-written : (n : ℕ) (done before : List ℕ) (after b : Option (List ℕ)) (run : declared.Run) (text : List ℕ) (count : ℕ) (new : Phase) (s : Stands n done before after run)
     (a : AnswersText (phase_of run.stage) run.number (reading_of s.part) text count new) → Appends after b text
@@ -107,11 +112,14 @@ pub ends-refused : (n : ℕ) (done before : List ℕ) (after b : Option (List �
     → AnswersText (phase_of run.stage) run.number (reading_of s.part) text count refused → Appends after b text
     → EndsEarly n done before b fault.Graph
 unfolding EndsEarly Faulted
-ends-refused n done before after b run text count s a h = (length (lines_of done), record {
-  replies = s.replies ++ a.replies;
-  run = rw (take-lines (lines_of done)) (all-ran n done before after run s a.replies refused a.answers);
-  written = all-written n done before after b run text count refused s a h;
-})
+ends-refused n done before after b run text count s a h = (
+  length (lines_of done),
+  record {
+    replies = s.replies ++ a.replies;
+    run = rw (take-lines (lines_of done)) (all-ran n done before after run s a.replies refused a.answers);
+    written = all-written n done before after b run text count refused s a h;
+  },
+)
 
 -- the next line begins
 pub stands-next : (n : ℕ) (done before : List ℕ) (after b : Option (List ℕ)) (run next : declared.Run) (text : List ℕ) (count : ℕ) (s : Stands n done before after run)

@@ -1,5 +1,5 @@
 -- Which faults a run ends with.
-use Rattle.std.specs.Prelude.{ℕ, Bool, true, false, Result, Ok, Err}
+use Rattle.std.specs.Prelude.{Bool, true, false, Result, Ok, Err}
 use Rattle.rewind.specs.declared.fault.DebugFault.{DebugFault}
 use Rattle.rewind.specs.declared.fault.DebugFault.TheVariants.{Graph, Script, Read, Write, TooLong, Memory, Close}
 

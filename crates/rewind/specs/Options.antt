@@ -1,5 +1,5 @@
 -- The command line `rewind [--processors N] [--clients C]`, and what clap's reading of the words gives.
-use Rattle.std.specs.Prelude.{◌≡◌, ◌≢◌, ℕ, List, [], ◌∷◌, Option, Some, None, codes, pos, ⊤}
+use Rattle.std.specs.Prelude.{ℕ, List, Option, Some, None, codes, pos, ⊤}
 use Rattle.std.specs.Str.Parse.{digits_value, without_leading_plus}
 use Rattle.clap.specs.Words.{App, Rule, Text, matches_of, new_app, new_rule, one_of, with_rule}
 use Rattle.clap.specs.Kinds.{IsAmong, Kinds}

@@ -77,7 +77,9 @@ fn empty_command<'a>(alloc: Global) -> Command<'a>
     ensures groups { groups_of result ≡ [] }
     ensures local { (out-Command result).has_globals ≡ false }
 {
-    Command::new(alloc, "rewind").about(ABOUT).after_help(EXAMPLE)
+    Command::new(alloc, "rewind")
+        .about(ABOUT)
+        .after_help(EXAMPLE)
 }
 
 fn fault_of(alloc: Global, error: &Error) -> WordsFault

@@ -1,7 +1,7 @@
-use Rattle.std.proofs.Common.{◌≡◌, ◌∙◌, ℕ, ◌≤◌, Bool, true, false, List, [], map, codes, inl, inr, ap, ap₂, refl, sym, subst, arith}
+use Rattle.std.proofs.Common.{◌≡◌, ◌∙◌, true, false, List, [], map, codes, inl, inr, ap, ap₂, refl, sym, subst, arith}
 use Rattle.std.specs.Str.{bytes_eq}
 use Rattle.std.specs.Str.Parse.{ParsesUnsigned, ExplainsUnsignedError, HasUnsignedDigitsIfOk}
-use Rattle.clap.specs.Words.{App, Row, Text, app_of, found_of, is_simple, matches_of, one_of, one_text, rows_of, with_rule}
+use Rattle.clap.specs.Words.{App, Text, app_of, found_of, is_simple, matches_of, one_of, one_text, rows_of, with_rule}
 use Rattle.clap.specs.Faults.{fault_of, is_simple_and_free}
 use Rattle.clap.specs.Kinds.{HasKind, IsAmong, Kinds}
 use Rattle.clap.specs.Values.{kind_of}
@@ -10,7 +10,7 @@ use Rattle.clap.specs.declared.error.kind.ErrorKind.TheVariants as kind
 use Rattle.clap.specs.declared.error.kind.ErrorKind.{ErrorKind}
 use Rattle.clap.proofs.OnLiterals.{clap_on_literals}
 use Rattle.clap.proofs.WalkLemmas.{one_text-rows}
-use Rattle.rewind.specs.Options.{command_line, given, number_or_one, refusals}
+use Rattle.rewind.specs.Options.{command_line, number_or_one}
 use Rattle.rewind.proofs.OptionReads.{two_options}
 use Rattle.rewind.proofs.options.options_of.Goals as goal
 

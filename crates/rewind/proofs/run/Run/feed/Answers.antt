@@ -1,4 +1,4 @@
-use Rattle.std.proofs.Common.{◌∙◌, ℕ, ◌+◌, suc, List, ◌++◌, drop, take, arith, subst}
+use Rattle.std.proofs.Common.{◌∙◌, ℕ, suc, List, ◌++◌, drop, take, arith, subst}
 use Rattle.std.proofs.lemmas.Result.{err_from_is_err_and}
 use Rattle.rewind_lines.proofs.Lists.{at_element, one_more, take_whole}
 use Rattle.rewind.specs.States.{EndsEarly, Stands}
