@@ -1,5 +1,5 @@
 -- Which faults a run ends with.
-use Rattle.std.specs.Prelude.{Bool, true, false, Result, Ok, Err}
+use Rattle.std.specs.Prelude.{ℕ, Bool, true, false, Result, Ok, Err}
 use Rattle.rewind.specs.declared.fault.DebugFault.{DebugFault}
 use Rattle.rewind.specs.declared.fault.DebugFault.TheVariants.{Graph, Script, Read, Write, TooLong, Memory, Close}
 
@@ -24,6 +24,16 @@ is_write_fault (Err Write) = true
 is_write_fault (Err TooLong) = false
 is_write_fault (Err Memory) = false
 is_write_fault (Err Close) = false
+
+-- the exit status of a program whose run ended so
+abbrev pub status_of : DebugFault → ℕ
+status_of Graph = 2
+status_of Script = 2
+status_of Read = 3
+status_of Write = 3
+status_of TooLong = 3
+status_of Memory = 4
+status_of Close = 5
 
 -- the faults that a line's answer may end a run with
 abbrev pub IsOfRun : DebugFault → Type 0

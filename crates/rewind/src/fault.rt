@@ -1,5 +1,8 @@
 //! Why a run of a script ended before its input did.
 
+ghost use Rattle.std.specs.Prelude.{◌≡◌};
+ghost use Rattle.rewind.specs.Faults.{status_of};
+
 use rewind_lines::{Unread, Unwritten};
 use std::alloc::{AllocError, AllocFailed};
 use thiserror::Error;
@@ -30,8 +33,21 @@ pub enum DebugFault {
     Close,
 }
 
+impl DebugFault {
+    /// The exit status of a program whose run ended so.
+    pub fn status(self) -> u8
+        ensures { result ≡ status_of self }
+    {
+        match self {
+            DebugFault::Graph | DebugFault::Script => 2,
+            DebugFault::Read | DebugFault::Write | DebugFault::TooLong => 3,
+            DebugFault::Memory => 4,
+            DebugFault::Close => 5,
+        }
+    }
+}
+
 impl From<AllocError> for DebugFault {
-    ghost use Rattle.std.specs.Prelude.{◌≡◌};
     ghost use Rattle.rewind.specs.declared.fault.DebugFault.TheVariants.{Memory};
 
     ghost from_gives = { λ _ e. e ≡ Memory };
@@ -42,7 +58,6 @@ impl From<AllocError> for DebugFault {
 }
 
 impl<T: Drop> From<AllocFailed<T>> for DebugFault {
-    ghost use Rattle.std.specs.Prelude.{◌≡◌};
     ghost use Rattle.rewind.specs.declared.fault.DebugFault.TheVariants.{Memory};
 
     ghost from_gives = { λ _ e. e ≡ Memory };
@@ -53,7 +68,6 @@ impl<T: Drop> From<AllocFailed<T>> for DebugFault {
 }
 
 impl From<Unread> for DebugFault {
-    ghost use Rattle.std.specs.Prelude.{◌≡◌};
     ghost use Rattle.rewind.specs.declared.fault.DebugFault.TheVariants.{Read};
 
     ghost from_gives = { λ _ e. e ≡ Read };
@@ -64,7 +78,6 @@ impl From<Unread> for DebugFault {
 }
 
 impl From<Unwritten> for DebugFault {
-    ghost use Rattle.std.specs.Prelude.{◌≡◌};
     ghost use Rattle.rewind.specs.declared.fault.DebugFault.TheVariants.{Write};
 
     ghost from_gives = { λ _ e. e ≡ Write };
