@@ -1,7 +1,7 @@
 //! A graph whose ends, ports and depths agree.
 ghost use Rattle.std.specs.Prelude.{◌≡◌, ◌<◌, ◌≤◌, Some, All, IfOk, filter, length, nat_eq, slice_get};
 ghost use Rattle.nd_time.specs.Limits.{max_depth, max_locations};
-ghost use Rattle.nd_graph.specs.Graph.{arcs as arcs_of, depths, location_count as count_of, names, ArcAgrees};
+ghost use Rattle.nd_graph.specs.Graph.{arcs as arcs_of, depths as depths_of, location_count as count_of, names, ArcAgrees};
 
 use crate::{Action, Name, Op, Route};
 use arrayvec::ArrayVec;
@@ -72,6 +72,7 @@ pub struct Arc {
 pub struct Graph<A: Allocator = Global> {
     vertices: Vec<Vertex, A>,
     edges: Vec<Edge, A>,
+    depths: Vec<usize, A>,
     arcs: Vec<Arc, A>,
 }
 
@@ -82,7 +83,7 @@ impl<A: Allocator> Model for Graph<A> {
 
     ghost view = { λ a. record { vertices = a.vertices.items; edges = a.edges.items } };
 
-    ghost invariant = { λ a. IsGraph (record { vertices = a.vertices.items; edges = a.edges.items }) a.arcs.items };
+    ghost invariant = { λ a. IsGraph (record { vertices = a.vertices.items; edges = a.edges.items }) a.depths.items a.arcs.items };
 }
 
 fn copied_vertices<A: Allocator>(
@@ -123,11 +124,38 @@ impl<A: Allocator> Graph<A> {
         &self.edges
     }
 
+    /// The number of locations: vertices, then edges.
+    pub fn location_count(&self) -> usize
+        ensures count { result ≡ count_of self.now }
+        ensures few { count_of self.now ≤ max_locations }
+    {
+        self.vertices.len() + self.edges.len()
+    }
+
+    /// How many loops lie around a location.
+    pub fn location_depth(&self, location: usize) -> usize
+        requires { location < count_of self.now }
+        ensures depth { slice_get (depths_of self.now) location ≡ Some result }
+        ensures shallow { result ≤ max_depth }
+    {
+        self.depths[location]
+    }
+
+    /// How many loops lie around each location, in the order of locations.
+    pub fn depths(&self) -> &[usize]
+        ensures depths { result.now ≡ depths_of self.now }
+        ensures shallow { All (λ d. d ≤ max_depth) (depths_of self.now) }
+        ensures each { length (depths_of self.now) ≡ count_of self.now }
+        ensures few { count_of self.now ≤ max_locations }
+    {
+        &self.depths
+    }
+
     /// All arcs: of each edge in turn, the one that enters it and the one that leaves it.
     pub fn all_arcs(&self) -> &[Arc]
         ensures arcs { result.now ≡ arcs_of self.now }
-        ensures agree { All (ArcAgrees (depths self.now)) (arcs_of self.now) }
-        ensures shallow { All (λ d. d ≤ max_depth) (depths self.now) }
+        ensures agree { All (ArcAgrees (depths_of self.now)) (arcs_of self.now) }
+        ensures shallow { All (λ d. d ≤ max_depth) (depths_of self.now) }
         ensures few { count_of self.now ≤ max_locations }
     {
         &self.arcs
@@ -141,10 +169,12 @@ impl<A: Allocator> Graph<A> {
     {
         let vertices = copied_vertices(alloc, &self.vertices)?;
         let edges = copied_edges(alloc, &self.edges)?;
+        let depths = Vec::from_slice(alloc, &self.depths)?;
         let arcs = Vec::from_slice(alloc, &self.arcs)?;
         Ok(Graph {
             vertices,
             edges,
+            depths,
             arcs,
         })
     }
