@@ -1,2 +1,4 @@
 pub mod Name
 pub mod Graph
+pub mod Fault
+pub mod Draft

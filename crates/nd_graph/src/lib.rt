@@ -1,10 +1,14 @@
 //! Dataflow graphs: vertices with operators, edges between them, and the arcs along which times move.
 #![tactic(auto)]
 
+mod draft;
+mod fault;
 mod graph;
 mod name;
 mod op;
 
+pub use draft::{DraftEdge, GraphDraft};
+pub use fault::GraphFault;
 pub use graph::{Arc, Edge, Graph, Vertex};
 pub use name::Name;
 pub use op::{Action, Op, Route};
