@@ -1,10 +1,14 @@
 //! Why a line is no command.
-use std::alloc::{AllocError, AllocFailed};
+use std::alloc::AllocError;
 use thiserror::Error;
 
 /// Why a line is no command (this project's own rule).
 #[derive(Clone, Copy, Debug, PartialEq, Eq, Drop, Error)]
 pub enum LineFault {
+    #[error("the line has more bytes than a line may have")]
+    LineTooLong,
+    #[error("the line is no JSON value")]
+    BadLine,
     #[error("the line has not the form of a command")]
     BadShape,
     #[error("the line names what the graph does not have")]
