@@ -1,0 +1,14 @@
+use Rattle.rewind_forms.specs.Forms.{command_of}
+use Rattle.rewind_forms.proofs.command.command_of.Goals as goal
+
+pub returns-then-is_form-clause-err : goal.returns-then-is_form-clause-err
+unfolding command_of
+returns-then-is_form-clause-err c = rw (← c.if-is_form.ensures) c.feed_of.ensures.err
+
+pub returns-then-is_form-2-clause-err : goal.returns-then-is_form-2-clause-err
+unfolding command_of
+returns-then-is_form-2-clause-err c = rw (← c.if-is_form.ensures, ← c.if-is_form-2.ensures) c.take_of.ensures.err
+
+pub returns-then-is_form-5-clause-err : goal.returns-then-is_form-5-clause-err
+unfolding command_of
+returns-then-is_form-5-clause-err c = rw (← c.if-is_form.ensures, ← c.if-is_form-2.ensures, ← c.if-is_form-3.ensures, ← c.if-is_form-4.ensures, ← c.if-is_form-5.ensures) c.count_of.ensures.err

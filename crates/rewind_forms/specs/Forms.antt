@@ -1,0 +1,83 @@
+-- What a line asks for: its keys, then the shapes of their values, then the names, then the times.
+use Rattle.std.specs.Prelude.{ℕ, ℤ, ◌&&◌, Bool, List, [], ◌∷◌, if◌then◌else◌, Option, Some, None, codes, option_map, option_and_then, Result, Ok, Err}
+use Rattle.serde_json.specs.Data.{Data}
+use Rattle.nd_json.specs.Forms.{has_keys, has_text, small, integer, text_at, small_at, integer_at, list_at}
+use Rattle.nd_graph.specs.Graph.{Dataflow}
+use Rattle.nd_cluster.specs.declared.step.Step.TheVariants.{Feed, Take}
+use Rattle.nd_cluster.specs.declared.step.Next.{Next as Afterwards}
+use Rattle.nd_cluster.specs.declared.step.Next.TheVariants as token
+use Rattle.rewind_forms.specs.Places.{vertex_named, edge_named, location_named, time_of}
+use Rattle.rewind_forms.specs.declared.fault.LineFault.{LineFault}
+use Rattle.rewind_forms.specs.declared.fault.LineFault.TheVariants.{BadShape, UnknownName, BadTime}
+use Rattle.rewind_forms.specs.declared.command.Command.{Command}
+use Rattle.rewind_forms.specs.declared.command.Command.TheVariants.{Forward, Back, State, Count}
+
+-- what is made of a value where it is there, and else the fault
+abbrev pub given : {A : Type 0} → LineFault → Option A → (A → Result Command LineFault) → Result Command LineFault
+given fault None made = Err fault
+given fault (Some x) made = made x
+
+-- what all items are, where each is something
+abbrev pub each : {A B : Type 0} → (A → Option B) → List A → Option (List B)
+each f [] = Some []
+each f (x ∷ xs) = option_and_then (λ y. option_map (λ ys. y ∷ ys) (each f xs)) (f x)
+
+-- the numbers of a time: at least one
+abbrev pub numbers_of : List Data → Option (List ℕ)
+numbers_of [] = None
+numbers_of (d ∷ ds) = each small (d ∷ ds)
+
+-- the numbers of the time at the key
+unfoldable pub numbers_at : List ℕ → Data → Option (List ℕ)
+numbers_at key d = option_and_then numbers_of (list_at key d)
+
+-- the values in the list at the key
+unfoldable pub values_at : List ℕ → Data → Option (List ℤ)
+values_at key d = option_and_then (each integer) (list_at key d)
+
+-- what becomes of the token after a feed
+unfoldable pub next_at : Data → Option Afterwards
+next_at d =
+    if has_text (codes "next") (codes "next") d then Some token.Next
+    else (if has_text (codes "next") (codes "close") d then Some token.Close else None)
+
+-- an object with exactly these keys that asks for this
+unfoldable pub is_form : List ℕ → List (List ℕ) → Data → Bool
+is_form wanted keys d = has_keys keys d && has_text (codes "do") wanted d
+
+unfoldable pub feed_of : Dataflow → Data → Result Command LineFault
+feed_of g d =
+    given BadShape (small_at (codes "p") d) (λ p.
+    given BadShape (text_at (codes "vertex") d) (λ name.
+    given BadShape (values_at (codes "values") d) (λ values.
+    given BadShape (next_at d) (λ next.
+    given UnknownName (vertex_named g name) (λ vertex.
+    Ok (Forward (Feed p vertex values next)))))))
+
+unfoldable pub take_of : Dataflow → Data → Result Command LineFault
+take_of g d =
+    given BadShape (small_at (codes "p") d) (λ p.
+    given BadShape (text_at (codes "edge") d) (λ name.
+    given BadShape (numbers_at (codes "time") d) (λ numbers.
+    given BadShape (integer_at (codes "value") d) (λ value.
+    given UnknownName (edge_named g name) (λ edge.
+    given BadTime (time_of g edge numbers) (λ time.
+    Ok (Forward (Take p edge time value))))))))
+
+unfoldable pub count_of : Dataflow → Data → Result Command LineFault
+count_of g d =
+    given BadShape (text_at (codes "at") d) (λ name.
+    given BadShape (numbers_at (codes "time") d) (λ numbers.
+    given UnknownName (location_named g name) (λ location.
+    given BadTime (time_of g location numbers) (λ time.
+    Ok (Count (record { location = location; time = time }))))))
+
+-- what a line asks for, against a graph
+unfoldable pub command_of : Dataflow → Data → Result Command LineFault
+command_of g d =
+    if is_form (codes "feed") (codes "do" ∷ codes "next" ∷ codes "p" ∷ codes "values" ∷ codes "vertex" ∷ []) d then feed_of g d
+    else (if is_form (codes "take") (codes "do" ∷ codes "edge" ∷ codes "p" ∷ codes "time" ∷ codes "value" ∷ []) d then take_of g d
+    else (if is_form (codes "back") (codes "do" ∷ []) d then Ok Back
+    else (if is_form (codes "state") (codes "do" ∷ []) d then Ok State
+    else (if is_form (codes "count") (codes "at" ∷ codes "do" ∷ codes "time" ∷ []) d then count_of g d
+    else Err BadShape))))

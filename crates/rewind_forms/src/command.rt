@@ -1,0 +1,121 @@
+//! What a line's JSON value asks for.
+ghost use Rattle.std.specs.Prelude.{◌≡◌, ◌≢◌, map, Ok, Err, IfOk, IfErr};
+ghost use Rattle.serde_json.specs.View.{view};
+ghost use Rattle.rewind_forms.specs.Forms.{feed_of as feed_in, take_of as take_in, count_of as count_in, command_of as command_in, next_at as next_in, is_form as form_is};
+
+use crate::LineFault;
+use crate::numbers::{numbers_at, values_at};
+use crate::places::{edge_named, location_named, time_of, vertex_named};
+use nd_cluster::{Next, Step};
+use nd_graph::Graph;
+use nd_json::{has_keys, has_text, integer_at, small_at, text_at};
+use nd_paths::Pointstamp;
+use serde_json::Value;
+use std::alloc::Global;
+
+/// What a line asks for.
+#[derive(Drop)]
+pub enum Command {
+    /// Makes a step.
+    Forward(Step),
+    /// Undoes the last step.
+    Back,
+    /// Asks for the whole state.
+    State,
+    /// Asks for the true count of a pointstamp.
+    Count(Pointstamp),
+}
+
+// Whether the value is an object with these keys, which are in the order of their bytes, that asks for this.
+#[tactic(auto, unfolding(crate::specs::Forms::is_form))]
+fn is_form(value: &Value, wanted: &str, keys: &[&str]) -> bool
+    ensures { result ≡ form_is wanted.now (map (λ k. k.now) keys.now) (view value.now) }
+{
+    has_keys(value, keys) && has_text(value, "do", wanted)
+}
+
+// What becomes of the token after a feed.
+#[tactic(auto, unfolding(crate::specs::Forms::next_at))]
+fn next_at(value: &Value) -> Option<Next>
+    ensures { result ≡ next_in (view value.now) }
+{
+    if has_text(value, "next", "next") {
+        Some(Next::Next)
+    } else if has_text(value, "next", "close") {
+        Some(Next::Close)
+    } else {
+        None
+    }
+}
+
+#[tactic(auto, unfolding(crate::specs::Forms::feed_of))]
+fn feed_of(alloc: Global, graph: &Graph, value: &Value) -> Result<Command, LineFault>
+    ensures ok { IfOk result (λ c. feed_in graph.now (view value.now) ≡ Ok c) }
+    ensures err { IfErr result (λ e. e ≢ LineFault.Memory → feed_in graph.now (view value.now) ≡ Err e) }
+{
+    let p = small_at(value, "p").ok_or(LineFault::BadShape)?;
+    let name = text_at(value, "vertex").ok_or(LineFault::BadShape)?;
+    let values = values_at(alloc, value, "values")?.ok_or(LineFault::BadShape)?;
+    let next = next_at(value).ok_or(LineFault::BadShape)?;
+    let vertex = vertex_named(graph, name).ok_or(LineFault::UnknownName)?;
+    Ok(Command::Forward(Step::Feed {
+        p,
+        vertex,
+        values,
+        next,
+    }))
+}
+
+#[tactic(auto, unfolding(crate::specs::Forms::take_of))]
+fn take_of(alloc: Global, graph: &Graph, value: &Value) -> Result<Command, LineFault>
+    ensures ok { IfOk result (λ c. take_in graph.now (view value.now) ≡ Ok c) }
+    ensures err { IfErr result (λ e. e ≢ LineFault.Memory → take_in graph.now (view value.now) ≡ Err e) }
+{
+    let p = small_at(value, "p").ok_or(LineFault::BadShape)?;
+    let name = text_at(value, "edge").ok_or(LineFault::BadShape)?;
+    let numbers = numbers_at(alloc, value, "time")?.ok_or(LineFault::BadShape)?;
+    let number = integer_at(value, "value").ok_or(LineFault::BadShape)?;
+    let edge = edge_named(graph, name).ok_or(LineFault::UnknownName)?;
+    let time = time_of(graph, edge, numbers.as_slice()).ok_or(LineFault::BadTime)?;
+    Ok(Command::Forward(Step::Take {
+        p,
+        edge,
+        time,
+        value: number,
+    }))
+}
+
+#[tactic(auto, unfolding(crate::specs::Forms::count_of))]
+fn count_of(alloc: Global, graph: &Graph, value: &Value) -> Result<Command, LineFault>
+    ensures ok { IfOk result (λ c. count_in graph.now (view value.now) ≡ Ok c) }
+    ensures err { IfErr result (λ e. e ≢ LineFault.Memory → count_in graph.now (view value.now) ≡ Err e) }
+{
+    let name = text_at(value, "at").ok_or(LineFault::BadShape)?;
+    let numbers = numbers_at(alloc, value, "time")?.ok_or(LineFault::BadShape)?;
+    let location = location_named(graph, name).ok_or(LineFault::UnknownName)?;
+    let time = time_of(graph, location, numbers.as_slice()).ok_or(LineFault::BadTime)?;
+    Ok(Command::Count(Pointstamp { location, time }))
+}
+
+/// What the value asks for, against the graph.
+///
+/// `Memory` comes only where there was no memory for a list of the line.
+#[tactic(auto, unfolding(crate::specs::Forms::command_of))]
+pub fn command_of(alloc: Global, graph: &Graph, value: &Value) -> Result<Command, LineFault>
+    ensures ok { IfOk result (λ c. command_in graph.now (view value.now) ≡ Ok c) }
+    ensures err { IfErr result (λ e. e ≢ LineFault.Memory → command_in graph.now (view value.now) ≡ Err e) }
+{
+    if is_form(value, "feed", &["do", "next", "p", "values", "vertex"]) {
+        feed_of(alloc, graph, value)
+    } else if is_form(value, "take", &["do", "edge", "p", "time", "value"]) {
+        take_of(alloc, graph, value)
+    } else if is_form(value, "back", &["do"]) {
+        Ok(Command::Back)
+    } else if is_form(value, "state", &["do"]) {
+        Ok(Command::State)
+    } else if is_form(value, "count", &["at", "do", "time"]) {
+        count_of(alloc, graph, value)
+    } else {
+        Err(LineFault::BadShape)
+    }
+}

@@ -1,0 +1,31 @@
+//! Why a line is no command.
+use std::alloc::AllocError;
+use thiserror::Error;
+
+/// Why a line is no command (this project's own rule).
+#[derive(Clone, Copy, Debug, PartialEq, Eq, Drop, Error)]
+pub enum LineFault {
+    #[error("the line has more bytes than a line may have")]
+    LineTooLong,
+    #[error("the line is no JSON value")]
+    BadLine,
+    #[error("the line has not the form of a command")]
+    BadShape,
+    #[error("the line names what the graph does not have")]
+    UnknownName,
+    #[error("a time has not the depth of its place")]
+    BadTime,
+    #[error("out of memory")]
+    Memory,
+}
+
+impl From<AllocError> for LineFault {
+    ghost use Rattle.std.specs.Prelude.{◌≡◌};
+    ghost use Rattle.rewind_forms.specs.declared.fault.LineFault.TheVariants.{Memory};
+
+    ghost from_gives = { λ _ e. e ≡ Memory };
+
+    fn from(_error: AllocError) -> LineFault {
+        LineFault::Memory
+    }
+}

@@ -1,0 +1,60 @@
+//! Lists of numbers among JSON values.
+ghost use Rattle.std.specs.Prelude.{◌≡◌, map, option_map, IfOk};
+ghost use Rattle.serde_json.specs.View.{view};
+ghost use Rattle.nd_json.specs.Forms.{small as small_in, integer as integer_in};
+ghost use Rattle.rewind_forms.specs.Forms.{each, numbers_at as numbers_in, values_at as values_in};
+
+use nd_cluster::Values;
+use nd_json::{integer, list_at, small};
+use serde_json::Value;
+use std::alloc::{AllocError, Global};
+
+// The numbers that the items are, if each is one from 0 to 2^32 - 1.
+fn smalls(alloc: Global, items: &[Value]) -> Result<Option<Vec<u32>>, AllocError>
+    ensures { IfOk result (λ o. option_map (λ v. v.items) o ≡ each small_in (map view items.now)) }
+{
+    let mut numbers = Vec::new(alloc);
+    for item in items {
+        let Some(number) = small(item) else {
+            return Ok(None);
+        };
+        numbers.push(number)?;
+    }
+    Ok(Some(numbers))
+}
+
+// The values that the items are, if each is one of 64 bits.
+fn integers(alloc: Global, items: &[Value]) -> Result<Option<Values>, AllocError>
+    ensures { IfOk result (λ o. o ≡ each integer_in (map view items.now)) }
+{
+    let mut values = Values::new(alloc);
+    for item in items {
+        let Some(number) = integer(item) else {
+            return Ok(None);
+        };
+        values.push(number)?;
+    }
+    Ok(Some(values))
+}
+
+/// The numbers of the time at the key: an epoch and any number of counters.
+#[tactic(auto, unfolding(crate::specs::Forms::numbers_at))]
+pub fn numbers_at(alloc: Global, value: &Value, key: &str) -> Result<Option<Vec<u32>>, AllocError>
+    ensures { IfOk result (λ o. option_map (λ v. v.items) o ≡ numbers_in key.now (view value.now)) }
+{
+    match list_at(value, key) {
+        Some(items) if items.len() > 0 => smalls(alloc, items),
+        _ => Ok(None),
+    }
+}
+
+/// The values in the list at the key.
+#[tactic(auto, unfolding(crate::specs::Forms::values_at))]
+pub fn values_at(alloc: Global, value: &Value, key: &str) -> Result<Option<Values>, AllocError>
+    ensures { IfOk result (λ o. o ≡ values_in key.now (view value.now)) }
+{
+    match list_at(value, key) {
+        Some(items) => integers(alloc, items),
+        None => Ok(None),
+    }
+}

@@ -1,0 +1,156 @@
+//! The reply values.
+ghost use Rattle.std.specs.Prelude.{◌≡◌, false, Some, IfOk};
+ghost use Rattle.serde_json.specs.View.{view};
+ghost use Rattle.serde_json.specs.Written.{has_float};
+ghost use Rattle.rewind_forms.specs.Replies.{fault as fault_data, location_fault as location_fault_data, graph as graph_data, moved as moved_data};
+ghost use Rattle.rewind_forms.specs.Replies.{name_of, refused as refused_data, at_start as at_start_data, timeline_full as timeline_full_data, faulty as faulty_data, line_fault as line_fault_data, count as count_data, state as state_data, reply_text as text_in};
+
+use crate::LineFault;
+use nd_cluster::Refusal;
+use serde_json::{Value, json};
+use std::alloc::{AllocError, Global};
+
+/// A fault's number and name.
+pub fn fault(alloc: Global, number: u64, name: &str) -> Result<Value, AllocError>
+    ensures reply { IfOk result (λ v. view v ≡ fault_data number name.now) }
+    ensures text { IfOk result (λ v. has_float (view v) ≡ false) }
+{
+    json!(in alloc; {"code": number, "error": name})
+}
+
+/// A fault's number and name, and the location where it lies.
+pub fn location_fault(
+    alloc: Global,
+    number: u64,
+    name: &str,
+    location: &str,
+) -> Result<Value, AllocError>
+    ensures reply { IfOk result (λ v. view v ≡ location_fault_data number name.now location.now) }
+    ensures text { IfOk result (λ v. has_float (view v) ≡ false) }
+{
+    json!(in alloc; {"code": number, "error": name, "location": location})
+}
+
+/// The reply to a graph: the number of its locations, and of the processors.
+pub fn graph(alloc: Global, locations: u64, processors: u64) -> Result<Value, AllocError>
+    ensures reply { IfOk result (λ v. view v ≡ graph_data locations processors) }
+    ensures text { IfOk result (λ v. has_float (view v) ≡ false) }
+{
+    json!(in alloc; {"locations": locations, "ok": true, "processors": processors})
+}
+
+/// The reply to a command that was carried out: the cursor, and the number of kept steps.
+pub fn moved(alloc: Global, at: u64, kept: u64) -> Result<Value, AllocError>
+    ensures reply { IfOk result (λ v. view v ≡ moved_data at kept) }
+    ensures text { IfOk result (λ v. has_float (view v) ≡ false) }
+{
+    json!(in alloc; {"at": at, "kept": kept, "ok": true})
+}
+
+// The refusal's name.
+fn name_of_refusal(refusal: Refusal) -> &'static str
+    ensures { result.now ≡ name_of refusal }
+{
+    match refusal {
+        Refusal::NoProcessor => "NoProcessor",
+        Refusal::NoVertex => "NoVertex",
+        Refusal::NoEdge => "NoEdge",
+        Refusal::NotInput => "NotInput",
+        Refusal::InputClosed => "InputClosed",
+        Refusal::TooManyValues => "TooManyValues",
+        Refusal::EpochFull => "EpochFull",
+        Refusal::NoRecord => "NoRecord",
+        Refusal::ValueRange => "ValueRange",
+        Refusal::CountFull => "CountFull",
+        Refusal::DeltaFull => "DeltaFull",
+        Refusal::Memory => "Memory",
+    }
+}
+
+/// The reply to a step that was refused at a cursor.
+pub fn refused(alloc: Global, refusal: Refusal, at: u64) -> Result<Value, AllocError>
+    ensures reply { IfOk result (λ v. view v ≡ refused_data refusal at) }
+    ensures text { IfOk result (λ v. has_float (view v) ≡ false) }
+{
+    match refusal {
+        Refusal::Memory => out_of_memory(alloc, at),
+        other => fault(alloc, other.number(), name_of_refusal(other)),
+    }
+}
+
+/// The reply to a command for which there was no memory, which left the cursor there.
+pub fn out_of_memory(alloc: Global, at: u64) -> Result<Value, AllocError>
+    ensures reply { IfOk result (λ v. view v ≡ refused_data Refusal.Memory at) }
+    ensures text { IfOk result (λ v. has_float (view v) ≡ false) }
+{
+    json!(in alloc; {"at": at, "code": 19u64, "error": "Memory"})
+}
+
+/// The reply to a step back where nothing is kept before the cursor.
+pub fn at_start(alloc: Global) -> Result<Value, AllocError>
+    ensures reply { IfOk result (λ v. view v ≡ at_start_data) }
+    ensures text { IfOk result (λ v. has_float (view v) ≡ false) }
+{
+    fault(alloc, 20, "AtStart")
+}
+
+/// The reply to a step where as many are kept as may be.
+pub fn timeline_full(alloc: Global) -> Result<Value, AllocError>
+    ensures reply { IfOk result (λ v. view v ≡ timeline_full_data) }
+    ensures text { IfOk result (λ v. has_float (view v) ≡ false) }
+{
+    fault(alloc, 23, "TimelineFull")
+}
+
+// A fault of the line of this number.
+fn faulty(alloc: Global, number: u64, name: &str, line: u64) -> Result<Value, AllocError>
+    ensures reply { IfOk result (λ v. view v ≡ faulty_data number name.now line) }
+    ensures text { IfOk result (λ v. has_float (view v) ≡ false) }
+{
+    json!(in alloc; {"code": number, "error": name, "line": line})
+}
+
+/// The reply to the line of this number, counted from 1, which is no command.
+///
+/// Want of memory is no reply: it is given back as the error.
+pub fn line_fault(alloc: Global, fault: LineFault, line: u64) -> Result<Value, AllocError>
+    ensures reply { IfOk result (λ v. Some (view v) ≡ line_fault_data fault line) }
+    ensures text { IfOk result (λ v. has_float (view v) ≡ false) }
+{
+    match fault {
+        LineFault::BadLine => faulty(alloc, 30, "BadLine", line),
+        LineFault::BadShape => faulty(alloc, 31, "BadShape", line),
+        LineFault::UnknownName => faulty(alloc, 32, "UnknownName", line),
+        LineFault::LineTooLong => faulty(alloc, 33, "LineTooLong", line),
+        LineFault::BadTime => faulty(alloc, 34, "BadTime", line),
+        LineFault::Memory => Err(AllocError),
+    }
+}
+
+/// The reply to a query for a count.
+pub fn count(alloc: Global, count: u64) -> Result<Value, AllocError>
+    ensures reply { IfOk result (λ v. view v ≡ count_data count) }
+    ensures text { IfOk result (λ v. has_float (view v) ≡ false) }
+{
+    json!(in alloc; {"count": count, "ok": true})
+}
+
+/// The reply to a query for the state, which the value shows.
+pub fn state(alloc: Global, shown: Value) -> Result<Value, AllocError>
+    requires { has_float (view shown) ≡ false }
+    ensures reply { IfOk result (λ v. view v ≡ state_data (view shown)) }
+    ensures text { IfOk result (λ v. has_float (view v) ≡ false) }
+{
+    json!(in alloc; {"ok": true, "state": shown})
+}
+
+/// The reply's line.
+#[tactic(auto, unfolding(crate::specs::Replies::reply_text))]
+pub fn reply_text(alloc: Global, reply: &Value) -> Result<Vec<u8>, AllocError>
+    requires { has_float (view reply.now) ≡ false }
+    ensures { IfOk result (λ text. text.items ≡ text_in (view reply.now)) }
+{
+    let mut text = reply.to_vec(alloc)?;
+    text.push(b'\n')?;
+    Ok(text)
+}
