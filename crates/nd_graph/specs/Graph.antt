@@ -1,0 +1,97 @@
+-- Dataflow graphs: locations, their depths, and the arcs between them.
+-- (Naiad, SOSP 2013, section 2.1; the arcs are this project's own rule.)
+use Rattle.std.specs.Prelude.{◌≡◌, ℕ, ◌+◌, ◌-◌, ◌<◌, ◌≤◌, All, List, [], ◌∷◌, ◌++◌, length, map, slice_index, slice_get}
+use Rattle.std.specs.Option.{option_map_or}
+use Rattle.nd_time.specs.Limits.{max_depth, max_locations}
+use Rattle.nd_time.specs.Time.{ingress_of, egress_of, feedback_of}
+use Rattle.nd_graph.specs.declared.op.Op.{Op}
+use Rattle.nd_graph.specs.declared.op.Op.TheVariants as op
+use Rattle.nd_graph.specs.declared.op.Action.{Action}
+use Rattle.nd_graph.specs.declared.op.Action.TheVariants.{Identity, Ingress, Egress, Feedback}
+use Rattle.nd_graph.specs.declared.graph.Vertex.{Vertex}
+use Rattle.nd_graph.specs.declared.graph.Edge.{Edge}
+use Rattle.nd_graph.specs.declared.graph.Arc.{Arc}
+
+-- a graph: its vertices and its edges, each in order of appearance
+pub record Dataflow : Type 0 where
+  pub vertices : List Vertex
+  pub edges : List Edge
+
+-- what a vertex does to the times that pass it
+abbrev pub action_of : Op → Action
+action_of op.Input = Identity
+action_of op.Ingress = Ingress
+action_of op.Egress = Egress
+action_of op.Feedback = Feedback
+action_of (op.Add k) = Identity
+action_of (op.Mul k) = Identity
+action_of (op.Below k) = Identity
+action_of (op.Split k) = Identity
+action_of op.Sum = Identity
+action_of op.Distinct = Identity
+action_of op.Sink = Identity
+
+-- what an action does to loop counters
+abbrev pub acted : Action → List ℕ → List ℕ
+acted Identity counters = counters
+acted Ingress counters = ingress_of counters
+acted Egress counters = egress_of counters
+acted Feedback counters = feedback_of counters
+
+-- the depth past an action
+abbrev pub depth_past : Action → ℕ → ℕ
+depth_past Identity depth = depth
+depth_past Ingress depth = depth + 1
+depth_past Egress depth = depth - 1
+depth_past Feedback depth = depth
+
+-- locations are numbered: vertices, then edges
+abbrev pub location_count : Dataflow → ℕ
+location_count g = length g.vertices + length g.edges
+
+abbrev pub names : Dataflow → List (List ℕ)
+names g = map (λ v. v.name) g.vertices ++ map (λ e. e.name) g.edges
+
+-- the action of the vertex at a location
+abbrev pub action_at : List Vertex → ℕ → Action
+action_at vertices l = option_map_or (λ v. action_of v.op) (slice_get vertices l) Identity
+
+-- the depth past the vertex at a location, which is that of the edges that leave it
+abbrev pub depth_past_vertex : List Vertex → ℕ → ℕ
+depth_past_vertex vertices l = option_map_or (λ v. depth_past (action_of v.op) v.depth) (slice_get vertices l) 0
+
+-- the depth of each location
+abbrev pub depths : Dataflow → List ℕ
+depths g = map (λ v. v.depth) g.vertices ++ map (λ e. depth_past_vertex g.vertices e.from) g.edges
+
+-- the arcs of edges, of which the first is the location l: from the source with its action, and to the target
+abbrev pub arcs_from : List Vertex → ℕ → List Edge → List Arc
+arcs_from vertices l [] = []
+arcs_from vertices l (e ∷ edges) =
+    record { from = e.from; action = action_at vertices e.from; to = l }
+    ∷ record { from = l; action = Identity; to = e.to }
+    ∷ arcs_from vertices (l + 1) edges
+
+abbrev pub arcs : Dataflow → List Arc
+arcs g = arcs_from g.vertices (length g.vertices) g.edges
+
+-- an action leads from this depth to that one
+abbrev pub LeadsTo : Action → ℕ → ℕ → Type 0
+LeadsTo Identity d e = e ≡ d
+LeadsTo Ingress d e = e ≡ d + 1
+LeadsTo Egress d e = d ≡ e + 1
+LeadsTo Feedback d e = (0 < d) × (e ≡ d)
+
+-- an arc joins two locations, and its action leads from the depth of the one to that of the other
+pub record ArcAgrees (depths : List ℕ) (arc : Arc) : Type 0 where
+  pub from : arc.from < length depths
+  pub to : arc.to < length depths
+  pub depth : LeadsTo arc.action (slice_index depths arc.from) (slice_index depths arc.to)
+
+-- what holds of a graph that was checked, and of the depths and arcs that are kept with it
+pub record IsGraph (g : Dataflow) (kept_depths : List ℕ) (kept_arcs : List Arc) : Type 0 where
+  pub depths_kept : kept_depths ≡ depths g
+  pub arcs_kept : kept_arcs ≡ arcs g
+  pub agree : All (ArcAgrees (depths g)) (arcs g)
+  pub shallow : All (λ d. d ≤ max_depth) (depths g)
+  pub few : location_count g ≤ max_locations

@@ -1,0 +1,181 @@
+//! A graph whose ends, ports and depths agree.
+ghost use Rattle.std.specs.Prelude.{◌≡◌, ◌<◌, ◌≤◌, Some, All, IfOk, filter, length, nat_eq, slice_get};
+ghost use Rattle.nd_time.specs.Limits.{max_depth, max_locations};
+ghost use Rattle.nd_graph.specs.Graph.{arcs as arcs_of, depths as depths_of, location_count as count_of, names, ArcAgrees};
+
+use crate::{Action, Name, Op, Route};
+use arrayvec::ArrayVec;
+use std::alloc::{AllocError, Allocator, Global};
+use std::marker::Model;
+
+/// A vertex. Its location is its place among the vertices, in order of appearance.
+#[derive(Debug, Drop)]
+pub struct Vertex {
+    pub name: Name,
+    pub op: Op,
+    /// How many loops lie around it.
+    pub depth: u32,
+}
+
+impl Vertex {
+    /// An equal vertex.
+    pub fn copy(&self) -> Vertex
+        ensures { result ≡ self.now }
+    {
+        Vertex {
+            name: self.name.copy(),
+            op: self.op,
+            depth: self.depth,
+        }
+    }
+}
+
+/// An edge. Its location is the number of vertices plus its place among the edges, in order of appearance.
+#[derive(Debug, Drop)]
+pub struct Edge {
+    pub name: Name,
+    /// The location of the vertex that it leaves.
+    pub from: usize,
+    /// The port of that vertex.
+    pub port: u32,
+    /// The location of the vertex that it enters.
+    pub to: usize,
+    pub route: Route,
+}
+
+impl Edge {
+    /// An equal edge.
+    pub fn copy(&self) -> Edge
+        ensures { result ≡ self.now }
+    {
+        Edge {
+            name: self.name.copy(),
+            from: self.from,
+            port: self.port,
+            to: self.to,
+            route: self.route,
+        }
+    }
+}
+
+/// A way that a time can take from one location to the next (this project's own rule).
+#[derive(Clone, Copy, Debug, Drop, PartialEq, Eq)]
+pub struct Arc {
+    pub from: usize,
+    /// What happens to the time on the way.
+    pub action: Action,
+    pub to: usize,
+}
+
+/// A dataflow graph (Naiad, SOSP 2013, section 2.1).
+#[derive(Drop)]
+pub struct Graph<A: Allocator = Global> {
+    vertices: Vec<Vertex, A>,
+    edges: Vec<Edge, A>,
+    depths: Vec<usize, A>,
+    arcs: Vec<Arc, A>,
+}
+
+impl<A: Allocator> Model for Graph<A> {
+    ghost use Rattle.nd_graph.specs.Graph.{Dataflow, IsGraph};
+
+    ghost Value = { Dataflow };
+
+    ghost view = { λ a. record { vertices = a.vertices.items; edges = a.edges.items } };
+
+    ghost invariant = { λ a. IsGraph (record { vertices = a.vertices.items; edges = a.edges.items }) a.depths.items a.arcs.items };
+}
+
+fn copied_vertices<A: Allocator>(
+    alloc: A,
+    vertices: &[Vertex],
+) -> Result<Vec<Vertex, A>, AllocError>
+    ensures { IfOk result (λ v. v.items ≡ vertices.now) }
+{
+    let mut copied = Vec::with_capacity(alloc, vertices.len())?;
+    for vertex in vertices {
+        copied.push(vertex.copy())?;
+    }
+    Ok(copied)
+}
+
+fn copied_edges<A: Allocator>(alloc: A, edges: &[Edge]) -> Result<Vec<Edge, A>, AllocError>
+    ensures { IfOk result (λ v. v.items ≡ edges.now) }
+{
+    let mut copied = Vec::with_capacity(alloc, edges.len())?;
+    for edge in edges {
+        copied.push(edge.copy())?;
+    }
+    Ok(copied)
+}
+
+impl<A: Allocator> Graph<A> {
+    /// The vertices, in order of appearance.
+    pub fn vertices(&self) -> &[Vertex]
+        ensures { result.now ≡ self.now.vertices }
+    {
+        &self.vertices
+    }
+
+    /// The edges, in order of appearance.
+    pub fn edges(&self) -> &[Edge]
+        ensures { result.now ≡ self.now.edges }
+    {
+        &self.edges
+    }
+
+    /// The number of locations: vertices, then edges.
+    pub fn location_count(&self) -> usize
+        ensures count { result ≡ count_of self.now }
+        ensures few { count_of self.now ≤ max_locations }
+    {
+        self.vertices.len() + self.edges.len()
+    }
+
+    /// How many loops lie around a location.
+    pub fn location_depth(&self, location: usize) -> usize
+        requires { location < count_of self.now }
+        ensures depth { slice_get (depths_of self.now) location ≡ Some result }
+        ensures shallow { result ≤ max_depth }
+    {
+        self.depths[location]
+    }
+
+    /// How many loops lie around each location, in the order of locations.
+    pub fn depths(&self) -> &[usize]
+        ensures depths { result.now ≡ depths_of self.now }
+        ensures shallow { All (λ d. d ≤ max_depth) (depths_of self.now) }
+        ensures each { length (depths_of self.now) ≡ count_of self.now }
+        ensures few { count_of self.now ≤ max_locations }
+    {
+        &self.depths
+    }
+
+    /// All arcs: of each edge in turn, the one that enters it and the one that leaves it.
+    pub fn all_arcs(&self) -> &[Arc]
+        ensures arcs { result.now ≡ arcs_of self.now }
+        ensures agree { All (ArcAgrees (depths_of self.now)) (arcs_of self.now) }
+        ensures shallow { All (λ d. d ≤ max_depth) (depths_of self.now) }
+        ensures few { count_of self.now ≤ max_locations }
+    {
+        &self.arcs
+    }
+
+    /// An equal graph.
+    pub fn copy(&self, alloc: A) -> Result<Graph<A>, AllocError>
+    where
+        A: Copy,
+        ensures { IfOk result (λ g. g ≡ self.now) }
+    {
+        let vertices = copied_vertices(alloc, &self.vertices)?;
+        let edges = copied_edges(alloc, &self.edges)?;
+        let depths = Vec::from_slice(alloc, &self.depths)?;
+        let arcs = Vec::from_slice(alloc, &self.arcs)?;
+        Ok(Graph {
+            vertices,
+            edges,
+            depths,
+            arcs,
+        })
+    }
+}

@@ -1,0 +1,44 @@
+//! Pointstamps: a location of the graph, and a timestamp there.
+ghost use Rattle.std.specs.Prelude.{◌≡◌, ◌↔◌, IsSome, IfSome};
+ghost use Rattle.nd_paths.specs.Order.{Fits};
+
+use nd_graph::Graph;
+use nd_time::Timestamp;
+use std::alloc::Allocator;
+
+/// A location and a timestamp (Naiad, SOSP 2013, section 2.3).
+///
+/// Pointstamps are listed by location, then by epoch, and then by counters in lexicographic order.
+#[derive(Debug, PartialEq, Eq, PartialOrd, Ord, Drop)]
+pub struct Pointstamp {
+    /// The number of a vertex or an edge: vertices come first.
+    pub location: usize,
+    pub time: Timestamp,
+}
+
+impl Pointstamp {
+    /// The pointstamp at a location of the graph, or `None` where the time's depth is not the location's.
+    pub fn new<A: Allocator>(
+        graph: &Graph<A>,
+        location: usize,
+        time: Timestamp,
+    ) -> Option<Pointstamp>
+        ensures fits { IsSome result ↔ Fits graph.now (record { location = location; time = time }) }
+        ensures value { IfSome result (λ x. x ≡ record { location = location; time = time }) }
+    {
+        if location >= graph.location_count() || graph.location_depth(location) != time.depth() {
+            return None;
+        }
+        Some(Pointstamp { location, time })
+    }
+
+    /// An equal pointstamp.
+    pub fn copy(&self) -> Pointstamp
+        ensures { result ≡ self.now }
+    {
+        Pointstamp {
+            location: self.location,
+            time: self.time.copy(),
+        }
+    }
+}

@@ -1,0 +1,131 @@
+//! Timestamps of a timely dataflow: an epoch and the counters of the loops around a place.
+#![tactic(auto)]
+
+ghost use Rattle.std.specs.Prelude.{◌≡◌, ◌≤◌, ◌<◌, ◌↔◌, IsTrue, IsSome, IfSome, IsOk, IfOk, length};
+ghost use Rattle.nd_time.specs.Time.{Time, IsAtOrBefore, ingress_of, egress_of, feedback_of, last_of};
+ghost use Rattle.nd_time.specs.Limits.{max_depth};
+
+use arrayvec::ArrayVec;
+use std::marker::Model;
+use thiserror::Error;
+
+/// The most loops that may lie within one another.
+pub const MAX_DEPTH: usize = 4;
+
+/// A loop counter stands at 4294967295 and cannot rise.
+#[derive(Clone, Copy, Debug, PartialEq, Eq, Drop, Error)]
+#[error("the loop counter is at its limit")]
+pub struct CounterFull;
+
+/// An epoch, and the counters of the loops around a place, outermost first (Naiad, SOSP 2013, section 2.1).
+///
+/// Timestamps are listed by epoch, and then by counters in lexicographic order.
+#[derive(Debug, PartialEq, Eq, PartialOrd, Ord, Drop)]
+pub struct Timestamp {
+    epoch: u32,
+    counters: ArrayVec<u32, 4>,
+}
+
+impl Model for Timestamp {
+    ghost use Rattle.nd_time.specs.Time.{Time};
+
+    ghost Value = { Time };
+
+    ghost view = { λ a. record { epoch = a.epoch; counters = a.counters.items } };
+
+    ghost inverse = { λ t. record { epoch = t.epoch; counters = record { items = t.counters } } };
+}
+
+impl Timestamp {
+    /// A timestamp, or `None` for more than `MAX_DEPTH` counters.
+    pub fn new(epoch: u32, counters: &[u32]) -> Option<Timestamp>
+        ensures fits { IsSome result ↔ (length counters.now ≤ max_depth) }
+        ensures value { IfSome result (λ t. t ≡ record { epoch = epoch; counters = counters.now }) }
+    {
+        match ArrayVec::try_from(counters) {
+            Ok(counters) => Some(Timestamp { epoch, counters }),
+            Err(_) => None,
+        }
+    }
+
+    /// The epoch.
+    pub fn epoch(&self) -> u32
+        ensures { result ≡ self.now.epoch }
+    {
+        self.epoch
+    }
+
+    /// The loop counters, outermost first.
+    pub fn counters(&self) -> &[u32]
+        ensures value { result.now ≡ self.now.counters }
+        ensures few { length result.now ≤ max_depth }
+    {
+        self.counters.as_slice()
+    }
+
+    /// The number of loop counters.
+    pub fn depth(&self) -> usize
+        ensures value { result ≡ length self.now.counters }
+        ensures small { result ≤ max_depth }
+    {
+        self.counters.len()
+    }
+
+    /// An equal timestamp.
+    pub fn copy(&self) -> Timestamp
+        ensures { result ≡ self.now }
+    {
+        Timestamp::new(self.epoch, self.counters()).unwrap()
+    }
+
+    /// Whether this timestamp is at or before the other. It is not where their depths differ.
+    ///
+    /// Epochs compare as numbers and counters lexicographically (this project's own rule).
+    pub fn at_or_before(&self, other: &Timestamp) -> bool
+        ensures { IsTrue result ↔ IsAtOrBefore self.now other.now }
+    {
+        self.depth() == other.depth()
+            && self.epoch <= other.epoch
+            && self.counters.cmp(&other.counters).is_le()
+    }
+
+    /// The timestamp past an ingress vertex, or `None` where there is no room for one more counter.
+    pub fn ingress(&self) -> Option<Timestamp>
+        ensures room { IsSome result ↔ (length self.now.counters < max_depth) }
+        ensures value { IfSome result (λ t. t ≡ record { epoch = self.now.epoch; counters = ingress_of self.now.counters }) }
+    {
+        let mut next = self.copy();
+        if next.counters.len() == MAX_DEPTH {
+            return None;
+        }
+        next.counters.push(0);
+        Some(next)
+    }
+
+    /// The timestamp past an egress vertex, or `None` where there is no counter to leave.
+    pub fn egress(&self) -> Option<Timestamp>
+        ensures inside { IsSome result ↔ (0 < length self.now.counters) }
+        ensures value { IfSome result (λ t. t ≡ record { epoch = self.now.epoch; counters = egress_of self.now.counters }) }
+    {
+        let mut next = self.copy();
+        next.counters.pop()?;
+        Some(next)
+    }
+
+    /// The timestamp past a feedback vertex: the innermost counter plus 1.
+    pub fn feedback(&self) -> Result<Timestamp, CounterFull>
+        requires { 0 < length self.now.counters }
+        ensures room { IsOk result ↔ (last_of self.now.counters < 4294967295) }
+        ensures value { IfOk result (λ t. t ≡ record { epoch = self.now.epoch; counters = feedback_of self.now.counters }) }
+    {
+        let mut next = self.copy();
+        let Some(last) = next.counters.pop() else {
+            unreachable!()
+        };
+        if last == u32::MAX {
+            return Err(CounterFull);
+        }
+        next.counters.push(last + 1);
+        Ok(next)
+    }
+}
