@@ -48,18 +48,18 @@ pub record HasLargeEntry (s : ClusterState) : Type 0 where
 
 -- what a feed is refused for; the state after it is given
 abbrev pub FeedFails : ClusterState → ℕ → ℕ → List ℤ → Afterwards → ClusterState → Refusal → Type 0
-FeedFails s p vertex values next new NoProcessor = length s.processors ≤ p
-FeedFails s p vertex values next new NoVertex = length s.graph.vertices ≤ vertex
-FeedFails s p vertex values next new NoEdge = ⊥
-FeedFails s p vertex values next new NotInput = op_at s.graph vertex ≢ op.Input
-FeedFails s p vertex values next new InputClosed = fin.get (processor s p).tokens vertex ≡ None
-FeedFails s p vertex values next new TooManyValues = max_values < length values
+FeedFails s p vertex values _ new NoProcessor = length s.processors ≤ p
+FeedFails s p vertex values _ new NoVertex = length s.graph.vertices ≤ vertex
+FeedFails s p vertex values _ new NoEdge = ⊥
+FeedFails s p vertex values _ new NotInput = op_at s.graph vertex ≢ op.Input
+FeedFails s p vertex values _ new InputClosed = fin.get (processor s p).tokens vertex ≡ None
+FeedFails s p vertex values _ new TooManyValues = max_values < length values
 FeedFails s p vertex values next new EpochFull = (next ≡ token.Next) × (fin.get (processor s p).tokens vertex ≡ Some max_counter)
-FeedFails s p vertex values next new NoRecord = ⊥
-FeedFails s p vertex values next new ValueRange = ⊥
-FeedFails s p vertex values next new CountFull = HasLargeCount new
-FeedFails s p vertex values next new DeltaFull = HasLargeEntry new
-FeedFails s p vertex values next new Memory = ⊥
+FeedFails s p vertex values _ new NoRecord = ⊥
+FeedFails s p vertex values _ new ValueRange = ⊥
+FeedFails s p vertex values _ new CountFull = HasLargeCount new
+FeedFails s p vertex values _ new DeltaFull = HasLargeEntry new
+FeedFails s p vertex values _ new Memory = ⊥
 
 -- what a take is refused for
 abbrev pub TakeFails : ClusterState → ℕ → ℕ → Time → ℤ → ClusterState → Refusal → Type 0

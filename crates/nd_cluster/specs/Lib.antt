@@ -4,4 +4,5 @@ pub mod Operators
 pub mod Steps
 pub mod Enabled
 pub mod Start
+pub mod Alone
 pub mod Records
