@@ -5,4 +5,5 @@ pub mod Steps
 pub mod Enabled
 pub mod Start
 pub mod Alone
+pub mod Codes
 pub mod Records

@@ -17,6 +17,12 @@ pub trait Key: Ord + Drop {
         ensures { result ≡ self.now };
 }
 
+impl Key for usize {
+    fn duplicate(&self) -> usize {
+        *self
+    }
+}
+
 /// A finite map, seen as the list of its entries in the order of their keys.
 ///
 /// A look-up takes a logarithm of the number of entries, an edit that adds or takes out an entry
