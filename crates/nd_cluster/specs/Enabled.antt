@@ -10,7 +10,7 @@ use Rattle.nd_paths.specs.declared.point.Pointstamp.{Pointstamp}
 use Rattle.nd_delta.specs.Change.{at}
 use Rattle.nd_cluster.specs.State.{ProcessorState, ClusterState, processor}
 use Rattle.nd_cluster.specs.Operators.{op_at, emissions}
-use Rattle.nd_cluster.specs.Steps.{count_of, record_key, target_of, stepped}
+use Rattle.nd_cluster.specs.Steps.{count_of, record_key, target_of, after_feed, after_take}
 use Rattle.nd_cluster.specs.declared.key.ValueAt.{ValueAt}
 use Rattle.nd_cluster.specs.declared.key.SinkKey.{SinkKey}
 use Rattle.nd_cluster.specs.declared.step.Step.{Step}
@@ -46,40 +46,40 @@ pub record HasLargeEntry (s : ClusterState) : Type 0 where
   pub point : Pointstamp
   pub large : max_count < unsigned_abs (at (processor s p).unsent point)
 
--- what a feed is refused for; the state after it is given
-abbrev pub FeedFails : ClusterState → ℕ → ℕ → List ℤ → Afterwards → ClusterState → Refusal → Type 0
-FeedFails s p vertex values next new NoProcessor = length s.processors ≤ p
-FeedFails s p vertex values next new NoVertex = length s.graph.vertices ≤ vertex
-FeedFails s p vertex values next new NoEdge = ⊥
-FeedFails s p vertex values next new NotInput = op_at s.graph vertex ≢ op.Input
-FeedFails s p vertex values next new InputClosed = fin.get (processor s p).tokens vertex ≡ None
-FeedFails s p vertex values next new TooManyValues = max_values < length values
-FeedFails s p vertex values next new EpochFull = (next ≡ token.Next) × (fin.get (processor s p).tokens vertex ≡ Some max_counter)
-FeedFails s p vertex values next new NoRecord = ⊥
-FeedFails s p vertex values next new ValueRange = ⊥
-FeedFails s p vertex values next new CountFull = HasLargeCount new
-FeedFails s p vertex values next new DeltaFull = HasLargeEntry new
-FeedFails s p vertex values next new Memory = ⊥
+-- what a feed is refused for
+abbrev pub FeedFails : ClusterState → ℕ → ℕ → List ℤ → Afterwards → Refusal → Type 0
+FeedFails s p vertex values _ NoProcessor = length s.processors ≤ p
+FeedFails s p vertex values _ NoVertex = length s.graph.vertices ≤ vertex
+FeedFails s p vertex values _ NoEdge = ⊥
+FeedFails s p vertex values _ NotInput = op_at s.graph vertex ≢ op.Input
+FeedFails s p vertex values _ InputClosed = fin.get (processor s p).tokens vertex ≡ None
+FeedFails s p vertex values _ TooManyValues = max_values < length values
+FeedFails s p vertex values next EpochFull = (next ≡ token.Next) × (fin.get (processor s p).tokens vertex ≡ Some max_counter)
+FeedFails s p vertex values _ NoRecord = ⊥
+FeedFails s p vertex values _ ValueRange = ⊥
+FeedFails s p vertex values next CountFull = HasLargeCount (after_feed s p vertex values next)
+FeedFails s p vertex values next DeltaFull = HasLargeEntry (after_feed s p vertex values next)
+FeedFails s p vertex values _ Memory = ⊥
 
 -- what a take is refused for
-abbrev pub TakeFails : ClusterState → ℕ → ℕ → Time → ℤ → ClusterState → Refusal → Type 0
-TakeFails s p edge t value new NoProcessor = length s.processors ≤ p
-TakeFails s p edge t value new NoVertex = ⊥
-TakeFails s p edge t value new NoEdge = (edge < length s.graph.vertices) ⊎ (location_count s.graph ≤ edge)
-TakeFails s p edge t value new NotInput = ⊥
-TakeFails s p edge t value new InputClosed = ⊥
-TakeFails s p edge t value new TooManyValues = ⊥
-TakeFails s p edge t value new EpochFull = ⊥
-TakeFails s p edge t value new NoRecord = count_of (processor s p).records (record_key edge t value) ≡ 0
-TakeFails s p edge t value new ValueRange = All (λ e. FitsSigned w64 e.1) (emissions (op_at s.graph (target_of s.graph edge)) value) → ⊥
-TakeFails s p edge t value new CountFull = HasLargeCount new
-TakeFails s p edge t value new DeltaFull = HasLargeEntry new
-TakeFails s p edge t value new Memory = ⊥
+abbrev pub TakeFails : ClusterState → ℕ → ℕ → Time → ℤ → Refusal → Type 0
+TakeFails s p edge t value NoProcessor = length s.processors ≤ p
+TakeFails s p edge t value NoVertex = ⊥
+TakeFails s p edge t value NoEdge = (edge < length s.graph.vertices) ⊎ (location_count s.graph ≤ edge)
+TakeFails s p edge t value NotInput = ⊥
+TakeFails s p edge t value InputClosed = ⊥
+TakeFails s p edge t value TooManyValues = ⊥
+TakeFails s p edge t value EpochFull = ⊥
+TakeFails s p edge t value NoRecord = count_of (processor s p).records (record_key edge t value) ≡ 0
+TakeFails s p edge t value ValueRange = All (λ e. FitsSigned w64 e.1) (emissions (op_at s.graph (target_of s.graph edge)) value) → ⊥
+TakeFails s p edge t value CountFull = HasLargeCount (after_take s p edge t value)
+TakeFails s p edge t value DeltaFull = HasLargeEntry (after_take s p edge t value)
+TakeFails s p edge t value Memory = ⊥
 
 -- the condition of a refusal holds
 abbrev pub Fails : {A : Type 0} → ClusterState → Step A → Refusal → Type 0
-Fails {A} s (Feed p vertex values next) r = FeedFails s p vertex values next (stepped {A = A} s (Feed p vertex values next)) r
-Fails {A} s (Take p edge t value) r = TakeFails s p edge t value (stepped {A = A} s (Take p edge t value)) r
+Fails s (Feed p vertex values next) r = FeedFails s p vertex values next r
+Fails s (Take p edge t value) r = TakeFails s p edge t value r
 
 -- no condition holds
 pub record IsEnabled {A : Type 0} (s : ClusterState) (x : Step A) : Type 0 where
@@ -89,3 +89,9 @@ pub record IsEnabled {A : Type 0} (s : ClusterState) (x : Step A) : Type 0 where
 pub record IsRefused {A : Type 0} (s : ClusterState) (x : Step A) (r : Refusal) : Type 0 where
   pub fails : Fails s x r
   pub least : (other : Refusal) → number_of other < number_of r → Fails s x other → ⊥
+
+-- a refusal is the one of least number; only want of memory may come in place of one that is greater than 10
+pub record IsJustified (fails : Refusal → Type 0) (r : Refusal) : Type 0 where
+  pub holds : r ≢ Memory → fails r
+  pub least : r ≢ Memory → (other : Refusal) → number_of other < number_of r → fails other → ⊥
+  pub memory : r ≡ Memory → (other : Refusal) → number_of other ≤ 10 → fails other → ⊥

@@ -4,4 +4,6 @@ pub mod Operators
 pub mod Steps
 pub mod Enabled
 pub mod Start
+pub mod Alone
+pub mod Codes
 pub mod Records

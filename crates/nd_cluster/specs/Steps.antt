@@ -90,10 +90,18 @@ taken s p edge t value =
 abbrev pub settled : List ProcessorState → ℕ → List ProcessorState → List ProcessorState
 settled old p new = let q = slice_index_or new p idle in slice_set new p (record q { unsent = plus q.unsent (minus (truth new) (truth old)) })
 
+-- the cluster after a feed
+unfoldable pub after_feed : ClusterState → ℕ → ℕ → List ℤ → Afterwards → ClusterState
+after_feed s p vertex values next = record s { processors = settled s.processors p (fed s p vertex values next) }
+
+-- the cluster after a take
+unfoldable pub after_take : ClusterState → ℕ → ℕ → Time → ℤ → ClusterState
+after_take s p edge t value = record s { processors = settled s.processors p (taken s p edge t value) }
+
 -- the cluster after a step
-unfoldable pub stepped : {A : Type 0} → ClusterState → Step A → ClusterState
-stepped s (Feed p vertex values next) = record s { processors = settled s.processors p (fed s p vertex values next) }
-stepped s (Take p edge t value) = record s { processors = settled s.processors p (taken s p edge t value) }
+abbrev pub stepped : {A : Type 0} → ClusterState → Step A → ClusterState
+stepped s (Feed p vertex values next) = after_feed s p vertex values next
+stepped s (Take p edge t value) = after_take s p edge t value
 
 -- the cluster after a list of steps
 unfoldable pub after : {A : Type 0} → ClusterState → List (Step A) → ClusterState

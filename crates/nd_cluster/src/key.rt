@@ -1,6 +1,7 @@
 //! The keys of a processor's maps.
 ghost use Rattle.std.specs.Prelude.{◌≡◌};
 
+use nd_map::Key;
 use nd_paths::Pointstamp;
 
 /// A value at a pointstamp: a record on an edge.
@@ -31,4 +32,16 @@ impl ValueAt {
 pub struct SinkKey {
     pub vertex: usize,
     pub value: i64,
+}
+
+impl Key for ValueAt {
+    fn duplicate(&self) -> ValueAt {
+        self.copy()
+    }
+}
+
+impl Key for SinkKey {
+    fn duplicate(&self) -> SinkKey {
+        *self
+    }
 }

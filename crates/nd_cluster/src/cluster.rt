@@ -1,0 +1,62 @@
+//! The state of a cluster, and its readers.
+ghost use Rattle.std.specs.Prelude.{◌≡◌, pos, IfOk};
+ghost use Rattle.nd_delta.specs.Change.{at};
+ghost use Rattle.nd_cluster.specs.State.{truth};
+
+use crate::{SinkKey, ValueAt};
+use nd_delta::Delta;
+use nd_graph::Graph;
+use nd_map::SortedMap;
+use std::alloc::{AllocError, Allocator, Global};
+use std::marker::Model;
+
+/// A cluster of processors that run a dataflow graph (Naiad, SOSP 2013, section 3.3).
+#[derive(Drop)]
+pub struct Cluster<A: Allocator + Copy = Global> {
+    pub(crate) alloc: A,
+    pub(crate) graph: Graph<A>,
+    pub(crate) records: SortedMap<ValueAt, u64, A>,
+    pub(crate) tokens: SortedMap<usize, u32, A>,
+    pub(crate) sinks: SortedMap<SinkKey, u64, A>,
+    pub(crate) unsent: Delta<A>,
+    pub(crate) view: Delta<A>,
+}
+
+impl<A: Allocator + Copy> Model for Cluster<A> {
+    ghost use Rattle.nd_cluster.specs.State.{ClusterState};
+    ghost use Rattle.nd_cluster.specs.Codes.{cluster_code};
+
+    ghost Value = { ClusterState };
+
+    ghost coded = { cluster_code };
+
+    ghost use Rattle.nd_cluster.specs.Alone.{alone, processor_of, IsKept};
+
+    ghost view = { λ a. alone a.graph (processor_of a.records a.tokens a.sinks a.unsent a.view) };
+
+    ghost invariant = { λ a. IsKept (processor_of a.records a.tokens a.sinks a.unsent a.view) };
+}
+
+impl<A: Allocator + Copy> Cluster<A> {
+    /// The graph that the cluster runs.
+    pub fn graph(&self) -> &Graph<A>
+        ensures { result.now ≡ self.now.graph }
+    {
+        &self.graph
+    }
+
+    /// An equal cluster.
+    pub fn copy(&self, alloc: A) -> Result<Cluster<A>, AllocError>
+        ensures { IfOk result (λ c. c ≡ self.now) }
+    {
+        Ok(Cluster {
+            alloc,
+            graph: self.graph.copy(alloc)?,
+            records: self.records.copy(alloc)?,
+            tokens: self.tokens.copy(alloc)?,
+            sinks: self.sinks.copy(alloc)?,
+            unsent: self.unsent.copy(alloc)?,
+            view: self.view.copy(alloc)?,
+        })
+    }
+}
