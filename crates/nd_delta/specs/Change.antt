@@ -16,6 +16,7 @@ use Rattle.std.specs.FinMap.Entries.{is_some-find, same_entries}
 use Rattle.std.proofs.lemmas.List.Folds.{list_any-append}
 use Rattle.std.specs.FinMap as fin
 use Rattle.std.proofs.lemmas.Map.Views.{tells_apart}
+use Rattle.nd_time.specs.Limits.{max_count}
 use Rattle.nd_paths.specs.Point.{point_cmp, point_code, point_total, point_exact}
 use Rattle.nd_paths.specs.declared.point.Pointstamp.{Pointstamp}
 
@@ -149,6 +150,11 @@ plus m n = on_points (points_of (entries m) ++ points_of (entries n)) (λ q. at 
 pub minus : Change → Change → Change
 minus m n = on_points (points_of (entries m) ++ points_of (entries n)) (λ q. at m q -ℤ at n q)
 
+-- the difference, or the sum
+abbrev pub combined : Bool → Change → Change → Change
+combined true m n = minus m n
+combined false m n = plus m n
+
 -- the entries at the pointstamps of the list
 pub part : Change → List Pointstamp → Change
 part m ks = on_points ks (at m)
@@ -183,7 +189,7 @@ at-part m ks q = at-on_points ks (at m) q
 
 -- some integer is past the limit of the program
 abbrev pub IsTooLarge : Change → Type 0
-IsTooLarge m = (q : Pointstamp) × (2 ^ 40 < unsigned_abs (at m q))
+IsTooLarge m = (q : Pointstamp) × (max_count < unsigned_abs (at m q))
 
 -- ---- the change that a list of entries gives
 pub of_entries : List (Pointstamp × ℤ) → Change
@@ -234,13 +240,13 @@ sorted-entries m = entries_sorted m.map
 
 -- each integer is within the limit of the program
 abbrev pub IsWithin : Change → Type 0
-IsWithin m = (q : Pointstamp) → unsigned_abs (at m q) ≤ 2 ^ 40
+IsWithin m = (q : Pointstamp) → unsigned_abs (at m q) ≤ max_count
 
-one_within : (b : Bool) (x y : ℤ) → unsigned_abs x ≤ 2 ^ 40 → unsigned_abs y ≤ 2 ^ 40 → unsigned_abs (cond b x y) ≤ 2 ^ 40
+one_within : (b : Bool) (x y : ℤ) → unsigned_abs x ≤ max_count → unsigned_abs y ≤ max_count → unsigned_abs (cond b x y) ≤ max_count
 one_within true x y g h = g
 one_within false x y g h = h
 
-pub within-set : (m : Change) (k : Pointstamp) (v : ℤ) → IsWithin m → unsigned_abs v ≤ 2 ^ 40 → IsWithin (set m k v)
+pub within-set : (m : Change) (k : Pointstamp) (v : ℤ) → IsWithin m → unsigned_abs v ≤ max_count → IsWithin (set m k v)
 within-set m k v within v_within q = rw (at-set m k v q) (one_within (is_point q k) v (at m q) v_within (within q))
 
 -- ---- laws of `set`

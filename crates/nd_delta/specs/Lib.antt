@@ -1,3 +1,2 @@
-pub mod Kept
-pub mod Place
 pub mod Change
+pub mod Kept

@@ -1,6 +1,0 @@
-use Rattle.std.proofs.Common.{ap, ◌∙◌}
-use Rattle.nd_delta.specs.Change.{of_entries, of_entries-nil}
-use Rattle.nd_delta.proofs.Delta.new.Goals as goal
-
-pub returns : goal.returns
-returns g c = ap of_entries c.new.ensures.items ∙ of_entries-nil
