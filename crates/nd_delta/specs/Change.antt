@@ -3,7 +3,7 @@
 --     plus, minus, part         pointwise, and cut to the pointstamps of a list
 --     entries, size             the pointstamps that have one, with it, in the order of listing; how many
 --     same                      changes that answer alike are equal
-use Rattle.std.specs.Prelude.{◌≡◌, ◌≢◌, ℕ, zero, suc, ℤ, pos, negsuc, ◌+ℤ◌, ◌-ℤ◌, Bool, true, false, cond, ◌||◌, List, [], ◌∷◌, ◌++◌, map, length, Option, Some, None, is_some, refl, unsigned_abs, ◌<◌, ◌≤◌, ◌^◌}
+use Rattle.std.specs.Prelude.{◌≡◌, ◌≢◌, ℕ, zero, suc, ℤ, pos, negsuc, ◌+ℤ◌, ◌-ℤ◌, Bool, true, false, cond, ◌||◌, List, [], ◌∷◌, ◌++◌, map, length, Option, Some, None, is_some, refl, unsigned_abs, ◌<◌, ◌≤◌}
 use Rattle.std.proofs.Common.{T, sym, ap, ◌∙◌, arith}
 use mathlib.Core.HLevel.{Σ_prop_path}
 use Rattle.std.specs.Coded.{Coded, coded_ℤ}
@@ -134,7 +134,7 @@ abbrev pub points_of : List (Pointstamp × ℤ) → List Pointstamp
 points_of es = map (λ e. e.0) es
 
 -- what has no entry has 0
-at-absent : (m : Change) (q : Pointstamp) → has_point q (points_of (entries m)) ≡ false → at m q ≡ pos 0
+pub at-absent : (m : Change) (q : Pointstamp) → has_point q (points_of (entries m)) ≡ false → at m q ≡ pos 0
 unfolding at entries
 at-absent m q e = at_none (get m.map q) (contains_key-keys m.map q ∙ e)
   where

@@ -1,7 +1,7 @@
 //! Changes: finite maps from pointstamps to integers other than 0 (Naiad, SOSP 2013, section 3.3).
 #![tactic(auto)]
 
-ghost use Rattle.std.specs.Prelude.{◌≡◌, ◌≢◌, ◌↔◌, ◌<◌, ◌≤◌, ◌+ℤ◌, pos, unsigned_abs, OnOk, OnErr, IfOk, IsTrue, Err};
+ghost use Rattle.std.specs.Prelude.{◌≡◌, ◌≢◌, ◌↔◌, ◌<◌, ◌≤◌, ◌+ℤ◌, ◌*◌, pos, unsigned_abs, OnOk, OnErr, IfOk, IsTrue, Err};
 ghost use Rattle.nd_time.specs.Limits.{max_count};
 ghost use Rattle.nd_delta.specs.Change.{none, at, set, size, plus, minus, part, combined, IsTooLarge, IsWithin, entries as listed};
 
@@ -41,13 +41,11 @@ impl<A: Allocator> Model for Delta<A> {
     ghost invariant = { λ a. IsKept a.map };
 }
 
-// The number with its sign turned, or as it is.
-fn turned(n: i64, minus: bool) -> i64
-    requires { unsigned_abs n ≤ max_count }
-    ensures plus { minus ≡ false → result ≡ n }
-    ensures minus { minus ≡ true → result ≡ pos 0 -ℤ n }
+// Whether a number is greater than `LIMIT` in absolute value.
+fn passes_limit(n: i64) -> bool
+    ensures { IsTrue result ↔ (max_count < unsigned_abs n) }
 {
-    if minus { -n } else { n }
+    n > LIMIT || n < -LIMIT
 }
 
 impl<A: Allocator> Delta<A> {
@@ -97,7 +95,10 @@ impl<A: Allocator> Delta<A> {
             self.map.remove(point);
             return Ok(());
         }
-        self.map.put(point, n)
+        let Ok(()) = self.map.put(point, n) else {
+            return Err(AllocError);
+        };
+        Ok(())
     }
 
     /// Adds `n` to the integer of a pointstamp. A pointstamp that has one takes no memory.
@@ -111,7 +112,7 @@ impl<A: Allocator> Delta<A> {
         let Some(sum) = self.get(point).checked_add(n) else {
             return Err(DeltaFault::DeltaFull);
         };
-        if sum > LIMIT || sum < -LIMIT {
+        if passes_limit(sum) {
             return Err(DeltaFault::DeltaFull);
         }
         let Ok(()) = self.put(point, sum) else {
@@ -128,5 +129,82 @@ impl<A: Allocator> Delta<A> {
         Ok(Delta {
             map: self.map.copy(alloc)?,
         })
+    }
+
+    // The integer of a pointstamp in the difference of two deltas, or in their sum.
+    fn combined_at(&self, other: &Delta<A>, minus: bool, point: &Pointstamp) -> i64
+        ensures value { result ≡ at (combined minus self.now other.now) point.now }
+        ensures fits { unsigned_abs result ≤ 2 * max_count }
+    {
+        let here = self.get(point);
+        let there = other.get(point);
+        if minus { here - there } else { here + there }
+    }
+
+    // Whether some entry of the difference, or of the sum, passes `LIMIT`.
+    fn is_overfull(&self, other: &Delta<A>, minus: bool) -> bool
+        ensures passes { IsTrue result ↔ IsTooLarge (combined minus self.now other.now) }
+        ensures within { IsWithin self.now × IsWithin other.now }
+    {
+        let _ = &self.map;
+        for entry in other.entries() {
+            if passes_limit(self.combined_at(other, minus, &entry.0)) {
+                return true;
+            }
+        }
+        false
+    }
+
+    // The difference, or the sum, where it fits.
+    fn combine(&self, alloc: A, other: &Delta<A>, minus: bool) -> Result<Delta<A>, DeltaFault>
+        ensures ok { IfOk result (λ d. d ≡ combined minus self.now other.now) }
+        ensures full { (result ≡ Err (DeltaFault.DeltaFull)) ↔ IsTooLarge (combined minus self.now other.now) }
+        ensures within { IsWithin self.now × IsWithin other.now }
+    {
+        if self.is_overfull(other, minus) {
+            return Err(DeltaFault::DeltaFull);
+        }
+        let Ok(mut made) = self.copy(alloc) else {
+            return Err(DeltaFault::Memory);
+        };
+        for entry in other.entries() {
+            let Ok(()) = made.put(&entry.0, self.combined_at(other, minus, &entry.0)) else {
+                return Err(DeltaFault::Memory);
+            };
+        }
+        Ok(made)
+    }
+
+    /// The pointwise sum, without zeros.
+    pub fn plus(&self, alloc: A, other: &Delta<A>) -> Result<Delta<A>, DeltaFault>
+        ensures ok { IfOk result (λ d. d ≡ plus self.now other.now) }
+        ensures full { (result ≡ Err (DeltaFault.DeltaFull)) ↔ IsTooLarge (plus self.now other.now) }
+        ensures within { IsWithin self.now × IsWithin other.now }
+    {
+        self.combine(alloc, other, false)
+    }
+
+    /// The pointwise difference, without zeros.
+    pub fn minus(&self, alloc: A, other: &Delta<A>) -> Result<Delta<A>, DeltaFault>
+        ensures ok { IfOk result (λ d. d ≡ minus self.now other.now) }
+        ensures full { (result ≡ Err (DeltaFault.DeltaFull)) ↔ IsTooLarge (minus self.now other.now) }
+        ensures within { IsWithin self.now × IsWithin other.now }
+    {
+        self.combine(alloc, other, true)
+    }
+
+    /// The entries at these pointstamps. A repeated one counts once, and one without an entry adds nothing.
+    pub fn part(&self, alloc: A, points: &[Pointstamp]) -> Result<Delta<A>, AllocError>
+        ensures ok { IfOk result (λ d. d ≡ part self.now points.now) }
+        ensures within { IsWithin self.now }
+    {
+        let _ = &self.map;
+        let mut kept = Delta::new(alloc);
+        for point in points {
+            let Ok(()) = kept.put(point, self.get(point)) else {
+                return Err(AllocError);
+            };
+        }
+        Ok(kept)
     }
 }
