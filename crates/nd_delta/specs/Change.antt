@@ -3,8 +3,9 @@
 --     plus, minus, part         pointwise, and cut to the pointstamps of a list
 --     entries, size             the pointstamps that have one, with it, in the order of listing; how many
 --     same                      changes that answer alike are equal
-use Rattle.std.specs.Prelude.{◌≡◌, ◌≢◌, ℕ, zero, suc, ℤ, pos, negsuc, ◌+ℤ◌, ◌-ℤ◌, Bool, true, false, cond, ◌||◌, List, [], ◌∷◌, ◌++◌, map, length, Option, Some, None, is_some, refl, unsigned_abs, ◌<◌, ◌≤◌}
+use Rattle.std.specs.Prelude.{◌≡◌, ◌≢◌, ℕ, zero, suc, ℤ, pos, negsuc, ◌+ℤ◌, ◌-ℤ◌, Bool, true, false, cond, ◌||◌, List, [], ◌∷◌, ◌++◌, map, length, Option, Some, None, is_some, refl, unsigned_abs, ◌+◌, ◌<◌, ◌≤◌}
 use Rattle.std.proofs.Common.{T, sym, ap, ◌∙◌, arith}
+use Rattle.std.proofs.lemmas.Int.{ints}
 use mathlib.Core.HLevel.{Σ_prop_path}
 use Rattle.std.specs.Coded.{Coded, coded_ℤ}
 use base.Stored.{coded_via}
@@ -277,3 +278,41 @@ set_back m k v w e = set-set m k v w ∙ ap (set m k) e ∙ set-at m k
 -- the same by equations, as two calls leave them
 pub taken_back : (m a b : Change) (k : Pointstamp) (v w : ℤ) → a ≡ set m k v → b ≡ set a k w → w ≡ at m k → b ≡ m
 taken_back m a b k v w first second back = second ∙ ap (λ x. set x k w) first ∙ set_back m k v w back
+
+-- ---- sums undone
+pub minus-plus : (m n : Change) → minus (plus m n) n ≡ m
+minus-plus m n = same _ _ (λ q. let d = at-minus (plus m n) n q in let e = at-plus m n q in omega (arith, ints, d, e))
+
+pub plus-minus : (m n : Change) → plus (minus m n) n ≡ m
+plus-minus m n = same _ _ (λ q. let d = at-plus (minus m n) n q in let e = at-minus m n q in omega (arith, ints, d, e))
+
+pub plus-comm : (m n : Change) → plus m n ≡ plus n m
+plus-comm m n = same _ _ (λ q. let d = at-plus m n q in let e = at-plus n m q in omega (arith, ints, d, e))
+
+pub plus-none : (m : Change) → plus m none ≡ m
+plus-none m = same _ _ (λ q. let d = at-plus m none q in let e = at-none q in omega (arith, ints, d, e))
+
+-- ---- one entry more
+absent_of : (x : Option ℤ) → x ≢ Some (pos 0) → or_zero x ≡ pos 0 → is_some x ≡ false
+absent_of None n e = refl
+absent_of (Some z) n e = absurd (n (ap Some e))
+
+grown : (b : Bool) (n : ℕ) → b ≡ false → cond b n (n + 1) ≡ n + 1
+grown true n e = absurd (cc)
+grown false n e = refl
+
+size-put : (m : Change) (k : Pointstamp) (v : ℤ) (some : v ≢ pos 0) → at m k ≡ pos 0 → size (put m k v some) ≡ size m + 1
+unfolding at entries put
+size-put m k v some absent =
+    sym (fin.len-entries (insert m.map k v)) ∙ fin.len-insert point_total m.map k v
+    ∙ grown _ _ (absent_of (get m.map k) (m.nonzero k) absent) ∙ ap (λ n. n + 1) (fin.len-entries m.map)
+
+pub size-set : (m : Change) (k : Pointstamp) (v : ℤ) → v ≢ pos 0 → at m k ≡ pos 0 → size (set m k v) ≡ size m + 1
+unfolding set
+size-set m k (pos zero) some absent = absurd (some refl)
+size-set m k (pos (suc n)) some absent = size-put m k (pos (suc n)) _ absent
+size-set m k (negsuc n) some absent = size-put m k (negsuc n) _ absent
+
+pub size-none : size none ≡ 0
+unfolding none entries
+size-none = sym (fin.len-entries (fin.empty {X = ℤ} {R = point_cmp})) ∙ fin.len-empty point_cmp ℤ

@@ -1,6 +1,6 @@
 -- The least pointstamp of a kind, and how a loop over the entries of a change comes upon it.
 use Rattle.std.specs.Prelude.{◌≡◌, ◌≢◌, ◌<◌, ◌≤◌, ◌+◌, ℕ, ℤ, pos, List, length, Option, Some, None, refl}
-use Rattle.std.proofs.Common.{get_or, Ordering, Less, Equal, Greater, sym, ap, subst, ◌∙◌, arith, below_more, inl, inr}
+use Rattle.std.proofs.Common.{get_or, Less, Equal, Greater, sym, ap, subst, ◌∙◌, arith, below_more, inl, inr}
 use Rattle.std.proofs.lemmas.Bool.{cases_lt}
 use Rattle.std.proofs.lemmas.Cmp.{tied_itself}
 use Rattle.std.proofs.lemmas.List.{get_or_default}

@@ -1,12 +1,15 @@
 //! Changes: finite maps from pointstamps to integers other than 0 (Naiad, SOSP 2013, section 3.3).
 #![tactic(auto)]
 
-ghost use Rattle.std.specs.Prelude.{◌≡◌, ◌≢◌, ◌↔◌, ◌<◌, ◌≤◌, ◌+ℤ◌, ◌*◌, pos, unsigned_abs, OnOk, OnErr, IfOk, IsTrue, Err};
+ghost use Rattle.std.specs.Prelude.{◌≡◌, ◌≢◌, ◌↔◌, ◌<◌, ◌≤◌, ◌+ℤ◌, ◌<ℤ◌, ◌*◌, pos, unsigned_abs, OnOk, OnErr, IfOk, IfSome, IsNone, IsTrue, Err};
 ghost use Rattle.nd_time.specs.Limits.{max_count};
+ghost use Rattle.nd_paths.specs.Order.{IsStrictlyBefore};
+ghost use Rattle.nd_delta.specs.Upright.{IsSupported, IsUnsupported, IsUpright, Holds};
+ghost use Rattle.nd_delta.specs.Least.{IsLeast};
 ghost use Rattle.nd_delta.specs.Change.{none, at, set, size, plus, minus, part, combined, IsTooLarge, IsWithin, entries as listed};
 
 use nd_map::SortedMap;
-use nd_paths::Pointstamp;
+use nd_paths::{Paths, Pointstamp};
 use std::alloc::{AllocError, Allocator, Global};
 use std::marker::Model;
 
@@ -46,6 +49,17 @@ fn passes_limit(n: i64) -> bool
     ensures { IsTrue result ↔ (max_count < unsigned_abs n) }
 {
     n > LIMIT || n < -LIMIT
+}
+
+// Whether an entry is negative, and strictly before a pointstamp.
+fn is_negative_before<B: Allocator>(
+    entry: &(Pointstamp, i64),
+    paths: &Paths<B>,
+    point: &Pointstamp,
+) -> bool
+    ensures { IsTrue result ↔ ((entry.now.1 <ℤ pos 0) × IsStrictlyBefore paths.now entry.now.0 point.now) }
+{
+    entry.1 < 0 && paths.strictly_before(&entry.0, point)
 }
 
 impl<A: Allocator> Delta<A> {
@@ -206,5 +220,39 @@ impl<A: Allocator> Delta<A> {
             };
         }
         Ok(kept)
+    }
+
+    // Whether there is a negative entry strictly before a pointstamp.
+    fn supports<B: Allocator>(&self, paths: &Paths<B>, point: &Pointstamp) -> bool
+        ensures { IsTrue result ↔ IsSupported (IsStrictlyBefore paths.now) Holds (at self.now) point.now }
+    {
+        for entry in self.entries() {
+            if is_negative_before(entry, paths, point) {
+                return true;
+            }
+        }
+        false
+    }
+
+    // Whether an entry is positive, and nothing negative is strictly before it.
+    fn leaves_alone<B: Allocator>(&self, paths: &Paths<B>, entry: &(Pointstamp, i64)) -> bool
+        ensures alone { IsTrue result → (pos 0 <ℤ entry.now.1) × (IsSupported (IsStrictlyBefore paths.now) Holds (at self.now) entry.now.0 → ⊥) }
+        ensures supported { (IsTrue result → ⊥) → pos 0 <ℤ entry.now.1 → IsSupported (IsStrictlyBefore paths.now) Holds (at self.now) entry.now.0 }
+    {
+        entry.1 > 0 && !self.supports(paths, &entry.0)
+    }
+
+    /// The least pointstamp with a positive integer and nothing negative strictly before it,
+    /// or `None` where the change is upright (this project's own rule).
+    pub fn unsupported<B: Allocator>(&self, paths: &Paths<B>) -> Option<Pointstamp>
+        ensures upright { IsNone result ↔ IsUpright (IsStrictlyBefore paths.now) Holds (at self.now) }
+        ensures least { IfSome result (IsLeast (IsUnsupported (IsStrictlyBefore paths.now) Holds (at self.now))) }
+    {
+        for entry in self.entries() {
+            if self.leaves_alone(paths, entry) {
+                return Some(entry.0.copy());
+            }
+        }
+        None
     }
 }
