@@ -1,6 +1,7 @@
 //! Dataflow graphs: vertices with operators, edges between them, and the arcs along which times move.
 #![tactic(auto)]
 
+mod build;
 mod check;
 mod draft;
 mod fault;
