@@ -1,8 +1,8 @@
 -- A graph without a fault has depths that agree along its arcs.
-use Rattle.std.proofs.Common.{◌≡◌, ◌∙◌, ℕ, ◌+◌, ◌-◌, ◌<◌, ◌≤◌, zero, suc, Bool, true, false, not, ◌||◌, eqb, ltb, List, [], ◌∷◌, ◌++◌, length, take, get_or, map, refl, sym, ap, subst, arith, if◌then◌else◌, append_assoc, Option, Some, None}
+use Rattle.std.proofs.Common.{◌≡◌, ◌∙◌, ℕ, ◌+◌, ◌-◌, ◌<◌, ◌≤◌, zero, suc, Bool, true, false, not, ◌||◌, eqb, ltb, leb, List, [], ◌∷◌, ◌++◌, length, take, get_or, map, refl, sym, ap, subst, arith, if◌then◌else◌, append_assoc, Option, Some, None}
 use Rattle.std.proofs.lemmas.List.{length-map, length-append}
 use Rattle.std.proofs.lemmas.List.Elements.{All-nil, All-cons, All-head, All-tail, All-append, All-map, All-weaker}
-use Rattle.std.proofs.lemmas.Bool.{eqb-true, ltb-false}
+use Rattle.std.proofs.lemmas.Bool.{eqb-true, ltb-false, leb-false}
 use Rattle.std.proofs.lemmas.Bool.Decides.{eqb_tells}
 use Rattle.std.specs.List.{All, list_any, slice_get}
 use Rattle.std.specs.Option.{option_map_or}
@@ -16,7 +16,7 @@ use Rattle.nd_graph.specs.declared.graph.Edge.{Edge}
 use Rattle.nd_graph.specs.declared.graph.Arc.{Arc}
 use Rattle.nd_graph.specs.declared.fault.GraphFault.TheVariants.{BadPort, DepthMismatch, TooLarge}
 use Rattle.nd_graph.specs.Graph.{Dataflow, action_of, action_at, depth_past, depth_past_vertex, depths, arcs, arcs_from, location_count, LeadsTo, ArcAgrees, IsGraph}
-use Rattle.nd_graph.specs.Checked.{has_bad_port, is_misplaced, is_misplaced_at, misses_depth, vertex_depth, has_depth_mismatch, is_too_deep, leads_too_deep, is_too_large, fault_of, JoinsVertices, IsFaultless}
+use Rattle.nd_graph.specs.Checked.{has_bad_port, ports_at, is_input_at, is_misplaced, is_misplaced_at, misses_depth, vertex_depth, has_depth_mismatch, is_too_deep, leads_too_deep, is_too_large, fault_of, JoinsVertices, IsFaultless}
 use Rattle.nd_graph.proofs.NameLaws.{or_false, not_false}
 
 -- ---- arcs, edge by edge
@@ -44,16 +44,17 @@ none_of test (x ∷ xs) h =
     let both = or_false (test x) (list_any test xs) h in
     All-cons (λ y. test y ≡ false) x xs both.0 (none_of test xs both.1)
 
-later_tests : {X : Type 0} (a b c : Bool) (x y z : X) → (if a then Some x else (if b then Some y else (if c then Some z else None))) ≡ None
-    → (b ≡ false) × (c ≡ false)
-later_tests true b c x y z h = cc
-later_tests false true c x y z h = cc
-later_tests false false true x y z h = cc
-later_tests false false false x y z h = (refl, refl)
+all_pass : {X : Type 0} (a b c : Bool) (x y z : X) → (if a then Some x else (if b then Some y else (if c then Some z else None))) ≡ None
+    → (a ≡ false) × (b ≡ false) × (c ≡ false)
+all_pass true b c x y z h = cc
+all_pass false true c x y z h = cc
+all_pass false false true x y z h = cc
+all_pass false false false x y z h = (refl, refl, refl)
 
-sound : (g : Dataflow) → fault_of g ≡ None → (has_depth_mismatch g ≡ false) × (is_too_large g ≡ false)
+tests : (g : Dataflow) → fault_of g ≡ None
+    → (list_any (has_bad_port g.vertices) g.edges ≡ false) × (has_depth_mismatch g ≡ false) × (is_too_large g ≡ false)
 unfolding fault_of
-sound g h = later_tests (list_any (has_bad_port g.vertices) g.edges) (has_depth_mismatch g) (is_too_large g) BadPort DepthMismatch TooLarge h
+tests g h = all_pass (list_any (has_bad_port g.vertices) g.edges) (has_depth_mismatch g) (is_too_large g) BadPort DepthMismatch TooLarge h
 
 -- ---- depths
 
@@ -137,14 +138,37 @@ agree vertices ds l (e ∷ edges) long at from_here joined placed met =
     })
     (agree vertices ds (l + 1) edges long at from_here.2 (All-tail (JoinsVertices vertices) e edges joined) placed both.1))
 
+-- ---- what a graph's readers tell
+
+-- no input lies in a loop, and no egress and no feedback lies outside one
+pub placed : (g : Dataflow) → IsFaultless g → All (λ v. is_misplaced v ≡ false) g.vertices
+unfolding has_depth_mismatch
+placed g h = none_of is_misplaced g.vertices (or_false (list_any is_misplaced g.vertices) (list_any (misses_depth g.vertices) g.edges) (tests g h.faultless).1).0
+
+-- each edge leaves a port that is there
+pub leaves_port : (g : Dataflow) → IsFaultless g → All (λ e. e.port < ports_at g.vertices e.from) g.edges
+unfolding has_bad_port
+leaves_port g h =
+    All-weaker (λ e. has_bad_port g.vertices e ≡ false) (λ e. e.port < ports_at g.vertices e.from)
+    (λ e p. leb-false (ports_at g.vertices e.from) e.port (or_false (leb (ports_at g.vertices e.from) e.port) (is_input_at g.vertices e.to) p).0)
+    g.edges (none_of (has_bad_port g.vertices) g.edges (tests g h.faultless).0)
+
+-- no edge enters an input
+pub enters_no_input : (g : Dataflow) → IsFaultless g → All (λ e. is_input_at g.vertices e.to ≡ false) g.edges
+unfolding has_bad_port
+enters_no_input g h =
+    All-weaker (λ e. has_bad_port g.vertices e ≡ false) (λ e. is_input_at g.vertices e.to ≡ false)
+    (λ e p. (or_false (leb (ports_at g.vertices e.from) e.port) (is_input_at g.vertices e.to) p).1)
+    g.edges (none_of (has_bad_port g.vertices) g.edges (tests g h.faultless).0)
+
 -- ---- the whole
 
 pub is_graph : (g : Dataflow) → IsFaultless g → IsGraph g (depths g) (arcs g)
 unfolding has_depth_mismatch is_too_large leads_too_deep
 is_graph g h =
-    let tests = sound g h.faultless in
-    let placed = or_false (list_any is_misplaced g.vertices) (list_any (misses_depth g.vertices) g.edges) tests.0 in
-    let small = or_false (ltb max_locations (location_count g)) (list_any is_too_deep g.vertices || list_any (leads_too_deep g.vertices) g.edges) tests.1 in
+    let passed = tests g h.faultless in
+    let placed = or_false (list_any is_misplaced g.vertices) (list_any (misses_depth g.vertices) g.edges) passed.1 in
+    let small = or_false (ltb max_locations (location_count g)) (list_any is_too_deep g.vertices || list_any (leads_too_deep g.vertices) g.edges) passed.2 in
     let flat = or_false (list_any is_too_deep g.vertices) (list_any (leads_too_deep g.vertices) g.edges) small.1 in
     let front = map (λ v. v.depth) g.vertices in
     let back = map (λ e. depth_past_vertex g.vertices e.from) g.edges in

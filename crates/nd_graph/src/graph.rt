@@ -137,14 +137,16 @@ impl<A: Allocator> Graph<A> {
 
     /// The vertices, in order of appearance.
     pub fn vertices(&self) -> &[Vertex]
-        ensures { result.now ≡ self.now.vertices }
+        ensures vertices { result.now ≡ self.now.vertices }
+        ensures sound { IsFaultless self.now }
     {
         &self.vertices
     }
 
     /// The edges, in order of appearance.
     pub fn edges(&self) -> &[Edge]
-        ensures { result.now ≡ self.now.edges }
+        ensures edges { result.now ≡ self.now.edges }
+        ensures sound { IsFaultless self.now }
     {
         &self.edges
     }

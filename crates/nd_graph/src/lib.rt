@@ -6,6 +6,7 @@ mod check;
 mod draft;
 mod fault;
 mod graph;
+mod locations;
 mod name;
 mod names;
 mod op;
