@@ -1,6 +1,7 @@
 //! Dataflow graphs: vertices with operators, edges between them, and the arcs along which times move.
 #![tactic(auto)]
 
+mod arcs;
 mod build;
 mod check;
 mod draft;
@@ -11,6 +12,7 @@ mod name;
 mod names;
 mod op;
 
+pub use arcs::ArcsFrom;
 pub use check::MAX_LOCATIONS;
 pub use draft::{DraftEdge, GraphDraft};
 pub use fault::GraphFault;
