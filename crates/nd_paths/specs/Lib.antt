@@ -1,2 +1,5 @@
 pub mod Point
 pub mod Order
+pub mod Summary
+pub mod Inside
+pub mod Table

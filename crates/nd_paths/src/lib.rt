@@ -2,5 +2,7 @@
 #![tactic(auto)]
 
 mod point;
+mod summary;
 
 pub use point::Pointstamp;
+pub use summary::{Constants, Summary};

@@ -1,0 +1,11 @@
+pub mod Orders
+pub mod Summaries
+pub mod Walks
+pub mod Tables
+pub mod Laws
+pub mod Cuts
+pub mod Accept
+pub mod Relaxing
+pub mod Sweeps
+pub mod AllRows
+pub mod Reversed
