@@ -9,3 +9,5 @@ pub mod Relaxing
 pub mod Sweeps
 pub mod AllRows
 pub mod Reversed
+pub mod Stored
+pub mod Closing

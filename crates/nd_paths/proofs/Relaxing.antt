@@ -1,13 +1,14 @@
 -- What following one entry by one arc does to a row.
-use Rattle.std.proofs.Common.{◌≡◌, ◌⊎◌, inl, inr, ℕ, ◌+◌, ◌*◌, ◌<◌, ◌≤◌, Option, Some, None, List, length, get_or, set, refl, sym, ◌∙◌, ap, subst, arith}
+use Rattle.std.proofs.Common.{◌≡◌, ◌⊎◌, inl, inr, ℕ, ◌+◌, ◌-◌, ◌*◌, ◌<◌, ◌≤◌, Option, Some, None, List, length, get_or, set, refl, sym, ◌∙◌, ap, subst, arith}
 use Rattle.std.proofs.lemmas.Bool.{cases_lt, cases_eq, cond_below, cond_above}
 use Rattle.std.proofs.lemmas.Nat.{same_from_place}
-use Rattle.std.proofs.lemmas.List.{get_or-set_same, get_or-set_other, length-set}
+use Rattle.std.proofs.lemmas.List.{get_or-set_same, get_or-set_other, length-set, length-reverse}
 use Rattle.nd_graph.specs.declared.graph.Arc.{Arc}
 use Rattle.nd_paths.specs.declared.summary.Summary.{Summary}
 use Rattle.std.specs.Option.{option_map}
-use Rattle.nd_paths.specs.Inside.{keeps, inner, step, AtMost}
-use Rattle.nd_paths.specs.Table.{held, entry, Covers, CanRelax, Relaxed}
+use Rattle.nd_paths.specs.Inside.{keeps, inner, step, grows, IsWithin, AtMost}
+use Rattle.nd_time.specs.Limits.{max_depth, max_counter}
+use Rattle.nd_paths.specs.Table.{held, entry, Covers, CanRelax, Relaxed, Quiet, Written}
 use Rattle.nd_paths.proofs.Summaries.{step-keep, AtMost-trans, AtMost-refl}
 
 pub next_keep : (row : List (Option Summary)) (x : Arc) (r : ℕ) (s n : Summary) → CanRelax row x r → Some s ≡ entry row x.from r → n ≡ step x.action s → n.keep < keeps
@@ -130,3 +131,55 @@ Relaxed-length old new x r h =
       | inl p ↦ ap length p.0
       | inr (s, n, here, is, w, less) ↦ ap length w ∙ length-set old (x.to * keeps + (step x.action s).keep) (Some n)
     ]
+
+-- the entry at the arc's start can be followed by the arc
+pub past_can : (row : List (Option Summary)) (x : Arc) (r : ℕ) → CanRelax row x r → (f : Summary) → Some f ≡ held row x.from r → (length (inner f).constants + grows x.action ≤ max_depth) × IsWithin (max_counter - 1) (inner f)
+past_can row x r can f e = let h = can.room (inner f) (ap (option_map inner) (sym e)) in (h.1, h.2)
+
+-- what the stored entries say of the step: f at the arc's start, n the step, k at its end
+module _ (row : List (Option Summary)) (x : Arc) (r : ℕ) (can : CanRelax row x r) (f n : Summary) (at' : Some f ≡ held row x.from r) (is : inner n ≡ step x.action (inner f)) where
+  here : entry row x.from r ≡ Some (inner f)
+  here = ap (option_map inner) (sym at')
+
+  keep_is : n.keep ≡ (step x.action (inner f)).keep
+  keep_is = ap (λ s. s.keep) is
+
+  pub past_keep : n.keep < keeps
+  past_keep = omega (arith, next_keep row x r (inner f) (step x.action (inner f)) can (sym here) refl, keep_is)
+
+  known_here : (k : Summary) → Some k ≡ held row x.to n.keep → entry row x.to (step x.action (inner f)).keep ≡ Some (inner k)
+  known_here k e = ap (λ m. entry row x.to m) (sym keep_is) ∙ ap (option_map inner) (sym e)
+
+  pub known_alike : (k : Summary) → Some k ≡ held row x.to n.keep → (k.keep ≡ n.keep) × (length k.constants ≡ length n.constants)
+  known_alike k e =
+      let h = can.alike (inner f) (inner k) here (known_here k e) in
+      (h.0 ∙ sym keep_is, sym (length-reverse k.constants) ∙ h.1 ∙ ap (λ s. length s.constants) (sym is) ∙ length-reverse n.constants)
+
+  -- nothing is written where what is known is at most the step
+  pub stays_quiet : (k : Summary) → Some k ≡ held row x.to n.keep → AtMost (inner k) (inner n) → Quiet row row x r
+  stays_quiet k e less = (
+    refl,
+    λ s h.
+        let same : Some s ≡ Some (inner f) = sym h ∙ here in
+        let one : inner f ≡ s = cc in
+        subst (λ t. Covers (entry row) x.to (step x.action t)) one (inner k, known_here k e, subst (λ t. AtMost (inner k) t) is less),
+  )
+
+  -- and it is where the step is at most what is known
+  pub writes : ((k : Summary) → Some k ≡ held row x.to n.keep → AtMost (inner n) (inner k)) → Written row (set row (x.to * keeps + n.keep) (Some n)) x r
+  writes less = (
+    inner f,
+    n,
+    here,
+    is,
+    ap (λ m. set row (x.to * keeps + m) (Some n)) keep_is,
+    λ t h.
+        let (k, e, same) = of_entry row x.to n.keep t (ap (λ m. entry row x.to m) keep_is ∙ h) in
+        subst (λ u. AtMost u t) is (subst (λ u. AtMost (inner n) u) same (less k e)),
+  )
+    where
+      of_option : (o : Option Summary) (t : Summary) → option_map inner o ≡ Some t → (k : Summary) × (Some k ≡ o) × (inner k ≡ t)
+      of_option None t h = absurd (cc)
+      of_option (Some k) t h = (k, refl, cc)
+      of_entry : (row : List (Option Summary)) (b q : ℕ) (t : Summary) → entry row b q ≡ Some t → (k : Summary) × (Some k ≡ held row b q) × (inner k ≡ t)
+      of_entry row b q t h = of_option (held row b q) t h

@@ -3,6 +3,7 @@
 
 mod point;
 mod summary;
+mod table;
 
 pub use point::Pointstamp;
 pub use summary::{Constants, Summary};
