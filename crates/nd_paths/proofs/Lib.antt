@@ -11,3 +11,5 @@ pub mod AllRows
 pub mod Reversed
 pub mod Stored
 pub mod Closing
+pub mod Graphs
+pub mod Decisions

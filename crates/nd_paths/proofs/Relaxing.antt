@@ -132,6 +132,14 @@ Relaxed-length old new x r h =
       | inr (s, n, here, is, w, less) ↦ ap length w ∙ length-set old (x.to * keeps + (step x.action s).keep) (Some n)
     ]
 
+of_option : (o : Option Summary) (t : Summary) → option_map inner o ≡ Some t → (k : Summary) × (Some k ≡ o) × (inner k ≡ t)
+of_option None t h = absurd (cc)
+of_option (Some k) t h = (k, refl, cc)
+
+-- what is held where there is an entry
+pub of_entry : (row : List (Option Summary)) (b q : ℕ) (t : Summary) → entry row b q ≡ Some t → (k : Summary) × (Some k ≡ held row b q) × (inner k ≡ t)
+of_entry row b q t h = of_option (held row b q) t h
+
 -- the entry at the arc's start can be followed by the arc
 pub past_can : (row : List (Option Summary)) (x : Arc) (r : ℕ) → CanRelax row x r → (f : Summary) → Some f ≡ held row x.from r → (length (inner f).constants + grows x.action ≤ max_depth) × IsWithin (max_counter - 1) (inner f)
 past_can row x r can f e = let h = can.room (inner f) (ap (option_map inner) (sym e)) in (h.1, h.2)
@@ -177,9 +185,3 @@ module _ (row : List (Option Summary)) (x : Arc) (r : ℕ) (can : CanRelax row x
         let (k, e, same) = of_entry row x.to n.keep t (ap (λ m. entry row x.to m) keep_is ∙ h) in
         subst (λ u. AtMost u t) is (subst (λ u. AtMost (inner n) u) same (less k e)),
   )
-    where
-      of_option : (o : Option Summary) (t : Summary) → option_map inner o ≡ Some t → (k : Summary) × (Some k ≡ o) × (inner k ≡ t)
-      of_option None t h = absurd (cc)
-      of_option (Some k) t h = (k, refl, cc)
-      of_entry : (row : List (Option Summary)) (b q : ℕ) (t : Summary) → entry row b q ≡ Some t → (k : Summary) × (Some k ≡ held row b q) × (inner k ≡ t)
-      of_entry row b q t h = of_option (held row b q) t h

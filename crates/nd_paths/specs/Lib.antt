@@ -3,3 +3,4 @@ pub mod Order
 pub mod Summary
 pub mod Inside
 pub mod Table
+pub mod Fault

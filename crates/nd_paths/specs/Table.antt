@@ -1,10 +1,13 @@
 -- A row of the table: for each location a place for each number of counters that a walk can keep.
-use Rattle.std.specs.Prelude.{◌≡◌, ◌⊎◌, ℕ, ◌+◌, ◌-◌, ◌*◌, ◌<◌, ◌≤◌, List, length, Option, Some, None, Vec, nat_lt, cond, Contains, slice_index_or, slice_set}
+use Rattle.std.specs.Prelude.{◌≡◌, ◌⊎◌, ℕ, All, ◌+◌, ◌-◌, ◌*◌, ◌<◌, ◌≤◌, List, length, Option, Some, None, Vec, nat_lt, cond, Contains, slice_index_or, slice_set}
 use Rattle.std.specs.Option.{option_map}
 use Rattle.nd_time.specs.Limits.{max_depth, max_counter}
+use Rattle.nd_time.specs.Time.{IsLexicallyAtMost}
 use Rattle.nd_graph.specs.declared.graph.Arc.{Arc}
+use Rattle.nd_graph.specs.Graph.{Dataflow, arcs, depths}
 use Rattle.nd_paths.specs.declared.summary.Summary.{Summary}
-use Rattle.nd_paths.specs.Inside.{keeps, AtOrBefore, DepthsAgree, IsWalkAlong, inner, apply, step, grows, AtMost, IsWithin, summary_of}
+use Rattle.nd_paths.specs.Summary.{applied}
+use Rattle.nd_paths.specs.Inside.{keeps, Accepted, AtOrBefore, DepthsAgree, IsWalkAlong, inner, apply, step, grows, AtMost, IsWithin, summary_of}
 
 -- what stands at the place of a location and a keep
 abbrev pub held : List (Option Summary) → ℕ → ℕ → Option Summary
@@ -67,12 +70,23 @@ Closes row x = (r : ℕ) × (s : Summary) × (entry row x.from r ≡ Some s) × 
 abbrev pub SaysReaches : (ℕ → ℕ → Option Summary) → ℕ → List ℕ → List ℕ → Type 0
 SaysReaches row b c d = (r : ℕ) × (u : Summary) × (row b r ≡ Some u) × AtOrBefore (apply u c) d
 
--- the entries at b are for times of depth d, and b has depth e
-abbrev pub EntriesFit : List (Option Summary) → ℕ → ℕ → ℕ → Type 0
-EntriesFit row b d e = (r : ℕ) (s : Summary) → entry row b r ≡ Some s → (s.keep ≤ d) × (s.keep + length s.constants ≡ e)
+-- what is held at b is for times of depth d, and b has depth e
+abbrev pub HeldFit : List (Option Summary) → ℕ → ℕ → ℕ → Type 0
+HeldFit row b d e = (r : ℕ) (s : Summary) → held row b r ≡ Some s → (s.keep ≤ d) × (s.keep + length s.constants ≡ e)
+
+-- something held at b turns counters c, outermost first, into some that are at most d
+abbrev pub SomeLeads : List (Option Summary) → ℕ → List ℕ → List ℕ → Type 0
+SomeLeads row b c d = (r : ℕ) × (u : Summary) × (held row b r ≡ Some u) × IsLexicallyAtMost (applied u c) d
 
 -- the rows of the locations below n
 abbrev pub AreLeast : {A : Type 0} → List ℕ → List Arc → List (Vec (Option Summary) A) → ℕ → Type 0
 AreLeast {A} depths arcs rows n =
     (length rows ≡ n)
     × ((a : ℕ) (d : Vec (Option Summary) A) → a < n → (length (slice_index_or rows a d).items ≡ length depths * keeps) × IsLeast depths arcs a (entry (slice_index_or rows a d).items))
+
+-- an accepted graph, and the least summaries of its walks
+pub record IsTable {A : Type 0} (g : Dataflow) (rows : List (Vec (Option Summary) A)) : Type 0 where
+  pub agree : DepthsAgree (depths g) (arcs g)
+  pub deep : All (λ d. d ≤ max_depth) (depths g)
+  pub accepted : Accepted (depths g) (arcs g)
+  pub least : AreLeast (depths g) (arcs g) rows (length (depths g))
