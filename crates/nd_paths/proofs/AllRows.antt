@@ -10,7 +10,7 @@ use Rattle.nd_paths.specs.declared.summary.Summary.{Summary}
 use Rattle.nd_paths.specs.Inside.{keeps, DepthsAgree, Accepted, Fails}
 use Rattle.nd_graph.specs.Graph.{ArcAgrees}
 use Rattle.nd_paths.specs.Table.{entry, HasWalks, CoversShort, ShowsFail, AreLeast}
-use Rattle.nd_paths.proofs.Accept.{accepted_from_none, covers_all, fails_shown, shown_fails}
+use Rattle.nd_paths.proofs.Acceptance.{accepted_from_none, covers_all, fails_shown, shown_fails}
 
 -- a row whose short walks are covered
 abbrev pub IsShort : List ℕ → List Arc → ℕ → List (Option Summary) → Type 0

@@ -13,7 +13,7 @@ use Rattle.nd_paths.specs.declared.point.Pointstamp.{Pointstamp}
 use Rattle.nd_paths.specs.Order.{HasDepth, Fits, CouldResultIn, FailsAt, IsAccepted, effect}
 use Rattle.nd_paths.specs.Inside.{Earlier, AtOrBefore, DepthsAgree, Accepted, Fails, IsWalkAlong, Reaches, effect_of, apply, summary_of}
 use Rattle.nd_paths.proofs.Walks.{IsFor-walk, apply-walk}
-use Rattle.nd_paths.proofs.Accept.{length-apply}
+use Rattle.nd_paths.proofs.Acceptance.{length-apply}
 use Rattle.nd_paths.proofs.Reversed.{smaller_from_earlier, earlier_from_smaller, lexical_from_before, before_from_lexical, reverse-effect, walk_along, along_walk}
 
 pub length-arcs_from : (vs : List Vertex) (l : ℕ) (es : List Edge) → length (arcs_from vs l es) ≡ length es * 2

@@ -4,7 +4,7 @@ pub mod Walks
 pub mod Tables
 pub mod Laws
 pub mod Cuts
-pub mod Accept
+pub mod Acceptance
 pub mod Relaxing
 pub mod Sweeps
 pub mod AllRows
@@ -13,3 +13,4 @@ pub mod Stored
 pub mod Closing
 pub mod Graphs
 pub mod Decisions
+pub mod Accepting

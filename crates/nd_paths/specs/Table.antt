@@ -90,3 +90,7 @@ pub record IsTable {A : Type 0} (g : Dataflow) (rows : List (Vec (Option Summary
   pub deep : All (λ d. d ≤ max_depth) (depths g)
   pub accepted : Accepted (depths g) (arcs g)
   pub least : AreLeast (depths g) (arcs g) rows (length (depths g))
+
+-- rows that hold the same
+abbrev pub AreCopies : {A : Type 0} → List (Vec (Option Summary) A) → List (Vec (Option Summary) A) → Type 0
+AreCopies {A} rows copies = (length copies ≡ length rows) × ((a : ℕ) (d : Vec (Option Summary) A) → a < length rows → (slice_index_or copies a d).items ≡ (slice_index_or rows a d).items)

@@ -150,7 +150,10 @@ impl Summary {
         if self.add != other.add {
             return self.add < other.add;
         }
-        self.constants.as_slice().cmp(other.constants.as_slice()).is_le()
+        self.constants
+            .as_slice()
+            .cmp(other.constants.as_slice())
+            .is_le()
     }
 
     // What this makes of these counters, wide enough for every sum.

@@ -4,7 +4,7 @@ ghost use Rattle.std.specs.Bool.{OnFalse};
 ghost use Rattle.std.specs.Option.{option_copied};
 ghost use Rattle.nd_time.specs.Limits.{max_depth, max_locations};
 ghost use Rattle.nd_paths.specs.Inside.{keeps, DepthsAgree, identity};
-ghost use Rattle.nd_paths.specs.Table.{held, entry, CanRelax, Relaxed, Quiet, HasWalks, CoversShort, ShowsFail, Closes};
+ghost use Rattle.nd_paths.specs.Table.{held, entry, CanRelax, Relaxed, Quiet, HasWalks, CoversShort, ShowsFail, Closes, SomeLeads, HeldFit, AreCopies};
 
 use crate::Summary;
 use nd_graph::Arc;
@@ -137,4 +137,52 @@ fn closes(row: &[Option<Summary>], arc: Arc) -> bool
         }
     }
     false
+}
+
+/// Whether something held for a location makes of the one time's counters some at or before the other's.
+pub fn leads_among(row: &[Option<Summary>], location: usize, from: &[u32], to: &[u32]) -> bool
+    requires long { location * keeps + keeps ≤ length row.now }
+    requires deep { length to.now ≤ max_depth }
+    requires fit { HeldFit row.now location (length from.now) (length to.now) }
+    ensures { IsTrue result ↔ SomeLeads row.now location from.now to.now }
+{
+    for keep in 0..KEEPS {
+        if let Some(summary) = look(row, location, keep) {
+            if summary.leads(from, to) {
+                return true;
+            }
+        }
+    }
+    false
+}
+
+// An equal row.
+fn copied_row<A: Allocator>(
+    alloc: A,
+    row: &[Option<Summary>],
+) -> Result<Vec<Option<Summary>, A>, AllocError>
+    ensures { IfOk result (λ v. v.items ≡ row.now) }
+{
+    let mut copied = Vec::with_capacity(alloc, row.len())?;
+    for entry in row {
+        match entry {
+            Some(summary) => copied.push(Some(summary.copy()))?,
+            None => copied.push(None)?,
+        }
+    }
+    Ok(copied)
+}
+
+/// Equal rows.
+pub fn copied_rows<A: Allocator + Copy>(
+    alloc: A,
+    rows: &[Vec<Option<Summary>, A>],
+) -> Result<Vec<Vec<Option<Summary>, A>, A>, AllocError>
+    ensures { IfOk result (λ v. AreCopies rows.now v.items) }
+{
+    let mut copied = Vec::with_capacity(alloc, rows.len())?;
+    for row in rows {
+        copied.push(copied_row(alloc, row)?)?;
+    }
+    Ok(copied)
 }
