@@ -7,38 +7,18 @@ use Rattle.nd_paths.specs.Inside.{IsWalkAlong, effect_of, Accepted, Reaches}
 use Rattle.nd_paths.proofs.Orders.{Earlier-irrefl, then_at, AtOrBefore-trans, AtOrBefore-antisym, effect_mono, effect-append}
 use Rattle.nd_paths.proofs.Walks.{walks_joined}
 
-pub reflexive : (arcs : List Arc) (a : ℕ) (c : List ℕ) → Reaches arcs a c a c
-reflexive arcs a c = ([], refl, inr refl)
-
 -- two walks, one after the other
-joined : (w v : List Arc) (a b c : List ℕ) → AtOrBefore (effect_of w a) b → AtOrBefore (effect_of v b) c → AtOrBefore (effect_of (w ++ v) a) c
+pub joined : (w v : List Arc) (a b c : List ℕ) → AtOrBefore (effect_of w a) b → AtOrBefore (effect_of v b) c → AtOrBefore (effect_of (w ++ v) a) c
 joined w v a b c h k =
     subst (λ d. AtOrBefore d c) (sym (effect-append w v a)) (AtOrBefore-trans (effect_of v (effect_of w a)) (effect_of v b) c (effect_mono v (effect_of w a) b h) k)
 
-pub transitive : (arcs : List Arc) (k l m : ℕ) (c d e : List ℕ) → Reaches arcs k c l d → Reaches arcs l d m e → Reaches arcs k c m e
-transitive arcs k l m c d e (w, walk, less) (v, walk', less') =
-    (w ++ v, walks_joined arcs w v k l m walk walk', joined w v c d e less less')
-
-no_way_back : (depths : List ℕ) (arcs w : List Arc) (a : ℕ) (c : List ℕ) → Accepted depths arcs → IsWalkAlong arcs a a w → length c ≡ slice_index depths a → AtOrBefore (effect_of w c) c → w ≡ []
-no_way_back depths arcs [] a c ok h f k = refl
-no_way_back depths arcs (x ∷ w) a c ok h f k = absurd (Earlier-irrefl c (then_at c (effect_of (x ∷ w) c) c (ok a x w c h f) k))
-
-both_empty : (w v : List Arc) → w ++ v ≡ [] → (w ≡ []) × (v ≡ [])
+pub both_empty : (w v : List Arc) → w ++ v ≡ [] → (w ≡ []) × (v ≡ [])
 both_empty [] v h = (refl, h)
 both_empty (x ∷ w) v h = absurd (cc)
 
-empty_walk : (arcs w : List Arc) (k l : ℕ) (c d : List ℕ) → w ≡ [] → IsWalkAlong arcs k l w → AtOrBefore (effect_of w c) d → (k ≡ l) × AtOrBefore c d
+pub empty_walk : (arcs w : List Arc) (k l : ℕ) (c d : List ℕ) → w ≡ [] → IsWalkAlong arcs k l w → AtOrBefore (effect_of w c) d → (k ≡ l) × AtOrBefore c d
 empty_walk arcs w k l c d e walk less =
     (subst (λ v. IsWalkAlong arcs k l v) e walk, subst (λ v. AtOrBefore (effect_of v c) d) e less)
-
-pub antisymmetric : (depths : List ℕ) (arcs : List Arc) (k l : ℕ) (c d : List ℕ) → Accepted depths arcs → length c ≡ slice_index depths k → Reaches arcs k c l d → Reaches arcs l d k c → (k ≡ l) × (c ≡ d)
-antisymmetric depths arcs k l c d ok f (w, walk, less) (v, walk', less') =
-    let round = joined w v c d c less less' in
-    let none = no_way_back depths arcs (w ++ v) k c ok (walks_joined arcs w v k l k walk walk') f round in
-    let (e, e') = both_empty w v none in
-    let there = empty_walk arcs w k l c d e walk less in
-    let back = empty_walk arcs v l k d c e' walk' less' in
-    (there.0, AtOrBefore-antisym c d there.1 back.1)
 
 -- one of the list's elements
 abbrev pub In : {A : Type 0} → List A → A → Type 0

@@ -14,3 +14,5 @@ pub mod Closing
 pub mod Graphs
 pub mod Decisions
 pub mod Accepting
+pub mod PointOrder
+pub mod Minimal

@@ -4,3 +4,4 @@ pub mod Summary
 pub mod Inside
 pub mod Table
 pub mod Fault
+pub mod Laws

@@ -1,6 +1,8 @@
 //! The order of pointstamps.
-ghost use Rattle.std.specs.Prelude.{◌≡◌, ◌↔◌, IsTrue, IfOk, IfErr};
-ghost use Rattle.nd_paths.specs.Order.{CouldResultIn, Fits, IsAccepted};
+ghost use Rattle.std.specs.Prelude.{◌≡◌, ◌↔◌, IsTrue, IfOk, IfErr, List, ◌∷◌};
+ghost use Rattle.nd_paths.specs.declared.point.Pointstamp.{Pointstamp};
+ghost use Rattle.nd_paths.specs.Order.{CouldResultIn, Fits, IsAccepted, IsStrictlyBefore};
+ghost use Rattle.nd_paths.specs.Laws.{IsMinimalAmong};
 ghost use Rattle.nd_paths.specs.Fault.{IsFault};
 ghost use Rattle.nd_paths.specs.Table.{IsTable};
 
@@ -69,6 +71,28 @@ impl<A: Allocator> Paths<A> {
         ensures { IsTrue result ↔ CouldResultIn self.now s.now t.now }
     {
         could_result_in(&self.graph, &self.rows, s, t)
+    }
+
+    /// Whether s could result in t, and is another.
+    pub fn strictly_before(&self, s: &Pointstamp, t: &Pointstamp) -> bool
+        ensures { IsTrue result ↔ IsStrictlyBefore self.now s.now t.now }
+    {
+        s != t && self.before(s, t)
+    }
+
+    /// The order is a partial order, and of finitely many pointstamps one has no other before it.
+    pub fn order_is_partial(&self)
+        ensures reflexive { (s : Pointstamp) → Fits self.now s → CouldResultIn self.now s s }
+        ensures transitive { (s t u : Pointstamp) → CouldResultIn self.now s t → CouldResultIn self.now t u
+            → CouldResultIn self.now s u }
+        ensures antisymmetric { (s t : Pointstamp) → CouldResultIn self.now s t → CouldResultIn self.now t s
+            → s ≡ t }
+        ensures strict { (s t u : Pointstamp) → IsStrictlyBefore self.now s t → IsStrictlyBefore self.now t u
+            → IsStrictlyBefore self.now s u }
+        ensures minimal { (p : Pointstamp) (ps : List Pointstamp)
+            → (m : Pointstamp) × IsMinimalAmong self.now (p ∷ ps) m }
+    {
+        let _ = &self.rows;
     }
 }
 
