@@ -1,6 +1,8 @@
 -- Names that stand twice, and the places of names.
 use Rattle.std.proofs.Common.{◌≡◌, ◌∙◌, ◌⊎◌, inl, inr, ℕ, ◌+◌, ◌<◌, ◌≤◌, zero, suc, Bool, true, false, not, ◌||◌, cond, List, [], ◌∷◌, ◌++◌, length, take, drop, get_or, map, refl, sym, ap, arith, append_assoc, drop-cons, Option, Some, None}
 use Rattle.std.proofs.lemmas.List.{take_more, map-append, take-append-drop}
+use Rattle.std.proofs.lemmas.Bool.{le-ltb, lt-ltb}
+use Rattle.std.proofs.lemmas.List.Sums.{position_or_len_is}
 use Rattle.std.proofs.lemmas.List.Folds.{list_any-append}
 use Rattle.std.proofs.lemmas.Iterator.Adapters.{position_from-zero}
 use Rattle.std.specs.List.{list_any, position, position_from}
@@ -141,3 +143,15 @@ has_double-second name first vs v i ks within at all h =
     ap (λ names. has_double (first ++ names)) (map-at name vs v i within at)
     ∙ ap has_double (sym (append_assoc first (map name (take i vs)) (name v ∷ map name (drop (suc i) vs))))
     ∙ has_double-again (first ++ map name (take i vs)) (map name (drop (suc i) vs)) (name v) (ap (list_any (bytes_eq (name v))) (sym all) ∙ h)
+
+-- ---- the first place that passes a test
+
+pub position_found : {X : Type 0} (p : X → Bool) (xs : List X) (i : ℕ) (d : X) → i < length xs → ((k : ℕ) → k < i → p (get_or xs k d) ≡ false)
+    → p (get_or xs i d) ≡ true → position p xs ≡ Some i
+position_found p xs i d within before here =
+    rw (position_or_len_is p xs i d (omega arith) before (λ _. here), lt-ltb i (length xs) within) refl
+
+pub position_none : {X : Type 0} (p : X → Bool) (xs : List X) (d : X) → ((k : ℕ) → k < length xs → p (get_or xs k d) ≡ false)
+    → position p xs ≡ None
+position_none p xs d none =
+    rw (position_or_len_is p xs (length xs) d (omega arith) none (λ past. absurd (omega arith)), le-ltb (length xs) (length xs) (omega arith)) refl

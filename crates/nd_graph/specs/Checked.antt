@@ -1,5 +1,5 @@
 -- Which graphs are refused, and as what (this project's own rule).
-use Rattle.std.specs.Prelude.{ℕ, ◌+◌, Bool, true, false, not, ◌==◌, ◌&&◌, ◌||◌, nat_lt, nat_le, List, [], ◌∷◌, ◌++◌, length, map, if◌then◌else◌, Option, Some, None, ok_or, option_map, option_and_then, Result, Ok, Err, slice_get}
+use Rattle.std.specs.Prelude.{◌≡◌, ℕ, ◌+◌, ◌<◌, All, Bool, true, false, not, ◌==◌, ◌&&◌, ◌||◌, nat_lt, nat_le, List, [], ◌∷◌, ◌++◌, length, map, if◌then◌else◌, Option, Some, None, ok_or, option_map, option_and_then, Result, Ok, Err, slice_get}
 use Rattle.std.specs.Option.{option_map_or}
 use Rattle.std.specs.List.{list_any, position}
 use Rattle.std.specs.Str.{bytes_eq}
@@ -11,7 +11,7 @@ use Rattle.nd_graph.specs.declared.graph.Edge.{Edge}
 use Rattle.nd_graph.specs.declared.draft.DraftEdge.{DraftEdge}
 use Rattle.nd_graph.specs.declared.fault.GraphFault.{GraphFault}
 use Rattle.nd_graph.specs.declared.fault.GraphFault.TheVariants.{DoubleName, UnknownName, BadPort, DepthMismatch, TooLarge}
-use Rattle.nd_graph.specs.Graph.{Dataflow, depth_past_vertex, location_count}
+use Rattle.nd_graph.specs.Graph.{Dataflow, depth_past_vertex, location_count, names}
 use Rattle.nd_graph.specs.Draft.{Draft, every}
 
 -- ---- names
@@ -163,3 +163,16 @@ judged_with vertices (Err e) = Err e
 -- the graph that is written, or the fault of least number
 unfoldable pub checked : Draft → Result Dataflow GraphFault
 checked d = judged_with d.vertices (edges_between d.vertices d.edges)
+
+-- ---- what holds of a graph that was checked
+
+-- an edge's ends are vertices
+pub record JoinsVertices (vertices : List Vertex) (e : Edge) : Type 0 where
+  pub from : e.from < length vertices
+  pub to : e.to < length vertices
+
+-- no name stands twice, each end is a vertex, and there is no fault
+pub record IsFaultless (g : Dataflow) : Type 0 where
+  pub once : has_double (names g) ≡ false
+  pub joined : All (JoinsVertices g.vertices) g.edges
+  pub faultless : fault_of g ≡ None

@@ -68,7 +68,7 @@ fn depth_past(vertex: &Vertex) -> usize
     }
 }
 
-fn edge_depth(vertices: &[Vertex], edge: &Edge) -> usize
+pub(crate) fn edge_depth(vertices: &[Vertex], edge: &Edge) -> usize
     ensures { result ≡ depth_past_vertex vertices.now edge.now.from }
 {
     match vertices.get(edge.from) {
