@@ -1,15 +1,29 @@
 -- What each line of a script may be answered, and what comes of it.
-use Rattle.std.specs.Prelude.{◌≡◌, ◌≢◌, ℕ, ◌+◌, ◌<◌, ◌≤◌, ◌⊎◌, List, [], ◌∷◌, ◌++◌, Option, Some, None, codes, sum}
+use Rattle.std.specs.Prelude.{◌≡◌, ◌≢◌, ℕ, ◌+◌, ◌<◌, ◌⊎◌, List, [], ◌∷◌, length, Option, Some, None, codes, unsigned_abs, if◌then◌else◌, slice_get, Result, Ok, Err}
+use Rattle.std.specs.declared.alloc.Global.{Global}
 use Rattle.serde_json.specs.Data.{Data}
 use Rattle.rewind_lines.specs.Lines.{Reading, blank, too_long, no_json, json}
-use Rattle.rewind.specs.Forms.{start_of, command_of}
-use Rattle.rewind.specs.Replies.{line_fault, refusal, started, moved, state}
-use Rattle.rewind.specs.declared.command.Command.{Command}
-use Rattle.rewind.specs.declared.command.Command.TheVariants.{Add, State}
-
--- what a machine is seen as
-abbrev pub MachineValue : Type 0
-MachineValue = List ℕ
+use Rattle.nd_graph.specs.Graph.{Dataflow, location_count, names}
+use Rattle.nd_graph.specs.Draft.{Draft, draft_of}
+use Rattle.nd_graph.specs.Checked.{checked}
+use Rattle.nd_graph.specs.Fault as graph_fault
+use Rattle.nd_graph.specs.declared.fault.GraphFault.{GraphFault}
+use Rattle.nd_paths.specs.Order.{FailsAt, IsAccepted}
+use Rattle.nd_delta.specs.Change.{at}
+use Rattle.nd_cluster.specs.State.{ClusterState, truth}
+use Rattle.nd_cluster.specs.StateText.{state_data}
+use Rattle.nd_cluster.specs.Start.{start, can_run}
+use Rattle.nd_cluster.specs.declared.step.Step.{Step}
+use Rattle.rewind_forms.specs.Forms.{command_of}
+use Rattle.rewind_forms.specs.Replies.{fault, location_fault, graph, moved, refused as refusal, at_start, timeline_full, out_of_memory, faulty, line_fault, count, state}
+use Rattle.rewind_forms.specs.declared.fault.LineFault.{LineFault}
+use Rattle.rewind_forms.specs.declared.command.Command.{Command}
+use Rattle.rewind_forms.specs.declared.command.Command.TheVariants.{Forward, Back, State, Count}
+use Rattle.rewind.specs.Machine.{MachineValue, cluster_of, opened, extended, set_back, CanForward, ForwardFails, BackFails}
+use Rattle.rewind.specs.declared.machine.ForwardFault.{ForwardFault}
+use Rattle.rewind.specs.declared.machine.ForwardFault.TheVariants.{TimelineFull, Refused}
+use Rattle.rewind.specs.declared.machine.BackFault.{BackFault}
+use Rattle.rewind.specs.declared.machine.BackFault.TheVariants.{AtStart, Memory}
 
 -- before the graph's line, of a number of processors; with the machine; after a graph's line that was refused
 pub data Phase : Type 0 where
@@ -17,38 +31,77 @@ pub data Phase : Type 0 where
   running : MachineValue → Phase
   refused : Phase
 
--- the greatest total
-abbrev pub most : ℕ
-most = 1099511627776
+-- ---- the graph's line
 
--- an addition is made, or the total would pass the greatest, or there was no memory for it
-abbrev pub AddReplies : MachineValue → ℕ → List Data → Phase → Type 0
-AddReplies old n replies new =
-    ((sum old + n ≤ most) × (replies ≡ moved (sum old + n) ∷ []) × (new ≡ running (old ++ n ∷ [])))
-    ⊎ (((most < sum old + n) × (replies ≡ refusal 14 (codes "DeltaFull") ∷ []) × (new ≡ running old))
-    ⊎ ((sum old + n ≤ most) × (replies ≡ refusal 29 (codes "Memory") ∷ []) × (new ≡ running old)))
+-- the graph of a draft, or the reply to one that is refused
+abbrev pub graph_of_checked : Result Dataflow GraphFault → Result Dataflow Data
+graph_of_checked (Err e) = Err (fault (graph_fault.number_of e) (graph_fault.name_of e))
+graph_of_checked (Ok g) = if can_run g then Ok g else Err (fault 40 (codes "Shape"))
 
--- the reply to a line that is, or isn't, a command
-abbrev pub FormReplies : MachineValue → ℕ → Option Command → List Data → Phase → Type 0
-FormReplies old line None replies new = (replies ≡ line_fault 31 (codes "BadShape") line ∷ []) × (new ≡ running old)
-FormReplies old line (Some State) replies new = (replies ≡ state old ∷ []) × (new ≡ running old)
-FormReplies old line (Some (Add n)) replies new = AddReplies old n replies new
+abbrev pub graph_of_draft : Option Draft → Result Dataflow Data
+graph_of_draft None = Err (fault 40 (codes "Shape"))
+graph_of_draft (Some draft) = graph_of_checked (checked draft)
 
--- the reply to a line after the graph's
+-- the graph that a value is, or the reply to one that is refused for itself
+unfoldable pub graph_of : Data → Result Dataflow Data
+graph_of d = graph_of_draft (draft_of d)
+
+-- a loop is not strict at this location, and at none before it
+pub record IsFirstFailure (g : Dataflow) (l : ℕ) : Type 0 where
+  pub fails : FailsAt g l
+  pub first : (k : ℕ) → k < l → FailsAt g k → ⊥
+
+-- a graph is refused for the number of processors or for a loop, or a cluster starts on it
+abbrev pub StartReplies : ℕ → Result Dataflow Data → List Data → Phase → Type 0
+StartReplies processors (Err reply) replies new = (replies ≡ reply ∷ []) × (new ≡ refused)
+StartReplies processors (Ok g) replies new =
+    ((processors ≢ 1) × (replies ≡ fault 48 (codes "BadCount") ∷ []) × (new ≡ refused))
+    ⊎ (((processors ≡ 1) × ((l : ℕ) × (name : List ℕ) × IsFirstFailure g l × (slice_get (names g) l ≡ Some name)
+        × (replies ≡ location_fault 46 (codes "LoopNotStrict") name ∷ []) × (new ≡ refused)))
+    ⊎ ((processors ≡ 1) × IsAccepted g × (replies ≡ graph (location_count g) processors ∷ []) × (new ≡ running (opened (start g processors)))))
+
+-- ---- the lines after it
+
+-- the reply where the cursor has moved
+abbrev pub moved_to : MachineValue → Data
+moved_to m = moved m.cursor (length m.kept)
+
+abbrev pub forward_reply : ForwardFault → ℕ → Data
+forward_reply TimelineFull at = timeline_full
+forward_reply (Refused r) at = refusal r at
+
+abbrev pub back_reply : BackFault → ℕ → Data
+back_reply AtStart at = at_start
+back_reply Memory at = out_of_memory at
+
+-- a step is made and kept, or is not made for a reason that is told
+abbrev pub ForwardReplies : MachineValue → Step Global → List Data → Phase → Type 0
+ForwardReplies m x replies new =
+    (CanForward m x × (replies ≡ moved_to (extended m x) ∷ []) × (new ≡ running (extended m x)))
+    ⊎ ((e : ForwardFault) × ForwardFails m x e × (replies ≡ forward_reply e m.cursor ∷ []) × (new ≡ running m))
+
+-- a step is undone, or is not for a reason that is told
+abbrev pub BackReplies : MachineValue → List Data → Phase → Type 0
+BackReplies m replies new =
+    ((0 < m.cursor) × (replies ≡ moved_to (set_back m) ∷ []) × (new ≡ running (set_back m)))
+    ⊎ ((e : BackFault) × BackFails m e × (replies ≡ back_reply e m.cursor ∷ []) × (new ≡ running m))
+
+-- the true count of a pointstamp
+abbrev pub true_count : ClusterState → _ → ℕ
+true_count s x = unsigned_abs (at (truth s.processors) x)
+
+-- the reply to a line that is, or is not, a command or a query
+abbrev pub FormReplies : MachineValue → ℕ → Result Command LineFault → List Data → Phase → Type 0
+FormReplies m line (Ok (Forward x)) replies new = ForwardReplies m x replies new
+FormReplies m line (Ok Back) replies new = BackReplies m replies new
+FormReplies m line (Ok State) replies new = (replies ≡ state (state_data (cluster_of m)) ∷ []) × (new ≡ running m)
+FormReplies m line (Ok (Count x)) replies new = (replies ≡ count (true_count (cluster_of m) x) ∷ []) × (new ≡ running m)
+FormReplies m line (Err e) replies new = (reply : Data) × (line_fault e line ≡ Some reply) × (replies ≡ reply ∷ []) × (new ≡ running m)
+
 abbrev pub CommandReplies : MachineValue → ℕ → Data → List Data → Phase → Type 0
-CommandReplies old line d replies new = FormReplies old line (command_of d) replies new
+CommandReplies m line d replies new = FormReplies m line (command_of m.base.graph d) replies new
 
--- the reply to a graph, or to what is none
-abbrev pub GraphReplies : ℕ → Option ℕ → List Data → Phase → Type 0
-GraphReplies processors None replies new = (replies ≡ refusal 40 (codes "Shape") ∷ []) × (new ≡ refused)
-GraphReplies processors (Some n) replies new =
-    ((processors ≢ 1) × (replies ≡ refusal 48 (codes "BadCount") ∷ []) × (new ≡ refused))
-    ⊎ (((processors ≡ 1) × (n ≤ most) × (replies ≡ started ∷ []) × (new ≡ running (n ∷ [])))
-    ⊎ ((processors ≡ 1) × (most < n) × (replies ≡ refusal 14 (codes "DeltaFull") ∷ []) × (new ≡ refused)))
-
--- the reply to the graph's line
-abbrev pub StartReplies : ℕ → Data → List Data → Phase → Type 0
-StartReplies processors d replies new = GraphReplies processors (start_of d) replies new
+-- ---- all lines
 
 -- a line that is no JSON value ends the run as the graph's, and changes nothing as a later one
 abbrev pub after_fault : Phase → Phase
@@ -60,7 +113,7 @@ after_fault refused = refused
 abbrev pub Answers : Phase → ℕ → Reading → List Data → Phase → Type 0
 Answers refused line reading replies new = ⊥
 Answers old line blank replies new = (replies ≡ []) × (new ≡ old)
-Answers old line too_long replies new = (replies ≡ line_fault 33 (codes "LineTooLong") line ∷ []) × (new ≡ after_fault old)
-Answers old line no_json replies new = (replies ≡ line_fault 30 (codes "BadLine") line ∷ []) × (new ≡ after_fault old)
-Answers (unstarted processors) line (json d) replies new = StartReplies processors d replies new
-Answers (running machine) line (json d) replies new = CommandReplies machine line d replies new
+Answers old line too_long replies new = (replies ≡ faulty 33 (codes "LineTooLong") line ∷ []) × (new ≡ after_fault old)
+Answers old line no_json replies new = (replies ≡ faulty 30 (codes "BadLine") line ∷ []) × (new ≡ after_fault old)
+Answers (unstarted processors) line (json d) replies new = StartReplies processors (graph_of d) replies new
+Answers (running m) line (json d) replies new = CommandReplies m line d replies new

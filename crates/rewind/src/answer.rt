@@ -2,14 +2,66 @@
 ghost use Rattle.std.specs.Prelude.{◌≡◌, ◌∷◌, [], false, IfOk};
 ghost use Rattle.serde_json.specs.View.{view};
 ghost use Rattle.serde_json.specs.Written.{has_float};
-ghost use Rattle.rewind.specs.Answers.{running, CommandReplies, StartReplies};
-ghost use Rattle.rewind.specs.Stages.{phase_of_start};
+ghost use Rattle.rewind.specs.Answers.{running, graph_of as graph_in, CommandReplies, StartReplies, ForwardReplies, BackReplies};
+ghost use Rattle.rewind.specs.Stages.{phase_of_start, graph_read};
 
-use crate::command::{Command, command_of, start_of};
-use crate::machine::{AddFault, Machine};
-use crate::reply;
+use crate::machine::{BackFault, ForwardFault, Machine};
+use nd_cluster::{Cluster, StartFault, Step, can_run};
+use nd_graph::{Graph, GraphDraft, GraphFault};
+use rewind_forms::{Command, LineFault, command_of, replies};
 use serde_json::Value;
 use std::alloc::{AllocError, Global};
+
+// The reply to a graph that is refused.
+fn refused_graph(alloc: Global, fault: GraphFault) -> Result<Value, AllocError> {
+    if fault == GraphFault::Memory {
+        return Err(AllocError);
+    }
+    replies::fault(alloc, fault.number(), fault.name())
+}
+
+/// The graph that the value is, or the reply to one that is refused.
+fn graph_of(alloc: Global, value: &Value) -> Result<Result<Graph, Value>, AllocError>
+    ensures graph { IfOk result (λ r. graph_read r ≡ graph_in (view value.now)) }
+{
+    let draft = match GraphDraft::from_value(alloc, value) {
+        Ok(draft) => draft,
+        Err(fault) => return Ok(Err(refused_graph(alloc, fault)?)),
+    };
+    let graph = match draft.check() {
+        Ok(graph) => graph,
+        Err(fault) => return Ok(Err(refused_graph(alloc, fault)?)),
+    };
+    if !can_run(&graph) {
+        return Ok(Err(replies::fault(alloc, 40, "Shape")?));
+    }
+    Ok(Ok(graph))
+}
+
+/// Starts a cluster on the graph.
+fn start_on(
+    alloc: Global,
+    processors: u8,
+    graph: Graph,
+) -> Result<(Value, Option<Machine>), AllocError> {
+    let names = graph.copy(alloc)?;
+    match Cluster::start(alloc, graph, u32::from(processors)) {
+        Ok(cluster) => {
+            let reply = replies::graph(
+                alloc,
+                names.location_count() as u64,
+                u64::from(processors),
+            )?;
+            Ok((reply, Some(Machine::new(alloc, cluster)?)))
+        }
+        Err(StartFault::BadCount) => Ok((replies::fault(alloc, 48, "BadCount")?, None)),
+        Err(StartFault::LoopNotStrict { location }) => {
+            let name = names.location_name(location);
+            Ok((replies::location_fault(alloc, 46, "LoopNotStrict", name)?, None))
+        }
+        Err(StartFault::Memory) => Err(AllocError),
+    }
+}
 
 /// Answers the graph's line, and starts the machine where the graph is accepted.
 pub fn answer_first(
@@ -18,21 +70,53 @@ pub fn answer_first(
     value: &Value,
 ) -> Result<(Value, Option<Machine>), AllocError>
     ensures replies { IfOk result (λ r.
-        StartReplies processors (view value.now) (view r.0 ∷ []) (phase_of_start r.1)) }
+        StartReplies processors (graph_in (view value.now)) (view r.0 ∷ []) (phase_of_start r.1)) }
     ensures text { IfOk result (λ r. has_float (view r.0) ≡ false) }
 {
-    let Some(number) = start_of(value) else {
-        return Ok((reply::refusal(alloc, 40, "Shape")?, None));
-    };
-    if processors != 1 {
-        return Ok((reply::refusal(alloc, 48, "BadCount")?, None));
+    match graph_of(alloc, value)? {
+        Ok(graph) => start_on(alloc, processors, graph),
+        Err(reply) => Ok((reply, None)),
     }
-    let mut started = Machine::new(alloc);
-    match started.add(number) {
-        Ok(_) => Ok((reply::started(alloc)?, Some(started))),
-        Err(AddFault::Full) => Ok((reply::refusal(alloc, 14, "DeltaFull")?, None)),
-        Err(AddFault::Memory) => Err(AllocError),
+}
+
+// The reply where the cursor has moved.
+fn moved(alloc: Global, machine: &Machine) -> Result<Value, AllocError> {
+    replies::moved(alloc, machine.cursor() as u64, machine.kept() as u64)
+}
+
+// Makes a step, and replies.
+fn answer_forward(
+    alloc: Global,
+    machine: &mut Machine,
+    step: &Step,
+) -> Result<Value, AllocError>
+    ensures replies { IfOk result (λ v. ForwardReplies machine.old step.now (view v ∷ []) (running machine.new)) }
+    ensures text { IfOk result (λ v. has_float (view v) ≡ false) }
+{
+    match machine.forward(step) {
+        Ok(()) => moved(alloc, machine),
+        Err(ForwardFault::TimelineFull) => replies::timeline_full(alloc),
+        Err(ForwardFault::Refused(refusal)) => {
+            replies::refused(alloc, refusal, machine.cursor() as u64)
+        }
     }
+}
+
+// Undoes a step, and replies.
+fn answer_back(alloc: Global, machine: &mut Machine) -> Result<Value, AllocError>
+    ensures replies { IfOk result (λ v. BackReplies machine.old (view v ∷ []) (running machine.new)) }
+    ensures text { IfOk result (λ v. has_float (view v) ≡ false) }
+{
+    match machine.back() {
+        Ok(()) => moved(alloc, machine),
+        Err(BackFault::AtStart) => replies::at_start(alloc),
+        Err(BackFault::Memory) => replies::out_of_memory(alloc, machine.cursor() as u64),
+    }
+}
+
+// Replies with the state.
+fn answer_state(alloc: Global, machine: &Machine) -> Result<Value, AllocError> {
+    replies::state(alloc, machine.cluster().state_value()?)
 }
 
 /// Answers a later line.
@@ -46,13 +130,11 @@ pub fn answer_command(
         CommandReplies machine.old line (view value.now) (view v ∷ []) (running machine.new)) }
     ensures text { IfOk result (λ v. has_float (view v) ≡ false) }
 {
-    match command_of(value) {
-        None => reply::line_fault(alloc, 31, "BadShape", line),
-        Some(Command::State) => reply::state(alloc, machine.numbers()),
-        Some(Command::Add(number)) => match machine.add(number) {
-            Ok(total) => reply::moved(alloc, total),
-            Err(AddFault::Full) => reply::refusal(alloc, 14, "DeltaFull"),
-            Err(AddFault::Memory) => reply::refusal(alloc, 29, "Memory"),
-        },
+    match command_of(alloc, machine.cluster().graph(), value) {
+        Ok(Command::Forward(step)) => answer_forward(alloc, machine, &step),
+        Ok(Command::Back) => answer_back(alloc, machine),
+        Ok(Command::State) => answer_state(alloc, machine),
+        Ok(Command::Count(point)) => replies::count(alloc, machine.cluster().count(&point)),
+        Err(fault) => replies::line_fault(alloc, fault, line),
     }
 }
