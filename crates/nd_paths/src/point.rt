@@ -1,5 +1,5 @@
 //! Pointstamps: a location of the graph, and a timestamp there.
-ghost use Rattle.std.specs.Prelude.{◌≡◌, ◌↔◌, IsSome, IfSome};
+ghost use Rattle.std.specs.Prelude.{◌≡◌, ◌↔◌, IsTrue, IsSome, IfSome};
 ghost use Rattle.nd_paths.specs.Order.{Fits};
 
 use nd_graph::Graph;
@@ -31,6 +31,14 @@ impl Pointstamp {
             return None;
         }
         Some(Pointstamp { location, time })
+    }
+
+    /// Whether this stands at a location of the graph, at its depth.
+    pub fn fits<A: Allocator>(&self, graph: &Graph<A>) -> bool
+        ensures { IsTrue result ↔ Fits graph.now self.now }
+    {
+        self.location < graph.location_count()
+            && graph.location_depth(self.location) == self.time.depth()
     }
 
     /// An equal pointstamp.
