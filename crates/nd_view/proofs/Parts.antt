@@ -1,8 +1,7 @@
 -- The part of a change at the points of a kind, made entry by entry.
-use Rattle.std.proofs.Common.{◌≡◌, ◌≢◌, ◌<◌, ◌≤◌, ◌+◌, ◌+ℤ◌, ℕ, zero, suc, ℤ, pos, negsuc, Bool, true, false, cond, length, get_or, refl, sym, ap, subst, ◌∙◌, ◌⊎◌, inl, inr, Less, Equal, arith, true≢false}
+use Rattle.std.proofs.Common.{◌≡◌, ◌≢◌, ◌<◌, ◌≤◌, ◌+◌, ℕ, zero, suc, ℤ, pos, negsuc, Bool, true, false, cond, length, get_or, refl, sym, ap, subst, ◌∙◌, ◌⊎◌, inl, inr, Less, Equal, arith, true≢false}
 use Rattle.std.specs.Ordering.{is_eq}
 use Rattle.std.proofs.lemmas.Bool.{cases_lt}
-use Rattle.std.proofs.lemmas.Int.{ints}
 use Rattle.std.proofs.lemmas.List.{get_or_default}
 use Rattle.std.proofs.lemmas.Cmp.{tied_itself}
 use Rattle.std.proofs.lemmas.Map.Views.{tells_apart}
@@ -98,11 +97,13 @@ module _ (m : Change) (P : Pointstamp → Type 0) where
       where
         apart : (q : Pointstamp) → is_point q x.0 ≡ false → q ≡ x.0 → ⊥
         apart q e here = true≢false (sym (ap (λ z. is_point z x.0) here ∙ ap is_eq (tied_itself point_total x.0)) ∙ e)
+
         reached : (q : Pointstamp) → at g q ≢ pos 0 → (q ≡ x.0) ⊎ (at f q ≢ pos 0)
         reached q some = by (is_point q x.0) refl
           where
             value : (b : Bool) → is_point q x.0 ≡ b → at g q ≡ cond b x.1 (at f q)
             value b e = ap (λ c. at c q) set_is ∙ at-set f x.0 x.1 q ∙ ap (λ a. cond a x.1 (at f q)) e
+
             by : (b : Bool) → is_point q x.0 ≡ b → (q ≡ x.0) ⊎ (at f q ≢ pos 0)
             by true e = inl (tells_apart point_exact q x.0 e)
             by false e = inr (λ z. some (value false e ∙ z))

@@ -128,11 +128,7 @@ impl<A: Allocator + Copy> View<A> {
     }
 
     /// The least positive pointstamp at or before this one.
-    pub fn blocker<B: Allocator>(
-        &self,
-        paths: &Paths<B>,
-        point: &Pointstamp,
-    ) -> Option<Pointstamp>
+    pub fn blocker<B: Allocator>(&self, paths: &Paths<B>, point: &Pointstamp) -> Option<Pointstamp>
         ensures passed { IsNone result ↔ IsPassed paths.now self.now point.now }
         ensures least { IfSome result (IsLeast (IsBlocker paths.now self.now point.now)) }
     {
@@ -182,11 +178,7 @@ impl<A: Allocator + Copy> View<A> {
     }
 
     /// The part of the view at its positive pointstamps that have nothing positive strictly before them.
-    pub fn frontier<B: Allocator>(
-        &self,
-        alloc: A,
-        paths: &Paths<B>,
-    ) -> Result<Delta<A>, AllocError>
+    pub fn frontier<B: Allocator>(&self, alloc: A, paths: &Paths<B>) -> Result<Delta<A>, AllocError>
         ensures { IfOk result (IsPartWhere (IsOnFrontier paths.now self.now) self.now) }
     {
         let mut found = Delta::new(alloc);

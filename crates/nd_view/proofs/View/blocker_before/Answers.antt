@@ -1,4 +1,4 @@
-use Rattle.std.proofs.Common.{◌≡◌, ◌<◌, length, get_or, ℤ, pos, refl, sym, subst, arith, true≢false}
+use Rattle.std.proofs.Common.{◌≡◌, ◌<◌, length, get_or, pos, refl, sym, subst, arith, true≢false}
 use Rattle.std.specs.Prelude.{◌<ℤ◌}
 use Rattle.nd_delta.specs.Change.{entries}
 use Rattle.nd_delta.specs.Least.{IsLeast, at-index}

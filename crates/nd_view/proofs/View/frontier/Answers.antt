@@ -1,4 +1,4 @@
-use Rattle.std.proofs.Common.{◌≡◌, ◌<◌, ◌≤◌, ◌+◌, ◌+ℤ◌, length, get_or, ℤ, pos, unsigned_abs, w64, refl, sym, ap, subst, arith, true≢false, ◌∙◌}
+use Rattle.std.proofs.Common.{◌≡◌, ◌<◌, ◌≤◌, ◌+◌, ◌+ℤ◌, length, get_or, pos, unsigned_abs, w64, refl, sym, ap, subst, arith, true≢false, ◌∙◌}
 use Rattle.std.specs.Prelude.{◌<ℤ◌}
 use Rattle.std.proofs.lemmas.Int.{ints, to_z-of_z, fits_signed_from_abs}
 use Rattle.nd_time.specs.Limits.{max_count}
@@ -37,9 +37,9 @@ loop-entry-preserved g c =
                 (part_take m P i x lt is c.loop-entry.found w.add.new.self (added ∙ ap (set c.loop-entry.found x.0) alone) (record { positive = subst (λ z. pos 0 <ℤ z) counted both.0; first = both.1 }) c.loop-entry.invariant.part);
           }
       | else-is_first w ↦ record {
-            items = c.loop-entry.invariant.items;
-            part = subst (IsPartUpTo m P (i + 1)) (sym w.found-is) (part_skip m P i x lt is c.loop-entry.found (λ p. true≢false (sym (w.if-is_first.ensures.1 (subst (λ z. pos 0 <ℤ z) (sym (at-index m i x lt is)) p.positive, p.first)))) c.loop-entry.invariant.part);
-          }
+        items = c.loop-entry.invariant.items;
+        part = subst (IsPartUpTo m P (i + 1)) (sym w.found-is) (part_skip m P i x lt is c.loop-entry.found (λ p. true≢false (sym (w.if-is_first.ensures.1 (subst (λ z. pos 0 <ℤ z) (sym (at-index m i x lt is)) p.positive, p.first)))) c.loop-entry.invariant.part);
+      }
     ]
 
 pub returns : goal.returns

@@ -1,4 +1,4 @@
-use Rattle.std.proofs.Common.{◌≡◌, ◌<◌, ◌≤◌, ◌+◌, length, get_or, ℤ, pos, refl, sym, subst, arith, true≢false}
+use Rattle.std.proofs.Common.{◌≡◌, ◌<◌, ◌+◌, length, get_or, pos, refl, sym, subst, arith, true≢false}
 use Rattle.std.specs.Prelude.{◌<ℤ◌}
 use Rattle.nd_delta.specs.Change.{entries}
 use Rattle.nd_delta.specs.Least.{at-index}
@@ -28,10 +28,10 @@ loop-entry-preserved g c =
             counted = subst (IsCountUpTo m P (i + 1)) (sym w.count-is) (count_take m P i x lt is c.loop-entry.count (not_zero x.1 both.0) (record { positive = subst (λ z. pos 0 <ℤ z) (at-index m i x lt is) both.0; before = both.1 }) c.loop-entry.invariant.counted);
           }
       | else-is_positive_before w ↦ record {
-            items = c.loop-entry.invariant.items;
-            few = omega (arith, w.count-is, c.loop-entry.invariant.few);
-            counted = subst (IsCountUpTo m P (i + 1)) (sym w.count-is) (count_skip m P i x lt is c.loop-entry.count (λ p. true≢false (sym (w.if-is_positive_before.ensures.1 (subst (λ z. pos 0 <ℤ z) (sym (at-index m i x lt is)) p.positive, p.before)))) c.loop-entry.invariant.counted);
-          }
+        items = c.loop-entry.invariant.items;
+        few = omega (arith, w.count-is, c.loop-entry.invariant.few);
+        counted = subst (IsCountUpTo m P (i + 1)) (sym w.count-is) (count_skip m P i x lt is c.loop-entry.count (λ p. true≢false (sym (w.if-is_positive_before.ensures.1 (subst (λ z. pos 0 <ℤ z) (sym (at-index m i x lt is)) p.positive, p.before)))) c.loop-entry.invariant.counted);
+      }
     ]
 
 pub returns : goal.returns
