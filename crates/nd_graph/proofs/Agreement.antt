@@ -1,15 +1,12 @@
 -- A graph without a fault has depths that agree along its arcs.
-use Rattle.std.proofs.Common.{◌≡◌, ◌∙◌, ℕ, ◌+◌, ◌-◌, ◌<◌, ◌≤◌, zero, suc, Bool, true, false, not, ◌||◌, eqb, ltb, leb, List, [], ◌∷◌, ◌++◌, length, take, get_or, map, refl, sym, ap, subst, arith, if◌then◌else◌, append_assoc, Option, Some, None}
+use Rattle.std.proofs.Common.{◌≡◌, ◌∙◌, ℕ, ◌+◌, ◌<◌, ◌≤◌, zero, suc, Bool, true, false, not, ◌||◌, eqb, ltb, leb, List, [], ◌∷◌, ◌++◌, length, get_or, map, refl, sym, ap, subst, arith, if◌then◌else◌, append_assoc, Some, None}
 use Rattle.std.proofs.lemmas.List.{length-map, length-append}
 use Rattle.std.proofs.lemmas.List.Elements.{All-nil, All-cons, All-head, All-tail, All-append, All-map, All-weaker}
 use Rattle.std.proofs.lemmas.Bool.{eqb-true, ltb-false, leb-false}
-use Rattle.std.proofs.lemmas.Bool.Decides.{eqb_tells}
-use Rattle.std.specs.List.{All, list_any, slice_get}
-use Rattle.std.specs.Option.{option_map_or}
+use Rattle.std.specs.List.{All, list_any}
 use Rattle.nd_time.specs.Limits.{max_depth, max_locations}
 use Rattle.nd_graph.specs.declared.op.Op.{Op}
 use Rattle.nd_graph.specs.declared.op.Op.TheVariants as op
-use Rattle.nd_graph.specs.declared.op.Action.{Action}
 use Rattle.nd_graph.specs.declared.op.Action.TheVariants.{Identity}
 use Rattle.nd_graph.specs.declared.graph.Vertex.{Vertex}
 use Rattle.nd_graph.specs.declared.graph.Edge.{Edge}
@@ -101,12 +98,13 @@ edges_at : (vertices : List Vertex) (front : List ℕ) (l : ℕ) (edges : List E
 edges_at vertices front l [] at = tt
 edges_at vertices front l (e ∷ edges) at =
     let d = depth_past_vertex vertices e.from in
-    let rest = map (λ x. depth_past_vertex vertices x.from) edges in
-    (omega (arith, length-append front (d ∷ rest)),
-    ap (λ k. get_or (front ++ d ∷ rest) k 0) at ∙ get_or-past front d rest,
-    (let P : List ℕ → Type 0 = λ ds. EdgesAt vertices ds (l + 1) edges in
-    subst P (append_assoc front (d ∷ []) rest)
-    (edges_at vertices (front ++ d ∷ []) (l + 1) edges (omega (arith, length-append front (d ∷ []))))))
+    let rest = map (λ x. depth_past_vertex vertices x.from) edges in (
+      omega (arith, length-append front (d ∷ rest)),
+      ap (λ k. get_or (front ++ d ∷ rest) k 0) at ∙ get_or-past front d rest,
+      (let P : List ℕ → Type 0 = λ ds. EdgesAt vertices ds (l + 1) edges in
+          subst P (append_assoc front (d ∷ []) rest)
+          (edges_at vertices (front ++ d ∷ []) (l + 1) edges (omega (arith, length-append front (d ∷ []))))),
+    )
 
 not_missed : (a b : ℕ) → not (eqb a b) ≡ false → a ≡ b
 not_missed a b h = eqb-true a b (not_false (eqb a b) h)
@@ -176,15 +174,15 @@ is_graph g h =
       depths_kept = refl;
       arcs_kept = refl;
       agree = agree g.vertices (depths g) (length g.vertices) g.edges
-        (omega (arith, length-append front back, length-map g.vertices (λ v. v.depth)))
-        (λ i within. vertex_at g.vertices back i within)
-        (edges_at g.vertices front (length g.vertices) g.edges (sym (length-map g.vertices (λ v. v.depth))))
-        h.joined placed.0 placed.1;
+          (omega (arith, length-append front back, length-map g.vertices (λ v. v.depth)))
+          (λ i within. vertex_at g.vertices back i within)
+          (edges_at g.vertices front (length g.vertices) g.edges (sym (length-map g.vertices (λ v. v.depth))))
+          h.joined placed.0 placed.1;
       shallow = All-append (λ d. d ≤ max_depth) front back
-        (All-map (λ d. d ≤ max_depth) (λ v. v.depth) g.vertices
+          (All-map (λ d. d ≤ max_depth) (λ v. v.depth) g.vertices
           (All-weaker (λ v. is_too_deep v ≡ false) (λ v. v.depth ≤ max_depth)
           (λ v p. ltb-false max_depth v.depth (or_false (ltb max_depth v.depth) _ p).0) g.vertices (none_of is_too_deep g.vertices flat.0)))
-        (All-map (λ d. d ≤ max_depth) (λ e. depth_past_vertex g.vertices e.from) g.edges
+          (All-map (λ d. d ≤ max_depth) (λ e. depth_past_vertex g.vertices e.from) g.edges
           (All-weaker (λ e. leads_too_deep g.vertices e ≡ false) (λ e. depth_past_vertex g.vertices e.from ≤ max_depth)
           (λ e p. ltb-false max_depth (depth_past_vertex g.vertices e.from) p) g.edges (none_of (leads_too_deep g.vertices) g.edges flat.1)));
       few = ltb-false max_locations (location_count g) small.0;

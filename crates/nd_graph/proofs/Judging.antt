@@ -1,8 +1,8 @@
 -- What the check of a graph finds, phase by phase.
-use Rattle.std.proofs.Common.{◌≡◌, ◌∙◌, ℕ, ◌<◌, Bool, true, false, List, [], ◌∷◌, ◌++◌, length, map, refl, sym, ap, arith, Option, Some, None, option_map, option_and_then, Result, Ok, Err, ok_or, if◌then◌else◌}
+use Rattle.std.proofs.Common.{◌≡◌, ◌∙◌, ℕ, ◌<◌, Bool, true, false, List, [], ◌∷◌, ◌++◌, length, map, refl, sym, ap, Option, Some, None, option_map, option_and_then, Ok, Err, ok_or, if◌then◌else◌}
 use Rattle.std.proofs.lemmas.List.Elements.{All-nil, All-cons}
 use Rattle.std.proofs.lemmas.List.Quantifiers.{position-Some}
-use Rattle.std.specs.List.{All, position}
+use Rattle.std.specs.List.{All}
 use Rattle.std.specs.Option.{option_map_or}
 use Rattle.std.specs.Str.{bytes_eq}
 use Rattle.nd_graph.specs.declared.graph.Vertex.{Vertex}
@@ -10,7 +10,6 @@ use Rattle.nd_graph.specs.declared.graph.Edge.{Edge}
 use Rattle.nd_graph.specs.declared.draft.DraftEdge.{DraftEdge}
 use Rattle.nd_graph.specs.declared.fault.GraphFault.{GraphFault}
 use Rattle.nd_graph.specs.declared.fault.GraphFault.TheVariants.{DoubleName, UnknownName}
-use Rattle.nd_graph.specs.Graph.{Dataflow, names}
 use Rattle.nd_graph.specs.Draft.{Draft, every}
 use Rattle.nd_graph.specs.Checked.{has_double, written_names, end_of, located, edges_between, fault_of, judged, judged_with, checked, JoinsVertices, IsFaultless}
 
@@ -39,11 +38,13 @@ within (v ∷ vertices) (Some name) l h = (position-Some (λ w. bytes_eq name w.
 located_joins : (vertices : List Vertex) (e : DraftEdge) (x : Edge) → located vertices e ≡ Some x → JoinsVertices vertices x × (x.name ≡ e.name)
 unfolding located
 located_joins vertices e x h =
-    let m = made (end_of vertices e.from) (end_of vertices e.to) (λ from to. record { name = e.name; from = from; port = e.port; to = to; route = e.route }) x h in
-    (record {
-      from = rw (ap (λ y. y.from) m.made) (within vertices e.from m.from m.first_is);
-      to = rw (ap (λ y. y.to) m.made) (within vertices e.to m.to m.second_is);
-    }, ap (λ y. y.name) m.made)
+    let m = made (end_of vertices e.from) (end_of vertices e.to) (λ from to. record { name = e.name; from = from; port = e.port; to = to; route = e.route }) x h in (
+      record {
+        from = rw (ap (λ y. y.from) m.made) (within vertices e.from m.from m.first_is);
+        to = rw (ap (λ y. y.to) m.made) (within vertices e.to m.to m.second_is);
+      },
+      ap (λ y. y.name) m.made,
+    )
 
 record Read {D X : Type 0} (read : D → Option X) (d : D) (ds : List D) (xs : List X) : Type 0 where
   head : X
@@ -67,8 +68,10 @@ all_join vertices (e ∷ edges) xs h =
     let r = read_first (located vertices) e edges xs (located vertices e) (every (located vertices) edges) refl refl h in
     let here = located_joins vertices e r.head r.head_is in
     let rest = all_join vertices edges r.tail r.tail_is in
-    rw r.both (All-cons (JoinsVertices vertices) r.head r.tail here.0 rest.0,
-    ap (λ name. name ∷ map (λ x. x.name) r.tail) here.1 ∙ ap (λ more. e.name ∷ more) rest.1)
+    rw r.both (
+      All-cons (JoinsVertices vertices) r.head r.tail here.0 rest.0,
+      ap (λ name. name ∷ map (λ x. x.name) r.tail) here.1 ∙ ap (λ more. e.name ∷ more) rest.1,
+    )
 
 -- ---- the phases
 

@@ -1,5 +1,5 @@
 -- Names that stand twice, and the places of names.
-use Rattle.std.proofs.Common.{◌≡◌, ◌∙◌, ◌⊎◌, inl, inr, ℕ, ◌+◌, ◌<◌, ◌≤◌, zero, suc, Bool, true, false, not, ◌||◌, cond, List, [], ◌∷◌, ◌++◌, length, take, drop, get_or, map, refl, sym, ap, arith, append_assoc, drop-cons, Option, Some, None}
+use Rattle.std.proofs.Common.{◌≡◌, ◌∙◌, ◌⊎◌, inl, inr, ℕ, ◌+◌, ◌<◌, ◌≤◌, zero, suc, Bool, true, false, not, ◌||◌, cond, List, [], ◌∷◌, ◌++◌, length, take, drop, get_or, map, refl, sym, ap, arith, append_assoc, Some, None}
 use Rattle.std.proofs.lemmas.List.{take_more, map-append, take-append-drop}
 use Rattle.std.proofs.lemmas.Bool.{le-ltb, lt-ltb}
 use Rattle.std.proofs.lemmas.List.Sums.{position_or_len_is}
@@ -43,8 +43,9 @@ pub has_double-again : (ks rest : List (List ℕ)) (k : List ℕ) → list_any (
 has_double-again [] rest k e = cc
 has_double-again (x ∷ ks) rest k e =
     elim (or_cases (bytes_eq k x) (list_any (bytes_eq k) ks) e) [
-      inl h ↦ or_left _ _ (list_any-append (bytes_eq x) ks (k ∷ rest) ∙ or_right _ _ (or_left _ _ (nat_list_eq_equiv.symm x k ∙ h)))
-    | inr h ↦ or_right _ _ (has_double-again ks rest k h) ]
+      | inl h ↦ or_left _ _ (list_any-append (bytes_eq x) ks (k ∷ rest) ∙ or_right _ _ (or_left _ _ (nat_list_eq_equiv.symm x k ∙ h)))
+      | inr h ↦ or_right _ _ (has_double-again ks rest k h)
+    ]
 
 -- a name that is new
 pub has_double-new : (ks : List (List ℕ)) (k : List ℕ) → has_double ks ≡ false → list_any (bytes_eq k) ks ≡ false → has_double (ks ++ k ∷ []) ≡ false
@@ -76,35 +77,39 @@ module _ {V K : Type 0} (name : V → K) (test : K → Bool) where
   above [] i j e = cc
   above (k ∷ ks) i j e =
       elim (test k) as (λ b. cond b (Some i) (position_from test (i + 1) ks) ≡ Some j → i ≤ j) [
-        true ↦ λ h. (let same : i ≡ j = cc in omega arith)
-      | false ↦ λ h. (let later = above ks (i + 1) j h in omega arith) ] e
+        | true ↦ λ h. (let same : i ≡ j = cc in omega arith)
+        | false ↦ λ h. (let later = above ks (i + 1) j h in omega arith)
+      ] e
 
   within_front : (vs : List V) (rest : List K) (i j : ℕ) → position_from test i (map name vs ++ rest) ≡ Some j → j < i + length vs
       → position_from (λ v. test (name v)) i vs ≡ Some j
   within_front [] rest i j e h = let late = above rest i j e in absurd (omega arith)
   within_front (v ∷ vs) rest i j e h =
       elim (test (name v)) as (λ b. cond b (Some i) (position_from test (i + 1) (map name vs ++ rest)) ≡ Some j
-        → cond b (Some i) (position_from (λ v. test (name v)) (i + 1) vs) ≡ Some j) [
-        true ↦ λ p. p
-      | false ↦ λ p. within_front vs rest (i + 1) j p (omega arith) ] e
+      → cond b (Some i) (position_from (λ v. test (name v)) (i + 1) vs) ≡ Some j) [
+        | true ↦ λ p. p
+        | false ↦ λ p. within_front vs rest (i + 1) j p (omega arith)
+      ] e
 
   past_front : (vs : List V) (rest : List K) (i j : ℕ) → position_from test i (map name vs ++ rest) ≡ Some j → i + length vs ≤ j
       → position_from (λ v. test (name v)) i vs ≡ None
   past_front [] rest i j e h = refl
   past_front (v ∷ vs) rest i j e h =
       elim (test (name v)) as (λ b. cond b (Some i) (position_from test (i + 1) (map name vs ++ rest)) ≡ Some j
-        → cond b (Some i) (position_from (λ v. test (name v)) (i + 1) vs) ≡ None) [
-        true ↦ λ p. (let same : i ≡ j = cc in absurd (omega arith))
-      | false ↦ λ p. past_front vs rest (i + 1) j p (omega arith) ] e
+      → cond b (Some i) (position_from (λ v. test (name v)) (i + 1) vs) ≡ None) [
+        | true ↦ λ p. (let same : i ≡ j = cc in absurd (omega arith))
+        | false ↦ λ p. past_front vs rest (i + 1) j p (omega arith)
+      ] e
 
   nowhere : (vs : List V) (rest : List K) (i : ℕ) → position_from test i (map name vs ++ rest) ≡ None
       → position_from (λ v. test (name v)) i vs ≡ None
   nowhere [] rest i e = refl
   nowhere (v ∷ vs) rest i e =
       elim (test (name v)) as (λ b. cond b (Some i) (position_from test (i + 1) (map name vs ++ rest)) ≡ None
-        → cond b (Some i) (position_from (λ v. test (name v)) (i + 1) vs) ≡ None) [
-        true ↦ λ p. cc
-      | false ↦ λ p. nowhere vs rest (i + 1) p ] e
+      → cond b (Some i) (position_from (λ v. test (name v)) (i + 1) vs) ≡ None) [
+        | true ↦ λ p. cc
+        | false ↦ λ p. nowhere vs rest (i + 1) p
+      ] e
 
   whole : (vs : List V) (ks : List K) → take (length vs) ks ≡ map name vs → ks ≡ map name vs ++ drop (length vs) ks
   whole vs ks e = sym (take-append-drop (length vs) ks) ∙ ap (λ front. front ++ drop (length vs) ks) e

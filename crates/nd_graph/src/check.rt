@@ -1,15 +1,14 @@
-//! The check of a graph as it is written.
-ghost use Rattle.std.specs.Prelude.{◌≡◌, ◌+◌, ◌≤◌, ◌⊎◌, Some, None, Ok, Err, IfOk, IfErr, length, map, nat_lt};
+//! The faults of a graph whose names are found: its ports, its depths and its size.
+ghost use Rattle.std.specs.Prelude.{◌≡◌, ◌+◌, nat_lt};
 ghost use Rattle.std.specs.List.{list_any};
 ghost use Rattle.nd_time.specs.Limits.{max_locations};
 ghost use Rattle.nd_graph.specs.Graph.{depth_past as past_depth, action_of, depth_past_vertex};
 ghost use Rattle.nd_graph.specs.Checked as rule;
 
-use crate::{Action, Edge, Op, Vertex};
-use crate::GraphFault;
+use crate::{Action, Edge, GraphFault, Op, Vertex};
 use nd_time::MAX_DEPTH;
 
-/// The most locations of a graph.
+/// The most locations of a graph (this project's own rule).
 pub const MAX_LOCATIONS: usize = 64;
 
 fn ports(op: Op) -> u32

@@ -1,5 +1,5 @@
 //! A graph as it is written, before its names are looked up.
-ghost use Rattle.std.specs.Prelude.{◌≡◌, ◌⊎◌, map, IfOk, IfErr, Some, None, codes, ok_or};
+ghost use Rattle.std.specs.Prelude.{◌≡◌, ◌⊎◌, IfOk, IfErr, Some, None, codes, ok_or};
 ghost use Rattle.serde_json.specs.View.{view};
 ghost use Rattle.nd_graph.specs.Draft as form;
 ghost use Rattle.nd_graph.specs.Checked.{checked};
@@ -44,7 +44,8 @@ impl<A: Allocator> Model for GraphDraft<A> {
 }
 
 impl<A: Allocator> GraphDraft<A> {
-    /// The graph that the value is. `Shape` where it does not have a graph's form; no other fault but `Memory`.
+    /// The graph that a value is: `Shape` where it does not have a graph's form (this project's own rule), and no other fault
+    /// but `Memory`.
     #[tactic(auto, unfolding(crate::specs::Draft::draft_of))]
     pub fn from_value(alloc: A, value: &Value) -> Result<GraphDraft<A>, GraphFault>
     where
@@ -59,8 +60,8 @@ impl<A: Allocator> GraphDraft<A> {
         Ok(GraphDraft { vertices, edges })
     }
 
-    /// The graph that is written, its edges' ends as locations. Of several faults the one of least number is answered;
-    /// never `Shape`.
+    /// The graph that is written, with its edges' ends as locations. Of several faults the one of least number is answered,
+    /// and never `Shape`.
     #[tactic(auto, unfolding(crate::specs::Checked::checked))]
     pub fn check(self, alloc: A) -> Result<Graph<A>, GraphFault>
     where

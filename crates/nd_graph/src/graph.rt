@@ -1,10 +1,9 @@
 //! A graph whose ends, ports and depths agree.
-ghost use Rattle.std.specs.Prelude.{◌≡◌, ◌<◌, ◌≤◌, Some, All, IfOk, filter, length, nat_eq, slice_get};
+ghost use Rattle.std.specs.Prelude.{◌≡◌, ◌<◌, ◌≤◌, Some, All, IfOk, length, slice_get};
 ghost use Rattle.nd_time.specs.Limits.{max_depth, max_locations};
-ghost use Rattle.nd_graph.specs.Graph.{arcs as arcs_of, depths as depths_of, location_count as count_of, names, ArcAgrees};
+ghost use Rattle.nd_graph.specs.Graph.{arcs as arcs_of, depths as depths_of, location_count as count_of, ArcAgrees};
 
 use crate::{Action, Name, Op, Route};
-use arrayvec::ArrayVec;
 use std::alloc::{AllocError, Allocator, Global};
 use std::marker::Model;
 
@@ -140,7 +139,7 @@ impl<A: Allocator> Graph<A> {
         ensures vertices { result.now ≡ self.now.vertices }
         ensures sound { IsFaultless self.now }
     {
-        &self.vertices
+        self.vertices.as_slice()
     }
 
     /// The edges, in order of appearance.
@@ -148,7 +147,7 @@ impl<A: Allocator> Graph<A> {
         ensures edges { result.now ≡ self.now.edges }
         ensures sound { IsFaultless self.now }
     {
-        &self.edges
+        self.edges.as_slice()
     }
 
     /// The number of locations: vertices, then edges.
@@ -175,7 +174,7 @@ impl<A: Allocator> Graph<A> {
         ensures each { length (depths_of self.now) ≡ count_of self.now }
         ensures few { count_of self.now ≤ max_locations }
     {
-        &self.depths
+        self.depths.as_slice()
     }
 
     /// All arcs: of each edge in turn, the one that enters it and the one that leaves it.
@@ -185,7 +184,7 @@ impl<A: Allocator> Graph<A> {
         ensures shallow { All (λ d. d ≤ max_depth) (depths_of self.now) }
         ensures few { count_of self.now ≤ max_locations }
     {
-        &self.arcs
+        self.arcs.as_slice()
     }
 
     /// An equal graph.

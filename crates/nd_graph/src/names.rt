@@ -13,6 +13,7 @@ use std::hash::{BuildHasherDefault, FoldHasher};
 
 type Names<A> = IndexSet<Name, BuildHasherDefault<FoldHasher>, A>;
 
+// Gives the name the next number.
 fn add_name<A: Allocator + Copy>(names: &mut Names<A>, name: &Name) -> Result<(), GraphFault>
     ensures added { OnOk result (names.new.keys ≡ names.old.keys ++ name.now ∷ []) }
     ensures new { OnOk result (list_any (bytes_eq name.now) names.old.keys ≡ false) }
@@ -27,6 +28,7 @@ fn add_name<A: Allocator + Copy>(names: &mut Names<A>, name: &Name) -> Result<()
     }
 }
 
+// All names in order of appearance: those of the vertices, then those of the edges.
 fn numbered<A: Allocator + Copy>(
     alloc: A,
     vertices: &[Vertex],
@@ -47,6 +49,7 @@ fn numbered<A: Allocator + Copy>(
     Ok(names)
 }
 
+// The location of the vertex that an end of an edge names.
 #[tactic(auto, unfolding(crate::specs::Checked::end_of))]
 fn end_of<A: Allocator>(names: &Names<A>, vertices: &[Vertex], end: &Option<Name>) -> Option<usize>
     requires { take (length vertices.now) names.now.keys ≡ map (λ v. v.name) vertices.now }
@@ -96,7 +99,8 @@ fn all_located<A: Allocator>(
     Ok(found)
 }
 
-/// The edges between locations that are written, each name of which must stand for one vertex.
+/// The written edges with their ends as locations: `DoubleName` where a name of the graph stands twice, `UnknownName` where
+/// an end is no vertex.
 #[tactic(auto, unfolding(crate::specs::Checked::edges_between))]
 pub(crate) fn edges_between<A: Allocator + Copy>(
     alloc: A,

@@ -1,4 +1,4 @@
-use Rattle.std.proofs.Common.{◌≡◌, ◌∙◌, ◌+◌, ◌≤◌, ◌++◌, ◌∷◌, [], ap, sym, length, take, append_assoc, arith}
+use Rattle.std.proofs.Common.{◌∙◌, ◌+◌, ◌≤◌, ◌++◌, ◌∷◌, [], ap, sym, length, take, append_assoc, arith}
 use Rattle.std.proofs.lemmas.List.{take_more, length-take-le}
 use Rattle.nd_graph.specs.declared.graph.Arc.{Arc}
 use Rattle.nd_graph.specs.declared.op.Action.TheVariants.{Identity}

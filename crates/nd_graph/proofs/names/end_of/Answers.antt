@@ -1,4 +1,4 @@
-use Rattle.std.proofs.Common.{◌≡◌, ◌∙◌, sym, ap}
+use Rattle.std.proofs.Common.{◌∙◌, sym, ap}
 use Rattle.std.specs.Str.{bytes_eq}
 use Rattle.nd_graph.specs.Checked.{end_of}
 use Rattle.nd_graph.proofs.NameLaws.{position-front, position-past, position-nowhere}
