@@ -5,3 +5,4 @@ pub mod Steps
 pub mod Enabled
 pub mod Start
 pub mod Records
+pub mod StateText

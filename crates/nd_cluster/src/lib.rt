@@ -4,7 +4,9 @@
 mod key;
 mod refusal;
 mod step;
+mod text;
 
 pub use key::{SinkKey, ValueAt};
 pub use refusal::Refusal;
 pub use step::{Next, Step, Values};
+pub use text::time_value;

@@ -1,0 +1,25 @@
+use Rattle.std.proofs.Common.{◌∙◌, ◌∷◌, [], ap, map}
+use Rattle.std.proofs.lemmas.List.{map-append}
+use Rattle.serde_json.specs.Data.{array}
+use Rattle.serde_json.specs.View.{view, items_of}
+use Rattle.serde_json.specs.Written.{has_float}
+use Rattle.serde_json.proofs.Views.{view-Array}
+use Rattle.nd_json.proofs.ListLaws.{take_whole, map-more, no_float-more}
+use Rattle.nd_cluster.proofs.text.entries_value.Goals as goal
+
+pub loop-entry-preserved : goal.loop-entry-preserved
+loop-entry-preserved g c = rw (c.in_ok-push.ensures.items) (record {
+  made = map-more view (g.T.Listed.listed c.args.graph.now) c.loop-entry.list.items c.in_ok-shown.field-0 c.args.entries.now c.entry-item.result c.loop-entry.entry-index c.loop-entry-test.true c.entry-item.is
+      c.loop-entry.invariant.made c.in_ok-shown.ensures.reply;
+  no_float = rw (map-append view c.loop-entry.list.items (c.in_ok-shown.field-0 ∷ []))
+      (no_float-more (map view c.loop-entry.list.items) (view c.in_ok-shown.field-0) c.loop-entry.invariant.no_float c.in_ok-shown.ensures.text);
+})
+
+pub returns-clause-reply : goal.returns-clause-reply
+returns-clause-reply g c =
+    view-Array c.loop-entry.list
+    ∙ ap (λ ds. array (items_of ds)) (c.loop-entry.invariant.made
+    ∙ ap (λ xs. map (g.T.Listed.listed c.args.graph.now) xs) (take_whole c.loop-entry.entry-index c.args.entries.now c.loop-entry-test.false))
+
+pub returns-clause-text : goal.returns-clause-text
+returns-clause-text g c = ap has_float (view-Array c.loop-entry.list) ∙ c.loop-entry.invariant.no_float
