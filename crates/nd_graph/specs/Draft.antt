@@ -17,7 +17,7 @@ pub record Draft : Type 0 where
   pub edges : List DraftEdge
 
 -- each item read, if each can be
-abbrev pub every : {X : Type 0} → (Data → Option X) → List Data → Option (List X)
+abbrev pub every : {D X : Type 0} → (D → Option X) → List D → Option (List X)
 every read [] = Some []
 every read (d ∷ ds) = option_and_then (λ x. option_map (λ xs. x ∷ xs) (every read ds)) (read d)
 

@@ -2,3 +2,4 @@ pub mod Name
 pub mod Graph
 pub mod Fault
 pub mod Draft
+pub mod Checked

@@ -2,10 +2,14 @@
 ghost use Rattle.std.specs.Prelude.{◌≡◌, ◌⊎◌, map, IfOk, IfErr, Some, None, codes, ok_or};
 ghost use Rattle.serde_json.specs.View.{view};
 ghost use Rattle.nd_graph.specs.Draft as form;
+ghost use Rattle.nd_graph.specs.Checked.{checked};
 ghost use Rattle.nd_graph.specs.Fault.{IsUnlessMemory};
 ghost use Rattle.nd_graph.specs.declared.fault.GraphFault.TheVariants.{Shape, Memory};
 
-use crate::{GraphFault, Name, Op, Route, Vertex};
+use crate::build::built;
+use crate::check::fault_of;
+use crate::names::edges_between;
+use crate::{Graph, GraphFault, Name, Op, Route, Vertex};
 use nd_json::{has_keys, integer_at, list_at, small_at, text_at};
 use serde_json::Value;
 use std::alloc::{Allocator, Global};
@@ -53,6 +57,25 @@ impl<A: Allocator> GraphDraft<A> {
         let vertices = vertices_of(alloc, value)?;
         let edges = edges_of(alloc, value)?;
         Ok(GraphDraft { vertices, edges })
+    }
+
+    /// The graph that is written, its edges' ends as locations. Of several faults the one of least number is answered;
+    /// never `Shape`.
+    #[tactic(auto, unfolding(crate::specs::Checked::checked))]
+    pub fn check(self, alloc: A) -> Result<Graph<A>, GraphFault>
+    where
+        A: Copy,
+        ensures { IsUnlessMemory (checked self) result }
+    {
+        let GraphDraft {
+            vertices,
+            edges: written,
+        } = self;
+        let edges = edges_between(alloc, &vertices, &written)?;
+        if let Some(fault) = fault_of(&vertices, &edges) {
+            return Err(fault);
+        }
+        Ok(built(alloc, vertices, edges)?)
     }
 }
 

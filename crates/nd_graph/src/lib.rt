@@ -1,12 +1,19 @@
 //! Dataflow graphs: vertices with operators, edges between them, and the arcs along which times move.
 #![tactic(auto)]
 
+mod arcs;
+mod build;
+mod check;
 mod draft;
 mod fault;
 mod graph;
+mod locations;
 mod name;
+mod names;
 mod op;
 
+pub use arcs::ArcsFrom;
+pub use check::MAX_LOCATIONS;
 pub use draft::{DraftEdge, GraphDraft};
 pub use fault::GraphFault;
 pub use graph::{Arc, Edge, Graph, Vertex};
