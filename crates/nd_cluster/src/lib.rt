@@ -9,4 +9,4 @@ mod text;
 pub use key::{SinkKey, ValueAt};
 pub use refusal::Refusal;
 pub use step::{Next, Step, Values};
-pub use text::time_value;
+pub use text::{point_value, time_value};

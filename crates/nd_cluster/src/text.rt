@@ -18,13 +18,10 @@ use std::alloc::{AllocError, Allocator, Global};
 fn name_at<A: Allocator>(graph: &Graph<A>, location: usize) -> &str
     ensures { result.now ≡ name_in graph.now location }
 {
-    let vertices = graph.vertices();
-    if location < vertices.len() {
-        return vertices[location].name.as_str();
-    }
-    match graph.edges().get(location - vertices.len()) {
-        Some(edge) => edge.name.as_str(),
-        None => "",
+    if location < graph.location_count() {
+        graph.location_name(location)
+    } else {
+        ""
     }
 }
 
@@ -37,6 +34,19 @@ pub fn time_value(alloc: Global, time: &Timestamp) -> Result<Value, AllocError>
     numbers.push(time.epoch())?;
     numbers.extend_from_slice(time.counters())?;
     list_of(alloc, numbers.as_slice())
+}
+
+/// A pointstamp: its location's name, and its time.
+pub fn point_value<A: Allocator>(
+    alloc: Global,
+    graph: &Graph<A>,
+    point: &Pointstamp,
+) -> Result<Value, AllocError>
+    ensures reply { IfOk result (λ v. view v ≡ point_data graph.now point.now) }
+    ensures text { IfOk result (λ v. has_float (view v) ≡ false) }
+{
+    let time = time_value(alloc, &point.time)?;
+    json!(in alloc; [name_at(graph, point.location), time])
 }
 
 /// What the state lists, which the names of a graph's locations show.
@@ -53,8 +63,7 @@ impl Listed for Pointstamp {
     ghost listed = { point_data };
 
     fn shown<A: Allocator>(&self, alloc: Global, graph: &Graph<A>) -> Result<Value, AllocError> {
-        let time = time_value(alloc, &self.time)?;
-        json!(in alloc; [name_at(graph, self.location), time])
+        point_value(alloc, graph, self)
     }
 }
 

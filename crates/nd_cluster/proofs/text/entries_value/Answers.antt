@@ -1,4 +1,4 @@
-use Rattle.std.proofs.Common.{◌∙◌, ◌∷◌, [], ap, map}
+use Rattle.std.proofs.Common.{◌∙◌, ◌∷◌, [], ap, map, refl}
 use Rattle.std.proofs.lemmas.List.{map-append}
 use Rattle.serde_json.specs.Data.{array}
 use Rattle.serde_json.specs.View.{view, items_of}
@@ -6,6 +6,9 @@ use Rattle.serde_json.specs.Written.{has_float}
 use Rattle.serde_json.proofs.Views.{view-Array}
 use Rattle.nd_json.proofs.ListLaws.{take_whole, map-more, no_float-more}
 use Rattle.nd_cluster.proofs.text.entries_value.Goals as goal
+
+pub loop-entry-init : goal.loop-entry-init
+loop-entry-init g c = rw c.new-list.ensures.items (record { made = refl; no_float = refl })
 
 pub loop-entry-preserved : goal.loop-entry-preserved
 loop-entry-preserved g c = rw (c.in_ok-push.ensures.items) (record {
