@@ -105,7 +105,7 @@ impl Listed for (Pointstamp, i64) {
     }
 }
 
-// The list of the entries, in their order.
+// The list of all entries, in their order.
 fn entries_value<T: Listed, A: Allocator>(
     alloc: Global,
     graph: &Graph<A>,

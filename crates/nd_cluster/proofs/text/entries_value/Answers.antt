@@ -1,5 +1,6 @@
 use Rattle.std.proofs.Common.{◌∙◌, ◌∷◌, [], ap, map, refl}
 use Rattle.std.proofs.lemmas.List.{map-append}
+use Rattle.std.proofs.lemmas.Result.{err_from_is_err_and}
 use Rattle.serde_json.specs.Data.{array}
 use Rattle.serde_json.specs.View.{view, items_of}
 use Rattle.serde_json.specs.Written.{has_float}
@@ -26,3 +27,13 @@ returns-clause-reply g c =
 
 pub returns-clause-text : goal.returns-clause-text
 returns-clause-text g c = ap has_float (view-Array c.loop-entry.list) ∙ c.loop-entry.invariant.no_float
+
+pub returns-in_err-shown : goal.returns-in_err-shown
+returns-in_err-shown g c =
+    let p = err_from_is_err_and c.from_residual.result c.from_residual.ensures.1 in
+    rw (p.1) (record { reply = tt; text = tt })
+
+pub returns-in_err-push : goal.returns-in_err-push
+returns-in_err-push g c =
+    let p = err_from_is_err_and c.from_residual-in_err-push.result c.from_residual-in_err-push.ensures.1 in
+    rw (p.1) (record { reply = tt; text = tt })
