@@ -7,3 +7,4 @@ pub mod Start
 pub mod Alone
 pub mod Codes
 pub mod Records
+pub mod StateText

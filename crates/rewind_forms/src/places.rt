@@ -1,11 +1,19 @@
 //! The places of a graph, by their names, and times there.
-ghost use Rattle.std.specs.Prelude.{◌≡◌, ◌<◌, IfSome, length, position};
-ghost use Rattle.std.specs.Str.{bytes_eq};
+ghost use Rattle.std.specs.Prelude.{◌≡◌, ◌<◌, IfSome};
 ghost use Rattle.nd_graph.specs.Graph.{location_count as count_of};
 ghost use Rattle.rewind_forms.specs.Places.{vertex_named as vertex_in, edge_named as edge_in, location_named as location_in, time_of as time_in};
 
-use nd_graph::{Edge, Graph};
+use nd_graph::Graph;
 use nd_time::Timestamp;
+
+/// The location of this name.
+#[tactic(auto, unfolding(crate::specs::Places::location_named))]
+pub fn location_named(graph: &Graph, name: &str) -> Option<usize>
+    ensures place { result ≡ location_in graph.now name.now }
+    ensures there { IfSome result (λ l. l < count_of graph.now) }
+{
+    graph.location_of(name)
+}
 
 /// The location of the vertex of this name.
 #[tactic(auto, unfolding(crate::specs::Places::vertex_named))]
@@ -13,18 +21,12 @@ pub fn vertex_named(graph: &Graph, name: &str) -> Option<usize>
     ensures place { result ≡ vertex_in graph.now name.now }
     ensures there { IfSome result (λ l. l < count_of graph.now) }
 {
-    graph
-        .vertices()
-        .iter()
-        .position(|vertex| vertex.name.as_str() == name)
-}
-
-// The place of this name among the edges.
-fn edge_place(edges: &[Edge], name: &str) -> Option<usize>
-    ensures place { result ≡ position (λ e. bytes_eq e.name name.now) edges.now }
-    ensures there { IfSome result (λ place. place < length edges.now) }
-{
-    edges.iter().position(|edge| edge.name.as_str() == name)
+    let location = location_named(graph, name)?;
+    if location < graph.vertices().len() {
+        Some(location)
+    } else {
+        None
+    }
 }
 
 /// The location of the edge of this name.
@@ -33,19 +35,11 @@ pub fn edge_named(graph: &Graph, name: &str) -> Option<usize>
     ensures place { result ≡ edge_in graph.now name.now }
     ensures there { IfSome result (λ l. l < count_of graph.now) }
 {
-    let place = edge_place(graph.edges(), name)?;
-    Some(graph.vertices().len() + place)
-}
-
-/// The location of this name.
-#[tactic(auto, unfolding(crate::specs::Places::location_named))]
-pub fn location_named(graph: &Graph, name: &str) -> Option<usize>
-    ensures place { result ≡ location_in graph.now name.now }
-    ensures there { IfSome result (λ l. l < count_of graph.now) }
-{
-    match vertex_named(graph, name) {
-        Some(vertex) => Some(vertex),
-        None => edge_named(graph, name),
+    let location = location_named(graph, name)?;
+    if location < graph.vertices().len() {
+        None
+    } else {
+        Some(location)
     }
 }
 
