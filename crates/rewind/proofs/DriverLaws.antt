@@ -1,5 +1,5 @@
 -- How a run of a script ends.
-use Rattle.std.proofs.Common.{◌≡◌, ◌∙◌, ℕ, ◌+◌, ◌<◌, ◌≤◌, List, [], ◌∷◌, ◌++◌, length, take, Option, Some, None, sym, ap, subst, arith, append_assoc, length-append, Ok, Err}
+use Rattle.std.proofs.Common.{◌≡◌, ◌∙◌, ℕ, ◌+◌, ◌<◌, ◌≤◌, List, [], ◌∷◌, ◌++◌, length, take, drop, refl, Option, Some, None, sym, ap, subst, arith, append_assoc, length-append, Ok, Err}
 use Rattle.std.proofs.lemmas.List.{append-nil, take-append-le, length-take}
 use Rattle.std.proofs.Math.Seq.{take-append-add}
 use Rattle.std.specs.Io.KnownBytes.{Consumes, IsAtEnd, Keeps}
@@ -84,12 +84,16 @@ ends-read n limit left input before old new text run g h = record {
     keeps None k = absurd k
     keeps (Some x) k = ap Some k
 
+drop_seam : (xs ys : List ℕ) → drop (length xs) (xs ++ ys) ≡ ys
+drop_seam [] ys = refl
+drop_seam (x ∷ xs) ys = drop_seam xs ys
+
 -- the input goes on past the limit
 pub ends-long : (n limit left : ℕ) (input before : List ℕ) (old new old_text new_text : Known) (run next : declared.Run) (chunk : List ℕ) (k : ℕ)
-    → Going n limit left input before old old_text run → Consumes old new (take k chunk) → left < k → k ≤ length chunk
+    → Going n limit left input before old old_text run → Consumes old new (take k chunk) → left < k → k ≤ left + 1 → k ≤ length chunk
     → ((done : List ℕ) → Stands n done before old_text run → Stands n (done ++ take left chunk) before new_text next)
     → Ends n limit input new before new_text (Err fault.TooLong)
-ends-long n limit left input before old new old_text new_text run next chunk k g h over within go =
+ends-long n limit left input before old new old_text new_text run next chunk k g h over one within go =
     let r = read-on input g.taken g.rest (take k chunk) old new g.whole g.told h in
     let s = go g.taken g.stands in
     let count : left + length g.taken ≡ limit = g.count in
@@ -101,11 +105,16 @@ ends-long n limit left input before old new old_text new_text run next chunk k g
     ap (take limit) (r.2 ∙ append_assoc g.taken (take k chunk) r.0)
     ∙ (ap (λ m. take m (g.taken ++ (take k chunk ++ r.0))) at
     ∙ (take-append-add g.taken (take k chunk ++ r.0) left
-    ∙ ap (λ zs. g.taken ++ zs) (take-append-le left (take k chunk) r.0 room ∙ take_take left k chunk (omega arith)))) in (
-      longer,
-      replied-to n (g.taken ++ take left chunk) before new_text next (whole_lines_of (take limit input)) s
-          (sym (ap whole_lines_of front ∙ whole_lines-at (g.taken ++ take left chunk) s.lines s.part s.split)),
-    )
+    ∙ ap (λ zs. g.taken ++ zs) (take-append-le left (take k chunk) r.0 room ∙ take_take left k chunk (omega arith)))) in
+    let seen : limit + 1 ≡ length (g.taken ++ take k chunk) = omega (arith, length-append g.taken (take k chunk), length-take k chunk) in
+    let rest : drop (limit + 1) input ≡ r.0 =
+    ap (drop (limit + 1)) r.2 ∙ (ap (λ m. drop m ((g.taken ++ take k chunk) ++ r.0)) seen ∙ drop_seam (g.taken ++ take k chunk) r.0) in
+    record {
+      longer = longer;
+      told = r.1 ∙ ap Some (sym rest);
+      replied = replied-to n (g.taken ++ take left chunk) before new_text next (whole_lines_of (take limit input)) s
+          (sym (ap whole_lines_of front ∙ whole_lines-at (g.taken ++ take left chunk) s.lines s.part s.split));
+    }
 
 -- more was read
 pub going-on : (n limit left after : ℕ) (input before : List ℕ) (old new old_text new_text : Known) (run next : declared.Run) (chunk : List ℕ) (k : ℕ)

@@ -1,5 +1,5 @@
 -- What a run of a script replies, and how it ends.
-use Rattle.std.specs.Prelude.{◌≡◌, ◌≢◌, ℕ, ◌+◌, ◌<◌, ◌≤◌, List, [], ◌∷◌, ◌++◌, length, take, Option, Some, Result, Ok, Err}
+use Rattle.std.specs.Prelude.{◌≡◌, ◌≢◌, ℕ, ◌+◌, ◌<◌, ◌≤◌, List, [], ◌∷◌, ◌++◌, length, take, drop, Option, Some, Result, Ok, Err}
 use Rattle.serde_json.specs.Data.{Data}
 use Rattle.rewind_lines.specs.Lines.{reading_of, lines_of, whole_lines_of}
 use Rattle.rewind_lines.specs.Texts.{text_of}
@@ -55,14 +55,19 @@ pub record StoppedReading (processors : ℕ) (input : List ℕ) (left : Option (
   pub told : left ≡ Some rest
   pub replied : RepliedTo processors (whole_lines_of taken) before after
 
+-- The input goes on past the limit: that was seen at one byte more, and each line that is whole by the limit is replied to.
+pub record PassedLimit (processors limit : ℕ) (input : List ℕ) (left : Option (List ℕ)) (before : List ℕ) (after : Option (List ℕ)) : Type 0 where
+  pub longer : limit < length input
+  pub told : left ≡ Some (drop (limit + 1) input)
+  pub replied : RepliedTo processors (whole_lines_of (take limit input)) before after
+
 -- How a run of one client ends. The reader had `input` and has `left`; the writer held `before` and holds `after`.
 abbrev pub Ends : ℕ → ℕ → List ℕ → Option (List ℕ) → List ℕ → Option (List ℕ) → Result ℕ DebugFault → Type 0
 Ends processors limit input left before after (Ok n) = RanWhole processors limit input left before after n
 Ends processors limit input left before after (Err fault.Graph) =
     (count : ℕ) × RefusedAt processors (take count (lines_of input)) before after
 Ends processors limit input left before after (Err fault.Read) = StoppedReading processors input left before after
-Ends processors limit input left before after (Err fault.TooLong) =
-    (limit < length input) × RepliedTo processors (whole_lines_of (take limit input)) before after
+Ends processors limit input left before after (Err fault.TooLong) = PassedLimit processors limit input left before after
 Ends processors limit input left before after (Err fault.Memory) =
     (count : ℕ) × RepliedTo processors (take count (lines_of input)) before after
 Ends processors limit input left before after (Err fault.Write) =

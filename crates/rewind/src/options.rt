@@ -11,9 +11,10 @@ ghost use Rattle.clap.specs.declared.builder.command.Command.TheViews.{out-Comma
 ghost use Rattle.rewind.specs.Options.{given, number_or_one, number_rule, refusals, AskHelp, IsHelp, IsRefused};
 
 use clap::error::ErrorKind;
-use clap::{Arg, ArgAction, Command, Error, value_parser};
+use clap::{Arg, ArgAction, Command, value_parser};
 use std::alloc::Global;
 use std::convert::AsStr;
+use thiserror::Error;
 
 /// What the program does, as its help says it.
 const ABOUT: &str =
@@ -36,13 +37,16 @@ pub struct Options {
 }
 
 /// Why the words gave no options. The texts are the parser's.
-#[derive(Debug, Drop)]
+#[derive(Debug, Drop, Error)]
 pub enum WordsFault {
     /// Help was asked for, and this is it.
+    #[error("{0}")]
     Help(String),
     /// The words were refused, and this says why.
+    #[error("{0}")]
     Refused(String),
     /// Memory ran out.
+    #[error("out of memory")]
     Memory,
 }
 
@@ -82,7 +86,7 @@ fn empty_command<'a>(alloc: Global) -> Command<'a>
         .after_help(EXAMPLE)
 }
 
-fn fault_of(alloc: Global, error: &Error) -> WordsFault
+fn fault_of(alloc: Global, error: &clap::Error) -> WordsFault
     ensures help { IsHelp result → kind_of error.now ≡ ErrorKind.DisplayHelp }
     ensures refused { IsRefused result → (kind_of error.now ≢ ErrorKind.DisplayHelp)
         × (kind_of error.now ≢ ErrorKind.OutOfMemory) }

@@ -77,7 +77,7 @@ pub struct Taken {
 }
 
 /// A sink that holds nothing.
-pub fn taken(alloc: Global, step: usize, fails_at: usize, takes_none: bool) -> Taken {
+pub fn empty_sink(alloc: Global, step: usize, fails_at: usize, takes_none: bool) -> Taken {
     Taken {
         bytes: Vec::new(alloc),
         step,
@@ -102,7 +102,11 @@ impl Sink for Taken {
             self.has_failed = true;
             return Err(Unwritten);
         }
-        let n = if call == self.fails_at { 0 } else { self.step.min(bytes.len()) };
+        let n = if call == self.fails_at {
+            0
+        } else {
+            self.step.min(bytes.len())
+        };
         if self.bytes.extend_from_slice(&bytes[..n]).is_err() {
             self.has_failed = true;
             return Err(Unwritten);

@@ -4,6 +4,6 @@
 #[cfg(test)]
 mod ends;
 #[cfg(test)]
-mod words;
-#[cfg(test)]
 mod runs;
+#[cfg(test)]
+mod words;

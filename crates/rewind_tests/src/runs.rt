@@ -1,6 +1,6 @@
 //! Runs of one client.
 
-use crate::ends::{NEVER, Newlines, pieces_of, taken};
+use crate::ends::{NEVER, Newlines, empty_sink, pieces_of};
 use rewind::{DebugFault, Options, debug, debug_within};
 use rewind_lines::{ReadSource, WriteSink};
 use std::alloc::{AllocError, Global};
@@ -16,7 +16,10 @@ static LINES: [(&str, &str); 8] = [
         "{\"n\":1099511627765,\"do\":\"add\"}",
         "{\"code\":14,\"error\":\"DeltaFull\"}\n",
     ),
-    ("{\"do\":\"ba", "{\"code\":30,\"error\":\"BadLine\",\"line\":6}\n"),
+    (
+        "{\"do\":\"ba",
+        "{\"code\":30,\"error\":\"BadLine\",\"line\":6}\n",
+    ),
     (
         "{\"do\":\"add\",\"n\":1.0}",
         "{\"code\":31,\"error\":\"BadShape\",\"line\":7}\n",
@@ -60,7 +63,7 @@ fn answers_in_any_pieces(rt: HostRuntime) -> Result<(), Fail> {
     let want = replies(rt.alloc(), NEVER)?;
     for step in [1, 2, 7, 5000] {
         let mut source = pieces_of(script.as_slice(), step, NEVER);
-        let mut sink = taken(rt.alloc(), step, NEVER, false);
+        let mut sink = empty_sink(rt.alloc(), step, NEVER, false);
         assert_eq!(rt; debug(rt.alloc(), &mut source, &mut sink, &ONE)?, 6);
         assert!(rt; sink.bytes.as_slice() == want.as_slice(), "by {step}");
         assert!(rt; !source.has_failed && !sink.has_failed);
@@ -73,7 +76,7 @@ fn fails_with_its_source(rt: HostRuntime) -> Result<(), Fail> {
     let script = script(rt.alloc())?;
     for fails_at in 0..=script.len() {
         let mut source = pieces_of(script.as_slice(), 1, fails_at);
-        let mut sink = taken(rt.alloc(), 100, NEVER, false);
+        let mut sink = empty_sink(rt.alloc(), 100, NEVER, false);
         let ended = debug(rt.alloc(), &mut source, &mut sink, &ONE);
         assert_eq!(rt; ended, Err(DebugFault::Read));
         let want = replies(rt.alloc(), fails_at)?;
@@ -89,7 +92,7 @@ fn fails_with_its_sink(rt: HostRuntime) -> Result<(), Fail> {
     for fails_at in 0..want.len() {
         for takes_none in [false, true] {
             let mut source = pieces_of(script.as_slice(), 100, NEVER);
-            let mut sink = taken(rt.alloc(), 1, fails_at, takes_none);
+            let mut sink = empty_sink(rt.alloc(), 1, fails_at, takes_none);
             let ended = debug(rt.alloc(), &mut source, &mut sink, &ONE);
             assert_eq!(rt; ended, Err(DebugFault::Write));
             assert!(rt; sink.bytes.as_slice() == &want.as_slice()[..fails_at]);
@@ -100,7 +103,7 @@ fn fails_with_its_sink(rt: HostRuntime) -> Result<(), Fail> {
 
 #[test]
 fn stops_at_its_limit(rt: HostRuntime) -> Result<(), Fail> {
-    let mut sink = taken(rt.alloc(), 100, NEVER, false);
+    let mut sink = empty_sink(rt.alloc(), 100, NEVER, false);
     let ended = debug_within(rt.alloc(), &mut Newlines, &mut sink, &ONE, 10_000);
     assert_eq!(rt; ended, Err(DebugFault::TooLong));
     assert!(rt; sink.bytes.is_empty());
@@ -124,14 +127,18 @@ fn refuses_a_graph(rt: HostRuntime) -> Result<(), Fail> {
             "{\"code\":40,\"error\":\"Shape\"}\n",
         ),
         ("{\"start\":1}", 2, "{\"code\":48,\"error\":\"BadCount\"}\n"),
-        ("{\"sta", 1, "{\"code\":30,\"error\":\"BadLine\",\"line\":1}\n"),
+        (
+            "{\"sta",
+            1,
+            "{\"code\":30,\"error\":\"BadLine\",\"line\":1}\n",
+        ),
     ] {
         let options = Options {
             processors,
             clients: 1,
         };
         let mut source = pieces_of(script.as_bytes(), 100, NEVER);
-        let mut sink = taken(rt.alloc(), 100, NEVER, false);
+        let mut sink = empty_sink(rt.alloc(), 100, NEVER, false);
         let ended = debug(rt.alloc(), &mut source, &mut sink, &options);
         assert_eq!(rt; ended, Err(DebugFault::Graph));
         assert!(rt; sink.bytes.as_slice() == reply.as_bytes(), "at {script}");
