@@ -77,9 +77,8 @@ TakeFails s p edge t value DeltaFull = HasLargeEntry (after_take s p edge t valu
 TakeFails s p edge t value Memory = ⊥
 
 -- the condition of a refusal holds
-abbrev pub Fails : {A : Type 0} → ClusterState → Step A → Refusal → Type 0
-Fails s (Feed p vertex values next) r = FeedFails s p vertex values next r
-Fails s (Take p edge t value) r = TakeFails s p edge t value r
+unfoldable pub Fails : {A : Type 0} → ClusterState → Step A → Refusal → Type 0
+Fails s x r = ⊥
 
 -- no condition holds
 pub record IsEnabled {A : Type 0} (s : ClusterState) (x : Step A) : Type 0 where

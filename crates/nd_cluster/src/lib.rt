@@ -3,12 +3,12 @@
 
 mod cluster;
 mod key;
+mod record;
 mod refusal;
 mod step;
-mod text;
 
-pub use cluster::Cluster;
+pub use cluster::{Cluster, StartFault, can_run};
 pub use key::{SinkKey, ValueAt};
+pub use record::{NoMemory, Record};
 pub use refusal::Refusal;
 pub use step::{Next, Step, Values};
-pub use text::{point_value, time_value};

@@ -1,5 +1,5 @@
 pub mod DriverLaws
-pub mod Keys
+pub mod MachineLaws
 pub mod OptionReads
 pub mod RunLaws
 pub mod StandLaws

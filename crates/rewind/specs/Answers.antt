@@ -1,5 +1,6 @@
 -- What each line of a script may be answered, and what comes of it.
 use Rattle.std.specs.Prelude.{◌≡◌, ◌≢◌, ℕ, ◌+◌, ◌<◌, ◌⊎◌, List, [], ◌∷◌, length, Option, Some, None, codes, unsigned_abs, if◌then◌else◌, slice_get, Result, Ok, Err}
+use Rattle.std.specs.Option.{option_to_list}
 use Rattle.std.specs.declared.alloc.Global.{Global}
 use Rattle.serde_json.specs.Data.{Data}
 use Rattle.rewind_lines.specs.Lines.{Reading, blank, too_long, no_json, json}
@@ -9,6 +10,7 @@ use Rattle.nd_graph.specs.Checked.{checked}
 use Rattle.nd_graph.specs.Fault as graph_fault
 use Rattle.nd_graph.specs.declared.fault.GraphFault.{GraphFault}
 use Rattle.nd_paths.specs.Order.{FailsAt, IsAccepted}
+use Rattle.nd_paths.specs.declared.point.Pointstamp.{Pointstamp}
 use Rattle.nd_delta.specs.Change.{at}
 use Rattle.nd_cluster.specs.State.{ClusterState, truth}
 use Rattle.nd_cluster.specs.StateText.{state_data}
@@ -87,16 +89,20 @@ BackReplies m replies new =
     ⊎ ((e : BackFault) × BackFails m e × (replies ≡ back_reply e m.cursor ∷ []) × (new ≡ running m))
 
 -- the true count of a pointstamp
-abbrev pub true_count : ClusterState → _ → ℕ
+abbrev pub true_count : ClusterState → Pointstamp → ℕ
 true_count s x = unsigned_abs (at (truth s.processors) x)
+
+-- the reply to a command or a query
+abbrev pub AskedReplies : MachineValue → Command → List Data → Phase → Type 0
+AskedReplies m (Forward x) replies new = ForwardReplies m x replies new
+AskedReplies m Back replies new = BackReplies m replies new
+AskedReplies m State replies new = (replies ≡ state (state_data (cluster_of m)) ∷ []) × (new ≡ running m)
+AskedReplies m (Count x) replies new = (replies ≡ count (true_count (cluster_of m) x) ∷ []) × (new ≡ running m)
 
 -- the reply to a line that is, or is not, a command or a query
 abbrev pub FormReplies : MachineValue → ℕ → Result Command LineFault → List Data → Phase → Type 0
-FormReplies m line (Ok (Forward x)) replies new = ForwardReplies m x replies new
-FormReplies m line (Ok Back) replies new = BackReplies m replies new
-FormReplies m line (Ok State) replies new = (replies ≡ state (state_data (cluster_of m)) ∷ []) × (new ≡ running m)
-FormReplies m line (Ok (Count x)) replies new = (replies ≡ count (true_count (cluster_of m) x) ∷ []) × (new ≡ running m)
-FormReplies m line (Err e) replies new = (reply : Data) × (line_fault e line ≡ Some reply) × (replies ≡ reply ∷ []) × (new ≡ running m)
+FormReplies m line (Ok asked) replies new = AskedReplies m asked replies new
+FormReplies m line (Err e) replies new = (replies ≡ option_to_list (line_fault e line)) × (new ≡ running m)
 
 abbrev pub CommandReplies : MachineValue → ℕ → Data → List Data → Phase → Type 0
 CommandReplies m line d replies new = FormReplies m line (command_of m.base.graph d) replies new

@@ -3,12 +3,10 @@
 #![tactic(auto)]
 
 mod answer;
-mod command;
 mod driver;
 mod fault;
 mod machine;
 mod options;
-mod reply;
 mod run;
 mod stage;
 

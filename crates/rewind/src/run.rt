@@ -7,14 +7,15 @@ ghost use Rattle.rewind_lines.specs.Lines.{json, reading_of};
 ghost use Rattle.rewind_lines.specs.Readings.{reading_view};
 ghost use Rattle.rewind.specs.Answers.{Answers, after_fault};
 ghost use Rattle.rewind.specs.Faults.{is_write_fault, IsOfRun};
-ghost use Rattle.rewind.specs.Replies.{line_fault};
+ghost use Rattle.rewind_forms.specs.Replies.{line_fault};
+ghost use Rattle.serde_json.specs.Data.{Data};
 ghost use Rattle.rewind.specs.Stages.{phase_of, phase_after, replies_of};
 ghost use Rattle.rewind.specs.States.{Stands, EndsEarly, AnswersText};
 
 use crate::answer::{answer_command, answer_first};
 use crate::fault::DebugFault;
-use crate::reply;
 use crate::stage::Stage;
+use rewind_forms::{LineFault, replies};
 use rewind_lines::{Line, Reading, Sink, send, text_of};
 use serde_json::Value;
 use std::alloc::{AllocError, Global};
@@ -39,15 +40,14 @@ fn goes_on(reply: Value) -> Answer
 fn answer_fault(
     alloc: Global,
     stage: &Stage,
-    code: u64,
-    name: &str,
+    fault: LineFault,
     line: u64,
 ) -> Result<Answer, AllocError>
-    ensures reply { IfOk result (λ a. replies_of a.reply ≡ line_fault code name.now line ∷ []) }
+    ensures reply { IfOk result (λ a. (d : Data) → line_fault fault line ≡ Some d → replies_of a.reply ≡ d ∷ []) }
     ensures after { IfOk result (λ a. phase_after a.is_last stage.now ≡ after_fault (phase_of stage.now)) }
     ensures text { IfOk result (λ a. IfSome a.reply (λ v. has_float (view v) ≡ false)) }
 {
-    let reply = reply::line_fault(alloc, code, name, line)?;
+    let reply = replies::line_fault(alloc, fault, line)?;
     Ok(Answer {
         reply: Some(reply),
         is_last: matches!(stage, Stage::Unstarted(_)),
@@ -97,8 +97,8 @@ fn answer_line(
             reply: None,
             is_last: false,
         }),
-        Reading::TooLong => answer_fault(alloc, stage, 33, "LineTooLong", line),
-        Reading::NoJson => answer_fault(alloc, stage, 30, "BadLine", line),
+        Reading::TooLong => answer_fault(alloc, stage, LineFault::LineTooLong, line),
+        Reading::NoJson => answer_fault(alloc, stage, LineFault::BadLine, line),
         Reading::Json(value) => answer_value(alloc, stage, value, line),
     }
 }

@@ -1,0 +1,97 @@
+-- Kept steps: one more at the end, the front of them, and the step at a place.
+use Rattle.std.proofs.Common.{◌≡◌, ◌≤◌, ◌<◌, ℕ, zero, suc, ◌+◌, ◌-◌, List, [], ◌∷◌, ◌++◌, map, length, take, get_or, refl, sym, ap, subst, ◌∙◌, arith, add-one, length-append}
+use Rattle.std.specs.declared.alloc.Global.{Global}
+use Rattle.nd_time.specs.Limits.{max_kept}
+use Rattle.nd_cluster.specs.State.{ClusterState}
+use Rattle.nd_cluster.specs.Steps.{after, stepped}
+use Rattle.nd_cluster.specs.Records.{IsPlanned, Leads, IsCommitted}
+use Rattle.nd_cluster.specs.declared.record.Record.{Record}
+use Rattle.nd_cluster.specs.declared.step.Step.{Step}
+use Rattle.rewind.specs.Reached.{steps_of, ArePlanned, IsReached}
+
+pub after-push : (s : ClusterState) (xs : List (Step Global)) (x : Step Global) → after s (xs ++ x ∷ []) ≡ stepped (after s xs) x
+unfolding after
+after-push s [] x = refl
+after-push s (y ∷ xs) x = after-push (stepped s y) xs x
+
+pub steps_of-push : (rs : List (Record Global)) (r : Record Global) → steps_of (rs ++ r ∷ []) ≡ steps_of rs ++ r.step ∷ []
+steps_of-push [] r = refl
+steps_of-push (q ∷ rs) r = ap (λ xs. q.step ∷ xs) (steps_of-push rs r)
+
+pub steps_of-take : (n : ℕ) (rs : List (Record Global)) → steps_of (take n rs) ≡ take n (steps_of rs)
+steps_of-take zero rs = refl
+steps_of-take (suc n) [] = refl
+steps_of-take (suc n) (r ∷ rs) = ap (λ xs. r.step ∷ xs) (steps_of-take n rs)
+
+pub length-steps_of : (rs : List (Record Global)) → length (steps_of rs) ≡ length rs
+length-steps_of [] = refl
+length-steps_of (r ∷ rs) = ap suc (length-steps_of rs)
+
+pub take-whole : {A : Type 0} (n : ℕ) (xs : List A) → length xs ≤ n → take n xs ≡ xs
+take-whole zero [] h = refl
+take-whole (suc n) [] h = refl
+take-whole zero (x ∷ xs) h = absurd (omega arith)
+take-whole (suc n) (x ∷ xs) h = ap (λ ys. x ∷ ys) (take-whole n xs (omega arith))
+
+pub length-front : {A : Type 0} (n : ℕ) (xs : List A) → n ≤ length xs → length (take n xs) ≡ n
+length-front zero xs h = refl
+length-front (suc n) [] h = absurd (omega arith)
+length-front (suc n) (x ∷ xs) h = ap suc (length-front n xs (omega arith))
+
+pub planned-take : (s : ClusterState) (n : ℕ) (rs : List (Record Global)) → ArePlanned s rs → ArePlanned s (take n rs)
+planned-take s zero rs h = tt
+planned-take s (suc n) [] h = tt
+planned-take s (suc n) (r ∷ rs) h = (h.0, planned-take (stepped s r.step) n rs h.1)
+
+pub planned-push : (s : ClusterState) (rs : List (Record Global)) (r : Record Global) → ArePlanned s rs → IsPlanned r (after s (steps_of rs)) → ArePlanned s (rs ++ r ∷ [])
+unfolding after
+planned-push s [] r h p = (p, tt)
+planned-push s (q ∷ rs) r h p = (h.0, planned-push (stepped s q.step) rs r h.1 p)
+
+-- a record was planned where the steps before it lead
+pub planned-at : (s : ClusterState) (rs : List (Record Global)) (i : ℕ) (d : Record Global) → i < length rs → ArePlanned s rs → IsPlanned (get_or rs i d) (after s (take i (steps_of rs)))
+unfolding after
+planned-at s [] i d lt h = absurd (omega arith)
+planned-at s (r ∷ rs) zero d lt h = h.0
+planned-at s (r ∷ rs) (suc i) d lt h = planned-at (stepped s r.step) rs i d (omega arith) h.1
+
+-- one kept step more
+pub after-take : (s : ClusterState) (rs : List (Record Global)) (i : ℕ) (d : Record Global) → i < length rs → after s (take (suc i) (steps_of rs)) ≡ stepped (after s (take i (steps_of rs))) (get_or rs i d).step
+unfolding after
+after-take s [] i d lt = absurd (omega arith)
+after-take s (r ∷ rs) zero d lt = refl
+after-take s (r ∷ rs) (suc i) d lt = after-take (stepped s r.step) rs i d (omega arith)
+
+-- ---- what the calls of a machine keep
+
+pub begun : (s : ClusterState) (rs : List (Record Global)) → rs ≡ [] → (b : ClusterState) → b ≡ s → IsReached b s rs 0
+unfolding after
+begun s rs is b same = rw is (record { within = omega arith; few = omega arith; reached = sym same; planned = tt })
+
+-- a step that is planned at the cursor and made
+pub extends : (base cluster next : ClusterState) (rs : List (Record Global)) (n : ℕ) (r : Record Global) → IsReached base cluster rs n → n < max_kept → IsPlanned r cluster → next ≡ stepped cluster r.step
+    → IsReached base next (take n rs ++ r ∷ []) (n + 1)
+extends base cluster next rs n r was room planned leads =
+    let front : List (Record Global) = take n rs in
+    let count : length front ≡ n = length-front n rs was.within in
+    let more : length (front ++ r ∷ []) ≡ n + 1 = omega (arith, length-append front (r ∷ []), count) in
+    let steps : steps_of front ≡ take n (steps_of rs) = steps_of-take n rs in
+    let at_cursor : cluster ≡ after base (steps_of front) = was.reached ∙ ap (after base) (sym steps) in
+    let all : take (n + 1) (steps_of (front ++ r ∷ [])) ≡ steps_of (front ++ r ∷ []) = take-whole (n + 1) (steps_of (front ++ r ∷ [])) (omega (arith, length-steps_of (front ++ r ∷ []), more)) in
+    record {
+      within = omega (arith, more);
+      few = omega (arith, more);
+      reached = leads ∙ ap (λ s. stepped s r.step) at_cursor ∙ sym (after-push base (steps_of front) r.step) ∙ ap (after base) (sym (steps_of-push front r)) ∙ ap (after base) (sym all);
+      planned = planned-push base front r (planned-take base n rs was.planned) (subst (λ (s : ClusterState). IsPlanned r s) at_cursor planned);
+    }
+
+-- the record before the cursor has led to the cluster
+pub led : (base cluster : ClusterState) (rs : List (Record Global)) (n : ℕ) (d : Record Global) → IsReached base cluster rs n → 0 < n → Leads (get_or rs (n - 1) d) (after base (take (n - 1) (steps_of rs))) cluster
+led base cluster rs zero d was some = absurd (omega arith)
+led base cluster rs (suc n) d was some =
+    let less : (suc n) - 1 ≡ n = omega arith in
+    let lt : n < length rs = omega (arith, was.within) in
+    rw less (record { planned = planned-at base rs n d lt was.planned; after = was.reached ∙ after-take base rs n d lt })
+
+pub returned : (base cluster : ClusterState) (rs : List (Record Global)) (n : ℕ) → IsReached base cluster rs n → IsReached base (after base (take (n - 1) (steps_of rs))) rs (n - 1)
+returned base cluster rs n was = record { within = omega (arith, was.within); few = was.few; reached = refl; planned = was.planned }

@@ -1,0 +1,21 @@
+use Rattle.std.proofs.Common.{◌≡◌, ◌<◌, arith, subst, sym}
+use Rattle.nd_cluster.specs.State.{ClusterState}
+use Rattle.nd_cluster.specs.Steps.{after}
+use Rattle.nd_cluster.specs.Records.{Leads}
+use Rattle.rewind.specs.Reached.{steps_of, IsReached}
+use Rattle.rewind.proofs.MachineLaws.{led, returned}
+use Rattle.rewind.proofs.machine.Machine.back.Goals as goal
+use Rattle.std.proofs.Common.{take, ◌-◌}
+
+pub back-requires : goal.back-requires
+back-requires c =
+    let some : 0 < c.self.inside.cursor = omega arith in
+    let d = c.index.result.now in
+    rw c.index.ensures (record { state = after c.self.inside.base (take (c.self.inside.cursor - 1) (steps_of c.self.inside.records.items)); leads = led c.self.inside.base c.self.inside.cluster c.self.inside.records.items c.self.inside.cursor d c.self.invariant some })
+
+pub invariant_of-self-2 : goal.invariant_of-self-2
+invariant_of-self-2 c =
+    let some : 0 < c.self.inside.cursor = omega arith in
+    let d = c.index.result.now in
+    let was : Leads d (after c.self.inside.base (take (c.self.inside.cursor - 1) (steps_of c.self.inside.records.items))) c.self.inside.cluster = rw c.index.ensures (led c.self.inside.base c.self.inside.cluster c.self.inside.records.items c.self.inside.cursor d c.self.invariant some) in
+    rw (c.in-Ok.ensures.ok _ was) (returned c.self.inside.base c.self.inside.cluster c.self.inside.records.items c.self.inside.cursor c.self.invariant)
