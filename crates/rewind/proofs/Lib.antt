@@ -1,3 +1,4 @@
+pub mod AnswerLaws
 pub mod DriverLaws
 pub mod MachineLaws
 pub mod OptionReads

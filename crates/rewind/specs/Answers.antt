@@ -105,7 +105,7 @@ FormReplies m line (Ok asked) replies new = AskedReplies m asked replies new
 FormReplies m line (Err e) replies new = (replies ≡ option_to_list (line_fault e line)) × (new ≡ running m)
 
 abbrev pub CommandReplies : MachineValue → ℕ → Data → List Data → Phase → Type 0
-CommandReplies m line d replies new = FormReplies m line (command_of m.base.graph d) replies new
+CommandReplies m line d replies new = FormReplies m line (command_of (cluster_of m).graph d) replies new
 
 -- ---- all lines
 
