@@ -2,6 +2,7 @@
 #![tactic(auto)]
 
 mod accept;
+mod compose;
 mod paths;
 mod point;
 mod summary;

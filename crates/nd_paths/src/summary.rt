@@ -1,5 +1,5 @@
 //! Path summaries.
-ghost use Rattle.std.specs.Prelude.{◌≡◌, ◌+◌, ◌-◌, ◌<◌, ◌≤◌, ◌↔◌, [], ◌∷◌, ◌++◌, length, IsTrue, IsSome, MatchBool};
+ghost use Rattle.std.specs.Prelude.{◌≡◌, ◌+◌, ◌-◌, ◌<◌, ◌≤◌, ◌↔◌, [], ◌∷◌, ◌++◌, length, All, IfSome, IsTrue, IsSome, MatchBool};
 ghost use Rattle.std.specs.Option.{option_to_list};
 ghost use Rattle.nd_time.specs.Limits.{max_depth, max_counter};
 ghost use Rattle.nd_time.specs.Time.{IsLexicallyAtMost};
@@ -34,6 +34,19 @@ impl Constants {
         }
     }
 
+    // The same numbers, or `None` where one is past `u32::MAX`.
+    pub(crate) fn narrowed(wide: &[u64]) -> Option<Constants>
+        requires { length wide.now ≤ max_depth }
+        ensures some { IsSome result ↔ All (λ x. x ≤ max_counter) wide.now }
+        ensures value { IfSome result (λ c. c ≡ wide.now) }
+    {
+        let mut numbers = ArrayVec::new();
+        for number in wide {
+            numbers.push(u32::try_from(*number).ok()?);
+        }
+        Some(Constants { numbers })
+    }
+
     /// The numbers, outermost first.
     pub fn as_slice(&self) -> &[u32]
         ensures value { result.now ≡ self.now }
@@ -42,14 +55,24 @@ impl Constants {
         self.numbers.as_slice()
     }
 
-    /// An equal list.
-    pub fn copy(&self) -> Constants
-        ensures { result ≡ self.now }
+    // The list of these numbers.
+    fn listed(numbers: &[u32]) -> Constants
+        requires { length numbers.now ≤ max_depth }
+        ensures value { result ≡ numbers.now }
+        ensures small { All (λ x. x ≤ max_counter) numbers.now }
     {
-        match ArrayVec::try_from(self.as_slice()) {
+        match ArrayVec::try_from(numbers) {
             Ok(numbers) => Constants { numbers },
             Err(_) => unreachable!(),
         }
+    }
+
+    /// An equal list.
+    pub fn copy(&self) -> Constants
+        ensures value { result ≡ self.now }
+        ensures small { All (λ x. x ≤ max_counter) self.now }
+    {
+        Constants::listed(self.as_slice())
     }
 
     // One more, innermost.
@@ -157,7 +180,7 @@ impl Summary {
     }
 
     // What this makes of these counters, wide enough for every sum.
-    fn reached(&self, counters: &[u32]) -> ArrayVec<u64, MAX_DEPTH>
+    pub(crate) fn reached(&self, counters: &[u32]) -> ArrayVec<u64, MAX_DEPTH>
         requires keep { self.now.keep ≤ length counters.now }
         requires deep { self.now.keep + length self.now.constants ≤ max_depth }
         ensures { result.items ≡ applied self.now counters.now }
