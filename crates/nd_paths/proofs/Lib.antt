@@ -17,4 +17,4 @@ pub mod Accepting
 pub mod PointOrder
 pub mod Minimal
 pub mod Algebra
-pub mod Listing
+pub mod Unique

@@ -10,7 +10,7 @@ use nd_time::MAX_DEPTH;
 use std::marker::Model;
 
 /// The constants of a summary, at most `MAX_DEPTH`, outermost first.
-#[derive(Debug, PartialEq, Eq, PartialOrd, Ord, Drop)]
+#[derive(Debug, Default, PartialEq, Eq, PartialOrd, Ord, Drop)]
 pub struct Constants {
     numbers: ArrayVec<u32, MAX_DEPTH>,
 }
@@ -95,7 +95,7 @@ impl Constants {
 /// What a walk does to the loop counters of a time.
 ///
 /// It keeps the outer `keep` counters, adds `add` to the last of those, and puts the constants after them.
-#[derive(Debug, PartialEq, Eq, Drop)]
+#[derive(Debug, Default, PartialEq, Eq, Drop)]
 pub struct Summary {
     pub keep: usize,
     pub add: u32,
