@@ -26,11 +26,14 @@ impl Model for Constants {
 }
 
 impl Constants {
-    fn new() -> Constants
-        ensures { result ≡ [] }
+    /// The constants that are these numbers, or `None` for more than `MAX_DEPTH`.
+    pub fn new(numbers: &[u32]) -> Option<Constants>
+        ensures fits { IsSome result ↔ (length numbers.now ≤ max_depth) }
+        ensures value { IfSome result (λ c. c ≡ numbers.now) }
     {
-        Constants {
-            numbers: ArrayVec::new(),
+        match ArrayVec::try_from(numbers) {
+            Ok(numbers) => Some(Constants { numbers }),
+            Err(_) => None,
         }
     }
 
@@ -113,7 +116,7 @@ impl Summary {
         Summary {
             keep: depth,
             add: 0,
-            constants: Constants::new(),
+            constants: Constants::default(),
         }
     }
 
