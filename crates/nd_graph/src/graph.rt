@@ -83,7 +83,10 @@ impl<A: Allocator> Model for Graph<A> {
 
     ghost view = { λ a. record { vertices = a.vertices.items; edges = a.edges.items } };
 
-    ghost invariant = { λ a. IsGraph (record { vertices = a.vertices.items; edges = a.edges.items }) a.depths.items a.arcs.items };
+    ghost use Rattle.nd_graph.specs.Checked.{IsFaultless};
+
+    ghost invariant = { λ a. IsGraph (record { vertices = a.vertices.items; edges = a.edges.items }) a.depths.items a.arcs.items
+        × IsFaultless (record { vertices = a.vertices.items; edges = a.edges.items }) };
 }
 
 fn copied_vertices<A: Allocator>(
@@ -110,16 +113,40 @@ fn copied_edges<A: Allocator>(alloc: A, edges: &[Edge]) -> Result<Vec<Edge, A>, 
 }
 
 impl<A: Allocator> Graph<A> {
+    ghost use Rattle.nd_graph.specs.Graph.{IsGraph};
+    ghost use Rattle.nd_graph.specs.Checked.{IsFaultless};
+
+    /// The graph of these parts.
+    pub(crate) fn from_parts(
+        vertices: Vec<Vertex, A>,
+        edges: Vec<Edge, A>,
+        depths: Vec<usize, A>,
+        arcs: Vec<Arc, A>,
+    ) -> Graph<A>
+        requires kept { IsGraph (record { vertices = vertices.items; edges = edges.items }) depths.items arcs.items }
+        requires sound { IsFaultless (record { vertices = vertices.items; edges = edges.items }) }
+        ensures { result ≡ record { vertices = vertices.items; edges = edges.items } }
+    {
+        Graph {
+            vertices,
+            edges,
+            depths,
+            arcs,
+        }
+    }
+
     /// The vertices, in order of appearance.
     pub fn vertices(&self) -> &[Vertex]
-        ensures { result.now ≡ self.now.vertices }
+        ensures vertices { result.now ≡ self.now.vertices }
+        ensures sound { IsFaultless self.now }
     {
         &self.vertices
     }
 
     /// The edges, in order of appearance.
     pub fn edges(&self) -> &[Edge]
-        ensures { result.now ≡ self.now.edges }
+        ensures edges { result.now ≡ self.now.edges }
+        ensures sound { IsFaultless self.now }
     {
         &self.edges
     }

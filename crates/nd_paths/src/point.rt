@@ -3,6 +3,7 @@ ghost use Rattle.std.specs.Prelude.{◌≡◌, ◌↔◌, IsTrue, IsSome, IfSome
 ghost use Rattle.nd_paths.specs.Order.{Fits};
 
 use nd_graph::Graph;
+use nd_map::Key;
 use nd_time::Timestamp;
 use std::alloc::Allocator;
 
@@ -48,5 +49,11 @@ impl Pointstamp {
             location: self.location,
             time: self.time.copy(),
         }
+    }
+}
+
+impl Key for Pointstamp {
+    fn duplicate(&self) -> Pointstamp {
+        self.copy()
     }
 }

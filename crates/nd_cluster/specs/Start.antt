@@ -1,0 +1,26 @@
+-- The start of a cluster: each token at epoch 0, each view what is outstanding, and all else empty (FORTE 2013).
+use Rattle.std.specs.Prelude.{ℕ, ◌+◌, List, [], ◌∷◌, map, replicate, if◌then◌else◌}
+use Rattle.std.specs.FinMap as fin
+use Rattle.std.specs.Ordering.{nat_cmp}
+use Rattle.nd_graph.specs.Graph.{Dataflow}
+use Rattle.nd_graph.specs.declared.graph.Vertex.{Vertex}
+use Rattle.nd_cluster.specs.Operators.{is_input}
+use Rattle.nd_cluster.specs.State.{ProcessorState, ClusterState, idle, truth}
+
+-- each input among vertices, of which the first is the location l, with epoch 0
+abbrev pub first_tokens : ℕ → List Vertex → fin.FinMap nat_cmp ℕ
+first_tokens l [] = fin.empty
+first_tokens l (v ∷ vertices) = let rest = first_tokens (l + 1) vertices in if is_input v.op then fin.insert rest l 0 else rest
+
+-- a processor with its tokens alone
+abbrev pub with_tokens : Dataflow → ProcessorState
+with_tokens g = record idle { tokens = first_tokens 0 g.vertices }
+
+unfoldable pub start : Dataflow → ℕ → ClusterState
+start g n =
+    let processors : List ProcessorState = replicate n (with_tokens g) in
+    record {
+      graph = g;
+      processors = map (λ (q : ProcessorState). record q { view = truth processors }) processors;
+      queues = replicate n (replicate n []);
+    }

@@ -1,0 +1,154 @@
+//! Finite maps as lists of entries in the order of their keys, the storage of every small map above.
+#![tactic(auto)]
+
+ghost use Rattle.std.specs.Prelude.{◌≡◌, ◌<◌, ◌≤◌, ◌↔◌, [], OnOk, OnErr, IfOk, IfErr, IsTrue, None, length};
+ghost use Rattle.std.specs.FinMap.{find, put};
+ghost use Rattle.nd_map.specs.Listed.{IsListed, without};
+ghost use Rattle.nd_map.specs.Place.{IsAt, IsGap};
+
+use std::alloc::{AllocError, Allocator, Global};
+use std::cmp::Ordering;
+use std::marker::Model;
+
+/// What the keys of a map are: ordered, and copied without memory.
+pub trait Key: Ord + Drop {
+    /// An equal key.
+    fn duplicate(&self) -> Self
+        ensures { result ≡ self.now };
+}
+
+/// A finite map, seen as the list of its entries in the order of their keys.
+///
+/// A look-up takes a logarithm of the number of entries, an edit that adds or takes out an entry
+/// moves those after it.
+#[derive(Drop)]
+pub struct SortedMap<K: Key, V: Copy, A: Allocator = Global> {
+    entries: Vec<(K, V), A>,
+}
+
+impl<K: Key, V: Copy, A: Allocator> Model for SortedMap<K, V, A> {
+    ghost use Rattle.std.specs.Prelude.{List};
+    ghost use Rattle.nd_map.specs.Listed.{IsListed};
+
+    ghost Value = { List (K × V) };
+
+    ghost view = { λ a. a.entries.items };
+
+    ghost invariant = { λ a. IsListed K.cmp a.entries.items };
+}
+
+// Where a key stands among the entries, or would stand.
+fn place<K: Key, V>(entries: &[(K, V)], key: &K) -> Result<usize, usize>
+    requires { IsListed K.cmp entries.now }
+    ensures in_range { IfOk result (λ i. i < length entries.now) }
+    ensures within { IfErr result (λ i. i ≤ length entries.now) }
+    ensures found { IfOk result (IsAt K.cmp key.now entries.now) }
+    ensures absent { IfErr result (IsGap K.cmp key.now entries.now) }
+{
+    entries.binary_search_by(
+        |entry: &(K, V)| -> Ordering
+            ensures { result ≡ K.cmp entry.now.0 key.entry.now }
+        { entry.0.cmp(key) },
+    )
+}
+
+impl<K: Key, V: Copy, A: Allocator> SortedMap<K, V, A> {
+    /// The map with no entry. It takes no memory.
+    pub fn new(alloc: A) -> SortedMap<K, V, A>
+        ensures { result ≡ [] }
+    {
+        SortedMap {
+            entries: Vec::new(alloc),
+        }
+    }
+
+    /// The value at a key.
+    pub fn get(&self, key: &K) -> Option<V>
+        ensures value { result ≡ find K.cmp key.now self.now }
+        ensures listed { IsListed K.cmp self.now }
+    {
+        match place(&self.entries, key) {
+            Ok(i) => Some(self.entries[i].1),
+            Err(_) => None,
+        }
+    }
+
+    /// The entries in the order of their keys.
+    pub fn entries(&self) -> &[(K, V)]
+        ensures value { result.now ≡ self.now }
+        ensures listed { IsListed K.cmp self.now }
+    {
+        &self.entries
+    }
+
+    /// The number of entries.
+    pub fn len(&self) -> usize
+        ensures { result ≡ length self.now }
+    {
+        self.entries().len()
+    }
+
+    /// Whether there is no entry.
+    pub fn is_empty(&self) -> bool
+        ensures { IsTrue result ↔ (self.now ≡ []) }
+    {
+        self.len() == 0
+    }
+
+    /// Gives a key a value. A key that has one takes no memory.
+    pub fn put(&mut self, key: &K, value: V) -> Result<(), AllocError>
+        ensures ok { OnOk result (self.new ≡ put K.cmp key.now value self.old) }
+        ensures err { OnErr result (self.new ≡ self.old) }
+        ensures absent { OnErr result (find K.cmp key.now self.old ≡ None) }
+        ensures listed { IsListed K.cmp self.new }
+        ensures was_listed { IsListed K.cmp self.old }
+    {
+        match place(&self.entries, key) {
+            Ok(i) => {
+                self.entries[i].1 = value;
+                Ok(())
+            }
+            Err(i) => {
+                let Ok(()) = self.entries.insert(i, (key.duplicate(), value)) else {
+                    return Err(AllocError);
+                };
+                Ok(())
+            }
+        }
+    }
+
+    /// Takes a key and its value out, where it is there.
+    pub fn remove(&mut self, key: &K)
+        ensures value { self.new ≡ without K.cmp key.now self.old }
+        ensures listed { IsListed K.cmp self.new }
+        ensures was_listed { IsListed K.cmp self.old }
+    {
+        if let Ok(i) = place(&self.entries, key) {
+            self.entries.remove(i);
+        }
+    }
+
+    /// An equal map.
+    pub fn copy(&self, alloc: A) -> Result<SortedMap<K, V, A>, AllocError>
+        ensures equal { IfOk result (λ m. m ≡ self.now) }
+        ensures listed { IsListed K.cmp self.now }
+    {
+        Ok(SortedMap {
+            entries: copy_entries(alloc, &self.entries)?,
+        })
+    }
+}
+
+// Equal entries.
+fn copy_entries<K: Key, V: Copy, A: Allocator>(
+    alloc: A,
+    entries: &[(K, V)],
+) -> Result<Vec<(K, V), A>, AllocError>
+    ensures { IfOk result (λ v. v.items ≡ entries.now) }
+{
+    let mut copied = Vec::with_capacity(alloc, entries.len())?;
+    for entry in entries {
+        copied.push((entry.0.duplicate(), entry.1))?;
+    }
+    Ok(copied)
+}
