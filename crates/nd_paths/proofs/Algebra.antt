@@ -1,5 +1,5 @@
 -- One summary and then another does what the one does, and then the other.
-use Rattle.std.proofs.Common.{◌≡◌, ◌⊎◌, inl, inr, cond, nat_eq, nat_lt, ℕ, zero, suc, ◌+◌, ◌-◌, ◌<◌, ◌≤◌, List, [], ◌∷◌, ◌++◌, length, take, reverse, refl, sym, ◌∙◌, ap, subst, arith, append_assoc, add_assoc, length-take}
+use Rattle.std.proofs.Common.{◌≡◌, inl, inr, cond, nat_eq, ℕ, zero, suc, ◌+◌, ◌-◌, ◌<◌, ◌≤◌, List, [], ◌∷◌, ◌++◌, length, take, reverse, refl, sym, ◌∙◌, ap, subst, arith, append_assoc, add_assoc, length-take}
 use Rattle.std.proofs.lemmas.Bool.{cases_lt, cases_eq, lt-ltb, le-ltb, eq-eqb, ne_eqb}
 use Rattle.std.proofs.lemmas.List.{take-append-le, take-take, take_all, reverse-reverse}
 use Rattle.nd_paths.specs.declared.summary.Summary.{Summary}

@@ -1,7 +1,7 @@
 -- What a summary does is what the walk does, and the order of summaries is the order of what they do.
-use Rattle.std.proofs.Common.{◌≡◌, ◌⊎◌, inl, inr, Bool, true, false, MatchBool, ℕ, zero, suc, ◌+◌, ◌-◌, ◌<◌, ◌≤◌, List, [], ◌∷◌, ◌++◌, length, take, drop, get_or, refl, sym, ◌∙◌, ap, subst, arith, length-drop, length-take}
+use Rattle.std.proofs.Common.{◌≡◌, ◌⊎◌, inl, inr, ℕ, zero, suc, ◌+◌, ◌-◌, ◌<◌, ◌≤◌, List, [], ◌∷◌, ◌++◌, length, drop, refl, sym, ◌∙◌, ap, subst, arith, length-drop}
 use Rattle.std.proofs.lemmas.Bool.{cases_lt, cases_eq}
-use Rattle.std.proofs.lemmas.List.{drop-drop, drop_all, drop_more, take-append-drop}
+use Rattle.std.proofs.lemmas.List.{drop-drop, drop_all}
 use Rattle.nd_graph.specs.declared.op.Action.{Action}
 use Rattle.nd_graph.specs.declared.op.Action.TheVariants.{Identity, Ingress, Egress, Feedback}
 use Rattle.nd_graph.specs.declared.graph.Arc.{Arc}

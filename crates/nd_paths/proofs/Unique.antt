@@ -1,6 +1,6 @@
 -- A walk has one summary, and the table lists the least of them.
-use Rattle.std.proofs.Common.{◌≡◌, ◌⊎◌, inl, inr, ℕ, zero, suc, ◌+◌, ◌-◌, ◌<◌, ◌≤◌, Option, Some, None, List, [], ◌∷◌, ◌++◌, length, map, take, drop, get_or, replicate, reverse, refl, sym, ◌∙◌, ap, subst, arith, length-append, length-drop}
-use Rattle.std.specs.Prelude.{All, Contains, Vec, slice_index}
+use Rattle.std.proofs.Common.{◌≡◌, inl, inr, ℕ, ◌+◌, ◌-◌, ◌<◌, Option, Some, List, [], ◌∷◌, ◌++◌, length, map, take, drop, get_or, replicate, reverse, refl, sym, ◌∙◌, ap, subst, arith, length-append, length-drop}
+use Rattle.std.specs.Prelude.{slice_index}
 use Rattle.std.specs.Option.{option_map}
 use Rattle.std.proofs.lemmas.Bool.{cases_lt}
 use Rattle.std.proofs.lemmas.List.{length-replicate, length-reverse, length-map, reverse-reverse, get_or-replicate, get_or_append_left, get_or-drop, take_at}
@@ -8,13 +8,12 @@ use Rattle.std.proofs.Math.Seq.{get_or-append_right}
 use Rattle.nd_graph.specs.declared.graph.Arc.{Arc}
 use Rattle.nd_graph.specs.Graph.{Dataflow, arcs, depths, location_count, depth_past_vertex}
 use Rattle.nd_paths.specs.declared.summary.Summary.{Summary}
-use Rattle.nd_paths.specs.Order.{IsWalk, HasDepth, effect}
+use Rattle.nd_paths.specs.Order.{effect}
 use Rattle.nd_paths.specs.Summary.{applied, IsSummaryOf, IsAtMost, IsLeastSummary, AreLeastSummaries}
-use Rattle.nd_paths.specs.Inside.{AtOrBefore, DepthsAgree, IsWalkAlong, effect_of, inner, plus, apply, summary_of, AtMost}
-use Rattle.nd_paths.specs.Table.{held, entry, IsLeast, IsListed, KeepsPlaces, IsTable}
+use Rattle.nd_paths.specs.Inside.{DepthsAgree, IsWalkAlong, effect_of, inner, plus, apply, summary_of, AtMost}
+use Rattle.nd_paths.specs.Table.{held, entry, IsLeast, IsListed, KeepsPlaces}
 use Rattle.nd_paths.proofs.Summaries.{IsFor}
 use Rattle.nd_paths.proofs.Walks.{IsFor-walk, apply-walk}
-use Rattle.nd_paths.proofs.Acceptance.{length-plus}
 use Rattle.nd_paths.proofs.Relaxing.{of_entry}
 use Rattle.nd_paths.proofs.Reversed.{reverse-applied, reverse-effect, walk_along, along_walk, lexical_from_before}
 use Rattle.nd_paths.proofs.Stored.{length-applied}
@@ -120,8 +119,8 @@ module _ (g : Dataflow) (agree : DepthsAgree (depths g) (arcs g)) where
       let e : ℕ = slice_index (depths g) b in
       let is : h.depth ≡ d = (depth_within g a h.depth h.has_depth).1 in
       let does : (c : List ℕ) → length c ≡ d → apply (inner s) c ≡ apply (summary_of (depths g) a w) c = λ c size.
-          let back : length (reverse c) ≡ h.depth = length-reverse c ∙ size ∙ sym is in
-          ap (apply (inner s)) (sym (reverse-reverse c)) ∙ sym (reverse-applied s (reverse c)) ∙ ap reverse (h.does (reverse c) back) ∙ reverse-effect w (reverse c) ∙ ap (effect_of w) (reverse-reverse c) ∙ sym (apply-walk (depths g) w a c size) in
+      let back : length (reverse c) ≡ h.depth = length-reverse c ∙ size ∙ sym is in
+      ap (apply (inner s)) (sym (reverse-reverse c)) ∙ sym (reverse-applied s (reverse c)) ∙ ap reverse (h.does (reverse c) back) ∙ reverse-effect w (reverse c) ∙ ap (effect_of w) (reverse-reverse c) ∙ sym (apply-walk (depths g) w a c size) in
       let o : List ℕ = replicate d 0 in
       let whole : length o ≡ d = length-replicate d 0 in
       let left : length (applied s o) ≡ s.keep + length s.constants = length-applied s o (omega (arith, h.kept)) in

@@ -1,6 +1,5 @@
 use Rattle.std.proofs.Common.{◌<◌, length, sym, arith}
 use Rattle.nd_graph.specs.Graph.{Dataflow, depths}
-use Rattle.nd_paths.specs.Table.{IsTable}
 use Rattle.nd_paths.proofs.Accepting.{table_as}
 use Rattle.nd_paths.proofs.Decisions.{row_least}
 use Rattle.nd_paths.proofs.Unique.{keeps_places, are_least, length-depths}

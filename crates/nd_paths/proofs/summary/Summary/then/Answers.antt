@@ -1,8 +1,8 @@
-use Rattle.std.proofs.Common.{◌≡◌, ◌<◌, ◌≤◌, ◌+◌, ℕ, length, refl, sym, ◌∙◌, ap, subst, arith, rules}
+use Rattle.std.proofs.Common.{◌≡◌, ◌<◌, ◌≤◌, ◌+◌, length, refl, sym, ◌∙◌, ap, arith}
 use Rattle.std.specs.Prelude.{All}
 use Rattle.nd_time.specs.Limits.{max_depth, max_counter}
 use Rattle.nd_paths.specs.declared.summary.Summary.{Summary}
-use Rattle.nd_paths.specs.Summary.{composed, left_by, IsInLimits}
+use Rattle.nd_paths.specs.Summary.{left_by}
 use Rattle.nd_paths.proofs.Algebra.{over, composed_over, composed_same, composed_less, effect_of_composed, limits_over, limits_same, left_by_composed}
 use Rattle.nd_paths.proofs.summary.Summary.then.Goals as goal
 use Rattle.nd_paths.proofs.summary.Summary.then.Goals.{then-other-gt-MAX_DEPTH-via-then-other-gt-MAX_DEPTH, then-other-gt-MAX_DEPTH-via-else-other-gt-MAX_DEPTH+then-other-theirs-gt-MAX_DEPTH}
