@@ -189,7 +189,9 @@ fails_shown depths arcs n a row g low short fails =
     let (u, at', m) = short k.walk (end_of a v) k.short k.leads in
     let less : AddsLess u (after k.walk i) = record { keep = m.keep; size = m.size; add = elim m.least [ inl p ↦ omega (arith, p) | inr p ↦ omega (arith, p.0) ] } in
     let next = AddsLess-step y.action u (after v i) (AddsLess-trans u (after k.walk i) (after v i) less k.gives) in
-    let none : (step y.action (after v i)).add ≡ 0 = ap (λ t. t.add) (sym (after-append v (y ∷ []) i)) ∙ ap (λ t. (after t i).add) (sym e) ∙ z in
+    let last : (step y.action (after v i)).add ≡ (after (v ++ (y ∷ [])) i).add = ap (λ t. t.add) (sym (after-append v (y ∷ []) i)) in
+    let all : (after (v ++ (y ∷ [])) i).add ≡ (after (x ∷ w) i).add = ap (λ t. (after t i).add) (sym e) in
+    let none : (step y.action (after v i)).add ≡ 0 = last ∙ (all ∙ z) in
     (y, (after k.walk i).keep, u, end.0, end.2, ap (λ b. row b (after k.walk i).keep) end.1 ∙ at', omega (arith, next.add, none))
 
 pub shown_fails : (depths : List ℕ) (arcs : List Arc) (a : ℕ) (row : Row) → DepthsAgree depths arcs → HasWalks depths arcs a row → ShowsFail arcs a row → Fails depths arcs a

@@ -1,5 +1,5 @@
 -- From the rows to an accepted graph with its table, and from one table to an equal one.
-use Rattle.std.proofs.Common.{◌≡◌, inl, inr, ℕ, ◌+◌, ◌*◌, ◌<◌, ◌≤◌, Option, Some, List, length, get_or, sym, ◌∙◌, ap, subst, arith}
+use Rattle.std.proofs.Common.{◌≡◌, ℕ, ◌+◌, ◌*◌, ◌≤◌, Option, List, length, sym, ◌∙◌, ap, subst, arith}
 use Rattle.std.specs.Prelude.{All, Vec}
 use Rattle.nd_time.specs.Limits.{max_depth, max_locations}
 use Rattle.nd_graph.specs.declared.graph.Arc.{Arc}
@@ -7,9 +7,9 @@ use Rattle.nd_graph.specs.Graph.{Dataflow, arcs, depths}
 use Rattle.nd_paths.specs.declared.accept.PathFault.{PathFault}
 use Rattle.nd_paths.specs.declared.accept.PathFault.TheVariants.{LoopNotStrict, Memory}
 use Rattle.nd_paths.specs.declared.summary.Summary.{Summary}
-use Rattle.nd_paths.specs.Order.{FailsAt, IsAccepted}
+use Rattle.nd_paths.specs.Order.{IsAccepted}
 use Rattle.nd_paths.specs.Fault.{IsFault, IsFaultInside}
-use Rattle.nd_paths.specs.Inside.{keeps, DepthsAgree, Accepted}
+use Rattle.nd_paths.specs.Inside.{DepthsAgree, Accepted}
 use Rattle.nd_paths.specs.Table.{entry, IsLeast, AreLeast, AreCopies, IsTable}
 use Rattle.nd_paths.proofs.Graphs.{fails_at, fails_from, is_accepted, length-arcs_from}
 

@@ -22,9 +22,6 @@ pub record Made {Z : Type 0} (depths : List ℕ) (arcs : List Arc) (rows : List 
   pub short : (a : ℕ) (d : Vec (Option Summary) Z) → a < n → IsShort depths arcs a (get_or rows a d).items
   pub none : (a : ℕ) → a < n → Fails depths arcs a → ⊥
 
-pub made_none : {Z : Type 0} (depths : List ℕ) (arcs : List Arc) (rows : List (Vec (Option Summary) Z)) → rows ≡ [] → Made depths arcs rows 0
-made_none depths arcs rows e = record { count = ap length e; short = λ a d h. absurd (omega arith); none = λ a h. absurd (omega arith) }
-
 one_more : {X : Type 0} (P : ℕ → X → Type 0) (xs : List X) (y : X) (n : ℕ) → length xs ≡ n → ((a : ℕ) (d : X) → a < n → P a (get_or xs a d)) → P n y → (a : ℕ) (d : X) → a < n + 1 → P a (get_or (xs ++ (y ∷ [])) a d)
 one_more P xs y n e h k a d l =
     elim (cases_lt a n) [

@@ -1,5 +1,5 @@
 -- What the table says is the order by walks.
-use Rattle.std.proofs.Common.{◌≡◌, Bool, IsTrue, ◌↔◌, ℕ, ◌+◌, ◌*◌, ◌<◌, ◌≤◌, Option, Some, List, length, reverse, get_or, sym, ◌∙◌, ap, subst, arith}
+use Rattle.std.proofs.Common.{◌≡◌, ℕ, ◌*◌, ◌<◌, ◌≤◌, Option, List, length, reverse, get_or, sym, ◌∙◌, ap, subst, arith}
 use Rattle.std.specs.Prelude.{slice_index, Vec}
 use Rattle.std.specs.Option.{option_map}
 use Rattle.std.proofs.lemmas.List.{length-reverse}
@@ -9,7 +9,7 @@ use Rattle.nd_paths.specs.declared.summary.Summary.{Summary}
 use Rattle.nd_paths.specs.Order.{Fits, CouldResultIn}
 use Rattle.nd_paths.specs.Summary.{applied}
 use Rattle.nd_paths.specs.Inside.{keeps, AtOrBefore, inner, apply}
-use Rattle.nd_paths.specs.Table.{held, entry, IsLeast, SaysReaches, SomeLeads, HeldFit, IsTable}
+use Rattle.nd_paths.specs.Table.{entry, IsLeast, SaysReaches, SomeLeads, HeldFit, IsTable}
 use Rattle.nd_paths.proofs.Summaries.{IsFor}
 use Rattle.nd_paths.proofs.Walks.{IsFor-walk}
 use Rattle.nd_paths.proofs.Tables.{says_sound, says_complete}

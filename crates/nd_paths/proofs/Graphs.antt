@@ -1,17 +1,15 @@
 -- Accepted graphs and the order of points outermost first are those innermost first.
-use Rattle.std.proofs.Common.{◌≡◌, ◌⊎◌, inl, inr, ◌↔◌, ℕ, ◌+◌, ◌*◌, ◌<◌, ◌≤◌, Option, Some, List, [], ◌∷◌, length, reverse, refl, sym, ◌∙◌, ap, subst, arith}
-use Rattle.std.specs.Prelude.{Contains, slice_index, slice_get}
+use Rattle.std.proofs.Common.{◌≡◌, ℕ, ◌+◌, ◌*◌, ◌<◌, ◌≤◌, Some, List, [], ◌∷◌, length, reverse, refl, sym, ◌∙◌, ap, subst, arith}
+use Rattle.std.specs.Prelude.{slice_index}
 use Rattle.std.proofs.lemmas.List.{length-reverse, reverse-reverse}
-use Rattle.std.proofs.lemmas.List.Elements.{All-contains}
 use Rattle.std.proofs.lemmas.Option.{slice_get_within, slice_get-get_or, get_or_from_slice_get}
-use Rattle.nd_time.specs.Time.{Time, IsAtOrBefore, IsSmallerAtFirstDifference}
 use Rattle.nd_graph.specs.declared.graph.Arc.{Arc}
 use Rattle.nd_graph.specs.declared.graph.Vertex.{Vertex}
 use Rattle.nd_graph.specs.declared.graph.Edge.{Edge}
-use Rattle.nd_graph.specs.Graph.{Dataflow, arcs, arcs_from, depths, ArcAgrees}
+use Rattle.nd_graph.specs.Graph.{Dataflow, arcs, arcs_from, depths}
 use Rattle.nd_paths.specs.declared.point.Pointstamp.{Pointstamp}
 use Rattle.nd_paths.specs.Order.{HasDepth, Fits, CouldResultIn, FailsAt, IsAccepted, effect}
-use Rattle.nd_paths.specs.Inside.{Earlier, AtOrBefore, DepthsAgree, Accepted, Fails, IsWalkAlong, Reaches, effect_of, apply, summary_of}
+use Rattle.nd_paths.specs.Inside.{Earlier, AtOrBefore, DepthsAgree, Accepted, Fails, IsWalkAlong, Reaches, effect_of, summary_of}
 use Rattle.nd_paths.proofs.Walks.{IsFor-walk, apply-walk}
 use Rattle.nd_paths.proofs.Acceptance.{length-apply}
 use Rattle.nd_paths.proofs.Reversed.{smaller_from_earlier, earlier_from_smaller, lexical_from_before, before_from_lexical, reverse-effect, walk_along, along_walk}

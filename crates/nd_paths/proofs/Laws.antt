@@ -1,11 +1,9 @@
 -- On an accepted graph the order of points is a partial order, and of finitely many points one is minimal.
-use Rattle.std.proofs.Common.{◌≡◌, ◌⊎◌, inl, inr, ℕ, List, [], ◌∷◌, ◌++◌, length, refl, sym, subst, arith}
-use Rattle.std.specs.Prelude.{slice_index}
+use Rattle.std.proofs.Common.{◌≡◌, ◌⊎◌, inl, inr, ℕ, List, [], ◌∷◌, ◌++◌, refl, sym, subst}
 use Rattle.nd_graph.specs.declared.graph.Arc.{Arc}
 use Rattle.nd_paths.specs.Inside.{AtOrBefore}
-use Rattle.nd_paths.specs.Inside.{IsWalkAlong, effect_of, Accepted, Reaches}
-use Rattle.nd_paths.proofs.Orders.{Earlier-irrefl, then_at, AtOrBefore-trans, AtOrBefore-antisym, effect_mono, effect-append}
-use Rattle.nd_paths.proofs.Walks.{walks_joined}
+use Rattle.nd_paths.specs.Inside.{IsWalkAlong, effect_of}
+use Rattle.nd_paths.proofs.Orders.{AtOrBefore-trans, effect_mono, effect-append}
 
 -- two walks, one after the other
 pub joined : (w v : List Arc) (a b c : List ℕ) → AtOrBefore (effect_of w a) b → AtOrBefore (effect_of v b) c → AtOrBefore (effect_of (w ++ v) a) c

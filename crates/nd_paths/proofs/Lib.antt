@@ -16,3 +16,5 @@ pub mod Decisions
 pub mod Accepting
 pub mod PointOrder
 pub mod Minimal
+pub mod Algebra
+pub mod Unique

@@ -1,23 +1,23 @@
 -- The order by walks can be decided, so of finitely many points one is minimal.
-use Rattle.std.proofs.Common.{◌≡◌, ◌≢◌, ◌⊎◌, inl, inr, ℕ, zero, suc, ◌+◌, ◌*◌, ◌<◌, ◌≤◌, Option, Some, None, List, [], ◌∷◌, length, reverse, get_or, refl, sym, ◌∙◌, subst, arith}
+use Rattle.std.proofs.Common.{◌≡◌, ◌⊎◌, inl, inr, ℕ, zero, suc, ◌+◌, ◌*◌, ◌<◌, ◌≤◌, Option, Some, None, List, [], ◌∷◌, length, reverse, get_or, refl, sym, ◌∙◌, subst, arith}
 use Rattle.std.specs.Prelude.{Contains, slice_index, slice_index_or, Vec}
 use Rattle.std.proofs.lemmas.Bool.{cases_lt, cases_eq, cond_above}
 use Rattle.std.proofs.lemmas.List.{length-reverse}
 use Rattle.nd_time.specs.Time.{IsLexicallyAtMost}
-use Rattle.nd_graph.specs.Graph.{Dataflow, arcs, depths}
+use Rattle.nd_graph.specs.Graph.{Dataflow, depths}
 use Rattle.nd_paths.specs.declared.point.Pointstamp.{Pointstamp}
 use Rattle.nd_paths.specs.declared.summary.Summary.{Summary}
-use Rattle.nd_paths.specs.Order.{Fits, CouldResultIn, IsStrictlyBefore, IsAccepted}
+use Rattle.nd_paths.specs.Order.{Fits, CouldResultIn, IsStrictlyBefore}
 use Rattle.nd_paths.specs.Laws.{IsMinimalAmong}
 use Rattle.nd_paths.specs.Summary.{applied}
 use Rattle.nd_paths.specs.Inside.{keeps}
-use Rattle.nd_paths.specs.Table.{held, entry, SomeLeads, HeldFit, IsTable}
+use Rattle.nd_paths.specs.Table.{held, SomeLeads, HeldFit, IsTable}
 use Rattle.nd_paths.proofs.Orders.{Earlier-irrefl, then_at, compared}
 use Rattle.nd_paths.proofs.Laws.{In, minimal}
 use Rattle.nd_paths.proofs.Reversed.{lexical_from_before, before_from_lexical}
 use Rattle.nd_paths.proofs.Stored.{length-applied}
 use Rattle.nd_paths.proofs.Graphs.{fits_size, has_depth}
-use Rattle.nd_paths.proofs.Decisions.{row_least, held_fit_points, could_from_leads, leads_from_could}
+use Rattle.nd_paths.proofs.Decisions.{held_fit_points, could_from_leads, leads_from_could}
 use Rattle.nd_paths.proofs.Accepting.{accepted_inside}
 use Rattle.nd_paths.proofs.PointOrder.{could_refl, could_antisym, strictly_trans}
 

@@ -25,9 +25,6 @@ Earlier-irrefl (x ∷ a) h = elim h [ inl p ↦ Earlier-irrefl a p | inr p ↦ o
 pub then_at : (a b c : List ℕ) → Earlier a b → AtOrBefore b c → Earlier a c
 then_at a b c h k = elim k [ inl q ↦ Earlier-trans a b c h q | inr q ↦ subst (λ d. Earlier a d) q h ]
 
-pub at_then : (a b c : List ℕ) → AtOrBefore a b → Earlier b c → Earlier a c
-at_then a b c h k = elim h [ inl p ↦ Earlier-trans a b c p k | inr p ↦ subst (λ d. Earlier d c) (sym p) k ]
-
 pub AtOrBefore-trans : (a b c : List ℕ) → AtOrBefore a b → AtOrBefore b c → AtOrBefore a c
 AtOrBefore-trans a b c h k = elim h [ inl p ↦ inl (then_at a b c p k) | inr p ↦ subst (λ d. AtOrBefore d c) (sym p) k ]
 

@@ -16,11 +16,6 @@ next_keep row x r s n h e q =
     let k = (h.room s (sym e)).0 in
     omega (arith, step-keep x.action s.keep s.add s.constants, ap (λ m. m.keep) q, k, h.within)
 
-pub alike_keep : (row : List (Option Summary)) (x : Arc) (r : ℕ) (s n t : Summary) → CanRelax row x r → Some s ≡ entry row x.from r → n ≡ step x.action s → Some t ≡ entry row x.to n.keep → n.keep ≡ t.keep
-alike_keep row x r s n t h e q f =
-    let k = h.alike s t (sym e) (ap (λ m. entry row x.to m.keep) (sym q) ∙ sym f) in
-    ap (λ m. m.keep) q ∙ sym k.0
-
 -- the place of a location and a keep
 pub held_within : (row : List (Option Summary)) (b r : ℕ) → r < keeps → held row b r ≡ get_or row (b * keeps + r) None
 held_within row b r h = sym (cond_below r keeps (get_or row (b * keeps + r) None) None h)

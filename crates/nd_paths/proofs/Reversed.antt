@@ -1,5 +1,5 @@
 -- Counters, walks and summaries outermost first are those of the reversed lists innermost first.
-use Rattle.std.proofs.Common.{◌≡◌, ◌⊎◌, inl, inr, ℕ, ◌+◌, ◌-◌, ◌<◌, ◌≤◌, List, [], ◌∷◌, ◌++◌, length, take, drop, reverse, refl, sym, ◌∙◌, ap, subst, arith, length-append, length-drop, length-take}
+use Rattle.std.proofs.Common.{◌≡◌, ◌⊎◌, inl, inr, ℕ, ◌-◌, ◌<◌, List, [], ◌∷◌, ◌++◌, length, take, drop, reverse, refl, sym, ◌∙◌, ap, subst, arith, length-append, length-drop}
 use Rattle.std.proofs.lemmas.List.{reverse-append, reverse-reverse, length-reverse, same_from_push, take-append-drop, drop_at}
 use Rattle.nd_time.specs.Time.{IsSmallerAtFirstDifference, IsLexicallyAtMost, egress_of, feedback_of}
 use Rattle.nd_graph.specs.declared.op.Action.{Action}

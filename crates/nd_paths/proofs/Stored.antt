@@ -1,15 +1,15 @@
 -- Summaries as they are stored, outermost first: one action more, and comparing.
-use Rattle.std.proofs.Common.{◌≡◌, ◌⊎◌, inl, inr, ◌↔◌, ℕ, ◌+◌, ◌-◌, ◌<◌, ◌≤◌, Bool, true, false, IsTrue, IsSome, MatchBool, Option, Some, None, List, [], ◌∷◌, ◌++◌, length, take, reverse, refl, sym, ◌∙◌, ap, subst, arith, length-append, length-take}
+use Rattle.std.proofs.Common.{◌≡◌, inl, inr, ◌↔◌, ℕ, ◌+◌, ◌-◌, ◌<◌, ◌≤◌, Bool, true, false, IsTrue, IsSome, MatchBool, Option, Some, None, List, [], ◌∷◌, ◌++◌, length, take, reverse, refl, sym, ◌∙◌, ap, arith, length-append, length-take}
 use Rattle.std.specs.Option.{is_some, option_to_list}
 use Rattle.std.specs.Ordering.{nat_cmp, is_le}
 use Rattle.std.specs.Cmp.Lexicographic.{slice_cmp}
 use Rattle.std.proofs.lemmas.List.{length-reverse}
 use Rattle.nd_time.specs.Time.{IsLexicallyAtMost}
 use Rattle.nd_time.proofs.Lexical.{at_most, compares}
-use Rattle.nd_graph.specs.declared.op.Action.TheVariants.{Identity, Ingress, Egress, Feedback}
+use Rattle.nd_graph.specs.declared.op.Action.TheVariants.{Egress, Feedback}
 use Rattle.nd_paths.specs.declared.summary.Summary.{Summary}
 use Rattle.nd_paths.specs.Summary.{raised, applied}
-use Rattle.nd_paths.specs.Inside.{inner, step, then_act, AtMost, Earlier}
+use Rattle.nd_paths.specs.Inside.{inner, step, then_act, AtMost}
 use Rattle.nd_paths.proofs.Orders.{compared}
 use Rattle.nd_paths.proofs.Reversed.{before_from_lexical, lexical_from_before}
 

@@ -1,7 +1,7 @@
 -- What a summary does is what the walk does, and the order of summaries is the order of what they do.
-use Rattle.std.proofs.Common.{◌≡◌, ◌⊎◌, inl, inr, Bool, true, false, MatchBool, ℕ, zero, suc, ◌+◌, ◌-◌, ◌<◌, ◌≤◌, List, [], ◌∷◌, ◌++◌, length, take, drop, get_or, refl, sym, ◌∙◌, ap, subst, arith, length-drop, length-take}
+use Rattle.std.proofs.Common.{◌≡◌, ◌⊎◌, inl, inr, ℕ, zero, suc, ◌+◌, ◌-◌, ◌<◌, ◌≤◌, List, [], ◌∷◌, ◌++◌, length, drop, refl, sym, ◌∙◌, ap, subst, arith, length-drop}
 use Rattle.std.proofs.lemmas.Bool.{cases_lt, cases_eq}
-use Rattle.std.proofs.lemmas.List.{drop-drop, drop_all, drop_more, take-append-drop}
+use Rattle.std.proofs.lemmas.List.{drop-drop, drop_all}
 use Rattle.nd_graph.specs.declared.op.Action.{Action}
 use Rattle.nd_graph.specs.declared.op.Action.TheVariants.{Identity, Ingress, Egress, Feedback}
 use Rattle.nd_graph.specs.declared.graph.Arc.{Arc}
@@ -100,22 +100,6 @@ Earlier-back [] (y ∷ l) a b e h = absurd (omega arith)
 Earlier-back (x ∷ k) [] a b e h = absurd (omega arith)
 Earlier-back (x ∷ k) (y ∷ l) a b e h = inl (Earlier-back k l a b (omega arith) h)
 
--- the outermost counters at which two lists differ decide
-pub Earlier-at : (a b : List ℕ) (i : ℕ) → length a ≡ length b → i < length a → get_or a i 0 < get_or b i 0 → drop (i + 1) a ≡ drop (i + 1) b → Earlier a b
-Earlier-at a b i e h k q =
-    let size : length (take i a) ≡ length (take i b) = omega (arith, length-take i a, length-take i b) in
-    let l : drop i a ≡ get_or a i 0 ∷ drop (i + 1) a = drop_more a i 0 h in
-    let r : drop i b ≡ get_or b i 0 ∷ drop (i + 1) b = drop_more b i 0 (omega arith) in
-    let P : List ℕ → List ℕ → Type 0 = λ u v. Earlier (take i a ++ u) (take i b ++ v) in
-    let here : P (get_or a i 0 ∷ drop (i + 1) a) (get_or b i 0 ∷ drop (i + 1) b) = Earlier-back (take i a) (take i b) (get_or a i 0 ∷ drop (i + 1) a) (get_or b i 0 ∷ drop (i + 1) b) size (inr (q, k)) in
-    let whole : P (drop i a) (drop i b) = rw (l, r) here in
-    rw (take-append-drop, take-append-drop) at whole
-
-pub Earlier-last : (a b : List ℕ) (i : ℕ) → length a ≡ length b → 0 < i → i ≤ length a → get_or a (i - 1) 0 < get_or b (i - 1) 0 → drop i a ≡ drop i b → Earlier a b
-Earlier-last a b i e h k l q =
-    let n : i - 1 + 1 ≡ i = omega arith in
-    Earlier-at a b (i - 1) e (omega arith) l (rw n q)
-
 plus-Earlier : (a b : ℕ) (l : List ℕ) → 0 < length l → a < b → Earlier (plus a l) (plus b l)
 plus-Earlier a b [] h k = absurd (omega arith)
 plus-Earlier a b (x ∷ l) h k = inr (refl, omega arith)
@@ -201,7 +185,3 @@ AtMost-step x s t h =
 pub AtMost-after : (w : List Arc) (s t : Summary) → AtMost s t → AtMost (after w s) (after w t)
 AtMost-after [] s t h = h
 AtMost-after (x ∷ w) s t h = AtMost-after w (step x.action s) (step x.action t) (AtMost-step x.action s t h)
-
-pub less_from_earlier : (b : Bool) (s t : Summary) (k l : List ℕ) → s.keep ≡ t.keep → length s.constants ≡ length t.constants → s.add ≡ t.add → k ≡ s.constants → l ≡ t.constants → MatchBool b (Earlier k l) (AtOrBefore l k) → MatchBool b (Below s t) (AtMost t s)
-less_from_earlier true s t k l h n e p q m = record { keep = h; size = n; least = inr (e, subst (λ v. Earlier s.constants v) q (subst (λ v. Earlier v l) p m)) }
-less_from_earlier false s t k l h n e p q m = record { keep = sym h; size = sym n; least = inr (sym e, subst (λ v. AtOrBefore t.constants v) p (subst (λ v. AtOrBefore v k) q m)) }

@@ -1,5 +1,5 @@
 -- A table that has the identity, whose entries are summaries of walks, and that is closed under each arc, decides the order.
-use Rattle.std.proofs.Common.{◌≡◌, ℕ, List, [], ◌∷◌, length, Option, Some, None, sym, ◌∙◌, ap, subst}
+use Rattle.std.proofs.Common.{◌≡◌, ℕ, List, [], ◌∷◌, length, Option, Some, sym, ◌∙◌, ap, subst}
 use Rattle.std.specs.Prelude.{Contains, slice_index}
 use Rattle.nd_graph.specs.declared.graph.Arc.{Arc}
 use Rattle.nd_paths.specs.Inside.{AtOrBefore}

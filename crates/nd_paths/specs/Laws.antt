@@ -1,8 +1,8 @@
 -- The laws of the order of pointstamps.
-use Rattle.std.specs.Prelude.{◌≡◌, List, ◌∷◌, Contains}
+use Rattle.std.specs.Prelude.{List, Contains}
 use Rattle.nd_graph.specs.Graph.{Dataflow}
 use Rattle.nd_paths.specs.declared.point.Pointstamp.{Pointstamp}
-use Rattle.nd_paths.specs.Order.{Fits, CouldResultIn, IsStrictlyBefore}
+use Rattle.nd_paths.specs.Order.{IsStrictlyBefore}
 
 -- one of these pointstamps, strictly before which none of them stands
 pub record IsMinimalAmong (g : Dataflow) (points : List Pointstamp) (m : Pointstamp) : Type 0 where

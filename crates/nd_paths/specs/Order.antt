@@ -1,7 +1,7 @@
 -- Walks, accepted graphs, and the order of pointstamps.
 -- (Naiad, SOSP 2013, sections 2.1 and 2.3; acceptance and the order of counters are this project's own rule.)
 use Rattle.std.specs.Prelude.{◌≡◌, ◌≢◌, ℕ, List, [], ◌∷◌, length, Some, Contains, slice_get}
-use Rattle.nd_time.specs.Time.{Time, IsAtOrBefore, IsSmallerAtFirstDifference}
+use Rattle.nd_time.specs.Time.{IsAtOrBefore, IsSmallerAtFirstDifference}
 use Rattle.nd_graph.specs.declared.graph.Arc.{Arc}
 use Rattle.nd_graph.specs.Graph.{Dataflow, arcs, acted, depths}
 use Rattle.nd_paths.specs.declared.point.Pointstamp.{Pointstamp}

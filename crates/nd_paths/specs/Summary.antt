@@ -1,6 +1,11 @@
 -- Path summaries: what walks do to loop counters, in one step (this project's own rule).
-use Rattle.std.specs.Prelude.{ℕ, ◌+◌, List, [], ◌∷◌, ◌++◌, take}
+use Rattle.std.specs.Prelude.{◌≡◌, ◌⊎◌, ℕ, ◌+◌, ◌-◌, ◌<◌, ◌≤◌, All, Contains, List, [], ◌∷◌, ◌++◌, length, take, cond, nat_lt, nat_eq, slice_index_or}
+use Rattle.nd_time.specs.Limits.{max_depth, max_counter}
+use Rattle.nd_time.specs.Time.{IsLexicallyAtMost}
+use Rattle.nd_graph.specs.declared.graph.Arc.{Arc}
+use Rattle.nd_graph.specs.Graph.{Dataflow}
 use Rattle.nd_paths.specs.declared.summary.Summary.{Summary}
+use Rattle.nd_paths.specs.Order.{IsWalk, effect, HasDepth}
 
 -- the last number plus a
 abbrev pub raised : ℕ → List ℕ → List ℕ
@@ -11,3 +16,45 @@ raised a (x ∷ y ∷ rest) = x ∷ raised a (y ∷ rest)
 -- what a summary makes of counters: it keeps the outer ones, adds to the last of those, and puts its constants after them
 abbrev pub applied : Summary → List ℕ → List ℕ
 applied s counters = raised s.add (take s.keep counters) ++ s.constants
+
+-- how many counters a summary leaves
+abbrev pub left_by : Summary → ℕ
+left_by s = s.keep + length s.constants
+
+-- one summary, and then another
+abbrev pub composed : Summary → Summary → Summary
+composed s t =
+    cond (nat_lt s.keep t.keep)
+    (record { keep = s.keep; add = s.add; constants = applied (record { keep = t.keep - s.keep; add = t.add; constants = t.constants }) s.constants })
+    (record { keep = t.keep; add = cond (nat_eq s.keep t.keep) (s.add + t.add) t.add; constants = t.constants })
+
+-- no number is past that of a counter, and no more counters are left than may be
+pub record IsInLimits (s : Summary) : Type 0 where
+  pub add : s.add ≤ max_counter
+  pub constants : All (λ x. x ≤ max_counter) s.constants
+  pub depth : left_by s ≤ max_depth
+
+-- s is the summary of a walk: it does to all counters of the first location's depth what the walk does
+pub record IsSummaryOf (g : Dataflow) (from : ℕ) (walk : List Arc) (s : Summary) : Type 0 where
+  pub depth : ℕ
+  pub has_depth : HasDepth g from depth
+  pub kept : s.keep ≤ depth
+  pub top : s.keep ≡ 0 → s.add ≡ 0
+  pub does : (counters : List ℕ) → length counters ≡ depth → applied s counters ≡ effect walk counters
+
+-- at most, of summaries with the same keep: by what they add, then by the constants
+abbrev pub IsAtMost : Summary → Summary → Type 0
+IsAtMost s t = (s.add < t.add) ⊎ ((s.add ≡ t.add) × IsLexicallyAtMost s.constants t.constants)
+
+-- s is the least summary of the walks that keep as many counters
+pub record IsLeastSummary (g : Dataflow) (from to : ℕ) (s : Summary) : Type 0 where
+  pub walk : List Arc
+  pub leads : IsWalk g from walk to
+  pub summary : IsSummaryOf g from walk s
+  pub least : (w : List Arc) (t : Summary) → IsWalk g from w to → IsSummaryOf g from w t → s.keep ≡ t.keep → IsAtMost s t
+
+-- the list has one least summary for each keep that some walk has, greatest keep first
+pub record AreLeastSummaries (g : Dataflow) (from to : ℕ) (list : List Summary) : Type 0 where
+  pub each : All (IsLeastSummary g from to) list
+  pub all : (w : List Arc) → IsWalk g from w to → (t : Summary) × IsSummaryOf g from w t × ((s : Summary) × Contains list s × (s.keep ≡ t.keep))
+  pub falling : (i j : ℕ) (d : Summary) → i < j → j < length list → (slice_index_or list j d).keep < (slice_index_or list i d).keep

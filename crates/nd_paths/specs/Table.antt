@@ -94,3 +94,14 @@ pub record IsTable {A : Type 0} (g : Dataflow) (rows : List (Vec (Option Summary
 -- rows that hold the same
 abbrev pub AreCopies : {A : Type 0} → List (Vec (Option Summary) A) → List (Vec (Option Summary) A) → Type 0
 AreCopies {A} rows copies = (length copies ≡ length rows) × ((a : ℕ) (d : Vec (Option Summary) A) → a < length rows → (slice_index_or copies a d).items ≡ (slice_index_or rows a d).items)
+
+-- each thing held at b stands at the place of its keep
+abbrev pub KeepsPlaces : List (Option Summary) → ℕ → Type 0
+KeepsPlaces row b = (r : ℕ) (s : Summary) → held row b r ≡ Some s → s.keep ≡ r
+
+-- the list has all that is held at b for the keeps from low on, greatest keep first
+pub record IsListed (row : List (Option Summary)) (b low : ℕ) (list : List Summary) : Type 0 where
+  pub short : length list + low ≤ keeps
+  pub each : All (λ s. (low ≤ s.keep) × (held row b s.keep ≡ Some s)) list
+  pub all : (r : ℕ) (s : Summary) → low ≤ r → held row b r ≡ Some s → Contains list s
+  pub falling : (i j : ℕ) (d : Summary) → i < j → j < length list → (slice_index_or list j d).keep < (slice_index_or list i d).keep

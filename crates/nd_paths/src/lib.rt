@@ -2,6 +2,7 @@
 #![tactic(auto)]
 
 mod accept;
+mod compose;
 mod paths;
 mod point;
 mod summary;
@@ -11,3 +12,4 @@ pub use accept::PathFault;
 pub use paths::Paths;
 pub use point::Pointstamp;
 pub use summary::{Constants, Summary};
+pub use table::KEEPS;

@@ -1,14 +1,17 @@
 //! The order of pointstamps.
-ghost use Rattle.std.specs.Prelude.{◌≡◌, ◌↔◌, IsTrue, IfOk, IfErr, List, ◌∷◌};
+ghost use Rattle.std.specs.Prelude.{◌≡◌, ◌<◌, ◌↔◌, IsTrue, IfOk, IfErr, List, ◌∷◌};
 ghost use Rattle.nd_paths.specs.declared.point.Pointstamp.{Pointstamp};
 ghost use Rattle.nd_paths.specs.Order.{CouldResultIn, Fits, IsAccepted, IsStrictlyBefore};
 ghost use Rattle.nd_paths.specs.Laws.{IsMinimalAmong};
+ghost use Rattle.nd_graph.specs.Graph.{location_count};
+ghost use Rattle.nd_paths.specs.Summary.{AreLeastSummaries};
 ghost use Rattle.nd_paths.specs.Fault.{IsFault};
 ghost use Rattle.nd_paths.specs.Table.{IsTable};
 
 use crate::accept::{PathFault, rows_of};
-use crate::table::{copied_rows, leads_among};
+use crate::table::{KEEPS, copied_rows, leads_among, listed};
 use crate::{Pointstamp, Summary};
+use arrayvec::ArrayVec;
 use nd_graph::Graph;
 use std::alloc::{AllocError, Allocator, Global};
 use std::marker::Model;
@@ -78,6 +81,16 @@ impl<A: Allocator> Paths<A> {
         ensures { IsTrue result ↔ IsStrictlyBefore self.now s.now t.now }
     {
         s != t && self.before(s, t)
+    }
+
+    /// The least summaries of the walks between two locations, one for each number of counters that some walk keeps,
+    /// the greatest first.
+    pub fn summaries(&self, from: usize, to: usize) -> ArrayVec<Summary, KEEPS>
+        requires from { from < location_count self.now }
+        requires to { to < location_count self.now }
+        ensures { AreLeastSummaries self.now from to result.items }
+    {
+        listed(&self.rows[from], to)
     }
 
     /// The order is a partial order, and of finitely many pointstamps one has no other before it.

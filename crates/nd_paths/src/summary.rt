@@ -1,5 +1,5 @@
 //! Path summaries.
-ghost use Rattle.std.specs.Prelude.{◌≡◌, ◌+◌, ◌-◌, ◌<◌, ◌≤◌, ◌↔◌, [], ◌∷◌, ◌++◌, length, IsTrue, IsSome, MatchBool};
+ghost use Rattle.std.specs.Prelude.{◌≡◌, ◌+◌, ◌-◌, ◌<◌, ◌≤◌, ◌↔◌, [], ◌∷◌, ◌++◌, length, All, IfSome, IsTrue, IsSome, MatchBool};
 ghost use Rattle.std.specs.Option.{option_to_list};
 ghost use Rattle.nd_time.specs.Limits.{max_depth, max_counter};
 ghost use Rattle.nd_time.specs.Time.{IsLexicallyAtMost};
@@ -10,7 +10,7 @@ use nd_time::MAX_DEPTH;
 use std::marker::Model;
 
 /// The constants of a summary, at most `MAX_DEPTH`, outermost first.
-#[derive(Debug, PartialEq, Eq, PartialOrd, Ord, Drop)]
+#[derive(Debug, Default, PartialEq, Eq, PartialOrd, Ord, Drop)]
 pub struct Constants {
     numbers: ArrayVec<u32, MAX_DEPTH>,
 }
@@ -26,12 +26,28 @@ impl Model for Constants {
 }
 
 impl Constants {
-    fn new() -> Constants
-        ensures { result ≡ [] }
+    /// The constants that are these numbers, or `None` for more than `MAX_DEPTH`.
+    pub fn new(numbers: &[u32]) -> Option<Constants>
+        ensures fits { IsSome result ↔ (length numbers.now ≤ max_depth) }
+        ensures value { IfSome result (λ c. c ≡ numbers.now) }
     {
-        Constants {
-            numbers: ArrayVec::new(),
+        match ArrayVec::try_from(numbers) {
+            Ok(numbers) => Some(Constants { numbers }),
+            Err(_) => None,
         }
+    }
+
+    // The same numbers, or `None` where one is past `u32::MAX`.
+    pub(crate) fn narrowed(wide: &[u64]) -> Option<Constants>
+        requires { length wide.now ≤ max_depth }
+        ensures some { IsSome result ↔ All (λ x. x ≤ max_counter) wide.now }
+        ensures value { IfSome result (λ c. c ≡ wide.now) }
+    {
+        let mut numbers = ArrayVec::new();
+        for number in wide {
+            numbers.push(u32::try_from(*number).ok()?);
+        }
+        Some(Constants { numbers })
     }
 
     /// The numbers, outermost first.
@@ -42,14 +58,24 @@ impl Constants {
         self.numbers.as_slice()
     }
 
-    /// An equal list.
-    pub fn copy(&self) -> Constants
-        ensures { result ≡ self.now }
+    // The list of these numbers.
+    fn listed(numbers: &[u32]) -> Constants
+        requires { length numbers.now ≤ max_depth }
+        ensures value { result ≡ numbers.now }
+        ensures small { All (λ x. x ≤ max_counter) numbers.now }
     {
-        match ArrayVec::try_from(self.as_slice()) {
+        match ArrayVec::try_from(numbers) {
             Ok(numbers) => Constants { numbers },
             Err(_) => unreachable!(),
         }
+    }
+
+    /// An equal list.
+    pub fn copy(&self) -> Constants
+        ensures value { result ≡ self.now }
+        ensures small { All (λ x. x ≤ max_counter) self.now }
+    {
+        Constants::listed(self.as_slice())
     }
 
     // One more, innermost.
@@ -72,7 +98,7 @@ impl Constants {
 /// What a walk does to the loop counters of a time.
 ///
 /// It keeps the outer `keep` counters, adds `add` to the last of those, and puts the constants after them.
-#[derive(Debug, PartialEq, Eq, Drop)]
+#[derive(Debug, Default, PartialEq, Eq, Drop)]
 pub struct Summary {
     pub keep: usize,
     pub add: u32,
@@ -90,7 +116,7 @@ impl Summary {
         Summary {
             keep: depth,
             add: 0,
-            constants: Constants::new(),
+            constants: Constants::default(),
         }
     }
 
@@ -157,7 +183,7 @@ impl Summary {
     }
 
     // What this makes of these counters, wide enough for every sum.
-    fn reached(&self, counters: &[u32]) -> ArrayVec<u64, MAX_DEPTH>
+    pub(crate) fn reached(&self, counters: &[u32]) -> ArrayVec<u64, MAX_DEPTH>
         requires keep { self.now.keep ≤ length counters.now }
         requires deep { self.now.keep + length self.now.constants ≤ max_depth }
         ensures { result.items ≡ applied self.now counters.now }

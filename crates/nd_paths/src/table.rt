@@ -4,9 +4,10 @@ ghost use Rattle.std.specs.Bool.{OnFalse};
 ghost use Rattle.std.specs.Option.{option_copied};
 ghost use Rattle.nd_time.specs.Limits.{max_depth, max_locations};
 ghost use Rattle.nd_paths.specs.Inside.{keeps, DepthsAgree, identity};
-ghost use Rattle.nd_paths.specs.Table.{held, entry, CanRelax, Relaxed, Quiet, HasWalks, CoversShort, ShowsFail, Closes, SomeLeads, HeldFit, AreCopies};
+ghost use Rattle.nd_paths.specs.Table.{held, entry, CanRelax, Relaxed, Quiet, HasWalks, CoversShort, ShowsFail, Closes, SomeLeads, HeldFit, AreCopies, KeepsPlaces, IsListed};
 
 use crate::Summary;
+use arrayvec::ArrayVec;
 use nd_graph::Arc;
 use nd_time::MAX_DEPTH;
 use std::alloc::{AllocError, Allocator};
@@ -154,6 +155,21 @@ pub fn leads_among(row: &[Option<Summary>], location: usize, from: &[u32], to: &
         }
     }
     false
+}
+
+/// What is held for a location, greatest keep first.
+pub fn listed(row: &[Option<Summary>], location: usize) -> ArrayVec<Summary, KEEPS>
+    requires long { location * keeps + keeps ≤ length row.now }
+    requires places { KeepsPlaces row.now location }
+    ensures { IsListed row.now location 0 result.items }
+{
+    let mut list = ArrayVec::new();
+    for keep in (0..KEEPS).rev() {
+        if let Some(summary) = look(row, location, keep) {
+            list.push(summary.copy());
+        }
+    }
+    list
 }
 
 // An equal row.

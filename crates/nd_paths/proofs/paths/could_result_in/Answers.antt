@@ -1,5 +1,5 @@
 use Rattle.std.proofs.Common.{IsTrue, ◌↔◌, ◌≤◌, refl, arith}
-use Rattle.nd_paths.specs.Order.{Fits, CouldResultIn}
+use Rattle.nd_paths.specs.Order.{Fits}
 use Rattle.nd_paths.specs.Table.{SomeLeads}
 use Rattle.nd_paths.proofs.Graphs.{fits_size}
 use Rattle.nd_paths.proofs.Decisions.{row_least, held_fit_points, could_from_leads, leads_from_could}

@@ -1,6 +1,4 @@
 use Rattle.std.proofs.Common.{sym}
-use Rattle.nd_paths.specs.Order.{IsAccepted}
-use Rattle.nd_paths.specs.Table.{IsTable}
 use Rattle.nd_paths.proofs.Accepting.{accepted_inside, table_as}
 use Rattle.nd_paths.proofs.PointOrder.{could_trans, could_antisym, strictly_trans}
 use Rattle.nd_paths.proofs.Minimal.{minimal_point}

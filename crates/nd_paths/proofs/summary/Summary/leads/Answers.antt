@@ -1,4 +1,4 @@
-use Rattle.std.proofs.Common.{rules, ◌≡◌, ap, ◌∙◌, sym}
+use Rattle.std.proofs.Common.{ap, ◌∙◌, sym}
 use Rattle.std.specs.Ordering.{is_le}
 use Rattle.nd_paths.specs.Summary.{applied}
 use Rattle.nd_paths.proofs.Stored.{lexical_decided, length-applied}
