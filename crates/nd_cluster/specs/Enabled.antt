@@ -77,8 +77,9 @@ TakeFails s p edge t value DeltaFull = HasLargeEntry (after_take s p edge t valu
 TakeFails s p edge t value Memory = ⊥
 
 -- the condition of a refusal holds
-unfoldable pub Fails : {A : Type 0} → ClusterState → Step A → Refusal → Type 0
-Fails s x r = ⊥
+abbrev pub Fails : {A : Type 0} → ClusterState → Step A → Refusal → Type 0
+Fails s (Feed p vertex values next) r = FeedFails s p vertex values next r
+Fails s (Take p edge t value) r = TakeFails s p edge t value r
 
 -- no condition holds
 pub record IsEnabled {A : Type 0} (s : ClusterState) (x : Step A) : Type 0 where
@@ -88,6 +89,10 @@ pub record IsEnabled {A : Type 0} (s : ClusterState) (x : Step A) : Type 0 where
 pub record IsRefused {A : Type 0} (s : ClusterState) (x : Step A) (r : Refusal) : Type 0 where
   pub fails : Fails s x r
   pub least : (other : Refusal) → number_of other < number_of r → Fails s x other → ⊥
+
+-- no condition holds, of these
+pub record IsFree (fails : Refusal → Type 0) : Type 0 where
+  pub free : (r : Refusal) → fails r → ⊥
 
 -- a refusal is the one of least number; only want of memory may come in place of one that is greater than 10
 pub record IsJustified (fails : Refusal → Type 0) (r : Refusal) : Type 0 where

@@ -4,7 +4,8 @@ pub mod Operators
 pub mod Steps
 pub mod Enabled
 pub mod Start
+pub mod Alone
+pub mod Held
 pub mod Codes
 pub mod Records
 pub mod StateText
-pub mod Faults

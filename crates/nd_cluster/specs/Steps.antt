@@ -99,8 +99,9 @@ unfoldable pub after_take : ClusterState → ℕ → ℕ → Time → ℤ → Cl
 after_take s p edge t value = record s { processors = settled s.processors p (taken s p edge t value) }
 
 -- the cluster after a step
-unfoldable pub stepped : {A : Type 0} → ClusterState → Step A → ClusterState
-stepped s x = s
+abbrev pub stepped : {A : Type 0} → ClusterState → Step A → ClusterState
+stepped s (Feed p vertex values next) = after_feed s p vertex values next
+stepped s (Take p edge t value) = after_take s p edge t value
 
 -- the cluster after a list of steps
 unfoldable pub after : {A : Type 0} → ClusterState → List (Step A) → ClusterState

@@ -1,36 +1,32 @@
 //! The state of a cluster, and its readers.
-ghost use Rattle.std.specs.Prelude.{◌≡◌, ◌≢◌, ◌↔◌, pos, IfOk, IfErr, OnOk, OnErr, false, true};
+ghost use Rattle.std.specs.Prelude.{◌≡◌, ◌<◌, ◌^◌, pos, IfOk, length};
+ghost use Rattle.std.specs.FinMap.{from_entries};
 ghost use Rattle.nd_delta.specs.Change.{at};
-ghost use Rattle.serde_json.specs.View.{view};
-ghost use Rattle.serde_json.specs.Written.{has_float};
-ghost use Rattle.nd_paths.specs.Order.{IsAccepted};
-ghost use Rattle.nd_cluster.specs.Start.{start as start_of, can_run as can_be_run};
-ghost use Rattle.nd_cluster.specs.Faults.{IsStartFault};
-ghost use Rattle.nd_cluster.specs.State.{ClusterState, truth};
-ghost use Rattle.nd_cluster.specs.StateText.{state_data};
+ghost use Rattle.nd_cluster.specs.State.{truth};
+ghost use Rattle.nd_cluster.specs.Held.{in_records, in_tokens};
 
-use crate::NoMemory;
+use crate::change::token_point;
+use crate::{SinkKey, ValueAt};
+use nd_delta::Delta;
 use nd_graph::Graph;
-use nd_paths::{PathFault, Paths, Pointstamp};
-use serde_json::Value;
+use nd_map::SortedMap;
+use nd_paths::{Paths, Pointstamp};
 use std::alloc::{AllocError, Allocator, Global};
 use std::marker::Model;
 
-#[derive(Clone, Copy, Debug, PartialEq, Eq, Drop)]
-pub enum StartFault {
-    BadCount,
-    LoopNotStrict { location: usize },
-    Memory,
-}
-
+/// A cluster of processors that run a dataflow graph (Naiad, SOSP 2013, section 3.3).
 #[derive(Drop)]
 pub struct Cluster<A: Allocator + Copy = Global> {
     pub(crate) alloc: A,
-    paths: Paths<A>,
+    pub(crate) paths: Paths<A>,
+    pub(crate) records: SortedMap<ValueAt, u64, A>,
+    pub(crate) tokens: SortedMap<usize, u32, A>,
+    pub(crate) sinks: SortedMap<SinkKey, u64, A>,
+    pub(crate) unsent: Delta<A>,
+    pub(crate) view: Delta<A>,
 }
 
 impl<A: Allocator + Copy> Model for Cluster<A> {
-    ghost use Rattle.std.specs.Prelude.{[]};
     ghost use Rattle.nd_cluster.specs.State.{ClusterState};
     ghost use Rattle.nd_cluster.specs.Codes.{cluster_code};
 
@@ -38,63 +34,83 @@ impl<A: Allocator + Copy> Model for Cluster<A> {
 
     ghost coded = { cluster_code };
 
-    ghost view = { λ a. record { graph = a.paths; processors = []; queues = [] } };
+    ghost use Rattle.nd_cluster.specs.Alone.{alone, processor_of, IsKept};
+
+    ghost view = { λ a. alone a.paths (processor_of a.records a.tokens a.sinks a.unsent a.view) };
+
+    ghost invariant = { λ a. IsKept (processor_of a.records a.tokens a.sinks a.unsent a.view) };
 }
 
-#[tactic(auto, unfolding(crate::specs::Start::can_run))]
-pub fn can_run<A: Allocator + Copy>(_graph: &Graph<A>) -> bool
-    ensures { result ≡ can_be_run _graph.now }
+// How many records there are at a pointstamp.
+fn count_records<A: Allocator>(records: &SortedMap<ValueAt, u64, A>, point: &Pointstamp) -> u64
+    requires { in_records (from_entries records.now) point.now < 2 ^ 63 }
+    ensures { result ≡ in_records (from_entries records.now) point.now }
 {
-    true
+    let mut total = 0;
+    for entry in records.entries() {
+        if point.cmp(&entry.0.point).is_eq() {
+            total += entry.1;
+        }
+    }
+    total
+}
+
+// How many tokens there are at a pointstamp.
+fn count_tokens<A: Allocator>(tokens: &SortedMap<usize, u32, A>, point: &Pointstamp) -> u64
+    requires { in_tokens (from_entries tokens.now) point.now < 2 ^ 63 }
+    ensures { result ≡ in_tokens (from_entries tokens.now) point.now }
+{
+    let mut total = 0;
+    for entry in tokens.entries() {
+        if point.cmp(&token_point(entry.0, entry.1)).is_eq() {
+            total += 1;
+        }
+    }
+    total
 }
 
 impl<A: Allocator + Copy> Cluster<A> {
-    #[tactic(auto, unfolding(crate::specs::Start::start))]
-    pub fn start(alloc: A, graph: Graph<A>, n: u32) -> Result<Cluster<A>, StartFault>
-        requires { can_be_run graph ≡ true }
-        ensures ok { IfOk result (λ c. c ≡ start_of graph n) }
-        ensures can { OnOk result ((n ≡ 1) × IsAccepted graph) }
-        ensures fault { IfErr result (IsStartFault graph n) }
+    /// The number of processors.
+    pub fn n(&self) -> u32
+        ensures { result ≡ length self.now.processors }
     {
-        if n != 1 {
-            return Err(StartFault::BadCount);
-        }
-        match Paths::of(alloc, &graph) {
-            Ok(paths) => Ok(Cluster { alloc, paths }),
-            Err(PathFault::LoopNotStrict { location }) => {
-                Err(StartFault::LoopNotStrict { location })
-            }
-            Err(PathFault::Memory) => Err(StartFault::Memory),
-        }
+        let _ = &self.view;
+        1
     }
 
+    /// The graph that the cluster runs.
     pub fn graph(&self) -> &Graph<A>
         ensures { result.now ≡ self.now.graph }
     {
         self.paths.graph()
     }
 
-    pub fn count(&self, _point: &Pointstamp) -> u64
+    /// The order of the graph's pointstamps.
+    pub fn paths(&self) -> &Paths<A>
+        ensures { result.now ≡ self.now.graph }
     {
-        let _ = &self.paths;
-        0
+        &self.paths
     }
 
-    #[tactic(auto, unfolding(crate::specs::StateText::state_data))]
-    pub fn state_value(&self) -> Result<Value, NoMemory>
-        ensures reply { IfOk result (λ v. view v ≡ state_data self.now) }
-        ensures text { IfOk result (λ v. has_float (view v) ≡ false) }
+    /// How many records, requests and tokens there are at a pointstamp, over all processors.
+    pub fn count(&self, point: &Pointstamp) -> u64
+        ensures { pos result ≡ at (truth self.now.processors) point.now }
     {
-        let _ = &self.paths;
-        Ok(Value::Null)
+        count_records(&self.records, point) + count_tokens(&self.tokens, point)
     }
 
+    /// An equal cluster.
     pub fn copy(&self, alloc: A) -> Result<Cluster<A>, AllocError>
         ensures { IfOk result (λ c. c ≡ self.now) }
     {
         Ok(Cluster {
             alloc,
             paths: self.paths.copy(alloc)?,
+            records: self.records.copy(alloc)?,
+            tokens: self.tokens.copy(alloc)?,
+            sinks: self.sinks.copy(alloc)?,
+            unsent: self.unsent.copy(alloc)?,
+            view: self.view.copy(alloc)?,
         })
     }
 }

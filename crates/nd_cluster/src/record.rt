@@ -7,13 +7,10 @@ ghost use Rattle.nd_cluster.specs.Records.{IsPlanned, Leads, IsCommitted};
 ghost use Rattle.nd_cluster.specs.declared.refusal.Refusal.{Refusal};
 ghost use Rattle.nd_cluster.specs.declared.refusal.Refusal.TheVariants.{Memory};
 
-use crate::{Cluster, Refusal, Step};
+use crate::{Cluster, NoMemory, Refusal, Step};
 use std::alloc::{AllocError, Allocator, Global};
 
 /// A step that a cluster can make, and what is needed to undo it.
-#[derive(Clone, Copy, Debug, PartialEq, Eq, Drop)]
-pub struct NoMemory;
-
 #[derive(Drop)]
 pub struct Record<A: Allocator + Copy = Global> {
     pub step: Step<A>,
@@ -35,23 +32,30 @@ impl<A: Allocator + Copy> Record<A> {
 
 impl<A: Allocator + Copy> Cluster<A> {
     // The cluster after a step, or why there is none.
-    #[tactic(auto, unfolding(crate::specs::Steps::stepped, crate::specs::Enabled::Fails))]
     fn after_step(&self, step: &Step<A>) -> Result<Cluster<A>, Refusal>
         ensures ok { IfOk result (λ c. c ≡ stepped self.now step.now) }
         ensures enabled { OnOk result (IsEnabled self.now step.now) }
         ensures refused { IfErr result (IsJustified (Fails self.now step.now)) }
     {
-        let _ = step;
-        match self.copy(self.alloc) {
-            Ok(c) => Ok(c),
-            Err(_) => Err(Refusal::Memory),
+        match step {
+            Step::Feed {
+                p,
+                vertex,
+                values,
+                next,
+            } => self.after_feed(*p, *vertex, values.as_slice(), *next),
+            Step::Take {
+                p,
+                edge,
+                time,
+                value,
+            } => self.after_take(*p, *edge, time, *value),
         }
     }
 
     /// The record of a step, or why the step is refused (this project's own rule).
     ///
     /// Nothing changes. Want of memory may come in place of a refusal numbered 11 or more.
-    #[tactic(auto, unfolding(crate::specs::Enabled::Fails))]
     pub fn plan(&self, step: &Step<A>) -> Result<Record<A>, Refusal>
         ensures enabled { OnOk result (IsEnabled self.now step.now) }
         ensures step { IfOk result (λ r. r.step ≡ step.now) }

@@ -1,4 +1,3 @@
-use Rattle.rewind_forms.specs.Places.{location_named}
 use Rattle.rewind_forms.proofs.Within.{named-within}
 use Rattle.rewind_forms.proofs.places.location_named.Goals as goal
 
