@@ -1,1 +1,3 @@
 pub mod Held
+pub mod Numbers
+pub mod Moved

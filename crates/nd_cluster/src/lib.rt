@@ -1,8 +1,11 @@
 //! A cluster of processors, and the steps that it makes.
 #![tactic(auto)]
 
+mod change;
 mod cluster;
+mod counts;
 mod key;
+mod made;
 mod refusal;
 mod step;
 
