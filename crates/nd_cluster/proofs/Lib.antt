@@ -1,3 +1,4 @@
 pub mod Held
 pub mod Numbers
 pub mod Moved
+pub mod Stepped

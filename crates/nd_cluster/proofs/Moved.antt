@@ -55,7 +55,7 @@ all_more-append m (x ∷ xs) ys = all_more-append (one_more m x) xs ys
 gained-append : (q : ProcessorState) (xs ys : List ValueAt) → gained (gained q xs) ys ≡ gained q (xs ++ ys)
 gained-append q xs ys = ap (λ m. record q { records = m }) (sym (all_more-append q.records xs ys))
 
-made_comes : (vertex port : ℕ) (v : ℤ) (t : Time) (l : ℕ) (edges : List Edge) (q : ProcessorState) → with_records (q ∷ []) (made_on 1 0 vertex port v t l edges) ≡ gained q (made_here vertex port v t l edges) ∷ []
+pub made_comes : (vertex port : ℕ) (v : ℤ) (t : Time) (l : ℕ) (edges : List Edge) (q : ProcessorState) → with_records (q ∷ []) (made_on 1 0 vertex port v t l edges) ≡ gained q (made_here vertex port v t l edges) ∷ []
 made_comes vertex port v t l [] q = refl
 made_comes vertex port v t l (e ∷ edges) q =
     let k : ValueAt = record { point = record { location = l; time = t }; value = v } in
@@ -67,7 +67,7 @@ made_comes vertex port v t l (e ∷ edges) q =
       | false ↦ made_comes vertex port v t (l + 1) edges q
     ]
 
-comes_all : {X : Type 0} (f : X → List (ℕ × ValueAt)) (g : X → List ValueAt) → ((x : X) (q : ProcessorState) → with_records (q ∷ []) (f x) ≡ gained q (g x) ∷ []) → (xs : List X) (q : ProcessorState) → with_records (q ∷ []) (flat_map f xs) ≡ gained q (flat_map g xs) ∷ []
+pub comes_all : {X : Type 0} (f : X → List (ℕ × ValueAt)) (g : X → List ValueAt) → ((x : X) (q : ProcessorState) → with_records (q ∷ []) (f x) ≡ gained q (g x) ∷ []) → (xs : List X) (q : ProcessorState) → with_records (q ∷ []) (flat_map f xs) ≡ gained q (flat_map g xs) ∷ []
 comes_all f g each [] q = refl
 comes_all f g each (x ∷ xs) q =
     with_records-append (q ∷ []) (f x) (flat_map f xs) ∙ ap (λ qs. with_records qs (flat_map f xs)) (each x q)

@@ -1,19 +1,23 @@
 -- A cluster of one processor: how its maps are kept, and what a step makes of them.
-use Rattle.std.specs.Prelude.{◌≡◌, ℕ, ◌+◌, ◌≤◌, ℤ, pos, negsuc, ◌+ℤ◌, length, ◌&&◌, ◌++◌, List, [], ◌∷◌, nat_eq, cond, sum_by, count_by, unwrap_or, if◌then◌else◌}
+use Rattle.std.specs.Prelude.{◌≡◌, ℕ, ◌+◌, ◌<◌, ◌≤◌, Some, ℤ, pos, negsuc, ◌+ℤ◌, length, ◌&&◌, ◌++◌, List, [], ◌∷◌, nat_eq, cond, sum_by, count_by, unwrap_or, if◌then◌else◌}
 use Rattle.std.specs.declared.cmp.Ordering.{Ordering}
 use Rattle.std.specs.List.{flat_map}
 use Rattle.std.specs.Ordering.{nat_cmp}
 use Rattle.std.specs.FinMap as fin
 use Rattle.std.specs.FinSet as finset
-use Rattle.nd_time.specs.Limits.{max_count}
+use Rattle.nd_time.specs.Limits.{max_count, max_counter}
 use Rattle.nd_time.specs.Time.{Time}
-use Rattle.nd_graph.specs.Graph.{Dataflow}
+use Rattle.nd_graph.specs.Graph.{Dataflow, location_count}
+use Rattle.nd_graph.specs.declared.op.Op.TheVariants as op
 use Rattle.nd_graph.specs.declared.graph.Edge.{Edge}
 use Rattle.nd_paths.specs.declared.point.Pointstamp.{Pointstamp}
 use Rattle.nd_delta.specs.Change.{Change, none, at, set, plus, is_point}
 use Rattle.nd_cluster.specs.Keys.{value_at_cmp, sink_cmp}
-use Rattle.nd_cluster.specs.State.{ProcessorState, ClusterState, truth, token_point}
-use Rattle.nd_cluster.specs.Steps.{count_of, one_more}
+use Rattle.nd_cluster.specs.State.{ProcessorState, ClusterState, processor, truth, token_point}
+use Rattle.nd_cluster.specs.Operators.{op_at, is_sink}
+use Rattle.nd_cluster.specs.Steps.{count_of, one_more, one_less, moved_token, target_of, record_key}
+use Rattle.nd_cluster.specs.Enabled.{number_of, FeedFails, TakeFails}
+use Rattle.nd_cluster.specs.declared.refusal.Refusal.{Refusal}
 use Rattle.nd_cluster.specs.declared.key.ValueAt.{ValueAt}
 use Rattle.nd_cluster.specs.declared.key.SinkKey.{SinkKey}
 use Rattle.nd_cluster.specs.declared.step.Next.{Next as Afterwards}
@@ -88,6 +92,40 @@ with_made c (k ∷ ks) = with_made (moved_at c k.point (pos 1)) ks
 abbrev pub token_change : ℕ → ℕ → Afterwards → Change
 token_change vertex epoch token.Next = moved_at (moved_at none (token_point vertex epoch) (negsuc 0)) (token_point vertex (epoch + 1)) (pos 1)
 token_change vertex epoch token.Close = moved_at none (token_point vertex epoch) (negsuc 0)
+
+-- the processor after a feed, but for its unsent change
+abbrev pub fed_here : Dataflow → ProcessorState → ℕ → List ℤ → Afterwards → ℕ → ProcessorState
+fed_here g q vertex values next epoch =
+    record q {
+      records = all_more q.records (fed_records g vertex (record { epoch = epoch; counters = [] }) values);
+      tokens = moved_token q.tokens vertex epoch next;
+    }
+
+-- the processor after a take, but for its unsent change
+abbrev pub taken_here : Dataflow → ProcessorState → ℕ → Time → ℤ → List (ℕ × ℤ) → ProcessorState
+taken_here g q edge t value es =
+    let target = target_of g edge in
+    record q {
+      records = all_more (one_less q.records (record_key edge t value)) (taken_records g target t es);
+      sinks = if is_sink (op_at g target) then one_more q.sinks (record { vertex = target; value = value }) else q.sinks;
+    }
+
+-- what a feed needs, and none of its first conditions holds
+pub record CanFeed (s : ClusterState) (p vertex : ℕ) (values : List ℤ) (next : Afterwards) (epoch : ℕ) : Type 0 where
+  pub first : p ≡ 0
+  pub input : op_at s.graph vertex ≡ op.Input
+  pub held : fin.get (processor s p).tokens vertex ≡ Some epoch
+  pub room : next ≡ token.Next → epoch < max_counter
+  pub free : (other : Refusal) → number_of other ≤ 10 → FeedFails s p vertex values next other → ⊥
+
+-- what a take needs, and none of its first conditions holds
+pub record CanTake (s : ClusterState) (p edge : ℕ) (t : Time) (value : ℤ) (count : ℕ) : Type 0 where
+  pub first : p ≡ 0
+  pub after_vertices : length s.graph.vertices ≤ edge
+  pub in_edges : edge < location_count s.graph
+  pub found : fin.get (processor s p).records (record_key edge t value) ≡ Some count
+  pub some : 0 < count
+  pub free : (other : Refusal) → number_of other ≤ 10 → TakeFails s p edge t value other → ⊥
 
 -- no count is past the limit
 abbrev pub IsWithinCounts : {K : Type 0} {R : K → K → Ordering} → fin.FinMap R ℕ → Type 0

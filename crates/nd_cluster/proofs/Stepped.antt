@@ -1,0 +1,161 @@
+-- The steps of a cluster of one processor.
+use Rattle.std.proofs.Common.{◌≡◌, ◌≢◌, ◌<◌, ◌≤◌, ℕ, zero, suc, ◌+◌, ◌-◌, ℤ, pos, negsuc, ◌+ℤ◌, ◌-ℤ◌, Bool, true, false, cond, List, [], ◌∷◌, ◌++◌, length, Option, Some, None, unwrap_or, refl, sym, ap, subst, ◌∙◌, arith, inl, inr}
+use Rattle.std.proofs.lemmas.Int.{ints}
+use Rattle.std.specs.Prelude.{unsigned_abs, option_to_list, IfSome, slice_index_or}
+use Rattle.std.specs.List.{flat_map}
+use Rattle.std.specs.Ordering.{nat_cmp}
+use Rattle.std.specs.FinMap as fin
+use Rattle.nd_paths.specs.declared.point.Pointstamp.{Pointstamp}
+use Rattle.nd_time.specs.Limits.{max_count}
+use Rattle.nd_time.specs.Time.{Time}
+use Rattle.nd_graph.specs.Graph.{Dataflow, action_of}
+use Rattle.nd_graph.specs.declared.op.Op.{Op}
+use Rattle.nd_graph.specs.declared.op.Op.TheVariants as op
+use Rattle.nd_graph.specs.declared.op.Action.TheVariants.{Identity}
+use Rattle.nd_delta.specs.Change.{Change, none, at, plus, minus, same, is_point, at-none, at-plus, IsTooLarge}
+use Rattle.nd_cluster.specs.Keys.{value_at_cmp, sink_cmp}
+use Rattle.nd_cluster.specs.State.{ProcessorState, ClusterState, processor, idle, token_point, truth}
+use Rattle.nd_cluster.specs.Operators.{op_at, emissions, is_sink, time_past}
+use Rattle.nd_cluster.specs.Steps.{count_of, one_more, one_less, with_records, emitted, moved_token, epoch_of, target_of, record_key, fed, taken, settled, after_feed, after_take}
+use Rattle.nd_cluster.specs.Enabled.{number_of, HasLargeCount, of_record, of_sink, HasLargeEntry, FeedFails, TakeFails}
+use Rattle.nd_cluster.specs.Alone.{alone, IsKept, IsFull, IsWithinCounts, one_at, number_at, all_more, made_here, fed_records, taken_records, with_made, token_change, moved_at, fed_here, taken_here}
+use Rattle.nd_cluster.specs.declared.key.ValueAt.{ValueAt}
+use Rattle.nd_cluster.specs.declared.key.SinkKey.{SinkKey}
+use Rattle.nd_cluster.specs.declared.step.Next.{Next as Afterwards}
+use Rattle.nd_cluster.specs.declared.step.Next.TheVariants as token
+use Rattle.nd_cluster.proofs.Held.{held, in_records, in_tokens, truth-alone, in_records-all_more, in_records-one_less, in_tokens-insert, in_tokens-remove, plus-moved}
+use Rattle.nd_cluster.proofs.Moved.{gained, comes_all, made_comes, time_kept, at-moved_at, at-with_made, at-gone}
+
+-- by how much the outstanding numbers move from q to r
+abbrev pub Moves : ProcessorState → ProcessorState → Change → Type 0
+Moves q r change = (x : Pointstamp) → at change x +ℤ pos (held q x) ≡ pos (held r x)
+
+-- a processor that keeps another's view, and whose unsent change has gained
+abbrev pub settled_by : ProcessorState → ProcessorState → Change → ProcessorState
+settled_by q r change = record r { unsent = plus q.unsent change }
+
+-- ---- a feed
+
+at_epoch : ℕ → Time
+at_epoch epoch = record { epoch = epoch; counters = [] }
+
+fed-alone : (g : Dataflow) (q : ProcessorState) (vertex : ℕ) (values : List ℤ) (next : Afterwards) (epoch : ℕ) → fin.get q.tokens vertex ≡ Some epoch → op_at g vertex ≡ op.Input → fed (alone g q) 0 vertex values next ≡ fed_here g q vertex values next epoch ∷ []
+unfolding fed alone at_epoch
+fed-alone g q vertex values next epoch found input =
+    let e : unwrap_or (fin.get q.tokens vertex) 0 ≡ epoch = ap (λ (d : Option ℕ). unwrap_or d 0) found in
+    (λ i. with_records (record q { tokens = moved_token q.tokens vertex (e i) next } ∷ []) (flat_map (λ v. emitted g 1 0 vertex (at_epoch (e i)) (0, v)) values))
+    ∙ comes_all (λ v. emitted g 1 0 vertex (at_epoch epoch) (0, v)) (λ v. made_here vertex 0 v (time_past g vertex (at_epoch epoch)) (length g.vertices) g.edges) (λ v r. made_comes vertex 0 v (time_past g vertex (at_epoch epoch)) (length g.vertices) g.edges r) values (record q { tokens = moved_token q.tokens vertex epoch next })
+    ∙ ap (λ t. gained (record q { tokens = moved_token q.tokens vertex epoch next }) (fed_records g vertex t values) ∷ []) (time_kept g vertex (at_epoch epoch) (ap action_of input))
+
+settled-alone : (g : Dataflow) (q r : ProcessorState) (change : Change) → r.unsent ≡ q.unsent → Moves q r change → settled (q ∷ []) 0 (r ∷ []) ≡ settled_by q r change ∷ []
+settled-alone g q r change is moves = (λ i. record r { unsent = plus (is i) (plus-moved q r change moves i) } ∷ [])
+
+pub feed_stepped : (g : Dataflow) (q : ProcessorState) (vertex : ℕ) (values : List ℤ) (next : Afterwards) (epoch : ℕ) (change : Change) → fin.get q.tokens vertex ≡ Some epoch → op_at g vertex ≡ op.Input → Moves q (fed_here g q vertex values next epoch) change → after_feed (alone g q) 0 vertex values next ≡ alone g (settled_by q (fed_here g q vertex values next epoch) change)
+unfolding alone after_feed
+feed_stepped g q vertex values next epoch change found input moves =
+    ap (λ qs. record (alone g q) { processors = settled (q ∷ []) 0 qs }) (fed-alone g q vertex values next epoch found input)
+    ∙ ap (λ qs. record (alone g q) { processors = qs }) (settled-alone g q (fed_here g q vertex values next epoch) change refl moves)
+
+-- what a feed's change is
+pub feed_moves : (g : Dataflow) (q : ProcessorState) (vertex : ℕ) (values : List ℤ) (next : Afterwards) (epoch : ℕ) → fin.get q.tokens vertex ≡ Some epoch → Moves q (fed_here g q vertex values next epoch) (with_made (token_change vertex epoch next) (fed_records g vertex (record { epoch = epoch; counters = [] }) values))
+feed_moves g q vertex values token.Next epoch found x =
+    let ks = fed_records g vertex (record { epoch = epoch; counters = [] }) values in
+    let made = at-with_made (token_change vertex epoch token.Next) ks x in
+    let came = at-moved_at (moved_at none (token_point vertex epoch) (negsuc 0)) (token_point vertex (epoch + 1)) (pos 1) x in
+    let went = at-gone (token_point vertex epoch) x in
+    let tokens = in_tokens-insert q.tokens vertex epoch (epoch + 1) x found in
+    let records = in_records-all_more q.records ks x in
+    omega (arith, ints, one_here (is_point x (token_point vertex (epoch + 1))))
+  where
+    one_here : (b : Bool) → cond b (pos 1) (pos 0) ≡ pos (cond b 1 0)
+    one_here true = refl
+    one_here false = refl
+feed_moves g q vertex values token.Close epoch found x =
+    let ks = fed_records g vertex (record { epoch = epoch; counters = [] }) values in
+    let made = at-with_made (token_change vertex epoch token.Close) ks x in
+    let went = at-gone (token_point vertex epoch) x in
+    let tokens = in_tokens-remove q.tokens vertex epoch x found in
+    let records = in_records-all_more q.records ks x in
+    omega (arith, ints)
+
+-- ---- a take
+
+taken_time : (g : Dataflow) (vertex : ℕ) (t : Time) (e : Option (ℕ × ℤ)) → IfSome e (λ _. action_of (op_at g vertex) ≡ Identity) → taken_records g vertex (time_past g vertex t) (option_to_list e) ≡ taken_records g vertex t (option_to_list e)
+taken_time g vertex t None still = refl
+taken_time g vertex t (Some e) still = ap (λ u. taken_records g vertex u (e ∷ [])) (time_kept g vertex t still)
+
+taken-alone : (g : Dataflow) (q : ProcessorState) (edge : ℕ) (t : Time) (value : ℤ) (e : Option (ℕ × ℤ)) → emissions (op_at g (target_of g edge)) value ≡ option_to_list e → IfSome e (λ _. action_of (op_at g (target_of g edge)) ≡ Identity) → taken (alone g q) 0 edge t value ≡ taken_here g q edge t value (option_to_list e) ∷ []
+unfolding taken alone
+taken-alone g q edge t value e is still =
+    let target = target_of g edge in
+    let r : ProcessorState = taken_here g q edge t value [] in
+    ap (λ es. with_records (r ∷ []) (flat_map (emitted g 1 0 target t) es)) is
+    ∙ comes_all (emitted g 1 0 target t) (λ f. made_here target f.0 f.1 (time_past g target t) (length g.vertices) g.edges) (λ f s. made_comes target f.0 f.1 (time_past g target t) (length g.vertices) g.edges s) (option_to_list e) r
+    ∙ ap (λ ks. gained r ks ∷ []) (taken_time g target t e still)
+
+pub take_stepped : (g : Dataflow) (q : ProcessorState) (edge : ℕ) (t : Time) (value : ℤ) (e : Option (ℕ × ℤ)) (change : Change) → emissions (op_at g (target_of g edge)) value ≡ option_to_list e → IfSome e (λ _. action_of (op_at g (target_of g edge)) ≡ Identity) → Moves q (taken_here g q edge t value (option_to_list e)) change → after_take (alone g q) 0 edge t value ≡ alone g (settled_by q (taken_here g q edge t value (option_to_list e)) change)
+unfolding alone after_take
+take_stepped g q edge t value e change is still moves =
+    ap (λ qs. record (alone g q) { processors = settled (q ∷ []) 0 qs }) (taken-alone g q edge t value e is still)
+    ∙ ap (λ qs. record (alone g q) { processors = qs }) (settled-alone g q (taken_here g q edge t value (option_to_list e)) change refl moves)
+
+pub take_moves : (g : Dataflow) (q : ProcessorState) (edge : ℕ) (t : Time) (value : ℤ) (es : List (ℕ × ℤ)) → 0 < count_of q.records (record_key edge t value) → Moves q (taken_here g q edge t value es) (with_made (moved_at none (record { location = edge; time = t }) (negsuc 0)) (taken_records g (target_of g edge) t es))
+take_moves g q edge t value es some x =
+    let ks = taken_records g (target_of g edge) t es in
+    let k = record_key edge t value in
+    let made = at-with_made (moved_at none k.point (negsuc 0)) ks x in
+    let went = at-gone k.point x in
+    let less = in_records-one_less q.records k x some in
+    let records = in_records-all_more (one_less q.records k) ks x in
+    omega (arith, ints)
+
+-- ---- what the processor keeps
+
+pub kept_after : (q r : ProcessorState) (change : Change) → IsKept q → Moves q r change → IsWithinCounts r.records → IsWithinCounts r.sinks → IsKept (record r { unsent = plus q.unsent change; view = q.view })
+kept_after q r change kept moves records sinks = record {
+  records = records;
+  sinks = sinks;
+  settled = same _ _ (λ x.
+  let a = truth-alone q x in
+  let b = truth-alone r x in
+  let m = moves x in
+  let old = ap (λ c. at c x) kept.settled ∙ at-plus q.view q.unsent x in
+  let sum = at-plus q.view (plus q.unsent change) x in
+  let unsent = at-plus q.unsent change x in
+  truth-alone (record r { unsent = plus q.unsent change; view = q.view }) x ∙ omega (arith, ints));
+}
+
+-- ---- the limits
+
+none_else : (q : ProcessorState) (p : ℕ) → slice_index_or (q ∷ []) (suc p) idle ≡ idle
+none_else q zero = refl
+none_else q (suc p) = refl
+
+processor-alone : (g : Dataflow) (q : ProcessorState) (P : ProcessorState → Type 0) (p : ℕ) → P q → P idle → P (processor (alone g q) p)
+unfolding alone
+processor-alone g q P zero h i = h
+processor-alone g q P (suc p) h i = subst P (sym (none_else q p)) i
+
+pub few_counts : (g : Dataflow) (q : ProcessorState) → IsWithinCounts q.records → IsWithinCounts q.sinks → HasLargeCount (alone g q) → ⊥
+few_counts g q records sinks (of_record p k large) =
+    let small : count_of (processor (alone g q) p).records k ≤ max_count = processor-alone g q (λ r. count_of r.records k ≤ max_count) p (records k) (rw (fin.get-empty {X = ℕ} value_at_cmp k) (omega arith)) in
+    absurd (omega arith)
+few_counts g q records sinks (of_sink p k large) =
+    let small : count_of (processor (alone g q) p).sinks k ≤ max_count = processor-alone g q (λ r. count_of r.sinks k ≤ max_count) p (sinks k) (rw (fin.get-empty {X = ℕ} sink_cmp k) (omega arith)) in
+    absurd (omega arith)
+
+pub small_entries : (g : Dataflow) (q : ProcessorState) → (IsTooLarge q.unsent → ⊥) → HasLargeEntry (alone g q) → ⊥
+small_entries g q fits h =
+    processor-alone g q (λ r. max_count < unsigned_abs (at r.unsent h.point) → ⊥) h.p (λ large. fits (h.point, large)) (λ large. absurd (omega (arith, rw (at-none h.point) at large))) h.large
+
+pub full_record : (g : Dataflow) (q : ProcessorState) → IsFull q.records → HasLargeCount (alone g q)
+unfolding alone
+full_record g q full = of_record 0 full.key (omega (arith, full.past))
+
+pub full_sink : (g : Dataflow) (q : ProcessorState) → IsFull q.sinks → HasLargeCount (alone g q)
+unfolding alone
+full_sink g q full = of_sink 0 full.key (omega (arith, full.past))
+
+pub large_entry : (g : Dataflow) (q : ProcessorState) → IsTooLarge q.unsent → HasLargeEntry (alone g q)
+unfolding alone
+large_entry g q large = record { p = 0; point = large.0; large = large.1 }
