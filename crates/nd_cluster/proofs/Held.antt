@@ -19,6 +19,7 @@ use Rattle.nd_cluster.specs.Keys.{value_at_cmp, value_at_total, value_at_exact}
 use Rattle.nd_cluster.specs.State.{ProcessorState, token_point, tally, outstanding_at, truth}
 use Rattle.nd_cluster.specs.Steps.{count_of, one_more, one_less}
 use Rattle.nd_cluster.specs.Alone.{all_more, one_at, number_at}
+use Rattle.nd_cluster.specs.Held.{in_records, in_requests, in_tokens, held}
 use Rattle.nd_cluster.specs.declared.key.ValueAt.{ValueAt}
 
 -- ---- the truth as a sum
@@ -42,19 +43,6 @@ at-tally (e ∷ es) x =
 sum_by-map : {A B : Type 0} (f : B → ℕ) (g : A → B) (xs : List A) → sum_by f (map g xs) ≡ sum_by (λ x. f (g x)) xs
 sum_by-map f g [] = refl
 sum_by-map f g (x ∷ xs) = sum_by-cons f (g x) (map g xs) ∙ ap (λ n. f (g x) + n) (sum_by-map f g xs) ∙ sym (sum_by-cons (λ y. f (g y)) x xs)
-
--- how many records, requests and tokens there are at a pointstamp
-abbrev pub in_records : fin.FinMap value_at_cmp ℕ → Pointstamp → ℕ
-in_records m x = weight (λ k n. cond (is_point x k.point) n 0) (fin.entries m)
-
-abbrev pub in_requests : finset.FinSet point_cmp → Pointstamp → ℕ
-in_requests s x = sum_by (λ p. one_at p x) (finset.items s)
-
-abbrev pub in_tokens : fin.FinMap nat_cmp ℕ → Pointstamp → ℕ
-in_tokens m x = weight (λ v e. one_at (token_point v e) x) (fin.entries m)
-
-abbrev pub held : ProcessorState → Pointstamp → ℕ
-held q x = in_records q.records x + (in_requests q.requests x + in_tokens q.tokens x)
 
 total_at-outstanding : (q : ProcessorState) (x : Pointstamp) → total_at x (outstanding_at q) ≡ held q x
 total_at-outstanding q x =

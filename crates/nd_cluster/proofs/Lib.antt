@@ -2,3 +2,4 @@ pub mod Held
 pub mod Numbers
 pub mod Moved
 pub mod Stepped
+pub mod Refused

@@ -27,10 +27,11 @@ use Rattle.nd_cluster.specs.State.{ProcessorState, ClusterState, token_point, tr
 use Rattle.nd_cluster.specs.Operators.{op_at, emissions, destination, made_on, time_past}
 use Rattle.nd_cluster.specs.Steps.{count_of, one_more, one_less, with_records, with_record, emitted, moved_token, record_key}
 use Rattle.nd_cluster.specs.Alone.{all_more, one_at, number_at, made_here, fed_records, taken_records, moved_at, with_made, token_change}
+use Rattle.nd_cluster.specs.Held.{held, in_records, in_tokens, Moves, settled_by}
 use Rattle.nd_cluster.specs.declared.key.ValueAt.{ValueAt}
 use Rattle.nd_cluster.specs.declared.step.Next.{Next as Afterwards}
 use Rattle.nd_cluster.specs.declared.step.Next.TheVariants as token
-use Rattle.nd_cluster.proofs.Held.{held, in_records, in_tokens, truth-alone, in_records-all_more, in_records-one_less, in_tokens-insert, in_tokens-remove, plus-moved}
+use Rattle.nd_cluster.proofs.Held.{truth-alone, in_records-all_more, in_records-one_less, in_tokens-insert, in_tokens-remove, plus-moved}
 
 -- ---- the records come to the one processor
 

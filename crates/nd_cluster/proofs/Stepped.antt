@@ -18,21 +18,14 @@ use Rattle.nd_cluster.specs.State.{ProcessorState, ClusterState, processor, idle
 use Rattle.nd_cluster.specs.Operators.{op_at, emissions, is_sink, time_past}
 use Rattle.nd_cluster.specs.Steps.{count_of, one_more, one_less, with_records, emitted, moved_token, epoch_of, target_of, record_key, fed, taken, settled, after_feed, after_take}
 use Rattle.nd_cluster.specs.Enabled.{number_of, HasLargeCount, of_record, of_sink, HasLargeEntry, FeedFails, TakeFails}
-use Rattle.nd_cluster.specs.Alone.{alone, IsKept, IsFull, IsWithinCounts, one_at, number_at, all_more, made_here, fed_records, taken_records, with_made, token_change, moved_at, fed_here, taken_here}
+use Rattle.nd_cluster.specs.Alone.{alone, IsAlone, IsKept, IsFull, IsWithinCounts, one_at, number_at, all_more, made_here, fed_records, taken_records, with_made, token_change, moved_at, fed_here, taken_here}
+use Rattle.nd_cluster.specs.Held.{held, in_records, in_tokens, Moves, settled_by}
 use Rattle.nd_cluster.specs.declared.key.ValueAt.{ValueAt}
 use Rattle.nd_cluster.specs.declared.key.SinkKey.{SinkKey}
 use Rattle.nd_cluster.specs.declared.step.Next.{Next as Afterwards}
 use Rattle.nd_cluster.specs.declared.step.Next.TheVariants as token
-use Rattle.nd_cluster.proofs.Held.{held, in_records, in_tokens, truth-alone, in_records-all_more, in_records-one_less, in_tokens-insert, in_tokens-remove, plus-moved}
+use Rattle.nd_cluster.proofs.Held.{truth-alone, in_records-all_more, in_records-one_less, in_tokens-insert, in_tokens-remove, plus-moved}
 use Rattle.nd_cluster.proofs.Moved.{gained, comes_all, made_comes, time_kept, at-moved_at, at-with_made, at-gone}
-
--- by how much the outstanding numbers move from q to r
-abbrev pub Moves : ProcessorState → ProcessorState → Change → Type 0
-Moves q r change = (x : Pointstamp) → at change x +ℤ pos (held q x) ≡ pos (held r x)
-
--- a processor that keeps another's view, and whose unsent change has gained
-abbrev pub settled_by : ProcessorState → ProcessorState → Change → ProcessorState
-settled_by q r change = record r { unsent = plus q.unsent change }
 
 -- ---- a feed
 
@@ -47,14 +40,14 @@ fed-alone g q vertex values next epoch found input =
     ∙ comes_all (λ v. emitted g 1 0 vertex (at_epoch epoch) (0, v)) (λ v. made_here vertex 0 v (time_past g vertex (at_epoch epoch)) (length g.vertices) g.edges) (λ v r. made_comes vertex 0 v (time_past g vertex (at_epoch epoch)) (length g.vertices) g.edges r) values (record q { tokens = moved_token q.tokens vertex epoch next })
     ∙ ap (λ t. gained (record q { tokens = moved_token q.tokens vertex epoch next }) (fed_records g vertex t values) ∷ []) (time_kept g vertex (at_epoch epoch) (ap action_of input))
 
-settled-alone : (g : Dataflow) (q r : ProcessorState) (change : Change) → r.unsent ≡ q.unsent → Moves q r change → settled (q ∷ []) 0 (r ∷ []) ≡ settled_by q r change ∷ []
-settled-alone g q r change is moves = (λ i. record r { unsent = plus (is i) (plus-moved q r change moves i) } ∷ [])
+settled-alone : (q r : ProcessorState) (change : Change) → r.unsent ≡ q.unsent → r.view ≡ q.view → Moves q r change → settled (q ∷ []) 0 (r ∷ []) ≡ settled_by q r change ∷ []
+settled-alone q r change unsent view moves = (λ i. record r { unsent = plus (unsent i) (plus-moved q r change moves i); view = view i } ∷ [])
 
 pub feed_stepped : (g : Dataflow) (q : ProcessorState) (vertex : ℕ) (values : List ℤ) (next : Afterwards) (epoch : ℕ) (change : Change) → fin.get q.tokens vertex ≡ Some epoch → op_at g vertex ≡ op.Input → Moves q (fed_here g q vertex values next epoch) change → after_feed (alone g q) 0 vertex values next ≡ alone g (settled_by q (fed_here g q vertex values next epoch) change)
 unfolding alone after_feed
 feed_stepped g q vertex values next epoch change found input moves =
     ap (λ qs. record (alone g q) { processors = settled (q ∷ []) 0 qs }) (fed-alone g q vertex values next epoch found input)
-    ∙ ap (λ qs. record (alone g q) { processors = qs }) (settled-alone g q (fed_here g q vertex values next epoch) change refl moves)
+    ∙ ap (λ qs. record (alone g q) { processors = qs }) (settled-alone q (fed_here g q vertex values next epoch) change refl refl moves)
 
 -- what a feed's change is
 pub feed_moves : (g : Dataflow) (q : ProcessorState) (vertex : ℕ) (values : List ℤ) (next : Afterwards) (epoch : ℕ) → fin.get q.tokens vertex ≡ Some epoch → Moves q (fed_here g q vertex values next epoch) (with_made (token_change vertex epoch next) (fed_records g vertex (record { epoch = epoch; counters = [] }) values))
@@ -97,7 +90,7 @@ pub take_stepped : (g : Dataflow) (q : ProcessorState) (edge : ℕ) (t : Time) (
 unfolding alone after_take
 take_stepped g q edge t value e change is still moves =
     ap (λ qs. record (alone g q) { processors = settled (q ∷ []) 0 qs }) (taken-alone g q edge t value e is still)
-    ∙ ap (λ qs. record (alone g q) { processors = qs }) (settled-alone g q (taken_here g q edge t value (option_to_list e)) change refl moves)
+    ∙ ap (λ qs. record (alone g q) { processors = qs }) (settled-alone q (taken_here g q edge t value (option_to_list e)) change refl refl moves)
 
 pub take_moves : (g : Dataflow) (q : ProcessorState) (edge : ℕ) (t : Time) (value : ℤ) (es : List (ℕ × ℤ)) → 0 < count_of q.records (record_key edge t value) → Moves q (taken_here g q edge t value es) (with_made (moved_at none (record { location = edge; time = t }) (negsuc 0)) (taken_records g (target_of g edge) t es))
 take_moves g q edge t value es some x =
@@ -111,7 +104,7 @@ take_moves g q edge t value es some x =
 
 -- ---- what the processor keeps
 
-pub kept_after : (q r : ProcessorState) (change : Change) → IsKept q → Moves q r change → IsWithinCounts r.records → IsWithinCounts r.sinks → IsKept (record r { unsent = plus q.unsent change; view = q.view })
+pub kept_after : (q r : ProcessorState) (change : Change) → IsKept q → Moves q r change → IsWithinCounts r.records → IsWithinCounts r.sinks → IsKept (settled_by q r change)
 kept_after q r change kept moves records sinks = record {
   records = records;
   sinks = sinks;
@@ -122,7 +115,7 @@ kept_after q r change kept moves records sinks = record {
   let old = ap (λ c. at c x) kept.settled ∙ at-plus q.view q.unsent x in
   let sum = at-plus q.view (plus q.unsent change) x in
   let unsent = at-plus q.unsent change x in
-  truth-alone (record r { unsent = plus q.unsent change; view = q.view }) x ∙ omega (arith, ints));
+  truth-alone (settled_by q r change) x ∙ omega (arith, ints));
 }
 
 -- ---- the limits
@@ -159,3 +152,24 @@ full_sink g q full = of_sink 0 full.key (omega (arith, full.past))
 pub large_entry : (g : Dataflow) (q : ProcessorState) → IsTooLarge q.unsent → HasLargeEntry (alone g q)
 unfolding alone
 large_entry g q large = record { p = 0; point = large.0; large = large.1 }
+
+-- ---- a state that stands alone
+
+pub is_alone : (g : Dataflow) (q : ProcessorState) (s : ClusterState) → alone g q ≡ s → IsKept q → IsAlone s
+unfolding alone
+is_alone g q s is kept = record {
+  whole = subst (λ s. alone s.graph (processor s 0) ≡ s) is refl;
+  kept = subst (λ s. IsKept (processor s 0)) is kept;
+}
+
+pub processor_is : (g : Dataflow) (q : ProcessorState) (s : ClusterState) → alone g q ≡ s → q ≡ processor s 0
+unfolding alone
+processor_is g q s is = ap (λ s. processor s 0) is
+
+pub graph_is : (g : Dataflow) (q : ProcessorState) (s : ClusterState) → alone g q ≡ s → g ≡ s.graph
+unfolding alone
+graph_is g q s is = ap (λ s. s.graph) is
+
+pub one_processor : (g : Dataflow) (q : ProcessorState) (s : ClusterState) → alone g q ≡ s → length s.processors ≡ 1
+unfolding alone
+one_processor g q s is = ap (λ s. length s.processors) (sym is)

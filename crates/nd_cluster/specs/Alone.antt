@@ -46,6 +46,11 @@ pub record IsKept (q : ProcessorState) : Type 0 where
   pub sinks : (k : SinkKey) → count_of q.sinks k ≤ max_count
   pub settled : truth (q ∷ []) ≡ plus q.view q.unsent
 
+-- a cluster of one processor
+pub record IsAlone (s : ClusterState) : Type 0 where
+  pub whole : alone s.graph (processor s 0) ≡ s
+  pub kept : IsKept (processor s 0)
+
 -- one more of each key
 abbrev pub all_more : {K : Type 0} {R : K → K → Ordering} → fin.FinMap R ℕ → List K → fin.FinMap R ℕ
 all_more m [] = m
@@ -110,8 +115,18 @@ taken_here g q edge t value es =
       sinks = if is_sink (op_at g target) then one_more q.sinks (record { vertex = target; value = value }) else q.sinks;
     }
 
+-- the processor with these maps, and with one more of each record that was made
+abbrev pub drafted : ProcessorState → List (ValueAt × ℕ) → List (ℕ × ℕ) → List (SinkKey × ℕ) → List ValueAt → ProcessorState
+drafted q records tokens sinks made =
+    record q {
+      records = all_more (fin.from_entries records) made;
+      tokens = fin.from_entries tokens;
+      sinks = fin.from_entries sinks;
+    }
+
 -- what a feed needs, and none of its first conditions holds
 pub record CanFeed (s : ClusterState) (p vertex : ℕ) (values : List ℤ) (next : Afterwards) (epoch : ℕ) : Type 0 where
+  pub alone : IsAlone s
   pub first : p ≡ 0
   pub input : op_at s.graph vertex ≡ op.Input
   pub held : fin.get (processor s p).tokens vertex ≡ Some epoch
@@ -120,6 +135,7 @@ pub record CanFeed (s : ClusterState) (p vertex : ℕ) (values : List ℤ) (next
 
 -- what a take needs, and none of its first conditions holds
 pub record CanTake (s : ClusterState) (p edge : ℕ) (t : Time) (value : ℤ) (count : ℕ) : Type 0 where
+  pub alone : IsAlone s
   pub first : p ≡ 0
   pub after_vertices : length s.graph.vertices ≤ edge
   pub in_edges : edge < location_count s.graph

@@ -90,6 +90,10 @@ pub record IsRefused {A : Type 0} (s : ClusterState) (x : Step A) (r : Refusal) 
   pub fails : Fails s x r
   pub least : (other : Refusal) → number_of other < number_of r → Fails s x other → ⊥
 
+-- no condition holds, of these
+pub record IsFree (fails : Refusal → Type 0) : Type 0 where
+  pub free : (r : Refusal) → fails r → ⊥
+
 -- a refusal is the one of least number; only want of memory may come in place of one that is greater than 10
 pub record IsJustified (fails : Refusal → Type 0) (r : Refusal) : Type 0 where
   pub holds : r ≢ Memory → fails r

@@ -5,5 +5,6 @@ pub mod Steps
 pub mod Enabled
 pub mod Start
 pub mod Alone
+pub mod Held
 pub mod Codes
 pub mod Records

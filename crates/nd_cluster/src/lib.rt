@@ -4,6 +4,8 @@
 mod change;
 mod cluster;
 mod counts;
+mod draft;
+mod feed;
 mod key;
 mod made;
 mod refusal;

@@ -1,5 +1,7 @@
 //! The steps that a cluster can make.
-ghost use Rattle.std.specs.Prelude.{◌≡◌, [], ◌∷◌, ◌++◌, IfOk, OnOk, OnErr, length};
+ghost use Rattle.std.specs.Prelude.{◌≡◌, ◌↔◌, [], ◌∷◌, ◌++◌, IfOk, OnOk, OnErr, IsTrue};
+ghost use Rattle.nd_time.specs.Limits.{max_counter};
+ghost use Rattle.nd_cluster.specs.declared.step.Next.TheVariants as token;
 
 use nd_time::Timestamp;
 use std::alloc::{AllocError, Allocator, Global};
@@ -64,6 +66,28 @@ pub enum Next {
     Next,
     /// It is given up.
     Close,
+}
+
+impl Next {
+    // Whether the token goes on.
+    pub(crate) fn goes_on(self) -> bool
+        ensures { IsTrue result ↔ (self ≡ token.Next) }
+    {
+        match self {
+            Next::Next => true,
+            Next::Close => false,
+        }
+    }
+
+    // Whether the token would have to leave the last epoch.
+    pub(crate) fn is_full(self, epoch: u32) -> bool
+        ensures { IsTrue result ↔ ((self ≡ token.Next) × (epoch ≡ max_counter)) }
+    {
+        match self {
+            Next::Next => epoch == u32::MAX,
+            Next::Close => false,
+        }
+    }
 }
 
 /// One step of one processor (Naiad, SOSP 2013, sections 2.2 and 3.3).
