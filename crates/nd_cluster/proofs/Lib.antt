@@ -3,3 +3,5 @@ pub mod Numbers
 pub mod Moved
 pub mod Stepped
 pub mod Refused
+pub mod Settling
+pub mod Drafts

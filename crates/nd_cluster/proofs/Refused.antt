@@ -1,5 +1,5 @@
 -- Why steps are refused: the conditions in the order of their numbers.
-use Rattle.std.proofs.Common.{◌≡◌, ◌≢◌, ◌<◌, ◌≤◌, ℕ, ◌+◌, ℤ, Bool, true, false, List, [], ◌∷◌, length, Option, Some, None, refl, sym, ap, subst, ◌∙◌, arith, inl, inr}
+use Rattle.std.proofs.Common.{◌≡◌, ◌≢◌, ◌⊎◌, ◌<◌, ◌≤◌, ℕ, ◌+◌, ℤ, Bool, true, false, List, [], ◌∷◌, length, Option, Some, None, refl, sym, ap, subst, ◌∙◌, arith, inl, inr}
 use Rattle.std.specs.FinMap as fin
 use Rattle.std.specs.Ordering.{nat_cmp}
 use Rattle.std.proofs.lemmas.Cmp.{nat_cmp_total}
@@ -13,7 +13,7 @@ use Rattle.nd_cluster.specs.Keys.{value_at_cmp, value_at_total}
 use Rattle.nd_cluster.specs.State.{ProcessorState, ClusterState, processor}
 use Rattle.nd_cluster.specs.Operators.{op_at, is_input}
 use Rattle.nd_cluster.specs.Steps.{after_feed, after_take}
-use Rattle.nd_cluster.specs.Enabled.{number_of, HasLargeCount, HasLargeEntry, FeedFails, TakeFails, IsJustified}
+use Rattle.nd_cluster.specs.Enabled.{number_of, HasLargeCount, HasLargeEntry, FeedFails, TakeFails, IsFree, IsJustified}
 use Rattle.nd_cluster.specs.Alone.{alone, processor_of}
 use Rattle.nd_cluster.specs.declared.key.ValueAt.{ValueAt}
 use Rattle.nd_cluster.specs.declared.key.SinkKey.{SinkKey}
@@ -80,6 +80,65 @@ least_take s p edge t value n h1 h3 h8 h12 h13 h14 ValueRange lt f = h12 lt f
 least_take s p edge t value n h1 h3 h8 h12 h13 h14 CountFull lt f = h13 lt f
 least_take s p edge t value n h1 h3 h8 h12 h13 h14 DeltaFull lt f = h14 lt f
 least_take s p edge t value n h1 h3 h8 h12 h13 h14 Memory lt f = f
+
+-- ---- the later conditions
+
+module _ (fails : Refusal → Type 0) (free : (other : Refusal) → number_of other ≤ 10 → fails other → ⊥) (in_range : fails ValueRange → ⊥) where
+  pub below_count : (other : Refusal) → number_of other < 13 → fails other → ⊥
+  below_count NoProcessor lt f = free NoProcessor (omega arith) f
+  below_count NoVertex lt f = free NoVertex (omega arith) f
+  below_count NoEdge lt f = free NoEdge (omega arith) f
+  below_count NotInput lt f = free NotInput (omega arith) f
+  below_count InputClosed lt f = free InputClosed (omega arith) f
+  below_count TooManyValues lt f = free TooManyValues (omega arith) f
+  below_count EpochFull lt f = free EpochFull (omega arith) f
+  below_count NoRecord lt f = free NoRecord (omega arith) f
+  below_count ValueRange lt f = in_range f
+  below_count CountFull lt f = absurd (omega arith)
+  below_count DeltaFull lt f = absurd (omega arith)
+  below_count Memory lt f = absurd (omega arith)
+
+  pub below_delta : (fails CountFull → ⊥) → (other : Refusal) → number_of other < 14 → fails other → ⊥
+  below_delta few NoProcessor lt f = below_count NoProcessor (omega arith) f
+  below_delta few NoVertex lt f = below_count NoVertex (omega arith) f
+  below_delta few NoEdge lt f = below_count NoEdge (omega arith) f
+  below_delta few NotInput lt f = below_count NotInput (omega arith) f
+  below_delta few InputClosed lt f = below_count InputClosed (omega arith) f
+  below_delta few TooManyValues lt f = below_count TooManyValues (omega arith) f
+  below_delta few EpochFull lt f = below_count EpochFull (omega arith) f
+  below_delta few NoRecord lt f = below_count NoRecord (omega arith) f
+  below_delta few ValueRange lt f = below_count ValueRange (omega arith) f
+  below_delta few CountFull lt f = few f
+  below_delta few DeltaFull lt f = absurd (omega arith)
+  below_delta few Memory lt f = absurd (omega arith)
+
+  pub all_free : (fails CountFull → ⊥) → (fails DeltaFull → ⊥) → (fails Memory → ⊥) → IsFree fails
+  all_free few small never = record { free = each }
+    where
+      each : (other : Refusal) → fails other → ⊥
+      each NoProcessor f = below_delta few NoProcessor (omega arith) f
+      each NoVertex f = below_delta few NoVertex (omega arith) f
+      each NoEdge f = below_delta few NoEdge (omega arith) f
+      each NotInput f = below_delta few NotInput (omega arith) f
+      each InputClosed f = below_delta few InputClosed (omega arith) f
+      each TooManyValues f = below_delta few TooManyValues (omega arith) f
+      each EpochFull f = below_delta few EpochFull (omega arith) f
+      each NoRecord f = below_delta few NoRecord (omega arith) f
+      each ValueRange f = below_delta few ValueRange (omega arith) f
+      each CountFull f = below_delta few CountFull (omega arith) f
+      each DeltaFull f = small f
+      each Memory f = never f
+
+  -- the refusal of the last part of a step
+  pub settled_refusal : (r : Refusal) (P Q : Type 0) → (r ≢ Memory → ((r ≡ CountFull) × P) ⊎ ((r ≡ DeltaFull) × Q)) → (P → fails CountFull) → (Q → fails DeltaFull) → (Q → fails CountFull → ⊥) → IsJustified fails r
+  settled_refusal r P Q full count delta few = record {
+    holds = λ other. elim (full other) [ inl a ↦ subst fails (sym a.0) (count a.1) | inr b ↦ subst fails (sym b.0) (delta b.1) ];
+    least = λ other. elim (full other) [
+      | inl a ↦ subst (λ r. (o : Refusal) → number_of o < number_of r → fails o → ⊥) (sym a.0) below_count
+      | inr b ↦ subst (λ r. (o : Refusal) → number_of o < number_of r → fails o → ⊥) (sym b.0) (below_delta (few b.1))
+    ];
+    memory = λ _. free;
+  }
 
 -- ---- what the tests tell
 
