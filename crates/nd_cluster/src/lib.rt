@@ -10,6 +10,7 @@ mod key;
 mod made;
 mod refusal;
 mod step;
+mod take;
 
 pub use cluster::Cluster;
 pub use key::{SinkKey, ValueAt};

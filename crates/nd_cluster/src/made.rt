@@ -35,6 +35,7 @@ pub(crate) fn is_sink(op: Op) -> bool
 }
 
 /// A value has left the range of 64 bits.
+#[derive(Drop)]
 pub(crate) struct OutOfRange;
 
 // The port on which a vertex emits at a record of this value, and the value that it emits, if any.
