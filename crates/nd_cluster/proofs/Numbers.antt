@@ -64,6 +64,9 @@ module _ {K : Type 0} {R : K → K → Ordering} (o : IsTotalOrder R) where
         let grown : count_of (one_more m x) x ≤ count_of (all_more (one_more m x) (drop (i + 1) ks)) x = count-le-all_more (one_more m x) (drop (i + 1) ks) x in
         record { key = x; past = subst (λ t. max_count + 1 ≤ count_of t x) left (omega (arith, grown, count-more_same m x)) }
 
+    pub full_more : (m : fin.FinMap R ℕ) (k : K) → max_count ≤ count_of m k → IsFull (one_more m k)
+    full_more m k large = record { key = k; past = omega (arith, count-more_same m k) }
+
     pub less_last : (es fs : List (K × ℕ)) (k : K) → fin.find R k es ≡ Some 1 → fs ≡ without R k es → fin.from_entries {R = R} fs ≡ one_less (fin.from_entries es) k
     less_last es fs k found e =
         let m = fin.from_entries {R = R} es in
@@ -76,3 +79,7 @@ module _ {K : Type 0} {R : K → K → Ordering} (o : IsTotalOrder R) where
         let n : count_of m k ≡ c = count-from_entries es k ∙ ap (λ (d : Option ℕ). unwrap_or d 0) found in
         ap (fin.from_entries {R = R}) e ∙ from_entries-put R o tells k (c - 1) es
         ∙ sym (ap (λ d. cond (nat_eq d 1) (fin.remove m k) (fin.insert m k (d - 1))) n ∙ ap (λ b. cond b (fin.remove m k) (fin.insert m k (c - 1))) more)
+
+pub some_of : (d : Option ℕ) (n : ℕ) → unwrap_or d 0 ≡ n → 0 < n → d ≡ Some n
+some_of None n e some = absurd (omega arith)
+some_of (Some m) n e some = ap Some e

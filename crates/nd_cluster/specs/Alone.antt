@@ -1,5 +1,5 @@
 -- A cluster of one processor: how its maps are kept, and what a step makes of them.
-use Rattle.std.specs.Prelude.{◌≡◌, ℕ, ◌+◌, ◌<◌, ◌≤◌, Some, ℤ, pos, negsuc, ◌+ℤ◌, length, ◌&&◌, ◌++◌, List, [], ◌∷◌, nat_eq, cond, sum_by, count_by, unwrap_or, if◌then◌else◌}
+use Rattle.std.specs.Prelude.{◌≡◌, ℕ, ◌+◌, ◌<◌, ◌≤◌, Option, Some, IfSome, option_to_list, ℤ, pos, negsuc, ◌+ℤ◌, length, ◌&&◌, ◌++◌, List, [], ◌∷◌, nat_eq, cond, sum_by, count_by, unwrap_or, if◌then◌else◌}
 use Rattle.std.specs.declared.cmp.Ordering.{Ordering}
 use Rattle.std.specs.List.{flat_map}
 use Rattle.std.specs.Ordering.{nat_cmp}
@@ -7,17 +7,19 @@ use Rattle.std.specs.FinMap as fin
 use Rattle.std.specs.FinSet as finset
 use Rattle.nd_time.specs.Limits.{max_count, max_counter}
 use Rattle.nd_time.specs.Time.{Time}
-use Rattle.nd_graph.specs.Graph.{Dataflow, location_count}
+use Rattle.nd_graph.specs.Graph.{Dataflow, location_count, action_of}
+use Rattle.nd_graph.specs.declared.op.Action.TheVariants.{Identity}
 use Rattle.nd_graph.specs.declared.op.Op.TheVariants as op
 use Rattle.nd_graph.specs.declared.graph.Edge.{Edge}
 use Rattle.nd_paths.specs.declared.point.Pointstamp.{Pointstamp}
 use Rattle.nd_delta.specs.Change.{Change, none, at, set, plus, is_point}
 use Rattle.nd_cluster.specs.Keys.{value_at_cmp, sink_cmp}
 use Rattle.nd_cluster.specs.State.{ProcessorState, ClusterState, processor, truth, token_point}
-use Rattle.nd_cluster.specs.Operators.{op_at, is_sink}
+use Rattle.nd_cluster.specs.Operators.{op_at, is_sink, emissions}
 use Rattle.nd_cluster.specs.Steps.{count_of, one_more, one_less, moved_token, target_of, record_key}
 use Rattle.nd_cluster.specs.Enabled.{number_of, FeedFails, TakeFails}
 use Rattle.nd_cluster.specs.declared.refusal.Refusal.{Refusal}
+use Rattle.nd_cluster.specs.declared.refusal.Refusal.TheVariants.{ValueRange}
 use Rattle.nd_cluster.specs.declared.key.ValueAt.{ValueAt}
 use Rattle.nd_cluster.specs.declared.key.SinkKey.{SinkKey}
 use Rattle.nd_cluster.specs.declared.step.Next.{Next as Afterwards}
@@ -142,6 +144,13 @@ pub record CanTake (s : ClusterState) (p edge : ℕ) (t : Time) (value : ℤ) (c
   pub found : fin.get (processor s p).records (record_key edge t value) ≡ Some count
   pub some : 0 < count
   pub free : (other : Refusal) → number_of other ≤ 10 → TakeFails s p edge t value other → ⊥
+
+-- and what the edge's target emits then
+pub record CanEmit (s : ClusterState) (p edge : ℕ) (t : Time) (value : ℤ) (count : ℕ) (emission : Option (ℕ × ℤ)) : Type 0 where
+  pub can : CanTake s p edge t value count
+  pub emits : emissions (op_at s.graph (target_of s.graph edge)) value ≡ option_to_list emission
+  pub still : IfSome emission (λ _. action_of (op_at s.graph (target_of s.graph edge)) ≡ Identity)
+  pub in_range : TakeFails s p edge t value ValueRange → ⊥
 
 -- no count is past the limit
 abbrev pub IsWithinCounts : {K : Type 0} {R : K → K → Ordering} → fin.FinMap R ℕ → Type 0

@@ -5,10 +5,10 @@ ghost use Rattle.std.specs.Ordering.{nat_cmp};
 ghost use Rattle.nd_delta.specs.Change.{none};
 ghost use Rattle.nd_cluster.specs.Keys.{value_at_cmp, sink_cmp};
 ghost use Rattle.nd_cluster.specs.State.{processor};
-ghost use Rattle.nd_cluster.specs.Operators.{is_sink as counts_values};
+ghost use Rattle.nd_cluster.specs.Operators.{is_sink as counts_values, op_at as operator_at};
 ghost use Rattle.nd_cluster.specs.Steps.{one_less, one_more, record_key as key_at, target_of as target_at, after_take as taken_cluster};
 ghost use Rattle.nd_cluster.specs.Enabled.{TakeFails, IsFree, IsJustified};
-ghost use Rattle.nd_cluster.specs.Alone.{CanTake, moved_at, taken_records as taken_of, IsWithinCounts, IsFull};
+ghost use Rattle.nd_cluster.specs.Alone.{CanTake, CanEmit, moved_at, taken_records as taken_of, IsWithinCounts, IsFull};
 ghost use Rattle.nd_cluster.specs.declared.refusal.Refusal.TheVariants.{CountFull, Memory};
 
 use crate::change::one_gone;
@@ -31,6 +31,17 @@ fn target_of<A: Allocator>(graph: &Graph<A>, edge: usize) -> usize
         Some(edge) => edge.to,
         None => 0,
     }
+}
+
+// What a take hands to a vertex: a record of which there are so many, whose value a sink would count,
+// and what the vertex's operator emits.
+#[derive(Drop)]
+struct Taking {
+    key: ValueAt,
+    count: u64,
+    sink: SinkKey,
+    op: Op,
+    emission: Option<(u32, i64)>,
 }
 
 impl<A: Allocator + Copy> Cluster<A> {
@@ -57,16 +68,52 @@ impl<A: Allocator + Copy> Cluster<A> {
         Ok(count)
     }
 
+    // What a take hands to which vertex, or why it does not.
+    fn taking(
+        &self,
+        p: u32,
+        edge: usize,
+        time: &Timestamp,
+        value: i64,
+    ) -> Result<Taking, Refusal>
+        ensures key { IfOk result (λ x. x.key ≡ key_at edge time.now value) }
+        ensures sink { IfOk result (λ x. x.sink ≡ record { vertex = target_at self.now.graph edge; value = value }) }
+        ensures op { IfOk result (λ x. x.op ≡ operator_at self.now.graph (target_at self.now.graph edge)) }
+        ensures ok { IfOk result (λ x. CanEmit self.now p edge time.now value x.count x.emission) }
+        ensures refused { IfErr result (IsJustified (TakeFails self.now p edge time.now value)) }
+    {
+        let key = record_key(edge, time, value);
+        let count = match self.take_count(p, &key) {
+            Ok(count) => count,
+            Err(refusal) => return Err(refusal),
+        };
+        let graph = self.graph();
+        let target = target_of(graph, edge);
+        let op = op_at(graph, target);
+        let Ok(emission) = emission(op, value) else {
+            return Err(Refusal::ValueRange);
+        };
+        Ok(Taking {
+            key,
+            count,
+            sink: SinkKey {
+                vertex: target,
+                value,
+            },
+            op,
+            emission,
+        })
+    }
+
     // The counts of the sinks once a vertex was handed a value.
     fn sinks_after(
         &self,
         op: Op,
-        vertex: usize,
-        value: i64,
+        sink: &SinkKey,
     ) -> Result<SortedMap<SinkKey, u64, A>, Refusal>
-        ensures ok { IfOk result (λ m. from_entries {R = sink_cmp} m ≡ (if counts_values op then one_more (processor self.now 0).sinks (record { vertex = vertex; value = value }) else (processor self.now 0).sinks)) }
+        ensures ok { IfOk result (λ m. from_entries {R = sink_cmp} m ≡ (if counts_values op then one_more (processor self.now 0).sinks sink.now else (processor self.now 0).sinks)) }
         ensures within { IfOk result (λ m. IsWithinCounts (from_entries {R = sink_cmp} m)) }
-        ensures full { IfErr result (λ r. r ≢ Memory → (r ≡ CountFull) × IsFull (if counts_values op then one_more (processor self.now 0).sinks (record { vertex = vertex; value = value }) else (processor self.now 0).sinks)) }
+        ensures full { IfErr result (λ r. r ≢ Memory → (r ≡ CountFull) × IsFull (if counts_values op then one_more (processor self.now 0).sinks sink.now else (processor self.now 0).sinks)) }
     {
         let Ok(mut sinks) = self.sinks.copy(self.alloc) else {
             return Err(Refusal::Memory);
@@ -74,7 +121,7 @@ impl<A: Allocator + Copy> Cluster<A> {
         if !is_sink(op) {
             return Ok(sinks);
         }
-        if let Err(refusal) = count_more(&mut sinks, &SinkKey { vertex, value }) {
+        if let Err(refusal) = count_more(&mut sinks, sink) {
             return Err(refusal);
         }
         Ok(sinks)
@@ -124,22 +171,21 @@ impl<A: Allocator + Copy> Cluster<A> {
         ensures free { OnOk result (IsFree (TakeFails self.now p edge time.now value)) }
         ensures refused { IfErr result (IsJustified (TakeFails self.now p edge time.now value)) }
     {
-        let key = record_key(edge, time, value);
-        let count = match self.take_count(p, &key) {
-            Ok(count) => count,
+        let taking = match self.taking(p, edge, time, value) {
+            Ok(taking) => taking,
             Err(refusal) => return Err(refusal),
         };
-        let graph = self.graph();
-        let target = target_of(graph, edge);
-        let op = op_at(graph, target);
-        let Ok(emission) = emission(op, value) else {
-            return Err(Refusal::ValueRange);
-        };
-        let sinks = match self.sinks_after(op, target, value) {
+        let sinks = match self.sinks_after(taking.op, &taking.sink) {
             Ok(sinks) => sinks,
             Err(refusal) => return Err(refusal),
         };
-        let Ok(draft) = self.take_draft(&key, count, target, emission, sinks) else {
+        let Ok(draft) = self.take_draft(
+            &taking.key,
+            taking.count,
+            taking.sink.vertex,
+            taking.emission,
+            sinks,
+        ) else {
             return Err(Refusal::Memory);
         };
         match self.settle(draft) {
