@@ -28,6 +28,15 @@ module _ {K : Type 0} {R : K → K → Ordering} (o : IsTotalOrder R) where
   pub count-more_same : (m : fin.FinMap R ℕ) (k : K) → count_of (one_more m k) k ≡ count_of m k + 1
   count-more_same m k = count-insert m k (count_of m k + 1) k ∙ ap (λ r. cond (is_eq r) (count_of m k + 1) (count_of m k)) (tied_itself o k)
 
+  pub within-one_less : (m : fin.FinMap R ℕ) (k : K) → IsWithinCounts m → IsWithinCounts (one_less m k)
+  within-one_less m k within q =
+      elim (nat_eq (count_of m k) 1) as (λ b. count_of (cond b (fin.remove m k) (fin.insert m k (count_of m k - 1))) q ≤ max_count) [
+        | true ↦ rw (fin.get-remove o m k q)
+            (elim (eq_by_cmp R q k) as (λ b. unwrap_or (cond b None (fin.get m q)) 0 ≤ max_count) [ true ↦ omega arith | false ↦ within q ])
+        | false ↦ rw (count-insert m k (count_of m k - 1) q)
+            (elim (eq_by_cmp R q k) as (λ b. cond b (count_of m k - 1) (count_of m q) ≤ max_count) [ true ↦ omega (arith, within k) | false ↦ within q ])
+      ]
+
   module _ (tells : fin.IsAntisymmetric R) where
     grows : (b : Bool) (a c : ℕ) → (b ≡ true → c ≡ a) → c ≤ cond b (a + 1) c
     grows true a c e = omega (arith, e refl)

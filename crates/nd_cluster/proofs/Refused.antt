@@ -83,6 +83,21 @@ least_take s p edge t value n h1 h3 h8 h12 h13 h14 Memory lt f = f
 
 -- ---- the later conditions
 
+-- no condition stands between those of numbers 10 and 12
+pub below_range : (fails : Refusal → Type 0) → ((other : Refusal) → number_of other ≤ 10 → fails other → ⊥) → (other : Refusal) → number_of other < 12 → fails other → ⊥
+below_range fails free NoProcessor lt f = free NoProcessor (omega arith) f
+below_range fails free NoVertex lt f = free NoVertex (omega arith) f
+below_range fails free NoEdge lt f = free NoEdge (omega arith) f
+below_range fails free NotInput lt f = free NotInput (omega arith) f
+below_range fails free InputClosed lt f = free InputClosed (omega arith) f
+below_range fails free TooManyValues lt f = free TooManyValues (omega arith) f
+below_range fails free EpochFull lt f = free EpochFull (omega arith) f
+below_range fails free NoRecord lt f = free NoRecord (omega arith) f
+below_range fails free ValueRange lt f = absurd (omega arith)
+below_range fails free CountFull lt f = absurd (omega arith)
+below_range fails free DeltaFull lt f = absurd (omega arith)
+below_range fails free Memory lt f = absurd (omega arith)
+
 module _ (fails : Refusal → Type 0) (free : (other : Refusal) → number_of other ≤ 10 → fails other → ⊥) (in_range : fails ValueRange → ⊥) where
   pub below_count : (other : Refusal) → number_of other < 13 → fails other → ⊥
   below_count NoProcessor lt f = free NoProcessor (omega arith) f
