@@ -46,18 +46,18 @@ pub least_feed :
   → (13 < n → HasLargeCount (after_feed s p vertex values next) → ⊥)
   → (14 < n → HasLargeEntry (after_feed s p vertex values next) → ⊥)
   → (other : Refusal) → number_of other < n → FeedFails s p vertex values next other → ⊥
-least_feed s p vertex values next n h1 h2 h4 h5 h6 h7 h13 h14 NoProcessor lt f = h1 lt f
-least_feed s p vertex values next n h1 h2 h4 h5 h6 h7 h13 h14 NoVertex lt f = h2 lt f
-least_feed s p vertex values next n h1 h2 h4 h5 h6 h7 h13 h14 NoEdge lt f = f
-least_feed s p vertex values next n h1 h2 h4 h5 h6 h7 h13 h14 NotInput lt f = h4 lt f
-least_feed s p vertex values next n h1 h2 h4 h5 h6 h7 h13 h14 InputClosed lt f = h5 lt f
-least_feed s p vertex values next n h1 h2 h4 h5 h6 h7 h13 h14 TooManyValues lt f = h6 lt f
-least_feed s p vertex values next n h1 h2 h4 h5 h6 h7 h13 h14 EpochFull lt f = h7 lt f
-least_feed s p vertex values next n h1 h2 h4 h5 h6 h7 h13 h14 NoRecord lt f = f
-least_feed s p vertex values next n h1 h2 h4 h5 h6 h7 h13 h14 ValueRange lt f = f
-least_feed s p vertex values next n h1 h2 h4 h5 h6 h7 h13 h14 CountFull lt f = h13 lt f
-least_feed s p vertex values next n h1 h2 h4 h5 h6 h7 h13 h14 DeltaFull lt f = h14 lt f
-least_feed s p vertex values next n h1 h2 h4 h5 h6 h7 h13 h14 Memory lt f = f
+least_feed s p vertex values _ n h1 h2 h4 h5 h6 h7 h13 h14 NoProcessor lt f = h1 lt f
+least_feed s p vertex values _ n h1 h2 h4 h5 h6 h7 h13 h14 NoVertex lt f = h2 lt f
+least_feed s p vertex values _ n h1 h2 h4 h5 h6 h7 h13 h14 NoEdge lt f = f
+least_feed s p vertex values _ n h1 h2 h4 h5 h6 h7 h13 h14 NotInput lt f = h4 lt f
+least_feed s p vertex values _ n h1 h2 h4 h5 h6 h7 h13 h14 InputClosed lt f = h5 lt f
+least_feed s p vertex values _ n h1 h2 h4 h5 h6 h7 h13 h14 TooManyValues lt f = h6 lt f
+least_feed s p vertex values _ n h1 h2 h4 h5 h6 h7 h13 h14 EpochFull lt f = h7 lt f
+least_feed s p vertex values _ n h1 h2 h4 h5 h6 h7 h13 h14 NoRecord lt f = f
+least_feed s p vertex values _ n h1 h2 h4 h5 h6 h7 h13 h14 ValueRange lt f = f
+least_feed s p vertex values _ n h1 h2 h4 h5 h6 h7 h13 h14 CountFull lt f = h13 lt f
+least_feed s p vertex values _ n h1 h2 h4 h5 h6 h7 h13 h14 DeltaFull lt f = h14 lt f
+least_feed s p vertex values _ n h1 h2 h4 h5 h6 h7 h13 h14 Memory lt f = f
 
 pub least_take :
   (s : ClusterState) (p edge : ℕ) (t : Time) (value : ℤ) (n : ℕ)

@@ -8,11 +8,13 @@ mod draft;
 mod feed;
 mod key;
 mod made;
+mod record;
 mod refusal;
 mod step;
 mod take;
 
 pub use cluster::Cluster;
 pub use key::{SinkKey, ValueAt};
-pub use refusal::Refusal;
+pub use record::Record;
+pub use refusal::{NoMemory, Refusal};
 pub use step::{Next, Step, Values};

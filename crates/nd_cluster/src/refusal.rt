@@ -33,6 +33,11 @@ pub enum Refusal {
     Memory,
 }
 
+/// A growth was refused.
+#[derive(Clone, Copy, Debug, PartialEq, Eq, Drop, Error)]
+#[error("out of memory")]
+pub struct NoMemory;
+
 impl Refusal {
     /// The refusal's number.
     pub fn number(self) -> u64
