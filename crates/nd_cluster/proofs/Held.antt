@@ -1,12 +1,15 @@
 -- What is outstanding in a processor, as sums over its maps, and how an edit of a map moves it.
-use Rattle.std.proofs.Common.{◌≡◌, ◌≢◌, ◌<◌, ℕ, zero, suc, ◌+◌, ◌-◌, ◌==◌, ℤ, pos, ◌+ℤ◌, ◌-ℤ◌, Bool, true, false, cond, List, [], ◌∷◌, ◌++◌, map, Option, Some, None, Equal, Less, Greater, Ordering, unwrap_or, refl, sym, ap, subst, ◌∙◌, arith, true≢false}
+use Rattle.std.proofs.Common.{◌≡◌, ◌≢◌, ◌<◌, ◌≤◌, length, take, get_or, ℕ, zero, suc, ◌+◌, ◌-◌, ◌==◌, ℤ, pos, ◌+ℤ◌, ◌-ℤ◌, Bool, true, false, cond, List, [], ◌∷◌, ◌++◌, map, Option, Some, None, Equal, Less, Greater, Ordering, unwrap_or, refl, sym, ap, subst, ◌∙◌, arith, true≢false}
 use Rattle.std.proofs.lemmas.Int.{ints}
 use Rattle.std.proofs.lemmas.Bool.Decides.{nat_tests}
 use Rattle.std.proofs.lemmas.List.{append-nil}
-use Rattle.std.proofs.lemmas.List.Sums.{sum_by-cons, sum_by-append}
+use Rattle.std.proofs.lemmas.List.Sums.{sum_by-cons, sum_by-append, sum_by_more, sum_by_more_le}
 use Rattle.std.proofs.lemmas.Cmp.{tied_itself, nat_cmp_total}
 use Rattle.std.proofs.lemmas.Map.Views.{tells_apart}
-use Rattle.std.specs.Prelude.{sum_by, count_by, nat_eq}
+use Rattle.std.specs.Prelude.{sum_by, count_by, nat_eq, ◌||◌}
+use Rattle.std.specs.List.{list_any}
+use Rattle.nd_map.specs.Listed.{IsListed}
+use Rattle.nd_map.specs.Maps.{entries-from_entries}
 use Rattle.std.specs.Cmp.{IsTotalOrder}
 use Rattle.std.specs.Ordering.{nat_cmp, eq_by_cmp, is_eq}
 use Rattle.std.specs.FinMap as fin
@@ -18,8 +21,8 @@ use Rattle.nd_delta.specs.Change.{Change, none, at, set, plus, minus, same, is_p
 use Rattle.nd_cluster.specs.Keys.{value_at_cmp, value_at_total, value_at_exact}
 use Rattle.nd_cluster.specs.State.{ProcessorState, token_point, tally, outstanding_at, truth}
 use Rattle.nd_cluster.specs.Steps.{count_of, one_more, one_less}
-use Rattle.nd_cluster.specs.Alone.{all_more, one_at, number_at}
-use Rattle.nd_cluster.specs.Held.{in_records, in_requests, in_tokens, held}
+use Rattle.nd_cluster.specs.Alone.{all_more, number_at}
+use Rattle.nd_cluster.specs.Held.{one_at, in_records, in_requests, in_tokens, held}
 use Rattle.nd_cluster.specs.declared.key.ValueAt.{ValueAt}
 
 -- ---- the truth as a sum
@@ -162,3 +165,43 @@ plus-moved q r change moved =
     let m = moved x in
     let d = at-minus (truth (r ∷ [])) (truth (q ∷ [])) x in
     omega (arith, ints))
+
+-- ---- an empty set of requests
+
+no_items : (es : List Pointstamp) → ((x : Pointstamp) → list_any (eq_by_cmp point_cmp x) es ≡ false) → es ≡ []
+no_items [] none = refl
+no_items (e ∷ es) none = absurd (true≢false (sym (ap (λ r. is_eq r || list_any (eq_by_cmp point_cmp e) es) (tied_itself point_total e)) ∙ none e))
+
+pub no_requests : (x : Pointstamp) → in_requests finset.empty x ≡ 0
+no_requests x = ap (λ ps. sum_by (λ p. one_at p x) ps) (no_items (finset.items finset.empty) (λ y. sym (finset.contains-items finset.empty y) ∙ finset.contains-empty point_cmp y))
+
+pub no_records : (x : Pointstamp) → in_records fin.empty x ≡ 0
+no_records x = ap (λ es. weight (λ (k : ValueAt) n. cond (is_point x k.point) n 0) es) (entries-from_entries value_at_cmp value_at_total value_at_exact [] tt)
+
+-- ---- a sum over the entries, one by one
+
+module _ {X : Type 0} (f : X → ℕ) (xs : List X) where
+  pub sum_next : (i : ℕ) (d x : X) (before after : ℕ) → i < length xs → x ≡ get_or xs i d → before ≡ sum_by f (take i xs) → after ≡ before + f x → after ≡ sum_by f (take (i + 1) xs)
+  sum_next i d x before after lt is sum add =
+      let same : f x ≡ f (get_or xs i d) = ap f is in
+      omega (arith, sum_by_more f xs i d lt)
+
+  pub sum_within : (i : ℕ) (d x : X) (before n : ℕ) → i < length xs → x ≡ get_or xs i d → before ≡ sum_by f (take i xs) → sum_by f xs < n → before + f x < n
+  sum_within i d x before n lt is sum few =
+      let same : f x ≡ f (get_or xs i d) = ap f is in
+      omega (arith, sum_by_more_le f xs i d lt)
+
+take_all : {X : Type 0} (xs : List X) (i : ℕ) → length xs ≤ i → take i xs ≡ xs
+take_all [] zero h = refl
+take_all [] (suc i) h = refl
+take_all (x ∷ xs) zero h = absurd (omega arith)
+take_all (x ∷ xs) (suc i) h = ap (λ ys. x ∷ ys) (take_all xs i (omega arith))
+
+pub sum_all : {X : Type 0} (f : X → ℕ) (xs : List X) (i : ℕ) → length xs ≤ i → sum_by f (take i xs) ≡ sum_by f xs
+sum_all f xs i h = ap (sum_by f) (take_all xs i h)
+
+pub in_records-from_entries : (es : List (ValueAt × ℕ)) (x : Pointstamp) → IsListed value_at_cmp es → in_records (fin.from_entries es) x ≡ sum_by (λ e. cond (is_point x e.0.point) e.1 0) es
+in_records-from_entries es x h = ap (λ fs. weight (λ (k : ValueAt) n. cond (is_point x k.point) n 0) fs) (entries-from_entries value_at_cmp value_at_total value_at_exact es h)
+
+pub in_tokens-from_entries : (es : List (ℕ × ℕ)) (x : Pointstamp) → IsListed nat_cmp es → in_tokens (fin.from_entries es) x ≡ sum_by (λ e. one_at (token_point e.0 e.1) x) es
+in_tokens-from_entries es x h = ap (λ fs. weight (λ v e. one_at (token_point v e) x) fs) (entries-from_entries nat_cmp nat_cmp_total fin.nat_cmp-IsAntisymmetric es h)

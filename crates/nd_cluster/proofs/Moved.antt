@@ -26,8 +26,8 @@ use Rattle.nd_cluster.specs.Keys.{value_at_cmp}
 use Rattle.nd_cluster.specs.State.{ProcessorState, ClusterState, token_point, truth}
 use Rattle.nd_cluster.specs.Operators.{op_at, emissions, destination, made_on, time_past}
 use Rattle.nd_cluster.specs.Steps.{count_of, one_more, one_less, with_records, with_record, emitted, moved_token, record_key}
-use Rattle.nd_cluster.specs.Alone.{all_more, one_at, number_at, made_here, fed_records, taken_records, moved_at, with_made, token_change}
-use Rattle.nd_cluster.specs.Held.{held, in_records, in_tokens, Moves, settled_by}
+use Rattle.nd_cluster.specs.Alone.{all_more, number_at, made_here, fed_records, taken_records, moved_at, with_made, token_change}
+use Rattle.nd_cluster.specs.Held.{one_at, held, in_records, in_tokens, Moves, settled_by}
 use Rattle.nd_cluster.specs.declared.key.ValueAt.{ValueAt}
 use Rattle.nd_cluster.specs.declared.step.Next.{Next as Afterwards}
 use Rattle.nd_cluster.specs.declared.step.Next.TheVariants as token

@@ -2,7 +2,7 @@
 use Rattle.std.proofs.Common.{◌≡◌, ℕ, List, [], ◌∷◌, refl, sym, ap, subst, ◌∙◌}
 use Rattle.std.specs.FinMap as fin
 use Rattle.nd_graph.specs.Graph.{Dataflow}
-use Rattle.nd_delta.specs.Change.{Change, plus, IsTooLarge}
+use Rattle.nd_delta.specs.Change.{Change, plus, IsWithin, IsTooLarge}
 use Rattle.nd_cluster.specs.Keys.{value_at_cmp, sink_cmp}
 use Rattle.nd_cluster.specs.State.{ProcessorState, ClusterState, processor}
 use Rattle.nd_cluster.specs.Alone.{alone, processor_of, drafted, all_more, with_made, IsKept, IsWithinCounts}
@@ -37,10 +37,13 @@ module _ (g : Dataflow) (records : List (ValueAt × ℕ)) (tokens : List (ℕ ×
         → IsWithinCounts (fin.from_entries {R = value_at_cmp} new_records)
         → IsWithinCounts (fin.from_entries {R = sink_cmp} new_sinks)
         → Moves (processor s 0) (drafted (processor s 0) drafted_records new_tokens new_sinks made) (with_made change made)
+        → IsWithin view
+        → (IsTooLarge (plus unsent total) → ⊥)
         → IsKept (processor_of new_records new_tokens new_sinks new_unsent new_view)
-      settled_kept kept few_records few_sinks moves =
+      settled_kept kept few_records few_sinks moves within small =
           subst IsKept (sym settled_is)
-          (kept_after (processor s 0) (drafted (processor s 0) drafted_records new_tokens new_sinks made) (with_made change made) (subst IsKept the_processor kept) moves (subst IsWithinCounts more few_records) few_sinks)
+          (kept_after (processor s 0) (drafted (processor s 0) drafted_records new_tokens new_sinks made) (with_made change made) (subst IsKept the_processor kept) moves (subst IsWithinCounts more few_records) few_sinks
+          (subst (λ (q : ProcessorState). IsWithin q.view) the_processor within) (λ large. small (subst IsTooLarge (sym unsent_is) large)))
 
       pub settled_state : (h : Dataflow) → h ≡ g → alone h (processor_of new_records new_tokens new_sinks new_unsent new_view) ≡ alone s.graph (settled_by (processor s 0) (drafted (processor s 0) drafted_records new_tokens new_sinks made) (with_made change made))
       settled_state h same = λ i. alone ((same ∙ graph_is g (processor_of records tokens sinks unsent view) s is) i) (settled_is i)

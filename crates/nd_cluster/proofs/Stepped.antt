@@ -1,6 +1,7 @@
 -- The steps of a cluster of one processor.
-use Rattle.std.proofs.Common.{◌≡◌, ◌≢◌, ◌<◌, ◌≤◌, ℕ, zero, suc, ◌+◌, ◌-◌, ℤ, pos, negsuc, ◌+ℤ◌, ◌-ℤ◌, Bool, true, false, cond, List, [], ◌∷◌, ◌++◌, length, Option, Some, None, unwrap_or, refl, sym, ap, subst, ◌∙◌, arith, inl, inr}
+use Rattle.std.proofs.Common.{◌≡◌, ◌≢◌, ◌<◌, ◌≤◌, ◌^◌, ℕ, zero, suc, ◌+◌, ◌-◌, ℤ, pos, negsuc, ◌+ℤ◌, ◌-ℤ◌, Bool, true, false, cond, List, [], ◌∷◌, ◌++◌, length, Option, Some, None, unwrap_or, refl, sym, ap, subst, ◌∙◌, arith, inl, inr}
 use Rattle.std.proofs.lemmas.Int.{ints}
+use Rattle.std.proofs.lemmas.Bool.{cases_lt}
 use Rattle.std.specs.Prelude.{unsigned_abs, option_to_list, IfSome, slice_index_or}
 use Rattle.std.specs.List.{flat_map}
 use Rattle.std.specs.Ordering.{nat_cmp}
@@ -12,14 +13,14 @@ use Rattle.nd_graph.specs.Graph.{Dataflow, action_of}
 use Rattle.nd_graph.specs.declared.op.Op.{Op}
 use Rattle.nd_graph.specs.declared.op.Op.TheVariants as op
 use Rattle.nd_graph.specs.declared.op.Action.TheVariants.{Identity}
-use Rattle.nd_delta.specs.Change.{Change, none, at, plus, minus, same, is_point, at-none, at-plus, IsTooLarge}
+use Rattle.nd_delta.specs.Change.{Change, none, at, plus, minus, same, is_point, at-none, at-plus, IsWithin, IsTooLarge}
 use Rattle.nd_cluster.specs.Keys.{value_at_cmp, sink_cmp}
 use Rattle.nd_cluster.specs.State.{ProcessorState, ClusterState, processor, idle, token_point, truth}
 use Rattle.nd_cluster.specs.Operators.{op_at, emissions, is_sink, time_past}
 use Rattle.nd_cluster.specs.Steps.{count_of, one_more, one_less, with_records, emitted, moved_token, epoch_of, target_of, record_key, fed, taken, settled, after_feed, after_take}
 use Rattle.nd_cluster.specs.Enabled.{number_of, HasLargeCount, of_record, of_sink, HasLargeEntry, FeedFails, TakeFails}
-use Rattle.nd_cluster.specs.Alone.{alone, IsAlone, IsKept, IsFull, IsWithinCounts, one_at, number_at, all_more, made_here, fed_records, taken_records, with_made, token_change, moved_at, fed_here, taken_here}
-use Rattle.nd_cluster.specs.Held.{held, in_records, in_tokens, Moves, settled_by}
+use Rattle.nd_cluster.specs.Alone.{alone, IsAlone, IsKept, IsFull, IsWithinCounts, number_at, all_more, made_here, fed_records, taken_records, with_made, token_change, moved_at, fed_here, taken_here}
+use Rattle.nd_cluster.specs.Held.{one_at, held, in_records, in_tokens, Moves, settled_by}
 use Rattle.nd_cluster.specs.declared.key.ValueAt.{ValueAt}
 use Rattle.nd_cluster.specs.declared.key.SinkKey.{SinkKey}
 use Rattle.nd_cluster.specs.declared.step.Next.{Next as Afterwards}
@@ -104,19 +105,37 @@ take_moves g q edge t value es some x =
 
 -- ---- what the processor keeps
 
-pub kept_after : (q r : ProcessorState) (change : Change) → IsKept q → Moves q r change → IsWithinCounts r.records → IsWithinCounts r.sinks → IsKept (settled_by q r change)
-kept_after q r change kept moves records sinks = record {
-  records = records;
-  sinks = sinks;
-  settled = same _ _ (λ x.
-  let a = truth-alone q x in
-  let b = truth-alone r x in
-  let m = moves x in
-  let old = ap (λ c. at c x) kept.settled ∙ at-plus q.view q.unsent x in
-  let sum = at-plus q.view (plus q.unsent change) x in
-  let unsent = at-plus q.unsent change x in
-  truth-alone (settled_by q r change) x ∙ omega (arith, ints));
-}
+sum_small : (a b : ℤ) (n : ℕ) → pos n ≡ a +ℤ b → unsigned_abs a ≤ 2 ^ 40 → unsigned_abs b ≤ 2 ^ 40 → n < 2 ^ 63
+sum_small (pos a) (pos b) n e x y = omega (arith, ints)
+sum_small (pos a) (negsuc b) n e x y = omega (arith, ints)
+sum_small (negsuc a) (pos b) n e x y = omega (arith, ints)
+sum_small (negsuc a) (negsuc b) n e x y = omega (arith, ints)
+
+bounded : (n : ℕ) → (2 ^ 40 < n → ⊥) → n ≤ 2 ^ 40
+bounded n h = elim (cases_lt (2 ^ 40) n) [ inl lt ↦ absurd (h lt) | inr le ↦ le ]
+
+after_settled : (q r : ProcessorState) (change : Change) → IsKept q → Moves q r change → truth (settled_by q r change ∷ []) ≡ plus q.view (plus q.unsent change)
+after_settled q r change kept moves =
+    same _ _ (λ x.
+    let a = truth-alone q x in
+    let m = moves x in
+    let old = ap (λ c. at c x) kept.settled ∙ at-plus q.view q.unsent x in
+    let sum = at-plus q.view (plus q.unsent change) x in
+    let unsent = at-plus q.unsent change x in
+    truth-alone (settled_by q r change) x ∙ omega (arith, ints))
+
+pub kept_after : (q r : ProcessorState) (change : Change) → IsKept q → Moves q r change → IsWithinCounts r.records → IsWithinCounts r.sinks → IsWithin q.view → (IsTooLarge (plus q.unsent change) → ⊥) → IsKept (settled_by q r change)
+kept_after q r change kept moves records sinks view small =
+    let settled = after_settled q r change kept moves in
+    record {
+      records = records;
+      sinks = sinks;
+      settled = settled;
+      few = λ x.
+          sum_small (at q.view x) (at (plus q.unsent change) x) (held r x)
+          (sym (truth-alone (settled_by q r change) x) ∙ ap (λ c. at c x) settled ∙ at-plus q.view (plus q.unsent change) x)
+          (view x) (bounded (unsigned_abs (at (plus q.unsent change) x)) (λ large. small (x, large)));
+    }
 
 -- ---- the limits
 
@@ -173,3 +192,7 @@ graph_is g q s is = ap (λ s. s.graph) is
 pub one_processor : (g : Dataflow) (q : ProcessorState) (s : ClusterState) → alone g q ≡ s → length s.processors ≡ 1
 unfolding alone
 one_processor g q s is = ap (λ s. length s.processors) (sym is)
+
+pub processors_are : (g : Dataflow) (q : ProcessorState) (s : ClusterState) → alone g q ≡ s → q ∷ [] ≡ s.processors
+unfolding alone
+processors_are g q s is = ap (λ s. s.processors) is

@@ -1,5 +1,5 @@
 -- A cluster of one processor: how its maps are kept, and what a step makes of them.
-use Rattle.std.specs.Prelude.{◌≡◌, ℕ, ◌+◌, ◌<◌, ◌≤◌, Option, Some, IfSome, option_to_list, ℤ, pos, negsuc, ◌+ℤ◌, length, ◌&&◌, ◌++◌, List, [], ◌∷◌, nat_eq, cond, sum_by, count_by, unwrap_or, if◌then◌else◌}
+use Rattle.std.specs.Prelude.{◌≡◌, ℕ, ◌+◌, ◌^◌, ◌<◌, ◌≤◌, Option, Some, IfSome, option_to_list, ℤ, pos, negsuc, ◌+ℤ◌, length, ◌&&◌, ◌++◌, List, [], ◌∷◌, nat_eq, cond, sum_by, count_by, unwrap_or, if◌then◌else◌}
 use Rattle.std.specs.declared.cmp.Ordering.{Ordering}
 use Rattle.std.specs.List.{flat_map}
 use Rattle.std.specs.Ordering.{nat_cmp}
@@ -16,6 +16,7 @@ use Rattle.nd_delta.specs.Change.{Change, none, at, set, plus, is_point}
 use Rattle.nd_cluster.specs.Keys.{value_at_cmp, sink_cmp}
 use Rattle.nd_cluster.specs.State.{ProcessorState, ClusterState, processor, truth, token_point}
 use Rattle.nd_cluster.specs.Operators.{op_at, is_sink, emissions}
+use Rattle.nd_cluster.specs.Held.{held, one_at}
 use Rattle.nd_cluster.specs.Steps.{count_of, one_more, one_less, moved_token, target_of, record_key}
 use Rattle.nd_cluster.specs.Enabled.{number_of, FeedFails, TakeFails}
 use Rattle.nd_cluster.specs.declared.refusal.Refusal.{Refusal}
@@ -42,11 +43,13 @@ processor_of records tokens sinks unsent view =
 unfoldable pub alone : Dataflow → ProcessorState → ClusterState
 alone g q = record { graph = g; processors = q ∷ []; queues = ([] ∷ []) ∷ [] }
 
--- what a cluster keeps of its processor: counts within the limit, and a view that with the unsent change is the truth
+-- what a cluster keeps of its processor: counts within the limit, a view that with the unsent change is the truth,
+-- and numbers that fit
 pub record IsKept (q : ProcessorState) : Type 0 where
   pub records : (k : ValueAt) → count_of q.records k ≤ max_count
   pub sinks : (k : SinkKey) → count_of q.sinks k ≤ max_count
   pub settled : truth (q ∷ []) ≡ plus q.view q.unsent
+  pub few : (x : Pointstamp) → held q x < 2 ^ 63
 
 -- a cluster of one processor
 pub record IsAlone (s : ClusterState) : Type 0 where
@@ -69,10 +72,6 @@ made_here vertex port v t l [] = []
 made_here vertex port v t l (e ∷ edges) =
     (if nat_eq e.from vertex && nat_eq e.port port then record { point = record { location = l; time = t }; value = v } ∷ [] else [])
     ++ made_here vertex port v t (l + 1) edges
-
--- 1 at a pointstamp itself, 0 elsewhere
-abbrev pub one_at : Pointstamp → Pointstamp → ℕ
-one_at p x = cond (is_point x p) 1 0
 
 -- how many of the records are at a pointstamp
 abbrev pub number_at : List ValueAt → Pointstamp → ℕ

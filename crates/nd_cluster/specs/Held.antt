@@ -9,7 +9,10 @@ use Rattle.nd_map.specs.Weights.{weight}
 use Rattle.nd_delta.specs.Change.{Change, at, plus, is_point}
 use Rattle.nd_cluster.specs.Keys.{value_at_cmp}
 use Rattle.nd_cluster.specs.State.{ProcessorState, token_point}
-use Rattle.nd_cluster.specs.Alone.{one_at}
+
+-- 1 at a pointstamp itself, 0 elsewhere
+abbrev pub one_at : Pointstamp → Pointstamp → ℕ
+one_at p x = cond (is_point x p) 1 0
 
 -- how many records, requests and tokens there are at a pointstamp
 abbrev pub in_records : fin.FinMap value_at_cmp ℕ → Pointstamp → ℕ

@@ -1,12 +1,16 @@
 //! The state of a cluster, and its readers.
-ghost use Rattle.std.specs.Prelude.{◌≡◌, pos, IfOk, length};
+ghost use Rattle.std.specs.Prelude.{◌≡◌, ◌<◌, ◌^◌, pos, IfOk, length};
+ghost use Rattle.std.specs.FinMap.{from_entries};
 ghost use Rattle.nd_delta.specs.Change.{at};
 ghost use Rattle.nd_cluster.specs.State.{truth};
+ghost use Rattle.nd_cluster.specs.Held.{in_records, in_tokens};
 
+use crate::change::token_point;
 use crate::{SinkKey, ValueAt};
 use nd_delta::Delta;
 use nd_graph::Graph;
 use nd_map::SortedMap;
+use nd_paths::Pointstamp;
 use std::alloc::{AllocError, Allocator, Global};
 use std::marker::Model;
 
@@ -37,6 +41,34 @@ impl<A: Allocator + Copy> Model for Cluster<A> {
     ghost invariant = { λ a. IsKept (processor_of a.records a.tokens a.sinks a.unsent a.view) };
 }
 
+// How many records there are at a pointstamp.
+fn count_records<A: Allocator>(records: &SortedMap<ValueAt, u64, A>, point: &Pointstamp) -> u64
+    requires { in_records (from_entries records.now) point.now < 2 ^ 63 }
+    ensures { result ≡ in_records (from_entries records.now) point.now }
+{
+    let mut total = 0;
+    for entry in records.entries() {
+        if point.cmp(&entry.0.point).is_eq() {
+            total += entry.1;
+        }
+    }
+    total
+}
+
+// How many tokens there are at a pointstamp.
+fn count_tokens<A: Allocator>(tokens: &SortedMap<usize, u32, A>, point: &Pointstamp) -> u64
+    requires { in_tokens (from_entries tokens.now) point.now < 2 ^ 63 }
+    ensures { result ≡ in_tokens (from_entries tokens.now) point.now }
+{
+    let mut total = 0;
+    for entry in tokens.entries() {
+        if point.cmp(&token_point(entry.0, entry.1)).is_eq() {
+            total += 1;
+        }
+    }
+    total
+}
+
 impl<A: Allocator + Copy> Cluster<A> {
     /// The number of processors.
     pub fn n(&self) -> u32
@@ -51,6 +83,13 @@ impl<A: Allocator + Copy> Cluster<A> {
         ensures { result.now ≡ self.now.graph }
     {
         &self.graph
+    }
+
+    /// How many records, requests and tokens there are at a pointstamp, over all processors.
+    pub fn count(&self, point: &Pointstamp) -> u64
+        ensures { pos result ≡ at (truth self.now.processors) point.now }
+    {
+        count_records(&self.records, point) + count_tokens(&self.tokens, point)
     }
 
     /// An equal cluster.
