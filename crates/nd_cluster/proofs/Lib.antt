@@ -5,3 +5,4 @@ pub mod Stepped
 pub mod Refused
 pub mod Settling
 pub mod Drafts
+pub mod Started

@@ -10,6 +10,7 @@ mod key;
 mod made;
 mod record;
 mod refusal;
+mod start;
 mod step;
 mod take;
 
@@ -17,4 +18,5 @@ pub use cluster::Cluster;
 pub use key::{SinkKey, ValueAt};
 pub use record::Record;
 pub use refusal::{NoMemory, Refusal};
+pub use start::{StartFault, can_run};
 pub use step::{Next, Step, Values};
