@@ -3,8 +3,9 @@
 --     plus, minus, part         pointwise, and cut to the pointstamps of a list
 --     entries, size             the pointstamps that have one, with it, in the order of listing; how many
 --     same                      changes that answer alike are equal
-use Rattle.std.specs.Prelude.{◌≡◌, ◌≢◌, ℕ, zero, suc, ℤ, pos, negsuc, ◌+ℤ◌, ◌-ℤ◌, Bool, true, false, cond, ◌||◌, List, [], ◌∷◌, ◌++◌, map, length, Option, Some, None, is_some, refl, unsigned_abs, ◌<◌, ◌≤◌, ◌^◌}
+use Rattle.std.specs.Prelude.{◌≡◌, ◌≢◌, ℕ, zero, suc, ℤ, pos, negsuc, ◌+ℤ◌, ◌-ℤ◌, Bool, true, false, cond, ◌||◌, List, [], ◌∷◌, ◌++◌, map, length, Option, Some, None, is_some, refl, unsigned_abs, ◌+◌, ◌<◌, ◌≤◌}
 use Rattle.std.proofs.Common.{T, sym, ap, ◌∙◌, arith}
+use Rattle.std.proofs.lemmas.Int.{ints}
 use mathlib.Core.HLevel.{Σ_prop_path}
 use Rattle.std.specs.Coded.{Coded, coded_ℤ}
 use base.Stored.{coded_via}
@@ -16,6 +17,7 @@ use Rattle.std.specs.FinMap.Entries.{is_some-find, same_entries}
 use Rattle.std.proofs.lemmas.List.Folds.{list_any-append}
 use Rattle.std.specs.FinMap as fin
 use Rattle.std.proofs.lemmas.Map.Views.{tells_apart}
+use Rattle.nd_time.specs.Limits.{max_count}
 use Rattle.nd_paths.specs.Point.{point_cmp, point_code, point_total, point_exact}
 use Rattle.nd_paths.specs.declared.point.Pointstamp.{Pointstamp}
 
@@ -133,7 +135,7 @@ abbrev pub points_of : List (Pointstamp × ℤ) → List Pointstamp
 points_of es = map (λ e. e.0) es
 
 -- what has no entry has 0
-at-absent : (m : Change) (q : Pointstamp) → has_point q (points_of (entries m)) ≡ false → at m q ≡ pos 0
+pub at-absent : (m : Change) (q : Pointstamp) → has_point q (points_of (entries m)) ≡ false → at m q ≡ pos 0
 unfolding at entries
 at-absent m q e = at_none (get m.map q) (contains_key-keys m.map q ∙ e)
   where
@@ -148,6 +150,11 @@ plus m n = on_points (points_of (entries m) ++ points_of (entries n)) (λ q. at 
 -- pointwise difference
 pub minus : Change → Change → Change
 minus m n = on_points (points_of (entries m) ++ points_of (entries n)) (λ q. at m q -ℤ at n q)
+
+-- the difference, or the sum
+abbrev pub combined : Bool → Change → Change → Change
+combined true m n = minus m n
+combined false m n = plus m n
 
 -- the entries at the pointstamps of the list
 pub part : Change → List Pointstamp → Change
@@ -183,7 +190,7 @@ at-part m ks q = at-on_points ks (at m) q
 
 -- some integer is past the limit of the program
 abbrev pub IsTooLarge : Change → Type 0
-IsTooLarge m = (q : Pointstamp) × (2 ^ 40 < unsigned_abs (at m q))
+IsTooLarge m = (q : Pointstamp) × (max_count < unsigned_abs (at m q))
 
 -- ---- the change that a list of entries gives
 pub of_entries : List (Pointstamp × ℤ) → Change
@@ -234,13 +241,13 @@ sorted-entries m = entries_sorted m.map
 
 -- each integer is within the limit of the program
 abbrev pub IsWithin : Change → Type 0
-IsWithin m = (q : Pointstamp) → unsigned_abs (at m q) ≤ 2 ^ 40
+IsWithin m = (q : Pointstamp) → unsigned_abs (at m q) ≤ max_count
 
-one_within : (b : Bool) (x y : ℤ) → unsigned_abs x ≤ 2 ^ 40 → unsigned_abs y ≤ 2 ^ 40 → unsigned_abs (cond b x y) ≤ 2 ^ 40
+one_within : (b : Bool) (x y : ℤ) → unsigned_abs x ≤ max_count → unsigned_abs y ≤ max_count → unsigned_abs (cond b x y) ≤ max_count
 one_within true x y g h = g
 one_within false x y g h = h
 
-pub within-set : (m : Change) (k : Pointstamp) (v : ℤ) → IsWithin m → unsigned_abs v ≤ 2 ^ 40 → IsWithin (set m k v)
+pub within-set : (m : Change) (k : Pointstamp) (v : ℤ) → IsWithin m → unsigned_abs v ≤ max_count → IsWithin (set m k v)
 within-set m k v within v_within q = rw (at-set m k v q) (one_within (is_point q k) v (at m q) v_within (within q))
 
 -- ---- laws of `set`
@@ -271,3 +278,41 @@ set_back m k v w e = set-set m k v w ∙ ap (set m k) e ∙ set-at m k
 -- the same by equations, as two calls leave them
 pub taken_back : (m a b : Change) (k : Pointstamp) (v w : ℤ) → a ≡ set m k v → b ≡ set a k w → w ≡ at m k → b ≡ m
 taken_back m a b k v w first second back = second ∙ ap (λ x. set x k w) first ∙ set_back m k v w back
+
+-- ---- sums undone
+pub minus-plus : (m n : Change) → minus (plus m n) n ≡ m
+minus-plus m n = same _ _ (λ q. let d = at-minus (plus m n) n q in let e = at-plus m n q in omega (arith, ints, d, e))
+
+pub plus-minus : (m n : Change) → plus (minus m n) n ≡ m
+plus-minus m n = same _ _ (λ q. let d = at-plus (minus m n) n q in let e = at-minus m n q in omega (arith, ints, d, e))
+
+pub plus-comm : (m n : Change) → plus m n ≡ plus n m
+plus-comm m n = same _ _ (λ q. let d = at-plus m n q in let e = at-plus n m q in omega (arith, ints, d, e))
+
+pub plus-none : (m : Change) → plus m none ≡ m
+plus-none m = same _ _ (λ q. let d = at-plus m none q in let e = at-none q in omega (arith, ints, d, e))
+
+-- ---- one entry more
+absent_of : (x : Option ℤ) → x ≢ Some (pos 0) → or_zero x ≡ pos 0 → is_some x ≡ false
+absent_of None n e = refl
+absent_of (Some z) n e = absurd (n (ap Some e))
+
+grown : (b : Bool) (n : ℕ) → b ≡ false → cond b n (n + 1) ≡ n + 1
+grown true n e = absurd (cc)
+grown false n e = refl
+
+size-put : (m : Change) (k : Pointstamp) (v : ℤ) (some : v ≢ pos 0) → at m k ≡ pos 0 → size (put m k v some) ≡ size m + 1
+unfolding at entries put
+size-put m k v some absent =
+    sym (fin.len-entries (insert m.map k v)) ∙ fin.len-insert point_total m.map k v
+    ∙ grown _ _ (absent_of (get m.map k) (m.nonzero k) absent) ∙ ap (λ n. n + 1) (fin.len-entries m.map)
+
+pub size-set : (m : Change) (k : Pointstamp) (v : ℤ) → v ≢ pos 0 → at m k ≡ pos 0 → size (set m k v) ≡ size m + 1
+unfolding set
+size-set m k (pos zero) some absent = absurd (some refl)
+size-set m k (pos (suc n)) some absent = size-put m k (pos (suc n)) _ absent
+size-set m k (negsuc n) some absent = size-put m k (negsuc n) _ absent
+
+pub size-none : size none ≡ 0
+unfolding none entries
+size-none = sym (fin.len-entries (fin.empty {X = ℤ} {R = point_cmp})) ∙ fin.len-empty point_cmp ℤ

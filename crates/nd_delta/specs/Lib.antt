@@ -1,3 +1,4 @@
-pub mod Kept
-pub mod Place
 pub mod Change
+pub mod Kept
+pub mod Least
+pub mod Upright

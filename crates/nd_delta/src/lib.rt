@@ -1,16 +1,16 @@
-//! Changes: finite maps from pointstamps to integers other than 0.
+//! Changes: finite maps from pointstamps to integers other than 0 (Naiad, SOSP 2013, section 3.3).
 #![tactic(auto)]
 
-ghost use Rattle.std.specs.Prelude.{◌≡◌, ◌≢◌, ◌↔◌, ◌<◌, ◌≤◌, ◌^◌, ◌+ℤ◌, pos, unsigned_abs, OnOk, OnErr, IfOk, IfErr, Err, None, T, not, length};
-ghost use Rattle.std.specs.FinMap.{is_sorted, find, put};
-ghost use Rattle.std.specs.FinMap.Entries.{where_key};
-ghost use Rattle.nd_delta.specs.Change.{none, at, set, size, plus, IsTooLarge, IsWithin, is_point, entries as listed};
-ghost use Rattle.nd_paths.specs.Point.{point_cmp};
-ghost use Rattle.nd_delta.specs.Place.{IsAt, IsGap};
+ghost use Rattle.std.specs.Prelude.{◌≡◌, ◌≢◌, ◌↔◌, ◌<◌, ◌≤◌, ◌+ℤ◌, ◌<ℤ◌, ◌*◌, pos, unsigned_abs, OnOk, OnErr, IfOk, IfSome, IsNone, IsTrue, Err};
+ghost use Rattle.nd_time.specs.Limits.{max_count};
+ghost use Rattle.nd_paths.specs.Order.{IsStrictlyBefore};
+ghost use Rattle.nd_delta.specs.Upright.{IsSupported, IsUnsupported, IsUpright, Holds};
+ghost use Rattle.nd_delta.specs.Least.{IsLeast};
+ghost use Rattle.nd_delta.specs.Change.{none, at, set, size, plus, minus, part, combined, IsTooLarge, IsWithin, entries as listed};
 
-use nd_paths::Pointstamp;
+use nd_map::SortedMap;
+use nd_paths::{Paths, Pointstamp};
 use std::alloc::{AllocError, Allocator, Global};
-use std::cmp::Ordering;
 use std::marker::Model;
 
 /// The greatest absolute value of an entry.
@@ -25,10 +25,10 @@ pub enum DeltaFault {
     Memory,
 }
 
-/// A finite map from pointstamps to integers other than 0.
+/// A finite map from pointstamps to integers other than 0, each at most `LIMIT` in absolute value.
 #[derive(Drop)]
 pub struct Delta<A: Allocator = Global> {
-    entries: Vec<(Pointstamp, i64), A>,
+    map: SortedMap<Pointstamp, i64, A>,
 }
 
 impl<A: Allocator> Model for Delta<A> {
@@ -39,102 +39,45 @@ impl<A: Allocator> Model for Delta<A> {
 
     ghost coded = { change_code };
 
-    ghost view = { λ a. of_entries a.entries.items };
+    ghost view = { λ a. of_entries a.map };
 
-    ghost invariant = { λ a. IsKept a.entries.items };
+    ghost invariant = { λ a. IsKept a.map };
 }
 
-// Where a pointstamp stands among the entries, or would stand.
-fn place(entries: &[(Pointstamp, i64)], point: &Pointstamp) -> Result<usize, usize>
-    requires { T (is_sorted point_cmp entries.now) }
-    ensures in_range { IfOk result (λ i. i < length entries.now) }
-    ensures within { IfErr result (λ i. i ≤ length entries.now) }
-    ensures found { IfOk result (IsAt point_cmp point.now entries.now) }
-    ensures absent { IfErr result (IsGap point_cmp point.now entries.now) }
+// Whether a number is greater than `LIMIT` in absolute value.
+fn passes_limit(n: i64) -> bool
+    ensures { IsTrue result ↔ (max_count < unsigned_abs n) }
 {
-    entries.binary_search_by(
-        |entry: &(Pointstamp, i64)| -> Ordering
-            ensures { result ≡ point_cmp entry.now.0 point.entry.now }
-        { entry.0.cmp(point) },
-    )
+    n > LIMIT || n < -LIMIT
 }
 
-// The integer of a pointstamp among the entries.
-fn find_among(entries: &[(Pointstamp, i64)], point: &Pointstamp) -> Option<i64>
-    requires { T (is_sorted point_cmp entries.now) }
-    ensures { result ≡ find point_cmp point.now entries.now }
-{
-    match place(entries, point) {
-        Ok(i) => Some(entries[i].1),
-        Err(_) => None,
-    }
-}
-
-// Gives a pointstamp an integer. Where it has one no memory is taken.
-fn put_among<A: Allocator>(
-    entries: &mut Vec<(Pointstamp, i64), A>,
+// Whether an entry is negative, and strictly before a pointstamp.
+fn is_negative_before<B: Allocator>(
+    entry: &(Pointstamp, i64),
+    paths: &Paths<B>,
     point: &Pointstamp,
-    n: i64,
-) -> Result<(), AllocError>
-    requires { T (is_sorted point_cmp entries.old.items) }
-    ensures ok { OnOk result (entries.new.items ≡ put point_cmp point.now n entries.old.items) }
-    ensures err { OnErr result (entries.new.items ≡ entries.old.items) }
-    ensures absent { OnErr result (find point_cmp point.now entries.old.items ≡ None) }
+) -> bool
+    ensures { IsTrue result ↔ ((entry.now.1 <ℤ pos 0) × IsStrictlyBefore paths.now entry.now.0 point.now) }
 {
-    match place(entries, point) {
-        Ok(i) => {
-            entries[i] = (point.copy(), n);
-            Ok(())
-        }
-        Err(i) => {
-            let Ok(()) = entries.insert(i, (point.copy(), n)) else {
-                return Err(AllocError);
-            };
-            Ok(())
-        }
-    }
-}
-
-// Takes a pointstamp out.
-fn remove_among<A: Allocator>(entries: &mut Vec<(Pointstamp, i64), A>, point: &Pointstamp)
-    requires { T (is_sorted point_cmp entries.old.items) }
-    ensures { entries.new.items ≡ where_key point_cmp (λ q. not (is_point point.now q)) entries.old.items }
-{
-    if let Ok(i) = place(entries, point) {
-        entries.remove(i);
-    }
-}
-
-// Equal entries.
-fn copy_entries<A: Allocator>(
-    alloc: A,
-    entries: &[(Pointstamp, i64)],
-) -> Result<Vec<(Pointstamp, i64), A>, AllocError>
-    ensures { IfOk result (λ v. v.items ≡ entries.now) }
-{
-    let mut copied = Vec::with_capacity(alloc, entries.len())?;
-    for entry in entries {
-        copied.push((entry.0.copy(), entry.1))?;
-    }
-    Ok(copied)
+    entry.1 < 0 && paths.strictly_before(&entry.0, point)
 }
 
 impl<A: Allocator> Delta<A> {
-    /// The delta with no entry.
+    /// The delta with no entry. It takes no memory.
     pub fn new(alloc: A) -> Delta<A>
         ensures { result ≡ none }
     {
         Delta {
-            entries: Vec::new(alloc),
+            map: SortedMap::new(alloc),
         }
     }
 
     /// The integer of a pointstamp, 0 where it has none.
     pub fn get(&self, point: &Pointstamp) -> i64
         ensures value { result ≡ at self.now point.now }
-        ensures within { unsigned_abs result ≤ 2 ^ 40 }
+        ensures within { unsigned_abs result ≤ max_count }
     {
-        match find_among(&self.entries, point) {
+        match self.map.get(point) {
             Some(n) => n,
             None => 0,
         }
@@ -145,7 +88,7 @@ impl<A: Allocator> Delta<A> {
         ensures listed { result.now ≡ listed self.now }
         ensures within { IsWithin self.now }
     {
-        &self.entries
+        self.map.entries()
     }
 
     /// The number of entries.
@@ -155,26 +98,38 @@ impl<A: Allocator> Delta<A> {
         self.entries().len()
     }
 
-    /// Adds `n` to the integer of a pointstamp.
+    // Gives a pointstamp this integer.
+    fn put(&mut self, point: &Pointstamp, n: i64) -> Result<(), AllocError>
+        requires { unsigned_abs n ≤ max_count }
+        ensures ok { OnOk result (self.new ≡ set self.old point.now n) }
+        ensures err { OnErr result (self.new ≡ self.old) }
+        ensures absent { OnErr result (at self.old point.now ≡ pos 0) }
+    {
+        if n == 0 {
+            self.map.remove(point);
+            return Ok(());
+        }
+        let Ok(()) = self.map.put(point, n) else {
+            return Err(AllocError);
+        };
+        Ok(())
+    }
+
+    /// Adds `n` to the integer of a pointstamp. A pointstamp that has one takes no memory.
     pub fn add(&mut self, point: &Pointstamp, n: i64) -> Result<(), DeltaFault>
         ensures ok { OnOk result (self.new ≡ set self.old point.now (at self.old point.now +ℤ n)) }
         ensures err { OnErr result (self.new ≡ self.old) }
-        ensures full { (result ≡ Err (DeltaFault.DeltaFull)) ↔ (2 ^ 40 < unsigned_abs (at self.old point.now +ℤ n)) }
+        ensures full { (result ≡ Err (DeltaFault.DeltaFull)) ↔ (max_count < unsigned_abs (at self.old point.now +ℤ n)) }
         ensures no_growth { at self.old point.now ≢ pos 0 → result ≢ Err (DeltaFault.Memory) }
-        ensures within { unsigned_abs (at self.old point.now) ≤ 2 ^ 40 }
+        ensures within { unsigned_abs (at self.old point.now) ≤ max_count }
     {
-        let old = self.get(point);
-        let Some(sum) = old.checked_add(n) else {
+        let Some(sum) = self.get(point).checked_add(n) else {
             return Err(DeltaFault::DeltaFull);
         };
-        if sum > LIMIT || sum < -LIMIT {
+        if passes_limit(sum) {
             return Err(DeltaFault::DeltaFull);
         }
-        if sum == 0 {
-            remove_among(&mut self.entries, point);
-            return Ok(());
-        }
-        let Ok(()) = put_among(&mut self.entries, point, sum) else {
+        let Ok(()) = self.put(point, sum) else {
             return Err(DeltaFault::Memory);
         };
         Ok(())
@@ -186,24 +141,118 @@ impl<A: Allocator> Delta<A> {
         ensures within { IsWithin self.now }
     {
         Ok(Delta {
-            entries: copy_entries(alloc, &self.entries)?,
+            map: self.map.copy(alloc)?,
         })
     }
 
-    /// The pointwise sum.
-    pub fn plus(&self, alloc: A, other: &Delta<A>) -> Result<Delta<A>, DeltaFault>
-        ensures ok { IfOk result (λ d. d ≡ plus self.now other.now) }
-        ensures full { result ≡ Err (DeltaFault.DeltaFull) → IsTooLarge (plus self.now other.now) }
-        ensures fits { OnOk result (¬ (IsTooLarge (plus self.now other.now))) }
+    // The integer of a pointstamp in the difference of two deltas, or in their sum.
+    fn combined_at(&self, other: &Delta<A>, minus: bool, point: &Pointstamp) -> i64
+        ensures value { result ≡ at (combined minus self.now other.now) point.now }
+        ensures fits { unsigned_abs result ≤ 2 * max_count }
     {
-        let Ok(mut sum) = self.copy(alloc) else {
+        let here = self.get(point);
+        let there = other.get(point);
+        if minus { here - there } else { here + there }
+    }
+
+    // Whether some entry of the difference, or of the sum, passes `LIMIT`.
+    fn is_overfull(&self, other: &Delta<A>, minus: bool) -> bool
+        ensures passes { IsTrue result ↔ IsTooLarge (combined minus self.now other.now) }
+        ensures within { IsWithin self.now × IsWithin other.now }
+    {
+        let _ = &self.map;
+        for entry in other.entries() {
+            if passes_limit(self.combined_at(other, minus, &entry.0)) {
+                return true;
+            }
+        }
+        false
+    }
+
+    // The difference, or the sum, where it fits.
+    fn combine(&self, alloc: A, other: &Delta<A>, minus: bool) -> Result<Delta<A>, DeltaFault>
+        ensures ok { IfOk result (λ d. d ≡ combined minus self.now other.now) }
+        ensures full { (result ≡ Err (DeltaFault.DeltaFull)) ↔ IsTooLarge (combined minus self.now other.now) }
+        ensures within { IsWithin self.now × IsWithin other.now }
+    {
+        if self.is_overfull(other, minus) {
+            return Err(DeltaFault::DeltaFull);
+        }
+        let Ok(mut made) = self.copy(alloc) else {
             return Err(DeltaFault::Memory);
         };
         for entry in other.entries() {
-            if let Err(fault) = sum.add(&entry.0, entry.1) {
-                return Err(fault);
+            let Ok(()) = made.put(&entry.0, self.combined_at(other, minus, &entry.0)) else {
+                return Err(DeltaFault::Memory);
+            };
+        }
+        Ok(made)
+    }
+
+    /// The pointwise sum, without zeros.
+    pub fn plus(&self, alloc: A, other: &Delta<A>) -> Result<Delta<A>, DeltaFault>
+        ensures ok { IfOk result (λ d. d ≡ plus self.now other.now) }
+        ensures full { (result ≡ Err (DeltaFault.DeltaFull)) ↔ IsTooLarge (plus self.now other.now) }
+        ensures within { IsWithin self.now × IsWithin other.now }
+    {
+        self.combine(alloc, other, false)
+    }
+
+    /// The pointwise difference, without zeros.
+    pub fn minus(&self, alloc: A, other: &Delta<A>) -> Result<Delta<A>, DeltaFault>
+        ensures ok { IfOk result (λ d. d ≡ minus self.now other.now) }
+        ensures full { (result ≡ Err (DeltaFault.DeltaFull)) ↔ IsTooLarge (minus self.now other.now) }
+        ensures within { IsWithin self.now × IsWithin other.now }
+    {
+        self.combine(alloc, other, true)
+    }
+
+    /// The entries at these pointstamps. A repeated one counts once, and one without an entry adds nothing.
+    pub fn part(&self, alloc: A, points: &[Pointstamp]) -> Result<Delta<A>, AllocError>
+        ensures ok { IfOk result (λ d. d ≡ part self.now points.now) }
+        ensures within { IsWithin self.now }
+    {
+        let _ = &self.map;
+        let mut kept = Delta::new(alloc);
+        for point in points {
+            let Ok(()) = kept.put(point, self.get(point)) else {
+                return Err(AllocError);
+            };
+        }
+        Ok(kept)
+    }
+
+    // Whether there is a negative entry strictly before a pointstamp.
+    fn supports<B: Allocator>(&self, paths: &Paths<B>, point: &Pointstamp) -> bool
+        ensures { IsTrue result ↔ IsSupported (IsStrictlyBefore paths.now) Holds (at self.now) point.now }
+    {
+        for entry in self.entries() {
+            if is_negative_before(entry, paths, point) {
+                return true;
             }
         }
-        Ok(sum)
+        false
+    }
+
+    // Whether an entry is positive, and nothing negative is strictly before it.
+    fn leaves_alone<B: Allocator>(&self, paths: &Paths<B>, entry: &(Pointstamp, i64)) -> bool
+        ensures alone { IsTrue result → (pos 0 <ℤ entry.now.1) × (IsSupported (IsStrictlyBefore paths.now) Holds (at self.now) entry.now.0 → ⊥) }
+        ensures supported { (IsTrue result → ⊥) → pos 0 <ℤ entry.now.1 → IsSupported (IsStrictlyBefore paths.now) Holds (at self.now) entry.now.0 }
+    {
+        entry.1 > 0 && !self.supports(paths, &entry.0)
+    }
+
+    /// The least pointstamp with a positive integer and nothing negative strictly before it,
+    /// or `None` where the change is upright (this project's own rule).
+    pub fn unsupported<B: Allocator>(&self, paths: &Paths<B>) -> Option<Pointstamp>
+        ensures upright { IsNone result ↔ IsUpright (IsStrictlyBefore paths.now) Holds (at self.now) }
+        ensures least { IfSome result (IsLeast (IsUnsupported (IsStrictlyBefore paths.now) Holds (at self.now))) }
+    {
+        for entry in self.entries() {
+            if self.leaves_alone(paths, entry) {
+                return Some(entry.0.copy());
+            }
+        }
+        None
     }
 }

@@ -1,2 +1,5 @@
 pub mod Name
 pub mod Graph
+pub mod Fault
+pub mod Draft
+pub mod Checked

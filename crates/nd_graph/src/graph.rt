@@ -1,10 +1,9 @@
 //! A graph whose ends, ports and depths agree.
-ghost use Rattle.std.specs.Prelude.{◌≡◌, ◌<◌, ◌≤◌, Some, All, IfOk, filter, length, nat_eq, slice_get};
+ghost use Rattle.std.specs.Prelude.{◌≡◌, ◌<◌, ◌≤◌, Some, All, IfOk, length, slice_get};
 ghost use Rattle.nd_time.specs.Limits.{max_depth, max_locations};
-ghost use Rattle.nd_graph.specs.Graph.{arcs as arcs_of, depths as depths_of, location_count as count_of, names, ArcAgrees};
+ghost use Rattle.nd_graph.specs.Graph.{arcs as arcs_of, depths as depths_of, location_count as count_of, ArcAgrees};
 
 use crate::{Action, Name, Op, Route};
-use arrayvec::ArrayVec;
 use std::alloc::{AllocError, Allocator, Global};
 use std::marker::Model;
 
@@ -83,7 +82,10 @@ impl<A: Allocator> Model for Graph<A> {
 
     ghost view = { λ a. record { vertices = a.vertices.items; edges = a.edges.items } };
 
-    ghost invariant = { λ a. IsGraph (record { vertices = a.vertices.items; edges = a.edges.items }) a.depths.items a.arcs.items };
+    ghost use Rattle.nd_graph.specs.Checked.{IsFaultless};
+
+    ghost invariant = { λ a. IsGraph (record { vertices = a.vertices.items; edges = a.edges.items }) a.depths.items a.arcs.items
+        × IsFaultless (record { vertices = a.vertices.items; edges = a.edges.items }) };
 }
 
 fn copied_vertices<A: Allocator>(
@@ -110,18 +112,42 @@ fn copied_edges<A: Allocator>(alloc: A, edges: &[Edge]) -> Result<Vec<Edge, A>, 
 }
 
 impl<A: Allocator> Graph<A> {
+    ghost use Rattle.nd_graph.specs.Graph.{IsGraph};
+    ghost use Rattle.nd_graph.specs.Checked.{IsFaultless};
+
+    /// The graph of these parts.
+    pub(crate) fn from_parts(
+        vertices: Vec<Vertex, A>,
+        edges: Vec<Edge, A>,
+        depths: Vec<usize, A>,
+        arcs: Vec<Arc, A>,
+    ) -> Graph<A>
+        requires kept { IsGraph (record { vertices = vertices.items; edges = edges.items }) depths.items arcs.items }
+        requires sound { IsFaultless (record { vertices = vertices.items; edges = edges.items }) }
+        ensures { result ≡ record { vertices = vertices.items; edges = edges.items } }
+    {
+        Graph {
+            vertices,
+            edges,
+            depths,
+            arcs,
+        }
+    }
+
     /// The vertices, in order of appearance.
     pub fn vertices(&self) -> &[Vertex]
-        ensures { result.now ≡ self.now.vertices }
+        ensures vertices { result.now ≡ self.now.vertices }
+        ensures sound { IsFaultless self.now }
     {
-        &self.vertices
+        self.vertices.as_slice()
     }
 
     /// The edges, in order of appearance.
     pub fn edges(&self) -> &[Edge]
-        ensures { result.now ≡ self.now.edges }
+        ensures edges { result.now ≡ self.now.edges }
+        ensures sound { IsFaultless self.now }
     {
-        &self.edges
+        self.edges.as_slice()
     }
 
     /// The number of locations: vertices, then edges.
@@ -148,7 +174,7 @@ impl<A: Allocator> Graph<A> {
         ensures each { length (depths_of self.now) ≡ count_of self.now }
         ensures few { count_of self.now ≤ max_locations }
     {
-        &self.depths
+        self.depths.as_slice()
     }
 
     /// All arcs: of each edge in turn, the one that enters it and the one that leaves it.
@@ -158,7 +184,7 @@ impl<A: Allocator> Graph<A> {
         ensures shallow { All (λ d. d ≤ max_depth) (depths_of self.now) }
         ensures few { count_of self.now ≤ max_locations }
     {
-        &self.arcs
+        self.arcs.as_slice()
     }
 
     /// An equal graph.

@@ -8,6 +8,7 @@ use Rattle.std.specs.Cmp.{IsTotalOrder}
 use Rattle.std.proofs.lemmas.Cmp.{alike_right, tied_back}
 use Rattle.std.specs.FinMap.{find, put, is_sorted}
 use Rattle.std.specs.FinMap.Entries.{below_all, where_key, is_sorted-where_key}
+use Rattle.nd_map.specs.Entries.{below_at, rises}
 use Rattle.nd_map.specs.Listed.{IsListed, without}
 use Rattle.nd_map.specs.Place.{IsAt, IsGap}
 
@@ -44,22 +45,10 @@ module _ {K : Type 0} (R : K → K → Ordering) (o : IsTotalOrder R) where
       by Greater e = rw (greater p y (o.trans p x y (smaller x p e) lt)) (omega arith)
 
 module _ {K X : Type 0} (R : K → K → Ordering) (o : IsTotalOrder R) where
-  -- a key below the first is below all
-  below_get : (x : K) (es : List (K × X)) (i : ℕ) (d : K × X) → T (below_all R x es) → i < length es → R x (get_or es i d).0 ≡ Less
-  below_get x [] i d h lt = absurd (omega arith)
-  below_get x (e ∷ es) zero d h lt = less _ (first _ _ h)
-  below_get x (e ∷ es) (suc i) d h lt = below_get x es i d (second _ _ h) (omega arith)
-
-  pub rises : (es : List (K × X)) → T (is_sorted R es) → (i j : ℕ) (d : K × X) → i < j → j < length es → R (get_or es i d).0 (get_or es j d).0 ≡ Less
-  rises [] h i j d lt in_range = absurd (omega arith)
-  rises (e ∷ es) h i zero d lt in_range = absurd (omega arith)
-  rises (e ∷ es) h zero (suc j) d lt in_range = below_get e.0 es j d (first _ _ h) (omega arith)
-  rises (e ∷ es) h (suc i) (suc j) d lt in_range = rises es (second _ _ h) i j d (omega arith) (omega arith)
-
   -- the answers of a comparison with p rise along the list
   pub answers_rise : (es : List (K × X)) → T (is_sorted R es) → (p : K) (i j : ℕ) (d : K × X) → i ≤ j → j < length es → ordering_index (R (get_or es i d).0 p) ≤ ordering_index (R (get_or es j d).0 p)
   answers_rise es h p i j d le in_range = elim (cases_lt i j) [
-    | inl lt ↦ index_rises R o _ _ p (rises es h i j d lt in_range)
+    | inl lt ↦ index_rises R o _ _ p (rises R o es h i j d lt in_range)
     | inr ge ↦ let same : i ≡ j = omega arith in rw same (omega arith)
   ]
 
@@ -67,7 +56,7 @@ module _ {K X : Type 0} (R : K → K → Ordering) (o : IsTotalOrder R) where
   at_from p [] i d h lt e = absurd (omega arith)
   at_from p (x ∷ es) zero d h lt e = tied_back o x.0 p e
   at_from p (x ∷ es) (suc i) d h lt e = (
-    greater R o x.0 p (sym (alike_right o (get_or es i d).0 p x.0 e) ∙ below_get x.0 es i d (first _ _ h) (omega arith)),
+    greater R o x.0 p (sym (alike_right o (get_or es i d).0 p x.0 e) ∙ below_at R o x.0 es i d (first _ _ h) (omega arith)),
     at_from p es i d (second _ _ h) (omega arith) e,
   )
 

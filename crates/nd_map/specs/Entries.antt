@@ -1,6 +1,7 @@
 -- Entries in order, one by one:
 --     listed-drop, drop-at          what is left after some entries;  it begins with the next
 --     find-head, absent_in_tail     an entry's key finds it, and not in the entries after it
+--     rises                         a later entry has a greater key
 --     find-index, all_found, found_all      each entry is found at its key, and each that is found is an entry
 use Rattle.std.specs.Prelude.{◌≡◌, ◌<◌, ℕ, Bool, true, false, cond, ◌&&◌, T, List, [], ◌∷◌, All, Some, None, length, refl}
 use Rattle.std.proofs.Common.{zero, suc, drop, get_or, sym, ap, subst, ◌∙◌, arith, drop-cons, Ordering, Less, Equal, Greater}
@@ -57,10 +58,17 @@ module _ {K X : Type 0} (R : K → K → Ordering) (o : IsTotalOrder R) where
   pub find-head : (e : K × X) (es : List (K × X)) → find R e.0 (e ∷ es) ≡ Some e.1
   find-head e es = ap (λ r. cond (is_eq r) (Some e.1) (find R e.0 es)) (tied_itself o e.0)
 
-  below_at : (k : K) (es : List (K × X)) (i : ℕ) (d : K × X) → T (below_all R k es) → i < length es → R k (get_or es i d).0 ≡ Less
+  pub below_at : (k : K) (es : List (K × X)) (i : ℕ) (d : K × X) → T (below_all R k es) → i < length es → R k (get_or es i d).0 ≡ Less
   below_at k [] i d h lt = absurd (omega arith)
   below_at k (e ∷ es) zero d h lt = less _ (first _ _ h)
   below_at k (e ∷ es) (suc i) d h lt = below_at k es i d (second _ _ h) (omega arith)
+
+  -- the keys rise along the list
+  pub rises : (es : List (K × X)) → IsListed R es → (i j : ℕ) (d : K × X) → i < j → j < length es → R (get_or es i d).0 (get_or es j d).0 ≡ Less
+  rises [] h i j d lt in_range = absurd (omega arith)
+  rises (e ∷ es) h i zero d lt in_range = absurd (omega arith)
+  rises (e ∷ es) h zero (suc j) d lt in_range = below_at e.0 es j d (first (below_all R e.0 es) _ h) (omega arith)
+  rises (e ∷ es) h (suc i) (suc j) d lt in_range = rises es (listed-tail R e es h) i j d (omega arith) (omega arith)
 
   -- an entry is found at its key
   pub find-index : (es : List (K × X)) (i : ℕ) (d : K × X) → IsListed R es → i < length es → find R (get_or es i d).0 es ≡ Some (get_or es i d).1

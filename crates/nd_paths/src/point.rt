@@ -1,8 +1,9 @@
 //! Pointstamps: a location of the graph, and a timestamp there.
-ghost use Rattle.std.specs.Prelude.{◌≡◌, ◌↔◌, IsSome, IfSome};
+ghost use Rattle.std.specs.Prelude.{◌≡◌, ◌↔◌, IsTrue, IsSome, IfSome};
 ghost use Rattle.nd_paths.specs.Order.{Fits};
 
 use nd_graph::Graph;
+use nd_map::Key;
 use nd_time::Timestamp;
 use std::alloc::Allocator;
 
@@ -32,6 +33,14 @@ impl Pointstamp {
         Some(Pointstamp { location, time })
     }
 
+    /// Whether this stands at a location of the graph, at its depth.
+    pub fn fits<A: Allocator>(&self, graph: &Graph<A>) -> bool
+        ensures { IsTrue result ↔ Fits graph.now self.now }
+    {
+        self.location < graph.location_count()
+            && graph.location_depth(self.location) == self.time.depth()
+    }
+
     /// An equal pointstamp.
     pub fn copy(&self) -> Pointstamp
         ensures { result ≡ self.now }
@@ -40,5 +49,11 @@ impl Pointstamp {
             location: self.location,
             time: self.time.copy(),
         }
+    }
+}
+
+impl Key for Pointstamp {
+    fn duplicate(&self) -> Pointstamp {
+        self.copy()
     }
 }

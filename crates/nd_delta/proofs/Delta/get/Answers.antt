@@ -5,9 +5,8 @@ use Rattle.nd_delta.proofs.Delta.get.Goals as goal
 
 pub returns-in-Some : goal.returns-in-Some
 returns-in-Some g c =
-    let found = rw c.deref.ensures.value at c.in-Some.ensures in
-    let both = got c.self.inside.entries.items c.args.point.now c.self.invariant _ c.self.view_is c.in-Some.n (ap or_zero found) in
+    let both = got c.self.inside.map c.args.point.now c.self.invariant _ c.self.view_is c.in-Some.n (ap or_zero c.in-Some.ensures.value) in
     record { value = both.0; within = both.1 }
 
 pub returns-in-None-clause-value : goal.returns-in-None-clause-value
-returns-in-None-clause-value g c = ap or_zero (rw c.deref.ensures.value at c.in-None.ensures) ∙ at_found c.self.inside.entries.items c.args.point.now _ c.self.view_is
+returns-in-None-clause-value g c = ap or_zero c.in-None.ensures.value ∙ at_found c.self.inside.map c.args.point.now _ c.self.view_is

@@ -3,4 +3,4 @@ use Rattle.nd_delta.specs.Change.{of_entries, of_entries-nil}
 use Rattle.nd_delta.proofs.Delta.new.Goals as goal
 
 pub returns : goal.returns
-returns g c = ap of_entries c.new.ensures.items ∙ of_entries-nil
+returns g c = ap of_entries c.new.ensures ∙ of_entries-nil

@@ -1,0 +1,4 @@
+pub mod Reading
+pub mod NameLaws
+pub mod Agreement
+pub mod Judging

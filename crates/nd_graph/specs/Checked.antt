@@ -1,0 +1,178 @@
+-- Which graphs are refused, and as what (this project's own rule).
+use Rattle.std.specs.Prelude.{◌≡◌, ℕ, ◌<◌, All, Bool, true, false, not, ◌==◌, ◌&&◌, ◌||◌, nat_lt, nat_le, List, [], ◌∷◌, ◌++◌, length, map, if◌then◌else◌, Option, Some, None, ok_or, option_map, option_and_then, Result, Ok, Err, slice_get}
+use Rattle.std.specs.Option.{option_map_or}
+use Rattle.std.specs.List.{list_any, position}
+use Rattle.std.specs.Str.{bytes_eq}
+use Rattle.nd_time.specs.Limits.{max_depth, max_locations}
+use Rattle.nd_graph.specs.declared.op.Op.{Op}
+use Rattle.nd_graph.specs.declared.op.Op.TheVariants as op
+use Rattle.nd_graph.specs.declared.graph.Vertex.{Vertex}
+use Rattle.nd_graph.specs.declared.graph.Edge.{Edge}
+use Rattle.nd_graph.specs.declared.draft.DraftEdge.{DraftEdge}
+use Rattle.nd_graph.specs.declared.fault.GraphFault.{GraphFault}
+use Rattle.nd_graph.specs.declared.fault.GraphFault.TheVariants.{DoubleName, UnknownName, BadPort, DepthMismatch, TooLarge}
+use Rattle.nd_graph.specs.Graph.{Dataflow, depth_past_vertex, location_count, names}
+use Rattle.nd_graph.specs.Draft.{Draft, every}
+
+-- ---- names
+
+-- a name stands twice
+abbrev pub has_double : List (List ℕ) → Bool
+has_double [] = false
+has_double (name ∷ names) = list_any (bytes_eq name) names || has_double names
+
+-- vertices and edges share one space of names
+abbrev pub written_names : List Vertex → List DraftEdge → List (List ℕ)
+written_names vertices edges = map (λ v. v.name) vertices ++ map (λ e. e.name) edges
+
+-- the location of the vertex that an end of an edge names
+unfoldable pub end_of : List Vertex → Option (List ℕ) → Option ℕ
+end_of vertices end = option_and_then (λ name. position (λ v. bytes_eq name v.name) vertices) end
+
+-- the edge that is written, where its ends are vertices
+unfoldable pub located : List Vertex → DraftEdge → Option Edge
+located vertices e =
+    option_and_then (λ from. option_map
+    (λ to. record { name = e.name; from = from; port = e.port; to = to; route = e.route })
+    (end_of vertices e.to)) (end_of vertices e.from)
+
+-- the edges that are written, where no name stands twice and each end is a vertex
+unfoldable pub edges_between : List Vertex → List DraftEdge → Result (List Edge) GraphFault
+edges_between vertices edges =
+    if has_double (written_names vertices edges) then Err DoubleName
+    else ok_or (every (located vertices) edges) UnknownName
+
+-- ---- ports
+
+-- how many ports an operator has
+abbrev pub ports : Op → ℕ
+ports op.Input = 1
+ports op.Ingress = 1
+ports op.Egress = 1
+ports op.Feedback = 1
+ports (op.Add k) = 1
+ports (op.Mul k) = 1
+ports (op.Below k) = 1
+ports (op.Split k) = 2
+ports op.Sum = 1
+ports op.Distinct = 1
+ports op.Sink = 0
+
+abbrev pub is_input : Op → Bool
+is_input op.Input = true
+is_input op.Ingress = false
+is_input op.Egress = false
+is_input op.Feedback = false
+is_input (op.Add k) = false
+is_input (op.Mul k) = false
+is_input (op.Below k) = false
+is_input (op.Split k) = false
+is_input op.Sum = false
+is_input op.Distinct = false
+is_input op.Sink = false
+
+-- how many ports the vertex at a location has
+abbrev pub ports_at : List Vertex → ℕ → ℕ
+ports_at vertices l = option_map_or (λ v. ports v.op) (slice_get vertices l) 0
+
+-- an input is at the location
+abbrev pub is_input_at : List Vertex → ℕ → Bool
+is_input_at vertices l = option_map_or (λ v. is_input v.op) (slice_get vertices l) false
+
+-- the source has no such port, or the target is an input
+unfoldable pub has_bad_port : List Vertex → Edge → Bool
+has_bad_port vertices e = nat_le (ports_at vertices e.from) e.port || is_input_at vertices e.to
+
+-- ---- depths
+
+-- an input not at depth 0, an egress or a feedback at depth 0
+abbrev pub is_misplaced_at : Op → ℕ → Bool
+is_misplaced_at op.Input depth = nat_lt 0 depth
+is_misplaced_at op.Ingress depth = false
+is_misplaced_at op.Egress depth = depth == 0
+is_misplaced_at op.Feedback depth = depth == 0
+is_misplaced_at (op.Add k) depth = false
+is_misplaced_at (op.Mul k) depth = false
+is_misplaced_at (op.Below k) depth = false
+is_misplaced_at (op.Split k) depth = false
+is_misplaced_at op.Sum depth = false
+is_misplaced_at op.Distinct depth = false
+is_misplaced_at op.Sink depth = false
+
+abbrev pub is_misplaced : Vertex → Bool
+is_misplaced v = is_misplaced_at v.op v.depth
+
+-- the depth of the vertex at a location
+abbrev pub vertex_depth : List Vertex → ℕ → ℕ
+vertex_depth vertices l = option_map_or (λ v. v.depth) (slice_get vertices l) 0
+
+-- an edge's depth is not its target's
+unfoldable pub misses_depth : List Vertex → Edge → Bool
+misses_depth vertices e = not (depth_past_vertex vertices e.from == vertex_depth vertices e.to)
+
+unfoldable pub has_depth_mismatch : Dataflow → Bool
+has_depth_mismatch g = list_any is_misplaced g.vertices || list_any (misses_depth g.vertices) g.edges
+
+-- ---- sizes
+
+abbrev pub is_ingress : Op → Bool
+is_ingress op.Input = false
+is_ingress op.Ingress = true
+is_ingress op.Egress = false
+is_ingress op.Feedback = false
+is_ingress (op.Add k) = false
+is_ingress (op.Mul k) = false
+is_ingress (op.Below k) = false
+is_ingress (op.Split k) = false
+is_ingress op.Sum = false
+is_ingress op.Distinct = false
+is_ingress op.Sink = false
+
+-- a vertex past the depth limit, or an ingress at it
+abbrev pub is_too_deep : Vertex → Bool
+is_too_deep v = nat_lt max_depth v.depth || (is_ingress v.op && v.depth == max_depth)
+
+-- an edge past the depth limit
+unfoldable pub leads_too_deep : List Vertex → Edge → Bool
+leads_too_deep vertices e = nat_lt max_depth (depth_past_vertex vertices e.from)
+
+-- too many locations, or a location too deep
+unfoldable pub is_too_large : Dataflow → Bool
+is_too_large g =
+    nat_lt max_locations (location_count g)
+    || (list_any is_too_deep g.vertices || list_any (leads_too_deep g.vertices) g.edges)
+
+-- ---- all
+
+-- the first fault of a graph whose names are found
+unfoldable pub fault_of : Dataflow → Option GraphFault
+fault_of g =
+    if list_any (has_bad_port g.vertices) g.edges then Some BadPort else
+    (if has_depth_mismatch g then Some DepthMismatch else
+    (if is_too_large g then Some TooLarge else None))
+
+-- the graph, or its fault where it has one
+unfoldable pub judged : Dataflow → Result Dataflow GraphFault
+judged g = option_map_or (λ e. Err e) (fault_of g) (Ok g)
+
+-- the judgement of the edges that were found
+abbrev pub judged_with : List Vertex → Result (List Edge) GraphFault → Result Dataflow GraphFault
+judged_with vertices (Ok edges) = judged (record { vertices = vertices; edges = edges })
+judged_with vertices (Err e) = Err e
+
+-- the graph that is written, or the fault of least number
+unfoldable pub checked : Draft → Result Dataflow GraphFault
+checked d = judged_with d.vertices (edges_between d.vertices d.edges)
+
+-- ---- what holds of a graph that was checked
+
+-- an edge's ends are vertices
+pub record JoinsVertices (vertices : List Vertex) (e : Edge) : Type 0 where
+  pub from : e.from < length vertices
+  pub to : e.to < length vertices
+
+-- no name stands twice, each end is a vertex, and there is no fault
+pub record IsFaultless (g : Dataflow) : Type 0 where
+  pub once : has_double (names g) ≡ false
+  pub joined : All (JoinsVertices g.vertices) g.edges
+  pub faultless : fault_of g ≡ None

@@ -1,0 +1,91 @@
+-- The form in which a graph is written, as JSON (this project's own rule).
+use Rattle.std.specs.Prelude.{ℕ, ℤ, List, [], ◌∷◌, if◌then◌else◌, Option, Some, None, option_map, option_and_then, codes}
+use Rattle.std.specs.Str.{bytes_eq}
+use Rattle.serde_json.specs.Data.{Data}
+use Rattle.nd_json.specs.Forms.{has_keys, text_at, small_at, integer_at, list_at}
+use Rattle.nd_graph.specs.Name.{is_name}
+use Rattle.nd_graph.specs.declared.op.Op.{Op}
+use Rattle.nd_graph.specs.declared.op.Op.TheVariants as op
+use Rattle.nd_graph.specs.declared.op.Route.{Route}
+use Rattle.nd_graph.specs.declared.op.Route.TheVariants.{Local, Exchange}
+use Rattle.nd_graph.specs.declared.graph.Vertex.{Vertex}
+use Rattle.nd_graph.specs.declared.draft.DraftEdge.{DraftEdge}
+
+-- a graph as it is written: its edges' ends are names
+pub record Draft : Type 0 where
+  pub vertices : List Vertex
+  pub edges : List DraftEdge
+
+-- each item read, if each can be
+abbrev pub every : {D X : Type 0} → (D → Option X) → List D → Option (List X)
+every read [] = Some []
+every read (d ∷ ds) = option_and_then (λ x. option_map (λ xs. x ∷ xs) (every read ds)) (read d)
+
+-- the text, if it is a name
+abbrev pub name_of : List ℕ → Option (List ℕ)
+name_of text = if is_name text then Some text else None
+
+-- the operators that take no number
+unfoldable pub plain_op : List ℕ → Option Op
+plain_op text =
+    if bytes_eq text (codes "input") then Some op.Input else
+    (if bytes_eq text (codes "ingress") then Some op.Ingress else
+    (if bytes_eq text (codes "egress") then Some op.Egress else
+    (if bytes_eq text (codes "feedback") then Some op.Feedback else
+    (if bytes_eq text (codes "sum") then Some op.Sum else
+    (if bytes_eq text (codes "distinct") then Some op.Distinct else
+    (if bytes_eq text (codes "sink") then Some op.Sink else None))))))
+
+-- the operators that take a number
+unfoldable pub numbered_op : List ℕ → ℤ → Option Op
+numbered_op text k =
+    if bytes_eq text (codes "add") then Some (op.Add k) else
+    (if bytes_eq text (codes "mul") then Some (op.Mul k) else
+    (if bytes_eq text (codes "below") then Some (op.Below k) else
+    (if bytes_eq text (codes "split") then Some (op.Split k) else None)))
+
+unfoldable pub route_of : List ℕ → Option Route
+route_of text =
+    if bytes_eq text (codes "local") then Some Local else
+    (if bytes_eq text (codes "exchange") then Some Exchange else None)
+
+-- a vertex's operator, whose number stands under "k"
+unfoldable pub op_of : Data → Option Op
+op_of d =
+    if has_keys (codes "depth" ∷ codes "name" ∷ codes "op" ∷ []) d
+    then option_and_then plain_op (text_at (codes "op") d)
+    else (if has_keys (codes "depth" ∷ codes "k" ∷ codes "name" ∷ codes "op" ∷ []) d
+    then option_and_then (λ text. option_and_then (numbered_op text) (integer_at (codes "k") d)) (text_at (codes "op") d)
+    else None)
+
+-- the name of a vertex or an edge
+unfoldable pub name_in : Data → Option (List ℕ)
+name_in d = option_and_then name_of (text_at (codes "name") d)
+
+unfoldable pub vertex_of : Data → Option Vertex
+vertex_of d =
+    option_and_then (λ name. option_and_then (λ operator. option_map
+    (λ depth. record { name = name; op = operator; depth = depth })
+    (small_at (codes "depth") d)) (op_of d)) (name_in d)
+
+-- an edge's end is any text; one that is no name names nothing
+unfoldable pub edge_of : Data → Option DraftEdge
+edge_of d =
+    if has_keys (codes "from" ∷ codes "name" ∷ codes "port" ∷ codes "route" ∷ codes "to" ∷ []) d
+    then option_and_then (λ name. option_and_then (λ from. option_and_then (λ port. option_and_then (λ to. option_map
+    (λ route. record { name = name; from = name_of from; port = port; to = name_of to; route = route })
+    (option_and_then route_of (text_at (codes "route") d))) (text_at (codes "to") d))
+    (small_at (codes "port") d)) (text_at (codes "from") d)) (name_in d)
+    else None
+
+-- the vertices or edges under a key
+abbrev pub every_at : {X : Type 0} → List ℕ → (Data → Option X) → Data → Option (List X)
+every_at key read d = option_and_then (every read) (list_at key d)
+
+-- the graph that a value is
+unfoldable pub draft_of : Data → Option Draft
+draft_of d =
+    if has_keys (codes "edges" ∷ codes "vertices" ∷ []) d
+    then option_and_then (λ vertices. option_map (λ edges. record { vertices = vertices; edges = edges })
+    (every_at (codes "edges") edge_of d)) (every_at (codes "vertices") vertex_of d)
+    else None

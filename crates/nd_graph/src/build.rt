@@ -1,0 +1,77 @@
+//! A graph made of vertices and edges that were found to have no fault.
+ghost use Rattle.std.specs.Prelude.{◌≡◌, ◌+◌, ◌≤◌, IfOk, length};
+ghost use Rattle.nd_time.specs.Limits.{max_locations};
+ghost use Rattle.nd_graph.specs.Graph.{depths as all_depths, arcs as all_arcs, action_at};
+ghost use Rattle.nd_graph.specs.Checked.{IsFaultless};
+
+use crate::check::edge_depth;
+use crate::{Action, Arc, Edge, Graph, Vertex};
+use std::alloc::{AllocError, Allocator};
+
+// The depth of each location.
+fn depths_of<A: Allocator>(
+    alloc: A,
+    vertices: &[Vertex],
+    edges: &[Edge],
+) -> Result<Vec<usize, A>, AllocError>
+    ensures { IfOk result (λ v. v.items ≡ all_depths (record { vertices = vertices.now; edges = edges.now })) }
+{
+    let mut depths = Vec::new(alloc);
+    for vertex in vertices {
+        depths.push(vertex.depth as usize)?;
+    }
+    for edge in edges {
+        depths.push(edge_depth(vertices, edge))?;
+    }
+    Ok(depths)
+}
+
+// The action of the vertex that the edge leaves.
+fn source_action(vertices: &[Vertex], edge: &Edge) -> Action
+    ensures { result ≡ action_at vertices.now edge.now.from }
+{
+    match vertices.get(edge.from) {
+        Some(source) => source.op.action(),
+        None => Action::Identity,
+    }
+}
+
+// The arcs of each edge in turn.
+fn arcs_of<A: Allocator>(
+    alloc: A,
+    vertices: &[Vertex],
+    edges: &[Edge],
+) -> Result<Vec<Arc, A>, AllocError>
+    requires { length vertices.now + length edges.now ≤ max_locations }
+    ensures { IfOk result (λ v. v.items ≡ all_arcs (record { vertices = vertices.now; edges = edges.now })) }
+{
+    let mut arcs = Vec::new(alloc);
+    for (index, edge) in edges.iter().enumerate() {
+        let location = vertices.len() + index;
+        arcs.push(Arc {
+            from: edge.from,
+            action: source_action(vertices, edge),
+            to: location,
+        })?;
+        arcs.push(Arc {
+            from: location,
+            action: Action::Identity,
+            to: edge.to,
+        })?;
+    }
+    Ok(arcs)
+}
+
+/// The graph of these vertices and edges.
+pub(crate) fn built<A: Allocator + Copy>(
+    alloc: A,
+    vertices: Vec<Vertex, A>,
+    edges: Vec<Edge, A>,
+) -> Result<Graph<A>, AllocError>
+    requires { IsFaultless (record { vertices = vertices.items; edges = edges.items }) }
+    ensures { IfOk result (λ g. g ≡ record { vertices = vertices.items; edges = edges.items }) }
+{
+    let depths = depths_of(alloc, &vertices, &edges)?;
+    let arcs = arcs_of(alloc, &vertices, &edges)?;
+    Ok(Graph::from_parts(vertices, edges, depths, arcs))
+}

@@ -1,0 +1,174 @@
+//! The faults of a graph whose names are found: its ports, its depths and its size.
+ghost use Rattle.std.specs.Prelude.{◌≡◌, ◌+◌, nat_lt};
+ghost use Rattle.std.specs.List.{list_any};
+ghost use Rattle.nd_time.specs.Limits.{max_locations};
+ghost use Rattle.nd_graph.specs.Graph.{depth_past as past_depth, action_of, depth_past_vertex};
+ghost use Rattle.nd_graph.specs.Checked as rule;
+
+use crate::{Action, Edge, GraphFault, Op, Vertex};
+use nd_time::MAX_DEPTH;
+
+/// The most locations of a graph (this project's own rule).
+pub const MAX_LOCATIONS: usize = 64;
+
+fn ports(op: Op) -> u32
+    ensures { result ≡ rule.ports op }
+{
+    match op {
+        Op::Sink => 0,
+        Op::Split(_) => 2,
+        _ => 1,
+    }
+}
+
+fn is_input(op: Op) -> bool
+    ensures { result ≡ rule.is_input op }
+{
+    match op {
+        Op::Input => true,
+        _ => false,
+    }
+}
+
+#[tactic(auto, unfolding(crate::specs::Checked::has_bad_port))]
+fn has_bad_port(vertices: &[Vertex], edge: &Edge) -> bool
+    ensures { result ≡ rule.has_bad_port vertices.now edge.now }
+{
+    let ports_there = match vertices.get(edge.from) {
+        Some(source) => ports(source.op),
+        None => 0,
+    };
+    let enters_input = match vertices.get(edge.to) {
+        Some(target) => is_input(target.op),
+        None => false,
+    };
+    ports_there <= edge.port || enters_input
+}
+
+fn is_misplaced(vertex: &Vertex) -> bool
+    ensures { result ≡ rule.is_misplaced vertex.now }
+{
+    match vertex.op {
+        Op::Input => 0 < vertex.depth,
+        Op::Egress | Op::Feedback => vertex.depth == 0,
+        _ => false,
+    }
+}
+
+// The depth of the edges that leave the vertex.
+fn depth_past(vertex: &Vertex) -> usize
+    ensures { result ≡ past_depth (action_of vertex.now.op) vertex.now.depth }
+{
+    let depth = vertex.depth as usize;
+    match vertex.op.action() {
+        Action::Ingress => depth + 1,
+        Action::Egress => depth.saturating_sub(1),
+        Action::Identity | Action::Feedback => depth,
+    }
+}
+
+pub(crate) fn edge_depth(vertices: &[Vertex], edge: &Edge) -> usize
+    ensures { result ≡ depth_past_vertex vertices.now edge.now.from }
+{
+    match vertices.get(edge.from) {
+        Some(source) => depth_past(source),
+        None => 0,
+    }
+}
+
+#[tactic(auto, unfolding(crate::specs::Checked::misses_depth))]
+fn misses_depth(vertices: &[Vertex], edge: &Edge) -> bool
+    ensures { result ≡ rule.misses_depth vertices.now edge.now }
+{
+    let target_depth = match vertices.get(edge.to) {
+        Some(target) => target.depth as usize,
+        None => 0,
+    };
+    edge_depth(vertices, edge) != target_depth
+}
+
+fn is_too_deep(vertex: &Vertex) -> bool
+    ensures { result ≡ rule.is_too_deep vertex.now }
+{
+    let depth = vertex.depth as usize;
+    let is_ingress = match vertex.op {
+        Op::Ingress => true,
+        _ => false,
+    };
+    MAX_DEPTH < depth || (is_ingress && depth == MAX_DEPTH)
+}
+
+#[tactic(auto, unfolding(crate::specs::Checked::leads_too_deep))]
+fn leads_too_deep(vertices: &[Vertex], edge: &Edge) -> bool
+    ensures { result ≡ rule.leads_too_deep vertices.now edge.now }
+{
+    MAX_DEPTH < edge_depth(vertices, edge)
+}
+
+fn some_has_bad_port(vertices: &[Vertex], edges: &[Edge]) -> bool
+    ensures { result ≡ list_any (rule.has_bad_port vertices.now) edges.now }
+{
+    edges.iter().any(|edge| has_bad_port(vertices, edge))
+}
+
+fn some_is_misplaced(vertices: &[Vertex]) -> bool
+    ensures { result ≡ list_any rule.is_misplaced vertices.now }
+{
+    vertices.iter().any(|vertex| is_misplaced(vertex))
+}
+
+fn some_misses_depth(vertices: &[Vertex], edges: &[Edge]) -> bool
+    ensures { result ≡ list_any (rule.misses_depth vertices.now) edges.now }
+{
+    edges.iter().any(|edge| misses_depth(vertices, edge))
+}
+
+fn some_is_too_deep(vertices: &[Vertex]) -> bool
+    ensures { result ≡ list_any rule.is_too_deep vertices.now }
+{
+    vertices.iter().any(|vertex| is_too_deep(vertex))
+}
+
+fn some_leads_too_deep(vertices: &[Vertex], edges: &[Edge]) -> bool
+    ensures { result ≡ list_any (rule.leads_too_deep vertices.now) edges.now }
+{
+    edges.iter().any(|edge| leads_too_deep(vertices, edge))
+}
+
+#[tactic(auto, unfolding(crate::specs::Checked::has_depth_mismatch))]
+fn has_depth_mismatch(vertices: &[Vertex], edges: &[Edge]) -> bool
+    ensures { result ≡ rule.has_depth_mismatch (record { vertices = vertices.now; edges = edges.now }) }
+{
+    some_is_misplaced(vertices) || some_misses_depth(vertices, edges)
+}
+
+fn are_too_many(vertices: usize, edges: usize) -> bool
+    ensures { result ≡ nat_lt max_locations (vertices + edges) }
+{
+    MAX_LOCATIONS < vertices || MAX_LOCATIONS - vertices < edges
+}
+
+#[tactic(auto, unfolding(crate::specs::Checked::is_too_large))]
+fn is_too_large(vertices: &[Vertex], edges: &[Edge]) -> bool
+    ensures { result ≡ rule.is_too_large (record { vertices = vertices.now; edges = edges.now }) }
+{
+    are_too_many(vertices.len(), edges.len())
+        || some_is_too_deep(vertices)
+        || some_leads_too_deep(vertices, edges)
+}
+
+/// The first fault of a graph whose names are found.
+#[tactic(auto, unfolding(crate::specs::Checked::fault_of))]
+pub(crate) fn fault_of(vertices: &[Vertex], edges: &[Edge]) -> Option<GraphFault>
+    ensures { result ≡ rule.fault_of (record { vertices = vertices.now; edges = edges.now }) }
+{
+    if some_has_bad_port(vertices, edges) {
+        Some(GraphFault::BadPort)
+    } else if has_depth_mismatch(vertices, edges) {
+        Some(GraphFault::DepthMismatch)
+    } else if is_too_large(vertices, edges) {
+        Some(GraphFault::TooLarge)
+    } else {
+        None
+    }
+}

@@ -1,0 +1,206 @@
+//! A graph as it is written, before its names are looked up.
+ghost use Rattle.std.specs.Prelude.{◌≡◌, ◌⊎◌, IfOk, IfErr, Some, None, codes, ok_or};
+ghost use Rattle.serde_json.specs.View.{view};
+ghost use Rattle.nd_graph.specs.Draft as form;
+ghost use Rattle.nd_graph.specs.Checked.{checked};
+ghost use Rattle.nd_graph.specs.Fault.{IsUnlessMemory};
+ghost use Rattle.nd_graph.specs.declared.fault.GraphFault.TheVariants.{Shape, Memory};
+
+use crate::build::built;
+use crate::check::fault_of;
+use crate::names::edges_between;
+use crate::{Graph, GraphFault, Name, Op, Route, Vertex};
+use nd_json::{has_keys, integer_at, list_at, small_at, text_at};
+use serde_json::Value;
+use std::alloc::{Allocator, Global};
+use std::marker::Model;
+
+/// An edge as it is written.
+#[derive(Debug, Drop)]
+pub struct DraftEdge {
+    pub name: Name,
+    /// The name of the vertex that it leaves; `None` for a text that names nothing.
+    pub from: Option<Name>,
+    /// The port of that vertex.
+    pub port: u32,
+    /// The name of the vertex that it enters; `None` for a text that names nothing.
+    pub to: Option<Name>,
+    pub route: Route,
+}
+
+/// A graph as it is written: nothing is known of its names, ports and depths.
+#[derive(Drop)]
+pub struct GraphDraft<A: Allocator = Global> {
+    vertices: Vec<Vertex, A>,
+    edges: Vec<DraftEdge, A>,
+}
+
+impl<A: Allocator> Model for GraphDraft<A> {
+    ghost use Rattle.nd_graph.specs.Draft.{Draft};
+
+    ghost Value = { Draft };
+
+    ghost view = { λ a. record { vertices = a.vertices.items; edges = a.edges.items } };
+}
+
+impl<A: Allocator> GraphDraft<A> {
+    /// The graph that a value is: `Shape` where it does not have a graph's form (this project's own rule), and no other fault
+    /// but `Memory`.
+    #[tactic(auto, unfolding(crate::specs::Draft::draft_of))]
+    pub fn from_value(alloc: A, value: &Value) -> Result<GraphDraft<A>, GraphFault>
+    where
+        A: Copy,
+        ensures { IsUnlessMemory (ok_or (form.draft_of (view value.now)) Shape) result }
+    {
+        if !has_keys(value, ["edges", "vertices"].as_slice()) {
+            return Err(GraphFault::Shape);
+        }
+        let vertices = vertices_of(alloc, value)?;
+        let edges = edges_of(alloc, value)?;
+        Ok(GraphDraft { vertices, edges })
+    }
+
+    /// The graph that is written, with its edges' ends as locations. Of several faults the one of least number is answered,
+    /// and never `Shape`.
+    #[tactic(auto, unfolding(crate::specs::Checked::checked))]
+    pub fn check(self, alloc: A) -> Result<Graph<A>, GraphFault>
+    where
+        A: Copy,
+        ensures { IsUnlessMemory (checked self) result }
+    {
+        let GraphDraft {
+            vertices,
+            edges: written,
+        } = self;
+        let edges = edges_between(alloc, &vertices, &written)?;
+        if let Some(fault) = fault_of(&vertices, &edges) {
+            return Err(fault);
+        }
+        Ok(built(alloc, vertices, edges)?)
+    }
+}
+
+fn vertices_of<A: Allocator>(alloc: A, value: &Value) -> Result<Vec<Vertex, A>, GraphFault>
+    ensures ok { IfOk result (λ v. form.every_at (codes "vertices") form.vertex_of (view value.now) ≡ Some v.items) }
+    ensures err { IfErr result (λ e. (e ≡ Memory)
+        ⊎ ((e ≡ Shape) × (form.every_at (codes "vertices") form.vertex_of (view value.now) ≡ None))) }
+{
+    let values = list_at(value, "vertices").ok_or(GraphFault::Shape)?;
+    let mut vertices = Vec::new(alloc);
+    for value in values {
+        let vertex = vertex_of(value).ok_or(GraphFault::Shape)?;
+        vertices.push(vertex)?;
+    }
+    Ok(vertices)
+}
+
+fn edges_of<A: Allocator>(alloc: A, value: &Value) -> Result<Vec<DraftEdge, A>, GraphFault>
+    ensures ok { IfOk result (λ v. form.every_at (codes "edges") form.edge_of (view value.now) ≡ Some v.items) }
+    ensures err { IfErr result (λ e. (e ≡ Memory)
+        ⊎ ((e ≡ Shape) × (form.every_at (codes "edges") form.edge_of (view value.now) ≡ None))) }
+{
+    let values = list_at(value, "edges").ok_or(GraphFault::Shape)?;
+    let mut edges = Vec::new(alloc);
+    for value in values {
+        let edge = edge_of(value).ok_or(GraphFault::Shape)?;
+        edges.push(edge)?;
+    }
+    Ok(edges)
+}
+
+#[tactic(auto, unfolding(crate::specs::Draft::vertex_of))]
+fn vertex_of(value: &Value) -> Option<Vertex>
+    ensures { result ≡ form.vertex_of (view value.now) }
+{
+    let name = name_in(value)?;
+    let op = op_of(value)?;
+    let depth = small_at(value, "depth")?;
+    Some(Vertex { name, op, depth })
+}
+
+#[tactic(auto, unfolding(crate::specs::Draft::edge_of))]
+fn edge_of(value: &Value) -> Option<DraftEdge>
+    ensures { result ≡ form.edge_of (view value.now) }
+{
+    if !has_keys(value, ["from", "name", "port", "route", "to"].as_slice()) {
+        return None;
+    }
+    let name = name_in(value)?;
+    let from = text_at(value, "from")?;
+    let port = small_at(value, "port")?;
+    let to = text_at(value, "to")?;
+    let route = route_of(text_at(value, "route")?)?;
+    Some(DraftEdge {
+        name,
+        from: name_of(from),
+        port,
+        to: name_of(to),
+        route,
+    })
+}
+
+fn name_of(text: &str) -> Option<Name>
+    ensures { result ≡ form.name_of text.now }
+{
+    Name::new(text)
+}
+
+#[tactic(auto, unfolding(crate::specs::Draft::name_in))]
+fn name_in(value: &Value) -> Option<Name>
+    ensures { result ≡ form.name_in (view value.now) }
+{
+    text_at(value, "name").and_then(name_of)
+}
+
+#[tactic(auto, unfolding(crate::specs::Draft::op_of))]
+fn op_of(value: &Value) -> Option<Op>
+    ensures { result ≡ form.op_of (view value.now) }
+{
+    if has_keys(value, ["depth", "name", "op"].as_slice()) {
+        plain_op(text_at(value, "op")?)
+    } else if has_keys(value, ["depth", "k", "name", "op"].as_slice()) {
+        numbered_op(text_at(value, "op")?, integer_at(value, "k")?)
+    } else {
+        None
+    }
+}
+
+#[tactic(auto, unfolding(crate::specs::Draft::plain_op))]
+fn plain_op(text: &str) -> Option<Op>
+    ensures { result ≡ form.plain_op text.now }
+{
+    match text {
+        "input" => Some(Op::Input),
+        "ingress" => Some(Op::Ingress),
+        "egress" => Some(Op::Egress),
+        "feedback" => Some(Op::Feedback),
+        "sum" => Some(Op::Sum),
+        "distinct" => Some(Op::Distinct),
+        "sink" => Some(Op::Sink),
+        _ => None,
+    }
+}
+
+#[tactic(auto, unfolding(crate::specs::Draft::numbered_op))]
+fn numbered_op(text: &str, k: i64) -> Option<Op>
+    ensures { result ≡ form.numbered_op text.now k }
+{
+    match text {
+        "add" => Some(Op::Add(k)),
+        "mul" => Some(Op::Mul(k)),
+        "below" => Some(Op::Below(k)),
+        "split" => Some(Op::Split(k)),
+        _ => None,
+    }
+}
+
+#[tactic(auto, unfolding(crate::specs::Draft::route_of))]
+fn route_of(text: &str) -> Option<Route>
+    ensures { result ≡ form.route_of text.now }
+{
+    match text {
+        "local" => Some(Route::Local),
+        "exchange" => Some(Route::Exchange),
+        _ => None,
+    }
+}

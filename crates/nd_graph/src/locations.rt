@@ -1,0 +1,34 @@
+//! The names of locations.
+ghost use Rattle.std.specs.Prelude.{◌≡◌, ◌<◌, Some, slice_get, position};
+ghost use Rattle.std.specs.Str.{bytes_eq};
+ghost use Rattle.nd_graph.specs.Graph.{location_count as count_of, names};
+
+use crate::Graph;
+use std::alloc::Allocator;
+
+impl<A: Allocator> Graph<A> {
+    /// The name of the vertex or edge at a location.
+    pub fn location_name(&self, location: usize) -> &str
+        requires { location < count_of self.now }
+        ensures { slice_get (names self.now) location ≡ Some result.now }
+    {
+        let vertices = self.vertices();
+        if location < vertices.len() {
+            vertices[location].name.as_str()
+        } else {
+            self.edges()[location - vertices.len()].name.as_str()
+        }
+    }
+
+    /// The location of the vertex or edge of this name.
+    pub fn location_of(&self, name: &str) -> Option<usize>
+        ensures { result ≡ position (bytes_eq name.now) (names self.now) }
+    {
+        for location in 0..self.location_count() {
+            if name == self.location_name(location) {
+                return Some(location);
+            }
+        }
+        None
+    }
+}

@@ -1,0 +1,74 @@
+//! What an object has under its keys.
+ghost use Rattle.std.specs.Prelude.{◌≡◌, map, option_map};
+ghost use Rattle.serde_json.specs.View.{view};
+ghost use Rattle.nd_json.specs.Forms as form;
+
+use crate::element;
+use serde_json::Value;
+
+/// Whether the value is an object with exactly these keys, which are given in the order of their bytes.
+pub fn has_keys(value: &Value, keys: &[&str]) -> bool
+    ensures { result ≡ form.has_keys (map (λ k. k.now) keys.now) (view value.now) }
+{
+    let Some(members) = value.as_object() else {
+        return false;
+    };
+    let mut wanted = keys.iter();
+    'keys: for key in members.keys() {
+        match wanted.next() {
+            Some(text) => {
+                if key.as_str() != *text {
+                    return false;
+                }
+            }
+            None => return false,
+        }
+    }
+    wanted.next().is_none()
+}
+
+/// Whether the value is an object with this text at the key.
+#[tactic(auto, unfolding(crate::specs::Forms::has_text))]
+pub fn has_text(value: &Value, key: &str, text: &str) -> bool
+    ensures { result ≡ form.has_text key.now text.now (view value.now) }
+{
+    match text_at(value, key) {
+        Some(found) => found == text,
+        None => false,
+    }
+}
+
+/// The text at the key.
+pub fn text_at<'v>(value: &'v Value, key: &str) -> Option<&'v str>
+    ensures { option_map (λ s. s.now) result ≡ form.text_at key.now (view value.now) }
+{
+    value.get(key).and_then(element::text)
+}
+
+/// The whole number from 0 to 2^64 - 1 at the key.
+pub fn whole_at(value: &Value, key: &str) -> Option<u64>
+    ensures { result ≡ form.whole_at key.now (view value.now) }
+{
+    value.get(key).and_then(element::whole)
+}
+
+/// The whole number from 0 to 2^32 - 1 at the key.
+pub fn small_at(value: &Value, key: &str) -> Option<u32>
+    ensures { result ≡ form.small_at key.now (view value.now) }
+{
+    value.get(key).and_then(element::small)
+}
+
+/// The whole number from -2^63 to 2^63 - 1 at the key.
+pub fn integer_at(value: &Value, key: &str) -> Option<i64>
+    ensures { result ≡ form.integer_at key.now (view value.now) }
+{
+    value.get(key).and_then(element::integer)
+}
+
+/// The items of the list at the key.
+pub fn list_at<'v>(value: &'v Value, key: &str) -> Option<&'v [Value]>
+    ensures { option_map (λ vs. map view vs.now) result ≡ form.list_at key.now (view value.now) }
+{
+    value.get(key).and_then(element::list)
+}

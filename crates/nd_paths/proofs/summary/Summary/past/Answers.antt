@@ -1,0 +1,17 @@
+use Rattle.std.proofs.Common.{ap, ◌∙◌}
+use Rattle.std.specs.Option.{is_some}
+use Rattle.nd_graph.specs.declared.op.Action.TheVariants.{Feedback}
+use Rattle.nd_paths.specs.declared.summary.Summary.{Summary}
+use Rattle.nd_paths.specs.Inside.{inner, step}
+use Rattle.nd_paths.proofs.Stored.{egress_end, feedback_end}
+use Rattle.nd_paths.proofs.summary.Summary.past.Goals as goal
+
+pub returns-then-is_none : goal.returns-then-is_none
+returns-then-is_none c =
+    let done = egress_end c.args.self.now c.saturating_sub.result c.pop.new.self c.pop.result c.if-is_none.ensures (rw c.copy-next.ensures at c.pop.ensures.some) (rw c.copy-next.ensures at c.pop.ensures.parts) c.saturating_sub.ensures in
+    rw c.in-Egress.is done
+
+pub returns-in-None : goal.returns-in-None
+returns-in-None c =
+    let done = feedback_end c.copy-next.result c.pop-in-Feedback.new.self c.pop-in-Feedback.result (ap is_some c.in-None.is) c.pop-in-Feedback.ensures.some c.pop-in-Feedback.ensures.parts in
+    rw c.in-Feedback.is (done ∙ ap (λ (s : Summary). step Feedback (inner s)) c.copy-next.ensures)

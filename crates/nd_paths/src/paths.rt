@@ -1,0 +1,121 @@
+//! The order of pointstamps.
+ghost use Rattle.std.specs.Prelude.{◌≡◌, ◌↔◌, IsTrue, IfOk, IfErr, List, ◌∷◌};
+ghost use Rattle.nd_paths.specs.declared.point.Pointstamp.{Pointstamp};
+ghost use Rattle.nd_paths.specs.Order.{CouldResultIn, Fits, IsAccepted, IsStrictlyBefore};
+ghost use Rattle.nd_paths.specs.Laws.{IsMinimalAmong};
+ghost use Rattle.nd_paths.specs.Fault.{IsFault};
+ghost use Rattle.nd_paths.specs.Table.{IsTable};
+
+use crate::accept::{PathFault, rows_of};
+use crate::table::{copied_rows, leads_among};
+use crate::{Pointstamp, Summary};
+use nd_graph::Graph;
+use std::alloc::{AllocError, Allocator, Global};
+use std::marker::Model;
+
+/// An accepted graph, and the order of its pointstamps (Naiad, SOSP 2013, section 2.3).
+///
+/// The order is decided from a table: for each two locations the least summary of the walks that keep so many counters.
+#[derive(Drop)]
+pub struct Paths<A: Allocator = Global> {
+    graph: Graph<A>,
+    rows: Vec<Vec<Option<Summary>, A>, A>,
+}
+
+impl<A: Allocator> Model for Paths<A> {
+    ghost use Rattle.nd_graph.specs.Graph.{Dataflow};
+    ghost use Rattle.nd_paths.specs.Table.{IsTable};
+
+    ghost Value = { Dataflow };
+
+    ghost view = { λ a. a.graph };
+
+    ghost invariant = { λ a. IsTable a.graph a.rows.items };
+}
+
+impl<A: Allocator> Paths<A> {
+    /// The order of a graph.
+    pub fn of(alloc: A, graph: &Graph<A>) -> Result<Paths<A>, PathFault>
+    where
+        A: Copy,
+        ensures graph { IfOk result (λ p. p ≡ graph.now) }
+        ensures accepted { IfOk result (λ _. IsAccepted graph.now) }
+        ensures fault { IfErr result (λ e. IsFault graph.now e) }
+    {
+        let rows = rows_of(alloc, graph.depths(), graph.all_arcs())?;
+        let graph = graph.copy(alloc)?;
+        Ok(Paths { graph, rows })
+    }
+
+    /// The graph.
+    pub fn graph(&self) -> &Graph<A>
+        ensures value { result.now ≡ self.now }
+        ensures accepted { IsAccepted self.now }
+    {
+        &self.graph
+    }
+
+    /// An equal order.
+    pub fn copy(&self, alloc: A) -> Result<Paths<A>, AllocError>
+    where
+        A: Copy,
+        ensures { IfOk result (λ p. p ≡ self.now) }
+    {
+        let graph = self.graph.copy(alloc)?;
+        let rows = copied_rows(alloc, &self.rows)?;
+        Ok(Paths { graph, rows })
+    }
+
+    /// Whether s could result in t. It could not where one of them does not fit the graph.
+    pub fn before(&self, s: &Pointstamp, t: &Pointstamp) -> bool
+        ensures { IsTrue result ↔ CouldResultIn self.now s.now t.now }
+    {
+        could_result_in(&self.graph, &self.rows, s, t)
+    }
+
+    /// Whether s could result in t, and is another.
+    pub fn strictly_before(&self, s: &Pointstamp, t: &Pointstamp) -> bool
+        ensures { IsTrue result ↔ IsStrictlyBefore self.now s.now t.now }
+    {
+        s != t && self.before(s, t)
+    }
+
+    /// The order is a partial order, and of finitely many pointstamps one has no other before it.
+    pub fn order_is_partial(&self)
+        ensures reflexive { (s : Pointstamp) → Fits self.now s → CouldResultIn self.now s s }
+        ensures transitive { (s t u : Pointstamp) → CouldResultIn self.now s t → CouldResultIn self.now t u
+            → CouldResultIn self.now s u }
+        ensures antisymmetric { (s t : Pointstamp) → CouldResultIn self.now s t → CouldResultIn self.now t s
+            → s ≡ t }
+        ensures strict { (s t u : Pointstamp) → IsStrictlyBefore self.now s t → IsStrictlyBefore self.now t u
+            → IsStrictlyBefore self.now s u }
+        ensures minimal { (p : Pointstamp) (ps : List Pointstamp)
+            → (m : Pointstamp) × IsMinimalAmong self.now (p ∷ ps) m }
+    {
+        let _ = &self.rows;
+    }
+}
+
+// Whether s could result in t, by the table of the graph.
+fn could_result_in<A: Allocator>(
+    graph: &Graph<A>,
+    rows: &[Vec<Option<Summary>, A>],
+    s: &Pointstamp,
+    t: &Pointstamp,
+) -> bool
+    requires { IsTable graph.now rows.now }
+    ensures { IsTrue result ↔ CouldResultIn graph.now s.now t.now }
+{
+    if !s.fits(graph) || !t.fits(graph) {
+        return false;
+    }
+    if t.time.epoch() < s.time.epoch() {
+        return false;
+    }
+    leads_among(
+        &rows[s.location],
+        t.location,
+        s.time.counters(),
+        t.time.counters(),
+    )
+}

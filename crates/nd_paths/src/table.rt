@@ -1,0 +1,188 @@
+//! The table of least summaries, row by row.
+ghost use Rattle.std.specs.Prelude.{◌≡◌, ◌+◌, ◌*◌, ◌<◌, ◌≤◌, ◌↔◌, All, IfOk, IsTrue, MatchBool, None, Some, length, replicate, slice_index, slice_set};
+ghost use Rattle.std.specs.Bool.{OnFalse};
+ghost use Rattle.std.specs.Option.{option_copied};
+ghost use Rattle.nd_time.specs.Limits.{max_depth, max_locations};
+ghost use Rattle.nd_paths.specs.Inside.{keeps, DepthsAgree, identity};
+ghost use Rattle.nd_paths.specs.Table.{held, entry, CanRelax, Relaxed, Quiet, HasWalks, CoversShort, ShowsFail, Closes, SomeLeads, HeldFit, AreCopies};
+
+use crate::Summary;
+use nd_graph::Arc;
+use nd_time::MAX_DEPTH;
+use std::alloc::{AllocError, Allocator};
+
+/// How many numbers of counters a walk can keep: 0 to `MAX_DEPTH`.
+pub const KEEPS: usize = MAX_DEPTH + 1;
+
+// What a row has for a location and a keep.
+pub fn look(row: &[Option<Summary>], location: usize, keep: usize) -> Option<&Summary>
+    requires { location * keeps + keeps ≤ length row.now }
+    ensures { option_copied result ≡ held row.now location keep }
+{
+    if keep < KEEPS {
+        row[location * KEEPS + keep].as_ref()
+    } else {
+        None
+    }
+}
+
+// Follows the entry for a keep at the arc's start by the arc, and says whether that was less than what was known.
+fn relax(row: &mut [Option<Summary>], arc: Arc, keep: usize) -> bool
+    requires { CanRelax row.old arc keep }
+    ensures relaxed { Relaxed row.old row.new arc keep }
+    ensures quiet { OnFalse result (Quiet row.old row.new arc keep) }
+{
+    let next = match look(row, arc.from, keep) {
+        None => return false,
+        Some(first) => first.past(arc.action),
+    };
+    if let Some(known) = look(row, arc.to, next.keep) {
+        if known.is_at_most(&next) {
+            return false;
+        }
+    }
+    let place = arc.to * KEEPS + next.keep;
+    row[place] = Some(next);
+    true
+}
+
+// A row with no entry but the identity at its location.
+fn first_row<A: Allocator>(
+    alloc: A,
+    depths: &[usize],
+    from: usize,
+) -> Result<Vec<Option<Summary>, A>, AllocError>
+    requires few { length depths.now ≤ max_locations }
+    requires from { from < length depths.now }
+    requires deep { slice_index depths.now from ≤ max_depth }
+    ensures { IfOk result (λ row. row.items ≡ slice_set (replicate (length depths.now * keeps) None) (from * keeps + slice_index depths.now from) (Some (identity (slice_index depths.now from)))) }
+{
+    let mut row = Vec::with_capacity(alloc, depths.len() * KEEPS)?;
+    for _place in 0..depths.len() * KEEPS {
+        row.push(None)?;
+    }
+    row[from * KEEPS + depths[from]] = Some(Summary::identity(depths[from]));
+    Ok(row)
+}
+
+// Follows every entry by every arc until nothing changes, or as often as a walk without detours can be long.
+fn sweep(row: &mut [Option<Summary>], depths: &[usize], arcs: &[Arc], from: usize)
+    requires agree { DepthsAgree depths.now arcs.now }
+    requires deep { All (λ d. d ≤ max_depth) depths.now }
+    requires few { length depths.now ≤ max_locations }
+    requires few_arcs { length arcs.now ≤ max_locations * 2 }
+    requires from { from < length depths.now }
+    requires start { row.old ≡ slice_set (replicate (length depths.now * keeps) None) (from * keeps + slice_index depths.now from) (Some (identity (slice_index depths.now from))) }
+    ensures walks { HasWalks depths.now arcs.now from (entry row.new) }
+    ensures covers { CoversShort depths.now arcs.now from (entry row.new) (keeps * length depths.now) }
+{
+    'rounds: for _round in 0..depths.len() * KEEPS {
+        let mut changed = false;
+        'arcs: for arc in arcs {
+            'keeps: for keep in 0..KEEPS {
+                changed |= relax(row, *arc, keep);
+            }
+        }
+        if !changed {
+            return;
+        }
+    }
+}
+
+/// The least summaries of the walks from a location that are no longer than a walk without detours.
+pub fn short_row<A: Allocator>(
+    alloc: A,
+    depths: &[usize],
+    arcs: &[Arc],
+    from: usize,
+) -> Result<Vec<Option<Summary>, A>, AllocError>
+    requires agree { DepthsAgree depths.now arcs.now }
+    requires deep { All (λ d. d ≤ max_depth) depths.now }
+    requires few { length depths.now ≤ max_locations }
+    requires few_arcs { length arcs.now ≤ max_locations * 2 }
+    requires from { from < length depths.now }
+    ensures long { IfOk result (λ row. length row.items ≡ length depths.now * keeps) }
+    ensures walks { IfOk result (λ row. HasWalks depths.now arcs.now from (entry row.items)) }
+    ensures covers { IfOk result (λ row. CoversShort depths.now arcs.now from (entry row.items) (keeps * length depths.now)) }
+{
+    let mut row = first_row(alloc, depths, from)?;
+    sweep(&mut row, depths, arcs, from);
+    Ok(row)
+}
+
+/// Whether a closed walk from the row's location fails to increase some time.
+pub fn shows_fail(row: &[Option<Summary>], depths: &[usize], arcs: &[Arc], location: usize) -> bool
+    requires agree { DepthsAgree depths.now arcs.now }
+    requires long { length row.now ≡ length depths.now * keeps }
+    ensures { MatchBool result (ShowsFail arcs.now location (entry row.now)) (ShowsFail arcs.now location (entry row.now) → ⊥) }
+{
+    for arc in arcs {
+        if arc.to == location && closes(row, *arc) {
+            return true;
+        }
+    }
+    false
+}
+
+// Whether some entry at the arc's start, followed by the arc, adds nothing.
+fn closes(row: &[Option<Summary>], arc: Arc) -> bool
+    requires { arc.from * keeps + keeps ≤ length row.now }
+    ensures { MatchBool result (Closes row.now arc) (Closes row.now arc → ⊥) }
+{
+    for keep in 0..KEEPS {
+        if let Some(summary) = look(row, arc.from, keep) {
+            if summary.adds_nothing(arc.action) {
+                return true;
+            }
+        }
+    }
+    false
+}
+
+/// Whether something held for a location makes of the one time's counters some at or before the other's.
+pub fn leads_among(row: &[Option<Summary>], location: usize, from: &[u32], to: &[u32]) -> bool
+    requires long { location * keeps + keeps ≤ length row.now }
+    requires deep { length to.now ≤ max_depth }
+    requires fit { HeldFit row.now location (length from.now) (length to.now) }
+    ensures { IsTrue result ↔ SomeLeads row.now location from.now to.now }
+{
+    for keep in 0..KEEPS {
+        if let Some(summary) = look(row, location, keep) {
+            if summary.leads(from, to) {
+                return true;
+            }
+        }
+    }
+    false
+}
+
+// An equal row.
+fn copied_row<A: Allocator>(
+    alloc: A,
+    row: &[Option<Summary>],
+) -> Result<Vec<Option<Summary>, A>, AllocError>
+    ensures { IfOk result (λ v. v.items ≡ row.now) }
+{
+    let mut copied = Vec::with_capacity(alloc, row.len())?;
+    for entry in row {
+        match entry {
+            Some(summary) => copied.push(Some(summary.copy()))?,
+            None => copied.push(None)?,
+        }
+    }
+    Ok(copied)
+}
+
+/// Equal rows.
+pub fn copied_rows<A: Allocator + Copy>(
+    alloc: A,
+    rows: &[Vec<Option<Summary>, A>],
+) -> Result<Vec<Vec<Option<Summary>, A>, A>, AllocError>
+    ensures { IfOk result (λ v. AreCopies rows.now v.items) }
+{
+    let mut copied = Vec::with_capacity(alloc, rows.len())?;
+    for row in rows {
+        copied.push(copied_row(alloc, row)?)?;
+    }
+    Ok(copied)
+}

@@ -1,0 +1,132 @@
+-- The part of a change at the points of a kind, made entry by entry.
+use Rattle.std.proofs.Common.{◌≡◌, ◌≢◌, ◌<◌, ◌≤◌, ◌+◌, ℕ, zero, suc, ℤ, pos, negsuc, Bool, true, false, cond, length, get_or, refl, sym, ap, subst, ◌∙◌, ◌⊎◌, inl, inr, Less, Equal, arith, true≢false}
+use Rattle.std.specs.Ordering.{is_eq}
+use Rattle.std.proofs.lemmas.Bool.{cases_lt}
+use Rattle.std.proofs.lemmas.List.{get_or_default}
+use Rattle.std.proofs.lemmas.Cmp.{tied_itself}
+use Rattle.std.proofs.lemmas.Map.Views.{tells_apart}
+use Rattle.nd_map.specs.Entries.{rises}
+use Rattle.nd_paths.specs.Point.{point_cmp, point_total, point_exact}
+use Rattle.nd_paths.specs.declared.point.Pointstamp.{Pointstamp}
+use Rattle.nd_delta.specs.Change.{Change, none, at, set, size, entries, is_point, at-none, at-set, size-set, size-none, sorted-entries}
+use Rattle.nd_delta.specs.Least.{place_of, at-index}
+use Rattle.nd_view.specs.View.{IsPartWhere, IsCount}
+
+decided : (z : ℤ) → (z ≡ pos 0) ⊎ (z ≢ pos 0)
+decided (pos zero) = inl refl
+decided (pos (suc n)) = inr (λ e. absurd (cc))
+decided (negsuc n) = inr (λ e. absurd (cc))
+
+-- the point of one of the first entries
+pub record IsAmong (m : Change) (i : ℕ) (q : Pointstamp) : Type 0 where
+  pub index : ℕ
+  pub early : index < i
+  pub in_range : index < length (entries m)
+  pub is : (get_or (entries m) index (q, pos 0)).0 ≡ q
+
+-- f is the part of m at those of the first entries that are of the kind
+pub record IsPartUpTo (m : Change) (P : Pointstamp → Type 0) (i : ℕ) (f : Change) : Type 0 where
+  pub all : (q : Pointstamp) → IsAmong m i q → P q → at f q ≡ at m q
+  pub some : (q : Pointstamp) → at f q ≢ pos 0 → P q
+  pub early : (q : Pointstamp) → at f q ≢ pos 0 → IsAmong m i q
+
+-- n of the first entries are of the kind
+pub record IsCountUpTo (m : Change) (P : Pointstamp → Type 0) (i n : ℕ) : Type 0 where
+  pub part : Change
+  pub is_part : IsPartUpTo m P i part
+  pub many : size part ≡ n
+
+module _ (m : Change) (P : Pointstamp → Type 0) where
+  pub part_none : IsPartUpTo m P 0 none
+  part_none = record {
+    all = λ q among p. absurd (omega (arith, among.early));
+    some = λ q some. absurd (some (at-none q));
+    early = λ q some. absurd (some (at-none q));
+  }
+
+  later : (i : ℕ) (q : Pointstamp) → IsAmong m i q → IsAmong m (i + 1) q
+  later i q among = record { index = among.index; early = omega (arith, among.early); in_range = among.in_range; is = among.is }
+
+  module _ (i : ℕ) (x : Pointstamp × ℤ) (lt : i < length (entries m)) (is : x ≡ get_or (entries m) i x) where
+    last : IsAmong m (i + 1) x.0
+    last = record { index = i; early = omega arith; in_range = lt; is = ap (λ y. y.0) (get_or_default (entries m) i (x.0, pos 0) x lt ∙ sym is) }
+
+    split : (q : Pointstamp) → IsAmong m (i + 1) q → IsAmong m i q ⊎ (q ≡ x.0)
+    split q among = elim (cases_lt among.index i) [
+      | inl before ↦ inl (record { index = among.index; early = before; in_range = among.in_range; is = among.is })
+      | inr at_least ↦
+          let same : among.index ≡ i = omega (arith, at_least, among.early) in
+          inr (sym among.is ∙ ap (λ k. (get_or (entries m) k (q, pos 0)).0) same ∙ ap (λ y. y.0) (get_or_default (entries m) i (q, pos 0) x lt ∙ sym is))
+    ]
+
+    fresh : IsAmong m i x.0 → ⊥
+    fresh among =
+        let d : Pointstamp × ℤ = (x.0, pos 0) in
+        let rise : point_cmp (get_or (entries m) among.index d).0 (get_or (entries m) i d).0 ≡ Less = rises point_cmp point_total (entries m) (sorted-entries m) among.index i d among.early lt in
+        let second : (get_or (entries m) i d).0 ≡ x.0 = ap (λ y. y.0) (get_or_default (entries m) i d x lt ∙ sym is) in
+        let tied : point_cmp (get_or (entries m) among.index d).0 (get_or (entries m) i d).0 ≡ Equal = (λ j. point_cmp (among.is j) (second j)) ∙ tied_itself point_total x.0 in
+        absurd (cc (rise, tied))
+
+    -- the new entry's point has nothing yet
+    pub part_fresh : (f : Change) → IsPartUpTo m P i f → at f x.0 ≡ pos 0
+    part_fresh f part = elim (decided (at f x.0)) [ inl e ↦ e | inr some ↦ absurd (fresh (part.early x.0 some)) ]
+
+    -- an entry that is not of the kind
+    pub part_skip : (f : Change) → (P x.0 → ⊥) → IsPartUpTo m P i f → IsPartUpTo m P (i + 1) f
+    part_skip f never part = record {
+      all = λ q among p. elim (split q among) [ inl before ↦ part.all q before p | inr here ↦ absurd (never (subst P here p)) ];
+      some = part.some;
+      early = λ q some. later i q (part.early q some);
+    }
+
+    one_of : (b : Bool) (y z w : ℤ) → (b ≡ true → y ≡ w) → (b ≡ false → z ≡ w) → cond b y z ≡ w
+    one_of true y z w e h = e refl
+    one_of false y z w e h = h refl
+
+    -- an entry of the kind
+    pub part_take : (f g : Change) → g ≡ set f x.0 x.1 → P x.0 → IsPartUpTo m P i f → IsPartUpTo m P (i + 1) g
+    part_take f g set_is p part = record {
+      all = λ q among k.
+          ap (λ c. at c q) set_is ∙ at-set f x.0 x.1 q
+          ∙ one_of (is_point q x.0) x.1 (at f q) (at m q)
+          (λ e. at-index m i x lt is ∙ ap (at m) (sym (tells_apart point_exact q x.0 e)))
+          (λ e. elim (split q among) [ inl before ↦ part.all q before k | inr here ↦ absurd (apart q e here) ]);
+      some = λ q some. elim (reached q some) [ inl here ↦ subst P (sym here) p | inr old ↦ part.some q old ];
+      early = λ q some. elim (reached q some) [ inl here ↦ subst (IsAmong m (i + 1)) (sym here) last | inr old ↦ later i q (part.early q old) ];
+    }
+      where
+        apart : (q : Pointstamp) → is_point q x.0 ≡ false → q ≡ x.0 → ⊥
+        apart q e here = true≢false (sym (ap (λ z. is_point z x.0) here ∙ ap is_eq (tied_itself point_total x.0)) ∙ e)
+
+        reached : (q : Pointstamp) → at g q ≢ pos 0 → (q ≡ x.0) ⊎ (at f q ≢ pos 0)
+        reached q some = by (is_point q x.0) refl
+          where
+            value : (b : Bool) → is_point q x.0 ≡ b → at g q ≡ cond b x.1 (at f q)
+            value b e = ap (λ c. at c q) set_is ∙ at-set f x.0 x.1 q ∙ ap (λ a. cond a x.1 (at f q)) e
+
+            by : (b : Bool) → is_point q x.0 ≡ b → (q ≡ x.0) ⊎ (at f q ≢ pos 0)
+            by true e = inl (tells_apart point_exact q x.0 e)
+            by false e = inr (λ z. some (value false e ∙ z))
+
+    pub count_skip : (n : ℕ) → (P x.0 → ⊥) → IsCountUpTo m P i n → IsCountUpTo m P (i + 1) n
+    count_skip n never counted = record { part = counted.part; is_part = part_skip counted.part never counted.is_part; many = counted.many }
+
+    pub count_take : (n : ℕ) → x.1 ≢ pos 0 → P x.0 → IsCountUpTo m P i n → IsCountUpTo m P (i + 1) (n + 1)
+    count_take n some p counted = record {
+      part = set counted.part x.0 x.1;
+      is_part = part_take counted.part _ refl p counted.is_part;
+      many = size-set counted.part x.0 x.1 some (part_fresh counted.part counted.is_part) ∙ ap (λ k. k + 1) counted.many;
+    }
+
+  pub count_none : IsCountUpTo m P 0 0
+  count_none = record { part = none; is_part = part_none; many = size-none }
+
+  -- after the last entry
+  pub part_done : (f : Change) (i : ℕ) → length (entries m) ≤ i → ((q : Pointstamp) → P q → at m q ≢ pos 0) → IsPartUpTo m P i f → IsPartWhere P m f
+  part_done f i past has part = record {
+    all = λ q p. let place = place_of m q (has q p) in part.all q (record { index = place.index; early = omega (arith, place.in_range, past); in_range = place.in_range; is = ap (λ y. y.0) (get_or_default (entries m) place.index (q, pos 0) (q, at m q) place.in_range) ∙ place.is }) p;
+    only = part.some;
+  }
+
+  pub count_done : (n i : ℕ) → length (entries m) ≤ i → ((q : Pointstamp) → P q → at m q ≢ pos 0) → IsCountUpTo m P i n → IsCount P m n
+  count_done n i past has counted = (counted.part, part_done counted.part i past has counted.is_part, counted.many)

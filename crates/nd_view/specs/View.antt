@@ -1,0 +1,34 @@
+-- What a view tells: passed points, blockers, precursors and the frontier (Naiad, SOSP 2013, section 2.3).
+use Rattle.std.specs.Prelude.{◌≡◌, ◌≢◌, ℕ, pos, ◌<ℤ◌}
+use Rattle.nd_graph.specs.Graph.{Dataflow}
+use Rattle.nd_paths.specs.Order.{CouldResultIn, IsStrictlyBefore}
+use Rattle.nd_paths.specs.declared.point.Pointstamp.{Pointstamp}
+use Rattle.nd_delta.specs.Change.{Change, at, size}
+
+-- x is positive, and could result in t
+pub record IsBlocker (g : Dataflow) (v : Change) (t x : Pointstamp) : Type 0 where
+  pub positive : pos 0 <ℤ at v x
+  pub before : CouldResultIn g x t
+
+-- nothing positive is at or before t
+abbrev pub IsPassed : Dataflow → Change → Pointstamp → Type 0
+IsPassed g v t = (x : Pointstamp) → IsBlocker g v t x → ⊥
+
+-- x is positive, and strictly before t
+pub record IsPrecursor (g : Dataflow) (v : Change) (t x : Pointstamp) : Type 0 where
+  pub positive : pos 0 <ℤ at v x
+  pub before : IsStrictlyBefore g x t
+
+-- x is positive, and has no precursor
+pub record IsOnFrontier (g : Dataflow) (v : Change) (x : Pointstamp) : Type 0 where
+  pub positive : pos 0 <ℤ at v x
+  pub first : (y : Pointstamp) → IsPrecursor g v x y → ⊥
+
+-- f is the part of v at the points of the kind P
+pub record IsPartWhere (P : Pointstamp → Type 0) (v f : Change) : Type 0 where
+  pub all : (x : Pointstamp) → P x → at f x ≡ at v x
+  pub only : (x : Pointstamp) → at f x ≢ pos 0 → P x
+
+-- v has entries at n points of the kind P
+abbrev pub IsCount : (Pointstamp → Type 0) → Change → ℕ → Type 0
+IsCount P v n = (f : Change) × IsPartWhere P v f × (size f ≡ n)

@@ -1,0 +1,5 @@
+pub mod DriverLaws
+pub mod Keys
+pub mod OptionReads
+pub mod RunLaws
+pub mod StandLaws

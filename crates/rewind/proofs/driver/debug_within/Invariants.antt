@@ -1,0 +1,17 @@
+use Rattle.std.proofs.Common.{◌≡◌, ℕ, ◌+◌, ◌≤◌, List, Some, length}
+use Rattle.rewind.specs.States.{Going}
+use Rattle.rewind.proofs.driver.debug_within.Given as goal
+
+abbrev pub invariant-reads : goal.invariant-reads
+invariant-reads g l = record {
+  number : l.run.number + l.left ≤ 1 + l.limit;
+  replied : l.run.replied + l.left ≤ l.limit;
+  chunk : length l.chunk ≡ 4096;
+  going : (input before : List ℕ) → g.S.Source.remaining l.fn.source ≡ Some input → g.T.Sink.contents l.fn.sink ≡ Some before
+      → Going l.options.processors l.limit l.left input before (g.S.Source.remaining l.source) (g.T.Sink.contents l.sink) l.run;
+  read : g.S.Source.failed l.source ≡ g.S.Source.failed l.fn.source;
+  written : g.T.Sink.failed l.sink ≡ g.T.Sink.failed l.fn.sink;
+}
+
+abbrev pub decreases-reads : goal.decreases-reads
+decreases-reads g l = l.left

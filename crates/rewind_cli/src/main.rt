@@ -1,0 +1,69 @@
+//! `rewind`: answers a script from standard input, line by line, on standard output.
+//!
+//! It ends with the status 0 where all was answered or help was asked for, 1 where the words were
+//! refused, and else with that of the fault, which standard error names.
+#![tactic(auto)]
+
+use rewind::{DebugFault, Options, WordsFault, debug, options_of};
+use rewind_lines::{ReadSource, WriteSink};
+use std::io::ErrorKind;
+use std::process::ExitCode;
+use std::{env, io};
+
+/// The status of words that were refused.
+const REFUSED: u8 = 1;
+
+/// Names the fault on standard error, and gives its status.
+fn report(rt: &impl Eprint, fault: DebugFault) -> u8 {
+    let _ = rt.eprintln(format_args!("rewind: {fault}"));
+    fault.status()
+}
+
+/// Runs the script.
+fn run<R: Input + Print + Eprint + AllocGlobal>(rt: &R, options: &Options) -> u8 {
+    let mut source = ReadSource::new(rt.reader());
+    let mut sink = WriteSink::new(io::writer(rt));
+    match debug(rt.alloc(), &mut source, &mut sink, options) {
+        Ok(_) => 0,
+        Err(fault) => report(rt, fault),
+    }
+}
+
+/// Answers words that gave no options.
+fn refuse<R: Print + Eprint>(rt: &R, fault: &WordsFault) -> u8 {
+    match fault {
+        WordsFault::Help(text) => match rt.print(text.as_str()) {
+            Ok(()) => 0,
+            Err(_) => report(rt, DebugFault::Write),
+        },
+        WordsFault::Refused(text) => {
+            let _ = rt.eprint(text.as_str());
+            REFUSED
+        }
+        WordsFault::Memory => report(rt, DebugFault::Memory),
+    }
+}
+
+/// Answers words that could not be taken from the system.
+fn refuse_unread<R: Eprint>(rt: &R, error: &io::Error) -> u8 {
+    if error.kind() == ErrorKind::OutOfMemory {
+        return report(rt, DebugFault::Memory);
+    }
+    let _ = rt.eprintln("rewind: the words can't be read");
+    REFUSED
+}
+
+fn main(rt: HostRuntime) -> ExitCode {
+    let args = match env::args(&rt) {
+        Ok(args) => args,
+        Err(error) => return ExitCode::from(refuse_unread(&rt, &error)),
+    };
+    let Ok(words) = args.collect::<Vec<String>>(rt.alloc()) else {
+        return ExitCode::from(report(&rt, DebugFault::Memory));
+    };
+    let status = match options_of(rt.alloc(), words.as_slice()) {
+        Ok(options) => run(&rt, &options),
+        Err(fault) => refuse(&rt, &fault),
+    };
+    ExitCode::from(status)
+}

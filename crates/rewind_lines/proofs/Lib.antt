@@ -1,0 +1,4 @@
+pub mod Cut
+pub mod Known
+pub mod LineLaws
+pub mod Lists

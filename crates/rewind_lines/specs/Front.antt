@@ -1,0 +1,18 @@
+-- What is kept of a line while it is read.
+use Rattle.std.specs.Prelude.{ℕ, Bool, List, length, take, nat_lt}
+use Rattle.std.specs.List.{list_all}
+use Rattle.rewind_lines.specs.Lines.{is_blank_byte, line_limit}
+
+-- the first bytes of a line, whether it has more, and whether all of it is blank
+pub record Front : Type 0 where
+  pub bytes : List ℕ
+  pub is_longer : Bool
+  pub is_blank : Bool
+
+-- what is kept of this line
+abbrev pub front_of : List ℕ → Front
+front_of line = record {
+  bytes = take line_limit line;
+  is_longer = nat_lt line_limit (length line);
+  is_blank = list_all is_blank_byte line;
+}

@@ -1,0 +1,5 @@
+pub mod Front
+pub mod Lines
+pub mod Readings
+pub mod Texts
+pub mod Writes

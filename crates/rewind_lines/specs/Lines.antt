@@ -1,0 +1,48 @@
+-- The lines of a script.
+use Rattle.std.specs.Prelude.{ℕ, ◌-◌, ◌==◌, ◌||◌, Bool, List, length, take, if◌then◌else◌, nat_lt, Option, Some, None}
+use Rattle.std.specs.List.{slice_split, list_all}
+use Rattle.std.specs.Str.{is_utf8}
+use Rattle.serde_json.specs.Data.{Data}
+use Rattle.serde_json.specs.Read.{read}
+use Rattle.rewind_lines.specs.declared.line.TheConstants.{LINE_LIMIT}
+
+-- the most bytes of a line
+abbrev pub line_limit : ℕ
+line_limit = LINE_LIMIT
+
+abbrev pub is_newline : ℕ → Bool
+is_newline b = b == 10
+
+-- the input cut at its newlines: the last part is what stands after the last newline
+unfoldable pub lines_of : List ℕ → List (List ℕ)
+lines_of input = slice_split is_newline input
+
+-- the lines that end in a newline
+unfoldable pub whole_lines_of : List ℕ → List (List ℕ)
+whole_lines_of input = take (length (lines_of input) - 1) (lines_of input)
+
+-- a space, a tab or a carriage return
+abbrev pub is_blank_byte : ℕ → Bool
+is_blank_byte b = b == 32 || (b == 9 || b == 13)
+
+-- the JSON value that a line is, if it is one
+unfoldable pub json_of : List ℕ → Option Data
+json_of line = if is_utf8 line then read line else None
+
+-- what a line is read as
+pub data Reading : Type 0 where
+  blank : Reading
+  too_long : Reading
+  no_json : Reading
+  json : Data → Reading
+
+-- a line that is neither blank nor too long
+abbrev pub json_or_none : Option Data → Reading
+json_or_none None = no_json
+json_or_none (Some d) = json d
+
+-- a line is blank at any length, and is parsed only up to the limit
+unfoldable pub reading_of : List ℕ → Reading
+reading_of line =
+    if list_all is_blank_byte line then blank
+    else (if nat_lt line_limit (length line) then too_long else json_or_none (json_of line))

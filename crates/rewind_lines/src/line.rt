@@ -1,0 +1,94 @@
+//! The line that is being read.
+ghost use Rattle.std.specs.Prelude.{◌≡◌, ◌≤◌, ◌&&◌, ◌∷◌, ◌++◌, [], ℕ, List, length, IfOk, IsOk, OnOk, OnErr};
+ghost use Rattle.rewind_lines.specs.Lines.{is_blank_byte, line_limit, reading_of};
+ghost use Rattle.rewind_lines.specs.Front.{front_of};
+ghost use Rattle.rewind_lines.specs.Readings.{reading_view};
+
+use crate::reading::{Reading, parse};
+use std::alloc::{AllocError, Allocator, Global};
+use std::marker::Model;
+
+/// The most bytes of a line, its newline left out.
+pub const LINE_LIMIT: usize = 65_536;
+
+/// The line that is being read, of any length. It holds the line's front, whether the line is
+/// longer than that, and whether it is blank so far.
+#[derive(Drop)]
+pub struct Line<A: Allocator = Global> {
+    front: Vec<u8, A>,
+    is_longer: bool,
+    is_blank: bool,
+}
+
+impl<A: Allocator> Model for Line<A> {
+    ghost use Rattle.rewind_lines.specs.Front.{Front};
+
+    ghost Value = { Front };
+
+    ghost view = { λ l. record { bytes = l.front.items; is_longer = l.is_longer; is_blank = l.is_blank } };
+}
+
+impl<A: Allocator> Line<A> {
+    /// A line of no bytes.
+    pub fn new(alloc: A) -> Self
+        ensures { result ≡ front_of [] }
+    {
+        Line {
+            front: Vec::new(alloc),
+            is_longer: false,
+            is_blank: true,
+        }
+    }
+
+    /// Reads one more byte of the line.
+    pub fn push(&mut self, byte: u8) -> Result<(), AllocError>
+        ensures ok { OnOk result ((line : List ℕ) → self.old ≡ front_of line
+            → self.new ≡ front_of (line ++ byte ∷ [])) }
+        ensures err { OnErr result (self.new ≡ self.old) }
+
+        // Past the limit no memory is taken.
+        ensures long { line_limit ≤ length self.old.bytes → IsOk result }
+    {
+        let is_blank = still_blank(self.is_blank, byte);
+        if self.front.len() >= LINE_LIMIT {
+            self.is_longer = true;
+            self.is_blank = is_blank;
+            return Ok(());
+        }
+        self.front.push(byte)?;
+        self.is_blank = is_blank;
+        Ok(())
+    }
+
+    /// Begins the next line.
+    pub fn clear(&mut self)
+        ensures { self.new ≡ front_of [] }
+    {
+        self.front.clear();
+        self.is_longer = false;
+        self.is_blank = true;
+    }
+
+    /// What the line is read as.
+    pub fn reading(&self, alloc: Global) -> Result<Reading, AllocError>
+        ensures { IfOk result (λ r. (line : List ℕ) → self.now ≡ front_of line
+            → reading_view r ≡ reading_of line) }
+    {
+        if self.is_blank {
+            return Ok(Reading::Blank);
+        }
+        if self.is_longer {
+            return Ok(Reading::TooLong);
+        }
+        match parse(alloc, self.front.as_slice())? {
+            Some(value) => Ok(Reading::Json(value)),
+            None => Ok(Reading::NoJson),
+        }
+    }
+}
+
+fn still_blank(was_blank: bool, byte: u8) -> bool
+    ensures { result ≡ (was_blank && is_blank_byte byte) }
+{
+    was_blank && (byte == b' ' || byte == b'\t' || byte == b'\r')
+}

@@ -1,0 +1,35 @@
+//! What a line comes to.
+ghost use Rattle.std.specs.Prelude.{◌≡◌, option_map, IfOk};
+ghost use Rattle.serde_json.specs.View.{view};
+ghost use Rattle.rewind_lines.specs.Lines.{json_of};
+
+use serde_json::Value;
+use std::alloc::{AllocError, Global};
+
+/// What a line comes to.
+#[derive(Drop)]
+pub enum Reading {
+    /// Spaces, tabs and carriage returns alone, of any number.
+    Blank,
+    /// More bytes than a line may have.
+    TooLong,
+    /// No JSON text.
+    NoJson,
+    /// One JSON value.
+    Json(Value),
+}
+
+/// The JSON value of a line, if it is one.
+#[tactic(auto, unfolding(crate::specs::Lines::json_of))]
+pub fn parse(alloc: Global, line: &[u8]) -> Result<Option<Value>, AllocError>
+    ensures { IfOk result (λ o. option_map view o ≡ json_of line.now) }
+{
+    match Value::from_slice(alloc, line) {
+        Ok(value) => Ok(Some(value)),
+        Err(error) => if error.is_memory() {
+            Err(AllocError)
+        } else {
+            Ok(None)
+        },
+    }
+}

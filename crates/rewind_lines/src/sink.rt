@@ -1,0 +1,87 @@
+//! A sink of bytes, which tells what it holds and whether a write has failed.
+ghost use Rattle.std.specs.Prelude.{◌≡◌, ◌≤◌, ◌||◌, ℕ, List, None, Option, Bool, false, length, take, is_err, IfOk, OnOk, OnErr};
+ghost use Rattle.std.specs.Io.KnownBytes.{Appends, WriteAppends};
+ghost use Rattle.rewind_lines.specs.Writes.{refuses};
+
+use std::io::Write;
+use thiserror::Error;
+
+/// A write failed, or took no byte.
+#[derive(Clone, Copy, Debug, Drop, PartialEq, Eq, Error)]
+#[error("a write failed")]
+pub struct Unwritten;
+
+/// A sink of bytes.
+///
+/// Its `contents` are the bytes that it holds, where it tells them; it has `failed` from the first
+/// call on that answered an error, or took none of some bytes.
+pub trait Sink {
+    ghost contents: { Self → Option (List ℕ) } = { λ _. None };
+
+    ghost failed: { Self → Bool };
+
+    /// Takes the front of the bytes, and says how many they are.
+    fn write(&mut self, bytes: &[u8]) -> Result<usize, Unwritten>
+        ensures within { IfOk result (λ n. n ≤ length bytes.now) }
+        ensures bytes { WriteAppends (contents self.old) (contents self.new) result bytes.now }
+        ensures failed { failed self.new ≡ (refuses result bytes.now || failed self.old) };
+}
+
+/// A standard writer as a sink.
+#[derive(Debug, Drop)]
+pub struct WriteSink<W> {
+    pub writer: W,
+    /// Whether a write has failed, or took none of some bytes.
+    pub has_failed: bool,
+}
+
+impl<W> WriteSink<W> {
+    /// The sink of a writer that has not failed.
+    pub fn new(writer: W) -> Self
+        ensures { (result.writer ≡ writer) × (result.has_failed ≡ false) }
+    {
+        WriteSink {
+            writer,
+            has_failed: false,
+        }
+    }
+}
+
+impl<W: Write> Sink for WriteSink<W> {
+    ghost contents = { λ s. W.contents s.writer };
+
+    ghost failed = { λ s. s.has_failed };
+
+    fn write(&mut self, bytes: &[u8]) -> Result<usize, Unwritten> {
+        match self.writer.write(bytes) {
+            Ok(n) => {
+                if n == 0 && !bytes.is_empty() {
+                    self.has_failed = true;
+                }
+                Ok(n)
+            }
+            Err(_) => {
+                self.has_failed = true;
+                Err(Unwritten)
+            }
+        }
+    }
+}
+
+/// Writes all of the bytes, or the front of them.
+pub fn send<S: Sink>(sink: &mut S, bytes: &[u8]) -> Result<(), Unwritten>
+    ensures ok { OnOk result (Appends (S.contents sink.old) (S.contents sink.new) bytes.now) }
+    ensures err { OnErr result ((n : ℕ)
+        × Appends (S.contents sink.old) (S.contents sink.new) (take n bytes.now)) }
+    ensures failed { S.failed sink.new ≡ (is_err result || S.failed sink.old) }
+{
+    let mut sent = 0;
+    'parts: while sent < bytes.len() {
+        match sink.write(&bytes[sent..]) {
+            Ok(0) => return Err(Unwritten),
+            Ok(n) => sent += n,
+            Err(_) => return Err(Unwritten),
+        }
+    }
+    Ok(())
+}

@@ -1,0 +1,9 @@
+//! Tests of whole runs, over sources and sinks in memory.
+#![tactic(auto)]
+
+#[cfg(test)]
+mod ends;
+#[cfg(test)]
+mod words;
+#[cfg(test)]
+mod runs;

@@ -1,0 +1,157 @@
+//! Runs of one client.
+
+use crate::ends::{NEVER, Newlines, pieces_of, taken};
+use rewind::{DebugFault, Options, debug, debug_within};
+use rewind_lines::{ReadSource, WriteSink};
+use std::alloc::{AllocError, Global};
+use std::test::Fail;
+
+/// A script's lines, each with its reply. The last has no newline.
+static LINES: [(&str, &str); 8] = [
+    (" \r", ""),
+    ("{\"start\":5}", "{\"ok\":true}\n"),
+    ("{\"do\":\"add\",\"n\":7}", "{\"at\":12,\"ok\":true}\n"),
+    ("", ""),
+    (
+        "{\"n\":1099511627765,\"do\":\"add\"}",
+        "{\"code\":14,\"error\":\"DeltaFull\"}\n",
+    ),
+    ("{\"do\":\"ba", "{\"code\":30,\"error\":\"BadLine\",\"line\":6}\n"),
+    (
+        "{\"do\":\"add\",\"n\":1.0}",
+        "{\"code\":31,\"error\":\"BadShape\",\"line\":7}\n",
+    ),
+    ("{\"do\":\"state\"}", "{\"ok\":true,\"state\":[5,7]}\n"),
+];
+
+static ONE: Options = Options {
+    processors: 1,
+    clients: 1,
+};
+
+/// The script of these lines.
+fn script(alloc: Global) -> Result<Vec<u8>, AllocError> {
+    let mut text = Vec::new(alloc);
+    for (i, (line, _)) in LINES.iter().enumerate() {
+        if i != 0 {
+            text.push(b'\n')?;
+        }
+        text.extend_from_slice(line.as_bytes())?;
+    }
+    Ok(text)
+}
+
+/// The replies to the lines that end within the first bytes.
+fn replies(alloc: Global, read: usize) -> Result<Vec<u8>, AllocError> {
+    let mut text = Vec::new(alloc);
+    let mut end = 0usize;
+    for (line, reply) in LINES.iter() {
+        end = end.saturating_add(line.len()).saturating_add(1);
+        if end <= read {
+            text.extend_from_slice(reply.as_bytes())?;
+        }
+    }
+    Ok(text)
+}
+
+#[test]
+fn answers_in_any_pieces(rt: HostRuntime) -> Result<(), Fail> {
+    let script = script(rt.alloc())?;
+    let want = replies(rt.alloc(), NEVER)?;
+    for step in [1, 2, 7, 5000] {
+        let mut source = pieces_of(script.as_slice(), step, NEVER);
+        let mut sink = taken(rt.alloc(), step, NEVER, false);
+        assert_eq!(rt; debug(rt.alloc(), &mut source, &mut sink, &ONE)?, 6);
+        assert!(rt; sink.bytes.as_slice() == want.as_slice(), "by {step}");
+        assert!(rt; !source.has_failed && !sink.has_failed);
+    }
+    Ok(())
+}
+
+#[test]
+fn fails_with_its_source(rt: HostRuntime) -> Result<(), Fail> {
+    let script = script(rt.alloc())?;
+    for fails_at in 0..=script.len() {
+        let mut source = pieces_of(script.as_slice(), 1, fails_at);
+        let mut sink = taken(rt.alloc(), 100, NEVER, false);
+        let ended = debug(rt.alloc(), &mut source, &mut sink, &ONE);
+        assert_eq!(rt; ended, Err(DebugFault::Read));
+        let want = replies(rt.alloc(), fails_at)?;
+        assert!(rt; sink.bytes.as_slice() == want.as_slice(), "at {fails_at}");
+    }
+    Ok(())
+}
+
+#[test]
+fn fails_with_its_sink(rt: HostRuntime) -> Result<(), Fail> {
+    let script = script(rt.alloc())?;
+    let want = replies(rt.alloc(), NEVER)?;
+    for fails_at in 0..want.len() {
+        for takes_none in [false, true] {
+            let mut source = pieces_of(script.as_slice(), 100, NEVER);
+            let mut sink = taken(rt.alloc(), 1, fails_at, takes_none);
+            let ended = debug(rt.alloc(), &mut source, &mut sink, &ONE);
+            assert_eq!(rt; ended, Err(DebugFault::Write));
+            assert!(rt; sink.bytes.as_slice() == &want.as_slice()[..fails_at]);
+        }
+    }
+    Ok(())
+}
+
+#[test]
+fn stops_at_its_limit(rt: HostRuntime) -> Result<(), Fail> {
+    let mut sink = taken(rt.alloc(), 100, NEVER, false);
+    let ended = debug_within(rt.alloc(), &mut Newlines, &mut sink, &ONE, 10_000);
+    assert_eq!(rt; ended, Err(DebugFault::TooLong));
+    assert!(rt; sink.bytes.is_empty());
+    let script = b"{\"start\":1}\n{\"do\":\"state\"}\n";
+    for (limit, want) in [(27, Ok(2)), (26, Err(DebugFault::TooLong))] {
+        let mut source = pieces_of(script.as_slice(), 5, NEVER);
+        let ended = debug_within(rt.alloc(), &mut source, &mut sink, &ONE, limit);
+        assert_eq!(rt; ended, want);
+    }
+    let text = b"{\"ok\":true}\n{\"ok\":true,\"state\":[1]}\n{\"ok\":true}\n";
+    assert!(rt; sink.bytes.as_slice() == text.as_slice());
+    Ok(())
+}
+
+#[test]
+fn refuses_a_graph(rt: HostRuntime) -> Result<(), Fail> {
+    for (script, processors, reply) in [
+        (
+            "\n{\"start\":-1}\n{\"do\":\"state\"}",
+            1,
+            "{\"code\":40,\"error\":\"Shape\"}\n",
+        ),
+        ("{\"start\":1}", 2, "{\"code\":48,\"error\":\"BadCount\"}\n"),
+        ("{\"sta", 1, "{\"code\":30,\"error\":\"BadLine\",\"line\":1}\n"),
+    ] {
+        let options = Options {
+            processors,
+            clients: 1,
+        };
+        let mut source = pieces_of(script.as_bytes(), 100, NEVER);
+        let mut sink = taken(rt.alloc(), 100, NEVER, false);
+        let ended = debug(rt.alloc(), &mut source, &mut sink, &options);
+        assert_eq!(rt; ended, Err(DebugFault::Graph));
+        assert!(rt; sink.bytes.as_slice() == reply.as_bytes(), "at {script}");
+    }
+    Ok(())
+}
+
+#[test]
+fn passes_over_a_long_line(rt: HostRuntime) -> Result<(), Fail> {
+    let mut script = Vec::new(rt.alloc());
+    script.extend_from_slice(b"{\"start\":1}\n")?;
+    script.resize(70_000, b' ')?;
+    script.extend_from_slice(b"\n")?;
+    script.resize(140_000, b' ')?;
+    script.extend_from_slice(b"1\n\xff\n{\"do\":\"state\"}")?;
+    let mut source = ReadSource::new(script.as_slice());
+    let mut sink = WriteSink::new(Vec::new(rt.alloc()));
+    assert_eq!(rt; debug(rt.alloc(), &mut source, &mut sink, &ONE)?, 4);
+    let want =
+        "{\"ok\":true}\n{\"code\":33,\"error\":\"LineTooLong\",\"line\":3}\n{\"code\":30,\"error\":\"BadLine\",\"line\":4}\n{\"ok\":true,\"state\":[1]}\n";
+    assert!(rt; sink.writer.as_slice() == want.as_bytes());
+    Ok(())
+}
