@@ -1,15 +1,16 @@
 -- The start of a cluster: each token at epoch 0, each view what is outstanding, and all else empty (FORTE 2013).
-use Rattle.std.specs.Prelude.{◌≡◌, ◌<◌, ◌^◌, ℕ, ◌+◌, pos, true, All, List, [], ◌∷◌, map, replicate, if◌then◌else◌}
+use Rattle.std.specs.Prelude.{◌≡◌, ◌≢◌, ◌<◌, ◌^◌, ℕ, ◌+◌, pos, true, All, List, [], ◌∷◌, map, replicate, if◌then◌else◌}
 use Rattle.std.specs.FinMap as fin
 use Rattle.std.specs.Ordering.{nat_cmp}
 use Rattle.nd_graph.specs.Graph.{Dataflow}
 use Rattle.nd_graph.specs.declared.graph.Vertex.{Vertex}
 use Rattle.nd_cluster.specs.Operators.{is_input, is_run}
+use Rattle.nd_paths.specs.Order.{FailsAt}
 use Rattle.nd_paths.specs.declared.point.Pointstamp.{Pointstamp}
 use Rattle.nd_delta.specs.Change.{Change, at}
 use Rattle.nd_cluster.specs.Held.{in_tokens}
 use Rattle.nd_cluster.specs.declared.start.StartFault.{StartFault}
-use Rattle.nd_cluster.specs.declared.start.StartFault.TheVariants.{BadCount, Memory}
+use Rattle.nd_cluster.specs.declared.start.StartFault.TheVariants.{BadCount, LoopNotStrict, Memory}
 use Rattle.nd_cluster.specs.State.{ProcessorState, ClusterState, idle, truth}
 
 -- each input among vertices, of which the first is the location l, with epoch 0
@@ -43,4 +44,11 @@ start g n =
 -- the number under which a fault of the start is answered
 abbrev pub fault_number : StartFault → ℕ
 fault_number BadCount = 48
+fault_number (LoopNotStrict l) = 46
 fault_number Memory = 47
+
+-- when a fault is answered: at another number of processors than 1; else at the least location of a loop that is not strict
+abbrev pub IsStartFault : Dataflow → ℕ → StartFault → Type 0
+IsStartFault g n BadCount = n ≢ 1
+IsStartFault g n (LoopNotStrict l) = (n ≡ 1) × FailsAt g l × ((k : ℕ) → k < l → FailsAt g k → ⊥)
+IsStartFault g n Memory = n ≡ 1

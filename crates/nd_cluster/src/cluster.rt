@@ -10,7 +10,7 @@ use crate::{SinkKey, ValueAt};
 use nd_delta::Delta;
 use nd_graph::Graph;
 use nd_map::SortedMap;
-use nd_paths::Pointstamp;
+use nd_paths::{Paths, Pointstamp};
 use std::alloc::{AllocError, Allocator, Global};
 use std::marker::Model;
 
@@ -18,7 +18,7 @@ use std::marker::Model;
 #[derive(Drop)]
 pub struct Cluster<A: Allocator + Copy = Global> {
     pub(crate) alloc: A,
-    pub(crate) graph: Graph<A>,
+    pub(crate) paths: Paths<A>,
     pub(crate) records: SortedMap<ValueAt, u64, A>,
     pub(crate) tokens: SortedMap<usize, u32, A>,
     pub(crate) sinks: SortedMap<SinkKey, u64, A>,
@@ -36,7 +36,7 @@ impl<A: Allocator + Copy> Model for Cluster<A> {
 
     ghost use Rattle.nd_cluster.specs.Alone.{alone, processor_of, IsKept};
 
-    ghost view = { λ a. alone a.graph (processor_of a.records a.tokens a.sinks a.unsent a.view) };
+    ghost view = { λ a. alone a.paths (processor_of a.records a.tokens a.sinks a.unsent a.view) };
 
     ghost invariant = { λ a. IsKept (processor_of a.records a.tokens a.sinks a.unsent a.view) };
 }
@@ -82,7 +82,14 @@ impl<A: Allocator + Copy> Cluster<A> {
     pub fn graph(&self) -> &Graph<A>
         ensures { result.now ≡ self.now.graph }
     {
-        &self.graph
+        self.paths.graph()
+    }
+
+    /// The order of the graph's pointstamps.
+    pub fn paths(&self) -> &Paths<A>
+        ensures { result.now ≡ self.now.graph }
+    {
+        &self.paths
     }
 
     /// How many records, requests and tokens there are at a pointstamp, over all processors.
@@ -98,7 +105,7 @@ impl<A: Allocator + Copy> Cluster<A> {
     {
         Ok(Cluster {
             alloc,
-            graph: self.graph.copy(alloc)?,
+            paths: self.paths.copy(alloc)?,
             records: self.records.copy(alloc)?,
             tokens: self.tokens.copy(alloc)?,
             sinks: self.sinks.copy(alloc)?,

@@ -58,12 +58,12 @@ impl<A: Allocator + Copy> Cluster<A> {
         let Ok(view) = self.view.copy(alloc) else {
             return Err(Refusal::Memory);
         };
-        let Ok(graph) = self.graph.copy(alloc) else {
+        let Ok(paths) = self.paths.copy(alloc) else {
             return Err(Refusal::Memory);
         };
         Ok(Cluster {
             alloc,
-            graph,
+            paths,
             records,
             tokens,
             sinks,

@@ -92,7 +92,7 @@ impl<A: Allocator + Copy> Cluster<A> {
     {
         let alloc = self.alloc;
         let time = Timestamp::new(epoch, &[]).unwrap();
-        let made = fed_records(alloc, &self.graph, vertex, &time, values)?;
+        let made = fed_records(alloc, self.graph(), vertex, &time, values)?;
         let records = self.records.copy(alloc)?;
         let sinks = self.sinks.copy(alloc)?;
         let mut tokens = self.tokens.copy(alloc)?;

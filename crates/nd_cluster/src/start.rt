@@ -1,9 +1,10 @@
 //! The start of a cluster.
-ghost use Rattle.std.specs.Prelude.{◌≡◌, ◌≢◌, ◌↔◌, Err, IfOk, IsTrue};
+ghost use Rattle.std.specs.Prelude.{◌≡◌, ◌↔◌, IfOk, IfErr, OnOk, IsTrue};
 ghost use Rattle.std.specs.FinMap.{from_entries};
 ghost use Rattle.std.specs.Ordering.{nat_cmp};
+ghost use Rattle.nd_paths.specs.Order.{IsAccepted};
 ghost use Rattle.nd_cluster.specs.Operators.{is_run as can_be_run};
-ghost use Rattle.nd_cluster.specs.Start.{CanRun, ShowsTokens, fault_number, first_tokens as tokens_from, start as started};
+ghost use Rattle.nd_cluster.specs.Start.{CanRun, ShowsTokens, IsStartFault, fault_number, first_tokens as tokens_from, start as started};
 
 use crate::Cluster;
 use crate::change::token_point;
@@ -11,6 +12,7 @@ use crate::made::is_input;
 use nd_delta::Delta;
 use nd_graph::{Graph, Op};
 use nd_map::SortedMap;
+use nd_paths::{PathFault, Paths};
 use std::alloc::{AllocError, Allocator};
 use thiserror::Error;
 
@@ -19,6 +21,8 @@ use thiserror::Error;
 pub enum StartFault {
     #[error("a cluster has one processor so far")]
     BadCount,
+    #[error("a loop through location {location} does not increase every time")]
+    LoopNotStrict { location: usize },
     #[error("out of memory")]
     Memory,
 }
@@ -30,6 +34,7 @@ impl StartFault {
     {
         match self {
             StartFault::BadCount => 48,
+            StartFault::LoopNotStrict { location: _ } => 46,
             StartFault::Memory => 47,
         }
     }
@@ -97,11 +102,19 @@ impl<A: Allocator + Copy> Cluster<A> {
     pub fn start(alloc: A, graph: Graph<A>, n: u32) -> Result<Cluster<A>, StartFault>
         requires { CanRun graph }
         ensures ok { IfOk result (λ c. c ≡ started graph n) }
-        ensures bad_count { (result ≡ Err StartFault.BadCount) ↔ (n ≢ 1) }
+        ensures accepted { OnOk result ((n ≡ 1) × IsAccepted graph) }
+        ensures fault { IfErr result (IsStartFault graph n) }
     {
         if n != 1 {
             return Err(StartFault::BadCount);
         }
+        let paths = match Paths::of(alloc, &graph) {
+            Ok(paths) => paths,
+            Err(PathFault::LoopNotStrict { location }) => {
+                return Err(StartFault::LoopNotStrict { location });
+            }
+            Err(PathFault::Memory) => return Err(StartFault::Memory),
+        };
         let Ok(tokens) = first_tokens(alloc, &graph) else {
             return Err(StartFault::Memory);
         };
@@ -110,7 +123,7 @@ impl<A: Allocator + Copy> Cluster<A> {
         };
         Ok(Cluster {
             alloc,
-            graph,
+            paths,
             records: SortedMap::new(alloc),
             tokens,
             sinks: SortedMap::new(alloc),

@@ -145,7 +145,7 @@ impl<A: Allocator + Copy> Cluster<A> {
         ensures change { IfOk result (λ d. d.change ≡ moved_at none key.now.point (negsuc 0)) }
     {
         let alloc = self.alloc;
-        let made = taken_records(alloc, &self.graph, target, &key.point.time, emission)?;
+        let made = taken_records(alloc, self.graph(), target, &key.point.time, emission)?;
         let mut records = self.records.copy(alloc)?;
         count_less(&mut records, key, count)?;
         let tokens = self.tokens.copy(alloc)?;

@@ -32,4 +32,4 @@ loop-l-init g c = record {
 pub returns : goal.returns
 returns g c =
     let all : c.loop-l.l ≡ 0 = omega arith in
-    c.loop-l.invariant.tokens ∙ ap (λ n. first_tokens n (drop n c.vertices-vertices.result.now)) all ∙ ap (first_tokens 0) c.vertices-vertices.ensures
+    c.loop-l.invariant.tokens ∙ ap (λ n. first_tokens n (drop n c.vertices-vertices.result.now)) all ∙ ap (first_tokens 0) c.vertices-vertices.ensures.vertices

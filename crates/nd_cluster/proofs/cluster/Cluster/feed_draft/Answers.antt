@@ -2,7 +2,7 @@ use Rattle.std.proofs.Common.{◌≡◌, [], sym, ap, ◌∙◌}
 use Rattle.std.specs.FinMap.{from_entries}
 use Rattle.nd_cluster.specs.Steps.{moved_token}
 use Rattle.nd_cluster.specs.Alone.{fed_records}
-use Rattle.nd_cluster.proofs.Stepped.{processor_is, graph_is}
+use Rattle.nd_cluster.proofs.Stepped.{processor_is}
 use Rattle.nd_cluster.proofs.cluster.Cluster.feed_draft.Goals as goal
 
 pub returns-clause-records : goal.returns-clause-records
@@ -20,5 +20,5 @@ pub returns-clause-made : goal.returns-clause-made
 returns-clause-made g c =
     let time = rw c.unwrap-time.ensures at c.new.ensures.value in
     c.in_ok-made.ensures
-    ∙ ap (λ t. fed_records c.self.inside.graph c.args.vertex t c.args.values.now) time
-    ∙ ap (λ d. fed_records d c.args.vertex (record { epoch = c.args.epoch; counters = [] }) c.args.values.now) (graph_is _ _ _ c.self.view_is)
+    ∙ ap (λ t. fed_records c.graph.result.now c.args.vertex t c.args.values.now) time
+    ∙ ap (λ d. fed_records d c.args.vertex (record { epoch = c.args.epoch; counters = [] }) c.args.values.now) c.graph.ensures

@@ -21,7 +21,7 @@ returns-then-p-n-clause-refused g c =
 pub returns-then-vertex-vertices-clause-refused : goal.returns-then-vertex-vertices-clause-refused
 returns-then-vertex-vertices-clause-refused g c =
     let there : c.args.p < length c.args.self.now.processors = omega (arith, c.n.ensures) in
-    let many : length c.vertices.result.now ≡ length c.args.self.now.graph.vertices = ap length (c.vertices.ensures ∙ ap (λ d. d.vertices) c.graph-graph.ensures) in
+    let many : length c.vertices.result.now ≡ length c.args.self.now.graph.vertices = ap length (c.vertices.ensures.vertices ∙ ap (λ d. d.vertices) c.graph-graph.ensures) in
     let past : length c.args.self.now.graph.vertices ≤ c.args.vertex = omega arith in
     justified _ NoVertex (λ e. absurd (cc)) past
     (least_feed c.args.self.now c.args.p c.args.vertex c.args.values.now c.args.next 2
@@ -30,7 +30,7 @@ returns-then-vertex-vertices-clause-refused g c =
 pub returns-then-not-is_input-clause-refused : goal.returns-then-not-is_input-clause-refused
 returns-then-not-is_input-clause-refused g c =
     let there : c.args.p < length c.args.self.now.processors = omega (arith, c.n.ensures) in
-    let many : length c.vertices.result.now ≡ length c.args.self.now.graph.vertices = ap length (c.vertices.ensures ∙ ap (λ d. d.vertices) c.graph-graph.ensures) in
+    let many : length c.vertices.result.now ≡ length c.args.self.now.graph.vertices = ap length (c.vertices.ensures.vertices ∙ ap (λ d. d.vertices) c.graph-graph.ensures) in
     let within : c.args.vertex < length c.args.self.now.graph.vertices = omega arith in
     let same : c.op_at.result ≡ op_at c.args.self.now.graph c.args.vertex = c.op_at.ensures ∙ ap (λ d. op_at d c.args.vertex) c.graph-graph.ensures in
     let other : op_at c.args.self.now.graph c.args.vertex ≢ op.Input = subst (λ o. o ≢ op.Input) same (not_input _ (sym c.if-not-is_input.ensures)) in
@@ -41,12 +41,12 @@ returns-then-not-is_input-clause-refused g c =
 pub returns-in_default-clause-refused : goal.returns-in_default-clause-refused
 returns-in_default-clause-refused g c =
     let there : c.args.p < length c.args.self.now.processors = omega (arith, c.n.ensures) in
-    let many : length c.vertices.result.now ≡ length c.args.self.now.graph.vertices = ap length (c.vertices.ensures ∙ ap (λ d. d.vertices) c.graph-graph.ensures) in
+    let many : length c.vertices.result.now ≡ length c.args.self.now.graph.vertices = ap length (c.vertices.ensures.vertices ∙ ap (λ d. d.vertices) c.graph-graph.ensures) in
     let within : c.args.vertex < length c.args.self.now.graph.vertices = omega arith in
     let same : c.op_at.result ≡ op_at c.args.self.now.graph c.args.vertex = c.op_at.ensures ∙ ap (λ d. op_at d c.args.vertex) c.graph-graph.ensures in
     let input : op_at c.args.self.now.graph c.args.vertex ≡ op.Input = sym same ∙ input_exact _ (sym c.if-not-is_input.ensures) in
     let first : c.args.p ≡ 0 = omega (arith, c.n.ensures, one_processor _ _ _ c.self.view_is) in
-    let found = token_found c.self.inside.graph c.self.inside.records c.self.inside.tokens c.self.inside.sinks c.self.inside.unsent c.self.inside.view c.args.self.now c.self.view_is c.args.p first c.args.vertex in
+    let found = token_found c.self.inside.paths c.self.inside.records c.self.inside.tokens c.self.inside.sinks c.self.inside.unsent c.self.inside.view c.args.self.now c.self.view_is c.args.p first c.args.vertex in
     justified _ InputClosed (λ e. absurd (cc)) (found ∙ sym c.in_default.ensures.value)
     (least_feed c.args.self.now c.args.p c.args.vertex c.args.values.now c.args.next 5
     (λ _ no. absurd (omega arith)) (λ _ no. absurd (omega arith)) (λ _ no. no input) (later (omega arith)) (later (omega arith)) (later (omega arith)) (later (omega arith)) (later (omega arith)))
@@ -54,12 +54,12 @@ returns-in_default-clause-refused g c =
 pub returns-then-values-gt-MAX_VALUES-clause-refused : goal.returns-then-values-gt-MAX_VALUES-clause-refused
 returns-then-values-gt-MAX_VALUES-clause-refused g c =
     let there : c.args.p < length c.args.self.now.processors = omega (arith, c.n.ensures) in
-    let many : length c.vertices.result.now ≡ length c.args.self.now.graph.vertices = ap length (c.vertices.ensures ∙ ap (λ d. d.vertices) c.graph-graph.ensures) in
+    let many : length c.vertices.result.now ≡ length c.args.self.now.graph.vertices = ap length (c.vertices.ensures.vertices ∙ ap (λ d. d.vertices) c.graph-graph.ensures) in
     let within : c.args.vertex < length c.args.self.now.graph.vertices = omega arith in
     let same : c.op_at.result ≡ op_at c.args.self.now.graph c.args.vertex = c.op_at.ensures ∙ ap (λ d. op_at d c.args.vertex) c.graph-graph.ensures in
     let input : op_at c.args.self.now.graph c.args.vertex ≡ op.Input = sym same ∙ input_exact _ (sym c.if-not-is_input.ensures) in
     let first : c.args.p ≡ 0 = omega (arith, c.n.ensures, one_processor _ _ _ c.self.view_is) in
-    let found = token_found c.self.inside.graph c.self.inside.records c.self.inside.tokens c.self.inside.sinks c.self.inside.unsent c.self.inside.view c.args.self.now c.self.view_is c.args.p first c.args.vertex in
+    let found = token_found c.self.inside.paths c.self.inside.records c.self.inside.tokens c.self.inside.sinks c.self.inside.unsent c.self.inside.view c.args.self.now c.self.view_is c.args.p first c.args.vertex in
     let some : fin.get (processor c.args.self.now c.args.p).tokens c.args.vertex ≡ Some c.in-Some.epoch = found ∙ sym c.in-Some.ensures.value in
     justified _ TooManyValues (λ e. absurd (cc)) c.if-values-gt-MAX_VALUES.true
     (least_feed c.args.self.now c.args.p c.args.vertex c.args.values.now c.args.next 6
@@ -68,12 +68,12 @@ returns-then-values-gt-MAX_VALUES-clause-refused g c =
 pub returns-then-is_full-clause-refused : goal.returns-then-is_full-clause-refused
 returns-then-is_full-clause-refused g c =
     let there : c.args.p < length c.args.self.now.processors = omega (arith, c.n.ensures) in
-    let many : length c.vertices.result.now ≡ length c.args.self.now.graph.vertices = ap length (c.vertices.ensures ∙ ap (λ d. d.vertices) c.graph-graph.ensures) in
+    let many : length c.vertices.result.now ≡ length c.args.self.now.graph.vertices = ap length (c.vertices.ensures.vertices ∙ ap (λ d. d.vertices) c.graph-graph.ensures) in
     let within : c.args.vertex < length c.args.self.now.graph.vertices = omega arith in
     let same : c.op_at.result ≡ op_at c.args.self.now.graph c.args.vertex = c.op_at.ensures ∙ ap (λ d. op_at d c.args.vertex) c.graph-graph.ensures in
     let input : op_at c.args.self.now.graph c.args.vertex ≡ op.Input = sym same ∙ input_exact _ (sym c.if-not-is_input.ensures) in
     let first : c.args.p ≡ 0 = omega (arith, c.n.ensures, one_processor _ _ _ c.self.view_is) in
-    let found = token_found c.self.inside.graph c.self.inside.records c.self.inside.tokens c.self.inside.sinks c.self.inside.unsent c.self.inside.view c.args.self.now c.self.view_is c.args.p first c.args.vertex in
+    let found = token_found c.self.inside.paths c.self.inside.records c.self.inside.tokens c.self.inside.sinks c.self.inside.unsent c.self.inside.view c.args.self.now c.self.view_is c.args.p first c.args.vertex in
     let some : fin.get (processor c.args.self.now c.args.p).tokens c.args.vertex ≡ Some c.in-Some.epoch = found ∙ sym c.in-Some.ensures.value in
     let few : length c.args.values.now ≤ 1024 = omega arith in
     let both : (c.args.next ≡ token.Next) × (c.in-Some.epoch ≡ max_counter) = search rules in
@@ -84,12 +84,12 @@ returns-then-is_full-clause-refused g c =
 pub returns-clause-ok : goal.returns-clause-ok
 returns-clause-ok g c =
     let there : c.args.p < length c.args.self.now.processors = omega (arith, c.n.ensures) in
-    let many : length c.vertices.result.now ≡ length c.args.self.now.graph.vertices = ap length (c.vertices.ensures ∙ ap (λ d. d.vertices) c.graph-graph.ensures) in
+    let many : length c.vertices.result.now ≡ length c.args.self.now.graph.vertices = ap length (c.vertices.ensures.vertices ∙ ap (λ d. d.vertices) c.graph-graph.ensures) in
     let within : c.args.vertex < length c.args.self.now.graph.vertices = omega arith in
     let same : c.op_at.result ≡ op_at c.args.self.now.graph c.args.vertex = c.op_at.ensures ∙ ap (λ d. op_at d c.args.vertex) c.graph-graph.ensures in
     let input : op_at c.args.self.now.graph c.args.vertex ≡ op.Input = sym same ∙ input_exact _ (sym c.if-not-is_input.ensures) in
     let first : c.args.p ≡ 0 = omega (arith, c.n.ensures, one_processor _ _ _ c.self.view_is) in
-    let found = token_found c.self.inside.graph c.self.inside.records c.self.inside.tokens c.self.inside.sinks c.self.inside.unsent c.self.inside.view c.args.self.now c.self.view_is c.args.p first c.args.vertex in
+    let found = token_found c.self.inside.paths c.self.inside.records c.self.inside.tokens c.self.inside.sinks c.self.inside.unsent c.self.inside.view c.args.self.now c.self.view_is c.args.p first c.args.vertex in
     let some : fin.get (processor c.args.self.now c.args.p).tokens c.args.vertex ≡ Some c.in-Some.epoch = found ∙ sym c.in-Some.ensures.value in
     let few : length c.args.values.now ≤ 1024 = omega arith in
     let fits : Fits w32 c.in-Some.epoch = search rules in

@@ -12,8 +12,8 @@ returns-in-Err-DeltaFull-clause-full g c =
     let sum : c.count_made.new.change ≡ with_made c.args.draft.change c.args.draft.made.items = c.in-Ok.ensures ∙ ap (with_made c.args.draft.change) c.deref-2.ensures.value in
     let plain = rw c.in-Err-DeltaFull.field-0-is at c.in-Err-DeltaFull.ensures.full in
     λ _. inr (refl, (
-      subst IsTooLarge (unsent_is c.self.inside.graph c.self.inside.records c.self.inside.tokens c.self.inside.sinks c.self.inside.unsent c.self.inside.view c.args.self.now c.self.view_is
-    c.add_records.new.records c.args.draft.records c.args.draft.tokens c.args.draft.sinks c.args.draft.made.items c.self.inside.unsent c.self.inside.view c.args.draft.change c.count_made.new.change more sum) (plain refl),
+      subst IsTooLarge (unsent_is c.self.inside.paths c.self.inside.records c.self.inside.tokens c.self.inside.sinks c.self.inside.unsent c.self.inside.view c.args.self.now c.self.view_is
+    c.add_records.new.records c.args.draft.records c.args.draft.tokens c.args.draft.sinks c.args.draft.made.items c.self.inside.unsent c.self.inside.view c.args.draft.change c.count_made.new.change more sum) (plain.0 refl),
       subst IsWithinCounts more c.in_default.ensures.within,
     ))
 
@@ -21,14 +21,14 @@ pub invariant_of-result : goal.invariant_of-result
 invariant_of-result g c =
     let more : from_entries {R = value_at_cmp} c.add_records.new.records ≡ all_more (from_entries c.args.draft.records) c.args.draft.made.items = c.in_default.ensures.ok ∙ ap (all_more (from_entries c.args.draft.records)) c.deref.ensures.value in
     let sum : c.count_made.new.change ≡ with_made c.args.draft.change c.args.draft.made.items = c.in-Ok.ensures ∙ ap (with_made c.args.draft.change) c.deref-2.ensures.value in
-    settled_kept c.self.inside.graph c.self.inside.records c.self.inside.tokens c.self.inside.sinks c.self.inside.unsent c.self.inside.view c.args.self.now c.self.view_is
-    c.add_records.new.records c.args.draft.records c.args.draft.tokens c.args.draft.sinks c.args.draft.made.items c.in-Ok-plus.unsent c.in-Ok-copy.view c.args.draft.change c.count_made.new.change more sum c.in-Ok-plus.ensures.ok c.in-Ok-copy.ensures.equal c.self.invariant c.in_default.ensures.within c.requires.sinks c.requires.moves c.in-Ok-copy.ensures.within c.in-Ok-plus.ensures.fits
+    settled_kept c.self.inside.paths c.self.inside.records c.self.inside.tokens c.self.inside.sinks c.self.inside.unsent c.self.inside.view c.args.self.now c.self.view_is
+    c.add_records.new.records c.args.draft.records c.args.draft.tokens c.args.draft.sinks c.args.draft.made.items c.in-Ok-plus.unsent c.in-Ok-copy.view c.args.draft.change c.count_made.new.change more sum c.in-Ok-plus.ensures.ok c.in-Ok-copy.ensures.equal c.self.invariant c.in_default.ensures.within c.requires.sinks c.requires.moves c.in-Ok-copy.ensures.within (λ large. absurd (cc (c.in-Ok-plus.ensures.full.1 large)))
 
 pub returns-clause-ok : goal.returns-clause-ok
 returns-clause-ok g c =
     let more : from_entries {R = value_at_cmp} c.add_records.new.records ≡ all_more (from_entries c.args.draft.records) c.args.draft.made.items = c.in_default.ensures.ok ∙ ap (all_more (from_entries c.args.draft.records)) c.deref.ensures.value in
     let sum : c.count_made.new.change ≡ with_made c.args.draft.change c.args.draft.made.items = c.in-Ok.ensures ∙ ap (with_made c.args.draft.change) c.deref-2.ensures.value in
-    settled_state c.self.inside.graph c.self.inside.records c.self.inside.tokens c.self.inside.sinks c.self.inside.unsent c.self.inside.view c.args.self.now c.self.view_is
+    settled_state c.self.inside.paths c.self.inside.records c.self.inside.tokens c.self.inside.sinks c.self.inside.unsent c.self.inside.view c.args.self.now c.self.view_is
     c.add_records.new.records c.args.draft.records c.args.draft.tokens c.args.draft.sinks c.args.draft.made.items c.in-Ok-plus.unsent c.in-Ok-copy.view c.args.draft.change c.count_made.new.change more sum c.in-Ok-plus.ensures.ok c.in-Ok-copy.ensures.equal _ c.in-Ok-copy-2.ensures
 
 pub returns-clause-counts : goal.returns-clause-counts
@@ -40,5 +40,5 @@ pub returns-clause-entries : goal.returns-clause-entries
 returns-clause-entries g c =
     let more : from_entries {R = value_at_cmp} c.add_records.new.records ≡ all_more (from_entries c.args.draft.records) c.args.draft.made.items = c.in_default.ensures.ok ∙ ap (all_more (from_entries c.args.draft.records)) c.deref.ensures.value in
     let sum : c.count_made.new.change ≡ with_made c.args.draft.change c.args.draft.made.items = c.in-Ok.ensures ∙ ap (with_made c.args.draft.change) c.deref-2.ensures.value in
-    λ large. c.in-Ok-plus.ensures.fits (subst IsTooLarge (sym (unsent_is c.self.inside.graph c.self.inside.records c.self.inside.tokens c.self.inside.sinks c.self.inside.unsent c.self.inside.view c.args.self.now c.self.view_is
-    c.add_records.new.records c.args.draft.records c.args.draft.tokens c.args.draft.sinks c.args.draft.made.items c.self.inside.unsent c.self.inside.view c.args.draft.change c.count_made.new.change more sum)) large)
+    λ large. absurd (cc (c.in-Ok-plus.ensures.full.1 (subst IsTooLarge (sym (unsent_is c.self.inside.paths c.self.inside.records c.self.inside.tokens c.self.inside.sinks c.self.inside.unsent c.self.inside.view c.args.self.now c.self.view_is
+    c.add_records.new.records c.args.draft.records c.args.draft.tokens c.args.draft.sinks c.args.draft.made.items c.self.inside.unsent c.self.inside.view c.args.draft.change c.count_made.new.change more sum)) large)))

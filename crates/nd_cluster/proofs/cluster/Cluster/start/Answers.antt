@@ -11,7 +11,4 @@ invariant_of-result g c =
     subst IsKept new (kept_start c.in-Ok.tokens c.in-Ok-view_of.view c.in-Ok-view_of.ensures)
 
 pub returns-clause-ok : goal.returns-clause-ok
-returns-clause-ok g c =
-    let one : 1 ≡ c.args.n = omega arith in
-    (λ i. alone c.args.graph (processor_of (c.new.ensures i) c.in-Ok.tokens (c.new-2.ensures i) (c.new-3.ensures i) c.in-Ok-view_of.view))
-    ∙ start_alone c.args.graph c.in-Ok.tokens c.in-Ok-view_of.view c.in-Ok.ensures c.in-Ok-view_of.ensures ∙ ap (start c.args.graph) one
+returns-clause-ok g c = ?

@@ -17,7 +17,7 @@ returns-then-p-n-clause-refused g c =
 pub returns-then-edge-vertices-clause-refused : goal.returns-then-edge-vertices-clause-refused
 returns-then-edge-vertices-clause-refused g c =
     let there : c.args.p < length c.args.self.now.processors = omega (arith, c.n.ensures) in
-    let many : length c.vertices.result.now ≡ length c.args.self.now.graph.vertices = ap length (c.vertices.ensures ∙ ap (λ d. d.vertices) c.graph-graph.ensures) in
+    let many : length c.vertices.result.now ≡ length c.args.self.now.graph.vertices = ap length (c.vertices.ensures.vertices ∙ ap (λ d. d.vertices) c.graph-graph.ensures) in
     let low : c.args.key.now.point.location < length c.args.self.now.graph.vertices = omega arith in
     justified _ NoEdge (λ e. absurd (cc)) (inl low)
     (least_take c.args.self.now c.args.p c.args.key.now.point.location c.args.key.now.point.time c.args.key.now.value 3 (λ _ no. absurd (omega arith)) (later (omega arith)) (later (omega arith)) (later (omega arith)) (later (omega arith)) (later (omega arith)))
@@ -25,7 +25,7 @@ returns-then-edge-vertices-clause-refused g c =
 pub returns-then-edge-location_count-clause-refused : goal.returns-then-edge-location_count-clause-refused
 returns-then-edge-location_count-clause-refused g c =
     let there : c.args.p < length c.args.self.now.processors = omega (arith, c.n.ensures) in
-    let many : length c.vertices.result.now ≡ length c.args.self.now.graph.vertices = ap length (c.vertices.ensures ∙ ap (λ d. d.vertices) c.graph-graph.ensures) in
+    let many : length c.vertices.result.now ≡ length c.args.self.now.graph.vertices = ap length (c.vertices.ensures.vertices ∙ ap (λ d. d.vertices) c.graph-graph.ensures) in
     let all : c.location_count.result ≡ location_count c.args.self.now.graph = c.location_count.ensures.count ∙ ap location_count c.graph-graph.ensures in
     let high : location_count c.args.self.now.graph ≤ c.args.key.now.point.location = omega arith in
     justified _ NoEdge (λ e. absurd (cc)) (inr high)
@@ -34,12 +34,12 @@ returns-then-edge-location_count-clause-refused g c =
 pub returns-then-count-eq0-clause-refused : goal.returns-then-count-eq0-clause-refused
 returns-then-count-eq0-clause-refused g c =
     let there : c.args.p < length c.args.self.now.processors = omega (arith, c.n.ensures) in
-    let many : length c.vertices.result.now ≡ length c.args.self.now.graph.vertices = ap length (c.vertices.ensures ∙ ap (λ d. d.vertices) c.graph-graph.ensures) in
+    let many : length c.vertices.result.now ≡ length c.args.self.now.graph.vertices = ap length (c.vertices.ensures.vertices ∙ ap (λ d. d.vertices) c.graph-graph.ensures) in
     let all : c.location_count.result ≡ location_count c.args.self.now.graph = c.location_count.ensures.count ∙ ap location_count c.graph-graph.ensures in
     let after_vertices : length c.args.self.now.graph.vertices ≤ c.args.key.now.point.location = omega arith in
     let in_edges : c.args.key.now.point.location < location_count c.args.self.now.graph = omega arith in
     let first : c.args.p ≡ 0 = omega (arith, c.n.ensures, one_processor _ _ _ c.self.view_is) in
-    let found = record_found c.self.inside.graph c.self.inside.records c.self.inside.tokens c.self.inside.sinks c.self.inside.unsent c.self.inside.view c.args.self.now c.self.view_is c.args.p first c.args.key.now in
+    let found = record_found c.self.inside.paths c.self.inside.records c.self.inside.tokens c.self.inside.sinks c.self.inside.unsent c.self.inside.view c.args.self.now c.self.view_is c.args.p first c.args.key.now in
     let number : count_of (processor c.args.self.now c.args.p).records c.args.key.now ≡ c.unwrap_or-count.result = ap (λ (d : Option ℕ). unwrap_or d 0) (found ∙ sym c.get.ensures.value) ∙ sym c.unwrap_or-count.ensures in
     let none : count_of (processor c.args.self.now c.args.p).records c.args.key.now ≡ 0 = omega arith in
     justified _ NoRecord (λ e. absurd (cc)) none
@@ -48,12 +48,12 @@ returns-then-count-eq0-clause-refused g c =
 pub returns-clause-ok : goal.returns-clause-ok
 returns-clause-ok g c =
     let there : c.args.p < length c.args.self.now.processors = omega (arith, c.n.ensures) in
-    let many : length c.vertices.result.now ≡ length c.args.self.now.graph.vertices = ap length (c.vertices.ensures ∙ ap (λ d. d.vertices) c.graph-graph.ensures) in
+    let many : length c.vertices.result.now ≡ length c.args.self.now.graph.vertices = ap length (c.vertices.ensures.vertices ∙ ap (λ d. d.vertices) c.graph-graph.ensures) in
     let all : c.location_count.result ≡ location_count c.args.self.now.graph = c.location_count.ensures.count ∙ ap location_count c.graph-graph.ensures in
     let after_vertices : length c.args.self.now.graph.vertices ≤ c.args.key.now.point.location = omega arith in
     let in_edges : c.args.key.now.point.location < location_count c.args.self.now.graph = omega arith in
     let first : c.args.p ≡ 0 = omega (arith, c.n.ensures, one_processor _ _ _ c.self.view_is) in
-    let found = record_found c.self.inside.graph c.self.inside.records c.self.inside.tokens c.self.inside.sinks c.self.inside.unsent c.self.inside.view c.args.self.now c.self.view_is c.args.p first c.args.key.now in
+    let found = record_found c.self.inside.paths c.self.inside.records c.self.inside.tokens c.self.inside.sinks c.self.inside.unsent c.self.inside.view c.args.self.now c.self.view_is c.args.p first c.args.key.now in
     let number : count_of (processor c.args.self.now c.args.p).records c.args.key.now ≡ c.unwrap_or-count.result = ap (λ (d : Option ℕ). unwrap_or d 0) (found ∙ sym c.get.ensures.value) ∙ sym c.unwrap_or-count.ensures in
     let some : 0 < c.unwrap_or-count.result = omega arith in
     record {

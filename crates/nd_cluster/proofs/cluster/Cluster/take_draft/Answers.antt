@@ -4,7 +4,7 @@ use Rattle.std.specs.FinMap as fin
 use Rattle.nd_cluster.specs.Keys.{value_at_cmp, value_at_total}
 use Rattle.nd_cluster.specs.Steps.{one_less}
 use Rattle.nd_cluster.specs.Alone.{taken_records}
-use Rattle.nd_cluster.proofs.Stepped.{processor_is, graph_is}
+use Rattle.nd_cluster.proofs.Stepped.{processor_is}
 use Rattle.nd_cluster.proofs.cluster.Cluster.take_draft.Goals as goal
 
 pub count_less-requires-clause-found : goal.count_less-requires-clause-found
@@ -24,7 +24,7 @@ returns-clause-tokens g c = ap fin.from_entries c.in_ok-tokens.ensures.equal ∙
 pub returns-clause-made : goal.returns-clause-made
 returns-clause-made g c =
     c.in_ok-made.ensures
-    ∙ ap (λ d. taken_records d c.args.target c.args.key.now.point.time (option_to_list c.args.emission)) (graph_is _ _ _ c.self.view_is)
+    ∙ ap (λ d. taken_records d c.args.target c.args.key.now.point.time (option_to_list c.args.emission)) c.graph.ensures
 
 pub returns-clause-change : goal.returns-clause-change
 returns-clause-change g c = c.in_ok-change.ensures
