@@ -1,5 +1,5 @@
 -- Why steps are refused: the conditions in the order of their numbers.
-use Rattle.std.proofs.Common.{◌≡◌, ◌≢◌, ◌⊎◌, ◌<◌, ◌≤◌, ℕ, ◌+◌, ℤ, Bool, true, false, List, [], ◌∷◌, length, Option, Some, None, refl, sym, ap, subst, ◌∙◌, arith, inl, inr}
+use Rattle.std.proofs.Common.{Ok, Err, ◌≡◌, ◌≢◌, ◌⊎◌, ◌<◌, ◌≤◌, ℕ, ◌+◌, ℤ, Bool, true, false, List, [], ◌∷◌, length, Option, Some, None, refl, sym, ap, subst, ◌∙◌, arith, inl, inr}
 use Rattle.std.specs.FinMap as fin
 use Rattle.std.specs.Ordering.{nat_cmp}
 use Rattle.std.proofs.lemmas.Cmp.{nat_cmp_total}
@@ -13,10 +13,12 @@ use Rattle.nd_cluster.specs.Keys.{value_at_cmp, value_at_total}
 use Rattle.nd_cluster.specs.State.{ProcessorState, ClusterState, processor}
 use Rattle.nd_cluster.specs.Operators.{op_at, is_input}
 use Rattle.nd_cluster.specs.Steps.{after_feed, after_take}
-use Rattle.nd_cluster.specs.Enabled.{number_of, HasLargeCount, HasLargeEntry, FeedFails, TakeFails, IsFree, IsJustified}
+use Rattle.nd_cluster.specs.Enabled.{number_of, HasLargeCount, HasLargeEntry, FeedFails, TakeFails, Fails, IsEnabled, IsFree, IsJustified}
 use Rattle.nd_cluster.specs.Alone.{alone, processor_of}
 use Rattle.nd_cluster.specs.declared.key.ValueAt.{ValueAt}
 use Rattle.nd_cluster.specs.declared.key.SinkKey.{SinkKey}
+use Rattle.std.specs.Prelude.{Result, OnOk}
+use Rattle.nd_cluster.specs.declared.step.Step.{Step}
 use Rattle.nd_cluster.specs.declared.step.Next.{Next as Afterwards}
 use Rattle.nd_cluster.specs.declared.step.Next.TheVariants as token
 use Rattle.nd_cluster.specs.declared.refusal.Refusal.{Refusal}
@@ -186,3 +188,8 @@ module _ (g : Dataflow) (records : List (ValueAt × ℕ)) (tokens : List (ℕ ×
 pub closes : (next : Afterwards) → next ≢ token.Next → next ≡ token.Close
 closes token.Next other = absurd (other refl)
 closes token.Close other = refl
+
+-- an answer under which no condition holds is one under which the step is enabled
+pub enabled_by : {A T E : Type 0} (s : ClusterState) (x : Step A) (r : Result T E) → OnOk r (IsFree (Fails s x)) → OnOk r (IsEnabled s x)
+enabled_by s x (Ok v) free = record { free = free.free }
+enabled_by s x (Err e) free = tt

@@ -6,13 +6,16 @@ use Rattle.std.specs.FinMap as fin
 use Rattle.std.specs.Ordering.{nat_cmp}
 use Rattle.std.proofs.lemmas.Cmp.{nat_cmp_total}
 use Rattle.nd_paths.specs.declared.point.Pointstamp.{Pointstamp}
+use Rattle.nd_paths.specs.Fault.{IsFault}
+use Rattle.nd_paths.specs.declared.accept.PathFault.{PathFault}
+use Rattle.nd_paths.specs.declared.accept.PathFault.TheVariants as path
 use Rattle.nd_graph.specs.Graph.{Dataflow}
 use Rattle.nd_graph.specs.declared.graph.Vertex.{Vertex}
 use Rattle.nd_delta.specs.Change.{Change, none, at, plus, is_point, same, at-none, at-plus}
 use Rattle.nd_cluster.specs.Keys.{value_at_cmp, sink_cmp}
 use Rattle.nd_cluster.specs.State.{ProcessorState, truth, token_point}
 use Rattle.nd_cluster.specs.Operators.{is_input}
-use Rattle.nd_cluster.specs.Start.{first_tokens, with_tokens, start, ShowsTokens}
+use Rattle.nd_cluster.specs.Start.{first_tokens, with_tokens, start, ShowsTokens, IsStartFault, fault_of}
 use Rattle.nd_cluster.specs.Alone.{alone, processor_of, moved_at, IsKept}
 use Rattle.nd_cluster.specs.Held.{in_tokens, held, one_at}
 use Rattle.nd_cluster.specs.declared.key.ValueAt.{ValueAt}
@@ -79,3 +82,7 @@ pub few_tokens : (es : List (ℕ × ℕ)) (x : Pointstamp) → length es < 2 ^ 6
 few_tokens es x short =
     let bound : sum_by (λ (e : ℕ × ℕ). one_at (token_point e.0 e.1) x) es ≤ length es * 1 = sum_by-le (λ (e : ℕ × ℕ). one_at (token_point e.0 e.1) x) 1 es (λ k d lt. each_one x (token_point (get_or es k d).0 (get_or es k d).1)) in
     omega arith
+
+pub path_fault : (g : Dataflow) (n : ℕ) (e : PathFault) → n ≡ 1 → IsFault g e → IsStartFault g n (fault_of e)
+path_fault g n (path.LoopNotStrict l) one fails = (one, fails.0, fails.1)
+path_fault g n path.Memory one fails = one

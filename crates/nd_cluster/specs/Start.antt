@@ -6,6 +6,8 @@ use Rattle.nd_graph.specs.Graph.{Dataflow}
 use Rattle.nd_graph.specs.declared.graph.Vertex.{Vertex}
 use Rattle.nd_cluster.specs.Operators.{is_input, is_run}
 use Rattle.nd_paths.specs.Order.{FailsAt}
+use Rattle.nd_paths.specs.declared.accept.PathFault.{PathFault}
+use Rattle.nd_paths.specs.declared.accept.PathFault.TheVariants as path
 use Rattle.nd_paths.specs.declared.point.Pointstamp.{Pointstamp}
 use Rattle.nd_delta.specs.Change.{Change, at}
 use Rattle.nd_cluster.specs.Held.{in_tokens}
@@ -52,3 +54,8 @@ abbrev pub IsStartFault : Dataflow → ℕ → StartFault → Type 0
 IsStartFault g n BadCount = n ≢ 1
 IsStartFault g n (LoopNotStrict l) = (n ≡ 1) × FailsAt g l × ((k : ℕ) → k < l → FailsAt g k → ⊥)
 IsStartFault g n Memory = n ≡ 1
+
+-- the fault of a graph without an order, as one of a start
+abbrev pub fault_of : PathFault → StartFault
+fault_of (path.LoopNotStrict l) = LoopNotStrict l
+fault_of path.Memory = Memory

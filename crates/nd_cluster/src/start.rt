@@ -4,7 +4,7 @@ ghost use Rattle.std.specs.FinMap.{from_entries};
 ghost use Rattle.std.specs.Ordering.{nat_cmp};
 ghost use Rattle.nd_paths.specs.Order.{IsAccepted};
 ghost use Rattle.nd_cluster.specs.Operators.{is_run as can_be_run};
-ghost use Rattle.nd_cluster.specs.Start.{CanRun, ShowsTokens, IsStartFault, fault_number, first_tokens as tokens_from, start as started};
+ghost use Rattle.nd_cluster.specs.Start.{CanRun, ShowsTokens, IsStartFault, fault_of, fault_number, first_tokens as tokens_from, start as started};
 
 use crate::Cluster;
 use crate::change::token_point;
@@ -37,6 +37,16 @@ impl StartFault {
             StartFault::LoopNotStrict { location: _ } => 46,
             StartFault::Memory => 47,
         }
+    }
+}
+
+// The same fault, of a start.
+fn start_fault(fault: PathFault) -> StartFault
+    ensures { result ≡ fault_of fault }
+{
+    match fault {
+        PathFault::LoopNotStrict { location } => StartFault::LoopNotStrict { location },
+        PathFault::Memory => StartFault::Memory,
     }
 }
 
@@ -110,10 +120,7 @@ impl<A: Allocator + Copy> Cluster<A> {
         }
         let paths = match Paths::of(alloc, &graph) {
             Ok(paths) => paths,
-            Err(PathFault::LoopNotStrict { location }) => {
-                return Err(StartFault::LoopNotStrict { location });
-            }
-            Err(PathFault::Memory) => return Err(StartFault::Memory),
+            Err(fault) => return Err(start_fault(fault)),
         };
         let Ok(tokens) = first_tokens(alloc, &graph) else {
             return Err(StartFault::Memory);
