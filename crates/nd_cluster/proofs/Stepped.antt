@@ -1,28 +1,23 @@
 -- The steps of a cluster of one processor.
-use Rattle.std.proofs.Common.{◌≡◌, ◌≢◌, ◌<◌, ◌≤◌, ◌^◌, ℕ, zero, suc, ◌+◌, ◌-◌, ℤ, pos, negsuc, ◌+ℤ◌, ◌-ℤ◌, Bool, true, false, cond, List, [], ◌∷◌, ◌++◌, length, Option, Some, None, unwrap_or, refl, sym, ap, subst, ◌∙◌, arith, inl, inr}
+use Rattle.std.proofs.Common.{◌≡◌, ◌<◌, ◌≤◌, ◌^◌, ℕ, zero, suc, ◌+◌, ℤ, pos, negsuc, ◌+ℤ◌, Bool, true, false, cond, List, [], ◌∷◌, length, Option, Some, None, unwrap_or, refl, sym, ap, subst, ◌∙◌, arith, inl, inr}
 use Rattle.std.proofs.lemmas.Int.{ints}
 use Rattle.std.proofs.lemmas.Bool.{cases_lt}
 use Rattle.std.specs.Prelude.{unsigned_abs, option_to_list, IfSome, slice_index_or}
 use Rattle.std.specs.List.{flat_map}
-use Rattle.std.specs.Ordering.{nat_cmp}
 use Rattle.std.specs.FinMap as fin
-use Rattle.nd_paths.specs.declared.point.Pointstamp.{Pointstamp}
 use Rattle.nd_time.specs.Limits.{max_count}
 use Rattle.nd_time.specs.Time.{Time}
 use Rattle.nd_graph.specs.Graph.{Dataflow, action_of}
-use Rattle.nd_graph.specs.declared.op.Op.{Op}
 use Rattle.nd_graph.specs.declared.op.Op.TheVariants as op
 use Rattle.nd_graph.specs.declared.op.Action.TheVariants.{Identity}
-use Rattle.nd_delta.specs.Change.{Change, none, at, plus, minus, same, is_point, at-none, at-plus, IsWithin, IsTooLarge}
+use Rattle.nd_delta.specs.Change.{Change, none, at, plus, same, is_point, at-none, at-plus, IsWithin, IsTooLarge}
 use Rattle.nd_cluster.specs.Keys.{value_at_cmp, sink_cmp}
 use Rattle.nd_cluster.specs.State.{ProcessorState, ClusterState, processor, idle, token_point, truth}
-use Rattle.nd_cluster.specs.Operators.{op_at, emissions, is_sink, time_past}
-use Rattle.nd_cluster.specs.Steps.{count_of, one_more, one_less, with_records, emitted, moved_token, epoch_of, target_of, record_key, fed, taken, settled, after_feed, after_take}
-use Rattle.nd_cluster.specs.Enabled.{number_of, HasLargeCount, of_record, of_sink, HasLargeEntry, FeedFails, TakeFails}
-use Rattle.nd_cluster.specs.Alone.{alone, IsAlone, IsKept, IsFull, IsWithinCounts, number_at, all_more, made_here, fed_records, taken_records, with_made, token_change, moved_at, fed_here, taken_here}
-use Rattle.nd_cluster.specs.Held.{one_at, held, in_records, in_tokens, Moves, settled_by}
-use Rattle.nd_cluster.specs.declared.key.ValueAt.{ValueAt}
-use Rattle.nd_cluster.specs.declared.key.SinkKey.{SinkKey}
+use Rattle.nd_cluster.specs.Operators.{op_at, emissions, time_past}
+use Rattle.nd_cluster.specs.Steps.{count_of, one_less, with_records, emitted, moved_token, target_of, record_key, fed, taken, settled, after_feed, after_take}
+use Rattle.nd_cluster.specs.Enabled.{HasLargeCount, of_record, of_sink, HasLargeEntry}
+use Rattle.nd_cluster.specs.Alone.{alone, IsAlone, IsKept, IsFull, IsWithinCounts, made_here, fed_records, taken_records, with_made, token_change, moved_at, fed_here, taken_here}
+use Rattle.nd_cluster.specs.Held.{held, Moves, settled_by}
 use Rattle.nd_cluster.specs.declared.step.Next.{Next as Afterwards}
 use Rattle.nd_cluster.specs.declared.step.Next.TheVariants as token
 use Rattle.nd_cluster.proofs.Held.{truth-alone, in_records-all_more, in_records-one_less, in_tokens-insert, in_tokens-remove, plus-moved}
