@@ -54,6 +54,13 @@ pub record IsAlone (s : ClusterState) : Type 0 where
   pub whole : alone s.graph (processor s 0) ≡ s
   pub kept : IsKept (processor s 0)
 
+-- a cluster of one processor without requests and items, whose queue is empty
+pub record IsBare (s : ClusterState) : Type 0 where
+  pub one : s.processors ≡ processor s 0 ∷ []
+  pub queues : s.queues ≡ ([] ∷ []) ∷ []
+  pub requests : (processor s 0).requests ≡ finset.empty
+  pub items : (processor s 0).items ≡ fin.empty
+
 -- one more of each key
 abbrev pub all_more : {K : Type 0} {R : K → K → Ordering} → fin.FinMap R ℕ → List K → fin.FinMap R ℕ
 all_more m [] = m
