@@ -1,10 +1,10 @@
 -- The drafts of feeds and takes lead to the cluster after the step.
-use Rattle.std.proofs.Common.{◌≡◌, ◌<◌, ℕ, ℤ, negsuc, unwrap_or, Option, Some, List, [], ◌∷◌, refl, sym, ap, subst, ◌∙◌}
+use Rattle.std.proofs.Common.{◌≡◌, ◌<◌, ℕ, ℤ, negsuc, unwrap_or, Option, Some, List, [], sym, ap, subst, ◌∙◌}
 use Rattle.std.specs.Prelude.{option_to_list, IfSome}
 use Rattle.std.specs.Ordering.{nat_cmp}
 use Rattle.std.specs.FinMap as fin
 use Rattle.nd_time.specs.Time.{Time}
-use Rattle.nd_graph.specs.Graph.{Dataflow, action_of}
+use Rattle.nd_graph.specs.Graph.{action_of}
 use Rattle.nd_graph.specs.declared.op.Action.TheVariants.{Identity}
 use Rattle.nd_delta.specs.Change.{Change, none}
 use Rattle.nd_cluster.specs.Keys.{value_at_cmp, sink_cmp}

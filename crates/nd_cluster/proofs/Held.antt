@@ -1,12 +1,12 @@
 -- What is outstanding in a processor, as sums over its maps, and how an edit of a map moves it.
-use Rattle.std.proofs.Common.{◌≡◌, ◌≢◌, ◌<◌, ◌≤◌, length, take, get_or, ℕ, zero, suc, ◌+◌, ◌-◌, ◌==◌, ℤ, pos, ◌+ℤ◌, ◌-ℤ◌, Bool, true, false, cond, List, [], ◌∷◌, ◌++◌, map, Option, Some, None, Equal, Less, Greater, Ordering, unwrap_or, refl, sym, ap, subst, ◌∙◌, arith, true≢false}
+use Rattle.std.proofs.Common.{◌≡◌, ◌≢◌, ◌<◌, ◌≤◌, length, take, get_or, ℕ, zero, suc, ◌+◌, ◌-◌, ℤ, pos, ◌+ℤ◌, Bool, true, false, cond, List, [], ◌∷◌, ◌++◌, map, Option, Some, None, Ordering, unwrap_or, refl, sym, ap, ◌∙◌, arith, true≢false}
 use Rattle.std.proofs.lemmas.Int.{ints}
 use Rattle.std.proofs.lemmas.Bool.Decides.{nat_tests}
 use Rattle.std.proofs.lemmas.List.{append-nil}
 use Rattle.std.proofs.lemmas.List.Sums.{sum_by-cons, sum_by-append, sum_by_more, sum_by_more_le}
 use Rattle.std.proofs.lemmas.Cmp.{tied_itself, nat_cmp_total}
 use Rattle.std.proofs.lemmas.Map.Views.{tells_apart}
-use Rattle.std.specs.Prelude.{sum_by, count_by, nat_eq, ◌||◌}
+use Rattle.std.specs.Prelude.{sum_by, nat_eq, ◌||◌}
 use Rattle.std.specs.List.{list_any}
 use Rattle.nd_map.specs.Listed.{IsListed}
 use Rattle.nd_map.specs.Maps.{entries-from_entries}
@@ -17,7 +17,7 @@ use Rattle.std.specs.FinSet as finset
 use Rattle.nd_paths.specs.Point.{point_cmp, point_total, point_exact}
 use Rattle.nd_paths.specs.declared.point.Pointstamp.{Pointstamp}
 use Rattle.nd_map.specs.Weights.{weight, weight_at, weight-insert, weight_moves}
-use Rattle.nd_delta.specs.Change.{Change, none, at, set, plus, minus, same, is_point, at-none, at-set, at-plus, at-minus}
+use Rattle.nd_delta.specs.Change.{Change, none, at, minus, same, is_point, at-none, at-set, at-minus}
 use Rattle.nd_cluster.specs.Keys.{value_at_cmp, value_at_total, value_at_exact}
 use Rattle.nd_cluster.specs.State.{ProcessorState, token_point, tally, outstanding_at, truth}
 use Rattle.nd_cluster.specs.Steps.{count_of, one_more, one_less}

@@ -1,37 +1,30 @@
 -- How the steps of one processor move what is outstanding in it.
-use Rattle.std.proofs.Common.{◌≡◌, ◌<◌, ◌≤◌, ℕ, zero, suc, ◌+◌, ◌-◌, ℤ, pos, negsuc, ◌+ℤ◌, ◌-ℤ◌, Bool, true, false, cond, List, [], ◌∷◌, ◌++◌, map, length, Option, Some, None, unwrap_or, refl, sym, ap, subst, ◌∙◌, arith, ◌&&◌}
+use Rattle.std.proofs.Common.{◌≡◌, ℕ, ◌+◌, ℤ, pos, negsuc, ◌+ℤ◌, Bool, true, false, cond, List, [], ◌∷◌, ◌++◌, Option, Some, None, refl, sym, ap, ◌∙◌, arith, ◌&&◌}
 use Rattle.std.proofs.lemmas.Int.{ints}
-use Rattle.std.proofs.lemmas.List.{append-nil, append_assoc}
 use Rattle.std.proofs.lemmas.List.Sums.{sum_by-cons}
 use Rattle.std.proofs.lemmas.Map.Views.{tells_apart}
 use Rattle.std.specs.Prelude.{nat_eq, slice_get}
 use Rattle.std.specs.List.{flat_map}
 use Rattle.std.specs.Option.{option_map_or}
-use Rattle.std.specs.Ordering.{nat_cmp}
-use Rattle.std.specs.Int.{int_rem_euclid}
 use Rattle.std.specs.FinMap as fin
 use Rattle.nd_paths.specs.Point.{point_exact}
 use Rattle.nd_paths.specs.declared.point.Pointstamp.{Pointstamp}
 use Rattle.nd_time.specs.Time.{Time}
-use Rattle.nd_graph.specs.Graph.{Dataflow, action_at, action_of, acted}
+use Rattle.nd_graph.specs.Graph.{Dataflow, action_of, acted}
 use Rattle.nd_graph.specs.declared.graph.Edge.{Edge}
 use Rattle.nd_graph.specs.declared.graph.Vertex.{Vertex}
-use Rattle.nd_graph.specs.declared.op.Op.{Op}
 use Rattle.nd_graph.specs.declared.op.Op.TheVariants as op
 use Rattle.nd_graph.specs.declared.op.Action.TheVariants.{Identity}
 use Rattle.nd_graph.specs.declared.op.Route.{Route}
 use Rattle.nd_graph.specs.declared.op.Route.TheVariants.{Local, Exchange}
-use Rattle.nd_delta.specs.Change.{Change, none, at, set, plus, minus, same, is_point, at-none, at-set, at-plus, at-minus}
+use Rattle.nd_delta.specs.Change.{Change, none, at, is_point, at-none, at-set}
 use Rattle.nd_cluster.specs.Keys.{value_at_cmp}
-use Rattle.nd_cluster.specs.State.{ProcessorState, ClusterState, token_point, truth}
-use Rattle.nd_cluster.specs.Operators.{op_at, emissions, destination, made_on, time_past}
-use Rattle.nd_cluster.specs.Steps.{count_of, one_more, one_less, with_records, with_record, emitted, moved_token, record_key}
-use Rattle.nd_cluster.specs.Alone.{all_more, number_at, made_here, fed_records, taken_records, moved_at, with_made, token_change}
-use Rattle.nd_cluster.specs.Held.{one_at, held, in_records, in_tokens, Moves, settled_by}
+use Rattle.nd_cluster.specs.State.{ProcessorState}
+use Rattle.nd_cluster.specs.Operators.{op_at, destination, made_on, time_past}
+use Rattle.nd_cluster.specs.Steps.{one_more, with_records, with_record}
+use Rattle.nd_cluster.specs.Alone.{all_more, number_at, made_here, moved_at, with_made}
+use Rattle.nd_cluster.specs.Held.{one_at}
 use Rattle.nd_cluster.specs.declared.key.ValueAt.{ValueAt}
-use Rattle.nd_cluster.specs.declared.step.Next.{Next as Afterwards}
-use Rattle.nd_cluster.specs.declared.step.Next.TheVariants as token
-use Rattle.nd_cluster.proofs.Held.{truth-alone, in_records-all_more, in_records-one_less, in_tokens-insert, in_tokens-remove, plus-moved}
 
 -- ---- the records come to the one processor
 

@@ -1,11 +1,11 @@
 -- Why steps are refused: the conditions in the order of their numbers.
-use Rattle.std.proofs.Common.{Ok, Err, ◌≡◌, ◌≢◌, ◌⊎◌, ◌<◌, ◌≤◌, ℕ, ◌+◌, ℤ, Bool, true, false, List, [], ◌∷◌, length, Option, Some, None, refl, sym, ap, subst, ◌∙◌, arith, inl, inr}
+use Rattle.std.proofs.Common.{Ok, Err, ◌≡◌, ◌≢◌, ◌⊎◌, ◌<◌, ◌≤◌, ℕ, ℤ, true, false, List, length, Some, None, refl, sym, ap, subst, ◌∙◌, arith, inl, inr}
 use Rattle.std.specs.FinMap as fin
 use Rattle.std.specs.Ordering.{nat_cmp}
 use Rattle.std.proofs.lemmas.Cmp.{nat_cmp_total}
-use Rattle.nd_time.specs.Limits.{max_count, max_counter, max_values}
+use Rattle.nd_time.specs.Limits.{max_counter, max_values}
 use Rattle.nd_time.specs.Time.{Time}
-use Rattle.nd_graph.specs.Graph.{Dataflow, location_count}
+use Rattle.nd_graph.specs.Graph.{Dataflow}
 use Rattle.nd_graph.specs.declared.op.Op.{Op}
 use Rattle.nd_graph.specs.declared.op.Op.TheVariants as op
 use Rattle.nd_delta.specs.Change.{Change}
@@ -38,16 +38,16 @@ later le lt _ = absurd (omega arith)
 
 -- what is left of the conditions below a number
 pub least_feed :
-  (s : ClusterState) (p vertex : ℕ) (values : List ℤ) (next : Afterwards) (n : ℕ)
-  → (1 < n → length s.processors ≤ p → ⊥)
-  → (2 < n → length s.graph.vertices ≤ vertex → ⊥)
-  → (4 < n → op_at s.graph vertex ≢ op.Input → ⊥)
-  → (5 < n → fin.get (processor s p).tokens vertex ≡ None → ⊥)
-  → (6 < n → max_values < length values → ⊥)
-  → (7 < n → (next ≡ token.Next) × (fin.get (processor s p).tokens vertex ≡ Some max_counter) → ⊥)
-  → (13 < n → HasLargeCount (after_feed s p vertex values next) → ⊥)
-  → (14 < n → HasLargeEntry (after_feed s p vertex values next) → ⊥)
-  → (other : Refusal) → number_of other < n → FeedFails s p vertex values next other → ⊥
+    (s : ClusterState) (p vertex : ℕ) (values : List ℤ) (next : Afterwards) (n : ℕ)
+    → (1 < n → length s.processors ≤ p → ⊥)
+    → (2 < n → length s.graph.vertices ≤ vertex → ⊥)
+    → (4 < n → op_at s.graph vertex ≢ op.Input → ⊥)
+    → (5 < n → fin.get (processor s p).tokens vertex ≡ None → ⊥)
+    → (6 < n → max_values < length values → ⊥)
+    → (7 < n → (next ≡ token.Next) × (fin.get (processor s p).tokens vertex ≡ Some max_counter) → ⊥)
+    → (13 < n → HasLargeCount (after_feed s p vertex values next) → ⊥)
+    → (14 < n → HasLargeEntry (after_feed s p vertex values next) → ⊥)
+    → (other : Refusal) → number_of other < n → FeedFails s p vertex values next other → ⊥
 least_feed s p vertex values _ n h1 h2 h4 h5 h6 h7 h13 h14 NoProcessor lt f = h1 lt f
 least_feed s p vertex values _ n h1 h2 h4 h5 h6 h7 h13 h14 NoVertex lt f = h2 lt f
 least_feed s p vertex values _ n h1 h2 h4 h5 h6 h7 h13 h14 NoEdge lt f = f
@@ -62,14 +62,14 @@ least_feed s p vertex values _ n h1 h2 h4 h5 h6 h7 h13 h14 DeltaFull lt f = h14 
 least_feed s p vertex values _ n h1 h2 h4 h5 h6 h7 h13 h14 Memory lt f = f
 
 pub least_take :
-  (s : ClusterState) (p edge : ℕ) (t : Time) (value : ℤ) (n : ℕ)
-  → (1 < n → TakeFails s p edge t value NoProcessor → ⊥)
-  → (3 < n → TakeFails s p edge t value NoEdge → ⊥)
-  → (8 < n → TakeFails s p edge t value NoRecord → ⊥)
-  → (12 < n → TakeFails s p edge t value ValueRange → ⊥)
-  → (13 < n → HasLargeCount (after_take s p edge t value) → ⊥)
-  → (14 < n → HasLargeEntry (after_take s p edge t value) → ⊥)
-  → (other : Refusal) → number_of other < n → TakeFails s p edge t value other → ⊥
+    (s : ClusterState) (p edge : ℕ) (t : Time) (value : ℤ) (n : ℕ)
+    → (1 < n → TakeFails s p edge t value NoProcessor → ⊥)
+    → (3 < n → TakeFails s p edge t value NoEdge → ⊥)
+    → (8 < n → TakeFails s p edge t value NoRecord → ⊥)
+    → (12 < n → TakeFails s p edge t value ValueRange → ⊥)
+    → (13 < n → HasLargeCount (after_take s p edge t value) → ⊥)
+    → (14 < n → HasLargeEntry (after_take s p edge t value) → ⊥)
+    → (other : Refusal) → number_of other < n → TakeFails s p edge t value other → ⊥
 least_take s p edge t value n h1 h3 h8 h12 h13 h14 NoProcessor lt f = h1 lt f
 least_take s p edge t value n h1 h3 h8 h12 h13 h14 NoVertex lt f = f
 least_take s p edge t value n h1 h3 h8 h12 h13 h14 NoEdge lt f = h3 lt f

@@ -1,5 +1,5 @@
 -- The last part of a step: what the maps of a draft make of the cluster.
-use Rattle.std.proofs.Common.{◌≡◌, ℕ, List, [], ◌∷◌, refl, sym, ap, subst, ◌∙◌}
+use Rattle.std.proofs.Common.{◌≡◌, ℕ, List, sym, ap, subst, ◌∙◌}
 use Rattle.std.specs.FinMap as fin
 use Rattle.nd_graph.specs.Graph.{Dataflow}
 use Rattle.nd_delta.specs.Change.{Change, plus, IsWithin, IsTooLarge}
@@ -33,13 +33,13 @@ module _ (g : Dataflow) (records : List (ValueAt × ℕ)) (tokens : List (ℕ ×
       }
 
       pub settled_kept :
-        IsKept (processor_of records tokens sinks unsent view)
-        → IsWithinCounts (fin.from_entries {R = value_at_cmp} new_records)
-        → IsWithinCounts (fin.from_entries {R = sink_cmp} new_sinks)
-        → Moves (processor s 0) (drafted (processor s 0) drafted_records new_tokens new_sinks made) (with_made change made)
-        → IsWithin view
-        → (IsTooLarge (plus unsent total) → ⊥)
-        → IsKept (processor_of new_records new_tokens new_sinks new_unsent new_view)
+          IsKept (processor_of records tokens sinks unsent view)
+          → IsWithinCounts (fin.from_entries {R = value_at_cmp} new_records)
+          → IsWithinCounts (fin.from_entries {R = sink_cmp} new_sinks)
+          → Moves (processor s 0) (drafted (processor s 0) drafted_records new_tokens new_sinks made) (with_made change made)
+          → IsWithin view
+          → (IsTooLarge (plus unsent total) → ⊥)
+          → IsKept (processor_of new_records new_tokens new_sinks new_unsent new_view)
       settled_kept kept few_records few_sinks moves within small =
           subst IsKept (sym settled_is)
           (kept_after (processor s 0) (drafted (processor s 0) drafted_records new_tokens new_sinks made) (with_made change made) (subst IsKept the_processor kept) moves (subst IsWithinCounts more few_records) few_sinks

@@ -1,25 +1,21 @@
 -- The start of a cluster of one processor.
-use Rattle.std.proofs.Common.{◌≡◌, ◌<◌, ◌≤◌, ◌^◌, ℕ, zero, suc, ◌+◌, ℤ, pos, ◌+ℤ◌, Bool, true, false, cond, List, [], ◌∷◌, ◌-◌, ◌*◌, length, drop, take, get_or, sum_by, drop-cons, refl, sym, ap, subst, ◌∙◌, arith}
+use Rattle.std.proofs.Common.{◌≡◌, ◌<◌, ◌≤◌, ◌^◌, ℕ, suc, ◌+◌, pos, Bool, true, false, cond, List, [], ◌∷◌, ◌-◌, ◌*◌, length, drop, take, get_or, sum_by, drop-cons, refl, sym, ap, ◌∙◌, arith}
 use Rattle.std.proofs.lemmas.Int.{ints}
 use Rattle.std.proofs.lemmas.List.Sums.{sum_by_more, sum_by-le}
 use Rattle.std.specs.FinMap as fin
-use Rattle.std.specs.Ordering.{nat_cmp}
-use Rattle.std.proofs.lemmas.Cmp.{nat_cmp_total}
 use Rattle.nd_paths.specs.declared.point.Pointstamp.{Pointstamp}
 use Rattle.nd_paths.specs.Fault.{IsFault}
 use Rattle.nd_paths.specs.declared.accept.PathFault.{PathFault}
 use Rattle.nd_paths.specs.declared.accept.PathFault.TheVariants as path
 use Rattle.nd_graph.specs.Graph.{Dataflow}
 use Rattle.nd_graph.specs.declared.graph.Vertex.{Vertex}
-use Rattle.nd_delta.specs.Change.{Change, none, at, plus, is_point, same, at-none, at-plus}
+use Rattle.nd_delta.specs.Change.{Change, none, at, is_point, same, at-none, at-plus}
 use Rattle.nd_cluster.specs.Keys.{value_at_cmp, sink_cmp}
-use Rattle.nd_cluster.specs.State.{ProcessorState, truth, token_point}
+use Rattle.nd_cluster.specs.State.{truth, token_point}
 use Rattle.nd_cluster.specs.Operators.{is_input}
 use Rattle.nd_cluster.specs.Start.{first_tokens, with_tokens, start, ShowsTokens, IsStartFault, fault_of}
 use Rattle.nd_cluster.specs.Alone.{alone, processor_of, moved_at, IsKept}
 use Rattle.nd_cluster.specs.Held.{in_tokens, held, one_at}
-use Rattle.nd_cluster.specs.declared.key.ValueAt.{ValueAt}
-use Rattle.nd_cluster.specs.declared.key.SinkKey.{SinkKey}
 use Rattle.nd_cluster.proofs.Moved.{at-moved_at}
 use Rattle.nd_cluster.proofs.Held.{truth-alone, no_requests, no_records}
 
@@ -43,10 +39,10 @@ kept_start tokens view shown = record {
   records = λ k. rw (fin.get-empty {X = ℕ} value_at_cmp k) (omega arith);
   sinks = λ k. rw (fin.get-empty {X = ℕ} sink_cmp k) (omega arith);
   settled = same _ _ (λ x.
-  let seen = shown.shows x in
-  let none_unsent = at-none x in
-  let sum = at-plus view none x in
-  truth-alone (processor_of [] tokens [] none view) x ∙ ap pos (held_tokens tokens none view x) ∙ omega (arith, ints));
+      let seen = shown.shows x in
+      let none_unsent = at-none x in
+      let sum = at-plus view none x in
+      truth-alone (processor_of [] tokens [] none view) x ∙ ap pos (held_tokens tokens none view x) ∙ omega (arith, ints));
   few = λ x. rw (held_tokens tokens none view x) (shown.few x);
 }
 

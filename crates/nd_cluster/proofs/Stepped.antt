@@ -1,30 +1,31 @@
 -- The steps of a cluster of one processor.
-use Rattle.std.proofs.Common.{◌≡◌, ◌≢◌, ◌<◌, ◌≤◌, ◌^◌, ℕ, zero, suc, ◌+◌, ◌-◌, ℤ, pos, negsuc, ◌+ℤ◌, ◌-ℤ◌, Bool, true, false, cond, List, [], ◌∷◌, ◌++◌, length, Option, Some, None, unwrap_or, refl, sym, ap, subst, ◌∙◌, arith, inl, inr}
+use Rattle.std.proofs.Common.{◌≡◌, ◌<◌, ◌≤◌, ◌^◌, ℕ, zero, suc, ◌+◌, ℤ, pos, negsuc, ◌+ℤ◌, Bool, true, false, cond, List, [], ◌∷◌, length, Option, Some, None, unwrap_or, refl, sym, ap, subst, ◌∙◌, arith, inl, inr}
 use Rattle.std.proofs.lemmas.Int.{ints}
 use Rattle.std.proofs.lemmas.Bool.{cases_lt}
 use Rattle.std.specs.Prelude.{unsigned_abs, option_to_list, IfSome, slice_index_or}
 use Rattle.std.specs.List.{flat_map}
+use Rattle.std.proofs.lemmas.Cmp.{nat_cmp_total}
 use Rattle.std.specs.Ordering.{nat_cmp}
 use Rattle.std.specs.FinMap as fin
-use Rattle.nd_paths.specs.declared.point.Pointstamp.{Pointstamp}
 use Rattle.nd_time.specs.Limits.{max_count}
 use Rattle.nd_time.specs.Time.{Time}
 use Rattle.nd_graph.specs.Graph.{Dataflow, action_of}
-use Rattle.nd_graph.specs.declared.op.Op.{Op}
 use Rattle.nd_graph.specs.declared.op.Op.TheVariants as op
 use Rattle.nd_graph.specs.declared.op.Action.TheVariants.{Identity}
-use Rattle.nd_delta.specs.Change.{Change, none, at, plus, minus, same, is_point, at-none, at-plus, IsWithin, IsTooLarge}
-use Rattle.nd_cluster.specs.Keys.{value_at_cmp, sink_cmp}
+use Rattle.nd_delta.specs.Change.{entries as listed, Change, none, at, plus, same, is_point, at-none, at-plus, IsWithin, IsTooLarge}
+use Rattle.nd_map.specs.Listed.{IsListed}
+use Rattle.nd_map.specs.Maps.{entries-from_entries}
+use Rattle.nd_cluster.specs.Keys.{value_at_cmp, value_at_total, value_at_exact, sink_cmp, sink_total, sink_exact}
 use Rattle.nd_cluster.specs.State.{ProcessorState, ClusterState, processor, idle, token_point, truth}
-use Rattle.nd_cluster.specs.Operators.{op_at, emissions, is_sink, time_past}
-use Rattle.nd_cluster.specs.Steps.{count_of, one_more, one_less, with_records, emitted, moved_token, epoch_of, target_of, record_key, fed, taken, settled, after_feed, after_take}
-use Rattle.nd_cluster.specs.Enabled.{number_of, HasLargeCount, of_record, of_sink, HasLargeEntry, FeedFails, TakeFails}
-use Rattle.nd_cluster.specs.Alone.{alone, IsAlone, IsKept, IsFull, IsWithinCounts, number_at, all_more, made_here, fed_records, taken_records, with_made, token_change, moved_at, fed_here, taken_here}
-use Rattle.nd_cluster.specs.Held.{one_at, held, in_records, in_tokens, Moves, settled_by}
-use Rattle.nd_cluster.specs.declared.key.ValueAt.{ValueAt}
-use Rattle.nd_cluster.specs.declared.key.SinkKey.{SinkKey}
+use Rattle.nd_cluster.specs.Operators.{op_at, emissions, time_past}
+use Rattle.nd_cluster.specs.Steps.{count_of, one_less, with_records, emitted, moved_token, target_of, record_key, fed, taken, settled, after_feed, after_take}
+use Rattle.nd_cluster.specs.Enabled.{HasLargeCount, of_record, of_sink, HasLargeEntry}
+use Rattle.nd_cluster.specs.Alone.{IsBare, processor_of, alone, IsAlone, IsKept, IsFull, IsWithinCounts, made_here, fed_records, taken_records, with_made, token_change, moved_at, fed_here, taken_here}
+use Rattle.nd_cluster.specs.Held.{held, Moves, settled_by}
 use Rattle.nd_cluster.specs.declared.step.Next.{Next as Afterwards}
 use Rattle.nd_cluster.specs.declared.step.Next.TheVariants as token
+use Rattle.nd_cluster.specs.declared.key.ValueAt.{ValueAt}
+use Rattle.nd_cluster.specs.declared.key.SinkKey.{SinkKey}
 use Rattle.nd_cluster.proofs.Held.{truth-alone, in_records-all_more, in_records-one_less, in_tokens-insert, in_tokens-remove, plus-moved}
 use Rattle.nd_cluster.proofs.Moved.{gained, comes_all, made_comes, time_kept, at-moved_at, at-with_made, at-gone}
 
@@ -196,3 +197,27 @@ one_processor g q s is = ap (λ s. length s.processors) (sym is)
 pub processors_are : (g : Dataflow) (q : ProcessorState) (s : ClusterState) → alone g q ≡ s → q ∷ [] ≡ s.processors
 unfolding alone
 processors_are g q s is = ap (λ s. s.processors) is
+
+pub is_bare : (g : Dataflow) (records : List (ValueAt × ℕ)) (tokens : List (ℕ × ℕ)) (sinks : List (SinkKey × ℕ)) (unsent view : Change) (s : ClusterState) → alone g (processor_of records tokens sinks unsent view) ≡ s → IsBare s
+unfolding alone
+is_bare g records tokens sinks unsent view s is = subst IsBare is (record { one = refl; queues = refl; requests = refl; items = refl })
+
+-- the entries of the maps that are kept
+module _ (g : Dataflow) (records : List (ValueAt × ℕ)) (tokens : List (ℕ × ℕ)) (sinks : List (SinkKey × ℕ)) (unsent view : Change) (s : ClusterState) (is : alone g (processor_of records tokens sinks unsent view) ≡ s) where
+  the_processor : processor_of records tokens sinks unsent view ≡ processor s 0
+  the_processor = processor_is g (processor_of records tokens sinks unsent view) s is
+
+  pub records_listed : IsListed value_at_cmp records → records ≡ fin.entries (processor s 0).records
+  records_listed h = sym (entries-from_entries value_at_cmp value_at_total value_at_exact records h) ∙ ap (λ q. fin.entries q.records) the_processor
+
+  pub tokens_listed : IsListed nat_cmp tokens → tokens ≡ fin.entries (processor s 0).tokens
+  tokens_listed h = sym (entries-from_entries nat_cmp nat_cmp_total fin.nat_cmp-IsAntisymmetric tokens h) ∙ ap (λ q. fin.entries q.tokens) the_processor
+
+  pub sinks_listed : IsListed sink_cmp sinks → sinks ≡ fin.entries (processor s 0).sinks
+  sinks_listed h = sym (entries-from_entries sink_cmp sink_total sink_exact sinks h) ∙ ap (λ q. fin.entries q.sinks) the_processor
+
+  pub unsent_listed : listed unsent ≡ listed (processor s 0).unsent
+  unsent_listed = ap (λ q. listed q.unsent) the_processor
+
+  pub view_listed : listed view ≡ listed (processor s 0).view
+  view_listed = ap (λ q. listed q.view) the_processor

@@ -1,8 +1,7 @@
 -- A cluster of one processor: how its maps are kept, and what a step makes of them.
-use Rattle.std.specs.Prelude.{◌≡◌, ℕ, ◌+◌, ◌^◌, ◌<◌, ◌≤◌, Option, Some, IfSome, option_to_list, ℤ, pos, negsuc, ◌+ℤ◌, length, ◌&&◌, ◌++◌, List, [], ◌∷◌, nat_eq, cond, sum_by, count_by, unwrap_or, if◌then◌else◌}
+use Rattle.std.specs.Prelude.{◌≡◌, ℕ, ◌+◌, ◌^◌, ◌<◌, ◌≤◌, Option, Some, IfSome, option_to_list, ℤ, pos, negsuc, ◌+ℤ◌, length, ◌&&◌, ◌++◌, List, [], ◌∷◌, nat_eq, count_by, if◌then◌else◌}
 use Rattle.std.specs.declared.cmp.Ordering.{Ordering}
 use Rattle.std.specs.List.{flat_map}
-use Rattle.std.specs.Ordering.{nat_cmp}
 use Rattle.std.specs.FinMap as fin
 use Rattle.std.specs.FinSet as finset
 use Rattle.nd_time.specs.Limits.{max_count, max_counter}
@@ -13,10 +12,9 @@ use Rattle.nd_graph.specs.declared.op.Op.TheVariants as op
 use Rattle.nd_graph.specs.declared.graph.Edge.{Edge}
 use Rattle.nd_paths.specs.declared.point.Pointstamp.{Pointstamp}
 use Rattle.nd_delta.specs.Change.{Change, none, at, set, plus, is_point}
-use Rattle.nd_cluster.specs.Keys.{value_at_cmp, sink_cmp}
 use Rattle.nd_cluster.specs.State.{ProcessorState, ClusterState, processor, truth, token_point}
 use Rattle.nd_cluster.specs.Operators.{op_at, is_sink, emissions}
-use Rattle.nd_cluster.specs.Held.{held, one_at}
+use Rattle.nd_cluster.specs.Held.{held}
 use Rattle.nd_cluster.specs.Steps.{count_of, one_more, one_less, moved_token, target_of, record_key}
 use Rattle.nd_cluster.specs.Enabled.{number_of, FeedFails, TakeFails}
 use Rattle.nd_cluster.specs.declared.refusal.Refusal.{Refusal}
@@ -55,6 +53,13 @@ pub record IsKept (q : ProcessorState) : Type 0 where
 pub record IsAlone (s : ClusterState) : Type 0 where
   pub whole : alone s.graph (processor s 0) ≡ s
   pub kept : IsKept (processor s 0)
+
+-- a cluster of one processor without requests and items, whose queue is empty
+pub record IsBare (s : ClusterState) : Type 0 where
+  pub one : s.processors ≡ processor s 0 ∷ []
+  pub queues : s.queues ≡ ([] ∷ []) ∷ []
+  pub requests : (processor s 0).requests ≡ finset.empty
+  pub items : (processor s 0).items ≡ fin.empty
 
 -- one more of each key
 abbrev pub all_more : {K : Type 0} {R : K → K → Ordering} → fin.FinMap R ℕ → List K → fin.FinMap R ℕ

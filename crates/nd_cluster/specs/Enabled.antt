@@ -1,5 +1,5 @@
 -- When a step is enabled, and else why it is refused: by the condition of least number (this project's own rule).
-use Rattle.std.specs.Prelude.{◌≡◌, ◌≢◌, ℕ, ◌+◌, ◌<◌, ◌≤◌, ◌⊎◌, ℤ, List, length, All, Option, Some, None, unsigned_abs, FitsSigned}
+use Rattle.std.specs.Prelude.{◌≡◌, ◌≢◌, ℕ, ◌<◌, ◌≤◌, ◌⊎◌, ℤ, List, length, All, Some, None, unsigned_abs, FitsSigned}
 use Rattle.std.specs.Int.{w64}
 use Rattle.std.specs.FinMap as fin
 use Rattle.nd_time.specs.Limits.{max_count, max_counter, max_values}
@@ -8,7 +8,7 @@ use Rattle.nd_graph.specs.Graph.{location_count}
 use Rattle.nd_graph.specs.declared.op.Op.TheVariants as op
 use Rattle.nd_paths.specs.declared.point.Pointstamp.{Pointstamp}
 use Rattle.nd_delta.specs.Change.{at}
-use Rattle.nd_cluster.specs.State.{ProcessorState, ClusterState, processor}
+use Rattle.nd_cluster.specs.State.{ClusterState, processor}
 use Rattle.nd_cluster.specs.Operators.{op_at, emissions}
 use Rattle.nd_cluster.specs.Steps.{count_of, record_key, target_of, after_feed, after_take}
 use Rattle.nd_cluster.specs.declared.key.ValueAt.{ValueAt}

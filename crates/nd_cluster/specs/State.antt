@@ -1,6 +1,6 @@
 -- The state of a cluster, and what is outstanding in it (Naiad, SOSP 2013, sections 2.3 and 3.3; FORTE 2013).
-use Rattle.std.specs.Prelude.{ℕ, ℤ, pos, ◌+ℤ◌, List, [], ◌∷◌, ◌++◌, map, slice_index_or, slice_set, unwrap_or, refl}
-use Rattle.std.specs.Coded.{Coded, code_by, coded×, coded_ℕ, coded_ℤ, coded_list}
+use Rattle.std.specs.Prelude.{ℕ, ℤ, pos, ◌+ℤ◌, List, [], ◌∷◌, ◌++◌, map, slice_index_or, slice_set, refl}
+use Rattle.std.specs.Coded.{Coded, code_by, coded×, coded_ℕ, coded_ℤ}
 use Rattle.std.specs.List.{flat_map}
 use Rattle.std.specs.Ordering.{nat_cmp}
 use Rattle.std.specs.FinMap as fin
@@ -10,7 +10,6 @@ use Rattle.nd_paths.specs.Point.{point_cmp, point_code}
 use Rattle.nd_paths.specs.declared.point.Pointstamp.{Pointstamp}
 use Rattle.nd_delta.specs.Change.{Change, none, at, set, change_code}
 use Rattle.nd_cluster.specs.Keys.{value_at_cmp, sink_cmp, value_at_code, sink_code}
-use Rattle.nd_cluster.specs.declared.key.ValueAt.{ValueAt}
 
 -- one processor: no map but that of the tokens, whose epochs may be 0, holds a 0
 pub record ProcessorState : Type 0 where

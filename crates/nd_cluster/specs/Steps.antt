@@ -7,7 +7,6 @@ use Rattle.std.specs.Ordering.{nat_cmp}
 use Rattle.std.specs.FinMap as fin
 use Rattle.nd_time.specs.Time.{Time}
 use Rattle.nd_graph.specs.Graph.{Dataflow}
-use Rattle.nd_graph.specs.declared.op.Op.{Op}
 use Rattle.nd_delta.specs.Change.{plus, minus}
 use Rattle.nd_cluster.specs.State.{ProcessorState, ClusterState, idle, processor, truth}
 use Rattle.nd_cluster.specs.Operators.{op_at, emissions, is_sink, time_past, made_on}

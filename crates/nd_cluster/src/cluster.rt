@@ -1,8 +1,9 @@
 //! The state of a cluster, and its readers.
 ghost use Rattle.std.specs.Prelude.{◌≡◌, ◌<◌, ◌^◌, pos, IfOk, length};
-ghost use Rattle.std.specs.FinMap.{from_entries};
-ghost use Rattle.nd_delta.specs.Change.{at};
-ghost use Rattle.nd_cluster.specs.State.{truth};
+ghost use Rattle.std.specs.FinMap.{from_entries, entries};
+ghost use Rattle.nd_delta.specs.Change.{at, entries as listed};
+ghost use Rattle.nd_cluster.specs.State.{truth, processor};
+ghost use Rattle.nd_cluster.specs.Alone.{IsBare};
 ghost use Rattle.nd_cluster.specs.Held.{in_records, in_tokens};
 
 use crate::change::token_point;
@@ -97,6 +98,42 @@ impl<A: Allocator + Copy> Cluster<A> {
         ensures { pos result ≡ at (truth self.now.processors) point.now }
     {
         count_records(&self.records, point) + count_tokens(&self.tokens, point)
+    }
+
+    // The records of processor 0 and their counts, in the order of listing.
+    pub(crate) fn records(&self) -> &[(ValueAt, u64)]
+        ensures records { result.now ≡ entries (processor self.now 0).records }
+        ensures alone { IsBare self.now }
+    {
+        self.records.entries()
+    }
+
+    // The open inputs of processor 0 and their epochs.
+    pub(crate) fn tokens(&self) -> &[(usize, u32)]
+        ensures { result.now ≡ entries (processor self.now 0).tokens }
+    {
+        self.tokens.entries()
+    }
+
+    // What the sinks of processor 0 have counted.
+    pub(crate) fn sinks(&self) -> &[(SinkKey, u64)]
+        ensures { result.now ≡ entries (processor self.now 0).sinks }
+    {
+        self.sinks.entries()
+    }
+
+    // The progress updates that processor 0 did not send yet.
+    pub(crate) fn unsent(&self) -> &[(Pointstamp, i64)]
+        ensures { result.now ≡ listed (processor self.now 0).unsent }
+    {
+        self.unsent.entries()
+    }
+
+    // What processor 0 knows of the outstanding pointstamps.
+    pub(crate) fn view(&self) -> &[(Pointstamp, i64)]
+        ensures { result.now ≡ listed (processor self.now 0).view }
+    {
+        self.view.entries()
     }
 
     /// An equal cluster.

@@ -43,13 +43,7 @@ fn move_token<A: Allocator>(
 
 impl<A: Allocator + Copy> Cluster<A> {
     // The epoch at which values may be fed.
-    fn feed_epoch(
-        &self,
-        p: u32,
-        vertex: usize,
-        values: &[i64],
-        next: Next,
-    ) -> Result<u32, Refusal>
+    fn feed_epoch(&self, p: u32, vertex: usize, values: &[i64], next: Next) -> Result<u32, Refusal>
         ensures ok { IfOk result (CanFeed self.now p vertex values.now next) }
         ensures refused { IfErr result (IsJustified (FeedFails self.now p vertex values.now next)) }
     {

@@ -69,13 +69,7 @@ impl<A: Allocator + Copy> Cluster<A> {
     }
 
     // What a take hands to which vertex, or why it does not.
-    fn taking(
-        &self,
-        p: u32,
-        edge: usize,
-        time: &Timestamp,
-        value: i64,
-    ) -> Result<Taking, Refusal>
+    fn taking(&self, p: u32, edge: usize, time: &Timestamp, value: i64) -> Result<Taking, Refusal>
         ensures key { IfOk result (λ x. x.key ≡ key_at edge time.now value) }
         ensures sink { IfOk result (λ x. x.sink ≡ record { vertex = target_at self.now.graph edge; value = value }) }
         ensures op { IfOk result (λ x. x.op ≡ operator_at self.now.graph (target_at self.now.graph edge)) }
@@ -106,11 +100,7 @@ impl<A: Allocator + Copy> Cluster<A> {
     }
 
     // The counts of the sinks once a vertex was handed a value.
-    fn sinks_after(
-        &self,
-        op: Op,
-        sink: &SinkKey,
-    ) -> Result<SortedMap<SinkKey, u64, A>, Refusal>
+    fn sinks_after(&self, op: Op, sink: &SinkKey) -> Result<SortedMap<SinkKey, u64, A>, Refusal>
         ensures ok { IfOk result (λ m. from_entries {R = sink_cmp} m ≡ (if counts_values op then one_more (processor self.now 0).sinks sink.now else (processor self.now 0).sinks)) }
         ensures within { IfOk result (λ m. IsWithinCounts (from_entries {R = sink_cmp} m)) }
         ensures full { IfErr result (λ r. r ≢ Memory → (r ≡ CountFull) × IsFull (if counts_values op then one_more (processor self.now 0).sinks sink.now else (processor self.now 0).sinks)) }

@@ -1,4 +1,4 @@
-use Rattle.std.proofs.Common.{◌≡◌, ◌<◌, ◌^◌, ℕ, ◌+◌, cond, sum_by, length, refl, sym, ap, subst, ◌∙◌, arith}
+use Rattle.std.proofs.Common.{◌≡◌, ◌<◌, ◌^◌, ℕ, ◌+◌, cond, sum_by, refl, sym, ap, subst, ◌∙◌, arith}
 use Rattle.std.specs.Ordering.{is_eq}
 use Rattle.nd_delta.specs.Change.{is_point}
 use Rattle.nd_cluster.specs.declared.key.ValueAt.{ValueAt}
@@ -30,18 +30,18 @@ loop-entry-preserved g c =
     elim c.if-is_eq.branch [
       | then-is_eq w ↦
           let here : f x ≡ x.1 = ap (λ b. cond b x.1 0) (sym (w.if-is_eq.ensures ∙ ap is_eq c.cmp.ensures)) in
-      record {
-        items = c.loop-entry.invariant.items;
-        total = sum_next f c.entries-entry-items.result.now c.loop-entry.entry-index x x c.loop-entry.total c.if-is_eq.total c.loop-entry-test.true c.entry-item.is c.loop-entry.invariant.total (omega (arith, w.total-is));
-        few = c.loop-entry.invariant.few;
-      }
+          record {
+            items = c.loop-entry.invariant.items;
+            total = sum_next f c.entries-entry-items.result.now c.loop-entry.entry-index x x c.loop-entry.total c.if-is_eq.total c.loop-entry-test.true c.entry-item.is c.loop-entry.invariant.total (omega (arith, w.total-is));
+            few = c.loop-entry.invariant.few;
+          }
       | else-is_eq w ↦
           let here : f x ≡ 0 = ap (λ b. cond b x.1 0) (sym (w.if-is_eq.ensures ∙ ap is_eq c.cmp.ensures)) in
-      record {
-        items = c.loop-entry.invariant.items;
-        total = sum_next f c.entries-entry-items.result.now c.loop-entry.entry-index x x c.loop-entry.total c.if-is_eq.total c.loop-entry-test.true c.entry-item.is c.loop-entry.invariant.total (omega (arith, w.total-is));
-        few = c.loop-entry.invariant.few;
-      }
+          record {
+            items = c.loop-entry.invariant.items;
+            total = sum_next f c.entries-entry-items.result.now c.loop-entry.entry-index x x c.loop-entry.total c.if-is_eq.total c.loop-entry-test.true c.entry-item.is c.loop-entry.invariant.total (omega (arith, w.total-is));
+            few = c.loop-entry.invariant.few;
+          }
     ]
 
 pub returns : goal.returns

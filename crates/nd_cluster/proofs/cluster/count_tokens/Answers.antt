@@ -1,4 +1,4 @@
-use Rattle.std.proofs.Common.{◌≡◌, ◌<◌, ◌^◌, ℕ, ◌+◌, cond, sum_by, length, get_or, refl, sym, ap, subst, ◌∙◌, arith}
+use Rattle.std.proofs.Common.{◌≡◌, ◌<◌, ◌^◌, ℕ, ◌+◌, cond, sum_by, get_or, refl, sym, ap, subst, ◌∙◌, arith}
 use Rattle.std.specs.Ordering.{is_eq}
 use Rattle.nd_paths.specs.Point.{point_cmp}
 use Rattle.nd_cluster.specs.State.{token_point}
@@ -30,19 +30,19 @@ loop-entry-preserved g c =
     let x : ℕ × ℕ = get_or c.entries-entry-items.result.now c.loop-entry.entry-index (0, 0) in
     elim c.if-is_eq.branch [
       | then-is_eq w ↦
-      let here : f x ≡ 1 = ap (λ b. cond b 1 0) (sym (w.if-is_eq.ensures ∙ ap is_eq (c.cmp.ensures ∙ ap (point_cmp c.args.point.now) c.token_point.ensures))) in
-      record {
-        items = c.loop-entry.invariant.items;
-        total = sum_next f c.entries-entry-items.result.now c.loop-entry.entry-index (0, 0) x c.loop-entry.total c.if-is_eq.total c.loop-entry-test.true refl c.loop-entry.invariant.total (omega (arith, w.total-is));
-        few = c.loop-entry.invariant.few;
-      }
+          let here : f x ≡ 1 = ap (λ b. cond b 1 0) (sym (w.if-is_eq.ensures ∙ ap is_eq (c.cmp.ensures ∙ ap (point_cmp c.args.point.now) c.token_point.ensures))) in
+          record {
+            items = c.loop-entry.invariant.items;
+            total = sum_next f c.entries-entry-items.result.now c.loop-entry.entry-index (0, 0) x c.loop-entry.total c.if-is_eq.total c.loop-entry-test.true refl c.loop-entry.invariant.total (omega (arith, w.total-is));
+            few = c.loop-entry.invariant.few;
+          }
       | else-is_eq w ↦
-      let here : f x ≡ 0 = ap (λ b. cond b 1 0) (sym (w.if-is_eq.ensures ∙ ap is_eq (c.cmp.ensures ∙ ap (point_cmp c.args.point.now) c.token_point.ensures))) in
-      record {
-        items = c.loop-entry.invariant.items;
-        total = sum_next f c.entries-entry-items.result.now c.loop-entry.entry-index (0, 0) x c.loop-entry.total c.if-is_eq.total c.loop-entry-test.true refl c.loop-entry.invariant.total (omega (arith, w.total-is));
-        few = c.loop-entry.invariant.few;
-      }
+          let here : f x ≡ 0 = ap (λ b. cond b 1 0) (sym (w.if-is_eq.ensures ∙ ap is_eq (c.cmp.ensures ∙ ap (point_cmp c.args.point.now) c.token_point.ensures))) in
+          record {
+            items = c.loop-entry.invariant.items;
+            total = sum_next f c.entries-entry-items.result.now c.loop-entry.entry-index (0, 0) x c.loop-entry.total c.if-is_eq.total c.loop-entry-test.true refl c.loop-entry.invariant.total (omega (arith, w.total-is));
+            few = c.loop-entry.invariant.few;
+          }
     ]
 
 pub returns : goal.returns

@@ -1,4 +1,4 @@
-use Rattle.std.proofs.Common.{◌≡◌, ◌<◌, ◌^◌, cond, take, sum_by}
+use Rattle.std.proofs.Common.{◌≡◌, ◌<◌, ◌^◌, take, sum_by}
 use Rattle.nd_cluster.specs.State.{token_point}
 use Rattle.nd_cluster.specs.Held.{one_at}
 use Rattle.nd_cluster.proofs.cluster.count_tokens.Given as goal

@@ -1,4 +1,4 @@
-use Rattle.std.proofs.Common.{◌≡◌, ◌+◌, ◌++◌, length, drop}
+use Rattle.std.proofs.Common.{◌≡◌, ◌+◌, ◌++◌, drop}
 use Rattle.nd_cluster.specs.Alone.{made_here}
 use Rattle.nd_cluster.proofs.made.emit.Given as goal
 

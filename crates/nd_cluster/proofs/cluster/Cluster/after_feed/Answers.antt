@@ -1,13 +1,11 @@
-use Rattle.std.proofs.Common.{◌≡◌, Some, refl, sym, ap, subst, ◌∙◌}
-use Rattle.std.specs.FinMap as fin
-use Rattle.nd_delta.specs.Change.{Change}
+use Rattle.std.proofs.Common.{◌≡◌, sym, subst, ◌∙◌}
 use Rattle.nd_cluster.specs.State.{ProcessorState, processor}
 use Rattle.nd_cluster.specs.Steps.{after_feed}
 use Rattle.nd_cluster.specs.Enabled.{HasLargeCount, HasLargeEntry, FeedFails}
-use Rattle.nd_cluster.specs.Alone.{alone, drafted, fed_here, with_made, token_change, fed_records, CanFeed, IsWithinCounts}
-use Rattle.nd_cluster.specs.Held.{Moves, settled_by}
+use Rattle.nd_cluster.specs.Alone.{alone, drafted, with_made, IsWithinCounts}
+use Rattle.nd_cluster.specs.Held.{settled_by}
 use Rattle.nd_cluster.proofs.Drafts.{feed_drafted, feed_settled}
-use Rattle.nd_cluster.proofs.Refused.{all_free, settled_refusal, wanting}
+use Rattle.nd_cluster.proofs.Refused.{all_free, settled_refusal}
 use Rattle.nd_cluster.proofs.Stepped.{few_counts, small_entries, full_record, large_entry}
 use Rattle.nd_cluster.proofs.cluster.Cluster.after_feed.Goals as goal
 

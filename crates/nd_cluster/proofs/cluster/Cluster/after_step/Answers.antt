@@ -1,4 +1,4 @@
-use Rattle.std.proofs.Common.{SFits, w64, rules, ap, sym}
+use Rattle.std.proofs.Common.{SFits, w64, rules}
 use Rattle.std.proofs.lemmas.Int.{to_z-of_z}
 use Rattle.nd_cluster.proofs.Refused.{enabled_by}
 use Rattle.nd_cluster.proofs.cluster.Cluster.after_step.Goals as goal

@@ -1,4 +1,4 @@
-use Rattle.std.proofs.Common.{◌≡◌, Bool, cond, [], negsuc, SFits, w64, Some, sym, ap, subst, ◌∙◌, inl, refl}
+use Rattle.std.proofs.Common.{◌≡◌, cond, [], negsuc, SFits, w64, sym, ap, subst, ◌∙◌, inl, refl}
 use Rattle.std.proofs.lemmas.Int.{to_z-of_z}
 use Rattle.std.specs.Prelude.{option_to_list}
 use Rattle.std.specs.FinMap as fin

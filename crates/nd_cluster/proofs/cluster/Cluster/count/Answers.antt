@@ -1,4 +1,4 @@
-use Rattle.std.proofs.Common.{◌≡◌, ◌+◌, ℕ, pos, sym, ap, ◌∙◌, arith}
+use Rattle.std.proofs.Common.{◌≡◌, ◌+◌, pos, sym, ap, ◌∙◌, arith}
 use Rattle.nd_delta.specs.Change.{at}
 use Rattle.nd_cluster.specs.State.{truth}
 use Rattle.nd_cluster.specs.Alone.{processor_of}

@@ -1,4 +1,4 @@
-use Rattle.std.proofs.Common.{◌≡◌, [], sym, ap, ◌∙◌}
+use Rattle.std.proofs.Common.{[], ap, ◌∙◌}
 use Rattle.std.specs.FinMap.{from_entries}
 use Rattle.nd_cluster.specs.Steps.{moved_token}
 use Rattle.nd_cluster.specs.Alone.{fed_records}

@@ -1,5 +1,4 @@
-use Rattle.std.proofs.Common.{◌≡◌, ◌≢◌, ◌<◌, ◌≤◌, ℕ, length, sym, ap, subst, ◌∙◌, arith, rules, Some, None, Fits, w32}
-use Rattle.std.specs.Ordering.{nat_cmp}
+use Rattle.std.proofs.Common.{◌≡◌, ◌≢◌, ◌<◌, ◌≤◌, length, sym, ap, subst, ◌∙◌, arith, rules, Some, Fits, w32}
 use Rattle.std.specs.FinMap as fin
 use Rattle.nd_time.specs.Limits.{max_counter}
 use Rattle.nd_graph.specs.declared.op.Op.TheVariants as op
@@ -101,5 +100,5 @@ returns-clause-ok g c =
       held = some;
       room = λ on. let less : c.in-Some.epoch ≢ max_counter = λ last. not_both (on, last) in omega (arith, fits.fits);
       free = λ other le. least_feed c.args.self.now c.args.p c.args.vertex c.args.values.now c.args.next 11
-      (λ _ no. absurd (omega arith)) (λ _ no. absurd (omega arith)) (λ _ no. no input) (λ _ none. absurd (cc (some, none))) (λ _ no. absurd (omega arith)) (λ _ full. let last : c.in-Some.epoch ≡ max_counter = cc (some, full.1) in not_both (full.0, last)) (later (omega arith)) (later (omega arith)) other (omega arith);
+          (λ _ no. absurd (omega arith)) (λ _ no. absurd (omega arith)) (λ _ no. no input) (λ _ none. absurd (cc (some, none))) (λ _ no. absurd (omega arith)) (λ _ full. let last : c.in-Some.epoch ≡ max_counter = cc (some, full.1) in not_both (full.0, last)) (later (omega arith)) (later (omega arith)) other (omega arith);
     }

@@ -11,11 +11,14 @@ returns-in-Err-DeltaFull-clause-full g c =
     let more : from_entries {R = value_at_cmp} c.add_records.new.records ≡ all_more (from_entries c.args.draft.records) c.args.draft.made.items = c.in_default.ensures.ok ∙ ap (all_more (from_entries c.args.draft.records)) c.deref.ensures.value in
     let sum : c.count_made.new.change ≡ with_made c.args.draft.change c.args.draft.made.items = c.in-Ok.ensures ∙ ap (with_made c.args.draft.change) c.deref-2.ensures.value in
     let plain = rw c.in-Err-DeltaFull.field-0-is at c.in-Err-DeltaFull.ensures.full in
-    λ _. inr (refl, (
-      subst IsTooLarge (unsent_is c.self.inside.paths c.self.inside.records c.self.inside.tokens c.self.inside.sinks c.self.inside.unsent c.self.inside.view c.args.self.now c.self.view_is
-    c.add_records.new.records c.args.draft.records c.args.draft.tokens c.args.draft.sinks c.args.draft.made.items c.self.inside.unsent c.self.inside.view c.args.draft.change c.count_made.new.change more sum) (plain.0 refl),
-      subst IsWithinCounts more c.in_default.ensures.within,
-    ))
+    λ _. inr (
+      refl,
+      (
+        subst IsTooLarge (unsent_is c.self.inside.paths c.self.inside.records c.self.inside.tokens c.self.inside.sinks c.self.inside.unsent c.self.inside.view c.args.self.now c.self.view_is
+            c.add_records.new.records c.args.draft.records c.args.draft.tokens c.args.draft.sinks c.args.draft.made.items c.self.inside.unsent c.self.inside.view c.args.draft.change c.count_made.new.change more sum) (plain.0 refl),
+        subst IsWithinCounts more c.in_default.ensures.within,
+      ),
+    )
 
 pub invariant_of-result : goal.invariant_of-result
 invariant_of-result g c =

@@ -1,4 +1,4 @@
-use Rattle.std.proofs.Common.{◌≡◌, ◌≤◌, length, SFits, w64, to_z, of_z, refl, sym, ap, subst, ◌∙◌}
+use Rattle.std.proofs.Common.{◌≡◌, SFits, w64, to_z, of_z, refl, sym, ap, subst, ◌∙◌}
 use Rattle.std.proofs.lemmas.Int.{to_z-of_z}
 use Rattle.std.specs.Prelude.{All, FitsSigned, option_to_list, IfSome}
 use Rattle.nd_graph.specs.Graph.{action_of}
