@@ -7,14 +7,15 @@ use Rattle.rewind_lines.specs.Lines.{Reading, blank, too_long, no_json, json}
 use Rattle.nd_graph.specs.Graph.{Dataflow, location_count, names}
 use Rattle.nd_graph.specs.Draft.{Draft, draft_of}
 use Rattle.nd_graph.specs.Checked.{checked}
-use Rattle.nd_graph.specs.Fault as graph_fault
+use Rattle.nd_graph.specs.Fault.{number_of, name_of}
 use Rattle.nd_graph.specs.declared.fault.GraphFault.{GraphFault}
+use Rattle.nd_graph.specs.declared.fault.GraphFault.TheVariants.{Shape}
 use Rattle.nd_paths.specs.Order.{FailsAt, IsAccepted}
 use Rattle.nd_paths.specs.declared.point.Pointstamp.{Pointstamp}
 use Rattle.nd_delta.specs.Change.{at}
 use Rattle.nd_cluster.specs.State.{ClusterState, truth}
 use Rattle.nd_cluster.specs.StateText.{state_data}
-use Rattle.nd_cluster.specs.Start.{start, can_run}
+use Rattle.nd_cluster.specs.Start.{start, CanRun}
 use Rattle.nd_cluster.specs.declared.step.Step.{Step}
 use Rattle.rewind_forms.specs.Forms.{command_of}
 use Rattle.rewind_forms.specs.Replies.{fault, location_fault, graph, moved, refused as refusal, at_start, timeline_full, out_of_memory, faulty, line_fault, count, state}
@@ -36,16 +37,12 @@ pub data Phase : Type 0 where
 -- ---- the graph's line
 
 -- the graph of a draft, or the reply to one that is refused
-abbrev pub graph_of_checked : Result Dataflow GraphFault → Result Dataflow Data
-graph_of_checked (Err e) = Err (fault (graph_fault.number_of e) (graph_fault.name_of e))
-graph_of_checked (Ok g) = if can_run g then Ok g else Err (fault 40 (codes "Shape"))
+abbrev pub graph_of_draft : Option Draft → Result Dataflow GraphFault
+graph_of_draft None = Err Shape
+graph_of_draft (Some draft) = checked draft
 
-abbrev pub graph_of_draft : Option Draft → Result Dataflow Data
-graph_of_draft None = Err (fault 40 (codes "Shape"))
-graph_of_draft (Some draft) = graph_of_checked (checked draft)
-
--- the graph that a value is, or the reply to one that is refused for itself
-unfoldable pub graph_of : Data → Result Dataflow Data
+-- the graph that a value is, or its fault
+unfoldable pub graph_of : Data → Result Dataflow GraphFault
 graph_of d = graph_of_draft (draft_of d)
 
 -- a loop is not strict at this location, and at none before it
@@ -53,14 +50,26 @@ pub record IsFirstFailure (g : Dataflow) (l : ℕ) : Type 0 where
   pub fails : FailsAt g l
   pub first : (k : ℕ) → k < l → FailsAt g k → ⊥
 
--- a graph is refused for the number of processors or for a loop, or a cluster starts on it
-abbrev pub StartReplies : ℕ → Result Dataflow Data → List Data → Phase → Type 0
-StartReplies processors (Err reply) replies new = (replies ≡ reply ∷ []) × (new ≡ refused)
+-- why no cluster starts on a graph, and the reply
+pub data RefusedReply (processors : ℕ) (g : Dataflow) (reply : Data) : Type 0 where
+  -- it has what a cluster cannot run yet
+  not_run : (CanRun g → ⊥) → reply ≡ fault 40 (codes "Shape") → RefusedReply processors g reply
+  bad_count : CanRun g → processors ≢ 1 → reply ≡ fault 48 (codes "BadCount") → RefusedReply processors g reply
+  not_strict : (l : ℕ) (name : List ℕ) → CanRun g → processors ≡ 1 → IsFirstFailure g l → slice_get (names g) l ≡ Some name
+    → reply ≡ location_fault 46 (codes "LoopNotStrict") name → RefusedReply processors g reply
+
+-- a cluster can start on a graph
+pub record CanStart (processors : ℕ) (g : Dataflow) : Type 0 where
+  pub runs : CanRun g
+  pub one : processors ≡ 1
+  pub accepted : IsAccepted g
+
+-- the reply to the graph's line, and the phase after it
+abbrev pub StartReplies : ℕ → Result Dataflow GraphFault → List Data → Phase → Type 0
+StartReplies processors (Err e) replies new = (replies ≡ fault (number_of e) (name_of e) ∷ []) × (new ≡ refused)
 StartReplies processors (Ok g) replies new =
-    ((processors ≢ 1) × (replies ≡ fault 48 (codes "BadCount") ∷ []) × (new ≡ refused))
-    ⊎ (((processors ≡ 1) × ((l : ℕ) × (name : List ℕ) × IsFirstFailure g l × (slice_get (names g) l ≡ Some name)
-        × (replies ≡ location_fault 46 (codes "LoopNotStrict") name ∷ []) × (new ≡ refused)))
-    ⊎ ((processors ≡ 1) × IsAccepted g × (replies ≡ graph (location_count g) processors ∷ []) × (new ≡ running (opened (start g processors)))))
+    ((reply : Data) × RefusedReply processors g reply × (replies ≡ reply ∷ []) × (new ≡ refused))
+    ⊎ (CanStart processors g × (replies ≡ graph (location_count g) processors ∷ []) × (new ≡ running (opened (start g processors))))
 
 -- ---- the lines after it
 

@@ -1,9 +1,8 @@
 -- The phases that a run's values stand for.
-use Rattle.std.specs.Prelude.{Bool, true, false, List, [], ◌∷◌, Option, Some, None, Result, Ok, Err}
+use Rattle.std.specs.Prelude.{Bool, true, false, List, [], ◌∷◌, Option, Some, None}
 use Rattle.serde_json.specs.Data.{Data}
 use Rattle.serde_json.specs.View.{view}
 use Rattle.serde_json.specs.declared.value.Value.{Value}
-use Rattle.nd_graph.specs.Graph.{Dataflow}
 use Rattle.rewind.specs.Machine.{MachineValue}
 use Rattle.rewind.specs.Answers.{Phase, unstarted, running, refused}
 use Rattle.rewind.specs.declared.stage.Stage.{Stage}
@@ -26,8 +25,3 @@ phase_after false stage = phase_of stage
 abbrev pub replies_of : Option Value → List Data
 replies_of None = []
 replies_of (Some reply) = view reply ∷ []
-
--- the graph that was read, or the reply to one that is refused
-abbrev pub graph_read : Result Dataflow Value → Result Dataflow Data
-graph_read (Ok g) = Ok g
-graph_read (Err reply) = Err (view reply)

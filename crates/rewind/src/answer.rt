@@ -1,14 +1,14 @@
 //! The replies to the graph's line and to a command's or query's line.
-ghost use Rattle.std.specs.Prelude.{◌≡◌, ◌≢◌, ◌∷◌, [], true, false, Ok, IfOk, IfErr, OnOk};
-ghost use Rattle.nd_graph.specs.Fault.{number_of, name_of};
-ghost use Rattle.nd_cluster.specs.Start.{can_run as can_be_run};
+ghost use Rattle.std.specs.Prelude.{◌≡◌, ◌∷◌, [], false, Ok, IfOk};
+ghost use Rattle.nd_graph.specs.Fault.{IsUnlessMemory};
+ghost use Rattle.nd_cluster.specs.Start.{CanRun};
 ghost use Rattle.nd_cluster.specs.StateText.{state_data};
-ghost use Rattle.rewind_forms.specs.Replies.{fault as fault_data, count as count_data, state};
+ghost use Rattle.rewind_forms.specs.Replies.{count as count_data, state};
 ghost use Rattle.rewind.specs.Machine.{cluster_of};
 ghost use Rattle.serde_json.specs.View.{view};
 ghost use Rattle.serde_json.specs.Written.{has_float};
 ghost use Rattle.rewind.specs.Answers.{running, graph_of as graph_in, CommandReplies, StartReplies, moved_to, ForwardReplies, BackReplies, AskedReplies, true_count};
-ghost use Rattle.rewind.specs.Stages.{phase_of_start, graph_read};
+ghost use Rattle.rewind.specs.Stages.{phase_of_start};
 
 use crate::machine::{BackFault, ForwardFault, Machine};
 use nd_cluster::{Cluster, StartFault, Step, can_run};
@@ -18,62 +18,39 @@ use rewind_forms::{Command, command_of, replies};
 use serde_json::Value;
 use std::alloc::{AllocError, Global};
 
-// The reply to a graph that is refused.
-fn refused_graph(alloc: Global, fault: GraphFault) -> Result<Value, AllocError>
-    ensures memory { OnOk result (fault ≢ GraphFault.Memory) }
-    ensures reply { IfOk result (λ v. view v ≡ fault_data (number_of fault) (name_of fault)) }
-    ensures text { IfOk result (λ v. has_float (view v) ≡ false) }
-{
-    if fault == GraphFault::Memory {
-        return Err(AllocError);
-    }
-    replies::fault(alloc, fault.number(), fault.name())
-}
-
-/// The graph that the value is, or the reply to one that is refused.
-fn graph_of(alloc: Global, value: &Value) -> Result<Result<Graph, Value>, AllocError>
-    ensures graph { IfOk result (λ r. graph_read r ≡ graph_in (view value.now)) }
-    ensures runs { IfOk result (λ r. IfOk r (λ g. can_be_run g ≡ true)) }
-    ensures text { IfOk result (λ r. IfErr r (λ v. has_float (view v) ≡ false)) }
+/// The graph that the value is.
+fn graph_of(alloc: Global, value: &Value) -> Result<Graph, GraphFault>
+    ensures { IsUnlessMemory (graph_in (view value.now)) result }
 {
     let draft = match GraphDraft::from_value(alloc, value) {
         Ok(draft) => draft,
-        Err(fault) => return Ok(Err(refused_graph(alloc, fault)?)),
+        Err(fault) => return Err(fault),
     };
-    let graph = match draft.check(alloc) {
-        Ok(graph) => graph,
-        Err(fault) => return Ok(Err(refused_graph(alloc, fault)?)),
-    };
-    if !can_run(&graph) {
-        return Ok(Err(replies::fault(alloc, 40, "Shape")?));
-    }
-    Ok(Ok(graph))
+    draft.check(alloc)
 }
 
-/// Starts a cluster on the graph.
+/// Starts a cluster on a graph that it can run.
 fn start_on(
     alloc: Global,
     processors: u8,
     graph: Graph,
 ) -> Result<(Value, Option<Machine>), AllocError>
-    requires { can_be_run graph ≡ true }
+    requires { CanRun graph }
     ensures replies { IfOk result (λ r. StartReplies processors (Ok graph) (view r.0 ∷ []) (phase_of_start r.1)) }
     ensures text { IfOk result (λ r. has_float (view r.0) ≡ false) }
 {
     let names = graph.copy(alloc)?;
     match Cluster::start(alloc, graph, u32::from(processors)) {
         Ok(cluster) => {
-            let reply = replies::graph(
-                alloc,
-                names.location_count() as u64,
-                u64::from(processors),
-            )?;
+            let locations = names.location_count() as u64;
+            let reply = replies::graph(alloc, locations, u64::from(processors))?;
             Ok((reply, Some(Machine::new(alloc, cluster)?)))
         }
         Err(StartFault::BadCount) => Ok((replies::fault(alloc, 48, "BadCount")?, None)),
         Err(StartFault::LoopNotStrict { location }) => {
             let name = names.location_name(location);
-            Ok((replies::location_fault(alloc, 46, "LoopNotStrict", name)?, None))
+            let reply = replies::location_fault(alloc, 46, "LoopNotStrict", name)?;
+            Ok((reply, None))
         }
         Err(StartFault::Memory) => Err(AllocError),
     }
@@ -89,10 +66,15 @@ pub fn answer_first(
         StartReplies processors (graph_in (view value.now)) (view r.0 ∷ []) (phase_of_start r.1)) }
     ensures text { IfOk result (λ r. has_float (view r.0) ≡ false) }
 {
-    match graph_of(alloc, value)? {
-        Ok(graph) => start_on(alloc, processors, graph),
-        Err(reply) => Ok((reply, None)),
+    let graph = match graph_of(alloc, value) {
+        Ok(graph) => graph,
+        Err(GraphFault::Memory) => return Err(AllocError),
+        Err(fault) => return Ok((replies::fault(alloc, fault.number(), fault.name())?, None)),
+    };
+    if !can_run(&graph) {
+        return Ok((replies::fault(alloc, 40, "Shape")?, None));
     }
+    start_on(alloc, processors, graph)
 }
 
 // The reply where the cursor has moved.
@@ -138,7 +120,7 @@ fn answer_state(alloc: Global, machine: &Machine) -> Result<Value, AllocError>
     ensures reply { IfOk result (λ v. view v ≡ state (state_data (cluster_of machine.now))) }
     ensures text { IfOk result (λ v. has_float (view v) ≡ false) }
 {
-    let Ok(shown) = machine.cluster().state_value() else {
+    let Ok(shown) = machine.cluster().state_value(alloc) else {
         return Err(AllocError);
     };
     replies::state(alloc, shown)
