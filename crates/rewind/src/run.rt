@@ -8,7 +8,7 @@ ghost use Rattle.rewind_lines.specs.Readings.{reading_view};
 ghost use Rattle.rewind.specs.Answers.{Answers, after_fault};
 ghost use Rattle.rewind.specs.Faults.{is_write_fault, IsOfRun};
 ghost use Rattle.rewind_forms.specs.Replies.{line_fault};
-ghost use Rattle.serde_json.specs.Data.{Data};
+ghost use Rattle.std.specs.Option.{option_to_list};
 ghost use Rattle.rewind.specs.Stages.{phase_of, phase_after, replies_of};
 ghost use Rattle.rewind.specs.States.{Stands, EndsEarly, AnswersText};
 
@@ -43,7 +43,7 @@ fn answer_fault(
     fault: LineFault,
     line: u64,
 ) -> Result<Answer, AllocError>
-    ensures reply { IfOk result (λ a. (d : Data) → line_fault fault line ≡ Some d → replies_of a.reply ≡ d ∷ []) }
+    ensures reply { IfOk result (λ a. replies_of a.reply ≡ option_to_list (line_fault fault line)) }
     ensures after { IfOk result (λ a. phase_after a.is_last stage.now ≡ after_fault (phase_of stage.now)) }
     ensures text { IfOk result (λ a. IfSome a.reply (λ v. has_float (view v) ≡ false)) }
 {
