@@ -1,6 +1,7 @@
 //! Runs of one client.
 
 use crate::ends::{NEVER, Newlines, empty_sink, pieces_of};
+use crate::examples::LINE;
 use rewind::{DebugFault, Options, debug, debug_within};
 use rewind_lines::{ReadSource, WriteSink};
 use std::alloc::{AllocError, Global};
@@ -9,22 +10,28 @@ use std::test::Fail;
 /// A script's lines, each with its reply. The last has no newline.
 static LINES: [(&str, &str); 8] = [
     (" \r", ""),
-    ("{\"start\":5}", "{\"ok\":true}\n"),
-    ("{\"do\":\"add\",\"n\":7}", "{\"at\":12,\"ok\":true}\n"),
+    (LINE, "{\"locations\":3,\"ok\":true,\"processors\":1}\n"),
+    (
+        "{\"do\":\"feed\",\"p\":0,\"vertex\":\"a\",\"values\":[5],\"next\":\"next\"}",
+        "{\"at\":1,\"kept\":1,\"ok\":true}\n",
+    ),
     ("", ""),
     (
-        "{\"n\":1099511627765,\"do\":\"add\"}",
-        "{\"code\":14,\"error\":\"DeltaFull\"}\n",
+        "{\"value\":6,\"time\":[0],\"edge\":\"az\",\"p\":0,\"do\":\"take\"}",
+        "{\"code\":8,\"error\":\"NoRecord\"}\n",
     ),
     (
         "{\"do\":\"ba",
         "{\"code\":30,\"error\":\"BadLine\",\"line\":6}\n",
     ),
     (
-        "{\"do\":\"add\",\"n\":1.0}",
+        "{\"do\":\"count\",\"at\":\"az\",\"time\":[0.0]}",
         "{\"code\":31,\"error\":\"BadShape\",\"line\":7}\n",
     ),
-    ("{\"do\":\"state\"}", "{\"ok\":true,\"state\":[5,7]}\n"),
+    (
+        "{\"do\":\"count\",\"at\":\"az\",\"time\":[0]}",
+        "{\"count\":1,\"ok\":true}\n",
+    ),
 ];
 
 static ONE: Options = Options {
@@ -107,13 +114,14 @@ fn stops_at_its_limit(rt: HostRuntime) -> Result<(), Fail> {
     let ended = debug_within(rt.alloc(), &mut Newlines, &mut sink, &ONE, 10_000);
     assert_eq!(rt; ended, Err(DebugFault::TooLong));
     assert!(rt; sink.bytes.is_empty());
-    let script = b"{\"start\":1}\n{\"do\":\"state\"}\n";
-    for (limit, want) in [(27, Ok(2)), (26, Err(DebugFault::TooLong))] {
+    let script = b"{\"vertices\":[],\"edges\":[]}\n{\"do\":\"back\"}\n";
+    for (limit, want) in [(41, Ok(2)), (40, Err(DebugFault::TooLong))] {
         let mut source = pieces_of(script.as_slice(), 5, NEVER);
         let ended = debug_within(rt.alloc(), &mut source, &mut sink, &ONE, limit);
         assert_eq!(rt; ended, want);
     }
-    let text = b"{\"ok\":true}\n{\"ok\":true,\"state\":[1]}\n{\"ok\":true}\n";
+    let text =
+        b"{\"locations\":0,\"ok\":true,\"processors\":1}\n{\"code\":20,\"error\":\"AtStart\"}\n{\"locations\":0,\"ok\":true,\"processors\":1}\n";
     assert!(rt; sink.bytes.as_slice() == text.as_slice());
     Ok(())
 }
@@ -126,7 +134,11 @@ fn refuses_a_graph(rt: HostRuntime) -> Result<(), Fail> {
             1,
             "{\"code\":40,\"error\":\"Shape\"}\n",
         ),
-        ("{\"start\":1}", 2, "{\"code\":48,\"error\":\"BadCount\"}\n"),
+        (
+            "{\"vertices\":[],\"edges\":[]}",
+            2,
+            "{\"code\":48,\"error\":\"BadCount\"}\n",
+        ),
         (
             "{\"sta",
             1,
@@ -149,16 +161,16 @@ fn refuses_a_graph(rt: HostRuntime) -> Result<(), Fail> {
 #[test]
 fn passes_over_a_long_line(rt: HostRuntime) -> Result<(), Fail> {
     let mut script = Vec::new(rt.alloc());
-    script.extend_from_slice(b"{\"start\":1}\n")?;
+    script.extend_from_slice(b"{\"vertices\":[],\"edges\":[]}\n")?;
     script.resize(70_000, b' ')?;
     script.extend_from_slice(b"\n")?;
     script.resize(140_000, b' ')?;
-    script.extend_from_slice(b"1\n\xff\n{\"do\":\"state\"}")?;
+    script.extend_from_slice(b"1\n\xff\n{\"do\":\"back\"}")?;
     let mut source = ReadSource::new(script.as_slice());
     let mut sink = WriteSink::new(Vec::new(rt.alloc()));
     assert_eq!(rt; debug(rt.alloc(), &mut source, &mut sink, &ONE)?, 4);
     let want =
-        "{\"ok\":true}\n{\"code\":33,\"error\":\"LineTooLong\",\"line\":3}\n{\"code\":30,\"error\":\"BadLine\",\"line\":4}\n{\"ok\":true,\"state\":[1]}\n";
+        "{\"locations\":0,\"ok\":true,\"processors\":1}\n{\"code\":33,\"error\":\"LineTooLong\",\"line\":3}\n{\"code\":30,\"error\":\"BadLine\",\"line\":4}\n{\"code\":20,\"error\":\"AtStart\"}\n";
     assert!(rt; sink.writer.as_slice() == want.as_bytes());
     Ok(())
 }
