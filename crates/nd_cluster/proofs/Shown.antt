@@ -53,8 +53,8 @@ unfolding alone
 shown g records tokens sinks unsent known r t s =
     let q : ProcessorState = processor_of records tokens sinks unsent known in
     sym (
-      state_data-alone g q (entries-empty value_at_cmp ℤ) (items-empty point_cmp point_total)
-      ∙ ap (λ es. alone_data g es (fin.entries q.sinks) (fin.entries q.tokens) (entries unsent) (entries known)) (entries-from_entries value_at_cmp value_at_total value_at_exact records r)
-      ∙ ap (λ es. alone_data g records es (fin.entries q.tokens) (entries unsent) (entries known)) (entries-from_entries sink_cmp sink_total sink_exact sinks s)
-      ∙ ap (λ es. alone_data g records sinks es (entries unsent) (entries known)) (entries-from_entries nat_cmp nat_cmp_total fin.nat_cmp-IsAntisymmetric tokens t)
+    state_data-alone g q (entries-empty value_at_cmp ℤ) (items-empty point_cmp point_total)
+    ∙ ap (λ es. alone_data g es (fin.entries q.sinks) (fin.entries q.tokens) (entries unsent) (entries known)) (entries-from_entries value_at_cmp value_at_total value_at_exact records r)
+    ∙ ap (λ es. alone_data g records es (fin.entries q.tokens) (entries unsent) (entries known)) (entries-from_entries sink_cmp sink_total sink_exact sinks s)
+    ∙ ap (λ es. alone_data g records sinks es (entries unsent) (entries known)) (entries-from_entries nat_cmp nat_cmp_total fin.nat_cmp-IsAntisymmetric tokens t)
     )
