@@ -56,7 +56,7 @@ pub data RefusedReply (processors : ℕ) (g : Dataflow) (reply : Data) : Type 0 
   not_run : (CanRun g → ⊥) → reply ≡ fault 40 (codes "Shape") → RefusedReply processors g reply
   bad_count : CanRun g → processors ≢ 1 → reply ≡ fault 48 (codes "BadCount") → RefusedReply processors g reply
   not_strict : (l : ℕ) (name : List ℕ) → CanRun g → processors ≡ 1 → IsFirstFailure g l → slice_get (names g) l ≡ Some name
-    → reply ≡ location_fault 46 (codes "LoopNotStrict") name → RefusedReply processors g reply
+      → reply ≡ location_fault 46 (codes "LoopNotStrict") name → RefusedReply processors g reply
 
 -- a cluster can start on a graph
 pub record CanStart (processors : ℕ) (g : Dataflow) : Type 0 where

@@ -86,11 +86,7 @@ fn moved(alloc: Global, machine: &Machine) -> Result<Value, AllocError>
 }
 
 // Makes a step, and replies.
-fn answer_forward(
-    alloc: Global,
-    machine: &mut Machine,
-    step: &Step,
-) -> Result<Value, AllocError>
+fn answer_forward(alloc: Global, machine: &mut Machine, step: &Step) -> Result<Value, AllocError>
     ensures replies { IfOk result (λ v. ForwardReplies machine.old step.now (view v ∷ []) (running machine.new)) }
     ensures text { IfOk result (λ v. has_float (view v) ≡ false) }
 {
@@ -135,11 +131,7 @@ fn answer_count(alloc: Global, machine: &Machine, point: &Pointstamp) -> Result<
 }
 
 // Answers a command or a query.
-fn answer_asked(
-    alloc: Global,
-    machine: &mut Machine,
-    asked: &Command,
-) -> Result<Value, AllocError>
+fn answer_asked(alloc: Global, machine: &mut Machine, asked: &Command) -> Result<Value, AllocError>
     ensures replies { IfOk result (λ v. AskedReplies machine.old asked.now (view v ∷ []) (running machine.new)) }
     ensures text { IfOk result (λ v. has_float (view v) ≡ false) }
 {
