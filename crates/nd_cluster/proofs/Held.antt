@@ -169,8 +169,8 @@ plus-moved q r change moved =
 -- ---- an empty set of requests
 
 no_items : (es : List Pointstamp) → ((x : Pointstamp) → list_any (eq_by_cmp point_cmp x) es ≡ false) → es ≡ []
-no_items [] none = refl
-no_items (e ∷ es) none = absurd (true≢false (sym (ap (λ r. is_eq r || list_any (eq_by_cmp point_cmp e) es) (tied_itself point_total e)) ∙ none e))
+no_items [] nothing = refl
+no_items (e ∷ es) nothing = absurd (true≢false (sym (ap (λ r. is_eq r || list_any (eq_by_cmp point_cmp e) es) (tied_itself point_total e)) ∙ nothing e))
 
 pub no_requests : (x : Pointstamp) → in_requests finset.empty x ≡ 0
 no_requests x = ap (λ ps. sum_by (λ p. one_at p x) ps) (no_items (finset.items finset.empty) (λ y. sym (finset.contains-items finset.empty y) ∙ finset.contains-empty point_cmp y))
