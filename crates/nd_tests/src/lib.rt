@@ -1,0 +1,14 @@
+//! Tests that cross the crates from timestamps to clusters: worked examples by their names, the order
+//! of pointstamps against walks, and each request for memory refused in turn.
+#![tactic(auto)]
+
+#[cfg(test)]
+mod drawn;
+#[cfg(test)]
+mod graphs;
+#[cfg(test)]
+mod orders;
+#[cfg(test)]
+mod times;
+#[cfg(test)]
+mod walks;
