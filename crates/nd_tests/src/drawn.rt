@@ -1,5 +1,6 @@
 //! The graphs of the worked examples.
 
+use nd_delta::Delta;
 use nd_graph::{Action, Graph, GraphDraft};
 use nd_paths::Pointstamp;
 use nd_time::Timestamp;
@@ -40,6 +41,8 @@ pub static EMPTY: &str = r#"{"vertices":[],"edges":[]}"#;
 
 pub static LINE: &str = graph_text!(a input 0, z sink 0; az: a 0 -> z local);
 
+pub static EXCHANGE: &str = graph_text!(a input 0, z sink 0; az: a 0 -> z exchange);
+
 pub static UNGUARDED_LOOP: &str = graph_text!(
     a input 0, i ingress 0, m add 1 k 0, j ingress 1, f feedback 2, e egress 2;
     ai: a 0 -> i local, im: i 0 -> m local, mj: m 0 -> j local, jf: j 0 -> f local, fe: f 0 -> e local,
@@ -58,6 +61,10 @@ pub static TWO_WAYS: &str = graph_text!(
     jf: j 0 -> f local, fz: f 0 -> z local
 );
 
+pub static SUM: &str = graph_text!(
+    a input 0, s sum 0, z sink 0; as: a 0 -> s local, sz: s 0 -> z local
+);
+
 pub static ADD: &str = graph_text!(
     a input 0, m add 0 k 1, z sink 0; am: a 0 -> m local, mz: m 0 -> z local
 );
@@ -68,12 +75,45 @@ pub static LOOP: &str = graph_text!(
     se: s 1 -> e local, ez: e 0 -> z local
 );
 
+pub static DISTINCT: &str = graph_text!(
+    a input 0, d distinct 0, z sink 0; ad: a 0 -> d local, dz: d 0 -> z local
+);
+
 pub static SPLIT: &str = graph_text!(
     a input 0, p split 0 k 0, y sink 0, z sink 0; ap: a 0 -> p local, py: p 0 -> y local, pz: p 1 -> z local
 );
 
-/// A graph with a loop that goes through no feedback.
-pub static CYCLE: &str = graph_text!(a input 0, m add 0 k 0; am: a 0 -> m local, mm: m 0 -> m local);
+pub static FILTER: &str = graph_text!(
+    a input 0, m mul 0 k 2, b below 0 k 5, z sink 0;
+    am: a 0 -> m local, mb: m 0 -> b local, bz: b 0 -> z local
+);
+
+/// A loop that goes through no feedback.
+pub static CYCLE: &str =
+    graph_text!(a input 0, m add 0 k 0; am: a 0 -> m local, mm: m 0 -> m local);
+
+/// Two loops that share a vertex.
+pub static TWIN_LOOPS: &str = graph_text!(
+    a input 0, i ingress 0, m add 1 k 0, f feedback 1, g feedback 1, e egress 1, z sink 0;
+    ai: a 0 -> i local, im: i 0 -> m local, mf: m 0 -> f local, fm: f 0 -> m local, mg: m 0 -> g local,
+    gm: g 0 -> m local, me: m 0 -> e local, ez: e 0 -> z local
+);
+
+/// A loop that leaves a deeper one and enters it anew at each turn.
+pub static REENTERED_LOOP: &str = graph_text!(
+    a input 0, i ingress 0, f feedback 1, j ingress 1, g feedback 2, d egress 2, e egress 1, z sink 0;
+    ai: a 0 -> i local, ij: i 0 -> j local, jg: j 0 -> g local, gg: g 0 -> g local, gd: g 0 -> d local,
+    df: d 0 -> f local, fj: f 0 -> j local, de: d 0 -> e local, ez: e 0 -> z local
+);
+
+/// Four loops within one another.
+pub static DEEP: &str = graph_text!(
+    a input 0, i ingress 0, j ingress 1, k ingress 2, l ingress 3, f feedback 4, p egress 4, q egress 3,
+    r egress 2, s egress 1, z sink 0;
+    ai: a 0 -> i local, ij: i 0 -> j local, jk: j 0 -> k local, kl: k 0 -> l local, lf: l 0 -> f local,
+    ff: f 0 -> f local, fp: f 0 -> p local, pq: p 0 -> q local, qr: q 0 -> r local, rs: r 0 -> s local,
+    sz: s 0 -> z local
+);
 
 /// The graph of a JSON text.
 pub fn graph_of<A: Allocator + Copy>(json: Global, alloc: A, text: &str) -> Option<Graph<A>> {
@@ -93,17 +133,41 @@ pub fn point<A: Allocator>(graph: &Graph<A>, name: &str, list: &[u32]) -> Option
     Pointstamp::new(graph, graph.location_of(name)?, time(list)?)
 }
 
-/// The time past a vertex of this action, or `None` where there is no such time.
-pub fn moved(action: Action, time: &Timestamp) -> Option<Timestamp> {
-    match action {
-        Action::Identity => Some(time.copy()),
-        Action::Ingress => time.ingress(),
-        Action::Egress => time.egress(),
-        Action::Feedback => {
-            if time.depth() == 0 {
-                return None;
-            }
-            time.feedback().ok()
-        }
+/// An entry of a change outside all loops: a location's name, an epoch and a number.
+pub type Entry = (&'static str, u32, i64);
+
+/// The change of these entries.
+pub fn change<A: Allocator + Copy>(
+    alloc: A,
+    graph: &Graph<A>,
+    entries: &[Entry],
+) -> Option<Delta<A>> {
+    let mut change = Delta::new(alloc);
+    for (name, epoch, n) in entries {
+        let point = point(graph, name, &[*epoch])?;
+        change.add(&point, *n).ok()?;
     }
+    Some(change)
+}
+
+// Whether the point and the number are those of the entry.
+fn is_entry<A: Allocator>(graph: &Graph<A>, found: &(Pointstamp, i64), entry: &Entry) -> bool {
+    let (name, epoch, n) = entry;
+    match point(graph, name, &[*epoch]) {
+        Some(point) => found.0 == point && found.1 == *n,
+        None => false,
+    }
+}
+
+/// Whether these entries were found, in this order.
+pub fn are_entries<A: Allocator>(
+    graph: &Graph<A>,
+    found: &[(Pointstamp, i64)],
+    entries: &[Entry],
+) -> bool {
+    found.len() == entries.len()
+        && found
+            .iter()
+            .zip(entries)
+            .all(|(found, entry)| is_entry(graph, found, entry))
 }

@@ -21,8 +21,9 @@ fn vertices_alone(alloc: Global, count: usize) -> Result<String, AllocError> {
     text.push_str("{\"vertices\":[")?;
     for number in 0..count {
         let comma = if number == 0 { "" } else { "," };
-        let vertex =
-            format!(in alloc; "{comma}{{\"name\":\"v{number}\",\"op\":\"sink\",\"depth\":0}}")?;
+        let vertex = format!(in alloc;
+            "{comma}{{\"name\":\"v{number}\",\"op\":\"sink\",\"depth\":0}}"
+        )?;
         text.push_str(vertex.as_str())?;
     }
     text.push_str("],\"edges\":[]}")?;

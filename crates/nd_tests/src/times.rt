@@ -1,9 +1,24 @@
 //! Timestamps.
 
-use crate::drawn::{moved, time};
+use crate::drawn::time;
 use nd_graph::Action;
 use nd_time::{CounterFull, Timestamp};
 use std::test::Fail;
+
+/// The time past a vertex of this action, or `None` where there is no such time.
+pub fn moved(action: Action, time: &Timestamp) -> Option<Timestamp> {
+    match action {
+        Action::Identity => Some(time.copy()),
+        Action::Ingress => time.ingress(),
+        Action::Egress => time.egress(),
+        Action::Feedback => {
+            if time.depth() == 0 {
+                return None;
+            }
+            time.feedback().ok()
+        }
+    }
+}
 
 #[test]
 fn time_limits(rt: HostRuntime) -> Result<(), Fail> {
