@@ -1,7 +1,7 @@
 //! Graphs.
 
 use crate::drawn::{EMPTY, LINE, LOOP, graph_of, graph_text};
-use nd_graph::{Action, Arc, GraphDraft, GraphFault, Op, Route};
+use nd_graph::{Action, Graph, GraphDraft, GraphFault, Op, Route};
 use serde_json::Value;
 use std::alloc::{AllocError, Global};
 use std::test::Fail;
@@ -69,5 +69,110 @@ fn at_most_64_locations(rt: HostRuntime) -> Result<(), Fail> {
         let text = vertices_alone(rt.alloc(), count)?;
         assert_eq!(rt; fault_of(rt.alloc(), text.as_str()), fault, "at {count}");
     }
+    Ok(())
+}
+
+#[test]
+fn first_fault(rt: HostRuntime) {
+    for (text, fault) in [
+        (
+            graph_text!(g ingress 4, d input 1, a input 0, z sink 0;
+                p: a 1 -> z local, u: a 0 -> q local, z: a 0 -> z local, b: a 0 -> z both),
+            Some(GraphFault::Shape),
+        ),
+        (
+            graph_text!(g ingress 4, d input 1, a input 0, z sink 0;
+                p: a 1 -> z local, u: a 0 -> q local, z: a 0 -> z local),
+            Some(GraphFault::DoubleName),
+        ),
+        (
+            graph_text!(g ingress 4, d input 1, a input 0, z sink 0; p: a 1 -> z local, u: a 0 -> q local),
+            Some(GraphFault::UnknownName),
+        ),
+        (
+            graph_text!(g ingress 4, d input 1, a input 0, z sink 0; p: a 1 -> z local),
+            Some(GraphFault::BadPort),
+        ),
+        (
+            graph_text!(g ingress 4, d input 1, a input 0, z sink 0; p: a 0 -> z local),
+            Some(GraphFault::DepthMismatch),
+        ),
+        (
+            graph_text!(g ingress 4, a input 0, z sink 0; p: a 0 -> z local),
+            Some(GraphFault::TooLarge),
+        ),
+        (
+            graph_text!(g ingress 3, a input 0, z sink 0; p: a 0 -> z local),
+            None,
+        ),
+    ] {
+        assert_eq!(rt; fault_of(rt.alloc(), text), fault, "at {text}");
+    }
+}
+
+/// Whether the location has this name and this depth.
+fn is_location(graph: &Graph, location: usize, name: &str, depth: usize) -> bool {
+    location < graph.location_count()
+        && graph.location_name(location) == name
+        && graph.location_of(name) == Some(location)
+        && graph.location_depth(location) == depth
+}
+
+#[test]
+fn numbers_locations(rt: HostRuntime) -> Result<(), Fail> {
+    let graph = graph_of(rt.alloc(), rt.alloc(), LOOP).ok_or("no graph")?;
+    let depths = [0, 0, 1, 1, 1, 1, 0, 0, 1, 1, 1, 1, 1, 0];
+    let names = [
+        "a", "i", "m", "s", "f", "e", "z", "ai", "im", "ms", "sf", "fm", "se", "ez",
+    ];
+    assert_eq!(rt; graph.location_count(), 14);
+    assert_eq!(rt; graph.depths(), depths.as_slice());
+    for (location, (name, depth)) in names.iter().zip(depths.iter()).enumerate() {
+        assert!(rt; is_location(&graph, location, name, *depth), "at {name}");
+    }
+    assert_eq!(rt; graph.location_of("none"), None);
+    Ok(())
+}
+
+#[test]
+fn tells_its_vertices(rt: HostRuntime) -> Result<(), Fail> {
+    let graph = graph_of(rt.alloc(), rt.alloc(), LOOP).ok_or("no graph")?;
+    assert_eq!(rt; graph.vertices().len(), 7);
+    let vertex = graph.vertices().get(3).ok_or("no vertex")?;
+    assert_eq!(rt; vertex.name.as_str(), "s");
+    assert_eq!(rt; (vertex.op, vertex.depth), (Op::Split(3), 1));
+    assert_eq!(rt; graph.edges().len(), 7);
+    let edge = graph.edges().get(5).ok_or("no edge")?;
+    assert_eq!(rt; edge.name.as_str(), "se");
+    assert_eq!(rt;
+        (edge.from, edge.port, edge.to, edge.route),
+        (3, 1, 5, Route::Local)
+    );
+    Ok(())
+}
+
+#[test]
+fn tells_its_arcs(rt: HostRuntime) -> Result<(), Fail> {
+    let graph = graph_of(rt.alloc(), rt.alloc(), LOOP).ok_or("no graph")?;
+    let rows: [(usize, &[(Action, usize)]); 4] = [
+        (3, &[(Action::Identity, 10), (Action::Identity, 12)]),
+        (4, &[(Action::Feedback, 11)]),
+        (11, &[(Action::Identity, 2)]),
+        (6, &[]),
+    ];
+    for (from, arcs) in rows {
+        let found = graph.arcs(from).map(|arc| (arc.action, arc.to));
+        assert!(rt; found.eq(arcs.iter().copied()), "from {from}");
+    }
+    Ok(())
+}
+
+#[test]
+fn copies_are_equal(rt: HostRuntime) -> Result<(), Fail> {
+    let graph = graph_of(rt.alloc(), rt.alloc(), LOOP).ok_or("no graph")?;
+    let copy = graph.copy(rt.alloc())?;
+    assert_eq!(rt; copy.depths(), graph.depths());
+    assert_eq!(rt; copy.all_arcs(), graph.all_arcs());
+    assert_eq!(rt; copy.location_of("ez"), Some(13));
     Ok(())
 }

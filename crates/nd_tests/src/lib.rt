@@ -13,4 +13,6 @@ mod orders;
 #[cfg(test)]
 mod times;
 #[cfg(test)]
+mod views;
+#[cfg(test)]
 mod walks;
