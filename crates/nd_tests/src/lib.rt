@@ -5,6 +5,8 @@
 #[cfg(test)]
 mod changes;
 #[cfg(test)]
+mod clusters;
+#[cfg(test)]
 mod drawn;
 #[cfg(test)]
 mod graphs;
