@@ -13,6 +13,8 @@ mod graphs;
 #[cfg(test)]
 mod orders;
 #[cfg(test)]
+mod refusals;
+#[cfg(test)]
 mod times;
 #[cfg(test)]
 mod views;
