@@ -17,17 +17,17 @@ type Heap = Refusing<Global>;
 
 /// Whether a call met the request that was refused. `None` for another answer than want of memory
 /// where it did and success where it did not, and where want of memory left its values changed.
-fn was_refused<T: Drop, E: PartialEq + Drop>(
+fn was_refused<E: PartialEq + Drop>(
     refused: bool,
-    answer: Result<T, E>,
+    fault: Option<E>,
     want: E,
     is_as_before: bool,
 ) -> Option<bool> {
-    match answer {
-        Ok(_) if !refused => Some(false),
-        Err(fault) if refused && fault == want && is_as_before => Some(true),
-        _ => None,
-    }
+    let is_right = match fault {
+        None => !refused,
+        Some(fault) => refused && is_as_before && fault == want,
+    };
+    if is_right { Some(refused) } else { None }
 }
 
 /// How many requests of a call were refused in turn before it succeeded.
@@ -42,23 +42,23 @@ fn count_refusals<F: Fn(u64) -> Option<bool>>(call: F) -> Option<u64>
     None
 }
 
-fn graph_copy(heap: &Heap, graph: &Graph<&Heap>, n: u64) -> Option<bool> {
+fn graph_copy<'h>(heap: &'h Heap, graph: &Graph<&'h Heap>, n: u64) -> Option<bool> {
     heap.refuse(n);
     let answer = graph.copy(heap);
-    was_refused(heap.relent(n), answer, AllocError, true)
+    was_refused(heap.relent(n), answer.err(), AllocError, true)
 }
 
 fn check(heap: &Heap, value: &Value, n: u64) -> Option<bool> {
     let draft = GraphDraft::from_value(heap, value).ok()?;
     heap.refuse(n);
     let answer = draft.check(heap);
-    was_refused(heap.relent(n), answer, GraphFault::Memory, true)
+    was_refused(heap.relent(n), answer.err(), GraphFault::Memory, true)
 }
 
 fn from_value(heap: &Heap, value: &Value, n: u64) -> Option<bool> {
     heap.refuse(n);
     let answer = GraphDraft::from_value(heap, value);
-    was_refused(heap.relent(n), answer, GraphFault::Memory, true)
+    was_refused(heap.relent(n), answer.err(), GraphFault::Memory, true)
 }
 
 #[test]
@@ -72,16 +72,16 @@ fn graph_calls(rt: HostRuntime) -> Result<(), Fail> {
     Ok(())
 }
 
-fn paths_of(heap: &Heap, graph: &Graph<&Heap>, n: u64) -> Option<bool> {
+fn paths_of<'h>(heap: &'h Heap, graph: &Graph<&'h Heap>, n: u64) -> Option<bool> {
     heap.refuse(n);
     let answer = Paths::of(heap, graph);
-    was_refused(heap.relent(n), answer, PathFault::Memory, true)
+    was_refused(heap.relent(n), answer.err(), PathFault::Memory, true)
 }
 
-fn paths_copy(heap: &Heap, paths: &Paths<&Heap>, n: u64) -> Option<bool> {
+fn paths_copy<'h>(heap: &'h Heap, paths: &Paths<&'h Heap>, n: u64) -> Option<bool> {
     heap.refuse(n);
     let answer = paths.copy(heap);
-    was_refused(heap.relent(n), answer, AllocError, true)
+    was_refused(heap.relent(n), answer.err(), AllocError, true)
 }
 
 #[test]
@@ -94,13 +94,13 @@ fn paths_calls(rt: HostRuntime) -> Result<(), Fail> {
     Ok(())
 }
 
-fn add(heap: &Heap, base: &Delta<&Heap>, point: &Pointstamp, n: u64) -> Option<bool> {
+fn add<'h>(heap: &'h Heap, base: &Delta<&'h Heap>, point: &Pointstamp, n: u64) -> Option<bool> {
     let mut change = base.copy(heap).ok()?;
     heap.refuse(n);
     let answer = change.add(point, 1);
     let refused = heap.relent(n);
     let is_as_before = change.entries() == base.entries();
-    was_refused(refused, answer, DeltaFault::Memory, is_as_before)
+    was_refused(refused, answer.err(), DeltaFault::Memory, is_as_before)
 }
 
 #[test]
@@ -115,28 +115,38 @@ fn change_add(rt: HostRuntime) -> Result<(), Fail> {
     Ok(())
 }
 
-fn plus(heap: &Heap, one: &Delta<&Heap>, other: &Delta<&Heap>, n: u64) -> Option<bool> {
+fn plus<'h>(
+    heap: &'h Heap,
+    one: &Delta<&'h Heap>,
+    other: &Delta<&'h Heap>,
+    n: u64,
+) -> Option<bool> {
     heap.refuse(n);
     let answer = one.plus(heap, other);
-    was_refused(heap.relent(n), answer, DeltaFault::Memory, true)
+    was_refused(heap.relent(n), answer.err(), DeltaFault::Memory, true)
 }
 
-fn minus(heap: &Heap, one: &Delta<&Heap>, other: &Delta<&Heap>, n: u64) -> Option<bool> {
+fn minus<'h>(
+    heap: &'h Heap,
+    one: &Delta<&'h Heap>,
+    other: &Delta<&'h Heap>,
+    n: u64,
+) -> Option<bool> {
     heap.refuse(n);
     let answer = one.minus(heap, other);
-    was_refused(heap.relent(n), answer, DeltaFault::Memory, true)
+    was_refused(heap.relent(n), answer.err(), DeltaFault::Memory, true)
 }
 
-fn part(heap: &Heap, whole: &Delta<&Heap>, point: &Pointstamp, n: u64) -> Option<bool> {
+fn part<'h>(heap: &'h Heap, whole: &Delta<&'h Heap>, point: &Pointstamp, n: u64) -> Option<bool> {
     heap.refuse(n);
     let answer = whole.part(heap, &[point.copy()]);
-    was_refused(heap.relent(n), answer, AllocError, true)
+    was_refused(heap.relent(n), answer.err(), AllocError, true)
 }
 
-fn change_copy(heap: &Heap, change: &Delta<&Heap>, n: u64) -> Option<bool> {
+fn change_copy<'h>(heap: &'h Heap, change: &Delta<&'h Heap>, n: u64) -> Option<bool> {
     heap.refuse(n);
     let answer = change.copy(heap);
-    was_refused(heap.relent(n), answer, AllocError, true)
+    was_refused(heap.relent(n), answer.err(), AllocError, true)
 }
 
 #[test]
@@ -172,11 +182,11 @@ fn view<'h>(
     Some(view)
 }
 
-fn apply(
-    heap: &Heap,
-    paths: &Paths<&Heap>,
-    known: &Delta<&Heap>,
-    news: &Delta<&Heap>,
+fn apply<'h>(
+    heap: &'h Heap,
+    paths: &Paths<&'h Heap>,
+    known: &Delta<&'h Heap>,
+    news: &Delta<&'h Heap>,
     n: u64,
 ) -> Option<bool> {
     let mut view = view(heap, paths, known)?;
@@ -184,14 +194,14 @@ fn apply(
     let answer = view.apply(paths, news);
     let refused = heap.relent(n);
     let is_as_before = view.entries() == known.entries();
-    was_refused(refused, answer, DeltaFault::Memory, is_as_before)
+    was_refused(refused, answer.err(), DeltaFault::Memory, is_as_before)
 }
 
-fn unapply(
-    heap: &Heap,
-    paths: &Paths<&Heap>,
-    known: &Delta<&Heap>,
-    news: &Delta<&Heap>,
+fn unapply<'h>(
+    heap: &'h Heap,
+    paths: &Paths<&'h Heap>,
+    known: &Delta<&'h Heap>,
+    news: &Delta<&'h Heap>,
     n: u64,
 ) -> Option<bool> {
     let mut view = view(heap, paths, known)?;
@@ -199,21 +209,31 @@ fn unapply(
     let answer = view.unapply(paths, news);
     let refused = heap.relent(n);
     let is_as_before = view.entries() == known.entries();
-    was_refused(refused, answer, DeltaFault::Memory, is_as_before)
+    was_refused(refused, answer.err(), DeltaFault::Memory, is_as_before)
 }
 
-fn frontier(heap: &Heap, paths: &Paths<&Heap>, known: &Delta<&Heap>, n: u64) -> Option<bool> {
+fn frontier<'h>(
+    heap: &'h Heap,
+    paths: &Paths<&'h Heap>,
+    known: &Delta<&'h Heap>,
+    n: u64,
+) -> Option<bool> {
     let view = view(heap, paths, known)?;
     heap.refuse(n);
     let answer = view.frontier(heap, paths);
-    was_refused(heap.relent(n), answer, AllocError, true)
+    was_refused(heap.relent(n), answer.err(), AllocError, true)
 }
 
-fn view_copy(heap: &Heap, paths: &Paths<&Heap>, known: &Delta<&Heap>, n: u64) -> Option<bool> {
+fn view_copy<'h>(
+    heap: &'h Heap,
+    paths: &Paths<&'h Heap>,
+    known: &Delta<&'h Heap>,
+    n: u64,
+) -> Option<bool> {
     let view = view(heap, paths, known)?;
     heap.refuse(n);
     let answer = view.copy(heap);
-    was_refused(heap.relent(n), answer, AllocError, true)
+    was_refused(heap.relent(n), answer.err(), AllocError, true)
 }
 
 #[test]
@@ -248,20 +268,20 @@ fn started<'h>(heap: &'h Heap, graph: &Graph<&'h Heap>) -> Option<Cluster<&'h He
     Cluster::start(heap, graph, 1).ok()
 }
 
-fn start(heap: &Heap, graph: &Graph<&Heap>, n: u64) -> Option<bool> {
+fn start<'h>(heap: &'h Heap, graph: &Graph<&'h Heap>, n: u64) -> Option<bool> {
     let graph = graph.copy(heap).ok()?;
     if !can_run(&graph) {
         return None;
     }
     heap.refuse(n);
     let answer = Cluster::start(heap, graph, 1);
-    was_refused(heap.relent(n), answer, StartFault::Memory, true)
+    was_refused(heap.relent(n), answer.err(), StartFault::Memory, true)
 }
 
-fn cluster_copy(heap: &Heap, cluster: &Cluster<&Heap>, n: u64) -> Option<bool> {
+fn cluster_copy<'h>(heap: &'h Heap, cluster: &Cluster<&'h Heap>, n: u64) -> Option<bool> {
     heap.refuse(n);
     let answer = cluster.copy(heap);
-    was_refused(heap.relent(n), answer, AllocError, true)
+    was_refused(heap.relent(n), answer.err(), AllocError, true)
 }
 
 #[test]
@@ -274,29 +294,25 @@ fn cluster_start(rt: HostRuntime) -> Result<(), Fail> {
     Ok(())
 }
 
-fn plan(
+fn plan<'h>(
     json: Global,
-    heap: &Heap,
-    cluster: &Cluster<&Heap>,
-    step: &Step<&Heap>,
+    heap: &'h Heap,
+    cluster: &Cluster<&'h Heap>,
+    step: &Step<&'h Heap>,
     n: u64,
 ) -> Option<bool> {
     heap.refuse(n);
     let answer = cluster.plan(step);
     let refused = heap.relent(n);
-    was_refused(
-        refused,
-        answer,
-        Refusal::Memory,
-        is_state(json, cluster, STARTED),
-    )
+    let is_as_before = is_state(json, cluster, STARTED);
+    was_refused(refused, answer.err(), Refusal::Memory, is_as_before)
 }
 
-fn commit(
+fn commit<'h>(
     json: Global,
-    heap: &Heap,
-    cluster: &Cluster<&Heap>,
-    step: &Step<&Heap>,
+    heap: &'h Heap,
+    cluster: &Cluster<&'h Heap>,
+    step: &Step<&'h Heap>,
     n: u64,
 ) -> Option<bool> {
     let mut cluster = cluster.copy(heap).ok()?;
@@ -305,14 +321,14 @@ fn commit(
     let answer = cluster.commit(&record);
     let refused = heap.relent(n);
     let is_as_before = is_state(json, &cluster, STARTED);
-    was_refused(refused, answer, NoMemory, is_as_before)
+    was_refused(refused, answer.err(), NoMemory, is_as_before)
 }
 
-fn back(
+fn back<'h>(
     json: Global,
-    heap: &Heap,
-    cluster: &Cluster<&Heap>,
-    step: &Step<&Heap>,
+    heap: &'h Heap,
+    cluster: &Cluster<&'h Heap>,
+    step: &Step<&'h Heap>,
     n: u64,
 ) -> Option<bool> {
     let mut cluster = cluster.copy(heap).ok()?;
@@ -322,7 +338,7 @@ fn back(
     let answer = cluster.back(&record);
     let refused = heap.relent(n);
     let is_as_before = is_state(json, &cluster, CLOSED);
-    was_refused(refused, answer, NoMemory, is_as_before)
+    was_refused(refused, answer.err(), NoMemory, is_as_before)
 }
 
 #[test]
