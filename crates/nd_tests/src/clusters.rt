@@ -7,8 +7,13 @@ use std::alloc::{Allocator, Global};
 use std::test::Fail;
 
 /// The start of a cluster of n processors.
-fn start_of(alloc: Global, text: &str, n: u32) -> Option<Result<Cluster, StartFault>> {
-    let graph = graph_of(alloc, alloc, text)?;
+fn start_of<A: Allocator + Copy>(
+    json: Global,
+    alloc: A,
+    text: &str,
+    n: u32,
+) -> Option<Result<Cluster<A>, StartFault>> {
+    let graph = graph_of(json, alloc, text)?;
     if !can_run(&graph) {
         return None;
     }
@@ -16,8 +21,8 @@ fn start_of(alloc: Global, text: &str, n: u32) -> Option<Result<Cluster, StartFa
 }
 
 /// The start of a cluster of one processor.
-fn start(alloc: Global, text: &str) -> Option<Cluster> {
-    start_of(alloc, text, 1)?.ok()
+pub fn start<A: Allocator + Copy>(json: Global, alloc: A, text: &str) -> Option<Cluster<A>> {
+    start_of(json, alloc, text, 1)?.ok()
 }
 
 /// The feed of a value, so many times, into the first vertex.
@@ -111,7 +116,7 @@ static ADDED: &str =
 
 #[test]
 fn feed_and_back(rt: HostRuntime) -> Result<(), Fail> {
-    let mut cluster = start(rt.alloc(), LINE).ok_or("no cluster")?;
+    let mut cluster = start(rt.alloc(), rt.alloc(), LINE).ok_or("no cluster")?;
     let step = feed(rt.alloc(), 5, 1, Next::Next).ok_or("no step")?;
     let same = goes_and_comes_back(rt.alloc(), &mut cluster, &step, STARTED, FED);
     assert_eq!(rt; same, Some(true));
@@ -121,7 +126,7 @@ fn feed_and_back(rt: HostRuntime) -> Result<(), Fail> {
 #[test]
 fn take_and_back(rt: HostRuntime) -> Result<(), Fail> {
     for (text, edge, before, after) in [(LINE, 2, CLOSED, TAKEN), (ADD, 3, ADD_CLOSED, ADDED)] {
-        let mut cluster = start(rt.alloc(), text).ok_or("no cluster")?;
+        let mut cluster = start(rt.alloc(), rt.alloc(), text).ok_or("no cluster")?;
         let step = feed(rt.alloc(), 5, 1, Next::Close).ok_or("no step")?;
         make(&mut cluster, &step).ok_or("no feed")?;
         let step = take(0, edge, 5).ok_or("no step")?;
@@ -133,7 +138,7 @@ fn take_and_back(rt: HostRuntime) -> Result<(), Fail> {
 
 #[test]
 fn add_overflows(rt: HostRuntime) -> Result<(), Fail> {
-    let mut cluster = start(rt.alloc(), ADD).ok_or("no cluster")?;
+    let mut cluster = start(rt.alloc(), rt.alloc(), ADD).ok_or("no cluster")?;
     let step = feed(rt.alloc(), 9223372036854775807, 1, Next::Close).ok_or("no step")?;
     make(&mut cluster, &step).ok_or("no feed")?;
     let step = take(0, 3, 9223372036854775807).ok_or("no step")?;
@@ -148,10 +153,10 @@ fn add_overflows(rt: HostRuntime) -> Result<(), Fail> {
 #[test]
 fn processor_counts(rt: HostRuntime) -> Result<(), Fail> {
     for n in [0, 2, 9] {
-        let fault = start_of(rt.alloc(), LINE, n).and_then(|started| started.err());
+        let fault = start_of(rt.alloc(), rt.alloc(), LINE, n).and_then(|started| started.err());
         assert_eq!(rt; fault, Some(StartFault::BadCount), "at {n}");
     }
-    let fault = start_of(rt.alloc(), CYCLE, 1).and_then(|started| started.err());
+    let fault = start_of(rt.alloc(), rt.alloc(), CYCLE, 1).and_then(|started| started.err());
     assert_eq!(rt; fault, Some(StartFault::LoopNotStrict { location: 1 }));
     assert_eq!(rt; StartFault::BadCount.number(), 48);
     assert_eq!(rt; StartFault::LoopNotStrict { location: 1 }.number(), 46);
@@ -160,7 +165,7 @@ fn processor_counts(rt: HostRuntime) -> Result<(), Fail> {
 
 #[test]
 fn feeds_refused(rt: HostRuntime) -> Result<(), Fail> {
-    let cluster = start(rt.alloc(), LINE).ok_or("no cluster")?;
+    let cluster = start(rt.alloc(), rt.alloc(), LINE).ok_or("no cluster")?;
     for (p, vertex, times, number) in [
         (1, 9, 1025, Some(1)),
         (0, 9, 1025, Some(2)),
@@ -182,7 +187,7 @@ fn feeds_refused(rt: HostRuntime) -> Result<(), Fail> {
 
 #[test]
 fn closed_input_refused(rt: HostRuntime) -> Result<(), Fail> {
-    let mut cluster = start(rt.alloc(), LINE).ok_or("no cluster")?;
+    let mut cluster = start(rt.alloc(), rt.alloc(), LINE).ok_or("no cluster")?;
     let step = feed(rt.alloc(), 5, 1, Next::Close).ok_or("no step")?;
     make(&mut cluster, &step).ok_or("no feed")?;
     let step = feed(rt.alloc(), 0, 1025, Next::Close).ok_or("no step")?;
@@ -193,7 +198,7 @@ fn closed_input_refused(rt: HostRuntime) -> Result<(), Fail> {
 
 #[test]
 fn takes_refused(rt: HostRuntime) -> Result<(), Fail> {
-    let cluster = start(rt.alloc(), LINE).ok_or("no cluster")?;
+    let cluster = start(rt.alloc(), rt.alloc(), LINE).ok_or("no cluster")?;
     for (p, edge, number) in [(1, 9, 1), (0, 9, 3), (0, 1, 3), (0, 2, 8)] {
         let step = take(p, edge, 5).ok_or("no step")?;
         let refusal = cluster.plan(&step).err();
@@ -208,7 +213,7 @@ fn takes_refused(rt: HostRuntime) -> Result<(), Fail> {
 
 #[test]
 fn tells_its_counts(rt: HostRuntime) -> Result<(), Fail> {
-    let mut cluster = start(rt.alloc(), LINE).ok_or("no cluster")?;
+    let mut cluster = start(rt.alloc(), rt.alloc(), LINE).ok_or("no cluster")?;
     assert_eq!(rt; cluster.n(), 1);
     let step = feed(rt.alloc(), 5, 3, Next::Next).ok_or("no step")?;
     make(&mut cluster, &step).ok_or("no feed")?;
@@ -229,7 +234,7 @@ fn is_copied(alloc: Global, cluster: &Cluster, step: &Step, before: &str) -> Opt
 
 #[test]
 fn copies_are_equal(rt: HostRuntime) -> Result<(), Fail> {
-    let cluster = start(rt.alloc(), LINE).ok_or("no cluster")?;
+    let cluster = start(rt.alloc(), rt.alloc(), LINE).ok_or("no cluster")?;
     let step = feed(rt.alloc(), 5, 1, Next::Next).ok_or("no step")?;
     assert_eq!(rt; is_copied(rt.alloc(), &cluster, &step, STARTED), Some(true));
     Ok(())

@@ -1,7 +1,10 @@
 //! Each request for memory of a call refused in turn: the call answers want of memory and leaves its
 //! values as they were, until it meets none that is refused, and succeeds.
+//!
+//! Each function here tells how many requests of a call were refused before it succeeded, or `None`
+//! where it did not do so.
 
-use crate::clusters::{CLOSED, STARTED, feed, is_state};
+use crate::clusters::{CLOSED, STARTED, feed, is_state, start};
 use crate::drawn::{LINE, LOOP, change, graph_of, point};
 use nd_cluster::{Cluster, Next, NoMemory, Refusal, StartFault, Step, can_run};
 use nd_delta::{Delta, DeltaFault};
@@ -10,10 +13,13 @@ use nd_paths::{PathFault, Paths, Pointstamp};
 use nd_view::View;
 use refusing::Refusing;
 use serde_json::Value;
-use std::alloc::{AllocError, Global};
+use std::alloc::{AllocError, Allocator, Global};
 use std::test::Fail;
 
 type Heap = Refusing<Global>;
+
+/// More than the requests of any call.
+const MANY: u64 = 1000;
 
 /// Whether a call met the request that was refused. `None` for another answer than want of memory
 /// where it did and success where it did not, and where want of memory left its values changed.
@@ -30,77 +36,109 @@ fn was_refused<E: PartialEq + Drop>(
     if is_right { Some(refused) } else { None }
 }
 
-/// How many requests of a call were refused in turn before it succeeded.
-fn count_refusals<F: Fn(u64) -> Option<bool>>(call: F) -> Option<u64>
-    requires { F.IsAlwaysCallable call }
-{
-    for n in 0..1000 {
-        if !call(n)? {
+fn graph_copy<A: Allocator + Copy>(heap: &Heap, alloc: A, graph: &Graph<A>) -> Option<u64> {
+    for n in 0..MANY {
+        heap.refuse(n);
+        let fault = graph.copy(alloc).err();
+        let refused = heap.relent(n);
+        if !was_refused(refused, fault, AllocError, true)? {
             return Some(n);
         }
     }
     None
 }
 
-fn graph_copy<'h>(heap: &'h Heap, graph: &Graph<&'h Heap>, n: u64) -> Option<bool> {
-    heap.refuse(n);
-    let answer = graph.copy(heap);
-    was_refused(heap.relent(n), answer.err(), AllocError, true)
+fn draft_from<A: Allocator + Copy>(heap: &Heap, alloc: A, value: &Value) -> Option<u64> {
+    for n in 0..MANY {
+        heap.refuse(n);
+        let fault = GraphDraft::from_value(alloc, value).err();
+        let refused = heap.relent(n);
+        if !was_refused(refused, fault, GraphFault::Memory, true)? {
+            return Some(n);
+        }
+    }
+    None
 }
 
-fn check(heap: &Heap, value: &Value, n: u64) -> Option<bool> {
-    let draft = GraphDraft::from_value(heap, value).ok()?;
-    heap.refuse(n);
-    let answer = draft.check(heap);
-    was_refused(heap.relent(n), answer.err(), GraphFault::Memory, true)
-}
-
-fn from_value(heap: &Heap, value: &Value, n: u64) -> Option<bool> {
-    heap.refuse(n);
-    let answer = GraphDraft::from_value(heap, value);
-    was_refused(heap.relent(n), answer.err(), GraphFault::Memory, true)
+fn check<A: Allocator + Copy>(heap: &Heap, alloc: A, value: &Value) -> Option<u64> {
+    for n in 0..MANY {
+        let draft = GraphDraft::from_value(alloc, value).ok()?;
+        heap.refuse(n);
+        let fault = draft.check(alloc).err();
+        let refused = heap.relent(n);
+        if !was_refused(refused, fault, GraphFault::Memory, true)? {
+            return Some(n);
+        }
+    }
+    None
 }
 
 #[test]
 fn graph_calls(rt: HostRuntime) -> Result<(), Fail> {
     let heap = Refusing::new(rt.alloc());
     let graph = graph_of(rt.alloc(), &heap, LOOP).ok_or("no graph")?;
-    assert!(rt; count_refusals(|n| graph_copy(&heap, &graph, n)) > Some(0));
     let value = Value::from_str(rt.alloc(), LOOP)?;
-    assert!(rt; count_refusals(|n| from_value(&heap, &value, n)) > Some(0));
-    assert!(rt; count_refusals(|n| check(&heap, &value, n)) > Some(0));
+    assert!(rt; graph_copy(&heap, &heap, &graph) > Some(0));
+    assert!(rt; draft_from(&heap, &heap, &value) > Some(0));
+    assert!(rt; check(&heap, &heap, &value) > Some(0));
     Ok(())
 }
 
-fn paths_of<'h>(heap: &'h Heap, graph: &Graph<&'h Heap>, n: u64) -> Option<bool> {
-    heap.refuse(n);
-    let answer = Paths::of(heap, graph);
-    was_refused(heap.relent(n), answer.err(), PathFault::Memory, true)
+fn paths_of<A: Allocator + Copy>(heap: &Heap, alloc: A, graph: &Graph<A>) -> Option<u64> {
+    for n in 0..MANY {
+        heap.refuse(n);
+        let fault = Paths::of(alloc, graph).err();
+        let refused = heap.relent(n);
+        if !was_refused(refused, fault, PathFault::Memory, true)? {
+            return Some(n);
+        }
+    }
+    None
 }
 
-fn paths_copy<'h>(heap: &'h Heap, paths: &Paths<&'h Heap>, n: u64) -> Option<bool> {
-    heap.refuse(n);
-    let answer = paths.copy(heap);
-    was_refused(heap.relent(n), answer.err(), AllocError, true)
+fn paths_copy<A: Allocator + Copy>(heap: &Heap, alloc: A, paths: &Paths<A>) -> Option<u64> {
+    for n in 0..MANY {
+        heap.refuse(n);
+        let fault = paths.copy(alloc).err();
+        let refused = heap.relent(n);
+        if !was_refused(refused, fault, AllocError, true)? {
+            return Some(n);
+        }
+    }
+    None
 }
 
 #[test]
 fn paths_calls(rt: HostRuntime) -> Result<(), Fail> {
     let heap = Refusing::new(rt.alloc());
     let graph = graph_of(rt.alloc(), &heap, LOOP).ok_or("no graph")?;
-    assert!(rt; count_refusals(|n| paths_of(&heap, &graph, n)) > Some(0));
     let paths = Paths::of(&heap, &graph)?;
-    assert!(rt; count_refusals(|n| paths_copy(&heap, &paths, n)) > Some(0));
+    assert!(rt; paths_of(&heap, &heap, &graph) > Some(0));
+    assert!(rt; paths_copy(&heap, &heap, &paths) > Some(0));
     Ok(())
 }
 
-fn add<'h>(heap: &'h Heap, base: &Delta<&'h Heap>, point: &Pointstamp, n: u64) -> Option<bool> {
-    let mut change = base.copy(heap).ok()?;
-    heap.refuse(n);
-    let answer = change.add(point, 1);
-    let refused = heap.relent(n);
-    let is_as_before = change.entries() == base.entries();
-    was_refused(refused, answer.err(), DeltaFault::Memory, is_as_before)
+fn add<A: Allocator + Copy>(
+    heap: &Heap,
+    alloc: A,
+    base: &Delta<A>,
+    point: &Pointstamp,
+) -> Option<u64> {
+    for n in 0..MANY {
+        let mut change = base.copy(alloc).ok()?;
+        heap.refuse(n);
+        let fault = change.add(point, 1).err();
+        let refused = heap.relent(n);
+        if !was_refused(
+            refused,
+            fault,
+            DeltaFault::Memory,
+            change.entries() == base.entries(),
+        )? {
+            return Some(n);
+        }
+    }
+    None
 }
 
 #[test]
@@ -109,44 +147,44 @@ fn change_add(rt: HostRuntime) -> Result<(), Fail> {
     let graph = graph_of(rt.alloc(), &heap, LINE).ok_or("no graph")?;
     let base = change(&heap, &graph, &[("a", 0, 1), ("z", 0, 1)]).ok_or("no change")?;
     let absent = point(&graph, "az", &[0]).ok_or("no point")?;
-    assert!(rt; count_refusals(|n| add(&heap, &base, &absent, n)) > Some(0));
     let present = point(&graph, "a", &[0]).ok_or("no point")?;
-    assert_eq!(rt; count_refusals(|n| add(&heap, &base, &present, n)), Some(0));
+    assert!(rt; add(&heap, &heap, &base, &absent) > Some(0));
+    assert_eq!(rt; add(&heap, &heap, &base, &present), Some(0));
     Ok(())
 }
 
-fn plus<'h>(
-    heap: &'h Heap,
-    one: &Delta<&'h Heap>,
-    other: &Delta<&'h Heap>,
-    n: u64,
-) -> Option<bool> {
-    heap.refuse(n);
-    let answer = one.plus(heap, other);
-    was_refused(heap.relent(n), answer.err(), DeltaFault::Memory, true)
+fn plus<A: Allocator + Copy>(
+    heap: &Heap,
+    alloc: A,
+    one: &Delta<A>,
+    other: &Delta<A>,
+) -> Option<u64> {
+    for n in 0..MANY {
+        heap.refuse(n);
+        let fault = one.plus(alloc, other).err();
+        let refused = heap.relent(n);
+        if !was_refused(refused, fault, DeltaFault::Memory, true)? {
+            return Some(n);
+        }
+    }
+    None
 }
 
-fn minus<'h>(
-    heap: &'h Heap,
-    one: &Delta<&'h Heap>,
-    other: &Delta<&'h Heap>,
-    n: u64,
-) -> Option<bool> {
-    heap.refuse(n);
-    let answer = one.minus(heap, other);
-    was_refused(heap.relent(n), answer.err(), DeltaFault::Memory, true)
-}
-
-fn part<'h>(heap: &'h Heap, whole: &Delta<&'h Heap>, point: &Pointstamp, n: u64) -> Option<bool> {
-    heap.refuse(n);
-    let answer = whole.part(heap, &[point.copy()]);
-    was_refused(heap.relent(n), answer.err(), AllocError, true)
-}
-
-fn change_copy<'h>(heap: &'h Heap, change: &Delta<&'h Heap>, n: u64) -> Option<bool> {
-    heap.refuse(n);
-    let answer = change.copy(heap);
-    was_refused(heap.relent(n), answer.err(), AllocError, true)
+fn minus<A: Allocator + Copy>(
+    heap: &Heap,
+    alloc: A,
+    one: &Delta<A>,
+    other: &Delta<A>,
+) -> Option<u64> {
+    for n in 0..MANY {
+        heap.refuse(n);
+        let fault = one.minus(alloc, other).err();
+        let refused = heap.relent(n);
+        if !was_refused(refused, fault, DeltaFault::Memory, true)? {
+            return Some(n);
+        }
+    }
+    None
 }
 
 #[test]
@@ -155,9 +193,38 @@ fn change_sums(rt: HostRuntime) -> Result<(), Fail> {
     let graph = graph_of(rt.alloc(), &heap, LINE).ok_or("no graph")?;
     let one = change(&heap, &graph, &[("a", 0, 1)]).ok_or("no change")?;
     let other = change(&heap, &graph, &[("z", 0, 1), ("az", 0, 1)]).ok_or("no change")?;
-    assert!(rt; count_refusals(|n| plus(&heap, &one, &other, n)) > Some(0));
-    assert!(rt; count_refusals(|n| minus(&heap, &one, &other, n)) > Some(0));
+    assert!(rt; plus(&heap, &heap, &one, &other) > Some(0));
+    assert!(rt; minus(&heap, &heap, &one, &other) > Some(0));
     Ok(())
+}
+
+fn part<A: Allocator + Copy>(
+    heap: &Heap,
+    alloc: A,
+    whole: &Delta<A>,
+    points: &[Pointstamp],
+) -> Option<u64> {
+    for n in 0..MANY {
+        heap.refuse(n);
+        let fault = whole.part(alloc, points).err();
+        let refused = heap.relent(n);
+        if !was_refused(refused, fault, AllocError, true)? {
+            return Some(n);
+        }
+    }
+    None
+}
+
+fn change_copy<A: Allocator + Copy>(heap: &Heap, alloc: A, change: &Delta<A>) -> Option<u64> {
+    for n in 0..MANY {
+        heap.refuse(n);
+        let fault = change.copy(alloc).err();
+        let refused = heap.relent(n);
+        if !was_refused(refused, fault, AllocError, true)? {
+            return Some(n);
+        }
+    }
+    None
 }
 
 #[test]
@@ -165,75 +232,58 @@ fn change_parts(rt: HostRuntime) -> Result<(), Fail> {
     let heap = Refusing::new(rt.alloc());
     let graph = graph_of(rt.alloc(), &heap, LINE).ok_or("no graph")?;
     let whole = change(&heap, &graph, &[("a", 0, 1), ("z", 0, 1)]).ok_or("no change")?;
-    let point = point(&graph, "z", &[0]).ok_or("no point")?;
-    assert!(rt; count_refusals(|n| part(&heap, &whole, &point, n)) > Some(0));
-    assert!(rt; count_refusals(|n| change_copy(&heap, &whole, n)) > Some(0));
+    let z = point(&graph, "z", &[0]).ok_or("no point")?;
+    assert!(rt; part(&heap, &heap, &whole, &[z]) > Some(0));
+    assert!(rt; change_copy(&heap, &heap, &whole) > Some(0));
     Ok(())
 }
 
-/// The view of a change.
-fn view<'h>(
-    heap: &'h Heap,
-    paths: &Paths<&'h Heap>,
-    known: &Delta<&'h Heap>,
-) -> Option<View<&'h Heap>> {
-    let mut view = View::new(heap);
-    view.apply(paths, known).ok()?;
-    Some(view)
+fn apply<A: Allocator + Copy>(
+    heap: &Heap,
+    alloc: A,
+    paths: &Paths<A>,
+    base: &View<A>,
+    news: &Delta<A>,
+) -> Option<u64> {
+    for n in 0..MANY {
+        let mut view = base.copy(alloc).ok()?;
+        heap.refuse(n);
+        let fault = view.apply(paths, news).err();
+        let refused = heap.relent(n);
+        if !was_refused(
+            refused,
+            fault,
+            DeltaFault::Memory,
+            view.entries() == base.entries(),
+        )? {
+            return Some(n);
+        }
+    }
+    None
 }
 
-fn apply<'h>(
-    heap: &'h Heap,
-    paths: &Paths<&'h Heap>,
-    known: &Delta<&'h Heap>,
-    news: &Delta<&'h Heap>,
-    n: u64,
-) -> Option<bool> {
-    let mut view = view(heap, paths, known)?;
-    heap.refuse(n);
-    let answer = view.apply(paths, news);
-    let refused = heap.relent(n);
-    let is_as_before = view.entries() == known.entries();
-    was_refused(refused, answer.err(), DeltaFault::Memory, is_as_before)
-}
-
-fn unapply<'h>(
-    heap: &'h Heap,
-    paths: &Paths<&'h Heap>,
-    known: &Delta<&'h Heap>,
-    news: &Delta<&'h Heap>,
-    n: u64,
-) -> Option<bool> {
-    let mut view = view(heap, paths, known)?;
-    heap.refuse(n);
-    let answer = view.unapply(paths, news);
-    let refused = heap.relent(n);
-    let is_as_before = view.entries() == known.entries();
-    was_refused(refused, answer.err(), DeltaFault::Memory, is_as_before)
-}
-
-fn frontier<'h>(
-    heap: &'h Heap,
-    paths: &Paths<&'h Heap>,
-    known: &Delta<&'h Heap>,
-    n: u64,
-) -> Option<bool> {
-    let view = view(heap, paths, known)?;
-    heap.refuse(n);
-    let answer = view.frontier(heap, paths);
-    was_refused(heap.relent(n), answer.err(), AllocError, true)
-}
-
-fn view_copy<'h>(
-    heap: &'h Heap,
-    paths: &Paths<&'h Heap>,
-    known: &Delta<&'h Heap>,
-    n: u64,
-) -> Option<bool> {
-    let view = view(heap, paths, known)?;
-    heap.refuse(n);
-    let answer = view.copy(heap);
-    was_refused(heap.relent(n), answer.err(), AllocError, true)
+fn unapply<A: Allocator + Copy>(
+    heap: &Heap,
+    alloc: A,
+    paths: &Paths<A>,
+    base: &View<A>,
+    news: &Delta<A>,
+) -> Option<u64> {
+    for n in 0..MANY {
+        let mut view = base.copy(alloc).ok()?;
+        heap.refuse(n);
+        let fault = view.unapply(paths, news).err();
+        let refused = heap.relent(n);
+        if !was_refused(
+            refused,
+            fault,
+            DeltaFault::Memory,
+            view.entries() == base.entries(),
+        )? {
+            return Some(n);
+        }
+    }
+    None
 }
 
 #[test]
@@ -242,10 +292,41 @@ fn view_sums(rt: HostRuntime) -> Result<(), Fail> {
     let graph = graph_of(rt.alloc(), &heap, LINE).ok_or("no graph")?;
     let paths = Paths::of(&heap, &graph)?;
     let known = change(&heap, &graph, &[("a", 0, 1)]).ok_or("no change")?;
+    let mut view = View::new(&heap);
+    view.apply(&paths, &known)?;
     let news = change(&heap, &graph, &[("z", 0, 1), ("az", 0, 1)]).ok_or("no change")?;
-    assert!(rt; count_refusals(|n| apply(&heap, &paths, &known, &news, n)) > Some(0));
-    assert!(rt; count_refusals(|n| unapply(&heap, &paths, &known, &news, n)) > Some(0));
+    assert!(rt; apply(&heap, &heap, &paths, &view, &news) > Some(0));
+    assert!(rt; unapply(&heap, &heap, &paths, &view, &news) > Some(0));
     Ok(())
+}
+
+fn frontier<A: Allocator + Copy>(
+    heap: &Heap,
+    alloc: A,
+    paths: &Paths<A>,
+    view: &View<A>,
+) -> Option<u64> {
+    for n in 0..MANY {
+        heap.refuse(n);
+        let fault = view.frontier(alloc, paths).err();
+        let refused = heap.relent(n);
+        if !was_refused(refused, fault, AllocError, true)? {
+            return Some(n);
+        }
+    }
+    None
+}
+
+fn view_copy<A: Allocator + Copy>(heap: &Heap, alloc: A, view: &View<A>) -> Option<u64> {
+    for n in 0..MANY {
+        heap.refuse(n);
+        let fault = view.copy(alloc).err();
+        let refused = heap.relent(n);
+        if !was_refused(refused, fault, AllocError, true)? {
+            return Some(n);
+        }
+    }
+    None
 }
 
 #[test]
@@ -254,102 +335,121 @@ fn view_parts(rt: HostRuntime) -> Result<(), Fail> {
     let graph = graph_of(rt.alloc(), &heap, LINE).ok_or("no graph")?;
     let paths = Paths::of(&heap, &graph)?;
     let known = change(&heap, &graph, &[("a", 0, 1)]).ok_or("no change")?;
-    assert!(rt; count_refusals(|n| frontier(&heap, &paths, &known, n)) > Some(0));
-    assert!(rt; count_refusals(|n| view_copy(&heap, &paths, &known, n)) > Some(0));
+    let mut view = View::new(&heap);
+    view.apply(&paths, &known)?;
+    assert!(rt; frontier(&heap, &heap, &paths, &view) > Some(0));
+    assert!(rt; view_copy(&heap, &heap, &view) > Some(0));
     Ok(())
 }
 
-/// The start of a cluster.
-fn started<'h>(heap: &'h Heap, graph: &Graph<&'h Heap>) -> Option<Cluster<&'h Heap>> {
-    let graph = graph.copy(heap).ok()?;
-    if !can_run(&graph) {
-        return None;
+/// The start of a cluster of this graph, which is one that a cluster can run.
+fn start_of_copy<A: Allocator + Copy>(heap: &Heap, alloc: A, graph: &Graph<A>) -> Option<u64> {
+    for n in 0..MANY {
+        let graph = graph.copy(alloc).ok()?;
+        if !can_run(&graph) {
+            return None;
+        }
+        heap.refuse(n);
+        let fault = Cluster::start(alloc, graph, 1).err();
+        if !was_refused(heap.relent(n), fault, StartFault::Memory, true)? {
+            return Some(n);
+        }
     }
-    Cluster::start(heap, graph, 1).ok()
+    None
 }
 
-fn start<'h>(heap: &'h Heap, graph: &Graph<&'h Heap>, n: u64) -> Option<bool> {
-    let graph = graph.copy(heap).ok()?;
-    if !can_run(&graph) {
-        return None;
+fn cluster_copy<A: Allocator + Copy>(heap: &Heap, alloc: A, cluster: &Cluster<A>) -> Option<u64> {
+    for n in 0..MANY {
+        heap.refuse(n);
+        let fault = cluster.copy(alloc).err();
+        let refused = heap.relent(n);
+        if !was_refused(refused, fault, AllocError, true)? {
+            return Some(n);
+        }
     }
-    heap.refuse(n);
-    let answer = Cluster::start(heap, graph, 1);
-    was_refused(heap.relent(n), answer.err(), StartFault::Memory, true)
-}
-
-fn cluster_copy<'h>(heap: &'h Heap, cluster: &Cluster<&'h Heap>, n: u64) -> Option<bool> {
-    heap.refuse(n);
-    let answer = cluster.copy(heap);
-    was_refused(heap.relent(n), answer.err(), AllocError, true)
+    None
 }
 
 #[test]
 fn cluster_start(rt: HostRuntime) -> Result<(), Fail> {
     let heap = Refusing::new(rt.alloc());
     let graph = graph_of(rt.alloc(), &heap, LINE).ok_or("no graph")?;
-    assert!(rt; count_refusals(|n| start(&heap, &graph, n)) > Some(0));
-    let cluster = started(&heap, &graph).ok_or("no cluster")?;
-    assert!(rt; count_refusals(|n| cluster_copy(&heap, &cluster, n)) > Some(0));
+    let cluster = start(rt.alloc(), &heap, LINE).ok_or("no cluster")?;
+    assert!(rt; start_of_copy(&heap, &heap, &graph) > Some(0));
+    assert!(rt; cluster_copy(&heap, &heap, &cluster) > Some(0));
     Ok(())
 }
 
-fn plan<'h>(
+fn plan<A: Allocator + Copy>(
+    heap: &Heap,
     json: Global,
-    heap: &'h Heap,
-    cluster: &Cluster<&'h Heap>,
-    step: &Step<&'h Heap>,
-    n: u64,
-) -> Option<bool> {
-    heap.refuse(n);
-    let answer = cluster.plan(step);
-    let refused = heap.relent(n);
-    let is_as_before = is_state(json, cluster, STARTED);
-    was_refused(refused, answer.err(), Refusal::Memory, is_as_before)
+    cluster: &Cluster<A>,
+    step: &Step<A>,
+) -> Option<u64> {
+    for n in 0..MANY {
+        heap.refuse(n);
+        let fault = cluster.plan(step).err();
+        let refused = heap.relent(n);
+        if !was_refused(
+            refused,
+            fault,
+            Refusal::Memory,
+            is_state(json, cluster, STARTED),
+        )? {
+            return Some(n);
+        }
+    }
+    None
 }
 
-fn commit<'h>(
+fn commit<A: Allocator + Copy>(
+    heap: &Heap,
+    alloc: A,
     json: Global,
-    heap: &'h Heap,
-    cluster: &Cluster<&'h Heap>,
-    step: &Step<&'h Heap>,
-    n: u64,
-) -> Option<bool> {
-    let mut cluster = cluster.copy(heap).ok()?;
-    let record = cluster.plan(step).ok()?;
-    heap.refuse(n);
-    let answer = cluster.commit(&record);
-    let refused = heap.relent(n);
-    let is_as_before = is_state(json, &cluster, STARTED);
-    was_refused(refused, answer.err(), NoMemory, is_as_before)
+    base: &Cluster<A>,
+    step: &Step<A>,
+) -> Option<u64> {
+    for n in 0..MANY {
+        let mut cluster = base.copy(alloc).ok()?;
+        let record = cluster.plan(step).ok()?;
+        heap.refuse(n);
+        let fault = cluster.commit(&record).err();
+        let refused = heap.relent(n);
+        if !was_refused(refused, fault, NoMemory, is_state(json, &cluster, STARTED))? {
+            return Some(n);
+        }
+    }
+    None
 }
 
-fn back<'h>(
+fn back<A: Allocator + Copy>(
+    heap: &Heap,
+    alloc: A,
     json: Global,
-    heap: &'h Heap,
-    cluster: &Cluster<&'h Heap>,
-    step: &Step<&'h Heap>,
-    n: u64,
-) -> Option<bool> {
-    let mut cluster = cluster.copy(heap).ok()?;
-    let record = cluster.plan(step).ok()?;
-    cluster.commit(&record).ok()?;
-    heap.refuse(n);
-    let answer = cluster.back(&record);
-    let refused = heap.relent(n);
-    let is_as_before = is_state(json, &cluster, CLOSED);
-    was_refused(refused, answer.err(), NoMemory, is_as_before)
+    base: &Cluster<A>,
+    step: &Step<A>,
+) -> Option<u64> {
+    for n in 0..MANY {
+        let mut cluster = base.copy(alloc).ok()?;
+        let record = cluster.plan(step).ok()?;
+        cluster.commit(&record).ok()?;
+        heap.refuse(n);
+        let fault = cluster.back(&record).err();
+        let refused = heap.relent(n);
+        if !was_refused(refused, fault, NoMemory, is_state(json, &cluster, CLOSED))? {
+            return Some(n);
+        }
+    }
+    None
 }
 
 #[test]
 fn cluster_steps(rt: HostRuntime) -> Result<(), Fail> {
     let heap = Refusing::new(rt.alloc());
-    let graph = graph_of(rt.alloc(), &heap, LINE).ok_or("no graph")?;
-    let cluster = started(&heap, &graph).ok_or("no cluster")?;
+    let cluster = start(rt.alloc(), &heap, LINE).ok_or("no cluster")?;
     let step = feed(&heap, 5, 1, Next::Close).ok_or("no step")?;
-    let json = rt.alloc();
-    assert!(rt; count_refusals(|n| plan(json, &heap, &cluster, &step, n)) > Some(0));
-    assert!(rt; count_refusals(|n| commit(json, &heap, &cluster, &step, n)) > Some(0));
-    assert!(rt; count_refusals(|n| back(json, &heap, &cluster, &step, n)) > Some(0));
+    assert!(rt; plan(&heap, rt.alloc(), &cluster, &step) > Some(0));
+    assert!(rt; commit(&heap, &heap, rt.alloc(), &cluster, &step) > Some(0));
+    assert!(rt; back(&heap, &heap, rt.alloc(), &cluster, &step) > Some(0));
     Ok(())
 }
