@@ -1,8 +1,7 @@
 //! Changes.
 
-use crate::drawn::{Entry, LINE, are_entries, change, graph_of, point};
+use crate::drawn::{Entry, LINE, are_entries, change, graph_of, paths_of, point};
 use nd_delta::DeltaFault;
-use nd_paths::Paths;
 use std::test::Fail;
 
 #[test]
@@ -44,15 +43,14 @@ fn change_parts(rt: HostRuntime) -> Result<(), Fail> {
 
 #[test]
 fn unsupported(rt: HostRuntime) -> Result<(), Fail> {
-    let graph = graph_of(rt.alloc(), rt.alloc(), LINE).ok_or("no graph")?;
-    let paths = Paths::of(rt.alloc(), &graph)?;
+    let paths = paths_of(rt.alloc(), rt.alloc(), LINE).ok_or("no paths")?;
     let rows: [(&[Entry], Option<&[u32]>); 2] = [
         (&[("a", 0, -1), ("a", 1, 1), ("az", 0, 1)], None),
         (&[("a", 1, 1), ("az", 0, 1)], Some(&[1])),
     ];
     for (entries, alone) in rows {
-        let delta = change(rt.alloc(), &graph, entries).ok_or("no change")?;
-        let alone = alone.and_then(|list| point(&graph, "a", list));
+        let delta = change(rt.alloc(), paths.graph(), entries).ok_or("no change")?;
+        let alone = alone.and_then(|list| point(paths.graph(), "a", list));
         assert_eq!(rt; delta.unsupported(&paths), alone);
     }
     Ok(())

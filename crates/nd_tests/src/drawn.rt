@@ -2,7 +2,7 @@
 
 use nd_delta::Delta;
 use nd_graph::{Action, Graph, GraphDraft};
-use nd_paths::Pointstamp;
+use nd_paths::{Paths, Pointstamp};
 use nd_time::Timestamp;
 use serde_json::Value;
 use std::alloc::{Allocator, Global};
@@ -120,6 +120,12 @@ pub fn graph_of<A: Allocator + Copy>(json: Global, alloc: A, text: &str) -> Opti
     let value = Value::from_str(json, text).ok()?;
     let draft = GraphDraft::from_value(alloc, &value).ok()?;
     draft.check(alloc).ok()
+}
+
+/// The order of the pointstamps of a graph.
+pub fn paths_of<A: Allocator + Copy>(json: Global, alloc: A, text: &str) -> Option<Paths<A>> {
+    let graph = graph_of(json, alloc, text)?;
+    Paths::of(alloc, &graph).ok()
 }
 
 /// The time of a list: the epoch and then the counters.

@@ -1,6 +1,8 @@
 //! Summaries, and which graphs have an order.
 
-use crate::drawn::{CYCLE, LOOP, NESTED_LOOP, TWO_WAYS, UNGUARDED_LOOP, graph_of, point, time};
+use crate::drawn::{
+    CYCLE, LOOP, NESTED_LOOP, TWO_WAYS, UNGUARDED_LOOP, graph_of, paths_of, point, time,
+};
 use nd_graph::Graph;
 use nd_paths::{Constants, PathFault, Paths, Summary};
 use std::test::Fail;
@@ -62,8 +64,7 @@ fn least_summaries(rt: HostRuntime) -> Result<(), Fail> {
         (TWO_WAYS, "x", "z", &[(1, 0, &[]), (0, 0, &[1])]),
     ];
     for (text, from, to, all) in rows {
-        let graph = graph_of(rt.alloc(), rt.alloc(), text).ok_or("no graph")?;
-        let paths = Paths::of(rt.alloc(), &graph)?;
+        let paths = paths_of(rt.alloc(), rt.alloc(), text).ok_or("no paths")?;
         assert_eq!(rt;
             has_summaries(&paths, from, to, all),
             Some(true),
@@ -75,16 +76,15 @@ fn least_summaries(rt: HostRuntime) -> Result<(), Fail> {
 
 #[test]
 fn two_summaries(rt: HostRuntime) -> Result<(), Fail> {
-    let graph = graph_of(rt.alloc(), rt.alloc(), TWO_WAYS).ok_or("no graph")?;
-    let paths = Paths::of(rt.alloc(), &graph)?;
+    let paths = paths_of(rt.alloc(), rt.alloc(), TWO_WAYS).ok_or("no paths")?;
     let pairs: [(&[u32], &[u32], bool); 3] = [
         (&[0, 5], &[0, 1], true),
         (&[0, 5], &[0, 0], false),
         (&[0, 0], &[0, 0], true),
     ];
     for (s, t, is_before) in pairs {
-        let s = point(&graph, "x", s).ok_or("no point")?;
-        let t = point(&graph, "z", t).ok_or("no point")?;
+        let s = point(paths.graph(), "x", s).ok_or("no point")?;
+        let t = point(paths.graph(), "z", t).ok_or("no point")?;
         assert_eq!(rt; paths.before(&s, &t), is_before, "from {s:?} to {t:?}");
     }
     Ok(())

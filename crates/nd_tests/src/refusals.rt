@@ -5,7 +5,8 @@
 //! where it did not do so.
 
 use crate::clusters::{CLOSED, STARTED, feed, is_state, start};
-use crate::drawn::{LINE, LOOP, change, graph_of, point};
+use crate::drawn::{LINE, LOOP, change, graph_of, paths_of, point};
+use crate::views::view;
 use nd_cluster::{Cluster, Next, NoMemory, Refusal, StartFault, Step, can_run};
 use nd_delta::{Delta, DeltaFault};
 use nd_graph::{Graph, GraphDraft, GraphFault};
@@ -84,7 +85,7 @@ fn graph_calls(rt: HostRuntime) -> Result<(), Fail> {
     Ok(())
 }
 
-fn paths_of<A: Allocator + Copy>(heap: &Heap, alloc: A, graph: &Graph<A>) -> Option<u64> {
+fn table<A: Allocator + Copy>(heap: &Heap, alloc: A, graph: &Graph<A>) -> Option<u64> {
     for n in 0..MANY {
         heap.refuse(n);
         let fault = Paths::of(alloc, graph).err();
@@ -113,7 +114,7 @@ fn paths_calls(rt: HostRuntime) -> Result<(), Fail> {
     let heap = Refusing::new(rt.alloc());
     let graph = graph_of(rt.alloc(), &heap, LOOP).ok_or("no graph")?;
     let paths = Paths::of(&heap, &graph)?;
-    assert!(rt; paths_of(&heap, &heap, &graph) > Some(0));
+    assert!(rt; table(&heap, &heap, &graph) > Some(0));
     assert!(rt; paths_copy(&heap, &heap, &paths) > Some(0));
     Ok(())
 }
@@ -289,14 +290,11 @@ fn unapply<A: Allocator + Copy>(
 #[test]
 fn view_sums(rt: HostRuntime) -> Result<(), Fail> {
     let heap = Refusing::new(rt.alloc());
-    let graph = graph_of(rt.alloc(), &heap, LINE).ok_or("no graph")?;
-    let paths = Paths::of(&heap, &graph)?;
-    let known = change(&heap, &graph, &[("a", 0, 1)]).ok_or("no change")?;
-    let mut view = View::new(&heap);
-    view.apply(&paths, &known)?;
-    let news = change(&heap, &graph, &[("z", 0, 1), ("az", 0, 1)]).ok_or("no change")?;
-    assert!(rt; apply(&heap, &heap, &paths, &view, &news) > Some(0));
-    assert!(rt; unapply(&heap, &heap, &paths, &view, &news) > Some(0));
+    let paths = paths_of(rt.alloc(), &heap, LINE).ok_or("no paths")?;
+    let known = view(&heap, &paths, &[("a", 0, 1)]).ok_or("no view")?;
+    let news = change(&heap, paths.graph(), &[("z", 0, 1), ("az", 0, 1)]).ok_or("no change")?;
+    assert!(rt; apply(&heap, &heap, &paths, &known, &news) > Some(0));
+    assert!(rt; unapply(&heap, &heap, &paths, &known, &news) > Some(0));
     Ok(())
 }
 
@@ -332,13 +330,10 @@ fn view_copy<A: Allocator + Copy>(heap: &Heap, alloc: A, view: &View<A>) -> Opti
 #[test]
 fn view_parts(rt: HostRuntime) -> Result<(), Fail> {
     let heap = Refusing::new(rt.alloc());
-    let graph = graph_of(rt.alloc(), &heap, LINE).ok_or("no graph")?;
-    let paths = Paths::of(&heap, &graph)?;
-    let known = change(&heap, &graph, &[("a", 0, 1)]).ok_or("no change")?;
-    let mut view = View::new(&heap);
-    view.apply(&paths, &known)?;
-    assert!(rt; frontier(&heap, &heap, &paths, &view) > Some(0));
-    assert!(rt; view_copy(&heap, &heap, &view) > Some(0));
+    let paths = paths_of(rt.alloc(), &heap, LINE).ok_or("no paths")?;
+    let known = view(&heap, &paths, &[("a", 0, 1)]).ok_or("no view")?;
+    assert!(rt; frontier(&heap, &heap, &paths, &known) > Some(0));
+    assert!(rt; view_copy(&heap, &heap, &known) > Some(0));
     Ok(())
 }
 
@@ -402,6 +397,21 @@ fn plan<A: Allocator + Copy>(
     None
 }
 
+/// Whether the commit of a step met the request that was refused.
+fn meets_commit<A: Allocator + Copy>(
+    heap: &Heap,
+    json: Global,
+    cluster: &mut Cluster<A>,
+    step: &Step<A>,
+    n: u64,
+) -> Option<bool> {
+    let record = cluster.plan(step).ok()?;
+    heap.refuse(n);
+    let fault = cluster.commit(&record).err();
+    let refused = heap.relent(n);
+    was_refused(refused, fault, NoMemory, is_state(json, cluster, STARTED))
+}
+
 fn commit<A: Allocator + Copy>(
     heap: &Heap,
     alloc: A,
@@ -411,15 +421,27 @@ fn commit<A: Allocator + Copy>(
 ) -> Option<u64> {
     for n in 0..MANY {
         let mut cluster = base.copy(alloc).ok()?;
-        let record = cluster.plan(step).ok()?;
-        heap.refuse(n);
-        let fault = cluster.commit(&record).err();
-        let refused = heap.relent(n);
-        if !was_refused(refused, fault, NoMemory, is_state(json, &cluster, STARTED))? {
+        if !meets_commit(heap, json, &mut cluster, step, n)? {
             return Some(n);
         }
     }
     None
+}
+
+/// Whether the back of a step met the request that was refused.
+fn meets_back<A: Allocator + Copy>(
+    heap: &Heap,
+    json: Global,
+    cluster: &mut Cluster<A>,
+    step: &Step<A>,
+    n: u64,
+) -> Option<bool> {
+    let record = cluster.plan(step).ok()?;
+    cluster.commit(&record).ok()?;
+    heap.refuse(n);
+    let fault = cluster.back(&record).err();
+    let refused = heap.relent(n);
+    was_refused(refused, fault, NoMemory, is_state(json, cluster, CLOSED))
 }
 
 fn back<A: Allocator + Copy>(
@@ -431,12 +453,7 @@ fn back<A: Allocator + Copy>(
 ) -> Option<u64> {
     for n in 0..MANY {
         let mut cluster = base.copy(alloc).ok()?;
-        let record = cluster.plan(step).ok()?;
-        cluster.commit(&record).ok()?;
-        heap.refuse(n);
-        let fault = cluster.back(&record).err();
-        let refused = heap.relent(n);
-        if !was_refused(refused, fault, NoMemory, is_state(json, &cluster, CLOSED))? {
+        if !meets_back(heap, json, &mut cluster, step, n)? {
             return Some(n);
         }
     }

@@ -1,7 +1,7 @@
 //! The order of pointstamps against walks along the arcs.
 
 use crate::drawn as graph;
-use crate::drawn::{graph_of, time};
+use crate::drawn::{paths_of, time};
 use crate::times::moved;
 use nd_graph::Graph;
 use nd_paths::{Paths, Pointstamp};
@@ -149,8 +149,7 @@ fn order_is_by_walks(rt: HostRuntime) -> Result<(), Fail> {
         graph::REENTERED_LOOP,
         graph::DEEP,
     ] {
-        let graph = graph_of(rt.alloc(), rt.alloc(), text).ok_or("no graph")?;
-        let paths = Paths::of(rt.alloc(), &graph)?;
+        let paths = paths_of(rt.alloc(), rt.alloc(), text).ok_or("no paths")?;
         assert_eq!(rt; first_wrong(rt.alloc(), &paths)?, None, "in {text}");
     }
     Ok(())
