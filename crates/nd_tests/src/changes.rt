@@ -9,10 +9,14 @@ fn change_limits(rt: HostRuntime) -> Result<(), Fail> {
     let graph = graph_of(rt.alloc(), rt.alloc(), LINE).ok_or("no graph")?;
     let p = point(&graph, "a", &[0]).ok_or("no point")?;
     let mut delta = change(rt.alloc(), &graph, &[]).ok_or("no change")?;
-    assert_eq!(rt; delta.add(&p, 1_099_511_627_776), Ok(()));
-    assert_eq!(rt; delta.add(&p, 1), Err(DeltaFault::DeltaFull));
-    assert_eq!(rt; delta.get(&p), 1_099_511_627_776);
-    assert_eq!(rt; delta.add(&p, -1_099_511_627_776), Ok(()));
+    for (n, answer, left) in [
+        (1_099_511_627_776, Ok(()), 1_099_511_627_776),
+        (1, Err(DeltaFault::DeltaFull), 1_099_511_627_776),
+        (-1_099_511_627_776, Ok(()), 0),
+    ] {
+        assert_eq!(rt; delta.add(&p, n), answer, "at {n}");
+        assert_eq!(rt; delta.get(&p), left, "at {n}");
+    }
     assert_eq!(rt; delta.len(), 0);
     Ok(())
 }

@@ -1,7 +1,7 @@
 //! Clusters of one processor.
 
 use crate::drawn::{ADD, CYCLE, LINE, graph_of, point};
-use nd_cluster::{Cluster, Next, Refusal, StartFault, Step, Values, can_run};
+use nd_cluster::{Cluster, Next, StartFault, Step, Values, can_run};
 use nd_time::Timestamp;
 use std::alloc::{Allocator, Global};
 use std::test::Fail;
@@ -23,6 +23,17 @@ fn start_of<A: Allocator + Copy>(
 /// The start of a cluster of one processor.
 pub fn start<A: Allocator + Copy>(json: Global, alloc: A, text: &str) -> Option<Cluster<A>> {
     start_of(json, alloc, text, 1)?.ok()
+}
+
+/// Why a cluster of n processors does not start.
+fn start_fault(alloc: Global, text: &str, n: u32) -> Option<StartFault> {
+    start_of(alloc, alloc, text, n)?.err()
+}
+
+/// Why a step is refused, by number.
+fn refusal(cluster: &Cluster, step: &Step) -> Option<u64> {
+    let refusal = cluster.plan(step).err()?;
+    Some(refusal.number())
 }
 
 /// The feed of a value, so many times, into the first vertex.
@@ -142,9 +153,7 @@ fn add_overflows(rt: HostRuntime) -> Result<(), Fail> {
     let step = feed(rt.alloc(), 9223372036854775807, 1, Next::Close).ok_or("no step")?;
     make(&mut cluster, &step).ok_or("no feed")?;
     let step = take(0, 3, 9223372036854775807).ok_or("no step")?;
-    let refusal = cluster.plan(&step).err();
-    assert_eq!(rt; refusal, Some(Refusal::ValueRange));
-    assert_eq!(rt; refusal.map(|refusal| refusal.number()), Some(12));
+    assert_eq!(rt; refusal(&cluster, &step), Some(12));
     let am = point(cluster.graph(), "am", &[0]).ok_or("no point")?;
     assert_eq!(rt; cluster.count(&am), 1);
     Ok(())
@@ -153,10 +162,10 @@ fn add_overflows(rt: HostRuntime) -> Result<(), Fail> {
 #[test]
 fn processor_counts(rt: HostRuntime) -> Result<(), Fail> {
     for n in [0, 2, 9] {
-        let fault = start_of(rt.alloc(), rt.alloc(), LINE, n).and_then(|started| started.err());
+        let fault = start_fault(rt.alloc(), LINE, n);
         assert_eq!(rt; fault, Some(StartFault::BadCount), "at {n}");
     }
-    let fault = start_of(rt.alloc(), rt.alloc(), CYCLE, 1).and_then(|started| started.err());
+    let fault = start_fault(rt.alloc(), CYCLE, 1);
     assert_eq!(rt; fault, Some(StartFault::LoopNotStrict { location: 1 }));
     assert_eq!(rt; StartFault::BadCount.number(), 48);
     assert_eq!(rt; StartFault::LoopNotStrict { location: 1 }.number(), 46);
@@ -175,9 +184,8 @@ fn feeds_refused(rt: HostRuntime) -> Result<(), Fail> {
         (0, 0, 1024, None),
     ] {
         let step = feed_into(rt.alloc(), p, vertex, 0, times, Next::Next).ok_or("no step")?;
-        let refusal = cluster.plan(&step).err();
         assert_eq!(rt;
-            refusal.map(|refusal| refusal.number()),
+            refusal(&cluster, &step),
             number,
             "at {p}, {vertex}, {times}"
         );
@@ -191,8 +199,7 @@ fn closed_input_refused(rt: HostRuntime) -> Result<(), Fail> {
     let step = feed(rt.alloc(), 5, 1, Next::Close).ok_or("no step")?;
     make(&mut cluster, &step).ok_or("no feed")?;
     let step = feed(rt.alloc(), 0, 1025, Next::Close).ok_or("no step")?;
-    let refusal = cluster.plan(&step).err();
-    assert_eq!(rt; refusal.map(|refusal| refusal.number()), Some(5));
+    assert_eq!(rt; refusal(&cluster, &step), Some(5));
     Ok(())
 }
 
@@ -201,12 +208,7 @@ fn takes_refused(rt: HostRuntime) -> Result<(), Fail> {
     let cluster = start(rt.alloc(), rt.alloc(), LINE).ok_or("no cluster")?;
     for (p, edge, number) in [(1, 9, 1), (0, 9, 3), (0, 1, 3), (0, 2, 8)] {
         let step = take(p, edge, 5).ok_or("no step")?;
-        let refusal = cluster.plan(&step).err();
-        assert_eq!(rt;
-            refusal.map(|refusal| refusal.number()),
-            Some(number),
-            "at {p}, {edge}"
-        );
+        assert_eq!(rt; refusal(&cluster, &step), Some(number), "at {p}, {edge}");
     }
     Ok(())
 }

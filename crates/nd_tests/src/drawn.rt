@@ -171,9 +171,10 @@ pub fn are_entries<A: Allocator>(
     found: &[(Pointstamp, i64)],
     entries: &[Entry],
 ) -> bool {
+    for (found, entry) in found.iter().zip(entries) {
+        if !is_entry(graph, found, entry) {
+            return false;
+        }
+    }
     found.len() == entries.len()
-        && found
-            .iter()
-            .zip(entries)
-            .all(|(found, entry)| is_entry(graph, found, entry))
 }

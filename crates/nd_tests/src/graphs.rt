@@ -1,7 +1,7 @@
 //! Graphs.
 
-use crate::drawn::{EMPTY, LINE, LOOP, graph_of, graph_text};
-use nd_graph::{Action, Graph, GraphDraft, GraphFault, Op, Route};
+use crate::drawn::{EMPTY, LOOP, graph_of, graph_text};
+use nd_graph::{Action, Arc, Graph, GraphDraft, GraphFault, Op, Route};
 use serde_json::Value;
 use std::alloc::{AllocError, Global};
 use std::test::Fail;
@@ -30,35 +30,85 @@ fn vertices_alone(alloc: Global, count: usize) -> Result<String, AllocError> {
     Ok(text)
 }
 
+/// Graphs, each with its fault.
+static FAULTS: [(&str, Option<GraphFault>); 6] = [
+    (
+        r#"{"vertices":[{"name":"a","op":"input","depth":0},{"name":"z","op":"sink","depth":0}]}"#,
+        Some(GraphFault::Shape),
+    ),
+    (
+        graph_text!(a input 0, z sink 0; z: a 0 -> z local),
+        Some(GraphFault::DoubleName),
+    ),
+    (
+        graph_text!(a input 0, z sink 0; az: a 0 -> q local),
+        Some(GraphFault::UnknownName),
+    ),
+    (
+        graph_text!(a input 0, z sink 0; az: a 1 -> z local),
+        Some(GraphFault::BadPort),
+    ),
+    (
+        graph_text!(a input 0, z sink 0; az: z 0 -> a local),
+        Some(GraphFault::BadPort),
+    ),
+    (
+        graph_text!(a input 0, z sink 1; az: a 0 -> z local),
+        Some(GraphFault::DepthMismatch),
+    ),
+];
+
+/// Graphs of several faults, each without the first fault of the graph before it.
+static ORDERED_FAULTS: [(&str, Option<GraphFault>); 7] = [
+    (
+        graph_text!(g ingress 4, d input 1, a input 0, z sink 0;
+                p: a 1 -> z local, u: a 0 -> q local, z: a 0 -> z local, b: a 0 -> z both),
+        Some(GraphFault::Shape),
+    ),
+    (
+        graph_text!(g ingress 4, d input 1, a input 0, z sink 0;
+                p: a 1 -> z local, u: a 0 -> q local, z: a 0 -> z local),
+        Some(GraphFault::DoubleName),
+    ),
+    (
+        graph_text!(g ingress 4, d input 1, a input 0, z sink 0; p: a 1 -> z local, u: a 0 -> q local),
+        Some(GraphFault::UnknownName),
+    ),
+    (
+        graph_text!(g ingress 4, d input 1, a input 0, z sink 0; p: a 1 -> z local),
+        Some(GraphFault::BadPort),
+    ),
+    (
+        graph_text!(g ingress 4, d input 1, a input 0, z sink 0; p: a 0 -> z local),
+        Some(GraphFault::DepthMismatch),
+    ),
+    (
+        graph_text!(g ingress 4, a input 0, z sink 0; p: a 0 -> z local),
+        Some(GraphFault::TooLarge),
+    ),
+    (
+        graph_text!(g ingress 3, a input 0, z sink 0; p: a 0 -> z local),
+        None,
+    ),
+];
+
 #[test]
 fn graph_faults(rt: HostRuntime) {
-    let without_edges =
-        r#"{"vertices":[{"name":"a","op":"input","depth":0},{"name":"z","op":"sink","depth":0}]}"#;
-    for (text, fault) in [
-        (without_edges, Some(GraphFault::Shape)),
-        (
-            graph_text!(a input 0, z sink 0; z: a 0 -> z local),
-            Some(GraphFault::DoubleName),
-        ),
-        (
-            graph_text!(a input 0, z sink 0; az: a 0 -> q local),
-            Some(GraphFault::UnknownName),
-        ),
-        (
-            graph_text!(a input 0, z sink 0; az: a 1 -> z local),
-            Some(GraphFault::BadPort),
-        ),
-        (
-            graph_text!(a input 0, z sink 0; az: z 0 -> a local),
-            Some(GraphFault::BadPort),
-        ),
-        (
-            graph_text!(a input 0, z sink 1; az: a 0 -> z local),
-            Some(GraphFault::DepthMismatch),
-        ),
-        (LINE, None),
-        (EMPTY, None),
-    ] {
+    for (text, fault) in FAULTS {
+        assert_eq!(rt; fault_of(rt.alloc(), text), fault, "at {text}");
+    }
+}
+
+#[test]
+fn empty(rt: HostRuntime) -> Result<(), Fail> {
+    let graph = graph_of(rt.alloc(), rt.alloc(), EMPTY).ok_or("no graph")?;
+    assert_eq!(rt; graph.location_count(), 0);
+    Ok(())
+}
+
+#[test]
+fn first_fault(rt: HostRuntime) {
+    for (text, fault) in ORDERED_FAULTS {
         assert_eq!(rt; fault_of(rt.alloc(), text), fault, "at {text}");
     }
 }
@@ -72,43 +122,23 @@ fn at_most_64_locations(rt: HostRuntime) -> Result<(), Fail> {
     Ok(())
 }
 
-#[test]
-fn first_fault(rt: HostRuntime) {
-    for (text, fault) in [
-        (
-            graph_text!(g ingress 4, d input 1, a input 0, z sink 0;
-                p: a 1 -> z local, u: a 0 -> q local, z: a 0 -> z local, b: a 0 -> z both),
-            Some(GraphFault::Shape),
-        ),
-        (
-            graph_text!(g ingress 4, d input 1, a input 0, z sink 0;
-                p: a 1 -> z local, u: a 0 -> q local, z: a 0 -> z local),
-            Some(GraphFault::DoubleName),
-        ),
-        (
-            graph_text!(g ingress 4, d input 1, a input 0, z sink 0; p: a 1 -> z local, u: a 0 -> q local),
-            Some(GraphFault::UnknownName),
-        ),
-        (
-            graph_text!(g ingress 4, d input 1, a input 0, z sink 0; p: a 1 -> z local),
-            Some(GraphFault::BadPort),
-        ),
-        (
-            graph_text!(g ingress 4, d input 1, a input 0, z sink 0; p: a 0 -> z local),
-            Some(GraphFault::DepthMismatch),
-        ),
-        (
-            graph_text!(g ingress 4, a input 0, z sink 0; p: a 0 -> z local),
-            Some(GraphFault::TooLarge),
-        ),
-        (
-            graph_text!(g ingress 3, a input 0, z sink 0; p: a 0 -> z local),
-            None,
-        ),
-    ] {
-        assert_eq!(rt; fault_of(rt.alloc(), text), fault, "at {text}");
-    }
-}
+/// The locations of *loop*, with their depths.
+static LOCATIONS: [(&str, usize); 14] = [
+    ("a", 0),
+    ("i", 0),
+    ("m", 1),
+    ("s", 1),
+    ("f", 1),
+    ("e", 1),
+    ("z", 0),
+    ("ai", 0),
+    ("im", 1),
+    ("ms", 1),
+    ("sf", 1),
+    ("fm", 1),
+    ("se", 1),
+    ("ez", 0),
+];
 
 /// Whether the location has this name and this depth.
 fn is_location(graph: &Graph, location: usize, name: &str, depth: usize) -> bool {
@@ -116,18 +146,14 @@ fn is_location(graph: &Graph, location: usize, name: &str, depth: usize) -> bool
         && graph.location_name(location) == name
         && graph.location_of(name) == Some(location)
         && graph.location_depth(location) == depth
+        && graph.depths().get(location) == Some(&depth)
 }
 
 #[test]
 fn numbers_locations(rt: HostRuntime) -> Result<(), Fail> {
     let graph = graph_of(rt.alloc(), rt.alloc(), LOOP).ok_or("no graph")?;
-    let depths = [0, 0, 1, 1, 1, 1, 0, 0, 1, 1, 1, 1, 1, 0];
-    let names = [
-        "a", "i", "m", "s", "f", "e", "z", "ai", "im", "ms", "sf", "fm", "se", "ez",
-    ];
     assert_eq!(rt; graph.location_count(), 14);
-    assert_eq!(rt; graph.depths(), depths.as_slice());
-    for (location, (name, depth)) in names.iter().zip(depths.iter()).enumerate() {
+    for (location, (name, depth)) in LOCATIONS.iter().enumerate() {
         assert!(rt; is_location(&graph, location, name, *depth), "at {name}");
     }
     assert_eq!(rt; graph.location_of("none"), None);
@@ -151,6 +177,22 @@ fn tells_its_vertices(rt: HostRuntime) -> Result<(), Fail> {
     Ok(())
 }
 
+/// Whether these arcs, and no others, leave the location.
+fn has_arcs(graph: &Graph, from: usize, arcs: &[(Action, usize)]) -> bool {
+    let mut found = graph.arcs(from);
+    for (action, to) in arcs {
+        let arc = Arc {
+            from,
+            action: *action,
+            to: *to,
+        };
+        if found.next() != Some(arc) {
+            return false;
+        }
+    }
+    found.next().is_none()
+}
+
 #[test]
 fn tells_its_arcs(rt: HostRuntime) -> Result<(), Fail> {
     let graph = graph_of(rt.alloc(), rt.alloc(), LOOP).ok_or("no graph")?;
@@ -161,8 +203,7 @@ fn tells_its_arcs(rt: HostRuntime) -> Result<(), Fail> {
         (6, &[]),
     ];
     for (from, arcs) in rows {
-        let found = graph.arcs(from).map(|arc| (arc.action, arc.to));
-        assert!(rt; found.eq(arcs.iter().copied()), "from {from}");
+        assert!(rt; has_arcs(&graph, from, arcs), "from {from}");
     }
     Ok(())
 }

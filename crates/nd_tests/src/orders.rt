@@ -122,7 +122,7 @@ fn summaries_compose(rt: HostRuntime) -> Result<(), Fail> {
     for (first, second, both) in rows {
         let first = summary(&first).ok_or("no summary")?;
         let second = summary(&second).ok_or("no summary")?;
-        let both = both.and_then(|parts| summary(&parts));
+        let both = both.as_ref().and_then(summary);
         assert_eq!(rt; first.then(&second), both, "{first:?} and then {second:?}");
     }
     Ok(())

@@ -53,7 +53,12 @@ fn reached(
 
 /// Whether a walk leads to a time at or before that of a point.
 fn leads(reached: &[Pointstamp], to: &Pointstamp) -> bool {
-    reached.iter().any(|point| point.location == to.location && point.time.at_or_before(&to.time))
+    for point in reached {
+        if point.location == to.location && point.time.at_or_before(&to.time) {
+            return true;
+        }
+    }
+    false
 }
 
 /// Times of each depth.
@@ -92,13 +97,16 @@ static TIMES: [&[u32]; 32] = [
     &[1, 0, 0, 0, 0],
 ];
 
+fn point_at(graph: &Graph, location: usize, list: &[u32]) -> Option<Pointstamp> {
+    Pointstamp::new(graph, location, time(list)?)
+}
+
 /// The points of a graph at these times.
 fn points(alloc: Global, graph: &Graph) -> Result<Vec<Pointstamp>, AllocError> {
     let mut points = Vec::new(alloc);
     for location in 0..graph.location_count() {
         for list in TIMES {
-            let found = time(list).and_then(|time| Pointstamp::new(graph, location, time));
-            if let Some(point) = found {
+            if let Some(point) = point_at(graph, location, list) {
                 points.push(point)?;
             }
         }
