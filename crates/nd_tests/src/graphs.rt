@@ -1,6 +1,6 @@
 //! Graphs.
 
-use crate::drawn::{EMPTY, LOOP, graph_of, graph_text};
+use crate::drawn::{EMPTY, LOOP, NESTED_LOOP, graph_of, graph_text};
 use nd_graph::{Action, Arc, Graph, GraphDraft, GraphFault, Op, Route};
 use serde_json::Value;
 use std::alloc::{AllocError, Global};
@@ -100,9 +100,11 @@ fn graph_faults(rt: HostRuntime) {
 }
 
 #[test]
-fn empty(rt: HostRuntime) -> Result<(), Fail> {
-    let graph = graph_of(rt.alloc(), rt.alloc(), EMPTY).ok_or("no graph")?;
-    assert_eq!(rt; graph.location_count(), 0);
+fn counts_locations(rt: HostRuntime) -> Result<(), Fail> {
+    for (text, count) in [(EMPTY, 0), (NESTED_LOOP, 14), (LOOP, 14)] {
+        let graph = graph_of(rt.alloc(), rt.alloc(), text).ok_or("no graph")?;
+        assert_eq!(rt; graph.location_count(), count, "in {text}");
+    }
     Ok(())
 }
 
@@ -152,7 +154,6 @@ fn is_location(graph: &Graph, location: usize, name: &str, depth: usize) -> bool
 #[test]
 fn numbers_locations(rt: HostRuntime) -> Result<(), Fail> {
     let graph = graph_of(rt.alloc(), rt.alloc(), LOOP).ok_or("no graph")?;
-    assert_eq!(rt; graph.location_count(), 14);
     for (location, (name, depth)) in LOCATIONS.iter().enumerate() {
         assert!(rt; is_location(&graph, location, name, *depth), "at {name}");
     }

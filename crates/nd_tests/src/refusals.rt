@@ -1,7 +1,7 @@
 //! Each request for memory of a call refused in turn: the call answers want of memory and leaves its
 //! values as they were, until it meets none that is refused, and succeeds.
 //!
-//! Each function here tells how many requests of a call were refused before it succeeded, or `None`
+//! The functions here tell how many requests of a call were refused before it succeeded, or `None`
 //! where it did not do so.
 
 use crate::clusters::{CLOSED, STARTED, feed, is_state, start};
@@ -37,40 +37,34 @@ fn was_refused<E: PartialEq + Drop>(
     if is_right { Some(refused) } else { None }
 }
 
-fn graph_copy<A: Allocator + Copy>(heap: &Heap, alloc: A, graph: &Graph<A>) -> Option<u64> {
-    for n in 0..MANY {
-        heap.refuse(n);
-        let fault = graph.copy(alloc).err();
-        let refused = heap.relent(n);
-        if !was_refused(refused, fault, AllocError, true)? {
-            return Some(n);
+// Makes a call on values that are made ready before each time, refusing one request after the other.
+macro_rules! in_turn {
+    ($heap:ident: { $($ready:tt)* } $call:expr; $want:expr, $is_as_before:expr) => {
+        for n in 0..MANY {
+            $($ready)*
+            $heap.refuse(n);
+            let fault = $call.err();
+            let refused = $heap.relent(n);
+            if !was_refused(refused, fault, $want, $is_as_before)? {
+                return Some(n);
+            }
         }
-    }
+    };
+}
+
+fn graph_copy<A: Allocator + Copy>(heap: &Heap, alloc: A, graph: &Graph<A>) -> Option<u64> {
+    in_turn!(heap: {} graph.copy(alloc); AllocError, true);
     None
 }
 
 fn draft_from<A: Allocator + Copy>(heap: &Heap, alloc: A, value: &Value) -> Option<u64> {
-    for n in 0..MANY {
-        heap.refuse(n);
-        let fault = GraphDraft::from_value(alloc, value).err();
-        let refused = heap.relent(n);
-        if !was_refused(refused, fault, GraphFault::Memory, true)? {
-            return Some(n);
-        }
-    }
+    in_turn!(heap: {} GraphDraft::from_value(alloc, value); GraphFault::Memory, true);
     None
 }
 
 fn check<A: Allocator + Copy>(heap: &Heap, alloc: A, value: &Value) -> Option<u64> {
-    for n in 0..MANY {
-        let draft = GraphDraft::from_value(alloc, value).ok()?;
-        heap.refuse(n);
-        let fault = draft.check(alloc).err();
-        let refused = heap.relent(n);
-        if !was_refused(refused, fault, GraphFault::Memory, true)? {
-            return Some(n);
-        }
-    }
+    in_turn!(heap: { let draft = GraphDraft::from_value(alloc, value).ok()?; }
+        draft.check(alloc); GraphFault::Memory, true);
     None
 }
 
@@ -86,36 +80,21 @@ fn graph_calls(rt: HostRuntime) -> Result<(), Fail> {
 }
 
 fn table<A: Allocator + Copy>(heap: &Heap, alloc: A, graph: &Graph<A>) -> Option<u64> {
-    for n in 0..MANY {
-        heap.refuse(n);
-        let fault = Paths::of(alloc, graph).err();
-        let refused = heap.relent(n);
-        if !was_refused(refused, fault, PathFault::Memory, true)? {
-            return Some(n);
-        }
-    }
+    in_turn!(heap: {} Paths::of(alloc, graph); PathFault::Memory, true);
     None
 }
 
-fn paths_copy<A: Allocator + Copy>(heap: &Heap, alloc: A, paths: &Paths<A>) -> Option<u64> {
-    for n in 0..MANY {
-        heap.refuse(n);
-        let fault = paths.copy(alloc).err();
-        let refused = heap.relent(n);
-        if !was_refused(refused, fault, AllocError, true)? {
-            return Some(n);
-        }
-    }
+fn table_copy<A: Allocator + Copy>(heap: &Heap, alloc: A, paths: &Paths<A>) -> Option<u64> {
+    in_turn!(heap: {} paths.copy(alloc); AllocError, true);
     None
 }
 
 #[test]
 fn paths_calls(rt: HostRuntime) -> Result<(), Fail> {
     let heap = Refusing::new(rt.alloc());
-    let graph = graph_of(rt.alloc(), &heap, LOOP).ok_or("no graph")?;
-    let paths = Paths::of(&heap, &graph)?;
-    assert!(rt; table(&heap, &heap, &graph) > Some(0));
-    assert!(rt; paths_copy(&heap, &heap, &paths) > Some(0));
+    let paths = paths_of(rt.alloc(), &heap, LOOP).ok_or("no paths")?;
+    assert!(rt; table(&heap, &heap, paths.graph()) > Some(0));
+    assert!(rt; table_copy(&heap, &heap, &paths) > Some(0));
     Ok(())
 }
 
@@ -125,20 +104,8 @@ fn add<A: Allocator + Copy>(
     base: &Delta<A>,
     point: &Pointstamp,
 ) -> Option<u64> {
-    for n in 0..MANY {
-        let mut change = base.copy(alloc).ok()?;
-        heap.refuse(n);
-        let fault = change.add(point, 1).err();
-        let refused = heap.relent(n);
-        if !was_refused(
-            refused,
-            fault,
-            DeltaFault::Memory,
-            change.entries() == base.entries(),
-        )? {
-            return Some(n);
-        }
-    }
+    in_turn!(heap: { let mut change = base.copy(alloc).ok()?; }
+        change.add(point, 1); DeltaFault::Memory, change.entries() == base.entries());
     None
 }
 
@@ -160,14 +127,7 @@ fn plus<A: Allocator + Copy>(
     one: &Delta<A>,
     other: &Delta<A>,
 ) -> Option<u64> {
-    for n in 0..MANY {
-        heap.refuse(n);
-        let fault = one.plus(alloc, other).err();
-        let refused = heap.relent(n);
-        if !was_refused(refused, fault, DeltaFault::Memory, true)? {
-            return Some(n);
-        }
-    }
+    in_turn!(heap: {} one.plus(alloc, other); DeltaFault::Memory, true);
     None
 }
 
@@ -177,14 +137,7 @@ fn minus<A: Allocator + Copy>(
     one: &Delta<A>,
     other: &Delta<A>,
 ) -> Option<u64> {
-    for n in 0..MANY {
-        heap.refuse(n);
-        let fault = one.minus(alloc, other).err();
-        let refused = heap.relent(n);
-        if !was_refused(refused, fault, DeltaFault::Memory, true)? {
-            return Some(n);
-        }
-    }
+    in_turn!(heap: {} one.minus(alloc, other); DeltaFault::Memory, true);
     None
 }
 
@@ -205,26 +158,12 @@ fn part<A: Allocator + Copy>(
     whole: &Delta<A>,
     points: &[Pointstamp],
 ) -> Option<u64> {
-    for n in 0..MANY {
-        heap.refuse(n);
-        let fault = whole.part(alloc, points).err();
-        let refused = heap.relent(n);
-        if !was_refused(refused, fault, AllocError, true)? {
-            return Some(n);
-        }
-    }
+    in_turn!(heap: {} whole.part(alloc, points); AllocError, true);
     None
 }
 
 fn change_copy<A: Allocator + Copy>(heap: &Heap, alloc: A, change: &Delta<A>) -> Option<u64> {
-    for n in 0..MANY {
-        heap.refuse(n);
-        let fault = change.copy(alloc).err();
-        let refused = heap.relent(n);
-        if !was_refused(refused, fault, AllocError, true)? {
-            return Some(n);
-        }
-    }
+    in_turn!(heap: {} change.copy(alloc); AllocError, true);
     None
 }
 
@@ -246,20 +185,8 @@ fn apply<A: Allocator + Copy>(
     base: &View<A>,
     news: &Delta<A>,
 ) -> Option<u64> {
-    for n in 0..MANY {
-        let mut view = base.copy(alloc).ok()?;
-        heap.refuse(n);
-        let fault = view.apply(paths, news).err();
-        let refused = heap.relent(n);
-        if !was_refused(
-            refused,
-            fault,
-            DeltaFault::Memory,
-            view.entries() == base.entries(),
-        )? {
-            return Some(n);
-        }
-    }
+    in_turn!(heap: { let mut view = base.copy(alloc).ok()?; }
+        view.apply(paths, news); DeltaFault::Memory, view.entries() == base.entries());
     None
 }
 
@@ -270,20 +197,8 @@ fn unapply<A: Allocator + Copy>(
     base: &View<A>,
     news: &Delta<A>,
 ) -> Option<u64> {
-    for n in 0..MANY {
-        let mut view = base.copy(alloc).ok()?;
-        heap.refuse(n);
-        let fault = view.unapply(paths, news).err();
-        let refused = heap.relent(n);
-        if !was_refused(
-            refused,
-            fault,
-            DeltaFault::Memory,
-            view.entries() == base.entries(),
-        )? {
-            return Some(n);
-        }
-    }
+    in_turn!(heap: { let mut view = base.copy(alloc).ok()?; }
+        view.unapply(paths, news); DeltaFault::Memory, view.entries() == base.entries());
     None
 }
 
@@ -304,26 +219,12 @@ fn frontier<A: Allocator + Copy>(
     paths: &Paths<A>,
     view: &View<A>,
 ) -> Option<u64> {
-    for n in 0..MANY {
-        heap.refuse(n);
-        let fault = view.frontier(alloc, paths).err();
-        let refused = heap.relent(n);
-        if !was_refused(refused, fault, AllocError, true)? {
-            return Some(n);
-        }
-    }
+    in_turn!(heap: {} view.frontier(alloc, paths); AllocError, true);
     None
 }
 
 fn view_copy<A: Allocator + Copy>(heap: &Heap, alloc: A, view: &View<A>) -> Option<u64> {
-    for n in 0..MANY {
-        heap.refuse(n);
-        let fault = view.copy(alloc).err();
-        let refused = heap.relent(n);
-        if !was_refused(refused, fault, AllocError, true)? {
-            return Some(n);
-        }
-    }
+    in_turn!(heap: {} view.copy(alloc); AllocError, true);
     None
 }
 
@@ -339,29 +240,13 @@ fn view_parts(rt: HostRuntime) -> Result<(), Fail> {
 
 /// The start of a cluster of this graph, which is one that a cluster can run.
 fn start_of_copy<A: Allocator + Copy>(heap: &Heap, alloc: A, graph: &Graph<A>) -> Option<u64> {
-    for n in 0..MANY {
-        let graph = graph.copy(alloc).ok()?;
-        if !can_run(&graph) {
-            return None;
-        }
-        heap.refuse(n);
-        let fault = Cluster::start(alloc, graph, 1).err();
-        if !was_refused(heap.relent(n), fault, StartFault::Memory, true)? {
-            return Some(n);
-        }
-    }
+    in_turn!(heap: { let graph = graph.copy(alloc).ok()?; if !can_run(&graph) { return None; } }
+        Cluster::start(alloc, graph, 1); StartFault::Memory, true);
     None
 }
 
 fn cluster_copy<A: Allocator + Copy>(heap: &Heap, alloc: A, cluster: &Cluster<A>) -> Option<u64> {
-    for n in 0..MANY {
-        heap.refuse(n);
-        let fault = cluster.copy(alloc).err();
-        let refused = heap.relent(n);
-        if !was_refused(refused, fault, AllocError, true)? {
-            return Some(n);
-        }
-    }
+    in_turn!(heap: {} cluster.copy(alloc); AllocError, true);
     None
 }
 
@@ -381,19 +266,7 @@ fn plan<A: Allocator + Copy>(
     cluster: &Cluster<A>,
     step: &Step<A>,
 ) -> Option<u64> {
-    for n in 0..MANY {
-        heap.refuse(n);
-        let fault = cluster.plan(step).err();
-        let refused = heap.relent(n);
-        if !was_refused(
-            refused,
-            fault,
-            Refusal::Memory,
-            is_state(json, cluster, STARTED),
-        )? {
-            return Some(n);
-        }
-    }
+    in_turn!(heap: {} cluster.plan(step); Refusal::Memory, is_state(json, cluster, STARTED));
     None
 }
 
@@ -428,7 +301,7 @@ fn commit<A: Allocator + Copy>(
     None
 }
 
-/// Whether the back of a step met the request that was refused.
+/// Whether the back-step of a step met the request that was refused.
 fn meets_back<A: Allocator + Copy>(
     heap: &Heap,
     json: Global,
