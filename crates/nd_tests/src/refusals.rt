@@ -15,7 +15,6 @@ use nd_view::View;
 use refusing::Refusing;
 use serde_json::Value;
 use std::alloc::{AllocError, Allocator, Global};
-use std::test::Fail;
 
 type Heap = Refusing<Global>;
 
@@ -68,15 +67,20 @@ fn check<A: Allocator + Copy>(heap: &Heap, alloc: A, value: &Value) -> Option<u6
     None
 }
 
+fn graph_calls_in_turn<A: Allocator + Copy>(heap: &Heap, alloc: A, json: Global) -> Option<bool> {
+    let graph = graph_of(json, alloc, LOOP)?;
+    let value = Value::from_str(json, LOOP).ok()?;
+    Some(
+        graph_copy(heap, alloc, &graph)? > 0
+            && draft_from(heap, alloc, &value)? > 0
+            && check(heap, alloc, &value)? > 0,
+    )
+}
+
 #[test]
-fn graph_calls(rt: HostRuntime) -> Result<(), Fail> {
+fn graph_calls(rt: HostRuntime) {
     let heap = Refusing::new(rt.alloc());
-    let graph = graph_of(rt.alloc(), &heap, LOOP).ok_or("no graph")?;
-    let value = Value::from_str(rt.alloc(), LOOP)?;
-    assert!(rt; graph_copy(&heap, &heap, &graph) > Some(0));
-    assert!(rt; draft_from(&heap, &heap, &value) > Some(0));
-    assert!(rt; check(&heap, &heap, &value) > Some(0));
-    Ok(())
+    assert_eq!(rt; graph_calls_in_turn(&heap, &heap, rt.alloc()), Some(true));
 }
 
 fn table<A: Allocator + Copy>(heap: &Heap, alloc: A, graph: &Graph<A>) -> Option<u64> {
@@ -89,13 +93,15 @@ fn table_copy<A: Allocator + Copy>(heap: &Heap, alloc: A, paths: &Paths<A>) -> O
     None
 }
 
+fn paths_calls_in_turn<A: Allocator + Copy>(heap: &Heap, alloc: A, json: Global) -> Option<bool> {
+    let paths = paths_of(json, alloc, LOOP)?;
+    Some(table(heap, alloc, paths.graph())? > 0 && table_copy(heap, alloc, &paths)? > 0)
+}
+
 #[test]
-fn paths_calls(rt: HostRuntime) -> Result<(), Fail> {
+fn paths_calls(rt: HostRuntime) {
     let heap = Refusing::new(rt.alloc());
-    let paths = paths_of(rt.alloc(), &heap, LOOP).ok_or("no paths")?;
-    assert!(rt; table(&heap, &heap, paths.graph()) > Some(0));
-    assert!(rt; table_copy(&heap, &heap, &paths) > Some(0));
-    Ok(())
+    assert_eq!(rt; paths_calls_in_turn(&heap, &heap, rt.alloc()), Some(true));
 }
 
 fn add<A: Allocator + Copy>(
@@ -109,16 +115,18 @@ fn add<A: Allocator + Copy>(
     None
 }
 
+fn change_add_in_turn<A: Allocator + Copy>(heap: &Heap, alloc: A, json: Global) -> Option<bool> {
+    let graph = graph_of(json, alloc, LINE)?;
+    let base = change(alloc, &graph, &[("a", 0, 1), ("z", 0, 1)])?;
+    let absent = point(&graph, "az", &[0])?;
+    let present = point(&graph, "a", &[0])?;
+    Some(add(heap, alloc, &base, &absent)? > 0 && add(heap, alloc, &base, &present)? == 0)
+}
+
 #[test]
-fn change_add(rt: HostRuntime) -> Result<(), Fail> {
+fn change_add(rt: HostRuntime) {
     let heap = Refusing::new(rt.alloc());
-    let graph = graph_of(rt.alloc(), &heap, LINE).ok_or("no graph")?;
-    let base = change(&heap, &graph, &[("a", 0, 1), ("z", 0, 1)]).ok_or("no change")?;
-    let absent = point(&graph, "az", &[0]).ok_or("no point")?;
-    let present = point(&graph, "a", &[0]).ok_or("no point")?;
-    assert!(rt; add(&heap, &heap, &base, &absent) > Some(0));
-    assert_eq!(rt; add(&heap, &heap, &base, &present), Some(0));
-    Ok(())
+    assert_eq!(rt; change_add_in_turn(&heap, &heap, rt.alloc()), Some(true));
 }
 
 fn plus<A: Allocator + Copy>(
@@ -141,15 +149,17 @@ fn minus<A: Allocator + Copy>(
     None
 }
 
+fn change_sums_in_turn<A: Allocator + Copy>(heap: &Heap, alloc: A, json: Global) -> Option<bool> {
+    let graph = graph_of(json, alloc, LINE)?;
+    let one = change(alloc, &graph, &[("a", 0, 1)])?;
+    let other = change(alloc, &graph, &[("z", 0, 1), ("az", 0, 1)])?;
+    Some(plus(heap, alloc, &one, &other)? > 0 && minus(heap, alloc, &one, &other)? > 0)
+}
+
 #[test]
-fn change_sums(rt: HostRuntime) -> Result<(), Fail> {
+fn change_sums(rt: HostRuntime) {
     let heap = Refusing::new(rt.alloc());
-    let graph = graph_of(rt.alloc(), &heap, LINE).ok_or("no graph")?;
-    let one = change(&heap, &graph, &[("a", 0, 1)]).ok_or("no change")?;
-    let other = change(&heap, &graph, &[("z", 0, 1), ("az", 0, 1)]).ok_or("no change")?;
-    assert!(rt; plus(&heap, &heap, &one, &other) > Some(0));
-    assert!(rt; minus(&heap, &heap, &one, &other) > Some(0));
-    Ok(())
+    assert_eq!(rt; change_sums_in_turn(&heap, &heap, rt.alloc()), Some(true));
 }
 
 fn part<A: Allocator + Copy>(
@@ -167,15 +177,17 @@ fn change_copy<A: Allocator + Copy>(heap: &Heap, alloc: A, change: &Delta<A>) ->
     None
 }
 
+fn change_parts_in_turn<A: Allocator + Copy>(heap: &Heap, alloc: A, json: Global) -> Option<bool> {
+    let graph = graph_of(json, alloc, LINE)?;
+    let whole = change(alloc, &graph, &[("a", 0, 1), ("z", 0, 1)])?;
+    let z = point(&graph, "z", &[0])?;
+    Some(part(heap, alloc, &whole, &[z])? > 0 && change_copy(heap, alloc, &whole)? > 0)
+}
+
 #[test]
-fn change_parts(rt: HostRuntime) -> Result<(), Fail> {
+fn change_parts(rt: HostRuntime) {
     let heap = Refusing::new(rt.alloc());
-    let graph = graph_of(rt.alloc(), &heap, LINE).ok_or("no graph")?;
-    let whole = change(&heap, &graph, &[("a", 0, 1), ("z", 0, 1)]).ok_or("no change")?;
-    let z = point(&graph, "z", &[0]).ok_or("no point")?;
-    assert!(rt; part(&heap, &heap, &whole, &[z]) > Some(0));
-    assert!(rt; change_copy(&heap, &heap, &whole) > Some(0));
-    Ok(())
+    assert_eq!(rt; change_parts_in_turn(&heap, &heap, rt.alloc()), Some(true));
 }
 
 fn apply<A: Allocator + Copy>(
@@ -202,15 +214,20 @@ fn unapply<A: Allocator + Copy>(
     None
 }
 
+fn view_sums_in_turn<A: Allocator + Copy>(heap: &Heap, alloc: A, json: Global) -> Option<bool> {
+    let paths = paths_of(json, alloc, LINE)?;
+    let known = view(alloc, &paths, &[("a", 0, 1)])?;
+    let news = change(alloc, paths.graph(), &[("z", 0, 1), ("az", 0, 1)])?;
+    Some(
+        apply(heap, alloc, &paths, &known, &news)? > 0
+            && unapply(heap, alloc, &paths, &known, &news)? > 0,
+    )
+}
+
 #[test]
-fn view_sums(rt: HostRuntime) -> Result<(), Fail> {
+fn view_sums(rt: HostRuntime) {
     let heap = Refusing::new(rt.alloc());
-    let paths = paths_of(rt.alloc(), &heap, LINE).ok_or("no paths")?;
-    let known = view(&heap, &paths, &[("a", 0, 1)]).ok_or("no view")?;
-    let news = change(&heap, paths.graph(), &[("z", 0, 1), ("az", 0, 1)]).ok_or("no change")?;
-    assert!(rt; apply(&heap, &heap, &paths, &known, &news) > Some(0));
-    assert!(rt; unapply(&heap, &heap, &paths, &known, &news) > Some(0));
-    Ok(())
+    assert_eq!(rt; view_sums_in_turn(&heap, &heap, rt.alloc()), Some(true));
 }
 
 fn frontier<A: Allocator + Copy>(
@@ -228,17 +245,18 @@ fn view_copy<A: Allocator + Copy>(heap: &Heap, alloc: A, view: &View<A>) -> Opti
     None
 }
 
-#[test]
-fn view_parts(rt: HostRuntime) -> Result<(), Fail> {
-    let heap = Refusing::new(rt.alloc());
-    let paths = paths_of(rt.alloc(), &heap, LINE).ok_or("no paths")?;
-    let known = view(&heap, &paths, &[("a", 0, 1)]).ok_or("no view")?;
-    assert!(rt; frontier(&heap, &heap, &paths, &known) > Some(0));
-    assert!(rt; view_copy(&heap, &heap, &known) > Some(0));
-    Ok(())
+fn view_parts_in_turn<A: Allocator + Copy>(heap: &Heap, alloc: A, json: Global) -> Option<bool> {
+    let paths = paths_of(json, alloc, LINE)?;
+    let known = view(alloc, &paths, &[("a", 0, 1)])?;
+    Some(frontier(heap, alloc, &paths, &known)? > 0 && view_copy(heap, alloc, &known)? > 0)
 }
 
-/// The start of a cluster of this graph, which is one that a cluster can run.
+#[test]
+fn view_parts(rt: HostRuntime) {
+    let heap = Refusing::new(rt.alloc());
+    assert_eq!(rt; view_parts_in_turn(&heap, &heap, rt.alloc()), Some(true));
+}
+
 fn start_of_copy<A: Allocator + Copy>(heap: &Heap, alloc: A, graph: &Graph<A>) -> Option<u64> {
     in_turn!(heap: { let graph = graph.copy(alloc).ok()?; if !can_run(&graph) { return None; } }
         Cluster::start(alloc, graph, 1); StartFault::Memory, true);
@@ -250,14 +268,16 @@ fn cluster_copy<A: Allocator + Copy>(heap: &Heap, alloc: A, cluster: &Cluster<A>
     None
 }
 
+fn cluster_start_in_turn<A: Allocator + Copy>(heap: &Heap, alloc: A, json: Global) -> Option<bool> {
+    let graph = graph_of(json, alloc, LINE)?;
+    let cluster = start(json, alloc, LINE)?;
+    Some(start_of_copy(heap, alloc, &graph)? > 0 && cluster_copy(heap, alloc, &cluster)? > 0)
+}
+
 #[test]
-fn cluster_start(rt: HostRuntime) -> Result<(), Fail> {
+fn cluster_start(rt: HostRuntime) {
     let heap = Refusing::new(rt.alloc());
-    let graph = graph_of(rt.alloc(), &heap, LINE).ok_or("no graph")?;
-    let cluster = start(rt.alloc(), &heap, LINE).ok_or("no cluster")?;
-    assert!(rt; start_of_copy(&heap, &heap, &graph) > Some(0));
-    assert!(rt; cluster_copy(&heap, &heap, &cluster) > Some(0));
-    Ok(())
+    assert_eq!(rt; cluster_start_in_turn(&heap, &heap, rt.alloc()), Some(true));
 }
 
 fn plan<A: Allocator + Copy>(
@@ -333,13 +353,18 @@ fn back<A: Allocator + Copy>(
     None
 }
 
+fn cluster_steps_in_turn<A: Allocator + Copy>(heap: &Heap, alloc: A, json: Global) -> Option<bool> {
+    let cluster = start(json, alloc, LINE)?;
+    let step = feed(alloc, 5, Next::Close)?;
+    Some(
+        plan(heap, json, &cluster, &step)? > 0
+            && commit(heap, alloc, json, &cluster, &step)? > 0
+            && back(heap, alloc, json, &cluster, &step)? > 0,
+    )
+}
+
 #[test]
-fn cluster_steps(rt: HostRuntime) -> Result<(), Fail> {
+fn cluster_steps(rt: HostRuntime) {
     let heap = Refusing::new(rt.alloc());
-    let cluster = start(rt.alloc(), &heap, LINE).ok_or("no cluster")?;
-    let step = feed(&heap, 5, 1, Next::Close).ok_or("no step")?;
-    assert!(rt; plan(&heap, rt.alloc(), &cluster, &step) > Some(0));
-    assert!(rt; commit(&heap, &heap, rt.alloc(), &cluster, &step) > Some(0));
-    assert!(rt; back(&heap, &heap, rt.alloc(), &cluster, &step) > Some(0));
-    Ok(())
+    assert_eq!(rt; cluster_steps_in_turn(&heap, &heap, rt.alloc()), Some(true));
 }
