@@ -18,7 +18,7 @@ use Rattle.std.specs.FinSet as finset
 use Rattle.nd_paths.specs.Point.{point_cmp, point_total, point_exact}
 use Rattle.nd_paths.specs.declared.point.Pointstamp.{Pointstamp}
 use Rattle.nd_map.specs.Weights.{weight, weight_at, weight-insert, weight_moves}
-use Rattle.nd_delta.specs.Change.{Change, none, at, minus, same, is_point, at-none, at-set, at-minus}
+use Rattle.nd_delta.specs.Change.{Change, at, minus, same, is_point, at-none, at-set, at-minus}
 use Rattle.nd_cluster.specs.Keys.{value_at_cmp, value_at_total, value_at_exact}
 use Rattle.nd_cluster.specs.State.{ProcessorState, token_point, tally, outstanding_at, truth}
 use Rattle.nd_cluster.specs.Steps.{count_of, one_more, one_less}

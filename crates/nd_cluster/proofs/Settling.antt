@@ -4,7 +4,7 @@ use Rattle.std.specs.FinMap as fin
 use Rattle.nd_graph.specs.Graph.{Dataflow}
 use Rattle.nd_delta.specs.Change.{Change, plus}
 use Rattle.nd_cluster.specs.Keys.{value_at_cmp}
-use Rattle.nd_cluster.specs.State.{ProcessorState, ClusterState, processor}
+use Rattle.nd_cluster.specs.State.{ClusterState, processor}
 use Rattle.nd_cluster.specs.Alone.{alone, processor_of, drafted, all_more, with_made}
 use Rattle.nd_cluster.specs.Held.{settled_by}
 use Rattle.nd_cluster.specs.declared.key.ValueAt.{ValueAt}

@@ -1,18 +1,18 @@
 -- The steps of a cluster of one processor.
-use Rattle.std.proofs.Common.{◌≡◌, ◌<◌, ◌≤◌, ◌^◌, ℕ, zero, suc, ◌+◌, ℤ, pos, negsuc, ◌+ℤ◌, Bool, true, false, cond, List, [], ◌∷◌, length, Option, Some, None, unwrap_or, refl, sym, ap, subst, ◌∙◌, arith, inl, inr}
+use Rattle.std.proofs.Common.{◌≡◌, ◌<◌, ◌≤◌, ◌^◌, ℕ, zero, suc, ◌+◌, ℤ, pos, negsuc, ◌+ℤ◌, Bool, true, false, cond, List, [], ◌∷◌, length, Option, Some, None, unwrap_or, refl, sym, ap, subst, ◌∙◌, arith}
 use Rattle.std.proofs.lemmas.Int.{ints}
-use Rattle.std.proofs.lemmas.Bool.{cases_lt}
 use Rattle.std.specs.Prelude.{unsigned_abs, option_to_list, IfSome, slice_index_or}
 use Rattle.std.specs.List.{flat_map}
 use Rattle.std.proofs.lemmas.Cmp.{nat_cmp_total}
 use Rattle.std.specs.Ordering.{nat_cmp}
 use Rattle.std.specs.FinMap as fin
 use Rattle.nd_time.specs.Limits.{max_count}
+use Rattle.nd_paths.specs.declared.point.Pointstamp.{Pointstamp}
 use Rattle.nd_time.specs.Time.{Time}
 use Rattle.nd_graph.specs.Graph.{Dataflow, action_of}
 use Rattle.nd_graph.specs.declared.op.Op.TheVariants as op
 use Rattle.nd_graph.specs.declared.op.Action.TheVariants.{Identity}
-use Rattle.nd_delta.specs.Change.{entries as listed, Change, none, at, plus, same, is_point, at-none, at-plus, plus-none, IsWithin, IsTooLarge}
+use Rattle.nd_delta.specs.Change.{entries as listed, Change, none, at, plus, is_point, at-none, at-plus, plus-none, IsWithin, IsTooLarge}
 use Rattle.nd_map.specs.Listed.{IsListed}
 use Rattle.nd_map.specs.Maps.{entries-from_entries}
 use Rattle.nd_cluster.specs.Keys.{value_at_cmp, value_at_total, value_at_exact, sink_cmp, sink_total, sink_exact}
@@ -27,7 +27,7 @@ use Rattle.nd_cluster.specs.declared.step.Next.{Next as Afterwards}
 use Rattle.nd_cluster.specs.declared.step.Next.TheVariants as token
 use Rattle.nd_cluster.specs.declared.key.ValueAt.{ValueAt}
 use Rattle.nd_cluster.specs.declared.key.SinkKey.{SinkKey}
-use Rattle.nd_cluster.proofs.Held.{truth-alone, in_records-all_more, in_records-one_less, in_tokens-insert, in_tokens-remove, plus-moved}
+use Rattle.nd_cluster.proofs.Held.{in_records-all_more, in_records-one_less, in_tokens-insert, in_tokens-remove, plus-moved}
 use Rattle.nd_cluster.proofs.Moved.{gained, comes_all, made_comes, time_kept, at-moved_at, at-with_made, at-gone}
 
 -- ---- a feed

@@ -1,5 +1,5 @@
 -- A cluster of one processor: how its maps are kept, and what a step makes of them.
-use Rattle.std.specs.Prelude.{◌≡◌, ℕ, ◌+◌, ◌^◌, ◌<◌, ◌≤◌, Option, Some, IfSome, option_to_list, ℤ, pos, negsuc, ◌+ℤ◌, length, ◌&&◌, ◌++◌, List, [], ◌∷◌, nat_eq, count_by, if◌then◌else◌}
+use Rattle.std.specs.Prelude.{◌≡◌, ℕ, ◌+◌, ◌<◌, ◌≤◌, Option, Some, IfSome, option_to_list, ℤ, pos, negsuc, ◌+ℤ◌, length, ◌&&◌, ◌++◌, List, [], ◌∷◌, nat_eq, count_by, if◌then◌else◌}
 use Rattle.std.specs.declared.cmp.Ordering.{Ordering}
 use Rattle.std.specs.List.{flat_map}
 use Rattle.std.specs.FinMap as fin
