@@ -212,10 +212,10 @@ in_records-from_entries es x h = ap (λ fs. weight (λ (k : ValueAt) n. cond (is
 pub few_records : (es : List (ValueAt × ℕ)) (x : Pointstamp) → IsListed value_at_cmp es → IsWithinCounts (fin.from_entries {R = value_at_cmp} es) → length es < 2 ^ 63 → sum_by (λ e. cond (is_point x e.0.point) e.1 0) es < 2 ^ 127
 few_records es x listed within short =
     let bound : sum_by (λ (e : ValueAt × ℕ). cond (is_point x e.0.point) e.1 0) es ≤ length es * 2 ^ 40 = sum_by-le (λ (e : ValueAt × ℕ). cond (is_point x e.0.point) e.1 0) (2 ^ 40) es (λ k d lt.
-        let e : ValueAt × ℕ = get_or es k d in
-        let found : count_of (fin.from_entries {R = value_at_cmp} es) e.0 ≡ e.1 =
-            ap (λ (v : Option ℕ). unwrap_or v 0) (fin.get-from_entries value_at_total es e.0 ∙ find-index value_at_cmp value_at_total es k d listed lt) in
-        at_most (is_point x e.0.point) e.1 (omega (arith, found, within e.0))) in
+    let e : ValueAt × ℕ = get_or es k d in
+    let found : count_of (fin.from_entries {R = value_at_cmp} es) e.0 ≡ e.1 =
+    ap (λ (v : Option ℕ). unwrap_or v 0) (fin.get-from_entries value_at_total es e.0 ∙ find-index value_at_cmp value_at_total es k d listed lt) in
+    at_most (is_point x e.0.point) e.1 (omega (arith, found, within e.0))) in
     let many : length es * 2 ^ 40 ≤ 2 ^ 63 * 2 ^ 40 = omega arith in
     omega arith
   where

@@ -110,7 +110,7 @@ settled_by_change s p new views unsent lt was = record {
       let now_views : map (λ q. q.view) (settled old p new) ≡ map (λ q. q.view) old = map-set (λ q. q.view) new p _ refl ∙ views in
       let now_many : length (settled old p new) ≡ length old = sym (length-map (settled old p new) (λ q. q.view)) ∙ ap length now_views ∙ length-map old (λ q. q.view) in
       let knows : (slice_index_or (settled old p new) k idle).view ≡ (slice_index_or old k idle).view =
-          sym (get_or-map (λ (q : ProcessorState). q.view) (settled old p new) k idle) ∙ ap (λ vs. slice_index_or vs k none) now_views ∙ get_or-map (λ (q : ProcessorState). q.view) old k idle in
+      sym (get_or-map (λ (q : ProcessorState). q.view) (settled old p new) k idle) ∙ ap (λ vs. slice_index_or vs k none) now_views ∙ get_or-map (λ (q : ProcessorState). q.view) old k idle in
       let truth_now = ap (λ c. at c x) (truth-settled old p new) in
       let moved = at-minus (truth new) (truth old) x in
       let adds : at (truth old) x ≡ at (plus (slice_index_or old k idle).view (sum_of (unsents old ++ underway s k))) x = ap (λ c. at c x) (was.adds_up k (omega arith)) in

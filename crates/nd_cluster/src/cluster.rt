@@ -45,10 +45,7 @@ impl<A: Allocator + Copy> Model for Cluster<A> {
 }
 
 // How many records there are at a pointstamp.
-fn count_records<A: Allocator>(
-    records: &SortedMap<ValueAt, u64, A>,
-    point: &Pointstamp,
-) -> u128
+fn count_records<A: Allocator>(records: &SortedMap<ValueAt, u64, A>, point: &Pointstamp) -> u128
     requires { IsWithinCounts (from_entries {R = value_at_cmp} records.now) }
     ensures value { result ≡ in_records (from_entries records.now) point.now }
     ensures fits { result < 2 ^ 127 }
@@ -103,7 +100,7 @@ impl<A: Allocator + Copy> Cluster<A> {
         ensures value { pos result ≡ at (truth self.now.processors) point.now }
         ensures small { IsSettled self.now → result < 2 ^ 63 }
     {
-        // The limits of both changes are what bounds the count of a settled cluster.
+        // In a settled cluster the limits of its view and of its unsent change bound the count.
         let _ = self.view.entries();
         let _ = self.unsent.entries();
         count_records(&self.records, point) + u128::from(count_tokens(&self.tokens, point))
