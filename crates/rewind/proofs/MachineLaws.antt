@@ -6,6 +6,7 @@ use Rattle.nd_time.specs.Limits.{max_kept}
 use Rattle.nd_cluster.specs.State.{ClusterState}
 use Rattle.nd_cluster.specs.Steps.{after, stepped}
 use Rattle.nd_cluster.specs.Records.{IsPlanned, Leads}
+use Rattle.nd_cluster.specs.Settled.{IsSettled, settled_step}
 use Rattle.nd_cluster.specs.declared.record.Record.{Record}
 use Rattle.nd_cluster.specs.declared.step.Step.{Step}
 use Rattle.rewind.specs.Reached.{steps_of, ArePlanned, IsReached}
@@ -45,11 +46,21 @@ after-take s [] i d lt = absurd (omega arith)
 after-take s (r ∷ rs) zero d lt = refl
 after-take s (r ∷ rs) (suc i) d lt = after-take (stepped s r.step) rs i d (omega arith)
 
+-- steps that were planned keep a settled cluster settled
+settled-after : (s : ClusterState) (n : ℕ) (rs : List (Record Global)) → IsSettled s → ArePlanned s rs → IsSettled (after s (take n (steps_of rs)))
+unfolding after
+settled-after s zero rs was h = was
+settled-after s (suc n) [] was h = was
+settled-after s (suc n) (r ∷ rs) was h = settled-after (stepped s r.step) n rs (settled_step s r.step h.0.enabled was) h.1
+
 -- ---- what the calls of a machine keep
 
-pub begun : (s : ClusterState) (rs : List (Record Global)) → rs ≡ [] → (b : ClusterState) → b ≡ s → IsReached b s rs 0
+pub still_settled : (base cluster : ClusterState) (rs : List (Record Global)) (n : ℕ) → IsReached base cluster rs n → IsSettled cluster
+still_settled base cluster rs n was = subst IsSettled (sym was.reached) (settled-after base n rs was.settled was.planned)
+
+pub begun : (s : ClusterState) (rs : List (Record Global)) → rs ≡ [] → (b : ClusterState) → b ≡ s → IsSettled s → IsReached b s rs 0
 unfolding after
-begun s rs is b same = rw is (record { within = omega arith; few = omega arith; reached = sym same; planned = tt })
+begun s rs is b same settled = rw is (record { within = omega arith; few = omega arith; reached = sym same; planned = tt; settled = subst IsSettled (sym same) settled })
 
 -- a step that is planned at the cursor and made
 pub extends : (base cluster next : ClusterState) (rs : List (Record Global)) (n : ℕ) (r : Record Global) → IsReached base cluster rs n → n < max_kept → IsPlanned r cluster → next ≡ stepped cluster r.step
@@ -66,6 +77,7 @@ extends base cluster next rs n r was room planned leads =
       few = omega (arith, more);
       reached = leads ∙ ap (λ s. stepped s r.step) at_cursor ∙ sym (after-push base (steps_of front) r.step) ∙ ap (after base) (sym (steps_of-push front r)) ∙ ap (after base) (sym all);
       planned = planned-push base front r (planned-take base n rs was.planned) (subst (λ (s : ClusterState). IsPlanned r s) at_cursor planned);
+      settled = was.settled;
     }
 
 -- the record before the cursor has led to the cluster
@@ -77,4 +89,4 @@ led base cluster rs (suc n) d was some =
     rw less (record { planned = planned-at base rs n d lt was.planned; after = was.reached ∙ after-take base rs n d lt })
 
 pub returned : (base cluster : ClusterState) (rs : List (Record Global)) (n : ℕ) → IsReached base cluster rs n → IsReached base (after base (take (n - 1) (steps_of rs))) rs (n - 1)
-returned base cluster rs n was = record { within = omega (arith, was.within); few = was.few; reached = refl; planned = was.planned }
+returned base cluster rs n was = record { within = omega (arith, was.within); few = was.few; reached = refl; planned = was.planned; settled = was.settled }
