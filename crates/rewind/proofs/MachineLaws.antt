@@ -1,10 +1,11 @@
 -- Kept steps: one more at the end, the front of them, and the step at a place.
-use Rattle.std.proofs.Common.{◌≡◌, ◌≤◌, ◌<◌, ℕ, zero, suc, ◌+◌, ◌-◌, List, [], ◌∷◌, ◌++◌, map, length, take, get_or, refl, sym, ap, subst, ◌∙◌, arith, add-one, length-append}
+use Rattle.std.proofs.Common.{◌≡◌, ◌<◌, ℕ, zero, suc, ◌+◌, ◌-◌, List, [], ◌∷◌, ◌++◌, length, take, get_or, refl, sym, ap, subst, ◌∙◌, arith, length-append}
+use Rattle.std.proofs.lemmas.List.{length-map, length-take-le, map-append, take-map, take_all}
 use Rattle.std.specs.declared.alloc.Global.{Global}
 use Rattle.nd_time.specs.Limits.{max_kept}
 use Rattle.nd_cluster.specs.State.{ClusterState}
 use Rattle.nd_cluster.specs.Steps.{after, stepped}
-use Rattle.nd_cluster.specs.Records.{IsPlanned, Leads, IsCommitted}
+use Rattle.nd_cluster.specs.Records.{IsPlanned, Leads}
 use Rattle.nd_cluster.specs.Settled.{IsSettled, settled_step}
 use Rattle.nd_cluster.specs.declared.record.Record.{Record}
 use Rattle.nd_cluster.specs.declared.step.Step.{Step}
@@ -16,28 +17,10 @@ after-push s [] x = refl
 after-push s (y ∷ xs) x = after-push (stepped s y) xs x
 
 pub steps_of-push : (rs : List (Record Global)) (r : Record Global) → steps_of (rs ++ r ∷ []) ≡ steps_of rs ++ r.step ∷ []
-steps_of-push [] r = refl
-steps_of-push (q ∷ rs) r = ap (λ xs. q.step ∷ xs) (steps_of-push rs r)
+steps_of-push rs r = map-append (λ x. x.step) rs (r ∷ [])
 
 pub steps_of-take : (n : ℕ) (rs : List (Record Global)) → steps_of (take n rs) ≡ take n (steps_of rs)
-steps_of-take zero rs = refl
-steps_of-take (suc n) [] = refl
-steps_of-take (suc n) (r ∷ rs) = ap (λ xs. r.step ∷ xs) (steps_of-take n rs)
-
-pub length-steps_of : (rs : List (Record Global)) → length (steps_of rs) ≡ length rs
-length-steps_of [] = refl
-length-steps_of (r ∷ rs) = ap suc (length-steps_of rs)
-
-pub take-whole : {A : Type 0} (n : ℕ) (xs : List A) → length xs ≤ n → take n xs ≡ xs
-take-whole zero [] h = refl
-take-whole (suc n) [] h = refl
-take-whole zero (x ∷ xs) h = absurd (omega arith)
-take-whole (suc n) (x ∷ xs) h = ap (λ ys. x ∷ ys) (take-whole n xs (omega arith))
-
-pub length-front : {A : Type 0} (n : ℕ) (xs : List A) → n ≤ length xs → length (take n xs) ≡ n
-length-front zero xs h = refl
-length-front (suc n) [] h = absurd (omega arith)
-length-front (suc n) (x ∷ xs) h = ap suc (length-front n xs (omega arith))
+steps_of-take n rs = sym (take-map (λ x. x.step) n rs)
 
 pub planned-take : (s : ClusterState) (n : ℕ) (rs : List (Record Global)) → ArePlanned s rs → ArePlanned s (take n rs)
 planned-take s zero rs h = tt
@@ -84,11 +67,11 @@ pub extends : (base cluster next : ClusterState) (rs : List (Record Global)) (n 
     → IsReached base next (take n rs ++ r ∷ []) (n + 1)
 extends base cluster next rs n r was room planned leads =
     let front : List (Record Global) = take n rs in
-    let count : length front ≡ n = length-front n rs was.within in
+    let count : length front ≡ n = length-take-le n rs was.within in
     let more : length (front ++ r ∷ []) ≡ n + 1 = omega (arith, length-append front (r ∷ []), count) in
     let steps : steps_of front ≡ take n (steps_of rs) = steps_of-take n rs in
     let at_cursor : cluster ≡ after base (steps_of front) = was.reached ∙ ap (after base) (sym steps) in
-    let all : take (n + 1) (steps_of (front ++ r ∷ [])) ≡ steps_of (front ++ r ∷ []) = take-whole (n + 1) (steps_of (front ++ r ∷ [])) (omega (arith, length-steps_of (front ++ r ∷ []), more)) in
+    let all : take (n + 1) (steps_of (front ++ r ∷ [])) ≡ steps_of (front ++ r ∷ []) = take_all (n + 1) (steps_of (front ++ r ∷ [])) (omega (arith, length-map (front ++ r ∷ []) (λ x. x.step), more)) in
     record {
       within = omega (arith, more);
       few = omega (arith, more);

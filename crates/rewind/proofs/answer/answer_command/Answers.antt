@@ -1,4 +1,4 @@
-use Rattle.std.proofs.Common.{◌≡◌, ap, ◌∙◌, sym}
+use Rattle.std.proofs.Common.{ap, ◌∙◌, sym}
 use Rattle.rewind_forms.specs.Forms.{command_of}
 use Rattle.rewind.proofs.AnswerLaws.{asked_replies, fault_replies}
 use Rattle.serde_json.specs.View.{view}
