@@ -33,7 +33,7 @@ module _ (s : ClusterState) (p vertex : ℕ) (values : List ℤ) (next : Afterwa
   found : fin.get (processor s 0).tokens vertex ≡ Some epoch
   found = ap (λ r. fin.get (processor s r).tokens vertex) (sym can.first) ∙ can.held
 
-  pub feed_drafted : Moves (processor s 0) (drafted (processor s 0) records tokens sinks made) (with_made change made)
+  feed_drafted : Moves (processor s 0) (drafted (processor s 0) records tokens sinks made) (with_made change made)
   feed_drafted =
       let both : ◌≡◌ {A = ProcessorState × Change} (fed_here s.graph (processor s 0) vertex values next epoch, with_made (token_change vertex epoch next) (fed_records s.graph vertex (record { epoch = epoch; counters = [] }) values)) (drafted (processor s 0) records tokens sinks made, with_made change made) = λ i. (sym fed_is i, sym total_is i) in
       subst (λ (t : ProcessorState × Change). Moves (processor s 0) t.0 t.1) both (feed_moves s.graph (processor s 0) vertex values next epoch found)
@@ -72,11 +72,6 @@ module _ (s : ClusterState) (p edge : ℕ) (t : Time) (value : ℤ) (count : ℕ
 
     total_taken : with_made change made ≡ take_change
     total_taken = λ i. with_made (change_is i) (are_made i)
-
-    pub take_drafted : Moves (processor s 0) (drafted (processor s 0) records tokens sinks made) (with_made change made)
-    take_drafted =
-        let both : ◌≡◌ {A = ProcessorState × Change} (taken_here s.graph (processor s 0) edge t value (option_to_list e), take_change) (drafted (processor s 0) records tokens sinks made, with_made change made) = λ i. (sym taken_is i, sym total_taken i) in
-        subst (λ (u : ProcessorState × Change). Moves (processor s 0) u.0 u.1) both (take_moves s.graph (processor s 0) edge t value (option_to_list e) there_are)
 
     pub take_settled : after_take s p edge t value ≡ alone s.graph (settled_by (processor s 0) (drafted (processor s 0) records tokens sinks made) (with_made change made))
     take_settled = take_state ∙ (λ i. alone s.graph (settled_by (processor s 0) (sym taken_is i) (sym total_taken i)))

@@ -1,15 +1,16 @@
 -- What is outstanding in a processor, as sums over its maps, and how an edit of a map moves it.
-use Rattle.std.proofs.Common.{◌≡◌, ◌≢◌, ◌<◌, ◌≤◌, length, take, get_or, ℕ, zero, suc, ◌+◌, ◌-◌, ℤ, pos, ◌+ℤ◌, Bool, true, false, cond, List, [], ◌∷◌, ◌++◌, map, Option, Some, None, Ordering, unwrap_or, refl, sym, ap, ◌∙◌, arith, true≢false}
+use Rattle.std.proofs.Common.{◌≡◌, ◌≢◌, ◌<◌, ◌≤◌, length, take, get_or, ℕ, zero, suc, ◌+◌, ◌-◌, ◌*◌, ◌^◌, ℤ, pos, ◌+ℤ◌, Bool, true, false, cond, List, [], ◌∷◌, ◌++◌, map, Option, Some, None, Ordering, unwrap_or, refl, sym, ap, ◌∙◌, arith, true≢false}
 use Rattle.std.proofs.lemmas.Int.{ints}
 use Rattle.std.proofs.lemmas.Bool.Decides.{nat_tests}
 use Rattle.std.proofs.lemmas.List.{append-nil}
-use Rattle.std.proofs.lemmas.List.Sums.{sum_by-cons, sum_by-append, sum_by_more, sum_by_more_le}
+use Rattle.std.proofs.lemmas.List.Sums.{sum_by-cons, sum_by-append, sum_by_more, sum_by_more_le, sum_by-le}
 use Rattle.std.proofs.lemmas.Cmp.{tied_itself, nat_cmp_total}
 use Rattle.std.proofs.lemmas.Map.Views.{tells_apart}
 use Rattle.std.specs.Prelude.{sum_by, nat_eq, ◌||◌}
 use Rattle.std.specs.List.{list_any}
 use Rattle.nd_map.specs.Listed.{IsListed}
 use Rattle.nd_map.specs.Maps.{entries-from_entries}
+use Rattle.nd_map.specs.Entries.{find-index}
 use Rattle.std.specs.Cmp.{IsTotalOrder}
 use Rattle.std.specs.Ordering.{nat_cmp, eq_by_cmp, is_eq}
 use Rattle.std.specs.FinMap as fin
@@ -17,11 +18,11 @@ use Rattle.std.specs.FinSet as finset
 use Rattle.nd_paths.specs.Point.{point_cmp, point_total, point_exact}
 use Rattle.nd_paths.specs.declared.point.Pointstamp.{Pointstamp}
 use Rattle.nd_map.specs.Weights.{weight, weight_at, weight-insert, weight_moves}
-use Rattle.nd_delta.specs.Change.{Change, none, at, minus, same, is_point, at-none, at-set, at-minus}
+use Rattle.nd_delta.specs.Change.{Change, at, minus, same, is_point, at-none, at-set, at-minus}
 use Rattle.nd_cluster.specs.Keys.{value_at_cmp, value_at_total, value_at_exact}
 use Rattle.nd_cluster.specs.State.{ProcessorState, token_point, tally, outstanding_at, truth}
 use Rattle.nd_cluster.specs.Steps.{count_of, one_more, one_less}
-use Rattle.nd_cluster.specs.Alone.{all_more, number_at}
+use Rattle.nd_cluster.specs.Alone.{all_more, number_at, IsWithinCounts}
 use Rattle.nd_cluster.specs.Held.{one_at, in_records, in_requests, in_tokens, held}
 use Rattle.nd_cluster.specs.declared.key.ValueAt.{ValueAt}
 
@@ -168,12 +169,16 @@ plus-moved q r change moved =
 
 -- ---- an empty set of requests
 
-no_items : (es : List Pointstamp) → ((x : Pointstamp) → list_any (eq_by_cmp point_cmp x) es ≡ false) → es ≡ []
-no_items [] nothing = refl
-no_items (e ∷ es) nothing = absurd (true≢false (sym (ap (λ r. is_eq r || list_any (eq_by_cmp point_cmp e) es) (tied_itself point_total e)) ∙ nothing e))
+no_members : {K : Type 0} (R : K → K → Ordering) → IsTotalOrder R → (ks : List K) → ((q : K) → list_any (eq_by_cmp R q) ks ≡ false) → ks ≡ []
+no_members R o [] nothing = refl
+no_members R o (k ∷ ks) nothing = absurd (true≢false (sym (ap (λ r. is_eq r || list_any (eq_by_cmp R k) ks) (tied_itself o k)) ∙ nothing k))
+
+-- a set with nothing in it has no items
+pub items-empty : {K : Type 0} (R : K → K → Ordering) → IsTotalOrder R → finset.items (finset.empty {R = R}) ≡ []
+items-empty R o = no_members R o _ (λ q. sym (finset.contains-items (finset.empty {R = R}) q) ∙ finset.contains-empty R q)
 
 pub no_requests : (x : Pointstamp) → in_requests finset.empty x ≡ 0
-no_requests x = ap (λ ps. sum_by (λ p. one_at p x) ps) (no_items (finset.items finset.empty) (λ y. sym (finset.contains-items finset.empty y) ∙ finset.contains-empty point_cmp y))
+no_requests x = ap (λ ps. sum_by (λ p. one_at p x) ps) (items-empty point_cmp point_total)
 
 pub no_records : (x : Pointstamp) → in_records fin.empty x ≡ 0
 no_records x = ap (λ es. weight (λ (k : ValueAt) n. cond (is_point x k.point) n 0) es) (entries-from_entries value_at_cmp value_at_total value_at_exact [] tt)
@@ -202,6 +207,21 @@ sum_all f xs i h = ap (sum_by f) (take_all xs i h)
 
 pub in_records-from_entries : (es : List (ValueAt × ℕ)) (x : Pointstamp) → IsListed value_at_cmp es → in_records (fin.from_entries es) x ≡ sum_by (λ e. cond (is_point x e.0.point) e.1 0) es
 in_records-from_entries es x h = ap (λ fs. weight (λ (k : ValueAt) n. cond (is_point x k.point) n 0) fs) (entries-from_entries value_at_cmp value_at_total value_at_exact es h)
+
+-- so many entries, each within the limit, are few
+pub few_records : (es : List (ValueAt × ℕ)) (x : Pointstamp) → IsListed value_at_cmp es → IsWithinCounts (fin.from_entries {R = value_at_cmp} es) → length es < 2 ^ 63 → sum_by (λ e. cond (is_point x e.0.point) e.1 0) es < 2 ^ 127
+few_records es x listed within short =
+    let bound : sum_by (λ (e : ValueAt × ℕ). cond (is_point x e.0.point) e.1 0) es ≤ length es * 2 ^ 40 = sum_by-le (λ (e : ValueAt × ℕ). cond (is_point x e.0.point) e.1 0) (2 ^ 40) es (λ k d lt.
+    let e : ValueAt × ℕ = get_or es k d in
+    let found : count_of (fin.from_entries {R = value_at_cmp} es) e.0 ≡ e.1 =
+    ap (λ (v : Option ℕ). unwrap_or v 0) (fin.get-from_entries value_at_total es e.0 ∙ find-index value_at_cmp value_at_total es k d listed lt) in
+    at_most (is_point x e.0.point) e.1 (omega (arith, found, within e.0))) in
+    let many : length es * 2 ^ 40 ≤ 2 ^ 63 * 2 ^ 40 = omega arith in
+    omega arith
+  where
+    at_most : (b : Bool) (n : ℕ) → n ≤ 2 ^ 40 → cond b n 0 ≤ 2 ^ 40
+    at_most true n h = h
+    at_most false n h = omega arith
 
 pub in_tokens-from_entries : (es : List (ℕ × ℕ)) (x : Pointstamp) → IsListed nat_cmp es → in_tokens (fin.from_entries es) x ≡ sum_by (λ e. one_at (token_point e.0 e.1) x) es
 in_tokens-from_entries es x h = ap (λ fs. weight (λ v e. one_at (token_point v e) x) fs) (entries-from_entries nat_cmp nat_cmp_total fin.nat_cmp-IsAntisymmetric es h)

@@ -1,15 +1,15 @@
 -- The last part of a step: what the maps of a draft make of the cluster.
-use Rattle.std.proofs.Common.{◌≡◌, ℕ, List, sym, ap, subst, ◌∙◌}
+use Rattle.std.proofs.Common.{◌≡◌, ℕ, List, ap, ◌∙◌}
 use Rattle.std.specs.FinMap as fin
 use Rattle.nd_graph.specs.Graph.{Dataflow}
-use Rattle.nd_delta.specs.Change.{Change, plus, IsWithin, IsTooLarge}
-use Rattle.nd_cluster.specs.Keys.{value_at_cmp, sink_cmp}
-use Rattle.nd_cluster.specs.State.{ProcessorState, ClusterState, processor}
-use Rattle.nd_cluster.specs.Alone.{alone, processor_of, drafted, all_more, with_made, IsKept, IsWithinCounts}
-use Rattle.nd_cluster.specs.Held.{Moves, settled_by}
+use Rattle.nd_delta.specs.Change.{Change, plus}
+use Rattle.nd_cluster.specs.Keys.{value_at_cmp}
+use Rattle.nd_cluster.specs.State.{ClusterState, processor}
+use Rattle.nd_cluster.specs.Alone.{alone, processor_of, drafted, all_more, with_made}
+use Rattle.nd_cluster.specs.Held.{settled_by}
 use Rattle.nd_cluster.specs.declared.key.ValueAt.{ValueAt}
 use Rattle.nd_cluster.specs.declared.key.SinkKey.{SinkKey}
-use Rattle.nd_cluster.proofs.Stepped.{kept_after, processor_is, graph_is}
+use Rattle.nd_cluster.proofs.Stepped.{processor_is, graph_is}
 
 module _ (g : Dataflow) (records : List (ValueAt × ℕ)) (tokens : List (ℕ × ℕ)) (sinks : List (SinkKey × ℕ)) (unsent view : Change) (s : ClusterState) (is : alone g (processor_of records tokens sinks unsent view) ≡ s) where
   the_processor : processor_of records tokens sinks unsent view ≡ processor s 0
@@ -31,19 +31,6 @@ module _ (g : Dataflow) (records : List (ValueAt × ℕ)) (tokens : List (ℕ ×
         unsent = (adds ∙ unsent_is) i;
         view = (same_view ∙ ap (λ q. q.view) the_processor) i;
       }
-
-      pub settled_kept :
-          IsKept (processor_of records tokens sinks unsent view)
-          → IsWithinCounts (fin.from_entries {R = value_at_cmp} new_records)
-          → IsWithinCounts (fin.from_entries {R = sink_cmp} new_sinks)
-          → Moves (processor s 0) (drafted (processor s 0) drafted_records new_tokens new_sinks made) (with_made change made)
-          → IsWithin view
-          → (IsTooLarge (plus unsent total) → ⊥)
-          → IsKept (processor_of new_records new_tokens new_sinks new_unsent new_view)
-      settled_kept kept few_records few_sinks moves within small =
-          subst IsKept (sym settled_is)
-          (kept_after (processor s 0) (drafted (processor s 0) drafted_records new_tokens new_sinks made) (with_made change made) (subst IsKept the_processor kept) moves (subst IsWithinCounts more few_records) few_sinks
-          (subst (λ (q : ProcessorState). IsWithin q.view) the_processor within) (λ large. small (subst IsTooLarge (sym unsent_is) large)))
 
       pub settled_state : (h : Dataflow) → h ≡ g → alone h (processor_of new_records new_tokens new_sinks new_unsent new_view) ≡ alone s.graph (settled_by (processor s 0) (drafted (processor s 0) drafted_records new_tokens new_sinks made) (with_made change made))
       settled_state h same = λ i. alone ((same ∙ graph_is g (processor_of records tokens sinks unsent view) s is) i) (settled_is i)

@@ -1,10 +1,6 @@
 -- What the state of one processor shows.
-use Rattle.std.proofs.Common.{◌≡◌, ◌∙◌, ℕ, ℤ, List, [], ◌∷◌, length, Bool, true, false, ◌||◌, refl, sym, ap, arith}
+use Rattle.std.proofs.Common.{◌≡◌, ◌∙◌, ℕ, ℤ, List, [], ◌∷◌, length, refl, sym, ap, arith}
 use Rattle.std.specs.declared.cmp.Ordering.{Ordering}
-use Rattle.std.specs.Ordering.{eq_by_cmp, is_eq}
-use Rattle.std.specs.List.{list_any}
-use Rattle.std.specs.Cmp.{IsTotalOrder}
-use Rattle.std.proofs.lemmas.Cmp.{tied_itself}
 use Rattle.std.specs.FinMap as fin
 use Rattle.std.specs.FinSet as finset
 use Rattle.nd_graph.specs.Graph.{Dataflow}
@@ -19,6 +15,7 @@ use Rattle.nd_cluster.specs.Alone.{alone, processor_of}
 use Rattle.nd_cluster.specs.declared.key.ValueAt.{ValueAt}
 use Rattle.nd_cluster.specs.declared.key.SinkKey.{SinkKey}
 use Rattle.nd_cluster.specs.State.{ProcessorState}
+use Rattle.nd_cluster.proofs.Held.{items-empty}
 use Rattle.nd_cluster.specs.StateText.{state_data, processor_data, alone_data, listed_data, whole_data, row}
 
 -- a processor without items and requests, alone, and its queue without changes
@@ -30,21 +27,13 @@ state_data-alone g q items requests =
     ap (λ es. whole_data (listed_data g es (fin.entries q.records) (finset.items q.requests) (fin.entries q.sinks) (fin.entries q.tokens) (entries q.unsent) (entries q.view) ∷ []) (row (row [] ∷ []) ∷ [])) items
     ∙ ap (λ xs. whole_data (listed_data g [] (fin.entries q.records) xs (fin.entries q.sinks) (fin.entries q.tokens) (entries q.unsent) (entries q.view) ∷ []) (row (row [] ∷ []) ∷ [])) requests
 
--- ---- maps and sets with nothing in them
-
-no_items : {A : Type 0} (xs : List A) → length xs ≡ 0 → xs ≡ []
-no_items [] e = refl
-no_items (x ∷ xs) e = absurd (omega arith)
-
+-- a map with nothing in it has no entries
 pub entries-empty : {K : Type 0} (R : K → K → Ordering) (X : Type 0) → fin.entries (fin.empty {X = X} {R = R}) ≡ []
-entries-empty R X = let m : fin.FinMap R X = fin.empty in no_items (fin.entries m) (sym (fin.len-entries m) ∙ fin.len-empty R X)
-
-no_members : {K : Type 0} (R : K → K → Ordering) → IsTotalOrder R → (xs : List K) → ((q : K) → list_any (eq_by_cmp R q) xs ≡ false) → xs ≡ []
-no_members R o [] h = refl
-no_members R o (x ∷ xs) h = absurd (let e : (eq_by_cmp R x x || list_any (eq_by_cmp R x) xs) ≡ false = h x in let t : eq_by_cmp R x x ≡ true = ap is_eq (tied_itself o x) in cc (rw t at e))
-
-pub items-empty : {K : Type 0} (R : K → K → Ordering) → IsTotalOrder R → finset.items (finset.empty {R = R}) ≡ []
-items-empty R o = no_members R o _ (λ q. sym (finset.contains-items (finset.empty {R = R}) q) ∙ finset.contains-empty R q)
+entries-empty R X = let m : fin.FinMap R X = fin.empty in nothing (fin.entries m) (sym (fin.len-entries m) ∙ fin.len-empty R X)
+  where
+    nothing : {A : Type 0} (xs : List A) → length xs ≡ 0 → xs ≡ []
+    nothing [] e = refl
+    nothing (x ∷ xs) e = absurd (omega arith)
 
 -- the state of the processor whose maps have these entries
 pub shown : (g : Dataflow) (records : List (ValueAt × ℕ)) (tokens : List (ℕ × ℕ)) (sinks : List (SinkKey × ℕ)) (unsent known : Change) → IsListed value_at_cmp records → IsListed nat_cmp tokens → IsListed sink_cmp sinks

@@ -9,7 +9,7 @@ use Rattle.nd_paths.specs.declared.accept.PathFault.{PathFault}
 use Rattle.nd_paths.specs.declared.accept.PathFault.TheVariants as path
 use Rattle.nd_graph.specs.Graph.{Dataflow}
 use Rattle.nd_graph.specs.declared.graph.Vertex.{Vertex}
-use Rattle.nd_delta.specs.Change.{Change, none, at, is_point, same, at-none, at-plus}
+use Rattle.nd_delta.specs.Change.{Change, none, at, is_point, same}
 use Rattle.nd_cluster.specs.Keys.{value_at_cmp, sink_cmp}
 use Rattle.nd_cluster.specs.State.{truth, token_point}
 use Rattle.nd_cluster.specs.Operators.{is_input}
@@ -34,16 +34,10 @@ start_alone g tokens view is shown =
       queues = ([] ∷ []) ∷ [];
     }
 
-pub kept_start : (tokens : List (ℕ × ℕ)) (view : Change) → ShowsTokens (fin.from_entries tokens) view → IsKept (processor_of [] tokens [] none view)
-kept_start tokens view shown = record {
+pub kept_start : (tokens : List (ℕ × ℕ)) (view : Change) → IsKept (processor_of [] tokens [] none view)
+kept_start tokens view = record {
   records = λ k. rw (fin.get-empty {X = ℕ} value_at_cmp k) (omega arith);
   sinks = λ k. rw (fin.get-empty {X = ℕ} sink_cmp k) (omega arith);
-  settled = same _ _ (λ x.
-      let seen = shown.shows x in
-      let none_unsent = at-none x in
-      let sum = at-plus view none x in
-      truth-alone (processor_of [] tokens [] none view) x ∙ ap pos (held_tokens tokens none view x) ∙ omega (arith, ints));
-  few = λ x. rw (held_tokens tokens none view x) (shown.few x);
 }
 
 -- a turn of the loop that goes down the vertices

@@ -1,18 +1,18 @@
 -- The steps of a cluster of one processor.
-use Rattle.std.proofs.Common.{◌≡◌, ◌<◌, ◌≤◌, ◌^◌, ℕ, zero, suc, ◌+◌, ℤ, pos, negsuc, ◌+ℤ◌, Bool, true, false, cond, List, [], ◌∷◌, length, Option, Some, None, unwrap_or, refl, sym, ap, subst, ◌∙◌, arith, inl, inr}
+use Rattle.std.proofs.Common.{◌≡◌, ◌<◌, ◌≤◌, ◌^◌, ℕ, zero, suc, ◌+◌, ℤ, pos, negsuc, ◌+ℤ◌, Bool, true, false, cond, List, [], ◌∷◌, length, Option, Some, None, unwrap_or, refl, sym, ap, subst, ◌∙◌, arith}
 use Rattle.std.proofs.lemmas.Int.{ints}
-use Rattle.std.proofs.lemmas.Bool.{cases_lt}
 use Rattle.std.specs.Prelude.{unsigned_abs, option_to_list, IfSome, slice_index_or}
 use Rattle.std.specs.List.{flat_map}
 use Rattle.std.proofs.lemmas.Cmp.{nat_cmp_total}
 use Rattle.std.specs.Ordering.{nat_cmp}
 use Rattle.std.specs.FinMap as fin
 use Rattle.nd_time.specs.Limits.{max_count}
+use Rattle.nd_paths.specs.declared.point.Pointstamp.{Pointstamp}
 use Rattle.nd_time.specs.Time.{Time}
 use Rattle.nd_graph.specs.Graph.{Dataflow, action_of}
 use Rattle.nd_graph.specs.declared.op.Op.TheVariants as op
 use Rattle.nd_graph.specs.declared.op.Action.TheVariants.{Identity}
-use Rattle.nd_delta.specs.Change.{entries as listed, Change, none, at, plus, same, is_point, at-none, at-plus, IsWithin, IsTooLarge}
+use Rattle.nd_delta.specs.Change.{entries as listed, Change, none, at, plus, is_point, at-none, at-plus, plus-none, IsWithin, IsTooLarge}
 use Rattle.nd_map.specs.Listed.{IsListed}
 use Rattle.nd_map.specs.Maps.{entries-from_entries}
 use Rattle.nd_cluster.specs.Keys.{value_at_cmp, value_at_total, value_at_exact, sink_cmp, sink_total, sink_exact}
@@ -21,12 +21,13 @@ use Rattle.nd_cluster.specs.Operators.{op_at, emissions, time_past}
 use Rattle.nd_cluster.specs.Steps.{count_of, one_less, with_records, emitted, moved_token, target_of, record_key, fed, taken, settled, after_feed, after_take}
 use Rattle.nd_cluster.specs.Enabled.{HasLargeCount, of_record, of_sink, HasLargeEntry}
 use Rattle.nd_cluster.specs.Alone.{IsBare, processor_of, alone, IsAlone, IsKept, IsFull, IsWithinCounts, made_here, fed_records, taken_records, with_made, token_change, moved_at, fed_here, taken_here}
-use Rattle.nd_cluster.specs.Held.{held, Moves, settled_by}
+use Rattle.nd_cluster.specs.Held.{Moves, settled_by}
+use Rattle.nd_cluster.specs.Settled.{IsSettled}
 use Rattle.nd_cluster.specs.declared.step.Next.{Next as Afterwards}
 use Rattle.nd_cluster.specs.declared.step.Next.TheVariants as token
 use Rattle.nd_cluster.specs.declared.key.ValueAt.{ValueAt}
 use Rattle.nd_cluster.specs.declared.key.SinkKey.{SinkKey}
-use Rattle.nd_cluster.proofs.Held.{truth-alone, in_records-all_more, in_records-one_less, in_tokens-insert, in_tokens-remove, plus-moved}
+use Rattle.nd_cluster.proofs.Held.{in_records-all_more, in_records-one_less, in_tokens-insert, in_tokens-remove, plus-moved}
 use Rattle.nd_cluster.proofs.Moved.{gained, comes_all, made_comes, time_kept, at-moved_at, at-with_made, at-gone}
 
 -- ---- a feed
@@ -104,7 +105,7 @@ take_moves g q edge t value es some x =
     let records = in_records-all_more (one_less q.records k) ks x in
     omega (arith, ints)
 
--- ---- what the processor keeps
+-- ---- how many there are in a settled cluster
 
 sum_small : (a b : ℤ) (n : ℕ) → pos n ≡ a +ℤ b → unsigned_abs a ≤ 2 ^ 40 → unsigned_abs b ≤ 2 ^ 40 → n < 2 ^ 63
 sum_small (pos a) (pos b) n e x y = omega (arith, ints)
@@ -112,31 +113,13 @@ sum_small (pos a) (negsuc b) n e x y = omega (arith, ints)
 sum_small (negsuc a) (pos b) n e x y = omega (arith, ints)
 sum_small (negsuc a) (negsuc b) n e x y = omega (arith, ints)
 
-bounded : (n : ℕ) → (2 ^ 40 < n → ⊥) → n ≤ 2 ^ 40
-bounded n h = elim (cases_lt (2 ^ 40) n) [ inl lt ↦ absurd (h lt) | inr le ↦ le ]
-
-after_settled : (q r : ProcessorState) (change : Change) → IsKept q → Moves q r change → truth (settled_by q r change ∷ []) ≡ plus q.view (plus q.unsent change)
-after_settled q r change kept moves =
-    same _ _ (λ x.
-    let a = truth-alone q x in
-    let m = moves x in
-    let old = ap (λ c. at c x) kept.settled ∙ at-plus q.view q.unsent x in
-    let sum = at-plus q.view (plus q.unsent change) x in
-    let unsent = at-plus q.unsent change x in
-    truth-alone (settled_by q r change) x ∙ omega (arith, ints))
-
-pub kept_after : (q r : ProcessorState) (change : Change) → IsKept q → Moves q r change → IsWithinCounts r.records → IsWithinCounts r.sinks → IsWithin q.view → (IsTooLarge (plus q.unsent change) → ⊥) → IsKept (settled_by q r change)
-kept_after q r change kept moves records sinks view small =
-    let settled = after_settled q r change kept moves in
-    record {
-      records = records;
-      sinks = sinks;
-      settled = settled;
-      few = λ x.
-          sum_small (at q.view x) (at (plus q.unsent change) x) (held r x)
-          (sym (truth-alone (settled_by q r change) x) ∙ ap (λ c. at c x) settled ∙ at-plus q.view (plus q.unsent change) x)
-          (view x) (bounded (unsigned_abs (at (plus q.unsent change) x)) (λ large. small (x, large)));
-    }
+pub few_settled : (g : Dataflow) (q : ProcessorState) (x : Pointstamp) (n : ℕ) → IsSettled (alone g q) → IsWithin q.view → IsWithin q.unsent → pos n ≡ at (truth (q ∷ [])) x → n < 2 ^ 63
+unfolding alone
+few_settled g q x n settled view unsent is =
+    let adds : at (truth (q ∷ [])) x ≡ at (plus q.view (plus q.unsent none)) x = ap (λ c. at c x) (settled.adds_up 0 (omega arith)) in
+    let sum = at-plus q.view (plus q.unsent none) x in
+    let same_unsent = ap (λ c. at c x) (plus-none q.unsent) in
+    sum_small (at q.view x) (at q.unsent x) n (omega (arith, ints)) (view x) (unsent x)
 
 -- ---- the limits
 

@@ -1,5 +1,5 @@
 -- A cluster of one processor: how its maps are kept, and what a step makes of them.
-use Rattle.std.specs.Prelude.{◌≡◌, ℕ, ◌+◌, ◌^◌, ◌<◌, ◌≤◌, Option, Some, IfSome, option_to_list, ℤ, pos, negsuc, ◌+ℤ◌, length, ◌&&◌, ◌++◌, List, [], ◌∷◌, nat_eq, count_by, if◌then◌else◌}
+use Rattle.std.specs.Prelude.{◌≡◌, ℕ, ◌+◌, ◌<◌, ◌≤◌, Option, Some, IfSome, option_to_list, ℤ, pos, negsuc, ◌+ℤ◌, length, ◌&&◌, ◌++◌, List, [], ◌∷◌, nat_eq, count_by, if◌then◌else◌}
 use Rattle.std.specs.declared.cmp.Ordering.{Ordering}
 use Rattle.std.specs.List.{flat_map}
 use Rattle.std.specs.FinMap as fin
@@ -11,10 +11,9 @@ use Rattle.nd_graph.specs.declared.op.Action.TheVariants.{Identity}
 use Rattle.nd_graph.specs.declared.op.Op.TheVariants as op
 use Rattle.nd_graph.specs.declared.graph.Edge.{Edge}
 use Rattle.nd_paths.specs.declared.point.Pointstamp.{Pointstamp}
-use Rattle.nd_delta.specs.Change.{Change, none, at, set, plus, is_point}
-use Rattle.nd_cluster.specs.State.{ProcessorState, ClusterState, processor, truth, token_point}
+use Rattle.nd_delta.specs.Change.{Change, none, at, set, is_point}
+use Rattle.nd_cluster.specs.State.{ProcessorState, ClusterState, processor, token_point}
 use Rattle.nd_cluster.specs.Operators.{op_at, is_sink, emissions}
-use Rattle.nd_cluster.specs.Held.{held}
 use Rattle.nd_cluster.specs.Steps.{count_of, one_more, one_less, moved_token, target_of, record_key}
 use Rattle.nd_cluster.specs.Enabled.{number_of, FeedFails, TakeFails}
 use Rattle.nd_cluster.specs.declared.refusal.Refusal.{Refusal}
@@ -41,13 +40,10 @@ processor_of records tokens sinks unsent view =
 unfoldable pub alone : Dataflow → ProcessorState → ClusterState
 alone g q = record { graph = g; processors = q ∷ []; queues = ([] ∷ []) ∷ [] }
 
--- what a cluster keeps of its processor: counts within the limit, a view that with the unsent change is the truth,
--- and numbers that fit
+-- what a cluster keeps of its processor: counts within the limit
 pub record IsKept (q : ProcessorState) : Type 0 where
   pub records : (k : ValueAt) → count_of q.records k ≤ max_count
   pub sinks : (k : SinkKey) → count_of q.sinks k ≤ max_count
-  pub settled : truth (q ∷ []) ≡ plus q.view q.unsent
-  pub few : (x : Pointstamp) → held q x < 2 ^ 63
 
 -- a cluster of one processor
 pub record IsAlone (s : ClusterState) : Type 0 where

@@ -4,6 +4,7 @@ pub mod Operators
 pub mod Steps
 pub mod Enabled
 pub mod Start
+pub mod Settled
 pub mod Alone
 pub mod Held
 pub mod Codes

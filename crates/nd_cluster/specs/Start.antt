@@ -1,5 +1,5 @@
 -- The start of a cluster: each token at epoch 0, each view what is outstanding, and all else empty (FORTE 2013).
-use Rattle.std.specs.Prelude.{◌≡◌, ◌≢◌, ◌<◌, ◌^◌, ℕ, ◌+◌, pos, true, All, List, [], ◌∷◌, map, replicate, if◌then◌else◌}
+use Rattle.std.specs.Prelude.{◌≡◌, ◌≢◌, ◌<◌, ℕ, ◌+◌, pos, true, All, List, [], ◌∷◌, map, replicate, if◌then◌else◌}
 use Rattle.std.specs.FinMap as fin
 use Rattle.std.specs.Ordering.{nat_cmp}
 use Rattle.nd_graph.specs.Graph.{Dataflow}
@@ -28,10 +28,9 @@ with_tokens g = record idle { tokens = first_tokens 0 g.vertices }
 abbrev pub CanRun : Dataflow → Type 0
 CanRun g = All (λ v. (is_run v.op ≡ true) × (v.depth ≡ 0)) g.vertices
 
--- the view has each token once, and its numbers fit
+-- the view has each token once
 pub record ShowsTokens (tokens : fin.FinMap nat_cmp ℕ) (view : Change) : Type 0 where
   pub shows : (x : Pointstamp) → at view x ≡ pos (in_tokens tokens x)
-  pub few : (x : Pointstamp) → in_tokens tokens x < 2 ^ 63
 
 -- the start of a cluster of n processors
 unfoldable pub start : Dataflow → ℕ → ClusterState

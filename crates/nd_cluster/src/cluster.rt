@@ -3,7 +3,9 @@ ghost use Rattle.std.specs.Prelude.{◌≡◌, ◌<◌, ◌^◌, pos, IfOk, leng
 ghost use Rattle.std.specs.FinMap.{from_entries, entries};
 ghost use Rattle.nd_delta.specs.Change.{at, entries as listed};
 ghost use Rattle.nd_cluster.specs.State.{truth, processor};
-ghost use Rattle.nd_cluster.specs.Alone.{IsBare};
+ghost use Rattle.nd_cluster.specs.Keys.{value_at_cmp};
+ghost use Rattle.nd_cluster.specs.Alone.{IsBare, IsWithinCounts};
+ghost use Rattle.nd_cluster.specs.Settled.{IsSettled};
 ghost use Rattle.nd_cluster.specs.Held.{in_records, in_tokens};
 
 use crate::change::token_point;
@@ -43,14 +45,15 @@ impl<A: Allocator + Copy> Model for Cluster<A> {
 }
 
 // How many records there are at a pointstamp.
-fn count_records<A: Allocator>(records: &SortedMap<ValueAt, u64, A>, point: &Pointstamp) -> u64
-    requires { in_records (from_entries records.now) point.now < 2 ^ 63 }
-    ensures { result ≡ in_records (from_entries records.now) point.now }
+fn count_records<A: Allocator>(records: &SortedMap<ValueAt, u64, A>, point: &Pointstamp) -> u128
+    requires { IsWithinCounts (from_entries {R = value_at_cmp} records.now) }
+    ensures value { result ≡ in_records (from_entries records.now) point.now }
+    ensures fits { result < 2 ^ 127 }
 {
     let mut total = 0;
     for entry in records.entries() {
         if point.cmp(&entry.0.point).is_eq() {
-            total += entry.1;
+            total += u128::from(entry.1);
         }
     }
     total
@@ -58,7 +61,6 @@ fn count_records<A: Allocator>(records: &SortedMap<ValueAt, u64, A>, point: &Poi
 
 // How many tokens there are at a pointstamp.
 fn count_tokens<A: Allocator>(tokens: &SortedMap<usize, u32, A>, point: &Pointstamp) -> u64
-    requires { in_tokens (from_entries tokens.now) point.now < 2 ^ 63 }
     ensures { result ≡ in_tokens (from_entries tokens.now) point.now }
 {
     let mut total = 0;
@@ -94,10 +96,14 @@ impl<A: Allocator + Copy> Cluster<A> {
     }
 
     /// How many records, requests and tokens there are at a pointstamp, over all processors.
-    pub fn count(&self, point: &Pointstamp) -> u64
-        ensures { pos result ≡ at (truth self.now.processors) point.now }
+    pub fn count(&self, point: &Pointstamp) -> u128
+        ensures value { pos result ≡ at (truth self.now.processors) point.now }
+        ensures small { IsSettled self.now → result < 2 ^ 63 }
     {
-        count_records(&self.records, point) + count_tokens(&self.tokens, point)
+        // In a settled cluster the limits of its view and of its unsent change bound the count.
+        let _ = self.view.entries();
+        let _ = self.unsent.entries();
+        count_records(&self.records, point) + u128::from(count_tokens(&self.tokens, point))
     }
 
     // The records of processor 0 and their counts, in the order of listing.

@@ -5,7 +5,7 @@ ghost use Rattle.nd_delta.specs.Change.{plus, IsTooLarge};
 ghost use Rattle.nd_cluster.specs.Keys.{value_at_cmp, sink_cmp};
 ghost use Rattle.nd_cluster.specs.State.{processor};
 ghost use Rattle.nd_cluster.specs.Alone.{alone, all_more, drafted, with_made, IsWithinCounts, IsFull};
-ghost use Rattle.nd_cluster.specs.Held.{Moves, settled_by};
+ghost use Rattle.nd_cluster.specs.Held.{settled_by};
 ghost use Rattle.nd_cluster.specs.declared.refusal.Refusal.TheVariants.{CountFull, DeltaFull, Memory};
 
 use crate::change::count_made;
@@ -30,7 +30,6 @@ impl<A: Allocator + Copy> Cluster<A> {
     pub(crate) fn settle(&self, draft: Draft<A>) -> Result<Cluster<A>, Refusal>
         requires records { IsWithinCounts (from_entries {R = value_at_cmp} draft.records) }
         requires sinks { IsWithinCounts (from_entries {R = sink_cmp} draft.sinks) }
-        requires moves { Moves (processor self.now 0) (drafted (processor self.now 0) draft.records draft.tokens draft.sinks draft.made.items) (with_made draft.change draft.made.items) }
         ensures ok { IfOk result (λ c. c ≡ alone self.now.graph (settled_by (processor self.now 0) (drafted (processor self.now 0) draft.records draft.tokens draft.sinks draft.made.items) (with_made draft.change draft.made.items))) }
         ensures counts { OnOk result (IsWithinCounts (all_more (from_entries {R = value_at_cmp} draft.records) draft.made.items)) }
         ensures entries { OnOk result (IsTooLarge (plus (processor self.now 0).unsent (with_made draft.change draft.made.items)) → ⊥) }

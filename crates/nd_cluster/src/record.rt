@@ -4,6 +4,7 @@ ghost use Rattle.nd_cluster.specs.State.{ClusterState};
 ghost use Rattle.nd_cluster.specs.Steps.{stepped};
 ghost use Rattle.nd_cluster.specs.Enabled.{number_of, Fails, IsEnabled, IsRefused, IsJustified};
 ghost use Rattle.nd_cluster.specs.Records.{IsPlanned, Leads, IsCommitted};
+ghost use Rattle.nd_cluster.specs.Settled.{IsSettled};
 ghost use Rattle.nd_cluster.specs.declared.refusal.Refusal.{Refusal};
 ghost use Rattle.nd_cluster.specs.declared.refusal.Refusal.TheVariants.{Memory};
 
@@ -80,6 +81,7 @@ impl<A: Allocator + Copy> Cluster<A> {
         requires { IsPlanned record.now self.old }
         ensures step { OnOk result (self.new ≡ stepped self.old record.now.step) }
         ensures leads { OnOk result (Leads record.now self.old self.new) }
+        ensures settled { OnOk result (IsSettled self.old → IsSettled self.new) }
         ensures err { OnErr result (self.new ≡ self.old) }
     {
         let Ok(after) = self.after_step(&record.step) else {

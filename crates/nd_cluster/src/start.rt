@@ -4,6 +4,7 @@ ghost use Rattle.std.specs.FinMap.{from_entries};
 ghost use Rattle.std.specs.Ordering.{nat_cmp};
 ghost use Rattle.nd_paths.specs.Order.{IsAccepted};
 ghost use Rattle.nd_cluster.specs.Operators.{is_run as can_be_run};
+ghost use Rattle.nd_cluster.specs.Settled.{IsSettled};
 ghost use Rattle.nd_cluster.specs.Start.{CanRun, ShowsTokens, IsStartFault, fault_of, fault_number, first_tokens as tokens_from, start as started};
 
 use crate::Cluster;
@@ -112,6 +113,7 @@ impl<A: Allocator + Copy> Cluster<A> {
     pub fn start(alloc: A, graph: Graph<A>, n: u32) -> Result<Cluster<A>, StartFault>
         requires { CanRun graph }
         ensures ok { IfOk result (λ c. c ≡ started graph n) }
+        ensures settled { IfOk result (λ c. IsSettled c) }
         ensures accepted { OnOk result ((n ≡ 1) × IsAccepted graph) }
         ensures fault { IfErr result (IsStartFault graph n) }
     {

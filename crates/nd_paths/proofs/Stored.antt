@@ -5,7 +5,7 @@ use Rattle.std.specs.Ordering.{nat_cmp, is_le}
 use Rattle.std.specs.Cmp.Lexicographic.{slice_cmp}
 use Rattle.std.proofs.lemmas.List.{length-reverse}
 use Rattle.nd_time.specs.Time.{IsLexicallyAtMost}
-use Rattle.nd_time.proofs.Lexical.{at_most, compares}
+use Rattle.nd_time.specs.Lexical.{at_most, compares}
 use Rattle.nd_graph.specs.declared.op.Action.TheVariants.{Egress, Feedback}
 use Rattle.nd_paths.specs.declared.summary.Summary.{Summary}
 use Rattle.nd_paths.specs.Summary.{raised, applied}

@@ -1,6 +1,6 @@
 -- How a graph's value and a command's value are answered.
-use Rattle.std.proofs.Common.{◌≡◌, ◌≢◌, ℕ, Bool, true, false, List, [], ◌∷◌, Option, Some, None, Result, Ok, Err, IfOk, refl, sym, ap, subst, ◌∙◌, inl, inr, codes}
-use Rattle.std.specs.Prelude.{◌⊎◌, ◌<◌, slice_get}
+use Rattle.std.proofs.Common.{◌≡◌, ◌≢◌, ℕ, List, [], ◌∷◌, Option, Some, None, Result, Ok, Err, IfOk, refl, sym, ap, subst, ◌∙◌, inl, inr, codes}
+use Rattle.std.specs.Prelude.{◌<◌, slice_get}
 use Rattle.std.specs.Option.{ok_or, option_to_list}
 use Rattle.std.specs.declared.alloc.AllocError.{AllocError}
 use Rattle.serde_json.specs.Data.{Data}

@@ -1,12 +1,10 @@
 -- How a run of a script ends.
 use Rattle.std.proofs.Common.{◌≡◌, ◌∙◌, ℕ, ◌+◌, ◌<◌, ◌≤◌, List, [], ◌∷◌, ◌++◌, length, take, drop, refl, Option, Some, None, sym, ap, subst, arith, append_assoc, length-append, Ok, Err}
-use Rattle.std.proofs.lemmas.List.{append-nil, take-append-le, length-take}
-use Rattle.std.proofs.Math.Seq.{take-append-add}
+use Rattle.std.proofs.lemmas.List.{append-nil, take-append-drop, take-append-le, take-take, length-take}
+use Rattle.std.proofs.Math.Seq.{drop-append_seam, take-append-add}
 use Rattle.std.specs.Io.KnownBytes.{Consumes, IsAtEnd, Keeps}
+use Rattle.rewind_lines.specs.Cuts.{whole_lines-at, whole_lines-newline}
 use Rattle.rewind_lines.specs.Lines.{lines_of, whole_lines_of}
-use Rattle.rewind_lines.proofs.Cut.{lines-before, whole_lines-at}
-use Rattle.rewind_lines.proofs.Known.{Consumes-some}
-use Rattle.rewind_lines.proofs.Lists.{split_take, take_take}
 use Rattle.rewind.specs.Script.{Ends, RepliedTo}
 use Rattle.rewind.specs.Stages.{phase_of}
 use Rattle.rewind.specs.States.{EndsEarly, Faulted, Going, Stands}
@@ -17,6 +15,10 @@ use Rattle.rewind.proofs.StandLaws.{phase_of-goes_on}
 
 abbrev Known : Type 0
 Known = Option (List ℕ)
+
+Consumes-some : (b : Known) (x bs : List ℕ) → Consumes (Some x) b bs → (ys : List ℕ) × (b ≡ Some ys) × (x ≡ bs ++ ys)
+Consumes-some None x bs h = absurd h
+Consumes-some (Some y) x bs h = (y, refl, h)
 
 -- what a read left and gave
 read-on : (input taken rest piece : List ℕ) (old new : Known) → input ≡ taken ++ rest → old ≡ Some rest → Consumes old new piece
@@ -48,7 +50,7 @@ ends-ok n limit left input before old new old_text new_text run next piece g h n
     let more : r.0 ≡ [] = at-end r.0 new r.1 end in
     let all : input ≡ g.taken = r.2 ∙ (ap (λ zs. (g.taken ++ piece) ++ zs) more ∙ (append-nil (g.taken ++ piece) ∙ (ap (λ zs. g.taken ++ zs) none ∙ append-nil g.taken))) in
     let s = go g.taken g.stands in
-    let ls : s.lines ≡ lines_of input = lines-before g.taken s.lines s.part s.split ∙ ap lines_of (sym all) in
+    let ls : s.lines ≡ lines_of input = sym (whole_lines-at (g.taken ++ 10 ∷ []) s.lines s.part s.split) ∙ whole_lines-newline g.taken ∙ ap lines_of (sym all) in
     let count : left + length g.taken ≡ limit = g.count in
     let size : length input ≡ length g.taken = ap length all in
     record {
@@ -84,10 +86,6 @@ ends-read n limit left input before old new text run g h = record {
     keeps None k = absurd k
     keeps (Some x) k = ap Some k
 
-drop_seam : (xs ys : List ℕ) → drop (length xs) (xs ++ ys) ≡ ys
-drop_seam [] ys = refl
-drop_seam (x ∷ xs) ys = drop_seam xs ys
-
 -- the input goes on past the limit
 pub ends-long : (n limit left : ℕ) (input before : List ℕ) (old new old_text new_text : Known) (run next : declared.Run) (chunk : List ℕ) (k : ℕ)
     → Going n limit left input before old old_text run → Consumes old new (take k chunk) → left < k → k ≤ left + 1 → k ≤ length chunk
@@ -105,10 +103,10 @@ ends-long n limit left input before old new old_text new_text run next chunk k g
     ap (take limit) (r.2 ∙ append_assoc g.taken (take k chunk) r.0)
     ∙ (ap (λ m. take m (g.taken ++ (take k chunk ++ r.0))) at
     ∙ (take-append-add g.taken (take k chunk ++ r.0) left
-    ∙ ap (λ zs. g.taken ++ zs) (take-append-le left (take k chunk) r.0 room ∙ take_take left k chunk (omega arith)))) in
+    ∙ ap (λ zs. g.taken ++ zs) (take-append-le left (take k chunk) r.0 room ∙ take-take left k chunk (omega arith)))) in
     let seen : limit + 1 ≡ length (g.taken ++ take k chunk) = omega (arith, length-append g.taken (take k chunk), length-take k chunk) in
     let rest : drop (limit + 1) input ≡ r.0 =
-    ap (drop (limit + 1)) r.2 ∙ (ap (λ m. drop m ((g.taken ++ take k chunk) ++ r.0)) seen ∙ drop_seam (g.taken ++ take k chunk) r.0) in
+    ap (drop (limit + 1)) r.2 ∙ (ap (λ m. drop m ((g.taken ++ take k chunk) ++ r.0)) seen ∙ drop-append_seam (g.taken ++ take k chunk) r.0) in
     record {
       longer = longer;
       told = r.1 ∙ ap Some (sym rest);
@@ -132,6 +130,10 @@ going-on n limit left after input before old new old_text new_text run next chun
       count = omega (arith, length-append g.taken (take k chunk), length-take k chunk);
       stands = go g.taken g.stands;
     }
+
+-- a longer front begins with a shorter one
+split_take : (k n : ℕ) (xs : List ℕ) → k ≤ n → (more : List ℕ) × (take n xs ≡ take k xs ++ more)
+split_take k n xs h = (drop k (take n xs), sym (take-append-drop k (take n xs)) ∙ ap (λ zs. zs ++ drop k (take n xs)) (take-take k n xs h))
 
 -- a fault while a piece was answered
 pub ends-piece : (n limit left : ℕ) (input before : List ℕ) (old new old_text new_text : Known) (run : declared.Run) (chunk : List ℕ) (k m : ℕ) (e : DebugFault)

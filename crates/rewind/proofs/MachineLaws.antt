@@ -1,10 +1,12 @@
 -- Kept steps: one more at the end, the front of them, and the step at a place.
-use Rattle.std.proofs.Common.{◌≡◌, ◌≤◌, ◌<◌, ℕ, zero, suc, ◌+◌, ◌-◌, List, [], ◌∷◌, ◌++◌, map, length, take, get_or, refl, sym, ap, subst, ◌∙◌, arith, add-one, length-append}
+use Rattle.std.proofs.Common.{◌≡◌, ◌<◌, ℕ, zero, suc, ◌+◌, ◌-◌, List, [], ◌∷◌, ◌++◌, length, take, get_or, refl, sym, ap, subst, ◌∙◌, arith, length-append}
+use Rattle.std.proofs.lemmas.List.{length-map, length-take-le, map-append, take-map, take_all}
 use Rattle.std.specs.declared.alloc.Global.{Global}
 use Rattle.nd_time.specs.Limits.{max_kept}
 use Rattle.nd_cluster.specs.State.{ClusterState}
 use Rattle.nd_cluster.specs.Steps.{after, stepped}
-use Rattle.nd_cluster.specs.Records.{IsPlanned, Leads, IsCommitted}
+use Rattle.nd_cluster.specs.Records.{IsPlanned, Leads}
+use Rattle.nd_cluster.specs.Settled.{IsSettled, settled_step}
 use Rattle.nd_cluster.specs.declared.record.Record.{Record}
 use Rattle.nd_cluster.specs.declared.step.Step.{Step}
 use Rattle.rewind.specs.Reached.{steps_of, ArePlanned, IsReached}
@@ -15,28 +17,10 @@ after-push s [] x = refl
 after-push s (y ∷ xs) x = after-push (stepped s y) xs x
 
 pub steps_of-push : (rs : List (Record Global)) (r : Record Global) → steps_of (rs ++ r ∷ []) ≡ steps_of rs ++ r.step ∷ []
-steps_of-push [] r = refl
-steps_of-push (q ∷ rs) r = ap (λ xs. q.step ∷ xs) (steps_of-push rs r)
+steps_of-push rs r = map-append (λ x. x.step) rs (r ∷ [])
 
 pub steps_of-take : (n : ℕ) (rs : List (Record Global)) → steps_of (take n rs) ≡ take n (steps_of rs)
-steps_of-take zero rs = refl
-steps_of-take (suc n) [] = refl
-steps_of-take (suc n) (r ∷ rs) = ap (λ xs. r.step ∷ xs) (steps_of-take n rs)
-
-pub length-steps_of : (rs : List (Record Global)) → length (steps_of rs) ≡ length rs
-length-steps_of [] = refl
-length-steps_of (r ∷ rs) = ap suc (length-steps_of rs)
-
-pub take-whole : {A : Type 0} (n : ℕ) (xs : List A) → length xs ≤ n → take n xs ≡ xs
-take-whole zero [] h = refl
-take-whole (suc n) [] h = refl
-take-whole zero (x ∷ xs) h = absurd (omega arith)
-take-whole (suc n) (x ∷ xs) h = ap (λ ys. x ∷ ys) (take-whole n xs (omega arith))
-
-pub length-front : {A : Type 0} (n : ℕ) (xs : List A) → n ≤ length xs → length (take n xs) ≡ n
-length-front zero xs h = refl
-length-front (suc n) [] h = absurd (omega arith)
-length-front (suc n) (x ∷ xs) h = ap suc (length-front n xs (omega arith))
+steps_of-take n rs = sym (take-map (λ x. x.step) n rs)
 
 pub planned-take : (s : ClusterState) (n : ℕ) (rs : List (Record Global)) → ArePlanned s rs → ArePlanned s (take n rs)
 planned-take s zero rs h = tt
@@ -62,27 +46,38 @@ after-take s [] i d lt = absurd (omega arith)
 after-take s (r ∷ rs) zero d lt = refl
 after-take s (r ∷ rs) (suc i) d lt = after-take (stepped s r.step) rs i d (omega arith)
 
+-- steps that were planned keep a settled cluster settled
+settled-after : (s : ClusterState) (n : ℕ) (rs : List (Record Global)) → IsSettled s → ArePlanned s rs → IsSettled (after s (take n (steps_of rs)))
+unfolding after
+settled-after s zero rs was h = was
+settled-after s (suc n) [] was h = was
+settled-after s (suc n) (r ∷ rs) was h = settled-after (stepped s r.step) n rs (settled_step s r.step h.0.enabled was) h.1
+
 -- ---- what the calls of a machine keep
 
-pub begun : (s : ClusterState) (rs : List (Record Global)) → rs ≡ [] → (b : ClusterState) → b ≡ s → IsReached b s rs 0
+pub still_settled : (base cluster : ClusterState) (rs : List (Record Global)) (n : ℕ) → IsReached base cluster rs n → IsSettled cluster
+still_settled base cluster rs n was = subst IsSettled (sym was.reached) (settled-after base n rs was.settled was.planned)
+
+pub begun : (s : ClusterState) (rs : List (Record Global)) → rs ≡ [] → (b : ClusterState) → b ≡ s → IsSettled s → IsReached b s rs 0
 unfolding after
-begun s rs is b same = rw is (record { within = omega arith; few = omega arith; reached = sym same; planned = tt })
+begun s rs is b same settled = rw is (record { within = omega arith; few = omega arith; reached = sym same; planned = tt; settled = subst IsSettled (sym same) settled })
 
 -- a step that is planned at the cursor and made
 pub extends : (base cluster next : ClusterState) (rs : List (Record Global)) (n : ℕ) (r : Record Global) → IsReached base cluster rs n → n < max_kept → IsPlanned r cluster → next ≡ stepped cluster r.step
     → IsReached base next (take n rs ++ r ∷ []) (n + 1)
 extends base cluster next rs n r was room planned leads =
     let front : List (Record Global) = take n rs in
-    let count : length front ≡ n = length-front n rs was.within in
+    let count : length front ≡ n = length-take-le n rs was.within in
     let more : length (front ++ r ∷ []) ≡ n + 1 = omega (arith, length-append front (r ∷ []), count) in
     let steps : steps_of front ≡ take n (steps_of rs) = steps_of-take n rs in
     let at_cursor : cluster ≡ after base (steps_of front) = was.reached ∙ ap (after base) (sym steps) in
-    let all : take (n + 1) (steps_of (front ++ r ∷ [])) ≡ steps_of (front ++ r ∷ []) = take-whole (n + 1) (steps_of (front ++ r ∷ [])) (omega (arith, length-steps_of (front ++ r ∷ []), more)) in
+    let all : take (n + 1) (steps_of (front ++ r ∷ [])) ≡ steps_of (front ++ r ∷ []) = take_all (n + 1) (steps_of (front ++ r ∷ [])) (omega (arith, length-map (front ++ r ∷ []) (λ x. x.step), more)) in
     record {
       within = omega (arith, more);
       few = omega (arith, more);
       reached = leads ∙ ap (λ s. stepped s r.step) at_cursor ∙ sym (after-push base (steps_of front) r.step) ∙ ap (after base) (sym (steps_of-push front r)) ∙ ap (after base) (sym all);
       planned = planned-push base front r (planned-take base n rs was.planned) (subst (λ (s : ClusterState). IsPlanned r s) at_cursor planned);
+      settled = was.settled;
     }
 
 -- the record before the cursor has led to the cluster
@@ -94,4 +89,4 @@ led base cluster rs (suc n) d was some =
     rw less (record { planned = planned-at base rs n d lt was.planned; after = was.reached ∙ after-take base rs n d lt })
 
 pub returned : (base cluster : ClusterState) (rs : List (Record Global)) (n : ℕ) → IsReached base cluster rs n → IsReached base (after base (take (n - 1) (steps_of rs))) rs (n - 1)
-returned base cluster rs n was = record { within = omega (arith, was.within); few = was.few; reached = refl; planned = was.planned }
+returned base cluster rs n was = record { within = omega (arith, was.within); few = was.few; reached = refl; planned = was.planned; settled = was.settled }

@@ -1,17 +1,15 @@
 -- A run under way goes on by a line, or ends.
-use Rattle.std.proofs.Common.{◌≡◌, ◌∙◌, ℕ, ◌+◌, List, [], ◌∷◌, ◌++◌, length, take, Option, Some, refl, sym, ap, subst, arith, append_assoc, length-append}
+use Rattle.std.proofs.Common.{◌≡◌, ◌∙◌, ℕ, ◌+◌, zero, suc, List, [], ◌∷◌, ◌++◌, length, take, Option, Some, None, refl, sym, ap, subst, arith, append_assoc, length-append}
 use Rattle.std.proofs.lemmas.Grind.{flat_map-append}
 use Rattle.std.proofs.lemmas.Bool.{ne_eqb}
 use Rattle.std.proofs.lemmas.List.{append-nil}
-use Rattle.std.proofs.Math.Seq.{take-append-add}
+use Rattle.std.proofs.Math.Seq.{take-append-add, take-length}
 use Rattle.std.specs.Io.KnownBytes.{Appends}
 use Rattle.serde_json.specs.Data.{Data}
+use Rattle.rewind_lines.specs.Cuts.{lines-byte, lines-empty, lines-front, lines-newline}
 use Rattle.rewind_lines.specs.Front.{front_of}
 use Rattle.rewind_lines.specs.Lines.{lines_of, reading_of}
 use Rattle.rewind_lines.specs.Texts.{reply_text, text_of}
-use Rattle.rewind_lines.proofs.Cut.{lines-byte, lines-empty, lines-front, lines-newline}
-use Rattle.rewind_lines.proofs.Known.{Appends-some}
-use Rattle.rewind_lines.proofs.Lists.{take_clip, take_whole}
 use Rattle.rewind.specs.Answers.{Phase, unstarted, refused, Answers}
 use Rattle.rewind.specs.Script.{Run, Replies}
 use Rattle.rewind.specs.Stages.{phase_of}
@@ -27,6 +25,11 @@ use Rattle.rewind.proofs.RunLaws.{Run-push}
 pub phase_of-goes_on : (stage : Stage) → phase_of stage ≡ refused → ⊥
 phase_of-goes_on (Unstarted processors) e = cc
 phase_of-goes_on (Running machine) e = cc
+
+-- what a sink that tells its contents has come to hold
+Appends-some : (b : Option (List ℕ)) (x bs : List ℕ) → Appends (Some x) b bs → b ≡ Some (x ++ bs)
+Appends-some None x bs h = absurd h
+Appends-some (Some y) x bs h = ap Some h
 
 text_of-append : (xs ys : List Data) → text_of (xs ++ ys) ≡ text_of xs ++ text_of ys
 text_of-append xs ys = flat_map-append reply_text xs ys
@@ -57,9 +60,6 @@ ends-memory n done more before after run s = (
     written = s.written;
   },
 )
-
-take-lines : (ls : List (List ℕ)) → take (length ls) ls ≡ ls
-take-lines ls = take_whole (length ls) ls (omega arith)
 
 pub ends-memory-here : (n : ℕ) (done before : List ℕ) (after : Option (List ℕ)) (run : declared.Run) → Stands n done before after run
     → EndsEarly n done before after fault.Memory
@@ -94,7 +94,7 @@ ends-write n done before after b run text count new k s a h =
       record {
         replies = s.replies ++ a.replies;
         phase = new;
-        run = rw (take-lines (lines_of done)) (all-ran n done before after run s a.replies new a.answers);
+        run = rw (take-length (lines_of done)) (all-ran n done before after run s a.replies new a.answers);
         sent = length (text_of s.replies) + k;
         written = written-on n done before after b run s (take k text) h ∙ ap (λ t. Some (before ++ t)) sent;
       },
@@ -116,7 +116,7 @@ ends-refused n done before after b run text count s a h = (
   length (lines_of done),
   record {
     replies = s.replies ++ a.replies;
-    run = rw (take-lines (lines_of done)) (all-ran n done before after run s a.replies refused a.answers);
+    run = rw (take-length (lines_of done)) (all-ran n done before after run s a.replies refused a.answers);
     written = all-written n done before after b run text count refused s a h;
   },
 )
@@ -160,6 +160,12 @@ stands-byte n done before after run next byte other s hold stage number replied 
   number = number ∙ s.number;
   replied = replied ∙ s.replied;
 }
+
+-- a front of a front is a front
+take_clip : {A : Type 0} (n : ℕ) (xs ys : List A) → take (length (take n xs)) (xs ++ ys) ≡ take n xs
+take_clip zero xs ys = refl
+take_clip (suc n) [] ys = refl
+take_clip (suc n) (x ∷ xs) ys = ap (λ zs. x ∷ zs) (take_clip n xs ys)
 
 -- what ended a run ends it also where more would have come
 pub ends-later : (n : ℕ) (done more before : List ℕ) (after : Option (List ℕ)) (e : DebugFault) → EndsEarly n done before after e

@@ -1,5 +1,5 @@
 -- The machine that a script of one client drives: where it began, the steps that it keeps, and the cursor.
-use Rattle.std.specs.Prelude.{◌≡◌, ℕ, ◌+◌, ◌-◌, ◌<◌, ◌≤◌, List, [], ◌∷◌, ◌++◌, length, take}
+use Rattle.std.specs.Prelude.{◌≡◌, ℕ, ◌+◌, ◌-◌, ◌<◌, ◌≤◌, List, [], ◌∷◌, ◌++◌, take}
 use Rattle.std.specs.declared.alloc.Global.{Global}
 use Rattle.nd_time.specs.Limits.{max_kept}
 use Rattle.nd_cluster.specs.State.{ClusterState}

@@ -14,6 +14,7 @@ use Rattle.nd_time.specs.Limits.{max_kept}
 use Rattle.nd_cluster.specs.State.{ClusterState}
 use Rattle.nd_cluster.specs.Steps.{after, stepped}
 use Rattle.nd_cluster.specs.Records.{IsPlanned}
+use Rattle.nd_cluster.specs.Settled.{IsSettled}
 use Rattle.nd_cluster.specs.declared.record.Record.{Record}
 use Rattle.nd_cluster.specs.declared.step.Step.{Step}
 
@@ -62,9 +63,10 @@ abbrev pub ArePlanned : ClusterState → List (Record Global) → Type 0
 ArePlanned s [] = Unit {0}
 ArePlanned s (r ∷ rs) = IsPlanned r s × ArePlanned (stepped s r.step) rs
 
--- the cluster was reached from the base by the steps up to the cursor
+-- the cluster was reached from the base, which is settled, by the steps up to the cursor
 pub record IsReached (base cluster : ClusterState) (records : List (Record Global)) (cursor : ℕ) : Type 0 where
   pub within : cursor ≤ length records
   pub few : length records ≤ max_kept
   pub reached : cluster ≡ after base (take cursor (steps_of records))
   pub planned : ArePlanned base records
+  pub settled : IsSettled base

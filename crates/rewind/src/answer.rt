@@ -127,7 +127,10 @@ fn answer_count(alloc: Global, machine: &Machine, point: &Pointstamp) -> Result<
     ensures reply { IfOk result (λ v. view v ≡ count_data (true_count (cluster_of machine.now) point.now)) }
     ensures text { IfOk result (λ v. has_float (view v) ≡ false) }
 {
-    replies::count(alloc, machine.cluster().count(point))
+    let Ok(count) = u64::try_from(machine.cluster().count(point)) else {
+        unreachable!()
+    };
+    replies::count(alloc, count)
 }
 
 // Answers a command or a query.

@@ -1,7 +1,6 @@
--- The replies, as JSON values, and their text.
-use Rattle.std.specs.Prelude.{ℕ, true, List, [], ◌∷◌, ◌++◌, codes, Option, Some, None}
+-- The replies, as JSON values.
+use Rattle.std.specs.Prelude.{ℕ, true, List, codes, Option, Some, None}
 use Rattle.serde_json.specs.Data.{Data, boolean, number, string, object, unsigned, no_members, member}
-use Rattle.serde_json.specs.Written.{compact_text}
 use Rattle.nd_cluster.specs.Enabled.{number_of}
 use Rattle.nd_cluster.specs.declared.refusal.Refusal.{Refusal}
 use Rattle.nd_cluster.specs.declared.refusal.Refusal.TheVariants.{NoProcessor, NoVertex, NoEdge, NotInput, InputClosed, TooManyValues, EpochFull, NoRecord, ValueRange, CountFull, DeltaFull, Memory}
@@ -89,7 +88,3 @@ count n = object (member (codes "count") (number (unsigned n)) (member (codes "o
 -- {"ok":true,"state":shown}
 abbrev pub state : Data → Data
 state shown = object (member (codes "ok") (boolean true) (member (codes "state") shown no_members))
-
--- a reply's line
-unfoldable pub reply_text : Data → List ℕ
-reply_text reply = compact_text reply ++ 10 ∷ []

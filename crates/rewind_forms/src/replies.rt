@@ -3,7 +3,7 @@ ghost use Rattle.std.specs.Prelude.{◌≡◌, false, Some, IfOk};
 ghost use Rattle.serde_json.specs.View.{view};
 ghost use Rattle.serde_json.specs.Written.{has_float};
 ghost use Rattle.rewind_forms.specs.Replies.{fault as fault_data, location_fault as location_fault_data, graph as graph_data, moved as moved_data};
-ghost use Rattle.rewind_forms.specs.Replies.{name_of, refused as refused_data, at_start as at_start_data, timeline_full as timeline_full_data, faulty as faulty_data, line_fault as line_fault_data, count as count_data, state as state_data, reply_text as text_in};
+ghost use Rattle.rewind_forms.specs.Replies.{name_of, refused as refused_data, at_start as at_start_data, timeline_full as timeline_full_data, faulty as faulty_data, line_fault as line_fault_data, count as count_data, state as state_data};
 
 use crate::LineFault;
 use nd_cluster::Refusal;
@@ -142,15 +142,4 @@ pub fn state(alloc: Global, shown: Value) -> Result<Value, AllocError>
     ensures text { IfOk result (λ v. has_float (view v) ≡ false) }
 {
     json!(in alloc; {"ok": true, "state": shown})
-}
-
-/// The reply's line.
-#[tactic(auto, unfolding(crate::specs::Replies::reply_text))]
-pub fn reply_text(alloc: Global, reply: &Value) -> Result<Vec<u8>, AllocError>
-    requires { has_float (view reply.now) ≡ false }
-    ensures { IfOk result (λ text. text.items ≡ text_in (view reply.now)) }
-{
-    let mut text = reply.to_vec(alloc)?;
-    text.push(b'\n')?;
-    Ok(text)
 }

@@ -1,4 +1,2 @@
-pub mod Cut
 pub mod Known
 pub mod LineLaws
-pub mod Lists

@@ -1,6 +1,6 @@
 -- The line that is being read.
 use Rattle.std.proofs.Common.{◌≡◌, ◌∙◌, ℕ, ◌<◌, ◌≤◌, ◌&&◌, Bool, true, false, cond, List, [], ◌∷◌, ◌++◌, length, take, Option, None, refl, sym, ap, arith, length-append}
-use Rattle.std.proofs.lemmas.List.{length-take, take-append-le}
+use Rattle.std.proofs.lemmas.List.{length-take, take_all, take-append-le}
 use Rattle.std.proofs.lemmas.List.Folds.{list_all-append}
 use Rattle.std.proofs.lemmas.Bool.{lt-ltb, le-ltb, ltb-false}
 use Rattle.std.proofs.lemmas.Str.{is_utf8-from_IsUtf8, IsUtf8-from_is_utf8}
@@ -11,7 +11,6 @@ use Rattle.serde_json.specs.Data.{Data}
 use Rattle.serde_json.specs.Read.{read}
 use Rattle.rewind_lines.specs.Front.{Front, front_of}
 use Rattle.rewind_lines.specs.Lines.{blank, too_long, json_or_none, is_blank_byte, line_limit, json_of, reading_of}
-use Rattle.rewind_lines.proofs.Lists.{take_whole}
 
 pub json_of-utf8 : (bs : List ℕ) → IsUtf8 bs → json_of bs ≡ read bs
 unfolding json_of
@@ -48,10 +47,10 @@ pub holds-front : (held new : Front) (line : List ℕ) (b : ℕ) → held ≡ fr
 holds-front held new line b h room front longer is_blank =
     let n : length held.bytes ≡ length (take line_limit line) = ap (λ f. length f.bytes) h in
     let short : length line < line_limit = omega (arith, length-take line_limit line) in
-    let all : held.bytes ≡ line = ap (λ f. f.bytes) h ∙ take_whole line_limit line (omega arith) in
+    let all : held.bytes ≡ line = ap (λ f. f.bytes) h ∙ take_all line_limit line (omega arith) in
     let fits : length (line ++ b ∷ []) ≤ line_limit = omega (arith, length-append line (b ∷ [])) in
     kept new (front_of (line ++ b ∷ []))
-    (front ∙ (ap (λ xs. xs ++ b ∷ []) all ∙ sym (take_whole line_limit (line ++ b ∷ []) fits)))
+    (front ∙ (ap (λ xs. xs ++ b ∷ []) all ∙ sym (take_all line_limit (line ++ b ∷ []) fits)))
     (longer ∙ (ap (λ f. f.is_longer) h ∙ (le-ltb line_limit (length line) (omega arith) ∙ sym (le-ltb line_limit (length (line ++ b ∷ [])) fits))))
     (is_blank ∙ blank_more line b held.is_blank (ap (λ f. f.is_blank) h))
 
@@ -87,5 +86,5 @@ unfolding reading_of
 reading-text held line o h e short is =
     let some : list_all is_blank_byte line ≡ false = sym (ap (λ f. f.is_blank) h) ∙ e in
     let under : nat_lt line_limit (length line) ≡ false = sym (ap (λ f. f.is_longer) h) ∙ short in
-    let all : held.bytes ≡ line = ap (λ f. f.bytes) h ∙ take_whole line_limit line (ltb-false line_limit (length line) under) in
+    let all : held.bytes ≡ line = ap (λ f. f.bytes) h ∙ take_all line_limit line (ltb-false line_limit (length line) under) in
     rw (some, under) (ap json_or_none (is ∙ ap json_of all))

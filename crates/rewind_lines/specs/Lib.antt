@@ -1,3 +1,4 @@
+pub mod Cuts
 pub mod Front
 pub mod Lines
 pub mod Readings

@@ -9,17 +9,21 @@ use std::test::Fail;
 pub const LINE: &str =
     "{\"vertices\":[{\"name\":\"a\",\"op\":\"input\",\"depth\":0},{\"name\":\"z\",\"op\":\"sink\",\"depth\":0}],\"edges\":[{\"name\":\"az\",\"from\":\"a\",\"port\":0,\"to\":\"z\",\"route\":\"local\"}]}";
 
-const LINE_REPLY: &str = "{\"locations\":3,\"ok\":true,\"processors\":1}\n";
+pub const LINE_REPLY: &str = "{\"locations\":3,\"ok\":true,\"processors\":1}\n";
 
 /// What a run of the script writes, and how it ends.
-fn run(alloc: Global, script: &[&str]) -> Result<(Vec<u8>, Result<u64, DebugFault>), AllocError> {
+pub fn run(
+    alloc: Global,
+    processors: u8,
+    script: &[&str],
+) -> Result<(Vec<u8>, Result<u64, DebugFault>), AllocError> {
     let mut text = Vec::new(alloc);
     for line in script {
         text.extend_from_slice(line.as_bytes())?;
         text.push(b'\n')?;
     }
     let options = Options {
-        processors: 1,
+        processors,
         clients: 1,
     };
     let mut source = pieces_of(text.as_slice(), 1000, NEVER);
@@ -44,7 +48,7 @@ fn feed_and_back(rt: HostRuntime) -> Result<(), Fail> {
         "{\"do\":\"back\"}",
         "{\"do\":\"state\"}",
     ];
-    let (bytes, ended) = run(rt.alloc(), script.as_slice())?;
+    let (bytes, ended) = run(rt.alloc(), 1, script.as_slice())?;
     assert_eq!(rt; ended, Ok(6));
     let want = format!(in rt.alloc();
         "{LINE_REPLY}{EMPTY_STATE}{{\"at\":1,\"kept\":1,\"ok\":true}}\n{FED_STATE}{{\"at\":0,\"kept\":1,\"ok\":true}}\n{EMPTY_STATE}"
@@ -61,7 +65,7 @@ fn add_overflows(rt: HostRuntime) -> Result<(), Fail> {
         "{\"do\":\"take\",\"p\":0,\"edge\":\"am\",\"time\":[0],\"value\":9223372036854775807}",
         "{\"do\":\"count\",\"at\":\"am\",\"time\":[0]}",
     ];
-    let (bytes, ended) = run(rt.alloc(), script.as_slice())?;
+    let (bytes, ended) = run(rt.alloc(), 1, script.as_slice())?;
     assert_eq!(rt; ended, Ok(4));
     let want =
         "{\"locations\":5,\"ok\":true,\"processors\":1}\n{\"at\":1,\"kept\":1,\"ok\":true}\n{\"code\":12,\"error\":\"ValueRange\"}\n{\"count\":1,\"ok\":true}\n";
@@ -75,7 +79,7 @@ fn a_cycle_is_not_strict(rt: HostRuntime) -> Result<(), Fail> {
         "{\"vertices\":[{\"name\":\"a\",\"op\":\"input\",\"depth\":0},{\"name\":\"m\",\"op\":\"add\",\"depth\":0,\"k\":0}],\"edges\":[{\"name\":\"am\",\"from\":\"a\",\"port\":0,\"to\":\"m\",\"route\":\"local\"},{\"name\":\"mm\",\"from\":\"m\",\"port\":0,\"to\":\"m\",\"route\":\"local\"}]}",
         "{\"do\":\"state\"}",
     ];
-    let (bytes, ended) = run(rt.alloc(), script.as_slice())?;
+    let (bytes, ended) = run(rt.alloc(), 1, script.as_slice())?;
     assert_eq!(rt; ended, Err(DebugFault::Graph));
     let want = "{\"code\":46,\"error\":\"LoopNotStrict\",\"location\":\"m\"}\n";
     assert!(rt; bytes.as_slice() == want.as_bytes());
@@ -102,7 +106,7 @@ fn line_faults(rt: HostRuntime) -> Result<(), Fail> {
             "{\"code\":31,\"error\":\"BadShape\",\"line\":2}\n",
         ),
     ] {
-        let (bytes, ended) = run(rt.alloc(), [LINE, line].as_slice())?;
+        let (bytes, ended) = run(rt.alloc(), 1, [LINE, line].as_slice())?;
         assert_eq!(rt; ended, Ok(2));
         let want = format!(in rt.alloc(); "{LINE_REPLY}{reply}")?;
         assert!(rt; bytes.as_slice() == want.as_bytes(), "at {line}");

@@ -6,6 +6,8 @@ mod ends;
 #[cfg(test)]
 mod examples;
 #[cfg(test)]
+mod refusals;
+#[cfg(test)]
 mod runs;
 #[cfg(test)]
 mod words;

@@ -127,38 +127,6 @@ fn stops_at_its_limit(rt: HostRuntime) -> Result<(), Fail> {
 }
 
 #[test]
-fn refuses_a_graph(rt: HostRuntime) -> Result<(), Fail> {
-    for (script, processors, reply) in [
-        (
-            "\n{\"start\":-1}\n{\"do\":\"state\"}",
-            1,
-            "{\"code\":40,\"error\":\"Shape\"}\n",
-        ),
-        (
-            "{\"vertices\":[],\"edges\":[]}",
-            2,
-            "{\"code\":48,\"error\":\"BadCount\"}\n",
-        ),
-        (
-            "{\"sta",
-            1,
-            "{\"code\":30,\"error\":\"BadLine\",\"line\":1}\n",
-        ),
-    ] {
-        let options = Options {
-            processors,
-            clients: 1,
-        };
-        let mut source = pieces_of(script.as_bytes(), 100, NEVER);
-        let mut sink = empty_sink(rt.alloc(), 100, NEVER, false);
-        let ended = debug(rt.alloc(), &mut source, &mut sink, &options);
-        assert_eq!(rt; ended, Err(DebugFault::Graph));
-        assert!(rt; sink.bytes.as_slice() == reply.as_bytes(), "at {script}");
-    }
-    Ok(())
-}
-
-#[test]
 fn passes_over_a_long_line(rt: HostRuntime) -> Result<(), Fail> {
     let mut script = Vec::new(rt.alloc());
     script.extend_from_slice(b"{\"vertices\":[],\"edges\":[]}\n")?;

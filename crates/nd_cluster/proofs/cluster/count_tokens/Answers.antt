@@ -1,9 +1,10 @@
-use Rattle.std.proofs.Common.{◌≡◌, ◌<◌, ◌^◌, ℕ, ◌+◌, cond, sum_by, get_or, refl, sym, ap, subst, ◌∙◌, arith}
+use Rattle.std.proofs.Common.{◌≡◌, ◌<◌, ◌^◌, ℕ, ◌+◌, cond, sum_by, get_or, refl, sym, ap, ◌∙◌, arith}
 use Rattle.std.specs.Ordering.{is_eq}
 use Rattle.nd_paths.specs.Point.{point_cmp}
 use Rattle.nd_cluster.specs.State.{token_point}
 use Rattle.nd_cluster.specs.Held.{one_at}
 use Rattle.nd_cluster.proofs.Held.{sum_next, sum_within, sum_all, in_tokens-from_entries}
+use Rattle.nd_cluster.proofs.Started.{few_tokens}
 use Rattle.nd_cluster.proofs.cluster.count_tokens.Goals as goal
 use Rattle.nd_cluster.proofs.cluster.count_tokens.Goals.{then-is_eq, else-is_eq}
 
@@ -13,7 +14,7 @@ loop-entry-init g c =
     record {
       items = c.entries-entry-items.ensures.value;
       total = refl;
-      few = subst (λ es. sum_by f es < 2 ^ 63) (sym c.entries-entry-items.ensures.value) (subst (λ n. n < 2 ^ 63) (in_tokens-from_entries c.args.tokens.now c.args.point.now c.entries-entry-items.ensures.listed) c.requires);
+      few = few_tokens c.entries-entry-items.result.now c.args.point.now (omega (arith, c.entries-entry-items.type_inv));
     }
 
 pub overflow_add-total : goal.overflow_add-total

@@ -1,9 +1,9 @@
-use Rattle.std.proofs.Common.{◌<◌, ◌^◌, pos, length, sum_by, sym, ap, subst, ◌∙◌, arith}
+use Rattle.std.proofs.Common.{pos, sum_by, sym, ap, ◌∙◌}
 use Rattle.nd_delta.specs.Change.{at, at-none}
 use Rattle.nd_cluster.specs.State.{token_point}
 use Rattle.nd_cluster.specs.Held.{one_at}
 use Rattle.nd_cluster.proofs.Held.{sum_all, in_tokens-from_entries}
-use Rattle.nd_cluster.proofs.Started.{shows_turn, few_tokens}
+use Rattle.nd_cluster.proofs.Started.{shows_turn}
 use Rattle.nd_cluster.proofs.start.view_of.Goals as goal
 
 pub loop-entry-init : goal.loop-entry-init
@@ -20,13 +20,9 @@ loop-entry-preserved g c = record {
 
 pub returns : goal.returns
 returns g c =
-    let short : length c.entries-entry-items.result.now < 2 ^ 63 = omega (arith, c.entries-entry-items.type_inv) in
     record {
       shows = λ x.
           c.loop-entry.invariant.shows x
           ∙ ap pos (sum_all (λ e. one_at (token_point e.0 e.1) x) c.entries-entry-items.result.now c.loop-entry.entry-index c.loop-entry-test.false
           ∙ ap (sum_by (λ e. one_at (token_point e.0 e.1) x)) c.loop-entry.invariant.items ∙ sym (in_tokens-from_entries c.args.tokens.now x c.entries-entry-items.ensures.listed));
-      few = λ x.
-          subst (λ n. n < 2 ^ 63) (sym (in_tokens-from_entries c.args.tokens.now x c.entries-entry-items.ensures.listed))
-          (subst (λ es. sum_by (λ e. one_at (token_point e.0 e.1) x) es < 2 ^ 63) c.loop-entry.invariant.items (few_tokens c.entries-entry-items.result.now x short));
     }

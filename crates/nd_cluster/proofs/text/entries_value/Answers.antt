@@ -5,7 +5,7 @@ use Rattle.serde_json.specs.Data.{array}
 use Rattle.serde_json.specs.View.{view, items_of}
 use Rattle.serde_json.specs.Written.{has_float}
 use Rattle.serde_json.proofs.Views.{view-Array}
-use Rattle.nd_json.proofs.ListLaws.{take_whole, map-more, no_float-more}
+use Rattle.nd_json.specs.ListLaws.{take_whole, map-more, no_float-more}
 use Rattle.nd_cluster.proofs.text.entries_value.Goals as goal
 
 pub loop-entry-init : goal.loop-entry-init

@@ -4,7 +4,7 @@ use Rattle.serde_json.specs.Data.{array}
 use Rattle.serde_json.specs.View.{view, items_of}
 use Rattle.serde_json.specs.Written.{has_float}
 use Rattle.serde_json.proofs.Views.{view-Array}
-use Rattle.nd_json.proofs.ListLaws.{take_whole, map-more, no_float-more}
+use Rattle.nd_json.specs.ListLaws.{take_whole, map-more, no_float-more}
 use Rattle.nd_json.proofs.lists.list_of.Goals as goal
 
 pub loop-item-preserved : goal.loop-item-preserved

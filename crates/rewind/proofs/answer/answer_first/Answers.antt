@@ -1,4 +1,3 @@
-use Rattle.std.proofs.Common.{◌≡◌, sym}
 use Rattle.rewind.proofs.AnswerLaws.{not_run_replies}
 use Rattle.rewind.proofs.answer.answer_first.Goals as goal
 

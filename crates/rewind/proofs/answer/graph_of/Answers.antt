@@ -1,6 +1,4 @@
 use Rattle.rewind.proofs.AnswerLaws.{graph_of-refused, graph_of-draft}
-use Rattle.std.proofs.Common.{◌≡◌, subst, sym}
-use Rattle.nd_graph.specs.Fault.{IsUnlessMemory}
 use Rattle.rewind.proofs.answer.graph_of.Goals as goal
 
 pub returns-in-Err : goal.returns-in-Err

@@ -1,4 +1,4 @@
-use Rattle.std.proofs.Common.{◌≡◌, ◌∙◌, arith, sym}
+use Rattle.std.proofs.Common.{arith}
 use Rattle.rewind.proofs.AnswerLaws.{not_strict_replies}
 use Rattle.rewind.proofs.answer.start_on.Goals as goal
 

@@ -1,7 +1,6 @@
-use Rattle.std.proofs.Common.{◌∙◌, ◌≤◌, ◌||◌, Bool, length, drop, ap, arith, length-drop}
+use Rattle.std.proofs.Common.{◌∙◌, ◌≤◌, ◌||◌, Bool, length, drop, ap, arith, length-drop, take-add}
 use Rattle.std.proofs.lemmas.List.{take_rest}
 use Rattle.rewind_lines.proofs.Known.{Appends-append, refuses-none}
-use Rattle.rewind_lines.proofs.Lists.{take_next}
 use Rattle.rewind_lines.proofs.sink.send.Goals as goal
 
 pub parts-preserved : goal.parts-preserved
@@ -10,7 +9,7 @@ parts-preserved g c =
     let fits : c.in-Ok.n ≤ length (drop c.parts.sent c.args.bytes.now) = rw (take_rest c.args.bytes.now c.parts.sent) at c.in-Ok.ensures.within in
     record {
       within = omega (arith, length-drop c.parts.sent c.args.bytes.now);
-      appended = rw (← take_next c.parts.sent c.in-Ok.n c.args.bytes.now) (Appends-append _ _ _ _ _ c.parts.invariant.appended more);
+      appended = rw (take-add c.parts.sent c.in-Ok.n c.args.bytes.now) (Appends-append _ _ _ _ _ c.parts.invariant.appended more);
       sound = c.in-Ok.ensures.failed
           ∙ (ap (λ (b : Bool). b || g.S.Sink.failed c.parts.sink) (refuses-none c.in-Ok.n _ c.in-Ok.n-test.1) ∙ c.parts.invariant.sound);
     }

@@ -4,7 +4,7 @@ use Rattle.nd_cluster.specs.Steps.{after_feed}
 use Rattle.nd_cluster.specs.Enabled.{HasLargeCount, HasLargeEntry, FeedFails}
 use Rattle.nd_cluster.specs.Alone.{alone, drafted, with_made, IsWithinCounts}
 use Rattle.nd_cluster.specs.Held.{settled_by}
-use Rattle.nd_cluster.proofs.Drafts.{feed_drafted, feed_settled}
+use Rattle.nd_cluster.proofs.Drafts.{feed_settled}
 use Rattle.nd_cluster.proofs.Refused.{all_free, settled_refusal}
 use Rattle.nd_cluster.proofs.Stepped.{few_counts, small_entries, full_record, large_entry}
 use Rattle.nd_cluster.proofs.cluster.Cluster.after_feed.Goals as goal
@@ -14,12 +14,6 @@ settle-requires-clause-records g c = subst IsWithinCounts (sym c.in-Ok-feed_draf
 
 pub settle-requires-clause-sinks : goal.settle-requires-clause-sinks
 settle-requires-clause-sinks g c = subst IsWithinCounts (sym c.in-Ok-feed_draft.ensures.sinks) c.in-Ok.ensures.ok.alone.kept.sinks
-
-pub settle-requires-clause-moves : goal.settle-requires-clause-moves
-settle-requires-clause-moves g c =
-    let d = c.in-Ok-feed_draft.draft in
-    let e = c.in-Ok-feed_draft.ensures in
-    feed_drafted c.args.self.now c.args.p c.args.vertex c.args.values.now c.args.next c.in-Ok.epoch c.in-Ok.ensures.ok d.records d.tokens d.sinks d.made.items d.change e.records e.tokens e.sinks e.made e.change
 
 pub returns-in-Ok-settle-clause-ok : goal.returns-in-Ok-settle-clause-ok
 returns-in-Ok-settle-clause-ok g c =

@@ -12,7 +12,7 @@ use Rattle.nd_cluster.specs.Alone.{alone, drafted, taken_here, with_made, moved_
 use Rattle.nd_cluster.specs.Held.{settled_by}
 use Rattle.nd_cluster.specs.declared.key.ValueAt.{ValueAt}
 use Rattle.nd_cluster.proofs.Numbers.{within-one_less}
-use Rattle.nd_cluster.proofs.Drafts.{take_state, take_drafted, take_settled}
+use Rattle.nd_cluster.proofs.Drafts.{take_state, take_settled}
 use Rattle.nd_cluster.proofs.Refused.{all_free, settled_refusal, wanting}
 use Rattle.nd_cluster.proofs.Stepped.{few_counts, small_entries, full_record, full_sink, large_entry}
 use Rattle.nd_cluster.proofs.cluster.Cluster.after_take.Goals as goal
@@ -77,23 +77,6 @@ settle-requires-clause-records g c =
 pub settle-requires-clause-sinks : goal.settle-requires-clause-sinks
 settle-requires-clause-sinks g c =
     subst (λ m. IsWithinCounts (fin.from_entries {R = sink_cmp} m)) (sym c.in-Ok-take_draft.ensures.sinks) c.in-Ok-sinks_after.ensures.within
-
-pub settle-requires-clause-moves : goal.settle-requires-clause-moves
-settle-requires-clause-moves g c =
-    let fits : SFits w64 c.args.value = c.ranges.value in
-    let x = c.in-Ok.taking in
-    let key : x.key ≡ record_key c.args.edge c.args.time.now c.args.value = simp to_z-of_z at c.in-Ok.ensures.key in
-    let sink : x.sink ≡ record { vertex = target_of c.args.self.now.graph c.args.edge; value = c.args.value } = simp to_z-of_z at c.in-Ok.ensures.sink in
-    let emit : CanEmit c.args.self.now c.args.p c.args.edge c.args.time.now c.args.value x.count x.emission = simp to_z-of_z at c.in-Ok.ensures.ok in
-    let d = c.in-Ok-take_draft.draft in
-    let e = c.in-Ok-take_draft.ensures in
-    let same_records = e.records ∙ ap (one_less (processor c.args.self.now 0).records) key in
-    let moved : fin.from_entries {R = sink_cmp} d.sinks ≡ (taken_here c.args.self.now.graph (processor c.args.self.now 0) c.args.edge c.args.time.now c.args.value []).sinks =
-    ap fin.from_entries e.sinks ∙ c.in-Ok-sinks_after.ensures.ok
-    ∙ (λ i. cond (is_sink (c.in-Ok.ensures.op i)) (one_more (processor c.args.self.now 0).sinks (sink i)) (processor c.args.self.now 0).sinks) in
-    let are_made = e.made ∙ (λ i. taken_records c.args.self.now.graph (sink i).vertex (key i).point.time (option_to_list x.emission)) in
-    let change_is = e.change ∙ ap (λ (k : ValueAt). moved_at none k.point (negsuc 0)) key in
-    take_drafted c.args.self.now c.args.p c.args.edge c.args.time.now c.args.value x.count emit.can x.emission emit.emits emit.still d.records d.tokens d.sinks d.made.items d.change same_records e.tokens moved are_made change_is
 
 pub returns-in-Ok-settle-clause-ok : goal.returns-in-Ok-settle-clause-ok
 returns-in-Ok-settle-clause-ok g c =

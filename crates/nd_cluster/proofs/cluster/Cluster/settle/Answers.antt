@@ -3,7 +3,7 @@ use Rattle.std.specs.FinMap.{from_entries}
 use Rattle.nd_delta.specs.Change.{IsTooLarge}
 use Rattle.nd_cluster.specs.Keys.{value_at_cmp}
 use Rattle.nd_cluster.specs.Alone.{all_more, with_made, IsWithinCounts}
-use Rattle.nd_cluster.proofs.Settling.{unsent_is, settled_kept, settled_state}
+use Rattle.nd_cluster.proofs.Settling.{unsent_is, settled_state}
 use Rattle.nd_cluster.proofs.cluster.Cluster.settle.Goals as goal
 
 pub returns-in-Err-DeltaFull-clause-full : goal.returns-in-Err-DeltaFull-clause-full
@@ -21,11 +21,7 @@ returns-in-Err-DeltaFull-clause-full g c =
     )
 
 pub invariant_of-result : goal.invariant_of-result
-invariant_of-result g c =
-    let more : from_entries {R = value_at_cmp} c.add_records.new.records ≡ all_more (from_entries c.args.draft.records) c.args.draft.made.items = c.in_default.ensures.ok ∙ ap (all_more (from_entries c.args.draft.records)) c.deref.ensures.value in
-    let sum : c.count_made.new.change ≡ with_made c.args.draft.change c.args.draft.made.items = c.in-Ok.ensures ∙ ap (with_made c.args.draft.change) c.deref-2.ensures.value in
-    settled_kept c.self.inside.paths c.self.inside.records c.self.inside.tokens c.self.inside.sinks c.self.inside.unsent c.self.inside.view c.args.self.now c.self.view_is
-    c.add_records.new.records c.args.draft.records c.args.draft.tokens c.args.draft.sinks c.args.draft.made.items c.in-Ok-plus.unsent c.in-Ok-copy.view c.args.draft.change c.count_made.new.change more sum c.in-Ok-plus.ensures.ok c.in-Ok-copy.ensures.equal c.self.invariant c.in_default.ensures.within c.requires.sinks c.requires.moves c.in-Ok-copy.ensures.within (λ large. absurd (cc (c.in-Ok-plus.ensures.full.1 large)))
+invariant_of-result g c = record { records = c.in_default.ensures.within; sinks = c.requires.sinks }
 
 pub returns-clause-ok : goal.returns-clause-ok
 returns-clause-ok g c =

@@ -1,4 +1,4 @@
-use Rattle.std.proofs.Common.{◌≡◌, ◌∙◌, ap, sym, refl}
+use Rattle.std.proofs.Common.{◌∙◌, ap}
 use Rattle.nd_cluster.specs.StateText.{state_data}
 use Rattle.nd_cluster.proofs.Shown.{shown}
 use Rattle.nd_cluster.proofs.cluster.Cluster.state_value.Goals as goal

@@ -1,8 +1,7 @@
-use Rattle.std.proofs.Common.{◌≡◌, ◌<◌, arith, subst, sym}
-use Rattle.nd_cluster.specs.State.{ClusterState}
+use Rattle.std.proofs.Common.{◌<◌, arith}
 use Rattle.nd_cluster.specs.Steps.{after}
 use Rattle.nd_cluster.specs.Records.{Leads}
-use Rattle.rewind.specs.Reached.{steps_of, IsReached}
+use Rattle.rewind.specs.Reached.{steps_of}
 use Rattle.rewind.proofs.MachineLaws.{led, returned}
 use Rattle.rewind.proofs.machine.Machine.back.Goals as goal
 use Rattle.std.proofs.Common.{take, ◌-◌}

@@ -1,6 +1,4 @@
-use Rattle.std.proofs.Common.{◌≡◌, ◌<◌, ◌∷◌, ◌++◌, List, [], take, arith, subst, sym, ap, refl, ◌∙◌}
-use Rattle.rewind.specs.Reached.{steps_of, IsReached}
-use Rattle.nd_cluster.specs.declared.record.Record.{Record}
+use Rattle.std.proofs.Common.{take, arith, refl}
 use Rattle.rewind.proofs.MachineLaws.{extends, steps_of-push, steps_of-take}
 use Rattle.rewind.proofs.machine.Machine.forward.Goals as goal
 

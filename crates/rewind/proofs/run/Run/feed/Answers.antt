@@ -1,8 +1,20 @@
-use Rattle.std.proofs.Common.{◌∙◌, ℕ, suc, List, ◌++◌, drop, take, arith, subst}
+use Rattle.std.proofs.Common.{◌≡◌, ◌∙◌, ℕ, suc, ◌+◌, ◌<◌, List, [], ◌∷◌, ◌++◌, length, drop, take, get_or, sym, ap, arith, subst, append_assoc, drop-cons}
+use Rattle.std.proofs.lemmas.List.{take_all, take-append-drop, take_more}
 use Rattle.std.proofs.lemmas.Result.{err_from_is_err_and}
-use Rattle.rewind_lines.proofs.Lists.{at_element, one_more, take_whole}
 use Rattle.rewind.specs.States.{EndsEarly, Stands}
 use Rattle.rewind.proofs.run.Run.feed.Goals as goal
+
+-- the bytes at one of them, between what was read and what follows
+at_element : (done bytes more : List ℕ) (i : ℕ) → i < length bytes
+    → (done ++ take i bytes) ++ get_or bytes i 0 ∷ (drop (suc i) bytes ++ more) ≡ done ++ (bytes ++ more)
+at_element done bytes more i h =
+    append_assoc done (take i bytes) (get_or bytes i 0 ∷ (drop (suc i) bytes ++ more))
+    ∙ ap (λ zs. done ++ zs)
+    (sym (append_assoc (take i bytes) (get_or bytes i 0 ∷ drop (suc i) bytes) more)
+    ∙ ap (λ zs. zs ++ more) (ap (λ zs. take i bytes ++ zs) (sym (drop-cons bytes i 0 h)) ∙ take-append-drop i bytes))
+
+one_more : (done bytes : List ℕ) (i : ℕ) → i < length bytes → (done ++ take i bytes) ++ get_or bytes i 0 ∷ [] ≡ done ++ take (i + 1) bytes
+one_more done bytes i h = append_assoc done (take i bytes) (get_or bytes i 0 ∷ []) ∙ ap (λ zs. done ++ zs) (sym (take_more bytes i 0 h))
 
 pub returns-in_err-push-clause-err : goal.returns-in_err-push-clause-err
 returns-in_err-push-clause-err g c =
@@ -27,4 +39,4 @@ loop-byte-preserved g c = record {
 pub returns-clause-ok : goal.returns-clause-ok
 returns-clause-ok g c = λ n done before s.
     subst (λ (xs : List ℕ). Stands n (done ++ xs) before (g.T.Sink.contents c.loop-byte.sink) c.loop-byte.self)
-    (take_whole c.loop-byte.byte-index c.args.bytes.now c.loop-byte-test.false) (c.loop-byte.invariant.stands n done before s)
+    (take_all c.loop-byte.byte-index c.args.bytes.now c.loop-byte-test.false) (c.loop-byte.invariant.stands n done before s)
