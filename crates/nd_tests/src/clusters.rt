@@ -203,7 +203,7 @@ fn take_and_back(rt: HostRuntime) {
 }
 
 /// How many records, requests and tokens there are at a place.
-fn count<A: Allocator + Copy>(cluster: &Cluster<A>, name: &str, epoch: u32) -> Option<u64> {
+fn count<A: Allocator + Copy>(cluster: &Cluster<A>, name: &str, epoch: u32) -> Option<u128> {
     let point = point(cluster.paths().graph(), name, &[epoch])?;
     Some(cluster.count(&point))
 }
