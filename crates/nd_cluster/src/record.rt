@@ -77,14 +77,14 @@ impl<A: Allocator + Copy> Cluster<A> {
     }
 
     /// Makes the step of a record that was planned in this state.
-    pub fn commit(&mut self, record: &Record<A>) -> Result<(), NoMemory>
-        requires { IsPlanned record.now self.old }
-        ensures step { OnOk result (self.new ≡ stepped self.old record.now.step) }
-        ensures leads { OnOk result (Leads record.now self.old self.new) }
+    pub fn commit(&mut self, planned: &Record<A>) -> Result<(), NoMemory>
+        requires { IsPlanned planned.now self.old }
+        ensures step { OnOk result (self.new ≡ stepped self.old planned.now.step) }
+        ensures leads { OnOk result (Leads planned.now self.old self.new) }
         ensures settled { OnOk result (IsSettled self.old → IsSettled self.new) }
         ensures err { OnErr result (self.new ≡ self.old) }
     {
-        let Ok(after) = self.after_step(&record.step) else {
+        let Ok(after) = self.after_step(&planned.step) else {
             return Err(NoMemory);
         };
         *self = after;
@@ -92,12 +92,12 @@ impl<A: Allocator + Copy> Cluster<A> {
     }
 
     /// Undoes the step of a record, in the state that its commit left.
-    pub fn back(&mut self, record: &Record<A>) -> Result<(), NoMemory>
-        requires { IsCommitted record.now self.old }
-        ensures ok { OnOk result ((s : ClusterState) → Leads record.now s self.old → self.new ≡ s) }
+    pub fn back(&mut self, made: &Record<A>) -> Result<(), NoMemory>
+        requires { IsCommitted made.now self.old }
+        ensures ok { OnOk result ((s : ClusterState) → Leads made.now s self.old → self.new ≡ s) }
         ensures err { OnErr result (self.new ≡ self.old) }
     {
-        let Ok(before) = record.before.copy(self.alloc) else {
+        let Ok(before) = made.before.copy(self.alloc) else {
             return Err(NoMemory);
         };
         *self = before;

@@ -9,4 +9,4 @@ pub returns-clause-leads : goal.returns-clause-leads
 returns-clause-leads g c = record { planned = c.requires; after = c.in-Ok.ensures.ok }
 
 pub returns-clause-settled : goal.returns-clause-settled
-returns-clause-settled g c = λ was. subst IsSettled (sym c.in-Ok.ensures.ok) (settled_step c.args.self.now c.args.record.now.step c.requires.enabled was)
+returns-clause-settled g c = λ was. subst IsSettled (sym c.in-Ok.ensures.ok) (settled_step c.args.self.now c.args.planned.now.step c.requires.enabled was)
