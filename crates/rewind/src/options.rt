@@ -71,7 +71,7 @@ fn clients_argument(alloc: Global) -> Arg<'static>
         .long("clients")
         .action(ArgAction::Set)
         .value_parser(value_parser!(u8).range(1..=1))
-        .help("How many clients the script has, 1, and 1 if not given")
+        .help("How many clients the script has: 1 so far, and 1 if not given")
 }
 
 /// The command before its arguments.
