@@ -146,16 +146,19 @@ fn refuses_steps(rt: HostRuntime) -> Result<(), Fail> {
 }
 
 #[test]
-fn statuses(rt: HostRuntime) {
-    for (fault, status) in [
-        (DebugFault::Graph, 2),
-        (DebugFault::Script, 2),
-        (DebugFault::Read, 3),
-        (DebugFault::Write, 3),
-        (DebugFault::TooLong, 3),
-        (DebugFault::Memory, 4),
-        (DebugFault::Close, 5),
+fn tells_faults(rt: HostRuntime) -> Result<(), Fail> {
+    for (fault, text, status) in [
+        (DebugFault::Graph, "graph refused", 2),
+        (DebugFault::Script, "script refused", 2),
+        (DebugFault::Read, "read failed", 3),
+        (DebugFault::Write, "write failed", 3),
+        (DebugFault::TooLong, "input too long", 3),
+        (DebugFault::Memory, "out of memory", 4),
+        (DebugFault::Close, "log mismatch", 5),
     ] {
-        assert_eq!(rt; fault.status(), status);
+        let told = format!(in rt.alloc(); "{fault}")?;
+        assert_eq!(rt; told.as_str(), text);
+        assert_eq!(rt; fault.status(), status, "at {text}");
     }
+    Ok(())
 }
