@@ -18,7 +18,6 @@ use std::alloc::{AllocError, Allocator, Global};
 use std::marker::Model;
 
 /// A cluster of processors that run a dataflow graph (Naiad, SOSP 2013, section 3.3).
-#[derive(Drop)]
 pub struct Cluster<A: Allocator + Copy = Global> {
     pub(crate) alloc: A,
     pub(crate) paths: Paths<A>,
@@ -27,6 +26,20 @@ pub struct Cluster<A: Allocator + Copy = Global> {
     pub(crate) sinks: SortedMap<SinkKey, u64, A>,
     pub(crate) unsent: Delta<A>,
     pub(crate) view: Delta<A>,
+}
+
+impl<A: Allocator + Copy> Drop for Cluster<A> {
+    fn drop(self) {
+        let Cluster {
+            alloc: _,
+            paths: _,
+            records: _,
+            tokens: _,
+            sinks: _,
+            unsent: _,
+            view: _,
+        } = self;
+    }
 }
 
 impl<A: Allocator + Copy> Model for Cluster<A> {

@@ -12,11 +12,19 @@ use crate::{Cluster, NoMemory, Refusal, Step};
 use std::alloc::{AllocError, Allocator, Global};
 
 /// A step that a cluster can make, and what is needed to undo it.
-#[derive(Drop)]
 pub struct Record<A: Allocator + Copy = Global> {
     pub step: Step<A>,
     /// The cluster before the step.
     pub before: Cluster<A>,
+}
+
+impl<A: Allocator + Copy> Drop for Record<A> {
+    fn drop(self) {
+        let Record {
+            step: _,
+            before: _,
+        } = self;
+    }
 }
 
 impl<A: Allocator + Copy> Record<A> {
