@@ -26,9 +26,14 @@ pub enum DeltaFault {
 }
 
 /// A finite map from pointstamps to integers other than 0, each at most `LIMIT` in absolute value.
-#[derive(Drop)]
 pub struct Delta<A: Allocator = Global> {
     map: SortedMap<Pointstamp, i64, A>,
+}
+
+impl<A: Allocator> Drop for Delta<A> {
+    fn drop(self) {
+        let Delta { map: _ } = self;
+    }
 }
 
 impl<A: Allocator> Model for Delta<A> {

@@ -67,12 +67,22 @@ pub struct Arc {
 }
 
 /// A dataflow graph (Naiad, SOSP 2013, section 2.1).
-#[derive(Drop)]
 pub struct Graph<A: Allocator = Global> {
     vertices: Vec<Vertex, A>,
     edges: Vec<Edge, A>,
     depths: Vec<usize, A>,
     arcs: Vec<Arc, A>,
+}
+
+impl<A: Allocator> Drop for Graph<A> {
+    fn drop(self) {
+        let Graph {
+            vertices: _,
+            edges: _,
+            depths: _,
+            arcs: _,
+        } = self;
+    }
 }
 
 impl<A: Allocator> Model for Graph<A> {

@@ -19,10 +19,15 @@ use std::marker::Model;
 /// An accepted graph, and the order of its pointstamps (Naiad, SOSP 2013, section 2.3).
 ///
 /// The order is decided from a table: for each two locations the least summary of the walks that keep so many counters.
-#[derive(Drop)]
 pub struct Paths<A: Allocator = Global> {
     graph: Graph<A>,
     rows: Vec<Vec<Option<Summary>, A>, A>,
+}
+
+impl<A: Allocator> Drop for Paths<A> {
+    fn drop(self) {
+        let Paths { graph: _, rows: _ } = self;
+    }
 }
 
 impl<A: Allocator> Model for Paths<A> {
