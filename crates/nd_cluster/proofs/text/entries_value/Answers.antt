@@ -1,11 +1,11 @@
 use Rattle.std.proofs.Common.{◌∙◌, ◌∷◌, [], ap, map, refl}
-use Rattle.std.proofs.lemmas.List.{map-append}
+use Rattle.std.proofs.lemmas.List.{take_all, map-append}
 use Rattle.std.proofs.lemmas.Result.{err_from_is_err_and}
 use Rattle.serde_json.specs.Data.{array}
 use Rattle.serde_json.specs.View.{view, items_of}
 use Rattle.serde_json.specs.Written.{has_float}
 use Rattle.serde_json.proofs.Views.{view-Array}
-use Rattle.nd_json.specs.ListLaws.{take_whole, map-more, no_float-more}
+use Rattle.nd_json.specs.ListLaws.{map-more, no_float-more}
 use Rattle.nd_cluster.proofs.text.entries_value.Goals as goal
 
 pub loop-entry-init : goal.loop-entry-init
@@ -23,7 +23,7 @@ pub returns-clause-reply : goal.returns-clause-reply
 returns-clause-reply g c =
     view-Array c.loop-entry.list
     ∙ ap (λ ds. array (items_of ds)) (c.loop-entry.invariant.made
-    ∙ ap (λ xs. map (g.T.Listed.listed c.args.graph.now) xs) (take_whole c.loop-entry.entry-index c.args.entries.now c.loop-entry-test.false))
+    ∙ ap (λ xs. map (g.T.Listed.listed c.args.graph.now) xs) (take_all c.loop-entry.entry-index c.args.entries.now c.loop-entry-test.false))
 
 pub returns-clause-text : goal.returns-clause-text
 returns-clause-text g c = ap has_float (view-Array c.loop-entry.list) ∙ c.loop-entry.invariant.no_float

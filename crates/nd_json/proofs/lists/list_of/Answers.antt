@@ -1,10 +1,10 @@
 use Rattle.std.proofs.Common.{◌∙◌, ◌∷◌, [], ap, map}
-use Rattle.std.proofs.lemmas.List.{map-append}
+use Rattle.std.proofs.lemmas.List.{take_all, map-append}
 use Rattle.serde_json.specs.Data.{array}
 use Rattle.serde_json.specs.View.{view, items_of}
 use Rattle.serde_json.specs.Written.{has_float}
 use Rattle.serde_json.proofs.Views.{view-Array}
-use Rattle.nd_json.specs.ListLaws.{take_whole, map-more, no_float-more}
+use Rattle.nd_json.specs.ListLaws.{map-more, no_float-more}
 use Rattle.nd_json.proofs.lists.list_of.Goals as goal
 
 pub loop-item-preserved : goal.loop-item-preserved
@@ -19,7 +19,7 @@ pub returns-clause-reply : goal.returns-clause-reply
 returns-clause-reply g c =
     view-Array c.loop-item.list
     ∙ ap (λ ds. array (items_of ds)) (c.loop-item.invariant.made
-    ∙ ap (λ xs. map g.T.ToJson.shown xs) (take_whole c.loop-item.item-index c.args.items.now c.loop-item-test.false))
+    ∙ ap (λ xs. map g.T.ToJson.shown xs) (take_all c.loop-item.item-index c.args.items.now c.loop-item-test.false))
 
 pub returns-clause-text : goal.returns-clause-text
 returns-clause-text g c = ap has_float (view-Array c.loop-item.list) ∙ c.loop-item.invariant.no_float
