@@ -142,13 +142,6 @@ in_tokens-insert m v e to x found =
     ap (λ (d : Option ℕ). in_tokens (fin.insert m v to) x + weight_at f v d) (sym found)
     ∙ weight-insert nat_cmp nat_cmp_total fin.nat_cmp-IsAntisymmetric f m v to
 
-pub in_tokens-new : (m : fin.FinMap nat_cmp ℕ) (v to : ℕ) (x : Pointstamp) → fin.get m v ≡ None → in_tokens (fin.insert m v to) x ≡ in_tokens m x + one_at (token_point v to) x
-in_tokens-new m v to x absent =
-    let f = λ (w n : ℕ). one_at (token_point w n) x in
-    (let z : in_tokens (fin.insert m v to) x ≡ in_tokens (fin.insert m v to) x + 0 = omega arith in z)
-    ∙ ap (λ (d : Option ℕ). in_tokens (fin.insert m v to) x + weight_at f v d) (sym absent)
-    ∙ weight-insert nat_cmp nat_cmp_total fin.nat_cmp-IsAntisymmetric f m v to
-
 pub in_tokens-remove : (m : fin.FinMap nat_cmp ℕ) (v e : ℕ) (x : Pointstamp) → fin.get m v ≡ Some e → in_tokens (fin.remove m v) x + one_at (token_point v e) x ≡ in_tokens m x
 in_tokens-remove m v e x found =
     let f = λ (w n : ℕ). one_at (token_point w n) x in

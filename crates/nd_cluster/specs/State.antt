@@ -41,9 +41,6 @@ idle = record { records = fin.empty; requests = finset.empty; tokens = fin.empty
 abbrev pub processor : ClusterState → ℕ → ProcessorState
 processor s p = slice_index_or s.processors p idle
 
-abbrev pub with_processor : ClusterState → ℕ → ProcessorState → ClusterState
-with_processor s p q = record s { processors = slice_set s.processors p q }
-
 -- ---- what is outstanding
 
 -- the pointstamp of an input vertex's token

@@ -20,10 +20,7 @@ pub struct Record<A: Allocator + Copy = Global> {
 
 impl<A: Allocator + Copy> Drop for Record<A> {
     fn drop(self) {
-        let Record {
-            step: _,
-            before: _,
-        } = self;
+        let Record { step: _, before: _ } = self;
     }
 }
 

@@ -1,8 +1,8 @@
 -- A graph without a fault has depths that agree along its arcs.
-use Rattle.std.proofs.Common.{◌≡◌, ◌∙◌, ℕ, ◌+◌, ◌<◌, ◌≤◌, zero, suc, Bool, true, false, not, ◌||◌, eqb, ltb, leb, List, [], ◌∷◌, ◌++◌, length, get_or, map, refl, sym, ap, subst, arith, if◌then◌else◌, append_assoc, Some, None}
+use Rattle.std.proofs.Common.{◌≡◌, ◌∙◌, ℕ, ◌+◌, ◌<◌, ◌≤◌, zero, suc, Bool, true, false, not, ◌||◌, eqb, ltb, List, [], ◌∷◌, ◌++◌, length, get_or, map, refl, sym, ap, subst, arith, if◌then◌else◌, append_assoc, Some, None}
 use Rattle.std.proofs.lemmas.List.{length-map, length-append}
 use Rattle.std.proofs.lemmas.List.Elements.{All-nil, All-cons, All-head, All-tail, All-append, All-map, All-weaker}
-use Rattle.std.proofs.lemmas.Bool.{eqb-true, ltb-false, leb-false}
+use Rattle.std.proofs.lemmas.Bool.{eqb-true, ltb-false}
 use Rattle.std.specs.List.{All, list_any}
 use Rattle.nd_time.specs.Limits.{max_depth, max_locations}
 use Rattle.nd_graph.specs.declared.op.Op.{Op}
@@ -13,7 +13,7 @@ use Rattle.nd_graph.specs.declared.graph.Edge.{Edge}
 use Rattle.nd_graph.specs.declared.graph.Arc.{Arc}
 use Rattle.nd_graph.specs.declared.fault.GraphFault.TheVariants.{BadPort, DepthMismatch, TooLarge}
 use Rattle.nd_graph.specs.Graph.{Dataflow, action_of, action_at, depth_past, depth_past_vertex, depths, arcs, arcs_from, location_count, LeadsTo, ArcAgrees, IsGraph}
-use Rattle.nd_graph.specs.Checked.{has_bad_port, ports_at, is_input_at, is_misplaced, is_misplaced_at, misses_depth, vertex_depth, has_depth_mismatch, is_too_deep, leads_too_deep, is_too_large, fault_of, JoinsVertices, IsFaultless}
+use Rattle.nd_graph.specs.Checked.{has_bad_port, is_misplaced, is_misplaced_at, misses_depth, vertex_depth, has_depth_mismatch, is_too_deep, leads_too_deep, is_too_large, fault_of, JoinsVertices, IsFaultless}
 use Rattle.nd_graph.proofs.NameLaws.{or_false, not_false}
 
 -- ---- arcs, edge by edge
@@ -142,22 +142,6 @@ agree vertices ds l (e ∷ edges) long at from_here joined placed met =
 pub placed : (g : Dataflow) → IsFaultless g → All (λ v. is_misplaced v ≡ false) g.vertices
 unfolding has_depth_mismatch
 placed g h = none_of is_misplaced g.vertices (or_false (list_any is_misplaced g.vertices) (list_any (misses_depth g.vertices) g.edges) (tests g h.faultless).1).0
-
--- each edge leaves a port that is there
-pub leaves_port : (g : Dataflow) → IsFaultless g → All (λ e. e.port < ports_at g.vertices e.from) g.edges
-unfolding has_bad_port
-leaves_port g h =
-    All-weaker (λ e. has_bad_port g.vertices e ≡ false) (λ e. e.port < ports_at g.vertices e.from)
-    (λ e p. leb-false (ports_at g.vertices e.from) e.port (or_false (leb (ports_at g.vertices e.from) e.port) (is_input_at g.vertices e.to) p).0)
-    g.edges (none_of (has_bad_port g.vertices) g.edges (tests g h.faultless).0)
-
--- no edge enters an input
-pub enters_no_input : (g : Dataflow) → IsFaultless g → All (λ e. is_input_at g.vertices e.to ≡ false) g.edges
-unfolding has_bad_port
-enters_no_input g h =
-    All-weaker (λ e. has_bad_port g.vertices e ≡ false) (λ e. is_input_at g.vertices e.to ≡ false)
-    (λ e p. (or_false (leb (ports_at g.vertices e.from) e.port) (is_input_at g.vertices e.to) p).1)
-    g.edges (none_of (has_bad_port g.vertices) g.edges (tests g h.faultless).0)
 
 -- ---- the whole
 

@@ -69,17 +69,6 @@ module _ {K X : Type 0} (R : K → K → Ordering) (o : IsTotalOrder R) where
     gap_from p es i d (omega arith) (λ j lt. before (suc j) (omega arith)) (λ j ge lt. after (suc j) (omega arith) (omega arith)),
   )
 
-  pub in_range_at : (p : K) (es : List (K × X)) (i : ℕ) → IsAt R p es i → i < length es
-  in_range_at p [] i h = absurd h
-  in_range_at p (e ∷ es) zero h = omega arith
-  in_range_at p (e ∷ es) (suc i) h = omega (arith, in_range_at p es i h.1)
-
-  pub in_range_gap : (p : K) (es : List (K × X)) (i : ℕ) → IsGap R p es i → i ≤ length es
-  in_range_gap p [] zero h = omega arith
-  in_range_gap p [] (suc i) h = absurd h
-  in_range_gap p (e ∷ es) zero h = omega arith
-  in_range_gap p (e ∷ es) (suc i) h = omega (arith, in_range_gap p es i h.1)
-
   pub find_at : (p : K) (es : List (K × X)) (i : ℕ) (d : K × X) → IsAt R p es i → find R p es ≡ Some (get_or es i d).1
   find_at p [] i d h = absurd h
   find_at p (e ∷ es) zero d h = ap (λ r. cond (is_eq r) (Some e.1) (find R p es)) h
