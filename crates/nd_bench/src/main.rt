@@ -49,6 +49,12 @@ fn perform(alloc: Global, task: &Task, graph: &Graph) -> Option<()> {
         "add" => changes::add(alloc, graph, task.points, task.times),
         "plus" => changes::plus(alloc, graph, task.points, task.times),
         "apply" => changes::apply(alloc, graph, &paths, task.points, task.times),
+        "view" => changes::view(alloc, graph, &paths, task.points, task.times),
+        "stay" => changes::stay(alloc, graph, &paths, task.points, task.times),
+        "come_and_go" => changes::come_and_go(alloc, graph, &paths, task.points, task.times),
+        "unapply" => changes::unapply(alloc, graph, &paths, task.points, task.times),
+        "hindered" => changes::hindered(alloc, graph, &paths, task.points, task.times),
+        "passed" => changes::passed(alloc, graph, &paths, task.points, task.times),
         "frontier" => changes::frontier(alloc, graph, &paths, task.points, task.times),
         _ => None,
     }

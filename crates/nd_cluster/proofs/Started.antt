@@ -1,78 +1,86 @@
--- The start of a cluster of one processor.
-use Rattle.std.proofs.Common.{◌≡◌, ◌<◌, ◌≤◌, ◌^◌, ℕ, suc, ◌+◌, pos, Bool, true, false, cond, List, [], ◌∷◌, ◌-◌, ◌*◌, length, drop, take, get_or, sum_by, drop-cons, refl, sym, ap, ◌∙◌, arith}
+-- The start of a cluster: its tokens, counted once for each processor, are all that is outstanding.
+use Rattle.std.proofs.Common.{◌≡◌, ◌<◌, ◌≤◌, ◌+◌, ◌*◌, ℕ, zero, suc, pos, ◌+ℤ◌, ℤ, Bool, true, false, cond, List, [], ◌∷◌, ◌++◌, map, take, length, get_or, replicate, refl, sym, ap, subst, ◌∙◌, arith}
+use Rattle.std.proofs.Math.Nat.{mul-add}
 use Rattle.std.proofs.lemmas.Int.{ints}
-use Rattle.std.proofs.lemmas.List.Sums.{sum_by_more, sum_by-le}
+use Rattle.std.proofs.lemmas.List.{length-replicate, map-append, replicate_more}
+use Rattle.std.proofs.lemmas.List.Folds.{sum_by-replicate}
+use Rattle.std.proofs.lemmas.List.Sums.{sum_by_more}
+use Rattle.std.specs.Prelude.{All}
 use Rattle.std.specs.FinMap as fin
-use Rattle.nd_paths.specs.declared.point.Pointstamp.{Pointstamp}
+use Rattle.nd_graph.specs.Graph.{Dataflow, ArcAgrees, arcs, depths}
+use Rattle.nd_graph.specs.Checked.{IsFaultless}
+use Rattle.nd_paths.specs.Order.{IsAccepted}
 use Rattle.nd_paths.specs.Fault.{IsFault}
+use Rattle.nd_paths.specs.Point.{point_exact}
 use Rattle.nd_paths.specs.declared.accept.PathFault.{PathFault}
 use Rattle.nd_paths.specs.declared.accept.PathFault.TheVariants as path
-use Rattle.nd_graph.specs.Graph.{Dataflow}
-use Rattle.nd_graph.specs.declared.graph.Vertex.{Vertex}
-use Rattle.nd_delta.specs.Change.{Change, none, at, is_point, same}
-use Rattle.nd_cluster.specs.Keys.{value_at_cmp, sink_cmp}
-use Rattle.nd_cluster.specs.State.{truth, token_point}
-use Rattle.nd_cluster.specs.Operators.{is_input}
-use Rattle.nd_cluster.specs.Start.{first_tokens, with_tokens, start, ShowsTokens, IsStartFault, fault_of}
-use Rattle.nd_cluster.specs.Alone.{alone, processor_of, moved_at, IsKept}
-use Rattle.nd_cluster.specs.Held.{in_tokens, held, one_at}
-use Rattle.nd_cluster.proofs.Moved.{at-moved_at}
-use Rattle.nd_cluster.proofs.Held.{truth-alone, no_requests, no_records}
+use Rattle.nd_paths.specs.declared.point.Pointstamp.{Pointstamp}
+use Rattle.std.proofs.lemmas.Map.Views.{tells_apart}
+use Rattle.nd_delta.specs.Change.{Change, none, plus, at, set, same, is_point, at-none, at-plus, at-set}
+use Rattle.nd_view.specs.Kept.{Kept}
+use Rattle.nd_processor.specs.State.{ProcessorState, one_at, token_point, held}
+use Rattle.nd_processor.specs.Start.{start_processor}
+use Rattle.nd_processor.specs.Held.{no_records, no_requests}
+use Rattle.nd_protocol.specs.State.{ClusterState, truth}
+use Rattle.nd_protocol.specs.Start.{start}
+use Rattle.nd_protocol.specs.Fitting.{IsOrdered}
+use Rattle.nd_cluster.specs.Seen.{seen, quiet}
+use Rattle.nd_cluster.specs.Starting.{tokens_weigh, IsProcessorCount, IsStartFault, fault_of}
+use Rattle.nd_cluster.proofs.Outstanding.{held_by_all, truth-held}
 
--- what is outstanding where there are tokens alone
-held_tokens : (tokens : List (ℕ × ℕ)) (unsent view : Change) (x : Pointstamp) → held (processor_of [] tokens [] unsent view) x ≡ in_tokens (fin.from_entries tokens) x
-held_tokens tokens unsent view x = omega (arith, no_requests x, no_records x)
+add_here : (b : Bool) (here : ℤ) (s n : ℕ) → (b ≡ true → here ≡ pos s) → cond b (here +ℤ pos n) (pos s) ≡ pos (s + n * cond b 1 0)
+add_here true here s n e = rw (e refl) (ap pos (omega arith))
+add_here false here s n e = ap pos (omega arith)
 
-pub start_alone : (g : Dataflow) (tokens : List (ℕ × ℕ)) (view : Change) → fin.from_entries tokens ≡ first_tokens 0 g.vertices → ShowsTokens (fin.from_entries tokens) view → alone g (processor_of [] tokens [] none view) ≡ start g 1
-unfolding alone start
-start_alone g tokens view is shown =
-    let sees : view ≡ truth (processor_of [] tokens [] none none ∷ []) = same _ _ (λ x. shown.shows x ∙ sym (ap pos (held_tokens tokens none none x)) ∙ sym (truth-alone (processor_of [] tokens [] none none) x)) in
-    let first : processor_of [] tokens [] none none ≡ with_tokens g = λ i. record (with_tokens g) { tokens = is i } in
-    λ i. record {
-      graph = g;
-      processors = record (with_tokens g) { tokens = is i; view = (sees ∙ ap (λ q. truth (q ∷ [])) first) i } ∷ [];
-      queues = ([] ∷ []) ∷ [];
-    }
+-- one more token is counted n times
+pub tokens_turn : (es : List (ℕ × ℕ)) (i n : ℕ) (z : ℤ) (d : ℕ × ℕ) (m new : Change) (p : Pointstamp) → i < length es → p ≡ token_point (get_or es i d).0 (get_or es i d).1 → z ≡ pos n → new ≡ set m p (at m p +ℤ z)
+    → ((x : Pointstamp) → at m x ≡ pos (n * tokens_weigh (take i es) x)) → (x : Pointstamp) → at new x ≡ pos (n * tokens_weigh (take (i + 1) es) x)
+tokens_turn es i n z d m new p lt is number add h x =
+    let more : tokens_weigh (take (i + 1) es) x ≡ tokens_weigh (take i es) x + one_at (token_point (get_or es i d).0 (get_or es i d).1) x
+    = sum_by_more (λ (e : ℕ × ℕ). one_at (token_point e.0 e.1) x) es i d lt in
+    let here : one_at p x ≡ one_at (token_point (get_or es i d).0 (get_or es i d).1) x = ap (λ q. one_at q x) is in
+    let sum : n * tokens_weigh (take i es) x + n * one_at p x ≡ n * tokens_weigh (take (i + 1) es) x
+    = sym (mul-add n (tokens_weigh (take i es) x) (one_at p x)) ∙ ap (λ k. n * k) (ap (λ k. tokens_weigh (take i es) x + k) here ∙ sym more) in
+    ap (λ c. at c x) (add ∙ ap (λ y. set m p (at m p +ℤ y)) number) ∙ at-set m p (at m p +ℤ pos n) x
+    ∙ ap (cond (is_point x p) (at m p +ℤ pos n)) (h x)
+    ∙ add_here (is_point x p) (at m p) (n * tokens_weigh (take i es) x) n (λ t. ap (at m) (sym (tells_apart point_exact x p t)) ∙ h x)
+    ∙ ap pos sum
 
-pub kept_start : (tokens : List (ℕ × ℕ)) (view : Change) → IsKept (processor_of [] tokens [] none view)
-kept_start tokens view = record {
-  records = λ k. rw (fin.get-empty {X = ℕ} value_at_cmp k) (omega arith);
-  sinks = λ k. rw (fin.get-empty {X = ℕ} sink_cmp k) (omega arith);
-}
+-- at a start a processor has its tokens alone
+held-start : (g : Dataflow) (x : Pointstamp) → held (start_processor g) x ≡ tokens_weigh (fin.entries (start_processor g).tokens) x
+held-start g x = let r = no_records x in let q = no_requests x in omega arith
 
--- a turn of the loop that goes down the vertices
-pub tokens_turn : (vertices : List Vertex) (l : ℕ) (d : Vertex) (b : Bool) → 0 < l → l ≤ length vertices → b ≡ is_input (get_or vertices (l - 1) d).op → first_tokens (l - 1) (drop (l - 1) vertices) ≡ cond b (fin.insert (first_tokens l (drop l vertices)) (l - 1) 0) (first_tokens l (drop l vertices))
-tokens_turn vertices l d b some le is =
-    let next : (l - 1) + 1 ≡ l = omega arith in
-    let same : suc (l - 1) ≡ l = omega arith in
-    ap (first_tokens (l - 1)) (drop-cons vertices (l - 1) d (omega arith))
-    ∙ (λ i. cond (sym is i) (fin.insert (first_tokens (next i) (drop (same i) vertices)) (l - 1) 0) (first_tokens (next i) (drop (same i) vertices)))
+pub start_counts : (g : Dataflow) (n : ℕ) (d : Change) (es : List (ℕ × ℕ)) → es ≡ fin.entries (start_processor g).tokens → ((x : Pointstamp) → at d x ≡ pos (n * tokens_weigh es x)) → d ≡ truth (replicate n (start_processor g))
+start_counts g n d es is h =
+    same _ _ (λ x.
+    h x
+    ∙ ap (λ k. pos (n * k)) (ap (λ ys. tokens_weigh ys x) is ∙ sym (held-start g x))
+    ∙ sym (ap pos (sum_by-replicate (λ (q : ProcessorState). held q x) n (start_processor g)))
+    ∙ sym (truth-held (replicate n (start_processor g)) x))
 
-pub drop_end : {X : Type 0} (xs : List X) → drop (length xs) xs ≡ []
-drop_end [] = refl
-drop_end (x ∷ xs) = drop_end xs
+-- one more view of what is outstanding
+pub from_nothing : (d : Change) → plus none d ≡ d
+from_nothing d = same _ _ (λ x. at-plus none d x ∙ ap (λ z. z +ℤ at d x) (at-none x) ∙ (let e : pos 0 +ℤ at d x ≡ at d x = omega (arith, ints) in e))
 
--- a turn of the loop that shows the tokens
-one_here : (b : Bool) → cond b (pos 1) (pos 0) ≡ pos (cond b 1 0)
-one_here true = refl
-one_here false = refl
+pub one : {X : Type 0} (P : X → Type 0) (x : X) → P x → All P (x ∷ [])
+one P x h zero d lt = h
+one P x h (suc k) d lt = absurd (omega arith)
 
-pub shows_turn : (es : List (ℕ × ℕ)) (i : ℕ) (view new : Change) (p : Pointstamp) → i < length es → p ≡ token_point (get_or es i (0, 0)).0 (get_or es i (0, 0)).1 → new ≡ moved_at view p (pos 1) → (x : Pointstamp) → at view x ≡ pos (sum_by (λ e. one_at (token_point e.0 e.1) x) (take i es)) → at new x ≡ pos (sum_by (λ e. one_at (token_point e.0 e.1) x) (take (i + 1) es))
-shows_turn es i view new p lt is add x seen =
-    let more = sum_by_more (λ (e : ℕ × ℕ). one_at (token_point e.0 e.1) x) es i (0, 0) lt in
-    let moved = ap (λ c. at c x) add ∙ at-moved_at view p (pos 1) x in
-    let same : one_at p x ≡ one_at (token_point (get_or es i (0, 0)).0 (get_or es i (0, 0)).1) x = ap (λ q. one_at q x) is in
-    let one = one_here (is_point x p) in
-    omega (arith, ints)
+pub views_turn : (vs new : List Kept) (v : Kept) (k : ℕ) (d : Change) → new ≡ vs ++ v ∷ [] → v.map ≡ d → map (λ (w : Kept). w.map) vs ≡ replicate k d → map (λ (w : Kept). w.map) new ≡ replicate (k + 1) d
+views_turn vs new v k d is one all =
+    ap (map (λ (w : Kept). w.map)) is ∙ map-append (λ (w : Kept). w.map) vs (v ∷ [])
+    ∙ (λ i. all i ++ one i ∷ []) ∙ replicate_more k d
 
-each_one : (x : Pointstamp) (p : Pointstamp) → one_at p x ≤ 1
-each_one x p = elim (is_point x p) as (λ b. cond b 1 0 ≤ 1) [ true ↦ omega arith | false ↦ omega arith ]
+pub seen_start : (g : Dataflow) (n : ℕ) (k : Dataflow) (ps : List ProcessorState) (vs : List Kept) (d : Change) → k ≡ g → ps ≡ replicate n (start_processor g) → map (λ v. v.map) vs ≡ replicate n d → d ≡ truth (replicate n (start_processor g))
+    → seen k ps vs ≡ start g n
+unfolding start
+seen_start g n k ps vs d a b c e =
+    let many : length ps ≡ n = ap (λ (qs : List ProcessorState). length qs) b ∙ length-replicate n (start_processor g) in
+    λ i. record { graph = a i; processors = b i; views = (c ∙ ap (replicate n) e) i; queues = quiet (many i) }
 
-pub few_tokens : (es : List (ℕ × ℕ)) (x : Pointstamp) → length es < 2 ^ 63 → sum_by (λ e. one_at (token_point e.0 e.1) x) es < 2 ^ 63
-few_tokens es x short =
-    let bound : sum_by (λ (e : ℕ × ℕ). one_at (token_point e.0 e.1) x) es ≤ length es * 1 = sum_by-le (λ (e : ℕ × ℕ). one_at (token_point e.0 e.1) x) 1 es (λ k d lt. each_one x (token_point (get_or es k d).0 (get_or es k d).1)) in
-    omega arith
+pub ordered : (g : Dataflow) → IsFaultless g → All (ArcAgrees (depths g)) (arcs g) → IsAccepted g → IsOrdered g
+ordered g sound agree accepted = record { joined = sound.joined; agree = agree; accepted = accepted }
 
-pub path_fault : (g : Dataflow) (n : ℕ) (e : PathFault) → n ≡ 1 → IsFault g e → IsStartFault g n (fault_of e)
-path_fault g n (path.LoopNotStrict l) one fails = (one, fails.0, fails.1)
-path_fault g n path.Memory one fails = one
+pub path_fault : (g : Dataflow) (n : ℕ) (e : PathFault) → IsProcessorCount n → IsFault g e → IsStartFault g n (fault_of e)
+path_fault g n (path.LoopNotStrict l) count fails = (count, record { fails = fails.0; first = fails.1 })
+path_fault g n path.Memory count fails = count

@@ -1,7 +1,8 @@
 -- The state as a JSON value: each list in the order of listing, with the names of locations.
 use Rattle.std.specs.Prelude.{ℕ, ℤ, List, [], ◌∷◌, map, slice_index_or, codes}
+use Rattle.std.specs.List.{flat_map, enumerate_from, zip}
 use Rattle.std.specs.FinMap as fin
-use Rattle.std.specs.FinSet as finset
+use Rattle.nd_map.specs.Counts.{entries as numbers}
 use Rattle.serde_json.specs.Data.{Data, number, string, array, object, unsigned, no_members, member}
 use Rattle.serde_json.specs.Find.{of_integer}
 use Rattle.serde_json.specs.View.{items_of}
@@ -9,9 +10,11 @@ use Rattle.nd_time.specs.Time.{Time}
 use Rattle.nd_graph.specs.Graph.{Dataflow, names}
 use Rattle.nd_paths.specs.declared.point.Pointstamp.{Pointstamp}
 use Rattle.nd_delta.specs.Change.{Change, entries}
-use Rattle.nd_cluster.specs.State.{ProcessorState, ClusterState}
-use Rattle.nd_cluster.specs.declared.key.ValueAt.{ValueAt}
-use Rattle.nd_cluster.specs.declared.key.SinkKey.{SinkKey}
+use Rattle.nd_protocol.specs.State.{ClusterState}
+use Rattle.nd_vertex.specs.declared.key.ItemKey.{ItemKey}
+use Rattle.nd_processor.specs.State.{ProcessorState}
+use Rattle.nd_processor.specs.declared.key.ValueAt.{ValueAt}
+use Rattle.nd_processor.specs.declared.key.SinkKey.{SinkKey}
 
 -- ---- the parts of an entry
 
@@ -41,9 +44,9 @@ time_data t = row (map natural (t.epoch ∷ t.counters))
 abbrev pub point_data : Dataflow → Pointstamp → Data
 point_data g p = row (place g p.location ∷ time_data p.time ∷ [])
 
--- [vertex,time,item,n]
-abbrev pub item_data : Dataflow → ValueAt × ℤ → Data
-item_data g e = row (place g e.0.point.location ∷ time_data e.0.point.time ∷ whole e.0.value ∷ whole e.1 ∷ [])
+-- [vertex,time,item,n], for what the vertex keeps
+abbrev pub item_data : Dataflow → ℕ → ItemKey × ℤ → Data
+item_data g vertex e = row (place g vertex ∷ time_data e.0.time ∷ whole e.0.item ∷ whole e.1 ∷ [])
 
 -- [edge,time,value,n]
 abbrev pub record_data : Dataflow → ValueAt × ℕ → Data
@@ -77,29 +80,27 @@ processor_members items records requests sinks tokens unsent view =
     (member (codes "unsent") unsent
     (member (codes "view") view no_members)))))))
 
--- a processor whose maps have these entries
-abbrev pub listed_data : Dataflow → List (ValueAt × ℤ) → List (ValueAt × ℕ) → List Pointstamp → List (SinkKey × ℕ) → List (ℕ × ℕ)
-    → List (Pointstamp × ℤ) → List (Pointstamp × ℤ) → Data
-listed_data g items records requests sinks tokens unsent view =
-    processor_members (row (map (item_data g) items)) (row (map (record_data g) records)) (row (map (point_data g) requests))
-    (row (map (sink_data g) sinks)) (row (map (token_data g) tokens)) (entries_data g unsent) (entries_data g view)
+-- what all vertices of a processor keep, vertex by vertex
+abbrev pub items_data : Dataflow → ProcessorState → List Data
+items_data g q = flat_map (λ i. map (item_data g i.0) (numbers i.1)) (enumerate_from 0 q.items)
 
-unfoldable pub processor_data : Dataflow → ProcessorState → Data
-processor_data g q =
-    listed_data g (fin.entries q.items) (fin.entries q.records) (finset.items q.requests) (fin.entries q.sinks) (fin.entries q.tokens) (entries q.unsent) (entries q.view)
+-- a processor, and its view
+unfoldable pub processor_data : Dataflow → ProcessorState → Change → Data
+processor_data g q view =
+    processor_members (row (items_data g q)) (row (map (record_data g) (numbers q.records))) (row (map (point_data g) (fin.keys q.requests)))
+    (row (map (sink_data g) (numbers q.sinks))) (row (map (token_data g) (fin.entries q.tokens))) (entries_data g (entries q.unsent)) (entries_data g (entries view))
 
 -- the queues of one sender, each from front to back
 abbrev pub queues_data : Dataflow → List (List Change) → Data
 queues_data g queues = row (map (λ queue. row (map (λ c. entries_data g (entries c)) queue)) queues)
 
+-- a cluster with these lists
+abbrev pub whole_members : Data → Data → Data
+whole_members processors queues = object (member (codes "processors") processors (member (codes "queues") queues no_members))
+
 -- these processors, and their queues
 abbrev pub whole_data : List Data → List Data → Data
-whole_data processors queues = object (member (codes "processors") (row processors) (member (codes "queues") (row queues) no_members))
+whole_data processors queues = whole_members (row processors) (row queues)
 
 unfoldable pub state_data : ClusterState → Data
-state_data s = whole_data (map (processor_data s.graph) s.processors) (map (queues_data s.graph) s.queues)
-
--- one processor without items and requests, and its queue without changes
-abbrev pub alone_data : Dataflow → List (ValueAt × ℕ) → List (SinkKey × ℕ) → List (ℕ × ℕ) → List (Pointstamp × ℤ) → List (Pointstamp × ℤ) → Data
-alone_data g records sinks tokens unsent view =
-    whole_data (listed_data g [] records [] sinks tokens unsent view ∷ []) (row (row [] ∷ []) ∷ [])
+state_data s = whole_data (map (λ e. processor_data s.graph e.0 e.1) (zip s.processors s.views)) (map (queues_data s.graph) s.queues)

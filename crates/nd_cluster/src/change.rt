@@ -1,70 +1,123 @@
-//! What a step adds to the unsent change.
-ghost use Rattle.std.specs.Prelude.{◌≡◌, ◌<◌, negsuc, OnOk, IfOk};
-ghost use Rattle.nd_time.specs.Limits.{max_counter};
-ghost use Rattle.nd_delta.specs.Change.{none};
-ghost use Rattle.nd_cluster.specs.State.{token_point as token_at};
-ghost use Rattle.nd_cluster.specs.Alone.{with_made, token_change as token_change_of, moved_at};
-ghost use Rattle.nd_cluster.specs.declared.step.Next.TheVariants as token;
+//! The changes that the record of a step lists.
+ghost use Rattle.std.specs.Prelude.{◌≡◌};
 
-use crate::{Next, ValueAt};
-use nd_delta::Delta;
 use nd_paths::Pointstamp;
 use nd_time::Timestamp;
-use std::alloc::{AllocError, Allocator};
 
-// The change by one less at a pointstamp.
-pub(crate) fn one_gone<A: Allocator>(alloc: A, point: &Pointstamp) -> Result<Delta<A>, AllocError>
-    ensures { IfOk result (λ d. d ≡ moved_at none point.now (negsuc 0)) }
-{
-    let mut change = Delta::new(alloc);
-    let Ok(()) = change.add(point, -1) else {
-        return Err(AllocError);
-    };
-    Ok(change)
+/// A change at one place of a cluster's state.
+#[derive(Debug, PartialEq, Eq, Drop)]
+pub enum Change {
+    /// So many records come to an edge, or go where negative.
+    Records {
+        p: u32,
+        edge: usize,
+        time: Timestamp,
+        value: i64,
+        n: i64,
+    },
+    /// A request comes, or goes.
+    Request {
+        p: u32,
+        vertex: usize,
+        time: Timestamp,
+        add: bool,
+    },
+    /// An input's token moves from epoch to epoch; without an epoch it is not there.
+    Token {
+        p: u32,
+        vertex: usize,
+        old: Option<u32>,
+        new: Option<u32>,
+    },
+    /// A vertex's item gets another number; without a number it is not there.
+    State {
+        p: u32,
+        vertex: usize,
+        time: Timestamp,
+        item: i64,
+        old: Option<i64>,
+        new: Option<i64>,
+    },
+    /// A sink counts one more of a value.
+    Sink {
+        p: u32,
+        vertex: usize,
+        value: i64,
+    },
+    /// So much is added to what is unsent at a pointstamp.
+    Unsent {
+        p: u32,
+        point: Pointstamp,
+        n: i64,
+    },
 }
 
-// The pointstamp of an input vertex's token.
-pub(crate) fn token_point(vertex: usize, epoch: u32) -> Pointstamp
-    ensures { result ≡ token_at vertex epoch }
-{
-    Pointstamp {
-        location: vertex,
-        time: Timestamp::new(epoch, &[]).unwrap(),
+impl Change {
+    /// An equal change.
+    pub fn copy(&self) -> Change
+        ensures { result ≡ self.now }
+    {
+        match self {
+            Change::Records {
+                p,
+                edge,
+                time,
+                value,
+                n,
+            } => Change::Records {
+                p: *p,
+                edge: *edge,
+                time: time.copy(),
+                value: *value,
+                n: *n,
+            },
+            Change::Request {
+                p,
+                vertex,
+                time,
+                add,
+            } => Change::Request {
+                p: *p,
+                vertex: *vertex,
+                time: time.copy(),
+                add: *add,
+            },
+            Change::Token {
+                p,
+                vertex,
+                old,
+                new,
+            } => Change::Token {
+                p: *p,
+                vertex: *vertex,
+                old: *old,
+                new: *new,
+            },
+            Change::State {
+                p,
+                vertex,
+                time,
+                item,
+                old,
+                new,
+            } => Change::State {
+                p: *p,
+                vertex: *vertex,
+                time: time.copy(),
+                item: *item,
+                old: *old,
+                new: *new,
+            },
+            Change::Sink { p, vertex, value } => Change::Sink {
+                p: *p,
+                vertex: *vertex,
+                value: *value,
+            },
+            Change::Unsent { p, point, n } => Change::Unsent {
+                p: *p,
+                point: point.copy(),
+                n: *n,
+            },
+        }
     }
-}
-
-// What a token's move changes.
-pub(crate) fn token_change<A: Allocator>(
-    alloc: A,
-    vertex: usize,
-    epoch: u32,
-    next: Next,
-) -> Result<Delta<A>, AllocError>
-    requires { next ≡ token.Next → epoch < max_counter }
-    ensures { IfOk result (λ d. d ≡ token_change_of vertex epoch next) }
-{
-    let mut change = one_gone(alloc, &token_point(vertex, epoch))?;
-    if next == Next::Next {
-        let Ok(()) = change.add(&token_point(vertex, epoch + 1), 1) else {
-            return Err(AllocError);
-        };
-    }
-    Ok(change)
-}
-
-// One more at the pointstamp of each record.
-//
-// The entries stay far below the limit of a change, so that memory alone can be wanting.
-pub(crate) fn count_made<A: Allocator>(
-    change: &mut Delta<A>,
-    made: &[ValueAt],
-) -> Result<(), AllocError>
-    ensures { OnOk result (change.new ≡ with_made change.old made.now) }
-{
-    for record in made {
-        let Ok(()) = change.add(&record.point, 1) else {
-            return Err(AllocError);
-        };
-    }
-    Ok(())
 }

@@ -1,47 +1,23 @@
-//! The keys of a processor's maps.
+//! The keys under which a step's changes are summed.
 ghost use Rattle.std.specs.Prelude.{◌≡◌};
 
 use nd_map::Key;
-use nd_paths::Pointstamp;
+use nd_processor::ValueAt;
 
-/// A value at a pointstamp: a record on an edge.
+/// A processor, and the key of one of its records.
 ///
-/// They are listed by pointstamp, and then by value.
+/// They are listed by processor, and then by key.
 #[derive(Debug, PartialEq, Eq, PartialOrd, Ord, Drop)]
-pub struct ValueAt {
-    pub point: Pointstamp,
-    pub value: i64,
+pub(crate) struct RecordAt {
+    pub(crate) p: u32,
+    pub(crate) key: ValueAt,
 }
 
-impl ValueAt {
-    /// An equal key.
-    pub fn copy(&self) -> ValueAt
-        ensures { result ≡ self.now }
-    {
-        ValueAt {
-            point: self.point.copy(),
-            value: self.value,
+impl Key for RecordAt {
+    fn duplicate(&self) -> RecordAt {
+        RecordAt {
+            p: self.p,
+            key: self.key.copy(),
         }
-    }
-}
-
-/// A value that a sink vertex has counted.
-///
-/// They are listed by vertex, and then by value.
-#[derive(Clone, Copy, Debug, PartialEq, Eq, PartialOrd, Ord, Drop)]
-pub struct SinkKey {
-    pub vertex: usize,
-    pub value: i64,
-}
-
-impl Key for ValueAt {
-    fn duplicate(&self) -> ValueAt {
-        self.copy()
-    }
-}
-
-impl Key for SinkKey {
-    fn duplicate(&self) -> SinkKey {
-        *self
     }
 }

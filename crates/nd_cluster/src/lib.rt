@@ -1,24 +1,30 @@
-//! A cluster of processors, and the steps that it makes.
+//! A cluster of processors: steps are planned, made and undone by small records of what they change.
 #![tactic(auto)]
 
+mod acting;
 mod change;
 mod cluster;
-mod counts;
 mod draft;
+mod emit;
 mod feed;
 mod key;
-mod made;
+mod limits;
+mod making;
+mod net;
+mod order;
+mod plan;
+mod react;
+mod readers;
 mod record;
-mod refusal;
+mod refuse;
 mod start;
-mod step;
-mod take;
 mod text;
 
+pub use change::Change;
 pub use cluster::Cluster;
-pub use key::{SinkKey, ValueAt};
+pub(crate) use key::RecordAt;
+pub use nd_protocol::{Next, NoMemory, Refusal, Step, Values};
 pub use record::Record;
-pub use refusal::{NoMemory, Refusal};
-pub use start::{StartFault, can_run};
-pub use step::{Next, Step, Values};
+pub use refuse::MAX_VALUES;
+pub use start::StartFault;
 pub use text::{point_value, time_value};

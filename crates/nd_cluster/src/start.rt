@@ -1,26 +1,33 @@
 //! The start of a cluster.
-ghost use Rattle.std.specs.Prelude.{◌≡◌, ◌↔◌, IfOk, IfErr, OnOk, IsTrue};
-ghost use Rattle.std.specs.FinMap.{from_entries};
-ghost use Rattle.std.specs.Ordering.{nat_cmp};
-ghost use Rattle.nd_paths.specs.Order.{IsAccepted};
-ghost use Rattle.nd_cluster.specs.Operators.{is_run as can_be_run};
-ghost use Rattle.nd_cluster.specs.Settled.{IsSettled};
-ghost use Rattle.nd_cluster.specs.Start.{CanRun, ShowsTokens, IsStartFault, fault_of, fault_number, first_tokens as tokens_from, start as started};
+ghost use Rattle.std.specs.Prelude.{◌≡◌, ◌*◌, pos, All, IfOk, IfErr, OnOk, map, replicate};
+ghost use Rattle.nd_paths.specs.declared.point.Pointstamp.{Pointstamp as Point};
+ghost use Rattle.nd_delta.specs.Change.{at};
+ghost use Rattle.nd_view.specs.Kept.{IsFor};
+ghost use Rattle.nd_processor.specs.State.{token_point as point_of};
+ghost use Rattle.nd_processor.specs.Start.{start_processor};
+ghost use Rattle.nd_protocol.specs.State.{truth};
+ghost use Rattle.nd_protocol.specs.Start.{start as started};
+ghost use Rattle.nd_protocol.specs.Invariant.{KeepsProtocol};
+ghost use Rattle.nd_cluster.specs.Starting.{start_number, start_name, fault_of, tokens_weigh, IsStartFault, CanStart};
 
 use crate::Cluster;
-use crate::change::token_point;
-use crate::made::is_input;
 use nd_delta::Delta;
-use nd_graph::{Graph, Op};
-use nd_map::SortedMap;
-use nd_paths::{PathFault, Paths};
+use nd_graph::Graph;
+use nd_paths::{PathFault, Paths, Pointstamp};
+use nd_processor::Processor;
+use nd_protocol::starts_keep_protocol;
+use nd_time::Timestamp;
+use nd_view::View;
 use std::alloc::{AllocError, Allocator};
 use thiserror::Error;
+
+// The most processors of a cluster.
+const MAX_PROCESSORS: u32 = 8;
 
 /// Why a cluster does not start.
 #[derive(Clone, Copy, Debug, PartialEq, Eq, Drop, Error)]
 pub enum StartFault {
-    #[error("a cluster has one processor so far")]
+    #[error("a cluster has 1 to 8 processors")]
     BadCount,
     #[error("a loop through location {location} does not increase every time")]
     LoopNotStrict { location: usize },
@@ -31,12 +38,23 @@ pub enum StartFault {
 impl StartFault {
     /// The fault's number.
     pub fn number(self) -> u64
-        ensures { result ≡ fault_number self }
+        ensures { result ≡ start_number self }
     {
         match self {
             StartFault::BadCount => 48,
             StartFault::LoopNotStrict { location: _ } => 46,
             StartFault::Memory => 47,
+        }
+    }
+
+    /// The fault's name.
+    pub fn name(self) -> &'static str
+        ensures { result.now ≡ start_name self }
+    {
+        match self {
+            StartFault::BadCount => "BadCount",
+            StartFault::LoopNotStrict { location: _ } => "LoopNotStrict",
+            StartFault::Memory => "Memory",
         }
     }
 }
@@ -51,93 +69,116 @@ fn start_fault(fault: PathFault) -> StartFault
     }
 }
 
-fn is_run(op: Op) -> bool
-    ensures { result ≡ can_be_run op }
+// The pointstamp of an input vertex's token.
+pub(crate) fn token_point(vertex: usize, epoch: u32) -> Pointstamp
+    ensures { result ≡ point_of vertex epoch }
 {
-    matches!(op, Op::Input | Op::Add(_) | Op::Sink)
-}
-
-/// Whether a cluster runs such a graph so far: one of inputs, adders and sinks, outside all loops.
-pub fn can_run<A: Allocator>(graph: &Graph<A>) -> bool
-    ensures { IsTrue result ↔ CanRun graph.now }
-{
-    for vertex in graph.vertices() {
-        if !is_run(vertex.op) || vertex.depth != 0 {
-            return false;
-        }
+    Pointstamp {
+        location: vertex,
+        time: Timestamp::new(epoch, &[]).unwrap(),
     }
-    true
 }
 
-// Each input's token at epoch 0.
-fn first_tokens<A: Allocator>(
+// So many processors at their start.
+fn start_processors<A: Allocator + Copy>(
     alloc: A,
     graph: &Graph<A>,
-) -> Result<SortedMap<usize, u32, A>, AllocError>
-    ensures { IfOk result (λ m. from_entries {R = nat_cmp} m ≡ tokens_from 0 graph.now.vertices) }
+    n: u32,
+) -> Result<Vec<Processor<A>, A>, AllocError>
+    ensures { IfOk result (λ v. v.items ≡ replicate n (start_processor graph.now)) }
 {
-    let vertices = graph.vertices();
-    let mut tokens = SortedMap::new(alloc);
-    let mut l = vertices.len();
-    while l > 0 {
-        l -= 1;
-        if is_input(vertices[l].op) {
-            let Ok(()) = tokens.put(&l, 0) else {
-                return Err(AllocError);
-            };
-        }
+    let mut processors = Vec::new(alloc);
+    for _ in 0..n {
+        processors.push(Processor::start(alloc, graph)?)?;
     }
-    Ok(tokens)
+    Ok(processors)
 }
 
-// The view that has each token once.
-fn view_of<A: Allocator>(
+// The change that counts each token so many times.
+fn tokens_counted<A: Allocator>(
     alloc: A,
-    tokens: &SortedMap<usize, u32, A>,
+    tokens: &[(usize, u32)],
+    n: u32,
 ) -> Result<Delta<A>, AllocError>
-    ensures { IfOk result (ShowsTokens (from_entries tokens.now)) }
+    ensures { IfOk result (λ d. (x : Point) → at d x ≡ pos (n * tokens_weigh tokens.now x)) }
 {
-    let mut view = Delta::new(alloc);
-    for entry in tokens.entries() {
-        let Ok(()) = view.add(&token_point(entry.0, entry.1), 1) else {
+    let mut counted = Delta::new(alloc);
+    for token in tokens {
+        let Ok(()) = counted.add(&token_point(token.0, token.1), i64::from(n)) else {
             return Err(AllocError);
         };
     }
-    Ok(view)
+    Ok(counted)
+}
+
+// So many views of what a change counts.
+fn start_views<A: Allocator + Copy>(
+    alloc: A,
+    paths: &Paths<A>,
+    outstanding: &Delta<A>,
+    n: u32,
+) -> Result<Vec<View<A>, A>, AllocError>
+    ensures maps { IfOk result (λ v. map (λ w. w.map) v.items ≡ replicate n outstanding.now) }
+    ensures paths { IfOk result (λ v. All (IsFor paths.now) v.items) }
+{
+    let mut views = Vec::new(alloc);
+    for _ in 0..n {
+        let mut view = View::new(alloc);
+        let Ok(()) = view.apply(paths, outstanding) else {
+            return Err(AllocError);
+        };
+        views.push(view)?;
+    }
+    Ok(views)
+}
+
+// What is outstanding where so many processors start.
+fn start_truth<A: Allocator + Copy>(
+    alloc: A,
+    graph: &Graph<A>,
+    n: u32,
+) -> Result<Delta<A>, AllocError>
+    ensures { IfOk result (λ d. d ≡ truth (replicate n (start_processor graph.now))) }
+{
+    let processor = Processor::start(alloc, graph)?;
+    tokens_counted(alloc, processor.tokens(), n)
 }
 
 impl<A: Allocator + Copy> Cluster<A> {
-    /// The start of a cluster of n processors: each input's token at epoch 0, each view what is outstanding.
+    /// The start of a cluster of n processors: each token at epoch 0, each view what is outstanding.
     ///
-    /// So far n is 1 (FORTE 2013). The graph is given up where the cluster does not start.
+    /// The graph is given up where the cluster does not start.
     pub fn start(alloc: A, graph: Graph<A>, n: u32) -> Result<Cluster<A>, StartFault>
-        requires { CanRun graph }
         ensures ok { IfOk result (λ c. c ≡ started graph n) }
-        ensures settled { IfOk result (λ c. IsSettled c) }
-        ensures accepted { OnOk result ((n ≡ 1) × IsAccepted graph) }
+        ensures can { OnOk result (CanStart graph n) }
+        ensures protocol { IfOk result (λ c. KeepsProtocol c) }
         ensures fault { IfErr result (IsStartFault graph n) }
     {
-        if n != 1 {
+        starts_keep_protocol();
+        if n == 0 || n > MAX_PROCESSORS {
             return Err(StartFault::BadCount);
         }
+        // The clauses of these two say that edges join vertices, and that depths agree along the arcs.
+        let _ = graph.vertices();
+        let _ = graph.all_arcs();
         let paths = match Paths::of(alloc, &graph) {
             Ok(paths) => paths,
             Err(fault) => return Err(start_fault(fault)),
         };
-        let Ok(tokens) = first_tokens(alloc, &graph) else {
+        let Ok(outstanding) = start_truth(alloc, &graph, n) else {
             return Err(StartFault::Memory);
         };
-        let Ok(view) = view_of(alloc, &tokens) else {
+        let Ok(processors) = start_processors(alloc, &graph, n) else {
+            return Err(StartFault::Memory);
+        };
+        let Ok(views) = start_views(alloc, &paths, &outstanding, n) else {
             return Err(StartFault::Memory);
         };
         Ok(Cluster {
             alloc,
             paths,
-            records: SortedMap::new(alloc),
-            tokens,
-            sinks: SortedMap::new(alloc),
-            unsent: Delta::new(alloc),
-            view,
+            processors,
+            views,
         })
     }
 }

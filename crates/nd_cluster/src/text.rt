@@ -1,18 +1,26 @@
 //! The state as a JSON value, by the names of locations.
-ghost use Rattle.std.specs.Prelude.{◌≡◌, [], false, map, IfOk};
+ghost use Rattle.std.specs.Prelude.{◌≡◌, ◌++◌, [], false, length, map, replicate, IfOk, OnOk};
+ghost use Rattle.std.specs.List.{flat_map, enumerate_from, zip};
 ghost use Rattle.serde_json.specs.Data.{Data};
 ghost use Rattle.serde_json.specs.View.{view};
 ghost use Rattle.serde_json.specs.Written.{has_float};
 ghost use Rattle.nd_graph.specs.Graph.{Dataflow};
-ghost use Rattle.nd_cluster.specs.StateText.{name_at as name_in, row, time_data, point_data, record_data, sink_data, token_data, entry_data, processor_members, listed_data, alone_data, state_data};
+ghost use Rattle.nd_map.specs.Counts.{entries as numbers};
+ghost use Rattle.nd_cluster.specs.StateText.{name_at as name_in, row, time_data, point_data, item_data, record_data, sink_data, token_data, entry_data, processor_data, processor_members, whole_members, state_data};
 
-use crate::{Cluster, NoMemory, SinkKey, ValueAt};
+use crate::Cluster;
 use nd_graph::Graph;
 use nd_json::list_of;
+use nd_map::Key;
 use nd_paths::Pointstamp;
+use nd_processor::{Processor, SinkKey, ValueAt};
+use nd_protocol::NoMemory;
 use nd_time::Timestamp;
+use nd_vertex::ItemKey;
+use nd_view::View;
 use serde_json::{Value, json};
 use std::alloc::{AllocError, Allocator, Global};
+use std::collections::btree_map::Iter;
 
 // The name of a location; where there is none, nothing.
 fn name_at<A: Allocator>(graph: &Graph<A>, location: usize) -> &str
@@ -59,11 +67,11 @@ pub(crate) trait Listed {
         ensures text { IfOk result (λ v. has_float (view v) ≡ false) };
 }
 
-impl Listed for Pointstamp {
-    ghost listed = { point_data };
+impl Listed for (Pointstamp, ()) {
+    ghost listed = { λ g e. point_data g e.0 };
 
     fn shown<A: Allocator>(&self, alloc: Global, graph: &Graph<A>) -> Result<Value, AllocError> {
-        point_value(alloc, graph, self)
+        point_value(alloc, graph, &self.0)
     }
 }
 
@@ -105,6 +113,16 @@ impl Listed for (Pointstamp, i64) {
     }
 }
 
+impl Listed for (usize, ItemKey, i64) {
+    ghost listed = { λ g e. item_data g e.0 (e.1, e.2) };
+
+    fn shown<A: Allocator>(&self, alloc: Global, graph: &Graph<A>) -> Result<Value, AllocError> {
+        let (vertex, key, number) = self;
+        let time = time_value(alloc, &key.time)?;
+        json!(in alloc; [name_at(graph, *vertex), time, key.item, *number])
+    }
+}
+
 // The list of all entries, in their order.
 fn entries_value<T: Listed, A: Allocator>(
     alloc: Global,
@@ -121,21 +139,66 @@ fn entries_value<T: Listed, A: Allocator>(
     Ok(Value::Array(list))
 }
 
-// A processor without items and requests, and with these lists.
+// The entries that an iterator of a map has left.
+fn collected<K: Key, V: Copy>(
+    alloc: Global,
+    entries: Iter<'_, K, V>,
+) -> Result<Vec<(K, V)>, AllocError>
+    ensures { IfOk result (λ v. v.items ≡ entries.entry) }
+{
+    let mut list = Vec::new(alloc);
+    for (key, value) in entries {
+        list.push((key.duplicate(), *value))?;
+    }
+    Ok(list)
+}
+
+// More items, all of one vertex.
+fn push_items(
+    items: &mut Vec<(usize, ItemKey, i64)>,
+    vertex: usize,
+    entries: &[(ItemKey, i64)],
+) -> Result<(), AllocError>
+    ensures { OnOk result (items.new.items ≡ items.old.items ++ map (λ e. (vertex, e.0, e.1)) entries.now) }
+{
+    for entry in entries {
+        items.push((vertex, entry.0.copy(), entry.1))?;
+    }
+    Ok(())
+}
+
+// What all vertices of a processor keep, vertex by vertex.
+fn all_items<A: Allocator + Copy>(
+    alloc: Global,
+    processor: &Processor<A>,
+) -> Result<Vec<(usize, ItemKey, i64)>, AllocError>
+    ensures { IfOk result (λ v. v.items ≡ flat_map (λ i. map (λ e. (i.0, e.0, e.1)) (numbers i.1)) (enumerate_from 0 processor.now.items)) }
+{
+    let mut items = Vec::new(alloc);
+    for vertex in 0..processor.vertex_count() {
+        let kept = collected(alloc, processor.vertex_state(vertex).entries())?;
+        push_items(&mut items, vertex, &kept)?;
+    }
+    Ok(items)
+}
+
+// A processor with these lists.
 fn processor_object(
     alloc: Global,
+    items: Value,
     records: Value,
+    requests: Value,
     sinks: Value,
     tokens: Value,
     unsent: Value,
     known: Value,
 ) -> Result<Value, AllocError>
-    ensures reply { IfOk result (λ v. view v ≡ processor_members (row []) (view records) (row []) (view sinks) (view tokens) (view unsent) (view known)) }
+    ensures reply { IfOk result (λ v. view v ≡ processor_members (view items) (view records) (view requests) (view sinks) (view tokens) (view unsent) (view known)) }
 {
     json!(in alloc; {
-        "items": [],
+        "items": items,
         "records": records,
-        "requests": [],
+        "requests": requests,
         "sinks": sinks,
         "tokens": tokens,
         "unsent": unsent,
@@ -143,42 +206,88 @@ fn processor_object(
     })
 }
 
-// A processor without items and requests whose maps have these entries.
-fn processor_value<A: Allocator>(
+// A processor, and its view.
+fn processor_value<A: Allocator + Copy>(
     alloc: Global,
     graph: &Graph<A>,
-    records: &[(ValueAt, u64)],
-    sinks: &[(SinkKey, u64)],
-    tokens: &[(usize, u32)],
-    unsent: &[(Pointstamp, i64)],
-    known: &[(Pointstamp, i64)],
+    processor: &Processor<A>,
+    known: &View<A>,
 ) -> Result<Value, AllocError>
-    ensures reply { IfOk result (λ v. view v ≡ listed_data graph.now [] records.now [] sinks.now tokens.now unsent.now known.now) }
+    ensures reply { IfOk result (λ v. view v ≡ processor_data graph.now processor.now known.now.map) }
     ensures text { IfOk result (λ v. has_float (view v) ≡ false) }
 {
-    let records = entries_value(alloc, graph, records)?;
-    let sinks = entries_value(alloc, graph, sinks)?;
-    let tokens = entries_value(alloc, graph, tokens)?;
-    let unsent = entries_value(alloc, graph, unsent)?;
-    let known = entries_value(alloc, graph, known)?;
-    processor_object(alloc, records, sinks, tokens, unsent, known)
+    let items = entries_value(alloc, graph, &all_items(alloc, processor)?)?;
+    let records = entries_value(alloc, graph, &collected(alloc, processor.records())?)?;
+    let requests = entries_value(alloc, graph, &collected(alloc, processor.requests())?)?;
+    let sinks = entries_value(alloc, graph, &collected(alloc, processor.sinks())?)?;
+    let tokens = entries_value(alloc, graph, processor.tokens())?;
+    let unsent = entries_value(alloc, graph, processor.unsent().entries())?;
+    let known = entries_value(alloc, graph, known.entries())?;
+    processor_object(
+        alloc, items, records, requests, sinks, tokens, unsent, known,
+    )
 }
 
-/// The state of a cluster of one processor, whose maps have these entries in the order of listing.
-pub(crate) fn alone_value<A: Allocator>(
+// The processors, each with its view.
+fn processors_value<A: Allocator + Copy>(
     alloc: Global,
     graph: &Graph<A>,
-    records: &[(ValueAt, u64)],
-    sinks: &[(SinkKey, u64)],
-    tokens: &[(usize, u32)],
-    unsent: &[(Pointstamp, i64)],
-    known: &[(Pointstamp, i64)],
+    processors: &[Processor<A>],
+    views: &[View<A>],
 ) -> Result<Value, AllocError>
-    ensures reply { IfOk result (λ v. view v ≡ alone_data graph.now records.now sinks.now tokens.now unsent.now known.now) }
+    requires { length views.now ≡ length processors.now }
+    ensures reply { IfOk result (λ v. view v ≡ row (map (λ e. processor_data graph.now e.0 e.1.map) (zip processors.now views.now))) }
     ensures text { IfOk result (λ v. has_float (view v) ≡ false) }
 {
-    let processor = processor_value(alloc, graph, records, sinks, tokens, unsent, known)?;
-    json!(in alloc; {"processors": [processor], "queues": [[[]]]})
+    let mut list = Vec::new(alloc);
+    for p in 0..processors.len() {
+        list.push(processor_value(alloc, graph, &processors[p], &views[p])?)?;
+    }
+    Ok(Value::Array(list))
+}
+
+// The queues of one sender to so many processors, with nothing on its way.
+fn quiet_row(alloc: Global, n: usize) -> Result<Value, AllocError>
+    ensures reply { IfOk result (λ v. view v ≡ row (replicate n (row []))) }
+    ensures text { IfOk result (λ v. has_float (view v) ≡ false) }
+{
+    let mut list = Vec::new(alloc);
+    for _ in 0..n {
+        list.push(Value::Array(Vec::new(alloc)))?;
+    }
+    Ok(Value::Array(list))
+}
+
+// The queues of so many senders.
+fn quiet_queues(alloc: Global, n: usize) -> Result<Value, AllocError>
+    ensures reply { IfOk result (λ v. view v ≡ row (replicate n (row (replicate n (row []))))) }
+    ensures text { IfOk result (λ v. has_float (view v) ≡ false) }
+{
+    let mut list = Vec::new(alloc);
+    for _ in 0..n {
+        list.push(quiet_row(alloc, n)?)?;
+    }
+    Ok(Value::Array(list))
+}
+
+// A cluster with these lists.
+fn whole_object(alloc: Global, processors: Value, queues: Value) -> Result<Value, AllocError>
+    ensures reply { IfOk result (λ v. view v ≡ whole_members (view processors) (view queues)) }
+{
+    json!(in alloc; {"processors": processors, "queues": queues})
+}
+
+// The state, of which a growth may be refused at any place.
+fn cluster_value<A: Allocator + Copy>(
+    alloc: Global,
+    cluster: &Cluster<A>,
+) -> Result<Value, AllocError>
+    ensures reply { IfOk result (λ v. view v ≡ state_data cluster.now) }
+    ensures text { IfOk result (λ v. has_float (view v) ≡ false) }
+{
+    let processors = processors_value(alloc, cluster.graph(), &cluster.processors, &cluster.views)?;
+    let queues = quiet_queues(alloc, cluster.n())?;
+    whole_object(alloc, processors, queues)
 }
 
 impl<A: Allocator + Copy> Cluster<A> {
@@ -187,15 +296,7 @@ impl<A: Allocator + Copy> Cluster<A> {
         ensures state { IfOk result (λ v. view v ≡ state_data self.now) }
         ensures text { IfOk result (λ v. has_float (view v) ≡ false) }
     {
-        let Ok(value) = alone_value(
-            alloc,
-            self.paths.graph(),
-            self.records.entries(),
-            self.sinks.entries(),
-            self.tokens.entries(),
-            self.unsent.entries(),
-            self.view.entries(),
-        ) else {
+        let Ok(value) = cluster_value(alloc, self) else {
             return Err(NoMemory);
         };
         Ok(value)

@@ -316,3 +316,8 @@ size-set m k (negsuc n) some absent = size-put m k (negsuc n) _ absent
 pub size-none : size none ≡ 0
 unfolding none entries
 size-none = sym (fin.len-entries (fin.empty {X = ℤ} {R = point_cmp})) ∙ fin.len-empty point_cmp ℤ
+
+-- an entry's integer is not 0
+pub some-entry : (m : Change) (q : Pointstamp) (v : ℤ) → find point_cmp q (entries m) ≡ Some v → v ≢ pos 0
+unfolding entries
+some-entry m q v e z = m.nonzero q (get-entries m.map q ∙ e ∙ ap Some z)

@@ -1,9 +1,10 @@
 //! Changes: finite maps from pointstamps to integers other than 0 (Naiad, SOSP 2013, section 3.3).
 #![tactic(auto)]
 
-ghost use Rattle.std.specs.Prelude.{◌≡◌, ◌≢◌, ◌↔◌, ◌<◌, ◌≤◌, ◌+ℤ◌, ◌<ℤ◌, ◌*◌, pos, unsigned_abs, OnOk, OnErr, IfOk, IfSome, IsNone, IsTrue, Err};
+ghost use Rattle.std.specs.Prelude.{◌≡◌, ◌≢◌, ◌↔◌, ◌<◌, ◌≤◌, ◌+ℤ◌, ◌<ℤ◌, ◌*◌, pos, unsigned_abs, OnOk, OnErr, IfOk, IfSome, IsNone, IsTrue, Err, Contains};
 ghost use Rattle.nd_time.specs.Limits.{max_count};
 ghost use Rattle.nd_paths.specs.Order.{IsStrictlyBefore};
+ghost use Rattle.nd_paths.specs.declared.point.Pointstamp.{Pointstamp};
 ghost use Rattle.nd_delta.specs.Upright.{IsSupported, IsUnsupported, IsUpright, Holds};
 ghost use Rattle.nd_delta.specs.Least.{IsLeast};
 ghost use Rattle.nd_delta.specs.Change.{none, at, set, size, plus, minus, part, combined, IsTooLarge, IsWithin, entries as listed};
@@ -67,6 +68,18 @@ fn is_negative_before<B: Allocator>(
     entry.1 < 0 && paths.strictly_before(&entry.0, point)
 }
 
+// Whether one of the pointstamps is strictly before another.
+fn any_before<B: Allocator>(held: &[Pointstamp], paths: &Paths<B>, point: &Pointstamp) -> bool
+    ensures { IsTrue result ↔ ((x : Pointstamp) × Contains held.now x × IsStrictlyBefore paths.now x point.now) }
+{
+    for one in held {
+        if paths.strictly_before(one, point) {
+            return true;
+        }
+    }
+    false
+}
+
 impl<A: Allocator> Delta<A> {
     /// The delta with no entry. It takes no memory.
     pub fn new(alloc: A) -> Delta<A>
@@ -103,12 +116,13 @@ impl<A: Allocator> Delta<A> {
         self.entries().len()
     }
 
-    // Gives a pointstamp this integer.
-    fn put(&mut self, point: &Pointstamp, n: i64) -> Result<(), AllocError>
+    /// Gives a pointstamp this integer. Only a pointstamp that has none takes memory.
+    pub fn put(&mut self, point: &Pointstamp, n: i64) -> Result<(), AllocError>
         requires { unsigned_abs n ≤ max_count }
         ensures ok { OnOk result (self.new ≡ set self.old point.now n) }
         ensures err { OnErr result (self.new ≡ self.old) }
         ensures absent { OnErr result (at self.old point.now ≡ pos 0) }
+        ensures some { OnErr result (n ≢ pos 0) }
     {
         if n == 0 {
             self.map.remove(point);
@@ -150,8 +164,8 @@ impl<A: Allocator> Delta<A> {
         })
     }
 
-    // The integer of a pointstamp in the difference of two deltas, or in their sum.
-    fn combined_at(&self, other: &Delta<A>, minus: bool, point: &Pointstamp) -> i64
+    /// The integer of a pointstamp in the difference of two deltas, or in their sum.
+    pub fn combined_at(&self, other: &Delta<A>, minus: bool, point: &Pointstamp) -> i64
         ensures value { result ≡ at (combined minus self.now other.now) point.now }
         ensures fits { unsigned_abs result ≤ 2 * max_count }
     {
@@ -160,8 +174,8 @@ impl<A: Allocator> Delta<A> {
         if minus { here - there } else { here + there }
     }
 
-    // Whether some entry of the difference, or of the sum, passes `LIMIT`.
-    fn is_overfull(&self, other: &Delta<A>, minus: bool) -> bool
+    /// Whether some entry of the difference, or of the sum, passes `LIMIT`.
+    pub fn is_overfull(&self, other: &Delta<A>, minus: bool) -> bool
         ensures passes { IsTrue result ↔ IsTooLarge (combined minus self.now other.now) }
         ensures within { IsWithin self.now × IsWithin other.now }
     {
@@ -227,24 +241,34 @@ impl<A: Allocator> Delta<A> {
         Ok(kept)
     }
 
-    // Whether there is a negative entry strictly before a pointstamp.
-    fn supports<B: Allocator>(&self, paths: &Paths<B>, point: &Pointstamp) -> bool
-        ensures { IsTrue result ↔ IsSupported (IsStrictlyBefore paths.now) Holds (at self.now) point.now }
+    // Whether there is a negative entry, or a pointstamp that is held, strictly before a pointstamp.
+    fn supports<B: Allocator>(
+        &self,
+        paths: &Paths<B>,
+        held: &[Pointstamp],
+        point: &Pointstamp,
+    ) -> bool
+        ensures { IsTrue result ↔ IsSupported (IsStrictlyBefore paths.now) (Contains held.now) (at self.now) point.now }
     {
         for entry in self.entries() {
             if is_negative_before(entry, paths, point) {
                 return true;
             }
         }
-        false
+        any_before(held, paths, point)
     }
 
-    // Whether an entry is positive, and nothing negative is strictly before it.
-    fn leaves_alone<B: Allocator>(&self, paths: &Paths<B>, entry: &(Pointstamp, i64)) -> bool
-        ensures alone { IsTrue result → (pos 0 <ℤ entry.now.1) × (IsSupported (IsStrictlyBefore paths.now) Holds (at self.now) entry.now.0 → ⊥) }
-        ensures supported { (IsTrue result → ⊥) → pos 0 <ℤ entry.now.1 → IsSupported (IsStrictlyBefore paths.now) Holds (at self.now) entry.now.0 }
+    // Whether an entry is positive, and nothing negative or held is strictly before it.
+    fn leaves_alone<B: Allocator>(
+        &self,
+        paths: &Paths<B>,
+        held: &[Pointstamp],
+        entry: &(Pointstamp, i64),
+    ) -> bool
+        ensures alone { IsTrue result → (pos 0 <ℤ entry.now.1) × (IsSupported (IsStrictlyBefore paths.now) (Contains held.now) (at self.now) entry.now.0 → ⊥) }
+        ensures supported { (IsTrue result → ⊥) → pos 0 <ℤ entry.now.1 → IsSupported (IsStrictlyBefore paths.now) (Contains held.now) (at self.now) entry.now.0 }
     {
-        entry.1 > 0 && !self.supports(paths, &entry.0)
+        entry.1 > 0 && !self.supports(paths, held, &entry.0)
     }
 
     /// The least pointstamp with a positive integer and nothing negative strictly before it,
@@ -253,8 +277,21 @@ impl<A: Allocator> Delta<A> {
         ensures upright { IsNone result ↔ IsUpright (IsStrictlyBefore paths.now) Holds (at self.now) }
         ensures least { IfSome result (IsLeast (IsUnsupported (IsStrictlyBefore paths.now) Holds (at self.now))) }
     {
+        self.unsupported_by(paths, &[])
+    }
+
+    /// The least pointstamp with a positive integer and strictly before it neither anything negative
+    /// nor a pointstamp of the list, or `None` where there is none (this project's own rule).
+    pub fn unsupported_by<B: Allocator>(
+        &self,
+        paths: &Paths<B>,
+        held: &[Pointstamp],
+    ) -> Option<Pointstamp>
+        ensures upright { IsNone result ↔ IsUpright (IsStrictlyBefore paths.now) (Contains held.now) (at self.now) }
+        ensures least { IfSome result (IsLeast (IsUnsupported (IsStrictlyBefore paths.now) (Contains held.now) (at self.now))) }
+    {
         for entry in self.entries() {
-            if self.leaves_alone(paths, entry) {
+            if self.leaves_alone(paths, held, entry) {
                 return Some(entry.0.copy());
             }
         }

@@ -5,13 +5,13 @@ use Rattle.std.specs.List.{list_any, position}
 use Rattle.std.specs.Str.{bytes_eq}
 use Rattle.nd_time.specs.Limits.{max_depth, max_locations}
 use Rattle.nd_graph.specs.declared.op.Op.{Op}
-use Rattle.nd_graph.specs.declared.op.Op.TheVariants as op
 use Rattle.nd_graph.specs.declared.graph.Vertex.{Vertex}
 use Rattle.nd_graph.specs.declared.graph.Edge.{Edge}
 use Rattle.nd_graph.specs.declared.draft.DraftEdge.{DraftEdge}
 use Rattle.nd_graph.specs.declared.fault.GraphFault.{GraphFault}
 use Rattle.nd_graph.specs.declared.fault.GraphFault.TheVariants.{DoubleName, UnknownName, BadPort, DepthMismatch, TooLarge}
-use Rattle.nd_graph.specs.Graph.{Dataflow, depth_past_vertex, location_count, names}
+use Rattle.nd_graph.specs.Operators.{facts, stands_in_loop, leads_in}
+use Rattle.nd_graph.specs.Graph.{Dataflow, action_of, depth_past_vertex, location_count, names}
 use Rattle.nd_graph.specs.Draft.{Draft, every}
 
 -- ---- names
@@ -46,30 +46,11 @@ edges_between vertices edges =
 
 -- how many ports an operator has
 abbrev pub ports : Op → ℕ
-ports op.Input = 1
-ports op.Ingress = 1
-ports op.Egress = 1
-ports op.Feedback = 1
-ports (op.Add k) = 1
-ports (op.Mul k) = 1
-ports (op.Below k) = 1
-ports (op.Split k) = 2
-ports op.Sum = 1
-ports op.Distinct = 1
-ports op.Sink = 0
+ports o = (facts o).ports
 
+-- an operator that is fed from outside
 abbrev pub is_input : Op → Bool
-is_input op.Input = true
-is_input op.Ingress = false
-is_input op.Egress = false
-is_input op.Feedback = false
-is_input (op.Add k) = false
-is_input (op.Mul k) = false
-is_input (op.Below k) = false
-is_input (op.Split k) = false
-is_input op.Sum = false
-is_input op.Distinct = false
-is_input op.Sink = false
+is_input o = (facts o).fed
 
 -- how many ports the vertex at a location has
 abbrev pub ports_at : List Vertex → ℕ → ℕ
@@ -87,17 +68,7 @@ has_bad_port vertices e = nat_le (ports_at vertices e.from) e.port || is_input_a
 
 -- an input not at depth 0, an egress or a feedback at depth 0
 abbrev pub is_misplaced_at : Op → ℕ → Bool
-is_misplaced_at op.Input depth = nat_lt 0 depth
-is_misplaced_at op.Ingress depth = false
-is_misplaced_at op.Egress depth = depth == 0
-is_misplaced_at op.Feedback depth = depth == 0
-is_misplaced_at (op.Add k) depth = false
-is_misplaced_at (op.Mul k) depth = false
-is_misplaced_at (op.Below k) depth = false
-is_misplaced_at (op.Split k) depth = false
-is_misplaced_at op.Sum depth = false
-is_misplaced_at op.Distinct depth = false
-is_misplaced_at op.Sink depth = false
+is_misplaced_at o depth = (is_input o && nat_lt 0 depth) || (stands_in_loop (action_of o) && depth == 0)
 
 abbrev pub is_misplaced : Vertex → Bool
 is_misplaced v = is_misplaced_at v.op v.depth
@@ -115,22 +86,9 @@ has_depth_mismatch g = list_any is_misplaced g.vertices || list_any (misses_dept
 
 -- ---- sizes
 
-abbrev pub is_ingress : Op → Bool
-is_ingress op.Input = false
-is_ingress op.Ingress = true
-is_ingress op.Egress = false
-is_ingress op.Feedback = false
-is_ingress (op.Add k) = false
-is_ingress (op.Mul k) = false
-is_ingress (op.Below k) = false
-is_ingress (op.Split k) = false
-is_ingress op.Sum = false
-is_ingress op.Distinct = false
-is_ingress op.Sink = false
-
 -- a vertex past the depth limit, or an ingress at it
 abbrev pub is_too_deep : Vertex → Bool
-is_too_deep v = nat_lt max_depth v.depth || (is_ingress v.op && v.depth == max_depth)
+is_too_deep v = nat_lt max_depth v.depth || (leads_in (action_of v.op) && v.depth == max_depth)
 
 -- an edge past the depth limit
 unfoldable pub leads_too_deep : List Vertex → Edge → Bool

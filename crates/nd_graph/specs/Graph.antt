@@ -6,6 +6,7 @@ use Rattle.nd_time.specs.Limits.{max_depth, max_locations}
 use Rattle.nd_time.specs.Time.{ingress_of, egress_of, feedback_of}
 use Rattle.nd_graph.specs.declared.op.Op.{Op}
 use Rattle.nd_graph.specs.declared.op.Op.TheVariants as op
+use Rattle.nd_graph.specs.Operators.{facts}
 use Rattle.nd_graph.specs.declared.op.Action.{Action}
 use Rattle.nd_graph.specs.declared.op.Action.TheVariants.{Identity, Ingress, Egress, Feedback}
 use Rattle.nd_graph.specs.declared.graph.Vertex.{Vertex}
@@ -19,17 +20,7 @@ pub record Dataflow : Type 0 where
 
 -- what a vertex does to the times that pass it
 abbrev pub action_of : Op → Action
-action_of op.Input = Identity
-action_of op.Ingress = Ingress
-action_of op.Egress = Egress
-action_of op.Feedback = Feedback
-action_of (op.Add k) = Identity
-action_of (op.Mul k) = Identity
-action_of (op.Below k) = Identity
-action_of (op.Split k) = Identity
-action_of op.Sum = Identity
-action_of op.Distinct = Identity
-action_of op.Sink = Identity
+action_of o = (facts o).action
 
 -- what an action does to loop counters
 abbrev pub acted : Action → List ℕ → List ℕ
@@ -95,3 +86,7 @@ pub record IsGraph (g : Dataflow) (kept_depths : List ℕ) (kept_arcs : List Arc
   pub agree : All (ArcAgrees (depths g)) (arcs g)
   pub shallow : All (λ d. d ≤ max_depth) (depths g)
   pub few : location_count g ≤ max_locations
+
+-- the operator of the vertex at a location; any other location counts as a sink
+abbrev pub op_at : Dataflow → ℕ → Op
+op_at g l = option_map_or (λ v. v.op) (slice_get g.vertices l) op.Sink

@@ -3,3 +3,5 @@ pub mod Graph
 pub mod Fault
 pub mod Draft
 pub mod Checked
+pub mod Codes
+pub mod Operators

@@ -5,41 +5,22 @@ ghost use Rattle.nd_time.specs.Limits.{max_locations};
 ghost use Rattle.nd_graph.specs.Graph.{depth_past as past_depth, action_of, depth_past_vertex};
 ghost use Rattle.nd_graph.specs.Checked as rule;
 
-use crate::{Action, Edge, GraphFault, Op, Vertex};
+use crate::{Action, Edge, GraphFault, Vertex};
 use nd_time::MAX_DEPTH;
 
 /// The most locations of a graph (this project's own rule).
 pub const MAX_LOCATIONS: usize = 64;
-
-fn ports(op: Op) -> u32
-    ensures { result ≡ rule.ports op }
-{
-    match op {
-        Op::Sink => 0,
-        Op::Split(_) => 2,
-        _ => 1,
-    }
-}
-
-fn is_input(op: Op) -> bool
-    ensures { result ≡ rule.is_input op }
-{
-    match op {
-        Op::Input => true,
-        _ => false,
-    }
-}
 
 #[tactic(auto, unfolding(crate::specs::Checked::has_bad_port))]
 fn has_bad_port(vertices: &[Vertex], edge: &Edge) -> bool
     ensures { result ≡ rule.has_bad_port vertices.now edge.now }
 {
     let ports_there = match vertices.get(edge.from) {
-        Some(source) => ports(source.op),
+        Some(source) => source.op.ports(),
         None => 0,
     };
     let enters_input = match vertices.get(edge.to) {
-        Some(target) => is_input(target.op),
+        Some(target) => target.op.is_input(),
         None => false,
     };
     ports_there <= edge.port || enters_input
@@ -48,11 +29,11 @@ fn has_bad_port(vertices: &[Vertex], edge: &Edge) -> bool
 fn is_misplaced(vertex: &Vertex) -> bool
     ensures { result ≡ rule.is_misplaced vertex.now }
 {
-    match vertex.op {
-        Op::Input => 0 < vertex.depth,
-        Op::Egress | Op::Feedback => vertex.depth == 0,
-        _ => false,
-    }
+    let stands_in_loop = match vertex.op.action() {
+        Action::Egress | Action::Feedback => true,
+        Action::Identity | Action::Ingress => false,
+    };
+    (vertex.op.is_input() && 0 < vertex.depth) || (stands_in_loop && vertex.depth == 0)
 }
 
 // The depth of the edges that leave the vertex.
@@ -91,11 +72,11 @@ fn is_too_deep(vertex: &Vertex) -> bool
     ensures { result ≡ rule.is_too_deep vertex.now }
 {
     let depth = vertex.depth as usize;
-    let is_ingress = match vertex.op {
-        Op::Ingress => true,
-        _ => false,
+    let leads_in = match vertex.op.action() {
+        Action::Ingress => true,
+        Action::Identity | Action::Egress | Action::Feedback => false,
     };
-    MAX_DEPTH < depth || (is_ingress && depth == MAX_DEPTH)
+    MAX_DEPTH < depth || (leads_in && depth == MAX_DEPTH)
 }
 
 #[tactic(auto, unfolding(crate::specs::Checked::leads_too_deep))]

@@ -1,6 +1,8 @@
 //! What a vertex does to values, and to times.
 ghost use Rattle.std.specs.Prelude.{◌≡◌};
+ghost use Rattle.nd_graph.specs.Operators.{facts};
 ghost use Rattle.nd_graph.specs.Graph.{action_of};
+ghost use Rattle.nd_graph.specs.Checked.{ports as ports_of, is_input as is_fed};
 
 /// The operator of a vertex, over whole numbers (this project's own rule).
 #[derive(Clone, Copy, Debug, Drop, PartialEq, Eq)]
@@ -61,6 +63,47 @@ impl Op {
             Op::Egress => Action::Egress,
             Op::Feedback => Action::Feedback,
             _ => Action::Identity,
+        }
+    }
+
+    /// How many ports a vertex of this operator has. They are numbered from 0.
+    pub fn ports(self) -> u32
+        ensures { result ≡ ports_of self }
+    {
+        match self {
+            Op::Sink => 0,
+            Op::Split(_) => 2,
+            _ => 1,
+        }
+    }
+
+    /// Whether a vertex of this operator is fed from outside.
+    pub fn is_input(self) -> bool
+        ensures { result ≡ is_fed self }
+    {
+        match self {
+            Op::Input => true,
+            _ => false,
+        }
+    }
+
+    /// Whether a vertex of this operator may ask for notices.
+    pub fn asks_for_notices(self) -> bool
+        ensures { result ≡ (facts self).asks }
+    {
+        match self {
+            Op::Sum | Op::Distinct => true,
+            _ => false,
+        }
+    }
+
+    /// Whether a vertex of this operator counts the values that reach it.
+    pub fn counts_values(self) -> bool
+        ensures { result ≡ (facts self).counts }
+    {
+        match self {
+            Op::Sink => true,
+            _ => false,
         }
     }
 }

@@ -5,10 +5,11 @@ use Rattle.std.proofs.lemmas.Bool.{cases_lt}
 use Rattle.std.specs.List.{insert, remove}
 use Rattle.std.specs.Ordering.{eq_by_cmp, is_lt, is_eq, ordering_index, ordering_reverse}
 use Rattle.std.specs.Cmp.{IsTotalOrder}
-use Rattle.std.proofs.lemmas.Cmp.{alike_right, tied_back}
+use Rattle.std.proofs.lemmas.Cmp.{alike_right, tied_back, tied_itself}
 use Rattle.std.specs.FinMap.{find, put, is_sorted}
 use Rattle.std.specs.FinMap.Entries.{below_all, where_key, is_sorted-where_key}
 use Rattle.nd_map.specs.Entries.{below_at, rises}
+use Rattle.nd_map.specs.Counts.{keys_of}
 use Rattle.nd_map.specs.Listed.{IsListed, without}
 use Rattle.nd_map.specs.Place.{IsAt, IsGap}
 
@@ -28,6 +29,12 @@ less Greater p = absurd p
 -- what is left when a key is taken out is in order
 pub listed_without : {K X : Type 0} (R : K → K → Ordering) (k : K) (es : List (K × X)) → IsListed R es → IsListed R (without R k es)
 listed_without R k es h = is_sorted-where_key R (λ q. not (eq_by_cmp R k q)) es h
+
+-- the keys stay where a value is written over
+pub keys_over : {K X : Type 0} (v : X) (es : List (K × X)) (i : ℕ) (e : K × X) → e ≡ get_or es i e → keys_of (set es i (e.0, v)) ≡ keys_of es
+keys_over v [] i e is = refl
+keys_over v (f ∷ es) zero e is = ap (λ k. k ∷ keys_of es) (ap (λ x. x.0) is)
+keys_over v (f ∷ es) (suc i) e is = ap (λ ks. f.0 ∷ ks) (keys_over v es i e is)
 
 module _ {K : Type 0} (R : K → K → Ordering) (o : IsTotalOrder R) where
   greater : (x y : K) → R x y ≡ Less → R y x ≡ Greater
@@ -93,6 +100,10 @@ module _ {K X : Type 0} (R : K → K → Ordering) (o : IsTotalOrder R) where
   pub put_over : (p : K) (v : X) (es : List (K × X)) (i : ℕ) (d : K × X) → d ≡ get_or es i d → IsAt R p es i → set es i (d.0, v) ≡ put R p v es
   put_over p v es i d is h = ap (λ e. set es i (e.0, v)) is ∙ put_at p v es i d h
 
+  -- a write over the value of an entry
+  pub put_there : (v : X) (es : List (K × X)) (i : ℕ) (e d : K × X) → IsListed R es → i < length es → e ≡ get_or es i e → set es i (e.0, v) ≡ put R (get_or es i d).0 v es
+  put_there v es i e d h lt is = put_over (get_or es i d).0 v es i e is (at_from (get_or es i d).0 es i d h lt (tied_itself o (get_or es i d).0))
+
   -- a new entry
   pub put_gap : (p : K) (v : X) (es : List (K × X)) (i : ℕ) → IsGap R p es i → insert es i (p, v) ≡ put R p v es
   put_gap p v [] zero h = refl
@@ -100,7 +111,7 @@ module _ {K X : Type 0} (R : K → K → Ordering) (o : IsTotalOrder R) where
   put_gap p v (e ∷ es) zero h = rw h refl
   put_gap p v (e ∷ es) (suc i) h = rw h.0 (ap (λ fs. e ∷ fs) (put_gap p v es i h.1))
 
-  keeps : (p : K) (es : List (K × X)) (x : K) → R p x ≡ Equal → T (below_all R x es) → where_key R (λ k. not (eq_by_cmp R p k)) es ≡ es
+  pub keeps : (p : K) (es : List (K × X)) (x : K) → R p x ≡ Equal → T (below_all R x es) → where_key R (λ k. not (eq_by_cmp R p k)) es ≡ es
   keeps p [] x e h = refl
   keeps p (f ∷ es) x e h =
       let rest = where_key R (λ k. not (eq_by_cmp R p k)) es in

@@ -1,14 +1,19 @@
-//! Finite maps as lists of entries in the order of their keys, the storage of every small map above.
+//! Finite maps as lists of entries in the order of their keys, the storage of the maps above: sorted lists, and trees.
 #![tactic(auto)]
 
 ghost use Rattle.std.specs.Prelude.{◌≡◌, ◌<◌, ◌≤◌, ◌↔◌, [], OnOk, OnErr, IfOk, IfErr, IsTrue, None, length};
 ghost use Rattle.std.specs.FinMap.{find, put};
+ghost use Rattle.std.proofs.Common.{get_or};
+ghost use Rattle.nd_map.specs.Counts.{keys_of};
 ghost use Rattle.nd_map.specs.Listed.{IsListed, without};
 ghost use Rattle.nd_map.specs.Place.{IsAt, IsGap};
+
+mod tree;
 
 use std::alloc::{AllocError, Allocator, Global};
 use std::cmp::Ordering;
 use std::marker::Model;
+pub use tree::TreeMap;
 
 /// What the keys of a map are: ordered, and copied without memory.
 pub trait Key: Ord + Drop {
@@ -121,6 +126,17 @@ impl<K: Key, V: Copy, A: Allocator> SortedMap<K, V, A> {
                 Ok(())
             }
         }
+    }
+
+    /// Gives the key of an entry, by its number in the order of the keys, another value. It takes no memory.
+    pub fn put_at(&mut self, index: usize, value: V)
+        requires { index < length self.old }
+        ensures value { (d : K × V) → self.new ≡ put K.cmp (get_or self.old index d).0 value self.old }
+        ensures keys { keys_of self.new ≡ keys_of self.old }
+        ensures listed { IsListed K.cmp self.new }
+        ensures was_listed { IsListed K.cmp self.old }
+    {
+        self.entries[index].1 = value;
     }
 
     /// Takes a key and its value out, where it is there.

@@ -3,12 +3,14 @@
 
 mod accept;
 mod compose;
+mod order;
 mod paths;
 mod point;
 mod summary;
 mod table;
 
 pub use accept::PathFault;
+pub use order::order_is_transitive;
 pub use paths::Paths;
 pub use point::Pointstamp;
 pub use summary::{Constants, Summary};

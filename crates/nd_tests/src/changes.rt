@@ -1,7 +1,7 @@
 //! Changes.
 
-use crate::drawn::{Entry, LINE, are_entries, change, graph_of, paths_of, point};
 use nd_delta::DeltaFault;
+use nd_drawn::{Entry, LINE, are_entries, change, graph_of, paths_of, point};
 use std::test::Fail;
 
 #[test]
@@ -57,5 +57,21 @@ fn unsupported(rt: HostRuntime) -> Result<(), Fail> {
         let alone = alone.and_then(|list| point(paths.graph(), "a", list));
         assert_eq!(rt; delta.unsupported(&paths), alone);
     }
+    Ok(())
+}
+
+#[test]
+fn held_points_support(rt: HostRuntime) -> Result<(), Fail> {
+    let paths = paths_of(rt.alloc(), rt.alloc(), LINE).ok_or("no paths")?;
+    let delta = change(rt.alloc(), paths.graph(), &[("a", 1, 1), ("az", 0, 1)]).ok_or("no change")?;
+    let first = point(paths.graph(), "a", &[0]).ok_or("no point")?;
+    let second = point(paths.graph(), "a", &[1]).ok_or("no point")?;
+    let after = point(paths.graph(), "az", &[0]).ok_or("no point")?;
+    assert_eq!(rt; delta.unsupported_by(&paths, &[]), Some(second.copy()));
+    assert_eq!(rt;
+        delta.unsupported_by(&paths, &[second.copy()]),
+        Some(second)
+    );
+    assert_eq!(rt; delta.unsupported_by(&paths, &[after, first]), None);
     Ok(())
 }

@@ -1,6 +1,6 @@
 //! Graphs.
 
-use crate::drawn::{EMPTY, LOOP, NESTED_LOOP, graph_of, graph_text};
+use nd_drawn::{EMPTY, LOOP, NESTED_LOOP, graph_of, graph_text};
 use nd_graph::{Action, Arc, Graph, GraphDraft, GraphFault, Op, Route};
 use serde_json::Value;
 use std::alloc::{AllocError, Global};

@@ -1,6 +1,6 @@
 //! Summaries, and which graphs have an order.
 
-use crate::drawn::{
+use nd_drawn::{
     CYCLE, LOOP, NESTED_LOOP, TWO_WAYS, UNGUARDED_LOOP, graph_of, paths_of, point, time,
 };
 use nd_graph::Graph;

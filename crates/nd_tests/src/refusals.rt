@@ -4,52 +4,20 @@
 //! The functions here tell how many requests of a call were refused before it succeeded, or `None`
 //! where it did not do so.
 
-use crate::clusters::{CLOSED, STARTED, feed, is_state, start};
-use crate::drawn::{LINE, LOOP, change, graph_of, paths_of, point};
+ghost use Rattle.nd_view.specs.Kept.{IsFor};
+
 use crate::views::view;
-use nd_cluster::{Cluster, Next, NoMemory, Refusal, StartFault, Step, can_run};
 use nd_delta::{Delta, DeltaFault};
+use nd_drawn::{LINE, LOOP, change, graph_of, paths_of, point};
 use nd_graph::{Graph, GraphDraft, GraphFault};
 use nd_paths::{PathFault, Paths, Pointstamp};
 use nd_view::View;
-use refusing::Refusing;
+use refusing::{Refusing, in_turn};
 use serde_json::Value;
 use std::alloc::{AllocError, Allocator, Global};
 
-type Heap = Refusing<Global>;
-
-/// More than the requests of any call.
-const MANY: u64 = 1000;
-
-/// Whether a call met the request that was refused. `None` for another answer than want of memory
-/// where it did and success where it did not, and where want of memory left its values changed.
-fn was_refused<E: PartialEq + Drop>(
-    refused: bool,
-    fault: Option<E>,
-    want: E,
-    is_as_before: bool,
-) -> Option<bool> {
-    let is_right = match fault {
-        None => !refused,
-        Some(fault) => refused && is_as_before && fault == want,
-    };
-    if is_right { Some(refused) } else { None }
-}
-
-// Makes a call on values that are made ready before each time, refusing one request after the other.
-macro_rules! in_turn {
-    ($heap:ident: { $($ready:tt)* } $call:expr; $want:expr, $is_as_before:expr) => {
-        for n in 0..MANY {
-            $($ready)*
-            $heap.refuse(n);
-            let fault = $call.err();
-            let refused = $heap.relent(n);
-            if !was_refused(refused, fault, $want, $is_as_before)? {
-                return Some(n);
-            }
-        }
-    };
-}
+/// The allocator of these tests.
+pub type Heap = Refusing<Global>;
 
 fn graph_copy<A: Allocator + Copy>(heap: &Heap, alloc: A, graph: &Graph<A>) -> Option<u64> {
     in_turn!(heap: {} graph.copy(alloc); AllocError, true);
@@ -190,15 +158,32 @@ fn change_parts(rt: HostRuntime) {
     assert_eq!(rt; change_parts_in_turn(&heap, &heap, rt.alloc()), Some(true));
 }
 
+// Whether two views have the same entries, and keep the same at them and at the points of a change.
+fn is_same_view<A: Allocator + Copy>(view: &View<A>, base: &View<A>, news: &Delta<A>) -> bool {
+    for entry in base.entries() {
+        if view.kept(&entry.0) != base.kept(&entry.0) {
+            return false;
+        }
+    }
+    for entry in news.entries() {
+        if view.kept(&entry.0) != base.kept(&entry.0) {
+            return false;
+        }
+    }
+    view.entries() == base.entries()
+}
+
 fn apply<A: Allocator + Copy>(
     heap: &Heap,
     alloc: A,
     paths: &Paths<A>,
     base: &View<A>,
     news: &Delta<A>,
-) -> Option<u64> {
+) -> Option<u64>
+    requires { IsFor paths.now base.now }
+{
     in_turn!(heap: { let mut view = base.copy(alloc).ok()?; }
-        view.apply(paths, news); DeltaFault::Memory, view.entries() == base.entries());
+        view.apply(paths, news); DeltaFault::Memory, is_same_view(&view, base, news));
     None
 }
 
@@ -208,16 +193,22 @@ fn unapply<A: Allocator + Copy>(
     paths: &Paths<A>,
     base: &View<A>,
     news: &Delta<A>,
-) -> Option<u64> {
+) -> Option<u64>
+    requires { IsFor paths.now base.now }
+{
     in_turn!(heap: { let mut view = base.copy(alloc).ok()?; }
-        view.unapply(paths, news); DeltaFault::Memory, view.entries() == base.entries());
+        view.unapply(paths, news); DeltaFault::Memory, is_same_view(&view, base, news));
     None
 }
 
 fn view_sums_in_turn<A: Allocator + Copy>(heap: &Heap, alloc: A, json: Global) -> Option<bool> {
     let paths = paths_of(json, alloc, LINE)?;
     let known = view(alloc, &paths, &[("a", 0, 1)])?;
-    let news = change(alloc, paths.graph(), &[("z", 0, 1), ("az", 0, 1)])?;
+    let news = change(
+        alloc,
+        paths.graph(),
+        &[("a", 0, -2), ("z", 0, 1), ("az", 0, -1)],
+    )?;
     Some(
         apply(heap, alloc, &paths, &known, &news)? > 0
             && unapply(heap, alloc, &paths, &known, &news)? > 0,
@@ -235,7 +226,9 @@ fn frontier<A: Allocator + Copy>(
     alloc: A,
     paths: &Paths<A>,
     view: &View<A>,
-) -> Option<u64> {
+) -> Option<u64>
+    requires { IsFor paths.now view.now }
+{
     in_turn!(heap: {} view.frontier(alloc, paths); AllocError, true);
     None
 }
@@ -255,116 +248,4 @@ fn view_parts_in_turn<A: Allocator + Copy>(heap: &Heap, alloc: A, json: Global) 
 fn view_parts(rt: HostRuntime) {
     let heap = Refusing::new(rt.alloc());
     assert_eq!(rt; view_parts_in_turn(&heap, &heap, rt.alloc()), Some(true));
-}
-
-fn start_of_copy<A: Allocator + Copy>(heap: &Heap, alloc: A, graph: &Graph<A>) -> Option<u64> {
-    in_turn!(heap: { let graph = graph.copy(alloc).ok()?; if !can_run(&graph) { return None; } }
-        Cluster::start(alloc, graph, 1); StartFault::Memory, true);
-    None
-}
-
-fn cluster_copy<A: Allocator + Copy>(heap: &Heap, alloc: A, cluster: &Cluster<A>) -> Option<u64> {
-    in_turn!(heap: {} cluster.copy(alloc); AllocError, true);
-    None
-}
-
-fn cluster_start_in_turn<A: Allocator + Copy>(heap: &Heap, alloc: A, json: Global) -> Option<bool> {
-    let graph = graph_of(json, alloc, LINE)?;
-    let cluster = start(json, alloc, LINE)?;
-    Some(start_of_copy(heap, alloc, &graph)? > 0 && cluster_copy(heap, alloc, &cluster)? > 0)
-}
-
-#[test]
-fn cluster_start(rt: HostRuntime) {
-    let heap = Refusing::new(rt.alloc());
-    assert_eq!(rt; cluster_start_in_turn(&heap, &heap, rt.alloc()), Some(true));
-}
-
-fn plan<A: Allocator + Copy>(
-    heap: &Heap,
-    json: Global,
-    cluster: &Cluster<A>,
-    step: &Step<A>,
-) -> Option<u64> {
-    in_turn!(heap: {} cluster.plan(step); Refusal::Memory, is_state(json, cluster, STARTED));
-    None
-}
-
-/// Whether the commit of a step met the request that was refused.
-fn meets_commit<A: Allocator + Copy>(
-    heap: &Heap,
-    json: Global,
-    cluster: &mut Cluster<A>,
-    step: &Step<A>,
-    n: u64,
-) -> Option<bool> {
-    let record = cluster.plan(step).ok()?;
-    heap.refuse(n);
-    let fault = cluster.commit(&record).err();
-    let refused = heap.relent(n);
-    was_refused(refused, fault, NoMemory, is_state(json, cluster, STARTED))
-}
-
-fn commit<A: Allocator + Copy>(
-    heap: &Heap,
-    alloc: A,
-    json: Global,
-    base: &Cluster<A>,
-    step: &Step<A>,
-) -> Option<u64> {
-    for n in 0..MANY {
-        let mut cluster = base.copy(alloc).ok()?;
-        if !meets_commit(heap, json, &mut cluster, step, n)? {
-            return Some(n);
-        }
-    }
-    None
-}
-
-/// Whether the back-step of a step met the request that was refused.
-fn meets_back<A: Allocator + Copy>(
-    heap: &Heap,
-    json: Global,
-    cluster: &mut Cluster<A>,
-    step: &Step<A>,
-    n: u64,
-) -> Option<bool> {
-    let record = cluster.plan(step).ok()?;
-    cluster.commit(&record).ok()?;
-    heap.refuse(n);
-    let fault = cluster.back(&record).err();
-    let refused = heap.relent(n);
-    was_refused(refused, fault, NoMemory, is_state(json, cluster, CLOSED))
-}
-
-fn back<A: Allocator + Copy>(
-    heap: &Heap,
-    alloc: A,
-    json: Global,
-    base: &Cluster<A>,
-    step: &Step<A>,
-) -> Option<u64> {
-    for n in 0..MANY {
-        let mut cluster = base.copy(alloc).ok()?;
-        if !meets_back(heap, json, &mut cluster, step, n)? {
-            return Some(n);
-        }
-    }
-    None
-}
-
-fn cluster_steps_in_turn<A: Allocator + Copy>(heap: &Heap, alloc: A, json: Global) -> Option<bool> {
-    let cluster = start(json, alloc, LINE)?;
-    let step = feed(alloc, 5, Next::Close)?;
-    Some(
-        plan(heap, json, &cluster, &step)? > 0
-            && commit(heap, alloc, json, &cluster, &step)? > 0
-            && back(heap, alloc, json, &cluster, &step)? > 0,
-    )
-}
-
-#[test]
-fn cluster_steps(rt: HostRuntime) {
-    let heap = Refusing::new(rt.alloc());
-    assert_eq!(rt; cluster_steps_in_turn(&heap, &heap, rt.alloc()), Some(true));
 }

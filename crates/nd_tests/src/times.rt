@@ -1,6 +1,6 @@
 //! Timestamps.
 
-use crate::drawn::time;
+use nd_drawn::time;
 use nd_graph::Action;
 use nd_time::{CounterFull, Timestamp};
 use std::test::Fail;

@@ -1,13 +1,18 @@
 //! Views.
 
-use crate::drawn::{Entry, LINE, are_entries, change, paths_of, point};
+ghost use Rattle.std.specs.Prelude.{IfSome};
+ghost use Rattle.nd_view.specs.Kept.{IsFor};
+
+use nd_drawn::{Entry, LINE, are_entries, change, paths_of, point};
 use nd_paths::Paths;
 use nd_view::View;
 use std::alloc::Allocator;
 use std::test::Fail;
 
 /// The view of these entries.
-pub fn view<A: Allocator + Copy>(alloc: A, paths: &Paths<A>, entries: &[Entry]) -> Option<View<A>> {
+pub fn view<A: Allocator + Copy>(alloc: A, paths: &Paths<A>, entries: &[Entry]) -> Option<View<A>>
+    ensures { IfSome result (IsFor paths.now) }
+{
     let mut view = View::new(alloc);
     let change = change(alloc, paths.graph(), entries)?;
     view.apply(paths, &change).ok()?;
@@ -19,7 +24,7 @@ fn view_undone(rt: HostRuntime) -> Result<(), Fail> {
     let paths = paths_of(rt.alloc(), rt.alloc(), LINE).ok_or("no paths")?;
     let more = change(rt.alloc(), paths.graph(), &[("a", 0, 1)]).ok_or("no change")?;
     let less = change(rt.alloc(), paths.graph(), &[("a", 0, -1)]).ok_or("no change")?;
-    let mut view = View::new(rt.alloc());
+    let mut view = view(rt.alloc(), &paths, &[]).ok_or("no view")?;
     view.apply(&paths, &more)?;
     view.apply(&paths, &less)?;
     assert!(rt; view.entries().is_empty());

@@ -1,8 +1,8 @@
 //! The order of pointstamps against walks along the arcs.
 
-use crate::drawn as graph;
-use crate::drawn::{paths_of, time};
 use crate::times::moved;
+use nd_drawn as graph;
+use nd_drawn::{paths_of, time};
 use nd_graph::Graph;
 use nd_paths::{Paths, Pointstamp};
 use std::alloc::{AllocError, Global};

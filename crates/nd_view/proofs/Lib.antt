@@ -1,2 +1,9 @@
 mod First
+mod Firsts
+mod Fors
+mod Frontiers
+mod Keyed
+mod Moves
 mod Parts
+mod Points
+mod Shifts

@@ -12,7 +12,7 @@ use Rattle.nd_delta.specs.Change.{Change, none, at, set, size, entries, is_point
 use Rattle.nd_delta.specs.Least.{place_of, at-index}
 use Rattle.nd_view.specs.View.{IsPartWhere, IsCount}
 
-decided : (z : ℤ) → (z ≡ pos 0) ⊎ (z ≢ pos 0)
+pub decided : (z : ℤ) → (z ≡ pos 0) ⊎ (z ≢ pos 0)
 decided (pos zero) = inl refl
 decided (pos (suc n)) = inr (λ e. absurd (cc))
 decided (negsuc n) = inr (λ e. absurd (cc))
@@ -44,14 +44,14 @@ module _ (m : Change) (P : Pointstamp → Type 0) where
     early = λ q some. absurd (some (at-none q));
   }
 
-  later : (i : ℕ) (q : Pointstamp) → IsAmong m i q → IsAmong m (i + 1) q
+  pub later : (i : ℕ) (q : Pointstamp) → IsAmong m i q → IsAmong m (i + 1) q
   later i q among = record { index = among.index; early = omega (arith, among.early); in_range = among.in_range; is = among.is }
 
   module _ (i : ℕ) (x : Pointstamp × ℤ) (lt : i < length (entries m)) (is : x ≡ get_or (entries m) i x) where
-    last : IsAmong m (i + 1) x.0
+    pub last : IsAmong m (i + 1) x.0
     last = record { index = i; early = omega arith; in_range = lt; is = ap (λ y. y.0) (get_or_default (entries m) i (x.0, pos 0) x lt ∙ sym is) }
 
-    split : (q : Pointstamp) → IsAmong m (i + 1) q → IsAmong m i q ⊎ (q ≡ x.0)
+    pub split : (q : Pointstamp) → IsAmong m (i + 1) q → IsAmong m i q ⊎ (q ≡ x.0)
     split q among = elim (cases_lt among.index i) [
       | inl before ↦ inl (record { index = among.index; early = before; in_range = among.in_range; is = among.is })
       | inr at_least ↦
@@ -59,7 +59,7 @@ module _ (m : Change) (P : Pointstamp → Type 0) where
           inr (sym among.is ∙ ap (λ k. (get_or (entries m) k (q, pos 0)).0) same ∙ ap (λ y. y.0) (get_or_default (entries m) i (q, pos 0) x lt ∙ sym is))
     ]
 
-    fresh : IsAmong m i x.0 → ⊥
+    pub fresh : IsAmong m i x.0 → ⊥
     fresh among =
         let d : Pointstamp × ℤ = (x.0, pos 0) in
         let rise : point_cmp (get_or (entries m) among.index d).0 (get_or (entries m) i d).0 ≡ Less = rises point_cmp point_total (entries m) (sorted-entries m) among.index i d among.early lt in

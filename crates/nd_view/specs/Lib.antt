@@ -1,1 +1,5 @@
+pub mod Kept
+pub mod Room
+pub mod Settled
 pub mod View
+pub mod Views

@@ -1,5 +1,5 @@
 -- What a view tells: passed points, blockers, precursors and the frontier (Naiad, SOSP 2013, section 2.3).
-use Rattle.std.specs.Prelude.{◌≡◌, ◌≢◌, ℕ, pos, ◌<ℤ◌}
+use Rattle.std.specs.Prelude.{◌≡◌, ◌≢◌, ℕ, pos, ◌<ℤ◌, Bool, true, false}
 use Rattle.nd_graph.specs.Graph.{Dataflow}
 use Rattle.nd_paths.specs.Order.{CouldResultIn, IsStrictlyBefore}
 use Rattle.nd_paths.specs.declared.point.Pointstamp.{Pointstamp}
@@ -23,6 +23,16 @@ pub record IsPrecursor (g : Dataflow) (v : Change) (t x : Pointstamp) : Type 0 w
 pub record IsOnFrontier (g : Dataflow) (v : Change) (x : Pointstamp) : Type 0 where
   pub positive : pos 0 <ℤ at v x
   pub first : (y : Pointstamp) → IsPrecursor g v x y → ⊥
+
+-- x is strictly before t, or at or before it
+abbrev pub IsBefore : Dataflow → Bool → Pointstamp → Pointstamp → Type 0
+IsBefore g true x t = IsStrictlyBefore g x t
+IsBefore g false x t = CouldResultIn g x t
+
+-- x is positive, and before t: a precursor, or a blocker
+pub record IsPositiveBefore (g : Dataflow) (v : Change) (strictly : Bool) (t x : Pointstamp) : Type 0 where
+  pub positive : pos 0 <ℤ at v x
+  pub before : IsBefore g strictly x t
 
 -- f is the part of v at the points of the kind P
 pub record IsPartWhere (P : Pointstamp → Type 0) (v f : Change) : Type 0 where

@@ -1,72 +1,79 @@
-//! Views: the counts of pointstamps that a processor knows of (Naiad, SOSP 2013, section 3.3).
+//! Views: the counts of pointstamps that a processor knows of, and for each positive pointstamp the
+//! number of positive ones strictly before it (Naiad, SOSP 2013, section 3.3).
 #![tactic(auto)]
 
-ghost use Rattle.std.specs.Prelude.{◌≡◌, ◌↔◌, ◌≤◌, ◌<ℤ◌, pos, unsigned_abs, OnOk, OnErr, IfOk, IfSome, IsNone, IsTrue, Err};
-ghost use Rattle.nd_time.specs.Limits.{max_count};
-ghost use Rattle.nd_paths.specs.Order.{CouldResultIn, IsStrictlyBefore};
-ghost use Rattle.nd_delta.specs.declared.DeltaFault.{DeltaFault};
-ghost use Rattle.nd_delta.specs.Change.{none, at, plus, minus, IsTooLarge, IsWithin, entries as listed};
-ghost use Rattle.nd_delta.specs.Least.{IsLeast};
-ghost use Rattle.nd_view.specs.View.{IsPassed, IsBlocker, IsPrecursor, IsOnFrontier, IsCount, IsPartWhere};
+mod entry_tests;
+mod keeping;
 
+ghost use Rattle.std.specs.Prelude.{◌≡◌, ◌≢◌, ◌↔◌, ◌≤◌, ◌<ℤ◌, pos, unsigned_abs, OnOk, OnErr, IfOk, IfSome, IsNone, IsTrue, Err};
+ghost use Rattle.nd_time.specs.Limits.{max_count};
+ghost use Rattle.nd_graph.specs.Graph.{Dataflow};
+ghost use Rattle.nd_paths.specs.declared.point.Pointstamp.{Pointstamp};
+ghost use Rattle.nd_delta.specs.declared.DeltaFault.{DeltaFault};
+ghost use Rattle.nd_delta.specs.Change.{none, at, set, plus, minus, combined, points_of, IsTooLarge, IsWithin, entries as listed};
+ghost use Rattle.nd_delta.specs.Least.{IsLeast};
+ghost use Rattle.nd_view.specs.View.{IsPassed, IsBlocker, IsPrecursor, IsOnFrontier, IsCount, IsPartWhere, IsPositiveBefore};
+ghost use Rattle.nd_view.specs.Kept.{Kept, IsKeptAt, IsFor};
+ghost use Rattle.nd_view.specs.Room.{IsWithinRoom, IsAlikeAt, IsAlikeOff, AllWithinRoom};
+
+use entry_tests::{is_before, is_positive_before, takes_room};
+use keeping::{count_before, list_first, recount, set_from_last, shift};
 use nd_delta::{Delta, DeltaFault};
+use nd_map::SortedMap;
 use nd_paths::{Paths, Pointstamp};
 use std::alloc::{AllocError, Allocator, Global};
 use std::marker::Model;
 
 /// A finite map from pointstamps to counts other than 0, which may be negative for a while.
-#[derive(Drop)]
+/// Beside it stands for each positive pointstamp the number of positive ones strictly before it.
 pub struct View<A: Allocator + Copy = Global> {
     counts: Delta<A>,
+    ranks: SortedMap<Pointstamp, u64, A>,
+    first: Vec<Pointstamp, A>,
     alloc: A,
 }
 
+impl<A: Allocator + Copy> Drop for View<A> {
+    fn drop(self) {
+        let View {
+            counts: _,
+            ranks: _,
+            first: _,
+            alloc: _,
+        } = self;
+    }
+}
+
 impl<A: Allocator + Copy> Model for View<A> {
-    ghost use Rattle.nd_delta.specs.Change.{Change, change_code};
+    ghost use Rattle.std.specs.Prelude.{vec_capacity};
+    ghost use Rattle.nd_view.specs.Kept.{Kept, kept_code, IsFrontierList};
 
-    ghost Value = { Change };
+    ghost Value = { Kept };
 
-    ghost coded = { change_code };
+    ghost coded = { kept_code };
 
-    ghost view = { λ a. a.counts };
-}
+    ghost view = { λ a. record { map = a.counts; counts = a.ranks } };
 
-// Whether an entry is positive, and at or before a pointstamp.
-fn is_positive_at_or_before<B: Allocator>(
-    entry: &(Pointstamp, i64),
-    paths: &Paths<B>,
-    point: &Pointstamp,
-) -> bool
-    ensures { IsTrue result ↔ ((pos 0 <ℤ entry.now.1) × CouldResultIn paths.now entry.now.0 point.now) }
-{
-    entry.1 > 0 && paths.before(&entry.0, point)
-}
-
-// Whether an entry is positive, and strictly before a pointstamp.
-fn is_positive_before<B: Allocator>(
-    entry: &(Pointstamp, i64),
-    paths: &Paths<B>,
-    point: &Pointstamp,
-) -> bool
-    ensures { IsTrue result ↔ ((pos 0 <ℤ entry.now.1) × IsStrictlyBefore paths.now entry.now.0 point.now) }
-{
-    entry.1 > 0 && paths.strictly_before(&entry.0, point)
+    ghost invariant = { λ a. IsFrontierList a.ranks a.first.items (vec_capacity a.first) };
 }
 
 impl<A: Allocator + Copy> View<A> {
-    /// The view with no entry. It takes no memory.
+    /// The view with no entry, for whichever paths. It takes no memory.
     pub fn new(alloc: A) -> View<A>
-        ensures { result ≡ none }
+        ensures value { result.map ≡ none }
+        ensures for_all { (g : Dataflow) → IsFor g result }
     {
         View {
             counts: Delta::new(alloc),
+            ranks: SortedMap::new(alloc),
+            first: Vec::new(alloc),
             alloc,
         }
     }
 
     /// The count of a pointstamp, 0 where it has none.
     pub fn get(&self, point: &Pointstamp) -> i64
-        ensures value { result ≡ at self.now point.now }
+        ensures value { result ≡ at self.now.map point.now }
         ensures within { unsigned_abs result ≤ max_count }
     {
         self.counts.get(point)
@@ -74,70 +81,358 @@ impl<A: Allocator + Copy> View<A> {
 
     /// The entries in the order of listing.
     pub fn entries(&self) -> &[(Pointstamp, i64)]
-        ensures listed { result.now ≡ listed self.now }
-        ensures within { IsWithin self.now }
+        ensures listed { result.now ≡ listed self.now.map }
+        ensures within { IsWithin self.now.map }
     {
         self.counts.entries()
+    }
+
+    /// The kept count of a positive pointstamp: the number of positive ones strictly before it, by the
+    /// paths of the earlier calls.
+    pub fn kept(&self, point: &Pointstamp) -> Option<u64>
+        ensures { (g : Dataflow) → IsFor g self.now → IsKeptAt g self.now.map point.now result }
+    {
+        self.ranks.get(point)
+    }
+
+    /// What is kept is settled by the map: two views of one order are equal where their maps are.
+    pub fn is_settled(&self)
+        ensures { (g : Dataflow) (v : Kept) → IsFor g v → IsFor g self.now → v.map ≡ self.now.map → v ≡ self.now }
+    {
+        let _ = &self.counts;
+    }
+
+    /// An equal view.
+    pub fn copy(&self, alloc: A) -> Result<View<A>, AllocError>
+        ensures { IfOk result (λ v. v ≡ self.now) }
+    {
+        let counts = self.counts.copy(alloc)?;
+        let ranks = self.ranks.copy(alloc)?;
+        let mut first = Vec::with_capacity(alloc, ranks.len())?;
+        list_first(&mut first, &ranks);
+        Ok(View {
+            counts,
+            ranks,
+            first,
+            alloc,
+        })
+    }
+
+    // Gives a pointstamp a count of the same sign.
+    fn stay<B: Allocator>(
+        &mut self,
+        _paths: &Paths<B>,
+        point: &Pointstamp,
+        n: i64,
+    ) -> Result<(), AllocError>
+        requires paths { IsFor _paths.now self.old }
+        requires within { unsigned_abs n ≤ max_count }
+        requires sign { (pos 0 <ℤ n) ↔ (pos 0 <ℤ at self.old.map point.now) }
+        ensures ok { OnOk result (self.new.map ≡ set self.old.map point.now n) }
+        ensures paths { OnOk result (IsFor _paths.now self.new) }
+        ensures err { OnErr result (self.new ≡ self.old) }
+        ensures absent { OnErr result (at self.old.map point.now ≡ pos 0) }
+        ensures some { OnErr result (n ≢ pos 0) }
+    {
+        self.counts.put(point, n)
+    }
+
+    // Gives a pointstamp that is not positive a positive count.
+    fn come<B: Allocator>(
+        &mut self,
+        paths: &Paths<B>,
+        point: &Pointstamp,
+        n: i64,
+    ) -> Result<(), AllocError>
+        requires paths { IsFor paths.now self.old }
+        requires within { unsigned_abs n ≤ max_count }
+        requires was { pos 0 <ℤ at self.old.map point.now → ⊥ }
+        requires is { pos 0 <ℤ n }
+        ensures ok { OnOk result (self.new.map ≡ set self.old.map point.now n) }
+        ensures paths { OnOk result (IsFor paths.now self.new) }
+        ensures err { OnErr result (self.new ≡ self.old) }
+    {
+        let kept = self.ranks.entries();
+        let missing = (kept.len() + 1).saturating_sub(self.first.len());
+        self.first.reserve(missing)?;
+        let count = count_before(&self.counts, paths, point);
+        self.ranks.put(point, count)?;
+        let Ok(()) = self.counts.put(point, n) else {
+            self.ranks.remove(point);
+            return Err(AllocError);
+        };
+        shift(&mut self.ranks, &self.counts, paths, point, true);
+        list_first(&mut self.first, &self.ranks);
+        Ok(())
+    }
+
+    // Gives a positive pointstamp a count that is not. It takes no memory.
+    fn go<B: Allocator>(&mut self, paths: &Paths<B>, point: &Pointstamp, n: i64)
+        requires paths { IsFor paths.now self.old }
+        requires within { unsigned_abs n ≤ max_count }
+        requires was { pos 0 <ℤ at self.old.map point.now }
+        requires is { pos 0 <ℤ n → ⊥ }
+        ensures ok { self.new.map ≡ set self.old.map point.now n }
+        ensures paths { IsFor paths.now self.new }
+    {
+        let Ok(()) = self.counts.put(point, n) else {
+            return;
+        };
+        self.ranks.remove(point);
+        shift(&mut self.ranks, &self.counts, paths, point, false);
+        list_first(&mut self.first, &self.ranks);
+    }
+
+    // Gives a pointstamp this count.
+    fn put<B: Allocator>(
+        &mut self,
+        paths: &Paths<B>,
+        point: &Pointstamp,
+        n: i64,
+    ) -> Result<(), AllocError>
+        requires paths { IsFor paths.now self.old }
+        requires within { unsigned_abs n ≤ max_count }
+        ensures ok { OnOk result (self.new.map ≡ set self.old.map point.now n) }
+        ensures paths { OnOk result (IsFor paths.now self.new) }
+        ensures err { OnErr result (self.new ≡ self.old) }
+        ensures room { OnErr result (IsWithinRoom (at self.old.map point.now) n → ⊥) }
+    {
+        let was_positive = self.get(point) > 0;
+        if n > 0 {
+            if was_positive {
+                self.stay(paths, point, n)
+            } else {
+                self.come(paths, point, n)
+            }
+        } else if was_positive {
+            self.go(paths, point, n);
+            Ok(())
+        } else {
+            self.stay(paths, point, n)
+        }
+    }
+
+    // The counts of a change's pointstamps.
+    fn before(&self, delta: &Delta<A>) -> Result<Delta<A>, AllocError>
+        ensures { IfOk result (IsAlikeAt (points_of (listed delta.now)) self.now.map) }
+    {
+        let mut made = Delta::new(self.alloc);
+        for entry in delta.entries() {
+            made.put(&entry.0, self.get(&entry.0))?;
+        }
+        Ok(made)
+    }
+
+    // The counts of a change's pointstamps once it is added, or taken back.
+    fn after(&self, delta: &Delta<A>, minus: bool) -> Result<Delta<A>, AllocError>
+        requires { IsWithin (combined minus self.now.map delta.now) }
+        ensures { IfOk result (IsAlikeAt (points_of (listed delta.now)) (combined minus self.now.map delta.now)) }
+    {
+        let mut made = Delta::new(self.alloc);
+        for entry in delta.entries() {
+            made.put(&entry.0, self.counts.combined_at(delta, minus, &entry.0))?;
+        }
+        Ok(made)
+    }
+
+    // Gives a change's pointstamps the counts that they have in another one. It takes no memory.
+    fn set_all<B: Allocator>(&mut self, paths: &Paths<B>, delta: &Delta<A>, to: &Delta<A>)
+        requires paths { IsFor paths.now self.old }
+        requires room { AllWithinRoom (points_of (listed delta.now)) self.old.map to.now }
+        ensures paths { IsFor paths.now self.new }
+        ensures alike { IsAlikeAt (points_of (listed delta.now)) to.now self.new.map }
+        ensures others { IsAlikeOff (points_of (listed delta.now)) self.old.map self.new.map }
+    {
+        for entry in delta.entries() {
+            let Ok(()) = self.put(paths, &entry.0, to.get(&entry.0)) else {
+                return;
+            };
+        }
+    }
+
+    // The same where most of what is positive goes: what is kept for the rest is counted anew.
+    fn set_anew<B: Allocator>(&mut self, paths: &Paths<B>, delta: &Delta<A>, to: &Delta<A>)
+        requires paths { IsFor paths.now self.old }
+        requires room { AllWithinRoom (points_of (listed delta.now)) self.old.map to.now }
+        ensures paths { IsFor paths.now self.new }
+        ensures alike { IsAlikeAt (points_of (listed delta.now)) to.now self.new.map }
+        ensures others { IsAlikeOff (points_of (listed delta.now)) self.old.map self.new.map }
+    {
+        set_from_last(&mut self.counts, &mut self.ranks, delta, to);
+        recount(&mut self.ranks, &self.counts, paths);
+        list_first(&mut self.first, &self.ranks);
+    }
+
+    // Whether a change that leaves these counts takes away most of what is positive.
+    fn goes(&self, delta: &Delta<A>, after: &Delta<A>) -> bool {
+        let mut gone = 0;
+        for entry in delta.entries() {
+            if self.counts.get(&entry.0) > 0 && after.get(&entry.0) <= 0 {
+                gone += 1;
+            }
+        }
+        gone > self.ranks.len() / 2
+    }
+
+    // Gives a change's pointstamps the counts that they are to have, in the way that costs less.
+    fn settle<B: Allocator>(&mut self, paths: &Paths<B>, delta: &Delta<A>, to: &Delta<A>)
+        requires paths { IsFor paths.now self.old }
+        requires room { AllWithinRoom (points_of (listed delta.now)) self.old.map to.now }
+        ensures paths { IsFor paths.now self.new }
+        ensures alike { IsAlikeAt (points_of (listed delta.now)) to.now self.new.map }
+        ensures others { IsAlikeOff (points_of (listed delta.now)) self.old.map self.new.map }
+    {
+        if self.goes(delta, to) {
+            self.set_anew(paths, delta, to);
+        } else {
+            self.set_all(paths, delta, to);
+        }
+    }
+
+    // Gives those of a change's pointstamps that take memory the counts that they are to have.
+    fn grow<B: Allocator>(
+        &mut self,
+        paths: &Paths<B>,
+        delta: &Delta<A>,
+        before: &Delta<A>,
+        after: &Delta<A>,
+    ) -> Result<(), AllocError>
+        requires paths { IsFor paths.now self.old }
+        requires before { IsAlikeAt (points_of (listed delta.now)) self.old.map before.now }
+        ensures paths { OnOk result (IsFor paths.now self.new) }
+        ensures room { OnOk result (AllWithinRoom (points_of (listed delta.now)) self.new.map after.now) }
+        ensures others { OnOk result (IsAlikeOff (points_of (listed delta.now)) self.old.map self.new.map) }
+        ensures err { OnErr result (self.new ≡ self.old) }
+    {
+        for entry in delta.entries() {
+            let new = after.get(&entry.0);
+            if takes_room(before.get(&entry.0), new) {
+                let Ok(()) = self.put(paths, &entry.0, new) else {
+                    self.set_all(paths, delta, before);
+                    return Err(AllocError);
+                };
+            }
+        }
+        Ok(())
+    }
+
+    // Adds a change, or takes it back: first what takes memory, then the rest.
+    fn change<B: Allocator>(
+        &mut self,
+        paths: &Paths<B>,
+        delta: &Delta<A>,
+        minus: bool,
+    ) -> Result<(), DeltaFault>
+        requires { IsFor paths.now self.old }
+        ensures paths { IsFor paths.now self.new }
+        ensures ok { OnOk result (self.new.map ≡ combined minus self.old.map delta.now) }
+        ensures err { OnErr result (self.new ≡ self.old) }
+        ensures full { (result ≡ Err (DeltaFault.DeltaFull)) ↔ IsTooLarge (combined minus self.old.map delta.now) }
+    {
+        if self.counts.is_overfull(delta, minus) {
+            return Err(DeltaFault::DeltaFull);
+        }
+        let Ok(before) = self.before(delta) else {
+            return Err(DeltaFault::Memory);
+        };
+        let Ok(after) = self.after(delta, minus) else {
+            return Err(DeltaFault::Memory);
+        };
+        let Ok(()) = self.grow(paths, delta, &before, &after) else {
+            return Err(DeltaFault::Memory);
+        };
+        self.settle(paths, delta, &after);
+        Ok(())
     }
 
     /// Adds a change. The paths are those of the earlier calls.
     pub fn apply<B: Allocator>(
         &mut self,
-        _paths: &Paths<B>,
+        paths: &Paths<B>,
         delta: &Delta<A>,
     ) -> Result<(), DeltaFault>
-        ensures ok { OnOk result (self.new ≡ plus self.old delta.now) }
-        ensures undone { OnOk result (minus self.new delta.now ≡ self.old) }
+        requires { IsFor paths.now self.old }
+        ensures paths { IsFor paths.now self.new }
+        ensures ok { OnOk result (self.new.map ≡ plus self.old.map delta.now) }
+        ensures undone { OnOk result (minus self.new.map delta.now ≡ self.old.map) }
         ensures err { OnErr result (self.new ≡ self.old) }
-        ensures full { (result ≡ Err (DeltaFault.DeltaFull)) ↔ IsTooLarge (plus self.old delta.now) }
+        ensures full { (result ≡ Err (DeltaFault.DeltaFull)) ↔ IsTooLarge (plus self.old.map delta.now) }
     {
-        match self.counts.plus(self.alloc, delta) {
-            Ok(counts) => {
-                self.counts = counts;
-                Ok(())
-            }
-            Err(fault) => Err(fault),
-        }
+        self.change(paths, delta, false)
     }
 
     /// Takes a change back. The paths are those of the earlier calls.
     pub fn unapply<B: Allocator>(
         &mut self,
-        _paths: &Paths<B>,
+        paths: &Paths<B>,
         delta: &Delta<A>,
     ) -> Result<(), DeltaFault>
-        ensures ok { OnOk result (self.new ≡ minus self.old delta.now) }
-        ensures undone { OnOk result (plus self.new delta.now ≡ self.old) }
+        requires { IsFor paths.now self.old }
+        ensures paths { IsFor paths.now self.new }
+        ensures ok { OnOk result (self.new.map ≡ minus self.old.map delta.now) }
+        ensures undone { OnOk result (plus self.new.map delta.now ≡ self.old.map) }
         ensures err { OnErr result (self.new ≡ self.old) }
-        ensures full { (result ≡ Err (DeltaFault.DeltaFull)) ↔ IsTooLarge (minus self.old delta.now) }
+        ensures full { (result ≡ Err (DeltaFault.DeltaFull)) ↔ IsTooLarge (minus self.old.map delta.now) }
     {
-        match self.counts.minus(self.alloc, delta) {
-            Ok(counts) => {
-                self.counts = counts;
-                Ok(())
+        self.change(paths, delta, true)
+    }
+
+    // Whether something positive is at or before a pointstamp, or strictly before it. It looks at the frontier alone.
+    fn is_hindered<B: Allocator>(
+        &self,
+        paths: &Paths<B>,
+        point: &Pointstamp,
+        strictly: bool,
+    ) -> bool
+        requires { IsFor paths.now self.now }
+        ensures { IsTrue result ↔ ((x : Pointstamp) × IsPositiveBefore paths.now self.now.map strictly point.now x) }
+    {
+        paths.order_is_partial();
+        for first in &self.first {
+            if is_before(first, paths, point, strictly) {
+                return true;
             }
-            Err(fault) => Err(fault),
         }
+        false
     }
 
-    /// Whether nothing positive is at or before a pointstamp. Negative entries do not hinder.
-    pub fn passed<B: Allocator>(&self, paths: &Paths<B>, point: &Pointstamp) -> bool
-        ensures { IsTrue result ↔ IsPassed paths.now self.now point.now }
+    // The least positive pointstamp at or before this one, or strictly before it.
+    fn least_before<B: Allocator>(
+        &self,
+        paths: &Paths<B>,
+        point: &Pointstamp,
+        strictly: bool,
+    ) -> Option<Pointstamp>
+        requires { IsFor paths.now self.now }
+        ensures nothing { IsNone result ↔ ((x : _) → IsPositiveBefore paths.now self.now.map strictly point.now x → ⊥) }
+        ensures least { IfSome result (IsLeast (IsPositiveBefore paths.now self.now.map strictly point.now)) }
     {
-        self.blocker(paths, point).is_none()
-    }
-
-    /// The least positive pointstamp at or before this one.
-    pub fn blocker<B: Allocator>(&self, paths: &Paths<B>, point: &Pointstamp) -> Option<Pointstamp>
-        ensures passed { IsNone result ↔ IsPassed paths.now self.now point.now }
-        ensures least { IfSome result (IsLeast (IsBlocker paths.now self.now point.now)) }
-    {
+        if !self.is_hindered(paths, point, strictly) {
+            return None;
+        }
         for entry in self.entries() {
-            if is_positive_at_or_before(entry, paths, point) {
+            if is_positive_before(entry, paths, point, strictly) {
                 return Some(entry.0.copy());
             }
         }
         None
+    }
+
+    /// Whether nothing positive is at or before a pointstamp. Negative entries do not hinder.
+    pub fn passed<B: Allocator>(&self, paths: &Paths<B>, point: &Pointstamp) -> bool
+        requires { IsFor paths.now self.now }
+        ensures { IsTrue result ↔ IsPassed paths.now self.now.map point.now }
+    {
+        !self.is_hindered(paths, point, false)
+    }
+
+    /// The least positive pointstamp at or before this one.
+    pub fn blocker<B: Allocator>(&self, paths: &Paths<B>, point: &Pointstamp) -> Option<Pointstamp>
+        requires { IsFor paths.now self.now }
+        ensures passed { IsNone result ↔ IsPassed paths.now self.now.map point.now }
+        ensures least { IfSome result (IsLeast (IsBlocker paths.now self.now.map point.now)) }
+    {
+        self.least_before(paths, point, false)
     }
 
     /// The least positive pointstamp strictly before this one.
@@ -146,59 +441,33 @@ impl<A: Allocator + Copy> View<A> {
         paths: &Paths<B>,
         point: &Pointstamp,
     ) -> Option<Pointstamp>
-        ensures nothing { IsNone result ↔ ((x : _) → IsPrecursor paths.now self.now point.now x → ⊥) }
-        ensures least { IfSome result (IsLeast (IsPrecursor paths.now self.now point.now)) }
+        requires { IsFor paths.now self.now }
+        ensures nothing { IsNone result ↔ ((x : _) → IsPrecursor paths.now self.now.map point.now x → ⊥) }
+        ensures least { IfSome result (IsLeast (IsPrecursor paths.now self.now.map point.now)) }
     {
-        for entry in self.entries() {
-            if is_positive_before(entry, paths, point) {
-                return Some(entry.0.copy());
-            }
-        }
-        None
+        self.least_before(paths, point, true)
     }
 
-    /// The number of positive pointstamps strictly before this one.
+    /// The number of positive pointstamps strictly before this one: the kept one where this one is positive.
     pub fn precursors<B: Allocator>(&self, paths: &Paths<B>, point: &Pointstamp) -> u64
-        ensures { IsCount (IsPrecursor paths.now self.now point.now) self.now result }
+        requires { IsFor paths.now self.now }
+        ensures { IsCount (IsPrecursor paths.now self.now.map point.now) self.now.map result }
     {
-        let mut count = 0;
-        for entry in self.entries() {
-            if is_positive_before(entry, paths, point) {
-                count += 1;
-            }
+        match self.kept(point) {
+            Some(n) => n,
+            None => count_before(&self.counts, paths, point),
         }
-        count
-    }
-
-    // Whether an entry is positive, and nothing positive is strictly before it.
-    fn is_first<B: Allocator>(&self, paths: &Paths<B>, entry: &(Pointstamp, i64)) -> bool
-        ensures { IsTrue result ↔ ((pos 0 <ℤ entry.now.1) × ((x : _) → IsPrecursor paths.now self.now entry.now.0 x → ⊥)) }
-    {
-        entry.1 > 0 && self.blocker_before(paths, &entry.0).is_none()
     }
 
     /// The part of the view at its positive pointstamps that have nothing positive strictly before them.
-    pub fn frontier<B: Allocator>(&self, alloc: A, paths: &Paths<B>) -> Result<Delta<A>, AllocError>
-        ensures { IfOk result (IsPartWhere (IsOnFrontier paths.now self.now) self.now) }
+    pub fn frontier<B: Allocator>(
+        &self,
+        alloc: A,
+        _paths: &Paths<B>,
+    ) -> Result<Delta<A>, AllocError>
+        requires { IsFor _paths.now self.now }
+        ensures { IfOk result (IsPartWhere (IsOnFrontier _paths.now self.now.map) self.now.map) }
     {
-        let mut found = Delta::new(alloc);
-        for entry in self.entries() {
-            if self.is_first(paths, entry) {
-                let Ok(()) = found.add(&entry.0, entry.1) else {
-                    return Err(AllocError);
-                };
-            }
-        }
-        Ok(found)
-    }
-
-    /// An equal view.
-    pub fn copy(&self, alloc: A) -> Result<View<A>, AllocError>
-        ensures { IfOk result (λ v. v ≡ self.now) }
-    {
-        Ok(View {
-            counts: self.counts.copy(alloc)?,
-            alloc,
-        })
+        self.counts.part(alloc, &self.first)
     }
 }

@@ -62,3 +62,39 @@ unsafe impl<B: Allocator> Allocator for Refusing<B> {
         self.inner.deallocate(ptr, size, align);
     }
 }
+
+/// More than the requests of any call.
+pub const MANY: u64 = 1000;
+
+/// Whether a call met the request that was refused. `None` for another answer than want of memory
+/// where it did and success where it did not, and where want of memory left its values changed.
+pub fn was_refused<E: PartialEq + Drop>(
+    refused: bool,
+    fault: Option<E>,
+    want: E,
+    is_as_before: bool,
+) -> Option<bool> {
+    let is_right = match fault {
+        None => !refused,
+        Some(fault) => refused && is_as_before && fault == want,
+    };
+    if is_right { Some(refused) } else { None }
+}
+
+/// Makes a call on values that are made ready before each time, refusing one request after the other.
+///
+/// It returns how many were refused before the call met none, in a function that answers an option.
+#[macro_export]
+macro_rules! in_turn {
+    ($heap:ident: { $($ready:tt)* } $call:expr; $want:expr, $is_as_before:expr) => {
+        for n in 0..$crate::MANY {
+            $($ready)*
+            $heap.refuse(n);
+            let fault = $call.err();
+            let refused = $heap.relent(n);
+            if !$crate::was_refused(refused, fault, $want, $is_as_before)? {
+                return Some(n);
+            }
+        }
+    };
+}

@@ -15,12 +15,13 @@ use Rattle.nd_graph.specs.declared.fault.GraphFault.TheVariants.{Shape, Memory}
 use Rattle.rewind_forms.specs.Forms.{command_of}
 use Rattle.rewind_forms.specs.Replies.{fault, location_fault, line_fault}
 use Rattle.nd_paths.specs.Order.{FailsAt}
-use Rattle.nd_cluster.specs.Start.{CanRun}
+use Rattle.nd_cluster.specs.Starting.{IsStartFault, start_number, start_name}
+use Rattle.nd_cluster.specs.declared.start.StartFault.TheVariants as start_fault
 use Rattle.rewind_forms.specs.declared.command.Command.{Command}
 use Rattle.rewind_forms.specs.declared.fault.LineFault.{LineFault}
 use Rattle.rewind_forms.specs.declared.fault.LineFault.TheVariants as line
 use Rattle.rewind.specs.Machine.{MachineValue, cluster_of}
-use Rattle.rewind.specs.Answers.{Phase, running, refused, StartReplies, not_run, not_strict, graph_of, graph_of_draft, AskedReplies, FormReplies, CommandReplies}
+use Rattle.rewind.specs.Answers.{Phase, running, refused, StartReplies, not_strict, graph_of, graph_of_draft, AskedReplies, FormReplies, CommandReplies}
 
 -- a value that is no draft
 pub graph_of-refused : (d : Data) (e : GraphFault) → IsUnlessMemory (ok_or (draft_of d) Shape) (Err e) → IsUnlessMemory (graph_of d) (Err e)
@@ -63,11 +64,8 @@ fault_replies m n d e (Err x) is told = told
 
 -- ---- starts
 
--- a graph that cannot be run
-pub not_run_replies : (processors : ℕ) (g : Dataflow) (v : Data) → (CanRun g → ⊥) → v ≡ fault 40 (codes "Shape") → StartReplies processors (Ok g) (v ∷ []) refused
-not_run_replies processors g v never reply = inl (v, not_run never reply, refl, refl)
-
 -- a graph whose loops are not strict
-pub not_strict_replies : (processors l : ℕ) (g other : Dataflow) (name : List ℕ) (v : Data) → CanRun g → processors ≡ 1 → FailsAt g l → ((k : ℕ) → k < l → FailsAt g k → ⊥) → other ≡ g → slice_get (names other) l ≡ Some name → v ≡ location_fault 46 (codes "LoopNotStrict") name → StartReplies processors (Ok g) (v ∷ []) refused
-not_strict_replies processors l g other name v runs one fails first same named reply =
-    inl (v, not_strict l name runs one (record { fails = fails; first = first }) (ap (λ h. slice_get (names h) l) (sym same) ∙ named) reply, refl, refl)
+pub not_strict_replies : (processors l : ℕ) (g other : Dataflow) (name : List ℕ) (v : Data) → IsStartFault g processors (start_fault.LoopNotStrict l) → other ≡ g → slice_get (names other) l ≡ Some name
+    → v ≡ location_fault (start_number (start_fault.LoopNotStrict l)) (start_name (start_fault.LoopNotStrict l)) name → StartReplies processors (Ok g) (v ∷ []) refused
+not_strict_replies processors l g other name v fails same named reply =
+    inl (v, not_strict l name fails (ap (λ h. slice_get (names h) l) (sym same) ∙ named) reply, refl, refl)

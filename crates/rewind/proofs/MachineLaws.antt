@@ -3,12 +3,14 @@ use Rattle.std.proofs.Common.{◌≡◌, ◌<◌, ℕ, zero, suc, ◌+◌, ◌-�
 use Rattle.std.proofs.lemmas.List.{length-map, length-take-le, map-append, take-map, take_all}
 use Rattle.std.specs.declared.alloc.Global.{Global}
 use Rattle.nd_time.specs.Limits.{max_kept}
-use Rattle.nd_cluster.specs.State.{ClusterState}
-use Rattle.nd_cluster.specs.Steps.{after, stepped}
+use Rattle.nd_protocol.specs.State.{ClusterState}
+use Rattle.nd_protocol.specs.Steps.{after, stepped}
 use Rattle.nd_cluster.specs.Records.{IsPlanned, Leads}
-use Rattle.nd_cluster.specs.Settled.{IsSettled, settled_step}
+use Rattle.nd_protocol.specs.Invariant.{KeepsProtocol}
+use Rattle.nd_protocol.specs.Enabled.{AreEnabled}
+use Rattle.nd_protocol.specs.Laws.{StepKeepsProtocol}
 use Rattle.nd_cluster.specs.declared.record.Record.{Record}
-use Rattle.nd_cluster.specs.declared.step.Step.{Step}
+use Rattle.nd_protocol.specs.declared.step.Step.{Step}
 use Rattle.rewind.specs.Reached.{steps_of, ArePlanned, IsReached}
 
 pub after-push : (s : ClusterState) (xs : List (Step Global)) (x : Step Global) → after s (xs ++ x ∷ []) ≡ stepped (after s xs) x
@@ -46,21 +48,27 @@ after-take s [] i d lt = absurd (omega arith)
 after-take s (r ∷ rs) zero d lt = refl
 after-take s (r ∷ rs) (suc i) d lt = after-take (stepped s r.step) rs i d (omega arith)
 
--- steps that were planned keep a settled cluster settled
-settled-after : (s : ClusterState) (n : ℕ) (rs : List (Record Global)) → IsSettled s → ArePlanned s rs → IsSettled (after s (take n (steps_of rs)))
+-- steps that were planned keep the protocol invariant
+protocol-after : StepKeepsProtocol Global → (s : ClusterState) (n : ℕ) (rs : List (Record Global)) → KeepsProtocol s → ArePlanned s rs → KeepsProtocol (after s (take n (steps_of rs)))
 unfolding after
-settled-after s zero rs was h = was
-settled-after s (suc n) [] was h = was
-settled-after s (suc n) (r ∷ rs) was h = settled-after (stepped s r.step) n rs (settled_step s r.step h.0.enabled was) h.1
+protocol-after law s zero rs was h = was
+protocol-after law s (suc n) [] was h = was
+protocol-after law s (suc n) (r ∷ rs) was h = protocol-after law (stepped s r.step) n rs (law s r.step h.0.state h.0.enabled was) h.1
+
+-- and are enabled, each in its turn
+pub enabled-after : (s : ClusterState) (n : ℕ) (rs : List (Record Global)) → ArePlanned s rs → AreEnabled s (take n (steps_of rs))
+enabled-after s zero rs h = tt
+enabled-after s (suc n) [] h = tt
+enabled-after s (suc n) (r ∷ rs) h = (h.0.enabled, enabled-after (stepped s r.step) n rs h.1)
 
 -- ---- what the calls of a machine keep
 
-pub still_settled : (base cluster : ClusterState) (rs : List (Record Global)) (n : ℕ) → IsReached base cluster rs n → IsSettled cluster
-still_settled base cluster rs n was = subst IsSettled (sym was.reached) (settled-after base n rs was.settled was.planned)
+pub still_kept : StepKeepsProtocol Global → (base cluster : ClusterState) (rs : List (Record Global)) (n : ℕ) → IsReached base cluster rs n → KeepsProtocol cluster
+still_kept law base cluster rs n was = subst KeepsProtocol (sym was.reached) (protocol-after law base n rs was.protocol was.planned)
 
-pub begun : (s : ClusterState) (rs : List (Record Global)) → rs ≡ [] → (b : ClusterState) → b ≡ s → IsSettled s → IsReached b s rs 0
+pub begun : (s : ClusterState) (rs : List (Record Global)) → rs ≡ [] → (b : ClusterState) → b ≡ s → KeepsProtocol s → IsReached b s rs 0
 unfolding after
-begun s rs is b same settled = rw is (record { within = omega arith; few = omega arith; reached = sym same; planned = tt; settled = subst IsSettled (sym same) settled })
+begun s rs is b same protocol = rw is (record { within = omega arith; few = omega arith; reached = sym same; planned = tt; protocol = subst KeepsProtocol (sym same) protocol })
 
 -- a step that is planned at the cursor and made
 pub extends : (base cluster next : ClusterState) (rs : List (Record Global)) (n : ℕ) (r : Record Global) → IsReached base cluster rs n → n < max_kept → IsPlanned r cluster → next ≡ stepped cluster r.step
@@ -77,7 +85,7 @@ extends base cluster next rs n r was room planned leads =
       few = omega (arith, more);
       reached = leads ∙ ap (λ s. stepped s r.step) at_cursor ∙ sym (after-push base (steps_of front) r.step) ∙ ap (after base) (sym (steps_of-push front r)) ∙ ap (after base) (sym all);
       planned = planned-push base front r (planned-take base n rs was.planned) (subst (λ (s : ClusterState). IsPlanned r s) at_cursor planned);
-      settled = was.settled;
+      protocol = was.protocol;
     }
 
 -- the record before the cursor has led to the cluster
@@ -89,4 +97,4 @@ led base cluster rs (suc n) d was some =
     rw less (record { planned = planned-at base rs n d lt was.planned; after = was.reached ∙ after-take base rs n d lt })
 
 pub returned : (base cluster : ClusterState) (rs : List (Record Global)) (n : ℕ) → IsReached base cluster rs n → IsReached base (after base (take (n - 1) (steps_of rs))) rs (n - 1)
-returned base cluster rs n was = record { within = omega (arith, was.within); few = was.few; reached = refl; planned = was.planned; settled = was.settled }
+returned base cluster rs n was = record { within = omega (arith, was.within); few = was.few; reached = refl; planned = was.planned; protocol = was.protocol }

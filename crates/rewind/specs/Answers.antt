@@ -1,5 +1,5 @@
 -- What each line of a script may be answered, and what comes of it.
-use Rattle.std.specs.Prelude.{◌≡◌, ◌≢◌, ℕ, ◌<◌, ◌⊎◌, List, [], ◌∷◌, length, Option, Some, None, codes, unsigned_abs, slice_get, Result, Ok, Err}
+use Rattle.std.specs.Prelude.{◌≡◌, ◌↔◌, IsTrue, Bool, ℕ, ◌<◌, ◌⊎◌, List, [], ◌∷◌, length, Option, Some, None, codes, unsigned_abs, slice_get, Result, Ok, Err}
 use Rattle.std.specs.Option.{option_to_list}
 use Rattle.std.specs.declared.alloc.Global.{Global}
 use Rattle.serde_json.specs.Data.{Data}
@@ -10,18 +10,22 @@ use Rattle.nd_graph.specs.Checked.{checked}
 use Rattle.nd_graph.specs.Fault.{number_of, name_of}
 use Rattle.nd_graph.specs.declared.fault.GraphFault.{GraphFault}
 use Rattle.nd_graph.specs.declared.fault.GraphFault.TheVariants.{Shape}
-use Rattle.nd_paths.specs.Order.{FailsAt, IsAccepted}
+use Rattle.nd_paths.specs.Order.{CouldResultIn}
 use Rattle.nd_paths.specs.declared.point.Pointstamp.{Pointstamp}
 use Rattle.nd_delta.specs.Change.{at}
-use Rattle.nd_cluster.specs.State.{ClusterState, truth}
+use Rattle.nd_protocol.specs.State.{ClusterState, truth}
 use Rattle.nd_cluster.specs.StateText.{state_data}
-use Rattle.nd_cluster.specs.Start.{start, CanRun}
-use Rattle.nd_cluster.specs.declared.step.Step.{Step}
+use Rattle.nd_protocol.specs.Start.{start}
+use Rattle.nd_cluster.specs.Starting.{IsStartFault, CanStart, start_number, start_name}
+use Rattle.nd_cluster.specs.declared.start.StartFault.TheVariants as start_fault
+use Rattle.nd_protocol.specs.declared.step.Step.{Step}
 use Rattle.rewind_forms.specs.Forms.{command_of}
-use Rattle.rewind_forms.specs.Replies.{fault, location_fault, graph, moved, refused as refusal, at_start, timeline_full, out_of_memory, faulty, line_fault, count, state}
+use Rattle.rewind_forms.specs.Replies.{fault, location_fault, graph, moved, refused as refusal, at_start, timeline_full, out_of_memory, faulty, line_fault, count, before, state}
+use Rattle.rewind_forms.specs.LineFaults.{number_of as number_of_line, name_of as name_of_line}
 use Rattle.rewind_forms.specs.declared.fault.LineFault.{LineFault}
+use Rattle.rewind_forms.specs.declared.fault.LineFault.TheVariants.{LineTooLong, BadLine}
 use Rattle.rewind_forms.specs.declared.command.Command.{Command}
-use Rattle.rewind_forms.specs.declared.command.Command.TheVariants.{Forward, Back, State, Count}
+use Rattle.rewind_forms.specs.declared.command.Command.TheVariants.{Forward, Back, State, Count, Before}
 use Rattle.rewind.specs.Machine.{MachineValue, cluster_of, opened, extended, set_back, CanForward, ForwardFails, BackFails}
 use Rattle.rewind.specs.declared.machine.ForwardFault.{ForwardFault}
 use Rattle.rewind.specs.declared.machine.ForwardFault.TheVariants.{TimelineFull, Refused}
@@ -45,31 +49,19 @@ graph_of_draft (Some draft) = checked draft
 unfoldable pub graph_of : Data → Result Dataflow GraphFault
 graph_of d = graph_of_draft (draft_of d)
 
--- a loop is not strict at this location, and at none before it
-pub record IsFirstFailure (g : Dataflow) (l : ℕ) : Type 0 where
-  pub fails : FailsAt g l
-  pub first : (k : ℕ) → k < l → FailsAt g k → ⊥
-
 -- why no cluster starts on a graph, and the reply
 pub data RefusedReply (processors : ℕ) (g : Dataflow) (reply : Data) : Type 0 where
-  -- it has what a cluster cannot run yet
-  not_run : (CanRun g → ⊥) → reply ≡ fault 40 (codes "Shape") → RefusedReply processors g reply
-  bad_count : CanRun g → processors ≢ 1 → reply ≡ fault 48 (codes "BadCount") → RefusedReply processors g reply
-  not_strict : (l : ℕ) (name : List ℕ) → CanRun g → processors ≡ 1 → IsFirstFailure g l → slice_get (names g) l ≡ Some name
-      → reply ≡ location_fault 46 (codes "LoopNotStrict") name → RefusedReply processors g reply
-
--- a cluster can start on a graph
-pub record CanStart (processors : ℕ) (g : Dataflow) : Type 0 where
-  pub runs : CanRun g
-  pub one : processors ≡ 1
-  pub accepted : IsAccepted g
+  bad_count : IsStartFault g processors start_fault.BadCount → reply ≡ fault (start_number start_fault.BadCount) (start_name start_fault.BadCount)
+      → RefusedReply processors g reply
+  not_strict : (l : ℕ) (name : List ℕ) → IsStartFault g processors (start_fault.LoopNotStrict l) → slice_get (names g) l ≡ Some name
+      → reply ≡ location_fault (start_number (start_fault.LoopNotStrict l)) (start_name (start_fault.LoopNotStrict l)) name → RefusedReply processors g reply
 
 -- the reply to the graph's line, and the phase after it
 abbrev pub StartReplies : ℕ → Result Dataflow GraphFault → List Data → Phase → Type 0
 StartReplies processors (Err e) replies new = (replies ≡ fault (number_of e) (name_of e) ∷ []) × (new ≡ refused)
 StartReplies processors (Ok g) replies new =
     ((reply : Data) × RefusedReply processors g reply × (replies ≡ reply ∷ []) × (new ≡ refused))
-    ⊎ (CanStart processors g × (replies ≡ graph (location_count g) processors ∷ []) × (new ≡ running (opened (start g processors))))
+    ⊎ (CanStart g processors × (replies ≡ graph (location_count g) processors ∷ []) × (new ≡ running (opened (start g processors))))
 
 -- ---- the lines after it
 
@@ -77,9 +69,9 @@ StartReplies processors (Ok g) replies new =
 abbrev pub moved_to : MachineValue → Data
 moved_to m = moved m.cursor (length m.kept)
 
-abbrev pub forward_reply : ForwardFault → ℕ → Data
-forward_reply TimelineFull at = timeline_full
-forward_reply (Refused r) at = refusal r at
+abbrev pub forward_reply : MachineValue → ForwardFault → Data
+forward_reply m TimelineFull = timeline_full
+forward_reply m (Refused r) = refusal (cluster_of m).graph r m.cursor
 
 abbrev pub back_reply : BackFault → ℕ → Data
 back_reply AtStart at = at_start
@@ -89,7 +81,7 @@ back_reply Memory at = out_of_memory at
 abbrev pub ForwardReplies : MachineValue → Step Global → List Data → Phase → Type 0
 ForwardReplies m x replies new =
     (CanForward m x × (replies ≡ moved_to (extended m x) ∷ []) × (new ≡ running (extended m x)))
-    ⊎ ((e : ForwardFault) × ForwardFails m x e × (replies ≡ forward_reply e m.cursor ∷ []) × (new ≡ running m))
+    ⊎ ((e : ForwardFault) × ForwardFails m x e × (replies ≡ forward_reply m e ∷ []) × (new ≡ running m))
 
 -- a step is undone, or is not for a reason that is told
 abbrev pub BackReplies : MachineValue → List Data → Phase → Type 0
@@ -107,6 +99,7 @@ AskedReplies m (Forward x) replies new = ForwardReplies m x replies new
 AskedReplies m Back replies new = BackReplies m replies new
 AskedReplies m State replies new = (replies ≡ state (state_data (cluster_of m)) ∷ []) × (new ≡ running m)
 AskedReplies m (Count x) replies new = (replies ≡ count (true_count (cluster_of m) x) ∷ []) × (new ≡ running m)
+AskedReplies m (Before x y) replies new = (b : Bool) × (IsTrue b ↔ CouldResultIn (cluster_of m).graph x y) × (replies ≡ before b ∷ []) × (new ≡ running m)
 
 -- the reply to a line that is, or is not, a command or a query
 abbrev pub FormReplies : MachineValue → ℕ → Result Command LineFault → List Data → Phase → Type 0
@@ -128,7 +121,7 @@ after_fault refused = refused
 abbrev pub Answers : Phase → ℕ → Reading → List Data → Phase → Type 0
 Answers refused line reading replies new = ⊥
 Answers old line blank replies new = (replies ≡ []) × (new ≡ old)
-Answers old line too_long replies new = (replies ≡ faulty 33 (codes "LineTooLong") line ∷ []) × (new ≡ after_fault old)
-Answers old line no_json replies new = (replies ≡ faulty 30 (codes "BadLine") line ∷ []) × (new ≡ after_fault old)
+Answers old line too_long replies new = (replies ≡ faulty (number_of_line LineTooLong) (name_of_line LineTooLong) line ∷ []) × (new ≡ after_fault old)
+Answers old line no_json replies new = (replies ≡ faulty (number_of_line BadLine) (name_of_line BadLine) line ∷ []) × (new ≡ after_fault old)
 Answers (unstarted processors) line (json d) replies new = StartReplies processors (graph_of d) replies new
 Answers (running m) line (json d) replies new = CommandReplies m line d replies new

@@ -2,10 +2,12 @@
 use Rattle.std.specs.Prelude.{◌≡◌, ℕ, ◌+◌, ◌-◌, ◌<◌, ◌≤◌, List, [], ◌∷◌, ◌++◌, take}
 use Rattle.std.specs.declared.alloc.Global.{Global}
 use Rattle.nd_time.specs.Limits.{max_kept}
-use Rattle.nd_cluster.specs.State.{ClusterState}
-use Rattle.nd_cluster.specs.Steps.{after}
-use Rattle.nd_cluster.specs.Enabled.{Fails, IsEnabled, IsJustified}
-use Rattle.nd_cluster.specs.declared.step.Step.{Step}
+use Rattle.nd_protocol.specs.State.{ClusterState}
+use Rattle.nd_protocol.specs.Steps.{after}
+use Rattle.nd_protocol.specs.Enabled.{IsEnabled, AreEnabled, IsRefused, IsFreeBelow}
+use Rattle.nd_protocol.specs.Refusals.{number_of}
+use Rattle.nd_protocol.specs.declared.refusal.Refusal.TheVariants as refusal
+use Rattle.nd_protocol.specs.declared.step.Step.{Step}
 use Rattle.rewind.specs.declared.machine.ForwardFault.{ForwardFault}
 use Rattle.rewind.specs.declared.machine.ForwardFault.TheVariants.{TimelineFull, Refused}
 use Rattle.rewind.specs.declared.machine.BackFault.{BackFault}
@@ -19,6 +21,10 @@ pub record MachineValue : Type 0 where
 -- the cluster: the kept steps up to the cursor, applied to the base
 abbrev pub cluster_of : MachineValue → ClusterState
 cluster_of m = after m.base (take m.cursor m.kept)
+
+-- each of those steps was enabled in its turn
+abbrev pub IsReachable : MachineValue → Type 0
+IsReachable m = AreEnabled m.base (take m.cursor m.kept)
 
 -- a machine that keeps nothing yet
 abbrev pub opened : ClusterState → MachineValue
@@ -40,7 +46,8 @@ pub record CanForward (m : MachineValue) (x : Step Global) : Type 0 where
 -- why a step was not made
 abbrev pub ForwardFails : MachineValue → Step Global → ForwardFault → Type 0
 ForwardFails m x TimelineFull = max_kept ≤ m.cursor
-ForwardFails m x (Refused r) = (m.cursor < max_kept) × IsJustified (Fails (cluster_of m) x) r
+ForwardFails m x (Refused refusal.Memory) = (m.cursor < max_kept) × IsFreeBelow (cluster_of m) x (number_of refusal.CountFull)
+ForwardFails m x (Refused r) = (m.cursor < max_kept) × IsRefused (cluster_of m) x r
 
 -- why no step was undone
 abbrev pub BackFails : MachineValue → BackFault → Type 0

@@ -1,9 +1,9 @@
 //! The replies to the graph's line and to a command's or query's line.
-ghost use Rattle.std.specs.Prelude.{◌≡◌, ◌∷◌, [], false, Ok, IfOk};
+ghost use Rattle.std.specs.Prelude.{◌≡◌, ◌↔◌, ◌∷◌, [], Bool, false, Ok, IfOk, IsTrue};
 ghost use Rattle.nd_graph.specs.Fault.{IsUnlessMemory};
-ghost use Rattle.nd_cluster.specs.Start.{CanRun};
+ghost use Rattle.nd_paths.specs.Order.{CouldResultIn};
 ghost use Rattle.nd_cluster.specs.StateText.{state_data};
-ghost use Rattle.rewind_forms.specs.Replies.{count as count_data, state};
+ghost use Rattle.rewind_forms.specs.Replies.{count as count_data, before as before_data, state};
 ghost use Rattle.rewind.specs.Machine.{cluster_of};
 ghost use Rattle.serde_json.specs.View.{view};
 ghost use Rattle.serde_json.specs.Written.{has_float};
@@ -11,9 +11,10 @@ ghost use Rattle.rewind.specs.Answers.{running, graph_of as graph_in, CommandRep
 ghost use Rattle.rewind.specs.Stages.{phase_of_start};
 
 use crate::machine::{BackFault, ForwardFault, Machine};
-use nd_cluster::{Cluster, StartFault, Step, can_run};
+use nd_cluster::{Cluster, StartFault};
 use nd_graph::{Graph, GraphDraft, GraphFault};
 use nd_paths::Pointstamp;
+use nd_protocol::Step;
 use rewind_forms::{Command, command_of, replies};
 use serde_json::Value;
 use std::alloc::{AllocError, Global};
@@ -29,13 +30,12 @@ fn graph_of(alloc: Global, value: &Value) -> Result<Graph, GraphFault>
     draft.check(alloc)
 }
 
-/// Starts a cluster on a graph that it can run.
+/// Starts a cluster on a graph.
 fn start_on(
     alloc: Global,
     processors: u8,
     graph: Graph,
 ) -> Result<(Value, Option<Machine>), AllocError>
-    requires { CanRun graph }
     ensures replies { IfOk result (λ r. StartReplies processors (Ok graph) (view r.0 ∷ []) (phase_of_start r.1)) }
     ensures text { IfOk result (λ r. has_float (view r.0) ≡ false) }
 {
@@ -46,10 +46,14 @@ fn start_on(
             let reply = replies::graph(alloc, locations, u64::from(processors))?;
             Ok((reply, Some(Machine::new(alloc, cluster)?)))
         }
-        Err(StartFault::BadCount) => Ok((replies::fault(alloc, 48, "BadCount")?, None)),
+        Err(StartFault::BadCount) => {
+            let fault = StartFault::BadCount;
+            Ok((replies::fault(alloc, fault.number(), fault.name())?, None))
+        }
         Err(StartFault::LoopNotStrict { location }) => {
+            let fault = StartFault::LoopNotStrict { location };
             let name = names.location_name(location);
-            let reply = replies::location_fault(alloc, 46, "LoopNotStrict", name)?;
+            let reply = replies::location_fault(alloc, fault.number(), fault.name(), name)?;
             Ok((reply, None))
         }
         Err(StartFault::Memory) => Err(AllocError),
@@ -71,9 +75,6 @@ pub fn answer_first(
         Err(GraphFault::Memory) => return Err(AllocError),
         Err(fault) => return Ok((replies::fault(alloc, fault.number(), fault.name())?, None)),
     };
-    if !can_run(&graph) {
-        return Ok((replies::fault(alloc, 40, "Shape")?, None));
-    }
     start_on(alloc, processors, graph)
 }
 
@@ -94,7 +95,8 @@ fn answer_forward(alloc: Global, machine: &mut Machine, step: &Step) -> Result<V
         Ok(()) => moved(alloc, machine),
         Err(ForwardFault::TimelineFull) => replies::timeline_full(alloc),
         Err(ForwardFault::Refused(refusal)) => {
-            replies::refused(alloc, refusal, machine.cursor() as u64)
+            let graph = machine.cluster().graph();
+            replies::refused(alloc, graph, &refusal, machine.cursor() as u64)
         }
     }
 }
@@ -133,6 +135,19 @@ fn answer_count(alloc: Global, machine: &Machine, point: &Pointstamp) -> Result<
     replies::count(alloc, count)
 }
 
+// Replies whether one pointstamp could result in another.
+fn answer_before(
+    alloc: Global,
+    machine: &Machine,
+    from: &Pointstamp,
+    to: &Pointstamp,
+) -> Result<Value, AllocError>
+    ensures reply { IfOk result (λ v. (b : Bool) × (IsTrue b ↔ CouldResultIn (cluster_of machine.now).graph from.now to.now) × (view v ≡ before_data b)) }
+    ensures text { IfOk result (λ v. has_float (view v) ≡ false) }
+{
+    replies::before(alloc, machine.cluster().paths().before(from, to))
+}
+
 // Answers a command or a query.
 fn answer_asked(alloc: Global, machine: &mut Machine, asked: &Command) -> Result<Value, AllocError>
     ensures replies { IfOk result (λ v. AskedReplies machine.old asked.now (view v ∷ []) (running machine.new)) }
@@ -143,6 +158,7 @@ fn answer_asked(alloc: Global, machine: &mut Machine, asked: &Command) -> Result
         Command::Back => answer_back(alloc, machine),
         Command::State => answer_state(alloc, machine),
         Command::Count(point) => answer_count(alloc, machine, point),
+        Command::Before(from, to) => answer_before(alloc, machine, from, to),
     }
 }
 

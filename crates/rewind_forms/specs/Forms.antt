@@ -1,16 +1,16 @@
 -- What a line asks for: its keys, then the shapes of their values, then the names, then the times.
 use Rattle.std.specs.Prelude.{ℕ, ℤ, ◌&&◌, Bool, List, [], ◌∷◌, if◌then◌else◌, Option, Some, None, codes, option_map, option_and_then, Result, Ok, Err}
 use Rattle.serde_json.specs.Data.{Data}
-use Rattle.nd_json.specs.Forms.{has_keys, has_text, small, integer, text_at, small_at, integer_at, list_at}
+use Rattle.nd_json.specs.Forms.{has_keys, has_text, text, list, small, integer, text_at, small_at, integer_at, list_at}
 use Rattle.nd_graph.specs.Graph.{Dataflow}
-use Rattle.nd_cluster.specs.declared.step.Step.TheVariants.{Feed, Take}
-use Rattle.nd_cluster.specs.declared.step.Next.{Next as Afterwards}
-use Rattle.nd_cluster.specs.declared.step.Next.TheVariants as token
+use Rattle.nd_protocol.specs.declared.step.Step.TheVariants.{Feed, Take, Notice}
+use Rattle.nd_protocol.specs.declared.step.Next.{Next as Afterwards}
+use Rattle.nd_protocol.specs.declared.step.Next.TheVariants as token
 use Rattle.rewind_forms.specs.Places.{vertex_named, edge_named, location_named, time_of}
 use Rattle.rewind_forms.specs.declared.fault.LineFault.{LineFault}
 use Rattle.rewind_forms.specs.declared.fault.LineFault.TheVariants.{BadShape, UnknownName, BadTime}
 use Rattle.rewind_forms.specs.declared.command.Command.{Command}
-use Rattle.rewind_forms.specs.declared.command.Command.TheVariants.{Forward, Back, State, Count}
+use Rattle.rewind_forms.specs.declared.command.Command.TheVariants.{Forward, Back, State, Count, Before}
 
 -- what is made of a value where it is there, and else the fault
 abbrev pub given : {A : Type 0} → LineFault → Option A → (A → Result Command LineFault) → Result Command LineFault
@@ -31,6 +31,21 @@ numbers_of (d ∷ ds) = each small (d ∷ ds)
 unfoldable pub numbers_at : List ℕ → Data → Option (List ℕ)
 numbers_at key d = option_and_then numbers_of (list_at key d)
 
+-- a list of two
+abbrev pub pair_of : List Data → Option (Data × Data)
+pair_of [] = None
+pair_of (a ∷ []) = None
+pair_of (a ∷ b ∷ []) = Some (a, b)
+pair_of (a ∷ b ∷ c ∷ ds) = None
+
+-- a name and the numbers of a time
+unfoldable pub named_time : Data × Data → Option (List ℕ × List ℕ)
+named_time p = option_and_then (λ name. option_map (λ numbers. (name, numbers)) (option_and_then numbers_of (list p.1))) (text p.0)
+
+-- the pointstamp at the key, by its name and its numbers
+unfoldable pub point_at : List ℕ → Data → Option (List ℕ × List ℕ)
+point_at key d = option_and_then named_time (option_and_then pair_of (list_at key d))
+
 -- the values in the list at the key
 unfoldable pub values_at : List ℕ → Data → Option (List ℤ)
 values_at key d = option_and_then (each integer) (list_at key d)
@@ -39,7 +54,8 @@ values_at key d = option_and_then (each integer) (list_at key d)
 unfoldable pub next_at : Data → Option Afterwards
 next_at d =
     if has_text (codes "next") (codes "next") d then Some token.Next
-    else (if has_text (codes "next") (codes "close") d then Some token.Close else None)
+    else (if has_text (codes "next") (codes "close") d then Some token.Close
+    else (if has_text (codes "next") (codes "stay") d then Some token.Stay else None))
 
 -- an object with exactly these keys that asks for this
 unfoldable pub is_form : List ℕ → List (List ℕ) → Data → Bool
@@ -64,6 +80,26 @@ take_of g d =
     given BadTime (time_of g edge numbers) (λ time.
     Ok (Forward (Take p edge time value))))))))
 
+unfoldable pub notice_of : Dataflow → Data → Result Command LineFault
+notice_of g d =
+    given BadShape (small_at (codes "p") d) (λ p.
+    given BadShape (text_at (codes "vertex") d) (λ name.
+    given BadShape (numbers_at (codes "time") d) (λ numbers.
+    given UnknownName (vertex_named g name) (λ vertex.
+    given BadTime (time_of g vertex numbers) (λ time.
+    Ok (Forward (Notice p vertex time)))))))
+
+-- both names are looked up before both times
+unfoldable pub before_of : Dataflow → Data → Result Command LineFault
+before_of g d =
+    given BadShape (point_at (codes "from") d) (λ from.
+    given BadShape (point_at (codes "to") d) (λ to.
+    given UnknownName (location_named g from.0) (λ l.
+    given UnknownName (location_named g to.0) (λ m.
+    given BadTime (time_of g l from.1) (λ s.
+    given BadTime (time_of g m to.1) (λ t.
+    Ok (Before (record { location = l; time = s }) (record { location = m; time = t }))))))))
+
 unfoldable pub count_of : Dataflow → Data → Result Command LineFault
 count_of g d =
     given BadShape (text_at (codes "at") d) (λ name.
@@ -80,4 +116,6 @@ command_of g d =
     else (if is_form (codes "back") (codes "do" ∷ []) d then Ok Back
     else (if is_form (codes "state") (codes "do" ∷ []) d then Ok State
     else (if is_form (codes "count") (codes "at" ∷ codes "do" ∷ codes "time" ∷ []) d then count_of g d
-    else Err BadShape))))
+    else (if is_form (codes "notice") (codes "do" ∷ codes "p" ∷ codes "time" ∷ codes "vertex" ∷ []) d then notice_of g d
+    else (if is_form (codes "before") (codes "do" ∷ codes "from" ∷ codes "to" ∷ []) d then before_of g d
+    else Err BadShape))))))

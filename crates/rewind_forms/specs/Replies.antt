@@ -1,9 +1,12 @@
 -- The replies, as JSON values.
-use Rattle.std.specs.Prelude.{ℕ, true, List, codes, Option, Some, None}
+use Rattle.std.specs.Prelude.{ℕ, Bool, true, List, codes, Option, Some, None}
 use Rattle.serde_json.specs.Data.{Data, boolean, number, string, object, unsigned, no_members, member}
-use Rattle.nd_cluster.specs.Enabled.{number_of}
-use Rattle.nd_cluster.specs.declared.refusal.Refusal.{Refusal}
-use Rattle.nd_cluster.specs.declared.refusal.Refusal.TheVariants.{NoProcessor, NoVertex, NoEdge, NotInput, InputClosed, TooManyValues, EpochFull, NoRecord, ValueRange, CountFull, DeltaFull, Memory}
+use Rattle.nd_graph.specs.Graph.{Dataflow}
+use Rattle.nd_protocol.specs.Refusals.{number_of, name_of}
+use Rattle.nd_cluster.specs.StateText.{point_data}
+use Rattle.nd_protocol.specs.declared.refusal.Refusal.{Refusal}
+use Rattle.nd_protocol.specs.declared.refusal.Refusal.TheVariants.{NotYet, Memory}
+use Rattle.rewind_forms.specs.LineFaults.{number_of as number_of_line, name_of as name_of_line}
 use Rattle.rewind_forms.specs.declared.fault.LineFault.{LineFault}
 use Rattle.rewind_forms.specs.declared.fault.LineFault.TheVariants as line
 
@@ -26,40 +29,21 @@ abbrev pub moved : ℕ → ℕ → Data
 moved at kept = object (member (codes "at") (number (unsigned at))
     (member (codes "kept") (number (unsigned kept)) (member (codes "ok") (boolean true) no_members)))
 
--- the name under which a refusal is answered
-abbrev pub name_of : Refusal → List ℕ
-name_of NoProcessor = codes "NoProcessor"
-name_of NoVertex = codes "NoVertex"
-name_of NoEdge = codes "NoEdge"
-name_of NotInput = codes "NotInput"
-name_of InputClosed = codes "InputClosed"
-name_of TooManyValues = codes "TooManyValues"
-name_of EpochFull = codes "EpochFull"
-name_of NoRecord = codes "NoRecord"
-name_of ValueRange = codes "ValueRange"
-name_of CountFull = codes "CountFull"
-name_of DeltaFull = codes "DeltaFull"
-name_of Memory = codes "Memory"
-
 -- {"at":n,"code":19,"error":"Memory"}
 abbrev pub out_of_memory : ℕ → Data
 out_of_memory at = object (member (codes "at") (number (unsigned at))
     (member (codes "code") (number (unsigned 19)) (member (codes "error") (string (codes "Memory")) no_members)))
 
--- a refusal, at a cursor that is told for want of memory alone
-abbrev pub refused : Refusal → ℕ → Data
-refused NoProcessor at = fault (number_of NoProcessor) (name_of NoProcessor)
-refused NoVertex at = fault (number_of NoVertex) (name_of NoVertex)
-refused NoEdge at = fault (number_of NoEdge) (name_of NoEdge)
-refused NotInput at = fault (number_of NotInput) (name_of NotInput)
-refused InputClosed at = fault (number_of InputClosed) (name_of InputClosed)
-refused TooManyValues at = fault (number_of TooManyValues) (name_of TooManyValues)
-refused EpochFull at = fault (number_of EpochFull) (name_of EpochFull)
-refused NoRecord at = fault (number_of NoRecord) (name_of NoRecord)
-refused ValueRange at = fault (number_of ValueRange) (name_of ValueRange)
-refused CountFull at = fault (number_of CountFull) (name_of CountFull)
-refused DeltaFull at = fault (number_of DeltaFull) (name_of DeltaFull)
-refused Memory at = out_of_memory at
+-- {"code":n,"error":name,"point":point}
+abbrev pub point_fault : ℕ → List ℕ → Data → Data
+point_fault code name point = object (member (codes "code") (number (unsigned code))
+    (member (codes "error") (string name) (member (codes "point") point no_members)))
+
+-- a refusal, with what stands in the way, or at a cursor that is told for want of memory alone
+abbrev pub refused : Dataflow → Refusal → ℕ → Data
+refused g (NotYet blocker) at = point_fault (number_of (NotYet blocker)) (name_of (NotYet blocker)) (point_data g blocker)
+refused g Memory at = out_of_memory at
+refused g r at = fault (number_of r) (name_of r)
 
 abbrev pub at_start : Data
 at_start = fault 20 (codes "AtStart")
@@ -74,16 +58,16 @@ faulty code name n = object (member (codes "code") (number (unsigned code))
 
 -- the reply to a line that is no command; want of memory is none
 abbrev pub line_fault : LineFault → ℕ → Option Data
-line_fault line.BadLine n = Some (faulty 30 (codes "BadLine") n)
-line_fault line.BadShape n = Some (faulty 31 (codes "BadShape") n)
-line_fault line.UnknownName n = Some (faulty 32 (codes "UnknownName") n)
-line_fault line.LineTooLong n = Some (faulty 33 (codes "LineTooLong") n)
-line_fault line.BadTime n = Some (faulty 34 (codes "BadTime") n)
 line_fault line.Memory n = None
+line_fault e n = Some (faulty (number_of_line e) (name_of_line e) n)
 
 -- {"count":n,"ok":true}
 abbrev pub count : ℕ → Data
 count n = object (member (codes "count") (number (unsigned n)) (member (codes "ok") (boolean true) no_members))
+
+-- {"before":b,"ok":true}
+abbrev pub before : Bool → Data
+before b = object (member (codes "before") (boolean b) (member (codes "ok") (boolean true) no_members))
 
 -- {"ok":true,"state":shown}
 abbrev pub state : Data → Data

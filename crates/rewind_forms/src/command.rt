@@ -1,15 +1,15 @@
 //! What a line's JSON value asks for.
 ghost use Rattle.std.specs.Prelude.{◌≡◌, ◌≢◌, map, Ok, Err, IfOk, IfErr};
 ghost use Rattle.serde_json.specs.View.{view};
-ghost use Rattle.rewind_forms.specs.Forms.{feed_of as feed_in, take_of as take_in, count_of as count_in, command_of as command_in, next_at as next_in, is_form as form_is};
+ghost use Rattle.rewind_forms.specs.Forms.{feed_of as feed_in, take_of as take_in, notice_of as notice_in, count_of as count_in, before_of as before_in, command_of as command_in, next_at as next_in, is_form as form_is};
 
 use crate::LineFault;
-use crate::numbers::{numbers_at, values_at};
+use crate::numbers::{numbers_at, point_at, values_at};
 use crate::places::{edge_named, location_named, time_of, vertex_named};
-use nd_cluster::{Next, Step};
 use nd_graph::Graph;
 use nd_json::{has_keys, has_text, integer_at, small_at, text_at};
 use nd_paths::Pointstamp;
+use nd_protocol::{Next, Step};
 use serde_json::Value;
 use std::alloc::Global;
 
@@ -24,6 +24,8 @@ pub enum Command {
     State,
     /// Asks for the true count of a pointstamp.
     Count(Pointstamp),
+    /// Asks whether the first pointstamp could result in the second.
+    Before(Pointstamp, Pointstamp),
 }
 
 // Whether the value is an object with these keys, which are in the order of their bytes, that asks for this.
@@ -43,6 +45,8 @@ fn next_at(value: &Value) -> Option<Next>
         Some(Next::Next)
     } else if has_text(value, "next", "close") {
         Some(Next::Close)
+    } else if has_text(value, "next", "stay") {
+        Some(Next::Stay)
     } else {
         None
     }
@@ -85,6 +89,42 @@ fn take_of(alloc: Global, graph: &Graph, value: &Value) -> Result<Command, LineF
     }))
 }
 
+#[tactic(auto, unfolding(crate::specs::Forms::notice_of))]
+fn notice_of(alloc: Global, graph: &Graph, value: &Value) -> Result<Command, LineFault>
+    ensures ok { IfOk result (λ c. notice_in graph.now (view value.now) ≡ Ok c) }
+    ensures err { IfErr result (λ e. e ≢ LineFault.Memory → notice_in graph.now (view value.now) ≡ Err e) }
+{
+    let p = small_at(value, "p").ok_or(LineFault::BadShape)?;
+    let name = text_at(value, "vertex").ok_or(LineFault::BadShape)?;
+    let numbers = numbers_at(alloc, value, "time")?.ok_or(LineFault::BadShape)?;
+    let vertex = vertex_named(graph, name).ok_or(LineFault::UnknownName)?;
+    let time = time_of(graph, vertex, numbers.as_slice()).ok_or(LineFault::BadTime)?;
+    Ok(Command::Forward(Step::Notice { p, vertex, time }))
+}
+
+#[tactic(auto, unfolding(crate::specs::Forms::before_of))]
+fn before_of(alloc: Global, graph: &Graph, value: &Value) -> Result<Command, LineFault>
+    ensures ok { IfOk result (λ c. before_in graph.now (view value.now) ≡ Ok c) }
+    ensures err { IfErr result (λ e. e ≢ LineFault.Memory → before_in graph.now (view value.now) ≡ Err e) }
+{
+    let from = point_at(alloc, value, "from")?.ok_or(LineFault::BadShape)?;
+    let to = point_at(alloc, value, "to")?.ok_or(LineFault::BadShape)?;
+    let first = location_named(graph, from.name).ok_or(LineFault::UnknownName)?;
+    let second = location_named(graph, to.name).ok_or(LineFault::UnknownName)?;
+    let earlier = time_of(graph, first, from.numbers.as_slice()).ok_or(LineFault::BadTime)?;
+    let later = time_of(graph, second, to.numbers.as_slice()).ok_or(LineFault::BadTime)?;
+    Ok(Command::Before(
+        Pointstamp {
+            location: first,
+            time: earlier,
+        },
+        Pointstamp {
+            location: second,
+            time: later,
+        },
+    ))
+}
+
 #[tactic(auto, unfolding(crate::specs::Forms::count_of))]
 fn count_of(alloc: Global, graph: &Graph, value: &Value) -> Result<Command, LineFault>
     ensures ok { IfOk result (λ c. count_in graph.now (view value.now) ≡ Ok c) }
@@ -115,6 +155,10 @@ pub fn command_of(alloc: Global, graph: &Graph, value: &Value) -> Result<Command
         Ok(Command::State)
     } else if is_form(value, "count", &["at", "do", "time"]) {
         count_of(alloc, graph, value)
+    } else if is_form(value, "notice", &["do", "p", "time", "vertex"]) {
+        notice_of(alloc, graph, value)
+    } else if is_form(value, "before", &["do", "from", "to"]) {
+        before_of(alloc, graph, value)
     } else {
         Err(LineFault::BadShape)
     }

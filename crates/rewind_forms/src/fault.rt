@@ -1,4 +1,7 @@
 //! Why a line is no command.
+ghost use Rattle.std.specs.Prelude.{◌≡◌};
+ghost use Rattle.rewind_forms.specs.LineFaults.{number_of, name_of};
+
 use std::alloc::AllocError;
 use thiserror::Error;
 
@@ -27,5 +30,35 @@ impl From<AllocError> for LineFault {
 
     fn from(_error: AllocError) -> LineFault {
         LineFault::Memory
+    }
+}
+
+impl LineFault {
+    /// The fault's number.
+    pub fn number(self) -> u64
+        ensures { result ≡ number_of self }
+    {
+        match self {
+            LineFault::BadLine => 30,
+            LineFault::BadShape => 31,
+            LineFault::UnknownName => 32,
+            LineFault::LineTooLong => 33,
+            LineFault::BadTime => 34,
+            LineFault::Memory => 29,
+        }
+    }
+
+    /// The fault's name.
+    pub fn name(self) -> &'static str
+        ensures { result.now ≡ name_of self }
+    {
+        match self {
+            LineFault::BadLine => "BadLine",
+            LineFault::BadShape => "BadShape",
+            LineFault::UnknownName => "UnknownName",
+            LineFault::LineTooLong => "LineTooLong",
+            LineFault::BadTime => "BadTime",
+            LineFault::Memory => "Memory",
+        }
     }
 }

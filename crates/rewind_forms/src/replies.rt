@@ -3,12 +3,14 @@ ghost use Rattle.std.specs.Prelude.{◌≡◌, false, Some, IfOk};
 ghost use Rattle.serde_json.specs.View.{view};
 ghost use Rattle.serde_json.specs.Written.{has_float};
 ghost use Rattle.rewind_forms.specs.Replies.{fault as fault_data, location_fault as location_fault_data, graph as graph_data, moved as moved_data};
-ghost use Rattle.rewind_forms.specs.Replies.{name_of, refused as refused_data, at_start as at_start_data, timeline_full as timeline_full_data, faulty as faulty_data, line_fault as line_fault_data, count as count_data, state as state_data};
+ghost use Rattle.rewind_forms.specs.Replies.{point_fault as point_fault_data, refused as refused_data, out_of_memory as out_of_memory_data, before as before_data, at_start as at_start_data, timeline_full as timeline_full_data, faulty as faulty_data, line_fault as line_fault_data, count as count_data, state as state_data};
 
 use crate::LineFault;
-use nd_cluster::Refusal;
+use nd_cluster::point_value;
+use nd_graph::Graph;
+use nd_protocol::Refusal;
 use serde_json::{Value, json};
-use std::alloc::{AllocError, Global};
+use std::alloc::{AllocError, Allocator, Global};
 
 /// A fault's number and name.
 pub fn fault(alloc: Global, number: u64, name: &str) -> Result<Value, AllocError>
@@ -47,40 +49,38 @@ pub fn moved(alloc: Global, at: u64, kept: u64) -> Result<Value, AllocError>
     json!(in alloc; {"at": at, "kept": kept, "ok": true})
 }
 
-// The refusal's name.
-fn name_of_refusal(refusal: Refusal) -> &'static str
-    ensures { result.now ≡ name_of refusal }
+// The reply to a step that a pointstamp stands in the way of.
+fn point_fault(alloc: Global, number: u64, name: &str, point: Value) -> Result<Value, AllocError>
+    requires { has_float (view point) ≡ false }
+    ensures reply { IfOk result (λ v. view v ≡ point_fault_data number name.now (view point)) }
+    ensures text { IfOk result (λ v. has_float (view v) ≡ false) }
 {
-    match refusal {
-        Refusal::NoProcessor => "NoProcessor",
-        Refusal::NoVertex => "NoVertex",
-        Refusal::NoEdge => "NoEdge",
-        Refusal::NotInput => "NotInput",
-        Refusal::InputClosed => "InputClosed",
-        Refusal::TooManyValues => "TooManyValues",
-        Refusal::EpochFull => "EpochFull",
-        Refusal::NoRecord => "NoRecord",
-        Refusal::ValueRange => "ValueRange",
-        Refusal::CountFull => "CountFull",
-        Refusal::DeltaFull => "DeltaFull",
-        Refusal::Memory => "Memory",
-    }
+    json!(in alloc; {"code": number, "error": name, "point": point})
 }
 
 /// The reply to a step that was refused at a cursor.
-pub fn refused(alloc: Global, refusal: Refusal, at: u64) -> Result<Value, AllocError>
-    ensures reply { IfOk result (λ v. view v ≡ refused_data refusal at) }
+pub fn refused<A: Allocator>(
+    alloc: Global,
+    graph: &Graph<A>,
+    refusal: &Refusal,
+    at: u64,
+) -> Result<Value, AllocError>
+    ensures reply { IfOk result (λ v. view v ≡ refused_data graph.now refusal.now at) }
     ensures text { IfOk result (λ v. has_float (view v) ≡ false) }
 {
     match refusal {
+        Refusal::NotYet { blocker } => {
+            let point = point_value(alloc, graph, blocker)?;
+            point_fault(alloc, refusal.number(), refusal.name(), point)
+        }
         Refusal::Memory => out_of_memory(alloc, at),
-        other => fault(alloc, other.number(), name_of_refusal(other)),
+        other => fault(alloc, other.number(), other.name()),
     }
 }
 
 /// The reply to a command for which there was no memory, which left the cursor there.
 pub fn out_of_memory(alloc: Global, at: u64) -> Result<Value, AllocError>
-    ensures reply { IfOk result (λ v. view v ≡ refused_data Refusal.Memory at) }
+    ensures reply { IfOk result (λ v. view v ≡ out_of_memory_data at) }
     ensures text { IfOk result (λ v. has_float (view v) ≡ false) }
 {
     json!(in alloc; {"at": at, "code": 19u64, "error": "Memory"})
@@ -118,12 +118,8 @@ pub fn line_fault(alloc: Global, fault: LineFault, line: u64) -> Result<Value, A
     ensures text { IfOk result (λ v. has_float (view v) ≡ false) }
 {
     match fault {
-        LineFault::BadLine => faulty(alloc, 30, "BadLine", line),
-        LineFault::BadShape => faulty(alloc, 31, "BadShape", line),
-        LineFault::UnknownName => faulty(alloc, 32, "UnknownName", line),
-        LineFault::LineTooLong => faulty(alloc, 33, "LineTooLong", line),
-        LineFault::BadTime => faulty(alloc, 34, "BadTime", line),
         LineFault::Memory => Err(AllocError),
+        other => faulty(alloc, other.number(), other.name(), line),
     }
 }
 
@@ -142,4 +138,12 @@ pub fn state(alloc: Global, shown: Value) -> Result<Value, AllocError>
     ensures text { IfOk result (λ v. has_float (view v) ≡ false) }
 {
     json!(in alloc; {"ok": true, "state": shown})
+}
+
+/// The reply to a query whether one pointstamp could result in another.
+pub fn before(alloc: Global, before: bool) -> Result<Value, AllocError>
+    ensures reply { IfOk result (λ v. view v ≡ before_data before) }
+    ensures text { IfOk result (λ v. has_float (view v) ≡ false) }
+{
+    json!(in alloc; {"before": before, "ok": true})
 }

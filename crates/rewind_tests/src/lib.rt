@@ -11,3 +11,5 @@ mod refusals;
 mod runs;
 #[cfg(test)]
 mod words;
+#[cfg(test)]
+mod worked;

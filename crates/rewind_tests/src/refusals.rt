@@ -6,18 +6,12 @@ use rewind::{DebugFault, Options, debug};
 use std::test::Fail;
 
 /// Graph lines that are refused, each with a number of processors and the reply.
-static GRAPHS: [(&str, u8, &str); 12] = [
+static GRAPHS: [(&str, u8, &str); 11] = [
     ("\n{\"start\":-1}", 1, "{\"code\":40,\"error\":\"Shape\"}\n"),
     // No key "edges".
     (
         "{\"vertices\":[{\"name\":\"a\",\"op\":\"input\",\"depth\":0},{\"name\":\"z\",\"op\":\"sink\",\"depth\":0}]}",
         1,
-        "{\"code\":40,\"error\":\"Shape\"}\n",
-    ),
-    // What a cluster cannot run yet.
-    (
-        "{\"vertices\":[{\"name\":\"z\",\"op\":\"sink\",\"depth\":1}],\"edges\":[]}",
-        2,
         "{\"code\":40,\"error\":\"Shape\"}\n",
     ),
     // An edge with the name of a vertex.
@@ -58,13 +52,13 @@ static GRAPHS: [(&str, u8, &str); 12] = [
     ),
     (
         "{\"vertices\":[],\"edges\":[]}",
-        2,
+        9,
         "{\"code\":48,\"error\":\"BadCount\"}\n",
     ),
     // The processors are counted before the loops are judged.
     (
         "{\"vertices\":[{\"name\":\"m\",\"op\":\"add\",\"depth\":0,\"k\":0}],\"edges\":[{\"name\":\"mm\",\"from\":\"m\",\"port\":0,\"to\":\"m\",\"route\":\"local\"}]}",
-        2,
+        9,
         "{\"code\":48,\"error\":\"BadCount\"}\n",
     ),
     (

@@ -35,10 +35,11 @@ returns-then-is_negative_before g c =
 
 pub returns : goal.returns
 returns g c =
-    let m = c.args.self.now in (
-      λ e. absurd (true≢false (sym e)),
+    let m = c.args.self.now in
+    let beyond = c.any_before.ensures in (
+      λ e. (let found = beyond.0 e in (found.0, found.2, inr found.1)),
       λ support. elim support.2 [
         | inl negative ↦ absurd (all-points m (λ y. at m y <ℤ pos 0 → IsStrictlyBefore c.args.paths.now y c.args.point.now → ⊥) c.loop-entry.entry-index (rw c.loop-entry.invariant.items at c.loop-entry-test.false) c.loop-entry.invariant.others support.0 (not_zero_below (at m support.0) negative) negative support.1)
-        | inr held ↦ absurd held
+        | inr held ↦ beyond.1 (support.0, held, support.1)
       ],
     )

@@ -1,55 +1,22 @@
-use Rattle.std.proofs.Common.{◌≡◌, ◌<◌, length, get_or, pos, refl, sym, subst, arith, true≢false}
-use Rattle.std.specs.Prelude.{◌<ℤ◌}
+use Rattle.std.proofs.Common.{[], Option, Some, None}
+use Rattle.std.specs.Prelude.{IfSome, Contains}
 use Rattle.nd_paths.specs.Order.{IsStrictlyBefore}
-use Rattle.nd_delta.specs.Change.{at, entries}
-use Rattle.nd_delta.specs.Least.{IsLeast, all-more, all-points, at-index, least-index}
-use Rattle.nd_delta.specs.Upright.{IsSupported, IsUnsupported, Holds}
-use Rattle.nd_delta.proofs.Signs.{not_zero_above}
-use Rattle.nd_delta.proofs.Delta.unsupported.Given.{Over}
+use Rattle.nd_paths.specs.declared.point.Pointstamp.{Pointstamp}
+use Rattle.nd_delta.specs.Change.{Change, at}
+use Rattle.nd_delta.specs.Least.{IsLeast}
+use Rattle.nd_delta.specs.Upright.{IsUnsupported, Holds}
+use Rattle.nd_delta.proofs.Held.{upright, upright_too, least}
 use Rattle.nd_delta.proofs.Delta.unsupported.Goals as goal
 
-pub loop-entry-init : goal.loop-entry-init
-loop-entry-init g c = record { items = c.entries-entry-items.ensures.listed; others = λ k lt. absurd (omega (arith, lt)) }
+some_least : (R : Pointstamp → Pointstamp → Type 0) (m : Change) (o : Option Pointstamp) → IfSome o (IsLeast (IsUnsupported R (Contains []) (at m))) → IfSome o (IsLeast (IsUnsupported R Holds (at m)))
+some_least R m None h = h
+some_least R m (Some x) h = least R (at m) x h
 
-pub loop-entry-preserved : goal.loop-entry-preserved
-loop-entry-preserved g c =
+pub returns : goal.returns
+returns g c =
+    let R = IsStrictlyBefore c.args.paths.now in
     let m = c.args.self.now in
-    let x = c.entry-item.result in
-    let i = c.loop-entry.entry-index in
-    let lt : i < length (entries m) = rw c.loop-entry.invariant.items at c.loop-entry-test.true in
-    let is : x ≡ get_or (entries m) i x = rw c.loop-entry.invariant.items at c.entry-item.is in
     record {
-      items = c.loop-entry.invariant.items;
-      others = all-more (λ y. pos 0 <ℤ at m y → IsSupported (IsStrictlyBefore c.args.paths.now) Holds (at m) y) (entries m) i x lt is
-          (λ positive. c.if-leaves_alone.ensures.supported (λ e. true≢false (sym e)) (subst (λ z. pos 0 <ℤ z) (sym (at-index m i x lt is)) positive))
-          c.loop-entry.invariant.others;
+      upright = (λ e. upright R (at m) (c.unsupported_by.ensures.upright.0 e), λ u. c.unsupported_by.ensures.upright.1 (upright_too R (at m) u));
+      least = some_least R m c.unsupported_by.result c.unsupported_by.ensures.least;
     }
-
--- what is known of an entry that is left alone
-found : (g : Over) (c : goal.After-copy g) → IsUnsupported (IsStrictlyBefore c.args.paths.now) Holds (at c.args.self.now) c.entry-item.result.0
-found g c =
-    let m = c.args.self.now in
-    let x = c.entry-item.result in
-    let i = c.loop-entry.entry-index in
-    let lt : i < length (entries m) = rw c.loop-entry.invariant.items at c.loop-entry-test.true in
-    let is : x ≡ get_or (entries m) i x = rw c.loop-entry.invariant.items at c.entry-item.is in
-    let both = c.if-leaves_alone.ensures.alone refl in
-    record { positive = subst (λ z. pos 0 <ℤ z) (at-index m i x lt is) both.0; alone = both.1 }
-
-pub returns-then-leaves_alone-clause-upright : goal.returns-then-leaves_alone-clause-upright
-returns-then-leaves_alone-clause-upright g c =
-    let here = found g c in
-    (λ e. absurd (true≢false e), λ upright. absurd (here.alone (upright c.entry-item.result.0 here.positive)))
-
-pub returns-then-leaves_alone-clause-least : goal.returns-then-leaves_alone-clause-least
-returns-then-leaves_alone-clause-least g c =
-    let m = c.args.self.now in
-    let P = IsUnsupported (IsStrictlyBefore c.args.paths.now) Holds (at m) in
-    subst (IsLeast P) (sym c.copy.ensures)
-    (least-index m P (λ y. pos 0 <ℤ at m y → IsSupported (IsStrictlyBefore c.args.paths.now) Holds (at m) y) (λ y p. not_zero_above (at m y) p.positive) (λ y p h. p.alone (h p.positive)) c.loop-entry.entry-index c.entry-item.result
-    (rw c.loop-entry.invariant.items at c.loop-entry-test.true) (rw c.loop-entry.invariant.items at c.entry-item.is) c.loop-entry.invariant.others (found g c))
-
-pub returns-clause-upright : goal.returns-clause-upright
-returns-clause-upright g c =
-    let m = c.args.self.now in
-    (λ _ x positive. all-points m (λ y. pos 0 <ℤ at m y → IsSupported (IsStrictlyBefore c.args.paths.now) Holds (at m) y) c.loop-entry.entry-index (rw c.loop-entry.invariant.items at c.loop-entry-test.false) c.loop-entry.invariant.others x (not_zero_above (at m x) positive) positive, λ _. refl)

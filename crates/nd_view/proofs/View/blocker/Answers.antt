@@ -1,47 +1,15 @@
-use Rattle.std.proofs.Common.{◌≡◌, ◌<◌, length, get_or, pos, refl, sym, subst, arith, true≢false}
-use Rattle.std.specs.Prelude.{◌<ℤ◌}
-use Rattle.nd_delta.specs.Change.{entries}
-use Rattle.nd_delta.specs.Least.{IsLeast, at-index}
-use Rattle.nd_view.specs.View.{IsBlocker}
-use Rattle.nd_view.proofs.First.{none-more, nothing, least}
-use Rattle.nd_view.proofs.View.blocker.Given.{Over}
+use Rattle.std.proofs.Common.{false}
+use Rattle.nd_view.specs.View.{IsBlocker, IsPositiveBefore}
+use Rattle.nd_view.proofs.Frontiers.{to_blocker, of_blocker, least_as}
 use Rattle.nd_view.proofs.View.blocker.Goals as goal
 
-pub loop-entry-init : goal.loop-entry-init
-loop-entry-init g c = record { items = c.entries-entry-items.ensures.listed; others = λ k lt. absurd (omega (arith, lt)) }
-
-pub loop-entry-preserved : goal.loop-entry-preserved
-loop-entry-preserved g c =
-    let m = c.args.self.now in
-    let x = c.entry-item.result in
-    let i = c.loop-entry.entry-index in
-    let lt : i < length (entries m) = rw c.loop-entry.invariant.items at c.loop-entry-test.true in
-    let is : x ≡ get_or (entries m) i x = rw c.loop-entry.invariant.items at c.entry-item.is in
+pub returns : goal.returns
+returns g c =
+    let d = c.args.paths.now in
+    let m = c.args.self.now.map in
+    let t = c.args.point.now in
+    let either = c.least_before.ensures.nothing in
     record {
-      items = c.loop-entry.invariant.items;
-      others = none-more m (IsBlocker c.args.paths.now m c.args.point.now) i x lt is
-          (λ p. true≢false (sym (c.if-is_positive_at_or_before.ensures.1 (subst (λ z. pos 0 <ℤ z) (sym (at-index m i x lt is)) p.positive, p.before))))
-          c.loop-entry.invariant.others;
+      passed = (λ e x p. either.0 e x (of_blocker d m t x p), λ never. either.1 (λ x p. never x (to_blocker d m t x p)));
+      least = least_as (IsPositiveBefore d m false t) (IsBlocker d m t) (to_blocker d m t) (of_blocker d m t) c.least_before.result c.least_before.ensures.least;
     }
-
-found : (g : Over) (c : goal.After-copy g) → IsLeast (IsBlocker c.args.paths.now c.args.self.now c.args.point.now) c.copy.result
-found g c =
-    let m = c.args.self.now in
-    let x = c.entry-item.result in
-    let i = c.loop-entry.entry-index in
-    let lt : i < length (entries m) = rw c.loop-entry.invariant.items at c.loop-entry-test.true in
-    let is : x ≡ get_or (entries m) i x = rw c.loop-entry.invariant.items at c.entry-item.is in
-    let both = c.if-is_positive_at_or_before.ensures.0 refl in
-    let P = IsBlocker c.args.paths.now m c.args.point.now in
-    subst (IsLeast P) (sym c.copy.ensures) (least m P (λ y p. p.positive) i x lt is c.loop-entry.invariant.others (record { positive = subst (λ z. pos 0 <ℤ z) (at-index m i x lt is) both.0; before = both.1 }))
-
-pub returns-then-is_positive_at_or_before-clause-passed : goal.returns-then-is_positive_at_or_before-clause-passed
-returns-then-is_positive_at_or_before-clause-passed g c = (λ e. absurd (true≢false e), λ passed. absurd (passed c.copy.result (found g c).is_one))
-
-pub returns-then-is_positive_at_or_before-clause-least : goal.returns-then-is_positive_at_or_before-clause-least
-returns-then-is_positive_at_or_before-clause-least g c = found g c
-
-pub returns-clause-passed : goal.returns-clause-passed
-returns-clause-passed g c =
-    let m = c.args.self.now in
-    (λ _. nothing m (IsBlocker c.args.paths.now m c.args.point.now) (λ y p. p.positive) c.loop-entry.entry-index (rw c.loop-entry.invariant.items at c.loop-entry-test.false) c.loop-entry.invariant.others, λ _. refl)

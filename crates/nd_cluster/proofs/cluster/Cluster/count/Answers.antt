@@ -1,21 +1,29 @@
-use Rattle.std.proofs.Common.{◌≡◌, ◌+◌, pos, sym, ap, subst, ◌∙◌, arith}
+use Rattle.std.proofs.Common.{◌≡◌, ◌^◌, pos, List, sym, ap, subst, ◌∙◌, arith}
+use Rattle.std.specs.Prelude.{◌<ℤ◌}
+use Rattle.std.proofs.lemmas.Int.{ints}
 use Rattle.nd_delta.specs.Change.{at}
-use Rattle.nd_cluster.specs.State.{truth}
-use Rattle.nd_cluster.specs.Alone.{processor_of}
-use Rattle.nd_cluster.specs.Held.{held}
-use Rattle.nd_cluster.specs.Settled.{IsSettled}
-use Rattle.nd_cluster.proofs.Held.{truth-alone, no_requests}
-use Rattle.nd_cluster.proofs.Stepped.{processors_are, few_settled}
+use Rattle.nd_processor.specs.State.{ProcessorState}
+use Rattle.nd_protocol.specs.State.{ClusterState, truth}
+use Rattle.nd_protocol.specs.Invariant.{IsSettled}
+use Rattle.nd_cluster.specs.Seen.{seen}
+use Rattle.nd_cluster.proofs.Outstanding.{held_by_all, truth-held}
+use Rattle.nd_cluster.proofs.Counted.{quiet_is_within}
 use Rattle.nd_cluster.proofs.cluster.Cluster.count.Goals as goal
 
 pub returns-clause-value : goal.returns-clause-value
 returns-clause-value g c =
-    let q = processor_of c.self.inside.records c.self.inside.tokens c.self.inside.sinks c.self.inside.unsent c.self.inside.view in
-    let total : c.count_records.result + c.from.result ≡ held q c.args.point.now = omega (arith, c.count_records.ensures.value, c.count_tokens.ensures, c.from.ensures, no_requests c.args.point.now) in
-    ap pos total ∙ sym (truth-alone q c.args.point.now) ∙ ap (λ qs. at (truth qs) c.args.point.now) (processors_are _ q _ c.self.view_is)
+    let x = c.args.point.now in
+    ap pos (c.count_all.ensures ∙ ap (λ (qs : List ProcessorState). held_by_all qs x) c.deref.ensures.value)
+    ∙ sym (truth-held c.self.inside.processors.items x)
+    ∙ ap (λ (s : ClusterState). at (truth s.processors) x) c.self.view_is
 
 pub returns-clause-small : goal.returns-clause-small
 returns-clause-small g c = λ settled.
-    let q = processor_of c.self.inside.records c.self.inside.tokens c.self.inside.sinks c.self.inside.unsent c.self.inside.view in
-    let total : c.count_records.result + c.from.result ≡ held q c.args.point.now = omega (arith, c.count_records.ensures.value, c.count_tokens.ensures, c.from.ensures, no_requests c.args.point.now) in
-    few_settled c.self.inside.paths q c.args.point.now _ (subst IsSettled (sym c.self.view_is) settled) c.entries.ensures.within c.entries-2.ensures.within (ap pos total ∙ sym (truth-alone q c.args.point.now))
+    let x = c.args.point.now in
+    let a = c.self.inside in
+    let s : ClusterState = seen a.paths a.processors.items a.views.items in
+    let small : at (truth a.processors.items) x <ℤ pos (2 ^ 63)
+    = c.truth_is_small.ensures s c.self.invariant.state (quiet_is_within a.paths a.processors.items a.views.items) (subst IsSettled (sym c.self.view_is) settled) x in
+    let is : pos c.count_all.result ≡ at (truth a.processors.items) x
+    = ap pos (c.count_all.ensures ∙ ap (λ (qs : List ProcessorState). held_by_all qs x) c.deref.ensures.value) ∙ sym (truth-held a.processors.items x) in
+    omega (arith, ints, small, is)

@@ -1,26 +1,40 @@
-use Rattle.std.proofs.Common.{◌≡◌, [], sym, ap, subst, ◌∙◌, arith}
-use Rattle.nd_delta.specs.Change.{none}
-use Rattle.nd_cluster.specs.Start.{start, IsStartFault}
-use Rattle.nd_cluster.specs.Settled.{IsSettled, settled_start}
-use Rattle.nd_cluster.specs.Alone.{alone, processor_of, IsKept}
-use Rattle.nd_cluster.proofs.Started.{start_alone, kept_start, path_fault}
+use Rattle.std.proofs.Common.{◌≡◌, ◌<◌, ◌≤◌, sym, subst, arith}
+use Rattle.nd_time.specs.Limits.{max_processors}
+use Rattle.nd_protocol.specs.Start.{start}
+use Rattle.nd_protocol.specs.Fitting.{IsState, IsOrdered}
+use Rattle.nd_protocol.specs.Invariant.{KeepsProtocol}
+use Rattle.nd_cluster.specs.Seen.{seen}
+use Rattle.nd_cluster.specs.Starting.{IsProcessorCount, IsStartFault}
+use Rattle.nd_cluster.proofs.Started.{seen_start, ordered, path_fault}
 use Rattle.nd_cluster.proofs.cluster.Cluster.start.Goals as goal
-
-pub invariant_of-result : goal.invariant_of-result
-invariant_of-result g c =
-    let new : processor_of [] c.in-Ok-first_tokens.tokens [] none c.in-Ok-view_of.view ≡ processor_of c.new.result c.in-Ok-first_tokens.tokens c.new-2.result c.new-3.result c.in-Ok-view_of.view = λ i. processor_of (sym c.new.ensures i) c.in-Ok-first_tokens.tokens (sym c.new-2.ensures i) (sym c.new-3.ensures i) c.in-Ok-view_of.view in
-    subst IsKept new (kept_start c.in-Ok-first_tokens.tokens c.in-Ok-view_of.view)
-
-pub returns-clause-ok : goal.returns-clause-ok
-returns-clause-ok g c =
-    let one : 1 ≡ c.args.n = omega arith in
-    (λ i. alone (c.in-Ok.ensures.graph i) (processor_of (c.new.ensures i) c.in-Ok-first_tokens.tokens (c.new-2.ensures i) (c.new-3.ensures i) c.in-Ok-view_of.view))
-    ∙ start_alone c.args.graph c.in-Ok-first_tokens.tokens c.in-Ok-view_of.view c.in-Ok-first_tokens.ensures c.in-Ok-view_of.ensures ∙ ap (start c.args.graph) one
-
-pub returns-clause-settled : goal.returns-clause-settled
-returns-clause-settled g c = subst IsSettled (sym (returns-clause-ok g c)) (settled_start c.args.graph c.args.n)
 
 pub returns-in-Err-clause-fault : goal.returns-in-Err-clause-fault
 returns-in-Err-clause-fault g c =
-    let one : c.args.n ≡ 1 = omega arith in
-    subst (λ f. IsStartFault c.args.graph c.args.n f) (sym c.start_fault.ensures) (path_fault c.args.graph c.args.n c.in-Err.fault one c.in-Err.ensures.fault)
+    let count : IsProcessorCount c.args.n = record { some = omega arith; few = omega arith } in
+    subst (λ f. IsStartFault c.args.graph c.args.n f) (sym c.start_fault.ensures) (path_fault c.args.graph c.args.n c.in-Err.fault count c.in-Err.ensures.fault)
+
+pub invariant_of-result : goal.invariant_of-result
+invariant_of-result g c =
+    let o : IsOrdered c.args.graph = ordered c.args.graph c.vertices.ensures.sound c.all_arcs.ensures.agree c.in-Ok.ensures.accepted in
+    let some : 0 < c.args.n = omega arith in
+    let few : c.args.n ≤ max_processors = omega arith in
+    let is : seen c.in-Ok.paths c.in-Ok-start_processors.processors.items c.in-Ok-start_views.views.items ≡ start c.args.graph c.args.n
+    = seen_start c.args.graph c.args.n c.in-Ok.paths c.in-Ok-start_processors.processors.items c.in-Ok-start_views.views.items c.in-Ok-start_truth.outstanding
+    c.in-Ok.ensures.graph c.in-Ok-start_processors.ensures c.in-Ok-start_views.ensures.maps c.in-Ok-start_truth.ensures in
+    record {
+      state = subst IsState (sym is) (c.starts_keep_protocol.ensures.state c.args.graph c.args.n c.vertices.ensures.sound o some few);
+      kept = c.in-Ok-start_views.ensures.paths;
+    }
+
+pub returns-clause-ok : goal.returns-clause-ok
+returns-clause-ok g c =
+    seen_start c.args.graph c.args.n c.in-Ok.paths c.in-Ok-start_processors.processors.items c.in-Ok-start_views.views.items c.in-Ok-start_truth.outstanding
+    c.in-Ok.ensures.graph c.in-Ok-start_processors.ensures c.in-Ok-start_views.ensures.maps c.in-Ok-start_truth.ensures
+
+pub returns-clause-can : goal.returns-clause-can
+returns-clause-can g c = record { count = record { some = omega arith; few = omega arith }; accepted = c.in-Ok.ensures.accepted }
+
+pub returns-clause-protocol : goal.returns-clause-protocol
+returns-clause-protocol g c =
+    let o : IsOrdered c.args.graph = ordered c.args.graph c.vertices.ensures.sound c.all_arcs.ensures.agree c.in-Ok.ensures.accepted in
+    subst KeepsProtocol (sym (returns-clause-ok g c)) (c.starts_keep_protocol.ensures.protocol c.args.graph c.args.n o)

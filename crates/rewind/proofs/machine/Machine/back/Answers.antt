@@ -1,5 +1,5 @@
 use Rattle.std.proofs.Common.{◌<◌, arith}
-use Rattle.nd_cluster.specs.Steps.{after}
+use Rattle.nd_protocol.specs.Steps.{after}
 use Rattle.nd_cluster.specs.Records.{Leads}
 use Rattle.rewind.specs.Reached.{steps_of}
 use Rattle.rewind.proofs.MachineLaws.{led, returned}

@@ -1,0 +1,123 @@
+-- How many records, requests and tokens of one processor are at a pointstamp, by look-ups.
+use Rattle.std.proofs.Common.{◌≡◌, ◌≢◌, ◌<◌, ◌≤◌, ◌+◌, ◌*◌, ◌^◌, ℕ, zero, suc, Bool, true, false, cond, List, [], ◌∷◌, map, length, replicate, get_or, Option, Some, None, sum_by, refl, sym, ap, subst, ◌∙◌, arith}
+use Rattle.std.proofs.lemmas.Cmp.{tied_itself, nat_cmp_total}
+use Rattle.std.proofs.lemmas.List.Sums.{sum_by-cons, sum_by-le}
+use Rattle.std.proofs.lemmas.Map.Views.{tells_apart}
+use Rattle.std.specs.Ordering.{nat_cmp, is_eq, eq_by_cmp}
+use Rattle.std.specs.FinMap as fin
+use Rattle.nd_time.specs.Limits.{max_count}
+use Rattle.nd_paths.specs.Point.{point_cmp, point_total, point_exact}
+use Rattle.nd_paths.specs.declared.point.Pointstamp.{Pointstamp}
+use Rattle.nd_map.specs.Counts.{Counts, naturals, at, entries, at-entries, or_else, entries_listed}
+use Rattle.nd_map.specs.Entries.{find-index}
+use Rattle.nd_map.specs.Weights.{weight}
+use Rattle.nd_delta.specs.Change.{Change, is_point}
+use Rattle.nd_graph.specs.Graph.{Dataflow}
+use Rattle.nd_view.specs.Kept.{Kept}
+use Rattle.nd_protocol.specs.Laws.{QueuesAreWithin}
+use Rattle.nd_protocol.specs.Fitting.{ChangeIsWithin}
+use Rattle.nd_cluster.specs.Seen.{seen}
+use Rattle.std.specs.Prelude.{All}
+use Rattle.nd_processor.specs.Keys.{value_at_cmp, value_at_total, value_at_exact}
+use Rattle.nd_processor.specs.State.{ProcessorState, Requests, token_point, one_at, in_requests, in_tokens}
+use Rattle.nd_processor.specs.Held.{sum_by-map, one_at_itself, token_at, in_requests-remove, in_tokens-remove}
+use Rattle.nd_processor.specs.declared.key.ValueAt.{ValueAt}
+
+-- how many of these records are at a pointstamp
+abbrev pub records_at : Pointstamp → List (ValueAt × ℕ) → ℕ
+records_at x es = weight (λ (k : ValueAt) n. cond (is_point x k.point) n 0) es
+
+pub records_next : (x : Pointstamp) (e : ValueAt × ℕ) (es rest : List (ValueAt × ℕ)) → rest ≡ e ∷ es → records_at x rest ≡ cond (is_point x e.0.point) e.1 0 + records_at x es
+records_next x e es rest is = ap (records_at x) is ∙ sum_by-cons (λ (d : ValueAt × ℕ). cond (is_point x d.0.point) d.1 0) e es
+
+at_most : (b : Bool) (n k : ℕ) → n ≤ k → cond b n 0 ≤ k
+at_most true n k h = h
+at_most false n k h = omega arith
+
+-- so many entries, each within the limit, are few
+pub few_records : (m : Counts value_at_cmp naturals) (x : Pointstamp) → length (entries m) < 2 ^ 63 → ((k : ValueAt) → at m k ≤ max_count) → records_at x (entries m) < 2 ^ 120
+few_records m x short within =
+    let bound : records_at x (entries m) ≤ length (entries m) * 2 ^ 40 = sum_by-le (λ (e : ValueAt × ℕ). cond (is_point x e.0.point) e.1 0) (2 ^ 40) (entries m) (λ k d lt.
+    let e : ValueAt × ℕ = get_or (entries m) k d in
+    let found : at m e.0 ≡ e.1 =
+    at-entries m e.0 ∙ ap (λ (v : Option ℕ). or_else 0 v) (find-index value_at_cmp value_at_total (entries m) k d (entries_listed m) lt) in
+    at_most (is_point x e.0.point) e.1 (2 ^ 40) (omega (arith, found, within e.0))) in
+    let many : length (entries m) * 2 ^ 40 ≤ 2 ^ 63 * 2 ^ 40 = omega arith in
+    omega arith
+
+-- ---- requests
+
+one_absent : (b : Bool) (r : Option (Unit {0})) → cond b (Some tt) r ≡ None → (◌≡◌ {A = ℕ} (cond b 1 0) 0) × (r ≡ None)
+one_absent true r e = absurd (cc)
+one_absent false r e = (refl, e)
+
+none_found : (x : Pointstamp) (es : List (Pointstamp × Unit {0})) → fin.find point_cmp x es ≡ None → weight (λ k (u : Unit {0}). one_at k x) es ≡ 0
+none_found x [] e = refl
+none_found x (d ∷ es) e =
+    let h = one_absent (is_eq (point_cmp x d.0)) (fin.find point_cmp x es) e in
+    sum_by-cons (λ (d : Pointstamp × Unit {0}). one_at d.0 x) d es ∙ (λ i. h.0 i + none_found x es h.1 i)
+
+pub no_request : (s : Requests) (x : Pointstamp) → fin.get s x ≡ None → in_requests s x ≡ 0
+no_request s x e = sum_by-map (λ k. one_at k x) (λ (e : Pointstamp × Unit {0}). e.0) (fin.entries s) ∙ none_found x (fin.entries s) (sym (fin.get-entries s x) ∙ e)
+
+pub one_request : (s : Requests) (x : Pointstamp) → fin.get s x ≡ Some tt → in_requests s x ≡ 1
+one_request s x e =
+    let gone : fin.get (fin.remove s x) x ≡ None = fin.get-remove point_total s x x ∙ ap (λ r. cond (is_eq r) None (fin.get s x)) (tied_itself point_total x) in
+    sym (in_requests-remove s x x e) ∙ (λ i. no_request (fin.remove s x) x gone i + one_at_itself x i)
+
+not_there : (o : Option (Unit {0})) → (o ≡ Some tt → ⊥) → o ≡ None
+not_there None h = refl
+not_there (Some u) h = absurd (h refl)
+
+pub missing_request : (s : Requests) (x : Pointstamp) → (fin.get s x ≡ Some tt → ⊥) → in_requests s x ≡ 0
+missing_request s x h = no_request s x (not_there (fin.get s x) h)
+
+-- ---- tokens
+
+other_vertex : (x : Pointstamp) (v e : ℕ) → is_eq (nat_cmp x.location v) ≡ false → one_at (token_point v e) x ≡ 0
+other_vertex x v e off =
+    elim (is_point x (token_point v e)) as (λ b. is_point x (token_point v e) ≡ b → ◌≡◌ {A = ℕ} (cond b 1 0) 0) [
+      | true ↦ λ t.
+          let same : x.location ≡ v = ap (λ (p : Pointstamp). p.location) (tells_apart point_exact x (token_point v e) t) in
+          absurd (let no : true ≡ false = ap is_eq (sym (tied_itself nat_cmp_total v)) ∙ ap (λ l. is_eq (nat_cmp l v)) (sym same) ∙ off in cc)
+      | false ↦ λ t. refl
+    ] refl
+
+token_absent : (b : Bool) (n : ℕ) (r : Option ℕ) → cond b (Some n) r ≡ None → (b ≡ false) × (r ≡ None)
+token_absent true n r e = absurd (cc)
+token_absent false n r e = (refl, e)
+
+no_vertex : (x : Pointstamp) (es : List (ℕ × ℕ)) → fin.find nat_cmp x.location es ≡ None → weight (λ v e. one_at (token_point v e) x) es ≡ 0
+no_vertex x [] e = refl
+no_vertex x (d ∷ es) e =
+    let h = token_absent (is_eq (nat_cmp x.location d.0)) d.1 (fin.find nat_cmp x.location es) e in
+    sum_by-cons (λ (d : ℕ × ℕ). one_at (token_point d.0 d.1) x) d es ∙ (λ i. other_vertex x d.0 d.1 h.0 i + no_vertex x es h.1 i)
+
+no_token : (m : fin.FinMap nat_cmp ℕ) (x : Pointstamp) → fin.get m x.location ≡ None → in_tokens m x ≡ 0
+no_token m x e = no_vertex x (fin.entries m) (sym (fin.get-entries m x.location) ∙ e)
+
+-- the token of the pointstamp's vertex alone counts
+pub one_token : (m : fin.FinMap nat_cmp ℕ) (x : Pointstamp) → in_tokens m x ≡ token_at x.location (fin.get m x.location) x
+one_token m x =
+    let gone : fin.get (fin.remove m x.location) x.location ≡ None = fin.get-remove nat_cmp_total m x.location x.location ∙ ap (λ r. cond (is_eq r) None (fin.get m x.location)) (tied_itself nat_cmp_total x.location) in
+    let moved = in_tokens-remove m x.location x in
+    let none : in_tokens (fin.remove m x.location) x ≡ 0 = no_token (fin.remove m x.location) x gone in
+    omega arith
+
+-- ---- queues with nothing on its way
+
+same-replicate : {X : Type 0} (n : ℕ) (x : X) (k : ℕ) → get_or (replicate n x) k x ≡ x
+same-replicate zero x k = refl
+same-replicate (suc n) x zero = refl
+same-replicate (suc n) x (suc k) = same-replicate n x k
+
+empty_queue : (m n p q : ℕ) → ◌≡◌ {A = List Change} (get_or (get_or (replicate m (replicate n [])) p []) q []) []
+empty_queue zero n p q = refl
+empty_queue (suc m) n zero q = same-replicate n [] q
+empty_queue (suc m) n (suc p) q = empty_queue m n p q
+
+nothing_is_within : All ChangeIsWithin []
+nothing_is_within k d lt = absurd (omega arith)
+
+pub quiet_is_within : (g : Dataflow) (ps : List ProcessorState) (vs : List Kept) → QueuesAreWithin (seen g ps vs)
+quiet_is_within g ps vs p q = subst (All ChangeIsWithin) (sym (empty_queue (length ps) (length ps) p q)) nothing_is_within

@@ -1,0 +1,29 @@
+-- What a feed that passes its tests has.
+use Rattle.std.proofs.Common.{◌≡◌, ◌<◌, ◌≤◌, ℕ, ℤ, List, length, Some, ◌⊎◌, inl, inr, subst, arith}
+use Rattle.std.proofs.lemmas.Bool.{cases_lt}
+use Rattle.std.specs.FinMap as fin
+use Rattle.nd_time.specs.Limits.{max_counter, max_values}
+use Rattle.nd_protocol.specs.State.{ClusterState, processor}
+use Rattle.nd_protocol.specs.declared.refusal.Refusal.TheVariants.{NoProcessor, TooManyValues, EpochFull}
+use Rattle.nd_protocol.specs.declared.step.Next.{Next as Afterwards}
+use Rattle.nd_protocol.specs.declared.step.Next.TheVariants as token
+use Rattle.nd_cluster.specs.Tested.{FeedPasses, TakePasses, NoticePasses}
+use Rattle.nd_time.specs.Time.{Time}
+
+module _ (s : ClusterState) (p vertex : ℕ) (values : List ℤ) (next : Afterwards) (passes : FeedPasses s p vertex values next 13) where
+  pub few_values : length values ≤ max_values
+  few_values = elim (cases_lt max_values (length values)) [ inl more ↦ absurd (passes.free s TooManyValues (omega arith) more) | inr le ↦ le ]
+
+  pub epoch_goes : (epoch : ℕ) → fin.get (processor s p).tokens vertex ≡ Some epoch → epoch ≤ max_counter → next ≡ token.Next → epoch < max_counter
+  epoch_goes epoch held most goes = elim (cases_lt epoch max_counter) [
+    | inl lt ↦ lt
+    | inr le ↦
+        let full : epoch ≡ max_counter = omega (arith, le, most) in
+        absurd (passes.free s EpochFull (omega arith) (goes, subst (λ e. fin.get (processor s p).tokens vertex ≡ Some e) full held))
+  ]
+
+pub takes_there : (s : ClusterState) (p edge : ℕ) (t : Time) (value : ℤ) → TakePasses s p edge t value 13 → p < length s.processors
+takes_there s p edge t value passes = elim (cases_lt p (length s.processors)) [ inl lt ↦ lt | inr le ↦ absurd (passes.free s NoProcessor (omega arith) le) ]
+
+pub notices_there : (s : ClusterState) (p vertex : ℕ) (t : Time) → NoticePasses s p vertex t 13 → p < length s.processors
+notices_there s p vertex t passes = elim (cases_lt p (length s.processors)) [ inl lt ↦ lt | inr le ↦ absurd (passes.free s NoProcessor (omega arith) le) ]

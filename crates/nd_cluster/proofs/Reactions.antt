@@ -1,0 +1,321 @@
+-- What the tests of a take and of a notice have shown lets their vertices act; and what remains to be refused.
+use Rattle.std.proofs.Common.{inl, inr, ◌≡◌, ℕ, zero, suc, ◌-◌, ◌<◌, ◌≤◌, ℤ, pos, Bool, true, false, cond, not, get_or, ◌&&◌, ◌||◌, ◌==◌, List, [], ◌∷◌, ◌++◌, map, length, Option, Some, None, refl, sym, ap, subst, ◌∙◌, arith, lt_of_not-le}
+use Rattle.std.proofs.lemmas.Bool.Decides.{nat_tests}
+use Rattle.std.proofs.lemmas.List.{length-map}
+use Rattle.std.specs.Prelude.{nat_lt, int_lt, slice_get}
+use Rattle.std.specs.Option.{option_map_or}
+use Rattle.std.specs.List.{list_any}
+use Rattle.nd_time.specs.Limits.{max_counter, max_depth, max_values}
+use Rattle.nd_time.specs.Time.{Time, last_of}
+use Rattle.nd_map.specs.Counts.{at as number_at}
+use Rattle.nd_graph.specs.declared.op.Op.{Op}
+use Rattle.nd_graph.specs.declared.op.Op.TheVariants as op
+use Rattle.nd_graph.specs.declared.op.Action.{Action}
+use Rattle.nd_graph.specs.declared.op.Action.TheVariants.{Identity, Ingress, Egress, Feedback}
+use Rattle.nd_graph.specs.declared.fault.GraphFault.{GraphFault}
+use Rattle.nd_graph.specs.declared.fault.GraphFault.TheVariants.{BadPort, DepthMismatch, TooLarge}
+use Rattle.nd_graph.specs.declared.graph.Vertex.{Vertex}
+use Rattle.nd_graph.specs.declared.graph.Edge.{Edge}
+use Rattle.nd_graph.specs.Operators.{stands_in_loop, leads_in}
+use Rattle.nd_graph.specs.Graph.{Dataflow, action_of, depth_past_vertex, location_count, op_at}
+use Rattle.nd_graph.specs.Checked.{has_bad_port, is_input, is_misplaced, is_too_deep, vertex_depth, misses_depth, has_depth_mismatch, leads_too_deep, is_too_large, fault_of, IsFaultless}
+use Rattle.nd_paths.specs.declared.point.Pointstamp.{Pointstamp}
+use Rattle.nd_delta.specs.Least.{IsLeast}
+use Rattle.nd_delta.specs.Change.{Change, none}
+use Rattle.nd_view.specs.View.{IsPrecursor}
+use Rattle.nd_view.specs.Kept.{Kept, IsFor}
+use Rattle.nd_view.specs.Views.{maps-get}
+use Rattle.nd_vertex.specs.Items.{Items, item_key}
+use Rattle.nd_vertex.specs.Table.{Outcome, on_record, on_notice, is_zero}
+use Rattle.nd_vertex.specs.Effects.{IsEffect, IsCounterFull, IsInRange, MayActAt}
+use Rattle.nd_vertex.specs.declared.effect.Effect.{Effect}
+use Rattle.nd_processor.specs.State.{ProcessorState, idle, items_at}
+use Rattle.nd_processor.specs.declared.key.ValueAt.{ValueAt}
+use Rattle.nd_protocol.specs.State.{ClusterState, processor, view}
+use Rattle.nd_protocol.specs.Steps.{target_of}
+use Rattle.nd_protocol.specs.Fitting.{IsState, ProcessorFits, IsAtEdge}
+use Rattle.nd_protocol.specs.Enabled.{TakeFails, NoticeFails}
+use Rattle.nd_protocol.specs.Refusals.{number_of}
+use Rattle.nd_protocol.specs.declared.refusal.Refusal.{Refusal}
+use Rattle.nd_protocol.specs.declared.refusal.Refusal.TheVariants.{NoProcessor, NoVertex, NoEdge, NotInput, InputClosed, TooManyValues, EpochFull, NoRecord, NoRequest, NotYet, CounterFull, ValueRange, CountFull, DeltaFull, Memory}
+use Rattle.nd_cluster.specs.Seen.{seen, IsSeen}
+use Rattle.nd_cluster.specs.Tested.{TakePasses, TakeRefused, NoticePasses, NoticeRefused}
+use Rattle.nd_cluster.proofs.Takes.{target_there}
+
+-- ---- the depths of a graph without faults
+
+left_false : (a b : Bool) → (a || b) ≡ false → a ≡ false
+left_false true b e = e
+left_false false b e = refl
+
+right_false : (a b : Bool) → (a || b) ≡ false → b ≡ false
+right_false true b e = absurd (cc)
+right_false false b e = e
+
+second_none : (a b c : Bool) → ◌≡◌ {A = Option GraphFault} (cond a (Some BadPort) (cond b (Some DepthMismatch) (cond c (Some TooLarge) None))) None → (b ≡ false) × (c ≡ false)
+second_none true b c e = absurd (cc)
+second_none false true c e = absurd (cc)
+second_none false false true e = absurd (cc)
+second_none false false false e = (refl, refl)
+
+-- an action that is not misplaced can be taken
+may : (a : Action) (d : ℕ) → (stands_in_loop a && d == 0) ≡ false → (nat_lt max_depth d || (leads_in a && d == max_depth)) ≡ false → MayActAt a d
+may Identity d e f = tt
+may Ingress d e f = grind (arith, nat_tests, f)
+may Egress d e f = grind (arith, nat_tests, e)
+may Feedback d e f = grind (arith, nat_tests, e)
+
+may_at : (vs : List Vertex) (l : ℕ) → list_any is_misplaced vs ≡ false → list_any is_too_deep vs ≡ false → MayActAt (action_of (option_map_or (λ v. v.op) (slice_get vs l) op.Sink)) (vertex_depth vs l)
+may_at [] l e f = tt
+may_at (v ∷ vs) zero e f =
+    may (action_of v.op) v.depth (right_false (is_input v.op && nat_lt 0 v.depth) (stands_in_loop (action_of v.op) && v.depth == 0) (left_false (is_misplaced v) (list_any is_misplaced vs) e)) (left_false (is_too_deep v) (list_any is_too_deep vs) f)
+may_at (v ∷ vs) (suc l) e f = may_at vs l (right_false (is_misplaced v) (list_any is_misplaced vs) e) (right_false (is_too_deep v) (list_any is_too_deep vs) f)
+
+-- the depth of an edge stands among those of the edges
+among_edges : (ws : List Vertex) (ds : List ℕ) (l d : ℕ) → length ws ≤ l → slice_get (map (λ (v : Vertex). v.depth) ws ++ ds) l ≡ Some d → slice_get ds (l - length ws) ≡ Some d
+among_edges [] ds l d low e = let same : l - 0 ≡ l = omega arith in ap (slice_get ds) same ∙ e
+among_edges (w ∷ ws) ds zero d low e = absurd (omega arith)
+among_edges (w ∷ ws) ds (suc l) d low e =
+    let less : suc l - length (w ∷ ws) ≡ l - length ws = omega arith in
+    ap (slice_get ds) less ∙ among_edges ws ds l d (omega arith) e
+
+same_depth : (a b : ℕ) → not (a == b) ≡ false → b ≡ a
+same_depth a b e = grind (arith, nat_tests, e)
+
+target_depth : (vs : List Vertex) (es : List Edge) (i d : ℕ) → list_any (misses_depth vs) es ≡ false → slice_get (map (λ (e : Edge). depth_past_vertex vs e.from) es) i ≡ Some d → vertex_depth vs (option_map_or (λ (e : Edge). e.to) (slice_get es i) 0) ≡ d
+unfolding misses_depth
+target_depth vs [] i d right has = absurd (cc)
+target_depth vs (e ∷ es) zero d right has =
+    let one : depth_past_vertex vs e.from ≡ d = cc in
+    same_depth (depth_past_vertex vs e.from) (vertex_depth vs e.to) (left_false (misses_depth vs e) (list_any (misses_depth vs) es) right) ∙ one
+target_depth vs (e ∷ es) (suc i) d right has = target_depth vs es i d (right_false (misses_depth vs e) (list_any (misses_depth vs) es) right) has
+
+-- the target of an edge may act at the edge's depth
+may_target : (g : Dataflow) (edge d : ℕ) → IsFaultless g → length g.vertices ≤ edge → slice_get (map (λ (v : Vertex). v.depth) g.vertices ++ map (λ (e : Edge). depth_past_vertex g.vertices e.from) g.edges) edge ≡ Some d → MayActAt (action_of (op_at g (target_of g edge))) d
+unfolding fault_of has_depth_mismatch is_too_large
+may_target g edge d sound low has =
+    let (agree, small) = second_none (list_any (has_bad_port g.vertices) g.edges) (has_depth_mismatch g) (is_too_large g) sound.faultless in
+    let placed = left_false (list_any is_misplaced g.vertices) (list_any (misses_depth g.vertices) g.edges) agree in
+    let right = right_false (list_any is_misplaced g.vertices) (list_any (misses_depth g.vertices) g.edges) agree in
+    let shallow = left_false (list_any is_too_deep g.vertices) (list_any (leads_too_deep g.vertices) g.edges) (right_false (nat_lt 64 (location_count g)) (list_any is_too_deep g.vertices || list_any (leads_too_deep g.vertices) g.edges) small) in
+    let is : vertex_depth g.vertices (target_of g edge) ≡ d
+    = target_depth g.vertices g.edges (edge - length g.vertices) d right (among_edges g.vertices (map (λ (e : Edge). depth_past_vertex g.vertices e.from) g.edges) edge d low has) in
+    subst (λ n. MayActAt (action_of (op_at g (target_of g edge))) n) is (may_at g.vertices (target_of g edge) placed shallow)
+
+-- ---- a take
+
+at_least : (a b : ℕ) → (a < b → ⊥) → b ≤ a
+at_least a b h = let l : b < suc a = lt_of_not-le h in omega arith
+
+-- what the tests of a take have shown
+pub record TakeStands (s : ClusterState) (p : ℕ) (k : ValueAt) (target : ℕ) : Type 0 where
+  pub here : p < length s.processors
+  pub vertex : target < length (processor s p).items
+  pub may : MayActAt (action_of (op_at s.graph target)) (length k.point.time.counters)
+
+pub take_stands : (s : ClusterState) (p : ℕ) (k : ValueAt) (target : ℕ) → IsState s → IsFaultless s.graph → target ≡ target_of s.graph k.point.location → TakePasses s p k.point.location k.point.time k.value 11 → TakeStands s p k target
+take_stands s p k target state sound is on =
+    let here : p < length s.processors = lt_of_not-le (on.free s NoProcessor (omega arith)) in
+    let low : length s.graph.vertices ≤ k.point.location = at_least k.point.location (length s.graph.vertices) (λ lt. on.free s NoEdge (omega arith) (inl lt)) in
+    let high : k.point.location < location_count s.graph = lt_of_not-le (λ le. on.free s NoEdge (omega arith) (inr le)) in
+    let fits : ProcessorFits s.graph (processor s p) = state.fits.processors p idle here in
+    let at_edge : IsAtEdge s.graph k.point = fits.records k (on.free s NoRecord (omega arith)) in
+    let there : target_of s.graph k.point.location < length s.graph.vertices = target_there s.graph k.point.location sound.joined low high in
+    record {
+      here = here;
+      vertex = (let n : length (processor s p).items ≡ length s.graph.vertices = fits.vertices in omega arith);
+      may = subst (λ t. MayActAt (action_of (op_at s.graph t)) (length k.point.time.counters)) (sym is) (may_target s.graph k.point.location (length k.point.time.counters) sound low at_edge.fits.depth);
+    }
+
+feedback_of_action : (o : Op) → action_of o ≡ Feedback → o ≡ op.Feedback
+feedback_of_action op.Input e = absurd (cc)
+feedback_of_action op.Ingress e = absurd (cc)
+feedback_of_action op.Egress e = absurd (cc)
+feedback_of_action op.Feedback e = refl
+feedback_of_action (op.Add k) e = absurd (cc)
+feedback_of_action (op.Mul k) e = absurd (cc)
+feedback_of_action (op.Below k) e = absurd (cc)
+feedback_of_action (op.Split k) e = absurd (cc)
+feedback_of_action op.Sum e = absurd (cc)
+feedback_of_action op.Distinct e = absurd (cc)
+feedback_of_action op.Sink e = absurd (cc)
+
+module _ (s : ClusterState) (p : ℕ) (k : ValueAt) (target : ℕ) (is : target ≡ target_of s.graph k.point.location) (on : TakePasses s p k.point.location k.point.time k.value 11) where
+  -- the operator of the target, and what it does with the record
+  abbrev target_op : Op
+  target_op = op_at s.graph (target_of s.graph k.point.location)
+
+  pub take_full : last_of k.point.time.counters ≤ max_counter → IsCounterFull (op_at s.graph target) k.point.time → TakeRefused s p k.point.location k.point.time k.value CounterFull
+  take_full small full =
+      let h : IsCounterFull target_op k.point.time = subst (λ t. IsCounterFull (op_at s.graph t) k.point.time) is full in
+      let most : last_of k.point.time.counters ≡ max_counter = (let a : max_counter ≤ last_of k.point.time.counters = h.full in omega arith) in
+      record { fails = λ new. (feedback_of_action target_op h.feedback, most); least = on }
+
+  not_full : (IsCounterFull (op_at s.graph target) k.point.time → ⊥) → (target_op ≡ op.Feedback) × (last_of k.point.time.counters ≡ max_counter) → ⊥
+  not_full h f =
+      h (subst (λ t. IsCounterFull (op_at s.graph t) k.point.time) (sym is) (record { feedback = ap action_of f.0; full = (let e : last_of k.point.time.counters ≡ max_counter = f.1 in omega arith) }))
+
+  past_full : (IsCounterFull (op_at s.graph target) k.point.time → ⊥) → TakePasses s p k.point.location k.point.time k.value 12
+  past_full h = record { free = passes }
+    where
+      passes : (new : ClusterState) (r : Refusal) → number_of r < 12 → TakeFails s p k.point.location k.point.time k.value new r → ⊥
+      passes new NoProcessor lt f = on.free new NoProcessor (omega arith) f
+      passes new NoVertex lt f = f
+      passes new NoEdge lt f = on.free new NoEdge (omega arith) f
+      passes new NotInput lt f = f
+      passes new InputClosed lt f = f
+      passes new TooManyValues lt f = f
+      passes new EpochFull lt f = f
+      passes new NoRecord lt f = on.free new NoRecord (omega arith) f
+      passes new NoRequest lt f = f
+      passes new (NotYet blocker) lt f = f
+      passes new CounterFull lt f = not_full h f
+      passes new ValueRange lt f = absurd (omega arith)
+      passes new CountFull lt f = absurd (omega arith)
+      passes new DeltaFull lt f = absurd (omega arith)
+      passes new Memory lt f = f
+
+  -- what the target does with the record
+  abbrev outcome : Outcome
+  outcome = on_record (op_at s.graph target) (items_at (processor s p) target) k.point.time k.value
+
+  abbrev Fits : ℕ → Type 0
+  Fits t = IsInRange (on_record (op_at s.graph t) (items_at (processor s p) t) k.point.time k.value)
+
+  take_range : (IsCounterFull (op_at s.graph target) k.point.time → ⊥) → (IsInRange outcome → ⊥) → TakeRefused s p k.point.location k.point.time k.value ValueRange
+  take_range h far = record { fails = λ new r. far (subst Fits (sym is) (record { emissions = r.emissions; items = r.items })); least = past_full h }
+
+  take_free : (IsCounterFull (op_at s.graph target) k.point.time → ⊥) → ((IsInRange outcome → ⊥) → ⊥) → TakePasses s p k.point.location k.point.time k.value 13
+  take_free h near = record { free = passes }
+    where
+      passes : (new : ClusterState) (r : Refusal) → number_of r < 13 → TakeFails s p k.point.location k.point.time k.value new r → ⊥
+      passes new NoProcessor lt f = on.free new NoProcessor (omega arith) f
+      passes new NoVertex lt f = f
+      passes new NoEdge lt f = on.free new NoEdge (omega arith) f
+      passes new NotInput lt f = f
+      passes new InputClosed lt f = f
+      passes new TooManyValues lt f = f
+      passes new EpochFull lt f = f
+      passes new NoRecord lt f = on.free new NoRecord (omega arith) f
+      passes new NoRequest lt f = f
+      passes new (NotYet blocker) lt f = f
+      passes new CounterFull lt f = not_full h f
+      passes new ValueRange lt f = near (λ r. (let u : Fits (target_of s.graph k.point.location) = subst Fits is r in f (record { emissions = u.emissions; items = u.items })))
+      passes new CountFull lt f = absurd (omega arith)
+      passes new DeltaFull lt f = absurd (omega arith)
+      passes new Memory lt f = f
+
+  -- the same for the operator and the items as they are read
+  module _ (o : Op) (m : Items) (o_is : o ≡ op_at s.graph target) (m_is : m ≡ items_at (processor s p) target) where
+    abbrev Read : Type 0
+    Read = IsInRange (on_record o m k.point.time k.value)
+
+    to_outcome : Read → IsInRange outcome
+    to_outcome r = subst (λ x. IsInRange (on_record (op_at s.graph target) x k.point.time k.value)) m_is (subst (λ x. IsInRange (on_record x m k.point.time k.value)) o_is r)
+
+    of_outcome : IsInRange outcome → Read
+    of_outcome r = subst (λ x. IsInRange (on_record x m k.point.time k.value)) (sym o_is) (subst (λ x. IsInRange (on_record (op_at s.graph target) x k.point.time k.value)) (sym m_is) r)
+
+    pub read_range : (IsCounterFull o k.point.time → ⊥) → (Read → ⊥) → TakeRefused s p k.point.location k.point.time k.value ValueRange
+    read_range h far = take_range (λ f. h (subst (λ x. IsCounterFull x k.point.time) (sym o_is) f)) (λ r. far (of_outcome r))
+
+    pub read_free : (IsCounterFull o k.point.time → ⊥) → ((Read → ⊥) → ⊥) → TakePasses s p k.point.location k.point.time k.value 13
+    read_free h near = take_free (λ f. h (subst (λ x. IsCounterFull x k.point.time) (sym o_is) f)) (λ far. near (λ r. far (to_outcome r)))
+
+-- ---- a notice
+
+-- the kept counts of a view are those of the graph, and its map is the state's view
+pub seen_view : (g : Dataflow) (ps : List ProcessorState) (vs : List Kept) (s : ClusterState) (p : ℕ) (v : Kept) → IsSeen g ps vs → seen g ps vs ≡ s → p < length s.processors → v ≡ get_or vs p v → IsFor g v × (view s p ≡ v.map)
+seen_view g ps vs s p v h e lt is =
+    let n : length (map (λ (w : Kept). w.map) vs) ≡ length ps = h.state.fits.each_view in
+    let m : length (map (λ (w : Kept). w.map) vs) ≡ length vs = length-map vs (λ w. w.map) in
+    let k : length s.processors ≡ length ps = ap (λ (t : ClusterState). length t.processors) (sym e) in
+    let here : p < length vs = omega arith in
+    (subst (IsFor g) (sym is) (h.kept p v here), ap (λ (t : ClusterState). view t p) (sym e) ∙ maps-get vs p v none here is)
+
+module _ (s : ClusterState) (p : ℕ) (x : Pointstamp) (on : NoticePasses s p x.location x.time 10) where
+  pub notice_here : p < length s.processors
+  notice_here = lt_of_not-le (on.free s NoProcessor (omega arith))
+
+  pub notice_vertex : IsState s → x.location < length (processor s p).items
+  notice_vertex state =
+      let place : x.location < length s.graph.vertices = lt_of_not-le (on.free s NoVertex (omega arith)) in
+      let fits : ProcessorFits s.graph (processor s p) = state.fits.processors p idle notice_here in
+      let n : length (processor s p).items ≡ length s.graph.vertices = fits.vertices in
+      omega arith
+
+  pub notice_blocked : (g : Dataflow) (m : Change) → g ≡ s.graph → view s p ≡ m → (blocker : Pointstamp) → IsLeast (IsPrecursor g m x) blocker → NoticeRefused s p x.location x.time (NotYet blocker)
+  notice_blocked g m e f blocker h = record {
+    fails = λ new. subst (λ c. IsLeast (IsPrecursor s.graph c x) blocker) (sym f) (subst (λ d. IsLeast (IsPrecursor d m x) blocker) e h);
+    least = on;
+  }
+
+  pub notice_free : (g : Dataflow) (m : Change) → g ≡ s.graph → view s p ≡ m → ((y : Pointstamp) → IsPrecursor g m x y → ⊥) → NoticePasses s p x.location x.time 13
+  notice_free g m e f nothing = record { free = passes }
+    where
+      here : (y : Pointstamp) → IsPrecursor s.graph (view s p) x y → ⊥
+      here y h = nothing y (subst (λ d. IsPrecursor d m x y) (sym e) (subst (λ c. IsPrecursor s.graph c x y) f h))
+
+      passes : (new : ClusterState) (r : Refusal) → number_of r < 13 → NoticeFails s p x.location x.time new r → ⊥
+      passes new NoProcessor lt f = on.free new NoProcessor (omega arith) f
+      passes new NoVertex lt f = on.free new NoVertex (omega arith) f
+      passes new NoEdge lt f = f
+      passes new NotInput lt f = f
+      passes new InputClosed lt f = f
+      passes new TooManyValues lt f = f
+      passes new EpochFull lt f = f
+      passes new NoRecord lt f = f
+      passes new NoRequest lt f = on.free new NoRequest (omega arith) f
+      passes new (NotYet blocker) lt f = here blocker f.is_one
+      passes new CounterFull lt f = f
+      passes new ValueRange lt f = f
+      passes new CountFull lt f = absurd (omega arith)
+      passes new DeltaFull lt f = absurd (omega arith)
+      passes new Memory lt f = f
+
+-- ---- how many values a vertex emits
+
+one_or_none : {X : Type 0} (b : Bool) (x : X) → length (cond b (x ∷ []) []) ≤ 1
+one_or_none true x = omega arith
+one_or_none false x = omega arith
+
+none_or_one : {X : Type 0} (b : Bool) (x : X) → length (cond b [] (x ∷ [])) ≤ 1
+none_or_one true x = omega arith
+none_or_one false x = omega arith
+
+few_on_record : (o : Op) (m : Items) (t : Time) (v : ℤ) → length (on_record o m t v).emissions ≤ 1
+few_on_record op.Input m t v = omega arith
+few_on_record op.Ingress m t v = omega arith
+few_on_record op.Egress m t v = omega arith
+few_on_record op.Feedback m t v = omega arith
+few_on_record (op.Add k) m t v = omega arith
+few_on_record (op.Mul k) m t v = omega arith
+few_on_record (op.Below k) m t v = one_or_none (int_lt v k) (0, v)
+few_on_record (op.Split k) m t v = omega arith
+few_on_record op.Sum m t v = omega arith
+few_on_record op.Distinct m t v = one_or_none (is_zero (number_at m (item_key t v))) (0, v)
+few_on_record op.Sink m t v = omega arith
+
+few_on_notice : (o : Op) (m : Items) (t : Time) → length (on_notice o m t).emissions ≤ 1
+few_on_notice op.Input m t = omega arith
+few_on_notice op.Ingress m t = omega arith
+few_on_notice op.Egress m t = omega arith
+few_on_notice op.Feedback m t = omega arith
+few_on_notice (op.Add k) m t = omega arith
+few_on_notice (op.Mul k) m t = omega arith
+few_on_notice (op.Below k) m t = omega arith
+few_on_notice (op.Split k) m t = omega arith
+few_on_notice op.Sum m t = none_or_one (is_zero (number_at m (item_key t (pos 0)))) (0, number_at m (item_key t (pos 0)))
+few_on_notice op.Distinct m t = omega arith
+few_on_notice op.Sink m t = omega arith
+
+few : {A : Type 0} (m : Items) (o : Op) (t : Time) (out : Outcome) (e : Effect A) → IsEffect m o t out e → length out.emissions ≤ 1 → length e.emits.items ≤ max_values
+few m o t out e so h =
+    let n : length e.emits.items ≡ length out.emissions = ap length so.emits ∙ length-map out.emissions _ in
+    omega arith
+
+pub few_recorded : {A : Type 0} (m : Items) (o : Op) (t : Time) (v : ℤ) (e : Effect A) → IsEffect m o t (on_record o m t v) e → length e.emits.items ≤ max_values
+few_recorded m o t v e so = few m o t (on_record o m t v) e so (few_on_record o m t v)
+
+pub few_noticed : {A : Type 0} (m : Items) (o : Op) (t : Time) (e : Effect A) → IsEffect m o t (on_notice o m t) e → length e.emits.items ≤ max_values
+few_noticed m o t e so = few m o t (on_notice o m t) e so (few_on_notice o m t)

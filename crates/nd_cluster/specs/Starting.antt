@@ -1,0 +1,52 @@
+-- Why a cluster does not start, and the number and the name under which it is answered (this project's own rule).
+use Rattle.std.specs.Prelude.{ℕ, ◌<◌, ◌≤◌, List, codes}
+use Rattle.nd_time.specs.Limits.{max_processors}
+use Rattle.nd_map.specs.Weights.{weight}
+use Rattle.nd_graph.specs.Graph.{Dataflow}
+use Rattle.nd_paths.specs.Order.{FailsAt, IsAccepted}
+use Rattle.nd_paths.specs.declared.accept.PathFault.{PathFault}
+use Rattle.nd_paths.specs.declared.accept.PathFault.TheVariants as path
+use Rattle.nd_paths.specs.declared.point.Pointstamp.{Pointstamp}
+use Rattle.nd_processor.specs.State.{one_at, token_point}
+use Rattle.nd_cluster.specs.declared.start.StartFault.{StartFault}
+use Rattle.nd_cluster.specs.declared.start.StartFault.TheVariants.{BadCount, LoopNotStrict, Memory}
+
+abbrev pub start_number : StartFault → ℕ
+start_number BadCount = 48
+start_number (LoopNotStrict l) = 46
+start_number Memory = 47
+
+abbrev pub start_name : StartFault → List ℕ
+start_name BadCount = codes "BadCount"
+start_name (LoopNotStrict l) = codes "LoopNotStrict"
+start_name Memory = codes "Memory"
+
+-- from one processor to the most
+pub record IsProcessorCount (n : ℕ) : Type 0 where
+  pub some : 0 < n
+  pub few : n ≤ max_processors
+
+-- a closed walk from this location fails to increase some timestamp, and none from an earlier one does
+pub record IsFirstFailure (g : Dataflow) (l : ℕ) : Type 0 where
+  pub fails : FailsAt g l
+  pub first : (k : ℕ) → k < l → FailsAt g k → ⊥
+
+-- when a fault is answered
+abbrev pub IsStartFault : Dataflow → ℕ → StartFault → Type 0
+IsStartFault g n BadCount = IsProcessorCount n → ⊥
+IsStartFault g n (LoopNotStrict l) = IsProcessorCount n × IsFirstFailure g l
+IsStartFault g n Memory = IsProcessorCount n
+
+-- a cluster of n processors can start on a graph
+pub record CanStart (g : Dataflow) (n : ℕ) : Type 0 where
+  pub count : IsProcessorCount n
+  pub accepted : IsAccepted g
+
+-- the fault of a graph without an order, as one of a start
+abbrev pub fault_of : PathFault → StartFault
+fault_of (path.LoopNotStrict l) = LoopNotStrict l
+fault_of path.Memory = Memory
+
+-- how many of these tokens are at a pointstamp
+abbrev pub tokens_weigh : List (ℕ × ℕ) → Pointstamp → ℕ
+tokens_weigh es x = weight (λ v e. one_at (token_point v e) x) es

@@ -1,0 +1,122 @@
+//! What is outstanding in a cluster, and copies of it.
+ghost use Rattle.std.specs.Prelude.{◌≡◌, ◌<◌, ◌≤◌, ◌^◌, pos, IfOk, sum_by, length};
+ghost use Rattle.nd_time.specs.Limits.{max_processors};
+ghost use Rattle.nd_delta.specs.Change.{at};
+ghost use Rattle.nd_processor.specs.State.{held, in_records, in_requests, in_tokens};
+ghost use Rattle.nd_protocol.specs.State.{truth};
+ghost use Rattle.nd_protocol.specs.Invariant.{IsSettled};
+
+use crate::Cluster;
+use crate::start::token_point;
+use nd_paths::Pointstamp;
+use nd_processor::Processor;
+use nd_protocol::truth_is_small;
+use nd_view::View;
+use std::alloc::{AllocError, Allocator};
+
+// How many records a processor has at a pointstamp.
+fn count_records<A: Allocator + Copy>(processor: &Processor<A>, point: &Pointstamp) -> u128
+    ensures value { result ≡ in_records processor.now.records point.now }
+    ensures fits { result < 2 ^ 120 }
+{
+    let mut total = 0;
+    for (key, count) in processor.records() {
+        if point.cmp(&key.point).is_eq() {
+            total += u128::from(*count);
+        }
+    }
+    total
+}
+
+// How many requests a processor has at a pointstamp: one or none.
+fn count_requests<A: Allocator + Copy>(processor: &Processor<A>, point: &Pointstamp) -> u128
+    ensures value { result ≡ in_requests processor.now.requests point.now }
+    ensures fits { result ≤ 1 }
+{
+    if processor.has_request(point) { 1 } else { 0 }
+}
+
+// How many tokens a processor has at a pointstamp: one or none.
+fn count_tokens<A: Allocator + Copy>(processor: &Processor<A>, point: &Pointstamp) -> u128
+    ensures value { result ≡ in_tokens processor.now.tokens point.now }
+    ensures fits { result ≤ 1 }
+{
+    let Some(epoch) = processor.token(point.location) else {
+        return 0;
+    };
+    let token = token_point(point.location, epoch);
+    if point.cmp(&token).is_eq() { 1 } else { 0 }
+}
+
+// How much a processor has outstanding at a pointstamp.
+fn count_held<A: Allocator + Copy>(processor: &Processor<A>, point: &Pointstamp) -> u128
+    ensures value { result ≡ held processor.now point.now }
+    ensures fits { result < 2 ^ 121 }
+{
+    count_records(processor, point)
+        + count_requests(processor, point)
+        + count_tokens(processor, point)
+}
+
+// How much processors have outstanding at a pointstamp.
+fn count_all<A: Allocator + Copy>(processors: &[Processor<A>], point: &Pointstamp) -> u128
+    requires { length processors.now ≤ max_processors }
+    ensures { result ≡ sum_by (λ q. held q point.now) processors.now }
+{
+    let mut total = 0;
+    for processor in processors {
+        total += count_held(processor, point);
+    }
+    total
+}
+
+// Equal processors.
+fn copied_processors<A: Allocator + Copy>(
+    alloc: A,
+    processors: &[Processor<A>],
+) -> Result<Vec<Processor<A>, A>, AllocError>
+    ensures { IfOk result (λ v. v.items ≡ processors.now) }
+{
+    let mut copied = Vec::with_capacity(alloc, processors.len())?;
+    for processor in processors {
+        copied.push(processor.copy(alloc)?)?;
+    }
+    Ok(copied)
+}
+
+// Equal views.
+fn copied_views<A: Allocator + Copy>(
+    alloc: A,
+    views: &[View<A>],
+) -> Result<Vec<View<A>, A>, AllocError>
+    ensures { IfOk result (λ v. v.items ≡ views.now) }
+{
+    let mut copied = Vec::with_capacity(alloc, views.len())?;
+    for view in views {
+        copied.push(view.copy(alloc)?)?;
+    }
+    Ok(copied)
+}
+
+impl<A: Allocator + Copy> Cluster<A> {
+    /// How many records, requests and tokens there are at a pointstamp, over all processors.
+    pub fn count(&self, point: &Pointstamp) -> u128
+        ensures value { pos result ≡ at (truth self.now.processors) point.now }
+        ensures small { IsSettled self.now → result < 2 ^ 63 }
+    {
+        truth_is_small();
+        count_all(&self.processors, point)
+    }
+
+    /// An equal cluster.
+    pub fn copy(&self, alloc: A) -> Result<Cluster<A>, AllocError>
+        ensures { IfOk result (λ c. c ≡ self.now) }
+    {
+        Ok(Cluster {
+            alloc,
+            paths: self.paths.copy(alloc)?,
+            processors: copied_processors(alloc, &self.processors)?,
+            views: copied_views(alloc, &self.views)?,
+        })
+    }
+}

@@ -1,0 +1,113 @@
+//! Why steps are refused: tests in the order of the refusals' numbers (this project's own rule).
+ghost use Rattle.std.specs.Prelude.{◌≡◌, ◌↔◌, IfOk, IfErr, OnOk, IsTrue, Some};
+ghost use Rattle.std.specs.FinMap as fin;
+ghost use Rattle.nd_graph.specs.Checked.{IsFaultless};
+ghost use Rattle.nd_graph.specs.Graph.{op_at as operator_at};
+ghost use Rattle.nd_graph.specs.declared.op.Op.TheVariants as operator;
+ghost use Rattle.nd_protocol.specs.State.{processor};
+ghost use Rattle.nd_protocol.specs.Steps.{target_of};
+ghost use Rattle.nd_cluster.specs.Tested.{FeedPasses, FeedRefused, TakePasses, TakeRefused, NoticePasses, NoticeRefused};
+
+use crate::{Cluster, Next, Refusal};
+use nd_graph::{Graph, Op};
+use nd_paths::Pointstamp;
+use nd_processor::ValueAt;
+use std::alloc::Allocator;
+
+/// The most values of one feed.
+pub const MAX_VALUES: usize = 1024;
+
+// The operator at a vertex's location; an edge's location counts as a sink.
+pub(crate) fn op_at<B: Allocator>(graph: &Graph<B>, location: usize) -> Op
+    ensures op { result ≡ operator_at graph.now location }
+    ensures sound { IsFaultless graph.now }
+{
+    match graph.vertices().get(location) {
+        Some(vertex) => vertex.op,
+        None => Op::Sink,
+    }
+}
+
+fn is_input(op: Op) -> bool
+    ensures { IsTrue result ↔ (op ≡ operator.Input) }
+{
+    matches!(op, Op::Input)
+}
+
+impl<A: Allocator + Copy> Cluster<A> {
+    // The epoch at which a feed emits its values, or why it is refused, but for the limits.
+    pub(crate) fn feed_epoch(
+        &self,
+        p: u32,
+        vertex: usize,
+        values: &[i64],
+        next: Next,
+    ) -> Result<u32, Refusal>
+        ensures epoch { IfOk result (λ e. fin.get (processor self.now p).tokens vertex ≡ Some e) }
+        ensures free { OnOk result (FeedPasses self.now p vertex values.now next 13) }
+        ensures refused { IfErr result (FeedRefused self.now p vertex values.now next) }
+    {
+        if p as usize >= self.n() {
+            return Err(Refusal::NoProcessor);
+        }
+        let graph = self.graph();
+        if vertex >= graph.vertices().len() {
+            return Err(Refusal::NoVertex);
+        }
+        if !is_input(op_at(graph, vertex)) {
+            return Err(Refusal::NotInput);
+        }
+        let Some(epoch) = self.processor(p as usize).token(vertex) else {
+            return Err(Refusal::InputClosed);
+        };
+        if values.len() > MAX_VALUES {
+            return Err(Refusal::TooManyValues);
+        }
+        if next == Next::Next && epoch == u32::MAX {
+            return Err(Refusal::EpochFull);
+        }
+        Ok(epoch)
+    }
+
+    // The vertex that an edge enters, or why the take of a record off it is refused before the vertex is asked.
+    pub(crate) fn take_target(&self, p: u32, key: &ValueAt) -> Result<usize, Refusal>
+        ensures target { IfOk result (λ v. v ≡ target_of self.now.graph key.now.point.location) }
+        ensures free { OnOk result (TakePasses self.now p key.now.point.location key.now.point.time key.now.value 11) }
+        ensures refused { IfErr result (TakeRefused self.now p key.now.point.location key.now.point.time key.now.value) }
+    {
+        if p as usize >= self.n() {
+            return Err(Refusal::NoProcessor);
+        }
+        let graph = self.graph();
+        let edge = key.point.location;
+        let first = graph.vertices().len();
+        if edge < first {
+            return Err(Refusal::NoEdge);
+        }
+        if edge >= graph.location_count() {
+            return Err(Refusal::NoEdge);
+        }
+        if self.processor(p as usize).count_of(key) == 0 {
+            return Err(Refusal::NoRecord);
+        }
+        Ok(graph.edges()[edge - first].to)
+    }
+
+    // Whether a notice was asked for on a processor, and why it is refused.
+    pub(crate) fn notice_asked(&self, p: u32, point: &Pointstamp) -> Result<(), Refusal>
+        ensures asked { OnOk result (fin.get (processor self.now p).requests point.now ≡ Some tt) }
+        ensures free { OnOk result (NoticePasses self.now p point.now.location point.now.time 10) }
+        ensures refused { IfErr result (NoticeRefused self.now p point.now.location point.now.time) }
+    {
+        if p as usize >= self.n() {
+            return Err(Refusal::NoProcessor);
+        }
+        if point.location >= self.graph().vertices().len() {
+            return Err(Refusal::NoVertex);
+        }
+        if !self.processor(p as usize).has_request(point) {
+            return Err(Refusal::NoRequest);
+        }
+        Ok(())
+    }
+}

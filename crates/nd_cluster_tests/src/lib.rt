@@ -1,0 +1,14 @@
+//! Tests of clusters: starts, steps that are made and undone, refusals, and each request for memory
+//! refused in turn.
+#![tactic(auto)]
+
+#[cfg(test)]
+mod memory;
+#[cfg(test)]
+mod refusals;
+#[cfg(test)]
+mod runs;
+#[cfg(test)]
+mod starts;
+#[cfg(test)]
+mod told;

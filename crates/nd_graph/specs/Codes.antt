@@ -1,0 +1,90 @@
+-- Graphs as numbers, so that a model's value can hold one.
+use Rattle.std.specs.Prelude.{◌≡◌, ℕ, ℤ, pos, Bool, true, false, List, nat_eq, if◌then◌else◌, refl}
+use Rattle.std.specs.Coded.{Coded, code_by, coded×, coded_ℕ, coded_ℤ, coded_bool, coded_list}
+use Rattle.nd_graph.specs.Graph.{Dataflow}
+use Rattle.nd_graph.specs.declared.op.Op.{Op}
+use Rattle.nd_graph.specs.declared.op.Op.TheVariants.{Input, Ingress, Egress, Feedback, Add, Mul, Below, Split, Sum, Distinct, Sink}
+use Rattle.nd_graph.specs.declared.op.Route.{Route}
+use Rattle.nd_graph.specs.declared.op.Route.TheVariants.{Local, Exchange}
+use Rattle.nd_graph.specs.declared.graph.Vertex.{Vertex}
+use Rattle.nd_graph.specs.declared.graph.Edge.{Edge}
+
+-- an operator as its place among all, and its number
+abbrev pub op_parts : Op → ℕ × ℤ
+op_parts Input = (0, pos 0)
+op_parts Ingress = (1, pos 0)
+op_parts Egress = (2, pos 0)
+op_parts Feedback = (3, pos 0)
+op_parts (Add k) = (4, k)
+op_parts (Mul k) = (5, k)
+op_parts (Below k) = (6, k)
+op_parts (Split k) = (7, k)
+op_parts Sum = (8, pos 0)
+op_parts Distinct = (9, pos 0)
+op_parts Sink = (10, pos 0)
+
+abbrev pub op_of : ℕ × ℤ → Op
+op_of p =
+    if nat_eq p.0 0 then Input
+    else (if nat_eq p.0 1 then Ingress
+    else (if nat_eq p.0 2 then Egress
+    else (if nat_eq p.0 3 then Feedback
+    else (if nat_eq p.0 4 then Add p.1
+    else (if nat_eq p.0 5 then Mul p.1
+    else (if nat_eq p.0 6 then Below p.1
+    else (if nat_eq p.0 7 then Split p.1
+    else (if nat_eq p.0 8 then Sum
+    else (if nat_eq p.0 9 then Distinct
+    else Sink)))))))))
+
+pub op_back : (o : Op) → op_of (op_parts o) ≡ o
+op_back Input = refl
+op_back Ingress = refl
+op_back Egress = refl
+op_back Feedback = refl
+op_back (Add k) = refl
+op_back (Mul k) = refl
+op_back (Below k) = refl
+op_back (Split k) = refl
+op_back Sum = refl
+op_back Distinct = refl
+op_back Sink = refl
+
+abbrev pub is_local : Route → Bool
+is_local Local = true
+is_local Exchange = false
+
+abbrev pub route_of : Bool → Route
+route_of true = Local
+route_of false = Exchange
+
+pub route_back : (r : Route) → route_of (is_local r) ≡ r
+route_back Local = refl
+route_back Exchange = refl
+
+abbrev pub op_code : Coded Op
+op_code = code_by (ℕ × ℤ) (coded× coded_ℕ coded_ℤ) op_parts op_of op_back
+
+abbrev pub route_code : Coded Route
+route_code = code_by Bool coded_bool is_local route_of route_back
+
+abbrev pub vertex_code : Coded Vertex
+vertex_code =
+    code_by (List ℕ × (Op × ℕ)) (coded× (coded_list coded_ℕ) (coded× op_code coded_ℕ))
+    (λ v. (v.name, (v.op, v.depth)))
+    (λ t. record { name = t.0; op = t.1.0; depth = t.1.1 })
+    (λ _. refl)
+
+abbrev pub edge_code : Coded Edge
+edge_code =
+    code_by (List ℕ × (ℕ × (ℕ × (ℕ × Route)))) (coded× (coded_list coded_ℕ) (coded× coded_ℕ (coded× coded_ℕ (coded× coded_ℕ route_code))))
+    (λ e. (e.name, (e.from, (e.port, (e.to, e.route)))))
+    (λ t. record { name = t.0; from = t.1.0; port = t.1.1.0; to = t.1.1.1.0; route = t.1.1.1.1 })
+    (λ _. refl)
+
+abbrev pub graph_code : Coded Dataflow
+graph_code =
+    code_by (List Vertex × List Edge) (coded× (coded_list vertex_code) (coded_list edge_code))
+    (λ g. (g.vertices, g.edges))
+    (λ t. record { vertices = t.0; edges = t.1 })
+    (λ _. refl)

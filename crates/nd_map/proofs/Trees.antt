@@ -1,0 +1,62 @@
+-- The words of std's tree are those of lists in the order of their keys.
+use Rattle.std.proofs.Common.{◌≡◌, Bool, true, false, cond, not, ◌&&◌, T, List, [], ◌∷◌, ◌++◌, Some, Ordering, Less, Equal, Greater, refl, sym, ap, ◌∙◌}
+use Rattle.std.specs.Ordering.{eq_by_cmp, is_eq, is_lt, match_ordering, ordering_reverse}
+use Rattle.std.specs.Cmp.{IsTotalOrder}
+use Rattle.std.specs.Map.{lookup, remove_entry}
+use Rattle.std.specs.BTreeMap.{is_at, insert_entry}
+use Rattle.std.specs.FinMap.{find, put}
+use Rattle.std.specs.FinMap.Entries.{below_all, by_order}
+use Rattle.nd_map.specs.Listed.{IsListed, without}
+use Rattle.nd_map.proofs.Places.{keeps}
+
+first : (a b : Bool) → T (a && b) → T a
+first true b p = tt
+first false b p = p
+
+second : (a b : Bool) → T (a && b) → T b
+second true b p = p
+second false b p = absurd p
+
+less : (r : Ordering) → T (is_lt r) → r ≡ Less
+less Less p = refl
+less Equal p = absurd p
+less Greater p = absurd p
+
+equal : (r : Ordering) → is_eq r ≡ true → r ≡ Equal
+equal Less e = absurd (cc)
+equal Equal e = refl
+equal Greater e = absurd (cc)
+
+placed : {A : Type 0} (r : Ordering) (a b x y : A) → x ≡ y → match_ordering r a b x ≡ by_order r a b y
+placed Less a b x y e = refl
+placed Equal a b x y e = refl
+placed Greater a b x y e = e
+
+module _ {K X : Type 0} (R : K → K → Ordering) where
+  pub find_is : (k : K) (es : List (K × X)) → lookup (is_at (R k)) es ≡ find R k es
+  find_is k [] = refl
+  find_is k (e ∷ es) = ap (cond (is_at (R k) e.0) (Some e.1)) (find_is k es)
+
+  pub put_is : (k : K) (v : X) (es : List (K × X)) → insert_entry R es k v ≡ put R k v es
+  put_is k v [] = refl
+  put_is k v (e ∷ es) = placed (R k e.0) ((k, v) ∷ e ∷ es) ((e.0, v) ∷ es) (e ∷ insert_entry R es k v) (e ∷ put R k v es) (ap (λ fs. e ∷ fs) (put_is k v es))
+
+  module _ (o : IsTotalOrder R) where
+    pub without_is : (k : K) (es : List (K × X)) → IsListed R es → remove_entry (is_at (R k)) es ≡ without R k es
+    without_is k [] h = refl
+    without_is k (e ∷ es) h =
+        elim (eq_by_cmp R k e.0) as (λ b. eq_by_cmp R k e.0 ≡ b → cond b es (e ∷ remove_entry (is_at (R k)) es) ≡ cond (not b) (e ∷ without R k es) (without R k es)) [
+          | true ↦ λ t. sym (keeps R o k es e.0 (equal _ t) (first (below_all R e.0 es) _ h))
+          | false ↦ λ t. ap (λ fs. e ∷ fs) (without_is k es (second (below_all R e.0 es) _ h))
+        ] refl
+
+    above : (x k : K) (v : X) (es fs : List (K × X)) → T (below_all R x (es ++ (k, v) ∷ fs)) → R x k ≡ Less
+    above x k v [] fs h = less _ (first (is_lt (R x k)) _ h)
+    above x k v (e ∷ es) fs h = above x k v es fs (second (is_lt (R x e.0)) _ h)
+
+    -- an entry whose key is past all others comes last
+    pub put_last : (k : K) (v : X) (es fs : List (K × X)) → IsListed R (es ++ (k, v) ∷ fs) → put R k v es ≡ es ++ (k, v) ∷ []
+    put_last k v [] fs h = refl
+    put_last k v (e ∷ es) fs h =
+        let past : R k e.0 ≡ Greater = o.antisymm k e.0 ∙ ap ordering_reverse (above e.0 k v es fs (first (below_all R e.0 (es ++ (k, v) ∷ fs)) _ h)) in
+        rw past (ap (λ gs. e ∷ gs) (put_last k v es fs (second (below_all R e.0 (es ++ (k, v) ∷ fs)) _ h)))

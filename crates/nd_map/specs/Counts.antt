@@ -1,0 +1,323 @@
+-- A finite map of numbers in which no key has 0, generic in its keys and in its numbers.
+--     Number, naturals, integers     the numbers that a map may have, as some of the integers
+--     none, at, set             no key; the number of a key; the map with another number at one key
+--     added                     an integer more at one key
+--     only                      the map cut to the keys of a kind
+--     entries, size             the keys that have a number, with it, in the order of listing; how many
+--     same                      maps that answer alike are equal
+--     changed                   at how many keys two maps differ
+--     set-back, added-back      a number that is set back, or taken away again, leaves the map as it was
+--     weight-differs, -set      what the entries weigh moves with one number
+use Rattle.std.specs.Prelude.{◌≡◌, ◌≢◌, ℕ, zero, suc, ◌+◌, ℤ, pos, negsuc, ◌+ℤ◌, ◌-ℤ◌, neg_ℤ, Bool, true, false, cond, ◌||◌, List, [], ◌∷◌, ◌++◌, map, length, Option, Some, None, is_some, refl}
+use Rattle.std.proofs.Common.{T, sym, ap, ◌∙◌, arith}
+use Rattle.std.proofs.lemmas.Int.{ints}
+use Rattle.std.proofs.lemmas.Cmp.{tied_itself}
+use mathlib.Core.HLevel.{Σ_prop_path}
+use Rattle.std.specs.Coded.{Coded}
+use base.Stored.{coded_via}
+use Rattle.std.specs.List.{list_any}
+use Rattle.std.specs.declared.cmp.Ordering.{Ordering}
+use Rattle.std.specs.Ordering.{eq_by_cmp, is_eq}
+use Rattle.std.specs.Cmp.{IsTotalOrder}
+use Rattle.std.specs.FinMap.{FinMap, IsAntisymmetric, get, insert, remove, find, same_map, get-insert, get-remove, get-empty, contains_key-keys, get-entries, entries_sorted, is_sorted}
+use Rattle.std.specs.FinMap.Entries.{is_some-find, same_entries}
+use Rattle.std.proofs.lemmas.List.Folds.{list_any-append}
+use Rattle.std.specs.FinMap as fin
+use Rattle.std.proofs.lemmas.Map.Views.{tells_apart}
+use Rattle.nd_map.specs.Weights.{weight, weight_at, weight_moves}
+
+-- numbers that are some of the integers
+pub record Number (X : Type 0) : Type 0 where
+  pub int : X → ℤ
+  pub of_int : ℤ → X
+  pub kept : (x : X) → of_int (int x) ≡ x
+  pub kept_zero : int (of_int (pos 0)) ≡ pos 0
+  pub kept_more : (x : X) (n : ℕ) → int (of_int (int x +ℤ pos n)) ≡ int x +ℤ pos n
+
+abbrev pub natural : ℤ → ℕ
+natural (pos n) = n
+natural (negsuc n) = 0
+
+abbrev pub naturals : Number ℕ
+naturals = record { int = pos; of_int = natural; kept = λ _. refl; kept_zero = refl; kept_more = λ _ _. refl }
+
+abbrev pub integers : Number ℤ
+integers = record { int = λ z. z; of_int = λ z. z; kept = λ _. refl; kept_zero = refl; kept_more = λ _ _. refl }
+
+abbrev pub nil : {X : Type 0} → Number X → X
+nil N = N.of_int (pos 0)
+
+-- a finite map without zeros
+pub record Counts {K X : Type 0} (R : K → K → Ordering) (N : Number X) : Type 0 where
+  map : FinMap R X
+  nonzero : (q : K) → get map q ≢ Some (nil N)
+
+abbrev pub or_else : {X : Type 0} → X → Option X → X
+or_else z None = z
+or_else z (Some x) = x
+
+or_else_exact : {X : Type 0} (z : X) (a b : Option X) → a ≢ Some z → b ≢ Some z → or_else z a ≡ or_else z b → a ≡ b
+or_else_exact z None None p q e = refl
+or_else_exact z None (Some x) p q e = absurd (q (ap Some (sym e)))
+or_else_exact z (Some x) None p q e = absurd (p (ap Some e))
+or_else_exact z (Some x) (Some y) p q e = ap Some e
+
+or_else-cond : {X : Type 0} (z : X) (b : Bool) (x y : Option X) → or_else z (cond b x y) ≡ cond b (or_else z x) (or_else z y)
+or_else-cond z true x y = refl
+or_else-cond z false x y = refl
+
+kept_some : {X : Type 0} (z : X) (b : Bool) (v : X) (x : Option X) → v ≢ z → x ≢ Some z → cond b (Some v) x ≢ Some z
+kept_some z true v x p q e = p (ap (or_else z) e)
+kept_some z false v x p q e = q e
+
+dropped : {X : Type 0} (z : X) (b : Bool) (x : Option X) → x ≢ Some z → cond b None x ≢ Some z
+dropped z true x q e = absurd (cc)
+dropped z false x q e = q e
+
+one_of : {X : Type 0} (b c : Bool) (x y z : X) → (b ≡ true → x ≡ y) → cond b x (cond c y z) ≡ cond (b || c) y z
+one_of true c x y z e = e refl
+one_of false c x y z e = refl
+
+either : {X : Type 0} (z : X) (b : Bool) (x : X) → (b ≡ false → x ≡ z) → cond b x z ≡ x
+either z true x p = refl
+either z false x p = sym (p refl)
+
+module _ {K X : Type 0} {R : K → K → Ordering} {N : Number X} where
+  -- the number of a key
+  pub at : Counts R N → K → X
+  at m q = or_else (nil N) (get m.map q)
+
+  -- the same as an integer
+  abbrev pub int_at : Counts R N → K → ℤ
+  int_at m q = N.int (at m q)
+
+  pub map_of : Counts R N → FinMap R X
+  map_of m = m.map
+
+  pub same_maps : (m n : Counts R N) → map_of m ≡ map_of n → m ≡ n
+  unfolding map_of
+  same_maps m n e =
+      let pairs : ◌≡◌ {A = (f : FinMap R X) × ((q : K) → get f q ≢ Some (nil N))} (m.map, m.nonzero) (n.map, n.nonzero) = Σ_prop_path (λ f. hlevel) e in
+      λ i. record { map = (pairs i).0; nonzero = (pairs i).1 }
+
+  abbrev pub code : Coded K → Coded X → Coded (Counts R N)
+  code k x = coded_via (fin.code k x) map_of same_maps
+
+  -- no key
+  pub none : Counts R N
+  none = record { map = fin.empty; nonzero = λ q e. absurd (cc (get-empty {X = X} R q, e)) }
+
+  -- the keys that have a number, and it, in the order of listing
+  pub entries : Counts R N → List (K × X)
+  entries m = fin.entries m.map
+
+  abbrev pub size : Counts R N → ℕ
+  size m = length (entries m)
+
+pub at-none : {K X : Type 0} (R : K → K → Ordering) (N : Number X) (q : K) → at (none {R = R} {N = N}) q ≡ nil N
+unfolding at none
+at-none R N q = ap (or_else (nil N)) (get-empty R q)
+
+abbrev pub keys_of : {K X : Type 0} → List (K × X) → List K
+keys_of es = map (λ e. e.0) es
+
+-- whether a key is in the list
+abbrev pub has_key : {K : Type 0} → (K → K → Ordering) → K → List K → Bool
+has_key R q ks = list_any (eq_by_cmp R q) ks
+
+module _ {K X : Type 0} {R : K → K → Ordering} {N : Number X} where
+  -- what has no entry has no number
+  pub at-absent : (m : Counts R N) (q : K) → has_key R q (keys_of (entries m)) ≡ false → at m q ≡ nil N
+  unfolding at entries
+  at-absent m q e = nothing (get m.map q) (contains_key-keys m.map q ∙ e)
+    where
+      nothing : (x : Option X) → is_some x ≡ false → or_else (nil N) x ≡ nil N
+      nothing None e = refl
+      nothing (Some z) e = absurd (cc)
+
+module _ {K X : Type 0} {R : K → K → Ordering} {N : Number X} (o : IsTotalOrder R) (tells : IsAntisymmetric R) where
+  -- maps that have the same number at each key are equal
+  pub same : (m n : Counts R N) → ((q : K) → at m q ≡ at n q) → m ≡ n
+  unfolding at map_of
+  same m n h = same_maps m n (same_map o tells m.map n.map (λ q. or_else_exact (nil N) _ _ (m.nonzero q) (n.nonzero q) (h q)))
+
+module _ {K X : Type 0} {R : K → K → Ordering} {N : Number X} (o : IsTotalOrder R) where
+  put_in : Counts R N → K → (v : X) → v ≢ nil N → Counts R N
+  put_in m k v some = record { map = insert m.map k v; nonzero = λ q e. kept_some _ _ v _ some (m.nonzero q) (sym (get-insert o m.map k v q) ∙ e) }
+
+  take_out : Counts R N → K → Counts R N
+  take_out m k = record { map = remove m.map k; nonzero = λ q e. dropped _ _ _ (m.nonzero q) (sym (get-remove o m.map k q) ∙ e) }
+
+  set_by : Counts R N → K → (v : X) → (z : ℤ) → N.int v ≡ z → Counts R N
+  set_by m k v (pos zero) e = take_out m k
+  set_by m k v (pos (suc n)) e = put_in m k v (λ s. absurd (cc (e, ap N.int s, N.kept_zero)))
+  set_by m k v (negsuc n) e = put_in m k v (λ s. absurd (cc (e, ap N.int s, N.kept_zero)))
+
+  -- the same but for one key
+  pub set : Counts R N → K → X → Counts R N
+  set m k v = set_by m k v (N.int v) refl
+
+  at-put_in : (m : Counts R N) (k : K) (v : X) (some : v ≢ nil N) (q : K) → at (put_in m k v some) q ≡ cond (eq_by_cmp R q k) v (at m q)
+  unfolding at put_in
+  at-put_in m k v some q = ap (or_else (nil N)) (get-insert o m.map k v q) ∙ or_else-cond (nil N) (eq_by_cmp R q k) (Some v) (get m.map q)
+
+  at-set_by : (m : Counts R N) (k : K) (v : X) (z : ℤ) (e : N.int v ≡ z) (q : K) → at (set_by m k v z e) q ≡ cond (eq_by_cmp R q k) v (at m q)
+  unfolding at set_by take_out
+  at-set_by m k v (pos zero) e q =
+      ap (or_else (nil N)) (get-remove o m.map k q) ∙ or_else-cond (nil N) (eq_by_cmp R q k) None (get m.map q)
+      ∙ ap (λ x. cond (eq_by_cmp R q k) x (at m q)) (sym (sym (N.kept v) ∙ ap N.of_int e))
+  at-set_by m k v (pos (suc n)) e q = at-put_in m k v _ q
+  at-set_by m k v (negsuc n) e q = at-put_in m k v _ q
+
+  pub at-set : (m : Counts R N) (k : K) (v : X) (q : K) → at (set m k v) q ≡ cond (eq_by_cmp R q k) v (at m q)
+  unfolding set
+  at-set m k v q = at-set_by m k v (N.int v) refl q
+
+  -- an integer more at one key
+  abbrev pub added : Counts R N → K → ℤ → Counts R N
+  added m k n = set m k (N.of_int (int_at m k +ℤ n))
+
+  -- the function f at the keys of the list, and no number elsewhere
+  pub on_keys : List K → (K → X) → Counts R N
+  on_keys [] f = none
+  on_keys (k ∷ ks) f = set (on_keys ks f) k (f k)
+
+  -- the map that a list of entries gives
+  pub of_entries : List (K × X) → Counts R N
+  of_entries es = on_keys (keys_of es) (λ q. or_else (nil N) (find R q es))
+
+module _ {K X : Type 0} {R : K → K → Ordering} (N : Number X) (o : IsTotalOrder R) where
+  pub at-on_keys : IsAntisymmetric R → (ks : List K) (f : K → X) (q : K) → at (on_keys {N = N} o ks f) q ≡ cond (has_key R q ks) (f q) (nil N)
+  unfolding on_keys
+  at-on_keys tells [] f q = at-none R N q
+  at-on_keys tells (k ∷ ks) f q =
+      at-set o (on_keys {N = N} o ks f) k (f k) q
+      ∙ ap (cond (eq_by_cmp R q k) (f k)) (at-on_keys tells ks f q)
+      ∙ one_of (eq_by_cmp R q k) (has_key R q ks) (f k) (f q) (nil N) (λ e. ap f (sym (tells_apart tells q k e)))
+
+  unlisted : (es : List (K × X)) (q : K) → has_key R q (keys_of es) ≡ false → or_else (nil N) (find R q es) ≡ nil N
+  unlisted es q e = nothing (find R q es) (is_some-find R q es ∙ e)
+    where
+      nothing : (x : Option X) → is_some x ≡ false → or_else (nil N) x ≡ nil N
+      nothing None e = refl
+      nothing (Some z) e = absurd (cc)
+
+  pub at-of_entries : IsAntisymmetric R → (es : List (K × X)) (q : K) → at (of_entries {N = N} o es) q ≡ or_else (nil N) (find R q es)
+  unfolding of_entries
+  at-of_entries tells es q = at-on_keys tells (keys_of es) (λ p. or_else (nil N) (find R p es)) q ∙ either (nil N) _ _ (unlisted es q)
+
+  same_at : IsAntisymmetric R → (es : List (K × X)) (q : K) → or_else (nil N) (get (of_entries {N = N} o es).map q) ≡ or_else (nil N) (find R q es)
+  unfolding at
+  same_at tells es q = at-of_entries tells es q
+
+  -- entries in order and without zeros are those of their map
+  pub entries-of_entries : IsAntisymmetric R → (es : List (K × X)) → T (is_sorted R es) → ((q : K) → find R q es ≢ Some (nil N)) → entries (of_entries {N = N} o es) ≡ es
+  unfolding entries
+  entries-of_entries tells es sorted some =
+      same_entries R o tells (fin.entries (of_entries {N = N} o es).map) es (entries_sorted (of_entries {N = N} o es).map) sorted
+      (λ q. sym (get-entries (of_entries {N = N} o es).map q) ∙ or_else_exact (nil N) _ _ ((of_entries {N = N} o es).nonzero q) (some q) (same_at tells es q))
+
+  pub of_entries-nil : of_entries {N = N} o [] ≡ none
+  unfolding of_entries on_keys
+  of_entries-nil = refl
+
+cut : {X : Type 0} (z : X) (b c : Bool) (x : X) → (b ≡ false → x ≡ z) → cond b (cond c x z) z ≡ cond c x z
+cut z true c x p = refl
+cut z false true x p = sym (p refl)
+cut z false false x p = refl
+
+module _ {K X : Type 0} {R : K → K → Ordering} {N : Number X} (o : IsTotalOrder R) where
+  -- the map cut to the keys of a kind
+  pub only : (K → Bool) → Counts R N → Counts R N
+  only p m = on_keys o (keys_of (entries m)) (λ q. cond (p q) (at m q) (nil N))
+
+  pub at-only : IsAntisymmetric R → (p : K → Bool) (m : Counts R N) (q : K) → at (only p m) q ≡ cond (p q) (at m q) (nil N)
+  unfolding only
+  at-only tells p m q =
+      at-on_keys N o tells (keys_of (entries m)) (λ k. cond (p k) (at m k) (nil N)) q
+      ∙ cut (nil N) (has_key R q (keys_of (entries m))) (p q) (at m q) (at-absent m q)
+
+less_list : (b c : Bool) (x y : ℤ) → (b ≡ false → x ≡ pos 0) → (c ≡ false → y ≡ pos 0) → cond (b || c) (y -ℤ x) (pos 0) ≡ y -ℤ x
+less_list true c x y p q = refl
+less_list false true x y p q = refl
+less_list false false x y p q = rw (p refl, q refl) refl
+
+module _ {K X : Type 0} {R : K → K → Ordering} {N : Number X} (o : IsTotalOrder R) where
+  -- by how much the second map has more, at the keys at which the two differ
+  pub difference : Counts R N → Counts R N → Counts R integers
+  difference m n = on_keys o (keys_of (entries m) ++ keys_of (entries n)) (λ q. int_at n q -ℤ int_at m q)
+
+  -- at how many keys two maps differ
+  abbrev pub changed : Counts R N → Counts R N → ℕ
+  changed m n = size (difference m n)
+
+  pub at-difference : IsAntisymmetric R → (m n : Counts R N) (q : K) → at (difference m n) q ≡ int_at n q -ℤ int_at m q
+  unfolding difference
+  at-difference tells m n q =
+      at-on_keys integers o tells (keys_of (entries m) ++ keys_of (entries n)) (λ p. int_at n p -ℤ int_at m p) q
+      ∙ ap (λ b. cond b (int_at n q -ℤ int_at m q) (pos 0)) (list_any-append (eq_by_cmp R q) (keys_of (entries m)) (keys_of (entries n)))
+      ∙ less_list _ _ (int_at m q) (int_at n q) (λ e. ap N.int (at-absent m q e) ∙ N.kept_zero) (λ e. ap N.int (at-absent n q e) ∙ N.kept_zero)
+
+  -- entries that tell the difference at each key are as many as the keys at which the maps differ
+  pub changed_entries : IsAntisymmetric R → (m n : Counts R N) (es : List (K × ℤ)) → T (is_sorted R es) → ((q : K) → find R q es ≢ Some (pos 0))
+      → ((q : K) → or_else (pos 0) (find R q es) ≡ int_at n q -ℤ int_at m q) → length es ≡ changed m n
+  changed_entries tells m n es sorted some is =
+      let e : of_entries {N = integers} o es ≡ difference m n = same o tells _ _ (λ q. at-of_entries integers o tells es q ∙ is q ∙ sym (at-difference tells m n q)) in
+      ap length (sym (entries-of_entries integers o tells es sorted some)) ∙ ap size e
+
+-- ---- there and back
+
+overwritten : {X : Type 0} (b : Bool) (x y z : X) → (b ≡ true → x ≡ z) → cond b x (cond b y z) ≡ z
+overwritten true x y z e = e refl
+overwritten false x y z e = refl
+
+module _ {K X : Type 0} {R : K → K → Ordering} {N : Number X} (o : IsTotalOrder R) (tells : IsAntisymmetric R) where
+  pub at-set_here : (m : Counts R N) (k : K) (v : X) → at (set o m k v) k ≡ v
+  at-set_here m k v = at-set o m k v k ∙ ap (λ r. cond (is_eq r) v (at m k)) (tied_itself o k)
+
+  -- the old number is set again
+  pub set-back : (m : Counts R N) (k : K) (v w : X) → w ≡ at m k → set o (set o m k v) k w ≡ m
+  set-back m k v w is =
+      same o tells _ _ (λ q.
+      at-set o (set o m k v) k w q ∙ ap (cond (eq_by_cmp R q k) w) (at-set o m k v q)
+      ∙ overwritten (eq_by_cmp R q k) w v (at m q) (λ e. is ∙ ap (at m) (sym (tells_apart tells q k e))))
+
+  -- what was added is taken away
+  pub added-back : (m : Counts R N) (k : K) (n : ℤ) → N.int (N.of_int (int_at m k +ℤ n)) ≡ int_at m k +ℤ n → added o (added o m k n) k (neg_ℤ n) ≡ m
+  added-back m k n fits =
+      set-back m k (N.of_int (int_at m k +ℤ n)) (N.of_int (int_at (added o m k n) k +ℤ neg_ℤ n))
+      (ap (λ x. N.of_int (N.int x +ℤ neg_ℤ n)) (at-set_here m k (N.of_int (int_at m k +ℤ n)))
+      ∙ ap (λ z. N.of_int (z +ℤ neg_ℤ n)) fits ∙ ap N.of_int (let e : int_at m k +ℤ n +ℤ neg_ℤ n ≡ int_at m k = omega (arith, ints) in e) ∙ N.kept (at m k))
+
+-- ---- what the entries weigh
+
+found_weighs : {K X : Type 0} (f : K → X → ℕ) (k : K) (z : X) → f k z ≡ 0 → (x : Option X) → weight_at f k x ≡ f k (or_else z x)
+found_weighs f k z e None = sym e
+found_weighs f k z e (Some v) = refl
+
+module _ {K X : Type 0} {R : K → K → Ordering} {N : Number X} (o : IsTotalOrder R) (tells : IsAntisymmetric R) (f : K → X → ℕ) where
+  -- two maps that differ at one key alone
+  pub weight-differs : (m n : Counts R N) (k : K) → f k (nil N) ≡ 0 → ((q : K) → q ≢ k → at n q ≡ at m q) → weight f (entries n) + f k (at m k) ≡ weight f (entries m) + f k (at n k)
+  unfolding at entries
+  weight-differs m n k e others =
+      ap (λ w. weight f (fin.entries n.map) + w) (sym (found_weighs f k (nil N) e (get m.map k)))
+      ∙ weight_moves R o tells f m.map n.map k (λ q other. or_else_exact (nil N) _ _ (n.nonzero q) (m.nonzero q) (others q other))
+      ∙ ap (λ w. weight f (fin.entries m.map) + w) (found_weighs f k (nil N) e (get n.map k))
+
+  pub weight-set : (m : Counts R N) (k : K) (v : X) → f k (nil N) ≡ 0 → weight f (entries (set o m k v)) + f k (at m k) ≡ weight f (entries m) + f k v
+  weight-set m k v e =
+      weight-differs m (set o m k v) k e (λ q other. at-set o m k v q ∙ elim (eq_by_cmp R q k) as (λ b. eq_by_cmp R q k ≡ b → cond b v (at m q) ≡ at m q) [
+        | true ↦ λ t. absurd (other (tells_apart tells q k t))
+        | false ↦ λ t. refl
+      ] refl)
+      ∙ ap (λ x. weight f (entries m) + f k x) (at-set_here o tells m k v)
+
+module _ {K X : Type 0} {R : K → K → Ordering} {N : Number X} where
+  -- the number of a key, among the entries
+  pub at-entries : (m : Counts R N) (q : K) → at m q ≡ or_else (nil N) (find R q (entries m))
+  unfolding at entries
+  at-entries m q = ap (or_else (nil N)) (get-entries m.map q)
+
+  pub entries_listed : (m : Counts R N) → T (is_sorted R (entries m))
+  unfolding entries
+  entries_listed m = entries_sorted m.map

@@ -1,0 +1,122 @@
+//! Finite maps kept in a tree, the storage of the maps above that may grow large.
+ghost use Rattle.std.specs.Prelude.{◌≡◌, ◌↔◌, ◌<◌, ◌^◌, [], OnOk, OnErr, IfOk, IsTrue, None, length, slice_get};
+ghost use Rattle.std.specs.Option.{option_map};
+ghost use Rattle.std.specs.FinMap.{find, put};
+ghost use Rattle.std.specs.Map.Iter.{ShowsInOrder, deref_pair};
+ghost use Rattle.nd_map.specs.Listed.{IsListed, without};
+
+use crate::Key;
+use std::alloc::{AllocError, Allocator, Global};
+use std::collections::BTreeMap;
+use std::collections::btree_map::Iter;
+use std::marker::Model;
+
+/// A finite map, seen as the list of its entries in the order of their keys.
+///
+/// A look-up, an edit and the first entry each take a logarithm of the number of entries.
+#[derive(Drop)]
+pub struct TreeMap<K: Key, V: Copy, A: Allocator = Global> {
+    tree: BTreeMap<K, V, A>,
+}
+
+impl<K: Key, V: Copy, A: Allocator> Model for TreeMap<K, V, A> {
+    ghost use Rattle.std.specs.Prelude.{List};
+    ghost use Rattle.nd_map.specs.Listed.{IsListed};
+
+    ghost Value = { List (K × V) };
+
+    ghost view = { λ a. a.tree.entries };
+
+    ghost invariant = { λ a. IsListed K.cmp a.tree.entries };
+}
+
+impl<K: Key, V: Copy, A: Allocator> TreeMap<K, V, A> {
+    /// The map with no entry. It takes no memory.
+    pub fn new(alloc: A) -> TreeMap<K, V, A>
+        ensures { result ≡ [] }
+    {
+        TreeMap {
+            tree: BTreeMap::new(alloc),
+        }
+    }
+
+    /// The value at a key.
+    pub fn get(&self, key: &K) -> Option<V>
+        ensures value { result ≡ find K.cmp key.now self.now }
+        ensures listed { IsListed K.cmp self.now }
+    {
+        self.tree.get(key).copied()
+    }
+
+    /// The entries in the order of their keys, one by one.
+    pub fn iter(&self) -> Iter<'_, K, V>
+        ensures rest { result ≡ self.now }
+        ensures runs { ShowsInOrder (deref_pair {K = K} {X = V}) }
+        ensures fits { length self.now < 2 ^ 63 }
+        ensures listed { IsListed K.cmp self.now }
+    {
+        self.tree.iter()
+    }
+
+    /// The entry of the least key.
+    pub fn first(&self) -> Option<(&K, V)>
+        ensures value { option_map (λ e. (e.0.now, e.1)) result ≡ slice_get self.now 0 }
+        ensures listed { IsListed K.cmp self.now }
+    {
+        match self.tree.first_key_value() {
+            Some((key, value)) => Some((key, *value)),
+            None => None,
+        }
+    }
+
+    /// The number of entries.
+    pub fn len(&self) -> usize
+        ensures { result ≡ length self.now }
+    {
+        self.tree.len()
+    }
+
+    /// Whether there is no entry.
+    pub fn is_empty(&self) -> bool
+        ensures { IsTrue result ↔ (self.now ≡ []) }
+    {
+        self.len() == 0
+    }
+
+    /// Takes a key and its value out, where it is there.
+    pub fn remove(&mut self, key: &K)
+        ensures value { self.new ≡ without K.cmp key.now self.old }
+        ensures listed { IsListed K.cmp self.new }
+        ensures was_listed { IsListed K.cmp self.old }
+    {
+        self.tree.remove(key);
+    }
+}
+
+impl<K: Key, V: Copy, A: Allocator + Clone> TreeMap<K, V, A> {
+    /// Gives a key a value. A key that has one takes no memory.
+    pub fn put(&mut self, key: &K, value: V) -> Result<(), AllocError>
+        ensures ok { OnOk result (self.new ≡ put K.cmp key.now value self.old) }
+        ensures err { OnErr result (self.new ≡ self.old) }
+        ensures absent { OnErr result (find K.cmp key.now self.old ≡ None) }
+        ensures listed { IsListed K.cmp self.new }
+        ensures was_listed { IsListed K.cmp self.old }
+    {
+        let Ok(_) = self.tree.insert(key.duplicate(), value) else {
+            return Err(AllocError);
+        };
+        Ok(())
+    }
+
+    /// An equal map.
+    pub fn copy(&self, alloc: A) -> Result<TreeMap<K, V, A>, AllocError>
+        ensures equal { IfOk result (λ m. m ≡ self.now) }
+        ensures listed { IsListed K.cmp self.now }
+    {
+        let mut copied = TreeMap::new(alloc);
+        for (key, value) in self.iter() {
+            copied.put(key, *value)?;
+        }
+        Ok(copied)
+    }
+}

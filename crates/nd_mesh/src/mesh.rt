@@ -1,0 +1,211 @@
+//! All the queues.
+#![tactic(auto)]
+
+ghost use Rattle.std.specs.Prelude.{◌≡◌, ◌↔◌, ◌<◌, ◌≤◌, [], length, replicate, slice_get, option_copied, Err, IfErr, IfOk, IsErr, IsErrAnd, IsTrue, OnErr, OnOk};
+ghost use Rattle.std.specs.Result.{result_ok};
+ghost use Rattle.nd_mesh.specs.Mesh.{row, queue, pushed, unpushed, popped, unpopped, HasQueue, IsFull, IsVacant, IsMesh};
+
+use crate::outbox::Outbox;
+use nd_delta::Delta;
+use std::alloc::{AllocError, Allocator, Global};
+use std::marker::Model;
+
+/// The most changes of one queue.
+pub const LIMIT: usize = 65_536;
+
+/// Why a change was not put into a queue.
+#[derive(Debug, Clone, Copy, PartialEq, Eq)]
+pub enum PushFault {
+    /// A queue holds `LIMIT` changes.
+    QueueFull,
+    /// A growth was refused.
+    Memory,
+}
+
+/// A queue holds no change.
+#[derive(Debug, Clone, Copy, PartialEq, Eq)]
+pub struct QueueEmpty;
+
+/// A change that was not put into a queue, and why.
+pub struct NotPut<A: Allocator + Copy = Global> {
+    /// Why it was not.
+    pub fault: PushFault,
+    /// The change, as it was.
+    pub change: Delta<A>,
+}
+
+impl<A: Allocator + Copy> Drop for NotPut<A> {
+    fn drop(self) {
+        let NotPut {
+            fault: _,
+            change: _,
+        } = self;
+    }
+}
+
+/// The queues between `n` processors: for each sender, and for each receiver, the changes on
+/// their way from front to back, the oldest first.
+pub struct Mesh<A: Allocator + Copy = Global> {
+    rows: Vec<Outbox<A>, A>,
+    alloc: A,
+}
+
+impl<A: Allocator + Copy> Drop for Mesh<A> {
+    fn drop(self) {
+        let Mesh { rows: _, alloc: _ } = self;
+    }
+}
+
+impl<A: Allocator + Copy> Model for Mesh<A> {
+    ghost use Rattle.std.specs.Prelude.{List};
+    ghost use Rattle.std.specs.Coded.{coded_list};
+    ghost use Rattle.nd_delta.specs.Change.{Change, change_code};
+    ghost use Rattle.nd_mesh.specs.Mesh.{IsMesh};
+
+    ghost Value = { List (List (List Change)) };
+
+    ghost coded = { coded_list (coded_list (coded_list change_code)) };
+
+    ghost view = { λ a. a.rows.items };
+
+    ghost invariant = { λ a. IsMesh a.rows.items };
+}
+
+impl<A: Allocator + Copy> Mesh<A> {
+    /// The queues between `n` processors, with no change.
+    pub fn new(alloc: A, n: usize) -> Result<Mesh<A>, AllocError>
+        ensures { IfOk result (λ m. m ≡ replicate n (replicate n [])) }
+    {
+        let mut rows = Vec::with_capacity(alloc, n)?;
+        for _ in 0..n {
+            rows.push(Outbox::new(alloc, n)?)?;
+        }
+        Ok(Mesh { rows, alloc })
+    }
+
+    /// The number of processors.
+    pub fn n(&self) -> usize
+        ensures value { result ≡ length self.now }
+        ensures mesh { IsMesh self.now }
+    {
+        self.rows.len()
+    }
+
+    /// The number of changes in a queue.
+    pub fn len(&self, from: usize, to: usize) -> usize
+        requires sender { from < length self.now }
+        requires receiver { to < length self.now }
+        ensures value { result ≡ length (queue self.now from to) }
+        ensures mesh { IsMesh self.now }
+    {
+        self.rows[from].queue_len(to)
+    }
+
+    /// The change at a place of a queue, counted from the front.
+    pub fn get(&self, from: usize, to: usize, i: usize) -> Option<&Delta<A>>
+        requires sender { from < length self.now }
+        requires receiver { to < length self.now }
+        ensures value { option_copied result ≡ slice_get (queue self.now from to) i }
+        ensures mesh { IsMesh self.now }
+    {
+        self.rows[from].get(to, i)
+    }
+
+    /// Whether a queue from a processor holds `LIMIT` changes.
+    pub fn is_full(&self, from: usize) -> bool
+        requires { from < length self.now }
+        ensures full { IsTrue result ↔ HasQueue IsFull (row self.now from) }
+        ensures mesh { IsMesh self.now }
+    {
+        self.rows[from].has_full()
+    }
+
+    /// Puts an equal change at the back of each queue from a processor.
+    pub fn push_all(&mut self, from: usize, change: &Delta<A>) -> Result<(), PushFault>
+        requires { from < length self.old }
+        ensures ok { OnOk result (self.new ≡ pushed self.old from change.now) }
+        ensures undone { OnOk result (unpushed self.new from ≡ self.old) }
+        ensures err { OnErr result (self.new ≡ self.old) }
+        ensures full { (result ≡ Err (PushFault.QueueFull)) ↔ HasQueue IsFull (row self.old from) }
+        ensures mesh { IsMesh self.new }
+    {
+        if self.rows[from].has_full() {
+            return Err(PushFault::QueueFull);
+        }
+        let alloc = self.alloc;
+        let Ok(()) = self.rows[from].push_all(alloc, change) else {
+            return Err(PushFault::Memory);
+        };
+        Ok(())
+    }
+
+    /// Takes the newest change out of each queue from a processor. It takes no memory.
+    pub fn unpush_all(&mut self, from: usize) -> Result<(), QueueEmpty>
+        requires { from < length self.old }
+        ensures ok { OnOk result (self.new ≡ unpushed self.old from) }
+        ensures err { OnErr result (self.new ≡ self.old) }
+        ensures empty { IsErr result ↔ HasQueue IsVacant (row self.old from) }
+        ensures mesh { IsMesh self.new }
+    {
+        if self.rows[from].has_vacant() {
+            return Err(QueueEmpty);
+        }
+        self.rows[from].unpush_all();
+        Ok(())
+    }
+
+    /// Takes the oldest change out of a queue. It takes no memory.
+    pub fn pop(&mut self, from: usize, to: usize) -> Result<Delta<A>, QueueEmpty>
+        requires sender { from < length self.old }
+        requires receiver { to < length self.old }
+        ensures value { result_ok result ≡ slice_get (queue self.old from to) 0 }
+        ensures empty { IsErr result ↔ IsVacant (queue self.old from to) }
+        ensures ok { OnOk result (self.new ≡ popped self.old from to) }
+        ensures undone { IfOk result (λ c. unpopped self.new from to c ≡ self.old) }
+        ensures err { OnErr result (self.new ≡ self.old) }
+        ensures mesh { IsMesh self.new }
+    {
+        let Some(change) = self.rows[from].pop(to) else {
+            return Err(QueueEmpty);
+        };
+        Ok(change)
+    }
+
+    /// Puts a change at the front of a queue, or hands it back.
+    pub fn unpop(&mut self, from: usize, to: usize, change: Delta<A>) -> Result<(), NotPut<A>>
+        requires sender { from < length self.old }
+        requires receiver { to < length self.old }
+        ensures ok { OnOk result (self.new ≡ unpopped self.old from to change) }
+        ensures undone { OnOk result (popped self.new from to ≡ self.old) }
+        ensures err { OnErr result (self.new ≡ self.old) }
+        ensures back { IfErr result (λ e. e.change ≡ change) }
+        ensures full { IsErrAnd result (λ e. e.fault ≡ PushFault.QueueFull) ↔ IsFull (queue self.old from to) }
+        ensures mesh { IsMesh self.new }
+    {
+        if self.rows[from].queue_len(to) >= LIMIT {
+            return Err(NotPut {
+                fault: PushFault::QueueFull,
+                change,
+            });
+        }
+        if let Err(change) = self.rows[from].unpop(to, change) {
+            return Err(NotPut {
+                fault: PushFault::Memory,
+                change,
+            });
+        }
+        Ok(())
+    }
+
+    /// Equal queues.
+    pub fn copy(&self, alloc: A) -> Result<Mesh<A>, AllocError>
+        ensures equal { IfOk result (λ m. m ≡ self.now) }
+        ensures mesh { IsMesh self.now }
+    {
+        let mut rows = Vec::with_capacity(alloc, self.rows.len())?;
+        for row in &self.rows {
+            rows.push(row.copy(alloc)?)?;
+        }
+        Ok(Mesh { rows, alloc })
+    }
+}

@@ -1,0 +1,4 @@
+mod Keeping
+mod Parts
+mod Seen
+mod Started

@@ -1,0 +1,210 @@
+-- What a processor keeps, as the state that it is seen as: look-ups and edits.
+use Rattle.std.proofs.Common.{◌≡◌, ◌≤◌, ◌<◌, ℕ, ◌+◌, ◌-◌, ℤ, pos, ◌+ℤ◌, neg_ℤ, List, length, map, Option, Some, None, sym, ap, subst, ◌∙◌}
+use Rattle.std.specs.Option.{option_map}
+use Rattle.std.specs.Prelude.{slice_get, slice_set, slice_index_or, OnOk, OnErr, Result, Ok, Err, ◌↔◌, IsTrue, is_some, Bool}
+use Rattle.std.proofs.lemmas.List.{get_or_default}
+use Rattle.std.proofs.lemmas.Option.{slice_get-map}
+use Rattle.std.proofs.lemmas.Cmp.{nat_cmp_total}
+use Rattle.std.specs.Ordering.{nat_cmp}
+use Rattle.std.specs.FinMap as fin
+use Rattle.std.specs.FinMap.{find, put}
+use Rattle.nd_time.specs.Limits.{max_count}
+use Rattle.nd_map.specs.Listed.{IsListed, without}
+use Rattle.nd_map.specs.Maps.{from_entries-put, from_entries-without, entries-from_entries}
+use Rattle.nd_map.specs.Counts.{naturals, natural, none as no_items, or_else, at, set, added, of_entries, entries as counts_of}
+use Rattle.nd_paths.specs.Point.{point_cmp, point_total, point_exact}
+use Rattle.nd_paths.specs.declared.point.Pointstamp.{Pointstamp}
+use Rattle.nd_delta.specs.Change.{Change}
+use Rattle.nd_vertex.specs.Items.{Items}
+use Rattle.nd_vertex.specs.Edits.{item_of, with_item}
+use Rattle.nd_vertex.specs.declared.key.ItemKey.{ItemKey}
+use Rattle.nd_processor.specs.Keys.{value_at_cmp, value_at_total, value_at_exact, sink_cmp, sink_total, sink_exact}
+use Rattle.nd_processor.specs.State.{ProcessorState}
+use Rattle.nd_processor.specs.Held.{natural-less}
+use Rattle.nd_processor.specs.Kept.{IsKept, number, put_count, seen}
+use Rattle.nd_processor.specs.Edits.{more-back, less-back, with_value, value-back, with_vertex_item, vertex_item-back}
+use Rattle.nd_processor.specs.declared.key.ValueAt.{ValueAt}
+use Rattle.nd_processor.specs.declared.key.SinkKey.{SinkKey}
+use Rattle.nd_processor.proofs.Keeping.{at_number, of_put_count, kept_entries, kept_within}
+
+-- ---- answers that are Results
+
+pub on_ok : {A E : Type 0} {P Q : Type 0} (r : Result A E) → (P → Q) → OnOk r P → OnOk r Q
+on_ok (Ok x) f h = f h
+on_ok (Err e) f h = h
+
+pub on_err : {A E : Type 0} {P Q : Type 0} (r : Result A E) → (P → Q) → OnErr r P → OnErr r Q
+on_err (Ok x) f h = h
+on_err (Err e) f h = f h
+
+pub asked : (x y : Option (Unit {0})) (b : Bool) → b ≡ is_some x → x ≡ y → IsTrue b ↔ (y ≡ Some tt)
+asked None y b e same = ((λ t. absurd (cc)), λ s. absurd (cc))
+asked (Some u) y b e same = ((λ t. sym same), λ s. e)
+
+-- ---- look-ups and edits of the state
+
+module _ (records : List (ValueAt × ℕ)) (requests : List (Pointstamp × Unit {0})) (tokens : List (ℕ × ℕ)) (items : List Items) (sinks : List (SinkKey × ℕ)) (unsent : Change) (state : ProcessorState) (view : seen records requests tokens items sinks unsent ≡ state) where
+  pub records_at : (k : ValueAt) → number value_at_cmp records k ≡ at state.records k
+  records_at k = at_number value_at_cmp value_at_total records k value_at_exact ∙ ap (λ (q : ProcessorState). at q.records k) view
+
+  pub records_entries : IsKept value_at_cmp records → records ≡ counts_of state.records
+  records_entries kept = sym (kept_entries value_at_cmp value_at_total value_at_exact records kept) ∙ ap (λ (q : ProcessorState). counts_of q.records) view
+
+  pub records_within : IsKept value_at_cmp records → (k : ValueAt) → at state.records k ≤ max_count
+  records_within kept k = subst (λ (q : ProcessorState). at q.records k ≤ max_count) view (kept_within value_at_cmp value_at_total value_at_exact records kept k)
+
+  -- another count of a key
+  records_set : (k : ValueAt) (n m : ℕ) (fs : List (ValueAt × ℕ)) → fs ≡ put_count value_at_cmp k n records → n ≡ m → seen fs requests tokens items sinks unsent ≡ record state { records = set value_at_total state.records k m }
+  records_set k n m fs is same =
+      let e : of_entries {N = naturals} value_at_total fs ≡ set value_at_total (of_entries {N = naturals} value_at_total records) k m
+      = ap (of_entries {N = naturals} value_at_total) is ∙ of_put_count value_at_cmp value_at_total records k value_at_exact n ∙ ap (set value_at_total (of_entries {N = naturals} value_at_total records) k) same in
+      (λ i. record (seen records requests tokens items sinks unsent) { records = e i }) ∙ ap (λ (q : ProcessorState). record q { records = set value_at_total q.records k m }) view
+
+  pub records_added : (k : ValueAt) (n : ℕ) (fs : List (ValueAt × ℕ)) → fs ≡ put_count value_at_cmp k (number value_at_cmp records k + n) records
+      → seen fs requests tokens items sinks unsent ≡ record state { records = added value_at_total state.records k (pos n) }
+  records_added k n fs is = records_set k (number value_at_cmp records k + n) (at state.records k + n) fs is (ap (λ m. m + n) (records_at k))
+
+  pub records_more_undone : (k : ValueAt) (n : ℕ) (fs : List (ValueAt × ℕ)) → fs ≡ put_count value_at_cmp k (number value_at_cmp records k + n) records
+      → record (seen fs requests tokens items sinks unsent) { records = added value_at_total (of_entries value_at_total fs) k (neg_ℤ (pos n)) } ≡ state
+  records_more_undone k n fs is =
+      ap (λ (q : ProcessorState). record q { records = added value_at_total q.records k (neg_ℤ (pos n)) }) (records_added k n fs is)
+      ∙ (λ i. record state { records = more-back value_at_total value_at_exact state.records k n i })
+
+  pub records_there : (k : ValueAt) (n : ℕ) → n ≤ at state.records k → n ≤ number value_at_cmp records k
+  records_there k n h = subst (λ m. n ≤ m) (sym (records_at k)) h
+
+  pub records_taken : (k : ValueAt) (n : ℕ) (fs : List (ValueAt × ℕ)) → n ≤ at state.records k → fs ≡ put_count value_at_cmp k (number value_at_cmp records k - n) records
+      → seen fs requests tokens items sinks unsent ≡ record state { records = added value_at_total state.records k (neg_ℤ (pos n)) }
+  records_taken k n fs h is =
+      records_set k (number value_at_cmp records k - n) (natural (pos (at state.records k) +ℤ neg_ℤ (pos n))) fs is
+      (ap (λ m. m - n) (records_at k) ∙ sym (natural-less (at state.records k) n h))
+
+  pub records_less_undone : (k : ValueAt) (n : ℕ) (fs : List (ValueAt × ℕ)) → n ≤ at state.records k → fs ≡ put_count value_at_cmp k (number value_at_cmp records k - n) records
+      → record (seen fs requests tokens items sinks unsent) { records = added value_at_total (of_entries value_at_total fs) k (pos n) } ≡ state
+  records_less_undone k n fs h is =
+      ap (λ (q : ProcessorState). record q { records = added value_at_total q.records k (pos n) }) (records_taken k n fs h is)
+      ∙ (λ i. record state { records = less-back value_at_total value_at_exact state.records k n h i })
+
+  pub records_absent : (k : ValueAt) → find value_at_cmp k records ≡ None → at state.records k ≡ 0
+  records_absent k none = sym (records_at k) ∙ ap (or_else 0) none
+
+  pub records_full : (k : ValueAt) (n : ℕ) {P : Type 0} → P ↔ (max_count < number value_at_cmp records k + n) → P ↔ (max_count < at state.records k + n)
+  records_full k n {P} h = subst (λ m. P ↔ (max_count < m + n)) (records_at k) h
+
+  pub sinks_at : (k : SinkKey) → number sink_cmp sinks k ≡ at state.sinks k
+  sinks_at k = at_number sink_cmp sink_total sinks k sink_exact ∙ ap (λ (q : ProcessorState). at q.sinks k) view
+
+  pub sinks_entries : IsKept sink_cmp sinks → sinks ≡ counts_of state.sinks
+  sinks_entries kept = sym (kept_entries sink_cmp sink_total sink_exact sinks kept) ∙ ap (λ (q : ProcessorState). counts_of q.sinks) view
+
+  pub sinks_within : IsKept sink_cmp sinks → (k : SinkKey) → at state.sinks k ≤ max_count
+  sinks_within kept k = subst (λ (q : ProcessorState). at q.sinks k ≤ max_count) view (kept_within sink_cmp sink_total sink_exact sinks kept k)
+
+  -- another count of a key
+  sinks_set : (k : SinkKey) (n m : ℕ) (fs : List (SinkKey × ℕ)) → fs ≡ put_count sink_cmp k n sinks → n ≡ m → seen records requests tokens items fs unsent ≡ record state { sinks = set sink_total state.sinks k m }
+  sinks_set k n m fs is same =
+      let e : of_entries {N = naturals} sink_total fs ≡ set sink_total (of_entries {N = naturals} sink_total sinks) k m
+      = ap (of_entries {N = naturals} sink_total) is ∙ of_put_count sink_cmp sink_total sinks k sink_exact n ∙ ap (set sink_total (of_entries {N = naturals} sink_total sinks) k) same in
+      (λ i. record (seen records requests tokens items sinks unsent) { sinks = e i }) ∙ ap (λ (q : ProcessorState). record q { sinks = set sink_total q.sinks k m }) view
+
+  pub sinks_added : (k : SinkKey) (n : ℕ) (fs : List (SinkKey × ℕ)) → fs ≡ put_count sink_cmp k (number sink_cmp sinks k + n) sinks
+      → seen records requests tokens items fs unsent ≡ record state { sinks = added sink_total state.sinks k (pos n) }
+  sinks_added k n fs is = sinks_set k (number sink_cmp sinks k + n) (at state.sinks k + n) fs is (ap (λ m. m + n) (sinks_at k))
+
+  pub sinks_more_undone : (k : SinkKey) (n : ℕ) (fs : List (SinkKey × ℕ)) → fs ≡ put_count sink_cmp k (number sink_cmp sinks k + n) sinks
+      → record (seen records requests tokens items fs unsent) { sinks = added sink_total (of_entries sink_total fs) k (neg_ℤ (pos n)) } ≡ state
+  sinks_more_undone k n fs is =
+      ap (λ (q : ProcessorState). record q { sinks = added sink_total q.sinks k (neg_ℤ (pos n)) }) (sinks_added k n fs is)
+      ∙ (λ i. record state { sinks = more-back sink_total sink_exact state.sinks k n i })
+
+  pub sinks_there : (k : SinkKey) (n : ℕ) → n ≤ at state.sinks k → n ≤ number sink_cmp sinks k
+  sinks_there k n h = subst (λ m. n ≤ m) (sym (sinks_at k)) h
+
+  pub sinks_taken : (k : SinkKey) (n : ℕ) (fs : List (SinkKey × ℕ)) → n ≤ at state.sinks k → fs ≡ put_count sink_cmp k (number sink_cmp sinks k - n) sinks
+      → seen records requests tokens items fs unsent ≡ record state { sinks = added sink_total state.sinks k (neg_ℤ (pos n)) }
+  sinks_taken k n fs h is =
+      sinks_set k (number sink_cmp sinks k - n) (natural (pos (at state.sinks k) +ℤ neg_ℤ (pos n))) fs is
+      (ap (λ m. m - n) (sinks_at k) ∙ sym (natural-less (at state.sinks k) n h))
+
+  pub sinks_less_undone : (k : SinkKey) (n : ℕ) (fs : List (SinkKey × ℕ)) → n ≤ at state.sinks k → fs ≡ put_count sink_cmp k (number sink_cmp sinks k - n) sinks
+      → record (seen records requests tokens items fs unsent) { sinks = added sink_total (of_entries sink_total fs) k (pos n) } ≡ state
+  sinks_less_undone k n fs h is =
+      ap (λ (q : ProcessorState). record q { sinks = added sink_total q.sinks k (pos n) }) (sinks_taken k n fs h is)
+      ∙ (λ i. record state { sinks = less-back sink_total sink_exact state.sinks k n h i })
+
+  pub sinks_absent : (k : SinkKey) → find sink_cmp k sinks ≡ None → at state.sinks k ≡ 0
+  sinks_absent k none = sym (sinks_at k) ∙ ap (or_else 0) none
+
+  pub sinks_full : (k : SinkKey) (n : ℕ) {P : Type 0} → P ↔ (max_count < number sink_cmp sinks k + n) → P ↔ (max_count < at state.sinks k + n)
+  sinks_full k n {P} h = subst (λ m. P ↔ (max_count < m + n)) (sinks_at k) h
+
+  pub requests_get : (k : Pointstamp) → find point_cmp k requests ≡ fin.get state.requests k
+  requests_get k = sym (fin.get-from_entries point_total requests k) ∙ ap (λ (q : ProcessorState). fin.get q.requests k) view
+
+  pub requests_listed : IsListed point_cmp requests → requests ≡ fin.entries state.requests
+  requests_listed h = sym (entries-from_entries point_cmp point_total point_exact requests h) ∙ ap (λ (q : ProcessorState). fin.entries q.requests) view
+
+  pub requests_put : (k : Pointstamp) (v : Unit {0}) (fs : List (Pointstamp × Unit {0})) → fs ≡ put point_cmp k v requests → seen records fs tokens items sinks unsent ≡ record state { requests = fin.insert state.requests k v }
+  requests_put k v fs is =
+      (λ i. record (seen records requests tokens items sinks unsent) { requests = (ap fin.from_entries is ∙ from_entries-put point_cmp point_total point_exact k v requests) i })
+      ∙ ap (λ (q : ProcessorState). record q { requests = fin.insert q.requests k v }) view
+
+  pub requests_without : (k : Pointstamp) (fs : List (Pointstamp × Unit {0})) → fs ≡ without point_cmp k requests → seen records fs tokens items sinks unsent ≡ record state { requests = fin.remove state.requests k }
+  requests_without k fs is =
+      (λ i. record (seen records requests tokens items sinks unsent) { requests = (ap fin.from_entries is ∙ from_entries-without point_cmp point_total point_exact k requests) i })
+      ∙ ap (λ (q : ProcessorState). record q { requests = fin.remove q.requests k }) view
+
+  pub requests_back : (k : Pointstamp) (old new : Option (Unit {0})) (after : ProcessorState) → fin.get state.requests k ≡ old → after ≡ record state { requests = with_value state.requests k new }
+      → record after { requests = with_value after.requests k old } ≡ state
+  requests_back k old new after had is =
+      ap (λ (q : ProcessorState). record q { requests = with_value q.requests k old }) is
+      ∙ (λ i. record state { requests = value-back point_total point_exact state.requests k old new had i })
+
+  pub tokens_get : (k : ℕ) → find nat_cmp k tokens ≡ fin.get state.tokens k
+  tokens_get k = sym (fin.get-from_entries nat_cmp_total tokens k) ∙ ap (λ (q : ProcessorState). fin.get q.tokens k) view
+
+  pub tokens_listed : IsListed nat_cmp tokens → tokens ≡ fin.entries state.tokens
+  tokens_listed h = sym (entries-from_entries nat_cmp nat_cmp_total fin.nat_cmp-IsAntisymmetric tokens h) ∙ ap (λ (q : ProcessorState). fin.entries q.tokens) view
+
+  pub tokens_put : (k : ℕ) (v : ℕ) (fs : List (ℕ × ℕ)) → fs ≡ put nat_cmp k v tokens → seen records requests fs items sinks unsent ≡ record state { tokens = fin.insert state.tokens k v }
+  tokens_put k v fs is =
+      (λ i. record (seen records requests tokens items sinks unsent) { tokens = (ap fin.from_entries is ∙ from_entries-put nat_cmp nat_cmp_total fin.nat_cmp-IsAntisymmetric k v tokens) i })
+      ∙ ap (λ (q : ProcessorState). record q { tokens = fin.insert q.tokens k v }) view
+
+  pub tokens_without : (k : ℕ) (fs : List (ℕ × ℕ)) → fs ≡ without nat_cmp k tokens → seen records requests fs items sinks unsent ≡ record state { tokens = fin.remove state.tokens k }
+  tokens_without k fs is =
+      (λ i. record (seen records requests tokens items sinks unsent) { tokens = (ap fin.from_entries is ∙ from_entries-without nat_cmp nat_cmp_total fin.nat_cmp-IsAntisymmetric k tokens) i })
+      ∙ ap (λ (q : ProcessorState). record q { tokens = fin.remove q.tokens k }) view
+
+  pub tokens_back : (k : ℕ) (old new : Option ℕ) (after : ProcessorState) → fin.get state.tokens k ≡ old → after ≡ record state { tokens = with_value state.tokens k new }
+      → record after { tokens = with_value after.tokens k old } ≡ state
+  tokens_back k old new after had is =
+      ap (λ (q : ProcessorState). record q { tokens = with_value q.tokens k old }) is
+      ∙ (λ i. record state { tokens = value-back nat_cmp_total fin.nat_cmp-IsAntisymmetric state.tokens k old new had i })
+
+  pub first_requested : IsListed point_cmp requests → (x : Option Pointstamp) (y : Option (Pointstamp × Unit {0})) → y ≡ slice_get requests 0 → x ≡ option_map (λ e. e.0) y → x ≡ slice_get (fin.keys state.requests) 0
+  first_requested h x y is same =
+      same ∙ ap (option_map (λ e. e.0)) is ∙ sym (slice_get-map (λ (e : Pointstamp × Unit {0}). e.0) requests 0)
+      ∙ ap (λ (es : List (Pointstamp × Unit {0})). slice_get (map (λ e. e.0) es) 0) (requests_listed h)
+
+  -- an item of a vertex has another number
+  pub items_set : (vertex : ℕ) (k : ItemKey) (n : Option ℤ) (m m' : Items) → vertex < length items → m ≡ slice_index_or items vertex m → m' ≡ with_item m k n
+      → seen records requests tokens (slice_set items vertex m') sinks unsent ≡ record state { items = with_vertex_item state.items vertex k n }
+  items_set vertex k n m m' within is made =
+      let here : m ≡ slice_index_or items vertex no_items = is ∙ get_or_default items vertex m no_items within in
+      (λ i. seen records requests tokens (slice_set items vertex ((made ∙ ap (λ x. with_item x k n) here) i)) sinks unsent)
+      ∙ ap (λ (q : ProcessorState). record q { items = with_vertex_item q.items vertex k n }) view
+
+  pub items_back : (vertex : ℕ) (k : ItemKey) (old new : Option ℤ) (m m' : Items) → vertex < length state.items → item_of (slice_index_or state.items vertex no_items) k ≡ old
+      → vertex < length items → m ≡ slice_index_or items vertex m → m' ≡ with_item m k new
+      → record (seen records requests tokens (slice_set items vertex m') sinks unsent) { items = with_vertex_item (slice_set items vertex m') vertex k old } ≡ state
+  items_back vertex k old new m m' in_range had within is made =
+      ap (λ (q : ProcessorState). record q { items = with_vertex_item q.items vertex k old }) (items_set vertex k new m m' within is made)
+      ∙ (λ i. record state { items = vertex_item-back state.items vertex k old new in_range had i })
+
+  pub items_long : (vertex : ℕ) → vertex < length state.items → vertex < length items
+  items_long vertex h = subst (λ (q : ProcessorState). vertex < length q.items) (sym view) h
+
+  -- what is unsent is another change, from which an edit leads back
+  pub unsent_back : (after : Change) → after ≡ unsent → seen records requests tokens items sinks after ≡ state
+  unsent_back after is = ap (λ u. seen records requests tokens items sinks u) is ∙ view

@@ -1,0 +1,44 @@
+-- What a processor keeps, as lists of entries, and the state that it is seen as.
+use Rattle.std.specs.Prelude.{◌≢◌, ◌≤◌, ℕ, cond, List, IfSome, nat_eq}
+use Rattle.std.specs.declared.cmp.Ordering.{Ordering}
+use Rattle.std.specs.FinMap.{find, put, from_entries}
+use Rattle.nd_time.specs.Limits.{max_count}
+use Rattle.nd_map.specs.Listed.{IsListed, without}
+use Rattle.nd_map.specs.Counts.{or_else, of_entries}
+use Rattle.nd_paths.specs.declared.point.Pointstamp.{Pointstamp}
+use Rattle.nd_delta.specs.Change.{Change}
+use Rattle.nd_vertex.specs.Items.{Items}
+use Rattle.nd_processor.specs.Keys.{value_at_total, sink_total}
+use Rattle.nd_processor.specs.State.{ProcessorState}
+use Rattle.nd_processor.specs.declared.key.ValueAt.{ValueAt}
+use Rattle.nd_processor.specs.declared.key.SinkKey.{SinkKey}
+
+-- a count within the limit, and not 0
+pub record IsCount (n : ℕ) : Type 0 where
+  pub some : n ≢ 0
+  pub within : n ≤ max_count
+
+-- entries in the order of listing, each with a count
+pub record IsKept {K : Type 0} (R : K → K → Ordering) (es : List (K × ℕ)) : Type 0 where
+  pub listed : IsListed R es
+  pub counts : (q : K) → IfSome (find R q es) IsCount
+
+-- the count that is found at a key
+abbrev pub number : {K : Type 0} → (K → K → Ordering) → List (K × ℕ) → K → ℕ
+number R es k = or_else 0 (find R k es)
+
+-- the entries with another count of a key; of 0 there is no entry
+abbrev pub put_count : {K : Type 0} → (K → K → Ordering) → K → ℕ → List (K × ℕ) → List (K × ℕ)
+put_count R k n es = cond (nat_eq n 0) (without R k es) (put R k n es)
+
+-- the state of a processor that keeps these
+abbrev pub seen : List (ValueAt × ℕ) → List (Pointstamp × Unit {0}) → List (ℕ × ℕ) → List Items → List (SinkKey × ℕ) → Change → ProcessorState
+seen records requests tokens items sinks unsent =
+    record {
+      records = of_entries value_at_total records;
+      requests = from_entries requests;
+      tokens = from_entries tokens;
+      items = items;
+      sinks = of_entries sink_total sinks;
+      unsent = unsent;
+    }

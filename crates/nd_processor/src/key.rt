@@ -1,0 +1,47 @@
+//! The keys of a processor's maps.
+ghost use Rattle.std.specs.Prelude.{◌≡◌};
+
+use nd_map::Key;
+use nd_paths::Pointstamp;
+
+/// A value at a pointstamp: a record on an edge.
+///
+/// They are listed by pointstamp, and then by value.
+#[derive(Debug, PartialEq, Eq, PartialOrd, Ord, Drop)]
+pub struct ValueAt {
+    pub point: Pointstamp,
+    pub value: i64,
+}
+
+impl ValueAt {
+    /// An equal key.
+    pub fn copy(&self) -> ValueAt
+        ensures { result ≡ self.now }
+    {
+        ValueAt {
+            point: self.point.copy(),
+            value: self.value,
+        }
+    }
+}
+
+/// A value that a sink vertex has counted.
+///
+/// They are listed by vertex, and then by value.
+#[derive(Clone, Copy, Debug, PartialEq, Eq, PartialOrd, Ord, Drop)]
+pub struct SinkKey {
+    pub vertex: usize,
+    pub value: i64,
+}
+
+impl Key for ValueAt {
+    fn duplicate(&self) -> ValueAt {
+        self.copy()
+    }
+}
+
+impl Key for SinkKey {
+    fn duplicate(&self) -> SinkKey {
+        *self
+    }
+}

@@ -1,0 +1,12 @@
+//! One processor of a cluster: the records, requests, tokens, items, counts and unsent changes that it holds.
+#![tactic(auto)]
+
+mod key;
+mod part;
+mod processor;
+mod start;
+mod tally;
+
+pub use key::{SinkKey, ValueAt};
+pub use processor::Processor;
+pub use tally::{COUNT_LIMIT, CountFault};

@@ -1,0 +1,354 @@
+//! A processor: its maps, their readers, and the edits that undo one another.
+ghost use Rattle.std.specs.Prelude.{◌≡◌, ◌≢◌, ◌↔◌, ◌≤◌, ◌<◌, ◌^◌, ◌+◌, ◌+ℤ◌, ℕ, ℤ, pos, neg_ℤ, unsigned_abs, Err, None, Some, IfOk, OnOk, OnErr, IsTrue, length, map, slice_get, slice_set};
+ghost use Rattle.std.specs.Option.{option_map};
+ghost use Rattle.std.specs.FinMap as fin;
+ghost use Rattle.std.specs.Map.Iter.{ShowsInOrder, deref_pair};
+ghost use Rattle.nd_time.specs.Limits.{max_count};
+ghost use Rattle.nd_map.specs.Counts.{at, added, entries as counts_of};
+ghost use Rattle.nd_paths.specs.declared.point.Pointstamp.{Pointstamp as Point};
+ghost use Rattle.nd_delta.specs.Change.{IsWithin, plus, minus, at as unsent_at};
+ghost use Rattle.nd_vertex.specs.Items.{item_key};
+ghost use Rattle.nd_vertex.specs.Edits.{item_of};
+ghost use Rattle.nd_processor.specs.Keys.{value_at_total, sink_total};
+ghost use Rattle.nd_processor.specs.State.{items_at};
+ghost use Rattle.nd_processor.specs.Start.{start_processor};
+ghost use Rattle.nd_processor.specs.Edits.{with_value, with_vertex_item, more_unsent, IsPartOf, IsApart, token_points as points_of_tokens};
+ghost use Rattle.nd_processor.specs.declared.key.ValueAt.{ValueAt as Value};
+ghost use Rattle.nd_processor.specs.declared.key.SinkKey.{SinkKey as Counted};
+
+use crate::part::{put_in, take_out};
+use crate::start::{copied_items, first_tokens, no_items, points_of};
+use crate::tally::{CountFault, Tally};
+use crate::{SinkKey, ValueAt};
+use nd_delta::{Delta, DeltaFault};
+use nd_graph::Graph;
+use nd_map::{SortedMap, TreeMap};
+use nd_paths::Pointstamp;
+use nd_time::Timestamp;
+use nd_vertex::VertexState;
+use std::alloc::{AllocError, Allocator, Global};
+use std::collections::btree_map::Iter;
+use std::marker::Model;
+
+/// One processor of a cluster, but for its view (Naiad, SOSP 2013, section 3.3).
+pub struct Processor<A: Allocator + Copy = Global> {
+    records: Tally<ValueAt, A>,
+    requests: TreeMap<Pointstamp, (), A>,
+    tokens: SortedMap<usize, u32, A>,
+    items: Vec<VertexState<A>, A>,
+    sinks: Tally<SinkKey, A>,
+    unsent: Delta<A>,
+    alloc: A,
+}
+
+impl<A: Allocator + Copy> Drop for Processor<A> {
+    fn drop(self) {
+        let Processor {
+            records: _,
+            requests: _,
+            tokens: _,
+            items: _,
+            sinks: _,
+            unsent: _,
+            alloc: _,
+        } = self;
+    }
+}
+
+impl<A: Allocator + Copy> Model for Processor<A> {
+    ghost use Rattle.nd_processor.specs.State.{ProcessorState, processor_code};
+    ghost use Rattle.nd_processor.specs.Kept.{seen};
+
+    ghost Value = { ProcessorState };
+
+    ghost coded = { processor_code };
+
+    ghost view = { λ a. seen a.records a.requests a.tokens a.items.items a.sinks a.unsent };
+}
+
+impl<A: Allocator + Copy> Processor<A> {
+    /// The processor at the start of a cluster: each input's token at epoch 0, and all else empty.
+    pub fn start(alloc: A, graph: &Graph<A>) -> Result<Processor<A>, AllocError>
+        ensures { IfOk result (λ p. p ≡ start_processor graph.now) }
+    {
+        Ok(Processor {
+            records: Tally::new(alloc),
+            requests: TreeMap::new(alloc),
+            tokens: first_tokens(alloc, graph)?,
+            items: no_items(alloc, graph.vertices().len())?,
+            sinks: Tally::new(alloc),
+            unsent: Delta::new(alloc),
+            alloc,
+        })
+    }
+
+    /// An equal processor.
+    pub fn copy(&self, alloc: A) -> Result<Processor<A>, AllocError>
+        ensures { IfOk result (λ p. p ≡ self.now) }
+    {
+        Ok(Processor {
+            records: self.records.copy(alloc)?,
+            requests: self.requests.copy(alloc)?,
+            tokens: self.tokens.copy(alloc)?,
+            items: copied_items(alloc, &self.items)?,
+            sinks: self.sinks.copy(alloc)?,
+            unsent: self.unsent.copy(alloc)?,
+            alloc,
+        })
+    }
+
+    // ---- readers
+
+    /// How many records there are of a value at an edge's pointstamp.
+    pub fn count_of(&self, key: &ValueAt) -> u64
+        ensures value { result ≡ at self.now.records key.now }
+        ensures within { result ≤ max_count }
+    {
+        self.records.count_of(key)
+    }
+
+    /// The records with their counts, by pointstamp and then by value.
+    pub fn records(&self) -> Iter<'_, ValueAt, u64>
+        ensures rest { result ≡ counts_of self.now.records }
+        ensures runs { ShowsInOrder (deref_pair {K = Value} {X = ℕ}) }
+        ensures fits { length (counts_of self.now.records) < 2 ^ 63 }
+        ensures within { (k : Value) → at self.now.records k ≤ max_count }
+    {
+        self.records.iter()
+    }
+
+    /// The least record and its count.
+    pub fn first_record(&self) -> Option<(&ValueAt, u64)>
+        ensures { option_map (λ e. (e.0.now, e.1)) result ≡ slice_get (counts_of self.now.records) 0 }
+    {
+        self.records.first()
+    }
+
+    /// Whether a notice was asked for at a vertex's pointstamp.
+    pub fn has_request(&self, point: &Pointstamp) -> bool
+        ensures { IsTrue result ↔ (fin.get self.now.requests point.now ≡ Some tt) }
+    {
+        self.requests.get(point).is_some()
+    }
+
+    /// The pointstamps at which a notice was asked for, in order.
+    pub fn requests(&self) -> Iter<'_, Pointstamp, ()>
+        ensures rest { result ≡ fin.entries self.now.requests }
+        ensures runs { ShowsInOrder (deref_pair {K = Point} {X = Unit {0}}) }
+        ensures fits { length (fin.entries self.now.requests) < 2 ^ 63 }
+    {
+        self.requests.iter()
+    }
+
+    /// The least pointstamp at which a notice was asked for.
+    pub fn first_request(&self) -> Option<&Pointstamp>
+        ensures { option_map (λ p. p.now) result ≡ slice_get (fin.keys self.now.requests) 0 }
+    {
+        match self.requests.first() {
+            Some((point, _)) => Some(point),
+            None => None,
+        }
+    }
+
+    /// The epoch of an input vertex's token, `None` where it has none.
+    pub fn token(&self, vertex: usize) -> Option<u32>
+        ensures { result ≡ fin.get self.now.tokens vertex }
+    {
+        self.tokens.get(&vertex)
+    }
+
+    /// The input vertices that have a token with its epoch, in order.
+    pub fn tokens(&self) -> &[(usize, u32)]
+        ensures { result.now ≡ fin.entries self.now.tokens }
+    {
+        self.tokens.entries()
+    }
+
+    /// The pointstamps of the tokens, in order.
+    pub fn token_points(&self, alloc: A) -> Result<Vec<Pointstamp, A>, AllocError>
+        ensures { IfOk result (λ v. v.items ≡ points_of_tokens self.now) }
+    {
+        points_of(alloc, self.tokens())
+    }
+
+    /// For how many vertices items are kept: all of the graph's.
+    pub fn vertex_count(&self) -> usize
+        ensures { result ≡ length self.now.items }
+    {
+        self.items.len()
+    }
+
+    /// What a vertex keeps.
+    pub fn vertex_state(&self, vertex: usize) -> &VertexState<A>
+        requires { vertex < length self.now.items }
+        ensures { result.now ≡ items_at self.now vertex }
+    {
+        &self.items[vertex]
+    }
+
+    /// How often a sink vertex has counted a value.
+    pub fn sink_count(&self, vertex: usize, value: i64) -> u64
+        ensures value { result ≡ at self.now.sinks (record { vertex = vertex; value = value }) }
+        ensures within { result ≤ max_count }
+    {
+        self.sinks.count_of(&SinkKey { vertex, value })
+    }
+
+    /// The values that sink vertices have counted with their counts, by vertex and then by value.
+    pub fn sinks(&self) -> Iter<'_, SinkKey, u64>
+        ensures rest { result ≡ counts_of self.now.sinks }
+        ensures runs { ShowsInOrder (deref_pair {K = Counted} {X = ℕ}) }
+        ensures fits { length (counts_of self.now.sinks) < 2 ^ 63 }
+        ensures within { (k : Counted) → at self.now.sinks k ≤ max_count }
+    {
+        self.sinks.iter()
+    }
+
+    /// The progress updates that were not sent yet.
+    pub fn unsent(&self) -> &Delta<A>
+        ensures { result.now ≡ self.now.unsent }
+    {
+        &self.unsent
+    }
+
+    // ---- edits
+
+    /// So many records more of a key.
+    pub fn add_records(&mut self, key: &ValueAt, n: u64) -> Result<(), CountFault>
+        ensures ok { OnOk result (self.new ≡ record self.old { records = added value_at_total self.old.records key.now (pos n) }) }
+        ensures undone { OnOk result (record self.new { records = added value_at_total self.new.records key.now (neg_ℤ (pos n)) } ≡ self.old) }
+        ensures err { OnErr result (self.new ≡ self.old) }
+        ensures full { (result ≡ Err (CountFault.CountFull)) ↔ (max_count < at self.old.records key.now + n) }
+        ensures memory { result ≡ Err (CountFault.Memory) → at self.old.records key.now ≡ 0 }
+    {
+        self.records.add(key, n)
+    }
+
+    /// So many records less of a key. It takes no memory.
+    pub fn take_records(&mut self, key: &ValueAt, n: u64)
+        requires { n ≤ at self.old.records key.now }
+        ensures taken { self.new ≡ record self.old { records = added value_at_total self.old.records key.now (neg_ℤ (pos n)) } }
+        ensures undone { record self.new { records = added value_at_total self.new.records key.now (pos n) } ≡ self.old }
+    {
+        self.records.take(key, n);
+    }
+
+    /// A notice is asked for.
+    pub fn add_request(&mut self, point: &Pointstamp) -> Result<(), AllocError>
+        ensures ok { OnOk result (self.new ≡ record self.old { requests = fin.insert self.old.requests point.now tt }) }
+        ensures undone { OnOk result (fin.get self.old.requests point.now ≡ None → record self.new { requests = fin.remove self.new.requests point.now } ≡ self.old) }
+        ensures err { OnErr result (self.new ≡ self.old) }
+        ensures absent { OnErr result (fin.get self.old.requests point.now ≡ None) }
+    {
+        let Ok(()) = self.requests.put(point, ()) else {
+            return Err(AllocError);
+        };
+        Ok(())
+    }
+
+    /// A notice is asked for no longer. It takes no memory.
+    pub fn drop_request(&mut self, point: &Pointstamp)
+        ensures dropped { self.new ≡ record self.old { requests = fin.remove self.old.requests point.now } }
+        ensures undone { fin.get self.old.requests point.now ≡ Some tt → record self.new { requests = fin.insert self.new.requests point.now tt } ≡ self.old }
+    {
+        self.requests.remove(point);
+    }
+
+    /// An input vertex's token moves, comes or goes. One that is there takes no memory.
+    pub fn move_token(
+        &mut self,
+        vertex: usize,
+        old: Option<u32>,
+        new: Option<u32>,
+    ) -> Result<(), AllocError>
+        requires { fin.get self.old.tokens vertex ≡ old }
+        ensures ok { OnOk result (self.new ≡ record self.old { tokens = with_value self.old.tokens vertex new }) }
+        ensures undone { OnOk result (record self.new { tokens = with_value self.new.tokens vertex old } ≡ self.old) }
+        ensures err { OnErr result (self.new ≡ self.old) }
+        ensures absent { OnErr result (old ≡ None) }
+    {
+        let _ = old;
+        let Some(epoch) = new else {
+            self.tokens.remove(&vertex);
+            return Ok(());
+        };
+        let Ok(()) = self.tokens.put(&vertex, epoch) else {
+            return Err(AllocError);
+        };
+        Ok(())
+    }
+
+    /// A vertex keeps another number for an item. An item that is there takes no memory.
+    pub fn set_item(
+        &mut self,
+        vertex: usize,
+        time: &Timestamp,
+        item: i64,
+        old: Option<i64>,
+        new: Option<i64>,
+    ) -> Result<(), AllocError>
+        requires in_range { vertex < length self.old.items }
+        requires there { item_of (items_at self.old vertex) (item_key time.now item) ≡ old }
+        requires some { new ≢ Some (pos 0) }
+        ensures ok { OnOk result (self.new ≡ record self.old { items = with_vertex_item self.old.items vertex (item_key time.now item) new }) }
+        ensures undone { OnOk result (record self.new { items = with_vertex_item self.new.items vertex (item_key time.now item) old } ≡ self.old) }
+        ensures err { OnErr result (self.new ≡ self.old) }
+        ensures absent { OnErr result (old ≡ None) }
+    {
+        self.items[vertex].set(time, item, old, new)?;
+        Ok(())
+    }
+
+    /// A sink vertex counts a value so many times more.
+    pub fn add_sink(&mut self, vertex: usize, value: i64, n: u64) -> Result<(), CountFault>
+        ensures ok { OnOk result (self.new ≡ record self.old { sinks = added sink_total self.old.sinks (record { vertex = vertex; value = value }) (pos n) }) }
+        ensures undone { OnOk result (record self.new { sinks = added sink_total self.new.sinks (record { vertex = vertex; value = value }) (neg_ℤ (pos n)) } ≡ self.old) }
+        ensures err { OnErr result (self.new ≡ self.old) }
+        ensures full { (result ≡ Err (CountFault.CountFull)) ↔ (max_count < at self.old.sinks (record { vertex = vertex; value = value }) + n) }
+        ensures memory { result ≡ Err (CountFault.Memory) → at self.old.sinks (record { vertex = vertex; value = value }) ≡ 0 }
+    {
+        self.sinks.add(&SinkKey { vertex, value }, n)
+    }
+
+    /// A sink vertex counts a value so many times less. It takes no memory.
+    pub fn take_sink(&mut self, vertex: usize, value: i64, n: u64)
+        requires { n ≤ at self.old.sinks (record { vertex = vertex; value = value }) }
+        ensures taken { self.new ≡ record self.old { sinks = added sink_total self.old.sinks (record { vertex = vertex; value = value }) (neg_ℤ (pos n)) } }
+        ensures undone { record self.new { sinks = added sink_total self.new.sinks (record { vertex = vertex; value = value }) (pos n) } ≡ self.old }
+    {
+        self.sinks.take(&SinkKey { vertex, value }, n);
+    }
+
+    /// An integer more at a pointstamp of what is unsent. A pointstamp that has one takes no memory.
+    pub fn add_unsent(&mut self, point: &Pointstamp, n: i64) -> Result<(), DeltaFault>
+        ensures ok { OnOk result (self.new ≡ record self.old { unsent = more_unsent self.old.unsent point.now n }) }
+        ensures undone { OnOk result (record self.new { unsent = more_unsent self.new.unsent point.now (neg_ℤ n) } ≡ self.old) }
+        ensures err { OnErr result (self.new ≡ self.old) }
+        ensures full { (result ≡ Err (DeltaFault.DeltaFull)) ↔ (max_count < unsigned_abs (unsent_at self.old.unsent point.now +ℤ n)) }
+        ensures no_growth { unsent_at self.old.unsent point.now ≢ pos 0 → result ≢ Err (DeltaFault.Memory) }
+    {
+        self.unsent.add(point, n)?;
+        Ok(())
+    }
+
+    /// These entries go out of what is unsent. It takes no memory.
+    pub fn take_part(&mut self, part: &Delta<A>)
+        requires { IsPartOf part.now self.old.unsent }
+        ensures taken { self.new ≡ record self.old { unsent = minus self.old.unsent part.now } }
+        ensures undone { record self.new { unsent = plus self.new.unsent part.now } ≡ self.old }
+    {
+        take_out(&mut self.unsent, part);
+    }
+
+    /// These entries come into what is unsent, which has none at their pointstamps.
+    pub fn put_part(&mut self, part: &Delta<A>) -> Result<(), AllocError>
+        requires { IsApart part.now self.old.unsent }
+        ensures ok { OnOk result (self.new ≡ record self.old { unsent = plus self.old.unsent part.now }) }
+        ensures undone { OnOk result (record self.new { unsent = minus self.new.unsent part.now } ≡ self.old) }
+        ensures err { OnErr result (self.new ≡ self.old) }
+    {
+        let whole = put_in(self.alloc, &self.unsent, part)?;
+        self.unsent = whole;
+        Ok(())
+    }
+}

@@ -1,0 +1,94 @@
+//! What a processor starts with, and copies of its lists.
+ghost use Rattle.std.specs.Prelude.{◌≡◌, ◌<◌, IfOk, map, replicate};
+ghost use Rattle.std.specs.FinMap.{from_entries};
+ghost use Rattle.std.specs.Ordering.{nat_cmp};
+ghost use Rattle.nd_map.specs.Counts.{none};
+ghost use Rattle.nd_graph.specs.Checked.{is_input as takes_feeds};
+ghost use Rattle.nd_processor.specs.State.{token_point as point_of};
+ghost use Rattle.nd_processor.specs.Start.{first_tokens as tokens_from};
+
+use nd_graph::{Graph, Op};
+use nd_map::SortedMap;
+use nd_paths::Pointstamp;
+use nd_time::Timestamp;
+use nd_vertex::VertexState;
+use std::alloc::{AllocError, Allocator};
+
+fn is_input(op: Op) -> bool
+    ensures { result ≡ takes_feeds op }
+{
+    matches!(op, Op::Input)
+}
+
+// Each input's token at epoch 0.
+pub(crate) fn first_tokens<A: Allocator>(
+    alloc: A,
+    graph: &Graph<A>,
+) -> Result<SortedMap<usize, u32, A>, AllocError>
+    ensures { IfOk result (λ m. from_entries {R = nat_cmp} m ≡ tokens_from 0 graph.now.vertices) }
+{
+    let vertices = graph.vertices();
+    let mut tokens = SortedMap::new(alloc);
+    let mut l = vertices.len();
+    while l > 0 {
+        l -= 1;
+        if is_input(vertices[l].op) {
+            let Ok(()) = tokens.put(&l, 0) else {
+                return Err(AllocError);
+            };
+        }
+    }
+    Ok(tokens)
+}
+
+// Nothing kept for each of so many vertices.
+pub(crate) fn no_items<A: Allocator + Copy>(
+    alloc: A,
+    n: usize,
+) -> Result<Vec<VertexState<A>, A>, AllocError>
+    ensures { IfOk result (λ v. v.items ≡ replicate n none) }
+{
+    let mut items = Vec::with_capacity(alloc, n)?;
+    for _ in 0..n {
+        items.push(VertexState::new(alloc))?;
+    }
+    Ok(items)
+}
+
+// What each vertex keeps, once more.
+pub(crate) fn copied_items<A: Allocator + Copy>(
+    alloc: A,
+    items: &[VertexState<A>],
+) -> Result<Vec<VertexState<A>, A>, AllocError>
+    ensures { IfOk result (λ v. v.items ≡ items.now) }
+{
+    let mut copied = Vec::with_capacity(alloc, items.len())?;
+    for state in items {
+        copied.push(state.copy(alloc)?)?;
+    }
+    Ok(copied)
+}
+
+// The pointstamp of an input vertex's token.
+fn token_point(vertex: usize, epoch: u32) -> Pointstamp
+    ensures { result ≡ point_of vertex epoch }
+{
+    Pointstamp {
+        location: vertex,
+        time: Timestamp::new(epoch, &[]).unwrap(),
+    }
+}
+
+// The pointstamps of tokens, in their order.
+pub(crate) fn points_of<A: Allocator>(
+    alloc: A,
+    tokens: &[(usize, u32)],
+) -> Result<Vec<Pointstamp, A>, AllocError>
+    ensures { IfOk result (λ v. v.items ≡ map (λ e. point_of e.0 e.1) tokens.now) }
+{
+    let mut points = Vec::with_capacity(alloc, tokens.len())?;
+    for token in tokens {
+        points.push(token_point(token.0, token.1))?;
+    }
+    Ok(points)
+}

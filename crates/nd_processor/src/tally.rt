@@ -1,0 +1,146 @@
+//! How many there are of each key.
+ghost use Rattle.std.specs.Prelude.{ℕ, ◌≡◌, ◌≢◌, ◌↔◌, ◌≤◌, ◌<◌, ◌^◌, ◌+◌, ◌-◌, [], None, Err, IfOk, OnOk, OnErr, slice_get, length};
+ghost use Rattle.std.specs.Option.{option_map};
+ghost use Rattle.std.specs.FinMap.{find};
+ghost use Rattle.std.specs.Map.Iter.{ShowsInOrder, deref_pair};
+ghost use Rattle.nd_time.specs.Limits.{max_count};
+ghost use Rattle.nd_processor.specs.Kept.{IsKept, number, put_count};
+
+use nd_map::{Key, TreeMap};
+use std::alloc::{AllocError, Allocator, Global};
+use std::collections::btree_map::Iter;
+use std::marker::Model;
+use thiserror::Error;
+
+/// The greatest count.
+pub const COUNT_LIMIT: u64 = 1_099_511_627_776;
+
+/// Why a count was not changed.
+#[derive(Clone, Copy, Debug, PartialEq, Eq, Drop, Error)]
+pub enum CountFault {
+    /// The count would pass `COUNT_LIMIT`.
+    #[error("a count would pass its limit")]
+    CountFull,
+    /// A growth was refused.
+    #[error("out of memory")]
+    Memory,
+}
+
+// A finite map from keys to counts other than 0, each within the limit, seen as the list of its entries.
+pub(crate) struct Tally<K: Key, A: Allocator = Global> {
+    map: TreeMap<K, u64, A>,
+}
+
+impl<K: Key, A: Allocator> Drop for Tally<K, A> {
+    fn drop(self) {
+        let Tally { map: _ } = self;
+    }
+}
+
+impl<K: Key, A: Allocator> Model for Tally<K, A> {
+    ghost use Rattle.std.specs.Prelude.{List, ℕ};
+    ghost use Rattle.nd_processor.specs.Kept.{IsKept};
+
+    ghost Value = { List (K × ℕ) };
+
+    ghost view = { λ a. a.map };
+
+    ghost invariant = { λ a. IsKept K.cmp a.map };
+}
+
+impl<K: Key, A: Allocator> Tally<K, A> {
+    // Nothing counted. It takes no memory.
+    pub(crate) fn new(alloc: A) -> Tally<K, A>
+        ensures { result ≡ [] }
+    {
+        Tally {
+            map: TreeMap::new(alloc),
+        }
+    }
+
+    // The count of a key.
+    pub(crate) fn count_of(&self, key: &K) -> u64
+        ensures value { result ≡ number K.cmp self.now key.now }
+        ensures within { result ≤ max_count }
+    {
+        match self.map.get(key) {
+            Some(count) => count,
+            None => 0,
+        }
+    }
+
+    // The keys with their counts, in order.
+    pub(crate) fn iter(&self) -> Iter<'_, K, u64>
+        ensures rest { result ≡ self.now }
+        ensures runs { ShowsInOrder (deref_pair {K = K} {X = ℕ}) }
+        ensures fits { length self.now < 2 ^ 63 }
+        ensures kept { IsKept K.cmp self.now }
+    {
+        self.map.iter()
+    }
+
+    // The least key with its count.
+    pub(crate) fn first(&self) -> Option<(&K, u64)>
+        ensures value { option_map (λ e. (e.0.now, e.1)) result ≡ slice_get self.now 0 }
+        ensures kept { IsKept K.cmp self.now }
+    {
+        self.map.first()
+    }
+}
+
+impl<K: Key, A: Allocator + Copy> Tally<K, A> {
+    // Gives a key this count.
+    fn put(&mut self, key: &K, count: u64) -> Result<(), AllocError>
+        requires { count ≤ max_count }
+        ensures ok { OnOk result (self.new ≡ put_count K.cmp key.now count self.old) }
+        ensures err { OnErr result (self.new ≡ self.old) }
+        ensures absent { OnErr result (find K.cmp key.now self.old ≡ None) }
+        ensures some { OnErr result (count ≢ 0) }
+    {
+        if count == 0 {
+            self.map.remove(key);
+            return Ok(());
+        }
+        let Ok(()) = self.map.put(key, count) else {
+            return Err(AllocError);
+        };
+        Ok(())
+    }
+
+    // So many more of a key. A key that is there takes no memory.
+    pub(crate) fn add(&mut self, key: &K, n: u64) -> Result<(), CountFault>
+        ensures ok { OnOk result (self.new ≡ put_count K.cmp key.now (number K.cmp self.old key.now + n) self.old) }
+        ensures err { OnErr result (self.new ≡ self.old) }
+        ensures full { (result ≡ Err (CountFault.CountFull)) ↔ (max_count < number K.cmp self.old key.now + n) }
+        ensures memory { result ≡ Err (CountFault.Memory) → find K.cmp key.now self.old ≡ None }
+    {
+        let count = self.count_of(key);
+        if n > COUNT_LIMIT - count {
+            return Err(CountFault::CountFull);
+        }
+        let Ok(()) = self.put(key, count + n) else {
+            return Err(CountFault::Memory);
+        };
+        Ok(())
+    }
+
+    // So many less of a key. It takes no memory.
+    pub(crate) fn take(&mut self, key: &K, n: u64)
+        requires { n ≤ number K.cmp self.old key.now }
+        ensures { self.new ≡ put_count K.cmp key.now (number K.cmp self.old key.now - n) self.old }
+    {
+        let count = self.count_of(key);
+        let Ok(()) = self.put(key, count - n) else {
+            return;
+        };
+    }
+
+    // The same counts.
+    pub(crate) fn copy(&self, alloc: A) -> Result<Tally<K, A>, AllocError>
+        ensures { IfOk result (λ t. t ≡ self.now) }
+    {
+        Ok(Tally {
+            map: self.map.copy(alloc)?,
+        })
+    }
+}

@@ -1,0 +1,62 @@
+-- In a graph without faults inputs stand outside all loops, and there are few locations.
+use Rattle.std.proofs.Common.{◌≡◌, ℕ, zero, suc, ◌≤◌, Bool, true, false, cond, ◌||◌, List, [], ◌∷◌, ◌++◌, map, Option, Some, None, refl, ap, subst, arith}
+use Rattle.std.proofs.lemmas.Bool.Decides.{nat_tests}
+use Rattle.std.specs.Prelude.{nat_lt, slice_get}
+use Rattle.std.specs.Option.{option_map_or}
+use Rattle.std.specs.List.{list_any}
+use Rattle.nd_graph.specs.declared.op.Op.TheVariants.{Input, Sink}
+use Rattle.nd_graph.specs.declared.fault.GraphFault.{GraphFault}
+use Rattle.nd_graph.specs.declared.fault.GraphFault.TheVariants.{BadPort, DepthMismatch, TooLarge}
+use Rattle.nd_graph.specs.declared.graph.Vertex.{Vertex}
+use Rattle.nd_graph.specs.Graph.{Dataflow, depth_past_vertex}
+use Rattle.nd_graph.specs.Checked.{has_bad_port, is_misplaced, is_misplaced_at, misses_depth, has_depth_mismatch, is_too_large, is_too_deep, leads_too_deep, fault_of, IsFaultless}
+use Rattle.nd_graph.specs.Graph.{op_at, location_count}
+use Rattle.nd_paths.specs.Order.{HasDepth}
+use Rattle.nd_time.specs.Limits.{max_locations}
+
+left_false : (a b : Bool) → (a || b) ≡ false → a ≡ false
+left_false true b e = e
+left_false false b e = refl
+
+right_false : (a b : Bool) → (a || b) ≡ false → b ≡ false
+right_false true b e = absurd (cc)
+right_false false b e = e
+
+-- inputs stand outside all loops
+abbrev pub AreInputsFlat : Dataflow → Type 0
+AreInputsFlat g = (l : ℕ) → op_at g l ≡ Input → HasDepth g l 0
+
+third_none : (a b c : Bool) → ◌≡◌ {A = Option GraphFault} (cond a (Some BadPort) (cond b (Some DepthMismatch) (cond c (Some TooLarge) None))) None → c ≡ false
+third_none true b c e = absurd (cc)
+third_none false true c e = absurd (cc)
+third_none false false true e = absurd (cc)
+third_none false false false e = refl
+
+second_none : (a b c : Bool) → ◌≡◌ {A = Option GraphFault} (cond a (Some BadPort) (cond b (Some DepthMismatch) (cond c (Some TooLarge) None))) None → b ≡ false
+second_none true b c e = absurd (cc)
+second_none false true c e = absurd (cc)
+second_none false false c e = refl
+
+not_deep : (d : ℕ) → nat_lt 0 d ≡ false → d ≡ 0
+not_deep d e = grind (arith, nat_tests, e)
+
+flat_at : (vs : List Vertex) (rest : List ℕ) (l : ℕ) → list_any is_misplaced vs ≡ false → option_map_or (λ v. v.op) (slice_get vs l) Sink ≡ Input → slice_get (map (λ v. v.depth) vs ++ rest) l ≡ Some 0
+flat_at [] rest l right is = absurd (cc)
+flat_at (v ∷ vs) rest zero right is = ap Some (not_deep v.depth (left_false (nat_lt 0 v.depth) false (subst (λ o. is_misplaced_at o v.depth ≡ false) is (left_false (is_misplaced v) (list_any is_misplaced vs) right))))
+flat_at (v ∷ vs) rest (suc l) right is = flat_at vs rest l (right_false (is_misplaced v) (list_any is_misplaced vs) right) is
+
+pub inputs_flat : (g : Dataflow) → IsFaultless g → AreInputsFlat g
+unfolding fault_of has_depth_mismatch
+inputs_flat g sound l is =
+    let agree : has_depth_mismatch g ≡ false = second_none (list_any (has_bad_port g.vertices) g.edges) (has_depth_mismatch g) (is_too_large g) sound.faultless in
+    flat_at g.vertices (map (λ e. depth_past_vertex g.vertices e.from) g.edges) l (left_false (list_any is_misplaced g.vertices) (list_any (misses_depth g.vertices) g.edges) agree) is
+
+not_more : (m n : ℕ) → nat_lt m n ≡ false → n ≤ m
+not_more m n e = grind (arith, nat_tests, e)
+
+-- and there are few locations
+pub few_locations : (g : Dataflow) → IsFaultless g → location_count g ≤ max_locations
+unfolding fault_of is_too_large
+few_locations g sound =
+    let small : is_too_large g ≡ false = third_none (list_any (has_bad_port g.vertices) g.edges) (has_depth_mismatch g) (is_too_large g) sound.faultless in
+    not_more max_locations (location_count g) (left_false (nat_lt max_locations (location_count g)) (list_any is_too_deep g.vertices || list_any (leads_too_deep g.vertices) g.edges) small)

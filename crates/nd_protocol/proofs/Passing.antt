@@ -1,0 +1,50 @@
+-- What the protocol invariant tells a reader of a view.
+use Rattle.std.proofs.Common.{◌≡◌, inl, ℕ, ◌<◌, ◌≤ℤ◌, ◌<ℤ◌, pos, length, sym, ap, ◌∙◌, arith}
+use Rattle.std.proofs.lemmas.Int.{ints, by_lt_z}
+use Rattle.nd_graph.specs.Graph.{Dataflow}
+use Rattle.nd_paths.specs.Order.{CouldResultIn, IsStrictlyBefore}
+use Rattle.nd_paths.specs.declared.point.Pointstamp.{Pointstamp}
+use Rattle.nd_delta.specs.Change.{Change, at}
+use Rattle.nd_view.specs.View.{IsPassed, IsPrecursor}
+use Rattle.nd_protocol.specs.State.{ClusterState, view, truth}
+use Rattle.nd_protocol.proofs.Core.{IsStrictOrder, IsDownward}
+use Rattle.nd_protocol.specs.declared.step.Step.{Step}
+use Rattle.nd_protocol.specs.Steps.{performer, performed, stepped, gain}
+use Rattle.nd_protocol.proofs.Shape.{IsPossible}
+use Rattle.nd_protocol.specs.Fitting.{IsOrdered, KeysFit}
+use Rattle.nd_protocol.specs.Invariant.{KeepsProtocol, IsFinished}
+use Rattle.nd_protocol.proofs.Reading.{reading}
+use Rattle.nd_protocol.proofs.Arcs.{IsTransitive, CouldIsTransitive, strict_order}
+use Rattle.nd_protocol.proofs.Counts.{truth-count}
+use Rattle.nd_protocol.proofs.Readings.{change_finite, sound_of}
+use Rattle.nd_protocol.proofs.Performing.{performs_of}
+use Rattle.nd_protocol.proofs.Safe.{safe, stays}
+
+could_down : CouldIsTransitive → (g : Dataflow) (t : Pointstamp) → IsDownward (IsStrictlyBefore g) (λ x. CouldResultIn g x t)
+could_down could g t x y r h = could g x y t r.0 h
+
+strictly_down : IsTransitive → (g : Dataflow) → IsOrdered g → (t : Pointstamp) → IsDownward (IsStrictlyBefore g) (λ x. IsStrictlyBefore g x t)
+strictly_down trans g o t x y r h = let order : IsStrictOrder (IsStrictlyBefore g) = strict_order trans g o in order.transitive x y t r h
+
+quiet : (v : Change) (D : Pointstamp → Type 0) → ((x : Pointstamp) → pos 0 <ℤ at v x → D x → ⊥) → (x : Pointstamp) → D x → at v x ≤ℤ pos 0
+quiet v D none x d = by_lt_z (pos 0) (at v x) (λ positive. absurd (none x positive d)) (λ le. le)
+
+pub passed : IsTransitive → CouldIsTransitive → (s : ClusterState) → IsOrdered s.graph → KeepsProtocol s → (q : ℕ) → q < length s.processors → (t : Pointstamp) → IsPassed s.graph (view s q) t → IsFinished s t
+passed trans could s o keeps q lt t is_passed x before =
+    truth-count s.processors x ∙ ap pos (safe (IsStrictlyBefore s.graph) (strict_order trans s.graph o) at change_finite (λ x. CouldResultIn s.graph x t) (could_down could s.graph t) (reading s) (sound_of s keeps) q lt
+    (quiet (view s q) (λ x. CouldResultIn s.graph x t) (λ z positive d. is_passed z (record { positive = positive; before = d }))) x before)
+
+pub last : IsTransitive → (s : ClusterState) → IsOrdered s.graph → KeepsProtocol s → (q : ℕ) → q < length s.processors → (t : Pointstamp) → ((x : Pointstamp) → IsPrecursor s.graph (view s q) t x → ⊥) → (x : Pointstamp) → IsStrictlyBefore s.graph x t → at (truth s.processors) x ≡ pos 0
+last trans s o keeps q lt t none x before =
+    truth-count s.processors x ∙ ap pos (safe (IsStrictlyBefore s.graph) (strict_order trans s.graph o) at change_finite (λ x. IsStrictlyBefore s.graph x t) (strictly_down trans s.graph o t) (reading s) (sound_of s keeps) q lt
+    (quiet (view s q) (λ x. IsStrictlyBefore s.graph x t) (λ z positive d. none z (record { positive = positive; before = d }))) x before)
+
+same_number : (m : ℕ) → pos m ≡ pos 0 → m ≡ 0
+same_number m e = omega (arith, ints)
+
+pub stays_finished : {A : Type 0} → IsTransitive → CouldIsTransitive → (s : ClusterState) (x : Step A) → IsOrdered s.graph → KeysFit s → IsPossible s x → KeepsProtocol s → (t : Pointstamp) → IsFinished s t → IsFinished (stepped s x) t
+unfolding stepped
+stays_finished trans could s x o fits possible keeps t finished z before =
+    truth-count (stepped s x).processors z ∙ ap pos (stays (IsStrictlyBefore s.graph) (strict_order trans s.graph o) at change_finite (λ y. CouldResultIn s.graph y t) (could_down could s.graph t) (reading s) (reading (stepped s x))
+    (inl (performer x, at (gain s.processors (performed s x)), performs_of trans s x o fits possible)) (sound_of s keeps)
+    (λ y d. same_number ((reading s).truth y) (sym (truth-count s.processors y) ∙ finished y d)) z before)

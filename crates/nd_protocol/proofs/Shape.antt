@@ -1,0 +1,88 @@
+-- What the three steps have in common: their performer is written, records come, and all that comes stands strictly
+-- after one pointstamp, the cause.
+use Rattle.std.specs.Prelude.{◌≡◌, ◌⊎◌, ◌<◌, ◌≤◌, ℕ, pos, negsuc, cond, List, [], ◌∷◌, slice_set, length, Some, refl}
+use Rattle.std.specs.List.{flat_map}
+use Rattle.std.specs.FinMap as fin
+use Rattle.nd_map.specs.Counts.{at, added}
+use Rattle.nd_processor.specs.Keys.{value_at_total, sink_total}
+use Rattle.nd_paths.specs.declared.point.Pointstamp.{Pointstamp}
+use Rattle.nd_paths.specs.Order.{IsStrictlyBefore}
+use Rattle.nd_processor.specs.State.{ProcessorState, held, in_tokens}
+use Rattle.nd_processor.specs.declared.key.ValueAt.{ValueAt}
+use Rattle.nd_protocol.specs.State.{ClusterState, processor}
+use Rattle.nd_protocol.specs.Steps.{record_key, point_at, flat, epoch_of, moved_token, target_of, emitted, take_outcome, notice_outcome, fed, taken, noticed, with_records, performer, performed}
+use Rattle.nd_protocol.specs.Fitting.{ProcessorFits}
+use Rattle.nd_protocol.specs.declared.step.Step.{Step}
+use Rattle.nd_protocol.specs.declared.step.Step.TheVariants.{Feed, Take, Notice}
+use Rattle.nd_protocol.specs.declared.step.Next.TheVariants as token
+
+-- the step leaves its input's token where it is
+abbrev pub LeavesToken : {A : Type 0} → Step A → Type 0
+LeavesToken (Feed p vertex values next) = next ≡ token.Stay
+LeavesToken (Take p edge t value) = ⊥
+LeavesToken (Notice p vertex t) = ⊥
+
+-- the input's token, the record or the request is there
+abbrev pub Finds : {A : Type 0} → ClusterState → Step A → Type 0
+Finds s (Feed p vertex values next) = (epoch : ℕ) × (fin.get (processor s p).tokens vertex ≡ Some epoch)
+Finds s (Take p edge t value) = 0 < at (processor s p).records (record_key edge t value)
+Finds s (Notice p vertex t) = fin.get (processor s p).requests (point_at vertex t) ≡ Some tt
+
+-- what a step needs, of all that makes it enabled
+pub record IsPossible {A : Type 0} (s : ClusterState) (x : Step A) : Type 0 where
+  pub performer_is : performer x < length s.processors
+  pub finds : Finds s x
+
+-- the processor holds a token before a step and after it
+abbrev pub KeepsToken : ProcessorState → ProcessorState → Pointstamp → Type 0
+KeepsToken q r x = (0 < in_tokens q.tokens x) × (0 < in_tokens r.tokens x)
+
+-- each record stands at a pointstamp of the kind G
+abbrev pub AllAt : (Pointstamp → Type 0) → List (ℕ × ValueAt) → Type 0
+AllAt G [] = Unit {0}
+AllAt G (r ∷ rs) = G r.1.point × AllAt G rs
+
+-- the performer after a step, but for the records that come
+abbrev pub written : {A : Type 0} → ClusterState → Step A → ProcessorState
+written s (Feed p vertex values next) = let q = processor s p in record q { tokens = moved_token q.tokens vertex (epoch_of s p vertex) next }
+written s (Take p edge t value) =
+    let q = processor s p in
+    let target = target_of s.graph edge in
+    let outcome = take_outcome s p edge t value in
+    record q {
+      records = added value_at_total q.records (record_key edge t value) (negsuc 0);
+      requests = cond outcome.asks (fin.insert q.requests (point_at target t) tt) q.requests;
+      items = slice_set q.items target outcome.items;
+      sinks = cond outcome.counts (added sink_total q.sinks (record { vertex = target; value = value }) (pos 1)) q.sinks;
+    }
+written s (Notice p vertex t) =
+    let q = processor s p in
+    record q { requests = fin.remove q.requests (point_at vertex t); items = slice_set q.items vertex (notice_outcome s p vertex t).items }
+
+-- the records that come
+abbrev pub come : {A : Type 0} → ClusterState → Step A → List (ℕ × ValueAt)
+come s (Feed p vertex values next) = flat_map (λ v. emitted s.graph (length s.processors) p vertex (flat (epoch_of s p vertex)) (0, v)) values
+come s (Take p edge t value) = flat_map (emitted s.graph (length s.processors) p (target_of s.graph edge) t) (take_outcome s p edge t value).emissions
+come s (Notice p vertex t) = flat_map (emitted s.graph (length s.processors) p vertex t) (notice_outcome s p vertex t).emissions
+
+pub performed-writes : {A : Type 0} (s : ClusterState) (x : Step A) → performed s x ≡ with_records (slice_set s.processors (performer x) (written s x)) (come s x)
+unfolding fed taken noticed
+performed-writes s (Feed p vertex values next) = refl
+performed-writes s (Take p edge t value) = refl
+performed-writes s (Notice p vertex t) = refl
+
+pub unsent-written : {A : Type 0} (s : ClusterState) (x : Step A) → (written s x).unsent ≡ (processor s (performer x)).unsent
+unsent-written s (Feed p vertex values next) = refl
+unsent-written s (Take p edge t value) = refl
+unsent-written s (Notice p vertex t) = refl
+
+pub record HasCause {A : Type 0} (s : ClusterState) (x : Step A) : Type 0 where
+  pub fits : ProcessorFits s.graph (written s x)
+  pub edges : AllAt (λ z. length s.graph.vertices ≤ z.location) (come s x)
+  pub cause : Pointstamp
+  pub later : AllAt (IsStrictlyBefore s.graph cause) (come s x)
+  pub grows : (z : Pointstamp) → IsStrictlyBefore s.graph cause z ⊎ (held (written s x) z ≤ held (processor s (performer x)) z)
+  -- the cause goes, or it is a token that stays
+  pub goes : (held (written s x) cause < held (processor s (performer x)) cause) ⊎ (LeavesToken x × (0 < in_tokens (processor s (performer x)).tokens cause) × (0 < in_tokens (written s x).tokens cause))
+  -- no other token goes
+  pub tokens : (z : Pointstamp) → 0 < in_tokens (processor s (performer x)).tokens z → (0 < in_tokens (written s x).tokens z) ⊎ ((z ≡ cause) × (held (written s x) cause < held (processor s (performer x)) cause))

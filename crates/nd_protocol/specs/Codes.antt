@@ -1,0 +1,53 @@
+-- Steps as numbers, so that a model's value can hold them.
+use Rattle.std.specs.Prelude.{◌≡◌, ℕ, zero, suc, ℤ, ◌⊎◌, List, refl}
+use Rattle.std.proofs.Common.{inl, inr}
+use Rattle.std.specs.Coded.{Coded, code_by, coded×, coded⊎, coded_ℕ, coded_ℤ, coded_list}
+use Rattle.nd_time.specs.Time.{Time}
+use Rattle.nd_time.specs.Listing.{time_code}
+use Rattle.nd_protocol.specs.declared.step.Step.{Step}
+use Rattle.nd_protocol.specs.declared.step.Step.TheVariants.{Feed, Take, Notice}
+use Rattle.nd_protocol.specs.declared.step.Next.{Next as Afterwards}
+use Rattle.nd_protocol.specs.declared.step.Next.TheVariants as token
+
+abbrev pub next_number : Afterwards → ℕ
+next_number token.Next = 0
+next_number token.Close = 1
+next_number token.Stay = 2
+
+abbrev pub next_of : ℕ → Afterwards
+next_of zero = token.Next
+next_of (suc zero) = token.Close
+next_of (suc (suc n)) = token.Stay
+
+pub next_back : (next : Afterwards) → next_of (next_number next) ≡ next
+next_back token.Next = refl
+next_back token.Close = refl
+next_back token.Stay = refl
+
+abbrev pub next_code : Coded Afterwards
+next_code = code_by ℕ coded_ℕ next_number next_of next_back
+
+-- a step as its parts
+abbrev pub Parts : Type 0
+Parts = (ℕ × (ℕ × (List ℤ × Afterwards))) ⊎ ((ℕ × (ℕ × (Time × ℤ))) ⊎ (ℕ × (ℕ × Time)))
+
+module _ {A : Type 0} where
+  abbrev pub step_parts : Step A → Parts
+  step_parts (Feed p vertex values next) = inl (p, (vertex, (values, next)))
+  step_parts (Take p edge time value) = inr (inl (p, (edge, (time, value))))
+  step_parts (Notice p vertex time) = inr (inr (p, (vertex, time)))
+
+  abbrev pub step_of : Parts → Step A
+  step_of (inl t) = Feed t.0 t.1.0 t.1.1.0 t.1.1.1
+  step_of (inr (inl t)) = Take t.0 t.1.0 t.1.1.0 t.1.1.1
+  step_of (inr (inr t)) = Notice t.0 t.1.0 t.1.1
+
+  pub step_back : (x : Step A) → step_of (step_parts x) ≡ x
+  step_back (Feed p vertex values _) = refl
+  step_back (Take p edge time value) = refl
+  step_back (Notice p vertex time) = refl
+
+  abbrev pub step_code : Coded (Step A)
+  step_code =
+      code_by Parts (coded⊎ (coded× coded_ℕ (coded× coded_ℕ (coded× (coded_list coded_ℤ) next_code))) (coded⊎ (coded× coded_ℕ (coded× coded_ℕ (coded× time_code coded_ℤ))) (coded× coded_ℕ (coded× coded_ℕ time_code))))
+      step_parts step_of step_back

@@ -1,0 +1,97 @@
+-- When a step is enabled, and else why it is refused: by the condition of least number (this project's own rule).
+use Rattle.std.specs.Prelude.{◌≡◌, ◌≢◌, ℕ, ◌<◌, ◌≤◌, ◌⊎◌, ℤ, List, [], ◌∷◌, length, All, Some, None, unsigned_abs, FitsSigned}
+use Rattle.std.specs.Int.{w64}
+use Rattle.std.specs.FinMap as fin
+use Rattle.nd_time.specs.Limits.{max_count, max_counter, max_values}
+use Rattle.nd_time.specs.Time.{Time, last_of}
+use Rattle.nd_map.specs.Counts.{at}
+use Rattle.nd_graph.specs.Graph.{location_count, op_at}
+use Rattle.nd_graph.specs.declared.op.Op.TheVariants as op
+use Rattle.nd_paths.specs.declared.point.Pointstamp.{Pointstamp}
+use Rattle.nd_delta.specs.Change.{at as in_change}
+use Rattle.nd_delta.specs.Least.{IsLeast}
+use Rattle.nd_view.specs.View.{IsPrecursor}
+use Rattle.nd_vertex.specs.Table.{Outcome}
+use Rattle.nd_vertex.specs.declared.key.ItemKey.{ItemKey}
+use Rattle.nd_processor.specs.declared.key.ValueAt.{ValueAt}
+use Rattle.nd_processor.specs.declared.key.SinkKey.{SinkKey}
+use Rattle.nd_protocol.specs.State.{ClusterState, processor, view}
+use Rattle.nd_protocol.specs.Steps.{record_key, target_of, point_at, take_outcome, stepped}
+use Rattle.nd_protocol.specs.Refusals.{number_of}
+use Rattle.nd_protocol.specs.declared.step.Step.{Step}
+use Rattle.nd_protocol.specs.declared.step.Step.TheVariants.{Feed, Take, Notice}
+use Rattle.nd_protocol.specs.declared.step.Next.{Next as Afterwards}
+use Rattle.nd_protocol.specs.declared.step.Next.TheVariants as token
+use Rattle.nd_protocol.specs.declared.refusal.Refusal.{Refusal}
+use Rattle.nd_protocol.specs.declared.refusal.Refusal.TheVariants.{NoProcessor, NoVertex, NoEdge, NotInput, InputClosed, TooManyValues, EpochFull, NoRecord, NoRequest, NotYet, CounterFull, ValueRange, CountFull, DeltaFull}
+
+-- the count of a record or of a sink is past the limit
+pub data HasLargeCount (s : ClusterState) : Type 0 where
+  of_record : (p : ℕ) (k : ValueAt) → max_count < at (processor s p).records k → HasLargeCount s
+  of_sink : (p : ℕ) (k : SinkKey) → max_count < at (processor s p).sinks k → HasLargeCount s
+
+-- an entry of an unsent change or of a view is past the limit
+pub data HasLargeEntry (s : ClusterState) : Type 0 where
+  of_unsent : (p : ℕ) (x : Pointstamp) → max_count < unsigned_abs (in_change (processor s p).unsent x) → HasLargeEntry s
+  of_view : (q : ℕ) (x : Pointstamp) → max_count < unsigned_abs (in_change (view s q) x) → HasLargeEntry s
+
+-- all that a vertex emits or keeps is in the range of 64 bits
+pub record IsInRange (o : Outcome) : Type 0 where
+  pub emissions : All (λ e. FitsSigned w64 e.1) o.emissions
+  pub items : (k : ItemKey) → FitsSigned w64 (at o.items k)
+
+-- ---- the conditions of each kind of step, by number
+
+abbrev pub FeedFails : ClusterState → ℕ → ℕ → List ℤ → Afterwards → ClusterState → Refusal → Type 0
+FeedFails s p vertex values _ new NoProcessor = length s.processors ≤ p
+FeedFails s p vertex values _ new NoVertex = length s.graph.vertices ≤ vertex
+FeedFails s p vertex values _ new NotInput = op_at s.graph vertex ≢ op.Input
+FeedFails s p vertex values _ new InputClosed = fin.get (processor s p).tokens vertex ≡ None
+FeedFails s p vertex values _ new TooManyValues = max_values < length values
+FeedFails s p vertex values next new EpochFull = (next ≡ token.Next) × (fin.get (processor s p).tokens vertex ≡ Some max_counter)
+FeedFails s p vertex values _ new CountFull = HasLargeCount new
+FeedFails s p vertex values _ new DeltaFull = HasLargeEntry new
+FeedFails s p vertex values _ new _ = ⊥
+
+abbrev pub TakeFails : ClusterState → ℕ → ℕ → Time → ℤ → ClusterState → Refusal → Type 0
+TakeFails s p edge t value new NoProcessor = length s.processors ≤ p
+TakeFails s p edge t value new NoEdge = (edge < length s.graph.vertices) ⊎ (location_count s.graph ≤ edge)
+TakeFails s p edge t value new NoRecord = at (processor s p).records (record_key edge t value) ≡ 0
+TakeFails s p edge t value new CounterFull = (op_at s.graph (target_of s.graph edge) ≡ op.Feedback) × (last_of t.counters ≡ max_counter)
+TakeFails s p edge t value new ValueRange = IsInRange (take_outcome s p edge t value) → ⊥
+TakeFails s p edge t value new CountFull = HasLargeCount new
+TakeFails s p edge t value new DeltaFull = HasLargeEntry new
+TakeFails s p edge t value new _ = ⊥
+
+abbrev pub NoticeFails : ClusterState → ℕ → ℕ → Time → ClusterState → Refusal → Type 0
+NoticeFails s p vertex t new NoProcessor = length s.processors ≤ p
+NoticeFails s p vertex t new NoVertex = length s.graph.vertices ≤ vertex
+NoticeFails s p vertex t new NoRequest = fin.get (processor s p).requests (point_at vertex t) ≡ None
+NoticeFails s p vertex t new (NotYet blocker) = IsLeast (IsPrecursor s.graph (view s p) (point_at vertex t)) blocker
+NoticeFails s p vertex t new CountFull = HasLargeCount new
+NoticeFails s p vertex t new DeltaFull = HasLargeEntry new
+NoticeFails s p vertex t new _ = ⊥
+
+-- the condition of a refusal holds
+abbrev pub Fails : {A : Type 0} → ClusterState → Step A → Refusal → Type 0
+Fails {A} s (Feed p vertex values next) r = FeedFails s p vertex values next (stepped {A = A} s (Feed p vertex values next)) r
+Fails {A} s (Take p edge t value) r = TakeFails s p edge t value (stepped {A = A} s (Take p edge t value)) r
+Fails {A} s (Notice p vertex t) r = NoticeFails s p vertex t (stepped {A = A} s (Notice p vertex t)) r
+
+-- no condition holds
+pub record IsEnabled {A : Type 0} (s : ClusterState) (x : Step A) : Type 0 where
+  pub free : (r : Refusal) → Fails s x r → ⊥
+
+-- no condition holds whose number is below this one
+pub record IsFreeBelow {A : Type 0} (s : ClusterState) (x : Step A) (n : ℕ) : Type 0 where
+  pub free : (r : Refusal) → number_of r < n → Fails s x r → ⊥
+
+-- the condition of this refusal holds, and none of a lesser number
+pub record IsRefused {A : Type 0} (s : ClusterState) (x : Step A) (r : Refusal) : Type 0 where
+  pub fails : Fails s x r
+  pub least : IsFreeBelow s x (number_of r)
+
+-- each step of a list is enabled in its turn
+abbrev pub AreEnabled : {A : Type 0} → ClusterState → List (Step A) → Type 0
+AreEnabled s [] = Unit {0}
+AreEnabled s (x ∷ xs) = IsEnabled s x × AreEnabled (stepped s x) xs

@@ -1,0 +1,78 @@
+-- When the keys of a cluster's maps fit its graph, and its numbers their limits (this project's own rule).
+use Rattle.std.specs.Prelude.{◌≡◌, ◌≢◌, ◌<◌, ◌≤◌, ℕ, pos, All, length, Some, unsigned_abs}
+use Rattle.std.specs.FinMap as fin
+use Rattle.nd_time.specs.Limits.{max_count, max_processors, max_queue}
+use Rattle.nd_map.specs.Counts.{at}
+use Rattle.nd_graph.specs.Graph.{Dataflow, ArcAgrees, arcs, depths, op_at}
+use Rattle.nd_graph.specs.Checked.{JoinsVertices}
+use Rattle.nd_graph.specs.declared.op.Op.TheVariants as op
+use Rattle.nd_paths.specs.Order.{Fits, IsAccepted}
+use Rattle.nd_paths.specs.declared.point.Pointstamp.{Pointstamp}
+use Rattle.nd_delta.specs.Change.{Change, at as in_change}
+use Rattle.nd_vertex.specs.declared.key.ItemKey.{ItemKey}
+use Rattle.nd_processor.specs.State.{ProcessorState, token_point, items_at}
+use Rattle.nd_processor.specs.declared.key.ValueAt.{ValueAt}
+use Rattle.nd_processor.specs.declared.key.SinkKey.{SinkKey}
+use Rattle.nd_protocol.specs.State.{ClusterState}
+
+-- edges join vertices, depths agree along the arcs, and every closed walk strictly increases every timestamp
+pub record IsOrdered (g : Dataflow) : Type 0 where
+  pub joined : All (JoinsVertices g.vertices) g.edges
+  pub agree : All (ArcAgrees (depths g)) (arcs g)
+  pub accepted : IsAccepted g
+
+-- the pointstamp of a vertex, or of an edge, at its depth
+pub record IsAtVertex (g : Dataflow) (x : Pointstamp) : Type 0 where
+  pub place : x.location < length g.vertices
+  pub fits : Fits g x
+
+pub record IsAtEdge (g : Dataflow) (x : Pointstamp) : Type 0 where
+  pub place : length g.vertices ≤ x.location
+  pub fits : Fits g x
+
+-- each pointstamp of a change fits
+abbrev pub ChangeFits : Dataflow → Change → Type 0
+ChangeFits g c = (x : Pointstamp) → in_change c x ≢ pos 0 → Fits g x
+
+-- each key of a processor's maps is at a place of the graph where it may stand, with a time of that place's depth
+pub record ProcessorFits (g : Dataflow) (q : ProcessorState) : Type 0 where
+  pub records : (k : ValueAt) → at q.records k ≢ 0 → IsAtEdge g k.point
+  pub requests : (x : Pointstamp) → fin.get q.requests x ≡ Some tt → IsAtVertex g x
+  pub tokens : (vertex epoch : ℕ) → fin.get q.tokens vertex ≡ Some epoch → (op_at g vertex ≡ op.Input) × IsAtVertex g (token_point vertex epoch)
+  pub vertices : length q.items ≡ length g.vertices
+  pub items : (vertex : ℕ) (k : ItemKey) → at (items_at q vertex) k ≢ pos 0 → IsAtVertex g (record { location = vertex; time = k.time })
+  pub sinks : (k : SinkKey) → at q.sinks k ≢ 0 → (op_at g k.vertex ≡ op.Sink) × (k.vertex < length g.vertices)
+  pub unsent : ChangeFits g q.unsent
+
+-- so is each key of a cluster; each processor has a view, and a queue to each
+pub record KeysFit (s : ClusterState) : Type 0 where
+  pub processors : All (ProcessorFits s.graph) s.processors
+  pub views : All (ChangeFits s.graph) s.views
+  pub queues : All (λ row. All (λ changes. All (ChangeFits s.graph) changes) row) s.queues
+  pub each_view : length s.views ≡ length s.processors
+  pub each_sender : length s.queues ≡ length s.processors
+  pub each_receiver : All (λ row. length row ≡ length s.processors) s.queues
+
+-- no number of a processor is past its limit
+pub record ProcessorIsWithin (q : ProcessorState) : Type 0 where
+  pub records : (k : ValueAt) → at q.records k ≤ max_count
+  pub sinks : (k : SinkKey) → at q.sinks k ≤ max_count
+  pub unsent : (x : Pointstamp) → unsigned_abs (in_change q.unsent x) ≤ max_count
+
+-- no entry of a change is past its limit
+abbrev pub ChangeIsWithin : Change → Type 0
+ChangeIsWithin c = (x : Pointstamp) → unsigned_abs (in_change c x) ≤ max_count
+
+-- nor is any number of a cluster, which has at least one processor
+pub record IsWithinLimits (s : ClusterState) : Type 0 where
+  pub some : 0 < length s.processors
+  pub few : length s.processors ≤ max_processors
+  pub processors : All ProcessorIsWithin s.processors
+  pub views : All ChangeIsWithin s.views
+  pub queues : All (λ row. All (λ changes. length changes ≤ max_queue) row) s.queues
+
+-- a state that a cluster may be in, reachable or not
+pub record IsState (s : ClusterState) : Type 0 where
+  pub ordered : IsOrdered s.graph
+  pub fits : KeysFit s
+  pub within : IsWithinLimits s

@@ -1,0 +1,39 @@
+-- The protocol invariant, and what it means that a time is finished (FORTE 2013; upright changes are this project's own rule).
+use Rattle.std.specs.Prelude.{◌≡◌, ◌<◌, ◌≤◌, ℕ, zero, suc, ℤ, pos, ◌+ℤ◌, List, [], ◌∷◌, length, drop}
+use Rattle.nd_paths.specs.Order.{CouldResultIn, IsStrictlyBefore}
+use Rattle.nd_paths.specs.declared.point.Pointstamp.{Pointstamp}
+use Rattle.nd_delta.specs.Change.{Change, none, at, plus}
+use Rattle.nd_delta.specs.Upright.{IsUpright}
+use Rattle.nd_processor.specs.State.{ProcessorState, in_tokens}
+use Rattle.nd_protocol.specs.State.{ClusterState, processor, view, queue, truth}
+
+-- the processor holds a token at the pointstamp
+abbrev pub HoldsToken : ProcessorState → Pointstamp → Type 0
+HoldsToken q x = 0 < in_tokens q.tokens x
+
+-- the sum of changes
+abbrev pub sum_of : List Change → Change
+sum_of [] = none
+sum_of (c ∷ cs) = plus c (sum_of cs)
+
+-- what q is yet to hear from p, once it has received k more changes
+abbrev pub pending : ClusterState → ℕ → ℕ → ℕ → Change
+pending s p q k = plus (sum_of (drop k (queue s p q))) (processor s p).unsent
+
+-- f 0 + .. + f (n - 1)
+abbrev pub total : ℕ → (ℕ → ℤ) → ℤ
+total zero f = pos 0
+total (suc n) f = total n f +ℤ f n
+
+-- each view, with all that is pending to it, is the truth
+pub record IsSettled (s : ClusterState) : Type 0 where
+  pub balance : (q : ℕ) → q < length s.processors → (x : Pointstamp) → at (truth s.processors) x ≡ (at (view s q) x +ℤ total (length s.processors) (λ p. at (pending s p q 0) x))
+
+-- the protocol invariant: the cluster is settled, and all that is pending is upright
+pub record KeepsProtocol (s : ClusterState) : Type 0 where
+  pub settled : IsSettled s
+  pub upright : (p q k : ℕ) → p < length s.processors → q < length s.processors → k ≤ length (queue s p q) → IsUpright (IsStrictlyBefore s.graph) (HoldsToken (processor s p)) (at (pending s p q k))
+
+-- nothing outstanding is at or before t
+abbrev pub IsFinished : ClusterState → Pointstamp → Type 0
+IsFinished s t = (x : Pointstamp) → CouldResultIn s.graph x t → at (truth s.processors) x ≡ pos 0

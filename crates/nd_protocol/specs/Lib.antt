@@ -1,0 +1,11 @@
+pub mod State
+pub mod Steps
+pub mod Truth
+pub mod Fitting
+pub mod Refusals
+pub mod Enabled
+pub mod Start
+pub mod Invariant
+pub mod Exchange
+pub mod Laws
+pub mod Codes

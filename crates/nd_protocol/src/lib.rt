@@ -1,0 +1,13 @@
+//! What a cluster is, the steps that it can make and why they are refused, and the protocol's safety.
+#![tactic(auto)]
+
+mod laws;
+mod refusal;
+mod step;
+
+pub use laws::{
+    exchanges_keep_protocol, protocol_is_safe, starts_keep_protocol, steps_keep_protocol,
+    truth_is_small,
+};
+pub use refusal::{NoMemory, Refusal};
+pub use step::{Next, Step, Values};

@@ -1,0 +1,94 @@
+//! Why a step is refused.
+ghost use Rattle.std.specs.Prelude.{◌≡◌};
+ghost use Rattle.nd_protocol.specs.Refusals.{number_of, name_of};
+
+use nd_paths::Pointstamp;
+use thiserror::Error;
+
+/// Why a step is refused, tested in the order of the numbers (this project's own rule).
+#[derive(Debug, PartialEq, Eq, Drop, Error)]
+pub enum Refusal {
+    #[error("there is no such processor")]
+    NoProcessor,
+    #[error("there is no such vertex")]
+    NoVertex,
+    #[error("there is no such edge")]
+    NoEdge,
+    #[error("the vertex is no input")]
+    NotInput,
+    #[error("the input is closed")]
+    InputClosed,
+    #[error("a feed has at most 1024 values")]
+    TooManyValues,
+    #[error("the epoch is at its limit")]
+    EpochFull,
+    #[error("there is no such record")]
+    NoRecord,
+    #[error("there is no such request")]
+    NoRequest,
+    #[error("something outstanding may be strictly before")]
+    NotYet { blocker: Pointstamp },
+    #[error("a loop counter is at its limit")]
+    CounterFull,
+    #[error("a value would leave the range of 64 bits")]
+    ValueRange,
+    #[error("a count would pass its limit")]
+    CountFull,
+    #[error("an entry of a change would pass its limit")]
+    DeltaFull,
+    #[error("out of memory")]
+    Memory,
+}
+
+/// A growth was refused.
+#[derive(Clone, Copy, Debug, PartialEq, Eq, Drop, Error)]
+#[error("out of memory")]
+pub struct NoMemory;
+
+impl Refusal {
+    /// The refusal's number.
+    pub fn number(&self) -> u64
+        ensures { result ≡ number_of self.now }
+    {
+        match self {
+            Refusal::NoProcessor => 1,
+            Refusal::NoVertex => 2,
+            Refusal::NoEdge => 3,
+            Refusal::NotInput => 4,
+            Refusal::InputClosed => 5,
+            Refusal::TooManyValues => 6,
+            Refusal::EpochFull => 7,
+            Refusal::NoRecord => 8,
+            Refusal::NoRequest => 9,
+            Refusal::NotYet { blocker: _ } => 10,
+            Refusal::CounterFull => 11,
+            Refusal::ValueRange => 12,
+            Refusal::CountFull => 13,
+            Refusal::DeltaFull => 14,
+            Refusal::Memory => 19,
+        }
+    }
+
+    /// The refusal's name.
+    pub fn name(&self) -> &'static str
+        ensures { result.now ≡ name_of self.now }
+    {
+        match self {
+            Refusal::NoProcessor => "NoProcessor",
+            Refusal::NoVertex => "NoVertex",
+            Refusal::NoEdge => "NoEdge",
+            Refusal::NotInput => "NotInput",
+            Refusal::InputClosed => "InputClosed",
+            Refusal::TooManyValues => "TooManyValues",
+            Refusal::EpochFull => "EpochFull",
+            Refusal::NoRecord => "NoRecord",
+            Refusal::NoRequest => "NoRequest",
+            Refusal::NotYet { blocker: _ } => "NotYet",
+            Refusal::CounterFull => "CounterFull",
+            Refusal::ValueRange => "ValueRange",
+            Refusal::CountFull => "CountFull",
+            Refusal::DeltaFull => "DeltaFull",
+            Refusal::Memory => "Memory",
+        }
+    }
+}

@@ -1,0 +1,131 @@
+//! The steps that a cluster can make.
+ghost use Rattle.std.specs.Prelude.{◌≡◌, [], ◌∷◌, ◌++◌, IfOk, OnOk, OnErr};
+
+use nd_time::Timestamp;
+use std::alloc::{AllocError, Allocator, Global};
+use std::marker::Model;
+
+/// A list of values, in the order in which they are fed.
+#[derive(Drop)]
+pub struct Values<A: Allocator = Global> {
+    items: Vec<i64, A>,
+}
+
+impl<A: Allocator> Model for Values<A> {
+    ghost use Rattle.std.specs.Prelude.{List, ℤ};
+
+    ghost Value = { List ℤ };
+
+    ghost view = { λ a. a.items.items };
+}
+
+impl<A: Allocator> Values<A> {
+    /// No values.
+    pub fn new(alloc: A) -> Values<A>
+        ensures { result ≡ [] }
+    {
+        Values {
+            items: Vec::new(alloc),
+        }
+    }
+
+    /// The values.
+    pub fn as_slice(&self) -> &[i64]
+        ensures { result.now ≡ self.now }
+    {
+        &self.items
+    }
+
+    /// Puts one more value at the end.
+    pub fn push(&mut self, value: i64) -> Result<(), AllocError>
+        ensures ok { OnOk result (self.new ≡ self.old ++ value ∷ []) }
+        ensures err { OnErr result (self.new ≡ self.old) }
+    {
+        let Ok(()) = self.items.push(value) else {
+            return Err(AllocError);
+        };
+        Ok(())
+    }
+
+    /// Equal values.
+    pub fn copy(&self, alloc: A) -> Result<Values<A>, AllocError>
+        ensures { IfOk result (λ v. v ≡ self.now) }
+    {
+        Ok(Values {
+            items: Vec::from_slice(alloc, &self.items)?,
+        })
+    }
+}
+
+/// What becomes of an input's token once its values are fed.
+#[derive(Clone, Copy, Debug, PartialEq, Eq, Drop)]
+pub enum Next {
+    /// It goes to the next epoch.
+    Next,
+    /// It is given up.
+    Close,
+    /// It stays where it is.
+    Stay,
+}
+
+/// One step of one processor (Naiad, SOSP 2013, sections 2.2 and 3.3).
+#[derive(Drop)]
+pub enum Step<A: Allocator = Global> {
+    /// Feeds values into an input vertex at its token's epoch.
+    Feed {
+        p: u32,
+        vertex: usize,
+        values: Values<A>,
+        next: Next,
+    },
+    /// Takes a record off an edge and hands it to the edge's target.
+    Take {
+        p: u32,
+        edge: usize,
+        time: Timestamp,
+        value: i64,
+    },
+    /// Removes a vertex's request, and runs its notice.
+    Notice {
+        p: u32,
+        vertex: usize,
+        time: Timestamp,
+    },
+}
+
+impl<A: Allocator> Step<A> {
+    /// An equal step.
+    pub fn copy(&self, alloc: A) -> Result<Step<A>, AllocError>
+        ensures { IfOk result (λ x. x ≡ self.now) }
+    {
+        match self {
+            Step::Feed {
+                p,
+                vertex,
+                values,
+                next,
+            } => Ok(Step::Feed {
+                p: *p,
+                vertex: *vertex,
+                values: values.copy(alloc)?,
+                next: *next,
+            }),
+            Step::Take {
+                p,
+                edge,
+                time,
+                value,
+            } => Ok(Step::Take {
+                p: *p,
+                edge: *edge,
+                time: time.copy(),
+                value: *value,
+            }),
+            Step::Notice { p, vertex, time } => Ok(Step::Notice {
+                p: *p,
+                vertex: *vertex,
+                time: time.copy(),
+            }),
+        }
+    }
+}

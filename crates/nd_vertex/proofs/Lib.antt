@@ -1,0 +1,4 @@
+pub mod Editing
+pub mod Keeping
+pub mod Reacting
+pub mod Removing

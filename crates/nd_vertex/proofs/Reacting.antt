@@ -1,0 +1,133 @@
+-- What a vertex does on a record or a notice: the edits that lead to the table's items.
+use Rattle.std.proofs.Common.{◌≡◌, ◌≢◌, ◌<◌, ℕ, zero, suc, ℤ, pos, negsuc, ◌+ℤ◌, Bool, true, false, cond, List, [], ◌∷◌, length, get_or, Option, Some, None, FitsSigned, w64, to_z, of_z, refl, sym, ap, subst, ◌∙◌, arith}
+use Rattle.std.specs.Prelude.{All}
+use Rattle.std.specs.Option.{unwrap_or}
+use Rattle.std.proofs.lemmas.Int.{to_z-of_z}
+use Rattle.std.specs.List.{IsDistinct}
+use Rattle.std.specs.Ordering.{eq_by_cmp}
+use Rattle.nd_map.specs.Counts.{at, set, at-set}
+use Rattle.nd_time.specs.Time.{Time}
+use Rattle.nd_graph.specs.Operators.{facts}
+use Rattle.nd_graph.specs.declared.op.Op.{Op}
+use Rattle.nd_graph.specs.declared.op.Op.TheVariants.{Input, Ingress, Egress, Feedback, Add, Mul, Below, Split, Sum, Distinct, Sink}
+use Rattle.nd_vertex.specs.Items.{Items, item_cmp, item_total}
+use Rattle.nd_vertex.specs.Table.{on_record, on_notice, is_zero}
+use Rattle.nd_vertex.specs.Edits.{CanEdit, LeadsTo, item_of, number_of, with_item}
+use Rattle.nd_vertex.specs.Effects.{AreValues}
+use Rattle.nd_vertex.specs.declared.key.ItemKey.{ItemKey}
+use Rattle.nd_vertex.specs.declared.effect.ItemEdit.{ItemEdit}
+use Rattle.nd_vertex.proofs.Editing.{put_same, number_at, itself}
+
+one : {X : Type 0} (P : X → Type 0) (x : X) → P x → All P (x ∷ [])
+one P x p zero d lt = p
+one P x p (suc i) d lt = absurd (omega arith)
+
+nothing : {X : Type 0} (P : X → Type 0) → All P []
+nothing P i d lt = absurd (omega arith)
+
+pub leads_none : (m n : Items) → m ≡ n → LeadsTo m [] n
+unfolding IsDistinct
+leads_none m n e = record { can_edit = record { olds = nothing _; news = nothing _; once = tt }; changes = nothing _; edited_is = e }
+
+pub leads_one : (m : Items) (k : ItemKey) (old new : Option ℤ) → old ≡ item_of m k → new ≢ Some (pos 0) → old ≢ new → LeadsTo m (record { key = k; old = old; new = new } ∷ []) (with_item m k new)
+unfolding IsDistinct
+leads_one m k old new was some other = record {
+  can_edit = record {
+    olds = one (λ e. item_of m e.key ≡ e.old) (record { key = k; old = old; new = new }) (sym was);
+    news = one (λ e. e.new ≢ Some (pos 0)) (record { key = k; old = old; new = new }) some;
+    once = (tt, tt);
+  };
+  changes = one (λ e. e.old ≢ e.new) (record { key = k; old = old; new = new }) other;
+  edited_is = refl;
+}
+
+-- an item that gets the number that it has
+pub leads_same : (m : Items) (k : ItemKey) (old new : Option ℤ) → old ≡ item_of m k → old ≡ new → LeadsTo m [] (with_item m k new)
+leads_same m k old new was e = leads_none m (with_item m k new) (sym (put_same m k new (sym was ∙ e)))
+
+either : (b : Bool) (y z : ℤ) → FitsSigned w64 y → FitsSigned w64 z → FitsSigned w64 (cond b y z)
+either true y z p q = p
+either false y z p q = q
+
+pub values_set : (m : Items) (k : ItemKey) (z : ℤ) → AreValues m → FitsSigned w64 z → AreValues (set item_total m k z)
+values_set m k z values fits q = subst (FitsSigned w64) (sym (at-set item_total m k z q)) (either (eq_by_cmp item_cmp q k) z (at m q) (fits) (values q))
+
+-- operators that keep nothing
+pub unchanged : (op : Op) (m : Items) (t : Time) (v : ℤ) → (op ≡ Sum → ⊥) → (op ≡ Distinct → ⊥) → (on_record op m t v).items ≡ m
+unchanged Input m t v s d = refl
+unchanged Ingress m t v s d = refl
+unchanged Egress m t v s d = refl
+unchanged Feedback m t v s d = refl
+unchanged (Add k) m t v s d = refl
+unchanged (Mul k) m t v s d = refl
+unchanged (Below k) m t v s d = refl
+unchanged (Split k) m t v s d = refl
+unchanged Sum m t v s d = absurd (s refl)
+unchanged Distinct m t v s d = absurd (d refl)
+unchanged Sink m t v s d = refl
+
+pub left_alone : (op : Op) (m : Items) (t : Time) → (op ≡ Sum → ⊥) → (op ≡ Distinct → ⊥) → (on_notice op m t).items ≡ m
+left_alone Input m t s d = refl
+left_alone Ingress m t s d = refl
+left_alone Egress m t s d = refl
+left_alone Feedback m t s d = refl
+left_alone (Add k) m t s d = refl
+left_alone (Mul k) m t s d = refl
+left_alone (Below k) m t s d = refl
+left_alone (Split k) m t s d = refl
+left_alone Sum m t s d = absurd (s refl)
+left_alone Distinct m t s d = absurd (d refl)
+left_alone Sink m t s d = refl
+
+-- ---- a sum's new number, and what a distinct has
+
+or_number : (o : Option ℤ) → unwrap_or o (pos 0) ≡ number_of o
+or_number None = refl
+or_number (Some z) = refl
+
+-- the sum as the code has it
+pub total : (m : Items) (k : ItemKey) (r v : ℤ) → r ≡ unwrap_or (item_of m k) (pos 0) → AreValues m → FitsSigned w64 v → to_z w64 (of_z w64 r) +ℤ to_z w64 (of_z w64 v) ≡ at m k +ℤ v
+total m k r v is values range =
+    let here : r ≡ at m k = is ∙ or_number (item_of m k) ∙ number_at m k in
+    λ i. (ap (λ z. to_z w64 (of_z w64 z)) here ∙ to_z-of_z w64 (at m k) (values k)) i +ℤ to_z-of_z w64 v range i
+
+pub at_here : (m : Items) (k : ItemKey) (z : ℤ) → at (set item_total m k z) k ≡ z
+at_here m k z = at-set item_total m k z k ∙ ap (λ b. cond b z (at m k)) (itself k)
+
+pub is_there : (z x : ℤ) → Some x ≡ cond (is_zero z) None (Some z) → is_zero z ≡ false
+is_there (pos zero) x e = absurd (cc)
+is_there (pos (suc n)) x e = refl
+is_there (negsuc n) x e = refl
+
+pub is_absent : (z : ℤ) → None ≡ cond (is_zero z) None (Some z) → is_zero z ≡ true
+is_absent (pos zero) e = refl
+is_absent (pos (suc n)) e = absurd (cc)
+is_absent (negsuc n) e = absurd (cc)
+
+-- ---- what the table says of every record
+
+pub asks_is : (op : Op) (m : Items) (t : Time) (v : ℤ) → (on_record op m t v).asks ≡ (facts op).asks
+asks_is Input m t v = refl
+asks_is Ingress m t v = refl
+asks_is Egress m t v = refl
+asks_is Feedback m t v = refl
+asks_is (Add k) m t v = refl
+asks_is (Mul k) m t v = refl
+asks_is (Below k) m t v = refl
+asks_is (Split k) m t v = refl
+asks_is Sum m t v = refl
+asks_is Distinct m t v = refl
+asks_is Sink m t v = refl
+
+pub counts_is : (op : Op) (m : Items) (t : Time) (v : ℤ) → (on_record op m t v).counts ≡ (facts op).counts
+counts_is Input m t v = refl
+counts_is Ingress m t v = refl
+counts_is Egress m t v = refl
+counts_is Feedback m t v = refl
+counts_is (Add k) m t v = refl
+counts_is (Mul k) m t v = refl
+counts_is (Below k) m t v = refl
+counts_is (Split k) m t v = refl
+counts_is Sum m t v = refl
+counts_is Distinct m t v = refl
+counts_is Sink m t v = refl

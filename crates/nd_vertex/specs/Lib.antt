@@ -1,0 +1,5 @@
+pub mod Edits
+pub mod Effects
+pub mod Items
+pub mod Kept
+pub mod Table

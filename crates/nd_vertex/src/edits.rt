@@ -1,0 +1,80 @@
+//! The edits of an effect, made and taken back.
+ghost use Rattle.std.specs.Prelude.{◌≡◌, ◌≢◌, None, Some, Bool, cond, map, OnOk, OnErr, IsTrue, pos};
+ghost use Rattle.nd_vertex.specs.Edits.{CanEdit, item_of, with_item, edited, turned, directed};
+
+use crate::{Effect, ItemEdit, VertexState};
+use std::alloc::{AllocError, Allocator};
+
+impl<A: Allocator + Copy> VertexState<A> {
+    // Makes an edit where it is wanted. Only an item that is not there takes memory.
+    fn make(&mut self, wanted: bool, edit: &ItemEdit) -> Result<(), AllocError>
+        requires there { IsTrue wanted → item_of self.old edit.now.key ≡ edit.now.old }
+        requires some { IsTrue wanted → edit.now.new ≢ Some (pos 0) }
+        ensures ok { OnOk result (self.new ≡ cond wanted (with_item self.old edit.now.key edit.now.new) self.old) }
+        ensures err { OnErr result (self.new ≡ self.old) }
+        ensures wanted { OnErr result (IsTrue wanted) }
+        ensures absent { OnErr result (edit.now.old ≡ None) }
+        ensures growing { OnErr result (edit.now.new ≢ None) }
+    {
+        if !wanted {
+            return Ok(());
+        }
+        let Ok(()) = self.set(&edit.key.time, edit.key.item, edit.old, edit.new) else {
+            return Err(AllocError);
+        };
+        Ok(())
+    }
+
+    // Makes the edits, or those back: first the ones that add an item, which alone take memory.
+    fn make_all(&mut self, edits: &[ItemEdit], back: bool) -> Result<(), AllocError>
+        requires { CanEdit self.old (directed back edits.now) }
+        ensures ok { OnOk result (self.new ≡ edited self.old (directed back edits.now)) }
+        ensures err { OnErr result (self.new ≡ self.old) }
+    {
+        for i in 0..edits.len() {
+            let edit = edits[i].directed(back);
+            let Ok(()) = self.make(edit.old.is_none(), &edit) else {
+                for j in (0..i).rev() {
+                    let made = edits[j].directed(back);
+                    let Ok(()) = self.make(made.old.is_none(), &made.turned()) else {
+                        unreachable!()
+                    };
+                }
+                return Err(AllocError);
+            };
+        }
+        for k in 0..edits.len() {
+            let edit = edits[k].directed(back);
+            let Ok(()) = self.make(edit.old.is_some(), &edit) else {
+                unreachable!()
+            };
+        }
+        Ok(())
+    }
+
+    /// Makes the item edits of an effect. Where a growth is refused all is as it was.
+    pub fn commit<B: Allocator>(&mut self, effect: &Effect<B>) -> Result<(), AllocError>
+        requires { CanEdit self.old effect.now.items.items }
+        ensures ok { OnOk result (self.new ≡ edited self.old effect.now.items.items) }
+        ensures back { OnOk result (CanEdit self.new (map turned effect.now.items.items)) }
+        ensures undone { OnOk result (edited self.new (map turned effect.now.items.items) ≡ self.old) }
+        ensures err { OnErr result (self.new ≡ self.old) }
+    {
+        let Ok(()) = self.make_all(&effect.items, false) else {
+            return Err(AllocError);
+        };
+        Ok(())
+    }
+
+    /// Takes the item edits of an effect back. Where a growth is refused all is as it was.
+    pub fn revert<B: Allocator>(&mut self, effect: &Effect<B>) -> Result<(), AllocError>
+        requires { CanEdit self.old (map turned effect.now.items.items) }
+        ensures ok { OnOk result (self.new ≡ edited self.old (map turned effect.now.items.items)) }
+        ensures err { OnErr result (self.new ≡ self.old) }
+    {
+        let Ok(()) = self.make_all(&effect.items, true) else {
+            return Err(AllocError);
+        };
+        Ok(())
+    }
+}

@@ -1,0 +1,247 @@
+//! What a vertex does on records and notices: the table of operators (this project's own rule).
+ghost use Rattle.std.specs.Prelude.{◌≡◌, ◌≢◌, ◌↔◌, Some, None, Err, IfOk, IfErr, IsErr, All, FitsSigned, ℤ, pos, length, not};
+ghost use mir.Syntax.{w64};
+ghost use Rattle.nd_graph.specs.Graph.{action_of};
+ghost use Rattle.std.specs.Ordering.{eq_by_cmp};
+ghost use Rattle.nd_map.specs.Counts.{only};
+ghost use Rattle.nd_time.specs.Time.{Time};
+ghost use Rattle.nd_time.specs.Listing.{time_cmp};
+ghost use Rattle.nd_vertex.specs.Items.{Items, item_key, item_total};
+ghost use Rattle.nd_vertex.specs.Table.{on_record as recorded, on_notice as noticed, time_past as past_of};
+ghost use Rattle.nd_vertex.specs.Edits.{LeadsTo, number_of, with_item};
+ghost use Rattle.nd_vertex.specs.Effects.{IsEffect, IsCounterFull, IsInRange, AreValues, MayActAt, emitted, listed};
+
+use crate::{Effect, Emission, ItemEdit, ItemKey, VertexFault, VertexState};
+use nd_graph::{Action, Op};
+use nd_time::{CounterFull, Timestamp};
+use std::alloc::{AllocError, Allocator};
+
+// The timestamp past a vertex.
+fn time_past(op: Op, time: &Timestamp) -> Result<Timestamp, CounterFull>
+    requires { MayActAt (action_of op) (length time.now.counters) }
+    ensures ok { IfOk result (λ t. t ≡ past_of op time.now) }
+    ensures full { IsErr result ↔ IsCounterFull op time.now }
+{
+    match op.action() {
+        Action::Identity => Ok(time.copy()),
+        Action::Ingress => Ok(time.ingress().unwrap()),
+        Action::Egress => Ok(time.egress().unwrap()),
+        Action::Feedback => time.feedback(),
+    }
+}
+
+// A number, or none where it is 0.
+fn nonzero(n: i64) -> Option<i64>
+    ensures number { number_of result ≡ n }
+    ensures some { result ≢ Some (pos 0) }
+{
+    if n == 0 { None } else { Some(n) }
+}
+
+// Whether the operator asks for a notice on a record.
+fn asks_for_notices(op: Op) -> bool
+    ensures { (m : Items) → (t : Time) → (v : ℤ) → (recorded op m t v).asks ≡ result }
+{
+    op.asks_for_notices()
+}
+
+// Whether the operator counts the values of records.
+fn counts_values(op: Op) -> bool
+    ensures { (m : Items) → (t : Time) → (v : ℤ) → (recorded op m t v).counts ≡ result }
+{
+    op.counts_values()
+}
+
+// None, or one.
+fn list_of<T: Drop, A: Allocator>(alloc: A, item: Option<T>) -> Result<Vec<T, A>, AllocError>
+    ensures { IfOk result (λ v. v.items ≡ listed item) }
+{
+    let mut list = Vec::new(alloc);
+    if let Some(item) = item {
+        list.push(item)?;
+    }
+    Ok(list)
+}
+
+// What is emitted at a timestamp, none or one.
+fn emission_of(time: Timestamp, output: Option<(u32, i64)>) -> Option<Emission>
+    ensures { listed result ≡ emitted time (listed output) }
+{
+    match output {
+        Some((port, value)) => Some(Emission { port, time, value }),
+        None => None,
+    }
+}
+
+impl<A: Allocator + Copy> VertexState<A> {
+    // The value that a record makes a vertex emit, with its port.
+    fn output(
+        &self,
+        op: Op,
+        time: &Timestamp,
+        value: i64,
+    ) -> Result<Option<(u32, i64)>, VertexFault>
+        ensures ok { IfOk result (λ e. listed e ≡ (recorded op self.now time.now value).emissions) }
+        ensures fits { IfOk result (λ _. All (λ e. FitsSigned w64 e.1) (recorded op self.now time.now value).emissions) }
+        ensures fault { IfErr result (λ f. f ≡ VertexFault.ValueRange) }
+        ensures range { IfErr result (λ _. IsInRange (recorded op self.now time.now value) → ⊥) }
+    {
+        match op {
+            Op::Input | Op::Sum | Op::Sink => Ok(None),
+            Op::Ingress | Op::Egress | Op::Feedback => Ok(Some((0, value))),
+            Op::Add(k) => match value.checked_add(k) {
+                Some(sum) => Ok(Some((0, sum))),
+                None => Err(VertexFault::ValueRange),
+            },
+            Op::Mul(k) => match value.checked_mul(k) {
+                Some(product) => Ok(Some((0, product))),
+                None => Err(VertexFault::ValueRange),
+            },
+            Op::Below(k) => {
+                if value < k {
+                    Ok(Some((0, value)))
+                } else {
+                    Ok(None)
+                }
+            }
+            Op::Split(k) => {
+                if value < k {
+                    Ok(Some((0, value)))
+                } else {
+                    Ok(Some((1, value)))
+                }
+            }
+            Op::Distinct => match self.get(time, value) {
+                Some(_) => Ok(None),
+                None => Ok(Some((0, value))),
+            },
+        }
+    }
+
+    // The edit that gives an item a number or takes it out, none where it changes nothing.
+    fn change(&self, time: &Timestamp, item: i64, new: Option<i64>) -> Option<ItemEdit>
+        requires { new ≢ Some (pos 0) }
+        ensures { LeadsTo self.now (listed result) (with_item self.now (item_key time.now item) new) }
+    {
+        let old = self.get(time, item);
+        if old == new {
+            return None;
+        }
+        let key = ItemKey {
+            time: time.copy(),
+            item,
+        };
+        Some(ItemEdit { key, old, new })
+    }
+
+    // The edit of the item that a record changes.
+    fn edit(&self, op: Op, time: &Timestamp, value: i64) -> Result<Option<ItemEdit>, VertexFault>
+        ensures ok { IfOk result (λ e. LeadsTo self.now (listed e) (recorded op self.now time.now value).items) }
+        ensures fits { IfOk result (λ _. AreValues (recorded op self.now time.now value).items) }
+        ensures fault { IfErr result (λ f. f ≡ VertexFault.ValueRange) }
+        ensures range { IfErr result (λ _. IsInRange (recorded op self.now time.now value) → ⊥) }
+    {
+        let _ = &self.map;
+        match op {
+            Op::Sum => match self.get(time, 0).unwrap_or(0).checked_add(value) {
+                Some(sum) => Ok(self.change(time, 0, nonzero(sum))),
+                None => Err(VertexFault::ValueRange),
+            },
+            Op::Distinct => match self.get(time, value) {
+                Some(_) => Ok(None),
+                None => Ok(self.change(time, value, Some(1))),
+            },
+            _ => Ok(None),
+        }
+    }
+
+    /// What the operator does on a record: what the table says, of the items that are here.
+    ///
+    /// The items stay as they are until the effect is committed. CounterFull (11) where a feedback's
+    /// last counter cannot rise, else ValueRange (12) where an emission or an item leaves 64 bits.
+    pub fn on_record(
+        &self,
+        alloc: A,
+        op: Op,
+        time: &Timestamp,
+        value: i64,
+    ) -> Result<Effect<A>, VertexFault>
+        requires { MayActAt (action_of op) (length time.now.counters) }
+        ensures ok { IfOk result (IsEffect self.now op time.now (recorded op self.now time.now value)) }
+        ensures full { (result ≡ Err VertexFault.CounterFull) ↔ IsCounterFull op time.now }
+        ensures range { (result ≡ Err VertexFault.ValueRange) ↔ ((IsCounterFull op time.now → ⊥) × (IsInRange (recorded op self.now time.now value) → ⊥)) }
+        ensures memory { result ≡ Err VertexFault.Memory → (IsCounterFull op time.now → ⊥) × IsInRange (recorded op self.now time.now value) }
+    {
+        let past = time_past(op, time)?;
+        let output = self.output(op, time, value)?;
+        let edit = self.edit(op, time, value)?;
+        Ok(Effect {
+            emits: list_of(alloc, emission_of(past, output))?,
+            asks: asks_for_notices(op),
+            items: list_of(alloc, edit)?,
+            sink: counts_values(op),
+        })
+    }
+
+    // The value that a notice makes a vertex emit, with its port.
+    fn noticed_output(&self, op: Op, time: &Timestamp) -> Option<(u32, i64)>
+        ensures { listed result ≡ (noticed op self.now time.now).emissions }
+    {
+        if op != Op::Sum {
+            return None;
+        }
+        match self.get(time, 0) {
+            Some(sum) => Some((0, sum)),
+            None => None,
+        }
+    }
+
+    // The edits that take out all items at a timestamp.
+    fn removals(&self, alloc: A, time: &Timestamp) -> Result<Vec<ItemEdit, A>, AllocError>
+        ensures { IfOk result (λ v. LeadsTo self.now v.items (only item_total (λ (k : ItemKey). not (eq_by_cmp time_cmp k.time time.now)) self.now)) }
+    {
+        let mut edits = Vec::new(alloc);
+        for (key, number) in self.map.iter() {
+            if key.time == *time {
+                edits.push(ItemEdit {
+                    key: key.copy(),
+                    old: Some(*number),
+                    new: None,
+                })?;
+            }
+        }
+        Ok(edits)
+    }
+
+    // The edits of the items that a notice changes.
+    fn noticed_edits(
+        &self,
+        alloc: A,
+        op: Op,
+        time: &Timestamp,
+    ) -> Result<Vec<ItemEdit, A>, AllocError>
+        ensures { IfOk result (λ v. LeadsTo self.now v.items (noticed op self.now time.now).items) }
+    {
+        match op {
+            Op::Sum => list_of(alloc, self.change(time, 0, None)),
+            Op::Distinct => self.removals(alloc, time),
+            _ => Ok(Vec::new(alloc)),
+        }
+    }
+
+    /// What the operator does on a notice: what the table says, of the items that are here.
+    ///
+    /// The items stay as they are until the effect is committed. The one fault is Memory.
+    pub fn on_notice(&self, alloc: A, op: Op, time: &Timestamp) -> Result<Effect<A>, VertexFault>
+        ensures ok { IfOk result (IsEffect self.now op time.now (noticed op self.now time.now)) }
+        ensures err { IfErr result (λ e. e ≡ VertexFault.Memory) }
+    {
+        let output = self.noticed_output(op, time);
+        Ok(Effect {
+            emits: list_of(alloc, emission_of(time.copy(), output))?,
+            asks: false,
+            items: self.noticed_edits(alloc, op, time)?,
+            sink: false,
+        })
+    }
+}

@@ -1,0 +1,110 @@
+//! What a vertex keeps: numbers for items at timestamps.
+ghost use Rattle.std.specs.Prelude.{◌≡◌, ◌≢◌, ◌<◌, ◌^◌, None, Some, OnOk, OnErr, IfOk, ℤ, pos, length};
+ghost use Rattle.std.specs.Map.Iter.{ShowsInOrder, deref_pair};
+ghost use Rattle.nd_map.specs.Counts.{none, entries as listed};
+ghost use Rattle.nd_vertex.specs.Items.{item_key};
+ghost use Rattle.nd_vertex.specs.Edits.{item_of, with_item};
+ghost use Rattle.nd_vertex.specs.Effects.{AreValues};
+
+use crate::ItemKey;
+use nd_map::TreeMap;
+use nd_time::Timestamp;
+use std::alloc::{AllocError, Allocator, Global};
+use std::collections::btree_map::Iter;
+use std::marker::Model;
+
+/// A finite map from items at timestamps to numbers other than 0.
+pub struct VertexState<A: Allocator = Global> {
+    pub(crate) map: TreeMap<ItemKey, i64, A>,
+}
+
+impl<A: Allocator> Drop for VertexState<A> {
+    fn drop(self) {
+        let VertexState { map: _ } = self;
+    }
+}
+
+impl<A: Allocator> Model for VertexState<A> {
+    ghost use Rattle.nd_map.specs.Counts.{integers, of_entries};
+    ghost use Rattle.nd_vertex.specs.Items.{Items, items_code, item_total};
+    ghost use Rattle.nd_vertex.specs.Kept.{IsKept};
+
+    ghost Value = { Items };
+
+    ghost coded = { items_code };
+
+    ghost view = { λ a. of_entries {N = integers} item_total a.map };
+
+    ghost invariant = { λ a. IsKept a.map };
+}
+
+impl<A: Allocator + Copy> VertexState<A> {
+    /// No item. It takes no memory.
+    pub fn new(alloc: A) -> VertexState<A>
+        ensures { result ≡ none }
+    {
+        VertexState {
+            map: TreeMap::new(alloc),
+        }
+    }
+
+    /// The number of an item at a timestamp, `None` where it is not there.
+    pub fn get(&self, time: &Timestamp, item: i64) -> Option<i64>
+        ensures value { result ≡ item_of self.now (item_key time.now item) }
+        ensures values { AreValues self.now }
+    {
+        let key = ItemKey {
+            time: time.copy(),
+            item,
+        };
+        self.map.get(&key)
+    }
+
+    /// The items that are there with their numbers, by timestamp and then by item.
+    pub fn entries(&self) -> Iter<'_, ItemKey, i64>
+        ensures listed { result ≡ listed self.now }
+        ensures runs { ShowsInOrder (deref_pair {K = ItemKey} {X = ℤ}) }
+        ensures fits { length (listed self.now) < 2 ^ 63 }
+    {
+        self.map.iter()
+    }
+
+    /// Gives an item another number, or takes it out. An item that is there takes no memory.
+    pub fn set(
+        &mut self,
+        time: &Timestamp,
+        item: i64,
+        old: Option<i64>,
+        new: Option<i64>,
+    ) -> Result<(), AllocError>
+        requires there { item_of self.old (item_key time.now item) ≡ old }
+        requires some { new ≢ Some (pos 0) }
+        ensures ok { OnOk result (self.new ≡ with_item self.old (item_key time.now item) new) }
+        ensures err { OnErr result (self.new ≡ self.old) }
+        ensures absent { OnErr result (old ≡ None) }
+        ensures growing { OnErr result (new ≢ None) }
+    {
+        let _ = old;
+        let key = ItemKey {
+            time: time.copy(),
+            item,
+        };
+        let Some(number) = new else {
+            self.map.remove(&key);
+            return Ok(());
+        };
+        let Ok(()) = self.map.put(&key, number) else {
+            return Err(AllocError);
+        };
+        Ok(())
+    }
+
+    /// Equal items.
+    pub fn copy(&self, alloc: A) -> Result<VertexState<A>, AllocError>
+        ensures { IfOk result (λ s. s ≡ self.now) }
+    {
+        Ok(VertexState {
+            map: self.map.copy(alloc)?,
+        })
+    }
+}

@@ -1,0 +1,105 @@
+-- Views whose kept counts are those of a graph.
+use Rattle.std.proofs.Common.{cond, ◌≡◌, ℕ, ℤ, pos, List, [], Option, Some, None, refl, sym, ap, subst, ◌∙◌, ◌⊎◌, inl, inr, zero, suc, negsuc, arith, Result, Ok, Err, ◌<◌}
+use Rattle.std.specs.Prelude.{◌<ℤ◌, OnOk}
+use Rattle.std.proofs.lemmas.Int.{ints}
+use Rattle.std.specs.FinMap.{find, put}
+use Rattle.std.specs.FinMap.Entries.{find-put, same_entries}
+use Rattle.nd_map.specs.Maps.{find-without, listed-put, listed-without}
+use Rattle.nd_graph.specs.Graph.{Dataflow}
+use Rattle.nd_map.specs.Listed.{IsListed, without}
+use Rattle.nd_paths.specs.Point.{point_cmp, point_total, point_exact}
+use Rattle.nd_paths.specs.declared.point.Pointstamp.{Pointstamp}
+use Rattle.nd_delta.specs.Change.{Change, none, at, set, is_point, at-none, entries, or_zero, at-entries, some-entry}
+use Rattle.nd_delta.specs.Least.{place_of}
+use Rattle.nd_view.specs.View.{IsOnFrontier}
+use Rattle.nd_view.specs.Kept.{Kept, IsKeptAt, IsFor}
+use Rattle.nd_view.proofs.First.{not_zero}
+use Rattle.nd_view.proofs.Moves.{kept_positive, kept_other, first_one, alike, itself}
+
+pub signed : (z : ℤ) → (pos 0 <ℤ z) ⊎ (pos 0 <ℤ z → ⊥)
+signed (pos zero) = inr (λ p. absurd (omega (arith, ints, p)))
+signed (pos (suc n)) = inl (omega (arith, ints))
+signed (negsuc n) = inr (λ p. absurd (omega (arith, ints, p)))
+
+pub for_none : (g : Dataflow) (m : Change) (es : List (Pointstamp × ℕ)) → m ≡ none → es ≡ [] → IsFor g (record { map = m; counts = es })
+for_none g m es m_is es_is = record {
+  listed = subst (IsListed point_cmp) (sym es_is) tt;
+  each = λ q. subst (IsKeptAt g m q) (sym (ap (find point_cmp q) es_is)) (λ p. not_zero (at m q) p (ap (λ c. at c q) m_is ∙ at-none q));
+}
+
+pub for_kept : (g : Dataflow) (v : Kept) (q : Pointstamp) (o : Option ℕ) (es : List (Pointstamp × ℕ)) → o ≡ find point_cmp q es → es ≡ v.counts → IsFor g v → IsKeptAt g v.map q o
+for_kept g v q o es o_is es_is h = subst (IsKeptAt g v.map q) (sym (o_is ∙ ap (find point_cmp q) es_is)) (h.each q)
+
+-- a count of the same sign
+pub for_stay : (g : Dataflow) (v : Kept) (m n : Change) (es : List (Pointstamp × ℕ)) (x : Pointstamp) (z : ℤ) → record { map = m; counts = es } ≡ v → IsFor g v → n ≡ set m x z
+    → ((pos 0 <ℤ z → pos 0 <ℤ at v.map x) × (pos 0 <ℤ at v.map x → pos 0 <ℤ z)) → IsFor g (record { map = n; counts = es })
+for_stay g v m n es x z v_is h is sign =
+    let here : IsFor g (record { map = m; counts = es }) = subst (IsFor g) (sym v_is) h in
+    let same : at v.map x ≡ at m x = ap (λ (k : Kept). at k.map x) (sym v_is) in
+    record {
+      listed = here.listed;
+      each = λ q. elim (signed z) [
+        | inl p ↦ kept_positive m n x z is g (subst (λ y. pos 0 <ℤ y) same (sign.0 p)) p q (find point_cmp q es) (here.each q)
+        | inr never ↦ kept_other m n x z is g (λ p. never (sign.1 (subst (λ y. pos 0 <ℤ y) (sym same) p))) never q (find point_cmp q es) (here.each q)
+      ];
+    }
+
+pub on_ok : {E : Type 0} (r : Result (Unit {0}) E) (P Q : Type 0) → (P → Q) → OnOk r P → OnOk r Q
+on_ok (Ok x) P Q f p = f p
+on_ok (Err e) P Q f p = tt
+
+-- what holds of a view's fields
+pub for_fields : (g : Dataflow) (v : Kept) (m : Change) (es : List (Pointstamp × ℕ)) → record { map = m; counts = es } ≡ v → IsFor g v → IsFor g (record { map = m; counts = es })
+for_fields g v m es v_is h = subst (IsFor g) (sym v_is) h
+
+-- ---- kept counts of 0
+pub first_of_none : (g : Dataflow) (m : Change) (q : Pointstamp) → IsKeptAt g m q (Some 0) → IsOnFrontier g m q
+first_of_none g m q kept = record {
+  positive = kept.0;
+  first = λ y p.
+      let f = kept.1.0 in
+      let place = place_of f y (λ z. not_zero (at m y) p.positive (sym (kept.1.1.all y p) ∙ z)) in
+      omega (arith, place.in_range, kept.1.2);
+}
+
+pub no_first : (g : Dataflow) (m : Change) (q : Pointstamp) (n : ℕ) → 0 < n → IsKeptAt g m q (Some n) → IsOnFrontier g m q → ⊥
+no_first g m q n more kept on =
+    let f = kept.1.0 in
+    let one = first_one (entries f) (omega (arith, more, kept.1.2)) in
+    on.first one.point (kept.1.1.only one.point (λ z. some-entry f one.point one.value one.found (sym (ap or_zero one.found) ∙ at-entries f one.point ∙ z)))
+
+-- a point is on the frontier exactly where its kept count is 0
+pub zero_of_first : (g : Dataflow) (v : Kept) → IsFor g v → (q : Pointstamp) → IsOnFrontier g v.map q → find point_cmp q v.counts ≡ Some 0
+zero_of_first g v h q on = by (find point_cmp q v.counts) (h.each q)
+  where
+    by : (o : Option ℕ) → IsKeptAt g v.map q o → o ≡ Some 0
+    by None never = absurd (never on.positive)
+    by (Some zero) kept = refl
+    by (Some (suc n)) kept = absurd (no_first g v.map q (suc n) (omega arith) kept on)
+
+pub first_of_zero : (g : Dataflow) (v : Kept) → IsFor g v → (q : Pointstamp) → find point_cmp q v.counts ≡ Some 0 → IsOnFrontier g v.map q
+first_of_zero g v h q e = first_of_none g v.map q (subst (IsKeptAt g v.map q) e (h.each q))
+
+-- ---- what is put in and taken out again
+kept_none : (g : Dataflow) (m : Change) (q : Pointstamp) (o : Option ℕ) → IsKeptAt g m q o → (pos 0 <ℤ at m q → ⊥) → o ≡ None
+kept_none g m q None h never = refl
+kept_none g m q (Some n) h never = absurd (never h.0)
+
+pub taken_out : (g : Dataflow) (v : Kept) (x : Pointstamp) (c : ℕ) → IsFor g v → (pos 0 <ℤ at v.map x → ⊥) → without point_cmp x (put point_cmp x c v.counts) ≡ v.counts
+taken_out g v x c h never =
+    same_entries point_cmp point_total point_exact (without point_cmp x (put point_cmp x c v.counts)) v.counts
+    (listed-without point_cmp x (put point_cmp x c v.counts) (listed-put point_cmp point_total x c v.counts h.listed)) h.listed
+    (λ q. find-without point_cmp point_total q x (put point_cmp x c v.counts) ∙ elim (alike q x) [
+      | inl same ↦
+          ap (λ b. cond b None (find point_cmp q (put point_cmp x c v.counts))) (ap (λ z. is_point z x) same ∙ itself x)
+          ∙ sym (ap (λ y. find point_cmp y v.counts) same ∙ kept_none g v.map x (find point_cmp x v.counts) (h.each x) never)
+      | inr other ↦
+          ap (λ b. cond b None (find point_cmp q (put point_cmp x c v.counts))) other
+          ∙ find-put point_cmp point_total q x c v.counts ∙ ap (λ b. cond b (Some c) (find point_cmp q v.counts)) other
+    ])
+
+abbrev pub kept_of : Change → List (Pointstamp × ℕ) → Kept
+kept_of m es = record { map = m; counts = es }
+
+pub as_before : (v now : Kept) (m : Change) (es : List (Pointstamp × ℕ)) → m ≡ v.map → es ≡ v.counts → v ≡ now → kept_of m es ≡ now
+as_before v now m es m_is es_is same = (λ i. kept_of (m_is i) (es_is i)) ∙ same

@@ -1,0 +1,116 @@
+-- Where nothing on the frontier is before a point, nothing positive is.
+use Rattle.std.proofs.Common.{◌≡◌, ◌≢◌, ◌<◌, ℕ, zero, suc, pos, Bool, true, false, List, ◌∷◌, length, get_or, Option, Some, None, Result, Ok, Err, cond, sym, ap, subst, ◌∙◌, ◌⊎◌, inl, inr, arith, refl}
+use Rattle.std.specs.Prelude.{◌<ℤ◌, Contains, slice_index_or, IfOk, IfSome}
+use Rattle.std.proofs.lemmas.List.{get_or-map, length-map}
+use Rattle.std.specs.FinMap.{find}
+use Rattle.nd_paths.specs.Point.{point_cmp, point_exact}
+use Rattle.nd_graph.specs.Graph.{Dataflow}
+use Rattle.nd_paths.specs.Order.{CouldResultIn, IsStrictlyBefore}
+use Rattle.nd_paths.specs.Laws.{IsMinimalAmong}
+use Rattle.nd_paths.specs.declared.point.Pointstamp.{Pointstamp}
+use Rattle.nd_delta.specs.Change.{Change, at, entries, points_of, part, has_point, is_point, at-part}
+use Rattle.nd_delta.specs.Least.{IsLeast, place_of}
+use Rattle.nd_view.specs.View.{IsBefore, IsPositiveBefore, IsBlocker, IsPrecursor, IsOnFrontier, IsPartWhere, IsCount}
+use Rattle.nd_view.specs.Kept.{Kept, IsKeptAt, IsFor, IsFrontierList}
+use Rattle.nd_view.proofs.First.{not_zero}
+use Rattle.nd_view.proofs.Moves.{index_some, itself}
+use Rattle.nd_view.proofs.Fors.{zero_of_first, first_of_zero}
+use Rattle.std.proofs.lemmas.List.Folds.{list_any_at}
+use Rattle.std.proofs.lemmas.Map.Views.{Contains-from_any, tells_apart}
+
+-- what the order of an accepted graph is, as the paths tell it
+pub record IsOrder (g : Dataflow) : Type 0 where
+  pub transitive : (s t u : Pointstamp) → CouldResultIn g s t → CouldResultIn g t u → CouldResultIn g s u
+  pub strict : (s t u : Pointstamp) → IsStrictlyBefore g s t → IsStrictlyBefore g t u → IsStrictlyBefore g s u
+  pub minimal : (p : Pointstamp) (ps : List Pointstamp) → (m : Pointstamp) × IsMinimalAmong g (p ∷ ps) m
+
+module _ (g : Dataflow) (order : IsOrder g) (m : Change) where
+  -- at or before a positive point there is one on the frontier
+  pub frontier_before : (x : Pointstamp) (n : ℕ) → pos 0 <ℤ at m x → IsCount (IsPrecursor g m x) m n → (y : Pointstamp) × IsOnFrontier g m y × ((y ≡ x) ⊎ IsStrictlyBefore g y x)
+  frontier_before x n positive counted =
+      let f = counted.0 in
+      let ps = points_of (entries f) in
+      let least = order.minimal x ps in
+      let y = least.0 in
+      let place = among_at y least.1.among.0 least.1.among.1 least.1.among.2 in
+      elim place [
+        | inl same ↦ (y, record { positive = subst (λ z. pos 0 <ℤ at m z) (sym same) positive; first = λ z p. least.1.none z (listed f z (λ e. not_zero (at m z) p.positive (sym (counted.1.all z (record { positive = p.positive; before = subst (IsStrictlyBefore g z) same p.before })) ∙ e))) p.before }, inl same)
+        | inr some ↦
+            let below = counted.1.only y some in
+            (y, record { positive = below.positive; first = λ z p. least.1.none z (listed f z (λ e. not_zero (at m z) p.positive (sym (counted.1.all z (record { positive = p.positive; before = order.strict z y x p.before below.before })) ∙ e))) p.before }, inr below.before)
+      ]
+    where
+      among_at : (y : Pointstamp) (k : ℕ) → k < length (x ∷ points_of (entries counted.0)) → slice_index_or (x ∷ points_of (entries counted.0)) k y ≡ y → (y ≡ x) ⊎ (at counted.0 y ≢ pos 0)
+      among_at y zero lt e = inl (sym e)
+      among_at y (suc k) lt e =
+          let short : k < length (entries counted.0) = omega (arith, lt, length-map (entries counted.0) (λ z. z.0)) in
+          let is : (get_or (entries counted.0) k (y, pos 0)).0 ≡ y = sym (get_or-map (λ z. z.0) (entries counted.0) k (y, pos 0) y short) ∙ e in
+          inr (subst (λ z. at counted.0 z ≢ pos 0) is (index_some counted.0 k (y, pos 0) short))
+
+      listed : (f : Change) (z : Pointstamp) → at f z ≢ pos 0 → Contains (x ∷ points_of (entries f)) z
+      listed f z some =
+          let place = place_of f z some in (
+            suc place.index,
+            omega (arith, place.in_range, length-map (entries f) (λ e. e.0)),
+            get_or-map (λ e. e.0) (entries f) place.index (z, at f z) z place.in_range ∙ place.is,
+          )
+
+-- before what a point is before
+through : (g : Dataflow) → IsOrder g → (strictly : Bool) (y x t : Pointstamp) → (y ≡ x) ⊎ IsStrictlyBefore g y x → IsBefore g strictly x t → IsBefore g strictly y t
+through g order true y x t (inl same) before = subst (λ z. IsStrictlyBefore g z t) (sym same) before
+through g order true y x t (inr earlier) before = order.strict y x t earlier before
+through g order false y x t (inl same) before = subst (λ z. CouldResultIn g z t) (sym same) before
+through g order false y x t (inr earlier) before = order.transitive y x t earlier.0 before
+
+-- where nothing on the frontier is before t, nothing positive is
+pub passed_by_frontier : (g : Dataflow) → IsOrder g → (v : Kept) → IsFor g v → (strictly : Bool) (t : Pointstamp) → ((y : Pointstamp) → IsOnFrontier g v.map y → IsBefore g strictly y t → ⊥)
+    → (x : Pointstamp) → IsPositiveBefore g v.map strictly t x → ⊥
+passed_by_frontier g order v h strictly t none x b = by (find point_cmp x v.counts) (h.each x)
+  where
+    by : (o : Option ℕ) → IsKeptAt g v.map x o → ⊥
+    by None never = never b.positive
+    by (Some n) kept =
+        let least = frontier_before g order v.map x n kept.0 kept.1 in
+        none least.0 least.1 (through g order strictly least.0 x t least.2 b.before)
+
+-- the list that a view keeps is that of its frontier
+pub frontier_list : (v : Kept) (es : List (Pointstamp × ℕ)) (first ps : List Pointstamp) (room : ℕ) → es ≡ v.counts → ps ≡ first → IsFrontierList es first room → IsFrontierList v.counts ps room
+frontier_list v es first ps room es_is ps_is listed = subst (λ l. IsFrontierList v.counts l room) (sym ps_is) (subst (λ l. IsFrontierList l first room) es_is listed)
+
+-- the part at the listed points is the part on the frontier
+pub frontier_part : (g : Dataflow) (v : Kept) → IsFor g v → (m : Change) → m ≡ v.map → (first : List Pointstamp) (room : ℕ) → IsFrontierList v.counts first room → (f : Change) → f ≡ part m first → IsPartWhere (IsOnFrontier g v.map) v.map f
+frontier_part g v h m m_is first room listed f f_is = record {
+  all = λ x on. value x ∙ ap (λ b. cond b (at v.map x) (pos 0)) (has x (listed.all x (zero_of_first g v h x on)));
+  only = λ x some. by x some (has_point x first) refl;
+}
+  where
+    value : (x : Pointstamp) → at f x ≡ cond (has_point x first) (at v.map x) (pos 0)
+    value x = ap (λ c. at c x) (f_is ∙ ap (λ c. part c first) m_is) ∙ at-part v.map first x
+
+    has : (x : Pointstamp) → Contains first x → has_point x first ≡ true
+    has x among = list_any_at (is_point x) first among.0 x among.1 (ap (is_point x) among.2 ∙ itself x)
+
+    by : (x : Pointstamp) → at f x ≢ pos 0 → (b : Bool) → has_point x first ≡ b → IsOnFrontier g v.map x
+    by x some true e = first_of_zero g v h x (listed.only x (Contains-from_any (tells_apart point_exact) x first e))
+    by x some false e = absurd (some (value x ∙ ap (λ b. cond b (at v.map x) (pos 0)) e))
+
+pub if_ok : {X E : Type 0} (r : Result X E) (P Q : X → Type 0) → ((x : X) → P x → Q x) → IfOk r P → IfOk r Q
+if_ok (Ok x) P Q f p = f x p
+if_ok (Err e) P Q f p = p
+
+-- ---- blockers and precursors
+pub to_blocker : (g : Dataflow) (v : Change) (t x : Pointstamp) → IsPositiveBefore g v false t x → IsBlocker g v t x
+to_blocker g v t x p = record { positive = p.positive; before = p.before }
+
+pub of_blocker : (g : Dataflow) (v : Change) (t x : Pointstamp) → IsBlocker g v t x → IsPositiveBefore g v false t x
+of_blocker g v t x p = record { positive = p.positive; before = p.before }
+
+pub to_precursor : (g : Dataflow) (v : Change) (t x : Pointstamp) → IsPositiveBefore g v true t x → IsPrecursor g v t x
+to_precursor g v t x p = record { positive = p.positive; before = p.before }
+
+pub of_precursor : (g : Dataflow) (v : Change) (t x : Pointstamp) → IsPrecursor g v t x → IsPositiveBefore g v true t x
+of_precursor g v t x p = record { positive = p.positive; before = p.before }
+
+pub least_as : (P Q : Pointstamp → Type 0) → ((x : Pointstamp) → P x → Q x) → ((x : Pointstamp) → Q x → P x) → (o : Option Pointstamp) → IfSome o (IsLeast P) → IfSome o (IsLeast Q)
+least_as P Q to of None h = h
+least_as P Q to of (Some x) h = record { is_one = to x h.is_one; first = λ y q. h.first y (of y q) }

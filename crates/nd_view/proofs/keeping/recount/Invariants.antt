@@ -1,0 +1,12 @@
+use Rattle.std.proofs.Common.{◌≡◌, length}
+use Rattle.nd_delta.specs.Change.{entries}
+use Rattle.nd_view.proofs.Keyed.{IsCountedUpTo}
+use Rattle.nd_view.proofs.keeping.recount.Given as goal
+
+-- the entries so far have their counts
+abbrev pub invariant-loop-entry : goal.invariant-loop-entry
+invariant-loop-entry g l = record {
+  items : l.entry-items ≡ entries l.counts;
+  size : length l.ranks ≡ length l.initial.ranks;
+  counted : IsCountedUpTo l.paths l.counts l.entry-index l.ranks;
+}

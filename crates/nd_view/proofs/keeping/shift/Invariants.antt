@@ -1,0 +1,11 @@
+use Rattle.std.proofs.Common.{◌≡◌, length}
+use Rattle.nd_map.specs.Counts.{keys_of}
+use Rattle.nd_view.proofs.Shifts.{IsShifted}
+use Rattle.nd_view.proofs.keeping.shift.Given as goal
+
+-- the entries so far have their counts
+abbrev pub invariant-loop-i : goal.invariant-loop-i
+invariant-loop-i g l = record {
+  size : length l.ranks ≡ length l.initial.ranks;
+  shifted : IsShifted l.paths l.counts l.point l.up (keys_of l.initial.ranks) l.i l.ranks;
+}

@@ -1,0 +1,57 @@
+-- A view with its kept counts, and when they are those of a graph.
+use Rattle.std.specs.Prelude.{◌≡◌, ◌≢◌, ◌≤◌, ◌-◌, ◌+◌, ℕ, pos, ◌<ℤ◌, List, length, Contains, Bool, true, false, Option, Some, None, refl}
+use Rattle.std.specs.Coded.{Coded, code_by, coded×, coded_ℕ, coded_list}
+use Rattle.std.specs.FinMap.{find}
+use Rattle.nd_graph.specs.Graph.{Dataflow}
+use Rattle.nd_map.specs.Listed.{IsListed}
+use Rattle.nd_paths.specs.Order.{IsStrictlyBefore}
+use Rattle.nd_paths.specs.Point.{point_cmp, point_code}
+use Rattle.nd_paths.specs.declared.point.Pointstamp.{Pointstamp}
+use Rattle.nd_delta.specs.Change.{Change, at, change_code}
+use Rattle.nd_view.specs.View.{IsPrecursor, IsCount}
+
+-- a finite map, and numbers that are kept beside it
+pub record Kept : Type 0 where
+  pub map : Change
+  pub counts : List (Pointstamp × ℕ)
+
+abbrev pub kept_code : Coded Kept
+kept_code = code_by (Change × List (Pointstamp × ℕ)) (coded× change_code (coded_list (coded× point_code coded_ℕ))) (λ v. (v.map, v.counts)) (λ p. record { map = p.0; counts = p.1 }) (λ _. refl)
+
+-- what is kept for q: the number of its precursors where it is positive, else nothing
+abbrev pub IsKeptAt : Dataflow → Change → Pointstamp → Option ℕ → Type 0
+IsKeptAt g m q None = pos 0 <ℤ at m q → ⊥
+IsKeptAt g m q (Some n) = (pos 0 <ℤ at m q) × IsCount (IsPrecursor g m q) m n
+
+-- the kept counts are those of the graph g
+pub record IsFor (g : Dataflow) (v : Kept) : Type 0 where
+  pub listed : IsListed point_cmp v.counts
+  pub each : (q : Pointstamp) → IsKeptAt g v.map q (find point_cmp q v.counts)
+
+-- the points whose kept count is 0, with room for all that are kept
+pub record IsFrontierList (counts : List (Pointstamp × ℕ)) (first : List Pointstamp) (room : ℕ) : Type 0 where
+  pub all : (q : Pointstamp) → find point_cmp q counts ≡ Some 0 → Contains first q
+  pub only : (q : Pointstamp) → Contains first q → find point_cmp q counts ≡ Some 0
+  pub enough : length counts ≤ room
+
+-- something is kept for the positive points, and for no others
+pub record IsKeyed (m : Change) (counts : List (Pointstamp × ℕ)) : Type 0 where
+  pub listed : IsListed point_cmp counts
+  pub some : (q : Pointstamp) → pos 0 <ℤ at m q → find point_cmp q counts ≢ None
+  pub none : (q : Pointstamp) → (pos 0 <ℤ at m q → ⊥) → find point_cmp q counts ≡ None
+
+-- ---- counts that are still to be moved by one, since x came (up) or went
+
+abbrev pub moved : Bool → ℕ → ℕ
+moved true n = n + 1
+moved false n = n - 1
+
+abbrev pub IsMovable : Dataflow → Change → Pointstamp → Bool → Option ℕ → Type 0
+IsMovable g m q up None = ⊥
+IsMovable g m q true (Some n) = IsKeptAt g m q (Some (n + 1))
+IsMovable g m q false (Some n) = (1 ≤ n) × IsKeptAt g m q (Some (n - 1))
+
+-- a positive point after x has its count but for one, every other point has its own
+pub record IsReady (g : Dataflow) (m : Change) (x : Pointstamp) (up : Bool) (q : Pointstamp) (o : Option ℕ) : Type 0 where
+  pub after : pos 0 <ℤ at m q → IsStrictlyBefore g x q → IsMovable g m q up o
+  pub others : ((pos 0 <ℤ at m q) × IsStrictlyBefore g x q → ⊥) → IsKeptAt g m q o

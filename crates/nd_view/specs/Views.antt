@@ -1,0 +1,55 @@
+-- Several views of one graph: what one who holds them needs of them.
+--     maps, AreFor              their maps;  the kept counts of each are those of the graph
+--     maps-get, maps-set        the map of one of them, and of one that another takes the place of
+--     for_set, for_more         the views stay those of the graph where one is written, or comes in
+--     same_all                  they are equal where their maps are
+use Rattle.std.proofs.Common.{◌≡◌, ◌<◌, ℕ, zero, suc, List, [], ◌∷◌, ◌++◌, length, map, get_or, set, refl, ap, sym, ◌∙◌, arith}
+use Rattle.std.specs.Prelude.{All}
+use Rattle.std.proofs.lemmas.List.{get_or-map}
+use Rattle.std.proofs.lemmas.List.Elements.{All-append}
+use Rattle.nd_graph.specs.Graph.{Dataflow}
+use Rattle.nd_delta.specs.Change.{Change}
+use Rattle.nd_view.specs.Kept.{Kept, IsFor}
+use Rattle.nd_view.specs.Settled.{same_views}
+
+-- the maps of views, without what is kept beside them
+abbrev pub maps : List Kept → List Change
+maps vs = map (λ v. v.map) vs
+
+-- the kept counts of every view are those of the graph
+abbrev pub AreFor : Dataflow → List Kept → Type 0
+AreFor g vs = All (IsFor g) vs
+
+pub maps-get : (vs : List Kept) (q : ℕ) (v : Kept) (m : Change) → q < length vs → v ≡ get_or vs q v → get_or (maps vs) q m ≡ v.map
+maps-get vs q v m lt is = get_or-map (λ u. u.map) vs q v m lt ∙ ap (λ u. u.map) (sym is)
+
+pub maps-set : (vs : List Kept) (q : ℕ) (v : Kept) → maps (set vs q v) ≡ set (maps vs) q v.map
+maps-set [] q v = refl
+maps-set (w ∷ vs) zero v = refl
+maps-set (w ∷ vs) (suc q) v = ap (λ ms. w.map ∷ ms) (maps-set vs q v)
+
+pub for_tail : (g : Dataflow) (v : Kept) (vs : List Kept) → AreFor g (v ∷ vs) → AreFor g vs
+for_tail g v vs h k d lt = h (suc k) d (omega (arith, lt))
+
+pub for_cons : (g : Dataflow) (v : Kept) (vs : List Kept) → IsFor g v → AreFor g vs → AreFor g (v ∷ vs)
+for_cons g v vs for h zero d lt = for
+for_cons g v vs for h (suc k) d lt = h k d (omega (arith, lt))
+
+pub for_set : (g : Dataflow) (vs : List Kept) (q : ℕ) (v : Kept) → AreFor g vs → IsFor g v → AreFor g (set vs q v)
+for_set g [] q v h for = h
+for_set g (w ∷ vs) zero v h for = for_cons g v vs for (for_tail g w vs h)
+for_set g (w ∷ vs) (suc q) v h for = for_cons g w (set vs q v) (h 0 w (omega arith)) (for_set g vs q v (for_tail g w vs h) for)
+
+pub for_more : (g : Dataflow) (vs : List Kept) (v : Kept) → AreFor g vs → IsFor g v → AreFor g (vs ++ v ∷ [])
+for_more g vs v h for = All-append (IsFor g) vs (v ∷ []) h (for_cons g v [] for (λ k d lt. absurd (omega (arith, lt))))
+
+pub same_all : (g : Dataflow) (vs ws : List Kept) → AreFor g vs → AreFor g ws → maps vs ≡ maps ws → vs ≡ ws
+same_all g [] [] a b e = refl
+same_all g [] (w ∷ ws) a b e = absurd (cc)
+same_all g (v ∷ vs) [] a b e = absurd (cc)
+same_all g (v ∷ vs) (w ∷ ws) a b e =
+    let first : v.map ≡ w.map = cc in
+    let rest : maps vs ≡ maps ws = cc in
+    let head = same_views g v w (a 0 v (omega arith)) (b 0 w (omega arith)) first in
+    let tail = same_all g vs ws (for_tail g v vs a) (for_tail g w ws b) rest in
+    λ i. head i ∷ tail i

@@ -1,0 +1,43 @@
+//! What is asked of single entries.
+
+ghost use Rattle.std.specs.Prelude.{◌↔◌, ◌<ℤ◌, pos, IsTrue};
+ghost use Rattle.nd_view.specs.View.{IsBefore};
+ghost use Rattle.nd_view.specs.Room.{IsWithinRoom};
+
+use nd_paths::{Paths, Pointstamp};
+use std::alloc::Allocator;
+
+/// Whether one pointstamp is at or before another, or strictly before it.
+pub fn is_before<B: Allocator>(
+    first: &Pointstamp,
+    paths: &Paths<B>,
+    point: &Pointstamp,
+    strictly: bool,
+) -> bool
+    ensures { IsTrue result ↔ IsBefore paths.now strictly first.now point.now }
+{
+    if strictly {
+        paths.strictly_before(first, point)
+    } else {
+        paths.before(first, point)
+    }
+}
+
+/// Whether an entry is positive, and at or before a pointstamp, or strictly before it.
+pub fn is_positive_before<B: Allocator>(
+    entry: &(Pointstamp, i64),
+    paths: &Paths<B>,
+    point: &Pointstamp,
+    strictly: bool,
+) -> bool
+    ensures { IsTrue result ↔ ((pos 0 <ℤ entry.now.1) × IsBefore paths.now strictly entry.now.0 point.now) }
+{
+    entry.1 > 0 && is_before(&entry.0, paths, point, strictly)
+}
+
+/// Whether an integer in the place of another takes memory.
+pub fn takes_room(old: i64, new: i64) -> bool
+    ensures { IsTrue result ↔ (IsWithinRoom old new → ⊥) }
+{
+    new > 0 && old <= 0 || new != 0 && old == 0
+}

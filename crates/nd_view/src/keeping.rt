@@ -1,0 +1,135 @@
+//! What is kept beside a map: made anew, and moved where a pointstamp came or went.
+
+ghost use Rattle.std.specs.Prelude.{◌≡◌, ◌≤◌, ◌+◌, ◌<◌, ◌^◌, IsTrue, Some, length, vec_capacity};
+ghost use Rattle.std.specs.FinMap.{find};
+ghost use Rattle.nd_map.specs.Listed.{IsListed};
+ghost use Rattle.nd_paths.specs.declared.point.Pointstamp.{Pointstamp};
+ghost use Rattle.nd_paths.specs.Point.{point_cmp};
+ghost use Rattle.nd_view.specs.View.{IsPrecursor, IsCount};
+ghost use Rattle.nd_delta.specs.Change.{points_of, entries as listed};
+ghost use Rattle.nd_view.specs.Kept.{IsKeptAt, IsKeyed, IsReady, IsFrontierList, moved};
+ghost use Rattle.nd_view.specs.Room.{IsAlikeAt, IsAlikeOff, AllWithinRoom};
+
+use crate::entry_tests::is_positive_before;
+use nd_delta::Delta;
+use nd_map::SortedMap;
+use nd_paths::{Paths, Pointstamp};
+use std::alloc::Allocator;
+
+/// The number of positive entries strictly before a pointstamp.
+pub fn count_before<A: Allocator, B: Allocator>(
+    counts: &Delta<A>,
+    paths: &Paths<B>,
+    point: &Pointstamp,
+) -> u64
+    ensures { IsCount (IsPrecursor paths.now counts.now point.now) counts.now result }
+{
+    let mut count = 0;
+    for entry in counts.entries() {
+        if is_positive_before(entry, paths, point, true) {
+            count += 1;
+        }
+    }
+    count
+}
+
+// One more, or one less.
+fn moved_by_one(n: u64, up: bool) -> u64
+    requires room { IsTrue up → n + 1 < 2 ^ 64 }
+    requires some { (IsTrue up → ⊥) → 1 ≤ n }
+    ensures { result ≡ moved up n }
+{
+    if up { n + 1 } else { n - 1 }
+}
+
+/// Moves the kept counts of the positive pointstamps after one that came or went. It takes no memory.
+pub fn shift<A: Allocator, B: Allocator>(
+    ranks: &mut SortedMap<Pointstamp, u64, A>,
+    counts: &Delta<A>,
+    paths: &Paths<B>,
+    point: &Pointstamp,
+    up: bool,
+)
+    requires listed { IsListed point_cmp ranks.old }
+    requires ready { (q : Pointstamp) → IsReady paths.now counts.now point.now up q (find point_cmp q ranks.old) }
+    ensures listed { IsListed point_cmp ranks.new }
+    ensures kept { (q : Pointstamp) → IsKeptAt paths.now counts.now q (find point_cmp q ranks.new) }
+    ensures size { length ranks.new ≡ length ranks.old }
+{
+    // No count is greater than the number of entries, which is a `usize`.
+    let _ = counts.len();
+    for i in 0..ranks.len() {
+        let entry = &ranks.entries()[i];
+        if paths.strictly_before(point, &entry.0) {
+            let n = moved_by_one(entry.1, up);
+            ranks.put_at(i, n);
+        }
+    }
+}
+
+/// Lists the pointstamps whose kept count is 0. It takes no memory.
+pub fn list_first<A: Allocator>(
+    first: &mut Vec<Pointstamp, A>,
+    ranks: &SortedMap<Pointstamp, u64, A>,
+)
+    requires { length ranks.now ≤ vec_capacity first.old }
+    ensures { IsFrontierList ranks.now first.new.items (vec_capacity first.new) }
+{
+    first.clear();
+    for entry in ranks.entries() {
+        if entry.1 == 0 {
+            let Ok(()) = first.push(entry.0.copy()) else {
+                return;
+            };
+        }
+    }
+}
+
+/// Gives a change's pointstamps the counts that they have in another one, and takes out what is kept
+/// for those that are not positive then. It goes from the last to the first, so that what is taken
+/// out at the end of a list moves nothing, and takes no memory.
+pub fn set_from_last<A: Allocator>(
+    counts: &mut Delta<A>,
+    ranks: &mut SortedMap<Pointstamp, u64, A>,
+    delta: &Delta<A>,
+    to: &Delta<A>,
+)
+    requires keyed { IsKeyed counts.old ranks.old }
+    requires room { AllWithinRoom (points_of (listed delta.now)) counts.old to.now }
+    ensures keyed { IsKeyed counts.new ranks.new }
+    ensures alike { IsAlikeAt (points_of (listed delta.now)) to.now counts.new }
+    ensures others { IsAlikeOff (points_of (listed delta.now)) counts.old counts.new }
+    ensures size { length ranks.new ≤ length ranks.old }
+{
+    let entries = delta.entries();
+    for i in 0..entries.len() {
+        let entry = &entries[entries.len() - 1 - i];
+        let n = to.get(&entry.0);
+        let Ok(()) = counts.put(&entry.0, n) else {
+            return;
+        };
+        if n <= 0 {
+            ranks.remove(&entry.0);
+        }
+    }
+}
+
+/// Counts anew for each positive pointstamp those strictly before it. It takes no memory.
+pub fn recount<A: Allocator, B: Allocator>(
+    ranks: &mut SortedMap<Pointstamp, u64, A>,
+    counts: &Delta<A>,
+    paths: &Paths<B>,
+)
+    requires { IsKeyed counts.now ranks.old }
+    ensures listed { IsListed point_cmp ranks.new }
+    ensures kept { (q : Pointstamp) → IsKeptAt paths.now counts.now q (find point_cmp q ranks.new) }
+    ensures size { length ranks.new ≡ length ranks.old }
+{
+    for entry in counts.entries() {
+        if entry.1 > 0 {
+            let Ok(()) = ranks.put(&entry.0, count_before(counts, paths, &entry.0)) else {
+                return;
+            };
+        }
+    }
+}
