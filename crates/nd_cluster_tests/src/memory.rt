@@ -10,36 +10,27 @@ use std::alloc::{AllocError, Allocator, Global};
 /// The allocator of these tests.
 type Heap = Refusing<Global>;
 
-/// Runs of whose last step memory is refused, each with whether its commit needs any.
-static RUNS: [(Script, bool); 4] = [
+/// Runs of whose last step memory is refused.
+static RUNS: [Script; 4] = [
+    (LINE, 2, &[Told::Feed(1, "a", &[5, 7, 5], Next::Next)]),
+    (LINE, 1, &[Told::Feed(0, "a", &[5], Next::Stay)]),
     (
-        (LINE, 2, &[Told::Feed(1, "a", &[5, 7, 5], Next::Next)]),
-        true,
-    ),
-    ((LINE, 1, &[Told::Feed(0, "a", &[5], Next::Stay)]), true),
-    (
-        (
-            SUM,
-            1,
-            &[
-                Told::Feed(0, "a", &[2], Next::Close),
-                Told::Take(0, "as", &[0], 2),
-            ],
-        ),
-        true,
+        SUM,
+        1,
+        &[
+            Told::Feed(0, "a", &[2], Next::Close),
+            Told::Take(0, "as", &[0], 2),
+        ],
     ),
     (
-        (
-            LOOP,
-            1,
-            &[
-                Told::Feed(0, "a", &[1], Next::Next),
-                Told::Take(0, "ai", &[0], 1),
-                Told::Take(0, "im", &[0, 0], 1),
-                Told::Take(0, "ms", &[0, 0], 2),
-            ],
-        ),
-        false,
+        LOOP,
+        1,
+        &[
+            Told::Feed(0, "a", &[1], Next::Next),
+            Told::Take(0, "ai", &[0], 1),
+            Told::Take(0, "im", &[0, 0], 1),
+            Told::Take(0, "ms", &[0, 0], 2),
+        ],
     ),
 ];
 
@@ -180,14 +171,13 @@ fn text_after<A: Allocator + Copy>(
     state_text(json, &cluster)
 }
 
-/// Whether the plan of a run's last step met want of memory, and its commit did or did not, and its
-/// back-step as it may, each leaving all as it was.
+/// Whether the plan and the commit of a run's last step met want of memory, and its back-step as it
+/// may, each leaving all as it was.
 fn last_in_turn<A: Allocator + Copy>(
     heap: &Heap,
     alloc: A,
     json: Global,
     script: &Script,
-    commits: bool,
 ) -> Option<bool> {
     let (text, n, steps) = script;
     let (last, first) = steps.split_last()?;
@@ -198,15 +188,15 @@ fn last_in_turn<A: Allocator + Copy>(
     back(heap, alloc, json, &base, &step, after.as_str())?;
     Some(
         plan(heap, json, &base, &step, before.as_str())? > 0
-            && (commit(heap, alloc, json, &base, &step, before.as_str())? > 0) == commits,
+            && commit(heap, alloc, json, &base, &step, before.as_str())? > 0,
     )
 }
 
 #[test]
 fn last_steps(rt: HostRuntime) {
     let heap = Refusing::new(rt.alloc());
-    for (row, (script, commits)) in RUNS.iter().enumerate() {
-        let same = last_in_turn(&heap, &heap, rt.alloc(), script, *commits);
+    for (row, script) in RUNS.iter().enumerate() {
+        let same = last_in_turn(&heap, &heap, rt.alloc(), script);
         assert_eq!(rt; same, Some(true), "in row {row}");
     }
 }
