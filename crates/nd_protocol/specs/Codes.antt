@@ -1,11 +1,15 @@
 -- Steps as numbers, so that a model's value can hold them.
-use Rattle.std.specs.Prelude.{◌≡◌, ℕ, zero, suc, ℤ, ◌⊎◌, List, refl}
-use Rattle.std.proofs.Common.{inl, inr}
-use Rattle.std.specs.Coded.{Coded, code_by, coded×, coded⊎, coded_ℕ, coded_ℤ, coded_list}
+use Rattle.std.specs.Prelude.{◌≡◌, ℕ, zero, suc, ℤ, ◌⊎◌, List, Option, None, Some, refl}
+use Rattle.std.proofs.Common.{inl, inr, ap}
+use Rattle.std.specs.Coded.{Coded, code_by, coded×, coded⊎, coded_ℕ, coded_ℤ, coded_list, coded_option}
+use Rattle.nd_paths.specs.Point.{point_code}
+use Rattle.nd_paths.specs.declared.point.Pointstamp.{Pointstamp}
+use Rattle.nd_protocol.specs.declared.part.Part.{Part}
+use Rattle.nd_protocol.specs.declared.part.Part.TheVariants.{All, Points}
 use Rattle.nd_time.specs.Time.{Time}
 use Rattle.nd_time.specs.Listing.{time_code}
 use Rattle.nd_protocol.specs.declared.step.Step.{Step}
-use Rattle.nd_protocol.specs.declared.step.Step.TheVariants.{Feed, Take, Notice}
+use Rattle.nd_protocol.specs.declared.step.Step.TheVariants.{Feed, Take, Notice, Broadcast, Receive}
 use Rattle.nd_protocol.specs.declared.step.Next.{Next as Afterwards}
 use Rattle.nd_protocol.specs.declared.step.Next.TheVariants as token
 
@@ -29,25 +33,44 @@ next_code = code_by ℕ coded_ℕ next_number next_of next_back
 
 -- a step as its parts
 abbrev pub Parts : Type 0
-Parts = (ℕ × (ℕ × (List ℤ × Afterwards))) ⊎ ((ℕ × (ℕ × (Time × ℤ))) ⊎ (ℕ × (ℕ × Time)))
+Parts = (ℕ × (ℕ × (List ℤ × Afterwards))) ⊎ ((ℕ × (ℕ × (Time × ℤ))) ⊎ ((ℕ × (ℕ × Time)) ⊎ ((ℕ × Option (List Pointstamp)) ⊎ (ℕ × ℕ))))
 
 module _ {A : Type 0} where
+  abbrev pub named : Part A → Option (List Pointstamp)
+  named All = None
+  named (Points points) = Some points
+
+  abbrev pub part_of : Option (List Pointstamp) → Part A
+  part_of None = All
+  part_of (Some points) = Points points
+
+  pub part_back : (part : Part A) → part_of (named part) ≡ part
+  part_back All = refl
+  part_back (Points points) = refl
+
   abbrev pub step_parts : Step A → Parts
   step_parts (Feed p vertex values next) = inl (p, (vertex, (values, next)))
   step_parts (Take p edge time value) = inr (inl (p, (edge, (time, value))))
-  step_parts (Notice p vertex time) = inr (inr (p, (vertex, time)))
+  step_parts (Notice p vertex time) = inr (inr (inl (p, (vertex, time))))
+  step_parts (Broadcast p part) = inr (inr (inr (inl (p, named part))))
+  step_parts (Receive from to) = inr (inr (inr (inr (from, to))))
 
   abbrev pub step_of : Parts → Step A
   step_of (inl t) = Feed t.0 t.1.0 t.1.1.0 t.1.1.1
   step_of (inr (inl t)) = Take t.0 t.1.0 t.1.1.0 t.1.1.1
-  step_of (inr (inr t)) = Notice t.0 t.1.0 t.1.1
+  step_of (inr (inr (inl t))) = Notice t.0 t.1.0 t.1.1
+  step_of (inr (inr (inr (inl t)))) = Broadcast t.0 (part_of t.1)
+  step_of (inr (inr (inr (inr t)))) = Receive t.0 t.1
 
   pub step_back : (x : Step A) → step_of (step_parts x) ≡ x
   step_back (Feed p vertex values _) = refl
   step_back (Take p edge time value) = refl
   step_back (Notice p vertex time) = refl
+  step_back (Broadcast p part) = ap (λ (q : Part A). Broadcast p q) (part_back part)
+  step_back (Receive from to) = refl
 
   abbrev pub step_code : Coded (Step A)
   step_code =
-      code_by Parts (coded⊎ (coded× coded_ℕ (coded× coded_ℕ (coded× (coded_list coded_ℤ) next_code))) (coded⊎ (coded× coded_ℕ (coded× coded_ℕ (coded× time_code coded_ℤ))) (coded× coded_ℕ (coded× coded_ℕ time_code))))
+      code_by Parts (coded⊎ (coded× coded_ℕ (coded× coded_ℕ (coded× (coded_list coded_ℤ) next_code))) (coded⊎ (coded× coded_ℕ (coded× coded_ℕ (coded× time_code coded_ℤ)))
+      (coded⊎ (coded× coded_ℕ (coded× coded_ℕ time_code)) (coded⊎ (coded× coded_ℕ (coded_option (coded_list point_code))) (coded× coded_ℕ coded_ℕ)))))
       step_parts step_of step_back

@@ -2,28 +2,33 @@
 use Rattle.std.specs.Prelude.{◌≡◌, ◌≢◌, ℕ, ◌<◌, ◌≤◌, ◌⊎◌, ℤ, List, [], ◌∷◌, length, All, Some, None, unsigned_abs, FitsSigned}
 use Rattle.std.specs.Int.{w64}
 use Rattle.std.specs.FinMap as fin
-use Rattle.nd_time.specs.Limits.{max_count, max_counter, max_values}
+use Rattle.nd_time.specs.Limits.{max_count, max_counter, max_values, max_queue}
 use Rattle.nd_time.specs.Time.{Time, last_of}
 use Rattle.nd_map.specs.Counts.{at}
 use Rattle.nd_graph.specs.Graph.{location_count, op_at}
 use Rattle.nd_graph.specs.declared.op.Op.TheVariants as op
+use Rattle.nd_paths.specs.Order.{IsStrictlyBefore}
 use Rattle.nd_paths.specs.declared.point.Pointstamp.{Pointstamp}
-use Rattle.nd_delta.specs.Change.{at as in_change}
+use Rattle.nd_delta.specs.Change.{Change, none, at as in_change, minus}
 use Rattle.nd_delta.specs.Least.{IsLeast}
+use Rattle.nd_delta.specs.Upright.{IsUnsupported}
 use Rattle.nd_view.specs.View.{IsPrecursor}
 use Rattle.nd_vertex.specs.Table.{Outcome}
 use Rattle.nd_vertex.specs.declared.key.ItemKey.{ItemKey}
 use Rattle.nd_processor.specs.declared.key.ValueAt.{ValueAt}
 use Rattle.nd_processor.specs.declared.key.SinkKey.{SinkKey}
-use Rattle.nd_protocol.specs.State.{ClusterState, processor, view}
-use Rattle.nd_protocol.specs.Steps.{record_key, target_of, point_at, take_outcome, stepped}
+use Rattle.nd_protocol.specs.State.{ClusterState, processor, view, queue}
+use Rattle.nd_protocol.specs.Invariant.{HoldsToken}
+use Rattle.nd_protocol.specs.Exchange.{StaysUpright}
+use Rattle.nd_protocol.specs.Steps.{record_key, target_of, point_at, take_outcome, chosen, stepped}
 use Rattle.nd_protocol.specs.Refusals.{number_of}
 use Rattle.nd_protocol.specs.declared.step.Step.{Step}
-use Rattle.nd_protocol.specs.declared.step.Step.TheVariants.{Feed, Take, Notice}
+use Rattle.nd_protocol.specs.declared.step.Step.TheVariants.{Feed, Take, Notice, Broadcast, Receive}
+use Rattle.nd_protocol.specs.declared.part.Part.{Part}
 use Rattle.nd_protocol.specs.declared.step.Next.{Next as Afterwards}
 use Rattle.nd_protocol.specs.declared.step.Next.TheVariants as token
 use Rattle.nd_protocol.specs.declared.refusal.Refusal.{Refusal}
-use Rattle.nd_protocol.specs.declared.refusal.Refusal.TheVariants.{NoProcessor, NoVertex, NoEdge, NotInput, InputClosed, TooManyValues, EpochFull, NoRecord, NoRequest, NotYet, CounterFull, ValueRange, CountFull, DeltaFull}
+use Rattle.nd_protocol.specs.declared.refusal.Refusal.TheVariants.{NoProcessor, NoVertex, NoEdge, NotInput, InputClosed, TooManyValues, EpochFull, NoRecord, NoRequest, NotYet, CounterFull, ValueRange, CountFull, DeltaFull, NothingToSend, NotAdmissible, QueueEmpty, QueueFull}
 
 -- the count of a record or of a sink is past the limit
 pub data HasLargeCount (s : ClusterState) : Type 0 where
@@ -72,19 +77,53 @@ NoticeFails s p vertex t new CountFull = HasLargeCount new
 NoticeFails s p vertex t new DeltaFull = HasLargeEntry new
 NoticeFails s p vertex t new _ = ⊥
 
+-- one of the queues from p holds as many changes as a queue may
+abbrev pub HasFullQueue : ClusterState → ℕ → Type 0
+HasFullQueue s p = (q : ℕ) × (q < length s.processors) × (max_queue ≤ length (queue s p q))
+
+-- c is the part that p would send; what stays is not supported at the point of refusal 16
+abbrev pub BroadcastFails : ClusterState → ℕ → Change → Refusal → Type 0
+BroadcastFails s p c NoProcessor = length s.processors ≤ p
+BroadcastFails s p c NothingToSend = c ≡ none
+BroadcastFails s p c (NotAdmissible x) = IsLeast (IsUnsupported (IsStrictlyBefore s.graph) (HoldsToken (processor s p)) (in_change (minus (processor s p).unsent c))) x
+BroadcastFails s p c QueueFull = HasFullQueue s p
+BroadcastFails s p c _ = ⊥
+
+abbrev pub ReceiveFails : ClusterState → ℕ → ℕ → ClusterState → Refusal → Type 0
+ReceiveFails s from to new NoProcessor = (length s.processors ≤ from) ⊎ (length s.processors ≤ to)
+ReceiveFails s from to new DeltaFull = HasLargeEntry new
+ReceiveFails s from to new QueueEmpty = queue s from to ≡ []
+ReceiveFails s from to new _ = ⊥
+
 -- the condition of a refusal holds
 abbrev pub Fails : {A : Type 0} → ClusterState → Step A → Refusal → Type 0
 Fails {A} s (Feed p vertex values next) r = FeedFails s p vertex values next (stepped {A = A} s (Feed p vertex values next)) r
 Fails {A} s (Take p edge t value) r = TakeFails s p edge t value (stepped {A = A} s (Take p edge t value)) r
 Fails {A} s (Notice p vertex t) r = NoticeFails s p vertex t (stepped {A = A} s (Notice p vertex t)) r
+Fails {A} s (Broadcast p part) r = BroadcastFails s p (chosen part (processor s p).unsent) r
+Fails {A} s (Receive from to) r = ReceiveFails s from to (stepped {A = A} s (Receive from to)) r
 
--- no condition holds
+-- what supports each entry that a broadcast leaves
+abbrev pub IsAdmissible : {A : Type 0} → ClusterState → Step A → Type 0
+IsAdmissible s (Broadcast p part) = StaysUpright s p (chosen part (processor s p).unsent)
+IsAdmissible s _ = Unit {0}
+
+-- no condition holds; that of refusal 16 does not since each entry that stays has its support
 pub record IsEnabled {A : Type 0} (s : ClusterState) (x : Step A) : Type 0 where
   pub free : (r : Refusal) → Fails s x r → ⊥
+  pub admissible : IsAdmissible s x
 
 -- no condition holds whose number is below this one
 pub record IsFreeBelow {A : Type 0} (s : ClusterState) (x : Step A) (n : ℕ) : Type 0 where
   pub free : (r : Refusal) → number_of r < n → Fails s x r → ⊥
+
+-- refusals whose tests take no memory: the first twelve, and those of nothing to send and nothing to receive
+abbrev pub NeedsNoMemory : Refusal → Type 0
+NeedsNoMemory r = (number_of r < 13) ⊎ ((r ≡ NothingToSend) ⊎ (r ≡ QueueEmpty))
+
+-- no condition holds that is tested without memory, so that want of it may be answered
+pub record MayWantMemory {A : Type 0} (s : ClusterState) (x : Step A) : Type 0 where
+  pub free : (r : Refusal) → NeedsNoMemory r → Fails s x r → ⊥
 
 -- the condition of this refusal holds, and none of a lesser number
 pub record IsRefused {A : Type 0} (s : ClusterState) (x : Step A) (r : Refusal) : Type 0 where

@@ -1,5 +1,5 @@
 -- When the keys of a cluster's maps fit its graph, and its numbers their limits (this project's own rule).
-use Rattle.std.specs.Prelude.{◌≡◌, ◌≢◌, ◌<◌, ◌≤◌, ℕ, pos, All, length, Some, unsigned_abs}
+use Rattle.std.specs.Prelude.{◌≡◌, ◌≢◌, ◌<◌, ◌≤◌, ℕ, pos, List, All, length, Some, unsigned_abs}
 use Rattle.std.specs.FinMap as fin
 use Rattle.nd_time.specs.Limits.{max_count, max_processors, max_queue}
 use Rattle.nd_map.specs.Counts.{at}
@@ -63,13 +63,18 @@ pub record ProcessorIsWithin (q : ProcessorState) : Type 0 where
 abbrev pub ChangeIsWithin : Change → Type 0
 ChangeIsWithin c = (x : Pointstamp) → unsigned_abs (in_change c x) ≤ max_count
 
+-- a queue holds no more changes than it may, and none of their entries is past its limit
+pub record QueueIsWithin (changes : List Change) : Type 0 where
+  pub few : length changes ≤ max_queue
+  pub entries : All ChangeIsWithin changes
+
 -- nor is any number of a cluster, which has at least one processor
 pub record IsWithinLimits (s : ClusterState) : Type 0 where
   pub some : 0 < length s.processors
   pub few : length s.processors ≤ max_processors
   pub processors : All ProcessorIsWithin s.processors
   pub views : All ChangeIsWithin s.views
-  pub queues : All (λ row. All (λ changes. length changes ≤ max_queue) row) s.queues
+  pub queues : All (λ row. All QueueIsWithin row) s.queues
 
 -- a state that a cluster may be in, reachable or not
 pub record IsState (s : ClusterState) : Type 0 where

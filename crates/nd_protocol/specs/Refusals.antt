@@ -1,7 +1,7 @@
 -- The number and the name under which each refusal is answered (this project's own rule).
 use Rattle.std.specs.Prelude.{ℕ, List, codes}
 use Rattle.nd_protocol.specs.declared.refusal.Refusal.{Refusal}
-use Rattle.nd_protocol.specs.declared.refusal.Refusal.TheVariants.{NoProcessor, NoVertex, NoEdge, NotInput, InputClosed, TooManyValues, EpochFull, NoRecord, NoRequest, NotYet, CounterFull, ValueRange, CountFull, DeltaFull, Memory}
+use Rattle.nd_protocol.specs.declared.refusal.Refusal.TheVariants.{NoProcessor, NoVertex, NoEdge, NotInput, InputClosed, TooManyValues, EpochFull, NoRecord, NoRequest, NotYet, CounterFull, ValueRange, CountFull, DeltaFull, NothingToSend, NotAdmissible, QueueEmpty, QueueFull, Memory}
 
 abbrev pub number_of : Refusal → ℕ
 number_of NoProcessor = 1
@@ -18,6 +18,10 @@ number_of CounterFull = 11
 number_of ValueRange = 12
 number_of CountFull = 13
 number_of DeltaFull = 14
+number_of NothingToSend = 15
+number_of (NotAdmissible point) = 16
+number_of QueueEmpty = 17
+number_of QueueFull = 18
 number_of Memory = 19
 
 abbrev pub name_of : Refusal → List ℕ
@@ -35,4 +39,8 @@ name_of CounterFull = codes "CounterFull"
 name_of ValueRange = codes "ValueRange"
 name_of CountFull = codes "CountFull"
 name_of DeltaFull = codes "DeltaFull"
+name_of NothingToSend = codes "NothingToSend"
+name_of (NotAdmissible point) = codes "NotAdmissible"
+name_of QueueEmpty = codes "QueueEmpty"
+name_of QueueFull = codes "QueueFull"
 name_of Memory = codes "Memory"

@@ -12,14 +12,17 @@ use Rattle.nd_graph.specs.declared.op.Route.{Route}
 use Rattle.nd_graph.specs.declared.op.Route.TheVariants.{Local, Exchange}
 use Rattle.nd_graph.specs.declared.graph.Edge.{Edge}
 use Rattle.nd_paths.specs.declared.point.Pointstamp.{Pointstamp}
-use Rattle.nd_delta.specs.Change.{Change, plus, minus}
+use Rattle.nd_delta.specs.Change.{Change, plus, minus, part as part_at}
 use Rattle.nd_vertex.specs.Table.{Outcome, on_record, on_notice, time_past}
 use Rattle.nd_processor.specs.Keys.{value_at_total, sink_total}
 use Rattle.nd_processor.specs.State.{ProcessorState, idle, items_at}
 use Rattle.nd_processor.specs.declared.key.ValueAt.{ValueAt}
 use Rattle.nd_protocol.specs.State.{ClusterState, processor, truth}
+use Rattle.nd_protocol.specs.Exchange.{sent, received}
 use Rattle.nd_protocol.specs.declared.step.Step.{Step}
-use Rattle.nd_protocol.specs.declared.step.Step.TheVariants.{Feed, Take, Notice}
+use Rattle.nd_protocol.specs.declared.step.Step.TheVariants.{Feed, Take, Notice, Broadcast, Receive}
+use Rattle.nd_protocol.specs.declared.part.Part.{Part}
+use Rattle.nd_protocol.specs.declared.part.Part.TheVariants.{All, Points}
 use Rattle.nd_protocol.specs.declared.step.Next.{Next as Afterwards}
 use Rattle.nd_protocol.specs.declared.step.Next.TheVariants as token
 
@@ -129,21 +132,22 @@ gain old new = minus (truth new) (truth old)
 abbrev pub with_gain : List ProcessorState → ℕ → List ProcessorState → List ProcessorState
 with_gain old p new = let q = slice_index_or new p idle in slice_set new p (record q { unsent = plus q.unsent (gain old new) })
 
--- the processor that makes a step
-abbrev pub performer : {A : Type 0} → Step A → ℕ
-performer (Feed p vertex values _) = p
-performer (Take p edge t value) = p
-performer (Notice p vertex t) = p
+-- the cluster after p has worked: these are the processors then, but for what p has to send
+abbrev pub worked : ClusterState → ℕ → List ProcessorState → ClusterState
+worked s p new = record s { processors = with_gain s.processors p new }
 
--- the processors after a step, but for the unsent change
-abbrev pub performed : {A : Type 0} → ClusterState → Step A → List ProcessorState
-performed s (Feed p vertex values next) = fed s p vertex values next
-performed s (Take p edge t value) = taken s p edge t value
-performed s (Notice p vertex t) = noticed s p vertex t
+-- the part of a change that a broadcast names: all of it, or its entries at some pointstamps
+abbrev pub chosen : {A : Type 0} → Part A → Change → Change
+chosen All c = c
+chosen (Points points) c = part_at c points
 
 -- the cluster after a step
 unfoldable pub stepped : {A : Type 0} → ClusterState → Step A → ClusterState
-stepped s x = record s { processors = with_gain s.processors (performer x) (performed s x) }
+stepped s (Feed p vertex values next) = worked s p (fed s p vertex values next)
+stepped s (Take p edge t value) = worked s p (taken s p edge t value)
+stepped s (Notice p vertex t) = worked s p (noticed s p vertex t)
+stepped s (Broadcast p part) = sent s p (chosen part (processor s p).unsent)
+stepped s (Receive from to) = received s from to
 
 -- the cluster after a list of steps
 unfoldable pub after : {A : Type 0} → ClusterState → List (Step A) → ClusterState

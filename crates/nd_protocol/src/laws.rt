@@ -1,18 +1,15 @@
 //! The theorems of the protocol, for every cluster and every step: functions without code, to be called where their
 //! clauses are needed.
-ghost use Rattle.nd_protocol.specs.Laws.{StartIsState, StartIsQuiet, StartKeepsProtocol, TruthIsSmall};
-ghost use Rattle.nd_protocol.specs.Laws.{StepLeadsToState, StepKeepsSettled, StepKeepsQueues, StepKeepsProtocol, RunKeepsProtocol};
-ghost use Rattle.nd_protocol.specs.Laws.{SentLeadsToState, SentKeepsProtocol, SentKeepsTruth};
-ghost use Rattle.nd_protocol.specs.Laws.{ReceivedLeadsToState, ReceivedKeepsProtocol, ReceivedKeepsProcessors};
+ghost use Rattle.nd_protocol.specs.Laws.{StartIsState, StartKeepsProtocol, TruthIsSmall};
+ghost use Rattle.nd_protocol.specs.Laws.{StepLeadsToState, StepKeepsSettled, StepKeepsProtocol, RunKeepsProtocol};
 ghost use Rattle.nd_protocol.specs.Laws.{PassedMeansFinished, NothingIsBefore, NoticeComesLast, FinishedStaysFinished};
 
 use nd_paths::order_is_transitive;
 use std::alloc::Allocator;
 
-/// A start is a state with nothing on its way, and has the protocol invariant.
+/// A start is a state and has the protocol invariant.
 pub fn starts_keep_protocol()
     ensures state { StartIsState }
-    ensures quiet { StartIsQuiet }
     ensures protocol { StartKeepsProtocol }
 {
     order_is_transitive();
@@ -27,21 +24,8 @@ pub fn truth_is_small()
 pub fn steps_keep_protocol<A: Allocator>()
     ensures state { StepLeadsToState A }
     ensures settled { StepKeepsSettled A }
-    ensures queues { StepKeepsQueues A }
     ensures protocol { StepKeepsProtocol A }
     ensures run { RunKeepsProtocol A }
-{
-    order_is_transitive();
-}
-
-/// A broadcast of an admissible part and a receive keep states and the protocol invariant (FORTE 2013).
-pub fn exchanges_keep_protocol()
-    ensures sent_state { SentLeadsToState }
-    ensures sent { SentKeepsProtocol }
-    ensures sent_truth { SentKeepsTruth }
-    ensures received_state { ReceivedLeadsToState }
-    ensures received { ReceivedKeepsProtocol }
-    ensures received_processors { ReceivedKeepsProcessors }
 {
     order_is_transitive();
 }

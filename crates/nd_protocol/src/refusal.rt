@@ -36,6 +36,14 @@ pub enum Refusal {
     CountFull,
     #[error("an entry of a change would pass its limit")]
     DeltaFull,
+    #[error("there is nothing to send")]
+    NothingToSend,
+    #[error("an entry that stays would have nothing strictly before it")]
+    NotAdmissible { point: Pointstamp },
+    #[error("the queue is empty")]
+    QueueEmpty,
+    #[error("a queue is full")]
+    QueueFull,
     #[error("out of memory")]
     Memory,
 }
@@ -65,6 +73,10 @@ impl Refusal {
             Refusal::ValueRange => 12,
             Refusal::CountFull => 13,
             Refusal::DeltaFull => 14,
+            Refusal::NothingToSend => 15,
+            Refusal::NotAdmissible { point: _ } => 16,
+            Refusal::QueueEmpty => 17,
+            Refusal::QueueFull => 18,
             Refusal::Memory => 19,
         }
     }
@@ -88,6 +100,10 @@ impl Refusal {
             Refusal::ValueRange => "ValueRange",
             Refusal::CountFull => "CountFull",
             Refusal::DeltaFull => "DeltaFull",
+            Refusal::NothingToSend => "NothingToSend",
+            Refusal::NotAdmissible { point: _ } => "NotAdmissible",
+            Refusal::QueueEmpty => "QueueEmpty",
+            Refusal::QueueFull => "QueueFull",
             Refusal::Memory => "Memory",
         }
     }

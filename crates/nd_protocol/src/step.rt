@@ -1,6 +1,7 @@
 //! The steps that a cluster can make.
 ghost use Rattle.std.specs.Prelude.{◌≡◌, [], ◌∷◌, ◌++◌, IfOk, OnOk, OnErr};
 
+use crate::Part;
 use nd_time::Timestamp;
 use std::alloc::{AllocError, Allocator, Global};
 use std::marker::Model;
@@ -91,6 +92,10 @@ pub enum Step<A: Allocator = Global> {
         vertex: usize,
         time: Timestamp,
     },
+    /// Sends a part of what is unsent to every processor.
+    Broadcast { p: u32, part: Part<A> },
+    /// Takes the front of a queue into the receiver's view.
+    Receive { from: u32, to: u32 },
 }
 
 impl<A: Allocator> Step<A> {
@@ -125,6 +130,14 @@ impl<A: Allocator> Step<A> {
                 p: *p,
                 vertex: *vertex,
                 time: time.copy(),
+            }),
+            Step::Broadcast { p, part } => Ok(Step::Broadcast {
+                p: *p,
+                part: part.copy(alloc)?,
+            }),
+            Step::Receive { from, to } => Ok(Step::Receive {
+                from: *from,
+                to: *to,
             }),
         }
     }
