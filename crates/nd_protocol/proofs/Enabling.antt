@@ -1,22 +1,30 @@
--- What an enabled step finds, and that it leaves numbers within their limits.
-use Rattle.std.proofs.Common.{◌≡◌, inl, inr, ℕ, zero, suc, ◌<◌, ◌≤◌, length, Option, Some, None, refl, sym, subst, arith}
+-- What an enabled step finds, and that it leads from a state to a state.
+use Rattle.std.proofs.Common.{◌≡◌, ◌⊎◌, inl, inr, ℕ, ℤ, pos, List, zero, suc, ◌<◌, ◌≤◌, length, Bool, true, false, cond, Option, Some, None, refl, sym, subst, arith}
 use Rattle.std.proofs.lemmas.Bool.{cases_lt}
 use Rattle.std.proofs.lemmas.List.{get_or_default}
 use Rattle.std.specs.Prelude.{All}
 use Rattle.std.specs.FinMap as fin
-use Rattle.nd_time.specs.Limits.{max_count, max_processors}
+use Rattle.nd_time.specs.Limits.{max_count, max_processors, max_queue}
 use Rattle.nd_processor.specs.State.{idle}
-use Rattle.nd_protocol.specs.State.{ClusterState, processor}
-use Rattle.nd_protocol.specs.Steps.{performer, stepped}
-use Rattle.nd_protocol.specs.Fitting.{ProcessorIsWithin, IsWithinLimits, IsState}
-use Rattle.nd_protocol.specs.Enabled.{HasLargeCount, of_record, of_sink, HasLargeEntry, of_unsent, IsEnabled}
+use Rattle.nd_paths.specs.declared.point.Pointstamp.{Pointstamp}
+use Rattle.nd_delta.specs.Change.{Change, none, at, part, at-part, has_point}
+use Rattle.nd_protocol.specs.State.{ClusterState, processor, view, queue}
+use Rattle.nd_protocol.specs.Exchange.{IsPart}
+use Rattle.nd_protocol.specs.declared.part.Part.{Part}
+use Rattle.nd_protocol.specs.declared.part.Part.TheVariants.{All as Whole, Points}
+use Rattle.nd_protocol.specs.Steps.{chosen, stepped}
+use Rattle.nd_protocol.specs.Fitting.{ChangeIsWithin, ProcessorIsWithin, IsWithinLimits, IsState}
+use Rattle.nd_protocol.specs.Enabled.{HasLargeCount, of_record, of_sink, HasLargeEntry, of_unsent, of_view, IsEnabled}
 use Rattle.nd_protocol.specs.declared.step.Step.{Step}
-use Rattle.nd_protocol.specs.declared.step.Step.TheVariants.{Feed, Take, Notice}
-use Rattle.nd_protocol.specs.declared.refusal.Refusal.TheVariants.{NoProcessor, InputClosed, NoRecord, NoRequest, CountFull, DeltaFull}
+use Rattle.nd_protocol.specs.declared.step.Step.TheVariants.{Feed, Take, Notice, Broadcast, Receive}
+use Rattle.nd_protocol.specs.declared.step.Next.{Next as Afterwards}
+use Rattle.nd_time.specs.Time.{Time}
+use Rattle.nd_protocol.specs.declared.refusal.Refusal.TheVariants.{NoProcessor, InputClosed, NoRecord, NoRequest, CountFull, DeltaFull, QueueFull}
 use Rattle.nd_protocol.proofs.Arcs.{IsTransitive}
-use Rattle.nd_protocol.proofs.Shape.{Finds, IsPossible}
+use Rattle.nd_protocol.proofs.Shape.{Work, feeding, taking, noticing, IsPossible, done}
 use Rattle.nd_protocol.proofs.Performing.{many_stepped}
 use Rattle.nd_protocol.proofs.Fitness.{keys_fit}
+use Rattle.nd_protocol.proofs.Exchanges.{sent_state, received_state}
 
 below_unless : (p n : ℕ) → (n ≤ p → ⊥) → p < n
 below_unless p n h = elim (cases_lt p n) [ inl lt ↦ lt | inr le ↦ absurd (h le) ]
@@ -36,28 +44,50 @@ more_unless : (n : ℕ) → (n ≡ 0 → ⊥) → 0 < n
 more_unless zero h = absurd (h refl)
 more_unless (suc n) h = omega arith
 
-pub performer_below : {A : Type 0} (s : ClusterState) (x : Step A) → IsEnabled s x → performer x < length s.processors
-performer_below s (Feed p vertex values next) enabled = below_unless p (length s.processors) (enabled.free NoProcessor)
-performer_below s (Take p edge t value) enabled = below_unless p (length s.processors) (enabled.free NoProcessor)
-performer_below s (Notice p vertex t) enabled = below_unless p (length s.processors) (enabled.free NoProcessor)
+module _ {A : Type 0} (s : ClusterState) where
+  module _ (p vertex : ℕ) (values : List ℤ) (next : Afterwards) (enabled : IsEnabled {A = A} s (Feed p vertex values next)) where
+    pub feed_possible : IsPossible s (feeding p vertex values next)
+    feed_possible = record {
+      performer_is = below_unless p (length s.processors) (enabled.free NoProcessor);
+      finds = some_unless (fin.get (processor s p).tokens vertex) (enabled.free InputClosed);
+    }
 
-finds : {A : Type 0} (s : ClusterState) (x : Step A) → IsEnabled s x → Finds s x
-finds s (Feed p vertex values next) enabled = some_unless (fin.get (processor s p).tokens vertex) (enabled.free InputClosed)
-finds s (Take p edge t value) enabled = more_unless _ (enabled.free NoRecord)
-finds s (Notice p vertex t) enabled = here_unless _ (enabled.free NoRequest)
+  module _ (p edge : ℕ) (t : Time) (value : ℤ) (enabled : IsEnabled {A = A} s (Take p edge t value)) where
+    pub take_possible : IsPossible s (taking p edge t value)
+    take_possible = record {
+      performer_is = below_unless p (length s.processors) (enabled.free NoProcessor);
+      finds = more_unless _ (enabled.free NoRecord);
+    }
 
-pub possible : {A : Type 0} (s : ClusterState) (x : Step A) → IsEnabled s x → IsPossible s x
-possible s x enabled = record { performer_is = performer_below s x enabled; finds = finds s x enabled }
+  module _ (p vertex : ℕ) (t : Time) (enabled : IsEnabled {A = A} s (Notice p vertex t)) where
+    pub notice_possible : IsPossible s (noticing p vertex t)
+    notice_possible = record {
+      performer_is = below_unless p (length s.processors) (enabled.free NoProcessor);
+      finds = here_unless _ (enabled.free NoRequest);
+    }
 
-no_large_count : {A : Type 0} (s : ClusterState) (x : Step A) → IsEnabled s x → HasLargeCount (stepped s x) → ⊥
-no_large_count s (Feed p vertex values next) enabled = enabled.free CountFull
-no_large_count s (Take p edge t value) enabled = enabled.free CountFull
-no_large_count s (Notice p vertex t) enabled = enabled.free CountFull
+  module _ (p : ℕ) (part : Part A) (enabled : IsEnabled {A = A} s (Broadcast p part)) where
+    pub sender_below : p < length s.processors
+    sender_below = below_unless p (length s.processors) (enabled.free NoProcessor)
 
-no_large_entry : {A : Type 0} (s : ClusterState) (x : Step A) → IsEnabled s x → HasLargeEntry (stepped s x) → ⊥
-no_large_entry s (Feed p vertex values next) enabled = enabled.free DeltaFull
-no_large_entry s (Take p edge t value) enabled = enabled.free DeltaFull
-no_large_entry s (Notice p vertex t) enabled = enabled.free DeltaFull
+    room : (q : ℕ) → q < length s.processors → length (queue s p q) < max_queue
+    room q lt = below_unless (length (queue s p q)) max_queue (λ full. enabled.free QueueFull (q, lt, full))
+
+  module _ (from to : ℕ) (enabled : IsEnabled {A = A} s (Receive from to)) where
+    pub from_below : from < length s.processors
+    from_below = below_unless from (length s.processors) (λ le. enabled.free NoProcessor (inl le))
+
+    pub to_below : to < length s.processors
+    to_below = below_unless to (length s.processors) (λ le. enabled.free NoProcessor (inr le))
+
+part_or_none : (b : Bool) (z : ℤ) → (cond b z (pos 0) ≡ pos 0) ⊎ (cond b z (pos 0) ≡ z)
+part_or_none true z = inr refl
+part_or_none false z = inl refl
+
+-- what a broadcast names is a part of what is unsent
+chosen_is_part : {A : Type 0} (part : Part A) (c : Change) → IsPart (chosen part c) c
+chosen_is_part Whole c x = inr refl
+chosen_is_part (Points points) c x = subst (λ z. (z ≡ pos 0) ⊎ (z ≡ at c x)) (sym (at-part c points x)) (part_or_none (has_point x points) (at c x))
 
 all_within : (s : ClusterState) → (HasLargeCount s → ⊥) → (HasLargeEntry s → ⊥) → All ProcessorIsWithin s.processors
 all_within s count entry p d lt = subst ProcessorIsWithin (get_or_default s.processors p idle d lt) (record {
@@ -66,23 +96,36 @@ all_within s count entry p d lt = subst ProcessorIsWithin (get_or_default s.proc
   unsent = λ x. at_most_unless max_count _ (λ large. entry (of_unsent p x large));
 })
 
-within_step : {A : Type 0} (s : ClusterState) (x : Step A) → IsEnabled s x → IsWithinLimits s → IsWithinLimits (stepped s x)
-unfolding stepped
-within_step s x enabled within =
-    let many : length (stepped s x).processors ≡ length s.processors = many_stepped s x in
+within_work : (s : ClusterState) (x : Work) → (HasLargeCount (done s x) → ⊥) → (HasLargeEntry (done s x) → ⊥) → IsWithinLimits s → IsWithinLimits (done s x)
+unfolding done
+within_work s x count entry within =
+    let many : length (done s x).processors ≡ length s.processors = many_stepped s x in
     record {
       some = subst (λ n. 0 < n) (sym many) within.some;
       few = subst (λ n. n ≤ max_processors) (sym many) within.few;
-      processors = all_within (stepped s x) (no_large_count s x enabled) (no_large_entry s x enabled);
+      processors = all_within (done s x) count entry;
       views = within.views;
       queues = within.queues;
     }
 
+work_state : IsTransitive → (s : ClusterState) (x : Work) → (HasLargeCount (done s x) → ⊥) → (HasLargeEntry (done s x) → ⊥) → IsState s → IsPossible s x → IsState (done s x)
+unfolding done
+work_state trans s x count entry state possible = record {
+  ordered = state.ordered;
+  fits = keys_fit trans s x state.ordered state.fits possible;
+  within = within_work s x count entry state.within;
+}
+
 -- an enabled step leads from a state to a state
 pub state_kept : {A : Type 0} → IsTransitive → (s : ClusterState) (x : Step A) → IsState s → IsEnabled s x → IsState (stepped s x)
-unfolding stepped
-state_kept trans s x state enabled = record {
-  ordered = state.ordered;
-  fits = keys_fit trans s x state.ordered state.fits (possible s x enabled);
-  within = within_step s x enabled state.within;
-}
+unfolding stepped done
+state_kept trans s (Feed p vertex values next) state enabled =
+    work_state trans s (feeding p vertex values next) (enabled.free CountFull) (enabled.free DeltaFull) state (feed_possible s p vertex values next enabled)
+state_kept trans s (Take p edge t value) state enabled =
+    work_state trans s (taking p edge t value) (enabled.free CountFull) (enabled.free DeltaFull) state (take_possible s p edge t value enabled)
+state_kept trans s (Notice p vertex t) state enabled =
+    work_state trans s (noticing p vertex t) (enabled.free CountFull) (enabled.free DeltaFull) state (notice_possible s p vertex t enabled)
+state_kept trans s (Broadcast p part) state enabled =
+    sent_state s p (chosen part (processor s p).unsent) state (sender_below s p part enabled) (chosen_is_part part (processor s p).unsent) (room s p part enabled)
+state_kept trans s (Receive from to) state enabled =
+    received_state s from to state (from_below s from to enabled) (to_below s from to enabled) (λ x. at_most_unless max_count _ (λ large. enabled.free DeltaFull (of_view to x large)))

@@ -1,5 +1,5 @@
 -- Changes that are sent and received: a part of what a processor has to send goes to all, where what stays is upright;
--- the front of a queue goes into a view. Both keep the protocol invariant, and the truth.
+-- the front of a queue goes into a view.
 use Rattle.std.proofs.Common.{◌≡◌, inl, inr, ℕ, ◌+◌, ◌<◌, ◌≤◌, pos, ◌+ℤ◌, ◌-ℤ◌, List, [], ◌∷◌, ◌++◌, map, length, get_or, set, refl, sym, ap, subst, ◌∙◌, arith, length-append, length-set, get_or-set_same, get_or-set_other}
 use Rattle.std.proofs.lemmas.Int.{ints}
 use Rattle.std.proofs.lemmas.List.{get_or_default, length-map}
@@ -13,17 +13,15 @@ use Rattle.nd_paths.specs.declared.point.Pointstamp.{Pointstamp}
 use Rattle.nd_delta.specs.Change.{Change, none, at, plus, minus, at-plus, at-minus}
 use Rattle.nd_delta.specs.Upright.{IsUpright}
 use Rattle.nd_processor.specs.State.{ProcessorState, idle, in_tokens}
-use Rattle.nd_protocol.specs.State.{ClusterState, processor, view, queue, truth}
+use Rattle.nd_protocol.specs.State.{ClusterState, processor, view, queue}
 use Rattle.nd_protocol.specs.Exchange.{IsPart, StaysUpright, sent, received_from, received}
-use Rattle.nd_protocol.specs.Fitting.{ChangeFits, ProcessorFits, KeysFit, ChangeIsWithin, ProcessorIsWithin, IsState}
-use Rattle.nd_protocol.specs.Invariant.{HoldsToken, KeepsProtocol}
+use Rattle.nd_protocol.specs.Fitting.{ChangeFits, ProcessorFits, KeysFit, ChangeIsWithin, ProcessorIsWithin, QueueIsWithin, IsState}
+use Rattle.nd_protocol.specs.Invariant.{HoldsToken}
 use Rattle.nd_protocol.proofs.Core.{Broadcasts, Receives}
 use Rattle.nd_protocol.proofs.Reading.{reading}
-use Rattle.nd_protocol.proofs.Arcs.{IsTransitive, strict_order}
-use Rattle.nd_protocol.proofs.Counts.{truth-count, count-set_same, kept-set}
+use Rattle.nd_protocol.proofs.Counts.{count-set_same, kept-set}
 use Rattle.nd_protocol.proofs.UprightSums.{zero_or_not}
-use Rattle.nd_protocol.proofs.Kept.{same_or_not, sent as kept_by_sent, taken as kept_by_taken}
-use Rattle.nd_protocol.proofs.Readings.{change_finite, sound_of, keeps_of}
+use Rattle.nd_protocol.proofs.Kept.{same_or_not}
 
 -- a list of all queues, in which the one from p to q is read
 abbrev row : List (List (List Change)) → ℕ → List (List Change)
@@ -49,7 +47,7 @@ module _ (s : ClusterState) (p : ℕ) (here : p < length s.processors) (fits : K
         ∙ get_or_default (map f (row s.queues p)) q [] (f []) (subst (λ n. q < n) (sym (length-map (row s.queues p) f)) (receiver q lt))
         ∙ get_or-map f (row s.queues p) q []
 
-    broadcasts : Broadcasts (IsStrictlyBefore s.graph) at p c (reading s) (reading (sent s p c))
+    pub broadcasts : Broadcasts (IsStrictlyBefore s.graph) at p c (reading s) (reading (sent s p c))
     unfolding sent
     broadcasts = record {
       here = here;
@@ -67,11 +65,6 @@ module _ (s : ClusterState) (p : ℕ) (here : p < length s.processors) (fits : K
       queue_others = λ k q other. ap (λ (r : List (List Change)). get_or r q []) (get_or-set_other s.queues p k _ [] other);
     }
 
-    pub sent_kept : IsTransitive → IsState s → KeepsProtocol s → KeepsProtocol (sent s p c)
-    unfolding sent
-    sent_kept trans state keeps =
-        keeps_of (sent s p c) (kept_by_sent (IsStrictlyBefore s.graph) (strict_order trans s.graph state.ordered) at change_finite p c (reading s) (reading (sent s p c)) broadcasts (sound_of s keeps))
-
   module _ (q : ℕ) (there : q < length s.processors) (c : Change) (rest : List Change) (front : queue s p q ≡ c ∷ rest) where
     queue_rest : queue (received_from s p q (c ∷ rest)) p q ≡ rest
     queue_rest =
@@ -88,7 +81,7 @@ module _ (s : ClusterState) (p : ℕ) (here : p < length s.processors) (fits : K
           | inr other ↦ ap (λ (r : List (List Change)). get_or r l []) (get_or-set_other s.queues p k (set (row s.queues p) q rest) [] other)
         ]
 
-    receives : Receives (IsStrictlyBefore s.graph) at p q c (reading s) (reading (received_from s p q (c ∷ rest)))
+    pub receives : Receives (IsStrictlyBefore s.graph) at p q c (reading s) (reading (received_from s p q (c ∷ rest)))
     receives = record {
       from_here = here;
       to_here = there;
@@ -102,35 +95,6 @@ module _ (s : ClusterState) (p : ℕ) (here : p < length s.processors) (fits : K
       queue_others = queue_others;
     }
 
-    front_kept : IsTransitive → IsState s → KeepsProtocol s → KeepsProtocol (received_from s p q (c ∷ rest))
-    front_kept trans state keeps =
-        keeps_of (received_from s p q (c ∷ rest)) (kept_by_taken (IsStrictlyBefore s.graph) (strict_order trans s.graph state.ordered) at change_finite p q c (reading s) (reading (received_from s p q (c ∷ rest))) receives (sound_of s keeps))
-
-pub received_kept : IsTransitive → (s : ClusterState) (p q : ℕ) → IsState s → p < length s.processors → q < length s.processors → KeepsProtocol s → KeepsProtocol (received s p q)
-unfolding received
-received_kept trans s p q state here there keeps = by (queue s p q) refl
-  where
-    by : (cs : List Change) → queue s p q ≡ cs → KeepsProtocol (received_from s p q cs)
-    by [] e = keeps
-    by (c ∷ rest) e = front_kept s p here state.fits q there c rest e trans state keeps
-
--- ---- what they leave as it was
-
-pub sent_truth : (s : ClusterState) (p : ℕ) (c : Change) (x : Pointstamp) → at (truth (sent s p c).processors) x ≡ at (truth s.processors) x
-unfolding sent
-sent_truth s p c x =
-    truth-count (sent s p c).processors x
-    ∙ ap pos (count-set_same s.processors p (record (processor s p) { unsent = minus (processor s p).unsent c }) x refl)
-    ∙ sym (truth-count s.processors x)
-
-processors_from : (s : ClusterState) (p q : ℕ) (cs : List Change) → (received_from s p q cs).processors ≡ s.processors
-processors_from s p q [] = refl
-processors_from s p q (c ∷ rest) = refl
-
-pub received_processors : (s : ClusterState) (p q : ℕ) → (received s p q).processors ≡ s.processors
-unfolding received
-received_processors s p q = processors_from s p q (queue s p q)
-
 -- ---- states
 
 part_fits : (g : Dataflow) (c d : Change) → IsPart c d → ChangeFits g d → ChangeFits g c
@@ -140,6 +104,13 @@ rest_fits : (g : Dataflow) (c d : Change) → IsPart c d → ChangeFits g d → 
 rest_fits g c d part fits x some =
     let less : at (minus d c) x ≡ at d x -ℤ at c x = at-minus d c x in
     fits x (λ e. elim (part x) [ inl none_there ↦ some (omega (arith, ints)) | inr same ↦ some (omega (arith, ints)) ])
+
+part_within : (c d : Change) → IsPart c d → ChangeIsWithin d → ChangeIsWithin c
+part_within c d part within x =
+    elim (part x) [
+      | inl none_there ↦ subst (λ z. unsigned_abs z ≤ max_count) (sym none_there) (omega arith)
+      | inr same ↦ subst (λ z. unsigned_abs z ≤ max_count) (sym same) (within x)
+    ]
 
 rest_within : (c d : Change) → IsPart c d → ChangeIsWithin d → ChangeIsWithin (minus d c)
 rest_within c d part within x =
@@ -163,12 +134,12 @@ sent_state s p c state here part room =
     let many : length (sent s p c).processors ≡ length s.processors = length-set s.processors p _ in
     let fits_row : All (λ changes. All (ChangeFits g) changes) (map push r) =
     All-map (λ changes. All (ChangeFits g) changes) push r (λ k d lt. All-push (ChangeFits g) (get_or r k d) c (state.fits.queues p [] from k d lt) (part_fits g c q.unsent part fit.unsent)) in
-    let short_row : All (λ (changes : List Change). length changes ≤ max_queue) (map push r) =
-    All-map (λ (changes : List Change). length changes ≤ max_queue) push r (λ k d lt.
+    let within_row : All QueueIsWithin (map push r) =
+    All-map QueueIsWithin push r (λ k d lt.
     let short : length (queue s p k) < max_queue = room k (subst (λ n. k < n) wide lt) in
     let same : length (get_or r k d) ≡ length (queue s p k) = ap length (get_or_default r k d [] lt) in
     let more : length (get_or r k d ++ c ∷ []) ≡ length (get_or r k d) + 1 = length-append (get_or r k d) (c ∷ []) in
-    omega arith) in
+    record { few = omega arith; entries = All-push ChangeIsWithin (get_or r k d) c (state.within.queues p [] from k d lt).entries (part_within c q.unsent part limit.unsent) }) in
     record {
       ordered = state.ordered;
       fits = record {
@@ -197,7 +168,7 @@ sent_state s p c state here part room =
           unsent = rest_within c q.unsent part limit.unsent;
         }) state.within.processors;
         views = state.within.views;
-        queues = All-set (λ row. All (λ (changes : List Change). length changes ≤ max_queue) row) s.queues p (map push r) short_row state.within.queues;
+        queues = All-set (λ row. All QueueIsWithin row) s.queues p (map push r) within_row state.within.queues;
       };
     }
 
@@ -218,7 +189,8 @@ front_state s p q c rest state here there front small =
     let to : q < length r = subst (λ n. q < n) (sym wide) there in
     let seen : q < length s.views = subst (λ n. q < n) (sym state.fits.each_view) there in
     let old : All (ChangeFits g) (c ∷ rest) = subst (All (ChangeFits g)) front (state.fits.queues p [] from q [] to) in
-    let short : length (c ∷ rest) ≤ max_queue = subst (λ (cs : List Change). length cs ≤ max_queue) front (state.within.queues p [] from q [] to) in
+    let limits : QueueIsWithin (c ∷ rest) = subst QueueIsWithin front (state.within.queues p [] from q [] to) in
+    let short : length (c ∷ rest) ≤ max_queue = limits.few in
     let wide_now : length (set r q rest) ≡ length s.processors = length-set r q rest ∙ wide in
     record {
       ordered = state.ordered;
@@ -236,8 +208,8 @@ front_state s p q c rest state here there front small =
         few = state.within.few;
         processors = state.within.processors;
         views = All-set ChangeIsWithin s.views q (plus (view s q) c) small state.within.views;
-        queues = All-set (λ row. All (λ (changes : List Change). length changes ≤ max_queue) row) s.queues p (set r q rest)
-            (All-set (λ (changes : List Change). length changes ≤ max_queue) r q rest (omega arith) (state.within.queues p [] from)) state.within.queues;
+        queues = All-set (λ row. All QueueIsWithin row) s.queues p (set r q rest)
+            (All-set QueueIsWithin r q rest (record { few = omega arith; entries = All-tail ChangeIsWithin c rest limits.entries }) (state.within.queues p [] from)) state.within.queues;
       };
     }
 

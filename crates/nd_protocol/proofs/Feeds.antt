@@ -8,11 +8,10 @@ use Rattle.nd_paths.specs.Order.{Fits, IsStrictlyBefore}
 use Rattle.nd_processor.specs.State.{ProcessorState, token_point, one_at, in_tokens}
 use Rattle.nd_protocol.specs.State.{ClusterState, processor}
 use Rattle.nd_protocol.specs.Steps.{emitted, epoch_of, moved_token, flat}
-use Rattle.nd_protocol.specs.declared.step.Step.TheVariants.{Feed}
 use Rattle.nd_protocol.specs.declared.step.Next.{Next as Afterwards}
 use Rattle.nd_protocol.specs.declared.step.Next.TheVariants.{Next, Close, Stay}
 use Rattle.nd_protocol.specs.Fitting.{IsOrdered, ProcessorFits}
-use Rattle.nd_protocol.proofs.Shape.{HasCause}
+use Rattle.nd_protocol.proofs.Shape.{feeding, HasCause}
 use Rattle.nd_processor.specs.Held.{point_cases, one_at_itself, token_at, in_tokens-insert, in_tokens-remove}
 use Rattle.nd_protocol.proofs.Arcs.{later_epoch}
 use Rattle.nd_protocol.proofs.Counts.{AllAt-flat}
@@ -63,7 +62,7 @@ token_moves g m vertex epoch found fits Stay =
       others = λ z h. inl h;
     }
 
-pub feed_cause : {A : Type 0} (s : ClusterState) → IsOrdered s.graph → (p vertex epoch : ℕ) (values : List ℤ) (next : Afterwards) → fin.get (processor s p).tokens vertex ≡ Some epoch → ProcessorFits s.graph (processor s p) → HasCause {A = A} s (Feed p vertex values next)
+pub feed_cause : (s : ClusterState) → IsOrdered s.graph → (p vertex epoch : ℕ) (values : List ℤ) (next : Afterwards) → fin.get (processor s p).tokens vertex ≡ Some epoch → ProcessorFits s.graph (processor s p) → HasCause s (feeding p vertex values next)
 feed_cause s o p vertex e values next found fit =
     let fits : Fits s.graph (token_point vertex e) = (fit.tokens vertex e found).1.fits in
     let g : Dataflow = s.graph in

@@ -21,11 +21,10 @@ use Rattle.nd_processor.specs.Keys.{value_at_total, value_at_exact}
 use Rattle.nd_processor.specs.State.{ProcessorState, idle, token_point, one_at, in_records, in_requests, in_tokens, held}
 use Rattle.nd_processor.specs.declared.key.ValueAt.{ValueAt}
 use Rattle.nd_protocol.specs.State.{ClusterState}
-use Rattle.nd_protocol.specs.Steps.{gain, with_gain, with_record, with_records, performer, performed, stepped}
+use Rattle.nd_protocol.specs.Steps.{gain, with_gain, with_record, with_records}
 use Rattle.nd_protocol.specs.Fitting.{IsOrdered, IsAtEdge, ChangeFits, ProcessorFits, KeysFit}
-use Rattle.nd_protocol.specs.declared.step.Step.{Step}
 use Rattle.nd_protocol.proofs.Arcs.{IsTransitive}
-use Rattle.nd_protocol.proofs.Shape.{AllAt, IsPossible, written, come, performed-writes, HasCause}
+use Rattle.nd_protocol.proofs.Shape.{Work, performer, performed, done, AllAt, IsPossible, written, come, performed-writes, HasCause}
 use Rattle.nd_protocol.proofs.Kept.{same_or_not}
 use Rattle.nd_protocol.proofs.Counts.{count, gain-count}
 use Rattle.nd_protocol.proofs.UprightSums.{zero_or_not}
@@ -164,8 +163,8 @@ gained_fits g old p new then now =
       unsent = plus_fits g q.unsent (gain old new) fit.unsent (gain_fits g old new then now);
     })
 
-pub keys_fit : {A : Type 0} → IsTransitive → (s : ClusterState) (x : Step A) → IsOrdered s.graph → KeysFit s → IsPossible s x → KeysFit (stepped s x)
-unfolding stepped
+pub keys_fit : IsTransitive → (s : ClusterState) (x : Work) → IsOrdered s.graph → KeysFit s → IsPossible s x → KeysFit (done s x)
+unfolding done
 keys_fit trans s x o fits possible =
     let g : Dataflow = s.graph in
     let c : HasCause s x = cause_of trans s x o fits possible in
@@ -174,7 +173,7 @@ keys_fit trans s x o fits possible =
     (AllAt-both (IsStrictlyBefore g c.cause) (λ z. length g.vertices ≤ z.location) (come s x) c.later c.edges) in
     let performers : All (ProcessorFits g) (set s.processors (performer x) (written s x)) = all-set (ProcessorFits g) s.processors (performer x) (written s x) fits.processors (λ lt. c.fits) in
     let new : All (ProcessorFits g) (performed s x) = subst (All (ProcessorFits g)) (sym (performed-writes s x)) (records_fit g (set s.processors (performer x) (written s x)) (come s x) places performers) in
-    let many : length (stepped s x).processors ≡ length s.processors = many_stepped s x in
+    let many : length (done s x).processors ≡ length s.processors = many_stepped s x in
     record {
       processors = gained_fits g s.processors (performer x) (performed s x) fits.processors new;
       views = fits.views;

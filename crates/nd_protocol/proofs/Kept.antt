@@ -177,9 +177,9 @@ module _ {P C : Type 0} (R : P → P → Type 0) (o : IsStrictOrder R) (at : C �
     sent_there : (j : ℕ) → j ≢ p → (q k : ℕ) (x : P) → pending R at s j q k x ≡ pending R at r j q k x
     sent_there j ne q k x = rw (step.queue_others j q ne, step.unsent_others j ne) refl
 
-    sent_balance : IsSound R at r → (q : ℕ) → q < r.n → (x : P) → pos (s.truth x) ≡ (at (s.view q) x +ℤ total s.n (λ j. pending R at s j q 0 x))
-    sent_balance sound q h x =
-        let b : pos (r.truth x) ≡ (at (r.view q) x +ℤ total r.n (λ j. pending R at r j q 0 x)) = sound.balance q h x in
+    sent_balance : IsBalanced R at r → (q : ℕ) → q < r.n → (x : P) → pos (s.truth x) ≡ (at (s.view q) x +ℤ total s.n (λ j. pending R at s j q 0 x))
+    sent_balance balance q h x =
+        let b : pos (r.truth x) ≡ (at (r.view q) x +ℤ total r.n (λ j. pending R at r j q 0 x)) = balance q h x in
         let t : s.truth x ≡ r.truth x = step.truth x in
         let v : at (s.view q) x ≡ at (r.view q) x = ap (λ c. at c x) (step.view q) in
         let m : total r.n (λ j. pending R at s j q 0 x) ≡ total r.n (λ j. pending R at r j q 0 x)
@@ -189,6 +189,9 @@ module _ {P C : Type 0} (R : P → P → Type 0) (o : IsStrictOrder R) (at : C �
           | inr ne ↦ sent_there j ne q 0 x
         ]) in
         rw step.n (omega (arith, ints))
+
+    pub sent_balanced : IsBalanced R at r → IsBalanced R at s
+    sent_balanced balance q h x = sent_balance balance q (subst (λ v. q < v) step.n h) x
 
     sent_upright : IsSound R at r → (j q k : ℕ) → j < r.n → q < r.n → k ≤ length (s.queue j q) → IsUpright R (IsHeld s j) (pending R at s j q k)
     sent_upright sound j q k l h le =
@@ -206,7 +209,7 @@ module _ {P C : Type 0} (R : P → P → Type 0) (o : IsStrictOrder R) (at : C �
 
     pub sent : IsSound R at r → IsSound R at s
     sent sound = record {
-      balance = λ q h x. sent_balance sound q (subst (λ v. q < v) step.n h) x;
+      balance = sent_balanced sound.balance;
       upright = λ j q k l h le. sent_upright sound j q k (subst (λ v. j < v) step.n l) (subst (λ v. q < v) step.n h) le;
       counted = λ j l x. rw (step.tokens j x, step.truth x) (sound.counted j (subst (λ v. j < v) step.n l) x);
     }
@@ -225,9 +228,9 @@ module _ {P C : Type 0} (R : P → P → Type 0) (o : IsStrictOrder R) (at : C �
     taken_front : (x : P) → pending R at r p q 0 x ≡ (pending R at s p q 0 x +ℤ at c x)
     taken_front x = rw (step.queue, step.unsent p) (omega (arith, ints))
 
-    taken_balance : IsSound R at r → (l : ℕ) → l < r.n → (x : P) → pos (s.truth x) ≡ (at (s.view l) x +ℤ total s.n (λ j. pending R at s j l 0 x))
-    taken_balance sound l h x =
-        let b : pos (r.truth x) ≡ (at (r.view l) x +ℤ total r.n (λ j. pending R at r j l 0 x)) = sound.balance l h x in
+    taken_balance : IsBalanced R at r → (l : ℕ) → l < r.n → (x : P) → pos (s.truth x) ≡ (at (s.view l) x +ℤ total s.n (λ j. pending R at s j l 0 x))
+    taken_balance balance l h x =
+        let b : pos (r.truth x) ≡ (at (r.view l) x +ℤ total r.n (λ j. pending R at r j l 0 x)) = balance l h x in
         let t : s.truth x ≡ r.truth x = step.truth x in
         elim (same_or_not l q) [
           | inl e ↦
@@ -243,6 +246,9 @@ module _ {P C : Type 0} (R : P → P → Type 0) (o : IsStrictOrder R) (at : C �
               rw step.n (omega (arith, ints))
         ]
 
+    pub taken_balanced : IsBalanced R at r → IsBalanced R at s
+    taken_balanced balance l h x = taken_balance balance l (subst (λ v. l < v) step.n h) x
+
     taken_upright : IsSound R at r → (j l k : ℕ) → j < r.n → l < r.n → k ≤ length (s.queue j l) → IsUpright R (IsHeld s j) (pending R at s j l k)
     taken_upright sound j l k jl ll le =
         elim (both_or_not j p l q) [
@@ -256,7 +262,7 @@ module _ {P C : Type 0} (R : P → P → Type 0) (o : IsStrictOrder R) (at : C �
 
     pub taken : IsSound R at r → IsSound R at s
     taken sound = record {
-      balance = λ l h x. taken_balance sound l (subst (λ v. l < v) step.n h) x;
+      balance = taken_balanced sound.balance;
       upright = λ j l k jl ll le. taken_upright sound j l k (subst (λ v. j < v) step.n jl) (subst (λ v. l < v) step.n ll) le;
       counted = λ j l x. rw (step.tokens j x, step.truth x) (sound.counted j (subst (λ v. j < v) step.n l) x);
     }

@@ -21,7 +21,7 @@ use Rattle.nd_protocol.proofs.Core.{IsStrictOrder, IsFinite}
 use Rattle.nd_protocol.proofs.Descent.{induction}
 use Rattle.nd_protocol.proofs.Arcs.{IsTransitive}
 use Rattle.nd_protocol.proofs.Readings.{change_finite}
-use Rattle.nd_protocol.proofs.Enabling.{performer_below}
+use Rattle.nd_protocol.proofs.Enabling.{notice_possible}
 use Rattle.nd_protocol.proofs.Passing.{last}
 
 -- one pointstamp is listed before another
@@ -51,5 +51,5 @@ pub comes_last : {A : Type 0} → IsTransitive → (s : ClusterState) (p vertex 
     → (x : Pointstamp) → IsStrictlyBefore s.graph x (point_at vertex t) → at (truth s.processors) x ≡ pos 0
 comes_last {A = A} trans s p vertex t state keeps enabled =
     let P : Pointstamp → Type 0 = IsPrecursor s.graph (view s p) (point_at vertex t) in
-    last trans s state.ordered keeps p (performer_below {A = A} s (Notice p vertex t) enabled) (point_at vertex t)
+    last trans s state.ordered keeps p ((notice_possible {A = A} s p vertex t enabled).performer_is) (point_at vertex t)
     (none_without_least (view s p) P (λ x before. not_zero (at (view s p) x) before.positive) (λ x least. enabled.free (NotYet x) least))

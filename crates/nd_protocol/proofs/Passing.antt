@@ -7,17 +7,13 @@ use Rattle.nd_paths.specs.declared.point.Pointstamp.{Pointstamp}
 use Rattle.nd_delta.specs.Change.{Change, at}
 use Rattle.nd_view.specs.View.{IsPassed, IsPrecursor}
 use Rattle.nd_protocol.specs.State.{ClusterState, view, truth}
-use Rattle.nd_protocol.proofs.Core.{IsStrictOrder, IsDownward}
-use Rattle.nd_protocol.specs.declared.step.Step.{Step}
-use Rattle.nd_protocol.specs.Steps.{performer, performed, stepped, gain}
-use Rattle.nd_protocol.proofs.Shape.{IsPossible}
+use Rattle.nd_protocol.proofs.Core.{IsStrictOrder, IsDownward, Steps}
 use Rattle.nd_protocol.specs.Fitting.{IsOrdered, KeysFit}
 use Rattle.nd_protocol.specs.Invariant.{KeepsProtocol, IsFinished}
 use Rattle.nd_protocol.proofs.Reading.{reading}
 use Rattle.nd_protocol.proofs.Arcs.{IsTransitive, CouldIsTransitive, strict_order}
 use Rattle.nd_protocol.proofs.Counts.{truth-count}
 use Rattle.nd_protocol.proofs.Readings.{change_finite, sound_of}
-use Rattle.nd_protocol.proofs.Performing.{performs_of}
 use Rattle.nd_protocol.proofs.Safe.{safe, stays}
 
 could_down : CouldIsTransitive → (g : Dataflow) (t : Pointstamp) → IsDownward (IsStrictlyBefore g) (λ x. CouldResultIn g x t)
@@ -42,9 +38,8 @@ last trans s o keeps q lt t none x before =
 same_number : (m : ℕ) → pos m ≡ pos 0 → m ≡ 0
 same_number m e = omega (arith, ints)
 
-pub stays_finished : {A : Type 0} → IsTransitive → CouldIsTransitive → (s : ClusterState) (x : Step A) → IsOrdered s.graph → KeysFit s → IsPossible s x → KeepsProtocol s → (t : Pointstamp) → IsFinished s t → IsFinished (stepped s x) t
-unfolding stepped
-stays_finished trans could s x o fits possible keeps t finished z before =
-    truth-count (stepped s x).processors z ∙ ap pos (stays (IsStrictlyBefore s.graph) (strict_order trans s.graph o) at change_finite (λ y. CouldResultIn s.graph y t) (could_down could s.graph t) (reading s) (reading (stepped s x))
-    (inl (performer x, at (gain s.processors (performed s x)), performs_of trans s x o fits possible)) (sound_of s keeps)
-    (λ y d. same_number ((reading s).truth y) (sym (truth-count s.processors y) ∙ finished y d)) z before)
+-- what is finished stays so over a step of the protocol
+pub stays_finished : IsTransitive → CouldIsTransitive → (s t : ClusterState) → IsOrdered s.graph → t.graph ≡ s.graph → Steps (IsStrictlyBefore s.graph) at (reading s) (reading t) → KeepsProtocol s → (x : Pointstamp) → IsFinished s x → IsFinished t x
+stays_finished trans could s t o same step keeps x finished z before =
+    truth-count t.processors z ∙ ap pos (stays (IsStrictlyBefore s.graph) (strict_order trans s.graph o) at change_finite (λ y. CouldResultIn s.graph y x) (could_down could s.graph x) (reading s) (reading t) step (sound_of s keeps)
+    (λ y d. same_number ((reading s).truth y) (sym (truth-count s.processors y) ∙ finished y d)) z (subst (λ g. CouldResultIn g z x) same before))

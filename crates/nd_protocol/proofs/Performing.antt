@@ -4,42 +4,40 @@ use Rattle.std.proofs.lemmas.Int.{ints}
 use Rattle.nd_paths.specs.Order.{IsStrictlyBefore}
 use Rattle.nd_paths.specs.declared.point.Pointstamp.{Pointstamp}
 use Rattle.nd_delta.specs.Change.{Change, at, plus, at-plus}
-use Rattle.nd_delta.specs.Upright.{IsUpright, Holds}
+use Rattle.nd_delta.specs.Upright.{IsUpright}
 use Rattle.nd_processor.specs.Keys.{value_at_cmp}
 use Rattle.nd_processor.specs.State.{ProcessorState, idle, held, in_tokens}
 use Rattle.nd_protocol.specs.State.{ClusterState, processor}
 use Rattle.nd_protocol.proofs.Core.{Adds, Performs}
-use Rattle.nd_protocol.specs.declared.step.Step.{Step}
 use Rattle.nd_map.specs.Counts.{Counts, naturals}
-use Rattle.nd_protocol.specs.declared.step.Step.TheVariants.{Feed, Take, Notice}
-use Rattle.nd_protocol.specs.Steps.{performer, performed, stepped, gain, with_gain}
+use Rattle.nd_protocol.specs.Steps.{gain, with_gain}
 use Rattle.nd_protocol.specs.Fitting.{IsOrdered, ProcessorFits, KeysFit}
-use Rattle.nd_protocol.specs.Invariant.{HoldsToken, IsSettled, KeepsProtocol}
-use Rattle.nd_protocol.proofs.Shape.{KeepsToken, LeavesToken, IsPossible, written, come, performed-writes, unsent-written, HasCause}
+use Rattle.nd_protocol.specs.Invariant.{HoldsToken, IsSettled}
+use Rattle.nd_protocol.proofs.Shape.{Work, performer, performed, done, feeding, taking, noticing, KeepsToken, LeavesToken, IsPossible, written, come, performed-writes, unsent-written, HasCause}
 use Rattle.nd_protocol.proofs.Reading.{reading}
-use Rattle.nd_protocol.proofs.Arcs.{IsTransitive, irreflexive, strict_order}
+use Rattle.nd_protocol.proofs.Arcs.{IsTransitive, irreflexive}
 use Rattle.nd_protocol.proofs.Counts.{count, gain-count, count-set_same, kept-set, kept-records, length-records}
 use Rattle.nd_protocol.proofs.Causes.{loses, upright_gain}
 use Rattle.nd_protocol.proofs.Takes.{take_cause, notice_cause}
 use Rattle.nd_protocol.proofs.Feeds.{feed_cause}
-use Rattle.nd_protocol.proofs.Readings.{change_finite, counted, balanced_of, settled_of, sound_of, keeps_of}
+use Rattle.nd_protocol.proofs.Readings.{counted, balanced_of, settled_of}
 use Rattle.nd_protocol.proofs.UprightSums.{upright_wider}
-use Rattle.nd_protocol.proofs.Kept.{performed_balanced, performed as kept_by_step}
+use Rattle.nd_protocol.proofs.Kept.{performed_balanced}
 
-module _ {A : Type 0} (s : ClusterState) (x : Step A) where
+module _ (s : ClusterState) (x : Work) where
   -- a field that neither the records nor the unsent change are
   after_field : {X : Type 0} (f : ProcessorState → X) → ((q : ProcessorState) (m : Counts value_at_cmp naturals) → f (record q { records = m }) ≡ f q) → ((q : ProcessorState) (d : Change) → f (record q { unsent = d }) ≡ f q)
-      → (k : ℕ) → f (processor (stepped s x) k) ≡ f (get_or (set s.processors (performer x) (written s x)) k idle)
-  unfolding stepped
+      → (k : ℕ) → f (processor (done s x) k) ≡ f (get_or (set s.processors (performer x) (written s x)) k idle)
+  unfolding done
   after_field f keeps_records keeps_unsent k =
       kept-set f (performed s x) (performer x) _ (keeps_unsent _ _) k
       ∙ ap (λ qs. f (get_or qs k idle)) (performed-writes s x)
       ∙ kept-records f keeps_records (set s.processors (performer x) (written s x)) (come s x) k
 
-  tokens_here : performer x < length s.processors → (processor (stepped s x) (performer x)).tokens ≡ (written s x).tokens
+  tokens_here : performer x < length s.processors → (processor (done s x) (performer x)).tokens ≡ (written s x).tokens
   tokens_here here = after_field (λ q. q.tokens) (λ q m. refl) (λ q d. refl) (performer x) ∙ ap (λ q. q.tokens) (get_or-set_same s.processors (performer x) (written s x) idle here)
 
-  tokens_there : (k : ℕ) → k ≢ performer x → (processor (stepped s x) k).tokens ≡ (processor s k).tokens
+  tokens_there : (k : ℕ) → k ≢ performer x → (processor (done s x) k).tokens ≡ (processor s k).tokens
   tokens_there k other = after_field (λ q. q.tokens) (λ q m. refl) (λ q d. refl) k ∙ ap (λ q. q.tokens) (get_or-set_other s.processors (performer x) k (written s x) idle other)
 
   -- what is unsent, but for the change that the step puts to it
@@ -52,23 +50,23 @@ module _ {A : Type 0} (s : ClusterState) (x : Step A) where
   many_performed : length (performed s x) ≡ length s.processors
   many_performed = ap length (performed-writes s x) ∙ length-records (set s.processors (performer x) (written s x)) (come s x) ∙ length-set s.processors (performer x) (written s x)
 
-  pub many_stepped : length (stepped s x).processors ≡ length s.processors
-  unfolding stepped
+  pub many_stepped : length (done s x).processors ≡ length s.processors
+  unfolding done
   many_stepped = length-set (performed s x) (performer x) _ ∙ many_performed
 
-  unsent_here : performer x < length s.processors → (processor (stepped s x) (performer x)).unsent ≡ plus (processor s (performer x)).unsent (gain s.processors (performed s x))
-  unfolding stepped
+  unsent_here : performer x < length s.processors → (processor (done s x) (performer x)).unsent ≡ plus (processor s (performer x)).unsent (gain s.processors (performed s x))
+  unfolding done
   unsent_here here =
       ap (λ q. q.unsent) (get_or-set_same (performed s x) (performer x) _ idle (subst (λ n. performer x < n) (sym many_performed) here))
       ∙ ap (λ d. plus d (gain s.processors (performed s x))) (unsent_performed (performer x))
 
-  unsent_there : (k : ℕ) → k ≢ performer x → (processor (stepped s x) k).unsent ≡ (processor s k).unsent
-  unfolding stepped
+  unsent_there : (k : ℕ) → k ≢ performer x → (processor (done s x) k).unsent ≡ (processor s k).unsent
+  unfolding done
   unsent_there k other = ap (λ q. q.unsent) (get_or-set_other (performed s x) (performer x) k _ idle other) ∙ unsent_performed k
 
   -- the step adds its gain to the truth, and to what its performer has to send
-  adds : performer x < length s.processors → Adds (IsStrictlyBefore s.graph) at (performer x) (at (gain s.processors (performed s x))) (reading s) (reading (stepped s x))
-  unfolding stepped
+  adds : performer x < length s.processors → Adds (IsStrictlyBefore s.graph) at (performer x) (at (gain s.processors (performed s x))) (reading s) (reading (done s x))
+  unfolding done
   adds here = record {
     here = here;
     n = many_stepped;
@@ -83,33 +81,33 @@ module _ {A : Type 0} (s : ClusterState) (x : Step A) where
   }
 
   -- a step keeps a settled cluster settled
-  pub settled_kept : performer x < length s.processors → IsSettled s → IsSettled (stepped s x)
-  unfolding stepped
+  pub settled_kept : performer x < length s.processors → IsSettled s → IsSettled (done s x)
+  unfolding done
   settled_kept here settled =
-      settled_of (stepped s x) (performed_balanced (IsStrictlyBefore s.graph) at (performer x) (at (gain s.processors (performed s x))) (reading s) (reading (stepped s x)) (adds here) (balanced_of s settled))
+      settled_of (done s x) (performed_balanced (IsStrictlyBefore s.graph) at (performer x) (at (gain s.processors (performed s x))) (reading s) (reading (done s x)) (adds here) (balanced_of s settled))
 
-pub cause_of : {A : Type 0} → IsTransitive → (s : ClusterState) (x : Step A) → IsOrdered s.graph → KeysFit s → IsPossible s x → HasCause s x
-cause_of trans s (Feed p vertex values next) o fits possible =
+pub cause_of : IsTransitive → (s : ClusterState) (x : Work) → IsOrdered s.graph → KeysFit s → IsPossible s x → HasCause s x
+cause_of trans s (feeding p vertex values next) o fits possible =
     let here : ProcessorFits s.graph (processor s p) = fits.processors p idle possible.performer_is in
     let (epoch, found) = possible.finds in
     feed_cause s o p vertex epoch values next found here
-cause_of trans s (Take p edge t value) o fits possible =
+cause_of trans s (taking p edge t value) o fits possible =
     let here : ProcessorFits s.graph (processor s p) = fits.processors p idle possible.performer_is in
     take_cause trans s o p edge t value possible.finds here
-cause_of trans s (Notice p vertex t) o fits possible =
+cause_of trans s (noticing p vertex t) o fits possible =
     let here : ProcessorFits s.graph (processor s p) = fits.processors p idle possible.performer_is in
     notice_cause s o p vertex t possible.finds here
 
-module _ {A : Type 0} (s : ClusterState) (x : Step A) (o : IsOrdered s.graph) (here : performer x < length s.processors) (c : HasCause s x) where
+module _ (s : ClusterState) (x : Work) (o : IsOrdered s.graph) (here : performer x < length s.processors) (c : HasCause s x) where
   loses_cause : held (written s x) c.cause < held (processor s (performer x)) c.cause → at (gain s.processors (performed s x)) c.cause <ℤ pos 0
   loses_cause less =
       subst (λ qs. at (gain s.processors qs) c.cause <ℤ pos 0) (sym (performed-writes s x))
       (loses (IsStrictlyBefore s.graph) (irreflexive s.graph) s.processors (performer x) here (written s x) (come s x) c.cause c.later c.grows less)
 
   -- the change that the step adds to the truth is upright, with the tokens that the performer keeps
-  upright_step : IsUpright (IsStrictlyBefore s.graph) (KeepsToken (processor s (performer x)) (processor (stepped s x) (performer x))) (at (gain s.processors (performed s x)))
+  upright_step : IsUpright (IsStrictlyBefore s.graph) (KeepsToken (processor s (performer x)) (processor (done s x) (performer x))) (at (gain s.processors (performed s x)))
   upright_step =
-      let H : Pointstamp → Type 0 = KeepsToken (processor s (performer x)) (processor (stepped s x) (performer x)) in
+      let H : Pointstamp → Type 0 = KeepsToken (processor s (performer x)) (processor (done s x) (performer x)) in
       subst (λ qs. IsUpright (IsStrictlyBefore s.graph) H (at (gain s.processors qs))) (sym (performed-writes s x))
       (upright_gain (IsStrictlyBefore s.graph) (irreflexive s.graph) s.processors (performer x) here (written s x) (come s x) c.cause c.later c.grows H
       (elim c.goes [
@@ -117,44 +115,19 @@ module _ {A : Type 0} (s : ClusterState) (x : Step A) (o : IsOrdered s.graph) (h
         | inr (leaves, before, after) ↦ inr (before, subst (λ m. 0 < in_tokens m c.cause) (sym (tokens_here s x here)) after)
       ]))
 
-  -- and without them, unless it leaves its input's token
-  plain_step : (LeavesToken x → ⊥) → IsUpright (IsStrictlyBefore s.graph) Holds (at (gain s.processors (performed s x)))
-  plain_step moves =
-      subst (λ qs. IsUpright (IsStrictlyBefore s.graph) Holds (at (gain s.processors qs))) (sym (performed-writes s x))
-      (upright_gain (IsStrictlyBefore s.graph) (irreflexive s.graph) s.processors (performer x) here (written s x) (come s x) c.cause c.later c.grows Holds
-      (elim c.goes [
-        | inl less ↦ inl (loses (IsStrictlyBefore s.graph) (irreflexive s.graph) s.processors (performer x) here (written s x) (come s x) c.cause c.later c.grows less)
-        | inr (leaves, before, after) ↦ absurd (moves leaves)
-      ]))
-
-  performs : Performs (IsStrictlyBefore s.graph) at (performer x) (at (gain s.processors (performed s x))) (reading s) (reading (stepped s x))
-  unfolding stepped
+  performs : Performs (IsStrictlyBefore s.graph) at (performer x) (at (gain s.processors (performed s x))) (reading s) (reading (done s x))
+  unfolding done
   performs = record {
     adds = adds s x here;
-    justified = upright_wider (IsStrictlyBefore s.graph) (KeepsToken (processor s (performer x)) (processor (stepped s x) (performer x))) (HoldsToken (processor s (performer x))) (at (gain s.processors (performed s x))) (λ y both. both.0) upright_step;
+    justified = upright_wider (IsStrictlyBefore s.graph) (KeepsToken (processor s (performer x)) (processor (done s x) (performer x))) (HoldsToken (processor s (performer x))) (at (gain s.processors (performed s x))) (λ y both. both.0) upright_step;
     moved = λ z h. elim (c.tokens z h) [
       | inl still ↦ inl (subst (λ m. 0 < in_tokens m z) (sym (tokens_here s x here)) still)
       | inr (same, less) ↦ inr (subst (λ y. at (gain s.processors (performed s x)) y <ℤ pos 0) (sym same) (loses_cause less))
     ];
-    counted = λ k lt z. counted (stepped s x) k (subst (λ n. k < n) (sym (many_stepped s x)) lt) z;
+    counted = λ k lt z. counted (done s x) k (subst (λ n. k < n) (sym (many_stepped s x)) lt) z;
     others = λ k other z. ap (λ m. in_tokens m z) (tokens_there s x k other);
   }
 
--- the change that a step adds to the truth is upright
-pub upright : {A : Type 0} → IsTransitive → (s : ClusterState) (x : Step A) → IsOrdered s.graph → KeysFit s → IsPossible s x
-    → IsUpright (IsStrictlyBefore s.graph) (KeepsToken (processor s (performer x)) (processor (stepped s x) (performer x))) (at (gain s.processors (performed s x)))
-upright trans s x o fits possible = upright_step s x o possible.performer_is (cause_of trans s x o fits possible)
-
-pub upright_plain : {A : Type 0} → IsTransitive → (s : ClusterState) (x : Step A) → IsOrdered s.graph → KeysFit s → IsPossible s x → (LeavesToken x → ⊥)
-    → IsUpright (IsStrictlyBefore s.graph) Holds (at (gain s.processors (performed s x)))
-upright_plain trans s x o fits possible = plain_step s x o possible.performer_is (cause_of trans s x o fits possible)
-
-pub performs_of : {A : Type 0} → IsTransitive → (s : ClusterState) (x : Step A) → IsOrdered s.graph → KeysFit s → IsPossible s x
-    → Performs (IsStrictlyBefore s.graph) at (performer x) (at (gain s.processors (performed s x))) (reading s) (reading (stepped s x))
+pub performs_of : IsTransitive → (s : ClusterState) (x : Work) → IsOrdered s.graph → KeysFit s → IsPossible s x
+    → Performs (IsStrictlyBefore s.graph) at (performer x) (at (gain s.processors (performed s x))) (reading s) (reading (done s x))
 performs_of trans s x o fits possible = performs s x o possible.performer_is (cause_of trans s x o fits possible)
-
--- a step keeps the protocol invariant
-pub kept : {A : Type 0} → IsTransitive → (s : ClusterState) (x : Step A) → IsOrdered s.graph → KeysFit s → IsPossible s x → KeepsProtocol s → KeepsProtocol (stepped s x)
-unfolding stepped
-kept trans s x o fits possible keeps =
-    keeps_of (stepped s x) (kept_by_step (IsStrictlyBefore s.graph) (strict_order trans s.graph o) at change_finite (performer x) (at (gain s.processors (performed s x))) (reading s) (reading (stepped s x)) (performs_of trans s x o fits possible) (sound_of s keeps))

@@ -1,6 +1,6 @@
--- What the three steps have in common: their performer is written, records come, and all that comes stands strictly
+-- What feeds, takes and notices have in common: their performer is written, records come, and all that comes stands strictly
 -- after one pointstamp, the cause.
-use Rattle.std.specs.Prelude.{◌≡◌, ◌⊎◌, ◌<◌, ◌≤◌, ℕ, pos, negsuc, cond, List, [], ◌∷◌, slice_set, length, Some, refl}
+use Rattle.std.specs.Prelude.{◌≡◌, ◌⊎◌, ◌<◌, ◌≤◌, ℕ, ℤ, pos, negsuc, cond, List, [], ◌∷◌, slice_set, length, Some, refl}
 use Rattle.std.specs.List.{flat_map}
 use Rattle.std.specs.FinMap as fin
 use Rattle.nd_map.specs.Counts.{at, added}
@@ -10,26 +10,48 @@ use Rattle.nd_paths.specs.Order.{IsStrictlyBefore}
 use Rattle.nd_processor.specs.State.{ProcessorState, held, in_tokens}
 use Rattle.nd_processor.specs.declared.key.ValueAt.{ValueAt}
 use Rattle.nd_protocol.specs.State.{ClusterState, processor}
-use Rattle.nd_protocol.specs.Steps.{record_key, point_at, flat, epoch_of, moved_token, target_of, emitted, take_outcome, notice_outcome, fed, taken, noticed, with_records, performer, performed}
+use Rattle.nd_protocol.specs.Steps.{record_key, point_at, flat, epoch_of, moved_token, target_of, emitted, take_outcome, notice_outcome, fed, taken, noticed, with_records, worked}
 use Rattle.nd_protocol.specs.Fitting.{ProcessorFits}
-use Rattle.nd_protocol.specs.declared.step.Step.{Step}
-use Rattle.nd_protocol.specs.declared.step.Step.TheVariants.{Feed, Take, Notice}
+use Rattle.nd_time.specs.Time.{Time}
+use Rattle.nd_protocol.specs.declared.step.Next.{Next as Afterwards}
 use Rattle.nd_protocol.specs.declared.step.Next.TheVariants as token
 
+-- a feed, a take or a notice: work on records, of which others hear by what is unsent
+pub data Work : Type 0 where
+  feeding : (p vertex : ℕ) (values : List ℤ) (next : Afterwards) → Work
+  taking : (p edge : ℕ) (t : Time) (value : ℤ) → Work
+  noticing : (p vertex : ℕ) (t : Time) → Work
+
+-- the processor that does it
+abbrev pub performer : Work → ℕ
+performer (feeding p vertex values next) = p
+performer (taking p edge t value) = p
+performer (noticing p vertex t) = p
+
+-- the processors after it, but for what is unsent
+abbrev pub performed : ClusterState → Work → List ProcessorState
+performed s (feeding p vertex values next) = fed s p vertex values next
+performed s (taking p edge t value) = taken s p edge t value
+performed s (noticing p vertex t) = noticed s p vertex t
+
+-- the cluster after it
+unfoldable pub done : ClusterState → Work → ClusterState
+done s x = worked s (performer x) (performed s x)
+
 -- the step leaves its input's token where it is
-abbrev pub LeavesToken : {A : Type 0} → Step A → Type 0
-LeavesToken (Feed p vertex values next) = next ≡ token.Stay
-LeavesToken (Take p edge t value) = ⊥
-LeavesToken (Notice p vertex t) = ⊥
+abbrev pub LeavesToken : Work → Type 0
+LeavesToken (feeding p vertex values next) = next ≡ token.Stay
+LeavesToken (taking p edge t value) = ⊥
+LeavesToken (noticing p vertex t) = ⊥
 
 -- the input's token, the record or the request is there
-abbrev pub Finds : {A : Type 0} → ClusterState → Step A → Type 0
-Finds s (Feed p vertex values next) = (epoch : ℕ) × (fin.get (processor s p).tokens vertex ≡ Some epoch)
-Finds s (Take p edge t value) = 0 < at (processor s p).records (record_key edge t value)
-Finds s (Notice p vertex t) = fin.get (processor s p).requests (point_at vertex t) ≡ Some tt
+abbrev pub Finds : ClusterState → Work → Type 0
+Finds s (feeding p vertex values next) = (epoch : ℕ) × (fin.get (processor s p).tokens vertex ≡ Some epoch)
+Finds s (taking p edge t value) = 0 < at (processor s p).records (record_key edge t value)
+Finds s (noticing p vertex t) = fin.get (processor s p).requests (point_at vertex t) ≡ Some tt
 
 -- what a step needs, of all that makes it enabled
-pub record IsPossible {A : Type 0} (s : ClusterState) (x : Step A) : Type 0 where
+pub record IsPossible (s : ClusterState) (x : Work) : Type 0 where
   pub performer_is : performer x < length s.processors
   pub finds : Finds s x
 
@@ -43,9 +65,9 @@ AllAt G [] = Unit {0}
 AllAt G (r ∷ rs) = G r.1.point × AllAt G rs
 
 -- the performer after a step, but for the records that come
-abbrev pub written : {A : Type 0} → ClusterState → Step A → ProcessorState
-written s (Feed p vertex values next) = let q = processor s p in record q { tokens = moved_token q.tokens vertex (epoch_of s p vertex) next }
-written s (Take p edge t value) =
+abbrev pub written : ClusterState → Work → ProcessorState
+written s (feeding p vertex values next) = let q = processor s p in record q { tokens = moved_token q.tokens vertex (epoch_of s p vertex) next }
+written s (taking p edge t value) =
     let q = processor s p in
     let target = target_of s.graph edge in
     let outcome = take_outcome s p edge t value in
@@ -55,28 +77,28 @@ written s (Take p edge t value) =
       items = slice_set q.items target outcome.items;
       sinks = cond outcome.counts (added sink_total q.sinks (record { vertex = target; value = value }) (pos 1)) q.sinks;
     }
-written s (Notice p vertex t) =
+written s (noticing p vertex t) =
     let q = processor s p in
     record q { requests = fin.remove q.requests (point_at vertex t); items = slice_set q.items vertex (notice_outcome s p vertex t).items }
 
 -- the records that come
-abbrev pub come : {A : Type 0} → ClusterState → Step A → List (ℕ × ValueAt)
-come s (Feed p vertex values next) = flat_map (λ v. emitted s.graph (length s.processors) p vertex (flat (epoch_of s p vertex)) (0, v)) values
-come s (Take p edge t value) = flat_map (emitted s.graph (length s.processors) p (target_of s.graph edge) t) (take_outcome s p edge t value).emissions
-come s (Notice p vertex t) = flat_map (emitted s.graph (length s.processors) p vertex t) (notice_outcome s p vertex t).emissions
+abbrev pub come : ClusterState → Work → List (ℕ × ValueAt)
+come s (feeding p vertex values next) = flat_map (λ v. emitted s.graph (length s.processors) p vertex (flat (epoch_of s p vertex)) (0, v)) values
+come s (taking p edge t value) = flat_map (emitted s.graph (length s.processors) p (target_of s.graph edge) t) (take_outcome s p edge t value).emissions
+come s (noticing p vertex t) = flat_map (emitted s.graph (length s.processors) p vertex t) (notice_outcome s p vertex t).emissions
 
-pub performed-writes : {A : Type 0} (s : ClusterState) (x : Step A) → performed s x ≡ with_records (slice_set s.processors (performer x) (written s x)) (come s x)
+pub performed-writes : (s : ClusterState) (x : Work) → performed s x ≡ with_records (slice_set s.processors (performer x) (written s x)) (come s x)
 unfolding fed taken noticed
-performed-writes s (Feed p vertex values next) = refl
-performed-writes s (Take p edge t value) = refl
-performed-writes s (Notice p vertex t) = refl
+performed-writes s (feeding p vertex values next) = refl
+performed-writes s (taking p edge t value) = refl
+performed-writes s (noticing p vertex t) = refl
 
-pub unsent-written : {A : Type 0} (s : ClusterState) (x : Step A) → (written s x).unsent ≡ (processor s (performer x)).unsent
-unsent-written s (Feed p vertex values next) = refl
-unsent-written s (Take p edge t value) = refl
-unsent-written s (Notice p vertex t) = refl
+pub unsent-written : (s : ClusterState) (x : Work) → (written s x).unsent ≡ (processor s (performer x)).unsent
+unsent-written s (feeding p vertex values next) = refl
+unsent-written s (taking p edge t value) = refl
+unsent-written s (noticing p vertex t) = refl
 
-pub record HasCause {A : Type 0} (s : ClusterState) (x : Step A) : Type 0 where
+pub record HasCause (s : ClusterState) (x : Work) : Type 0 where
   pub fits : ProcessorFits s.graph (written s x)
   pub edges : AllAt (λ z. length s.graph.vertices ≤ z.location) (come s x)
   pub cause : Pointstamp

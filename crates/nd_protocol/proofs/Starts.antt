@@ -62,10 +62,6 @@ empty_queue zero n p q = refl
 empty_queue (suc m) n zero q = same-replicate n [] q
 empty_queue (suc m) n (suc p) q = empty_queue m n p q
 
-pub start_is_quiet : (g : Dataflow) (n p q : ℕ) → queue (start g n) p q ≡ []
-unfolding start
-start_is_quiet g n p q = empty_queue n n p q
-
 -- ---- the invariant
 
 pub start_keeps : IsTransitive → (g : Dataflow) → IsOrdered g → (n : ℕ) → KeepsProtocol (start g n)

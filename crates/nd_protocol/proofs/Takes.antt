@@ -12,10 +12,9 @@ use Rattle.nd_protocol.specs.State.{ClusterState, processor}
 use Rattle.nd_protocol.specs.Steps.{emitted, target_of, record_key, point_at}
 use Rattle.nd_processor.specs.declared.key.ValueAt.{ValueAt}
 use Rattle.nd_vertex.specs.Table.{Outcome}
-use Rattle.nd_protocol.specs.declared.step.Step.TheVariants.{Take, Notice}
 use Rattle.nd_protocol.specs.Steps.{take_outcome, notice_outcome}
 use Rattle.nd_protocol.specs.Fitting.{IsOrdered, IsAtEdge, IsAtVertex, ProcessorFits}
-use Rattle.nd_protocol.proofs.Shape.{HasCause}
+use Rattle.nd_protocol.proofs.Shape.{taking, noticing, HasCause}
 use Rattle.nd_graph.specs.Graph.{op_at}
 use Rattle.nd_map.specs.Counts.{at, added}
 use Rattle.nd_processor.specs.Held.{point_cases, one_at_itself, in_records-taken, in_requests-remove}
@@ -27,7 +26,7 @@ use Rattle.nd_protocol.proofs.Emissions.{AllAt-wider, emitted_later, emitted_on_
 use Rattle.nd_protocol.proofs.Keys.{taken_fits, noticed_fits, items_recorded, items_noticed, counts_sink}
 use Rattle.nd_protocol.proofs.Requests.{in_requests-asked}
 
-pub take_cause : {A : Type 0} → IsTransitive → (s : ClusterState) → IsOrdered s.graph → (p edge : ℕ) (t : Time) (value : ℤ) → 0 < at (processor s p).records (record_key edge t value) → ProcessorFits s.graph (processor s p) → HasCause {A = A} s (Take p edge t value)
+pub take_cause : IsTransitive → (s : ClusterState) → IsOrdered s.graph → (p edge : ℕ) (t : Time) (value : ℤ) → 0 < at (processor s p).records (record_key edge t value) → ProcessorFits s.graph (processor s p) → HasCause s (taking p edge t value)
 take_cause trans s o p edge t value some fit =
     let place : IsAtEdge s.graph (point_at edge t) = fit.records (record_key edge t value) (λ e. omega arith) in
     let g : Dataflow = s.graph in
@@ -67,7 +66,7 @@ take_cause trans s o p edge t value some fit =
       tokens = λ z h. inl h;
     }
 
-pub notice_cause : {A : Type 0} (s : ClusterState) → IsOrdered s.graph → (p vertex : ℕ) (t : Time) → fin.get (processor s p).requests (point_at vertex t) ≡ Some tt → ProcessorFits s.graph (processor s p) → HasCause {A = A} s (Notice p vertex t)
+pub notice_cause : (s : ClusterState) → IsOrdered s.graph → (p vertex : ℕ) (t : Time) → fin.get (processor s p).requests (point_at vertex t) ≡ Some tt → ProcessorFits s.graph (processor s p) → HasCause s (noticing p vertex t)
 notice_cause s o p vertex t found fit =
     let place : IsAtVertex s.graph (point_at vertex t) = fit.requests (point_at vertex t) found in
     let g : Dataflow = s.graph in

@@ -1,5 +1,5 @@
 use Rattle.nd_protocol.proofs.Enabling.{state_kept}
-use Rattle.nd_protocol.proofs.Runs.{step_settled, step_queues, step_kept, run_kept}
+use Rattle.nd_protocol.proofs.Runs.{step_settled, step_kept, run_kept}
 use Rattle.nd_protocol.proofs.laws.steps_keep_protocol.Goals as goal
 
 pub returns-clause-state : goal.returns-clause-state
@@ -7,9 +7,6 @@ returns-clause-state g c = state_kept c.order_is_transitive.ensures.strictly
 
 pub returns-clause-settled : goal.returns-clause-settled
 returns-clause-settled g c = step_settled
-
-pub returns-clause-queues : goal.returns-clause-queues
-returns-clause-queues g c = step_queues
 
 pub returns-clause-protocol : goal.returns-clause-protocol
 returns-clause-protocol g c = step_kept c.order_is_transitive.ensures.strictly
