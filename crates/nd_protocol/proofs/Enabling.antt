@@ -6,14 +6,13 @@ use Rattle.std.specs.Prelude.{All}
 use Rattle.std.specs.FinMap as fin
 use Rattle.nd_time.specs.Limits.{max_count, max_processors, max_queue}
 use Rattle.nd_processor.specs.State.{idle}
-use Rattle.nd_paths.specs.declared.point.Pointstamp.{Pointstamp}
-use Rattle.nd_delta.specs.Change.{Change, none, at, part, at-part, has_point}
-use Rattle.nd_protocol.specs.State.{ClusterState, processor, view, queue}
+use Rattle.nd_delta.specs.Change.{Change, at, part, at-part, has_point}
+use Rattle.nd_protocol.specs.State.{ClusterState, processor, queue}
 use Rattle.nd_protocol.specs.Exchange.{IsPart}
 use Rattle.nd_protocol.specs.declared.part.Part.{Part}
 use Rattle.nd_protocol.specs.declared.part.Part.TheVariants.{All as Whole, Points}
 use Rattle.nd_protocol.specs.Steps.{chosen, stepped}
-use Rattle.nd_protocol.specs.Fitting.{ChangeIsWithin, ProcessorIsWithin, IsWithinLimits, IsState}
+use Rattle.nd_protocol.specs.Fitting.{ProcessorIsWithin, IsWithinLimits, IsState}
 use Rattle.nd_protocol.specs.Enabled.{HasLargeCount, of_record, of_sink, HasLargeEntry, of_unsent, of_view, IsEnabled}
 use Rattle.nd_protocol.specs.declared.step.Step.{Step}
 use Rattle.nd_protocol.specs.declared.step.Step.TheVariants.{Feed, Take, Notice, Broadcast, Receive}

@@ -9,7 +9,6 @@ use Rattle.nd_time.specs.Limits.{max_count, max_queue, max_processors}
 use Rattle.nd_graph.specs.Graph.{Dataflow}
 use Rattle.std.proofs.Math.ListN.{get_or-map}
 use Rattle.nd_paths.specs.Order.{IsStrictlyBefore}
-use Rattle.nd_paths.specs.declared.point.Pointstamp.{Pointstamp}
 use Rattle.nd_delta.specs.Change.{Change, none, at, plus, minus, at-plus, at-minus}
 use Rattle.nd_delta.specs.Upright.{IsUpright}
 use Rattle.nd_processor.specs.State.{ProcessorState, idle, in_tokens}

@@ -1,5 +1,5 @@
 -- What the protocol invariant tells a reader of a view.
-use Rattle.std.proofs.Common.{◌≡◌, inl, ℕ, ◌<◌, ◌≤ℤ◌, ◌<ℤ◌, pos, length, sym, ap, ◌∙◌, arith}
+use Rattle.std.proofs.Common.{◌≡◌, ℕ, ◌<◌, ◌≤ℤ◌, ◌<ℤ◌, pos, length, sym, ap, subst, ◌∙◌, arith}
 use Rattle.std.proofs.lemmas.Int.{ints, by_lt_z}
 use Rattle.nd_graph.specs.Graph.{Dataflow}
 use Rattle.nd_paths.specs.Order.{CouldResultIn, IsStrictlyBefore}
@@ -8,7 +8,7 @@ use Rattle.nd_delta.specs.Change.{Change, at}
 use Rattle.nd_view.specs.View.{IsPassed, IsPrecursor}
 use Rattle.nd_protocol.specs.State.{ClusterState, view, truth}
 use Rattle.nd_protocol.proofs.Core.{IsStrictOrder, IsDownward, Steps}
-use Rattle.nd_protocol.specs.Fitting.{IsOrdered, KeysFit}
+use Rattle.nd_protocol.specs.Fitting.{IsOrdered}
 use Rattle.nd_protocol.specs.Invariant.{KeepsProtocol, IsFinished}
 use Rattle.nd_protocol.proofs.Reading.{reading}
 use Rattle.nd_protocol.proofs.Arcs.{IsTransitive, CouldIsTransitive, strict_order}

@@ -13,7 +13,7 @@ use Rattle.nd_map.specs.Counts.{Counts, naturals}
 use Rattle.nd_protocol.specs.Steps.{gain, with_gain}
 use Rattle.nd_protocol.specs.Fitting.{IsOrdered, ProcessorFits, KeysFit}
 use Rattle.nd_protocol.specs.Invariant.{HoldsToken, IsSettled}
-use Rattle.nd_protocol.proofs.Shape.{Work, performer, performed, done, feeding, taking, noticing, KeepsToken, LeavesToken, IsPossible, written, come, performed-writes, unsent-written, HasCause}
+use Rattle.nd_protocol.proofs.Shape.{Work, performer, performed, done, feeding, taking, noticing, KeepsToken, IsPossible, written, come, performed-writes, unsent-written, HasCause}
 use Rattle.nd_protocol.proofs.Reading.{reading}
 use Rattle.nd_protocol.proofs.Arcs.{IsTransitive, irreflexive}
 use Rattle.nd_protocol.proofs.Counts.{count, gain-count, count-set_same, kept-set, kept-records, length-records}

@@ -46,7 +46,7 @@ protocol_step trans s (Receive from to) state enabled =
 
 same_graph : {A : Type 0} (s : ClusterState) (x : Step A) → (stepped s x).graph ≡ s.graph
 unfolding stepped sent received
-same_graph s (Feed p vertex values next) = refl
+same_graph s (Feed p vertex values _) = refl
 same_graph s (Take p edge t value) = refl
 same_graph s (Notice p vertex t) = refl
 same_graph s (Broadcast p part) = refl
@@ -61,22 +61,22 @@ step_kept trans s x state enabled keeps =
     keeps_of (stepped s x) (subst (λ g. IsSound (IsStrictlyBefore g) at (reading (stepped s x))) (sym (same_graph s x))
     (kept_by_step (IsStrictlyBefore s.graph) (strict_order trans s.graph state.ordered) at change_finite (reading s) (reading (stepped s x)) (protocol_step trans s x state enabled) (sound_of s keeps)))
 
-front_settled : (s : ClusterState) (p q : ℕ) → IsState s → p < length s.processors → q < length s.processors → (cs : List Change) → queue s p q ≡ cs → IsSettled s → IsSettled (received_from s p q cs)
-front_settled s p q state here there [] e settled = settled
-front_settled s p q state here there (c ∷ rest) e settled =
+front_settled : IsTransitive → (s : ClusterState) (p q : ℕ) → IsState s → p < length s.processors → q < length s.processors → (cs : List Change) → queue s p q ≡ cs → IsSettled s → IsSettled (received_from s p q cs)
+front_settled trans s p q state here there [] e settled = settled
+front_settled trans s p q state here there (c ∷ rest) e settled =
     let t : ClusterState = received_from s p q (c ∷ rest) in
-    settled_of t (taken_balanced (IsStrictlyBefore s.graph) at p q c (reading s) (reading t) (receives s p here state.fits q there c rest e) (balanced_of s settled))
+    settled_of t (taken_balanced (IsStrictlyBefore s.graph) (strict_order trans s.graph state.ordered) at change_finite p q c (reading s) (reading t) (receives s p here state.fits q there c rest e) (balanced_of s settled))
 
-pub step_settled : {A : Type 0} (s : ClusterState) (x : Step A) → IsState s → IsEnabled s x → IsSettled s → IsSettled (stepped s x)
+pub step_settled : {A : Type 0} → IsTransitive → (s : ClusterState) (x : Step A) → IsState s → IsEnabled s x → IsSettled s → IsSettled (stepped s x)
 unfolding stepped done received
-step_settled s (Feed p vertex values next) state enabled = settled_kept s (feeding p vertex values next) (feed_possible s p vertex values next enabled).performer_is
-step_settled s (Take p edge t value) state enabled = settled_kept s (taking p edge t value) (take_possible s p edge t value enabled).performer_is
-step_settled s (Notice p vertex t) state enabled = settled_kept s (noticing p vertex t) (notice_possible s p vertex t enabled).performer_is
-step_settled s (Broadcast p part) state enabled settled =
+step_settled trans s (Feed p vertex values next) state enabled settled = settled_kept s (feeding p vertex values next) (feed_possible s p vertex values next enabled).performer_is settled
+step_settled trans s (Take p edge t value) state enabled settled = settled_kept s (taking p edge t value) (take_possible s p edge t value enabled).performer_is settled
+step_settled trans s (Notice p vertex t) state enabled settled = settled_kept s (noticing p vertex t) (notice_possible s p vertex t enabled).performer_is settled
+step_settled trans s (Broadcast p part) state enabled settled =
     let c : Change = chosen part (processor s p).unsent in
     let t : ClusterState = sent s p c in
-    settled_of t (sent_balanced (IsStrictlyBefore s.graph) at p c (reading s) (reading t) (broadcasts s p (sender_below s p part enabled) state.fits c enabled.admissible) (balanced_of s settled))
-step_settled s (Receive from to) state enabled = front_settled s from to state (from_below s from to enabled) (to_below s from to enabled) (queue s from to) refl
+    settled_of t (sent_balanced (IsStrictlyBefore s.graph) (strict_order trans s.graph state.ordered) at change_finite p c (reading s) (reading t) (broadcasts s p (sender_below s p part enabled) state.fits c enabled.admissible) (balanced_of s settled))
+step_settled trans s (Receive from to) state enabled settled = front_settled trans s from to state (from_below s from to enabled) (to_below s from to enabled) (queue s from to) refl settled
 
 -- ---- a list of steps, each enabled in its turn
 

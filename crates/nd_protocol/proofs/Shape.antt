@@ -24,7 +24,7 @@ pub data Work : Type 0 where
 
 -- the processor that does it
 abbrev pub performer : Work → ℕ
-performer (feeding p vertex values next) = p
+performer (feeding p vertex values _) = p
 performer (taking p edge t value) = p
 performer (noticing p vertex t) = p
 
@@ -46,7 +46,7 @@ LeavesToken (noticing p vertex t) = ⊥
 
 -- the input's token, the record or the request is there
 abbrev pub Finds : ClusterState → Work → Type 0
-Finds s (feeding p vertex values next) = (epoch : ℕ) × (fin.get (processor s p).tokens vertex ≡ Some epoch)
+Finds s (feeding p vertex values _) = (epoch : ℕ) × (fin.get (processor s p).tokens vertex ≡ Some epoch)
 Finds s (taking p edge t value) = 0 < at (processor s p).records (record_key edge t value)
 Finds s (noticing p vertex t) = fin.get (processor s p).requests (point_at vertex t) ≡ Some tt
 
@@ -83,18 +83,18 @@ written s (noticing p vertex t) =
 
 -- the records that come
 abbrev pub come : ClusterState → Work → List (ℕ × ValueAt)
-come s (feeding p vertex values next) = flat_map (λ v. emitted s.graph (length s.processors) p vertex (flat (epoch_of s p vertex)) (0, v)) values
+come s (feeding p vertex values _) = flat_map (λ v. emitted s.graph (length s.processors) p vertex (flat (epoch_of s p vertex)) (0, v)) values
 come s (taking p edge t value) = flat_map (emitted s.graph (length s.processors) p (target_of s.graph edge) t) (take_outcome s p edge t value).emissions
 come s (noticing p vertex t) = flat_map (emitted s.graph (length s.processors) p vertex t) (notice_outcome s p vertex t).emissions
 
 pub performed-writes : (s : ClusterState) (x : Work) → performed s x ≡ with_records (slice_set s.processors (performer x) (written s x)) (come s x)
 unfolding fed taken noticed
-performed-writes s (feeding p vertex values next) = refl
+performed-writes s (feeding p vertex values _) = refl
 performed-writes s (taking p edge t value) = refl
 performed-writes s (noticing p vertex t) = refl
 
 pub unsent-written : (s : ClusterState) (x : Work) → (written s x).unsent ≡ (processor s (performer x)).unsent
-unsent-written s (feeding p vertex values next) = refl
+unsent-written s (feeding p vertex values _) = refl
 unsent-written s (taking p edge t value) = refl
 unsent-written s (noticing p vertex t) = refl
 

@@ -7,7 +7,7 @@ use Rattle.std.specs.Option.{option_map_or}
 use Rattle.std.specs.Ordering.{nat_cmp}
 use Rattle.std.specs.declared.cmp.Ordering.{Ordering}
 use Rattle.std.specs.FinMap as fin
-use Rattle.nd_time.specs.Limits.{max_count, max_locations, max_processors, max_queue}
+use Rattle.nd_time.specs.Limits.{max_count, max_locations, max_processors}
 use Rattle.nd_graph.specs.declared.op.Op.{Op}
 use Rattle.nd_graph.specs.declared.op.Op.TheVariants.{Input, Ingress, Egress, Feedback, Add, Mul, Below, Split, Sum, Distinct, Sink}
 use Rattle.nd_graph.specs.declared.graph.Vertex.{Vertex}
@@ -23,9 +23,9 @@ use Rattle.nd_processor.specs.Keys.{value_at_cmp, sink_cmp}
 use Rattle.nd_processor.specs.State.{ProcessorState, idle, token_point, one_at, in_tokens, held}
 use Rattle.nd_processor.specs.Start.{first_tokens, start_processor}
 use Rattle.nd_processor.specs.Held.{token_at, in_tokens-insert, no_records, no_requests, no_tokens}
-use Rattle.nd_protocol.specs.State.{ClusterState, queue, truth}
+use Rattle.nd_protocol.specs.State.{ClusterState, truth}
 use Rattle.nd_protocol.specs.Start.{start}
-use Rattle.nd_protocol.specs.Fitting.{IsOrdered, ChangeFits, ProcessorFits, KeysFit, ProcessorIsWithin, IsWithinLimits, IsState}
+use Rattle.nd_protocol.specs.Fitting.{QueueIsWithin, IsOrdered, ChangeFits, ProcessorFits, KeysFit, ProcessorIsWithin, IsWithinLimits, IsState}
 use Rattle.nd_protocol.specs.Invariant.{KeepsProtocol}
 use Rattle.nd_protocol.proofs.Reading.{reading}
 use Rattle.nd_protocol.proofs.Inputs.{AreInputsFlat, inputs_flat, few_locations}
@@ -205,7 +205,7 @@ start_within g sound n some few =
       few = subst (λ m. m ≤ max_processors) (sym many) few;
       processors = all-replicate ProcessorIsWithin n (start_processor g) (idle_within g);
       views = all-replicate (λ c. (x : Pointstamp) → unsigned_abs (at c x) ≤ max_count) n (truth (replicate n (start_processor g))) (small_truth g sound n few);
-      queues = all-replicate (λ row. All (λ changes. length changes ≤ max_queue) row) n row (all-replicate (λ (changes : List Change). length changes ≤ max_queue) n [] (omega arith));
+      queues = all-replicate (λ row. All QueueIsWithin row) n row (all-replicate QueueIsWithin n [] (record { few = omega arith; entries = λ k d lt. absurd (omega (arith, lt)) }));
     }
 
 pub start_is_state : (g : Dataflow) → IsOrdered g → IsFaultless g → (n : ℕ) → 0 < n → n ≤ max_processors → IsState (start g n)

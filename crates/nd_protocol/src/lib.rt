@@ -6,10 +6,7 @@ mod part;
 mod refusal;
 mod step;
 
-pub use laws::{
-    protocol_is_safe, starts_keep_protocol, steps_keep_protocol,
-    truth_is_small,
-};
+pub use laws::{protocol_is_safe, starts_keep_protocol, steps_keep_protocol, truth_is_small};
 pub use part::{Part, Points};
 pub use refusal::{NoMemory, Refusal};
 pub use step::{Next, Step, Values};

@@ -93,9 +93,15 @@ pub enum Step<A: Allocator = Global> {
         time: Timestamp,
     },
     /// Sends a part of what is unsent to every processor.
-    Broadcast { p: u32, part: Part<A> },
+    Broadcast {
+        p: u32,
+        part: Part<A>,
+    },
     /// Takes the front of a queue into the receiver's view.
-    Receive { from: u32, to: u32 },
+    Receive {
+        from: u32,
+        to: u32,
+    },
 }
 
 impl<A: Allocator> Step<A> {

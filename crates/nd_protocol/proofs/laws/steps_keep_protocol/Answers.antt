@@ -6,7 +6,7 @@ pub returns-clause-state : goal.returns-clause-state
 returns-clause-state g c = state_kept c.order_is_transitive.ensures.strictly
 
 pub returns-clause-settled : goal.returns-clause-settled
-returns-clause-settled g c = step_settled
+returns-clause-settled g c = step_settled c.order_is_transitive.ensures.strictly
 
 pub returns-clause-protocol : goal.returns-clause-protocol
 returns-clause-protocol g c = step_kept c.order_is_transitive.ensures.strictly
