@@ -1,19 +1,19 @@
 -- The joined list of a draft, put in order, leads to the state after the step.
 use Rattle.std.proofs.Common.{◌≡◌, ◌≢◌, ◌<◌, ◌≤◌, ◌+◌, ℕ, zero, suc, ℤ, pos, ◌+ℤ◌, All, unsigned_abs, Bool, true, false, cond, List, [], ◌∷◌, length, get_or, ◌⊎◌, inl, inr, refl, sym, ap, subst, ◌∙◌, arith}
 use Rattle.std.proofs.lemmas.Int.{ints}
-use Rattle.nd_time.specs.Limits.{max_count, max_processors, max_queue}
+use Rattle.nd_time.specs.Limits.{max_count, max_processors}
 use Rattle.nd_map.specs.Counts.{at as number_at}
 use Rattle.nd_delta.specs.Change.{at as in_change}
 use Rattle.nd_processor.specs.State.{ProcessorState, idle}
 use Rattle.nd_protocol.specs.State.{ClusterState, processor}
 use Rattle.nd_protocol.specs.Steps.{stepped}
-use Rattle.nd_protocol.specs.Fitting.{IsState, IsWithinLimits, ProcessorIsWithin}
+use Rattle.nd_protocol.specs.Fitting.{IsState, IsWithinLimits, ProcessorIsWithin, QueueIsWithin}
 use Rattle.nd_protocol.specs.Enabled.{IsFreeBelow}
 use Rattle.nd_protocol.specs.declared.step.Step.{Step}
 use Rattle.nd_cluster.specs.Places.{Place, place_cmp, record_of, sink_of, unsent_of}
 use Rattle.nd_cluster.specs.Standing.{standing}
 use Rattle.nd_cluster.specs.Changes.{place_of, gain_of, IsWithinAt}
-use Rattle.nd_cluster.specs.Edits.{total_at, edits_of, edits}
+use Rattle.nd_cluster.specs.Edits.{total_at, edits_of, edits, Works}
 use Rattle.nd_cluster.specs.Plans.{often, Once, Each, LeadsTo, ordered}
 use Rattle.nd_cluster.specs.Undone.{Limits}
 use Rattle.nd_cluster.specs.Limits.{Reaches, StaysWithin, HasPlace}
@@ -24,7 +24,8 @@ use Rattle.nd_cluster.proofs.Tests.{is_place, same_place}
 use Rattle.nd_cluster.proofs.Putting.{SameShape}
 use Rattle.nd_cluster.proofs.Running.{limits_of}
 use Rattle.nd_cluster.proofs.Planning.{IsJoined, planned, each_there}
-use Rattle.nd_cluster.proofs.Exact.{standing-stepped, graph-stepped, views-stepped, queues-stepped, processors-stepped, items-stepped}
+use Rattle.nd_cluster.proofs.StepMoves.{StepMoves}
+use Rattle.nd_cluster.proofs.Exact.{moves, standing-stepped, graph-stepped, views-stepped, queues-stepped, processors-stepped, items-stepped}
 use Rattle.nd_cluster.proofs.Joining.{joined_total, joined_once, joined_some, joined_old, joined_numbers}
 
 -- ---- a list whose changes are within the limits
@@ -70,17 +71,20 @@ any_default (q ∷ qs) (suc i) d lt = any_default qs i d (omega (arith, lt))
 
 -- ---- the step
 
-module _ {A B : Type 0} (s : ClusterState) (x : Step A) (state : IsState s) (free : IsFreeBelow s x 13) (d : Draft B) (adds : AddsUp s (edits s x) d) where
+module _ {A B : Type 0} (s : ClusterState) (x : Step A) (works : Works x) (state : IsState s) (free : IsFreeBelow s x 13) (d : Draft B) (adds : AddsUp s (edits s x) d) where
+  m : StepMoves s x
+  m = moves s x works state free
+
   totals : (k : Place) → standing (stepped s x) k ≡ standing s k +ℤ total_at (edits_of (joined d)) k
-  totals k = standing-stepped s x state free k ∙ ap (λ z. standing s k +ℤ z) (sym (joined_total s (edits s x) d adds k))
+  totals k = standing-stepped s x m k ∙ ap (λ z. standing s k +ℤ z) (sym (joined_total s (edits s x) d adds k))
 
   shape : SameShape s (stepped s x)
   shape = record {
-    graph = sym (graph-stepped s x);
-    processors = sym (processors-stepped s x state free);
-    items = λ p. sym (items-stepped s x state free p);
-    views = ap length (sym (views-stepped s x));
-    queues = sym (queues-stepped s x);
+    graph = sym (graph-stepped s x m);
+    processors = sym (processors-stepped s x m);
+    items = λ p. sym (items-stepped s x m p);
+    views = ap length (sym (views-stepped s x m));
+    queues = sym (queues-stepped s x m);
   }
 
   -- the state after the step is within the limits if each change leaves its place so
@@ -96,8 +100,8 @@ module _ {A B : Type 0} (s : ClusterState) (x : Step A) (state : IsState s) (fre
           sinks = λ k. limits (sink_of i k);
           unsent = λ y. limits (unsent_of i y);
         });
-        views = subst (λ vs. All (λ c. (y : _) → unsigned_abs (in_change c y) ≤ max_count) vs) (sym (views-stepped s x)) state.within.views;
-        queues = subst (λ rows. All (λ row. All (λ changes. length changes ≤ max_queue) row) rows) (sym (queues-stepped s x)) state.within.queues;
+        views = subst (λ vs. All (λ c. (y : _) → unsigned_abs (in_change c y) ≤ max_count) vs) (sym (views-stepped s x m)) state.within.views;
+        queues = subst (λ rows. All (λ row. All QueueIsWithin row) rows) (sym (queues-stepped s x m)) state.within.queues;
       }
 
   -- the list in order is the step

@@ -103,21 +103,3 @@ one_token m x =
     let moved = in_tokens-remove m x.location x in
     let none : in_tokens (fin.remove m x.location) x ≡ 0 = no_token (fin.remove m x.location) x gone in
     omega arith
-
--- ---- queues with nothing on its way
-
-same-replicate : {X : Type 0} (n : ℕ) (x : X) (k : ℕ) → get_or (replicate n x) k x ≡ x
-same-replicate zero x k = refl
-same-replicate (suc n) x zero = refl
-same-replicate (suc n) x (suc k) = same-replicate n x k
-
-empty_queue : (m n p q : ℕ) → ◌≡◌ {A = List Change} (get_or (get_or (replicate m (replicate n [])) p []) q []) []
-empty_queue zero n p q = refl
-empty_queue (suc m) n zero q = same-replicate n [] q
-empty_queue (suc m) n (suc p) q = empty_queue m n p q
-
-nothing_is_within : All ChangeIsWithin []
-nothing_is_within k d lt = absurd (omega arith)
-
-pub quiet_is_within : (g : Dataflow) (ps : List ProcessorState) (vs : List Kept) → QueuesAreWithin (seen g ps vs)
-quiet_is_within g ps vs p q = subst (All ChangeIsWithin) (sym (empty_queue (length ps) (length ps) p q)) nothing_is_within

@@ -1,87 +1,120 @@
 -- What the tests of a plan say together: that a step is enabled, or for which limit it is refused.
-use Rattle.std.proofs.Common.{◌≡◌, ◌≢◌, ◌<◌, ℕ, ℤ, List, ◌⊎◌, inl, inr, arith}
+use Rattle.std.proofs.Common.{◌≡◌, ◌<◌, ℕ, ℤ, List, inl, inr, sym, subst, arith}
 use Rattle.nd_time.specs.Time.{Time}
 use Rattle.nd_protocol.specs.State.{ClusterState}
 use Rattle.nd_protocol.specs.Steps.{stepped}
-use Rattle.nd_protocol.specs.Enabled.{HasLargeCount, HasLargeEntry, Fails, IsEnabled, IsFreeBelow, IsRefused}
+use Rattle.nd_protocol.specs.Enabled.{HasLargeCount, HasLargeEntry, FeedFails, TakeFails, NoticeFails, Fails, IsAdmissible, IsEnabled, IsFreeBelow, MayWantMemory, IsRefused}
 use Rattle.nd_protocol.specs.Refusals.{number_of}
 use Rattle.nd_protocol.specs.declared.step.Step.{Step}
-use Rattle.nd_protocol.specs.declared.step.Step.TheVariants.{Feed, Take, Notice}
+use Rattle.nd_protocol.specs.declared.step.Step.TheVariants.{Feed, Take, Notice, Broadcast, Receive}
+use Rattle.nd_protocol.specs.declared.step.Next.{Next as Afterwards}
 use Rattle.nd_protocol.specs.declared.refusal.Refusal.{Refusal}
-use Rattle.nd_protocol.specs.declared.refusal.Refusal.TheVariants.{NoProcessor, NoVertex, NoEdge, NotInput, InputClosed, TooManyValues, EpochFull, NoRecord, NoRequest, NotYet, CounterFull, ValueRange, CountFull, DeltaFull, Memory}
+use Rattle.nd_protocol.specs.declared.refusal.Refusal.TheVariants.{CountFull, DeltaFull, NothingToSend, NotAdmissible, QueueEmpty, QueueFull, Memory}
+use Rattle.nd_cluster.specs.Edits.{Works}
 
 module _ {A : Type 0} (s : ClusterState) where
-  large_count : (x : Step A) → Fails s x CountFull → HasLargeCount (stepped s x)
-  large_count (Feed p vertex values next) h = h
-  large_count (Take p edge t value) h = h
-  large_count (Notice p vertex t) h = h
+  large_count : (x : Step A) → Works x → Fails s x CountFull → HasLargeCount (stepped s x)
+  large_count (Feed p vertex values _) works h = h
+  large_count (Take p edge t value) works h = h
+  large_count (Notice p vertex t) works h = h
+  large_count (Broadcast p _) works h = absurd works
+  large_count (Receive from to) works h = absurd works
 
-  pub count_fails : (x : Step A) → HasLargeCount (stepped s x) → Fails s x CountFull
-  count_fails (Feed p vertex values next) h = h
-  count_fails (Take p edge t value) h = h
-  count_fails (Notice p vertex t) h = h
+  count_fails : (x : Step A) → Works x → HasLargeCount (stepped s x) → Fails s x CountFull
+  count_fails (Feed p vertex values _) works h = h
+  count_fails (Take p edge t value) works h = h
+  count_fails (Notice p vertex t) works h = h
+  count_fails (Broadcast p _) works h = absurd works
+  count_fails (Receive from to) works h = absurd works
 
-  large_entry : (x : Step A) → Fails s x DeltaFull → HasLargeEntry (stepped s x)
-  large_entry (Feed p vertex values next) h = h
-  large_entry (Take p edge t value) h = h
-  large_entry (Notice p vertex t) h = h
+  large_entry : (x : Step A) → Works x → Fails s x DeltaFull → HasLargeEntry (stepped s x)
+  large_entry (Feed p vertex values _) works h = h
+  large_entry (Take p edge t value) works h = h
+  large_entry (Notice p vertex t) works h = h
+  large_entry (Broadcast p _) works h = absurd works
+  large_entry (Receive from to) works h = absurd works
 
-  pub entry_fails : (x : Step A) → HasLargeEntry (stepped s x) → Fails s x DeltaFull
-  entry_fails (Feed p vertex values next) h = h
-  entry_fails (Take p edge t value) h = h
-  entry_fails (Notice p vertex t) h = h
+  entry_fails : (x : Step A) → Works x → HasLargeEntry (stepped s x) → Fails s x DeltaFull
+  entry_fails (Feed p vertex values _) works h = h
+  entry_fails (Take p edge t value) works h = h
+  entry_fails (Notice p vertex t) works h = h
+  entry_fails (Broadcast p _) works h = absurd works
+  entry_fails (Receive from to) works h = absurd works
 
-  memory_never : (x : Step A) → Fails s x Memory → ⊥
-  memory_never (Feed p vertex values next) h = h
-  memory_never (Take p edge t value) h = h
-  memory_never (Notice p vertex t) h = h
+  -- a feed, a take or a notice is refused for nothing that a broadcast or a receive is
+  feed_never : (p vertex : ℕ) (values : List ℤ) (next : Afterwards) (new : ClusterState) (r : Refusal) → 14 < number_of r → FeedFails s p vertex values next new r → ⊥
+  feed_never p vertex values _ new NothingToSend lt h = h
+  feed_never p vertex values _ new (NotAdmissible point) lt h = h
+  feed_never p vertex values _ new QueueEmpty lt h = h
+  feed_never p vertex values _ new QueueFull lt h = h
+  feed_never p vertex values _ new Memory lt h = h
+  feed_never p vertex values _ new r lt h = absurd (omega (arith, lt))
 
-  module _ (x : Step A) (free : IsFreeBelow s x 13) (counts : HasLargeCount (stepped s x) → ⊥) where
-    -- no condition below that of entries holds
-    pub free_below_entries : IsFreeBelow s x 14
-    free_below_entries = record { free = by }
-      where
-        by : (r : Refusal) → number_of r < 14 → Fails s x r → ⊥
-        by NoProcessor lt h = free.free NoProcessor (omega arith) h
-        by NoVertex lt h = free.free NoVertex (omega arith) h
-        by NoEdge lt h = free.free NoEdge (omega arith) h
-        by NotInput lt h = free.free NotInput (omega arith) h
-        by InputClosed lt h = free.free InputClosed (omega arith) h
-        by TooManyValues lt h = free.free TooManyValues (omega arith) h
-        by EpochFull lt h = free.free EpochFull (omega arith) h
-        by NoRecord lt h = free.free NoRecord (omega arith) h
-        by NoRequest lt h = free.free NoRequest (omega arith) h
-        by (NotYet blocker) lt h = free.free (NotYet blocker) (omega arith) h
-        by CounterFull lt h = free.free CounterFull (omega arith) h
-        by ValueRange lt h = free.free ValueRange (omega arith) h
-        by CountFull lt h = counts (large_count x h)
-        by DeltaFull lt h = absurd (omega (arith, lt))
-        by Memory lt h = absurd (omega (arith, lt))
+  take_never : (p edge : ℕ) (t : Time) (value : ℤ) (new : ClusterState) (r : Refusal) → 14 < number_of r → TakeFails s p edge t value new r → ⊥
+  take_never p edge t value new NothingToSend lt h = h
+  take_never p edge t value new (NotAdmissible point) lt h = h
+  take_never p edge t value new QueueEmpty lt h = h
+  take_never p edge t value new QueueFull lt h = h
+  take_never p edge t value new Memory lt h = h
+  take_never p edge t value new r lt h = absurd (omega (arith, lt))
 
-    -- no condition at all holds
-    pub enabled : (HasLargeEntry (stepped s x) → ⊥) → IsEnabled s x
-    enabled entries = record { free = by }
-      where
-        by : (r : Refusal) → Fails s x r → ⊥
-        by NoProcessor h = free.free NoProcessor (omega arith) h
-        by NoVertex h = free.free NoVertex (omega arith) h
-        by NoEdge h = free.free NoEdge (omega arith) h
-        by NotInput h = free.free NotInput (omega arith) h
-        by InputClosed h = free.free InputClosed (omega arith) h
-        by TooManyValues h = free.free TooManyValues (omega arith) h
-        by EpochFull h = free.free EpochFull (omega arith) h
-        by NoRecord h = free.free NoRecord (omega arith) h
-        by NoRequest h = free.free NoRequest (omega arith) h
-        by (NotYet blocker) h = free.free (NotYet blocker) (omega arith) h
-        by CounterFull h = free.free CounterFull (omega arith) h
-        by ValueRange h = free.free ValueRange (omega arith) h
-        by CountFull h = counts (large_count x h)
-        by DeltaFull h = entries (large_entry x h)
-        by Memory h = memory_never x h
+  notice_never : (p vertex : ℕ) (t : Time) (new : ClusterState) (r : Refusal) → 14 < number_of r → NoticeFails s p vertex t new r → ⊥
+  notice_never p vertex t new NothingToSend lt h = h
+  notice_never p vertex t new (NotAdmissible point) lt h = h
+  notice_never p vertex t new QueueEmpty lt h = h
+  notice_never p vertex t new QueueFull lt h = h
+  notice_never p vertex t new Memory lt h = h
+  notice_never p vertex t new r lt h = absurd (omega (arith, lt))
 
-  -- a refusal for a limit is the one of least number
-  pub count_refused : (x : Step A) → IsFreeBelow s x 13 → HasLargeCount (stepped s x) → IsRefused s x CountFull
-  count_refused x free large = record { fails = count_fails x large; least = free }
+  pub never : (x : Step A) → Works x → (r : Refusal) → 14 < number_of r → Fails s x r → ⊥
+  never (Feed p vertex values next) works r lt h = feed_never p vertex values next _ r lt h
+  never (Take p edge t value) works r lt h = take_never p edge t value _ r lt h
+  never (Notice p vertex t) works r lt h = notice_never p vertex t _ r lt h
+  never (Broadcast p _) works r lt h = absurd works
+  never (Receive from to) works r lt h = absurd works
 
-  pub entry_refused : (x : Step A) → IsFreeBelow s x 13 → (HasLargeCount (stepped s x) → ⊥) → HasLargeEntry (stepped s x) → IsRefused s x DeltaFull
-  entry_refused x free counts large = record { fails = entry_fails x large; least = free_below_entries x free counts }
+  admissible : (x : Step A) → Works x → IsAdmissible s x
+  admissible (Feed p vertex values _) works = tt
+  admissible (Take p edge t value) works = tt
+  admissible (Notice p vertex t) works = tt
+  admissible (Broadcast p _) works = absurd works
+  admissible (Receive from to) works = absurd works
+
+  module _ (x : Step A) (works : Works x) (free : IsFreeBelow s x 13) where
+    -- want of memory may be answered
+    pub may_want_memory : MayWantMemory s x
+    may_want_memory = record { free = λ r sure h. elim sure [
+      | inl lt ↦ free.free r lt h
+      | inr (inl is) ↦ never x works r (subst (λ q. 14 < number_of q) (sym is) (omega arith)) h
+      | inr (inr is) ↦ never x works r (subst (λ q. 14 < number_of q) (sym is) (omega arith)) h
+    ] }
+
+    -- a refusal for the limit of counts is the one of least number
+    pub count_refused : HasLargeCount (stepped s x) → IsRefused s x CountFull
+    count_refused large = record { fails = count_fails x works large; least = free }
+
+    module _ (counts : HasLargeCount (stepped s x) → ⊥) where
+      -- no condition below that of entries holds
+      free_below_entries : IsFreeBelow s x 14
+      free_below_entries = record { free = by }
+        where
+          by : (r : Refusal) → number_of r < 14 → Fails s x r → ⊥
+          by CountFull lt h = counts (large_count x works h)
+          by r lt h = free.free r (omega (arith, lt)) h
+
+      -- no condition at all holds
+      pub enabled : (HasLargeEntry (stepped s x) → ⊥) → IsEnabled s x
+      enabled entries = record { free = by; admissible = admissible x works }
+        where
+          by : (r : Refusal) → Fails s x r → ⊥
+          by CountFull h = counts (large_count x works h)
+          by DeltaFull h = entries (large_entry x works h)
+          by NothingToSend h = never x works NothingToSend (omega arith) h
+          by (NotAdmissible point) h = never x works (NotAdmissible point) (omega arith) h
+          by QueueEmpty h = never x works QueueEmpty (omega arith) h
+          by QueueFull h = never x works QueueFull (omega arith) h
+          by Memory h = never x works Memory (omega arith) h
+          by r h = free.free r (omega arith) h
+
+      pub entry_refused : HasLargeEntry (stepped s x) → IsRefused s x DeltaFull
+      entry_refused large = record { fails = entry_fails x works large; least = free_below_entries }

@@ -141,6 +141,7 @@ feed_written s p vertex values next on =
     let lt : p < length s.processors = lt_of_not-le (on.free NoProcessor (lit< tt)) in
     let found : fin.get q.tokens vertex ≡ Some epoch = known (fin.get q.tokens vertex) (on.free InputClosed (lit< tt)) in
     record {
+      p = p;
       there = lt;
       after = after p q vertex epoch found next;
       own = own p q vertex epoch found next;

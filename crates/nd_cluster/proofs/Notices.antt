@@ -100,6 +100,7 @@ notice_written s p vertex t state on =
     let fit : ProcessorFits g q = state.fits.processors p idle lt in
     let kept : vertex < length q.items = omega (arith, fit.vertices) in
     record {
+      p = p;
       there = lt;
       after = after_notice p q (point_at vertex t) vertex outcome.items;
       own = own_notice p q (point_at vertex t) vertex outcome.items;

@@ -8,12 +8,12 @@ use Rattle.std.specs.List.{filter}
 use Rattle.std.specs.Ordering.{eq_by_cmp}
 use Rattle.std.specs.FinMap.{find, is_sorted}
 use Rattle.std.specs.FinMap.Entries.{put, is_sorted-put, find-put, length-put}
-use Rattle.nd_map.specs.Counts.{or_else, integers, entries, of_entries, at-of_entries, entries-of_entries, same}
+use Rattle.nd_map.specs.Counts.{or_else, integers, entries, of_entries, at-of_entries, entries-of_entries, same, size}
 use Rattle.nd_vertex.specs.Table.{is_zero}
 use Rattle.nd_protocol.specs.State.{ClusterState}
 use Rattle.nd_protocol.specs.Fitting.{IsWithinLimits}
 use Rattle.nd_cluster.specs.Places.{Place, place_cmp, place_total, place_exact}
-use Rattle.nd_cluster.specs.Standing.{standing, IsThere, MayStand, difference, changed}
+use Rattle.nd_cluster.specs.Standing.{standing, IsThere, MayStand, difference}
 use Rattle.nd_cluster.specs.Changes.{place_of, gain_of, made, FindsOld, NamesNumbers, IsWithinAt, Fits, Finds, applied, state_at, IsRunnable}
 use Rattle.nd_cluster.specs.Edits.{total_at, edits_of}
 use Rattle.nd_cluster.specs.Plans.{often, Once, Each, kind_by, kind, of_kind, ordered, LeadsTo}
@@ -408,7 +408,7 @@ sorted_length (c ∷ cs) once =
 less_by : (x y z : ℤ) → y ≡ x +ℤ z → z ≡ y -ℤ x
 less_by x y z e = omega (arith, ints, e)
 
-pub as_many : (s t : ClusterState) (cs : List Change) → Once cs → Each (λ c. gain_of c ≢ pos 0) cs → ((k : Place) → standing t k ≡ standing s k +ℤ total_at (edits_of cs) k) → length cs ≡ changed s t
+pub as_many : (s t : ClusterState) (cs : List Change) → Once cs → Each (λ c. gain_of c ≢ pos 0) cs → ((k : Place) → standing t k ≡ standing s k +ℤ total_at (edits_of cs) k) → length cs ≡ size (difference s t)
 as_many s t cs once some totals =
     let e : of_entries {N = integers} place_total (sorted cs) ≡ difference s t
     = same place_total place_exact _ _ (λ k. at-of_entries integers place_total place_exact (sorted cs) k ∙ sorted_found cs once k ∙ less_by (standing s k) (standing t k) (total k cs) (totals k) ∙ sym (at-difference s t k)) in

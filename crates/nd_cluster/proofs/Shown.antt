@@ -1,6 +1,6 @@
 -- What the text of a state lists, step by step.
-use Rattle.std.proofs.Common.{◌≡◌, ◌<◌, ◌≤◌, ◌+◌, ℕ, zero, suc, ℤ, List, [], ◌∷◌, ◌++◌, false, map, take, length, get_or, replicate, refl, sym, ap, ◌∙◌, arith}
-use Rattle.std.proofs.lemmas.List.{map-append, replicate_more, take_more, length-take-le, append-nil}
+use Rattle.std.proofs.Common.{◌≡◌, ◌<◌, ◌≤◌, ◌+◌, ℕ, zero, suc, ℤ, List, [], ◌∷◌, ◌++◌, false, map, take, length, get_or, refl, sym, ap, ◌∙◌, arith}
+use Rattle.std.proofs.lemmas.List.{map-append, take_more, length-take-le, append-nil}
 use Rattle.std.proofs.lemmas.Grind.{flat_map-append}
 use Rattle.std.specs.List.{flat_map, enumerate_from, zip}
 use Rattle.nd_graph.specs.Graph.{Dataflow}
@@ -17,15 +17,6 @@ use Rattle.nd_processor.specs.State.{ProcessorState}
 use Rattle.serde_json.specs.Data.{Data}
 use Rattle.nd_cluster.specs.Seen.{seen}
 use Rattle.nd_cluster.specs.StateText.{row, point_data, record_data, sink_data, token_data, entry_data, item_data, items_data, processor_members, processor_data, queues_data, whole_data, state_data}
-
--- ---- equal values in a row
-
-pub equal_more : {V D : Type 0} (view : V → D) (vs : List V) (v : V) (k : ℕ) (d : D) → map view vs ≡ replicate k d → view v ≡ d → map view (vs ++ v ∷ []) ≡ replicate (k + 1) d
-equal_more view vs v k d h e = map-append view vs (v ∷ []) ∙ (λ i. h i ++ e i ∷ []) ∙ replicate_more k d
-
-equal_mapped : {X Y : Type 0} (f : X → Y) (n : ℕ) (x : X) (y : Y) → f x ≡ y → map f (replicate n x) ≡ replicate n y
-equal_mapped f zero x y e = refl
-equal_mapped f (suc n) x y e = λ i. e i ∷ equal_mapped f n x y e i
 
 -- ---- items
 
@@ -88,16 +79,11 @@ zip_mapped f h [] ys = refl
 zip_mapped f h (x ∷ xs) [] = refl
 zip_mapped f h (x ∷ xs) (y ∷ ys) = ap (λ ws. f (x, h y) ∷ ws) (zip_mapped f h xs ys)
 
--- the state of these processors, views and quiet queues
-pub state_shown : (g : Dataflow) (ps : List ProcessorState) (vs : List Kept) (n : ℕ) → n ≡ length ps
-    → whole_data (map (λ e. processor_data g e.0 e.1.map) (zip ps vs)) (replicate n (row (replicate n (row [])))) ≡ state_data (seen g ps vs)
+-- the state of these processors, views and queues
+pub state_shown : (g : Dataflow) (ps : List ProcessorState) (vs : List Kept) (m : List (List (List Change)))
+    → whole_data (map (λ e. processor_data g e.0 e.1.map) (zip ps vs)) (map (queues_data g) m) ≡ state_data (seen g ps vs m)
 unfolding state_data
-state_shown g ps vs n is =
-    let k : ℕ = length ps in
-    let no_changes : List Change = [] in
-    let one : queues_data g (replicate k no_changes) ≡ row (replicate k (row [])) = ap row (equal_mapped _ k no_changes (row []) refl) in
-    (λ i. whole_data (sym (zip_mapped (λ e. processor_data g e.0 e.1) (λ (v : Kept). v.map) ps vs) i) (replicate (is i) (row (replicate (is i) (row [])))))
-    ∙ ap (whole_data (map (λ e. processor_data g e.0 e.1) (zip ps (map (λ v. v.map) vs)))) (sym (equal_mapped (queues_data g) k (replicate k no_changes) (row (replicate k (row []))) one))
+state_shown g ps vs m = λ i. whole_data (sym (zip_mapped (λ e. processor_data g e.0 e.1) (λ (v : Kept). v.map) ps vs) i) (map (queues_data g) m)
 
 -- ---- two lists side by side
 

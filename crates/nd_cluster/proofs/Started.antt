@@ -24,7 +24,7 @@ use Rattle.nd_processor.specs.Held.{no_records, no_requests}
 use Rattle.nd_protocol.specs.State.{ClusterState, truth}
 use Rattle.nd_protocol.specs.Start.{start}
 use Rattle.nd_protocol.specs.Fitting.{IsOrdered}
-use Rattle.nd_cluster.specs.Seen.{seen, quiet}
+use Rattle.nd_cluster.specs.Seen.{seen}
 use Rattle.nd_cluster.specs.Starting.{tokens_weigh, IsProcessorCount, IsStartFault, fault_of}
 use Rattle.nd_cluster.proofs.Outstanding.{held_by_all, truth-held}
 
@@ -71,12 +71,10 @@ views_turn vs new v k d is one all =
     ap (map (λ (w : Kept). w.map)) is ∙ map-append (λ (w : Kept). w.map) vs (v ∷ [])
     ∙ (λ i. all i ++ one i ∷ []) ∙ replicate_more k d
 
-pub seen_start : (g : Dataflow) (n : ℕ) (k : Dataflow) (ps : List ProcessorState) (vs : List Kept) (d : Change) → k ≡ g → ps ≡ replicate n (start_processor g) → map (λ v. v.map) vs ≡ replicate n d → d ≡ truth (replicate n (start_processor g))
-    → seen k ps vs ≡ start g n
+pub seen_start : (g : Dataflow) (n : ℕ) (k : Dataflow) (ps : List ProcessorState) (vs : List Kept) (m : List (List (List Change))) (d : Change) → k ≡ g → ps ≡ replicate n (start_processor g) → map (λ v. v.map) vs ≡ replicate n d → d ≡ truth (replicate n (start_processor g)) → m ≡ replicate n (replicate n [])
+    → seen k ps vs m ≡ start g n
 unfolding start
-seen_start g n k ps vs d a b c e =
-    let many : length ps ≡ n = ap (λ (qs : List ProcessorState). length qs) b ∙ length-replicate n (start_processor g) in
-    λ i. record { graph = a i; processors = b i; views = (c ∙ ap (replicate n) e) i; queues = quiet (many i) }
+seen_start g n k ps vs m d a b c e f = λ i. record { graph = a i; processors = b i; views = (c ∙ ap (replicate n) e) i; queues = f i }
 
 pub ordered : (g : Dataflow) → IsFaultless g → All (ArcAgrees (depths g)) (arcs g) → IsAccepted g → IsOrdered g
 ordered g sound agree accepted = record { joined = sound.joined; agree = agree; accepted = accepted }

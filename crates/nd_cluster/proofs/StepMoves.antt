@@ -1,18 +1,19 @@
 -- What is shown of each kind of step: which performer it writes, with which edits of its own.
-use Rattle.std.proofs.Common.{◌≡◌, ◌<◌, List, ◌++◌, length}
+use Rattle.std.proofs.Common.{◌≡◌, ℕ, ◌<◌, List, ◌++◌, length}
 use Rattle.nd_processor.specs.State.{ProcessorState}
 use Rattle.nd_protocol.specs.State.{ClusterState, processor}
-use Rattle.nd_protocol.specs.Steps.{stepped, performer}
+use Rattle.nd_protocol.specs.Steps.{stepped}
 use Rattle.nd_protocol.specs.declared.step.Step.{Step}
 use Rattle.nd_cluster.specs.Edits.{Edit, edits, come, come_edits}
 use Rattle.nd_cluster.proofs.Arrivals.{AreTo}
 use Rattle.nd_cluster.proofs.Written.{IsMove, written}
 
 pub record StepMoves {A : Type 0} (s : ClusterState) (x : Step A) : Type 0 where
-  pub there : performer x < length s.processors
+  pub p : ℕ
+  pub there : p < length s.processors
   pub after : ProcessorState
   pub own : List Edit
-  pub is : stepped s x ≡ record s { processors = written s.processors (performer x) after (come s x) }
-  pub adds : edits s x ≡ own ++ come_edits (performer x) (come s x)
+  pub is : stepped s x ≡ record s { processors = written s.processors p after (come s x) }
+  pub adds : edits s x ≡ own ++ come_edits p (come s x)
   pub to : AreTo (length s.processors) (come s x)
-  pub move : IsMove (performer x) (processor s (performer x)) after own
+  pub move : IsMove p (processor s p) after own

@@ -160,6 +160,7 @@ take_written {A = A} s p edge t value state on =
     let below : target < length g.vertices = target_there g edge state.ordered.joined low high in
     let kept : target < length q.items = omega (arith, fit.vertices) in
     record {
+      p = p;
       there = lt;
       after = after_take p q k (point_at target t) target value outcome.asks outcome.counts outcome.items;
       own = own_take p q k (point_at target t) target value outcome.asks outcome.counts outcome.items;

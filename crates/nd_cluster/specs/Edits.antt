@@ -11,7 +11,7 @@ use Rattle.nd_processor.specs.declared.key.ValueAt.{ValueAt}
 use Rattle.nd_protocol.specs.State.{ClusterState, processor}
 use Rattle.nd_protocol.specs.Steps.{emitted, flat, epoch_of, target_of, record_key, point_at, take_outcome, notice_outcome}
 use Rattle.nd_protocol.specs.declared.step.Step.{Step}
-use Rattle.nd_protocol.specs.declared.step.Step.TheVariants.{Feed, Take, Notice}
+use Rattle.nd_protocol.specs.declared.step.Step.TheVariants.{Feed, Take, Notice, Broadcast, Receive}
 use Rattle.nd_protocol.specs.declared.step.Next.{Next as Afterwards}
 use Rattle.nd_protocol.specs.declared.step.Next.TheVariants as token
 use Rattle.nd_cluster.specs.Places.{Place, place_cmp, record_of, request_of, token_of, item_of, sink_of, unsent_of}
@@ -33,10 +33,20 @@ edits_of cs = map (λ c. (place_of c, gain_of c)) cs
 
 -- ---- the records that a step makes, with their processors
 
+-- a feed, a take or a notice: work on records, of which others hear by what is unsent
+abbrev pub Works : {A : Type 0} → Step A → Type 0
+Works (Feed p vertex values _) = Unit {0}
+Works (Take p edge t value) = Unit {0}
+Works (Notice p vertex t) = Unit {0}
+Works (Broadcast p _) = ⊥
+Works (Receive from to) = ⊥
+
 abbrev pub come : {A : Type 0} → ClusterState → Step A → List (ℕ × ValueAt)
 come s (Feed p vertex values _) = flat_map (λ v. emitted s.graph (length s.processors) p vertex (flat (epoch_of s p vertex)) (0, v)) values
 come s (Take p edge t value) = flat_map (emitted s.graph (length s.processors) p (target_of s.graph edge) t) (take_outcome s p edge t value).emissions
 come s (Notice p vertex t) = flat_map (emitted s.graph (length s.processors) p vertex t) (notice_outcome s p vertex t).emissions
+come s (Broadcast p _) = []
+come s (Receive from to) = []
 
 -- each is there once more, and processor p has it to send
 abbrev pub come_edits : ℕ → List (ℕ × ValueAt) → List Edit
@@ -80,3 +90,5 @@ edits {A} s (Notice p vertex t) =
     (request_of p (point_at vertex t), negsuc 0) ∷ (unsent_of p (point_at vertex t), negsuc 0) ∷ []
     ++ (item_edits p vertex (items_at (processor s p) vertex) (notice_outcome s p vertex t).items
     ++ come_edits p (come {A = A} s (Notice p vertex t)))
+edits s (Broadcast p _) = []
+edits s (Receive from to) = []

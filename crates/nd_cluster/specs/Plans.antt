@@ -2,10 +2,11 @@
 use Rattle.std.specs.Prelude.{◌≡◌, ◌≤◌, ℕ, ◌+◌, ◌+ℤ◌, Bool, cond, List, [], ◌∷◌, ◌++◌, length, nat_eq}
 use Rattle.std.specs.List.{filter}
 use Rattle.std.specs.Ordering.{eq_by_cmp}
+use Rattle.nd_map.specs.Counts.{size}
 use Rattle.nd_vertex.specs.Table.{is_zero}
 use Rattle.nd_protocol.specs.State.{ClusterState}
 use Rattle.nd_cluster.specs.Places.{Place, place_cmp}
-use Rattle.nd_cluster.specs.Standing.{standing, changed}
+use Rattle.nd_cluster.specs.Standing.{standing, difference}
 use Rattle.nd_cluster.specs.Changes.{place_of, gain_of, IsRunnable, applied}
 use Rattle.nd_cluster.specs.declared.change.Change.{Change}
 
@@ -37,8 +38,8 @@ of_kind s k cs = filter (λ c. nat_eq (kind s c) k) cs
 abbrev pub ordered : ClusterState → List Change → List Change
 ordered s cs = (of_kind s 0 cs ++ of_kind s 1 cs) ++ of_kind s 2 cs
 
--- the list can be run in s, leads to t, and is as long as the number of places at which the two differ
+-- the list can be run in s, leads to t, and is as long as the number of keys at which the two differ
 pub record LeadsTo (s t : ClusterState) (cs : List Change) : Type 0 where
   pub runs : IsRunnable s cs
   pub arrives : applied s cs ≡ t
-  pub small : length cs ≡ changed s t
+  pub small : length cs ≡ size (difference s t)

@@ -1,16 +1,19 @@
 -- What stands at each place of a cluster's state, as an integer that is 0 where nothing does; and at how many places two states differ.
 use Rattle.std.specs.Prelude.{◌≡◌, ◌<◌, ℕ, zero, suc, ◌+◌, ℤ, pos, negsuc, ◌-ℤ◌, ◌≤ℤ◌, ◌⊎◌, cond, List, ◌++◌, map, length, Option, Some, None, slice_set}
 use Rattle.std.specs.List.{flat_map, enumerate_from}
-use Rattle.std.specs.Ordering.{nat_cmp}
+use Rattle.std.specs.declared.cmp.Ordering.{Ordering}
+use Rattle.std.specs.Ordering.{nat_cmp, int_cmp, ordering_then, eq_by_cmp}
+use Rattle.std.specs.Cmp.Lexicographic.{slice_cmp}
+use Rattle.nd_paths.specs.Point.{point_cmp}
 use Rattle.std.specs.FinMap as fin
 use Rattle.nd_map.specs.Counts.{Counts, integers, natural, at as number_at, int_at, set, entries, on_keys, size}
 use Rattle.nd_paths.specs.declared.point.Pointstamp.{Pointstamp}
-use Rattle.nd_delta.specs.Change.{at as in_change, set as with_entry, entries as listed}
+use Rattle.nd_delta.specs.Change.{Change, at as in_change, set as with_entry, entries as listed}
 use Rattle.nd_vertex.specs.Items.{item_total}
 use Rattle.nd_vertex.specs.Table.{is_zero}
 use Rattle.nd_processor.specs.Keys.{value_at_total, sink_total}
 use Rattle.nd_processor.specs.State.{ProcessorState, Requests, items_at}
-use Rattle.nd_protocol.specs.State.{ClusterState, processor, view}
+use Rattle.nd_protocol.specs.State.{ClusterState, processor, view, queue}
 use Rattle.nd_cluster.specs.Places.{Place, record_of, request_of, token_of, item_of, sink_of, unsent_of, view_of, place_cmp, place_total}
 
 -- ---- what is there or not, as an integer
@@ -105,6 +108,29 @@ places_of s =
 unfoldable pub difference : ClusterState → ClusterState → Counts place_cmp integers
 difference s t = on_keys place_total (places_of s ++ places_of t) (λ k. standing t k -ℤ standing s k)
 
--- at how many keys of their maps two states differ
+-- ---- at how many queues two states differ
+
+abbrev entry_cmp : Pointstamp × ℤ → Pointstamp × ℤ → Ordering
+entry_cmp a b = ordering_then (point_cmp a.0 b.0) (int_cmp a.1 b.1)
+
+-- changes by their entries, and queues by their changes
+abbrev pub change_cmp : Change → Change → Ordering
+change_cmp c d = slice_cmp entry_cmp (listed c) (listed d)
+
+abbrev pub queue_cmp : List Change → List Change → Ordering
+queue_cmp cs ds = slice_cmp change_cmp cs ds
+
+-- f 0 + .. + f (n - 1)
+abbrev pub sum_below : ℕ → (ℕ → ℕ) → ℕ
+sum_below zero f = 0
+sum_below (suc n) f = sum_below n f + f n
+
+-- the number of queues that differ
+unfoldable pub queues_changed : ClusterState → ClusterState → ℕ
+queues_changed s t =
+    let n : ℕ = length s.processors in
+    sum_below n (λ p. sum_below n (λ q. cond (eq_by_cmp queue_cmp (queue s p q) (queue t p q)) 0 1))
+
+-- at how many keys of their maps, and at how many queues, two states differ
 abbrev pub changed : ClusterState → ClusterState → ℕ
-changed s t = size (difference s t)
+changed s t = size (difference s t) + queues_changed s t

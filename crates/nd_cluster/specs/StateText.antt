@@ -90,9 +90,13 @@ processor_data g q view =
     processor_members (row (items_data g q)) (row (map (record_data g) (numbers q.records))) (row (map (point_data g) (fin.keys q.requests)))
     (row (map (sink_data g) (numbers q.sinks))) (row (map (token_data g) (fin.entries q.tokens))) (entries_data g (entries q.unsent)) (entries_data g (entries view))
 
--- the queues of one sender, each from front to back
+-- a queue, from front to back
+abbrev pub queue_data : Dataflow → List Change → Data
+queue_data g changes = row (map (λ c. entries_data g (entries c)) changes)
+
+-- the queues of one sender
 abbrev pub queues_data : Dataflow → List (List Change) → Data
-queues_data g queues = row (map (λ queue. row (map (λ c. entries_data g (entries c)) queue)) queues)
+queues_data g queues = row (map (queue_data g) queues)
 
 -- a cluster with these lists
 abbrev pub whole_members : Data → Data → Data

@@ -4,6 +4,7 @@ ghost use Rattle.nd_view.specs.Kept.{IsFor};
 ghost use Rattle.nd_protocol.specs.State.{processor, view};
 
 use nd_graph::Graph;
+use nd_mesh::Mesh;
 use nd_paths::Paths;
 use nd_processor::Processor;
 use nd_view::View;
@@ -16,6 +17,7 @@ pub struct Cluster<A: Allocator + Copy = Global> {
     pub(crate) paths: Paths<A>,
     pub(crate) processors: Vec<Processor<A>, A>,
     pub(crate) views: Vec<View<A>, A>,
+    pub(crate) mesh: Mesh<A>,
 }
 
 impl<A: Allocator + Copy> Drop for Cluster<A> {
@@ -25,6 +27,7 @@ impl<A: Allocator + Copy> Drop for Cluster<A> {
             paths: _,
             processors: _,
             views: _,
+            mesh: _,
         } = self;
     }
 }
@@ -37,9 +40,9 @@ impl<A: Allocator + Copy> Model for Cluster<A> {
 
     ghost coded = { cluster_code };
 
-    ghost view = { λ a. seen a.paths a.processors.items a.views.items };
+    ghost view = { λ a. seen a.paths a.processors.items a.views.items a.mesh };
 
-    ghost invariant = { λ a. IsSeen a.paths a.processors.items a.views.items };
+    ghost invariant = { λ a. IsSeen a.paths a.processors.items a.views.items a.mesh };
 }
 
 impl<A: Allocator + Copy> Cluster<A> {

@@ -19,6 +19,7 @@ mod record;
 mod refuse;
 mod start;
 mod text;
+mod work;
 
 pub use change::Change;
 pub use cluster::Cluster;

@@ -117,6 +117,7 @@ impl<A: Allocator + Copy> Cluster<A> {
             paths: self.paths.copy(alloc)?,
             processors: copied_processors(alloc, &self.processors)?,
             views: copied_views(alloc, &self.views)?,
+            mesh: self.mesh.copy(alloc)?,
         })
     }
 }

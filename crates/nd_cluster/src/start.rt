@@ -13,6 +13,7 @@ ghost use Rattle.nd_cluster.specs.Starting.{start_number, start_name, fault_of, 
 use crate::Cluster;
 use nd_delta::Delta;
 use nd_graph::Graph;
+use nd_mesh::Mesh;
 use nd_paths::{PathFault, Paths, Pointstamp};
 use nd_processor::Processor;
 use nd_protocol::starts_keep_protocol;
@@ -174,11 +175,15 @@ impl<A: Allocator + Copy> Cluster<A> {
         let Ok(views) = start_views(alloc, &paths, &outstanding, n) else {
             return Err(StartFault::Memory);
         };
+        let Ok(mesh) = Mesh::new(alloc, n as usize) else {
+            return Err(StartFault::Memory);
+        };
         Ok(Cluster {
             alloc,
             paths,
             processors,
             views,
+            mesh,
         })
     }
 }

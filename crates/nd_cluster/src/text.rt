@@ -1,17 +1,19 @@
 //! The state as a JSON value, by the names of locations.
-ghost use Rattle.std.specs.Prelude.{◌≡◌, ◌++◌, [], false, length, map, replicate, IfOk, OnOk};
+ghost use Rattle.std.specs.Prelude.{◌≡◌, ◌<◌, ◌++◌, [], false, length, map, IfOk, OnOk};
 ghost use Rattle.std.specs.List.{flat_map, enumerate_from, zip};
 ghost use Rattle.serde_json.specs.Data.{Data};
 ghost use Rattle.serde_json.specs.View.{view};
 ghost use Rattle.serde_json.specs.Written.{has_float};
 ghost use Rattle.nd_graph.specs.Graph.{Dataflow};
 ghost use Rattle.nd_map.specs.Counts.{entries as numbers};
-ghost use Rattle.nd_cluster.specs.StateText.{name_at as name_in, row, time_data, point_data, item_data, record_data, sink_data, token_data, entry_data, processor_data, processor_members, whole_members, state_data};
+ghost use Rattle.nd_mesh.specs.Mesh.{queue, row as queues_from};
+ghost use Rattle.nd_cluster.specs.StateText.{name_at as name_in, row, time_data, point_data, item_data, record_data, sink_data, token_data, entry_data, queue_data, queues_data, processor_data, processor_members, whole_members, state_data};
 
 use crate::Cluster;
 use nd_graph::Graph;
 use nd_json::list_of;
 use nd_map::Key;
+use nd_mesh::Mesh;
 use nd_paths::Pointstamp;
 use nd_processor::{Processor, SinkKey, ValueAt};
 use nd_protocol::NoMemory;
@@ -246,26 +248,57 @@ fn processors_value<A: Allocator + Copy>(
     Ok(Value::Array(list))
 }
 
-// The queues of one sender to so many processors, with nothing on its way.
-fn quiet_row(alloc: Global, n: usize) -> Result<Value, AllocError>
-    ensures reply { IfOk result (λ v. view v ≡ row (replicate n (row []))) }
+// The changes on their way from a sender to a receiver, from front to back.
+fn queue_value<A: Allocator + Copy>(
+    alloc: Global,
+    graph: &Graph<A>,
+    mesh: &Mesh<A>,
+    from: usize,
+    to: usize,
+) -> Result<Value, AllocError>
+    requires sender { from < length mesh.now }
+    requires receiver { to < length mesh.now }
+    ensures reply { IfOk result (λ v. view v ≡ queue_data graph.now (queue mesh.now from to)) }
     ensures text { IfOk result (λ v. has_float (view v) ≡ false) }
 {
     let mut list = Vec::new(alloc);
-    for _ in 0..n {
-        list.push(Value::Array(Vec::new(alloc)))?;
+    for i in 0..mesh.len(from, to) {
+        let change = mesh.get(from, to, i).unwrap();
+        list.push(entries_value(alloc, graph, change.entries())?)?;
     }
     Ok(Value::Array(list))
 }
 
-// The queues of so many senders.
-fn quiet_queues(alloc: Global, n: usize) -> Result<Value, AllocError>
-    ensures reply { IfOk result (λ v. view v ≡ row (replicate n (row (replicate n (row []))))) }
+// The queues of one sender, one to each receiver.
+fn sender_value<A: Allocator + Copy>(
+    alloc: Global,
+    graph: &Graph<A>,
+    mesh: &Mesh<A>,
+    from: usize,
+) -> Result<Value, AllocError>
+    requires { from < length mesh.now }
+    ensures reply { IfOk result (λ v. view v ≡ queues_data graph.now (queues_from mesh.now from)) }
     ensures text { IfOk result (λ v. has_float (view v) ≡ false) }
 {
     let mut list = Vec::new(alloc);
-    for _ in 0..n {
-        list.push(quiet_row(alloc, n)?)?;
+    for to in 0..mesh.n() {
+        list.push(queue_value(alloc, graph, mesh, from, to)?)?;
+    }
+    Ok(Value::Array(list))
+}
+
+// The queues of all senders.
+fn queues_value<A: Allocator + Copy>(
+    alloc: Global,
+    graph: &Graph<A>,
+    mesh: &Mesh<A>,
+) -> Result<Value, AllocError>
+    ensures reply { IfOk result (λ v. view v ≡ row (map (queues_data graph.now) mesh.now)) }
+    ensures text { IfOk result (λ v. has_float (view v) ≡ false) }
+{
+    let mut list = Vec::new(alloc);
+    for from in 0..mesh.n() {
+        list.push(sender_value(alloc, graph, mesh, from)?)?;
     }
     Ok(Value::Array(list))
 }
@@ -286,7 +319,7 @@ fn cluster_value<A: Allocator + Copy>(
     ensures text { IfOk result (λ v. has_float (view v) ≡ false) }
 {
     let processors = processors_value(alloc, cluster.graph(), &cluster.processors, &cluster.views)?;
-    let queues = quiet_queues(alloc, cluster.n())?;
+    let queues = queues_value(alloc, cluster.graph(), &cluster.mesh)?;
     whole_object(alloc, processors, queues)
 }
 

@@ -27,10 +27,10 @@ returns-clause-ok g c = λ s leads.
     let cs = c.args.made.now.changes.items in
     let p = leads.planned in
     let to : applied s cs ≡ c.args.self.now = p.arrives ∙ sym leads.after in
-    seen_before s f.paths f.processors.items c.undo_all.new.processors.items f.views.items cs (to ∙ sym c.self.view_is)
+    seen_before s f.paths f.processors.items c.undo_all.new.processors.items f.views.items f.mesh cs (to ∙ sym c.self.view_is)
     (c.in-Ok.ensures.ok (alone s) (led s (applied s cs) _ cs c.deref.result.now (runs_only s cs p.state.within p.runs) (to ∙ sym c.self.view_is) c.deref.ensures.value))
 
 pub invariant_of-self-2 : goal.invariant_of-self-2
 invariant_of-self-2 g c =
-    is_seen c.self.inside.paths c.undo_all.new.processors.items c.self.inside.views.items c.requires.state (returns-clause-ok g c c.requires.state c.requires.leads)
+    is_seen c.self.inside.paths c.undo_all.new.processors.items c.self.inside.views.items c.self.inside.mesh c.requires.state (returns-clause-ok g c c.requires.state c.requires.leads)
     c.requires.leads.planned.state c.self.invariant.kept

@@ -23,12 +23,12 @@ make_all-requires-clause-limits g c =
 pub returns-clause-step : goal.returns-clause-step
 returns-clause-step g c =
     let f = c.self.inside in
-    seen_after f.paths f.processors.items c.make_all.new.processors.items f.views.items c.deref.result.now c.in-Ok.ensures.ok
+    seen_after f.paths f.processors.items c.make_all.new.processors.items f.views.items f.mesh c.deref.result.now c.in-Ok.ensures.ok
     ∙ (λ i. applied (c.self.view_is i) (c.deref.ensures.value i)) ∙ c.requires.arrives
 
 pub invariant_of-self-2 : goal.invariant_of-self-2
 invariant_of-self-2 g c =
-    is_seen c.self.inside.paths c.make_all.new.processors.items c.self.inside.views.items (stepped c.args.self.now c.args.planned.now.step) (returns-clause-step g c)
+    is_seen c.self.inside.paths c.make_all.new.processors.items c.self.inside.views.items c.self.inside.mesh (stepped c.args.self.now c.args.planned.now.step) (returns-clause-step g c)
     (c.steps_keep_protocol.ensures.state c.args.self.now c.args.planned.now.step c.requires.state c.requires.enabled) c.self.invariant.kept
 
 pub returns-clause-leads : goal.returns-clause-leads
@@ -36,7 +36,7 @@ returns-clause-leads g c = record { planned = c.requires; after = returns-clause
 
 pub returns-clause-settled : goal.returns-clause-settled
 returns-clause-settled g c = λ h.
-    subst IsSettled (sym (returns-clause-step g c)) (c.steps_keep_protocol.ensures.settled c.args.self.now c.args.planned.now.step c.requires.enabled h)
+    subst IsSettled (sym (returns-clause-step g c)) (c.steps_keep_protocol.ensures.settled c.args.self.now c.args.planned.now.step c.requires.state c.requires.enabled h)
 
 pub returns-clause-protocol : goal.returns-clause-protocol
 returns-clause-protocol g c = λ h.

@@ -7,7 +7,6 @@ use Rattle.nd_protocol.specs.State.{ClusterState, truth}
 use Rattle.nd_protocol.specs.Invariant.{IsSettled}
 use Rattle.nd_cluster.specs.Seen.{seen}
 use Rattle.nd_cluster.proofs.Outstanding.{held_by_all, truth-held}
-use Rattle.nd_cluster.proofs.Counted.{quiet_is_within}
 use Rattle.nd_cluster.proofs.cluster.Cluster.count.Goals as goal
 
 pub returns-clause-value : goal.returns-clause-value
@@ -21,9 +20,9 @@ pub returns-clause-small : goal.returns-clause-small
 returns-clause-small g c = λ settled.
     let x = c.args.point.now in
     let a = c.self.inside in
-    let s : ClusterState = seen a.paths a.processors.items a.views.items in
+    let s : ClusterState = seen a.paths a.processors.items a.views.items a.mesh in
     let small : at (truth a.processors.items) x <ℤ pos (2 ^ 63)
-    = c.truth_is_small.ensures s c.self.invariant.state (quiet_is_within a.paths a.processors.items a.views.items) (subst IsSettled (sym c.self.view_is) settled) x in
+    = c.truth_is_small.ensures s c.self.invariant.state (subst IsSettled (sym c.self.view_is) settled) x in
     let is : pos c.count_all.result ≡ at (truth a.processors.items) x
     = ap pos (c.count_all.ensures ∙ ap (λ (qs : List ProcessorState). held_by_all qs x) c.deref.ensures.value) ∙ sym (truth-held a.processors.items x) in
     omega (arith, ints, small, is)

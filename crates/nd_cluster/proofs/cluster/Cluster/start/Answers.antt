@@ -18,9 +18,9 @@ invariant_of-result g c =
     let o : IsOrdered c.args.graph = ordered c.args.graph c.vertices.ensures.sound c.all_arcs.ensures.agree c.in-Ok.ensures.accepted in
     let some : 0 < c.args.n = omega arith in
     let few : c.args.n ≤ max_processors = omega arith in
-    let is : seen c.in-Ok.paths c.in-Ok-start_processors.processors.items c.in-Ok-start_views.views.items ≡ start c.args.graph c.args.n
-    = seen_start c.args.graph c.args.n c.in-Ok.paths c.in-Ok-start_processors.processors.items c.in-Ok-start_views.views.items c.in-Ok-start_truth.outstanding
-    c.in-Ok.ensures.graph c.in-Ok-start_processors.ensures c.in-Ok-start_views.ensures.maps c.in-Ok-start_truth.ensures in
+    let is : seen c.in-Ok.paths c.in-Ok-start_processors.processors.items c.in-Ok-start_views.views.items c.in-Ok-new.mesh ≡ start c.args.graph c.args.n
+    = seen_start c.args.graph c.args.n c.in-Ok.paths c.in-Ok-start_processors.processors.items c.in-Ok-start_views.views.items c.in-Ok-new.mesh c.in-Ok-start_truth.outstanding
+    c.in-Ok.ensures.graph c.in-Ok-start_processors.ensures c.in-Ok-start_views.ensures.maps c.in-Ok-start_truth.ensures c.in-Ok-new.ensures in
     record {
       state = subst IsState (sym is) (c.starts_keep_protocol.ensures.state c.args.graph c.args.n c.vertices.ensures.sound o some few);
       kept = c.in-Ok-start_views.ensures.paths;
@@ -28,8 +28,8 @@ invariant_of-result g c =
 
 pub returns-clause-ok : goal.returns-clause-ok
 returns-clause-ok g c =
-    seen_start c.args.graph c.args.n c.in-Ok.paths c.in-Ok-start_processors.processors.items c.in-Ok-start_views.views.items c.in-Ok-start_truth.outstanding
-    c.in-Ok.ensures.graph c.in-Ok-start_processors.ensures c.in-Ok-start_views.ensures.maps c.in-Ok-start_truth.ensures
+    seen_start c.args.graph c.args.n c.in-Ok.paths c.in-Ok-start_processors.processors.items c.in-Ok-start_views.views.items c.in-Ok-new.mesh c.in-Ok-start_truth.outstanding
+    c.in-Ok.ensures.graph c.in-Ok-start_processors.ensures c.in-Ok-start_views.ensures.maps c.in-Ok-start_truth.ensures c.in-Ok-new.ensures
 
 pub returns-clause-can : goal.returns-clause-can
 returns-clause-can g c = record { count = record { some = omega arith; few = omega arith }; accepted = c.in-Ok.ensures.accepted }

@@ -1,0 +1,148 @@
+//! The changes of a feed, a take or a notice, or why it is refused.
+ghost use Rattle.std.specs.Prelude.{◌≡◌, ◌≢◌, Err, IfOk, IfErr, OnOk, length};
+ghost use Rattle.nd_protocol.specs.Steps.{stepped};
+ghost use Rattle.nd_protocol.specs.Fitting.{IsState};
+ghost use Rattle.nd_protocol.specs.Enabled.{IsEnabled, IsFreeBelow, IsRefused, MayWantMemory};
+ghost use Rattle.nd_cluster.specs.Edits.{edits, Works};
+ghost use Rattle.nd_cluster.specs.Plans.{LeadsTo};
+ghost use Rattle.nd_cluster.specs.Drafts.{AddsUp, fed_edits, taken_edits, noticed_edits};
+ghost use Rattle.nd_cluster.specs.Tested.{FeedPasses, FeedRefused, TakePasses, TakeRefused, NoticePasses, NoticeRefused};
+ghost use Rattle.nd_protocol.specs.declared.refusal.Refusal.TheVariants.{Memory};
+
+use crate::draft::Draft;
+use crate::feed::feed_draft;
+use crate::react::{notice_draft, take_draft};
+use crate::{Change, Cluster, Next, Refusal, Step};
+use nd_paths::Pointstamp;
+use nd_processor::ValueAt;
+use std::alloc::Allocator;
+
+impl<A: Allocator + Copy> Cluster<A> {
+    // How many processors it has; it is a state.
+    fn processor_count(&self) -> u32
+        ensures value { result ≡ length self.now.processors }
+        ensures state { IsState self.now }
+    {
+        let _ = &self.alloc;
+        self.n() as u32
+    }
+
+    // What a feed adds, or why it is refused, but for the limits.
+    fn feed_parts(
+        &self,
+        p: u32,
+        vertex: usize,
+        values: &[i64],
+        next: Next,
+    ) -> Result<Draft<A>, Refusal>
+        ensures adds { IfOk result (AddsUp self.now (fed_edits self.now p vertex values.now next)) }
+        ensures free { OnOk result (FeedPasses self.now p vertex values.now next 13) }
+        ensures refused { IfErr result (λ r. r ≢ Memory → FeedRefused self.now p vertex values.now next r) }
+        ensures memory { result ≡ Err Memory → FeedPasses self.now p vertex values.now next 13 }
+    {
+        let epoch = self.feed_epoch(p, vertex, values, next)?;
+        let n = self.processor_count();
+        let Ok(draft) = feed_draft(self.alloc, self.graph(), n, p, vertex, epoch, values, next)
+        else {
+            return Err(Refusal::Memory);
+        };
+        Ok(draft)
+    }
+
+    // What a take adds, or why it is refused, but for the limits.
+    fn take_parts(&self, p: u32, key: &ValueAt) -> Result<Draft<A>, Refusal>
+        ensures adds { IfOk result (AddsUp self.now (taken_edits self.now p key.now.point.location key.now.point.time key.now.value)) }
+        ensures free { OnOk result (TakePasses self.now p key.now.point.location key.now.point.time key.now.value 13) }
+        ensures refused { IfErr result (λ r. r ≢ Memory → TakeRefused self.now p key.now.point.location key.now.point.time key.now.value r) }
+        ensures memory { result ≡ Err Memory → TakePasses self.now p key.now.point.location key.now.point.time key.now.value 13 }
+    {
+        let target = self.take_target(p, key)?;
+        let (effect, asks) = self.take_effect(p, key, target)?;
+        let n = self.processor_count();
+        let Ok(draft) = take_draft(self.alloc, self.graph(), n, p, key, target, &effect, asks)
+        else {
+            return Err(Refusal::Memory);
+        };
+        Ok(draft)
+    }
+
+    // What a notice adds, or why it is refused, but for the limits.
+    fn notice_parts(&self, p: u32, point: &Pointstamp) -> Result<Draft<A>, Refusal>
+        ensures adds { IfOk result (AddsUp self.now (noticed_edits self.now p point.now.location point.now.time)) }
+        ensures free { OnOk result (NoticePasses self.now p point.now.location point.now.time 13) }
+        ensures refused { IfErr result (λ r. r ≢ Memory → NoticeRefused self.now p point.now.location point.now.time r) }
+        ensures memory { result ≡ Err Memory → NoticePasses self.now p point.now.location point.now.time 13 }
+    {
+        self.notice_asked(p, point)?;
+        let effect = self.notice_effect(p, point)?;
+        let n = self.processor_count();
+        let Ok(draft) = notice_draft(self.alloc, self.graph(), n, p, point, &effect) else {
+            return Err(Refusal::Memory);
+        };
+        Ok(draft)
+    }
+
+    // What a feed, a take or a notice adds, or why it is refused, but for the limits.
+    fn parts(&self, step: &Step<A>) -> Result<Draft<A>, Refusal>
+        requires { Works step.now }
+        ensures adds { IfOk result (AddsUp self.now (edits self.now step.now)) }
+        ensures free { OnOk result (IsFreeBelow self.now step.now 13) }
+        ensures refused { IfErr result (λ r. r ≢ Memory → IsRefused self.now step.now r) }
+        ensures memory { result ≡ Err Memory → IsFreeBelow self.now step.now 13 }
+    {
+        match step {
+            Step::Feed {
+                p,
+                vertex,
+                values,
+                next,
+            } => self.feed_parts(*p, *vertex, values.as_slice(), *next),
+            Step::Take {
+                p,
+                edge,
+                time,
+                value,
+            } => {
+                let point = Pointstamp {
+                    location: *edge,
+                    time: time.copy(),
+                };
+                let key = ValueAt {
+                    point,
+                    value: *value,
+                };
+                self.take_parts(*p, &key)
+            }
+            Step::Notice { p, vertex, time } => {
+                let point = Pointstamp {
+                    location: *vertex,
+                    time: time.copy(),
+                };
+                self.notice_parts(*p, &point)
+            }
+            Step::Broadcast { .. } | Step::Receive { .. } => unreachable!(),
+        }
+    }
+
+    // The changes of a feed, a take or a notice, in the order in which they are made, or why it is refused.
+    pub(crate) fn work_changes(&self, step: &Step<A>) -> Result<Vec<Change, A>, Refusal>
+        requires { Works step.now }
+        ensures enabled { OnOk result (IsEnabled self.now step.now) }
+        ensures leads { IfOk result (λ v. LeadsTo self.now (stepped self.now step.now) v.items) }
+        ensures refused { IfErr result (λ r. r ≢ Memory → IsRefused self.now step.now r) }
+        ensures memory { result ≡ Err Memory → MayWantMemory self.now step.now }
+    {
+        let _ = self.processor_count();
+        let draft = self.parts(step)?;
+        let Ok(all) = draft.join() else {
+            return Err(Refusal::Memory);
+        };
+        if let Some(refusal) = self.limit_refusal(&all) {
+            return Err(refusal);
+        }
+        let Ok(changes) = self.in_order(&all) else {
+            return Err(Refusal::Memory);
+        };
+        Ok(changes)
+    }
+}
