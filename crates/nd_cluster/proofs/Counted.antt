@@ -12,12 +12,6 @@ use Rattle.nd_map.specs.Counts.{Counts, naturals, at, entries, at-entries, or_el
 use Rattle.nd_map.specs.Entries.{find-index}
 use Rattle.nd_map.specs.Weights.{weight}
 use Rattle.nd_delta.specs.Change.{Change, is_point}
-use Rattle.nd_graph.specs.Graph.{Dataflow}
-use Rattle.nd_view.specs.Kept.{Kept}
-use Rattle.nd_protocol.specs.Laws.{QueuesAreWithin}
-use Rattle.nd_protocol.specs.Fitting.{ChangeIsWithin}
-use Rattle.nd_cluster.specs.Seen.{seen}
-use Rattle.std.specs.Prelude.{All}
 use Rattle.nd_processor.specs.Keys.{value_at_cmp, value_at_total, value_at_exact}
 use Rattle.nd_processor.specs.State.{ProcessorState, Requests, token_point, one_at, in_requests, in_tokens}
 use Rattle.nd_processor.specs.Held.{sum_by-map, one_at_itself, token_at, in_requests-remove, in_tokens-remove}

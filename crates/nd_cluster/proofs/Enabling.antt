@@ -12,6 +12,32 @@ use Rattle.nd_protocol.specs.declared.refusal.Refusal.{Refusal}
 use Rattle.nd_protocol.specs.declared.refusal.Refusal.TheVariants.{CountFull, DeltaFull, NothingToSend, NotAdmissible, QueueEmpty, QueueFull, Memory}
 use Rattle.nd_cluster.specs.Edits.{Works}
 
+module _ (s : ClusterState) where
+  -- a feed, a take or a notice is refused for nothing that a broadcast or a receive is
+  feed_never : (p vertex : ℕ) (values : List ℤ) (next : Afterwards) (new : ClusterState) (r : Refusal) → 14 < number_of r → FeedFails s p vertex values next new r → ⊥
+  feed_never p vertex values _ new NothingToSend lt h = h
+  feed_never p vertex values _ new (NotAdmissible point) lt h = h
+  feed_never p vertex values _ new QueueEmpty lt h = h
+  feed_never p vertex values _ new QueueFull lt h = h
+  feed_never p vertex values _ new Memory lt h = h
+  feed_never p vertex values _ new r lt h = absurd (omega (arith, lt))
+
+  take_never : (p edge : ℕ) (t : Time) (value : ℤ) (new : ClusterState) (r : Refusal) → 14 < number_of r → TakeFails s p edge t value new r → ⊥
+  take_never p edge t value new NothingToSend lt h = h
+  take_never p edge t value new (NotAdmissible point) lt h = h
+  take_never p edge t value new QueueEmpty lt h = h
+  take_never p edge t value new QueueFull lt h = h
+  take_never p edge t value new Memory lt h = h
+  take_never p edge t value new r lt h = absurd (omega (arith, lt))
+
+  notice_never : (p vertex : ℕ) (t : Time) (new : ClusterState) (r : Refusal) → 14 < number_of r → NoticeFails s p vertex t new r → ⊥
+  notice_never p vertex t new NothingToSend lt h = h
+  notice_never p vertex t new (NotAdmissible point) lt h = h
+  notice_never p vertex t new QueueEmpty lt h = h
+  notice_never p vertex t new QueueFull lt h = h
+  notice_never p vertex t new Memory lt h = h
+  notice_never p vertex t new r lt h = absurd (omega (arith, lt))
+
 module _ {A : Type 0} (s : ClusterState) where
   large_count : (x : Step A) → Works x → Fails s x CountFull → HasLargeCount (stepped s x)
   large_count (Feed p vertex values _) works h = h
@@ -41,35 +67,10 @@ module _ {A : Type 0} (s : ClusterState) where
   entry_fails (Broadcast p _) works h = absurd works
   entry_fails (Receive from to) works h = absurd works
 
-  -- a feed, a take or a notice is refused for nothing that a broadcast or a receive is
-  feed_never : (p vertex : ℕ) (values : List ℤ) (next : Afterwards) (new : ClusterState) (r : Refusal) → 14 < number_of r → FeedFails s p vertex values next new r → ⊥
-  feed_never p vertex values _ new NothingToSend lt h = h
-  feed_never p vertex values _ new (NotAdmissible point) lt h = h
-  feed_never p vertex values _ new QueueEmpty lt h = h
-  feed_never p vertex values _ new QueueFull lt h = h
-  feed_never p vertex values _ new Memory lt h = h
-  feed_never p vertex values _ new r lt h = absurd (omega (arith, lt))
-
-  take_never : (p edge : ℕ) (t : Time) (value : ℤ) (new : ClusterState) (r : Refusal) → 14 < number_of r → TakeFails s p edge t value new r → ⊥
-  take_never p edge t value new NothingToSend lt h = h
-  take_never p edge t value new (NotAdmissible point) lt h = h
-  take_never p edge t value new QueueEmpty lt h = h
-  take_never p edge t value new QueueFull lt h = h
-  take_never p edge t value new Memory lt h = h
-  take_never p edge t value new r lt h = absurd (omega (arith, lt))
-
-  notice_never : (p vertex : ℕ) (t : Time) (new : ClusterState) (r : Refusal) → 14 < number_of r → NoticeFails s p vertex t new r → ⊥
-  notice_never p vertex t new NothingToSend lt h = h
-  notice_never p vertex t new (NotAdmissible point) lt h = h
-  notice_never p vertex t new QueueEmpty lt h = h
-  notice_never p vertex t new QueueFull lt h = h
-  notice_never p vertex t new Memory lt h = h
-  notice_never p vertex t new r lt h = absurd (omega (arith, lt))
-
   pub never : (x : Step A) → Works x → (r : Refusal) → 14 < number_of r → Fails s x r → ⊥
-  never (Feed p vertex values next) works r lt h = feed_never p vertex values next _ r lt h
-  never (Take p edge t value) works r lt h = take_never p edge t value _ r lt h
-  never (Notice p vertex t) works r lt h = notice_never p vertex t _ r lt h
+  never (Feed p vertex values next) works r lt h = feed_never s p vertex values next _ r lt h
+  never (Take p edge t value) works r lt h = take_never s p edge t value _ r lt h
+  never (Notice p vertex t) works r lt h = notice_never s p vertex t _ r lt h
   never (Broadcast p _) works r lt h = absurd works
   never (Receive from to) works r lt h = absurd works
 

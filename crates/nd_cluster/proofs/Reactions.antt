@@ -159,21 +159,8 @@ module _ (s : ClusterState) (p : ℕ) (k : ValueAt) (target : ℕ) (is : target 
   past_full h = record { free = passes }
     where
       passes : (new : ClusterState) (r : Refusal) → number_of r < 12 → TakeFails s p k.point.location k.point.time k.value new r → ⊥
-      passes new NoProcessor lt f = on.free new NoProcessor (omega arith) f
-      passes new NoVertex lt f = f
-      passes new NoEdge lt f = on.free new NoEdge (omega arith) f
-      passes new NotInput lt f = f
-      passes new InputClosed lt f = f
-      passes new TooManyValues lt f = f
-      passes new EpochFull lt f = f
-      passes new NoRecord lt f = on.free new NoRecord (omega arith) f
-      passes new NoRequest lt f = f
-      passes new (NotYet blocker) lt f = f
       passes new CounterFull lt f = not_full h f
-      passes new ValueRange lt f = absurd (omega arith)
-      passes new CountFull lt f = absurd (omega arith)
-      passes new DeltaFull lt f = absurd (omega arith)
-      passes new Memory lt f = f
+      passes new r lt f = on.free new r (omega (arith, lt)) f
 
   -- what the target does with the record
   abbrev outcome : Outcome
@@ -189,21 +176,9 @@ module _ (s : ClusterState) (p : ℕ) (k : ValueAt) (target : ℕ) (is : target 
   take_free h near = record { free = passes }
     where
       passes : (new : ClusterState) (r : Refusal) → number_of r < 13 → TakeFails s p k.point.location k.point.time k.value new r → ⊥
-      passes new NoProcessor lt f = on.free new NoProcessor (omega arith) f
-      passes new NoVertex lt f = f
-      passes new NoEdge lt f = on.free new NoEdge (omega arith) f
-      passes new NotInput lt f = f
-      passes new InputClosed lt f = f
-      passes new TooManyValues lt f = f
-      passes new EpochFull lt f = f
-      passes new NoRecord lt f = on.free new NoRecord (omega arith) f
-      passes new NoRequest lt f = f
-      passes new (NotYet blocker) lt f = f
       passes new CounterFull lt f = not_full h f
       passes new ValueRange lt f = near (λ r. (let u : Fits (target_of s.graph k.point.location) = subst Fits is r in f (record { emissions = u.emissions; items = u.items })))
-      passes new CountFull lt f = absurd (omega arith)
-      passes new DeltaFull lt f = absurd (omega arith)
-      passes new Memory lt f = f
+      passes new r lt f = on.free new r (omega (arith, lt)) f
 
   -- the same for the operator and the items as they are read
   module _ (o : Op) (m : Items) (o_is : o ≡ op_at s.graph target) (m_is : m ≡ items_at (processor s p) target) where
@@ -225,8 +200,8 @@ module _ (s : ClusterState) (p : ℕ) (k : ValueAt) (target : ℕ) (is : target 
 -- ---- a notice
 
 -- the kept counts of a view are those of the graph, and its map is the state's view
-pub seen_view : (g : Dataflow) (ps : List ProcessorState) (vs : List Kept) (s : ClusterState) (p : ℕ) (v : Kept) → IsSeen g ps vs → seen g ps vs ≡ s → p < length s.processors → v ≡ get_or vs p v → IsFor g v × (view s p ≡ v.map)
-seen_view g ps vs s p v h e lt is =
+pub seen_view : (g : Dataflow) (ps : List ProcessorState) (vs : List Kept) (queues : List (List (List Change))) (s : ClusterState) (p : ℕ) (v : Kept) → IsSeen g ps vs queues → seen g ps vs queues ≡ s → p < length s.processors → v ≡ get_or vs p v → IsFor g v × (view s p ≡ v.map)
+seen_view g ps vs queues s p v h e lt is =
     let n : length (map (λ (w : Kept). w.map) vs) ≡ length ps = h.state.fits.each_view in
     let m : length (map (λ (w : Kept). w.map) vs) ≡ length vs = length-map vs (λ w. w.map) in
     let k : length s.processors ≡ length ps = ap (λ (t : ClusterState). length t.processors) (sym e) in
@@ -257,21 +232,10 @@ module _ (s : ClusterState) (p : ℕ) (x : Pointstamp) (on : NoticePasses s p x.
       here y h = nothing y (subst (λ d. IsPrecursor d m x y) (sym e) (subst (λ c. IsPrecursor s.graph c x y) f h))
 
       passes : (new : ClusterState) (r : Refusal) → number_of r < 13 → NoticeFails s p x.location x.time new r → ⊥
-      passes new NoProcessor lt f = on.free new NoProcessor (omega arith) f
-      passes new NoVertex lt f = on.free new NoVertex (omega arith) f
-      passes new NoEdge lt f = f
-      passes new NotInput lt f = f
-      passes new InputClosed lt f = f
-      passes new TooManyValues lt f = f
-      passes new EpochFull lt f = f
-      passes new NoRecord lt f = f
-      passes new NoRequest lt f = on.free new NoRequest (omega arith) f
       passes new (NotYet blocker) lt f = here blocker f.is_one
       passes new CounterFull lt f = f
       passes new ValueRange lt f = f
-      passes new CountFull lt f = absurd (omega arith)
-      passes new DeltaFull lt f = absurd (omega arith)
-      passes new Memory lt f = f
+      passes new r lt f = on.free new r (omega (arith, lt)) f
 
 -- ---- how many values a vertex emits
 
