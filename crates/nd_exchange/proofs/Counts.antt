@@ -1,0 +1,42 @@
+-- The counts of a view, were a change added.
+use Rattle.std.proofs.Common.{◌≡◌, ◌≢◌, ◌≤◌, ◌<◌, ◌*◌, ℕ, zero, suc, ℤ, pos, negsuc, ◌+ℤ◌, length, w64, to_z, of_z, unsigned_abs, refl, sym, ap, ◌∙◌, ◌⊎◌, inl, inr, arith}
+use Rattle.std.proofs.lemmas.Bool.{cases_lt}
+use Rattle.std.proofs.lemmas.Int.{ints, to_z-of_z, fits_signed_from_abs}
+use Rattle.nd_time.specs.Limits.{max_count}
+use Rattle.nd_paths.specs.declared.point.Pointstamp.{Pointstamp}
+use Rattle.nd_delta.specs.Change.{Change, at, plus, at-plus, entries, IsTooLarge, IsWithin}
+use Rattle.nd_delta.specs.Least.{AllUpTo, all-points}
+
+-- an integer as the code keeps it
+pub kept : (x : ℤ) → unsigned_abs x ≤ 2 * max_count → to_z w64 (of_z w64 x) ≡ x
+kept x within = to_z-of_z w64 x (fits_signed_from_abs w64 x (omega (arith, within)))
+
+-- it is 0 where the code's is
+pub kept_zero : (x : ℤ) → unsigned_abs x ≤ max_count → of_z w64 x ≡ 0 → x ≡ pos 0
+kept_zero x within e = sym (kept x (omega (arith, within))) ∙ ap (to_z w64) e
+
+pub summed : (m n : Change) (q : Pointstamp) (x y : ℤ) → x ≡ at m q → y ≡ at n q → unsigned_abs x ≤ max_count → unsigned_abs y ≤ max_count
+    → to_z w64 (of_z w64 (to_z w64 (of_z w64 x) +ℤ to_z w64 (of_z w64 y))) ≡ at (plus m n) q
+summed m n q x y x_is y_is x_within y_within =
+    rw (kept x (omega (arith, x_within)), kept y (omega (arith, y_within)))
+    (to_z-of_z w64 (x +ℤ y) (fits_signed_from_abs w64 (x +ℤ y) (omega (arith, ints, x_within, y_within))) ∙ (λ i. x_is i +ℤ y_is i) ∙ sym (at-plus m n q))
+
+-- the counts at the points of a change's entries are within the limit
+abbrev pub IsFitting : Change → Change → Pointstamp → Type 0
+IsFitting m n x = unsigned_abs (at (plus m n) x) ≤ max_count
+
+pub not_past : (x : ℤ) → (max_count < unsigned_abs x → ⊥) → unsigned_abs x ≤ max_count
+not_past x h = elim (cases_lt max_count (unsigned_abs x)) [ inl lt ↦ absurd (h lt) | inr le ↦ le ]
+
+decided : (z : ℤ) → (z ≡ pos 0) ⊎ (z ≢ pos 0)
+decided (pos zero) = inl refl
+decided (pos (suc n)) = inr (λ e. absurd (cc))
+decided (negsuc n) = inr (λ e. absurd (cc))
+
+-- so are all
+pub not_too_large : (m n : Change) (i : ℕ) → length (entries n) ≤ i → IsWithin m → AllUpTo (IsFitting m n) (entries n) i → IsTooLarge (plus m n) → ⊥
+not_too_large m n i past within fit large =
+    elim (decided (at n large.0)) [
+      | inl nothing ↦ (let e = at-plus m n large.0 in let w = within large.0 in let l = large.1 in omega (arith, ints))
+      | inr some ↦ (let f : IsFitting m n large.0 = all-points n (IsFitting m n) i past fit large.0 some in let l = large.1 in omega arith)
+    ]

@@ -1,0 +1,4 @@
+mod Counts
+mod Ends
+mod Parts
+mod Tokens
