@@ -8,6 +8,7 @@ pub mod Plans
 pub mod Sums
 pub mod Drafts
 pub mod Seen
+pub mod Exchanges
 pub mod Records
 pub mod Tested
 pub mod Slots

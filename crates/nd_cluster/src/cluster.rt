@@ -1,12 +1,16 @@
 //! A cluster of processors, and its readers.
-ghost use Rattle.std.specs.Prelude.{◌≡◌, ◌<◌, length};
+ghost use Rattle.std.specs.Prelude.{◌≡◌, ◌<◌, ◌↔◌, length, IfSome, IsNone, IsTrue};
+ghost use Rattle.nd_delta.specs.Least.{IsLeast};
+ghost use Rattle.nd_view.specs.View.{IsPassed, IsBlocker};
 ghost use Rattle.nd_view.specs.Kept.{IsFor};
-ghost use Rattle.nd_protocol.specs.State.{processor, view};
+ghost use Rattle.nd_protocol.specs.State.{processor, view, queue};
+ghost use Rattle.nd_protocol.specs.Invariant.{KeepsProtocol, IsFinished};
 
 use nd_graph::Graph;
 use nd_mesh::Mesh;
-use nd_paths::Paths;
+use nd_paths::{Paths, Pointstamp};
 use nd_processor::Processor;
+use nd_protocol::protocol_is_safe;
 use nd_view::View;
 use std::alloc::{Allocator, Global};
 use std::marker::Model;
@@ -73,5 +77,42 @@ impl<A: Allocator + Copy> Cluster<A> {
         ensures { result.now ≡ processor self.now p }
     {
         &self.processors[p]
+    }
+
+    /// What processor q knows of the outstanding pointstamps.
+    pub fn view(&self, q: usize) -> &View<A>
+        requires { q < length self.now.processors }
+        ensures map { result.now.map ≡ view self.now q }
+        ensures paths { IsFor self.now.graph result.now }
+    {
+        &self.views[q]
+    }
+
+    /// Whether processor q's view holds nothing positive at or before a pointstamp (FORTE 2013).
+    pub fn passed(&self, q: usize, point: &Pointstamp) -> bool
+        requires { q < length self.now.processors }
+        ensures passed { IsTrue result ↔ IsPassed self.now.graph (view self.now q) point.now }
+        ensures finished { IsTrue result → KeepsProtocol self.now → IsFinished self.now point.now }
+    {
+        protocol_is_safe::<A>();
+        self.view(q).passed(&self.paths, point)
+    }
+
+    /// The least pointstamp at or before one at which processor q's view is positive.
+    pub fn blocker(&self, q: usize, point: &Pointstamp) -> Option<Pointstamp>
+        requires { q < length self.now.processors }
+        ensures passed { IsNone result ↔ IsPassed self.now.graph (view self.now q) point.now }
+        ensures least { IfSome result (IsLeast (IsBlocker self.now.graph (view self.now q) point.now)) }
+    {
+        self.view(q).blocker(&self.paths, point)
+    }
+
+    /// How many changes are on their way from one processor to another.
+    pub fn queue_len(&self, from: usize, to: usize) -> usize
+        requires sender { from < length self.now.processors }
+        requires receiver { to < length self.now.processors }
+        ensures { result ≡ length (queue self.now from to) }
+    {
+        self.mesh.len(from, to)
     }
 }

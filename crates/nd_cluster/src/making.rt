@@ -13,7 +13,6 @@ use crate::Change;
 use nd_delta::DeltaFault;
 use nd_paths::Pointstamp;
 use nd_processor::{CountFault, Processor, ValueAt};
-use nd_protocol::NoMemory;
 use nd_time::Timestamp;
 use std::alloc::{AllocError, Allocator};
 
@@ -286,7 +285,7 @@ fn undo<A: Allocator + Copy>(
 pub(crate) fn make_all<A: Allocator + Copy>(
     processors: &mut Vec<Processor<A>, A>,
     changes: &[Change],
-) -> Result<(), NoMemory>
+) -> Result<(), AllocError>
     requires runs { IsRunnable (only processors.old.items) changes.now }
     requires limits { Limits (only processors.old.items) }
     ensures ok { OnOk result (only processors.new.items ≡ applied (only processors.old.items) changes.now) }
@@ -296,10 +295,10 @@ pub(crate) fn make_all<A: Allocator + Copy>(
         let Ok(()) = make(processors, &changes[i]) else {
             for j in (0..i).rev() {
                 let Ok(()) = undo(processors, &changes[j]) else {
-                    return Err(NoMemory);
+                    return Err(AllocError);
                 };
             }
-            return Err(NoMemory);
+            return Err(AllocError);
         };
     }
     Ok(())
@@ -309,7 +308,7 @@ pub(crate) fn make_all<A: Allocator + Copy>(
 pub(crate) fn undo_all<A: Allocator + Copy>(
     processors: &mut Vec<Processor<A>, A>,
     changes: &[Change],
-) -> Result<(), NoMemory>
+) -> Result<(), AllocError>
     requires { HasRun (only processors.old.items) changes.now }
     ensures ok { OnOk result ((s : ClusterState) → Runs s (only processors.old.items) changes.now → only processors.new.items ≡ s) }
     ensures err { OnErr result (processors.new.items ≡ processors.old.items) }
@@ -318,10 +317,10 @@ pub(crate) fn undo_all<A: Allocator + Copy>(
         let Ok(()) = undo(processors, &changes[i]) else {
             for j in i + 1..changes.len() {
                 let Ok(()) = make(processors, &changes[j]) else {
-                    return Err(NoMemory);
+                    return Err(AllocError);
                 };
             }
-            return Err(NoMemory);
+            return Err(AllocError);
         };
     }
     Ok(())

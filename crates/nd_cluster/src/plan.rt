@@ -1,30 +1,72 @@
 //! Plans: the record of a step, or why the step is refused.
-ghost use Rattle.std.specs.Prelude.{◌≡◌, ◌≢◌, Err, IfOk, IfErr, OnOk, length};
+ghost use Rattle.std.specs.Prelude.{◌≡◌, ◌≢◌, ◌+◌, Err, IfOk, IfErr, OnOk, length};
 ghost use Rattle.nd_protocol.specs.Steps.{stepped};
 ghost use Rattle.nd_protocol.specs.Enabled.{IsEnabled, IsRefused, MayWantMemory};
-ghost use Rattle.nd_cluster.specs.Edits.{Works};
 ghost use Rattle.nd_cluster.specs.Standing.{changed};
-ghost use Rattle.nd_cluster.specs.Records.{IsPlanned};
+ghost use Rattle.nd_cluster.specs.Records.{named, shared, Plans, IsPlanned};
+ghost use Rattle.nd_protocol.specs.declared.step.Step.TheVariants.{Broadcast as Sending, Receive as Receiving};
 ghost use Rattle.nd_protocol.specs.declared.refusal.Refusal.TheVariants.{Memory};
 
-use crate::{Cluster, Record, Refusal, Step};
+use crate::record::Changes;
+use crate::{Cluster, Part, Record, Refusal, Step};
+use nd_exchange::{planned_front, planned_part};
 use std::alloc::Allocator;
 
 impl<A: Allocator + Copy> Cluster<A> {
+    // What a broadcast changes, or why it is refused.
+    fn broadcast_changes(&self, p: u32, part: &Part<A>) -> Result<Changes<A>, Refusal>
+        ensures ok { IfOk result (Plans self.now (Sending p part.now)) }
+        ensures refused { IfErr result (λ r. r ≢ Memory → IsRefused self.now (Sending p part.now) r) }
+        ensures memory { result ≡ Err Memory → MayWantMemory self.now (Sending p part.now) }
+    {
+        let _ = self.processor_count();
+        let sender = p as usize;
+        if sender >= self.n() {
+            return Err(Refusal::NoProcessor);
+        }
+        let change = planned_part(self.alloc, &self.paths, self.processor(sender), part)?;
+        if self.mesh.is_full(sender) {
+            return Err(Refusal::QueueFull);
+        }
+        Ok(Changes::Sent { p, part: change })
+    }
+
+    // What a receive changes, or why it is refused.
+    fn receive_changes(&self, from: u32, to: u32) -> Result<Changes<A>, Refusal>
+        ensures ok { IfOk result (Plans self.now (Receiving from to)) }
+        ensures refused { IfErr result (λ r. r ≢ Memory → IsRefused self.now (Receiving from to) r) }
+        ensures memory { result ≡ Err Memory → MayWantMemory self.now (Receiving from to) }
+    {
+        let _ = self.processor_count();
+        let (sender, receiver) = (from as usize, to as usize);
+        if sender >= self.n() || receiver >= self.n() {
+            return Err(Refusal::NoProcessor);
+        }
+        let view = &self.views[receiver];
+        let change = planned_front(self.alloc, view, &self.mesh, sender, receiver)?;
+        Ok(Changes::Received { from, to, change })
+    }
+
     /// The record of a step, or why the step is refused (this project's own rule).
     ///
     /// Nothing changes. Want of memory may come in place of a refusal numbered 13 or more, but for
     /// those of nothing to send and nothing to receive.
     pub fn plan(&self, step: &Step<A>) -> Result<Record<A>, Refusal>
-        requires { Works step.now }
         ensures enabled { OnOk result (IsEnabled self.now step.now) }
         ensures step { IfOk result (λ r. r.step ≡ step.now) }
         ensures planned { IfOk result (λ r. IsPlanned r self.now) }
-        ensures small { IfOk result (λ r. length r.changes.items ≡ changed self.now (stepped self.now step.now)) }
+        ensures small { IfOk result (λ r. named r.changes + shared self.now step.now ≡ changed self.now (stepped self.now step.now)) }
         ensures refused { IfErr result (λ r. r ≢ Memory → IsRefused self.now step.now r) }
         ensures memory { result ≡ Err Memory → MayWantMemory self.now step.now }
     {
-        let changes = self.work_changes(step)?;
+        let _ = self.processor_count();
+        let changes = match step {
+            Step::Broadcast { p, part } => self.broadcast_changes(*p, part)?,
+            Step::Receive { from, to } => self.receive_changes(*from, *to)?,
+            Step::Feed { .. } | Step::Take { .. } | Step::Notice { .. } => {
+                Changes::Each(self.work_changes(step)?)
+            }
+        };
         let Ok(step) = step.copy(self.alloc) else {
             return Err(Refusal::Memory);
         };

@@ -19,7 +19,7 @@ use std::alloc::Allocator;
 
 impl<A: Allocator + Copy> Cluster<A> {
     // How many processors it has; it is a state.
-    fn processor_count(&self) -> u32
+    pub(crate) fn processor_count(&self) -> u32
         ensures value { result ≡ length self.now.processors }
         ensures state { IsState self.now }
     {
