@@ -31,3 +31,5 @@ pub mod Shown
 pub mod Filling
 pub mod Enabling
 pub mod Passed
+pub mod Differences
+pub mod Differing
