@@ -6,6 +6,7 @@ pub mod Drafting
 pub mod Effects
 pub mod Exact
 pub mod Putting
+pub mod Exchanging
 pub mod Feeding
 pub mod Feeds
 pub mod Listing

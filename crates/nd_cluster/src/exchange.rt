@@ -6,7 +6,8 @@ ghost use Rattle.nd_processor.specs.State.{idle};
 ghost use Rattle.nd_processor.specs.Edits.{IsPartOf, IsApart};
 ghost use Rattle.nd_mesh.specs.Mesh.{row, queue, pushed, unpushed, popped, unpopped, HasQueue, IsFull};
 ghost use Rattle.nd_exchange.specs.Exchanges.{IsNewest};
-ghost use Rattle.nd_cluster.specs.Exchanges.{with_unsent, map_at, maps_of};
+ghost use Rattle.nd_cluster.specs.Exchanges.{with_unsent, map_at};
+ghost use Rattle.nd_view.specs.Views.{maps};
 
 use nd_delta::Delta;
 use nd_exchange::{give_back, received, sent, take_back};
@@ -72,7 +73,7 @@ pub(crate) fn make_received<A: Allocator + Copy>(
     requires front { slice_get (queue mesh.old from to) 0 ≡ Some change.now }
     requires room { IsTooLarge (plus (map_at views.old.items to) change.now) → ⊥ }
     ensures paths { All (IsFor paths.now) views.new.items }
-    ensures views { OnOk result (maps_of views.new.items ≡ slice_set (maps_of views.old.items) to (plus (map_at views.old.items to) change.now)) }
+    ensures views { OnOk result (maps views.new.items ≡ slice_set (maps views.old.items) to (plus (map_at views.old.items to) change.now)) }
     ensures mesh { OnOk result (mesh.new ≡ popped mesh.old from to) }
     ensures views_err { OnErr result (views.new.items ≡ views.old.items) }
     ensures mesh_err { OnErr result (mesh.new ≡ mesh.old) }
@@ -98,7 +99,7 @@ pub(crate) fn undo_received<A: Allocator + Copy>(
     requires queue { IsFull (queue mesh.old from to) → ⊥ }
     requires room { IsTooLarge (minus (map_at views.old.items to) change.now) → ⊥ }
     ensures paths { All (IsFor paths.now) views.new.items }
-    ensures views { OnOk result (maps_of views.new.items ≡ slice_set (maps_of views.old.items) to (minus (map_at views.old.items to) change.now)) }
+    ensures views { OnOk result (maps views.new.items ≡ slice_set (maps views.old.items) to (minus (map_at views.old.items to) change.now)) }
     ensures mesh { OnOk result (mesh.new ≡ unpopped mesh.old from to change.now) }
     ensures views_err { OnErr result (views.new.items ≡ views.old.items) }
     ensures mesh_err { OnErr result (mesh.new ≡ mesh.old) }

@@ -15,7 +15,7 @@ use std::alloc::Allocator;
 impl<A: Allocator + Copy> Cluster<A> {
     // What a broadcast changes, or why it is refused.
     fn broadcast_changes(&self, p: u32, part: &Part<A>) -> Result<Changes<A>, Refusal>
-        ensures ok { IfOk result (Plans self.now (Sending p part.now)) }
+        ensures ok { IfOk result (Plans {A = A} self.now (Sending p part.now)) }
         ensures refused { IfErr result (λ r. r ≢ Memory → IsRefused self.now (Sending p part.now) r) }
         ensures memory { result ≡ Err Memory → MayWantMemory self.now (Sending p part.now) }
     {
@@ -33,9 +33,9 @@ impl<A: Allocator + Copy> Cluster<A> {
 
     // What a receive changes, or why it is refused.
     fn receive_changes(&self, from: u32, to: u32) -> Result<Changes<A>, Refusal>
-        ensures ok { IfOk result (Plans self.now (Receiving from to)) }
-        ensures refused { IfErr result (λ r. r ≢ Memory → IsRefused self.now (Receiving from to) r) }
-        ensures memory { result ≡ Err Memory → MayWantMemory self.now (Receiving from to) }
+        ensures ok { IfOk result (Plans {A = A} self.now (Receiving from to)) }
+        ensures refused { IfErr result (λ r. r ≢ Memory → IsRefused {A = A} self.now (Receiving from to) r) }
+        ensures memory { result ≡ Err Memory → MayWantMemory {A = A} self.now (Receiving from to) }
     {
         let _ = self.processor_count();
         let (sender, receiver) = (from as usize, to as usize);

@@ -68,12 +68,12 @@ impl<A: Allocator + Copy> Changes<A> {
     {
         match self {
             Changes::Each(changes) => changes.len(),
-            Changes::Sent { p: _, part } => part.len() + 1,
+            Changes::Sent { p: _, part } => part.entries().len() + 1,
             Changes::Received {
                 from: _,
                 to: _,
                 change,
-            } => change.len() + 1,
+            } => change.entries().len() + 1,
         }
     }
 

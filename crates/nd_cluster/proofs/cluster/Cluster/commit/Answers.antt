@@ -1,35 +1,25 @@
-use Rattle.std.proofs.Common.{sym, subst, ◌∙◌, List}
+use Rattle.std.proofs.Common.{◌≡◌, sym, subst, ◌∙◌}
 use Rattle.nd_protocol.specs.State.{ClusterState}
 use Rattle.nd_protocol.specs.Steps.{stepped}
 use Rattle.nd_protocol.specs.Invariant.{IsSettled, KeepsProtocol}
-use Rattle.nd_cluster.specs.Changes.{IsRunnable, applied}
-use Rattle.nd_cluster.specs.Undone.{Limits}
-use Rattle.nd_cluster.specs.declared.change.Change.{Change}
-use Rattle.nd_cluster.proofs.Running.{alone, runs_only}
-use Rattle.nd_cluster.proofs.Seeing.{seen_after, is_seen}
+use Rattle.nd_cluster.specs.Records.{Makes}
+use Rattle.nd_cluster.proofs.Seeing.{is_seen}
 use Rattle.nd_cluster.proofs.cluster.Cluster.commit.Goals as goal
 
-pub make_all-requires-clause-runs : goal.make_all-requires-clause-runs
-make_all-requires-clause-runs g c =
-    let h = (runs_only c.args.self.now c.args.planned.now.changes.items c.requires.state.within c.requires.runs).runs in
-    subst (λ (s : ClusterState). IsRunnable (alone s) c.deref.result.now) (sym c.self.view_is)
-    (subst (λ (cs : List Change). IsRunnable (alone c.args.self.now) cs) (sym c.deref.ensures.value) h)
-
-pub make_all-requires-clause-limits : goal.make_all-requires-clause-limits
-make_all-requires-clause-limits g c =
-    let h = (runs_only c.args.self.now c.args.planned.now.changes.items c.requires.state.within c.requires.runs).limits in
-    subst (λ (s : ClusterState). Limits (alone s)) (sym c.self.view_is) h
+pub make-requires-clause-makes : goal.make-requires-clause-makes
+make-requires-clause-makes g c =
+    let r = c.args.planned.now in
+    (stepped c.args.self.now r.step, subst (λ s. Makes s r.changes (stepped c.args.self.now r.step)) (sym c.self.view_is) c.requires.makes)
 
 pub returns-clause-step : goal.returns-clause-step
 returns-clause-step g c =
-    let f = c.self.inside in
-    seen_after f.paths f.processors.items c.make_all.new.processors.items f.views.items f.mesh c.deref.result.now c.in-Ok.ensures.ok
-    ∙ (λ i. applied (c.self.view_is i) (c.deref.ensures.value i)) ∙ c.requires.arrives
+    let r = c.args.planned.now in
+    c.in-Ok.ensures.ok (stepped c.args.self.now r.step) (subst (λ s. Makes s r.changes (stepped c.args.self.now r.step)) (sym c.self.view_is) c.requires.makes)
 
 pub invariant_of-self-2 : goal.invariant_of-self-2
 invariant_of-self-2 g c =
-    is_seen c.self.inside.paths c.make_all.new.processors.items c.self.inside.views.items c.self.inside.mesh (stepped c.args.self.now c.args.planned.now.step) (returns-clause-step g c)
-    (c.steps_keep_protocol.ensures.state c.args.self.now c.args.planned.now.step c.requires.state c.requires.enabled) c.self.invariant.kept
+    is_seen c.self.inside.paths c.make.new.processors.items c.make.new.views.items c.make.new.mesh (stepped c.args.self.now c.args.planned.now.step) (returns-clause-step g c)
+    (c.steps_keep_protocol.ensures.state c.args.self.now c.args.planned.now.step c.requires.state c.requires.enabled) c.make.ensures.paths
 
 pub returns-clause-leads : goal.returns-clause-leads
 returns-clause-leads g c = record { planned = c.requires; after = returns-clause-step g c }
