@@ -1,16 +1,15 @@
 -- The joined list of a draft, put in order, leads to the state after the step.
-use Rattle.std.proofs.Common.{◌≡◌, ◌≢◌, ◌<◌, ◌≤◌, ◌+◌, ℕ, zero, suc, ℤ, pos, ◌+ℤ◌, All, unsigned_abs, Bool, true, false, cond, List, [], ◌∷◌, length, get_or, ◌⊎◌, inl, inr, refl, sym, ap, subst, ◌∙◌, arith}
+use Rattle.std.proofs.Common.{◌≡◌, ◌<◌, ◌≤◌, ◌+◌, ℕ, zero, suc, ℤ, pos, ◌+ℤ◌, All, unsigned_abs, Bool, true, false, cond, List, [], ◌∷◌, length, get_or, ◌⊎◌, inl, inr, refl, sym, ap, subst, ◌∙◌, arith}
 use Rattle.std.proofs.lemmas.Int.{ints}
 use Rattle.nd_time.specs.Limits.{max_count, max_processors}
-use Rattle.nd_map.specs.Counts.{at as number_at}
 use Rattle.nd_delta.specs.Change.{at as in_change}
 use Rattle.nd_processor.specs.State.{ProcessorState, idle}
-use Rattle.nd_protocol.specs.State.{ClusterState, processor}
+use Rattle.nd_protocol.specs.State.{ClusterState}
 use Rattle.nd_protocol.specs.Steps.{stepped}
 use Rattle.nd_protocol.specs.Fitting.{IsState, IsWithinLimits, ProcessorIsWithin, QueueIsWithin}
 use Rattle.nd_protocol.specs.Enabled.{IsFreeBelow}
 use Rattle.nd_protocol.specs.declared.step.Step.{Step}
-use Rattle.nd_cluster.specs.Places.{Place, place_cmp, record_of, sink_of, unsent_of}
+use Rattle.nd_cluster.specs.Places.{Place, record_of, sink_of, unsent_of}
 use Rattle.nd_cluster.specs.Standing.{standing}
 use Rattle.nd_cluster.specs.Changes.{place_of, gain_of, IsWithinAt}
 use Rattle.nd_cluster.specs.Edits.{total_at, edits_of, edits, Works}
@@ -23,7 +22,7 @@ use Rattle.nd_cluster.specs.declared.draft.Draft.{Draft}
 use Rattle.nd_cluster.proofs.Tests.{is_place, same_place}
 use Rattle.nd_cluster.proofs.Putting.{SameShape}
 use Rattle.nd_cluster.proofs.Running.{limits_of}
-use Rattle.nd_cluster.proofs.Planning.{IsJoined, planned, each_there}
+use Rattle.nd_cluster.proofs.Planning.{planned, each_there}
 use Rattle.nd_cluster.proofs.StepMoves.{StepMoves}
 use Rattle.nd_cluster.proofs.Exact.{moves, standing-stepped, graph-stepped, views-stepped, queues-stepped, processors-stepped, items-stepped}
 use Rattle.nd_cluster.proofs.Joining.{joined_total, joined_once, joined_some, joined_old, joined_numbers}

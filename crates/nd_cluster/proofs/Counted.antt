@@ -1,9 +1,9 @@
 -- How many records, requests and tokens of one processor are at a pointstamp, by look-ups.
-use Rattle.std.proofs.Common.{◌≡◌, ◌≢◌, ◌<◌, ◌≤◌, ◌+◌, ◌*◌, ◌^◌, ℕ, zero, suc, Bool, true, false, cond, List, [], ◌∷◌, map, length, replicate, get_or, Option, Some, None, sum_by, refl, sym, ap, subst, ◌∙◌, arith}
+use Rattle.std.proofs.Common.{◌≡◌, ◌<◌, ◌≤◌, ◌+◌, ◌*◌, ◌^◌, ℕ, Bool, true, false, cond, List, [], ◌∷◌, length, get_or, Option, Some, None, refl, sym, ap, ◌∙◌, arith}
 use Rattle.std.proofs.lemmas.Cmp.{tied_itself, nat_cmp_total}
 use Rattle.std.proofs.lemmas.List.Sums.{sum_by-cons, sum_by-le}
 use Rattle.std.proofs.lemmas.Map.Views.{tells_apart}
-use Rattle.std.specs.Ordering.{nat_cmp, is_eq, eq_by_cmp}
+use Rattle.std.specs.Ordering.{nat_cmp, is_eq}
 use Rattle.std.specs.FinMap as fin
 use Rattle.nd_time.specs.Limits.{max_count}
 use Rattle.nd_paths.specs.Point.{point_cmp, point_total, point_exact}
@@ -11,9 +11,9 @@ use Rattle.nd_paths.specs.declared.point.Pointstamp.{Pointstamp}
 use Rattle.nd_map.specs.Counts.{Counts, naturals, at, entries, at-entries, or_else, entries_listed}
 use Rattle.nd_map.specs.Entries.{find-index}
 use Rattle.nd_map.specs.Weights.{weight}
-use Rattle.nd_delta.specs.Change.{Change, is_point}
-use Rattle.nd_processor.specs.Keys.{value_at_cmp, value_at_total, value_at_exact}
-use Rattle.nd_processor.specs.State.{ProcessorState, Requests, token_point, one_at, in_requests, in_tokens}
+use Rattle.nd_delta.specs.Change.{is_point}
+use Rattle.nd_processor.specs.Keys.{value_at_cmp, value_at_total}
+use Rattle.nd_processor.specs.State.{Requests, token_point, one_at, in_requests, in_tokens}
 use Rattle.nd_processor.specs.Held.{sum_by-map, one_at_itself, token_at, in_requests-remove, in_tokens-remove}
 use Rattle.nd_processor.specs.declared.key.ValueAt.{ValueAt}
 

@@ -1,5 +1,5 @@
 -- What one more change, or one more sum, makes of a draft.
-use Rattle.std.proofs.Common.{◌≡◌, ◌≢◌, ◌≤◌, ◌+◌, ℕ, zero, suc, ℤ, pos, ◌+ℤ◌, unsigned_abs, Bool, true, false, cond, List, [], ◌∷◌, ◌++◌, map, length, refl, sym, ap, subst, ◌∙◌, arith}
+use Rattle.std.proofs.Common.{◌≡◌, ◌≤◌, ◌+◌, ℕ, ℤ, pos, ◌+ℤ◌, unsigned_abs, Bool, true, false, cond, List, [], ◌∷◌, ◌++◌, refl, sym, ap, subst, ◌∙◌, arith}
 use Rattle.std.proofs.lemmas.Int.{ints}
 use Rattle.std.proofs.lemmas.List.{map-append}
 use Rattle.std.specs.Ordering.{eq_by_cmp}
@@ -14,7 +14,7 @@ use Rattle.nd_cluster.specs.Drafts.{IsSound, AddsUp, IsSmall, Follows}
 use Rattle.nd_cluster.specs.declared.change.Change.{Change}
 use Rattle.nd_cluster.specs.declared.draft.Draft.{Draft}
 use Rattle.nd_cluster.specs.declared.net.Sums.{Sums}
-use Rattle.nd_cluster.proofs.Totals.{total-append, total-one, here}
+use Rattle.nd_cluster.proofs.Totals.{total-append, total-one}
 
 pub often_append : (k : Place) (cs ds : List Change) → often k (cs ++ ds) ≡ often k cs + often k ds
 often_append k [] ds = omega arith

@@ -1,5 +1,5 @@
 -- What the tests of a plan say together: that a step is enabled, or for which limit it is refused.
-use Rattle.std.proofs.Common.{◌≡◌, ◌<◌, ℕ, ℤ, List, inl, inr, sym, subst, arith}
+use Rattle.std.proofs.Common.{◌<◌, ℕ, ℤ, List, inl, inr, sym, subst, arith}
 use Rattle.nd_time.specs.Time.{Time}
 use Rattle.nd_protocol.specs.State.{ClusterState}
 use Rattle.nd_protocol.specs.Steps.{stepped}
@@ -84,11 +84,13 @@ module _ {A : Type 0} (s : ClusterState) where
   module _ (x : Step A) (works : Works x) (free : IsFreeBelow s x 13) where
     -- want of memory may be answered
     pub may_want_memory : MayWantMemory s x
-    may_want_memory = record { free = λ r sure h. elim sure [
-      | inl lt ↦ free.free r lt h
-      | inr (inl is) ↦ never x works r (subst (λ q. 14 < number_of q) (sym is) (omega arith)) h
-      | inr (inr is) ↦ never x works r (subst (λ q. 14 < number_of q) (sym is) (omega arith)) h
-    ] }
+    may_want_memory = record {
+      free = λ r sure h. elim sure [
+        | inl lt ↦ free.free r lt h
+        | inr (inl is) ↦ never x works r (subst (λ q. 14 < number_of q) (sym is) (omega arith)) h
+        | inr (inr is) ↦ never x works r (subst (λ q. 14 < number_of q) (sym is) (omega arith)) h
+      ];
+    }
 
     -- a refusal for the limit of counts is the one of least number
     pub count_refused : HasLargeCount (stepped s x) → IsRefused s x CountFull

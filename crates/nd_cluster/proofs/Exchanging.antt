@@ -1,16 +1,15 @@
 -- Broadcasts and receives in what is kept of a cluster: where they lead, and where undoing them leads back to.
-use Rattle.std.proofs.Common.{◌≡◌, ℕ, ◌<◌, ◌≤◌, ◌-◌, pos, ◌-ℤ◌, List, [], ◌∷◌, map, length, get_or, set, drop, All, Result, Ok, Err, OnOk, Some, refl, sym, ap, subst, ◌∙◌, arith, length-set, get_or-set_same}
+use Rattle.std.proofs.Common.{◌≡◌, ℕ, ◌<◌, ◌≤◌, ◌-◌, ◌-ℤ◌, List, [], ◌∷◌, length, get_or, set, drop, Result, Ok, Err, OnOk, Some, refl, sym, ap, subst, ◌∙◌, arith, length-set, get_or-set_same}
 use Rattle.std.proofs.lemmas.Int.{ints}
 use Rattle.std.proofs.lemmas.List.{set-set, set-get_or, length-drop, length-map}
 use Rattle.std.specs.Prelude.{slice_get, unwrap_or, unsigned_abs}
 use Rattle.nd_time.specs.Limits.{max_count, max_queue}
 use Rattle.nd_graph.specs.Graph.{Dataflow}
-use Rattle.nd_paths.specs.declared.point.Pointstamp.{Pointstamp}
 use Rattle.nd_delta.specs.Change.{Change, none, at, plus, minus, at-minus, IsTooLarge, minus-plus, plus-minus}
 use Rattle.nd_view.specs.Kept.{Kept}
 use Rattle.nd_view.specs.Views.{maps}
 use Rattle.nd_processor.specs.State.{ProcessorState, idle}
-use Rattle.nd_processor.specs.Edits.{IsPartOf, IsApart}
+use Rattle.nd_processor.specs.Edits.{IsApart}
 use Rattle.nd_mesh.specs.Mesh.{row, pushed, unpushed, popped, unpopped, IsFull, queue as queue_in}
 use Rattle.nd_mesh.specs.Laws.{queue-with_queue, unpushed-pushed, unpopped-popped}
 use Rattle.nd_protocol.specs.State.{ClusterState, processor, view, queue}

@@ -1,5 +1,5 @@
 -- What a feed drafts is what it adds.
-use Rattle.std.proofs.Common.{◌≡◌, ◌≢◌, ◌≤◌, ◌+◌, ℕ, zero, suc, ℤ, pos, negsuc, ◌+ℤ◌, ◌-ℤ◌, Bool, true, false, cond, List, [], ◌∷◌, ◌++◌, length, Option, Some, None, unwrap_or, refl, sym, ap, subst, ◌∙◌, arith}
+use Rattle.std.proofs.Common.{◌≡◌, ◌≢◌, ◌≤◌, ◌+◌, ℕ, ℤ, pos, negsuc, ◌-ℤ◌, Bool, true, false, cond, List, [], ◌∷◌, ◌++◌, length, Option, Some, None, unwrap_or, sym, ap, subst, ◌∙◌, arith}
 use Rattle.std.proofs.lemmas.Int.{ints}
 use Rattle.std.specs.List.{flat_map}
 use Rattle.std.specs.Ordering.{eq_by_cmp}
@@ -14,11 +14,11 @@ use Rattle.nd_protocol.specs.Steps.{made_on, emitted, epoch_of, flat}
 use Rattle.nd_protocol.specs.declared.step.Next.{Next as Afterwards}
 use Rattle.nd_protocol.specs.declared.step.Next.TheVariants as token
 use Rattle.nd_protocol.specs.declared.step.Step.TheVariants.{Feed}
-use Rattle.nd_cluster.specs.Places.{Place, place_cmp, token_of, unsent_of}
-use Rattle.nd_cluster.specs.Standing.{standing, from_epoch}
-use Rattle.nd_cluster.specs.Changes.{place_of, gain_of}
-use Rattle.nd_cluster.specs.Edits.{Edit, total_at, edits_of, token_edits, come, come_edits}
-use Rattle.nd_cluster.specs.Plans.{often, Once, Each}
+use Rattle.nd_cluster.specs.Places.{place_cmp, token_of, unsent_of}
+use Rattle.nd_cluster.specs.Standing.{from_epoch}
+use Rattle.nd_cluster.specs.Changes.{place_of}
+use Rattle.nd_cluster.specs.Edits.{token_edits, come, come_edits}
+use Rattle.nd_cluster.specs.Plans.{Once}
 use Rattle.nd_cluster.specs.Drafts.{IsSound, AddsUp, Follows, Has, fed_edits}
 use Rattle.nd_cluster.specs.declared.change.Change.{Change}
 use Rattle.nd_cluster.specs.declared.change.Change.TheVariants.{Token}
@@ -79,7 +79,7 @@ module _ {A : Type 0} (s : ClusterState) (p vertex epoch : ℕ) (held : fin.get 
 -- the records of a feed are those that come
 pub fed_come : (s : ClusterState) (g : Dataflow) (n p vertex epoch : ℕ) (values : List ℤ) (next : Afterwards) → Has g n s → op_at g vertex ≡ operator.Input → fin.get (processor s p).tokens vertex ≡ Some epoch
     → flat_map (λ v. made_on n p vertex 0 v (flat epoch) (length g.vertices) g.edges) values ≡ come {A = Unit {0}} s (Feed p vertex values next)
-fed_come s g n p vertex epoch values next has input held =
+fed_come s g n p vertex epoch values _ has input held =
     let e : epoch ≡ epoch_of s p vertex = ap (λ o. unwrap_or o 0) (sym held) in
     ap (λ o. flat_map (λ v. made_on n p vertex 0 v (time_past o (flat epoch)) (length g.vertices) g.edges) values) (sym input)
     ∙ (λ i. flat_map (λ v. emitted (sym has.graph i) (sym has.count i) p vertex (flat (e i)) (0, v)) values)

@@ -1,15 +1,15 @@
 -- Counts and entries after changes, each at a place of its own: within their limits, or past them.
-use Rattle.std.proofs.Common.{◌≡◌, ◌<◌, ◌≤◌, ◌+◌, ℕ, zero, suc, ℤ, pos, ◌+ℤ◌, unsigned_abs, Bool, true, false, cond, List, [], ◌∷◌, length, get_or, ◌⊎◌, inl, inr, refl, sym, ap, subst, ◌∙◌, arith}
+use Rattle.std.proofs.Common.{◌≡◌, ◌<◌, ◌≤◌, ◌+◌, ℕ, suc, ℤ, pos, ◌+ℤ◌, unsigned_abs, Bool, true, false, cond, List, [], ◌∷◌, length, get_or, ◌⊎◌, inl, inr, refl, sym, ap, subst, ◌∙◌, arith}
 use Rattle.std.proofs.lemmas.Int.{ints}
 use Rattle.std.proofs.lemmas.Bool.{cases_lt}
 use Rattle.nd_time.specs.Limits.{max_count}
-use Rattle.nd_protocol.specs.State.{ClusterState, processor, view}
+use Rattle.nd_protocol.specs.State.{ClusterState}
 use Rattle.nd_protocol.specs.Enabled.{HasLargeCount, of_record, of_sink, HasLargeEntry, of_unsent, of_view}
 use Rattle.nd_cluster.specs.Places.{Place, record_of, request_of, token_of, item_of, sink_of, unsent_of, view_of}
 use Rattle.nd_cluster.specs.Standing.{standing}
 use Rattle.nd_cluster.specs.Changes.{place_of, gain_of, IsWithinAt}
 use Rattle.nd_cluster.specs.Edits.{total_at, edits_of}
-use Rattle.nd_cluster.specs.Plans.{often, Once, Each}
+use Rattle.nd_cluster.specs.Plans.{often, Each}
 use Rattle.nd_cluster.specs.Undone.{Limits}
 use Rattle.nd_cluster.specs.Limits.{Reaches, CountAt, EntryAt, CountStays, EntryStays, StaysWithin}
 use Rattle.nd_cluster.specs.declared.change.Change.{Change}

@@ -1,28 +1,27 @@
 -- The changes of a vertex's items, each once, add what the items gain.
-use Rattle.std.proofs.Common.{◌≡◌, ◌≢◌, ◌<◌, ◌≤◌, ◌+◌, ℕ, zero, suc, ℤ, pos, negsuc, ◌+ℤ◌, ◌-ℤ◌, All, Bool, true, false, cond, List, [], ◌∷◌, ◌++◌, map, length, get_or, Option, Some, None, ◌⊎◌, inl, inr, refl, sym, ap, subst, ◌∙◌, arith, true≢false}
+use Rattle.std.proofs.Common.{◌≡◌, ◌≢◌, ◌<◌, ◌≤◌, ◌+◌, ℕ, zero, suc, ℤ, pos, negsuc, ◌+ℤ◌, ◌-ℤ◌, All, Bool, true, false, cond, List, [], ◌∷◌, map, length, get_or, Option, Some, None, ◌⊎◌, inl, inr, refl, sym, ap, subst, ◌∙◌, arith}
 use Rattle.std.proofs.lemmas.Int.{ints}
 use Rattle.std.proofs.lemmas.Map.Keys.{IsDistinct-head, IsDistinct-tail}
 use Rattle.std.specs.List.{IsDistinct, AllByRecursion}
 use Rattle.std.specs.Ordering.{eq_by_cmp}
 use Rattle.std.specs.Cmp.{eq_by_cmp_equiv}
 use Rattle.std.proofs.lemmas.Map.Views.{tells_apart}
-use Rattle.nd_map.specs.Counts.{or_else, at as number_at, at-set}
+use Rattle.nd_map.specs.Counts.{at as number_at, at-set}
 use Rattle.nd_vertex.specs.Items.{Items, item_cmp, item_total, item_exact}
 use Rattle.nd_vertex.specs.Table.{is_zero}
-use Rattle.nd_vertex.specs.Edits.{CanEdit, LeadsTo, edited, item_of as item_found, keys, number_of, with_item}
+use Rattle.nd_vertex.specs.Edits.{LeadsTo, edited, item_of as item_found, keys, number_of, with_item}
 use Rattle.nd_vertex.specs.declared.key.ItemKey.{ItemKey}
 use Rattle.nd_vertex.specs.declared.effect.ItemEdit.{ItemEdit}
 use Rattle.nd_processor.specs.State.{items_at}
 use Rattle.nd_protocol.specs.State.{ClusterState, processor}
-use Rattle.nd_cluster.specs.Places.{Place, place_cmp, record_of, request_of, token_of, item_of, sink_of, unsent_of, view_of}
+use Rattle.nd_cluster.specs.Places.{Place, record_of, request_of, token_of, item_of, sink_of, unsent_of, view_of}
 use Rattle.nd_cluster.specs.Standing.{from_number}
-use Rattle.nd_cluster.specs.Changes.{place_of, gain_of}
-use Rattle.nd_cluster.specs.Edits.{Edit, total_at, edits_of, item_edits}
+use Rattle.nd_cluster.specs.Edits.{total_at, edits_of, item_edits}
 use Rattle.nd_cluster.specs.Plans.{often, Once, Each}
 use Rattle.nd_cluster.specs.Drafts.{IsSound, state_change}
 use Rattle.nd_cluster.specs.declared.change.Change.{Change}
-use Rattle.nd_cluster.proofs.Tests.{is_place, same_place, other_place, item-test, item_elsewhere}
-use Rattle.nd_cluster.proofs.Sums.{total_at-map_apart, items-here, items-of_others}
+use Rattle.nd_cluster.proofs.Tests.{is_place, same_place, other_place, item-test}
+use Rattle.nd_cluster.proofs.Sums.{total_at-map_apart, items-here}
 use Rattle.nd_cluster.proofs.Arrivals.{decided}
 
 -- ---- numbers of items

@@ -1,11 +1,11 @@
 -- The list of all changes of a draft adds what the draft adds, and names no place twice.
-use Rattle.std.proofs.Common.{◌≡◌, ◌≢◌, ◌≤◌, ◌+◌, ℕ, zero, suc, ℤ, pos, ◌+ℤ◌, All, unsigned_abs, Bool, true, false, cond, List, [], ◌∷◌, ◌++◌, map, length, Option, Some, None, IfSome, ◌⊎◌, inl, inr, refl, sym, ap, subst, ◌∙◌, arith, Ordering}
+use Rattle.std.proofs.Common.{◌≡◌, ◌≢◌, ◌≤◌, ◌+◌, ℕ, suc, ℤ, pos, ◌+ℤ◌, All, unsigned_abs, Bool, true, false, cond, List, [], ◌∷◌, ◌++◌, map, Option, Some, None, IfSome, ◌⊎◌, inl, inr, refl, sym, ap, subst, ◌∙◌, arith, Ordering}
 use Rattle.std.proofs.lemmas.Int.{ints}
 use Rattle.std.proofs.lemmas.List.{map-append}
 use Rattle.std.proofs.lemmas.Map.Views.{tells_apart}
 use Rattle.std.proofs.lemmas.Map.Lookups.{exact_unsigned}
 use Rattle.std.proofs.lemmas.Cmp.{nat_cmp_total}
-use Rattle.std.specs.Ordering.{eq_by_cmp, nat_cmp}
+use Rattle.std.specs.Ordering.{eq_by_cmp}
 use Rattle.std.specs.Cmp.{IsTotalOrder}
 use Rattle.std.specs.FinMap.{IsAntisymmetric, find}
 use Rattle.nd_time.specs.Limits.{max_count}
@@ -15,12 +15,12 @@ use Rattle.nd_map.specs.Entries.{listed-tail, absent_in_tail, all_found}
 use Rattle.nd_paths.specs.Point.{point_cmp, point_total, point_exact}
 use Rattle.nd_paths.specs.declared.point.Pointstamp.{Pointstamp}
 use Rattle.nd_protocol.specs.State.{ClusterState}
-use Rattle.nd_cluster.specs.Places.{Place, place_cmp, record_of, request_of, token_of, item_of, sink_of, unsent_of, view_of}
+use Rattle.nd_cluster.specs.Places.{Place, record_of, request_of, token_of, item_of, sink_of, unsent_of, view_of}
 use Rattle.nd_cluster.specs.Changes.{place_of, gain_of, FindsOld, NamesNumbers}
 use Rattle.nd_cluster.specs.Edits.{Edit, total_at, edits_of}
 use Rattle.nd_cluster.specs.Plans.{often, Once, Each}
 use Rattle.nd_cluster.specs.Limits.{IsSmallGain}
-use Rattle.nd_cluster.specs.Sums.{record_at_cmp, record_at_total, record_at_exact, IsSum, AreSums, found, sum_at}
+use Rattle.nd_cluster.specs.Sums.{record_at_cmp, record_at_total, record_at_exact, IsSum, found, sum_at}
 use Rattle.nd_cluster.specs.Drafts.{IsSingle, IsSound, AddsUp, record_change, unsent_change, joined}
 use Rattle.nd_cluster.specs.declared.change.Change.{Change}
 use Rattle.nd_cluster.specs.declared.change.Change.TheVariants.{Records, Request, Token, State, Sink, Unsent}
@@ -29,7 +29,7 @@ use Rattle.nd_cluster.specs.declared.key.RecordAt.{RecordAt}
 use Rattle.nd_cluster.proofs.Tests.{is_place, other_place, unsent-test}
 use Rattle.nd_cluster.proofs.Arrivals.{decided}
 use Rattle.nd_cluster.proofs.Putting.{same_key, other_key}
-use Rattle.nd_cluster.proofs.Totals.{total-append, plus_nothing}
+use Rattle.nd_cluster.proofs.Totals.{total-append}
 use Rattle.nd_cluster.proofs.Drafting.{often_append, each_then}
 
 -- how often a place stands there, and what is added to it

@@ -7,6 +7,7 @@ pub mod Effects
 pub mod Exact
 pub mod Putting
 pub mod Exchanging
+pub mod Exchanged
 pub mod Feeding
 pub mod Feeds
 pub mod Listing

@@ -1,6 +1,5 @@
 -- What is outstanding at a pointstamp, as a sum over the processors.
 use Rattle.std.proofs.Common.{◌≡◌, ℕ, ◌+◌, pos, ℤ, ◌+ℤ◌, Bool, true, false, cond, List, [], ◌∷◌, ◌++◌, map, refl, sym, ap, ◌∙◌, arith}
-use Rattle.std.proofs.lemmas.Int.{ints}
 use Rattle.std.proofs.lemmas.List.Sums.{sum_by-cons, sum_by-append}
 use Rattle.std.proofs.lemmas.Map.Views.{tells_apart}
 use Rattle.std.specs.Prelude.{sum_by}

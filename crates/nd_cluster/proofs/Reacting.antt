@@ -1,13 +1,11 @@
 -- What a take and a notice draft is what they add.
-use Rattle.std.proofs.Common.{◌≡◌, ◌≢◌, ◌≤◌, ◌+◌, ℕ, zero, suc, ℤ, pos, negsuc, ◌+ℤ◌, ◌-ℤ◌, Bool, true, false, cond, ◌&&◌, List, [], ◌∷◌, ◌++◌, map, length, Option, Some, None, is_none, refl, sym, ap, subst, ◌∙◌, arith}
+use Rattle.std.proofs.Common.{◌≡◌, ◌≤◌, ◌+◌, ℕ, ℤ, pos, negsuc, ◌+ℤ◌, Bool, true, false, cond, ◌&&◌, List, [], ◌∷◌, ◌++◌, map, length, Option, Some, None, is_none, refl, sym, ap, subst, ◌∙◌, arith}
 use Rattle.std.proofs.lemmas.Int.{ints}
 use Rattle.std.proofs.lemmas.List.{map-append}
 use Rattle.std.specs.List.{flat_map}
-use Rattle.std.specs.Ordering.{eq_by_cmp}
 use Rattle.std.specs.FinMap as fin
 use Rattle.nd_time.specs.Time.{Time}
 use Rattle.nd_graph.specs.Graph.{Dataflow, op_at}
-use Rattle.nd_graph.specs.declared.op.Op.{Op}
 use Rattle.nd_paths.specs.declared.point.Pointstamp.{Pointstamp}
 use Rattle.nd_vertex.specs.Table.{Outcome, time_past}
 use Rattle.nd_vertex.specs.Effects.{IsEffect, emitted as emissions_of}
@@ -19,15 +17,14 @@ use Rattle.nd_vertex.specs.declared.effect.ItemEdit.{ItemEdit}
 use Rattle.nd_processor.specs.State.{items_at}
 use Rattle.nd_processor.specs.declared.key.ValueAt.{ValueAt}
 use Rattle.nd_protocol.specs.State.{ClusterState, processor}
-use Rattle.nd_protocol.specs.Steps.{made_on, emitted, target_of, take_outcome, notice_outcome, point_at}
+use Rattle.nd_protocol.specs.Steps.{made_on, emitted, take_outcome, notice_outcome, point_at}
 use Rattle.nd_protocol.specs.declared.step.Step.TheVariants.{Take, Notice}
-use Rattle.nd_cluster.specs.Places.{Place, place_cmp, record_of, request_of, token_of, item_of, sink_of, unsent_of, view_of}
+use Rattle.nd_cluster.specs.Places.{Place, record_of, request_of, token_of, item_of, sink_of, unsent_of, view_of}
 use Rattle.nd_cluster.specs.Changes.{place_of, gain_of}
 use Rattle.nd_cluster.specs.Edits.{Edit, total_at, edits_of, ask_edits, item_edits, sink_edits, come, come_edits}
 use Rattle.nd_cluster.specs.Plans.{often, Once, Each}
 use Rattle.nd_cluster.specs.Drafts.{IsSound, AddsUp, Follows, Has, TakesSo, NoticesSo, taken_edits, noticed_edits, state_change, request_changes, sink_changes, vertex_changes, request_if, sent_if, counted_if}
 use Rattle.nd_cluster.specs.declared.change.Change.{Change}
-use Rattle.nd_cluster.specs.declared.change.Change.TheVariants.{Request, State, Sink}
 use Rattle.nd_cluster.specs.declared.draft.Draft.{Draft}
 use Rattle.nd_cluster.specs.declared.net.Sums.{Sums}
 use Rattle.nd_cluster.proofs.Tests.{is_place}

@@ -37,7 +37,7 @@ use Rattle.nd_protocol.specs.Fitting.{IsState, ProcessorFits, IsAtEdge}
 use Rattle.nd_protocol.specs.Enabled.{TakeFails, NoticeFails}
 use Rattle.nd_protocol.specs.Refusals.{number_of}
 use Rattle.nd_protocol.specs.declared.refusal.Refusal.{Refusal}
-use Rattle.nd_protocol.specs.declared.refusal.Refusal.TheVariants.{NoProcessor, NoVertex, NoEdge, NotInput, InputClosed, TooManyValues, EpochFull, NoRecord, NoRequest, NotYet, CounterFull, ValueRange, CountFull, DeltaFull, Memory}
+use Rattle.nd_protocol.specs.declared.refusal.Refusal.TheVariants.{NoProcessor, NoVertex, NoEdge, NoRecord, NotYet, CounterFull, ValueRange}
 use Rattle.nd_cluster.specs.Seen.{seen, IsSeen}
 use Rattle.nd_cluster.specs.Tested.{TakePasses, TakeRefused, NoticePasses, NoticeRefused}
 use Rattle.nd_cluster.proofs.Takes.{target_there}

@@ -1,5 +1,5 @@
 -- The cluster that is kept, after a record is made and after it is undone.
-use Rattle.std.proofs.Common.{◌≡◌, List, All, map, length, sym, ap, subst, ◌∙◌}
+use Rattle.std.proofs.Common.{◌≡◌, List, All, map, sym, ap, subst, ◌∙◌}
 use Rattle.nd_graph.specs.Graph.{Dataflow}
 use Rattle.nd_delta.specs.Change.{Change as Delta}
 use Rattle.nd_view.specs.Kept.{Kept, IsFor}

@@ -1,5 +1,5 @@
 -- What the text of a state lists, step by step.
-use Rattle.std.proofs.Common.{◌≡◌, ◌<◌, ◌≤◌, ◌+◌, ℕ, zero, suc, ℤ, List, [], ◌∷◌, ◌++◌, false, map, take, length, get_or, refl, sym, ap, ◌∙◌, arith}
+use Rattle.std.proofs.Common.{◌≡◌, ◌<◌, ◌≤◌, ◌+◌, ℕ, zero, suc, ℤ, List, [], ◌∷◌, ◌++◌, map, take, length, get_or, refl, sym, ap, ◌∙◌, arith}
 use Rattle.std.proofs.lemmas.List.{map-append, take_more, length-take-le, append-nil}
 use Rattle.std.proofs.lemmas.Grind.{flat_map-append}
 use Rattle.std.specs.List.{flat_map, enumerate_from, zip}
@@ -9,12 +9,11 @@ use Rattle.nd_paths.specs.declared.point.Pointstamp.{Pointstamp}
 use Rattle.nd_delta.specs.Change.{Change, entries as listed}
 use Rattle.nd_processor.specs.declared.key.ValueAt.{ValueAt}
 use Rattle.nd_processor.specs.declared.key.SinkKey.{SinkKey}
-use Rattle.nd_map.specs.Counts.{entries, none}
+use Rattle.nd_map.specs.Counts.{entries}
 use Rattle.nd_view.specs.Kept.{Kept}
 use Rattle.nd_vertex.specs.Items.{Items}
 use Rattle.nd_vertex.specs.declared.key.ItemKey.{ItemKey}
 use Rattle.nd_processor.specs.State.{ProcessorState}
-use Rattle.serde_json.specs.Data.{Data}
 use Rattle.nd_cluster.specs.Seen.{seen}
 use Rattle.nd_cluster.specs.StateText.{row, point_data, record_data, sink_data, token_data, entry_data, item_data, items_data, processor_members, processor_data, queues_data, whole_data, state_data}
 

@@ -1,8 +1,8 @@
 -- The start of a cluster: its tokens, counted once for each processor, are all that is outstanding.
-use Rattle.std.proofs.Common.{◌≡◌, ◌<◌, ◌≤◌, ◌+◌, ◌*◌, ℕ, zero, suc, pos, ◌+ℤ◌, ℤ, Bool, true, false, cond, List, [], ◌∷◌, ◌++◌, map, take, length, get_or, replicate, refl, sym, ap, subst, ◌∙◌, arith}
+use Rattle.std.proofs.Common.{◌≡◌, ◌<◌, ◌+◌, ◌*◌, ℕ, zero, suc, pos, ◌+ℤ◌, ℤ, Bool, true, false, cond, List, [], ◌∷◌, ◌++◌, map, take, length, get_or, replicate, refl, sym, ap, ◌∙◌, arith}
 use Rattle.std.proofs.Math.Nat.{mul-add}
 use Rattle.std.proofs.lemmas.Int.{ints}
-use Rattle.std.proofs.lemmas.List.{length-replicate, map-append, replicate_more}
+use Rattle.std.proofs.lemmas.List.{map-append, replicate_more}
 use Rattle.std.proofs.lemmas.List.Folds.{sum_by-replicate}
 use Rattle.std.proofs.lemmas.List.Sums.{sum_by_more}
 use Rattle.std.specs.Prelude.{All}
@@ -21,12 +21,12 @@ use Rattle.nd_view.specs.Kept.{Kept}
 use Rattle.nd_processor.specs.State.{ProcessorState, one_at, token_point, held}
 use Rattle.nd_processor.specs.Start.{start_processor}
 use Rattle.nd_processor.specs.Held.{no_records, no_requests}
-use Rattle.nd_protocol.specs.State.{ClusterState, truth}
+use Rattle.nd_protocol.specs.State.{truth}
 use Rattle.nd_protocol.specs.Start.{start}
 use Rattle.nd_protocol.specs.Fitting.{IsOrdered}
 use Rattle.nd_cluster.specs.Seen.{seen}
 use Rattle.nd_cluster.specs.Starting.{tokens_weigh, IsProcessorCount, IsStartFault, fault_of}
-use Rattle.nd_cluster.proofs.Outstanding.{held_by_all, truth-held}
+use Rattle.nd_cluster.proofs.Outstanding.{truth-held}
 
 add_here : (b : Bool) (here : ℤ) (s n : ℕ) → (b ≡ true → here ≡ pos s) → cond b (here +ℤ pos n) (pos s) ≡ pos (s + n * cond b 1 0)
 add_here true here s n e = rw (e refl) (ap pos (omega arith))

@@ -1,15 +1,14 @@
 -- Edits of the entries of a map of sums, and what they make of the sum at each place.
-use Rattle.std.proofs.Common.{◌≡◌, ◌≢◌, ◌<◌, ◌≤◌, ◌+◌, ◌*◌, ◌^◌, ℕ, zero, suc, ℤ, pos, ◌+ℤ◌, unsigned_abs, Bool, true, false, cond, nat_eq, List, [], ◌∷◌, ◌++◌, map, length, take, get_or, Option, Some, None, IfSome, w64, to_z, of_z, FitsSigned, refl, sym, ap, subst, ◌∙◌, arith, Ordering, Less, Equal, Greater}
+use Rattle.std.proofs.Common.{◌≡◌, ◌≤◌, ◌^◌, ℤ, pos, ◌+ℤ◌, unsigned_abs, Bool, true, false, cond, List, Option, Some, None, IfSome, w64, to_z, of_z, FitsSigned, refl, sym, ap, subst, ◌∙◌, arith, Ordering}
 use Rattle.std.proofs.lemmas.Int.{ints, to_z-of_z, fits_signed_from_abs}
-use Rattle.std.proofs.lemmas.List.{take_more}
-use Rattle.std.specs.Ordering.{eq_by_cmp, is_eq, nat_cmp, ordering_then}
+use Rattle.std.specs.Ordering.{eq_by_cmp}
 use Rattle.std.specs.Cmp.{IsTotalOrder}
 use Rattle.std.specs.FinMap.{IsAntisymmetric, find, put}
 use Rattle.std.specs.FinMap.Entries.{find-put}
 use Rattle.std.proofs.lemmas.Map.Views.{tells_apart}
 use Rattle.nd_time.specs.Limits.{max_count}
 use Rattle.nd_map.specs.Counts.{or_else}
-use Rattle.nd_map.specs.Listed.{IsListed, without}
+use Rattle.nd_map.specs.Listed.{without}
 use Rattle.nd_map.specs.Maps.{find-without, listed-put, listed-without}
 use Rattle.nd_cluster.specs.Sums.{IsSum, AreSums, IsAdded, found}
 

@@ -11,7 +11,6 @@ use Rattle.nd_time.specs.Limits.{max_count}
 use Rattle.nd_map.specs.Counts.{or_else}
 use Rattle.nd_map.specs.Listed.{IsListed}
 use Rattle.nd_paths.specs.Point.{point_cmp}
-use Rattle.nd_paths.specs.declared.point.Pointstamp.{Pointstamp}
 use Rattle.nd_processor.specs.Keys.{value_at_cmp, value_at_total, value_at_exact}
 use Rattle.nd_processor.specs.declared.key.ValueAt.{ValueAt}
 use Rattle.nd_cluster.specs.Places.{Place, place_cmp, record_of, request_of, token_of, item_of, sink_of, unsent_of, view_of}

@@ -2,6 +2,7 @@
 ghost use Rattle.std.specs.Prelude.{◌≡◌, ◌≢◌, ◌+◌, Err, IfOk, IfErr, OnOk, length};
 ghost use Rattle.nd_protocol.specs.Steps.{stepped};
 ghost use Rattle.nd_protocol.specs.Enabled.{IsEnabled, IsRefused, MayWantMemory};
+ghost use Rattle.nd_cluster.specs.Edits.{Works};
 ghost use Rattle.nd_cluster.specs.Standing.{changed};
 ghost use Rattle.nd_cluster.specs.Records.{named, shared, Plans, IsPlanned};
 ghost use Rattle.nd_protocol.specs.declared.step.Step.TheVariants.{Broadcast as Sending, Receive as Receiving};
@@ -13,6 +14,17 @@ use nd_exchange::{planned_front, planned_part};
 use std::alloc::Allocator;
 
 impl<A: Allocator + Copy> Cluster<A> {
+    // What a feed, a take or a notice changes, or why it is refused.
+    fn work_plan(&self, step: &Step<A>) -> Result<Changes<A>, Refusal>
+        requires { Works step.now }
+        ensures ok { IfOk result (Plans self.now step.now) }
+        ensures refused { IfErr result (λ r. r ≢ Memory → IsRefused self.now step.now r) }
+        ensures memory { result ≡ Err Memory → MayWantMemory self.now step.now }
+    {
+        let _ = self.processor_count();
+        Ok(Changes::Each(self.work_changes(step)?))
+    }
+
     // What a broadcast changes, or why it is refused.
     fn broadcast_changes(&self, p: u32, part: &Part<A>) -> Result<Changes<A>, Refusal>
         ensures ok { IfOk result (Plans {A = A} self.now (Sending p part.now)) }
@@ -63,9 +75,7 @@ impl<A: Allocator + Copy> Cluster<A> {
         let changes = match step {
             Step::Broadcast { p, part } => self.broadcast_changes(*p, part)?,
             Step::Receive { from, to } => self.receive_changes(*from, *to)?,
-            Step::Feed { .. } | Step::Take { .. } | Step::Notice { .. } => {
-                Changes::Each(self.work_changes(step)?)
-            }
+            Step::Feed { .. } | Step::Take { .. } | Step::Notice { .. } => { self.work_plan(step)? }
         };
         let Ok(step) = step.copy(self.alloc) else {
             return Err(Refusal::Memory);

@@ -25,7 +25,10 @@ pub enum Changes<A: Allocator + Copy = Global> {
     /// Changes of a feed, a take or a notice: one for each key of a map.
     Each(Vec<Change, A>),
     /// A part of what is unsent goes to the back of every queue from p.
-    Sent { p: u32, part: Delta<A> },
+    Sent {
+        p: u32,
+        part: Delta<A>,
+    },
     /// The front of a queue goes into the receiver's view.
     Received {
         from: u32,
@@ -163,7 +166,15 @@ fn undo<A: Allocator + Copy>(
         Changes::Each(changes) => undo_all(processors, changes),
         Changes::Sent { p, part } => undo_sent(processors, mesh, *p as usize, part),
         Changes::Received { from, to, change } => {
-            undo_received(alloc, views, mesh, paths, *from as usize, *to as usize, change)
+            undo_received(
+                alloc,
+                views,
+                mesh,
+                paths,
+                *from as usize,
+                *to as usize,
+                change,
+            )
         }
     }
 }

@@ -1,4 +1,4 @@
-use Rattle.std.proofs.Common.{◌≡◌, ◌++◌, IfSome, length, subst, sym, ap, ◌∙◌}
+use Rattle.std.proofs.Common.{◌≡◌, ◌++◌, IfSome, length, subst, ap, ◌∙◌}
 use Rattle.std.specs.List.{flat_map}
 use Rattle.nd_protocol.specs.Steps.{made_on, flat}
 use Rattle.nd_protocol.specs.declared.step.Step.TheVariants.{Feed}

@@ -1,5 +1,4 @@
-use Rattle.std.proofs.Common.{subst, sym, ap, ◌∙◌, arith}
-use Rattle.nd_protocol.specs.declared.step.Next.TheVariants as token
+use Rattle.std.proofs.Common.{subst, sym, arith}
 use Rattle.nd_cluster.specs.Edits.{token_edits}
 use Rattle.nd_cluster.specs.Drafts.{AddsUp}
 use Rattle.nd_cluster.proofs.Drafting.{small_as}

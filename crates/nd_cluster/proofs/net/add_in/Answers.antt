@@ -1,4 +1,4 @@
-use Rattle.std.proofs.Common.{◌≡◌, ◌≤◌, ◌+ℤ◌, ℤ, pos, w64, to_z, of_z, unsigned_abs, arith, ap, sym, subst, ◌∙◌}
+use Rattle.std.proofs.Common.{◌≡◌, ◌≤◌, ◌+ℤ◌, pos, w64, to_z, of_z, unsigned_abs, ap, sym, subst, ◌∙◌}
 use Rattle.nd_time.specs.Limits.{max_count}
 use Rattle.nd_cluster.specs.Sums.{IsSum, found}
 use Rattle.nd_cluster.proofs.Summing.{added_put, added_without, sums_put, sums_without, parts, summed}

@@ -1,13 +1,9 @@
-use Rattle.std.proofs.Common.{◌≡◌, List, Ok, OnOk, map, sym, ap, subst, ◌∙◌}
+use Rattle.std.proofs.Common.{List, sym, ap, subst, ◌∙◌}
 use Rattle.std.proofs.lemmas.Result.{IfOk-weaker}
-use Rattle.nd_protocol.specs.State.{ClusterState}
 use Rattle.nd_cluster.specs.Changes.{IsRunnable, applied}
-use Rattle.nd_cluster.specs.Undone.{Limits, only}
 use Rattle.nd_cluster.specs.Seen.{seen}
-use Rattle.nd_cluster.specs.Records.{Makes, Sends, Receives}
+use Rattle.nd_cluster.specs.Records.{Makes}
 use Rattle.nd_cluster.specs.declared.change.Change.{Change}
-use Rattle.nd_cluster.specs.declared.record.Changes.{Changes}
-use Rattle.nd_cluster.specs.declared.record.Changes.TheVariants.{Each, Sent, Received}
 use Rattle.nd_cluster.proofs.Running.{alone, runs_only}
 use Rattle.nd_cluster.proofs.Seeing.{seen_after}
 use Rattle.nd_cluster.proofs.Exchanging.{on_both, sent_leads, received_leads}

@@ -1,7 +1,7 @@
-use Rattle.std.proofs.Common.{◌≡◌, List, map, sym, ap, subst, ◌∙◌}
+use Rattle.std.proofs.Common.{◌≡◌, List, sym, subst}
 use Rattle.std.proofs.lemmas.Result.{IfOk-weaker}
 use Rattle.nd_protocol.specs.State.{ClusterState}
-use Rattle.nd_cluster.specs.Changes.{IsRunnable, applied}
+use Rattle.nd_cluster.specs.Changes.{applied}
 use Rattle.nd_cluster.specs.Undone.{Runs}
 use Rattle.nd_cluster.specs.Seen.{seen}
 use Rattle.nd_cluster.specs.Records.{Makes}

@@ -1,4 +1,4 @@
-use Rattle.std.proofs.Common.{pos, ◌*◌, ap, sym, ◌∙◌, arith}
+use Rattle.std.proofs.Common.{pos, ◌*◌, ap, ◌∙◌, arith}
 use Rattle.std.proofs.lemmas.Int.{ints}
 use Rattle.std.proofs.lemmas.List.{take_all}
 use Rattle.nd_delta.specs.Change.{at, at-none}

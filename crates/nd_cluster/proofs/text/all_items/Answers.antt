@@ -1,7 +1,6 @@
-use Rattle.std.proofs.Common.{◌≡◌, ◌++◌, map, get_or, ap, sym, ◌∙◌, arith}
+use Rattle.std.proofs.Common.{◌++◌, map, ap, sym, ◌∙◌, arith}
 use Rattle.nd_map.specs.Counts.{entries, none}
-use Rattle.nd_vertex.specs.Items.{Items}
-use Rattle.nd_cluster.proofs.Shown.{items_turn, item_of_vertex}
+use Rattle.nd_cluster.proofs.Shown.{items_turn}
 use Rattle.nd_cluster.proofs.text.all_items.Goals as goal
 
 pub loop-vertex-preserved : goal.loop-vertex-preserved

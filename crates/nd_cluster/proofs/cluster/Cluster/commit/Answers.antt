@@ -1,5 +1,4 @@
-use Rattle.std.proofs.Common.{◌≡◌, sym, subst, ◌∙◌}
-use Rattle.nd_protocol.specs.State.{ClusterState}
+use Rattle.std.proofs.Common.{sym, subst}
 use Rattle.nd_protocol.specs.Steps.{stepped}
 use Rattle.nd_protocol.specs.Invariant.{IsSettled, KeepsProtocol}
 use Rattle.nd_cluster.specs.Records.{Makes}

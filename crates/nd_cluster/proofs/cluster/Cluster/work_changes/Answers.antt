@@ -1,10 +1,9 @@
-use Rattle.std.proofs.Common.{◌≡◌, Some, length, refl, subst, sym, ap, ◌∙◌, inl, inr}
+use Rattle.std.proofs.Common.{◌≡◌, Some, refl, subst, sym, ap, ◌∙◌, inl, inr}
 use Rattle.nd_protocol.specs.Steps.{stepped}
-use Rattle.nd_protocol.specs.Enabled.{IsEnabled, IsRefused}
+use Rattle.nd_protocol.specs.Enabled.{IsRefused}
 use Rattle.nd_protocol.specs.declared.refusal.Refusal.{Refusal}
-use Rattle.nd_protocol.specs.declared.refusal.Refusal.TheVariants.{CountFull, DeltaFull}
 use Rattle.nd_cluster.specs.Standing.{IsThere}
-use Rattle.nd_cluster.specs.Changes.{place_of, FindsOld, NamesNumbers, IsRunnable, applied}
+use Rattle.nd_cluster.specs.Changes.{place_of, FindsOld, NamesNumbers}
 use Rattle.nd_cluster.specs.Plans.{Each, LeadsTo, ordered}
 use Rattle.nd_cluster.specs.Edits.{edits}
 use Rattle.nd_cluster.specs.Limits.{HasPlace, IsSmallGain, Reaches, StaysWithin}

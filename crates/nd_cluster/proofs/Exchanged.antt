@@ -1,0 +1,206 @@
+-- Why a broadcast and a receive are enabled or refused, and how much they change.
+use Rattle.std.proofs.Common.{◌≡◌, ◌≢◌, ◌⊎◌, inl, inr, ℕ, zero, suc, ◌+◌, ◌-◌, ◌<◌, ◌≤◌, ℤ, pos, negsuc, List, [], length, Vec, Result, Ok, Err, Some, None, refl, sym, ap, subst, ◌∙◌, arith, get_or-set_same, get_or-set_other}
+use Rattle.std.proofs.lemmas.Bool.{cases_lt}
+use Rattle.std.specs.Prelude.{slice_get, unsigned_abs}
+use Rattle.nd_time.specs.Limits.{max_count}
+use Rattle.nd_delta.specs.Change.{Change, none, at, plus, size, IsTooLarge}
+use Rattle.nd_processor.specs.Edits.{IsPartOf}
+use Rattle.nd_mesh.specs.Mesh.{row, HasQueue, IsFull}
+use Rattle.nd_protocol.specs.State.{ClusterState, processor, view, queue}
+use Rattle.nd_protocol.specs.Exchange.{IsPart, sent, received, received_from}
+use Rattle.nd_protocol.specs.Steps.{chosen, stepped}
+use Rattle.nd_protocol.specs.Fitting.{IsState}
+use Rattle.nd_protocol.specs.Enabled.{HasLargeEntry, of_unsent, of_view, Fails, IsEnabled, NeedsNoMemory, MayWantMemory, IsRefused}
+use Rattle.nd_protocol.specs.Refusals.{number_of}
+use Rattle.nd_protocol.specs.declared.part.Part.{Part}
+use Rattle.nd_protocol.specs.declared.step.Step.{Step}
+use Rattle.nd_protocol.specs.declared.step.Step.TheVariants.{Feed, Take, Notice, Broadcast, Receive}
+use Rattle.nd_protocol.specs.declared.refusal.Refusal.{Refusal}
+use Rattle.nd_protocol.specs.declared.refusal.Refusal.TheVariants.{NoProcessor, DeltaFull, NothingToSend, NotAdmissible, QueueEmpty, QueueFull, Memory}
+use Rattle.nd_exchange.specs.Exchanges.{LeavesUpright, ReceiveFails}
+use Rattle.nd_cluster.specs.Places.{unsent_of, view_of}
+use Rattle.nd_map.specs.Counts.{size as size_of}
+use Rattle.nd_cluster.specs.Standing.{difference, queues_changed, changed}
+use Rattle.nd_cluster.specs.Edits.{Works}
+use Rattle.nd_cluster.specs.Plans.{LeadsTo}
+use Rattle.nd_cluster.specs.declared.change.Change.{Change as Single}
+use Rattle.nd_cluster.specs.Records.{shared, Plans}
+use Rattle.nd_cluster.specs.declared.record.Changes.TheVariants.{Each, Sent, Received}
+use Rattle.nd_cluster.proofs.Running.{limits_of}
+use Rattle.nd_cluster.proofs.Exchanging.{received-front}
+use Rattle.nd_cluster.proofs.StepMoves.{StepMoves}
+use Rattle.nd_cluster.proofs.Exact.{moves, queues-stepped}
+use Rattle.nd_cluster.proofs.Differing.{queues_same, sent_changed, received_changed}
+
+zero_or_not : (z : ℤ) → (z ≡ pos 0) ⊎ (z ≢ pos 0)
+zero_or_not (pos zero) = inl refl
+zero_or_not (pos (suc n)) = inr (λ e. absurd (cc))
+zero_or_not (negsuc n) = inr (λ e. absurd (cc))
+
+same_or_not : (a b : ℕ) → (a ≡ b) ⊎ (a ≢ b)
+same_or_not a b = elim (cases_lt a b) [
+  | inl lt ↦ inr (λ e. absurd (omega (arith, lt, e)))
+  | inr ge ↦ elim (cases_lt b a) [ inl lt ↦ inr (λ e. absurd (omega (arith, lt, e))) | inr le ↦ inl (omega (arith, ge, le)) ]
+]
+
+is_part : (c d : Change) → IsPartOf c d → IsPart c d
+is_part c d h x = elim (zero_or_not (at c x)) [ inl e ↦ inl e | inr some ↦ inr (sym (h x some)) ]
+
+-- ---- a feed, a take or a notice
+
+module _ {A : Type 0} (s : ClusterState) where
+  none_shared : (x : Step A) → Works x → shared s x ≡ 0
+  none_shared (Feed p vertex values _) works = refl
+  none_shared (Take p edge t value) works = refl
+  none_shared (Notice p vertex t) works = refl
+  none_shared (Broadcast p _) works = absurd works
+  none_shared (Receive from to) works = absurd works
+
+  pub work_plans : (x : Step A) (changes : Vec Single A) → Works x → IsState s → IsEnabled s x → LeadsTo s (stepped s x) changes.items → Plans s x (Each changes)
+  work_plans x changes works state may leads =
+      let m : StepMoves s x = moves s x works state (record { free = λ r lt. may.free r }) in
+      let same : queues_changed s (stepped s x) ≡ 0 = queues_same s (stepped s x) (queues-stepped s x m) in
+      let all : length changes.items + shared s x ≡ size_of (difference s (stepped s x)) + queues_changed s (stepped s x) = omega (arith, leads.small, none_shared x works, same) in
+      record { enabled = may; makes = (leads.runs, leads.arrives); small = all }
+
+-- ---- a broadcast
+
+module _ {A : Type 0} (s : ClusterState) (p : ℕ) (part : Part A) (c : Change) (state : IsState s) (here : p < length s.processors) (is : c ≡ chosen part (processor s p).unsent) where
+  module _ (some : c ≢ none) (upright : LeavesUpright s.graph (processor s p) c) (room : HasQueue IsFull (row s.queues p) → ⊥) where
+    stays : LeavesUpright s.graph (processor s p) (chosen part (processor s p).unsent)
+    stays = subst (LeavesUpright s.graph (processor s p)) is upright
+
+    enabled : IsEnabled {A = A} s (Broadcast p part)
+    enabled = record { free = by; admissible = stays }
+      where
+        by : (r : Refusal) → Fails {A = A} s (Broadcast p part) r → ⊥
+        by NoProcessor h = omega (arith, here, h)
+        by NothingToSend h = some (is ∙ h)
+        by (NotAdmissible x) h = h.is_one.alone (stays x h.is_one.positive)
+        by QueueFull (q, lt, full) =
+            let sender : p < length s.queues = subst (λ n. p < n) (sym state.fits.each_sender) here in
+            room (q, subst (λ n. q < n) (sym (state.fits.each_receiver p [] sender)) lt, full)
+        by r h = h
+
+    pub broadcast_plans : IsPartOf c (processor s p).unsent → Plans {A = A} s (Broadcast p part) (Sent p c)
+    unfolding stepped
+    broadcast_plans there =
+        let to : sent s p c ≡ stepped {A = A} s (Broadcast p part) = ap (sent s p) is in
+        let many : changed s (sent s p c) ≡ size c + length s.processors = sent_changed s p c state.fits here (is_part c (processor s p).unsent there) in
+        let count : size c + 1 + (length s.processors - 1) ≡ changed s (sent s p c) = omega (arith, many, here) in
+        record { enabled = enabled; makes = record { there = here; part = there; room = room; arrives = to }; small = count ∙ ap (changed s) to }
+
+-- ---- a receive
+
+-- the reason for which nothing is received, of the state and of what is kept of it
+pub fails_in : (v w : Change) (q r : List Change) (e f : Refusal) → v ≡ w → q ≡ r → e ≡ f → ReceiveFails w q f → ReceiveFails v r e
+fails_in v w q r e f a b c h = subst (λ x. ReceiveFails x r e) (sym a) (subst (λ x. ReceiveFails w x e) b (subst (ReceiveFails w q) (sym c) h))
+
+abbrev error_or : {T E : Type 0} → E → Result T E → E
+error_or d (Ok v) = d
+error_or d (Err e) = e
+
+pub error_is : {T E : Type 0} (r : Result T E) (a b : E) → r ≡ Err a → r ≡ Err b → a ≡ b
+error_is r a b h k = ap (error_or a) (sym h ∙ k)
+
+-- no entry is past its limit in a state
+small_entries : (s : ClusterState) → IsState s → HasLargeEntry s → ⊥
+small_entries s state (of_unsent p x large) = let l : unsigned_abs (at (processor s p).unsent x) ≤ max_count = limits_of s state.within (unsent_of p x) in omega arith
+small_entries s state (of_view q x large) = let l : unsigned_abs (at (view s q) x) ≤ max_count = limits_of s state.within (view_of q x) in omega arith
+
+module _ (A : Type 0) (s : ClusterState) (from to : ℕ) (state : IsState s) (here : from < length s.processors) (there : to < length s.processors) where
+  two_there : (length s.processors ≤ from) ⊎ (length s.processors ≤ to) → ⊥
+  two_there (inl le) = omega (arith, here, le)
+  two_there (inr le) = omega (arith, there, le)
+
+  view_there : to < length s.views
+  view_there = subst (λ n. to < n) (sym state.fits.each_view) there
+
+  module _ (c : Change) (front : slice_get (queue s from to) 0 ≡ Some c) where
+    -- the view that receives it, and the other views
+    view_now : view (stepped {A = A} s (Receive from to)) to ≡ plus (view s to) c
+    unfolding stepped
+    view_now = ap (λ (t : ClusterState). view t to) (received-front s from to c front) ∙ get_or-set_same s.views to (plus (view s to) c) none view_there
+
+    views_beside : (q : ℕ) → q ≢ to → view (stepped {A = A} s (Receive from to)) q ≡ view s q
+    unfolding stepped
+    views_beside q other = ap (λ (t : ClusterState). view t q) (received-front s from to c front) ∙ get_or-set_other s.views to q (plus (view s to) c) none other
+
+    unsent_now : (p : ℕ) → (processor (stepped {A = A} s (Receive from to)) p).unsent ≡ (processor s p).unsent
+    unfolding stepped
+    unsent_now p = ap (λ (t : ClusterState). (processor t p).unsent) (received-front s from to c front)
+
+    not_empty : queue s from to ≡ [] → ⊥
+    not_empty e = let none_there : slice_get (queue s from to) 0 ≡ None = ap (λ (cs : List Change). slice_get cs 0) e in absurd (cc)
+
+    no_large : (IsTooLarge (plus (view s to) c) → ⊥) → HasLargeEntry (stepped {A = A} s (Receive from to)) → ⊥
+    no_large room (of_unsent p x large) = small_entries s state (of_unsent p x (subst (λ d. max_count < unsigned_abs (at d x)) (unsent_now p) large))
+    no_large room (of_view q x large) = elim (same_or_not q to) [
+      | inl e ↦ room (x, subst (λ d. max_count < unsigned_abs (at d x)) (ap (view (stepped {A = A} s (Receive from to))) e ∙ view_now) large)
+      | inr other ↦ small_entries s state (of_view q x (subst (λ d. max_count < unsigned_abs (at d x)) (views_beside q other) large))
+    ]
+
+    pub receive_plans : (IsTooLarge (plus (view s to) c) → ⊥) → Plans {A = A} s (Receive from to) (Received from to c)
+    unfolding stepped
+    receive_plans room =
+        let many : changed s (received s from to) ≡ size c + 1 = received_changed s from to c state.fits here there front in
+        let count : size c + 1 + 0 ≡ changed s (received s from to) = omega (arith, many) in
+        record {
+          enabled = record { free = by; admissible = tt };
+          makes = record { from_there = here; to_there = there; front = front; room = room; arrives = refl };
+          small = count;
+        }
+      where
+        by : (r : Refusal) → Fails {A = A} s (Receive from to) r → ⊥
+        by NoProcessor h = two_there h
+        by DeltaFull h = no_large room h
+        by QueueEmpty h = not_empty h
+        by r h = h
+
+    delta_full : IsTooLarge (plus (view s to) c) → IsRefused {A = A} s (Receive from to) DeltaFull
+    delta_full (x, large) = record {
+      fails = of_view to x (subst (λ d. max_count < unsigned_abs (at d x)) (sym view_now) large);
+      least = record { free = by };
+    }
+      where
+        by : (r : Refusal) → number_of r < 14 → Fails {A = A} s (Receive from to) r → ⊥
+        by NoProcessor lt h = two_there h
+        by DeltaFull lt h = absurd (omega (arith, lt))
+        by QueueEmpty lt h = absurd (omega (arith, lt))
+        by r lt h = h
+
+    wants_memory : MayWantMemory {A = A} s (Receive from to)
+    wants_memory = record { free = by }
+      where
+        by : (r : Refusal) → NeedsNoMemory r → Fails {A = A} s (Receive from to) r → ⊥
+        by NoProcessor sure h = two_there h
+        by DeltaFull sure h = elim sure [
+          | inl lt ↦ absurd (omega (arith, lt))
+          | inr (inl e) ↦ absurd (cc)
+          | inr (inr e) ↦ absurd (cc)
+        ]
+        by QueueEmpty sure h = not_empty h
+        by r sure h = h
+
+  queue_empty : queue s from to ≡ [] → IsRefused {A = A} s (Receive from to) QueueEmpty
+  unfolding stepped received
+  queue_empty e = record { fails = e; least = record { free = by } }
+    where
+      stays_so : stepped {A = A} s (Receive from to) ≡ s
+      stays_so = ap (received_from s from to) e
+
+      by : (r : Refusal) → number_of r < 17 → Fails {A = A} s (Receive from to) r → ⊥
+      by NoProcessor lt h = two_there h
+      by DeltaFull lt h = small_entries s state (subst HasLargeEntry stays_so h)
+      by QueueEmpty lt h = absurd (omega (arith, lt))
+      by r lt h = h
+
+  -- why nothing is received
+  pub receive_refused : (r : Refusal) → ReceiveFails (view s to) (queue s from to) r → r ≢ Memory → IsRefused {A = A} s (Receive from to) r
+  receive_refused QueueEmpty h other = queue_empty h
+  receive_refused DeltaFull (c, front, large) other = delta_full c front large
+  receive_refused Memory h other = absurd (other refl)
+  receive_refused r h other = absurd h
+
+  pub receive_wants_memory : ReceiveFails (view s to) (queue s from to) Memory → MayWantMemory {A = A} s (Receive from to)
+  receive_wants_memory (c, front, room) = wants_memory c front
