@@ -59,6 +59,7 @@ fn left_alone<A: Allocator + Copy>(
     ensures upright { IfOk result (λ x. IsNone x → LeavesUpright paths.now processor.now change.now) }
     ensures least { IfOk result (λ x. IfSome x (LeavesAlone paths.now processor.now change.now)) }
 {
+    // What stays of a change without a part of it is within the limit.
     let Ok(stays) = processor.unsent().minus(alloc, change) else {
         return Err(AllocError);
     };
