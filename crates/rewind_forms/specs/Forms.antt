@@ -165,14 +165,19 @@ query_of g d =
     else (if is_form (codes "passed") (codes "at" ∷ codes "do" ∷ codes "q" ∷ codes "time" ∷ []) d then passed_of g d
     else Err BadShape)))))
 
+-- a broadcast, a receive, or what a line asks to be told
+unfoldable pub exchange_of : Dataflow → Data → Result Command LineFault
+exchange_of g d =
+    if is_form (codes "broadcast") (codes "do" ∷ codes "p" ∷ []) d then broadcast_of d
+    else (if is_form (codes "broadcast") (codes "do" ∷ codes "p" ∷ codes "part" ∷ []) d then part_of g d
+    else (if is_form (codes "receive") (codes "do" ∷ codes "from" ∷ codes "to" ∷ []) d then receive_of d
+    else query_of g d))
+
 -- what a line asks for, against a graph
 unfoldable pub command_of : Dataflow → Data → Result Command LineFault
 command_of g d =
     if is_form (codes "feed") (codes "do" ∷ codes "next" ∷ codes "p" ∷ codes "values" ∷ codes "vertex" ∷ []) d then feed_of g d
     else (if is_form (codes "take") (codes "do" ∷ codes "edge" ∷ codes "p" ∷ codes "time" ∷ codes "value" ∷ []) d then take_of g d
     else (if is_form (codes "notice") (codes "do" ∷ codes "p" ∷ codes "time" ∷ codes "vertex" ∷ []) d then notice_of g d
-    else (if is_form (codes "broadcast") (codes "do" ∷ codes "p" ∷ []) d then broadcast_of d
-    else (if is_form (codes "broadcast") (codes "do" ∷ codes "p" ∷ codes "part" ∷ []) d then part_of g d
-    else (if is_form (codes "receive") (codes "do" ∷ codes "from" ∷ codes "to" ∷ []) d then receive_of d
     else (if is_form (codes "back") (codes "do" ∷ []) d then Ok Back
-    else query_of g d))))))
+    else exchange_of g d)))

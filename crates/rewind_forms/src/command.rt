@@ -2,7 +2,7 @@
 ghost use Rattle.std.specs.Prelude.{◌≡◌, ◌≢◌, map, Ok, Err, IfOk, IfErr};
 ghost use Rattle.serde_json.specs.View.{view};
 ghost use Rattle.rewind_forms.specs.Forms.{feed_of as feed_in, take_of as take_in, notice_of as notice_in, broadcast_of as broadcast_in, part_of as part_in, receive_of as receive_in, next_at as next_in, is_form as form_is};
-ghost use Rattle.rewind_forms.specs.Forms.{count_of as count_in, before_of as before_in, view_of as view_in, frontier_of as frontier_in, passed_of as passed_in, query_of as query_in, command_of as command_in};
+ghost use Rattle.rewind_forms.specs.Forms.{count_of as count_in, before_of as before_in, view_of as view_in, frontier_of as frontier_in, passed_of as passed_in, query_of as query_in, exchange_of as exchange_in, command_of as command_in};
 
 use crate::LineFault;
 use crate::numbers::{numbers_at, values_at};
@@ -233,6 +233,23 @@ fn query_of(alloc: Global, graph: &Graph, value: &Value) -> Result<Command, Line
     }
 }
 
+// The broadcast or receive that the value asks for, or what it asks to be told.
+#[tactic(auto, unfolding(crate::specs::Forms::exchange_of))]
+fn exchange_of(alloc: Global, graph: &Graph, value: &Value) -> Result<Command, LineFault>
+    ensures ok { IfOk result (λ c. exchange_in graph.now (view value.now) ≡ Ok c) }
+    ensures err { IfErr result (λ e. e ≢ LineFault.Memory → exchange_in graph.now (view value.now) ≡ Err e) }
+{
+    if is_form(value, "broadcast", &["do", "p"]) {
+        broadcast_of(value)
+    } else if is_form(value, "broadcast", &["do", "p", "part"]) {
+        part_of(alloc, graph, value)
+    } else if is_form(value, "receive", &["do", "from", "to"]) {
+        receive_of(value)
+    } else {
+        query_of(alloc, graph, value)
+    }
+}
+
 /// What the value asks for, against the graph.
 ///
 /// `Memory` comes only where there was no memory for a list of the line.
@@ -247,15 +264,9 @@ pub fn command_of(alloc: Global, graph: &Graph, value: &Value) -> Result<Command
         take_of(alloc, graph, value)
     } else if is_form(value, "notice", &["do", "p", "time", "vertex"]) {
         notice_of(alloc, graph, value)
-    } else if is_form(value, "broadcast", &["do", "p"]) {
-        broadcast_of(value)
-    } else if is_form(value, "broadcast", &["do", "p", "part"]) {
-        part_of(alloc, graph, value)
-    } else if is_form(value, "receive", &["do", "from", "to"]) {
-        receive_of(value)
     } else if is_form(value, "back", &["do"]) {
         Ok(Command::Back)
     } else {
-        query_of(alloc, graph, value)
+        exchange_of(alloc, graph, value)
     }
 }
