@@ -43,10 +43,7 @@ fn named_time<'v>(
 
 // The pointstamp that the items are, by its name and its numbers.
 #[tactic(auto, unfolding(crate::specs::Forms::point_of))]
-fn point_of<'v>(
-    alloc: Global,
-    items: &'v [Value],
-) -> Result<Option<NamedTime<'v>>, AllocError>
+fn point_of<'v>(alloc: Global, items: &'v [Value]) -> Result<Option<NamedTime<'v>>, AllocError>
     ensures { IfOk result (λ o. option_map (λ n. (n.name.now, n.numbers.items)) o ≡ point_in (map view items.now)) }
 {
     match items {
@@ -72,10 +69,7 @@ pub fn point_at<'v>(
 
 // The pointstamp that the value is, by its name and its numbers.
 #[tactic(auto, unfolding(crate::specs::Forms::listed_point))]
-fn listed_point<'v>(
-    alloc: Global,
-    value: &'v Value,
-) -> Result<Option<NamedTime<'v>>, AllocError>
+fn listed_point<'v>(alloc: Global, value: &'v Value) -> Result<Option<NamedTime<'v>>, AllocError>
     ensures { IfOk result (λ o. option_map (λ n. (n.name.now, n.numbers.items)) o ≡ listed_in (view value.now)) }
 {
     match list(value) {
