@@ -29,4 +29,4 @@ pub use nd_protocol::{Next, NoMemory, Part, Points, Refusal, Step, Values};
 pub use record::{Changes, Record};
 pub use refuse::MAX_VALUES;
 pub use start::StartFault;
-pub use text::{point_value, time_value};
+pub use text::{counts_value, point_value, time_value};

@@ -7,7 +7,7 @@ ghost use Rattle.serde_json.specs.Written.{has_float};
 ghost use Rattle.nd_graph.specs.Graph.{Dataflow};
 ghost use Rattle.nd_map.specs.Counts.{entries as numbers};
 ghost use Rattle.nd_mesh.specs.Mesh.{queue, row as queues_from};
-ghost use Rattle.nd_cluster.specs.StateText.{name_at as name_in, row, time_data, point_data, item_data, record_data, sink_data, token_data, entry_data, queue_data, queues_data, processor_data, processor_members, whole_members, state_data};
+ghost use Rattle.nd_cluster.specs.StateText.{name_at as name_in, row, time_data, point_data, item_data, record_data, sink_data, token_data, entry_data, queue_data, queues_data, entries_data, processor_data, processor_members, whole_members, state_data};
 
 use crate::Cluster;
 use nd_graph::Graph;
@@ -139,6 +139,18 @@ fn entries_value<T: Listed, A: Allocator>(
         list.push(entry.shown(alloc, graph)?)?;
     }
     Ok(Value::Array(list))
+}
+
+/// Counts of pointstamps, in the order in which they are given: each a location's name, a time and the count.
+pub fn counts_value<A: Allocator>(
+    alloc: Global,
+    graph: &Graph<A>,
+    entries: &[(Pointstamp, i64)],
+) -> Result<Value, AllocError>
+    ensures reply { IfOk result (λ v. view v ≡ entries_data graph.now entries.now) }
+    ensures text { IfOk result (λ v. has_float (view v) ≡ false) }
+{
+    entries_value(alloc, graph, entries)
 }
 
 // The entries that an iterator of a map has left.

@@ -1,5 +1,5 @@
 -- What each line of a script may be answered, and what comes of it.
-use Rattle.std.specs.Prelude.{◌≡◌, ◌↔◌, IsTrue, Bool, ℕ, ◌<◌, ◌⊎◌, List, [], ◌∷◌, length, Option, Some, None, codes, unsigned_abs, slice_get, Result, Ok, Err}
+use Rattle.std.specs.Prelude.{◌≡◌, ◌↔◌, IsTrue, Bool, ℕ, ◌<◌, ◌≤◌, ◌⊎◌, List, [], ◌∷◌, length, Option, Some, None, codes, unsigned_abs, slice_get, Result, Ok, Err}
 use Rattle.std.specs.Option.{option_to_list}
 use Rattle.std.specs.declared.alloc.Global.{Global}
 use Rattle.serde_json.specs.Data.{Data}
@@ -12,20 +12,22 @@ use Rattle.nd_graph.specs.declared.fault.GraphFault.{GraphFault}
 use Rattle.nd_graph.specs.declared.fault.GraphFault.TheVariants.{Shape}
 use Rattle.nd_paths.specs.Order.{CouldResultIn}
 use Rattle.nd_paths.specs.declared.point.Pointstamp.{Pointstamp}
-use Rattle.nd_delta.specs.Change.{at}
-use Rattle.nd_protocol.specs.State.{ClusterState, truth}
-use Rattle.nd_cluster.specs.StateText.{state_data}
+use Rattle.nd_delta.specs.Change.{Change, at, entries}
+use Rattle.nd_delta.specs.Least.{IsLeast}
+use Rattle.nd_view.specs.View.{IsPassed, IsBlocker, IsOnFrontier, IsPartWhere}
+use Rattle.nd_protocol.specs.State.{ClusterState, truth, view}
+use Rattle.nd_cluster.specs.StateText.{state_data, entries_data, point_data}
 use Rattle.nd_protocol.specs.Start.{start}
 use Rattle.nd_cluster.specs.Starting.{IsStartFault, CanStart, start_number, start_name}
 use Rattle.nd_cluster.specs.declared.start.StartFault.TheVariants as start_fault
 use Rattle.nd_protocol.specs.declared.step.Step.{Step}
 use Rattle.rewind_forms.specs.Forms.{command_of}
-use Rattle.rewind_forms.specs.Replies.{fault, location_fault, graph, moved, refused as refusal, at_start, timeline_full, out_of_memory, faulty, line_fault, count, before, state}
+use Rattle.rewind_forms.specs.Replies.{fault, location_fault, graph, moved, refused as refusal, at_start, timeline_full, out_of_memory, faulty, line_fault, count, before, state, known, frontier, passed, not_passed, no_processor}
 use Rattle.rewind_forms.specs.LineFaults.{number_of as number_of_line, name_of as name_of_line}
 use Rattle.rewind_forms.specs.declared.fault.LineFault.{LineFault}
 use Rattle.rewind_forms.specs.declared.fault.LineFault.TheVariants.{LineTooLong, BadLine}
 use Rattle.rewind_forms.specs.declared.command.Command.{Command}
-use Rattle.rewind_forms.specs.declared.command.Command.TheVariants.{Forward, Back, State, Count, Before}
+use Rattle.rewind_forms.specs.declared.command.Command.TheVariants.{Forward, Back, State, Count, Before, View, Frontier, Passed}
 use Rattle.rewind.specs.Machine.{MachineValue, cluster_of, opened, extended, set_back, CanForward, ForwardFails, BackFails}
 use Rattle.rewind.specs.declared.machine.ForwardFault.{ForwardFault}
 use Rattle.rewind.specs.declared.machine.ForwardFault.TheVariants.{TimelineFull, Refused}
@@ -93,6 +95,27 @@ BackReplies m replies new =
 abbrev pub true_count : ClusterState → Pointstamp → ℕ
 true_count s x = unsigned_abs (at (truth s.processors) x)
 
+-- the entries of processor q's view
+abbrev pub ViewReply : ClusterState → ℕ → Data → Type 0
+ViewReply s q reply =
+    ((length s.processors ≤ q) × (reply ≡ no_processor))
+    ⊎ ((q < length s.processors) × (reply ≡ known (entries_data s.graph (entries (view s q)))))
+
+-- the part of processor q's view that is on its frontier
+abbrev pub FrontierReply : ClusterState → ℕ → Data → Type 0
+FrontierReply s q reply =
+    ((length s.processors ≤ q) × (reply ≡ no_processor))
+    ⊎ ((q < length s.processors)
+    × ((f : Change) × IsPartWhere (IsOnFrontier s.graph (view s q)) (view s q) f × (reply ≡ frontier (entries_data s.graph (entries f)))))
+
+-- whether processor q's view has passed a pointstamp, and if not, the least that stands in the way
+abbrev pub PassedReply : ClusterState → ℕ → Pointstamp → Data → Type 0
+PassedReply s q t reply =
+    ((length s.processors ≤ q) × (reply ≡ no_processor))
+    ⊎ ((q < length s.processors)
+    × ((IsPassed s.graph (view s q) t × (reply ≡ passed))
+    ⊎ ((x : Pointstamp) × IsLeast (IsBlocker s.graph (view s q) t) x × (reply ≡ not_passed (point_data s.graph x)))))
+
 -- the reply to a command or a query
 abbrev pub AskedReplies : MachineValue → Command → List Data → Phase → Type 0
 AskedReplies m (Forward x) replies new = ForwardReplies m x replies new
@@ -100,6 +123,9 @@ AskedReplies m Back replies new = BackReplies m replies new
 AskedReplies m State replies new = (replies ≡ state (state_data (cluster_of m)) ∷ []) × (new ≡ running m)
 AskedReplies m (Count x) replies new = (replies ≡ count (true_count (cluster_of m) x) ∷ []) × (new ≡ running m)
 AskedReplies m (Before x y) replies new = (b : Bool) × (IsTrue b ↔ CouldResultIn (cluster_of m).graph x y) × (replies ≡ before b ∷ []) × (new ≡ running m)
+AskedReplies m (View q) replies new = (reply : Data) × ViewReply (cluster_of m) q reply × (replies ≡ reply ∷ []) × (new ≡ running m)
+AskedReplies m (Frontier q) replies new = (reply : Data) × FrontierReply (cluster_of m) q reply × (replies ≡ reply ∷ []) × (new ≡ running m)
+AskedReplies m (Passed q x) replies new = (reply : Data) × PassedReply (cluster_of m) q x reply × (replies ≡ reply ∷ []) × (new ≡ running m)
 
 -- the reply to a line that is, or is not, a command or a query
 abbrev pub FormReplies : MachineValue → ℕ → Result Command LineFault → List Data → Phase → Type 0

@@ -1,5 +1,5 @@
 //! The replies to the graph's line and to a command's or query's line.
-ghost use Rattle.std.specs.Prelude.{◌≡◌, ◌↔◌, ◌∷◌, [], Bool, false, Ok, IfOk, IsTrue};
+ghost use Rattle.std.specs.Prelude.{◌≡◌, ◌↔◌, ◌∷◌, ◌<◌, [], Bool, false, length, Ok, IfOk, IsTrue};
 ghost use Rattle.nd_graph.specs.Fault.{IsUnlessMemory};
 ghost use Rattle.nd_paths.specs.Order.{CouldResultIn};
 ghost use Rattle.nd_cluster.specs.StateText.{state_data};
@@ -8,10 +8,11 @@ ghost use Rattle.rewind.specs.Machine.{cluster_of};
 ghost use Rattle.serde_json.specs.View.{view};
 ghost use Rattle.serde_json.specs.Written.{has_float};
 ghost use Rattle.rewind.specs.Answers.{running, graph_of as graph_in, CommandReplies, StartReplies, moved_to, ForwardReplies, BackReplies, AskedReplies, true_count};
+ghost use Rattle.rewind.specs.Answers.{ViewReply, FrontierReply, PassedReply};
 ghost use Rattle.rewind.specs.Stages.{phase_of_start};
 
 use crate::machine::{BackFault, ForwardFault, Machine};
-use nd_cluster::{Cluster, StartFault};
+use nd_cluster::{Cluster, StartFault, counts_value, point_value};
 use nd_graph::{Graph, GraphDraft, GraphFault};
 use nd_paths::Pointstamp;
 use nd_protocol::Step;
@@ -148,6 +149,59 @@ fn answer_before(
     replies::before(alloc, machine.cluster().paths().before(from, to))
 }
 
+// Replies with the view of a processor.
+fn answer_view(alloc: Global, machine: &Machine, q: u32) -> Result<Value, AllocError>
+    ensures reply { IfOk result (λ v. ViewReply (cluster_of machine.now) q (view v)) }
+    ensures text { IfOk result (λ v. has_float (view v) ≡ false) }
+{
+    let cluster = machine.cluster();
+    let q = q as usize;
+    if q >= cluster.n() {
+        return replies::no_processor(alloc);
+    }
+    let shown = counts_value(alloc, cluster.graph(), cluster.view(q).entries())?;
+    replies::known(alloc, shown)
+}
+
+// Replies with the frontier of a processor's view.
+fn answer_frontier(alloc: Global, machine: &Machine, q: u32) -> Result<Value, AllocError>
+    ensures reply { IfOk result (λ v. FrontierReply (cluster_of machine.now) q (view v)) }
+    ensures text { IfOk result (λ v. has_float (view v) ≡ false) }
+{
+    let cluster = machine.cluster();
+    let q = q as usize;
+    if q >= cluster.n() {
+        return replies::no_processor(alloc);
+    }
+    let first = cluster.view(q).frontier(alloc, cluster.paths())?;
+    let shown = counts_value(alloc, cluster.graph(), first.entries())?;
+    replies::frontier(alloc, shown)
+}
+
+// Replies whether a processor's view has passed a pointstamp.
+fn answer_passed(
+    alloc: Global,
+    machine: &Machine,
+    q: u32,
+    point: &Pointstamp,
+) -> Result<Value, AllocError>
+    ensures reply { IfOk result (λ v. PassedReply (cluster_of machine.now) q point.now (view v)) }
+    ensures text { IfOk result (λ v. has_float (view v) ≡ false) }
+{
+    let cluster = machine.cluster();
+    let q = q as usize;
+    if q >= cluster.n() {
+        return replies::no_processor(alloc);
+    }
+    match cluster.blocker(q, point) {
+        None => replies::passed(alloc),
+        Some(blocker) => {
+            let shown = point_value(alloc, cluster.graph(), &blocker)?;
+            replies::not_passed(alloc, shown)
+        }
+    }
+}
+
 // Answers a command or a query.
 fn answer_asked(alloc: Global, machine: &mut Machine, asked: &Command) -> Result<Value, AllocError>
     ensures replies { IfOk result (λ v. AskedReplies machine.old asked.now (view v ∷ []) (running machine.new)) }
@@ -159,6 +213,9 @@ fn answer_asked(alloc: Global, machine: &mut Machine, asked: &Command) -> Result
         Command::State => answer_state(alloc, machine),
         Command::Count(point) => answer_count(alloc, machine, point),
         Command::Before(from, to) => answer_before(alloc, machine, from, to),
+        Command::View(q) => answer_view(alloc, machine, *q),
+        Command::Frontier(q) => answer_frontier(alloc, machine, *q),
+        Command::Passed(q, point) => answer_passed(alloc, machine, *q, point),
     }
 }
 

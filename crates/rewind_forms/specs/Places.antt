@@ -1,9 +1,10 @@
 -- The places of a graph, by their names, and times there.
-use Rattle.std.specs.Prelude.{ℕ, false, List, [], ◌∷◌, length, nat_eq, nat_lt, if◌then◌else◌, slice_get, Option, Some, None, position, option_and_then}
+use Rattle.std.specs.Prelude.{ℕ, ◌&&◌, Bool, true, false, List, [], ◌∷◌, length, nat_eq, nat_lt, if◌then◌else◌, slice_get, Option, Some, None, is_some, position, option_map, option_and_then}
 use Rattle.std.specs.Option.{option_map_or}
 use Rattle.std.specs.Str.{bytes_eq}
 use Rattle.nd_time.specs.Time.{Time}
 use Rattle.nd_graph.specs.Graph.{Dataflow, names, depths}
+use Rattle.nd_paths.specs.declared.point.Pointstamp.{Pointstamp}
 
 -- the location of this name
 unfoldable pub location_named : Dataflow → List ℕ → Option ℕ
@@ -24,3 +25,14 @@ time_of g l (epoch ∷ counters) =
     if option_map_or (nat_eq (length counters)) (slice_get (depths g) l) false
     then Some (record { epoch = epoch; counters = counters })
     else None
+
+-- ---- pointstamps, by a name and the numbers of a time
+
+-- each name is that of a location
+abbrev pub are_known : Dataflow → List (List ℕ × List ℕ) → Bool
+are_known g [] = true
+are_known g (p ∷ ps) = is_some (location_named g p.0) && are_known g ps
+
+-- the pointstamp of a location's name and a time's numbers
+unfoldable pub point_named : Dataflow → List ℕ × List ℕ → Option Pointstamp
+point_named g p = option_and_then (λ l. option_map (λ t. record { location = l; time = t }) (time_of g l p.1)) (location_named g p.0)

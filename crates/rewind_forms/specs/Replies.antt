@@ -1,11 +1,11 @@
 -- The replies, as JSON values.
-use Rattle.std.specs.Prelude.{ℕ, Bool, true, List, codes, Option, Some, None}
+use Rattle.std.specs.Prelude.{ℕ, Bool, true, false, List, codes, Option, Some, None}
 use Rattle.serde_json.specs.Data.{Data, boolean, number, string, object, unsigned, no_members, member}
 use Rattle.nd_graph.specs.Graph.{Dataflow}
 use Rattle.nd_protocol.specs.Refusals.{number_of, name_of}
 use Rattle.nd_cluster.specs.StateText.{point_data}
 use Rattle.nd_protocol.specs.declared.refusal.Refusal.{Refusal}
-use Rattle.nd_protocol.specs.declared.refusal.Refusal.TheVariants.{NotYet, Memory}
+use Rattle.nd_protocol.specs.declared.refusal.Refusal.TheVariants.{NoProcessor, NotYet, NotAdmissible, Memory}
 use Rattle.rewind_forms.specs.LineFaults.{number_of as number_of_line, name_of as name_of_line}
 use Rattle.rewind_forms.specs.declared.fault.LineFault.{LineFault}
 use Rattle.rewind_forms.specs.declared.fault.LineFault.TheVariants as line
@@ -42,6 +42,7 @@ point_fault code name point = object (member (codes "code") (number (unsigned co
 -- a refusal, with what stands in the way, or at a cursor that is told for want of memory alone
 abbrev pub refused : Dataflow → Refusal → ℕ → Data
 refused g (NotYet blocker) at = point_fault (number_of (NotYet blocker)) (name_of (NotYet blocker)) (point_data g blocker)
+refused g (NotAdmissible point) at = point_fault (number_of (NotAdmissible point)) (name_of (NotAdmissible point)) (point_data g point)
 refused g Memory at = out_of_memory at
 refused g r at = fault (number_of r) (name_of r)
 
@@ -72,3 +73,22 @@ before b = object (member (codes "before") (boolean b) (member (codes "ok") (boo
 -- {"ok":true,"state":shown}
 abbrev pub state : Data → Data
 state shown = object (member (codes "ok") (boolean true) (member (codes "state") shown no_members))
+
+-- {"ok":true,"view":shown}
+abbrev pub known : Data → Data
+known shown = object (member (codes "ok") (boolean true) (member (codes "view") shown no_members))
+
+-- {"frontier":shown,"ok":true}
+abbrev pub frontier : Data → Data
+frontier shown = object (member (codes "frontier") shown (member (codes "ok") (boolean true) no_members))
+
+-- {"ok":true,"passed":true}
+abbrev pub passed : Data
+passed = object (member (codes "ok") (boolean true) (member (codes "passed") (boolean true) no_members))
+
+-- {"ok":true,"passed":false,"point":point}
+abbrev pub not_passed : Data → Data
+not_passed point = object (member (codes "ok") (boolean true) (member (codes "passed") (boolean false) (member (codes "point") point no_members)))
+
+abbrev pub no_processor : Data
+no_processor = fault (number_of NoProcessor) (name_of NoProcessor)

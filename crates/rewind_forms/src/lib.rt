@@ -5,6 +5,7 @@ mod command;
 mod fault;
 mod numbers;
 mod places;
+mod points;
 pub mod replies;
 
 pub use command::{Command, command_of};

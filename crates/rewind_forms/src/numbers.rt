@@ -2,9 +2,9 @@
 ghost use Rattle.std.specs.Prelude.{◌≡◌, map, option_map, IfOk};
 ghost use Rattle.serde_json.specs.View.{view};
 ghost use Rattle.nd_json.specs.Forms.{small as small_in, integer as integer_in};
-ghost use Rattle.rewind_forms.specs.Forms.{each, numbers_of as numbers_from, numbers_at as numbers_in, named_time as named_time_in, point_at as point_in, values_at as values_in};
+ghost use Rattle.rewind_forms.specs.Forms.{each, numbers_of as numbers_from, numbers_at as numbers_in, values_at as values_in};
 
-use nd_json::{integer, list, list_at, small, text};
+use nd_json::{integer, list_at, small};
 use nd_protocol::Values;
 use serde_json::Value;
 use std::alloc::{AllocError, Global};
@@ -37,8 +37,8 @@ fn integers(alloc: Global, items: &[Value]) -> Result<Option<Values>, AllocError
     Ok(Some(values))
 }
 
-// The numbers of a time that the items are: an epoch and any number of counters.
-fn numbers_of(alloc: Global, items: &[Value]) -> Result<Option<Vec<u32>>, AllocError>
+/// The numbers of a time that the items are: an epoch and any number of counters.
+pub fn numbers_of(alloc: Global, items: &[Value]) -> Result<Option<Vec<u32>>, AllocError>
     ensures { IfOk result (λ o. option_map (λ v. v.items) o ≡ numbers_from (map view items.now)) }
 {
     if items.is_empty() {
@@ -55,49 +55,6 @@ pub fn numbers_at(alloc: Global, value: &Value, key: &str) -> Result<Option<Vec<
     match list_at(value, key) {
         Some(items) => numbers_of(alloc, items),
         None => Ok(None),
-    }
-}
-
-/// A name, and the numbers of a time.
-#[derive(Drop)]
-pub struct NamedTime<'v> {
-    pub name: &'v str,
-    pub numbers: Vec<u32>,
-}
-
-// The name and the numbers of a time that two values are.
-#[tactic(auto, unfolding(crate::specs::Forms::named_time))]
-fn named_time<'v>(
-    alloc: Global,
-    name: &'v Value,
-    time: &Value,
-) -> Result<Option<NamedTime<'v>>, AllocError>
-    ensures { IfOk result (λ o. option_map (λ n. (n.name.now, n.numbers.items)) o ≡ named_time_in (view name.now, view time.now)) }
-{
-    let Some(name) = text(name) else {
-        return Ok(None);
-    };
-    let Some(items) = list(time) else {
-        return Ok(None);
-    };
-    match numbers_of(alloc, items)? {
-        Some(numbers) => Ok(Some(NamedTime { name, numbers })),
-        None => Ok(None),
-    }
-}
-
-/// The pointstamp at the key, by its name and its numbers.
-#[tactic(auto, unfolding(crate::specs::Forms::point_at))]
-pub fn point_at<'v>(
-    alloc: Global,
-    value: &'v Value,
-    key: &str,
-) -> Result<Option<NamedTime<'v>>, AllocError>
-    ensures { IfOk result (λ o. option_map (λ n. (n.name.now, n.numbers.items)) o ≡ point_in key.now (view value.now)) }
-{
-    match list_at(value, key) {
-        Some([name, time]) => named_time(alloc, name, time),
-        _ => Ok(None),
     }
 }
 

@@ -4,6 +4,7 @@ ghost use Rattle.serde_json.specs.View.{view};
 ghost use Rattle.serde_json.specs.Written.{has_float};
 ghost use Rattle.rewind_forms.specs.Replies.{fault as fault_data, location_fault as location_fault_data, graph as graph_data, moved as moved_data};
 ghost use Rattle.rewind_forms.specs.Replies.{point_fault as point_fault_data, refused as refused_data, out_of_memory as out_of_memory_data, before as before_data, at_start as at_start_data, timeline_full as timeline_full_data, faulty as faulty_data, line_fault as line_fault_data, count as count_data, state as state_data};
+ghost use Rattle.rewind_forms.specs.Replies.{known as known_data, frontier as frontier_data, passed as passed_data, not_passed as not_passed_data, no_processor as no_processor_data};
 
 use crate::LineFault;
 use nd_cluster::point_value;
@@ -69,9 +70,9 @@ pub fn refused<A: Allocator>(
     ensures text { IfOk result (λ v. has_float (view v) ≡ false) }
 {
     match refusal {
-        Refusal::NotYet { blocker } => {
-            let point = point_value(alloc, graph, blocker)?;
-            point_fault(alloc, refusal.number(), refusal.name(), point)
+        Refusal::NotYet { blocker: point } | Refusal::NotAdmissible { point } => {
+            let shown = point_value(alloc, graph, point)?;
+            point_fault(alloc, refusal.number(), refusal.name(), shown)
         }
         Refusal::Memory => out_of_memory(alloc, at),
         other => fault(alloc, other.number(), other.name()),
@@ -146,4 +147,48 @@ pub fn before(alloc: Global, before: bool) -> Result<Value, AllocError>
     ensures text { IfOk result (λ v. has_float (view v) ≡ false) }
 {
     json!(in alloc; {"before": before, "ok": true})
+}
+
+/// The reply to a query for a view, whose entries the value shows.
+pub fn known(alloc: Global, shown: Value) -> Result<Value, AllocError>
+    requires { has_float (view shown) ≡ false }
+    ensures reply { IfOk result (λ v. view v ≡ known_data (view shown)) }
+    ensures text { IfOk result (λ v. has_float (view v) ≡ false) }
+{
+    json!(in alloc; {"ok": true, "view": shown})
+}
+
+/// The reply to a query for a frontier, whose entries the value shows.
+pub fn frontier(alloc: Global, shown: Value) -> Result<Value, AllocError>
+    requires { has_float (view shown) ≡ false }
+    ensures reply { IfOk result (λ v. view v ≡ frontier_data (view shown)) }
+    ensures text { IfOk result (λ v. has_float (view v) ≡ false) }
+{
+    json!(in alloc; {"frontier": shown, "ok": true})
+}
+
+/// The reply to a query for a pointstamp that a view has passed.
+pub fn passed(alloc: Global) -> Result<Value, AllocError>
+    ensures reply { IfOk result (λ v. view v ≡ passed_data) }
+    ensures text { IfOk result (λ v. has_float (view v) ≡ false) }
+{
+    json!(in alloc; {"ok": true, "passed": true})
+}
+
+/// The reply to a query for a pointstamp that a view has not passed, with the one that stands in the way.
+pub fn not_passed(alloc: Global, point: Value) -> Result<Value, AllocError>
+    requires { has_float (view point) ≡ false }
+    ensures reply { IfOk result (λ v. view v ≡ not_passed_data (view point)) }
+    ensures text { IfOk result (λ v. has_float (view v) ≡ false) }
+{
+    json!(in alloc; {"ok": true, "passed": false, "point": point})
+}
+
+/// The reply to a query about a processor that is not there.
+pub fn no_processor(alloc: Global) -> Result<Value, AllocError>
+    ensures reply { IfOk result (λ v. view v ≡ no_processor_data) }
+    ensures text { IfOk result (λ v. has_float (view v) ≡ false) }
+{
+    let refusal = Refusal::NoProcessor;
+    fault(alloc, refusal.number(), refusal.name())
 }

@@ -127,6 +127,22 @@ fn refuses_steps(rt: HostRuntime) -> Result<(), Fail> {
             "{\"do\":\"take\",\"p\":0,\"edge\":\"az\",\"time\":[1],\"value\":5}",
             "{\"code\":8,\"error\":\"NoRecord\"}\n",
         ),
+        (
+            "{\"do\":\"broadcast\",\"p\":1}",
+            "{\"code\":1,\"error\":\"NoProcessor\"}\n",
+        ),
+        (
+            "{\"do\":\"broadcast\",\"p\":0,\"part\":[]}",
+            "{\"code\":15,\"error\":\"NothingToSend\"}\n",
+        ),
+        (
+            "{\"do\":\"receive\",\"from\":1,\"to\":0}",
+            "{\"code\":1,\"error\":\"NoProcessor\"}\n",
+        ),
+        (
+            "{\"do\":\"receive\",\"from\":0,\"to\":0}",
+            "{\"code\":17,\"error\":\"QueueEmpty\"}\n",
+        ),
     ] {
         let close = "{\"do\":\"feed\",\"p\":0,\"vertex\":\"a\",\"values\":[5],\"next\":\"close\"}";
         let (bytes, ended) = run(rt.alloc(), 1, [LINE, close, line].as_slice())?;

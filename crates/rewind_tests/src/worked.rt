@@ -1,4 +1,4 @@
-//! Worked examples of operators, notices, open epochs and several processors, as scripts with their replies.
+//! Worked examples of operators, notices, open epochs, several processors and what they exchange, as scripts with their replies.
 
 use crate::ends::{NEVER, empty_sink, pieces_of};
 use rewind::{DebugFault, Options, debug};
@@ -8,7 +8,7 @@ use std::test::Fail;
 // An example's name, its number of processors, its script, and the replies to it.
 type Example = (&'static str, u8, &'static str, &'static str);
 
-static ANSWERED: [Example; 9] = [
+static ANSWERED: [Example; 17] = [
     (
         "exchange-negative",
         3,
@@ -58,14 +58,32 @@ static ANSWERED: [Example; 9] = [
 {"do":"feed","p":0,"vertex":"a","values":[2,3],"next":"close"}
 {"do":"take","p":0,"edge":"as","time":[0],"value":2}
 {"do":"notice","p":0,"vertex":"s","time":[0]}
-{"do":"notice","p":0,"vertex":"s","time":[1]}
-{"do":"notice","p":0,"vertex":"z","time":[0]}
+{"do":"broadcast","p":0}
+{"do":"receive","from":0,"to":0}
+{"do":"frontier","q":0}
+{"do":"notice","p":0,"vertex":"s","time":[0]}
+{"do":"take","p":0,"edge":"as","time":[0],"value":3}
+{"do":"broadcast","p":0}
+{"do":"receive","from":0,"to":0}
+{"do":"notice","p":0,"vertex":"s","time":[0]}
+{"do":"take","p":0,"edge":"sz","time":[0],"value":5}
+{"do":"state"}
+{"do":"notice","p":0,"vertex":"s","time":[0]}
 "#,
         r#"{"locations":5,"ok":true,"processors":1}
 {"at":1,"kept":1,"ok":true}
 {"at":2,"kept":2,"ok":true}
 {"code":10,"error":"NotYet","point":["a",[0]]}
-{"code":9,"error":"NoRequest"}
+{"at":3,"kept":3,"ok":true}
+{"at":4,"kept":4,"ok":true}
+{"frontier":[["as",[0],1]],"ok":true}
+{"code":10,"error":"NotYet","point":["as",[0]]}
+{"at":5,"kept":5,"ok":true}
+{"at":6,"kept":6,"ok":true}
+{"at":7,"kept":7,"ok":true}
+{"at":8,"kept":8,"ok":true}
+{"at":9,"kept":9,"ok":true}
+{"ok":true,"state":{"processors":[{"items":[],"records":[],"requests":[],"sinks":[["z",5,1]],"tokens":[],"unsent":[["s",[0],-1]],"view":[["s",[0],1]]}],"queues":[[[]]]}}
 {"code":9,"error":"NoRequest"}
 "#,
     ),
@@ -77,6 +95,13 @@ static ANSWERED: [Example; 9] = [
 {"do":"take","p":0,"edge":"as","time":[0],"value":2}
 {"do":"take","p":0,"edge":"as","time":[0],"value":-2}
 {"do":"state"}
+{"do":"broadcast","p":0}
+{"do":"receive","from":0,"to":0}
+{"do":"notice","p":0,"vertex":"s","time":[0]}
+{"do":"state"}
+{"do":"back"}
+{"do":"back"}
+{"do":"back"}
 {"do":"back"}
 {"do":"back"}
 {"do":"back"}
@@ -87,9 +112,16 @@ static ANSWERED: [Example; 9] = [
 {"at":2,"kept":2,"ok":true}
 {"at":3,"kept":3,"ok":true}
 {"ok":true,"state":{"processors":[{"items":[],"records":[],"requests":[["s",[0]]],"sinks":[],"tokens":[],"unsent":[["a",[0],-1],["s",[0],1]],"view":[["a",[0],1]]}],"queues":[[[]]]}}
-{"at":2,"kept":3,"ok":true}
-{"at":1,"kept":3,"ok":true}
-{"at":0,"kept":3,"ok":true}
+{"at":4,"kept":4,"ok":true}
+{"at":5,"kept":5,"ok":true}
+{"at":6,"kept":6,"ok":true}
+{"ok":true,"state":{"processors":[{"items":[],"records":[],"requests":[],"sinks":[],"tokens":[],"unsent":[["s",[0],-1]],"view":[["s",[0],1]]}],"queues":[[[]]]}}
+{"at":5,"kept":6,"ok":true}
+{"at":4,"kept":6,"ok":true}
+{"at":3,"kept":6,"ok":true}
+{"at":2,"kept":6,"ok":true}
+{"at":1,"kept":6,"ok":true}
+{"at":0,"kept":6,"ok":true}
 {"ok":true,"state":{"processors":[{"items":[],"records":[],"requests":[],"sinks":[],"tokens":[["a",0]],"unsent":[],"view":[["a",[0],1]]}],"queues":[[[]]]}}
 "#,
     ),
@@ -100,6 +132,7 @@ static ANSWERED: [Example; 9] = [
 {"do":"feed","p":0,"vertex":"a","values":[5],"next":"stay"}
 {"do":"state"}
 {"do":"take","p":0,"edge":"az","time":[0],"value":5}
+{"do":"broadcast","p":0}
 {"do":"back"}
 {"do":"back"}
 {"do":"state"}
@@ -108,6 +141,7 @@ static ANSWERED: [Example; 9] = [
 {"at":1,"kept":1,"ok":true}
 {"ok":true,"state":{"processors":[{"items":[],"records":[["az",[0],5,1]],"requests":[],"sinks":[],"tokens":[["a",0]],"unsent":[["az",[0],1]],"view":[["a",[0],1]]}],"queues":[[[]]]}}
 {"at":2,"kept":2,"ok":true}
+{"code":15,"error":"NothingToSend"}
 {"at":1,"kept":2,"ok":true}
 {"at":0,"kept":2,"ok":true}
 {"ok":true,"state":{"processors":[{"items":[],"records":[],"requests":[],"sinks":[],"tokens":[["a",0]],"unsent":[],"view":[["a",[0],1]]}],"queues":[[[]]]}}
@@ -120,11 +154,13 @@ static ANSWERED: [Example; 9] = [
 {"do":"feed","p":0,"vertex":"a","values":[5],"next":"stay"}
 {"do":"feed","p":0,"vertex":"a","values":[6],"next":"next"}
 {"do":"state"}
+{"do":"broadcast","p":0,"part":[["a",[0]]]}
 "#,
         r#"{"locations":3,"ok":true,"processors":1}
 {"at":1,"kept":1,"ok":true}
 {"at":2,"kept":2,"ok":true}
 {"ok":true,"state":{"processors":[{"items":[],"records":[["az",[0],5,1],["az",[0],6,1]],"requests":[],"sinks":[],"tokens":[["a",1]],"unsent":[["a",[0],-1],["a",[1],1],["az",[0],2]],"view":[["a",[0],1]]}],"queues":[[[]]]}}
+{"code":16,"error":"NotAdmissible","point":["a",[1]]}
 "#,
     ),
     (
@@ -137,6 +173,174 @@ static ANSWERED: [Example; 9] = [
         r#"{"locations":3,"ok":true,"processors":1}
 {"at":1,"kept":1,"ok":true}
 {"ok":true,"state":{"processors":[{"items":[],"records":[],"requests":[],"sinks":[],"tokens":[["a",0]],"unsent":[],"view":[["a",[0],1]]}],"queues":[[[]]]}}
+"#,
+    ),
+    (
+        "closing-passes",
+        1,
+        r#"{"vertices":[{"name":"a","op":"input","depth":0},{"name":"z","op":"sink","depth":0}],"edges":[{"name":"az","from":"a","port":0,"to":"z","route":"local"}]}
+{"do":"feed","p":0,"vertex":"a","values":[],"next":"close"}
+{"do":"passed","q":0,"at":"z","time":[0]}
+{"do":"broadcast","p":0}
+{"do":"passed","q":0,"at":"z","time":[0]}
+{"do":"receive","from":0,"to":0}
+{"do":"passed","q":0,"at":"z","time":[0]}
+{"do":"view","q":0}
+"#,
+        r#"{"locations":3,"ok":true,"processors":1}
+{"at":1,"kept":1,"ok":true}
+{"ok":true,"passed":false,"point":["a",[0]]}
+{"at":2,"kept":2,"ok":true}
+{"ok":true,"passed":false,"point":["a",[0]]}
+{"at":3,"kept":3,"ok":true}
+{"ok":true,"passed":true}
+{"ok":true,"view":[]}
+"#,
+    ),
+    (
+        "views-lag",
+        3,
+        r#"{"vertices":[{"name":"a","op":"input","depth":0},{"name":"z","op":"sink","depth":0}],"edges":[{"name":"az","from":"a","port":0,"to":"z","route":"exchange"}]}
+{"do":"feed","p":0,"vertex":"a","values":[5],"next":"close"}
+{"do":"take","p":2,"edge":"az","time":[0],"value":5}
+{"do":"broadcast","p":2}
+{"do":"receive","from":2,"to":1}
+{"do":"view","q":1}
+{"do":"passed","q":1,"at":"z","time":[0]}
+{"do":"count","at":"az","time":[0]}
+{"do":"broadcast","p":0}
+{"do":"receive","from":0,"to":1}
+{"do":"view","q":1}
+"#,
+        r#"{"locations":3,"ok":true,"processors":3}
+{"at":1,"kept":1,"ok":true}
+{"at":2,"kept":2,"ok":true}
+{"at":3,"kept":3,"ok":true}
+{"at":4,"kept":4,"ok":true}
+{"ok":true,"view":[["a",[0],3],["az",[0],-1]]}
+{"ok":true,"passed":false,"point":["a",[0]]}
+{"count":0,"ok":true}
+{"at":5,"kept":5,"ok":true}
+{"at":6,"kept":6,"ok":true}
+{"ok":true,"view":[["a",[0],2]]}
+"#,
+    ),
+    (
+        "inadmissible",
+        1,
+        r#"{"vertices":[{"name":"a","op":"input","depth":0},{"name":"z","op":"sink","depth":0}],"edges":[{"name":"az","from":"a","port":0,"to":"z","route":"local"}]}
+{"do":"feed","p":0,"vertex":"a","values":[5],"next":"next"}
+{"do":"broadcast","p":0,"part":[["a",[0]]]}
+{"do":"broadcast","p":0,"part":[["z",[0]]]}
+"#,
+        r#"{"locations":3,"ok":true,"processors":1}
+{"at":1,"kept":1,"ok":true}
+{"code":16,"error":"NotAdmissible","point":["a",[1]]}
+{"code":15,"error":"NothingToSend"}
+"#,
+    ),
+    (
+        "partial-broadcast",
+        1,
+        r#"{"vertices":[{"name":"a","op":"input","depth":0},{"name":"z","op":"sink","depth":0}],"edges":[{"name":"az","from":"a","port":0,"to":"z","route":"local"}]}
+{"do":"feed","p":0,"vertex":"a","values":[5],"next":"next"}
+{"do":"broadcast","p":0,"part":[["a",[0]]]}
+{"do":"broadcast","p":0,"part":[["z",[0]]]}
+{"do":"broadcast","p":0,"part":[["az",[0]],["az",[0]]]}
+{"do":"state"}
+{"do":"back"}
+{"do":"state"}
+"#,
+        r#"{"locations":3,"ok":true,"processors":1}
+{"at":1,"kept":1,"ok":true}
+{"code":16,"error":"NotAdmissible","point":["a",[1]]}
+{"code":15,"error":"NothingToSend"}
+{"at":2,"kept":2,"ok":true}
+{"ok":true,"state":{"processors":[{"items":[],"records":[["az",[0],5,1]],"requests":[],"sinks":[],"tokens":[["a",1]],"unsent":[["a",[0],-1],["a",[1],1]],"view":[["a",[0],1]]}],"queues":[[[[["az",[0],1]]]]]}}
+{"at":1,"kept":2,"ok":true}
+{"ok":true,"state":{"processors":[{"items":[],"records":[["az",[0],5,1]],"requests":[],"sinks":[],"tokens":[["a",1]],"unsent":[["a",[0],-1],["a",[1],1],["az",[0],1]],"view":[["a",[0],1]]}],"queues":[[[]]]}}
+"#,
+    ),
+    (
+        "stay-holds-a-sum",
+        1,
+        r#"{"vertices":[{"name":"a","op":"input","depth":0},{"name":"s","op":"sum","depth":0},{"name":"z","op":"sink","depth":0}],"edges":[{"name":"as","from":"a","port":0,"to":"s","route":"local"},{"name":"sz","from":"s","port":0,"to":"z","route":"local"}]}
+{"do":"feed","p":0,"vertex":"a","values":[2],"next":"stay"}
+{"do":"take","p":0,"edge":"as","time":[0],"value":2}
+{"do":"feed","p":0,"vertex":"a","values":[3],"next":"stay"}
+{"do":"broadcast","p":0,"part":[["s",[0]]]}
+{"do":"state"}
+{"do":"notice","p":0,"vertex":"s","time":[0]}
+"#,
+        r#"{"locations":5,"ok":true,"processors":1}
+{"at":1,"kept":1,"ok":true}
+{"at":2,"kept":2,"ok":true}
+{"at":3,"kept":3,"ok":true}
+{"at":4,"kept":4,"ok":true}
+{"ok":true,"state":{"processors":[{"items":[["s",[0],0,2]],"records":[["as",[0],3,1]],"requests":[["s",[0]]],"sinks":[],"tokens":[["a",0]],"unsent":[["as",[0],1]],"view":[["a",[0],1]]}],"queues":[[[[["s",[0],1]]]]]}}
+{"code":10,"error":"NotYet","point":["a",[0]]}
+"#,
+    ),
+    (
+        "only-own-token-counts",
+        2,
+        r#"{"vertices":[{"name":"a","op":"input","depth":0},{"name":"z","op":"sink","depth":0}],"edges":[{"name":"az","from":"a","port":0,"to":"z","route":"local"}]}
+{"do":"feed","p":0,"vertex":"a","values":[5],"next":"close"}
+{"do":"broadcast","p":0,"part":[["a",[0]]]}
+"#,
+        r#"{"locations":3,"ok":true,"processors":2}
+{"at":1,"kept":1,"ok":true}
+{"code":16,"error":"NotAdmissible","point":["az",[0]]}
+"#,
+    ),
+    (
+        "a-token-at-another-input",
+        1,
+        r#"{"vertices":[{"name":"a","op":"input","depth":0},{"name":"b","op":"input","depth":0},{"name":"m","op":"add","depth":0,"k":0},{"name":"z","op":"sink","depth":0}],"edges":[{"name":"am","from":"a","port":0,"to":"m","route":"local"},{"name":"bm","from":"b","port":0,"to":"m","route":"local"},{"name":"mz","from":"m","port":0,"to":"z","route":"local"}]}
+{"do":"feed","p":0,"vertex":"a","values":[1],"next":"close"}
+{"do":"take","p":0,"edge":"am","time":[0],"value":1}
+{"do":"broadcast","p":0,"part":[["a",[0]]]}
+"#,
+        r#"{"locations":7,"ok":true,"processors":1}
+{"at":1,"kept":1,"ok":true}
+{"at":2,"kept":2,"ok":true}
+{"at":3,"kept":3,"ok":true}
+"#,
+    ),
+    (
+        "faults-of-exchanges",
+        1,
+        r#"{"vertices":[{"name":"a","op":"input","depth":0},{"name":"z","op":"sink","depth":0}],"edges":[{"name":"az","from":"a","port":0,"to":"z","route":"local"}]}
+{"do":"broadcast","p":0,"part":[["az",[0,0]],["zz",[0]]]}
+{"do":"broadcast","p":0,"part":[["a",[0]],["az",[0,0]]]}
+{"do":"broadcast","p":0,"part":[["zz",[]]]}
+{"do":"broadcast","p":0,"part":null}
+{"do":"broadcast","p":4294967296}
+{"do":"receive","from":0,"to":["a",[0]]}
+{"do":"receive","from":0,"to":4294967295}
+{"do":"view","q":4294967296}
+{"do":"view","q":1}
+{"do":"frontier","q":4294967295}
+{"do":"passed","q":1,"at":"z","time":[0]}
+{"do":"passed","q":1,"at":"zz","time":[0]}
+{"do":"passed","q":1,"at":"z","time":[0,0]}
+{"do":"passed","q":0,"at":"z","time":[]}
+"#,
+        r#"{"locations":3,"ok":true,"processors":1}
+{"code":32,"error":"UnknownName","line":2}
+{"code":34,"error":"BadTime","line":3}
+{"code":31,"error":"BadShape","line":4}
+{"code":31,"error":"BadShape","line":5}
+{"code":31,"error":"BadShape","line":6}
+{"code":31,"error":"BadShape","line":7}
+{"code":1,"error":"NoProcessor"}
+{"code":31,"error":"BadShape","line":9}
+{"code":1,"error":"NoProcessor"}
+{"code":1,"error":"NoProcessor"}
+{"code":1,"error":"NoProcessor"}
+{"code":32,"error":"UnknownName","line":13}
+{"code":34,"error":"BadTime","line":14}
+{"code":31,"error":"BadShape","line":15}
 "#,
     ),
     (

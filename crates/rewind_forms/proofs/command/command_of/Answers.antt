@@ -9,14 +9,10 @@ pub returns-then-is_form-2-clause-err : goal.returns-then-is_form-2-clause-err
 unfolding command_of
 returns-then-is_form-2-clause-err c = rw (← c.if-is_form.ensures, ← c.if-is_form-2.ensures) c.take_of.ensures.err
 
-pub returns-then-is_form-5-clause-err : goal.returns-then-is_form-5-clause-err
+pub returns-then-is_form-3-clause-err : goal.returns-then-is_form-3-clause-err
 unfolding command_of
-returns-then-is_form-5-clause-err c = rw (← c.if-is_form.ensures, ← c.if-is_form-2.ensures, ← c.if-is_form-3.ensures, ← c.if-is_form-4.ensures, ← c.if-is_form-5.ensures) c.count_of.ensures.err
+returns-then-is_form-3-clause-err c = rw (← c.if-is_form.ensures, ← c.if-is_form-2.ensures, ← c.if-is_form-3.ensures) c.notice_of.ensures.err
 
-pub returns-then-is_form-6-clause-err : goal.returns-then-is_form-6-clause-err
+pub returns-else-is_form-4-clause-err : goal.returns-else-is_form-4-clause-err
 unfolding command_of
-returns-then-is_form-6-clause-err c = rw (← c.if-is_form.ensures, ← c.if-is_form-2.ensures, ← c.if-is_form-3.ensures, ← c.if-is_form-4.ensures, ← c.if-is_form-5.ensures, ← c.if-is_form-6.ensures) c.notice_of.ensures.err
-
-pub returns-then-is_form-7-clause-err : goal.returns-then-is_form-7-clause-err
-unfolding command_of
-returns-then-is_form-7-clause-err c = rw (← c.if-is_form.ensures, ← c.if-is_form-2.ensures, ← c.if-is_form-3.ensures, ← c.if-is_form-4.ensures, ← c.if-is_form-5.ensures, ← c.if-is_form-6.ensures, ← c.if-is_form-7.ensures) c.before_of.ensures.err
+returns-else-is_form-4-clause-err c = rw (← c.if-is_form.ensures, ← c.if-is_form-2.ensures, ← c.if-is_form-3.ensures, ← c.if-is_form-4.ensures) c.exchange_of.ensures.err

@@ -1,0 +1,151 @@
+//! Pointstamps among JSON values: by their names and numbers first, and then by their places and times.
+ghost use Rattle.std.specs.Prelude.{◌≡◌, map, option_map, IfOk};
+ghost use Rattle.serde_json.specs.View.{view};
+ghost use Rattle.rewind_forms.specs.Forms.{each, named_time as named_time_in, point_of as point_in, point_at as point_at_in, listed_point as listed_in, points_at as points_in};
+ghost use Rattle.rewind_forms.specs.Places.{are_known as known_in, point_named as named_in};
+
+use crate::numbers::numbers_of;
+use crate::places::{location_named, time_of};
+use nd_graph::Graph;
+use nd_json::{list, list_at, text};
+use nd_paths::Pointstamp;
+use nd_protocol::Points;
+use serde_json::Value;
+use std::alloc::{AllocError, Global};
+
+/// A name, and the numbers of a time.
+#[derive(Drop)]
+pub struct NamedTime<'v> {
+    pub name: &'v str,
+    pub numbers: Vec<u32>,
+}
+
+// The name and the numbers of a time that two values are.
+#[tactic(auto, unfolding(crate::specs::Forms::named_time))]
+fn named_time<'v>(
+    alloc: Global,
+    name: &'v Value,
+    time: &Value,
+) -> Result<Option<NamedTime<'v>>, AllocError>
+    ensures { IfOk result (λ o. option_map (λ n. (n.name.now, n.numbers.items)) o ≡ named_time_in (view name.now, view time.now)) }
+{
+    let Some(name) = text(name) else {
+        return Ok(None);
+    };
+    let Some(items) = list(time) else {
+        return Ok(None);
+    };
+    match numbers_of(alloc, items)? {
+        Some(numbers) => Ok(Some(NamedTime { name, numbers })),
+        None => Ok(None),
+    }
+}
+
+// The pointstamp that the items are, by its name and its numbers.
+#[tactic(auto, unfolding(crate::specs::Forms::point_of))]
+fn point_of<'v>(alloc: Global, items: &'v [Value]) -> Result<Option<NamedTime<'v>>, AllocError>
+    ensures { IfOk result (λ o. option_map (λ n. (n.name.now, n.numbers.items)) o ≡ point_in (map view items.now)) }
+{
+    match items {
+        [name, time] => named_time(alloc, name, time),
+        _ => Ok(None),
+    }
+}
+
+/// The pointstamp at the key, by its name and its numbers.
+#[tactic(auto, unfolding(crate::specs::Forms::point_at))]
+pub fn point_at<'v>(
+    alloc: Global,
+    value: &'v Value,
+    key: &str,
+) -> Result<Option<NamedTime<'v>>, AllocError>
+    ensures { IfOk result (λ o. option_map (λ n. (n.name.now, n.numbers.items)) o ≡ point_at_in key.now (view value.now)) }
+{
+    match list_at(value, key) {
+        Some(items) => point_of(alloc, items),
+        None => Ok(None),
+    }
+}
+
+// The pointstamp that the value is, by its name and its numbers.
+#[tactic(auto, unfolding(crate::specs::Forms::listed_point))]
+fn listed_point<'v>(alloc: Global, value: &'v Value) -> Result<Option<NamedTime<'v>>, AllocError>
+    ensures { IfOk result (λ o. option_map (λ n. (n.name.now, n.numbers.items)) o ≡ listed_in (view value.now)) }
+{
+    match list(value) {
+        Some(items) => point_of(alloc, items),
+        None => Ok(None),
+    }
+}
+
+// The pointstamps that the items are, by their names and numbers.
+fn points_of<'v>(
+    alloc: Global,
+    items: &'v [Value],
+) -> Result<Option<Vec<NamedTime<'v>>>, AllocError>
+    ensures { IfOk result (λ o. option_map (λ v. map (λ n. (n.name.now, n.numbers.items)) v.items) o ≡ each listed_in (map view items.now)) }
+{
+    let mut points = Vec::new(alloc);
+    for item in items {
+        let Some(point) = listed_point(alloc, item)? else {
+            return Ok(None);
+        };
+        points.push(point)?;
+    }
+    Ok(Some(points))
+}
+
+/// The pointstamps in the list at the key, by their names and numbers.
+#[tactic(auto, unfolding(crate::specs::Forms::points_at))]
+pub fn points_at<'v>(
+    alloc: Global,
+    value: &'v Value,
+    key: &str,
+) -> Result<Option<Vec<NamedTime<'v>>>, AllocError>
+    ensures { IfOk result (λ o. option_map (λ v. map (λ n. (n.name.now, n.numbers.items)) v.items) o ≡ points_in key.now (view value.now)) }
+{
+    match list_at(value, key) {
+        Some(items) => points_of(alloc, items),
+        None => Ok(None),
+    }
+}
+
+/// Whether each of the names is that of a location.
+pub fn are_known(graph: &Graph, points: &[NamedTime<'_>]) -> bool
+    ensures { result ≡ known_in graph.now (map (λ n. (n.name.now, n.numbers.items)) points.now) }
+{
+    for point in points {
+        if location_named(graph, point.name).is_none() {
+            return false;
+        }
+    }
+    true
+}
+
+// The pointstamp of a location's name and the numbers of a time.
+#[tactic(auto, unfolding(crate::specs::Places::point_named))]
+fn point_named(graph: &Graph, name: &str, numbers: &[u32]) -> Option<Pointstamp>
+    ensures { result ≡ named_in graph.now (name.now, numbers.now) }
+{
+    let location = location_named(graph, name)?;
+    let time = time_of(graph, location, numbers)?;
+    Some(Pointstamp { location, time })
+}
+
+/// The pointstamps of names and numbers, where each is one of the graph.
+pub fn points_named(
+    alloc: Global,
+    graph: &Graph,
+    points: &[NamedTime<'_>],
+) -> Result<Option<Points>, AllocError>
+    ensures { IfOk result (λ o. o ≡ each (named_in graph.now) (map (λ n. (n.name.now, n.numbers.items)) points.now)) }
+{
+    let mut named = Points::new(alloc);
+    for point in points {
+        let Some(point) = point_named(graph, point.name, point.numbers.as_slice()) else {
+            return Ok(None);
+        };
+        named.push(point)?;
+    }
+    Ok(Some(named))
+}
