@@ -26,7 +26,6 @@ pub mod Edited
 pub mod Seeing
 pub mod Joining
 pub mod Assembling
-pub mod Outstanding
 pub mod Started
 pub mod Counted
 pub mod Shown
