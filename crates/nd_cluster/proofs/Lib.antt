@@ -33,3 +33,4 @@ pub mod Enabling
 pub mod Passed
 pub mod Differences
 pub mod Differing
+pub mod Choosing
