@@ -34,3 +34,4 @@ pub mod Passed
 pub mod Differences
 pub mod Differing
 pub mod Choosing
+pub mod Sinking

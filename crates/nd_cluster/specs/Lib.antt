@@ -16,3 +16,4 @@ pub mod Starting
 pub mod Limits
 pub mod Turns
 pub mod Choice
+pub mod Sinks
