@@ -34,3 +34,5 @@ pub mod Enabling
 pub mod Passed
 pub mod Differences
 pub mod Differing
+pub mod Choosing
+pub mod Sinking

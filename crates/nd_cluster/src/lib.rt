@@ -3,6 +3,7 @@
 
 mod acting;
 mod change;
+mod choice;
 mod cluster;
 mod draft;
 mod emit;
@@ -18,6 +19,7 @@ mod react;
 mod readers;
 mod record;
 mod refuse;
+mod sinks;
 mod start;
 mod text;
 mod work;
