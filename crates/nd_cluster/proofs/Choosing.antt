@@ -66,7 +66,7 @@ not_zero : (v : Option ℕ) → or_else 0 v ≢ 0 → v ≢ None
 not_zero None h = λ _. h refl
 not_zero (Some n) h = λ e. absurd (cc (e))
 
-split : (q r : ℕ) → q < r + 1 → (q < r) ⊎ (q ≡ r)
+pub split : (q r : ℕ) → q < r + 1 → (q < r) ⊎ (q ≡ r)
 split q r lt = grind arith
 
 -- ---- the turns
