@@ -1,21 +1,27 @@
 //! A cluster from its parts, for tests and laws: whether the keys of its maps fit its graph.
-ghost use Rattle.std.specs.Prelude.{◌≡◌, ◌≢◌, ◌<◌, ◌↔◌, ℕ, pos, All, IsTrue, MatchOption, length, map};
+ghost use Rattle.std.specs.Prelude.{◌≡◌, ◌≢◌, ◌<◌, ◌↔◌, ℕ, pos, All, IfSome, IsNone, IsTrue, length};
 ghost use Rattle.std.specs.FinMap as fin;
 ghost use Rattle.nd_graph.specs.Graph.{op_at as operator_at};
 ghost use Rattle.nd_graph.specs.declared.op.Op.TheVariants as operator;
 ghost use Rattle.nd_map.specs.Counts.{entries as counts_of};
 ghost use Rattle.nd_paths.specs.Order.{Fits};
 ghost use Rattle.nd_processor.specs.State.{items_at, token_point as point_of_token};
-ghost use Rattle.nd_cluster.specs.Parts.{IsSinkKey, ItemsFit};
-ghost use Rattle.nd_protocol.specs.Fitting.{IsAtVertex, IsAtEdge, ChangeFits, ChangeIsWithin, ProcessorFits, ProcessorIsWithin};
+ghost use Rattle.nd_cluster.specs.Parts.{IsSinkKey, ItemsFit, RowFits, RowIsWithin};
+ghost use Rattle.nd_cluster.specs.Seen.{seen};
+ghost use Rattle.nd_mesh.specs.Mesh.{queue};
+ghost use Rattle.nd_view.specs.Kept.{Kept, IsFor};
+ghost use Rattle.nd_protocol.specs.Fitting.{IsAtVertex, IsAtEdge, ChangeFits, ChangeIsWithin, ProcessorFits, ProcessorIsWithin, IsState};
 
+use crate::Cluster;
 use crate::refuse::op_at;
-use crate::start::token_point;
+use crate::start::{MAX_PROCESSORS, token_point};
 use nd_delta::Delta;
 use nd_graph::{Graph, Op};
-use nd_paths::Pointstamp;
+use nd_mesh::Mesh;
+use nd_paths::{Paths, Pointstamp};
 use nd_processor::{Processor, SinkKey, ValueAt};
 use nd_vertex::{ItemKey, VertexState};
+use nd_view::View;
 use std::alloc::Allocator;
 
 // Whether a pointstamp is one of a vertex.
@@ -179,11 +185,161 @@ fn processor_fits<A: Allocator + Copy>(graph: &Graph<A>, processor: &Processor<A
     if processor.vertex_count() != graph.vertices().len() {
         return false;
     }
-    if !records_fit(graph, processor) || !requests_fit(graph, processor) {
+    if !records_fit(graph, processor) {
         return false;
     }
-    if !tokens_fit(graph, processor) || !items_fit(graph, processor) {
+    if !requests_fit(graph, processor) {
         return false;
     }
-    sinks_fit(graph, processor) && change_fits(graph, processor.unsent())
+    if !tokens_fit(graph, processor) {
+        return false;
+    }
+    if !items_fit(graph, processor) {
+        return false;
+    }
+    if !sinks_fit(graph, processor) {
+        return false;
+    }
+    change_fits(graph, processor.unsent())
+}
+
+// Whether each key of some processors is one of the graph.
+fn processors_fit<A: Allocator + Copy>(graph: &Graph<A>, processors: &[Processor<A>]) -> bool
+    ensures fits { IsTrue result ↔ All (ProcessorFits graph.now) processors.now }
+    ensures within { IsTrue result → All ProcessorIsWithin processors.now }
+{
+    for processor in processors {
+        is_within(processor);
+        if !processor_fits(graph, processor) {
+            return false;
+        }
+    }
+    true
+}
+
+// Whether a view has entries at pointstamps of the graph alone.
+fn view_fits<A: Allocator + Copy>(graph: &Graph<A>, view: &View<A>) -> bool
+    ensures fits { IsTrue result ↔ ChangeFits graph.now view.now.map }
+    ensures within { ChangeIsWithin view.now.map }
+{
+    entries_fit(graph, view.entries())
+}
+
+// Whether all views do.
+fn views_fit<A: Allocator + Copy>(graph: &Graph<A>, views: &[View<A>]) -> bool
+    ensures fits { IsTrue result ↔ All (λ (v : Kept). ChangeFits graph.now v.map) views.now }
+    ensures within { IsTrue result → All (λ (v : Kept). ChangeIsWithin v.map) views.now }
+{
+    for view in views {
+        if !view_fits(graph, view) {
+            return false;
+        }
+    }
+    true
+}
+
+// Whether the changes of a queue do.
+fn queue_fits<A: Allocator + Copy>(
+    graph: &Graph<A>,
+    mesh: &Mesh<A>,
+    from: usize,
+    to: usize,
+) -> bool
+    requires sender { from < length mesh.now }
+    requires receiver { to < length mesh.now }
+    ensures fits { IsTrue result ↔ All (ChangeFits graph.now) (queue mesh.now from to) }
+    ensures within { IsTrue result → All ChangeIsWithin (queue mesh.now from to) }
+{
+    for i in 0..mesh.len(from, to) {
+        let change = mesh.get(from, to, i).unwrap();
+        if !change_fits(graph, change) {
+            return false;
+        }
+    }
+    true
+}
+
+// Whether the changes of all queues from a processor do.
+fn row_fits<A: Allocator + Copy>(graph: &Graph<A>, mesh: &Mesh<A>, from: usize) -> bool
+    requires { from < length mesh.now }
+    ensures fits { IsTrue result ↔ RowFits graph.now mesh.now from }
+    ensures within { IsTrue result → RowIsWithin mesh.now from }
+{
+    for to in 0..mesh.n() {
+        if !queue_fits(graph, mesh, from, to) {
+            return false;
+        }
+    }
+    true
+}
+
+// Whether the changes of all queues do.
+fn mesh_fits<A: Allocator + Copy>(graph: &Graph<A>, mesh: &Mesh<A>) -> bool
+    ensures fits { IsTrue result ↔ ((p : ℕ) → p < length mesh.now → RowFits graph.now mesh.now p) }
+    ensures within { IsTrue result → (p : ℕ) → p < length mesh.now → RowIsWithin mesh.now p }
+{
+    for from in 0..mesh.n() {
+        if !row_fits(graph, mesh, from) {
+            return false;
+        }
+    }
+    true
+}
+
+// Whether parts are those of a state that a cluster may be in.
+fn parts_fit<A: Allocator + Copy>(
+    paths: &Paths<A>,
+    processors: &[Processor<A>],
+    views: &[View<A>],
+    mesh: &Mesh<A>,
+) -> bool
+    ensures { IsTrue result ↔ IsState (seen paths.now processors.now views.now mesh.now) }
+{
+    let graph = paths.graph();
+    // The clauses of these two say that edges join vertices, and that depths agree along the arcs.
+    let _ = graph.vertices();
+    let _ = graph.all_arcs();
+    let n = processors.len();
+    if n == 0 || n > MAX_PROCESSORS as usize {
+        return false;
+    }
+    if views.len() != n || mesh.n() != n {
+        return false;
+    }
+    if !processors_fit(graph, processors) {
+        return false;
+    }
+    if !views_fit(graph, views) {
+        return false;
+    }
+    mesh_fits(graph, mesh)
+}
+
+impl<A: Allocator + Copy> Cluster<A> {
+    /// The cluster of these parts, `None` where their sizes, keys, counts or depths do not fit.
+    pub fn of_parts(
+        alloc: A,
+        graph: &Graph<A>,
+        paths: Paths<A>,
+        processors: Vec<Processor<A>, A>,
+        views: Vec<View<A>, A>,
+        mesh: Mesh<A>,
+    ) -> Option<Cluster<A>>
+        requires paths { paths ≡ graph.now }
+        requires views { All (IsFor graph.now) views.items }
+        ensures some { IfSome result (λ c. c ≡ seen graph.now processors.items views.items mesh) }
+        ensures none { IsNone result → IsState (seen graph.now processors.items views.items mesh) → ⊥ }
+    {
+        let _ = graph;
+        if !parts_fit(&paths, &processors, &views, &mesh) {
+            return None;
+        }
+        Some(Cluster {
+            alloc,
+            paths,
+            processors,
+            views,
+            mesh,
+        })
+    }
 }
