@@ -1,10 +1,10 @@
 -- A property of all entries of a list, tested one by one; and of all keys of a map.
-use Rattle.std.proofs.Common.{◌≡◌, ◌≢◌, ◌<◌, ◌≤◌, ◌+◌, ◌⊎◌, inl, inr, ℕ, zero, suc, ℤ, pos, Bool, List, [], ◌∷◌, length, get_or, Option, Some, None, refl, sym, ap, subst, ◌∙◌, arith, Ordering}
+use Rattle.std.proofs.Common.{◌≡◌, ◌≢◌, ◌<◌, ◌≤◌, ◌+◌, ◌⊎◌, inl, inr, ℕ, zero, suc, ℤ, pos, Bool, List, [], ◌∷◌, map, length, get_or, Option, Some, None, refl, sym, ap, subst, ◌∙◌, arith, Ordering}
 use Rattle.std.specs.Prelude.{All}
 use Rattle.std.specs.Cmp.{IsTotalOrder}
 use Rattle.std.specs.Ordering.{nat_cmp}
 use Rattle.std.proofs.lemmas.Cmp.{nat_cmp_total}
-use Rattle.std.proofs.lemmas.List.{get_or_past}
+use Rattle.std.proofs.lemmas.List.{get_or_past, get_or_default}
 use Rattle.std.specs.FinMap.{IsAntisymmetric, find}
 use Rattle.std.specs.FinMap as fin
 use Rattle.nd_graph.specs.Graph.{Dataflow, op_at}
@@ -21,8 +21,13 @@ use Rattle.nd_processor.specs.Keys.{value_at_cmp, value_at_total, value_at_exact
 use Rattle.nd_processor.specs.State.{ProcessorState, items_at, token_point}
 use Rattle.nd_processor.specs.declared.key.ValueAt.{ValueAt}
 use Rattle.nd_processor.specs.declared.key.SinkKey.{SinkKey}
-use Rattle.nd_protocol.specs.Fitting.{ChangeFits, IsAtVertex, IsAtEdge, ProcessorFits}
-use Rattle.nd_cluster.specs.Parts.{IsSinkKey, ItemsFit}
+use Rattle.nd_time.specs.Limits.{max_processors}
+use Rattle.nd_view.specs.Kept.{Kept}
+use Rattle.nd_mesh.specs.Mesh.{IsMesh, queue}
+use Rattle.nd_protocol.specs.Fitting.{ChangeFits, ChangeIsWithin, IsAtVertex, IsAtEdge, ProcessorFits, ProcessorIsWithin, IsOrdered, IsState}
+use Rattle.nd_cluster.specs.Seen.{seen}
+use Rattle.nd_cluster.specs.Parts.{IsSinkKey, ItemsFit, RowFits, RowIsWithin}
+use Rattle.nd_cluster.proofs.Choosing.{split}
 
 -- ---- the entries that are left
 
@@ -137,4 +142,66 @@ module _ (g : Dataflow) (q : ProcessorState) where
     items = items_from items;
     sinks = counts_from sink_total sink_exact q.sinks (IsSinkKey g) sinks;
     unsent = unsent;
+  }
+
+-- ---- lists of lists
+
+-- one more element has the property
+pub all_more : {X : Type 0} (P : X → Type 0) (xs : List X) (i : ℕ) (x : X) → i < length xs → x ≡ get_or xs i x → P x → ((k : ℕ) (d : X) → k < i → P (get_or xs k d)) → (k : ℕ) (d : X) → k < i + 1 → P (get_or xs k d)
+all_more P xs i x lt is p all k d below = elim (split k i below) [
+  | inl h ↦ all k d h
+  | inr e ↦ subst (λ j. P (get_or xs j d)) (sym e) (subst P (is ∙ get_or_default xs i x d lt) p)
+]
+
+pub all_map : {X Y : Type 0} (f : X → Y) (P : Y → Type 0) (xs : List X) → All (λ x. P (f x)) xs → All P (map f xs)
+all_map f P [] h k d lt = absurd (omega (arith, lt))
+all_map f P (x ∷ xs) h zero d lt = h zero x (omega arith)
+all_map f P (x ∷ xs) h (suc k) d lt = all_map f P xs (λ j e below. h (suc j) e (omega (arith, below))) k d (omega (arith, lt))
+
+pub all_unmap : {X Y : Type 0} (f : X → Y) (P : Y → Type 0) (xs : List X) → All P (map f xs) → All (λ x. P (f x)) xs
+all_unmap f P [] h k d lt = absurd (omega (arith, lt))
+all_unmap f P (x ∷ xs) h zero d lt = h zero (f x) (omega arith)
+all_unmap f P (x ∷ xs) h (suc k) d lt = all_unmap f P xs (λ j e below. h (suc j) e (omega (arith, below))) k d (omega (arith, lt))
+
+pub length_map : {X Y : Type 0} (f : X → Y) (xs : List X) → length (map f xs) ≡ length xs
+length_map f [] = refl
+length_map f (x ∷ xs) = ap suc (length_map f xs)
+
+module _ (P : Change → Type 0) (m : List (List (List Change))) (mesh : IsMesh m) where
+  pub rows_from : ((p : ℕ) → p < length m → (q : ℕ) → q < length m → All P (queue m p q)) → All (λ row. All (λ changes. All P changes) row) m
+  rows_from h p d lt q e in_row =
+      subst (All P) (ap (λ row. get_or row q []) (get_or_default m p [] d lt) ∙ get_or_default (get_or m p d) q [] e in_row)
+      (h p lt q (omega (arith, in_row, mesh.square p d lt)))
+
+  pub rows_to : All (λ row. All (λ changes. All P changes) row) m → (p : ℕ) → p < length m → (q : ℕ) → q < length m → All P (queue m p q)
+  rows_to all p lt q near = all p [] lt q [] (omega (arith, near, mesh.square p [] lt))
+
+-- ---- a state
+
+module _ (g : Dataflow) (ps : List ProcessorState) (vs : List Kept) (m : List (List (List Change))) (mesh : IsMesh m) where
+  pub views_to : IsState (seen g ps vs m) → All (λ (v : Kept). ChangeFits g v.map) vs
+  views_to s = all_unmap (λ (v : Kept). v.map) (ChangeFits g) vs s.fits.views
+
+  pub mesh_to : IsState (seen g ps vs m) → (p : ℕ) → p < length m → RowFits g m p
+  mesh_to s = rows_to (ChangeFits g) m mesh s.fits.queues
+
+  pub state_from : IsOrdered g → 0 < length ps → length ps ≤ max_processors → length vs ≡ length ps → length m ≡ length ps
+      → All (ProcessorFits g) ps → All ProcessorIsWithin ps → All (λ (v : Kept). ChangeFits g v.map) vs → All (λ (v : Kept). ChangeIsWithin v.map) vs
+      → ((p : ℕ) → p < length m → RowFits g m p) → ((p : ℕ) → p < length m → RowIsWithin m p) → IsState (seen g ps vs m)
+  state_from order some few each_view each_sender processors processors_within views views_within rows rows_within = record {
+    ordered = order;
+    fits = record {
+      processors = processors;
+      views = all_map (λ (v : Kept). v.map) (ChangeFits g) vs views;
+      queues = rows_from (ChangeFits g) m mesh rows;
+      each_view = length_map (λ (v : Kept). v.map) vs ∙ each_view;
+      each_sender = each_sender;
+      each_receiver = λ p d lt. mesh.square p d lt ∙ each_sender;
+    };
+    within = record {
+      some = some; few = few;
+      processors = processors_within;
+      views = all_map (λ (v : Kept). v.map) ChangeIsWithin vs views_within;
+      queues = λ p d lt q e in_row. record { few = mesh.within p d lt q e in_row; entries = rows_from ChangeIsWithin m mesh rows_within p d lt q e in_row };
+    };
   }
