@@ -182,7 +182,9 @@ module _ (A : Type 0) (s : ClusterState) where
 
   pub first_take : (p : ℕ) (d : ValueAt × ℕ) (es : List (ValueAt × ℕ)) → IsListed value_at_cmp (d ∷ es) → HasTakes p (d ∷ es) → CanTake p d.0 → IsFirst {A = A} s (IsOfRank p 1) (Taking p d.0)
   first_take p d es listed all e = record {
-    candidate = tt; kind = (refl, refl); enabled = e;
+    candidate = tt;
+    kind = (refl, refl);
+    enabled = e;
     first = first_take_of p d.0 (none_before value_at_cmp value_at_total value_at_exact (CanTake p) d es listed all);
   }
 
@@ -223,7 +225,9 @@ module _ (A : Type 0) (s : ClusterState) where
 
   pub first_notice : (p : ℕ) (d : Pointstamp × Unit {0}) (es : List (Pointstamp × Unit {0})) → IsListed point_cmp (d ∷ es) → HasNotices p (d ∷ es) → CanNotice p d.0 → IsFirst {A = A} s (IsOfRank p 2) (Noticing p d.0)
   first_notice p d es listed all e = record {
-    candidate = tt; kind = (refl, refl); enabled = e;
+    candidate = tt;
+    kind = (refl, refl);
+    enabled = e;
     first = first_notice_of p d.0 (none_before point_cmp point_total point_exact (CanNotice p) d es listed all);
   }
 
@@ -245,7 +249,9 @@ module _ (A : Type 0) (s : ClusterState) where
 
   pub first_broadcast : (p : ℕ) → IsEnabled {A = A} s (Broadcast p All) → IsFirst {A = A} s (IsOfRank p 3) (Broadcast p All)
   first_broadcast p e = record {
-    candidate = tt; kind = (refl, refl); enabled = e;
+    candidate = tt;
+    kind = (refl, refl);
+    enabled = e;
     first = λ y candidate kind before _. elim before [
       | inl lower ↦ absurd (omega (arith, lower, kind.1))
       | inr same ↦ unlisted p p y same.1
@@ -263,7 +269,9 @@ module _ (A : Type 0) (s : ClusterState) where
 
   pub first_of_kind : (p r : ℕ) (x : Step A) → NoneBelow p r → IsFirst s (IsOfRank p r) x → IsFirst s (IsOf p) x
   first_of_kind p r x none h = record {
-    candidate = h.candidate; kind = h.kind.0; enabled = h.enabled;
+    candidate = h.candidate;
+    kind = h.kind.0;
+    enabled = h.enabled;
     first = λ y candidate kind before e. elim before [
       | inl lower ↦ none (rank y) (omega (arith, lower, h.kind.1)) y candidate (kind, refl) e
       | inr same ↦ h.first y candidate (kind, same.0 ∙ h.kind.1) (inr same) e
@@ -291,7 +299,8 @@ module _ (A : Type 0) (s : ClusterState) where
   chosen_of some turn i x lt none h =
       let mine : wait (length s.processors) turn (performer x) ≡ i = ap (wait (length s.processors) turn) h.kind ∙ wait_of (length s.processors) turn some i lt in
       record {
-        candidate = h.candidate; enabled = h.enabled;
+        candidate = h.candidate;
+        enabled = h.enabled;
         first = λ y candidate before e. elim before [
           | inl sooner ↦ none y candidate (omega (arith, sooner, mine)) e
           | inr same ↦ h.first y candidate (same.0 ∙ h.kind) same.1 e

@@ -199,7 +199,8 @@ module _ (g : Dataflow) (ps : List ProcessorState) (vs : List Kept) (m : List (L
       each_receiver = λ p d lt. mesh.square p d lt ∙ each_sender;
     };
     within = record {
-      some = some; few = few;
+      some = some;
+      few = few;
       processors = processors_within;
       views = all_map (λ (v : Kept). v.map) ChangeIsWithin vs views_within;
       queues = λ p d lt q e in_row. record { few = mesh.within p d lt q e in_row; entries = rows_from ChangeIsWithin m mesh rows_within p d lt q e in_row };

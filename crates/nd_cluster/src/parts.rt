@@ -239,12 +239,7 @@ fn views_fit<A: Allocator + Copy>(graph: &Graph<A>, views: &[View<A>]) -> bool
 }
 
 // Whether the changes of a queue do.
-fn queue_fits<A: Allocator + Copy>(
-    graph: &Graph<A>,
-    mesh: &Mesh<A>,
-    from: usize,
-    to: usize,
-) -> bool
+fn queue_fits<A: Allocator + Copy>(graph: &Graph<A>, mesh: &Mesh<A>, from: usize, to: usize) -> bool
     requires sender { from < length mesh.now }
     requires receiver { to < length mesh.now }
     ensures fits { IsTrue result ↔ All (ChangeFits graph.now) (queue mesh.now from to) }

@@ -7,6 +7,6 @@ use Rattle.nd_cluster.proofs.parts.change_fits.Goals as goal
 
 pub returns-clause-fits : goal.returns-clause-fits
 returns-clause-fits g c = (
-    λ t. change_from c.args.graph.now c.args.change.now (subst (All (λ (e : Pointstamp × ℤ). Fits c.args.graph.now e.0)) c.entries.ensures.listed (c.entries_fit.ensures.0 t)),
-    λ fits. c.entries_fit.ensures.1 (subst (All (λ (e : Pointstamp × ℤ). Fits c.args.graph.now e.0)) (sym c.entries.ensures.listed) (change_to c.args.graph.now c.args.change.now fits))
+  λ t. change_from c.args.graph.now c.args.change.now (subst (All (λ (e : Pointstamp × ℤ). Fits c.args.graph.now e.0)) c.entries.ensures.listed (c.entries_fit.ensures.0 t)),
+  λ fits. c.entries_fit.ensures.1 (subst (All (λ (e : Pointstamp × ℤ). Fits c.args.graph.now e.0)) (sym c.entries.ensures.listed) (change_to c.args.graph.now c.args.change.now fits)),
 )

@@ -12,16 +12,16 @@ use Rattle.nd_cluster.proofs.parts.parts_fit.Goals as goal
 
 pub returns-then-not-processors_fit : goal.returns-then-not-processors_fit
 returns-then-not-processors_fit g c = (
-    λ t. absurd (cc (t)),
-    λ s. c.if-not-processors_fit.ensures.fits.1 (subst (λ (k : Dataflow). All (ProcessorFits k) c.args.processors.now) (sym c.graph-graph.ensures.value) s.fits.processors)
+  λ t. absurd (cc (t)),
+  λ s. c.if-not-processors_fit.ensures.fits.1 (subst (λ (k : Dataflow). All (ProcessorFits k) c.args.processors.now) (sym c.graph-graph.ensures.value) s.fits.processors),
 )
 
 pub returns-then-not-views_fit : goal.returns-then-not-views_fit
 returns-then-not-views_fit g c = (
-    λ t. absurd (cc (t)),
-    λ s. c.if-not-views_fit.ensures.fits.1
-        (subst (λ (k : Dataflow). All (λ (v : Kept). ChangeFits k v.map) c.args.views.now) (sym c.graph-graph.ensures.value)
-        (views_to c.args.paths.now c.args.processors.now c.args.views.now c.args.mesh.now c.n.ensures.mesh s))
+  λ t. absurd (cc (t)),
+  λ s. c.if-not-views_fit.ensures.fits.1
+      (subst (λ (k : Dataflow). All (λ (v : Kept). ChangeFits k v.map) c.args.views.now) (sym c.graph-graph.ensures.value)
+      (views_to c.args.paths.now c.args.processors.now c.args.views.now c.args.mesh.now c.n.ensures.mesh s)),
 )
 
 pub returns : goal.returns
@@ -36,14 +36,13 @@ returns g c =
     let some : 0 < length ps = omega (arith, c.if-n-eq0.false) in
     let few : length ps ≤ max_processors = omega (arith, c.if-n.false) in
     let each_view : length vs ≡ length ps = omega (arith, c.if-views-n.false) in
-    let each_sender : length m ≡ length ps = omega (arith, c.if-n-2.false, c.n.ensures.value) in
-    (
+    let each_sender : length m ≡ length ps = omega (arith, c.if-n-2.false, c.n.ensures.value) in (
       λ t. state_from k ps vs m c.n.ensures.mesh order some few each_view each_sender
-        (subst (λ (k : Dataflow). All (ProcessorFits k) ps) is (c.if-not-processors_fit.ensures.fits.0 refl))
-        (c.if-not-processors_fit.ensures.within refl)
-        (subst (λ (k : Dataflow). All (λ (v : Kept). ChangeFits k v.map) vs) is (c.if-not-views_fit.ensures.fits.0 refl))
-        (c.if-not-views_fit.ensures.within refl)
-        (subst (λ (k : Dataflow). (p : ℕ) → p < length m → RowFits k m p) is (c.mesh_fits.ensures.fits.0 t))
-        (c.mesh_fits.ensures.within t),
-      λ s. c.mesh_fits.ensures.fits.1 (subst (λ (k : Dataflow). (p : ℕ) → p < length m → RowFits k m p) (sym is) (mesh_to k ps vs m c.n.ensures.mesh s))
+          (subst (λ (k : Dataflow). All (ProcessorFits k) ps) is (c.if-not-processors_fit.ensures.fits.0 refl))
+          (c.if-not-processors_fit.ensures.within refl)
+          (subst (λ (k : Dataflow). All (λ (v : Kept). ChangeFits k v.map) vs) is (c.if-not-views_fit.ensures.fits.0 refl))
+          (c.if-not-views_fit.ensures.within refl)
+          (subst (λ (k : Dataflow). (p : ℕ) → p < length m → RowFits k m p) is (c.mesh_fits.ensures.fits.0 t))
+          (c.mesh_fits.ensures.within t),
+      λ s. c.mesh_fits.ensures.fits.1 (subst (λ (k : Dataflow). (p : ℕ) → p < length m → RowFits k m p) (sym is) (mesh_to k ps vs m c.n.ensures.mesh s)),
     )

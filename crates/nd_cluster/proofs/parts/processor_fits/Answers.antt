@@ -22,9 +22,8 @@ pub returns : goal.returns
 returns g c =
     let gr = c.args.graph.now in
     let q = c.args.processor.now in
-    let vertices : length q.items ≡ length gr.vertices = omega (arith, c.if-vertex_count-vertices.false, c.vertex_count.ensures, ap length c.vertices.ensures.vertices) in
-    (
+    let vertices : length q.items ≡ length gr.vertices = omega (arith, c.if-vertex_count-vertices.false, c.vertex_count.ensures, ap length c.vertices.ensures.vertices) in (
       λ t. processor_from gr q vertices (c.if-not-records_fit.ensures.0 refl) (c.if-not-requests_fit.ensures.0 refl) (c.if-not-tokens_fit.ensures.0 refl)
-        (c.if-not-items_fit.ensures.0 refl) (c.if-not-sinks_fit.ensures.0 refl) (subst (ChangeFits gr) c.unsent.ensures (c.change_fits.ensures.fits.0 t)),
-      λ fits. c.change_fits.ensures.fits.1 (subst (ChangeFits gr) (sym c.unsent.ensures) fits.unsent)
+          (c.if-not-items_fit.ensures.0 refl) (c.if-not-sinks_fit.ensures.0 refl) (subst (ChangeFits gr) c.unsent.ensures (c.change_fits.ensures.fits.0 t)),
+      λ fits. c.change_fits.ensures.fits.1 (subst (ChangeFits gr) (sym c.unsent.ensures) fits.unsent),
     )
