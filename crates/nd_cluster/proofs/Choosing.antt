@@ -1,5 +1,5 @@
 -- The first enabled step, kind by kind, processor by processor.
-use Rattle.std.proofs.Common.{◌≡◌, ◌≢◌, ◌<◌, ◌≤◌, ◌+◌, ◌-◌, ◌%◌, ◌⊎◌, inl, inr, ℕ, zero, suc, Bool, true, false, cond, ◌&&◌, T, List, [], ◌∷◌, length, Option, Some, None, refl, sym, ap, subst, ◌∙◌, arith, Ordering, Less, Equal, Greater}
+use Rattle.std.proofs.Common.{◌≡◌, ◌≢◌, ◌<◌, ◌≤◌, ◌+◌, ◌-◌, ◌%◌, ◌⊎◌, inl, inr, ℕ, Bool, true, false, cond, ◌&&◌, T, List, [], ◌∷◌, length, Option, Some, None, refl, sym, ap, subst, ◌∙◌, arith, Ordering, Less, Equal, Greater}
 use Rattle.std.proofs.Math.Nat.{mod-eq_of_lt, add-mod_right, mod-lt}
 use Rattle.std.specs.Ordering.{eq_by_cmp, is_eq, is_lt}
 use Rattle.std.specs.Cmp.{IsTotalOrder}
@@ -7,9 +7,8 @@ use Rattle.std.specs.FinMap.{IsAntisymmetric, find}
 use Rattle.std.specs.FinMap as fin
 use Rattle.std.specs.FinMap.Entries.{below_all}
 use Rattle.std.proofs.lemmas.Map.Views.{tells_apart}
-use Rattle.nd_time.specs.Time.{Time}
 use Rattle.nd_map.specs.Listed.{IsListed}
-use Rattle.nd_map.specs.Counts.{at, entries, at-entries, entries_listed, or_else}
+use Rattle.nd_map.specs.Counts.{entries, at-entries, or_else}
 use Rattle.nd_paths.specs.Point.{point_cmp, point_total, point_exact}
 use Rattle.nd_paths.specs.declared.point.Pointstamp.{Pointstamp}
 use Rattle.nd_processor.specs.Keys.{value_at_cmp, value_at_total, value_at_exact}
@@ -21,7 +20,7 @@ use Rattle.nd_protocol.specs.declared.refusal.Refusal.TheVariants.{NoProcessor, 
 use Rattle.nd_protocol.specs.declared.step.Step.{Step}
 use Rattle.nd_protocol.specs.declared.step.Step.TheVariants.{Feed, Take, Notice, Broadcast, Receive}
 use Rattle.nd_protocol.specs.declared.part.Part.TheVariants.{All, Points}
-use Rattle.nd_cluster.specs.Choice.{IsCandidate, performer, wait, rank, IsListedBefore, ComesFirst, ComesBefore, IsChosen, IsIdle, IsFirst, HasNone, Finds, IsOf, IsOfRank}
+use Rattle.nd_cluster.specs.Choice.{IsCandidate, performer, wait, rank, IsListedBefore, ComesFirst, IsChosen, IsIdle, IsFirst, HasNone, IsOf, IsOfRank}
 
 -- ---- a list in order, from which what was tried and refused is gone
 

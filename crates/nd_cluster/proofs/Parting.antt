@@ -1,23 +1,22 @@
 -- A property of all entries of a list, tested one by one; and of all keys of a map.
-use Rattle.std.proofs.Common.{◌≡◌, ◌≢◌, ◌<◌, ◌≤◌, ◌+◌, ◌⊎◌, inl, inr, ℕ, zero, suc, ℤ, pos, Bool, List, [], ◌∷◌, map, length, get_or, Option, Some, None, refl, sym, ap, subst, ◌∙◌, arith, Ordering}
+use Rattle.std.proofs.Common.{◌≡◌, ◌≢◌, ◌<◌, ◌≤◌, ◌+◌, ◌⊎◌, inl, inr, ℕ, zero, suc, ℤ, pos, List, [], ◌∷◌, map, length, get_or, Option, Some, None, refl, sym, ap, subst, ◌∙◌, arith, Ordering}
 use Rattle.std.specs.Prelude.{All}
 use Rattle.std.specs.Cmp.{IsTotalOrder}
-use Rattle.std.specs.Ordering.{nat_cmp}
 use Rattle.std.proofs.lemmas.Cmp.{nat_cmp_total}
 use Rattle.std.proofs.lemmas.List.{get_or_past, get_or_default}
 use Rattle.std.specs.FinMap.{IsAntisymmetric, find}
 use Rattle.std.specs.FinMap as fin
 use Rattle.nd_graph.specs.Graph.{Dataflow, op_at}
 use Rattle.nd_graph.specs.declared.op.Op.TheVariants as op
-use Rattle.nd_map.specs.Counts.{Counts, Number, nil, at, entries, at-entries, entries_listed, or_else, at-none, none as no_counts, naturals, integers}
+use Rattle.nd_map.specs.Counts.{Counts, Number, nil, at, entries, at-entries, entries_listed, or_else, at-none, none as no_counts, integers}
 use Rattle.nd_map.specs.Entries.{all_found, found_all}
 use Rattle.nd_paths.specs.Order.{Fits}
 use Rattle.nd_paths.specs.Point.{point_cmp, point_total, point_exact}
 use Rattle.nd_paths.specs.declared.point.Pointstamp.{Pointstamp}
-use Rattle.nd_delta.specs.Change.{Change, or_zero, at as in_change, entries as listed, at-entries as change-entries, sorted-entries, some-entry}
+use Rattle.nd_delta.specs.Change.{Change, or_zero, entries as listed, at-entries as change-entries, sorted-entries, some-entry}
 use Rattle.nd_vertex.specs.Items.{item_cmp, item_total, item_exact}
 use Rattle.nd_vertex.specs.declared.key.ItemKey.{ItemKey}
-use Rattle.nd_processor.specs.Keys.{value_at_cmp, value_at_total, value_at_exact, sink_cmp, sink_total, sink_exact}
+use Rattle.nd_processor.specs.Keys.{value_at_total, value_at_exact, sink_total, sink_exact}
 use Rattle.nd_processor.specs.State.{ProcessorState, items_at, token_point}
 use Rattle.nd_processor.specs.declared.key.ValueAt.{ValueAt}
 use Rattle.nd_processor.specs.declared.key.SinkKey.{SinkKey}

@@ -1,4 +1,4 @@
-use Rattle.std.proofs.Common.{◌≡◌, ◌<◌, ◌≤◌, length, true, false, refl, inl, inr, sym, subst, arith}
+use Rattle.std.proofs.Common.{◌<◌, ◌≤◌, length, refl, inl, inr, sym, subst, arith}
 use Rattle.nd_processor.specs.State.{items_at}
 use Rattle.nd_cluster.specs.Parts.{ItemsFit}
 use Rattle.nd_cluster.proofs.Choosing.{split}

@@ -1,4 +1,4 @@
-use Rattle.std.proofs.Common.{◌≡◌, length, true, false, refl, sym, ap, subst, arith}
+use Rattle.std.proofs.Common.{◌≡◌, length, refl, sym, ap, subst, arith}
 use Rattle.nd_protocol.specs.Fitting.{ChangeFits}
 use Rattle.nd_cluster.proofs.Parting.{records_to, requests_to, tokens_to, items_to, sinks_to, processor_from}
 use Rattle.nd_cluster.proofs.parts.processor_fits.Goals as goal

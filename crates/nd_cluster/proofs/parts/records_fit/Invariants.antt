@@ -1,4 +1,4 @@
-use Rattle.std.proofs.Common.{◌≡◌, ◌≢◌, ◌<◌, ℕ, ℤ, pos, length}
+use Rattle.std.proofs.Common.{◌≢◌, ℕ}
 use Rattle.nd_map.specs.Counts.{entries}
 use Rattle.nd_protocol.specs.Fitting.{IsAtEdge}
 use Rattle.nd_processor.specs.declared.key.ValueAt.{ValueAt}

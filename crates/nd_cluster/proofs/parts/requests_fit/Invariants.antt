@@ -1,4 +1,3 @@
-use Rattle.std.proofs.Common.{◌≡◌, ◌<◌, ℕ, ℤ, length}
 use Rattle.std.specs.FinMap as fin
 use Rattle.nd_protocol.specs.Fitting.{IsAtVertex}
 use Rattle.nd_paths.specs.declared.point.Pointstamp.{Pointstamp}

@@ -1,4 +1,4 @@
-use Rattle.std.proofs.Common.{◌≡◌, ◌≢◌, ◌<◌, ℕ, ℤ, pos, length}
+use Rattle.std.proofs.Common.{◌≢◌, ℕ}
 use Rattle.nd_map.specs.Counts.{entries}
 use Rattle.nd_cluster.specs.Parts.{IsSinkKey}
 use Rattle.nd_processor.specs.declared.key.SinkKey.{SinkKey}

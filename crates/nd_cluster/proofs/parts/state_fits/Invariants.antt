@@ -1,4 +1,4 @@
-use Rattle.std.proofs.Common.{◌≡◌, ◌≢◌, ◌<◌, ℕ, ℤ, pos, length}
+use Rattle.std.proofs.Common.{◌≢◌, ℤ, pos}
 use Rattle.nd_map.specs.Counts.{entries}
 use Rattle.nd_protocol.specs.Fitting.{IsAtVertex}
 use Rattle.nd_vertex.specs.declared.key.ItemKey.{ItemKey}
