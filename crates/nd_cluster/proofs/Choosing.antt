@@ -1,5 +1,5 @@
 -- The first enabled step, kind by kind, processor by processor.
-use Rattle.std.proofs.Common.{◌≡◌, ◌≢◌, ◌<◌, ◌≤◌, ◌+◌, ◌-◌, ◌%◌, ◌⊎◌, inl, inr, ℕ, zero, suc, Bool, true, false, cond, ◌&&◌, T, List, [], ◌∷◌, length, Option, Some, None, refl, sym, ap, subst, ◌∙◌, arith, Ordering, Less, Equal, Greater}
+use Rattle.std.proofs.Common.{◌≡◌, ◌≢◌, ◌<◌, ◌≤◌, ◌+◌, ◌-◌, ◌%◌, ◌⊎◌, inl, inr, ℕ, Bool, true, false, cond, ◌&&◌, T, List, [], ◌∷◌, length, Option, Some, None, refl, sym, ap, subst, ◌∙◌, arith, Ordering, Less, Equal, Greater}
 use Rattle.std.proofs.Math.Nat.{mod-eq_of_lt, add-mod_right, mod-lt}
 use Rattle.std.specs.Ordering.{eq_by_cmp, is_eq, is_lt}
 use Rattle.std.specs.Cmp.{IsTotalOrder}
@@ -7,9 +7,8 @@ use Rattle.std.specs.FinMap.{IsAntisymmetric, find}
 use Rattle.std.specs.FinMap as fin
 use Rattle.std.specs.FinMap.Entries.{below_all}
 use Rattle.std.proofs.lemmas.Map.Views.{tells_apart}
-use Rattle.nd_time.specs.Time.{Time}
 use Rattle.nd_map.specs.Listed.{IsListed}
-use Rattle.nd_map.specs.Counts.{at, entries, at-entries, entries_listed, or_else}
+use Rattle.nd_map.specs.Counts.{entries, at-entries, or_else}
 use Rattle.nd_paths.specs.Point.{point_cmp, point_total, point_exact}
 use Rattle.nd_paths.specs.declared.point.Pointstamp.{Pointstamp}
 use Rattle.nd_processor.specs.Keys.{value_at_cmp, value_at_total, value_at_exact}
@@ -21,7 +20,7 @@ use Rattle.nd_protocol.specs.declared.refusal.Refusal.TheVariants.{NoProcessor, 
 use Rattle.nd_protocol.specs.declared.step.Step.{Step}
 use Rattle.nd_protocol.specs.declared.step.Step.TheVariants.{Feed, Take, Notice, Broadcast, Receive}
 use Rattle.nd_protocol.specs.declared.part.Part.TheVariants.{All, Points}
-use Rattle.nd_cluster.specs.Choice.{IsCandidate, performer, wait, rank, IsListedBefore, ComesFirst, ComesBefore, IsChosen, IsIdle, IsFirst, HasNone, Finds, IsOf, IsOfRank}
+use Rattle.nd_cluster.specs.Choice.{IsCandidate, performer, wait, rank, IsListedBefore, ComesFirst, IsChosen, IsIdle, IsFirst, HasNone, IsOf, IsOfRank}
 
 -- ---- a list in order, from which what was tried and refused is gone
 
@@ -66,7 +65,7 @@ not_zero : (v : Option ℕ) → or_else 0 v ≢ 0 → v ≢ None
 not_zero None h = λ _. h refl
 not_zero (Some n) h = λ e. absurd (cc (e))
 
-split : (q r : ℕ) → q < r + 1 → (q < r) ⊎ (q ≡ r)
+pub split : (q r : ℕ) → q < r + 1 → (q < r) ⊎ (q ≡ r)
 split q r lt = grind arith
 
 -- ---- the turns
@@ -182,7 +181,9 @@ module _ (A : Type 0) (s : ClusterState) where
 
   pub first_take : (p : ℕ) (d : ValueAt × ℕ) (es : List (ValueAt × ℕ)) → IsListed value_at_cmp (d ∷ es) → HasTakes p (d ∷ es) → CanTake p d.0 → IsFirst {A = A} s (IsOfRank p 1) (Taking p d.0)
   first_take p d es listed all e = record {
-    candidate = tt; kind = (refl, refl); enabled = e;
+    candidate = tt;
+    kind = (refl, refl);
+    enabled = e;
     first = first_take_of p d.0 (none_before value_at_cmp value_at_total value_at_exact (CanTake p) d es listed all);
   }
 
@@ -223,7 +224,9 @@ module _ (A : Type 0) (s : ClusterState) where
 
   pub first_notice : (p : ℕ) (d : Pointstamp × Unit {0}) (es : List (Pointstamp × Unit {0})) → IsListed point_cmp (d ∷ es) → HasNotices p (d ∷ es) → CanNotice p d.0 → IsFirst {A = A} s (IsOfRank p 2) (Noticing p d.0)
   first_notice p d es listed all e = record {
-    candidate = tt; kind = (refl, refl); enabled = e;
+    candidate = tt;
+    kind = (refl, refl);
+    enabled = e;
     first = first_notice_of p d.0 (none_before point_cmp point_total point_exact (CanNotice p) d es listed all);
   }
 
@@ -245,7 +248,9 @@ module _ (A : Type 0) (s : ClusterState) where
 
   pub first_broadcast : (p : ℕ) → IsEnabled {A = A} s (Broadcast p All) → IsFirst {A = A} s (IsOfRank p 3) (Broadcast p All)
   first_broadcast p e = record {
-    candidate = tt; kind = (refl, refl); enabled = e;
+    candidate = tt;
+    kind = (refl, refl);
+    enabled = e;
     first = λ y candidate kind before _. elim before [
       | inl lower ↦ absurd (omega (arith, lower, kind.1))
       | inr same ↦ unlisted p p y same.1
@@ -263,7 +268,9 @@ module _ (A : Type 0) (s : ClusterState) where
 
   pub first_of_kind : (p r : ℕ) (x : Step A) → NoneBelow p r → IsFirst s (IsOfRank p r) x → IsFirst s (IsOf p) x
   first_of_kind p r x none h = record {
-    candidate = h.candidate; kind = h.kind.0; enabled = h.enabled;
+    candidate = h.candidate;
+    kind = h.kind.0;
+    enabled = h.enabled;
     first = λ y candidate kind before e. elim before [
       | inl lower ↦ none (rank y) (omega (arith, lower, h.kind.1)) y candidate (kind, refl) e
       | inr same ↦ h.first y candidate (kind, same.0 ∙ h.kind.1) (inr same) e
@@ -291,7 +298,8 @@ module _ (A : Type 0) (s : ClusterState) where
   chosen_of some turn i x lt none h =
       let mine : wait (length s.processors) turn (performer x) ≡ i = ap (wait (length s.processors) turn) h.kind ∙ wait_of (length s.processors) turn some i lt in
       record {
-        candidate = h.candidate; enabled = h.enabled;
+        candidate = h.candidate;
+        enabled = h.enabled;
         first = λ y candidate before e. elim before [
           | inl sooner ↦ none y candidate (omega (arith, sooner, mine)) e
           | inr same ↦ h.first y candidate (same.0 ∙ h.kind) same.1 e

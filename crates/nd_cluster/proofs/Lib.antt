@@ -36,3 +36,4 @@ pub mod Differences
 pub mod Differing
 pub mod Choosing
 pub mod Sinking
+pub mod Parting

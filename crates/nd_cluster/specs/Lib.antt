@@ -17,3 +17,4 @@ pub mod Limits
 pub mod Turns
 pub mod Choice
 pub mod Sinks
+pub mod Parts

@@ -1,5 +1,5 @@
 //! The choice of the next step (this project's own rule).
-ghost use Rattle.std.specs.Prelude.{◌≡◌, ◌<◌, ◌↔◌, IfOk, IfSome, IsNone, IsTrue, length};
+ghost use Rattle.std.specs.Prelude.{◌<◌, ◌↔◌, IfOk, IfSome, IsNone, IsTrue, length};
 ghost use Rattle.nd_protocol.specs.Enabled.{IsEnabled};
 ghost use Rattle.nd_cluster.specs.Choice.{IsChosen, IsIdle, IsOf, IsOfRank, Finds};
 

@@ -14,6 +14,7 @@ mod limits;
 mod making;
 mod net;
 mod order;
+mod parts;
 mod plan;
 mod react;
 mod readers;

@@ -30,6 +30,9 @@ loop-i-preserved g c =
     let found : HasNone {A = g.row.A.Denot} s (IsOf ((c.args.turn % c.from.result + c.loop-i.i) % c.processor_count-n.result))
     = subst (Finds {A = g.row.A.Denot} s (IsOf ((c.args.turn % c.from.result + c.loop-i.i) % c.processor_count-n.result))) c.in_default.is c.in_ok-step.ensures in
     record {
-      count = c.loop-i.invariant.count; some = c.loop-i.invariant.some; few = c.loop-i.invariant.few; first = c.loop-i.invariant.first;
+      count = c.loop-i.invariant.count;
+      some = c.loop-i.invariant.some;
+      few = c.loop-i.invariant.few;
+      first = c.loop-i.invariant.first;
       none = none_waits_more g.row.A.Denot s some c.args.turn c.loop-i.i c.loop-i.invariant.none (subst (λ q. HasNone {A = g.row.A.Denot} s (IsOf q)) p found);
     }
