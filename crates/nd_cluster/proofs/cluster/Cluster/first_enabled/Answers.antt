@@ -1,4 +1,4 @@
-use Rattle.std.proofs.Common.{◌≡◌, ◌<◌, ◌+◌, ◌%◌, ℕ, length, Some, None, subst, ◌∙◌, arith}
+use Rattle.std.proofs.Common.{◌≡◌, ◌<◌, ◌+◌, ◌%◌, ℕ, length, subst, ◌∙◌, arith}
 use Rattle.nd_cluster.specs.Choice.{Finds, IsFirst, HasNone, IsOf}
 use Rattle.nd_cluster.proofs.Choosing.{chosen_of, none_waits_more}
 use Rattle.nd_cluster.proofs.cluster.Cluster.first_enabled.Goals as goal
