@@ -1,6 +1,6 @@
 -- How a graph's value and a command's value are answered.
-use Rattle.std.proofs.Common.{◌≡◌, ◌≢◌, ℕ, List, [], ◌∷◌, Option, Some, None, Result, Ok, Err, IfOk, refl, sym, ap, subst, ◌∙◌, inl, inr, codes}
-use Rattle.std.specs.Prelude.{◌<◌, slice_get}
+use Rattle.std.proofs.Common.{◌≡◌, ◌≢◌, ℕ, List, [], ◌∷◌, Option, Some, None, Result, Ok, Err, IfOk, refl, sym, ap, subst, ◌∙◌, inl, inr}
+use Rattle.std.specs.Prelude.{◌<◌, length, slice_get}
 use Rattle.std.specs.Option.{ok_or, option_to_list}
 use Rattle.std.specs.declared.alloc.AllocError.{AllocError}
 use Rattle.serde_json.specs.Data.{Data}
@@ -13,15 +13,20 @@ use Rattle.nd_graph.specs.Fault.{IsUnlessMemory}
 use Rattle.nd_graph.specs.declared.fault.GraphFault.{GraphFault}
 use Rattle.nd_graph.specs.declared.fault.GraphFault.TheVariants.{Shape, Memory}
 use Rattle.rewind_forms.specs.Forms.{command_of}
-use Rattle.rewind_forms.specs.Replies.{fault, location_fault, line_fault}
-use Rattle.nd_paths.specs.Order.{FailsAt}
+use Rattle.rewind_forms.specs.Replies.{location_fault, line_fault, frontier}
+use Rattle.nd_paths.specs.declared.point.Pointstamp.{Pointstamp}
+use Rattle.nd_delta.specs.Change.{Change, entries}
+use Rattle.nd_view.specs.View.{IsOnFrontier, IsPartWhere}
+use Rattle.nd_protocol.specs.State.{ClusterState, view as view_in}
+use Rattle.nd_cluster.specs.StateText.{entries_data}
 use Rattle.nd_cluster.specs.Starting.{IsStartFault, start_number, start_name}
 use Rattle.nd_cluster.specs.declared.start.StartFault.TheVariants as start_fault
 use Rattle.rewind_forms.specs.declared.command.Command.{Command}
+use Rattle.rewind_forms.specs.declared.command.Command.TheVariants.{Passed}
 use Rattle.rewind_forms.specs.declared.fault.LineFault.{LineFault}
 use Rattle.rewind_forms.specs.declared.fault.LineFault.TheVariants as line
 use Rattle.rewind.specs.Machine.{MachineValue, cluster_of}
-use Rattle.rewind.specs.Answers.{Phase, running, refused, StartReplies, not_strict, graph_of, graph_of_draft, AskedReplies, FormReplies, CommandReplies}
+use Rattle.rewind.specs.Answers.{Phase, running, refused, StartReplies, not_strict, graph_of, graph_of_draft, AskedReplies, FormReplies, CommandReplies, FrontierReply, PassedReply}
 
 -- a value that is no draft
 pub graph_of-refused : (d : Data) (e : GraphFault) → IsUnlessMemory (ok_or (draft_of d) Shape) (Err e) → IsUnlessMemory (graph_of d) (Err e)
@@ -61,6 +66,21 @@ pub fault_replies : (m : MachineValue) (n : ℕ) (d : Data) (e : LineFault) (r :
 fault_replies m n d e (Ok v) is told =
     subst (λ (o : Result Command LineFault). FormReplies m n o (view v ∷ []) (running m)) (sym (is (no_memory e n (view v) told))) (ap option_to_list told, refl)
 fault_replies m n d e (Err x) is told = told
+
+-- ---- queries about a processor
+
+-- the frontier of the view, by the graph and the view that were read
+pub frontier_replies : (s : ClusterState) (q : ℕ) (g : Dataflow) (v f : Change) (d : Data) (r : Result Value AllocError) → q < length s.processors → g ≡ s.graph → v ≡ view_in s q
+    → IsPartWhere (IsOnFrontier g v) v f → d ≡ entries_data s.graph (entries f) → IfOk r (λ w. view w ≡ frontier d) → IfOk r (λ w. FrontierReply s q (view w))
+frontier_replies s q g v f d (Ok w) there graph is part shown reply =
+    let same : IsPartWhere (IsOnFrontier g (view_in s q)) (view_in s q) f = subst (λ (u : Change). IsPartWhere (IsOnFrontier g u) u f) is part in
+    inr (there, (f, subst (λ (h : Dataflow). IsPartWhere (IsOnFrontier h (view_in s q)) (view_in s q) f) graph same, reply ∙ ap frontier shown))
+frontier_replies s q g v f d (Err e) there graph is part shown reply = reply
+
+pub passed_replies : (m : MachineValue) (asked : Command) (q : ℕ) (x : Pointstamp) (r : Result Value AllocError) → asked ≡ Passed q x → IfOk r (λ v. PassedReply (cluster_of m) q x (view v))
+    → IfOk r (λ v. AskedReplies m asked (view v ∷ []) (running m))
+passed_replies m asked q x (Ok v) is reply = subst (λ (a : Command). AskedReplies m a (view v ∷ []) (running m)) (sym is) (view v, reply, refl, refl)
+passed_replies m asked q x (Err e) is reply = reply
 
 -- ---- starts
 
