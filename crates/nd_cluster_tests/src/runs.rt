@@ -1,7 +1,7 @@
 //! Steps that are made and undone.
 
 use crate::told::{Script, Told, make, reach, start, state_text, step_of};
-use nd_cluster::{Change, Cluster, Next, Step};
+use nd_cluster::{Change, Changes, Cluster, Next, Step};
 use nd_drawn::{DISTINCT, EXCHANGE, LINE, LOOP, SPLIT, SUM};
 use std::alloc::{Allocator, Global};
 
@@ -140,11 +140,10 @@ fn lists_changes<A: Allocator + Copy>(json: Global, alloc: A) -> Option<bool> {
     let record = cluster.plan(&step).ok()?;
     let again = cluster.plan(&record.step.copy(alloc).ok()?).ok()?;
     let copy = again.copy(alloc).ok()?;
-    Some(
-        record.entries() == 4
-            && kinds(&record.changes) == (1, 1, 2)
-            && copy.changes.as_slice() == record.changes.as_slice(),
-    )
+    let (Changes::Each(changes), Changes::Each(copied)) = (&record.changes, &copy.changes) else {
+        return None;
+    };
+    Some(kinds(changes) == (1, 1, 2) && copied.as_slice() == changes.as_slice())
 }
 
 #[test]
