@@ -225,20 +225,14 @@ fn last_in_turn<A: Allocator + Copy>(
 fn last_steps(rt: HostRuntime) {
     let heap = Refusing::new(rt.alloc());
     for (row, (text, n, steps)) in RUNS.iter().enumerate() {
-        let (plans, commits) = last_in_turn(&heap, &heap, rt.alloc(), text, *n, steps).unwrap_or((
-            0, 0,
-        ));
+        let met = last_in_turn(&heap, &heap, rt.alloc(), text, *n, steps);
+        let (plans, commits) = met.unwrap_or((0, 0));
         assert!(rt; plans > 0 && commits > 0, "in row {row}");
     }
-}
-
-#[test]
-fn each_step_of_a_sum(rt: HostRuntime) {
-    let heap = Refusing::new(rt.alloc());
     let (text, n, steps) = &SUM_NOTIFIED;
     for turn in 0..steps.len() {
         let run = steps.get(..=turn).unwrap_or(&[]);
         let met = last_in_turn(&heap, &heap, rt.alloc(), text, *n, run);
-        assert!(rt; met.is_some(), "at step {turn}");
+        assert!(rt; met.is_some(), "at step {turn} of a sum");
     }
 }
