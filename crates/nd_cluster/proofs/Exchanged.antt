@@ -10,6 +10,7 @@ use Rattle.nd_protocol.specs.State.{ClusterState, processor, view, queue}
 use Rattle.nd_protocol.specs.Exchange.{IsPart, sent, received, received_from}
 use Rattle.nd_protocol.specs.Steps.{chosen, stepped}
 use Rattle.nd_protocol.specs.Fitting.{IsState}
+use Rattle.nd_protocol.specs.Laws.{NoticeComesLast}
 use Rattle.nd_protocol.specs.Enabled.{HasLargeEntry, of_unsent, of_view, Fails, IsEnabled, NeedsNoMemory, MayWantMemory, IsRefused}
 use Rattle.nd_protocol.specs.Refusals.{number_of}
 use Rattle.nd_protocol.specs.declared.part.Part.{Part}
@@ -24,7 +25,7 @@ use Rattle.nd_cluster.specs.Standing.{difference, queues_changed, changed}
 use Rattle.nd_cluster.specs.Edits.{Works}
 use Rattle.nd_cluster.specs.Plans.{LeadsTo}
 use Rattle.nd_cluster.specs.declared.change.Change.{Change as Single}
-use Rattle.nd_cluster.specs.Records.{shared, Plans}
+use Rattle.nd_cluster.specs.Records.{shared, Plans, ComesLast}
 use Rattle.nd_cluster.specs.declared.record.Changes.TheVariants.{Each, Sent, Received}
 use Rattle.nd_cluster.proofs.Running.{limits_of}
 use Rattle.nd_cluster.proofs.Exchanging.{received-front}
@@ -62,6 +63,15 @@ module _ {A : Type 0} (s : ClusterState) where
       let same : queues_changed s (stepped s x) ≡ 0 = queues_same s (stepped s x) (queues-stepped s x m) in
       let all : length changes.items + shared s x ≡ size_of (difference s (stepped s x)) + queues_changed s (stepped s x) = omega (arith, leads.small, none_shared x works, same) in
       record { enabled = may; makes = (leads.runs, leads.arrives); small = all }
+
+-- ---- a notice
+
+pub comes_last : {A : Type 0} → NoticeComesLast A → (s : ClusterState) (x : Step A) → IsState s → IsEnabled s x → ComesLast s x
+comes_last law s (Feed p vertex values _) state may = tt
+comes_last law s (Take p edge t value) state may = tt
+comes_last law s (Notice p vertex t) state may = λ keeps. law s p vertex t state keeps may
+comes_last law s (Broadcast p _) state may = tt
+comes_last law s (Receive from to) state may = tt
 
 -- ---- a broadcast
 

@@ -26,7 +26,6 @@ pub mod Edited
 pub mod Seeing
 pub mod Joining
 pub mod Assembling
-pub mod Outstanding
 pub mod Started
 pub mod Counted
 pub mod Shown
@@ -35,3 +34,6 @@ pub mod Enabling
 pub mod Passed
 pub mod Differences
 pub mod Differing
+pub mod Choosing
+pub mod Sinking
+pub mod Parting

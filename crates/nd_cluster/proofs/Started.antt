@@ -26,7 +26,7 @@ use Rattle.nd_protocol.specs.Start.{start}
 use Rattle.nd_protocol.specs.Fitting.{IsOrdered}
 use Rattle.nd_cluster.specs.Seen.{seen}
 use Rattle.nd_cluster.specs.Starting.{tokens_weigh, IsProcessorCount, IsStartFault, fault_of}
-use Rattle.nd_cluster.proofs.Outstanding.{truth-held}
+use Rattle.nd_protocol.specs.Truth.{truth-count}
 
 add_here : (b : Bool) (here : ℤ) (s n : ℕ) → (b ≡ true → here ≡ pos s) → cond b (here +ℤ pos n) (pos s) ≡ pos (s + n * cond b 1 0)
 add_here true here s n e = rw (e refl) (ap pos (omega arith))
@@ -56,7 +56,7 @@ start_counts g n d es is h =
     h x
     ∙ ap (λ k. pos (n * k)) (ap (λ ys. tokens_weigh ys x) is ∙ sym (held-start g x))
     ∙ sym (ap pos (sum_by-replicate (λ (q : ProcessorState). held q x) n (start_processor g)))
-    ∙ sym (truth-held (replicate n (start_processor g)) x))
+    ∙ sym (truth-count (replicate n (start_processor g)) x))
 
 -- one more view of what is outstanding
 pub from_nothing : (d : Change) → plus none d ≡ d

@@ -15,3 +15,6 @@ pub mod Slots
 pub mod Starting
 pub mod Limits
 pub mod Turns
+pub mod Choice
+pub mod Sinks
+pub mod Parts

@@ -1,15 +1,18 @@
 -- What the record of a step promises.
-use Rattle.std.specs.Prelude.{◌≡◌, ◌<◌, ℕ, ◌+◌, ◌-◌, Some, slice_get, length}
-use Rattle.nd_delta.specs.Change.{Change as Delta, plus, size, IsTooLarge}
+use Rattle.std.specs.Prelude.{◌≡◌, ◌<◌, ℕ, ◌+◌, ◌-◌, pos, Some, slice_get, length}
+use Rattle.nd_paths.specs.Order.{IsStrictlyBefore}
+use Rattle.nd_paths.specs.declared.point.Pointstamp.{Pointstamp}
+use Rattle.nd_delta.specs.Change.{Change as Delta, at, plus, size, IsTooLarge}
 use Rattle.nd_processor.specs.Edits.{IsPartOf}
 use Rattle.nd_mesh.specs.Mesh.{row, HasQueue, IsFull}
-use Rattle.nd_protocol.specs.State.{ClusterState, processor, view, queue}
+use Rattle.nd_protocol.specs.State.{ClusterState, processor, view, queue, truth}
 use Rattle.nd_protocol.specs.Exchange.{sent, received}
-use Rattle.nd_protocol.specs.Steps.{stepped}
+use Rattle.nd_protocol.specs.Steps.{point_at, stepped}
 use Rattle.nd_protocol.specs.Fitting.{IsState}
 use Rattle.nd_protocol.specs.Enabled.{IsEnabled}
+use Rattle.nd_protocol.specs.Invariant.{KeepsProtocol}
 use Rattle.nd_protocol.specs.declared.step.Step.{Step}
-use Rattle.nd_protocol.specs.declared.step.Step.TheVariants.{Broadcast}
+use Rattle.nd_protocol.specs.declared.step.Step.TheVariants.{Notice, Broadcast}
 use Rattle.nd_cluster.specs.Standing.{changed}
 use Rattle.nd_cluster.specs.Changes.{IsRunnable, applied}
 use Rattle.nd_cluster.specs.declared.record.Changes.{Changes}
@@ -60,6 +63,11 @@ pub record Plans {A : Type 0} (s : ClusterState) (x : Step A) (cs : Changes A) :
   pub enabled : IsEnabled s x
   pub makes : Makes s cs (stepped s x)
   pub small : named cs + shared s x ≡ changed s (stepped s x)
+
+-- where the step is a notice, and the cluster has the protocol invariant, nothing outstanding is strictly before it
+abbrev pub ComesLast : {A : Type 0} → ClusterState → Step A → Type 0
+ComesLast s (Notice p vertex t) = KeepsProtocol s → (x : Pointstamp) → IsStrictlyBefore s.graph x (point_at vertex t) → at (truth s.processors) x ≡ pos 0
+ComesLast s _ = Unit {0}
 
 -- the record's step is enabled in this state, and its changes make it
 pub record IsPlanned {A : Type 0} (r : Record A) (s : ClusterState) : Type 0 where

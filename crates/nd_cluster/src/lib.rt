@@ -3,6 +3,7 @@
 
 mod acting;
 mod change;
+mod choice;
 mod cluster;
 mod draft;
 mod emit;
@@ -13,11 +14,13 @@ mod limits;
 mod making;
 mod net;
 mod order;
+mod parts;
 mod plan;
 mod react;
 mod readers;
 mod record;
 mod refuse;
+mod sinks;
 mod start;
 mod text;
 mod work;

@@ -4,13 +4,14 @@ ghost use Rattle.nd_protocol.specs.Steps.{stepped};
 ghost use Rattle.nd_protocol.specs.Enabled.{IsEnabled, IsRefused, MayWantMemory};
 ghost use Rattle.nd_cluster.specs.Edits.{Works};
 ghost use Rattle.nd_cluster.specs.Standing.{changed};
-ghost use Rattle.nd_cluster.specs.Records.{named, shared, Plans, IsPlanned};
+ghost use Rattle.nd_cluster.specs.Records.{named, shared, Plans, ComesLast, IsPlanned};
 ghost use Rattle.nd_protocol.specs.declared.step.Step.TheVariants.{Broadcast as Sending, Receive as Receiving};
 ghost use Rattle.nd_protocol.specs.declared.refusal.Refusal.TheVariants.{Memory};
 
 use crate::record::Changes;
 use crate::{Cluster, Part, Record, Refusal, Step};
 use nd_exchange::{planned_front, planned_part};
+use nd_protocol::protocol_is_safe;
 use std::alloc::Allocator;
 
 impl<A: Allocator + Copy> Cluster<A> {
@@ -59,11 +60,8 @@ impl<A: Allocator + Copy> Cluster<A> {
         Ok(Changes::Received { from, to, change })
     }
 
-    /// The record of a step, or why the step is refused (this project's own rule).
-    ///
-    /// Nothing changes. Want of memory may come in place of a refusal numbered 13 or more, but for
-    /// those of nothing to send and nothing to receive.
-    pub fn plan(&self, step: &Step<A>) -> Result<Record<A>, Refusal>
+    // The record of a step, or why the step is refused.
+    fn planned(&self, step: &Step<A>) -> Result<Record<A>, Refusal>
         ensures enabled { OnOk result (IsEnabled self.now step.now) }
         ensures step { IfOk result (λ r. r.step ≡ step.now) }
         ensures planned { IfOk result (λ r. IsPlanned r self.now) }
@@ -75,11 +73,30 @@ impl<A: Allocator + Copy> Cluster<A> {
         let changes = match step {
             Step::Broadcast { p, part } => self.broadcast_changes(*p, part)?,
             Step::Receive { from, to } => self.receive_changes(*from, *to)?,
-            Step::Feed { .. } | Step::Take { .. } | Step::Notice { .. } => { self.work_plan(step)? }
+            Step::Feed { .. } | Step::Take { .. } | Step::Notice { .. } => self.work_plan(step)?,
         };
         let Ok(step) = step.copy(self.alloc) else {
             return Err(Refusal::Memory);
         };
         Ok(Record { step, changes })
+    }
+
+    /// The record of a step, or why the step is refused (this project's own rule).
+    ///
+    /// Nothing changes. Want of memory may come in place of a refusal numbered 13 or more, but for
+    /// those of nothing to send and nothing to receive. Where the cluster has the protocol
+    /// invariant, nothing outstanding is strictly before a notice that is planned (FORTE 2013).
+    pub fn plan(&self, step: &Step<A>) -> Result<Record<A>, Refusal>
+        ensures enabled { OnOk result (IsEnabled self.now step.now) }
+        ensures last { OnOk result (ComesLast self.now step.now) }
+        ensures step { IfOk result (λ r. r.step ≡ step.now) }
+        ensures planned { IfOk result (λ r. IsPlanned r self.now) }
+        ensures small { IfOk result (λ r. named r.changes + shared self.now step.now ≡ changed self.now (stepped self.now step.now)) }
+        ensures refused { IfErr result (λ r. r ≢ Memory → IsRefused self.now step.now r) }
+        ensures memory { result ≡ Err Memory → MayWantMemory self.now step.now }
+    {
+        protocol_is_safe::<A>();
+        let _ = self.processor_count();
+        self.planned(step)
     }
 }

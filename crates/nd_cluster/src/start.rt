@@ -23,7 +23,7 @@ use std::alloc::{AllocError, Allocator};
 use thiserror::Error;
 
 // The most processors of a cluster.
-const MAX_PROCESSORS: u32 = 8;
+pub(crate) const MAX_PROCESSORS: u32 = 8;
 
 /// Why a cluster does not start.
 #[derive(Clone, Copy, Debug, PartialEq, Eq, Drop, Error)]

@@ -12,3 +12,5 @@ mod runs;
 mod starts;
 #[cfg(test)]
 mod told;
+#[cfg(test)]
+mod walk;

@@ -1,6 +1,8 @@
 //! Each request for memory of a call refused in turn.
 
-use crate::told::{Script, Told, is_state, make, reach, state_text, step_of, values_of};
+use crate::told::{
+    SUM_NOTIFIED, Script, Told, is_state, make, reach, state_text, step_of, values_of,
+};
 use nd_cluster::{Cluster, Next, NoMemory, Record, Refusal, StartFault, Step, Values};
 use nd_drawn::{LINE, LOOP, SUM, graph_of};
 use nd_graph::Graph;
@@ -11,7 +13,7 @@ use std::alloc::{AllocError, Allocator, Global};
 type Heap = Refusing<Global>;
 
 /// Runs of whose last step memory is refused.
-static RUNS: [Script; 4] = [
+static RUNS: [Script; 7] = [
     (LINE, 2, &[Told::Feed(1, "a", &[5, 7, 5], Next::Next)]),
     (LINE, 1, &[Told::Feed(0, "a", &[5], Next::Stay)]),
     (
@@ -30,6 +32,28 @@ static RUNS: [Script; 4] = [
             Told::Take(0, "ai", &[0], 1),
             Told::Take(0, "im", &[0, 0], 1),
             Told::Take(0, "ms", &[0, 0], 2),
+        ],
+    ),
+    (
+        LINE,
+        2,
+        &[Told::Feed(0, "a", &[5], Next::Next), Told::All(0)],
+    ),
+    (
+        LINE,
+        2,
+        &[
+            Told::Feed(0, "a", &[5], Next::Next),
+            Told::Points(0, &[("az", &[0]), ("az", &[0])]),
+        ],
+    ),
+    (
+        LINE,
+        2,
+        &[
+            Told::Feed(0, "a", &[5], Next::Next),
+            Told::All(0),
+            Told::Receive(0, 1),
         ],
     ),
 ];
@@ -92,7 +116,7 @@ fn plan<A: Allocator + Copy>(
     None
 }
 
-/// Whether the commit of a step met the request that was refused.
+/// Whether the commit of a step met the request that was refused; it succeeds afterwards.
 fn meets_commit<A: Allocator + Copy>(
     heap: &Heap,
     json: Global,
@@ -105,7 +129,11 @@ fn meets_commit<A: Allocator + Copy>(
     heap.refuse(n);
     let fault = cluster.commit(&record).err();
     let refused = heap.relent(n);
-    was_refused(refused, fault, NoMemory, is_state(json, cluster, before))
+    let met = was_refused(refused, fault, NoMemory, is_state(json, cluster, before))?;
+    if met {
+        make(cluster, step)?;
+    }
+    Some(met)
 }
 
 fn commit<A: Allocator + Copy>(
@@ -171,32 +199,40 @@ fn text_after<A: Allocator + Copy>(
     state_text(json, &cluster)
 }
 
-/// Whether the plan and the commit of a run's last step met want of memory, and its back-step as it
-/// may, each leaving all as it was.
+/// How many requests were refused of the plan and of the commit of a run's last step. Each refusal,
+/// also of its back-step, left all as it was.
 fn last_in_turn<A: Allocator + Copy>(
     heap: &Heap,
     alloc: A,
     json: Global,
-    script: &Script,
-) -> Option<bool> {
-    let (text, n, steps) = script;
+    text: &str,
+    n: u32,
+    steps: &[Told],
+) -> Option<(u64, u64)> {
     let (last, first) = steps.split_last()?;
-    let base = reach(json, alloc, text, *n, first)?;
+    let base = reach(json, alloc, text, n, first)?;
     let step = step_of(alloc, base.graph(), last)?;
     let before = state_text(json, &base)?;
     let after = text_after(json, alloc, &base, &step)?;
     back(heap, alloc, json, &base, &step, after.as_str())?;
-    Some(
-        plan(heap, json, &base, &step, before.as_str())? > 0
-            && commit(heap, alloc, json, &base, &step, before.as_str())? > 0,
-    )
+    Some((
+        plan(heap, json, &base, &step, before.as_str())?,
+        commit(heap, alloc, json, &base, &step, before.as_str())?,
+    ))
 }
 
 #[test]
 fn last_steps(rt: HostRuntime) {
     let heap = Refusing::new(rt.alloc());
-    for (row, script) in RUNS.iter().enumerate() {
-        let same = last_in_turn(&heap, &heap, rt.alloc(), script);
-        assert_eq!(rt; same, Some(true), "in row {row}");
+    for (row, (text, n, steps)) in RUNS.iter().enumerate() {
+        let met = last_in_turn(&heap, &heap, rt.alloc(), text, *n, steps);
+        let (plans, commits) = met.unwrap_or((0, 0));
+        assert!(rt; plans > 0 && commits > 0, "in row {row}");
+    }
+    let (text, n, steps) = &SUM_NOTIFIED;
+    for turn in 0..steps.len() {
+        let run = steps.get(..=turn).unwrap_or(&[]);
+        let met = last_in_turn(&heap, &heap, rt.alloc(), text, *n, run);
+        assert!(rt; met.is_some(), "at step {turn} of a sum");
     }
 }

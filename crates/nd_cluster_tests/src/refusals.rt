@@ -1,6 +1,6 @@
 //! Steps that are refused.
 
-use crate::told::{Script, Told, reach, start, state_text, step_of};
+use crate::told::{Named, SUM_NOTIFIED, Script, Told, make, reach, start, state_text, step_of};
 use nd_cluster::{Cluster, Next, Refusal, Step, Values};
 use nd_drawn::{ADD, DISTINCT, LINE, SUM, point, time};
 use std::alloc::{Allocator, Global};
@@ -109,7 +109,7 @@ fn takes_and_notices_refused(rt: HostRuntime) -> Result<(), Fail> {
 }
 
 /// Runs whose last step is refused, each with the number.
-static REFUSED: [(Script, u64); 4] = [
+static REFUSED: [(Script, u64); 16] = [
     (
         (
             ADD,
@@ -157,6 +157,69 @@ static REFUSED: [(Script, u64); 4] = [
         ),
         9,
     ),
+    ((LINE, 1, &[Told::All(0)]), 15),
+    (
+        (
+            LINE,
+            1,
+            &[
+                Told::Feed(0, "a", &[5], Next::Next),
+                Told::Points(0, &[("z", &[0])]),
+            ],
+        ),
+        15,
+    ),
+    (
+        (
+            LINE,
+            1,
+            &[Told::Feed(0, "a", &[5], Next::Next), Told::Points(0, &[])],
+        ),
+        15,
+    ),
+    (
+        (
+            LINE,
+            1,
+            &[
+                Told::Feed(0, "a", &[5], Next::Stay),
+                Told::Take(0, "az", &[0], 5),
+                Told::All(0),
+            ],
+        ),
+        15,
+    ),
+    ((LINE, 1, &[Told::Receive(0, 0)]), 17),
+    (
+        (
+            LINE,
+            2,
+            &[
+                Told::Feed(0, "a", &[], Next::Close),
+                Told::All(0),
+                Told::Receive(0, 1),
+                Told::Receive(0, 1),
+            ],
+        ),
+        17,
+    ),
+    (
+        (
+            LINE,
+            2,
+            &[
+                Told::Feed(0, "a", &[], Next::Close),
+                Told::All(0),
+                Told::Receive(1, 0),
+            ],
+        ),
+        17,
+    ),
+    ((LINE, 2, &[Told::All(2)]), 1),
+    ((LINE, 2, &[Told::Points(2, &[("a", &[0])])]), 1),
+    ((LINE, 2, &[Told::Receive(2, 0)]), 1),
+    ((LINE, 2, &[Told::Receive(0, 2)]), 1),
+    ((LINE, 2, &[Told::Receive(0, 0)]), 17),
 ];
 
 /// The number of the refusal of a run's last step, where it leaves the state as it was.
@@ -182,19 +245,149 @@ fn last_steps_refused(rt: HostRuntime) {
     }
 }
 
-/// Whether a notice of *sum* is blocked by the input's token.
-fn is_blocked<A: Allocator + Copy>(json: Global, alloc: A) -> Option<bool> {
-    let first = [
-        Told::Feed(0, "a", &[2], Next::Close),
-        Told::Take(0, "as", &[0], 2),
-    ];
-    let cluster = reach(json, alloc, SUM, 1, &first)?;
-    let step = step_of(alloc, cluster.graph(), &Told::Notice(0, "s", &[0]))?;
-    let blocker = point(cluster.graph(), "a", &[0])?;
-    Some(cluster.plan(&step).err()? == Refusal::NotYet { blocker })
+/// Runs whose last step is refused, each with the number and the point that the refusal names.
+static NAMED: [(Script, u64, Named); 6] = [
+    (
+        (
+            LINE,
+            1,
+            &[
+                Told::Feed(0, "a", &[5], Next::Next),
+                Told::Points(0, &[("a", &[0])]),
+            ],
+        ),
+        16,
+        ("a", &[1]),
+    ),
+    (
+        (
+            LINE,
+            1,
+            &[
+                Told::Feed(0, "a", &[5], Next::Stay),
+                Told::Feed(0, "a", &[6], Next::Next),
+                Told::Points(0, &[("a", &[0])]),
+            ],
+        ),
+        16,
+        ("a", &[1]),
+    ),
+    (
+        (
+            LINE,
+            2,
+            &[
+                Told::Feed(0, "a", &[5], Next::Close),
+                Told::Points(0, &[("a", &[0])]),
+            ],
+        ),
+        16,
+        ("az", &[0]),
+    ),
+    (
+        (
+            SUM,
+            1,
+            &[
+                Told::Feed(0, "a", &[2], Next::Close),
+                Told::Take(0, "as", &[0], 2),
+                Told::Notice(0, "s", &[0]),
+            ],
+        ),
+        10,
+        ("a", &[0]),
+    ),
+    (
+        (
+            SUM,
+            1,
+            &[
+                Told::Feed(0, "a", &[2, 3], Next::Close),
+                Told::Take(0, "as", &[0], 2),
+                Told::All(0),
+                Told::Receive(0, 0),
+                Told::Notice(0, "s", &[0]),
+            ],
+        ),
+        10,
+        ("as", &[0]),
+    ),
+    (
+        (
+            SUM,
+            1,
+            &[
+                Told::Feed(0, "a", &[2], Next::Stay),
+                Told::Take(0, "as", &[0], 2),
+                Told::Feed(0, "a", &[3], Next::Stay),
+                Told::Points(0, &[("s", &[0])]),
+                Told::Notice(0, "s", &[0]),
+            ],
+        ),
+        10,
+        ("a", &[0]),
+    ),
+];
+
+/// Whether a step is refused with this number and this point, and leaves the state as it was.
+fn names<A: Allocator + Copy>(
+    json: Global,
+    alloc: A,
+    cluster: &Cluster<A>,
+    told: &Told,
+    number: u64,
+    named: &Named,
+) -> Option<bool> {
+    let step = step_of(alloc, cluster.graph(), told)?;
+    let before = state_text(json, cluster)?;
+    let refusal = cluster.plan(&step).err()?;
+    let expected = point(cluster.graph(), named.0, named.1)?;
+    let is_named = match &refusal {
+        Refusal::NotYet { blocker } => *blocker == expected,
+        Refusal::NotAdmissible { point } => *point == expected,
+        _ => false,
+    };
+    Some(is_named && refusal.number() == number && state_text(json, cluster)? == before)
+}
+
+/// Whether it is so of the last step of a run.
+fn last_names<A: Allocator + Copy>(
+    json: Global,
+    alloc: A,
+    script: &Script,
+    number: u64,
+    named: &Named,
+) -> Option<bool> {
+    let (text, n, steps) = script;
+    let (last, first) = steps.split_last()?;
+    let cluster = reach(json, alloc, text, *n, first)?;
+    names(json, alloc, &cluster, last, number, named)
+}
+
+/// The number of the refusal of a sum's notice before each step that leads to it and past it, 0 where
+/// it is not refused.
+static NOTICES: [u64; 9] = [9, 9, 10, 10, 10, 10, 10, 0, 9];
+
+/// Before how many of the steps it is so.
+fn notices<A: Allocator + Copy>(json: Global, alloc: A) -> Option<usize> {
+    let (text, n, steps) = &SUM_NOTIFIED;
+    let mut cluster = start(json, alloc, text, *n)?;
+    let notice = step_of(alloc, cluster.graph(), &Told::Notice(0, "s", &[0]))?;
+    for (turn, (told, expected)) in steps.iter().zip(&NOTICES).enumerate() {
+        if number(&cluster, &notice) != *expected {
+            return Some(turn);
+        }
+        let step = step_of(alloc, cluster.graph(), told)?;
+        make(&mut cluster, &step)?;
+    }
+    Some(NOTICES.len())
 }
 
 #[test]
-fn not_yet(rt: HostRuntime) {
-    assert_eq!(rt; is_blocked(rt.alloc(), rt.alloc()), Some(true));
+fn points_of_refusals(rt: HostRuntime) {
+    for (row, (script, number, named)) in NAMED.iter().enumerate() {
+        let same = last_names(rt.alloc(), rt.alloc(), script, *number, named);
+        assert_eq!(rt; same, Some(true), "in row {row}");
+    }
+    assert_eq!(rt; notices(rt.alloc(), rt.alloc()), Some(NOTICES.len()));
 }

@@ -1,7 +1,7 @@
 //! Clusters and steps, told by the names of locations.
 
-use nd_cluster::{Cluster, Next, Step, Values};
-use nd_drawn::{graph_of, time};
+use nd_cluster::{Cluster, Next, Part, Points, Step, Values};
+use nd_drawn::{SUM, graph_of, point, time};
 use nd_graph::Graph;
 use std::alloc::{Allocator, Global};
 
@@ -14,10 +14,36 @@ pub enum Told {
     Take(u32, &'static str, &'static [u32], i64),
     /// The time of the notice.
     Notice(u32, &'static str, &'static [u32]),
+    /// The broadcast of all that is unsent.
+    All(u32),
+    /// The points whose entries are broadcast.
+    Points(u32, &'static [Named]),
+    /// From whom and to whom a change is received.
+    Receive(u32, u32),
 }
+
+/// A point: the name of its location, and its time.
+pub type Named = (&'static str, &'static [u32]);
 
 /// A graph, the number of processors, and steps from the start on.
 pub type Script = (&'static str, u32, &'static [Told]);
+
+/// A sum whose notice is enabled after two receives.
+pub const SUM_NOTIFIED: Script = (
+    SUM,
+    1,
+    &[
+        Told::Feed(0, "a", &[2, 3], Next::Close),
+        Told::Take(0, "as", &[0], 2),
+        Told::All(0),
+        Told::Receive(0, 0),
+        Told::Take(0, "as", &[0], 3),
+        Told::All(0),
+        Told::Receive(0, 0),
+        Told::Notice(0, "s", &[0]),
+        Told::Take(0, "sz", &[0], 5),
+    ],
+);
 
 /// The start of a cluster of n processors.
 pub fn start<A: Allocator + Copy>(
@@ -39,6 +65,15 @@ pub fn values_of<A: Allocator>(alloc: A, list: &[i64]) -> Option<Values<A>> {
     Some(values)
 }
 
+/// The part at these points.
+fn part_of<A: Allocator + Copy>(alloc: A, graph: &Graph<A>, list: &[Named]) -> Option<Part<A>> {
+    let mut points = Points::new(alloc);
+    for (name, time) in list {
+        points.push(point(graph, name, time)?).ok()?;
+    }
+    Some(Part::Points(points))
+}
+
 /// The step that is told.
 pub fn step_of<A: Allocator + Copy>(alloc: A, graph: &Graph<A>, told: &Told) -> Option<Step<A>> {
     match told {
@@ -58,6 +93,18 @@ pub fn step_of<A: Allocator + Copy>(alloc: A, graph: &Graph<A>, told: &Told) -> 
             p: *p,
             vertex: graph.location_of(name)?,
             time: time(list)?,
+        }),
+        Told::All(p) => Some(Step::Broadcast {
+            p: *p,
+            part: Part::All,
+        }),
+        Told::Points(p, list) => Some(Step::Broadcast {
+            p: *p,
+            part: part_of(alloc, graph, list)?,
+        }),
+        Told::Receive(from, to) => Some(Step::Receive {
+            from: *from,
+            to: *to,
         }),
     }
 }

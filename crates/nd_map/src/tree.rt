@@ -3,12 +3,14 @@ ghost use Rattle.std.specs.Prelude.{◌≡◌, ◌↔◌, ◌<◌, ◌^◌, [], 
 ghost use Rattle.std.specs.Option.{option_map};
 ghost use Rattle.std.specs.FinMap.{find, put};
 ghost use Rattle.std.specs.Map.Iter.{ShowsInOrder, deref_pair};
+ghost use Rattle.std.specs.BTreeMap.Range.{IsLeBy, entries_between};
+ghost use Rattle.std.specs.declared.ops.Bound.TheVariants.{Included};
 ghost use Rattle.nd_map.specs.Listed.{IsListed, without};
 
 use crate::Key;
 use std::alloc::{AllocError, Allocator, Global};
 use std::collections::BTreeMap;
-use std::collections::btree_map::Iter;
+use std::collections::btree_map::{Iter, Range};
 use std::marker::Model;
 
 /// A finite map, seen as the list of its entries in the order of their keys.
@@ -56,6 +58,19 @@ impl<K: Key, V: Copy, A: Allocator> TreeMap<K, V, A> {
         ensures listed { IsListed K.cmp self.now }
     {
         self.tree.iter()
+    }
+
+    /// The entries from one key to another, both included, in the order of their keys, one by one.
+    ///
+    /// To come to the first takes a logarithm of the number of entries.
+    pub fn between(&self, first: &K, last: &K) -> Range<'_, K, V>
+        requires { IsLeBy K.cmp first.now last.now }
+        ensures rest { result ≡ entries_between K.cmp (Included first.now) (Included last.now) self.now }
+        ensures runs { ShowsInOrder (deref_pair {K = K} {X = V}) }
+        ensures fits { length result < 2 ^ 63 }
+        ensures listed { IsListed K.cmp self.now }
+    {
+        self.tree.range(first..=last)
     }
 
     /// The entry of the least key.

@@ -254,7 +254,7 @@ impl<A: Allocator + Copy> Processor<A> {
         self.requests.remove(point);
     }
 
-    /// An input vertex's token moves, comes or goes. One that is there takes no memory.
+    /// An input vertex's token moves, comes or goes. Only one that comes takes memory.
     pub fn move_token(
         &mut self,
         vertex: usize,
@@ -266,6 +266,7 @@ impl<A: Allocator + Copy> Processor<A> {
         ensures undone { OnOk result (record self.new { tokens = with_value self.new.tokens vertex old } ≡ self.old) }
         ensures err { OnErr result (self.new ≡ self.old) }
         ensures absent { OnErr result (old ≡ None) }
+        ensures growing { OnErr result (new ≢ None) }
     {
         let _ = old;
         let Some(epoch) = new else {
@@ -278,7 +279,7 @@ impl<A: Allocator + Copy> Processor<A> {
         Ok(())
     }
 
-    /// A vertex keeps another number for an item. An item that is there takes no memory.
+    /// A vertex keeps another number for an item. Only an item that comes takes memory.
     pub fn set_item(
         &mut self,
         vertex: usize,
@@ -294,6 +295,7 @@ impl<A: Allocator + Copy> Processor<A> {
         ensures undone { OnOk result (record self.new { items = with_vertex_item self.new.items vertex (item_key time.now item) old } ≡ self.old) }
         ensures err { OnErr result (self.new ≡ self.old) }
         ensures absent { OnErr result (old ≡ None) }
+        ensures growing { OnErr result (new ≢ None) }
     {
         self.items[vertex].set(time, item, old, new)?;
         Ok(())

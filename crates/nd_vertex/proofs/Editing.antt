@@ -1,13 +1,13 @@
 -- Edits one after another: what they leave, in which order they may come, and the way back.
 use Rattle.std.proofs.Common.{◌≡◌, ◌≢◌, ◌<◌, ◌+◌, ℕ, zero, suc, ℤ, pos, negsuc, Bool, true, false, cond, not, ◌||◌, List, [], ◌∷◌, ◌++◌, length, take, get_or, map, Option, Some, None, refl, sym, ap, subst, ◌∙◌, arith}
 use Rattle.std.specs.Prelude.{is_none, is_some, All}
-use Rattle.std.specs.List.{IsDistinct, AllByRecursion, filter, list_any}
+use Rattle.std.specs.List.{IsDistinct, AllByRecursion, filter}
 use Rattle.std.proofs.lemmas.List.{take_more, get_or-map, length-map}
 use Rattle.std.proofs.lemmas.List.Elements.{filter-append}
 use Rattle.std.proofs.lemmas.Cmp.{eq_by_cmp_equiv, tied_itself}
 use Rattle.std.proofs.lemmas.Map.Views.{tells_apart}
 use Rattle.std.specs.Ordering.{eq_by_cmp, is_eq}
-use Rattle.nd_map.specs.Counts.{at, set, same, at-set, has_key}
+use Rattle.nd_map.specs.Counts.{at, same, at-set, has_key}
 use Rattle.nd_vertex.specs.Items.{Items, item_cmp, item_total, item_exact}
 use Rattle.nd_vertex.specs.Table.{is_zero}
 use Rattle.nd_vertex.specs.Edits.{item_of, number_of, with_item, edited, keys, turned, directed, CanEdit}

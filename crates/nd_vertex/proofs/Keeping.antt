@@ -3,19 +3,20 @@ use Rattle.std.proofs.Common.{◌≡◌, ◌≢◌, ℤ, pos, zero, suc, negsuc,
 use Rattle.std.specs.FinMap.{find, put}
 use Rattle.std.specs.FinMap.Entries.{find-put}
 use Rattle.std.specs.Ordering.{eq_by_cmp}
+use Rattle.std.proofs.lemmas.Map.Views.{tells_apart}
 use Rattle.nd_map.specs.Listed.{without}
 use Rattle.nd_map.specs.Maps.{find-without, listed-put, listed-without}
-use Rattle.nd_map.specs.Counts.{integers, or_else, at, set, same, of_entries, at-of_entries, at-set, entries, entries-of_entries}
+use Rattle.nd_map.specs.Counts.{integers, at, set, same, of_entries, at-of_entries, at-set, entries, entries-of_entries}
 use Rattle.nd_vertex.specs.Items.{Items, item_cmp, item_total, item_exact}
 use Rattle.nd_vertex.specs.Table.{is_zero}
-use Rattle.nd_vertex.specs.Edits.{item_of, number_of, with_item}
+use Rattle.nd_vertex.specs.Edits.{item_of, number_of}
 use Rattle.nd_vertex.specs.Effects.{AreValues}
 use Rattle.nd_vertex.specs.Kept.{IsNumber, IsKept}
 use Rattle.nd_vertex.specs.declared.key.ItemKey.{ItemKey}
 
-one_of : (b : Bool) (w x : Option ℤ) → IfSome w IsNumber → IfSome x IsNumber → IfSome (cond b w x) IsNumber
-one_of true w x g h = g
-one_of false w x g h = h
+one_of : (P : ℤ → Type 0) (b : Bool) (w x : Option ℤ) → (b ≡ true → IfSome w P) → IfSome x P → IfSome (cond b w x) P
+one_of P true w x g h = g refl
+one_of P false w x g h = h
 
 number-cond : (b : Bool) (x y : Option ℤ) → number_of (cond b x y) ≡ cond b (number_of x) (number_of y)
 number-cond true x y = refl
@@ -36,16 +37,20 @@ pub there_at : (m : Items) (k : ItemKey) (x : Option ℤ) → x ≢ Some (pos 0)
 there_at m k x h e = there x h ∙ ap (λ z. cond (is_zero z) None (Some z)) e
 
 module _ (es : List (ItemKey × ℤ)) (k : ItemKey) where
-  pub kept_put : (v : ℤ) → IsNumber v → IsKept es → IsKept (put item_cmp k v es)
-  kept_put v number kept = record {
+  pub kept_put : (v : ℤ) → FitsSigned w64 k.item → IsNumber v → IsKept es → IsKept (put item_cmp k v es)
+  kept_put v item number kept = record {
     listed = listed-put item_cmp item_total k v es kept.listed;
-    numbers = λ q. subst (λ x. IfSome x IsNumber) (sym (find-put item_cmp item_total q k v es)) (one_of (eq_by_cmp item_cmp q k) (Some v) (find item_cmp q es) number (kept.numbers q));
+    numbers = λ q. subst (λ x. IfSome x IsNumber) (sym (find-put item_cmp item_total q k v es)) (one_of IsNumber (eq_by_cmp item_cmp q k) (Some v) (find item_cmp q es) (λ _. number) (kept.numbers q));
+    items = λ q.
+        let is : eq_by_cmp item_cmp q k ≡ true → FitsSigned w64 q.item = λ t. subst (λ x. FitsSigned w64 x.item) (sym (tells_apart item_exact q k t)) item in
+        subst (λ x. IfSome x (λ _. FitsSigned w64 q.item)) (sym (find-put item_cmp item_total q k v es)) (one_of (λ _. FitsSigned w64 q.item) (eq_by_cmp item_cmp q k) (Some v) (find item_cmp q es) is (kept.items q));
   }
 
   pub kept_without : IsKept es → IsKept (without item_cmp k es)
   kept_without kept = record {
     listed = listed-without item_cmp k es kept.listed;
-    numbers = λ q. subst (λ x. IfSome x IsNumber) (sym (find-without item_cmp item_total q k es)) (one_of (eq_by_cmp item_cmp q k) None (find item_cmp q es) tt (kept.numbers q));
+    numbers = λ q. subst (λ x. IfSome x IsNumber) (sym (find-without item_cmp item_total q k es)) (one_of IsNumber (eq_by_cmp item_cmp q k) None (find item_cmp q es) (λ _. tt) (kept.numbers q));
+    items = λ q. subst (λ x. IfSome x (λ _. FitsSigned w64 q.item)) (sym (find-without item_cmp item_total q k es)) (one_of (λ _. FitsSigned w64 q.item) (eq_by_cmp item_cmp q k) None (find item_cmp q es) (λ _. tt) (kept.items q));
   }
 
   pub of_put : (v : ℤ) → of_entries {N = integers} item_total (put item_cmp k v es) ≡ set item_total (of_entries {N = integers} item_total es) k v

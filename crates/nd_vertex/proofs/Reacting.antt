@@ -1,5 +1,5 @@
 -- What a vertex does on a record or a notice: the edits that lead to the table's items.
-use Rattle.std.proofs.Common.{◌≡◌, ◌≢◌, ◌<◌, ℕ, zero, suc, ℤ, pos, negsuc, ◌+ℤ◌, Bool, true, false, cond, List, [], ◌∷◌, length, get_or, Option, Some, None, FitsSigned, w64, to_z, of_z, refl, sym, ap, subst, ◌∙◌, arith}
+use Rattle.std.proofs.Common.{◌≡◌, ◌≢◌, zero, suc, ℤ, pos, negsuc, ◌+ℤ◌, Bool, true, false, cond, [], ◌∷◌, Option, Some, None, FitsSigned, w64, to_z, of_z, refl, sym, ap, subst, ◌∙◌, arith}
 use Rattle.std.specs.Prelude.{All}
 use Rattle.std.specs.Option.{unwrap_or}
 use Rattle.std.proofs.lemmas.Int.{to_z-of_z}
@@ -12,10 +12,9 @@ use Rattle.nd_graph.specs.declared.op.Op.{Op}
 use Rattle.nd_graph.specs.declared.op.Op.TheVariants.{Input, Ingress, Egress, Feedback, Add, Mul, Below, Split, Sum, Distinct, Sink}
 use Rattle.nd_vertex.specs.Items.{Items, item_cmp, item_total}
 use Rattle.nd_vertex.specs.Table.{on_record, on_notice, is_zero}
-use Rattle.nd_vertex.specs.Edits.{CanEdit, LeadsTo, item_of, number_of, with_item}
+use Rattle.nd_vertex.specs.Edits.{LeadsTo, item_of, number_of, with_item}
 use Rattle.nd_vertex.specs.Effects.{AreValues}
 use Rattle.nd_vertex.specs.declared.key.ItemKey.{ItemKey}
-use Rattle.nd_vertex.specs.declared.effect.ItemEdit.{ItemEdit}
 use Rattle.nd_vertex.proofs.Editing.{put_same, number_at, itself}
 
 one : {X : Type 0} (P : X → Type 0) (x : X) → P x → All P (x ∷ [])

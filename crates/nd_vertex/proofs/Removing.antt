@@ -1,8 +1,12 @@
 -- The edits that take out all items at a timestamp, and the items that they leave.
-use Rattle.std.proofs.Common.{◌≡◌, ◌≢◌, ◌<◌, ℕ, zero, suc, ℤ, pos, Bool, true, false, cond, not, ◌&&◌, ◌||◌, List, [], ◌∷◌, ◌++◌, map, length, get_or, Option, Some, None, refl, sym, ap, subst, ◌∙◌, arith}
+use Rattle.std.proofs.Common.{◌≡◌, ◌≢◌, ◌-◌, ◌^◌, suc, ℤ, pos, negsuc, ◌<ℤ◌, FitsSigned, w64, IfSome, Ordering, Less, Equal, Greater, Bool, true, false, cond, not, ◌&&◌, ◌||◌, List, [], ◌∷◌, map, get_or, Some, None, refl, sym, ap, subst, ◌∙◌, arith}
+use Rattle.std.proofs.lemmas.Int.{ints}
 use Rattle.std.specs.Prelude.{All, is_some}
 use Rattle.std.specs.List.{IsDistinct, AllByRecursion, filter}
-use Rattle.std.specs.Ordering.{eq_by_cmp, is_eq}
+use Rattle.std.specs.declared.ops.Bound.TheVariants.{Included}
+use Rattle.std.specs.BTreeMap.Range.{IsLeBy, range_contains, entries_between}
+use Rattle.std.specs.Cmp.{int_ranks}
+use Rattle.std.specs.Ordering.{MatchOrdering, eq_by_cmp, int_cmp, is_eq, is_gt, is_le, is_lt, ordering_reverse, ordering_then}
 use Rattle.std.specs.FinMap.{find}
 use Rattle.std.specs.FinMap.Entries.{is_some-find}
 use Rattle.std.proofs.lemmas.List.Elements.{All-filter, All-map}
@@ -10,11 +14,12 @@ use Rattle.std.proofs.lemmas.Cmp.{tied_itself}
 use Rattle.std.proofs.lemmas.Map.Views.{tells_apart}
 use Rattle.nd_map.specs.Counts.{at, only, at-only, at-absent, same, has_key, keys_of, entries}
 use Rattle.nd_map.specs.Listed.{IsListed}
-use Rattle.nd_map.specs.Entries.{find-index, absent_in_tail, listed-tail}
+use Rattle.nd_map.specs.Entries.{all_found, find-index, absent_in_tail, listed-tail}
 use Rattle.nd_time.specs.Time.{Time}
-use Rattle.nd_time.specs.Listing.{time_cmp, time_total, time_exact}
-use Rattle.nd_vertex.specs.Items.{Items, item_cmp, item_total, item_exact}
-use Rattle.nd_vertex.specs.Edits.{CanEdit, LeadsTo, item_of, number_of, with_item, edited, keys}
+use Rattle.nd_time.specs.Listing.{time_cmp, time_total}
+use Rattle.nd_vertex.specs.Items.{Items, item_cmp, item_key, item_total, item_exact}
+use Rattle.nd_vertex.specs.Kept.{IsKept}
+use Rattle.nd_vertex.specs.Edits.{LeadsTo, item_of, with_item, edited, keys}
 use Rattle.nd_vertex.specs.declared.key.ItemKey.{ItemKey}
 use Rattle.nd_vertex.specs.declared.effect.ItemEdit.{ItemEdit}
 use Rattle.nd_vertex.proofs.Editing.{is_key, has, at_with}
@@ -30,14 +35,8 @@ gone e = record { key = e.0; old = Some e.1; new = None }
 abbrev pub removed : Time → List (ItemKey × ℤ) → List ItemEdit
 removed t es = map gone (filter (λ e. is_at t e.0) es)
 
-pub is_at-same : (t : Time) (k : ItemKey) → k.time ≡ t → is_at t k ≡ true
-is_at-same t k e = ap (λ s. is_eq (time_cmp s t)) e ∙ ap is_eq (tied_itself time_total t)
-
-pub is_at-other : (t : Time) (k : ItemKey) → k.time ≢ t → is_at t k ≡ false
-is_at-other t k differ = elim (is_at t k) as (λ b. is_at t k ≡ b → b ≡ false) [ true ↦ λ e. absurd (differ (tells_apart time_exact k.time t e)) | false ↦ λ e. refl ] refl
-
 -- one entry more
-pub removed-cons : (t : Time) (e : ItemKey × ℤ) (es : List (ItemKey × ℤ)) (b : Bool) → is_at t e.0 ≡ b → removed t (e ∷ es) ≡ cond b (gone e ∷ removed t es) (removed t es)
+removed-cons : (t : Time) (e : ItemKey × ℤ) (es : List (ItemKey × ℤ)) (b : Bool) → is_at t e.0 ≡ b → removed t (e ∷ es) ≡ cond b (gone e ∷ removed t es) (removed t es)
 removed-cons t e es true is = ap (λ c. map gone (cond c (e ∷ filter (λ x. is_at t x.0) es) (filter (λ x. is_at t x.0) es))) is
 removed-cons t e es false is = ap (λ c. map gone (cond c (e ∷ filter (λ x. is_at t x.0) es) (filter (λ x. is_at t x.0) es))) is
 
@@ -132,3 +131,54 @@ module _ (m : Items) (listed : IsListed item_cmp (entries m)) (found : (k : Item
     changes = All-map (λ e. e.old ≢ e.new) gone (filter (λ e. is_at t e.0) (entries m)) (λ i d lt e. absurd (cc));
     edited_is = leaves t m;
   }
+
+-- ---- they are those of the entries between two keys
+
+-- the first key at a timestamp, and the last
+abbrev pub first_at : Time → ItemKey
+first_at t = item_key t (negsuc (2 ^ 63 - 1))
+
+abbrev pub last_at : Time → ItemKey
+last_at t = item_key t (pos (2 ^ 63 - 1))
+
+pub forward : (t : Time) → IsLeBy item_cmp (first_at t) (last_at t)
+forward t = ap (λ r. is_gt (ordering_then r (int_cmp (negsuc (2 ^ 63 - 1)) (pos (2 ^ 63 - 1))))) (tied_itself time_total t)
+
+not_below : (z : ℤ) → FitsSigned w64 z → is_le (int_cmp (negsuc (2 ^ 63 - 1)) z) ≡ true
+not_below z fits = by (int_cmp (negsuc (2 ^ 63 - 1)) z) (int_ranks (negsuc (2 ^ 63 - 1)) z)
+  where
+    by : (r : Ordering) → MatchOrdering r (negsuc (2 ^ 63 - 1) <ℤ z) (negsuc (2 ^ 63 - 1) ≡ z) (z <ℤ negsuc (2 ^ 63 - 1)) → is_le r ≡ true
+    by Less h = refl
+    by Equal h = refl
+    by Greater h = absurd (let f = fits.sfits in omega (arith, ints, h, f))
+
+not_above : (z : ℤ) → FitsSigned w64 z → is_lt (int_cmp (pos (2 ^ 63 - 1)) z) ≡ false
+not_above z fits = by (int_cmp (pos (2 ^ 63 - 1)) z) (int_ranks (pos (2 ^ 63 - 1)) z)
+  where
+    by : (r : Ordering) → MatchOrdering r (pos (2 ^ 63 - 1) <ℤ z) (pos (2 ^ 63 - 1) ≡ z) (z <ℤ pos (2 ^ 63 - 1)) → is_lt r ≡ false
+    by Less h = absurd (let f = fits.sfits in omega (arith, ints, h, f))
+    by Equal h = refl
+    by Greater h = refl
+
+-- an item of 64 bits is at a timestamp where it is between these
+within : (t : Time) (k : ItemKey) → FitsSigned w64 k.item → range_contains item_cmp (Included (first_at t)) (Included (last_at t)) k ≡ is_at t k
+within t k fits = rw (time_total.antisymm k.time t) (by (time_cmp t k.time))
+  where
+    by : (r : Ordering) → (is_le (ordering_then r (int_cmp (negsuc (2 ^ 63 - 1)) k.item)) && not (is_lt (ordering_then r (int_cmp (pos (2 ^ 63 - 1)) k.item)))) ≡ is_eq (ordering_reverse r)
+    by Less = refl
+    by Equal = λ i. not_below k.item fits i && not (not_above k.item fits i)
+    by Greater = refl
+
+-- tests that agree at each element keep the same elements
+same_kept : {X : Type 0} (p q : X → Bool) (xs : List X) → All (λ x. p x ≡ q x) xs → filter p xs ≡ filter q xs
+same_kept p q [] h = refl
+same_kept p q (x ∷ xs) h =
+    let rest = same_kept p q xs (λ i d lt. h (suc i) d (omega (arith, lt))) in
+    λ i. cond (h 0 x (omega arith) i) (x ∷ rest i) (rest i)
+
+pub removed_between : (t : Time) (es : List (ItemKey × ℤ)) → IsKept es → map gone (entries_between item_cmp (Included (first_at t)) (Included (last_at t)) es) ≡ removed t es
+removed_between t es kept =
+    ap (map gone)
+    (same_kept (λ e. range_contains item_cmp (Included (first_at t)) (Included (last_at t)) e.0) (λ e. is_at t e.0) es
+    (all_found item_cmp item_total (λ k _. range_contains item_cmp (Included (first_at t)) (Included (last_at t)) k ≡ is_at t k) es kept.listed
+    (λ k v is. within t k (subst (λ x. IfSome x (λ _. FitsSigned w64 k.item)) is (kept.items k)))))

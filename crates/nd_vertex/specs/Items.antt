@@ -1,5 +1,5 @@
 -- What a vertex keeps: a number other than 0 for each of finitely many items at timestamps.
-use Rattle.std.specs.Prelude.{ℤ, pos, refl}
+use Rattle.std.specs.Prelude.{ℤ, refl}
 use Rattle.std.specs.Coded.{Coded, code_by, coded×, coded_ℤ}
 use Rattle.std.specs.declared.cmp.Ordering.{Ordering}
 use Rattle.std.specs.Ordering.{int_cmp, ordering_then}

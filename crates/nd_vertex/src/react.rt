@@ -196,19 +196,25 @@ impl<A: Allocator + Copy> VertexState<A> {
         }
     }
 
-    // The edits that take out all items at a timestamp.
+    // The edits that take out all items at a timestamp. It looks at these alone.
     fn removals(&self, alloc: A, time: &Timestamp) -> Result<Vec<ItemEdit, A>, AllocError>
         ensures { IfOk result (λ v. LeadsTo self.now v.items (only item_total (λ (k : ItemKey). not (eq_by_cmp time_cmp k.time time.now)) self.now)) }
     {
+        let first = ItemKey {
+            time: time.copy(),
+            item: i64::MIN,
+        };
+        let last = ItemKey {
+            time: time.copy(),
+            item: i64::MAX,
+        };
         let mut edits = Vec::new(alloc);
-        for (key, number) in self.map.iter() {
-            if key.time == *time {
-                edits.push(ItemEdit {
-                    key: key.copy(),
-                    old: Some(*number),
-                    new: None,
-                })?;
-            }
+        for (key, number) in self.map.between(&first, &last) {
+            edits.push(ItemEdit {
+                key: key.copy(),
+                old: Some(*number),
+                new: None,
+            })?;
         }
         Ok(edits)
     }

@@ -1,4 +1,4 @@
-use Rattle.std.proofs.Common.{rules, ◌≡◌, ◌≢◌, w64, ap, sym}
+use Rattle.std.proofs.Common.{rules, ◌≡◌, ◌≢◌, w64}
 use Rattle.std.proofs.lemmas.Int.{to_z-of_z}
 use Rattle.nd_vertex.specs.Items.{item_key}
 use Rattle.nd_vertex.proofs.Reacting.{leads_one, leads_same}

@@ -1,5 +1,5 @@
-use Rattle.std.proofs.Common.{◌≡◌, map, ap, sym, subst, ◌∙◌}
-use Rattle.nd_vertex.specs.Edits.{CanEdit, edited, turned, directed}
+use Rattle.std.proofs.Common.{map, ap, sym, subst, ◌∙◌}
+use Rattle.nd_vertex.specs.Edits.{CanEdit, edited, turned}
 use Rattle.nd_vertex.proofs.Editing.{straight, can_turn, undone}
 use Rattle.nd_vertex.proofs.state.VertexState.commit.Goals as goal
 

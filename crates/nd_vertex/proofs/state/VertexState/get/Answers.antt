@@ -1,7 +1,6 @@
-use Rattle.std.proofs.Common.{◌≡◌, ◌∙◌, ap, sym, w64}
+use Rattle.std.proofs.Common.{◌∙◌, w64}
 use Rattle.std.proofs.lemmas.Int.{to_z-of_z}
-use Rattle.std.specs.FinMap.{find}
-use Rattle.nd_vertex.specs.Items.{item_cmp, item_key}
+use Rattle.nd_vertex.specs.Items.{item_key}
 use Rattle.nd_vertex.proofs.Keeping.{found, values}
 use Rattle.nd_vertex.proofs.state.VertexState.get.Goals as goal
 

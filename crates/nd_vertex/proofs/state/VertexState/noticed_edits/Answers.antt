@@ -1,4 +1,4 @@
-use Rattle.std.proofs.Common.{◌≡◌, [], sym, subst}
+use Rattle.std.proofs.Common.{sym, subst}
 use Rattle.nd_vertex.specs.Edits.{LeadsTo}
 use Rattle.nd_vertex.specs.Table.{on_notice}
 use Rattle.nd_vertex.proofs.Reacting.{leads_none, left_alone}

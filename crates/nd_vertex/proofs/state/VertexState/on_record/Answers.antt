@@ -1,4 +1,4 @@
-use Rattle.std.proofs.Common.{◌≡◌, true≢false, w64, to_z, of_z, sym, subst}
+use Rattle.std.proofs.Common.{true≢false, w64, to_z, of_z, sym, subst}
 use Rattle.std.proofs.lemmas.Int.{to_z-of_z}
 use Rattle.nd_vertex.specs.Effects.{AreValues, IsInRange}
 use Rattle.nd_vertex.specs.Table.{on_record}

@@ -1,4 +1,4 @@
-use Rattle.std.proofs.Common.{rules, ◌≡◌, FitsSigned, pos, ◌+ℤ◌, ◌*ℤ◌, w64, to_z, of_z, ap, sym, subst, arith}
+use Rattle.std.proofs.Common.{rules, FitsSigned, pos, ◌+ℤ◌, ◌*ℤ◌, w64, sym, subst, arith}
 use Rattle.std.proofs.lemmas.Int.{to_z-of_z}
 use Rattle.nd_vertex.specs.Effects.{IsInRange}
 use Rattle.nd_vertex.specs.Table.{on_record}

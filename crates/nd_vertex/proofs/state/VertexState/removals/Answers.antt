@@ -1,4 +1,4 @@
-use Rattle.std.proofs.Common.{rules, ◌≡◌, ◌≢◌, ◌++◌, [], ◌∷◌, true, false, not, FitsSigned, w64, List, ap, sym, subst, ◌∙◌, append_assoc, append-nil}
+use Rattle.std.proofs.Common.{rules, ◌≡◌, ◌++◌, [], ◌∷◌, map, not, FitsSigned, w64, ap, sym, subst, ◌∙◌, append_assoc, append-nil}
 use Rattle.std.proofs.lemmas.Int.{to_z-of_z}
 use Rattle.std.specs.FinMap.{find}
 use Rattle.std.specs.Map.Iter.{deref_pair}
@@ -9,36 +9,31 @@ use Rattle.nd_vertex.specs.Items.{item_cmp, item_total}
 use Rattle.nd_vertex.specs.declared.key.ItemKey.{ItemKey}
 use Rattle.nd_time.specs.Listing.{time_cmp}
 use Rattle.std.specs.Ordering.{eq_by_cmp}
-use Rattle.nd_vertex.specs.Edits.{LeadsTo, item_of}
+use Rattle.nd_vertex.specs.Edits.{LeadsTo}
 use Rattle.nd_vertex.proofs.Keeping.{listed, found}
-use Rattle.nd_vertex.proofs.Removing.{removed, removed-cons, gone, is_at, is_at-same, is_at-other, leads_removed}
+use Rattle.nd_vertex.proofs.Removing.{forward, removed, removed_between, gone, leads_removed}
 use Rattle.nd_vertex.proofs.state.VertexState.removals.Goals as goal
+
+pub between-key-items-requires : goal.between-key-items-requires
+between-key-items-requires g c = rw (c.copy.ensures, c.copy-2.ensures) (forward c.args.time.now)
 
 pub loop-key-init : goal.loop-key-init
 loop-key-init g c =
-    ap (λ es. es ++ removed c.args.time.now c.into_iter-key-iterator.result) c.new-edits.ensures.items
-    ∙ ap (removed c.args.time.now) (c.into_iter-key-iterator.ensures.into_iter_gives ∙ c.iter-key-items.ensures.rest ∙ listed c.self.inside.map c.self.invariant c.args.self.now c.self.view_is)
+    let t = c.args.time.now in
+    ap (λ es. es ++ map gone c.into_iter-key-iterator.result) c.new-edits.ensures.items
+    ∙ ap (map gone) (c.into_iter-key-iterator.ensures.into_iter_gives ∙ rw (c.copy.ensures, c.copy-2.ensures) at c.between-key-items.ensures.rest)
+    ∙ removed_between t c.self.inside.map c.self.invariant
+    ∙ ap (removed t) (listed c.self.inside.map c.self.invariant c.args.self.now c.self.view_is)
 
 pub loop-key-preserved : goal.loop-key-preserved
 loop-key-preserved g c =
-    let t = c.args.time.now in
     let rest = c.next.new.self in
     let step : c.loop-key.key-iterator ≡ (c.in-Some.key.now, c.in-Some.number.now) ∷ rest
     = rest_more deref_pair c.loop-key.key-iterator rest c.next.result (c.in-Some.key, c.in-Some.number) c.in-Some.is c.next.ensures.steps in
-    let differ : c.in-Some.key.now.time ≢ t = search rules in
-    ap (λ es. c.loop-key.edits.items ++ es) (sym (ap (removed t) step ∙ removed-cons t (c.in-Some.key.now, c.in-Some.number.now) rest false (is_at-other t c.in-Some.key.now differ))) ∙ c.loop-key.invariant
-
-pub loop-key-preserved-in-Continue-1 : goal.loop-key-preserved-in-Continue-1
-loop-key-preserved-in-Continue-1 g c =
-    let t = c.args.time.now in
-    let rest = c.next.new.self in
-    let step : c.loop-key.key-iterator ≡ (c.in-Some.key.now, c.in-Some.number.now) ∷ rest
-    = rest_more deref_pair c.loop-key.key-iterator rest c.next.result (c.in-Some.key, c.in-Some.number) c.in-Some.is c.next.ensures.steps in
-    let same : c.in-Some.key.now.time ≡ t = search rules in
     let range : FitsSigned w64 c.in-Some.number.now = search rules in
-    let pushed : c.push.new.self.items ≡ c.loop-key.edits.items ++ gone (c.in-Some.key.now, c.in-Some.number.now) ∷ [] = rw (c.copy.ensures, to_z-of_z w64 c.in-Some.number.now range) at c.in_ok-push.ensures.items in
-    ap (λ es. es ++ removed t rest) pushed ∙ append_assoc c.loop-key.edits.items (gone (c.in-Some.key.now, c.in-Some.number.now) ∷ []) (removed t rest)
-    ∙ ap (λ es. c.loop-key.edits.items ++ es) (sym (ap (removed t) step ∙ removed-cons t (c.in-Some.key.now, c.in-Some.number.now) rest true (is_at-same t c.in-Some.key.now same))) ∙ c.loop-key.invariant
+    let pushed : c.push.new.self.items ≡ c.loop-key.edits.items ++ gone (c.in-Some.key.now, c.in-Some.number.now) ∷ [] = rw (c.copy-in-loop-key.ensures, to_z-of_z w64 c.in-Some.number.now range) at c.in_ok-push.ensures.items in
+    ap (λ es. es ++ map gone rest) pushed ∙ append_assoc c.loop-key.edits.items (gone (c.in-Some.key.now, c.in-Some.number.now) ∷ []) (map gone rest)
+    ∙ ap (λ es. c.loop-key.edits.items ++ map gone es) (sym step) ∙ c.loop-key.invariant
 
 pub returns : goal.returns
 returns g c =
@@ -46,6 +41,6 @@ returns g c =
     let t = c.args.time.now in
     let is : c.self.inside.map ≡ entries m = listed c.self.inside.map c.self.invariant m c.self.view_is in
     let all : c.loop-key.edits.items ≡ removed t (entries m)
-    = sym (append-nil c.loop-key.edits.items) ∙ ap (λ es. c.loop-key.edits.items ++ removed t es) (sym c.in-None.ensures.steps.0) ∙ c.loop-key.invariant in
+    = sym (append-nil c.loop-key.edits.items) ∙ ap (λ es. c.loop-key.edits.items ++ map gone es) (sym c.in-None.ensures.steps.0) ∙ c.loop-key.invariant in
     subst (λ es. LeadsTo m es (only item_total (λ (k : ItemKey). not (eq_by_cmp time_cmp k.time t)) m)) (sym all)
     (leads_removed m (subst (IsListed item_cmp) is c.self.invariant.listed) (λ k. ap (find item_cmp k) (sym is) ∙ found c.self.inside.map k c.self.invariant m c.self.view_is) t)

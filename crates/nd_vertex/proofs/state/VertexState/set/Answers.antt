@@ -35,7 +35,7 @@ entries : (g : Over) (c : goal.In-Ok g) → c.put.new.self ≡ put item_cmp (ite
 entries g c = rw (c.copy.ensures, to_z-of_z w64 c.args.item c.ranges.item, to_z-of_z w64 c.in-Some.number (number g c).fits) at c.in-Ok.ensures.ok
 
 pub invariant_of-self-2 : goal.invariant_of-self-2
-invariant_of-self-2 g c = rw (entries g c) (kept_put c.self.inside.map _ c.in-Some.number (number g c) c.self.invariant)
+invariant_of-self-2 g c = rw (entries g c) (kept_put c.self.inside.map _ c.in-Some.number c.ranges.item (number g c) c.self.invariant)
 
 pub returns-clause-ok : goal.returns-clause-ok
 returns-clause-ok g c =

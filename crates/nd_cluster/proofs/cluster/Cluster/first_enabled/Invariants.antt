@@ -1,0 +1,12 @@
+use Rattle.std.proofs.Common.{◌≡◌, ◌<◌, ◌≤◌, ◌%◌, length}
+use Rattle.nd_cluster.proofs.Choosing.{NoneWaits}
+use Rattle.nd_cluster.proofs.cluster.Cluster.first_enabled.Given as goal
+
+abbrev pub invariant-loop-i : goal.invariant-loop-i
+invariant-loop-i g l = record {
+  count : l.n ≡ length l.self.processors;
+  some : 0 < l.n;
+  few : l.n ≤ 8;
+  first : l.first ≡ l.turn % l.n;
+  none : NoneWaits g.row.A.Denot l.self l.turn l.i;
+}

@@ -1,0 +1,48 @@
+use Rattle.std.proofs.Common.{◌≡◌, ◌<◌, ◌≤◌, ℕ, length, refl, sym, subst, arith}
+use Rattle.std.specs.Prelude.{All}
+use Rattle.nd_time.specs.Limits.{max_processors}
+use Rattle.nd_graph.specs.Graph.{Dataflow}
+use Rattle.nd_paths.specs.Order.{IsAccepted}
+use Rattle.nd_view.specs.Kept.{Kept}
+use Rattle.nd_protocol.specs.Fitting.{IsOrdered, ProcessorFits, ChangeFits}
+use Rattle.nd_cluster.specs.Parts.{RowFits}
+use Rattle.nd_cluster.proofs.Started.{ordered}
+use Rattle.nd_cluster.proofs.Parting.{views_to, mesh_to, state_from}
+use Rattle.nd_cluster.proofs.parts.parts_fit.Goals as goal
+
+pub returns-then-not-processors_fit : goal.returns-then-not-processors_fit
+returns-then-not-processors_fit g c = (
+  λ t. absurd (cc (t)),
+  λ s. c.if-not-processors_fit.ensures.fits.1 (subst (λ (k : Dataflow). All (ProcessorFits k) c.args.processors.now) (sym c.graph-graph.ensures.value) s.fits.processors),
+)
+
+pub returns-then-not-views_fit : goal.returns-then-not-views_fit
+returns-then-not-views_fit g c = (
+  λ t. absurd (cc (t)),
+  λ s. c.if-not-views_fit.ensures.fits.1
+      (subst (λ (k : Dataflow). All (λ (v : Kept). ChangeFits k v.map) c.args.views.now) (sym c.graph-graph.ensures.value)
+      (views_to c.args.paths.now c.args.processors.now c.args.views.now c.args.mesh.now c.n.ensures.mesh s)),
+)
+
+pub returns : goal.returns
+returns g c =
+    let k = c.args.paths.now in
+    let ps = c.args.processors.now in
+    let vs = c.args.views.now in
+    let m = c.args.mesh.now in
+    let is : c.graph-graph.result.now ≡ k = c.graph-graph.ensures.value in
+    let order : IsOrdered k
+    = subst IsOrdered is (ordered c.graph-graph.result.now c.vertices.ensures.sound c.all_arcs.ensures.agree (subst IsAccepted (sym is) c.graph-graph.ensures.accepted)) in
+    let some : 0 < length ps = omega (arith, c.if-n-eq0.false) in
+    let few : length ps ≤ max_processors = omega (arith, c.if-n.false) in
+    let each_view : length vs ≡ length ps = omega (arith, c.if-views-n.false) in
+    let each_sender : length m ≡ length ps = omega (arith, c.if-n-2.false, c.n.ensures.value) in (
+      λ t. state_from k ps vs m c.n.ensures.mesh order some few each_view each_sender
+          (subst (λ (k : Dataflow). All (ProcessorFits k) ps) is (c.if-not-processors_fit.ensures.fits.0 refl))
+          (c.if-not-processors_fit.ensures.within refl)
+          (subst (λ (k : Dataflow). All (λ (v : Kept). ChangeFits k v.map) vs) is (c.if-not-views_fit.ensures.fits.0 refl))
+          (c.if-not-views_fit.ensures.within refl)
+          (subst (λ (k : Dataflow). (p : ℕ) → p < length m → RowFits k m p) is (c.mesh_fits.ensures.fits.0 t))
+          (c.mesh_fits.ensures.within t),
+      λ s. c.mesh_fits.ensures.fits.1 (subst (λ (k : Dataflow). (p : ℕ) → p < length m → RowFits k m p) (sym is) (mesh_to k ps vs m c.n.ensures.mesh s)),
+    )

@@ -1,0 +1,98 @@
+-- The choice of the next step: the first enabled one in an order that begins with the turn's processor (this project's own rule).
+use Rattle.std.specs.Prelude.{◌≡◌, ◌<◌, ◌⊎◌, ℕ, ◌+◌, ◌-◌, ◌%◌, length, Option, Some, None}
+use Rattle.std.specs.declared.cmp.Ordering.TheVariants.{Less}
+use Rattle.nd_paths.specs.Point.{point_cmp}
+use Rattle.nd_processor.specs.Keys.{value_at_cmp}
+use Rattle.nd_protocol.specs.State.{ClusterState}
+use Rattle.nd_protocol.specs.Steps.{record_key, point_at}
+use Rattle.nd_protocol.specs.Enabled.{IsEnabled}
+use Rattle.nd_protocol.specs.declared.step.Step.{Step}
+use Rattle.nd_protocol.specs.declared.step.Step.TheVariants.{Feed, Take, Notice, Broadcast, Receive}
+use Rattle.nd_protocol.specs.declared.part.Part.{Part}
+use Rattle.nd_protocol.specs.declared.part.Part.TheVariants.{All, Points}
+
+-- all that is unsent
+abbrev pub IsWhole : {A : Type 0} → Part A → Type 0
+IsWhole All = Unit {0}
+IsWhole (Points points) = ⊥
+
+-- a step that may be chosen: feeds are left to the users, and a broadcast sends all
+abbrev pub IsCandidate : {A : Type 0} → Step A → Type 0
+IsCandidate (Feed p vertex values _) = ⊥
+IsCandidate (Take p edge t value) = Unit {0}
+IsCandidate (Notice p vertex t) = Unit {0}
+IsCandidate (Broadcast p part) = IsWhole part
+IsCandidate (Receive from to) = Unit {0}
+
+-- ---- the order
+
+-- the processor that makes a step
+abbrev pub performer : {A : Type 0} → Step A → ℕ
+performer (Feed p vertex values _) = p
+performer (Take p edge t value) = p
+performer (Notice p vertex t) = p
+performer (Broadcast p part) = p
+performer (Receive from to) = to
+
+-- how many processors have their turn before this one
+abbrev pub wait : ℕ → ℕ → ℕ → ℕ
+wait n turn p = (p + n - turn % n) % n
+
+-- receives come before takes, these before notices, and these before broadcasts
+abbrev pub rank : {A : Type 0} → Step A → ℕ
+rank (Feed p vertex values _) = 4
+rank (Take p edge t value) = 1
+rank (Notice p vertex t) = 2
+rank (Broadcast p part) = 3
+rank (Receive from to) = 0
+
+-- of two steps of one kind: receives by their senders, takes and notices in the order in which records and requests are listed
+abbrev pub IsListedBefore : {A : Type 0} → Step A → Step A → Type 0
+IsListedBefore (Take _ edge t value) (Take _ other u w) = value_at_cmp (record_key edge t value) (record_key other u w) ≡ Less
+IsListedBefore (Notice _ vertex t) (Notice _ other u) = point_cmp (point_at vertex t) (point_at other u) ≡ Less
+IsListedBefore (Receive from _) (Receive other _) = from < other
+IsListedBefore _ _ = ⊥
+
+-- of two steps of one processor
+abbrev pub ComesFirst : {A : Type 0} → Step A → Step A → Type 0
+ComesFirst x y = (rank x < rank y) ⊎ ((rank x ≡ rank y) × IsListedBefore x y)
+
+-- of two steps of a cluster of n processors
+abbrev pub ComesBefore : {A : Type 0} → ℕ → ℕ → Step A → Step A → Type 0
+ComesBefore n turn x y =
+    (wait n turn (performer x) < wait n turn (performer y)) ⊎ ((performer x ≡ performer y) × ComesFirst x y)
+
+-- ---- the choice
+
+-- it is enabled, and no candidate that comes before it is
+pub record IsChosen {A : Type 0} (s : ClusterState) (turn : ℕ) (x : Step A) : Type 0 where
+  pub candidate : IsCandidate x
+  pub enabled : IsEnabled s x
+  pub first : (y : Step A) → IsCandidate y → ComesBefore (length s.processors) turn y x → IsEnabled s y → ⊥
+
+-- no candidate is enabled
+pub record IsIdle (A : Type 0) (s : ClusterState) : Type 0 where
+  pub none : (y : Step A) → IsCandidate y → IsEnabled s y → ⊥
+
+-- ---- a part of the choice
+
+-- the first of the enabled candidates of a kind
+pub record IsFirst {A : Type 0} (s : ClusterState) (Kind : Step A → Type 0) (x : Step A) : Type 0 where
+  pub candidate : IsCandidate x
+  pub kind : Kind x
+  pub enabled : IsEnabled s x
+  pub first : (y : Step A) → IsCandidate y → Kind y → ComesFirst y x → IsEnabled s y → ⊥
+
+abbrev pub HasNone : {A : Type 0} → ClusterState → (Step A → Type 0) → Type 0
+HasNone {A} s Kind = (y : Step A) → IsCandidate y → Kind y → IsEnabled s y → ⊥
+
+abbrev pub Finds : {A : Type 0} → ClusterState → (Step A → Type 0) → Option (Step A) → Type 0
+Finds s Kind None = HasNone s Kind
+Finds s Kind (Some x) = IsFirst s Kind x
+
+-- a processor's steps, and those of one kind
+abbrev pub IsOf : {A : Type 0} → ℕ → Step A → Type 0
+IsOf p x = performer x ≡ p
+
+abbrev pub IsOfRank : {A : Type 0} → ℕ → ℕ → Step A → Type 0
+IsOfRank p r x = (performer x ≡ p) × (rank x ≡ r)

@@ -1,0 +1,340 @@
+//! A cluster from its parts, for tests and laws: whether the keys of its maps fit its graph.
+ghost use Rattle.std.specs.Prelude.{◌≡◌, ◌≢◌, ◌<◌, ◌↔◌, ℕ, pos, All, IfSome, IsNone, IsTrue, length};
+ghost use Rattle.std.specs.FinMap as fin;
+ghost use Rattle.nd_graph.specs.Graph.{op_at as operator_at};
+ghost use Rattle.nd_graph.specs.declared.op.Op.TheVariants as operator;
+ghost use Rattle.nd_map.specs.Counts.{entries as counts_of};
+ghost use Rattle.nd_paths.specs.Order.{Fits};
+ghost use Rattle.nd_processor.specs.State.{items_at, token_point as point_of_token};
+ghost use Rattle.nd_cluster.specs.Parts.{IsSinkKey, ItemsFit, RowFits, RowIsWithin};
+ghost use Rattle.nd_cluster.specs.Seen.{seen};
+ghost use Rattle.nd_mesh.specs.Mesh.{queue};
+ghost use Rattle.nd_view.specs.Kept.{Kept, IsFor};
+ghost use Rattle.nd_protocol.specs.Fitting.{IsAtVertex, IsAtEdge, ChangeFits, ChangeIsWithin, ProcessorFits, ProcessorIsWithin, IsState};
+
+use crate::Cluster;
+use crate::refuse::op_at;
+use crate::start::{MAX_PROCESSORS, token_point};
+use nd_delta::Delta;
+use nd_graph::{Graph, Op};
+use nd_mesh::Mesh;
+use nd_paths::{Paths, Pointstamp};
+use nd_processor::{Processor, SinkKey, ValueAt};
+use nd_vertex::{ItemKey, VertexState};
+use nd_view::View;
+use std::alloc::Allocator;
+
+// Whether a pointstamp is one of a vertex.
+fn is_at_vertex<A: Allocator>(graph: &Graph<A>, point: &Pointstamp) -> bool
+    ensures { IsTrue result ↔ IsAtVertex graph.now point.now }
+{
+    point.location < graph.vertices().len() && point.fits(graph)
+}
+
+// Whether a pointstamp is one of an edge.
+fn is_at_edge<A: Allocator>(graph: &Graph<A>, point: &Pointstamp) -> bool
+    ensures { IsTrue result ↔ IsAtEdge graph.now point.now }
+{
+    point.location >= graph.vertices().len() && point.fits(graph)
+}
+
+// Whether an input vertex may have a token at an epoch.
+fn token_fits<A: Allocator>(graph: &Graph<A>, vertex: usize, epoch: u32) -> bool
+    ensures { IsTrue result ↔ ((operator_at graph.now vertex ≡ operator.Input) × IsAtVertex graph.now (point_of_token vertex epoch)) }
+{
+    matches!(op_at(graph, vertex), Op::Input) && is_at_vertex(graph, &token_point(vertex, epoch))
+}
+
+// Whether a vertex is a sink.
+fn is_sink<A: Allocator>(graph: &Graph<A>, vertex: usize) -> bool
+    ensures { IsTrue result ↔ ((operator_at graph.now vertex ≡ operator.Sink) × (vertex < length graph.now.vertices)) }
+{
+    vertex < graph.vertices().len() && matches!(op_at(graph, vertex), Op::Sink)
+}
+
+// Whether a record may have a count: any may have none.
+fn record_fits<A: Allocator>(graph: &Graph<A>, key: &ValueAt, count: &u64) -> bool
+    ensures { IsTrue result ↔ (count.now ≢ 0 → IsAtEdge graph.now key.now.point) }
+{
+    *count == 0 || is_at_edge(graph, &key.point)
+}
+
+// Whether a sink vertex may have counted a value so often: any may have none.
+fn sink_fits<A: Allocator>(graph: &Graph<A>, key: &SinkKey, count: &u64) -> bool
+    ensures { IsTrue result ↔ (count.now ≢ 0 → IsSinkKey graph.now key.now) }
+{
+    *count == 0 || is_sink(graph, key.vertex)
+}
+
+// Whether a vertex may keep a number at a time: any may keep none.
+fn item_fits<A: Allocator>(graph: &Graph<A>, vertex: usize, key: &ItemKey, number: &i64) -> bool
+    ensures { IsTrue result ↔ (number.now ≢ pos 0 → IsAtVertex graph.now (record { location = vertex; time = key.now.time })) }
+{
+    let point = Pointstamp {
+        location: vertex,
+        time: key.time.copy(),
+    };
+    *number == 0 || is_at_vertex(graph, &point)
+}
+
+// Whether the records of a processor are on edges.
+fn records_fit<A: Allocator + Copy>(graph: &Graph<A>, processor: &Processor<A>) -> bool
+    ensures { IsTrue result ↔ All (λ e. e.1 ≢ 0 → IsAtEdge graph.now e.0.point) (counts_of processor.now.records) }
+{
+    for (key, count) in processor.records() {
+        if !record_fits(graph, key, count) {
+            return false;
+        }
+    }
+    true
+}
+
+// Whether its requests are at vertices.
+fn requests_fit<A: Allocator + Copy>(graph: &Graph<A>, processor: &Processor<A>) -> bool
+    ensures { IsTrue result ↔ All (λ e. IsAtVertex graph.now e.0) (fin.entries processor.now.requests) }
+{
+    for (key, _) in processor.requests() {
+        if !is_at_vertex(graph, key) {
+            return false;
+        }
+    }
+    true
+}
+
+// Whether its tokens are those of input vertices.
+fn tokens_fit<A: Allocator + Copy>(graph: &Graph<A>, processor: &Processor<A>) -> bool
+    ensures { IsTrue result ↔ All (λ e. (operator_at graph.now e.0 ≡ operator.Input) × IsAtVertex graph.now (point_of_token e.0 e.1)) (fin.entries processor.now.tokens) }
+{
+    for token in processor.tokens() {
+        if !token_fits(graph, token.0, token.1) {
+            return false;
+        }
+    }
+    true
+}
+
+// Whether its sinks are sinks.
+fn sinks_fit<A: Allocator + Copy>(graph: &Graph<A>, processor: &Processor<A>) -> bool
+    ensures { IsTrue result ↔ All (λ e. e.1 ≢ 0 → IsSinkKey graph.now e.0) (counts_of processor.now.sinks) }
+{
+    for (key, count) in processor.sinks() {
+        if !sink_fits(graph, key, count) {
+            return false;
+        }
+    }
+    true
+}
+
+// Whether a vertex keeps items at its own times.
+fn state_fits<A: Allocator + Copy>(graph: &Graph<A>, vertex: usize, state: &VertexState<A>) -> bool
+    ensures { IsTrue result ↔ ItemsFit graph.now vertex state.now }
+{
+    for (key, number) in state.entries() {
+        if !item_fits(graph, vertex, key, number) {
+            return false;
+        }
+    }
+    true
+}
+
+// Whether each vertex of a processor does.
+fn items_fit<A: Allocator + Copy>(graph: &Graph<A>, processor: &Processor<A>) -> bool
+    ensures { IsTrue result ↔ ((v : ℕ) → v < length processor.now.items → ItemsFit graph.now v (items_at processor.now v)) }
+{
+    for vertex in 0..processor.vertex_count() {
+        if !state_fits(graph, vertex, processor.vertex_state(vertex)) {
+            return false;
+        }
+    }
+    true
+}
+
+// Whether pointstamps fit the graph.
+fn entries_fit<A: Allocator>(graph: &Graph<A>, entries: &[(Pointstamp, i64)]) -> bool
+    ensures { IsTrue result ↔ All (λ e. Fits graph.now e.0) entries.now }
+{
+    for entry in entries {
+        if !entry.0.fits(graph) {
+            return false;
+        }
+    }
+    true
+}
+
+// Whether a change has entries at pointstamps of the graph alone.
+fn change_fits<A: Allocator>(graph: &Graph<A>, change: &Delta<A>) -> bool
+    ensures fits { IsTrue result ↔ ChangeFits graph.now change.now }
+    ensures within { ChangeIsWithin change.now }
+{
+    entries_fit(graph, change.entries())
+}
+
+// The types keep the counts of a processor within their limits.
+fn is_within<A: Allocator + Copy>(processor: &Processor<A>)
+    ensures { ProcessorIsWithin processor.now }
+{
+    let _ = processor.records();
+    let _ = processor.sinks();
+    let _ = processor.unsent().entries();
+}
+
+// Whether each key of a processor is one of the graph.
+fn processor_fits<A: Allocator + Copy>(graph: &Graph<A>, processor: &Processor<A>) -> bool
+    ensures { IsTrue result ↔ ProcessorFits graph.now processor.now }
+{
+    if processor.vertex_count() != graph.vertices().len() {
+        return false;
+    }
+    if !records_fit(graph, processor) {
+        return false;
+    }
+    if !requests_fit(graph, processor) {
+        return false;
+    }
+    if !tokens_fit(graph, processor) {
+        return false;
+    }
+    if !items_fit(graph, processor) {
+        return false;
+    }
+    if !sinks_fit(graph, processor) {
+        return false;
+    }
+    change_fits(graph, processor.unsent())
+}
+
+// Whether each key of some processors is one of the graph.
+fn processors_fit<A: Allocator + Copy>(graph: &Graph<A>, processors: &[Processor<A>]) -> bool
+    ensures fits { IsTrue result ↔ All (ProcessorFits graph.now) processors.now }
+    ensures within { IsTrue result → All ProcessorIsWithin processors.now }
+{
+    for processor in processors {
+        is_within(processor);
+        if !processor_fits(graph, processor) {
+            return false;
+        }
+    }
+    true
+}
+
+// Whether a view has entries at pointstamps of the graph alone.
+fn view_fits<A: Allocator + Copy>(graph: &Graph<A>, view: &View<A>) -> bool
+    ensures fits { IsTrue result ↔ ChangeFits graph.now view.now.map }
+    ensures within { ChangeIsWithin view.now.map }
+{
+    entries_fit(graph, view.entries())
+}
+
+// Whether all views do.
+fn views_fit<A: Allocator + Copy>(graph: &Graph<A>, views: &[View<A>]) -> bool
+    ensures fits { IsTrue result ↔ All (λ (v : Kept). ChangeFits graph.now v.map) views.now }
+    ensures within { IsTrue result → All (λ (v : Kept). ChangeIsWithin v.map) views.now }
+{
+    for view in views {
+        if !view_fits(graph, view) {
+            return false;
+        }
+    }
+    true
+}
+
+// Whether the changes of a queue do.
+fn queue_fits<A: Allocator + Copy>(graph: &Graph<A>, mesh: &Mesh<A>, from: usize, to: usize) -> bool
+    requires sender { from < length mesh.now }
+    requires receiver { to < length mesh.now }
+    ensures fits { IsTrue result ↔ All (ChangeFits graph.now) (queue mesh.now from to) }
+    ensures within { IsTrue result → All ChangeIsWithin (queue mesh.now from to) }
+{
+    for i in 0..mesh.len(from, to) {
+        let change = mesh.get(from, to, i).unwrap();
+        if !change_fits(graph, change) {
+            return false;
+        }
+    }
+    true
+}
+
+// Whether the changes of all queues from a processor do.
+fn row_fits<A: Allocator + Copy>(graph: &Graph<A>, mesh: &Mesh<A>, from: usize) -> bool
+    requires { from < length mesh.now }
+    ensures fits { IsTrue result ↔ RowFits graph.now mesh.now from }
+    ensures within { IsTrue result → RowIsWithin mesh.now from }
+{
+    for to in 0..mesh.n() {
+        if !queue_fits(graph, mesh, from, to) {
+            return false;
+        }
+    }
+    true
+}
+
+// Whether the changes of all queues do.
+fn mesh_fits<A: Allocator + Copy>(graph: &Graph<A>, mesh: &Mesh<A>) -> bool
+    ensures fits { IsTrue result ↔ ((p : ℕ) → p < length mesh.now → RowFits graph.now mesh.now p) }
+    ensures within { IsTrue result → (p : ℕ) → p < length mesh.now → RowIsWithin mesh.now p }
+{
+    for from in 0..mesh.n() {
+        if !row_fits(graph, mesh, from) {
+            return false;
+        }
+    }
+    true
+}
+
+// Whether parts are those of a state that a cluster may be in.
+fn parts_fit<A: Allocator + Copy>(
+    paths: &Paths<A>,
+    processors: &[Processor<A>],
+    views: &[View<A>],
+    mesh: &Mesh<A>,
+) -> bool
+    ensures { IsTrue result ↔ IsState (seen paths.now processors.now views.now mesh.now) }
+{
+    let graph = paths.graph();
+    // The clauses of these two say that edges join vertices, and that depths agree along the arcs.
+    let _ = graph.vertices();
+    let _ = graph.all_arcs();
+    let n = processors.len();
+    if n == 0 || n > MAX_PROCESSORS as usize {
+        return false;
+    }
+    if views.len() != n || mesh.n() != n {
+        return false;
+    }
+    if !processors_fit(graph, processors) {
+        return false;
+    }
+    if !views_fit(graph, views) {
+        return false;
+    }
+    mesh_fits(graph, mesh)
+}
+
+impl<A: Allocator + Copy> Cluster<A> {
+    /// The cluster of these parts, `None` where their sizes, keys, counts or depths do not fit.
+    pub fn of_parts(
+        alloc: A,
+        graph: &Graph<A>,
+        paths: Paths<A>,
+        processors: Vec<Processor<A>, A>,
+        views: Vec<View<A>, A>,
+        mesh: Mesh<A>,
+    ) -> Option<Cluster<A>>
+        requires paths { paths ≡ graph.now }
+        requires views { All (IsFor graph.now) views.items }
+        ensures some { IfSome result (λ c. c ≡ seen graph.now processors.items views.items mesh) }
+        ensures none { IsNone result → IsState (seen graph.now processors.items views.items mesh) → ⊥ }
+    {
+        let _ = graph;
+        if !parts_fit(&paths, &processors, &views, &mesh) {
+            return None;
+        }
+        Some(Cluster {
+            alloc,
+            paths,
+            processors,
+            views,
+            mesh,
+        })
+    }
+}
