@@ -171,8 +171,8 @@ fn mixed(alloc: Global, paths: &Paths, times: usize) -> Option<usize> {
 }
 
 #[test]
-fn hundred_changes(rt: HostRuntime) -> Result<(), Fail> {
+fn thousand_changes(rt: HostRuntime) -> Result<(), Fail> {
     let paths = paths_of(rt.alloc(), rt.alloc(), LOOP).ok_or("no paths")?;
-    assert_eq!(rt; mixed(rt.alloc(), &paths, 100), Some(100));
+    assert_eq!(rt; mixed(rt.alloc(), &paths, 1000), Some(1000));
     Ok(())
 }
