@@ -32,3 +32,31 @@ max_queue = 65536
 -- the most kept steps
 abbrev pub max_kept : ℕ
 max_kept = 1000000
+
+-- the most breakpoints that are set at once
+abbrev pub max_breaks : ℕ
+max_breaks = 32
+
+-- the most commands that a session logs
+abbrev pub max_log : ℕ
+max_log = 1000000
+
+-- the most clients over a session's life
+abbrev pub max_clients : ℕ
+max_clients = 64
+
+-- the most workers of a search; a greater number starts as many
+abbrev pub max_workers : ℕ
+max_workers = 64
+
+-- how many positions a piece of a search has
+abbrev pub piece_length : ℕ
+piece_length = 16
+
+-- the most bytes of a line, without its newline
+abbrev pub max_line : ℕ
+max_line = 65536
+
+-- the most bytes of a script
+abbrev pub max_input : ℕ
+max_input = 268435456

@@ -1,0 +1,41 @@
+//! What a command is answered.
+
+use crate::Fault;
+
+/// What a run stopped at.
+#[derive(Clone, Copy, Debug, Drop, PartialEq, Eq)]
+pub enum Stop {
+    /// It has made all its steps.
+    Limit,
+    /// No step is enabled that may be chosen.
+    Idle,
+    /// The breakpoint of this id holds.
+    Break(u8),
+}
+
+/// How many steps a run has made, and what it stopped at.
+#[derive(Clone, Copy, Debug, Drop, PartialEq, Eq)]
+pub struct Ran {
+    pub ran: u64,
+    pub stop: Stop,
+}
+
+/// What a command is answered.
+#[derive(Debug, Drop, PartialEq, Eq)]
+pub enum Reply {
+    /// The cursor has moved, and stands here among so many kept steps.
+    Moved { at: u64, kept: u64 },
+    /// A run has made so many steps and stopped.
+    Ran {
+        at: u64,
+        kept: u64,
+        ran: u64,
+        stop: Stop,
+    },
+    /// A breakpoint is set under this id.
+    Set { id: u8 },
+    /// A breakpoint is taken out.
+    Cleared,
+    /// The command is refused.
+    Refused(Fault),
+}
