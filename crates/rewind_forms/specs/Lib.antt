@@ -1,4 +1,9 @@
-pub mod Places
 pub mod Forms
+pub mod Places
+pub mod Steps
+pub mod Breaks
+pub mod Commands
+pub mod Queries
+pub mod Asked
 pub mod LineFaults
 pub mod Replies

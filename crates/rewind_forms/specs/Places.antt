@@ -1,10 +1,13 @@
 -- The places of a graph, by their names, and times there.
-use Rattle.std.specs.Prelude.{ℕ, ◌&&◌, Bool, true, false, List, [], ◌∷◌, length, nat_eq, nat_lt, if◌then◌else◌, slice_get, Option, Some, None, is_some, position, option_map, option_and_then}
+use Rattle.std.specs.Prelude.{ℕ, ◌&&◌, Bool, true, false, List, [], ◌∷◌, length, nat_eq, nat_lt, if◌then◌else◌, slice_get, Option, Some, None, is_some, position, option_map, option_and_then, Result, Ok}
 use Rattle.std.specs.Option.{option_map_or}
 use Rattle.std.specs.Str.{bytes_eq}
 use Rattle.nd_time.specs.Time.{Time}
 use Rattle.nd_graph.specs.Graph.{Dataflow, names, depths}
 use Rattle.nd_paths.specs.declared.point.Pointstamp.{Pointstamp}
+use Rattle.rewind_forms.specs.Forms.{given}
+use Rattle.rewind_forms.specs.declared.fault.LineFault.{LineFault}
+use Rattle.rewind_forms.specs.declared.fault.LineFault.TheVariants.{UnknownName, BadTime}
 
 -- the location of this name
 unfoldable pub location_named : Dataflow → List ℕ → Option ℕ
@@ -36,3 +39,10 @@ are_known g (p ∷ ps) = is_some (location_named g p.0) && are_known g ps
 -- the pointstamp of a location's name and a time's numbers
 unfoldable pub point_named : Dataflow → List ℕ × List ℕ → Option Pointstamp
 point_named g p = option_and_then (λ l. option_map (λ t. record { location = l; time = t }) (time_of g l p.1)) (location_named g p.0)
+
+-- the pointstamp of a time's numbers at the location that a name has been found to be that of
+unfoldable pub placed : Dataflow → Option ℕ → List ℕ → Result Pointstamp LineFault
+placed g found numbers =
+    given UnknownName found (λ l.
+    given BadTime (time_of g l numbers) (λ t.
+    Ok (record { location = l; time = t })))

@@ -5,7 +5,14 @@ use Rattle.nd_graph.specs.Graph.{Dataflow}
 use Rattle.nd_protocol.specs.Refusals.{number_of, name_of}
 use Rattle.nd_cluster.specs.StateText.{point_data}
 use Rattle.nd_protocol.specs.declared.refusal.Refusal.{Refusal}
-use Rattle.nd_protocol.specs.declared.refusal.Refusal.TheVariants.{NoProcessor, NotYet, NotAdmissible, Memory}
+use Rattle.nd_protocol.specs.declared.refusal.Refusal.TheVariants.{NoProcessor, NotYet, NotAdmissible}
+use Rattle.nd_timeline.specs.Faults.{number_of as number_of_fault, name_of as name_of_fault}
+use Rattle.nd_timeline.specs.declared.fault.Fault.{Fault}
+use Rattle.nd_timeline.specs.declared.fault.Fault.TheVariants.{Step, Memory}
+use Rattle.nd_timeline.specs.declared.reply.Stop.{Stop}
+use Rattle.nd_timeline.specs.declared.reply.Stop.TheVariants as end
+use Rattle.nd_timeline.specs.declared.reply.Reply.{Reply}
+use Rattle.nd_timeline.specs.declared.reply.Reply.TheVariants.{Moved, Ran, Set, Cleared, Refused}
 use Rattle.rewind_forms.specs.LineFaults.{number_of as number_of_line, name_of as name_of_line}
 use Rattle.rewind_forms.specs.declared.fault.LineFault.{LineFault}
 use Rattle.rewind_forms.specs.declared.fault.LineFault.TheVariants as line
@@ -29,28 +36,55 @@ abbrev pub moved : ℕ → ℕ → Data
 moved at kept = object (member (codes "at") (number (unsigned at))
     (member (codes "kept") (number (unsigned kept)) (member (codes "ok") (boolean true) no_members)))
 
--- {"at":n,"code":19,"error":"Memory"}
-abbrev pub out_of_memory : ℕ → Data
-out_of_memory at = object (member (codes "at") (number (unsigned at))
-    (member (codes "code") (number (unsigned 19)) (member (codes "error") (string (codes "Memory")) no_members)))
+-- what a run stopped at: "limit", "idle" or {"break":id}
+abbrev pub stop : Stop → Data
+stop end.Limit = string (codes "limit")
+stop end.Idle = string (codes "idle")
+stop (end.Break id) = object (member (codes "break") (number (unsigned id)) no_members)
+
+-- {"at":n,"kept":n,"ok":true,"ran":n,"stop":shown}
+abbrev pub ran : ℕ → ℕ → ℕ → Data → Data
+ran at kept made shown = object (member (codes "at") (number (unsigned at))
+    (member (codes "kept") (number (unsigned kept)) (member (codes "ok") (boolean true)
+    (member (codes "ran") (number (unsigned made)) (member (codes "stop") shown no_members)))))
+
+-- {"id":n,"ok":true}
+abbrev pub break_set : ℕ → Data
+break_set id = object (member (codes "id") (number (unsigned id)) (member (codes "ok") (boolean true) no_members))
+
+-- {"ok":true}
+abbrev pub done : Data
+done = object (member (codes "ok") (boolean true) no_members)
 
 -- {"code":n,"error":name,"point":point}
 abbrev pub point_fault : ℕ → List ℕ → Data → Data
 point_fault code name point = object (member (codes "code") (number (unsigned code))
     (member (codes "error") (string name) (member (codes "point") point no_members)))
 
--- a refusal, with what stands in the way, or at a cursor that is told for want of memory alone
-abbrev pub refused : Dataflow → Refusal → ℕ → Data
-refused g (NotYet blocker) at = point_fault (number_of (NotYet blocker)) (name_of (NotYet blocker)) (point_data g blocker)
-refused g (NotAdmissible point) at = point_fault (number_of (NotAdmissible point)) (name_of (NotAdmissible point)) (point_data g point)
-refused g Memory at = out_of_memory at
-refused g r at = fault (number_of r) (name_of r)
+-- a step that the cluster refused, with what stands in the way
+abbrev pub step_refused : Dataflow → Refusal → Data
+step_refused g (NotYet blocker) = point_fault (number_of (NotYet blocker)) (name_of (NotYet blocker)) (point_data g blocker)
+step_refused g (NotAdmissible point) = point_fault (number_of (NotAdmissible point)) (name_of (NotAdmissible point)) (point_data g point)
+step_refused g r = fault (number_of r) (name_of r)
 
-abbrev pub at_start : Data
-at_start = fault 20 (codes "AtStart")
+-- {"at":n,"code":n,"error":name}
+abbrev pub fault_at : ℕ → List ℕ → ℕ → Data
+fault_at code name at = object (member (codes "at") (number (unsigned at))
+    (member (codes "code") (number (unsigned code)) (member (codes "error") (string name) no_members)))
 
-abbrev pub timeline_full : Data
-timeline_full = fault 23 (codes "TimelineFull")
+-- a command that was refused, with the cursor for want of memory alone
+abbrev pub refused : Dataflow → Fault → Data
+refused g (Step r) = step_refused g r
+refused g (Memory at) = fault_at (number_of_fault (Memory at)) (name_of_fault (Memory at)) at
+refused g f = fault (number_of_fault f) (name_of_fault f)
+
+-- the reply to a command
+abbrev pub reply_data : Dataflow → Reply → Data
+reply_data g (Moved at kept) = moved at kept
+reply_data g (Ran at kept made at_end) = ran at kept made (stop at_end)
+reply_data g (Set id) = break_set id
+reply_data g Cleared = done
+reply_data g (Refused f) = refused g f
 
 -- {"code":n,"error":name,"line":n}
 abbrev pub faulty : ℕ → List ℕ → ℕ → Data

@@ -1,12 +1,18 @@
 //! What the lines of a script ask for, and the replies to them, as JSON values.
 #![tactic(auto)]
 
-mod command;
+mod asked;
+mod breaks;
+mod commands;
 mod fault;
+mod forms;
 mod numbers;
 mod places;
 mod points;
+mod queries;
 pub mod replies;
+mod steps;
 
-pub use command::{Command, command_of};
+pub use asked::{Asked, asked_of};
 pub use fault::LineFault;
+pub use queries::Query;

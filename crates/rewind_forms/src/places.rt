@@ -1,9 +1,11 @@
 //! The places of a graph, by their names, and times there.
 ghost use Rattle.std.specs.Prelude.{◌≡◌, ◌<◌, IfSome};
 ghost use Rattle.nd_graph.specs.Graph.{location_count as count_of};
-ghost use Rattle.rewind_forms.specs.Places.{vertex_named as vertex_in, edge_named as edge_in, location_named as location_in, time_of as time_in};
+ghost use Rattle.rewind_forms.specs.Places.{vertex_named as vertex_in, edge_named as edge_in, location_named as location_in, time_of as time_in, placed as placed_in};
 
+use crate::LineFault;
 use nd_graph::Graph;
+use nd_paths::Pointstamp;
 use nd_time::Timestamp;
 
 /// The location of this name.
@@ -54,4 +56,19 @@ pub fn time_of(graph: &Graph, location: usize, numbers: &[u32]) -> Option<Timest
         return None;
     }
     Timestamp::new(*epoch, counters)
+}
+
+/// The pointstamp of a time's numbers at the location that a name has been found to be that of.
+#[tactic(auto, unfolding(crate::specs::Places::placed))]
+pub fn placed(
+    graph: &Graph,
+    found: Option<usize>,
+    numbers: &[u32],
+) -> Result<Pointstamp, LineFault>
+    requires { IfSome found (λ l. l < count_of graph.now) }
+    ensures { result ≡ placed_in graph.now found numbers.now }
+{
+    let location = found.ok_or(LineFault::UnknownName)?;
+    let time = time_of(graph, location, numbers).ok_or(LineFault::BadTime)?;
+    Ok(Pointstamp { location, time })
 }

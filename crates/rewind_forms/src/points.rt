@@ -1,13 +1,13 @@
 //! Pointstamps among JSON values: by their names and numbers first, and then by their places and times.
 ghost use Rattle.std.specs.Prelude.{◌≡◌, map, option_map, IfOk};
 ghost use Rattle.serde_json.specs.View.{view};
-ghost use Rattle.rewind_forms.specs.Forms.{each, named_time as named_time_in, point_of as point_in, point_at as point_at_in, listed_point as listed_in, points_at as points_in};
+ghost use Rattle.rewind_forms.specs.Forms.{each, named_time as named_time_in, point_of as point_in, point_at as point_at_in, listed_point as listed_in, points_at as points_in, named_at as named_at_in};
 ghost use Rattle.rewind_forms.specs.Places.{are_known as known_in, point_named as named_in};
 
-use crate::numbers::numbers_of;
+use crate::numbers::{numbers_at, numbers_of};
 use crate::places::{location_named, time_of};
 use nd_graph::Graph;
-use nd_json::{list, list_at, text};
+use nd_json::{list, list_at, text, text_at};
 use nd_paths::Pointstamp;
 use nd_protocol::Points;
 use serde_json::Value;
@@ -36,6 +36,24 @@ fn named_time<'v>(
         return Ok(None);
     };
     match numbers_of(alloc, items)? {
+        Some(numbers) => Ok(Some(NamedTime { name, numbers })),
+        None => Ok(None),
+    }
+}
+
+/// The name at the key, and the numbers of the time beside it.
+#[tactic(auto, unfolding(crate::specs::Forms::named_at))]
+pub fn named_at<'v>(
+    alloc: Global,
+    value: &'v Value,
+    key: &str,
+) -> Result<Option<NamedTime<'v>>, AllocError>
+    ensures { IfOk result (λ o. option_map (λ n. (n.name.now, n.numbers.items)) o ≡ named_at_in key.now (view value.now)) }
+{
+    let Some(name) = text_at(value, key) else {
+        return Ok(None);
+    };
+    match numbers_at(alloc, value, "time")? {
         Some(numbers) => Ok(Some(NamedTime { name, numbers })),
         None => Ok(None),
     }

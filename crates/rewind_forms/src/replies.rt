@@ -2,14 +2,15 @@
 ghost use Rattle.std.specs.Prelude.{◌≡◌, false, Some, IfOk};
 ghost use Rattle.serde_json.specs.View.{view};
 ghost use Rattle.serde_json.specs.Written.{has_float};
-ghost use Rattle.rewind_forms.specs.Replies.{fault as fault_data, location_fault as location_fault_data, graph as graph_data, moved as moved_data};
-ghost use Rattle.rewind_forms.specs.Replies.{point_fault as point_fault_data, refused as refused_data, out_of_memory as out_of_memory_data, before as before_data, at_start as at_start_data, timeline_full as timeline_full_data, faulty as faulty_data, line_fault as line_fault_data, count as count_data, state as state_data};
+ghost use Rattle.rewind_forms.specs.Replies.{fault as fault_data, location_fault as location_fault_data, graph as graph_data, moved as moved_data, ran as ran_data, stop as stop_data, reply_data};
+ghost use Rattle.rewind_forms.specs.Replies.{point_fault as point_fault_data, fault_at as fault_at_data, step_refused as step_refused_data, refused as refused_data, before as before_data, faulty as faulty_data, line_fault as line_fault_data, count as count_data, state as state_data};
 ghost use Rattle.rewind_forms.specs.Replies.{known as known_data, frontier as frontier_data, passed as passed_data, not_passed as not_passed_data, no_processor as no_processor_data};
 
 use crate::LineFault;
 use nd_cluster::point_value;
 use nd_graph::Graph;
 use nd_protocol::Refusal;
+use nd_timeline::{Reply, Stop};
 use serde_json::{Value, json};
 use std::alloc::{AllocError, Allocator, Global};
 
@@ -42,12 +43,34 @@ pub fn graph(alloc: Global, locations: u64, processors: u64) -> Result<Value, Al
     json!(in alloc; {"locations": locations, "ok": true, "processors": processors})
 }
 
-/// The reply to a command that was carried out: the cursor, and the number of kept steps.
-pub fn moved(alloc: Global, at: u64, kept: u64) -> Result<Value, AllocError>
+// The reply to a command that moved the cursor: where it stands, and the number of kept steps.
+fn moved(alloc: Global, at: u64, kept: u64) -> Result<Value, AllocError>
     ensures reply { IfOk result (λ v. view v ≡ moved_data at kept) }
     ensures text { IfOk result (λ v. has_float (view v) ≡ false) }
 {
     json!(in alloc; {"at": at, "kept": kept, "ok": true})
+}
+
+// What a run stopped at.
+fn stop(alloc: Global, stop: Stop) -> Result<Value, AllocError>
+    ensures reply { IfOk result (λ v. view v ≡ stop_data stop) }
+    ensures text { IfOk result (λ v. has_float (view v) ≡ false) }
+{
+    match stop {
+        Stop::Limit => json!(in alloc; "limit"),
+        Stop::Idle => json!(in alloc; "idle"),
+        Stop::Break(id) => json!(in alloc; {"break": u64::from(id)}),
+    }
+}
+
+// The reply to a run: the cursor, the number of kept steps, the number of those that it made, and
+// what it stopped at.
+fn ran(alloc: Global, at: u64, kept: u64, ran: u64, shown: Value) -> Result<Value, AllocError>
+    requires { has_float (view shown) ≡ false }
+    ensures reply { IfOk result (λ v. view v ≡ ran_data at kept ran (view shown)) }
+    ensures text { IfOk result (λ v. has_float (view v) ≡ false) }
+{
+    json!(in alloc; {"at": at, "kept": kept, "ok": true, "ran": ran, "stop": shown})
 }
 
 // The reply to a step that a pointstamp stands in the way of.
@@ -59,14 +82,13 @@ fn point_fault(alloc: Global, number: u64, name: &str, point: Value) -> Result<V
     json!(in alloc; {"code": number, "error": name, "point": point})
 }
 
-/// The reply to a step that was refused at a cursor.
-pub fn refused<A: Allocator>(
+// The reply to a step that the cluster refused.
+fn step_refused<A: Allocator>(
     alloc: Global,
     graph: &Graph<A>,
     refusal: &Refusal,
-    at: u64,
 ) -> Result<Value, AllocError>
-    ensures reply { IfOk result (λ v. view v ≡ refused_data graph.now refusal.now at) }
+    ensures reply { IfOk result (λ v. view v ≡ step_refused_data graph.now refusal.now) }
     ensures text { IfOk result (λ v. has_float (view v) ≡ false) }
 {
     match refusal {
@@ -74,33 +96,58 @@ pub fn refused<A: Allocator>(
             let shown = point_value(alloc, graph, point)?;
             point_fault(alloc, refusal.number(), refusal.name(), shown)
         }
-        Refusal::Memory => out_of_memory(alloc, at),
         other => fault(alloc, other.number(), other.name()),
     }
 }
 
-/// The reply to a command for which there was no memory, which left the cursor there.
-pub fn out_of_memory(alloc: Global, at: u64) -> Result<Value, AllocError>
-    ensures reply { IfOk result (λ v. view v ≡ out_of_memory_data at) }
+// A fault's number and name, and the cursor.
+fn fault_at(alloc: Global, number: u64, name: &str, at: u64) -> Result<Value, AllocError>
+    ensures reply { IfOk result (λ v. view v ≡ fault_at_data number name.now at) }
     ensures text { IfOk result (λ v. has_float (view v) ≡ false) }
 {
-    json!(in alloc; {"at": at, "code": 19u64, "error": "Memory"})
+    json!(in alloc; {"at": at, "code": number, "error": name})
 }
 
-/// The reply to a step back where nothing is kept before the cursor.
-pub fn at_start(alloc: Global) -> Result<Value, AllocError>
-    ensures reply { IfOk result (λ v. view v ≡ at_start_data) }
+// The reply to a command that was refused.
+fn refused<A: Allocator>(
+    alloc: Global,
+    graph: &Graph<A>,
+    refusal: &nd_timeline::Fault,
+) -> Result<Value, AllocError>
+    ensures reply { IfOk result (λ v. view v ≡ refused_data graph.now refusal.now) }
     ensures text { IfOk result (λ v. has_float (view v) ≡ false) }
 {
-    fault(alloc, 20, "AtStart")
+    match refusal {
+        nd_timeline::Fault::Step(step) => step_refused(alloc, graph, step),
+        nd_timeline::Fault::Memory { at } => fault_at(alloc, refusal.number(), refusal.name(), *at),
+        other => fault(alloc, other.number(), other.name()),
+    }
 }
 
-/// The reply to a step where as many are kept as may be.
-pub fn timeline_full(alloc: Global) -> Result<Value, AllocError>
-    ensures reply { IfOk result (λ v. view v ≡ timeline_full_data) }
+/// The reply to a command, with the names of the graph.
+pub fn command_reply<A: Allocator>(
+    alloc: Global,
+    graph: &Graph<A>,
+    reply: &Reply,
+) -> Result<Value, AllocError>
+    ensures reply { IfOk result (λ v. view v ≡ reply_data graph.now reply.now) }
     ensures text { IfOk result (λ v. has_float (view v) ≡ false) }
 {
-    fault(alloc, 23, "TimelineFull")
+    match reply {
+        Reply::Moved { at, kept } => moved(alloc, *at, *kept),
+        Reply::Ran {
+            at,
+            kept,
+            ran: made,
+            stop: end,
+        } => {
+            let shown = stop(alloc, *end)?;
+            ran(alloc, *at, *kept, *made, shown)
+        }
+        Reply::Set { id } => json!(in alloc; {"id": u64::from(*id), "ok": true}),
+        Reply::Cleared => json!(in alloc; {"ok": true}),
+        Reply::Refused(refusal) => refused(alloc, graph, refusal),
+    }
 }
 
 // A fault of the line of this number.

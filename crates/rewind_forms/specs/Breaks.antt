@@ -1,0 +1,53 @@
+-- The breakpoint that a line sets: the shapes of its values, then the name, then the time.
+use Rattle.std.specs.Prelude.{[], ◌∷◌, codes, Result, Ok, Err}
+use Rattle.serde_json.specs.Data.{Data}
+use Rattle.nd_json.specs.Forms.{text_at, small_at, whole_at, integer_at}
+use Rattle.nd_graph.specs.Graph.{Dataflow}
+use Rattle.nd_watch.specs.declared.watch.Break.{Break}
+use Rattle.nd_watch.specs.declared.watch.Break.TheVariants.{Passed, Count, Queue, Sink}
+use Rattle.rewind_forms.specs.Forms.{given, after, within, inner, named_at}
+use Rattle.rewind_forms.specs.Places.{vertex_named, location_named, placed}
+use Rattle.rewind_forms.specs.declared.fault.LineFault.{LineFault}
+use Rattle.rewind_forms.specs.declared.fault.LineFault.TheVariants.{BadShape, UnknownName}
+
+-- {"at":name,"q":n,"time":t}
+unfoldable pub passed_of : Dataflow → Data → Result Break LineFault
+passed_of g d =
+    given BadShape (small_at (codes "q") d) (λ q.
+    given BadShape (named_at (codes "at") d) (λ named.
+    after (placed g (location_named g named.0) named.1) (λ point.
+    Ok (Passed q point))))
+
+-- {"at":name,"at_least":n,"time":t}
+unfoldable pub count_of : Dataflow → Data → Result Break LineFault
+count_of g d =
+    given BadShape (whole_at (codes "at_least") d) (λ at_least.
+    given BadShape (named_at (codes "at") d) (λ named.
+    after (placed g (location_named g named.0) named.1) (λ point.
+    Ok (Count point at_least))))
+
+-- {"at_least":n,"from":n,"to":n}
+unfoldable pub queue_of : Data → Result Break LineFault
+queue_of d =
+    given BadShape (whole_at (codes "at_least") d) (λ at_least.
+    given BadShape (small_at (codes "from") d) (λ from.
+    given BadShape (small_at (codes "to") d) (λ to.
+    Ok (Queue from to at_least))))
+
+-- {"at_least":n,"value":v,"vertex":name}
+unfoldable pub sink_of : Dataflow → Data → Result Break LineFault
+sink_of g d =
+    given BadShape (whole_at (codes "at_least") d) (λ at_least.
+    given BadShape (integer_at (codes "value") d) (λ value.
+    given BadShape (text_at (codes "vertex") d) (λ name.
+    given UnknownName (vertex_named g name) (λ vertex.
+    Ok (Sink vertex value at_least)))))
+
+-- the breakpoint under the key of its kind, which is the only one
+unfoldable pub break_of : Dataflow → Data → Result Break LineFault
+break_of g d =
+    within (inner (codes "passed") (codes "at" ∷ codes "q" ∷ codes "time" ∷ []) d) (passed_of g)
+    (within (inner (codes "count") (codes "at" ∷ codes "at_least" ∷ codes "time" ∷ []) d) (count_of g)
+    (within (inner (codes "queue") (codes "at_least" ∷ codes "from" ∷ codes "to" ∷ []) d) queue_of
+    (within (inner (codes "sink") (codes "at_least" ∷ codes "value" ∷ codes "vertex" ∷ []) d) (sink_of g)
+    (Err BadShape))))

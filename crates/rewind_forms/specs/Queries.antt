@@ -1,0 +1,52 @@
+-- The query that a line is: the shapes of its values, then the names, then the times.
+use Rattle.std.specs.Prelude.{[], ◌∷◌, if◌then◌else◌, Option, Some, None, codes, Result, Ok, Err}
+use Rattle.serde_json.specs.Data.{Data}
+use Rattle.nd_json.specs.Forms.{small_at}
+use Rattle.nd_graph.specs.Graph.{Dataflow}
+use Rattle.rewind_forms.specs.Forms.{given, after, among, point_at, named_at, is_form}
+use Rattle.rewind_forms.specs.Places.{location_named, time_of, placed}
+use Rattle.rewind_forms.specs.declared.fault.LineFault.{LineFault}
+use Rattle.rewind_forms.specs.declared.fault.LineFault.TheVariants.{BadShape, UnknownName, BadTime}
+use Rattle.rewind_forms.specs.declared.queries.Query.{Query}
+use Rattle.rewind_forms.specs.declared.queries.Query.TheVariants.{State, Count, Before, View, Frontier, Passed}
+
+unfoldable pub count_of : Dataflow → Data → Result Query LineFault
+count_of g d =
+    given BadShape (named_at (codes "at") d) (λ named.
+    after (placed g (location_named g named.0) named.1) (λ point.
+    Ok (Count point)))
+
+-- both names are looked up before both times
+unfoldable pub before_of : Dataflow → Data → Result Query LineFault
+before_of g d =
+    given BadShape (point_at (codes "from") d) (λ from.
+    given BadShape (point_at (codes "to") d) (λ to.
+    given UnknownName (location_named g from.0) (λ l.
+    given UnknownName (location_named g to.0) (λ m.
+    given BadTime (time_of g l from.1) (λ s.
+    given BadTime (time_of g m to.1) (λ t.
+    Ok (Before (record { location = l; time = s }) (record { location = m; time = t }))))))))
+
+unfoldable pub view_of : Data → Result Query LineFault
+view_of d = given BadShape (small_at (codes "q") d) (λ q. Ok (View q))
+
+unfoldable pub frontier_of : Data → Result Query LineFault
+frontier_of d = given BadShape (small_at (codes "q") d) (λ q. Ok (Frontier q))
+
+unfoldable pub passed_of : Dataflow → Data → Result Query LineFault
+passed_of g d =
+    given BadShape (small_at (codes "q") d) (λ q.
+    given BadShape (named_at (codes "at") d) (λ named.
+    after (placed g (location_named g named.0) named.1) (λ point.
+    Ok (Passed q point))))
+
+-- the query; nothing where the line has not the form of one
+unfoldable pub query_of : Dataflow → Data → Result (Option Query) LineFault
+query_of g d =
+    if is_form (codes "state") (codes "do" ∷ []) d then Ok (Some State)
+    else (if is_form (codes "count") (codes "at" ∷ codes "do" ∷ codes "time" ∷ []) d then among (count_of g d)
+    else (if is_form (codes "before") (codes "do" ∷ codes "from" ∷ codes "to" ∷ []) d then among (before_of g d)
+    else (if is_form (codes "view") (codes "do" ∷ codes "q" ∷ []) d then among (view_of d)
+    else (if is_form (codes "frontier") (codes "do" ∷ codes "q" ∷ []) d then among (frontier_of d)
+    else (if is_form (codes "passed") (codes "at" ∷ codes "do" ∷ codes "q" ∷ codes "time" ∷ []) d then among (passed_of g d)
+    else Ok None)))))

@@ -1,0 +1,42 @@
+//! What a line's JSON value asks for.
+ghost use Rattle.std.specs.Prelude.{◌≡◌, ◌≢◌, Ok, Err, IfOk, IfErr};
+ghost use Rattle.serde_json.specs.View.{view};
+ghost use Rattle.rewind_forms.specs.Asked.{asked_of as asked_in};
+
+use crate::commands::command_of;
+use crate::queries::query_of;
+use crate::steps::step_of;
+use crate::{LineFault, Query};
+use nd_graph::Graph;
+use nd_timeline::Command;
+use serde_json::Value;
+use std::alloc::Global;
+
+/// What a line asks for.
+#[derive(Drop)]
+pub enum Asked {
+    /// To do something.
+    Do(Command),
+    /// To be told something.
+    Tell(Query),
+}
+
+/// What the value asks for, against the graph.
+///
+/// `Memory` comes only where there was no memory for a list of the line.
+#[tactic(auto, unfolding(crate::specs::Asked::asked_of))]
+pub fn asked_of(alloc: Global, graph: &Graph, value: &Value) -> Result<Asked, LineFault>
+    ensures ok { IfOk result (λ c. asked_in graph.now (view value.now) ≡ Ok c) }
+    ensures err { IfErr result (λ e. e ≢ LineFault.Memory → asked_in graph.now (view value.now) ≡ Err e) }
+{
+    if let Some(step) = step_of(alloc, graph, value)? {
+        return Ok(Asked::Do(Command::Forward(step)));
+    }
+    if let Some(command) = command_of(alloc, graph, value)? {
+        return Ok(Asked::Do(command));
+    }
+    match query_of(alloc, graph, value)? {
+        Some(query) => Ok(Asked::Tell(query)),
+        None => Err(LineFault::BadShape),
+    }
+}

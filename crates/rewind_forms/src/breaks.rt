@@ -1,0 +1,82 @@
+//! The breakpoint that a line sets.
+ghost use Rattle.std.specs.Prelude.{◌≡◌, ◌≢◌, Ok, Err, IfOk, IfErr};
+ghost use Rattle.serde_json.specs.View.{view};
+ghost use Rattle.rewind_forms.specs.Breaks.{passed_of as passed_in, count_of as count_in, queue_of as queue_in, sink_of as sink_in, break_of as break_in};
+
+use crate::LineFault;
+use crate::forms::inner;
+use crate::places::{location_named, placed, vertex_named};
+use crate::points::named_at;
+use nd_graph::Graph;
+use nd_json::{integer_at, small_at, text_at, whole_at};
+use nd_watch::Break;
+use serde_json::Value;
+use std::alloc::Global;
+
+#[tactic(auto, unfolding(crate::specs::Breaks::passed_of))]
+fn passed_of(alloc: Global, graph: &Graph, value: &Value) -> Result<Break, LineFault>
+    ensures ok { IfOk result (λ c. passed_in graph.now (view value.now) ≡ Ok c) }
+    ensures err { IfErr result (λ e. e ≢ LineFault.Memory → passed_in graph.now (view value.now) ≡ Err e) }
+{
+    let q = small_at(value, "q").ok_or(LineFault::BadShape)?;
+    let named = named_at(alloc, value, "at")?.ok_or(LineFault::BadShape)?;
+    let location = location_named(graph, named.name);
+    let point = placed(graph, location, named.numbers.as_slice())?;
+    Ok(Break::Passed { q, point })
+}
+
+#[tactic(auto, unfolding(crate::specs::Breaks::count_of))]
+fn count_of(alloc: Global, graph: &Graph, value: &Value) -> Result<Break, LineFault>
+    ensures ok { IfOk result (λ c. count_in graph.now (view value.now) ≡ Ok c) }
+    ensures err { IfErr result (λ e. e ≢ LineFault.Memory → count_in graph.now (view value.now) ≡ Err e) }
+{
+    let at_least = whole_at(value, "at_least").ok_or(LineFault::BadShape)?;
+    let named = named_at(alloc, value, "at")?.ok_or(LineFault::BadShape)?;
+    let location = location_named(graph, named.name);
+    let point = placed(graph, location, named.numbers.as_slice())?;
+    Ok(Break::Count { point, at_least })
+}
+
+#[tactic(auto, unfolding(crate::specs::Breaks::queue_of))]
+fn queue_of(value: &Value) -> Result<Break, LineFault>
+    ensures { result ≡ queue_in (view value.now) }
+{
+    let at_least = whole_at(value, "at_least").ok_or(LineFault::BadShape)?;
+    let from = small_at(value, "from").ok_or(LineFault::BadShape)?;
+    let to = small_at(value, "to").ok_or(LineFault::BadShape)?;
+    Ok(Break::Queue { from, to, at_least })
+}
+
+#[tactic(auto, unfolding(crate::specs::Breaks::sink_of))]
+fn sink_of(graph: &Graph, value: &Value) -> Result<Break, LineFault>
+    ensures { result ≡ sink_in graph.now (view value.now) }
+{
+    let at_least = whole_at(value, "at_least").ok_or(LineFault::BadShape)?;
+    let number = integer_at(value, "value").ok_or(LineFault::BadShape)?;
+    let name = text_at(value, "vertex").ok_or(LineFault::BadShape)?;
+    let vertex = vertex_named(graph, name).ok_or(LineFault::UnknownName)?;
+    Ok(Break::Sink {
+        vertex,
+        value: number,
+        at_least,
+    })
+}
+
+/// The breakpoint that the value is, against the graph.
+#[tactic(auto, unfolding(crate::specs::Breaks::break_of))]
+pub fn break_of(alloc: Global, graph: &Graph, value: &Value) -> Result<Break, LineFault>
+    ensures ok { IfOk result (λ c. break_in graph.now (view value.now) ≡ Ok c) }
+    ensures err { IfErr result (λ e. e ≢ LineFault.Memory → break_in graph.now (view value.now) ≡ Err e) }
+{
+    if let Some(shown) = inner(value, "passed", &["at", "q", "time"]) {
+        passed_of(alloc, graph, shown)
+    } else if let Some(shown) = inner(value, "count", &["at", "at_least", "time"]) {
+        count_of(alloc, graph, shown)
+    } else if let Some(shown) = inner(value, "queue", &["at_least", "from", "to"]) {
+        queue_of(shown)
+    } else if let Some(shown) = inner(value, "sink", &["at_least", "value", "vertex"]) {
+        sink_of(graph, shown)
+    } else {
+        Err(LineFault::BadShape)
+    }
+}

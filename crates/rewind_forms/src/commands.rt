@@ -1,0 +1,75 @@
+//! The command other than a step that a line asks for.
+ghost use Rattle.std.specs.Prelude.{◌≡◌, ◌≢◌, Ok, Err, IfOk, IfErr};
+ghost use Rattle.serde_json.specs.View.{view};
+ghost use Rattle.rewind_forms.specs.Commands.{jump_of as jump_in, run_of as run_in, set_of as set_in, clear_of as clear_in, command_of as command_in};
+
+use crate::LineFault;
+use crate::breaks::break_of;
+use crate::forms::is_form;
+use nd_graph::Graph;
+use nd_json::whole_at;
+use nd_timeline::Command;
+use serde_json::Value;
+use std::alloc::Global;
+
+#[tactic(auto, unfolding(crate::specs::Commands::jump_of))]
+fn jump_of(value: &Value) -> Result<Command, LineFault>
+    ensures { result ≡ jump_in (view value.now) }
+{
+    let to = whole_at(value, "to").ok_or(LineFault::BadShape)?;
+    Ok(Command::Jump(to))
+}
+
+#[tactic(auto, unfolding(crate::specs::Commands::run_of))]
+fn run_of(value: &Value) -> Result<Command, LineFault>
+    ensures { result ≡ run_in (view value.now) }
+{
+    let limit = whole_at(value, "limit").ok_or(LineFault::BadShape)?;
+    Ok(Command::Run(limit))
+}
+
+#[tactic(auto, unfolding(crate::specs::Commands::set_of))]
+fn set_of(alloc: Global, graph: &Graph, value: &Value) -> Result<Command, LineFault>
+    ensures ok { IfOk result (λ c. set_in graph.now (view value.now) ≡ Ok c) }
+    ensures err { IfErr result (λ e. e ≢ LineFault.Memory → set_in graph.now (view value.now) ≡ Err e) }
+{
+    let when = value.get("when").ok_or(LineFault::BadShape)?;
+    let condition = break_of(alloc, graph, when)?;
+    Ok(Command::SetBreak(condition))
+}
+
+#[tactic(auto, unfolding(crate::specs::Commands::clear_of))]
+fn clear_of(value: &Value) -> Result<Command, LineFault>
+    ensures { result ≡ clear_in (view value.now) }
+{
+    let id = whole_at(value, "id").ok_or(LineFault::BadShape)?;
+    Ok(Command::ClearBreak(id))
+}
+
+/// The command other than a step that the value asks for, against the graph; `None` where it has
+/// not the form of one.
+#[tactic(auto, unfolding(crate::specs::Commands::command_of))]
+pub fn command_of(
+    alloc: Global,
+    graph: &Graph,
+    value: &Value,
+) -> Result<Option<Command>, LineFault>
+    ensures ok { IfOk result (λ c. command_in graph.now (view value.now) ≡ Ok c) }
+    ensures err { IfErr result (λ e. e ≢ LineFault.Memory → command_in graph.now (view value.now) ≡ Err e) }
+{
+    if is_form(value, "back", &["do"]) {
+        Ok(Some(Command::Back))
+    } else if is_form(value, "redo", &["do"]) {
+        Ok(Some(Command::Redo))
+    } else if is_form(value, "jump", &["do", "to"]) {
+        Ok(Some(jump_of(value)?))
+    } else if is_form(value, "run", &["do", "limit"]) {
+        Ok(Some(run_of(value)?))
+    } else if is_form(value, "break", &["do", "when"]) {
+        Ok(Some(set_of(alloc, graph, value)?))
+    } else if is_form(value, "unbreak", &["do", "id"]) {
+        Ok(Some(clear_of(value)?))
+    } else {
+        Ok(None)
+    }
+}

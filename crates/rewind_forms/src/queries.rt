@@ -1,0 +1,116 @@
+//! Queries: what a line asks to be told.
+ghost use Rattle.std.specs.Prelude.{◌≡◌, ◌≢◌, Ok, Err, IfOk, IfErr};
+ghost use Rattle.serde_json.specs.View.{view};
+ghost use Rattle.rewind_forms.specs.Queries.{count_of as count_in, before_of as before_in, view_of as view_in, frontier_of as frontier_in, passed_of as passed_in, query_of as query_in};
+
+use crate::LineFault;
+use crate::forms::is_form;
+use crate::places::{location_named, placed, time_of};
+use crate::points::{named_at, point_at};
+use nd_graph::Graph;
+use nd_json::small_at;
+use nd_paths::Pointstamp;
+use serde_json::Value;
+use std::alloc::Global;
+
+/// What is to be told, and changes nothing.
+#[derive(Drop)]
+pub enum Query {
+    /// The whole state.
+    State,
+    /// The true count of a pointstamp.
+    Count(Pointstamp),
+    /// Whether the first pointstamp could result in the second.
+    Before(Pointstamp, Pointstamp),
+    /// The view of a processor.
+    View(u32),
+    /// The frontier of a processor's view.
+    Frontier(u32),
+    /// Whether a processor's view has passed a pointstamp.
+    Passed(u32, Pointstamp),
+}
+
+#[tactic(auto, unfolding(crate::specs::Queries::count_of))]
+fn count_of(alloc: Global, graph: &Graph, value: &Value) -> Result<Query, LineFault>
+    ensures ok { IfOk result (λ c. count_in graph.now (view value.now) ≡ Ok c) }
+    ensures err { IfErr result (λ e. e ≢ LineFault.Memory → count_in graph.now (view value.now) ≡ Err e) }
+{
+    let named = named_at(alloc, value, "at")?.ok_or(LineFault::BadShape)?;
+    let location = location_named(graph, named.name);
+    let point = placed(graph, location, named.numbers.as_slice())?;
+    Ok(Query::Count(point))
+}
+
+#[tactic(auto, unfolding(crate::specs::Queries::before_of))]
+fn before_of(alloc: Global, graph: &Graph, value: &Value) -> Result<Query, LineFault>
+    ensures ok { IfOk result (λ c. before_in graph.now (view value.now) ≡ Ok c) }
+    ensures err { IfErr result (λ e. e ≢ LineFault.Memory → before_in graph.now (view value.now) ≡ Err e) }
+{
+    let from = point_at(alloc, value, "from")?.ok_or(LineFault::BadShape)?;
+    let to = point_at(alloc, value, "to")?.ok_or(LineFault::BadShape)?;
+    let first = location_named(graph, from.name).ok_or(LineFault::UnknownName)?;
+    let second = location_named(graph, to.name).ok_or(LineFault::UnknownName)?;
+    let earlier = time_of(graph, first, from.numbers.as_slice()).ok_or(LineFault::BadTime)?;
+    let later = time_of(graph, second, to.numbers.as_slice()).ok_or(LineFault::BadTime)?;
+    Ok(Query::Before(
+        Pointstamp {
+            location: first,
+            time: earlier,
+        },
+        Pointstamp {
+            location: second,
+            time: later,
+        },
+    ))
+}
+
+#[tactic(auto, unfolding(crate::specs::Queries::view_of))]
+fn view_of(value: &Value) -> Result<Query, LineFault>
+    ensures { result ≡ view_in (view value.now) }
+{
+    let q = small_at(value, "q").ok_or(LineFault::BadShape)?;
+    Ok(Query::View(q))
+}
+
+#[tactic(auto, unfolding(crate::specs::Queries::frontier_of))]
+fn frontier_of(value: &Value) -> Result<Query, LineFault>
+    ensures { result ≡ frontier_in (view value.now) }
+{
+    let q = small_at(value, "q").ok_or(LineFault::BadShape)?;
+    Ok(Query::Frontier(q))
+}
+
+#[tactic(auto, unfolding(crate::specs::Queries::passed_of))]
+fn passed_of(alloc: Global, graph: &Graph, value: &Value) -> Result<Query, LineFault>
+    ensures ok { IfOk result (λ c. passed_in graph.now (view value.now) ≡ Ok c) }
+    ensures err { IfErr result (λ e. e ≢ LineFault.Memory → passed_in graph.now (view value.now) ≡ Err e) }
+{
+    let q = small_at(value, "q").ok_or(LineFault::BadShape)?;
+    let named = named_at(alloc, value, "at")?.ok_or(LineFault::BadShape)?;
+    let location = location_named(graph, named.name);
+    let point = placed(graph, location, named.numbers.as_slice())?;
+    Ok(Query::Passed(q, point))
+}
+
+/// The query that the value is, against the graph; `None` where it has not the form of one.
+#[tactic(auto, unfolding(crate::specs::Queries::query_of))]
+pub fn query_of(alloc: Global, graph: &Graph, value: &Value) -> Result<Option<Query>, LineFault>
+    ensures ok { IfOk result (λ c. query_in graph.now (view value.now) ≡ Ok c) }
+    ensures err { IfErr result (λ e. e ≢ LineFault.Memory → query_in graph.now (view value.now) ≡ Err e) }
+{
+    if is_form(value, "state", &["do"]) {
+        Ok(Some(Query::State))
+    } else if is_form(value, "count", &["at", "do", "time"]) {
+        Ok(Some(count_of(alloc, graph, value)?))
+    } else if is_form(value, "before", &["do", "from", "to"]) {
+        Ok(Some(before_of(alloc, graph, value)?))
+    } else if is_form(value, "view", &["do", "q"]) {
+        Ok(Some(view_of(value)?))
+    } else if is_form(value, "frontier", &["do", "q"]) {
+        Ok(Some(frontier_of(value)?))
+    } else if is_form(value, "passed", &["at", "do", "q", "time"]) {
+        Ok(Some(passed_of(alloc, graph, value)?))
+    } else {
+        Ok(None)
+    }
+}

@@ -1,0 +1,142 @@
+//! The step that a line asks for.
+ghost use Rattle.std.specs.Prelude.{◌≡◌, ◌≢◌, Ok, Err, IfOk, IfErr};
+ghost use Rattle.serde_json.specs.View.{view};
+ghost use Rattle.rewind_forms.specs.Steps.{feed_of as feed_in, take_of as take_in, notice_of as notice_in, broadcast_of as broadcast_in, part_of as part_in, receive_of as receive_in, next_at as next_in, step_of as step_in};
+
+use crate::LineFault;
+use crate::forms::is_form;
+use crate::numbers::values_at;
+use crate::places::{edge_named, placed, vertex_named};
+use crate::points::{are_known, named_at, points_at, points_named};
+use nd_graph::Graph;
+use nd_json::{has_text, integer_at, small_at, text_at};
+use nd_protocol::{Next, Part, Step};
+use serde_json::Value;
+use std::alloc::Global;
+
+// What becomes of the token after a feed.
+#[tactic(auto, unfolding(crate::specs::Steps::next_at))]
+fn next_at(value: &Value) -> Option<Next>
+    ensures { result ≡ next_in (view value.now) }
+{
+    if has_text(value, "next", "next") {
+        Some(Next::Next)
+    } else if has_text(value, "next", "close") {
+        Some(Next::Close)
+    } else if has_text(value, "next", "stay") {
+        Some(Next::Stay)
+    } else {
+        None
+    }
+}
+
+#[tactic(auto, unfolding(crate::specs::Steps::feed_of))]
+fn feed_of(alloc: Global, graph: &Graph, value: &Value) -> Result<Step, LineFault>
+    ensures ok { IfOk result (λ c. feed_in graph.now (view value.now) ≡ Ok c) }
+    ensures err { IfErr result (λ e. e ≢ LineFault.Memory → feed_in graph.now (view value.now) ≡ Err e) }
+{
+    let p = small_at(value, "p").ok_or(LineFault::BadShape)?;
+    let name = text_at(value, "vertex").ok_or(LineFault::BadShape)?;
+    let values = values_at(alloc, value, "values")?.ok_or(LineFault::BadShape)?;
+    let next = next_at(value).ok_or(LineFault::BadShape)?;
+    let vertex = vertex_named(graph, name).ok_or(LineFault::UnknownName)?;
+    Ok(Step::Feed {
+        p,
+        vertex,
+        values,
+        next,
+    })
+}
+
+#[tactic(auto, unfolding(crate::specs::Steps::take_of))]
+fn take_of(alloc: Global, graph: &Graph, value: &Value) -> Result<Step, LineFault>
+    ensures ok { IfOk result (λ c. take_in graph.now (view value.now) ≡ Ok c) }
+    ensures err { IfErr result (λ e. e ≢ LineFault.Memory → take_in graph.now (view value.now) ≡ Err e) }
+{
+    let p = small_at(value, "p").ok_or(LineFault::BadShape)?;
+    let number = integer_at(value, "value").ok_or(LineFault::BadShape)?;
+    let named = named_at(alloc, value, "edge")?.ok_or(LineFault::BadShape)?;
+    let edge = edge_named(graph, named.name);
+    let point = placed(graph, edge, named.numbers.as_slice())?;
+    Ok(Step::Take {
+        p,
+        edge: point.location,
+        time: point.time,
+        value: number,
+    })
+}
+
+#[tactic(auto, unfolding(crate::specs::Steps::notice_of))]
+fn notice_of(alloc: Global, graph: &Graph, value: &Value) -> Result<Step, LineFault>
+    ensures ok { IfOk result (λ c. notice_in graph.now (view value.now) ≡ Ok c) }
+    ensures err { IfErr result (λ e. e ≢ LineFault.Memory → notice_in graph.now (view value.now) ≡ Err e) }
+{
+    let p = small_at(value, "p").ok_or(LineFault::BadShape)?;
+    let named = named_at(alloc, value, "vertex")?.ok_or(LineFault::BadShape)?;
+    let vertex = vertex_named(graph, named.name);
+    let point = placed(graph, vertex, named.numbers.as_slice())?;
+    Ok(Step::Notice {
+        p,
+        vertex: point.location,
+        time: point.time,
+    })
+}
+
+// A broadcast of all that is unsent.
+#[tactic(auto, unfolding(crate::specs::Steps::broadcast_of))]
+fn broadcast_of(value: &Value) -> Result<Step, LineFault>
+    ensures { result ≡ broadcast_in (view value.now) }
+{
+    let p = small_at(value, "p").ok_or(LineFault::BadShape)?;
+    Ok(Step::Broadcast { p, part: Part::All })
+}
+
+// A broadcast of what is unsent at the pointstamps of a list.
+#[tactic(auto, unfolding(crate::specs::Steps::part_of))]
+fn part_of(alloc: Global, graph: &Graph, value: &Value) -> Result<Step, LineFault>
+    ensures ok { IfOk result (λ c. part_in graph.now (view value.now) ≡ Ok c) }
+    ensures err { IfErr result (λ e. e ≢ LineFault.Memory → part_in graph.now (view value.now) ≡ Err e) }
+{
+    let p = small_at(value, "p").ok_or(LineFault::BadShape)?;
+    let named = points_at(alloc, value, "part")?.ok_or(LineFault::BadShape)?;
+    if !are_known(graph, named.as_slice()) {
+        return Err(LineFault::UnknownName);
+    }
+    let points = points_named(alloc, graph, named.as_slice())?.ok_or(LineFault::BadTime)?;
+    Ok(Step::Broadcast {
+        p,
+        part: Part::Points(points),
+    })
+}
+
+#[tactic(auto, unfolding(crate::specs::Steps::receive_of))]
+fn receive_of(value: &Value) -> Result<Step, LineFault>
+    ensures { result ≡ receive_in (view value.now) }
+{
+    let from = small_at(value, "from").ok_or(LineFault::BadShape)?;
+    let to = small_at(value, "to").ok_or(LineFault::BadShape)?;
+    Ok(Step::Receive { from, to })
+}
+
+/// The step that the value asks for, against the graph; `None` where it has not the form of one.
+#[tactic(auto, unfolding(crate::specs::Steps::step_of))]
+pub fn step_of(alloc: Global, graph: &Graph, value: &Value) -> Result<Option<Step>, LineFault>
+    ensures ok { IfOk result (λ c. step_in graph.now (view value.now) ≡ Ok c) }
+    ensures err { IfErr result (λ e. e ≢ LineFault.Memory → step_in graph.now (view value.now) ≡ Err e) }
+{
+    if is_form(value, "feed", &["do", "next", "p", "values", "vertex"]) {
+        Ok(Some(feed_of(alloc, graph, value)?))
+    } else if is_form(value, "take", &["do", "edge", "p", "time", "value"]) {
+        Ok(Some(take_of(alloc, graph, value)?))
+    } else if is_form(value, "notice", &["do", "p", "time", "vertex"]) {
+        Ok(Some(notice_of(alloc, graph, value)?))
+    } else if is_form(value, "broadcast", &["do", "p"]) {
+        Ok(Some(broadcast_of(value)?))
+    } else if is_form(value, "broadcast", &["do", "p", "part"]) {
+        Ok(Some(part_of(alloc, graph, value)?))
+    } else if is_form(value, "receive", &["do", "from", "to"]) {
+        Ok(Some(receive_of(value)?))
+    } else {
+        Ok(None)
+    }
+}
