@@ -5,8 +5,8 @@ use Rattle.nd_json.specs.Forms.{text_at, small_at, whole_at, integer_at}
 use Rattle.nd_graph.specs.Graph.{Dataflow}
 use Rattle.nd_watch.specs.declared.watch.Break.{Break}
 use Rattle.nd_watch.specs.declared.watch.Break.TheVariants.{Passed, Count, Queue, Sink}
-use Rattle.rewind_forms.specs.Forms.{given, after, within, inner, named_at}
-use Rattle.rewind_forms.specs.Places.{vertex_named, location_named, placed}
+use Rattle.rewind_forms.specs.Forms.{given, after, within, inner}
+use Rattle.rewind_forms.specs.Places.{vertex_named, point_there}
 use Rattle.rewind_forms.specs.declared.fault.LineFault.{LineFault}
 use Rattle.rewind_forms.specs.declared.fault.LineFault.TheVariants.{BadShape, UnknownName}
 
@@ -14,17 +14,15 @@ use Rattle.rewind_forms.specs.declared.fault.LineFault.TheVariants.{BadShape, Un
 unfoldable pub passed_of : Dataflow → Data → Result Break LineFault
 passed_of g d =
     given BadShape (small_at (codes "q") d) (λ q.
-    given BadShape (named_at (codes "at") d) (λ named.
-    after (placed g (location_named g named.0) named.1) (λ point.
-    Ok (Passed q point))))
+    after (point_there g d) (λ point.
+    Ok (Passed q point)))
 
 -- {"at":name,"at_least":n,"time":t}
 unfoldable pub count_of : Dataflow → Data → Result Break LineFault
 count_of g d =
     given BadShape (whole_at (codes "at_least") d) (λ at_least.
-    given BadShape (named_at (codes "at") d) (λ named.
-    after (placed g (location_named g named.0) named.1) (λ point.
-    Ok (Count point at_least))))
+    after (point_there g d) (λ point.
+    Ok (Count point at_least)))
 
 -- {"at_least":n,"from":n,"to":n}
 unfoldable pub queue_of : Data → Result Break LineFault

@@ -1,13 +1,14 @@
 -- The places of a graph, by their names, and times there.
-use Rattle.std.specs.Prelude.{ℕ, ◌&&◌, Bool, true, false, List, [], ◌∷◌, length, nat_eq, nat_lt, if◌then◌else◌, slice_get, Option, Some, None, is_some, position, option_map, option_and_then, Result, Ok}
+use Rattle.std.specs.Prelude.{ℕ, ◌&&◌, Bool, true, false, List, [], ◌∷◌, length, nat_eq, nat_lt, if◌then◌else◌, slice_get, Option, Some, None, is_some, position, option_map, option_and_then, codes, Result, Ok}
 use Rattle.std.specs.Option.{option_map_or}
 use Rattle.std.specs.Str.{bytes_eq}
+use Rattle.serde_json.specs.Data.{Data}
 use Rattle.nd_time.specs.Time.{Time}
 use Rattle.nd_graph.specs.Graph.{Dataflow, names, depths}
 use Rattle.nd_paths.specs.declared.point.Pointstamp.{Pointstamp}
-use Rattle.rewind_forms.specs.Forms.{given}
+use Rattle.rewind_forms.specs.Forms.{given, named_at}
 use Rattle.rewind_forms.specs.declared.fault.LineFault.{LineFault}
-use Rattle.rewind_forms.specs.declared.fault.LineFault.TheVariants.{UnknownName, BadTime}
+use Rattle.rewind_forms.specs.declared.fault.LineFault.TheVariants.{BadShape, UnknownName, BadTime}
 
 -- the location of this name
 unfoldable pub location_named : Dataflow → List ℕ → Option ℕ
@@ -46,3 +47,7 @@ placed g found numbers =
     given UnknownName found (λ l.
     given BadTime (time_of g l numbers) (λ t.
     Ok (record { location = l; time = t })))
+
+-- the pointstamp whose location's name stands under "at", and its time under "time"
+unfoldable pub point_there : Dataflow → Data → Result Pointstamp LineFault
+point_there g d = given BadShape (named_at (codes "at") d) (λ named. placed g (location_named g named.0) named.1)

@@ -3,18 +3,15 @@ use Rattle.std.specs.Prelude.{[], ◌∷◌, if◌then◌else◌, Option, Some, 
 use Rattle.serde_json.specs.Data.{Data}
 use Rattle.nd_json.specs.Forms.{small_at}
 use Rattle.nd_graph.specs.Graph.{Dataflow}
-use Rattle.rewind_forms.specs.Forms.{given, after, among, point_at, named_at, is_form}
-use Rattle.rewind_forms.specs.Places.{location_named, time_of, placed}
+use Rattle.rewind_forms.specs.Forms.{given, after, among, point_at, is_form}
+use Rattle.rewind_forms.specs.Places.{location_named, time_of, point_there}
 use Rattle.rewind_forms.specs.declared.fault.LineFault.{LineFault}
 use Rattle.rewind_forms.specs.declared.fault.LineFault.TheVariants.{BadShape, UnknownName, BadTime}
 use Rattle.rewind_forms.specs.declared.queries.Query.{Query}
 use Rattle.rewind_forms.specs.declared.queries.Query.TheVariants.{State, Count, Before, View, Frontier, Passed}
 
 unfoldable pub count_of : Dataflow → Data → Result Query LineFault
-count_of g d =
-    given BadShape (named_at (codes "at") d) (λ named.
-    after (placed g (location_named g named.0) named.1) (λ point.
-    Ok (Count point)))
+count_of g d = after (point_there g d) (λ point. Ok (Count point))
 
 -- both names are looked up before both times
 unfoldable pub before_of : Dataflow → Data → Result Query LineFault
@@ -36,9 +33,8 @@ frontier_of d = given BadShape (small_at (codes "q") d) (λ q. Ok (Frontier q))
 unfoldable pub passed_of : Dataflow → Data → Result Query LineFault
 passed_of g d =
     given BadShape (small_at (codes "q") d) (λ q.
-    given BadShape (named_at (codes "at") d) (λ named.
-    after (placed g (location_named g named.0) named.1) (λ point.
-    Ok (Passed q point))))
+    after (point_there g d) (λ point.
+    Ok (Passed q point)))
 
 -- the query; nothing where the line has not the form of one
 unfoldable pub query_of : Dataflow → Data → Result (Option Query) LineFault

@@ -5,8 +5,8 @@ ghost use Rattle.rewind_forms.specs.Breaks.{passed_of as passed_in, count_of as 
 
 use crate::LineFault;
 use crate::forms::inner;
-use crate::places::{location_named, placed, vertex_named};
-use crate::points::named_at;
+use crate::places::vertex_named;
+use crate::points::point_there;
 use nd_graph::Graph;
 use nd_json::{integer_at, small_at, text_at, whole_at};
 use nd_watch::Break;
@@ -19,9 +19,7 @@ fn passed_of(alloc: Global, graph: &Graph, value: &Value) -> Result<Break, LineF
     ensures err { IfErr result (λ e. e ≢ LineFault.Memory → passed_in graph.now (view value.now) ≡ Err e) }
 {
     let q = small_at(value, "q").ok_or(LineFault::BadShape)?;
-    let named = named_at(alloc, value, "at")?.ok_or(LineFault::BadShape)?;
-    let location = location_named(graph, named.name);
-    let point = placed(graph, location, named.numbers.as_slice())?;
+    let point = point_there(alloc, graph, value)?;
     Ok(Break::Passed { q, point })
 }
 
@@ -31,9 +29,7 @@ fn count_of(alloc: Global, graph: &Graph, value: &Value) -> Result<Break, LineFa
     ensures err { IfErr result (λ e. e ≢ LineFault.Memory → count_in graph.now (view value.now) ≡ Err e) }
 {
     let at_least = whole_at(value, "at_least").ok_or(LineFault::BadShape)?;
-    let named = named_at(alloc, value, "at")?.ok_or(LineFault::BadShape)?;
-    let location = location_named(graph, named.name);
-    let point = placed(graph, location, named.numbers.as_slice())?;
+    let point = point_there(alloc, graph, value)?;
     Ok(Break::Count { point, at_least })
 }
 

@@ -1,11 +1,12 @@
 //! Pointstamps among JSON values: by their names and numbers first, and then by their places and times.
-ghost use Rattle.std.specs.Prelude.{◌≡◌, map, option_map, IfOk};
+ghost use Rattle.std.specs.Prelude.{◌≡◌, ◌≢◌, map, option_map, Ok, Err, IfOk, IfErr};
 ghost use Rattle.serde_json.specs.View.{view};
 ghost use Rattle.rewind_forms.specs.Forms.{each, named_time as named_time_in, point_of as point_in, point_at as point_at_in, listed_point as listed_in, points_at as points_in, named_at as named_at_in};
-ghost use Rattle.rewind_forms.specs.Places.{are_known as known_in, point_named as named_in};
+ghost use Rattle.rewind_forms.specs.Places.{are_known as known_in, point_named as named_in, point_there as there_in};
 
+use crate::LineFault;
 use crate::numbers::{numbers_at, numbers_of};
-use crate::places::{location_named, time_of};
+use crate::places::{location_named, placed, time_of};
 use nd_graph::Graph;
 use nd_json::{list, list_at, text, text_at};
 use nd_paths::Pointstamp;
@@ -148,6 +149,17 @@ fn point_named(graph: &Graph, name: &str, numbers: &[u32]) -> Option<Pointstamp>
     let location = location_named(graph, name)?;
     let time = time_of(graph, location, numbers)?;
     Some(Pointstamp { location, time })
+}
+
+/// The pointstamp whose location's name stands under `at`, and its time beside it.
+#[tactic(auto, unfolding(crate::specs::Places::point_there))]
+pub fn point_there(alloc: Global, graph: &Graph, value: &Value) -> Result<Pointstamp, LineFault>
+    ensures ok { IfOk result (λ c. there_in graph.now (view value.now) ≡ Ok c) }
+    ensures err { IfErr result (λ e. e ≢ LineFault.Memory → there_in graph.now (view value.now) ≡ Err e) }
+{
+    let named = named_at(alloc, value, "at")?.ok_or(LineFault::BadShape)?;
+    let location = location_named(graph, named.name);
+    placed(graph, location, named.numbers.as_slice())
 }
 
 /// The pointstamps of names and numbers, where each is one of the graph.

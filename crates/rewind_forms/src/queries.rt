@@ -5,8 +5,8 @@ ghost use Rattle.rewind_forms.specs.Queries.{count_of as count_in, before_of as 
 
 use crate::LineFault;
 use crate::forms::is_form;
-use crate::places::{location_named, placed, time_of};
-use crate::points::{named_at, point_at};
+use crate::places::{location_named, time_of};
+use crate::points::{point_at, point_there};
 use nd_graph::Graph;
 use nd_json::small_at;
 use nd_paths::Pointstamp;
@@ -35,9 +35,7 @@ fn count_of(alloc: Global, graph: &Graph, value: &Value) -> Result<Query, LineFa
     ensures ok { IfOk result (λ c. count_in graph.now (view value.now) ≡ Ok c) }
     ensures err { IfErr result (λ e. e ≢ LineFault.Memory → count_in graph.now (view value.now) ≡ Err e) }
 {
-    let named = named_at(alloc, value, "at")?.ok_or(LineFault::BadShape)?;
-    let location = location_named(graph, named.name);
-    let point = placed(graph, location, named.numbers.as_slice())?;
+    let point = point_there(alloc, graph, value)?;
     Ok(Query::Count(point))
 }
 
@@ -86,9 +84,7 @@ fn passed_of(alloc: Global, graph: &Graph, value: &Value) -> Result<Query, LineF
     ensures err { IfErr result (λ e. e ≢ LineFault.Memory → passed_in graph.now (view value.now) ≡ Err e) }
 {
     let q = small_at(value, "q").ok_or(LineFault::BadShape)?;
-    let named = named_at(alloc, value, "at")?.ok_or(LineFault::BadShape)?;
-    let location = location_named(graph, named.name);
-    let point = placed(graph, location, named.numbers.as_slice())?;
+    let point = point_there(alloc, graph, value)?;
     Ok(Query::Passed(q, point))
 }
 
