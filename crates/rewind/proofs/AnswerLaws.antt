@@ -12,7 +12,7 @@ use Rattle.nd_graph.specs.Checked.{checked}
 use Rattle.nd_graph.specs.Fault.{IsUnlessMemory}
 use Rattle.nd_graph.specs.declared.fault.GraphFault.{GraphFault}
 use Rattle.nd_graph.specs.declared.fault.GraphFault.TheVariants.{Shape, Memory}
-use Rattle.rewind_forms.specs.Forms.{command_of}
+use Rattle.rewind_forms.specs.Asked.{asked_of}
 use Rattle.rewind_forms.specs.Replies.{location_fault, line_fault, frontier}
 use Rattle.nd_paths.specs.declared.point.Pointstamp.{Pointstamp}
 use Rattle.nd_delta.specs.Change.{Change, entries}
@@ -21,12 +21,13 @@ use Rattle.nd_protocol.specs.State.{ClusterState, view as view_in}
 use Rattle.nd_cluster.specs.StateText.{entries_data}
 use Rattle.nd_cluster.specs.Starting.{IsStartFault, start_number, start_name}
 use Rattle.nd_cluster.specs.declared.start.StartFault.TheVariants as start_fault
-use Rattle.rewind_forms.specs.declared.command.Command.{Command}
-use Rattle.rewind_forms.specs.declared.command.Command.TheVariants.{Passed}
+use Rattle.rewind_forms.specs.declared.asked.Asked.{Asked}
 use Rattle.rewind_forms.specs.declared.fault.LineFault.{LineFault}
 use Rattle.rewind_forms.specs.declared.fault.LineFault.TheVariants as line
-use Rattle.rewind.specs.Machine.{MachineValue, cluster_of}
-use Rattle.rewind.specs.Answers.{Phase, running, refused, StartReplies, not_strict, graph_of, graph_of_draft, AskedReplies, FormReplies, CommandReplies, FrontierReply, PassedReply}
+use Rattle.std.specs.declared.alloc.Global.{Global}
+use Rattle.nd_timeline.specs.Timeline.{cluster_of}
+use Rattle.nd_timeline.specs.Moves.{MachineValue}
+use Rattle.rewind.specs.Answers.{Phase, running, refused, StartReplies, not_strict, graph_of, graph_of_draft, AskedReply, FormReplies, LineReplies, FrontierReply}
 
 -- a value that is no draft
 pub graph_of-refused : (d : Data) (e : GraphFault) → IsUnlessMemory (ok_or (draft_of d) Shape) (Err e) → IsUnlessMemory (graph_of d) (Err e)
@@ -55,16 +56,18 @@ told d e (inr is) some = absurd (some is)
 
 -- ---- commands
 
-pub asked_replies : (m : MachineValue) (n : ℕ) (d : Data) (asked : Command) (r : Result Value AllocError) (new : Phase) → command_of (cluster_of m).graph d ≡ Ok asked → IfOk r (λ v. AskedReplies m asked (view v ∷ []) new) → IfOk r (λ v. CommandReplies m n d (view v ∷ []) new)
-asked_replies m n d asked (Ok v) new is h = subst (λ (o : Result Command LineFault). FormReplies m n o (view v ∷ []) new) (sym is) h
+pub asked_replies : (m : MachineValue Global) (n : ℕ) (d : Data) (asked : Asked) (r : Result Value AllocError) (new : MachineValue Global) → asked_of (cluster_of m.timeline).graph d ≡ Ok asked
+    → IfOk r (λ v. AskedReply m asked (view v) new) → IfOk r (λ v. LineReplies m n d (view v ∷ []) (running new))
+asked_replies m n d asked (Ok v) new is h = subst (λ (o : Result Asked LineFault). FormReplies m n o (view v ∷ []) (running new)) (sym is) (view v, new, h, refl, refl)
 asked_replies m n d asked (Err e) new is h = h
 
 no_memory : (e : LineFault) (n : ℕ) (x : Data) → Some x ≡ line_fault e n → e ≢ line.Memory
 no_memory e n x told memory = absurd (cc (ap (λ f. line_fault f n) memory))
 
-pub fault_replies : (m : MachineValue) (n : ℕ) (d : Data) (e : LineFault) (r : Result Value AllocError) → (e ≢ line.Memory → command_of (cluster_of m).graph d ≡ Err e) → IfOk r (λ v. Some (view v) ≡ line_fault e n) → IfOk r (λ v. CommandReplies m n d (view v ∷ []) (running m))
+pub fault_replies : (m : MachineValue Global) (n : ℕ) (d : Data) (e : LineFault) (r : Result Value AllocError) → (e ≢ line.Memory → asked_of (cluster_of m.timeline).graph d ≡ Err e) → IfOk r (λ v. Some (view v) ≡ line_fault e n)
+    → IfOk r (λ v. LineReplies m n d (view v ∷ []) (running m))
 fault_replies m n d e (Ok v) is told =
-    subst (λ (o : Result Command LineFault). FormReplies m n o (view v ∷ []) (running m)) (sym (is (no_memory e n (view v) told))) (ap option_to_list told, refl)
+    subst (λ (o : Result Asked LineFault). FormReplies m n o (view v ∷ []) (running m)) (sym (is (no_memory e n (view v) told))) (ap option_to_list told, refl)
 fault_replies m n d e (Err x) is told = told
 
 -- ---- queries about a processor
@@ -76,11 +79,6 @@ frontier_replies s q g v f d (Ok w) there graph is part shown reply =
     let same : IsPartWhere (IsOnFrontier g (view_in s q)) (view_in s q) f = subst (λ (u : Change). IsPartWhere (IsOnFrontier g u) u f) is part in
     inr (there, (f, subst (λ (h : Dataflow). IsPartWhere (IsOnFrontier h (view_in s q)) (view_in s q) f) graph same, reply ∙ ap frontier shown))
 frontier_replies s q g v f d (Err e) there graph is part shown reply = reply
-
-pub passed_replies : (m : MachineValue) (asked : Command) (q : ℕ) (x : Pointstamp) (r : Result Value AllocError) → asked ≡ Passed q x → IfOk r (λ v. PassedReply (cluster_of m) q x (view v))
-    → IfOk r (λ v. AskedReplies m asked (view v ∷ []) (running m))
-passed_replies m asked q x (Ok v) is reply = subst (λ (a : Command). AskedReplies m a (view v ∷ []) (running m)) (sym is) (view v, reply, refl, refl)
-passed_replies m asked q x (Err e) is reply = reply
 
 -- ---- starts
 

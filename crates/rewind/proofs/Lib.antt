@@ -1,6 +1,5 @@
 pub mod AnswerLaws
 pub mod DriverLaws
-pub mod MachineLaws
 pub mod OptionReads
 pub mod RunLaws
 pub mod StandLaws

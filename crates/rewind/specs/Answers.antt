@@ -20,24 +20,24 @@ use Rattle.nd_cluster.specs.StateText.{state_data, entries_data, point_data}
 use Rattle.nd_protocol.specs.Start.{start}
 use Rattle.nd_cluster.specs.Starting.{IsStartFault, CanStart, start_number, start_name}
 use Rattle.nd_cluster.specs.declared.start.StartFault.TheVariants as start_fault
-use Rattle.nd_protocol.specs.declared.step.Step.{Step}
-use Rattle.rewind_forms.specs.Forms.{command_of}
-use Rattle.rewind_forms.specs.Replies.{fault, location_fault, graph, moved, refused as refusal, at_start, timeline_full, out_of_memory, faulty, line_fault, count, before, state, known, frontier, passed, not_passed, no_processor}
+use Rattle.nd_timeline.specs.Timeline.{cluster_of, opened}
+use Rattle.nd_timeline.specs.Moves.{MachineValue, Moves, without_breaks}
+use Rattle.nd_timeline.specs.declared.command.Command.{Command}
+use Rattle.nd_timeline.specs.declared.reply.Reply.{Reply}
+use Rattle.rewind_forms.specs.Asked.{asked_of}
+use Rattle.rewind_forms.specs.Replies.{fault, location_fault, graph, reply_data, faulty, line_fault, count, before, state, known, frontier, passed, not_passed, no_processor}
 use Rattle.rewind_forms.specs.LineFaults.{number_of as number_of_line, name_of as name_of_line}
 use Rattle.rewind_forms.specs.declared.fault.LineFault.{LineFault}
 use Rattle.rewind_forms.specs.declared.fault.LineFault.TheVariants.{LineTooLong, BadLine}
-use Rattle.rewind_forms.specs.declared.command.Command.{Command}
-use Rattle.rewind_forms.specs.declared.command.Command.TheVariants.{Forward, Back, State, Count, Before, View, Frontier, Passed}
-use Rattle.rewind.specs.Machine.{MachineValue, cluster_of, opened, extended, set_back, CanForward, ForwardFails, BackFails}
-use Rattle.rewind.specs.declared.machine.ForwardFault.{ForwardFault}
-use Rattle.rewind.specs.declared.machine.ForwardFault.TheVariants.{TimelineFull, Refused}
-use Rattle.rewind.specs.declared.machine.BackFault.{BackFault}
-use Rattle.rewind.specs.declared.machine.BackFault.TheVariants.{AtStart, Memory}
+use Rattle.rewind_forms.specs.declared.asked.Asked.{Asked}
+use Rattle.rewind_forms.specs.declared.asked.Asked.TheVariants.{Do, Tell}
+use Rattle.rewind_forms.specs.declared.queries.Query.{Query}
+use Rattle.rewind_forms.specs.declared.queries.Query.TheVariants.{State, Count, Before, View, Frontier, Passed}
 
 -- before the graph's line, of a number of processors; with the machine; after a graph's line that was refused
 pub data Phase : Type 0 where
   unstarted : ℕ → Phase
-  running : MachineValue → Phase
+  running : MachineValue Global → Phase
   refused : Phase
 
 -- ---- the graph's line
@@ -63,33 +63,9 @@ abbrev pub StartReplies : ℕ → Result Dataflow GraphFault → List Data → P
 StartReplies processors (Err e) replies new = (replies ≡ fault (number_of e) (name_of e) ∷ []) × (new ≡ refused)
 StartReplies processors (Ok g) replies new =
     ((reply : Data) × RefusedReply processors g reply × (replies ≡ reply ∷ []) × (new ≡ refused))
-    ⊎ (CanStart g processors × (replies ≡ graph (location_count g) processors ∷ []) × (new ≡ running (opened (start g processors))))
+    ⊎ (CanStart g processors × (replies ≡ graph (location_count g) processors ∷ []) × (new ≡ running (without_breaks (opened Global (start g processors)))))
 
 -- ---- the lines after it
-
--- the reply where the cursor has moved
-abbrev pub moved_to : MachineValue → Data
-moved_to m = moved m.cursor (length m.kept)
-
-abbrev pub forward_reply : MachineValue → ForwardFault → Data
-forward_reply m TimelineFull = timeline_full
-forward_reply m (Refused r) = refusal (cluster_of m).graph r m.cursor
-
-abbrev pub back_reply : BackFault → ℕ → Data
-back_reply AtStart at = at_start
-back_reply Memory at = out_of_memory at
-
--- a step is made and kept, or is not made for a reason that is told
-abbrev pub ForwardReplies : MachineValue → Step Global → List Data → Phase → Type 0
-ForwardReplies m x replies new =
-    (CanForward m x × (replies ≡ moved_to (extended m x) ∷ []) × (new ≡ running (extended m x)))
-    ⊎ ((e : ForwardFault) × ForwardFails m x e × (replies ≡ forward_reply m e ∷ []) × (new ≡ running m))
-
--- a step is undone, or is not for a reason that is told
-abbrev pub BackReplies : MachineValue → List Data → Phase → Type 0
-BackReplies m replies new =
-    ((0 < m.cursor) × (replies ≡ moved_to (set_back m) ∷ []) × (new ≡ running (set_back m)))
-    ⊎ ((e : BackFault) × BackFails m e × (replies ≡ back_reply e m.cursor ∷ []) × (new ≡ running m))
 
 -- the true count of a pointstamp
 abbrev pub true_count : ClusterState → Pointstamp → ℕ
@@ -116,24 +92,33 @@ PassedReply s q t reply =
     × ((IsPassed s.graph (view s q) t × (reply ≡ passed))
     ⊎ ((x : Pointstamp) × IsLeast (IsBlocker s.graph (view s q) t) x × (reply ≡ not_passed (point_data s.graph x)))))
 
--- the reply to a command or a query
-abbrev pub AskedReplies : MachineValue → Command → List Data → Phase → Type 0
-AskedReplies m (Forward x) replies new = ForwardReplies m x replies new
-AskedReplies m Back replies new = BackReplies m replies new
-AskedReplies m State replies new = (replies ≡ state (state_data (cluster_of m)) ∷ []) × (new ≡ running m)
-AskedReplies m (Count x) replies new = (replies ≡ count (true_count (cluster_of m) x) ∷ []) × (new ≡ running m)
-AskedReplies m (Before x y) replies new = (b : Bool) × (IsTrue b ↔ CouldResultIn (cluster_of m).graph x y) × (replies ≡ before b ∷ []) × (new ≡ running m)
-AskedReplies m (View q) replies new = (reply : Data) × ViewReply (cluster_of m) q reply × (replies ≡ reply ∷ []) × (new ≡ running m)
-AskedReplies m (Frontier q) replies new = (reply : Data) × FrontierReply (cluster_of m) q reply × (replies ≡ reply ∷ []) × (new ≡ running m)
-AskedReplies m (Passed q x) replies new = (reply : Data) × PassedReply (cluster_of m) q x reply × (replies ≡ reply ∷ []) × (new ≡ running m)
+-- the reply to a query, asked of a cluster
+abbrev pub QueryReply : ClusterState → Query → Data → Type 0
+QueryReply s State reply = reply ≡ state (state_data s)
+QueryReply s (Count x) reply = reply ≡ count (true_count s x)
+QueryReply s (Before x y) reply = (b : Bool) × (IsTrue b ↔ CouldResultIn s.graph x y) × (reply ≡ before b)
+QueryReply s (View q) reply = ViewReply s q reply
+QueryReply s (Frontier q) reply = FrontierReply s q reply
+QueryReply s (Passed q x) reply = PassedReply s q x reply
+
+-- the machine makes a move, and its reply is shown with the names of the graph
+pub record CommandReply (m : MachineValue Global) (asked : Command Global) (reply : Data) (new : MachineValue Global) : Type 0 where
+  pub answer : Reply
+  pub move : Moves m asked answer new
+  pub shown : reply ≡ reply_data (cluster_of new.timeline).graph answer
+
+-- a command makes a move of the machine, and a query leaves it as it is
+abbrev pub AskedReply : MachineValue Global → Asked → Data → MachineValue Global → Type 0
+AskedReply m (Do command) reply new = CommandReply m command reply new
+AskedReply m (Tell query) reply new = QueryReply (cluster_of m.timeline) query reply × (new ≡ m)
 
 -- the reply to a line that is, or is not, a command or a query
-abbrev pub FormReplies : MachineValue → ℕ → Result Command LineFault → List Data → Phase → Type 0
-FormReplies m line (Ok asked) replies new = AskedReplies m asked replies new
+abbrev pub FormReplies : MachineValue Global → ℕ → Result Asked LineFault → List Data → Phase → Type 0
+FormReplies m line (Ok asked) replies new = (reply : Data) × (next : MachineValue Global) × AskedReply m asked reply next × (replies ≡ reply ∷ []) × (new ≡ running next)
 FormReplies m line (Err e) replies new = (replies ≡ option_to_list (line_fault e line)) × (new ≡ running m)
 
-abbrev pub CommandReplies : MachineValue → ℕ → Data → List Data → Phase → Type 0
-CommandReplies m line d replies new = FormReplies m line (command_of (cluster_of m).graph d) replies new
+abbrev pub LineReplies : MachineValue Global → ℕ → Data → List Data → Phase → Type 0
+LineReplies m line d replies new = FormReplies m line (asked_of (cluster_of m.timeline).graph d) replies new
 
 -- ---- all lines
 
@@ -150,4 +135,4 @@ Answers old line blank replies new = (replies ≡ []) × (new ≡ old)
 Answers old line too_long replies new = (replies ≡ faulty (number_of_line LineTooLong) (name_of_line LineTooLong) line ∷ []) × (new ≡ after_fault old)
 Answers old line no_json replies new = (replies ≡ faulty (number_of_line BadLine) (name_of_line BadLine) line ∷ []) × (new ≡ after_fault old)
 Answers (unstarted processors) line (json d) replies new = StartReplies processors (graph_of d) replies new
-Answers (running m) line (json d) replies new = CommandReplies m line d replies new
+Answers (running m) line (json d) replies new = LineReplies m line d replies new

@@ -3,7 +3,8 @@ use Rattle.std.specs.Prelude.{Bool, true, false, List, [], ◌∷◌, Option, So
 use Rattle.serde_json.specs.Data.{Data}
 use Rattle.serde_json.specs.View.{view}
 use Rattle.serde_json.specs.declared.value.Value.{Value}
-use Rattle.rewind.specs.Machine.{MachineValue}
+use Rattle.std.specs.declared.alloc.Global.{Global}
+use Rattle.nd_timeline.specs.Moves.{MachineValue}
 use Rattle.rewind.specs.Answers.{Phase, unstarted, running, refused}
 use Rattle.rewind.specs.declared.stage.Stage.{Stage}
 use Rattle.rewind.specs.declared.stage.Stage.TheVariants.{Unstarted, Running}
@@ -13,7 +14,7 @@ phase_of (Unstarted processors) = unstarted processors
 phase_of (Running machine) = running machine
 
 -- the phase after the graph's line, with a machine or none
-abbrev pub phase_of_start : Option MachineValue → Phase
+abbrev pub phase_of_start : Option (MachineValue Global) → Phase
 phase_of_start None = refused
 phase_of_start (Some machine) = running machine
 

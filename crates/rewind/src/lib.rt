@@ -3,10 +3,11 @@
 #![tactic(auto)]
 
 mod answer;
+mod debugger;
 mod driver;
 mod fault;
-mod machine;
 mod options;
+mod query;
 mod run;
 mod stage;
 

@@ -12,7 +12,7 @@ ghost use Rattle.std.specs.Option.{option_to_list};
 ghost use Rattle.rewind.specs.Stages.{phase_of, phase_after, replies_of};
 ghost use Rattle.rewind.specs.States.{Stands, EndsEarly, AnswersText};
 
-use crate::answer::{answer_command, answer_first};
+use crate::answer::{answer_first, answer_later};
 use crate::fault::DebugFault;
 use crate::stage::Stage;
 use rewind_forms::{LineFault, replies};
@@ -69,15 +69,15 @@ fn answer_value(
         Stage::Unstarted(processors) => {
             let (reply, started) = answer_first(alloc, *processors, value)?;
             let is_last = started.is_none();
-            if let Some(machine) = started {
-                *stage = Stage::Running(machine);
+            if let Some(debugger) = started {
+                *stage = Stage::Running(debugger);
             }
             Ok(Answer {
                 reply: Some(reply),
                 is_last,
             })
         }
-        Stage::Running(machine) => Ok(goes_on(answer_command(alloc, machine, value, line)?)),
+        Stage::Running(debugger) => Ok(goes_on(answer_later(alloc, debugger, value, line)?)),
     }
 }
 
