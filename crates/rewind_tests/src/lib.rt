@@ -6,6 +6,8 @@ mod ends;
 #[cfg(test)]
 mod examples;
 #[cfg(test)]
+mod moves;
+#[cfg(test)]
 mod refusals;
 #[cfg(test)]
 mod runs;

@@ -6,7 +6,7 @@ use std::alloc::{AllocError, Global};
 use std::test::Fail;
 
 // An example's name, its number of processors, its script, and the replies to it.
-type Example = (&'static str, u8, &'static str, &'static str);
+pub type Example = (&'static str, u8, &'static str, &'static str);
 
 static ANSWERED: [Example; 17] = [
     (
@@ -412,22 +412,29 @@ fn run(
     Ok((sink.bytes, ended))
 }
 
+// The first example whose replies are others, or whose run does not end so.
+pub fn first_wrong(
+    alloc: Global,
+    examples: &[Example],
+    fault: Option<DebugFault>,
+) -> Result<Option<&'static str>, AllocError> {
+    for (name, processors, script, replies) in examples {
+        let (bytes, ended) = run(alloc, *processors, script)?;
+        if ended.err() != fault || bytes.as_slice() != replies.as_bytes() {
+            return Ok(Some(*name));
+        }
+    }
+    Ok(None)
+}
+
 #[test]
 fn worked_examples(rt: HostRuntime) -> Result<(), Fail> {
-    for (name, processors, script, replies) in &ANSWERED {
-        let (bytes, ended) = run(rt.alloc(), *processors, script)?;
-        assert!(rt; ended.is_ok(), "{name}");
-        assert!(rt; bytes.as_slice() == replies.as_bytes(), "{name}");
-    }
+    assert_eq!(rt; first_wrong(rt.alloc(), &ANSWERED, None)?, None);
     Ok(())
 }
 
 #[test]
 fn refused_graphs(rt: HostRuntime) -> Result<(), Fail> {
-    for (name, processors, script, replies) in &REFUSED {
-        let (bytes, ended) = run(rt.alloc(), *processors, script)?;
-        assert!(rt; ended == Err(DebugFault::Graph), "{name}");
-        assert!(rt; bytes.as_slice() == replies.as_bytes(), "{name}");
-    }
+    assert_eq!(rt; first_wrong(rt.alloc(), &REFUSED, Some(DebugFault::Graph))?, None);
     Ok(())
 }
