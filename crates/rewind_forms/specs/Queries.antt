@@ -1,5 +1,5 @@
 -- The query that a line is: the shapes of its values, then the names, then the times.
-use Rattle.std.specs.Prelude.{[], ◌∷◌, if◌then◌else◌, Option, Some, None, codes, Result, Ok, Err}
+use Rattle.std.specs.Prelude.{[], ◌∷◌, if◌then◌else◌, Option, Some, None, codes, Result, Ok}
 use Rattle.serde_json.specs.Data.{Data}
 use Rattle.nd_json.specs.Forms.{small_at}
 use Rattle.nd_graph.specs.Graph.{Dataflow}

@@ -49,11 +49,7 @@ fn clear_of(value: &Value) -> Result<Command, LineFault>
 /// The command other than a step that the value asks for, against the graph; `None` where it has
 /// not the form of one.
 #[tactic(auto, unfolding(crate::specs::Commands::command_of))]
-pub fn command_of(
-    alloc: Global,
-    graph: &Graph,
-    value: &Value,
-) -> Result<Option<Command>, LineFault>
+pub fn command_of(alloc: Global, graph: &Graph, value: &Value) -> Result<Option<Command>, LineFault>
     ensures ok { IfOk result (λ c. command_in graph.now (view value.now) ≡ Ok c) }
     ensures err { IfErr result (λ e. e ≢ LineFault.Memory → command_in graph.now (view value.now) ≡ Err e) }
 {

@@ -60,11 +60,7 @@ pub fn time_of(graph: &Graph, location: usize, numbers: &[u32]) -> Option<Timest
 
 /// The pointstamp of a time's numbers at the location that a name has been found to be that of.
 #[tactic(auto, unfolding(crate::specs::Places::placed))]
-pub fn placed(
-    graph: &Graph,
-    found: Option<usize>,
-    numbers: &[u32],
-) -> Result<Pointstamp, LineFault>
+pub fn placed(graph: &Graph, found: Option<usize>, numbers: &[u32]) -> Result<Pointstamp, LineFault>
     requires { IfSome found (λ l. l < count_of graph.now) }
     ensures { result ≡ placed_in graph.now found numbers.now }
 {
