@@ -1,4 +1,4 @@
-use Rattle.std.proofs.Common.{Some, None, ◌∙◌}
+use Rattle.std.proofs.Common.{Some, None, ◌∙◌, arith}
 use Rattle.nd_watch.proofs.Slots.{slot_is, got, none_from}
 use Rattle.nd_watch.proofs.breaks.Breaks.get.Goals as goal
 
