@@ -28,10 +28,10 @@ pub no_hit_at_all : (m : BreakMap) (s : ClusterState) (end id : ℕ) → NoneFro
 no_hit_at_all m s end id past all below =
     record {
       none = λ k h.
-      elim (cases_lt k id) [
-        | inl less ↦ below k less h
-        | inr more ↦ no_hit_none m s k (past k (omega (arith, all, more))) h
-      ];
+          elim (cases_lt k id) [
+            | inl less ↦ below k less h
+            | inr more ↦ no_hit_none m s k (past k (omega (arith, all, more))) h
+          ];
     }
 
 -- one id more is taken

@@ -12,11 +12,21 @@ use std::alloc::Allocator;
 #[derive(Drop)]
 pub enum Break {
     /// The view of processor q has passed a pointstamp.
-    Passed { q: u32, point: Pointstamp },
+    Passed {
+        q: u32,
+        point: Pointstamp,
+    },
     /// The true count of a pointstamp is at least so much.
-    Count { point: Pointstamp, at_least: u64 },
+    Count {
+        point: Pointstamp,
+        at_least: u64,
+    },
     /// So many changes at least stand in a queue.
-    Queue { from: u32, to: u32, at_least: u64 },
+    Queue {
+        from: u32,
+        to: u32,
+        at_least: u64,
+    },
     /// The sinks of a vertex, over all processors, have counted a value so often at least.
     Sink {
         vertex: usize,
