@@ -1,5 +1,5 @@
 //! Clusters made of their parts: steps at the limits of numbers, and parts that are no state.
-ghost use Rattle.std.specs.Prelude.{OnSome};
+ghost use Rattle.std.specs.Prelude.{IfSome};
 ghost use Rattle.nd_view.specs.Kept.{IsFor};
 
 use nd_told::{Told, is_state, make, start, step_of};
@@ -103,7 +103,7 @@ fn mesh_of<A: Allocator + Copy>(alloc: A, graph: &Graph<A>, between: &Between) -
 
 /// The view with what it holds.
 fn view_of<A: Allocator + Copy>(alloc: A, paths: &Paths<A>, between: &Between) -> Option<View<A>>
-    ensures { OnSome result (λ v. IsFor paths.now v) }
+    ensures { IfSome result (IsFor paths.now) }
 {
     let mut view = View::new(alloc);
     if let Between::Seen(name, n, _) = between {
