@@ -10,6 +10,8 @@ use Rattle.nd_protocol.specs.declared.step.Step.{Step}
 use Rattle.nd_protocol.specs.declared.step.Step.TheVariants.{Feed, Take, Notice, Broadcast, Receive}
 use Rattle.nd_protocol.specs.declared.part.Part.{Part}
 use Rattle.nd_protocol.specs.declared.part.Part.TheVariants.{All, Points}
+use Rattle.nd_cluster.specs.Records.{IsPlanned}
+use Rattle.nd_cluster.specs.declared.record.Record.{Record}
 
 -- all that is unsent
 abbrev pub IsWhole : {A : Type 0} → Part A → Type 0
@@ -86,9 +88,15 @@ pub record IsFirst {A : Type 0} (s : ClusterState) (Kind : Step A → Type 0) (x
 abbrev pub HasNone : {A : Type 0} → ClusterState → (Step A → Type 0) → Type 0
 HasNone {A} s Kind = (y : Step A) → IsCandidate y → Kind y → IsEnabled s y → ⊥
 
-abbrev pub Finds : {A : Type 0} → ClusterState → (Step A → Type 0) → Option (Step A) → Type 0
+-- the record of the first of a kind, or none where none is enabled
+abbrev pub Finds : {A : Type 0} → ClusterState → (Step A → Type 0) → Option (Record A) → Type 0
 Finds s Kind None = HasNone s Kind
-Finds s Kind (Some x) = IsFirst s Kind x
+Finds s Kind (Some r) = IsFirst s Kind r.step × IsPlanned r s
+
+-- the record of a step, or none where it is refused
+abbrev pub Tries : {A : Type 0} → ClusterState → Step A → Option (Record A) → Type 0
+Tries s x None = IsEnabled s x → ⊥
+Tries s x (Some r) = IsEnabled s x × (r.step ≡ x) × IsPlanned r s
 
 -- a processor's steps, and those of one kind
 abbrev pub IsOf : {A : Type 0} → ℕ → Step A → Type 0

@@ -107,6 +107,14 @@ impl<A: Allocator + Copy> Record<A> {
         self.changes.entries()
     }
 
+    /// The step alone.
+    pub fn into_step(self) -> Step<A>
+        ensures { result ≡ self.step }
+    {
+        let Record { step, changes: _ } = self;
+        step
+    }
+
     /// An equal record.
     pub fn copy(&self, alloc: A) -> Result<Record<A>, AllocError>
         ensures step { IfOk result (λ r. r.step ≡ self.now.step) }

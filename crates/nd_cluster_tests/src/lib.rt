@@ -3,6 +3,8 @@
 #![tactic(auto)]
 
 #[cfg(test)]
+mod limits;
+#[cfg(test)]
 mod memory;
 #[cfg(test)]
 mod refusals;
@@ -10,8 +12,6 @@ mod refusals;
 mod runs;
 #[cfg(test)]
 mod starts;
-#[cfg(test)]
-mod told;
 #[cfg(test)]
 mod walk;
 #[cfg(test)]

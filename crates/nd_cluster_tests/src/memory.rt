@@ -1,6 +1,6 @@
 //! Each request for memory of a call refused in turn.
 
-use crate::told::{
+use nd_told::{
     SUM_NOTIFIED, Script, Told, is_state, make, reach, state_text, step_of, values_of,
 };
 use nd_cluster::{Cluster, Next, NoMemory, Record, Refusal, StartFault, Step, Values};

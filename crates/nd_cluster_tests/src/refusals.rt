@@ -1,6 +1,6 @@
 //! Steps that are refused.
 
-use crate::told::{Named, SUM_NOTIFIED, Script, Told, make, reach, start, state_text, step_of};
+use nd_told::{Named, SUM_NOTIFIED, Script, Told, make, reach, start, state_text, step_of};
 use nd_cluster::{Cluster, Next, Refusal, Step, Values};
 use nd_drawn::{ADD, DISTINCT, LINE, SUM, point, time};
 use std::alloc::{Allocator, Global};

@@ -1,7 +1,7 @@
 //! Steps that are made and undone.
 ghost use Rattle.std.specs.Prelude.{◌<◌, length};
 
-use crate::told::{Named, SUM_NOTIFIED, Script, Told, make, reach, start, state_text, step_of};
+use nd_told::{Named, SUM_NOTIFIED, Script, Told, make, reach, start, state_text, step_of};
 use nd_cluster::{Change, Changes, Cluster, Next, Step};
 use nd_drawn::{DISTINCT, EXCHANGE, Entry, LINE, LOOP, SPLIT, SUM, are_entries, point};
 use std::alloc::{Allocator, Global};

@@ -1,6 +1,6 @@
 //! Starts of clusters.
 
-use crate::told::start;
+use nd_told::start;
 use nd_cluster::{Cluster, StartFault};
 use nd_drawn::{
     ADD, CYCLE, DISTINCT, EMPTY, EXCHANGE, FILTER, LINE, LOOP, NESTED_LOOP, SPLIT, SUM, TWO_WAYS,

@@ -1,7 +1,7 @@
 //! A long way of steps on three processors, and back again.
 ghost use Rattle.std.specs.Prelude.{◌≡◌, ◌<◌, length, OnSome};
 
-use crate::told::{start, state_text};
+use nd_told::{start, state_text};
 use nd_cluster::{Cluster, Next, Part, Points, Step, Values};
 use nd_drawn::graph_text;
 use nd_processor::Processor;

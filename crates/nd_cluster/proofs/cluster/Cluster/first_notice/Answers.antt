@@ -1,4 +1,4 @@
-use Rattle.std.proofs.Common.{◌≡◌, ◌∷◌, ap, sym, subst, ◌∙◌, rules}
+use Rattle.std.proofs.Common.{Some, ◌≡◌, ◌∷◌, ap, sym, subst, ◌∙◌, rules}
 use Rattle.std.specs.FinMap as fin
 use Rattle.std.specs.Map.Iter.{deref_pair}
 use Rattle.std.proofs.lemmas.Map.Iter.{rest_more}
@@ -10,7 +10,7 @@ use Rattle.nd_protocol.specs.State.{processor}
 use Rattle.nd_protocol.specs.Enabled.{IsEnabled}
 use Rattle.nd_protocol.specs.declared.step.Step.{Step}
 use Rattle.nd_protocol.specs.declared.step.Step.TheVariants.{Notice}
-use Rattle.nd_cluster.specs.Choice.{IsFirst, IsOfRank}
+use Rattle.nd_cluster.specs.Choice.{IsFirst, IsOfRank, Tries}
 use Rattle.nd_cluster.proofs.Choosing.{HasNotices, CanNotice, Noticing, notices_listed, notices_next, no_notice, first_notice}
 use Rattle.nd_cluster.proofs.cluster.Cluster.first_notice.Goals as goal
 
@@ -26,8 +26,8 @@ loop-point-init g c =
       is_finite = tt;
     }
 
-pub returns-then-branch : goal.returns-then-branch
-returns-then-branch g c =
+pub returns-in-Some-2 : goal.returns-in-Some-2
+returns-in-Some-2 g c =
     let s = c.args.self.now in
     let p = c.args.p in
     let x = c.in-Some.point.now in
@@ -35,11 +35,14 @@ returns-then-branch g c =
     let step : c.loop-point.point-iterator ≡ (x, c.in-Some.field-0-1.now) ∷ rest
     = rest_more deref_pair c.loop-point.point-iterator rest c.next.result (c.in-Some.point, c.in-Some.field-0-1) c.in-Some.is c.next.ensures.steps in
     let same : ◌≡◌ {A = Step g.row.A.Denot} (Notice p x.location c.copy.result) (Noticing g.row.A.Denot s p x) = λ i. Notice p x.location (c.copy.ensures i) in
-    subst (IsFirst s (IsOfRank p 2)) (sym same)
-    (first_notice g.row.A.Denot s p (x, c.in-Some.field-0-1.now) rest
+    let tried : Tries {A = g.row.A.Denot} s (Notice p x.location c.copy.result) (Some c.in-Some-2.record)
+    = subst (Tries {A = g.row.A.Denot} s (Notice p x.location c.copy.result)) c.in-Some-2.is c.in_ok-record.ensures in
+    let first : IsFirst {A = g.row.A.Denot} s (IsOfRank p 2) (Noticing g.row.A.Denot s p x)
+    = first_notice g.row.A.Denot s p (x, c.in-Some.field-0-1.now) rest
     (subst (IsListed point_cmp) step c.loop-point.invariant.listed)
     (subst (HasNotices g.row.A.Denot s p) step c.loop-point.invariant.left)
-    (subst (IsEnabled s) same (c.in_ok-is_enabled.ensures.0 c.if-branch.true)))
+    (subst (IsEnabled s) same tried.0) in
+    (subst (IsFirst s (IsOfRank p 2)) (sym (tried.1 ∙ same)) first, tried.2)
 
 pub loop-point-preserved : goal.loop-point-preserved
 loop-point-preserved g c =

@@ -1,10 +1,6 @@
 use Rattle.std.proofs.Common.{arith, rules}
-use Rattle.nd_cluster.proofs.Choosing.{NoReceive, more_refused, no_receive, first_receive}
+use Rattle.nd_cluster.proofs.Choosing.{NoReceive, more_refused, no_receive}
 use Rattle.nd_cluster.proofs.cluster.Cluster.first_receive.Goals as goal
-
-pub returns-then-branch : goal.returns-then-branch
-returns-then-branch g c =
-    first_receive g.row.A.Denot c.args.self.now c.args.p c.loop-from.from c.loop-from.invariant.refused (c.in_ok-is_enabled.ensures.0 c.if-branch.true)
 
 pub loop-from-preserved : goal.loop-from-preserved
 loop-from-preserved g c =

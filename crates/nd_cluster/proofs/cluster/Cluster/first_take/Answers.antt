@@ -1,4 +1,4 @@
-use Rattle.std.proofs.Common.{◌≡◌, ◌∷◌, FitsSigned, w64, to_z, of_z, ap, sym, subst, ◌∙◌, rules}
+use Rattle.std.proofs.Common.{Some, ◌≡◌, ◌∷◌, FitsSigned, w64, to_z, of_z, ap, sym, subst, ◌∙◌, rules}
 use Rattle.std.specs.Map.Iter.{deref_pair}
 use Rattle.std.proofs.lemmas.Map.Iter.{rest_more}
 use Rattle.std.proofs.lemmas.Int.{to_z-of_z}
@@ -11,7 +11,7 @@ use Rattle.nd_protocol.specs.State.{processor}
 use Rattle.nd_protocol.specs.Enabled.{IsEnabled}
 use Rattle.nd_protocol.specs.declared.step.Step.{Step}
 use Rattle.nd_protocol.specs.declared.step.Step.TheVariants.{Take}
-use Rattle.nd_cluster.specs.Choice.{IsFirst, IsOfRank}
+use Rattle.nd_cluster.specs.Choice.{IsFirst, IsOfRank, Tries}
 use Rattle.nd_cluster.proofs.Choosing.{HasTakes, CanTake, Taking, takes_listed, takes_next, no_take, first_take}
 use Rattle.nd_cluster.proofs.cluster.Cluster.first_take.Goals as goal
 
@@ -27,8 +27,8 @@ loop-key-init g c =
       is_finite = tt;
     }
 
-pub returns-then-branch : goal.returns-then-branch
-returns-then-branch g c =
+pub returns-in-Some-2 : goal.returns-in-Some-2
+returns-in-Some-2 g c =
     let s = c.args.self.now in
     let p = c.args.p in
     let key = c.in-Some.key.now in
@@ -39,11 +39,14 @@ returns-then-branch g c =
     let range : FitsSigned w64 key.value = search rules in
     let same : ◌≡◌ {A = Step g.row.A.Denot} (Take p key.point.location c.copy.result (to_z w64 (of_z w64 key.value))) (Taking g.row.A.Denot s p key)
     = λ i. Take p key.point.location (c.copy.ensures i) (to_z-of_z w64 key.value range i) in
-    subst (IsFirst s (IsOfRank p 1)) (sym same)
-    (first_take g.row.A.Denot s p (key, n) rest
+    let tried : Tries {A = g.row.A.Denot} s (Take p key.point.location c.copy.result (to_z w64 (of_z w64 key.value))) (Some c.in-Some-2.record)
+    = subst (Tries {A = g.row.A.Denot} s (Take p key.point.location c.copy.result (to_z w64 (of_z w64 key.value)))) c.in-Some-2.is c.in_ok-record.ensures in
+    let first : IsFirst {A = g.row.A.Denot} s (IsOfRank p 1) (Taking g.row.A.Denot s p key)
+    = first_take g.row.A.Denot s p (key, n) rest
     (subst (IsListed value_at_cmp) step c.loop-key.invariant.listed)
     (subst (HasTakes g.row.A.Denot s p) step c.loop-key.invariant.left)
-    (subst (IsEnabled s) same (c.in_ok-is_enabled.ensures.0 c.if-branch.true)))
+    (subst (IsEnabled s) same tried.0) in
+    (subst (IsFirst s (IsOfRank p 1)) (sym (tried.1 ∙ same)) first, tried.2)
 
 pub loop-key-preserved : goal.loop-key-preserved
 loop-key-preserved g c =

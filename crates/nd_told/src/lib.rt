@@ -1,4 +1,5 @@
-//! Clusters and steps, told by the names of locations.
+//! Clusters and steps told by the names of locations, for tests.
+#![tactic(auto)]
 
 use nd_cluster::{Cluster, Next, Part, Points, Step, Values};
 use nd_drawn::{SUM, graph_of, point, time};

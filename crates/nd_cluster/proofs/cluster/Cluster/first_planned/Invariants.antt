@@ -1,6 +1,6 @@
 use Rattle.std.proofs.Common.{◌≡◌, ◌<◌, ◌≤◌, ◌%◌, length}
 use Rattle.nd_cluster.proofs.Choosing.{NoneWaits}
-use Rattle.nd_cluster.proofs.cluster.Cluster.first_enabled.Given as goal
+use Rattle.nd_cluster.proofs.cluster.Cluster.first_planned.Given as goal
 
 abbrev pub invariant-loop-i : goal.invariant-loop-i
 invariant-loop-i g l = record {

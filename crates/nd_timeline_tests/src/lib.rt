@@ -1,0 +1,7 @@
+//! Tests of timelines: the ends of the cursor, runs, copies, and each request for memory refused in turn.
+#![tactic(auto)]
+
+#[cfg(test)]
+mod memory;
+#[cfg(test)]
+mod moves;
