@@ -1,5 +1,5 @@
-//! Tests of clusters: starts, steps that are made and undone, refusals, and each request for memory
-//! refused in turn.
+//! Tests of clusters: starts, steps that are made and undone, refusals, breakpoints, and each request
+//! for memory refused in turn.
 #![tactic(auto)]
 
 #[cfg(test)]
@@ -14,3 +14,5 @@ mod starts;
 mod told;
 #[cfg(test)]
 mod walk;
+#[cfg(test)]
+mod watch;

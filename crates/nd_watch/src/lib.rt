@@ -1,6 +1,8 @@
 //! Breakpoints: conditions on a cluster that stop a run.
 #![tactic(auto)]
 
+mod breaks;
 mod watch;
 
+pub use breaks::{Breaks, MAX_BREAKS, NoBreak, TooManyBreaks};
 pub use watch::Break;

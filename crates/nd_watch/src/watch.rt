@@ -1,20 +1,96 @@
 //! A breakpoint.
+ghost use Rattle.std.specs.Prelude.{◌≡◌, ◌↔◌, IsTrue};
+ghost use Rattle.nd_watch.specs.Breaks.{Holds};
 
+use nd_cluster::Cluster;
 use nd_paths::Pointstamp;
+use std::alloc::Allocator;
 
 /// A condition on a cluster.
+///
+/// One that names a processor or a vertex that is not there never holds.
 #[derive(Drop)]
 pub enum Break {
     /// The view of processor q has passed a pointstamp.
-    Passed { q: u32, point: Pointstamp },
+    Passed {
+        q: u32,
+        point: Pointstamp,
+    },
     /// The true count of a pointstamp is at least so much.
-    Count { point: Pointstamp, at_least: u64 },
+    Count {
+        point: Pointstamp,
+        at_least: u64,
+    },
     /// So many changes at least stand in a queue.
-    Queue { from: u32, to: u32, at_least: u64 },
+    Queue {
+        from: u32,
+        to: u32,
+        at_least: u64,
+    },
     /// The sinks of a vertex, over all processors, have counted a value so often at least.
     Sink {
         vertex: usize,
         value: i64,
         at_least: u64,
     },
+}
+
+impl Break {
+    /// Whether the condition holds.
+    pub fn holds<A: Allocator + Copy>(&self, cluster: &Cluster<A>) -> bool
+        ensures { IsTrue result ↔ Holds cluster.now self.now }
+    {
+        match self {
+            Break::Passed { q, point } => {
+                let q = *q as usize;
+                q < cluster.n() && cluster.passed(q, point)
+            }
+            Break::Count { point, at_least } => u128::from(*at_least) <= cluster.count(point),
+            Break::Queue { from, to, at_least } => {
+                let from = *from as usize;
+                let to = *to as usize;
+                from < cluster.n()
+                    && to < cluster.n()
+                    && *at_least <= cluster.queue_len(from, to) as u64
+            }
+            Break::Sink {
+                vertex,
+                value,
+                at_least,
+            } => {
+                *vertex < cluster.graph().vertices().len()
+                    && *at_least <= cluster.sink_count(*vertex, *value)
+            }
+        }
+    }
+
+    /// An equal breakpoint.
+    pub fn copy(&self) -> Break
+        ensures { result ≡ self.now }
+    {
+        match self {
+            Break::Passed { q, point } => Break::Passed {
+                q: *q,
+                point: point.copy(),
+            },
+            Break::Count { point, at_least } => Break::Count {
+                point: point.copy(),
+                at_least: *at_least,
+            },
+            Break::Queue { from, to, at_least } => Break::Queue {
+                from: *from,
+                to: *to,
+                at_least: *at_least,
+            },
+            Break::Sink {
+                vertex,
+                value,
+                at_least,
+            } => Break::Sink {
+                vertex: *vertex,
+                value: *value,
+                at_least: *at_least,
+            },
+        }
+    }
 }
