@@ -11,6 +11,7 @@ use Rattle.nd_cluster.specs.declared.change.Change.{Change}
 use Rattle.nd_cluster.specs.declared.record.Changes.{Changes}
 use Rattle.nd_cluster.specs.declared.record.Changes.TheVariants.{Each, Sent, Received}
 use Rattle.nd_cluster.specs.declared.record.Record.{Record}
+use Rattle.nd_timeline.specs.Timeline.{TimelineValue}
 use Rattle.nd_timeline.specs.Reached.{steps_of, ArePlanned, IsReached, IsCopy, AreCopies}
 
 module _ {A : Type 0} where
@@ -66,6 +67,11 @@ module _ {A : Type 0} where
         reached = was.reached ∙ ap (λ (xs : List (Step A)). after base (take n xs)) (sym (same_steps rs qs copies));
         planned = planned_copies base rs qs copies was.planned;
       })
+
+  pub same_value : (base b : ClusterState) (rs qs : List (Record A)) (n : ℕ) (m : TimelineValue A) → b ≡ base → AreCopies rs qs → record { base = base; kept = steps_of rs; cursor = n } ≡ m → record { base = b; kept = steps_of qs; cursor = n } ≡ m
+  same_value base b rs qs n m same copies is =
+      let steps : steps_of qs ≡ steps_of rs = same_steps rs qs copies in
+      rw (same, steps) is
 
   -- one more is copied
   pub copied_next : (i : ℕ) (rs qs : List (Record A)) (d q : Record A) → i < length rs → AreCopies (take i rs) qs → IsCopy (get_or rs i d) q → AreCopies (take (suc i) rs) (qs ++ q ∷ [])

@@ -80,27 +80,27 @@ pub record Goes {A : Type 0} (m : TimelineValue A) (x : Step A) (new : TimelineV
 unfoldable pub HasRun : {A : Type 0} → BreakMap → ℕ → TimelineValue A → TimelineValue A → Type 0
 HasRun breaks zero m new = new ≡ m
 HasRun breaks (suc n) m new = record {
-    mid : TimelineValue _;
-    step : Step _;
-    earlier : HasRun breaks n m mid;
-    last : Goes mid step new;
-    no_hit : NoHit breaks (cluster_of new);
-  }
+  mid : TimelineValue _;
+  step : Step _;
+  earlier : HasRun breaks n m mid;
+  last : Goes mid step new;
+  no_hit : NoHit breaks (cluster_of new);
+}
 
 -- what a run stops at, after so many steps of its own
 abbrev pub StopsAt : {A : Type 0} → BreakMap → ℕ → TimelineValue A → ℕ → Stop → TimelineValue A → Type 0
 StopsAt breaks limit m ran stop.Limit new = (ran ≡ limit) × HasRun breaks ran m new
 StopsAt {A} breaks limit m ran stop.Idle new = (ran < limit) × HasRun breaks ran m new × IsIdle A (cluster_of new)
 StopsAt {A} breaks limit m ran (stop.Break id) new = record {
-    mid : TimelineValue A;
-    step : Step A;
-    before : ℕ;
-    within : before < limit;
-    count : ran ≡ before + 1;
-    earlier : HasRun breaks before m mid;
-    last : Goes mid step new;
-    hit : FirstHit breaks (cluster_of new) id;
-  }
+  mid : TimelineValue A;
+  step : Step A;
+  before : ℕ;
+  within : before < limit;
+  count : ran ≡ before + 1;
+  earlier : HasRun breaks before m mid;
+  last : Goes mid step new;
+  hit : FirstHit breaks (cluster_of new) id;
+}
 
 -- the reply tells the cursor and the length
 abbrev pub Tells : {A : Type 0} → TimelineValue A → ℕ → ℕ → Type 0
