@@ -1,1 +1,5 @@
 pub mod Faults
+pub mod Timeline
+pub mod Moves
+pub mod Laws
+pub mod Reached

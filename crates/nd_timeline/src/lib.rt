@@ -3,8 +3,15 @@
 
 mod command;
 mod fault;
+mod laws;
+mod machine;
 mod reply;
+mod run;
+mod timeline;
 
 pub use command::Command;
 pub use fault::Fault;
+pub use laws::moves_keep_timelines;
+pub use machine::Machine;
 pub use reply::{Ran, Reply, Stop};
+pub use timeline::{MAX_KEPT, Timeline};

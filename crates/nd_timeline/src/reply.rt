@@ -24,7 +24,10 @@ pub struct Ran {
 #[derive(Debug, Drop, PartialEq, Eq)]
 pub enum Reply {
     /// The cursor has moved, and stands here among so many kept steps.
-    Moved { at: u64, kept: u64 },
+    Moved {
+        at: u64,
+        kept: u64,
+    },
     /// A run has made so many steps and stopped.
     Ran {
         at: u64,
@@ -33,7 +36,9 @@ pub enum Reply {
         stop: Stop,
     },
     /// A breakpoint is set under this id.
-    Set { id: u8 },
+    Set {
+        id: u8,
+    },
     /// A breakpoint is taken out.
     Cleared,
     /// The command is refused.

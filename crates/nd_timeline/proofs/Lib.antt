@@ -1,0 +1,5 @@
+pub mod Copying
+pub mod Keeping
+pub mod KeptSteps
+pub mod Refusing
+pub mod Running

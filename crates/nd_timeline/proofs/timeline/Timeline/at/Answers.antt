@@ -1,0 +1,7 @@
+use Rattle.std.proofs.Common.{subst}
+use Rattle.nd_timeline.specs.Timeline.{IsTimeline}
+use Rattle.nd_timeline.proofs.KeptSteps.{is_timeline}
+use Rattle.nd_timeline.proofs.timeline.Timeline.at.Goals as goal
+
+pub returns-clause-timeline : goal.returns-clause-timeline
+returns-clause-timeline g c = subst IsTimeline c.self.view_is (is_timeline c.self.inside.base c.self.inside.cluster c.self.inside.records.items c.self.inside.cursor c.self.invariant)

@@ -1,0 +1,152 @@
+-- The debugger machine: which reply a command may be answered, and what comes of it (this project's own rule).
+-- Each relation is by the cases of the reply. A case that stands nowhere is no reply to that command.
+use Rattle.std.specs.Prelude.{◌≡◌, ◌≢◌, ℕ, zero, suc, ◌+◌, ◌-◌, ◌<◌, ◌≤◌, ◌⊎◌, length, None, Result, Ok, Err}
+use Rattle.std.specs.FinMap as fin
+use Rattle.nd_time.specs.Limits.{max_kept}
+use Rattle.nd_protocol.specs.Enabled.{IsEnabled, IsRefused, MayWantMemory}
+use Rattle.nd_protocol.specs.declared.step.Step.{Step}
+use Rattle.nd_cluster.specs.Choice.{IsChosen, IsIdle}
+use Rattle.nd_watch.specs.Breaks.{BreakMap, NoHit, FirstHit, IsLeastFree, IsFull}
+use Rattle.nd_watch.specs.declared.watch.Break.{Break}
+use Rattle.nd_timeline.specs.Timeline.{TimelineValue, cluster_of, extended, moved_to}
+use Rattle.nd_timeline.specs.declared.fault.Fault.{Fault}
+use Rattle.nd_timeline.specs.declared.fault.Fault.TheVariants.{Step as of_step, Memory, AtStart, AtEnd, NoSuchPoint, TimelineFull, TooManyBreaks, NoBreak}
+use Rattle.nd_timeline.specs.declared.reply.Stop.{Stop}
+use Rattle.nd_timeline.specs.declared.reply.Stop.TheVariants as stop
+use Rattle.nd_timeline.specs.declared.reply.Ran.{Ran as RanSteps}
+use Rattle.nd_timeline.specs.declared.reply.Reply.{Reply}
+use Rattle.nd_timeline.specs.declared.reply.Reply.TheVariants.{Moved, Ran, Set, Cleared, Refused}
+use Rattle.nd_timeline.specs.declared.command.Command.{Command}
+use Rattle.nd_timeline.specs.declared.command.Command.TheVariants as command
+
+-- a timeline, and the breakpoints by their ids
+pub record MachineValue (A : Type 0) : Type 0 where
+  pub timeline : TimelineValue A
+  pub breaks : BreakMap
+
+-- a machine on which no breakpoint is set
+abbrev pub without_breaks : {A : Type 0} → TimelineValue A → MachineValue A
+without_breaks m = record { timeline = m; breaks = fin.empty }
+
+-- ---- a step forward
+
+-- what a step is refused for, the timeline having room
+abbrev pub StepFails : {A : Type 0} → TimelineValue A → Step A → Fault → Type 0
+StepFails m x (of_step r) = IsRefused (cluster_of m) x r
+StepFails m x (Memory at) = MayWantMemory (cluster_of m) x × (at ≡ m.cursor)
+StepFails m x _ = ⊥
+
+-- the step is made and kept, in the place of all that was kept behind the cursor
+abbrev pub ForwardMoves : {A : Type 0} → TimelineValue A → Step A → Reply → TimelineValue A → Type 0
+ForwardMoves m x (Refused TimelineFull) new = (max_kept ≤ m.cursor) × (new ≡ m)
+ForwardMoves m x (Refused (of_step r)) new = (m.cursor < max_kept) × IsRefused (cluster_of m) x r × (new ≡ m)
+ForwardMoves m x (Refused (Memory at)) new = (m.cursor < max_kept) × MayWantMemory (cluster_of m) x × (at ≡ m.cursor) × (new ≡ m)
+ForwardMoves m x (Moved at kept) new =
+    (m.cursor < max_kept) × IsEnabled (cluster_of m) x × (at ≡ m.cursor + 1) × (kept ≡ m.cursor + 1) × (new ≡ extended m x)
+ForwardMoves m x _ new = ⊥
+
+-- ---- the cursor moves, and the steps stay
+
+abbrev pub BackMoves : {A : Type 0} → TimelineValue A → Reply → TimelineValue A → Type 0
+BackMoves m (Refused AtStart) new = (m.cursor ≡ 0) × (new ≡ m)
+BackMoves m (Refused (Memory at)) new = (0 < m.cursor) × (at ≡ m.cursor) × (new ≡ m)
+BackMoves m (Moved at kept) new = (0 < m.cursor) × (at ≡ m.cursor - 1) × (kept ≡ length m.kept) × (new ≡ moved_to m (m.cursor - 1))
+BackMoves m _ new = ⊥
+
+abbrev pub RedoMoves : {A : Type 0} → TimelineValue A → Reply → TimelineValue A → Type 0
+RedoMoves m (Refused AtEnd) new = (length m.kept ≤ m.cursor) × (new ≡ m)
+RedoMoves m (Refused (Memory at)) new = (m.cursor < length m.kept) × (at ≡ m.cursor) × (new ≡ m)
+RedoMoves m (Moved at kept) new = (m.cursor < length m.kept) × (at ≡ m.cursor + 1) × (kept ≡ length m.kept) × (new ≡ moved_to m (m.cursor + 1))
+RedoMoves m _ new = ⊥
+
+-- from one position on the way to another, which is left out
+abbrev pub IsOnTheWay : ℕ → ℕ → ℕ → Type 0
+IsOnTheWay from to at = ((from ≤ at) × (at < to)) ⊎ ((to < at) × (at ≤ from))
+
+abbrev pub JumpMoves : {A : Type 0} → TimelineValue A → ℕ → Reply → TimelineValue A → Type 0
+JumpMoves m n (Refused NoSuchPoint) new = (length m.kept < n) × (new ≡ m)
+JumpMoves m n (Refused (Memory at)) new = (n ≤ length m.kept) × IsOnTheWay m.cursor n at × (new ≡ moved_to m at)
+JumpMoves m n (Moved at kept) new = (n ≤ length m.kept) × (at ≡ n) × (kept ≡ length m.kept) × (new ≡ moved_to m n)
+JumpMoves m n _ new = ⊥
+
+-- ---- a run
+
+-- a run may go on by this step, the first that is enabled
+pub record Goes {A : Type 0} (m : TimelineValue A) (x : Step A) (new : TimelineValue A) : Type 0 where
+  pub chosen : IsChosen (cluster_of m) m.cursor x
+  pub made : new ≡ extended m x
+
+-- it has made so many steps of its own, at none of which it stopped
+unfoldable pub HasRun : {A : Type 0} → BreakMap → ℕ → TimelineValue A → TimelineValue A → Type 0
+HasRun breaks zero m new = new ≡ m
+HasRun breaks (suc n) m new = record {
+  mid : TimelineValue _;
+  step : Step _;
+  earlier : HasRun breaks n m mid;
+  last : Goes mid step new;
+  no_hit : NoHit breaks (cluster_of new);
+}
+
+-- what a run stops at, after so many steps of its own
+abbrev pub StopsAt : {A : Type 0} → BreakMap → ℕ → TimelineValue A → ℕ → Stop → TimelineValue A → Type 0
+StopsAt breaks limit m ran stop.Limit new = (ran ≡ limit) × HasRun breaks ran m new
+StopsAt {A} breaks limit m ran stop.Idle new = (ran < limit) × HasRun breaks ran m new × IsIdle A (cluster_of new)
+StopsAt {A} breaks limit m ran (stop.Break id) new = record {
+  mid : TimelineValue A;
+  step : Step A;
+  before : ℕ;
+  within : before < limit;
+  count : ran ≡ before + 1;
+  earlier : HasRun breaks before m mid;
+  last : Goes mid step new;
+  hit : FirstHit breaks (cluster_of new) id;
+}
+
+-- the reply tells the cursor and the length
+abbrev pub Tells : {A : Type 0} → TimelineValue A → ℕ → ℕ → Type 0
+Tells new at kept = (at ≡ new.cursor) × (kept ≡ length new.kept)
+
+-- want of memory leaves the steps that were made
+abbrev pub RunMoves : {A : Type 0} → TimelineValue A → ℕ → BreakMap → Reply → TimelineValue A → Type 0
+RunMoves m limit breaks (Refused TimelineFull) new = (max_kept < m.cursor + limit) × (new ≡ m)
+RunMoves m limit breaks (Refused (Memory at)) new =
+    (m.cursor + limit ≤ max_kept) × ((ran : ℕ) × (ran < limit) × HasRun breaks ran m new × (at ≡ m.cursor + ran))
+RunMoves m limit breaks (Ran at kept ran stop) new =
+    (m.cursor + limit ≤ max_kept) × StopsAt breaks limit m ran stop new × Tells new at kept
+RunMoves m limit breaks _ new = ⊥
+
+-- ---- breakpoints
+
+abbrev pub SetMoves : BreakMap → Break → Reply → BreakMap → Type 0
+SetMoves m b (Refused TooManyBreaks) new = IsFull m × (new ≡ m)
+SetMoves m b (Set id) new = IsLeastFree m id × (new ≡ fin.insert m id b)
+SetMoves m b _ new = ⊥
+
+abbrev pub ClearMoves : BreakMap → ℕ → Reply → BreakMap → Type 0
+ClearMoves m id (Refused NoBreak) new = (fin.get m id ≡ None) × (new ≡ m)
+ClearMoves m id Cleared new = (fin.get m id ≢ None) × (new ≡ fin.remove m id)
+ClearMoves m id _ new = ⊥
+
+-- ---- the machine
+
+-- what a command may be answered by a machine, and the machine after it
+abbrev pub Moves : {A : Type 0} → MachineValue A → Command A → Reply → MachineValue A → Type 0
+Moves m (command.Forward x) reply new = ForwardMoves m.timeline x reply new.timeline × (new.breaks ≡ m.breaks)
+Moves m command.Back reply new = BackMoves m.timeline reply new.timeline × (new.breaks ≡ m.breaks)
+Moves m command.Redo reply new = RedoMoves m.timeline reply new.timeline × (new.breaks ≡ m.breaks)
+Moves m (command.Jump n) reply new = JumpMoves m.timeline n reply new.timeline × (new.breaks ≡ m.breaks)
+Moves m (command.Run limit) reply new = RunMoves m.timeline limit m.breaks reply new.timeline × (new.breaks ≡ m.breaks)
+Moves m (command.SetBreak b) reply new = SetMoves m.breaks b reply new.breaks × (new.timeline ≡ m.timeline)
+Moves m (command.ClearBreak id) reply new = ClearMoves m.breaks id reply new.breaks × (new.timeline ≡ m.timeline)
+
+-- ---- the replies of a timeline's calls
+
+-- the reply to a call that moves the cursor
+abbrev pub moved_reply : {A : Type 0} → Result (Unit {0}) Fault → TimelineValue A → Reply
+moved_reply (Ok _) new = Moved new.cursor (length new.kept)
+moved_reply (Err e) new = Refused e
+
+-- the reply to a run
+abbrev pub ran_reply : {A : Type 0} → Result RanSteps Fault → TimelineValue A → Reply
+ran_reply (Ok r) new = Ran new.cursor (length new.kept) r.ran r.stop
+ran_reply (Err e) new = Refused e

@@ -1,0 +1,55 @@
+-- How a timeline keeps what it is seen as. For its invariant alone.
+use Rattle.std.specs.Prelude.{◌≡◌, ℕ, ◌≤◌, List, [], ◌∷◌, map, length, take, refl}
+use Rattle.std.specs.Coded.{Coded, code_by, coded×, coded_ℕ, coded_list}
+use Rattle.std.specs.FinMap as fin
+use Rattle.nd_time.specs.Limits.{max_kept}
+use Rattle.nd_protocol.specs.State.{ClusterState, cluster_code}
+use Rattle.nd_protocol.specs.Steps.{after, stepped}
+use Rattle.nd_protocol.specs.Codes.{step_code}
+use Rattle.nd_protocol.specs.declared.step.Step.{Step}
+use Rattle.nd_cluster.specs.Records.{AreEqual, IsPlanned}
+use Rattle.nd_cluster.specs.declared.record.Record.{Record}
+use Rattle.nd_watch.specs.Breaks.{break_code}
+use Rattle.nd_timeline.specs.Timeline.{TimelineValue}
+use Rattle.nd_timeline.specs.Moves.{MachineValue}
+
+-- ---- codes
+
+abbrev pub timeline_code : (A : Type 0) → Coded (TimelineValue A)
+timeline_code A =
+    code_by _ (coded× cluster_code (coded× (coded_list (step_code {A = A})) coded_ℕ))
+    (λ m. (m.base, (m.kept, m.cursor))) (λ t. record { base = t.0; kept = t.1.0; cursor = t.1.1 }) (λ _. refl)
+
+abbrev pub machine_code : (A : Type 0) → Coded (MachineValue A)
+machine_code A =
+    code_by _ (coded× (timeline_code A) (fin.code coded_ℕ break_code))
+    (λ m. (m.timeline, m.breaks)) (λ t. record { timeline = t.0; breaks = t.1 }) (λ _. refl)
+
+-- ---- what holds of a timeline
+
+-- the steps that were kept
+abbrev pub steps_of : {A : Type 0} → List (Record A) → List (Step A)
+steps_of records = map (λ r. r.step) records
+
+-- each record was planned where it was made
+abbrev pub ArePlanned : {A : Type 0} → ClusterState → List (Record A) → Type 0
+ArePlanned s [] = Unit {0}
+ArePlanned s (r ∷ rs) = IsPlanned r s × ArePlanned (stepped s r.step) rs
+
+-- the cluster was reached from the base by the steps up to the cursor, and each record leads from its state
+pub record IsReached {A : Type 0} (base cluster : ClusterState) (records : List (Record A)) (cursor : ℕ) : Type 0 where
+  pub within : cursor ≤ length records
+  pub few : length records ≤ max_kept
+  pub reached : cluster ≡ after base (take cursor (steps_of records))
+  pub planned : ArePlanned base records
+
+-- ---- copies
+
+-- the same step, and the same changes
+abbrev pub IsCopy : {A : Type 0} → Record A → Record A → Type 0
+IsCopy r q = (q.step ≡ r.step) × AreEqual r.changes q.changes
+
+abbrev pub AreCopies : {A : Type 0} → List (Record A) → List (Record A) → Type 0
+AreCopies [] [] = Unit {0}
+AreCopies (r ∷ rs) (q ∷ qs) = IsCopy r q × AreCopies rs qs
+AreCopies _ _ = ⊥

@@ -1,0 +1,123 @@
+//! The debugger machine: a timeline, and breakpoints by their ids.
+ghost use Rattle.std.specs.Prelude.{◌≡◌};
+ghost use Rattle.nd_timeline.specs.Moves.{Moves, moved_reply, without_breaks};
+
+use crate::{Command, Fault, Ran, Reply, Timeline};
+use nd_watch::Breaks;
+use std::alloc::{Allocator, Global};
+use std::marker::Model;
+
+/// A timeline, and breakpoints.
+pub struct Machine<A: Allocator + Copy = Global> {
+    timeline: Timeline<A>,
+    breaks: Breaks,
+}
+
+impl<A: Allocator + Copy> Model for Machine<A> {
+    ghost use Rattle.nd_timeline.specs.Moves.{MachineValue};
+    ghost use Rattle.nd_timeline.specs.Reached.{machine_code};
+
+    ghost Value = { MachineValue A };
+
+    ghost coded = { machine_code A };
+
+    ghost view = { λ a. record { timeline = a.timeline; breaks = a.breaks } };
+}
+
+impl<A: Allocator + Copy> Drop for Machine<A> {
+    fn drop(self) {
+        let Machine {
+            timeline: _,
+            breaks: _,
+        } = self;
+    }
+}
+
+impl<A: Allocator + Copy> Machine<A> {
+    /// A machine on which no breakpoint is set.
+    pub fn new(timeline: Timeline<A>) -> Machine<A>
+        ensures { result ≡ without_breaks timeline }
+    {
+        Machine {
+            timeline,
+            breaks: Breaks::new(),
+        }
+    }
+
+    /// Its timeline.
+    pub fn timeline(&self) -> &Timeline<A>
+        ensures { result.now ≡ self.now.timeline }
+    {
+        &self.timeline
+    }
+
+    /// Its breakpoints.
+    pub fn breaks(&self) -> &Breaks
+        ensures { result.now ≡ self.now.breaks }
+    {
+        &self.breaks
+    }
+
+    /// What it was made of.
+    pub fn into_parts(self) -> (Timeline<A>, Breaks)
+        ensures timeline { result.0 ≡ self.timeline }
+        ensures breaks { result.1 ≡ self.breaks }
+    {
+        let Machine { timeline, breaks } = self;
+        (timeline, breaks)
+    }
+
+    // The reply where the cursor has moved, or has not.
+    fn moved(&self, moved: Result<(), Fault>) -> Reply
+        ensures { result ≡ moved_reply moved self.now.timeline }
+    {
+        match moved {
+            Ok(()) => Reply::Moved {
+                at: self.timeline.at(),
+                kept: self.timeline.kept(),
+            },
+            Err(fault) => Reply::Refused(fault),
+        }
+    }
+
+    /// Answers a command.
+    pub fn apply(&mut self, command: &Command<A>) -> Reply
+        ensures { Moves self.old command.now result self.new }
+    {
+        match command {
+            Command::Forward(step) => {
+                let moved = self.timeline.forward(step);
+                self.moved(moved)
+            }
+            Command::Back => {
+                let moved = self.timeline.back();
+                self.moved(moved)
+            }
+            Command::Redo => {
+                let moved = self.timeline.redo();
+                self.moved(moved)
+            }
+            Command::Jump(n) => {
+                let moved = self.timeline.jump(*n);
+                self.moved(moved)
+            }
+            Command::Run(limit) => match self.timeline.run(*limit, &self.breaks) {
+                Ok(Ran { ran, stop }) => Reply::Ran {
+                    at: self.timeline.at(),
+                    kept: self.timeline.kept(),
+                    ran,
+                    stop,
+                },
+                Err(fault) => Reply::Refused(fault),
+            },
+            Command::SetBreak(b) => match self.breaks.set(b.copy()) {
+                Ok(id) => Reply::Set { id },
+                Err(_) => Reply::Refused(Fault::TooManyBreaks),
+            },
+            Command::ClearBreak(id) => match self.breaks.clear(*id) {
+                Ok(()) => Reply::Cleared,
+                Err(_) => Reply::Refused(Fault::NoBreak),
+            },
+        }
+    }
+}

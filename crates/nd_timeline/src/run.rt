@@ -1,0 +1,48 @@
+//! Runs.
+ghost use Rattle.std.specs.Prelude.{◌≡◌};
+ghost use Rattle.nd_timeline.specs.Moves.{ran_reply, RunMoves};
+
+use crate::timeline::MAX_KEPT;
+use crate::{Fault, Ran, Stop, Timeline};
+use nd_watch::Breaks;
+use std::alloc::Allocator;
+
+impl<A: Allocator + Copy> Timeline<A> {
+    /// Makes at most `limit` steps, each the first that is enabled, until a breakpoint holds.
+    pub fn run(&mut self, limit: u64, breaks: &Breaks) -> Result<Ran, Fault>
+        ensures { RunMoves self.old limit breaks.now (ran_reply result self.new) self.new }
+    {
+        if limit > MAX_KEPT as u64 - self.at() {
+            return Err(Fault::TimelineFull);
+        }
+        for ran in 0..limit {
+            let at = self.at();
+            let Ok(chosen) = self.cluster().first_enabled(at) else {
+                return Err(Fault::Memory { at });
+            };
+            let Some(step) = chosen else {
+                return Ok(Ran {
+                    ran,
+                    stop: Stop::Idle,
+                });
+            };
+            match self.forward(&step) {
+                Ok(()) => {}
+                Err(_) => return Err(Fault::Memory { at }),
+            }
+            match breaks.first_hit(self.cluster()) {
+                Some(id) => {
+                    return Ok(Ran {
+                        ran: ran + 1,
+                        stop: Stop::Break(id),
+                    });
+                }
+                None => {}
+            }
+        }
+        Ok(Ran {
+            ran: limit,
+            stop: Stop::Limit,
+        })
+    }
+}

@@ -1,0 +1,298 @@
+//! The timeline: a cluster, the steps that are kept of it, and a cursor.
+ghost use Rattle.std.specs.Prelude.{◌≡◌, ◌<◌, ◌≤◌, ◌+◌, ◌-◌, ◌↔◌, length, slice_get, None, IfOk, IfErr, IfSome, OnOk, OnErr, IsTrue};
+ghost use Rattle.nd_time.specs.Limits.{max_kept};
+ghost use Rattle.nd_view.specs.View.{IsPassed};
+ghost use Rattle.nd_protocol.specs.State.{view};
+ghost use Rattle.nd_protocol.specs.Invariant.{KeepsProtocol, IsFinished};
+ghost use Rattle.nd_cluster.specs.Records.{IsPlanned};
+ghost use Rattle.nd_timeline.specs.Timeline.{opened, cluster_of, extended, moved_to, IsTimeline};
+ghost use Rattle.nd_timeline.specs.Reached.{AreCopies};
+ghost use Rattle.nd_timeline.specs.Moves.{moved_reply, StepFails, ForwardMoves, BackMoves, RedoMoves, JumpMoves};
+
+use crate::Fault;
+use nd_cluster::{Cluster, Record};
+use nd_paths::Pointstamp;
+use nd_protocol::{NoMemory, Refusal, Step, steps_keep_protocol};
+use std::alloc::{AllocError, Allocator, Global};
+use std::marker::Model;
+
+/// The most steps that are kept.
+pub const MAX_KEPT: usize = 1_000_000;
+
+/// A cluster that was reached from a base by kept steps, up to a cursor.
+pub struct Timeline<A: Allocator + Copy = Global> {
+    base: Cluster<A>,
+    cluster: Cluster<A>,
+    records: Vec<Record<A>, A>,
+    cursor: usize,
+}
+
+impl<A: Allocator + Copy> Model for Timeline<A> {
+    ghost use Rattle.nd_timeline.specs.Timeline.{TimelineValue};
+    ghost use Rattle.nd_timeline.specs.Reached.{timeline_code, steps_of, IsReached};
+
+    ghost Value = { TimelineValue A };
+
+    ghost coded = { timeline_code A };
+
+    ghost view = { λ a. record { base = a.base; kept = steps_of a.records.items; cursor = a.cursor } };
+
+    ghost invariant = { λ a. IsReached a.base a.cluster a.records.items a.cursor };
+}
+
+impl<A: Allocator + Copy> Drop for Timeline<A> {
+    fn drop(self) {
+        let Timeline {
+            base: _,
+            cluster: _,
+            records: _,
+            cursor: _,
+        } = self;
+    }
+}
+
+// Equal records.
+fn copied_records<A: Allocator + Copy>(
+    alloc: A,
+    records: &[Record<A>],
+) -> Result<Vec<Record<A>, A>, AllocError>
+    ensures { IfOk result (λ v. AreCopies records.now v.items) }
+{
+    let mut list = Vec::with_capacity(alloc, records.len())?;
+    for kept in records {
+        list.push(kept.copy(alloc)?)?;
+    }
+    Ok(list)
+}
+
+impl<A: Allocator + Copy> Timeline<A> {
+    /// A timeline that keeps no step yet.
+    pub fn new(alloc: A, cluster: Cluster<A>) -> Result<Timeline<A>, AllocError>
+        ensures { IfOk result (λ m. m ≡ opened A cluster) }
+    {
+        let base = cluster.copy(alloc)?;
+        Ok(Timeline {
+            base,
+            cluster,
+            records: Vec::new(alloc),
+            cursor: 0,
+        })
+    }
+
+    /// An equal timeline.
+    pub fn copy(&self, alloc: A) -> Result<Timeline<A>, AllocError>
+        ensures { IfOk result (λ m. m ≡ self.now) }
+    {
+        Ok(Timeline {
+            base: self.base.copy(alloc)?,
+            cluster: self.cluster.copy(alloc)?,
+            records: copied_records(alloc, &self.records)?,
+            cursor: self.cursor,
+        })
+    }
+
+    /// The cluster where the timeline began.
+    pub fn base(&self) -> &Cluster<A>
+        ensures { result.now ≡ self.now.base }
+    {
+        &self.base
+    }
+
+    /// The cluster at the cursor.
+    pub fn cluster(&self) -> &Cluster<A>
+        ensures value { result.now ≡ cluster_of self.now }
+        ensures protocol { KeepsProtocol self.now.base → KeepsProtocol result.now }
+    {
+        steps_keep_protocol::<A>();
+        &self.cluster
+    }
+
+    /// Whether processor q's view at the cursor holds nothing positive at or before a pointstamp
+    /// (FORTE 2013).
+    pub fn passed(&self, q: usize, point: &Pointstamp) -> bool
+        requires { q < length (cluster_of self.now).processors }
+        ensures passed { IsTrue result ↔ IsPassed (cluster_of self.now).graph (view (cluster_of self.now) q) point.now }
+        ensures finished { IsTrue result → KeepsProtocol self.now.base → IsFinished (cluster_of self.now) point.now }
+    {
+        self.cluster().passed(q, point)
+    }
+
+    /// How many of the kept steps the cluster has made.
+    pub fn at(&self) -> u64
+        ensures value { result ≡ self.now.cursor }
+        ensures timeline { IsTimeline self.now }
+    {
+        let _ = &self.records;
+        self.cursor as u64
+    }
+
+    /// How many steps are kept.
+    pub fn kept(&self) -> u64
+        ensures { result ≡ length self.now.kept }
+    {
+        self.records.len() as u64
+    }
+
+    /// A kept step.
+    pub fn step(&self, i: u64) -> Option<&Step<A>>
+        ensures none { result ≡ None → length self.now.kept ≤ i }
+        ensures some { IfSome result (λ x. slice_get self.now.kept i ≡ Some x.now) }
+    {
+        if i >= self.kept() {
+            return None;
+        }
+        Some(&self.records[i as usize].step)
+    }
+
+    // The record of a step, or why there is none.
+    fn plan(&self, step: &Step<A>) -> Result<Record<A>, Fault>
+        ensures planned { IfOk result (λ r. IsPlanned r (cluster_of self.now)) }
+        ensures step { IfOk result (λ r. r.step ≡ step.now) }
+        ensures fails { IfErr result (λ e. StepFails self.now step.now e) }
+    {
+        match self.cluster().plan(step) {
+            Ok(record) => Ok(record),
+            Err(refusal) => match refusal {
+                Refusal::Memory => Err(Fault::Memory { at: self.at() }),
+                _ => Err(Fault::Step(refusal)),
+            },
+        }
+    }
+
+    // Makes a step that is planned.
+    fn make(&mut self, planned: Record<A>) -> Result<(), NoMemory>
+        requires room { self.old.cursor < max_kept }
+        requires planned { IsPlanned planned (cluster_of self.old) }
+        ensures ok { OnOk result (self.new ≡ extended self.old planned.step) }
+        ensures err { OnErr result (self.new ≡ self.old) }
+    {
+        let Ok(()) = self.records.reserve(1) else {
+            return Err(NoMemory);
+        };
+        let Ok(()) = self.cluster.commit(&planned) else {
+            return Err(NoMemory);
+        };
+        self.records.truncate(self.cursor);
+        let Ok(()) = self.records.push(planned) else {
+            unreachable!()
+        };
+        self.cursor += 1;
+        Ok(())
+    }
+
+    /// Makes a step, and keeps it in the place of all that was kept behind the cursor.
+    pub fn forward(&mut self, step: &Step<A>) -> Result<(), Fault>
+        ensures { ForwardMoves self.old step.now (moved_reply result self.new) self.new }
+    {
+        let at = self.at();
+        if at >= MAX_KEPT as u64 {
+            return Err(Fault::TimelineFull);
+        }
+        let record = match self.plan(step) {
+            Ok(record) => record,
+            Err(fault) => return Err(fault),
+        };
+        match self.make(record) {
+            Ok(()) => Ok(()),
+            Err(NoMemory) => Err(Fault::Memory { at }),
+        }
+    }
+
+    // Undoes the step before the cursor.
+    fn undo(&mut self) -> Result<(), NoMemory>
+        requires { 0 < self.old.cursor }
+        ensures ok { OnOk result (self.new ≡ moved_to self.old (self.old.cursor - 1)) }
+        ensures err { OnErr result (self.new ≡ self.old) }
+    {
+        let last = self.cursor - 1;
+        let Ok(()) = self.cluster.back(&self.records[last]) else {
+            return Err(NoMemory);
+        };
+        self.cursor = last;
+        Ok(())
+    }
+
+    // Makes the step behind the cursor again.
+    fn make_again(&mut self) -> Result<(), NoMemory>
+        requires { self.old.cursor < length self.old.kept }
+        ensures ok { OnOk result (self.new ≡ moved_to self.old (self.old.cursor + 1)) }
+        ensures err { OnErr result (self.new ≡ self.old) }
+    {
+        let Ok(()) = self.cluster.commit(&self.records[self.cursor]) else {
+            return Err(NoMemory);
+        };
+        self.cursor += 1;
+        Ok(())
+    }
+
+    /// Undoes the step before the cursor, and keeps it.
+    pub fn back(&mut self) -> Result<(), Fault>
+        ensures { BackMoves self.old (moved_reply result self.new) self.new }
+    {
+        let at = self.at();
+        if at == 0 {
+            return Err(Fault::AtStart);
+        }
+        match self.undo() {
+            Ok(()) => Ok(()),
+            Err(NoMemory) => Err(Fault::Memory { at }),
+        }
+    }
+
+    /// Makes the step behind the cursor again.
+    pub fn redo(&mut self) -> Result<(), Fault>
+        ensures { RedoMoves self.old (moved_reply result self.new) self.new }
+    {
+        let at = self.at();
+        if at >= self.kept() {
+            return Err(Fault::AtEnd);
+        }
+        match self.make_again() {
+            Ok(()) => Ok(()),
+            Err(NoMemory) => Err(Fault::Memory { at }),
+        }
+    }
+
+    // Goes on to a position, step by step.
+    fn go_on(&mut self, n: u64) -> Result<(), Fault>
+        requires ahead { self.old.cursor ≤ n }
+        requires kept { n ≤ length self.old.kept }
+        ensures { JumpMoves self.old n (moved_reply result self.new) self.new }
+    {
+        for at in self.at()..n {
+            if let Err(NoMemory) = self.make_again() {
+                return Err(Fault::Memory { at });
+            }
+        }
+        Ok(())
+    }
+
+    // Goes back to a position, step by step.
+    fn go_back(&mut self, n: u64) -> Result<(), Fault>
+        requires behind { n ≤ self.old.cursor }
+        requires kept { n ≤ length self.old.kept }
+        ensures { JumpMoves self.old n (moved_reply result self.new) self.new }
+    {
+        let from = self.at();
+        for undone in 0..from - n {
+            if let Err(NoMemory) = self.undo() {
+                return Err(Fault::Memory { at: from - undone });
+            }
+        }
+        Ok(())
+    }
+
+    /// Goes to a position, step by step.
+    pub fn jump(&mut self, n: u64) -> Result<(), Fault>
+        ensures { JumpMoves self.old n (moved_reply result self.new) self.new }
+    {
+        if n > self.kept() {
+            return Err(Fault::NoSuchPoint);
+        }
+        if self.at() <= n {
+            self.go_on(n)
+        } else {
+            self.go_back(n)
+        }
+    }
+}
