@@ -14,5 +14,3 @@ mod runs;
 mod starts;
 #[cfg(test)]
 mod walk;
-#[cfg(test)]
-mod watch;

@@ -5,3 +5,5 @@
 mod memory;
 #[cfg(test)]
 mod moves;
+#[cfg(test)]
+mod watch;

@@ -1,6 +1,6 @@
 //! Breakpoints, and those that are set.
 
-use crate::told::{Told, reach};
+use nd_told::{Told, reach};
 use nd_cluster::{Cluster, Next};
 use nd_drawn::{LINE, point};
 use nd_graph::Graph;
