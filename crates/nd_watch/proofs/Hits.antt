@@ -1,5 +1,5 @@
 -- Which of the breakpoints that are set hold.
-use Rattle.std.proofs.Common.{◌≡◌, ◌≢◌, ◌<◌, ◌≤◌, ℕ, ◌+◌, Some, None, inl, inr, sym, ap, subst, ◌∙◌, arith}
+use Rattle.std.proofs.Common.{◌≡◌, ◌≤◌, ℕ, ◌+◌, Some, None, inl, inr, sym, ap, subst, ◌∙◌, arith}
 use Rattle.std.specs.FinMap as fin
 use Rattle.std.specs.Option.{unwrap_or}
 use Rattle.std.proofs.lemmas.Bool.{cases_lt}
@@ -33,15 +33,3 @@ no_hit_at_all m s end id past all below =
             | inr more ↦ no_hit_none m s k (past k (omega (arith, all, more))) h
           ];
     }
-
--- one id more is taken
-pub taken_more : (m : BreakMap) (id : ℕ) → fin.get m id ≢ None → ((k : ℕ) → k < id → fin.get m k ≢ None) → (k : ℕ) → k < id + 1 → fin.get m k ≢ None
-taken_more m id here below k lt none =
-    elim (cases_lt k id) [
-      | inl less ↦ below k less none
-      | inr more ↦ let same : k ≡ id = omega (arith, lt, more) in here (subst (λ k. fin.get m k ≡ None) same none)
-    ]
-
--- what is set is not none
-pub some_taken : (m : BreakMap) (id : ℕ) (b : Break) → fin.get m id ≡ Some b → fin.get m id ≢ None
-some_taken m id b is none = cc

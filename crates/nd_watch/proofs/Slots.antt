@@ -35,14 +35,14 @@ same : (k : ℕ) → eq_by_cmp nat_cmp k k ≡ true
 same k = ap is_eq (tied_itself nat_cmp_total k)
 
 -- no id before the first slot's is set
-pub get-before : (k : ℕ) (os : List (Option Break)) (q : ℕ) → q < k → fin.get (from_slots k os) q ≡ None
+get-before : (k : ℕ) (os : List (Option Break)) (q : ℕ) → q < k → fin.get (from_slots k os) q ≡ None
 get-before k [] q lt = fin.get-empty nat_cmp q
 get-before k (None ∷ os) q lt = get-before (suc k) os q (omega arith)
 get-before k (Some b ∷ os) q lt =
     fin.get-insert nat_cmp_total (from_slots (suc k) os) k b q ∙ ap (λ t. cond t (Some b) (fin.get (from_slots (suc k) os) q)) (other q k (omega arith)) ∙ get-before (suc k) os q (omega arith)
 
 -- an id is that of its slot
-pub get-slot : (k : ℕ) (os : List (Option Break)) (i q : ℕ) → q ≡ k + i → fin.get (from_slots k os) q ≡ slot_at os i
+get-slot : (k : ℕ) (os : List (Option Break)) (i q : ℕ) → q ≡ k + i → fin.get (from_slots k os) q ≡ slot_at os i
 get-slot k [] i q is = fin.get-empty nat_cmp q
 get-slot k (None ∷ os) zero q is = get-before (suc k) os q (omega arith)
 get-slot k (None ∷ os) (suc i) q is = get-slot (suc k) os i q (omega arith)
@@ -57,7 +57,7 @@ slot_is [] i o lt is = absurd (omega arith)
 slot_is (p ∷ os) zero o lt is = sym is
 slot_is (p ∷ os) (suc i) o lt is = slot_is os i o (omega arith) is
 
-pub slot_past : (os : List (Option Break)) (i : ℕ) → length os ≤ i → slot_at os i ≡ None
+slot_past : (os : List (Option Break)) (i : ℕ) → length os ≤ i → slot_at os i ≡ None
 slot_past [] i le = refl
 slot_past (p ∷ os) zero le = absurd (omega arith)
 slot_past (p ∷ os) (suc i) le = slot_past os i (omega arith)
@@ -103,21 +103,21 @@ inserted os ps i b here others =
     ∙ sym (fin.get-insert nat_cmp_total (from_slots 0 os) i b q ∙ ap (cond (eq_by_cmp nat_cmp q i) (Some b)) (get-slot 0 os q q (omega arith))))
 
 -- a slot is given a breakpoint
-pub set_put : (os : List (Option Break)) (i : ℕ) (b : Break) → i < length os → from_slots 0 (slice_set os i (Some b)) ≡ fin.insert (from_slots 0 os) i b
+set_put : (os : List (Option Break)) (i : ℕ) (b : Break) → i < length os → from_slots 0 (slice_set os i (Some b)) ≡ fin.insert (from_slots 0 os) i b
 set_put os i b lt = inserted os (slice_set os i (Some b)) i b (put-same os i (Some b) lt) (λ q ne. put-other os i q (Some b) ne)
 
 -- a slot comes at the end
-pub set_push : (os : List (Option Break)) (i : ℕ) (b : Break) → i ≡ length os → from_slots 0 (os ++ Some b ∷ []) ≡ fin.insert (from_slots 0 os) i b
+set_push : (os : List (Option Break)) (i : ℕ) (b : Break) → i ≡ length os → from_slots 0 (os ++ Some b ∷ []) ≡ fin.insert (from_slots 0 os) i b
 set_push os i b is = inserted os (os ++ Some b ∷ []) i b (push-same os i (Some b) is) (λ q ne. push-other os q (Some b) (λ e. ne (e ∙ sym is)))
 
 -- a slot becomes free
-pub cleared : (os : List (Option Break)) (i : ℕ) → i < length os → from_slots 0 (slice_set os i None) ≡ fin.remove (from_slots 0 os) i
+cleared : (os : List (Option Break)) (i : ℕ) → i < length os → from_slots 0 (slice_set os i None) ≡ fin.remove (from_slots 0 os) i
 cleared os i lt =
     fin.same_map nat_cmp_total fin.nat_cmp-IsAntisymmetric _ _ (λ q.
     get-slot 0 (slice_set os i None) q q (omega arith) ∙ differ os (slice_set os i None) i None (put-same os i None lt) (λ q ne. put-other os i q None ne) q
     ∙ sym (fin.get-remove nat_cmp_total (from_slots 0 os) i q ∙ ap (cond (eq_by_cmp nat_cmp q i) None) (get-slot 0 os q q (omega arith))))
 
-pub slot_got : (os : List (Option Break)) (i : ℕ) (o : Option Break) → slot_at os i ≡ o → fin.get (from_slots 0 os) i ≡ o
+slot_got : (os : List (Option Break)) (i : ℕ) (o : Option Break) → slot_at os i ≡ o → fin.get (from_slots 0 os) i ≡ o
 slot_got os i o is = get-slot 0 os i i (omega arith) ∙ is
 
 -- ---- the slots of a map
@@ -153,7 +153,7 @@ refilled xs ws same =
     let all : length ws ≤ length xs = omega (arith, same) in
     take-append-le (length xs) ws (drop (length ws) xs) le ∙ take_all (length xs) ws all
 
-pub written : (items os ws : List (Option Break)) (i : ℕ) (o : Option Break) → os ≡ items → ws ≡ slice_set os i o → refill (length items) items ws ≡ slice_set items i o
+written : (items os ws : List (Option Break)) (i : ℕ) (o : Option Break) → os ≡ items → ws ≡ slice_set os i o → refill (length items) items ws ≡ slice_set items i o
 written items os ws i o same is =
     let to : ws ≡ slice_set items i o = is ∙ ap (λ xs. slice_set xs i o) same in
     refilled items ws (ap length to ∙ length-set items i o) ∙ to
