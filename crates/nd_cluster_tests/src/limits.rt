@@ -1,5 +1,5 @@
 //! Clusters made of their parts: steps at the limits of numbers, and parts that are no state.
-ghost use Rattle.std.specs.Prelude.{IfSome};
+ghost use Rattle.std.specs.Prelude.{◌≡◌, All, IfSome};
 ghost use Rattle.nd_view.specs.Kept.{IsFor};
 
 use nd_told::{Told, is_state, make, start, step_of};
@@ -101,26 +101,64 @@ fn mesh_of<A: Allocator + Copy>(alloc: A, graph: &Graph<A>, between: &Between) -
     }
 }
 
+/// The order of a graph.
+fn paths_of<A: Allocator + Copy>(alloc: A, graph: &Graph<A>) -> Option<Paths<A>>
+    ensures { IfSome result (λ p. p ≡ graph.now) }
+{
+    match Paths::of(alloc, graph) {
+        Ok(paths) => Some(paths),
+        Err(_) => None,
+    }
+}
+
+/// The view of one entry at epoch 0.
+fn seen<A: Allocator + Copy>(alloc: A, paths: &Paths<A>, name: &str, n: i64) -> Option<View<A>>
+    ensures { IfSome result (IsFor paths.now) }
+{
+    let mut view = View::new(alloc);
+    let change = change_of(alloc, paths.graph(), name, n)?;
+    view.apply(paths, &change).ok()?;
+    Some(view)
+}
+
+/// The view of nothing.
+fn unseen<A: Allocator + Copy>(alloc: A, paths: &Paths<A>) -> View<A>
+    ensures { IsFor paths.now result }
+{
+    let _ = paths;
+    View::new(alloc)
+}
+
 /// The view with what it holds.
 fn view_of<A: Allocator + Copy>(alloc: A, paths: &Paths<A>, between: &Between) -> Option<View<A>>
     ensures { IfSome result (IsFor paths.now) }
 {
-    let mut view = View::new(alloc);
-    if let Between::Seen(name, n, _) = between {
-        let change = change_of(alloc, paths.graph(), name, *n)?;
-        view.apply(paths, &change).ok()?;
+    match between {
+        Between::Seen(name, n, _) => seen(alloc, paths, name, *n),
+        _ => Some(unseen(alloc, paths)),
     }
-    Some(view)
+}
+
+/// The list of one view.
+fn one<A: Allocator + Copy>(alloc: A, paths: &Paths<A>, view: View<A>) -> Option<Vec<View<A>, A>>
+    requires { IsFor paths.now view }
+    ensures { IfSome result (λ v. All (IsFor paths.now) v.items) }
+{
+    let _ = paths;
+    let mut views = Vec::new(alloc);
+    let Ok(()) = views.push(view) else {
+        return None;
+    };
+    Some(views)
 }
 
 /// The cluster of one processor with what it holds, if that is a state.
 fn cluster_of<A: Allocator + Copy>(json: Global, alloc: A, row: &Row) -> Option<Cluster<A>> {
     let graph = graph_of(json, alloc, row.0)?;
-    let paths = Paths::of(alloc, &graph).ok()?;
+    let paths = paths_of(alloc, &graph)?;
     let mut processors = Vec::new(alloc);
     processors.push(processor_of(alloc, &graph, &row.1)?).ok()?;
-    let mut views = Vec::new(alloc);
-    views.push(view_of(alloc, &paths, &row.2)?).ok()?;
+    let views = one(alloc, &paths, view_of(alloc, &paths, &row.2)?)?;
     let mesh = mesh_of(alloc, &graph, &row.2)?;
     Cluster::of_parts(alloc, &graph, paths, processors, views, mesh)
 }

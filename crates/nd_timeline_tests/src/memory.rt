@@ -137,19 +137,20 @@ fn jump_out_of_memory(rt: HostRuntime) {
 }
 
 /// Whether a run of ten with one request refused met it: then the steps made so far are kept.
-fn run_meets<A: Allocator + Copy>(
-    heap: &Heap,
-    json: Global,
-    alloc: A,
-    n: u64,
-) -> Option<bool> {
+fn run_meets<A: Allocator + Copy>(heap: &Heap, json: Global, alloc: A, n: u64) -> Option<bool> {
     let mut timeline = kept(json, alloc, &ONE)?;
     heap.refuse(n);
     let answer = timeline.run(10, &Breaks::new());
     let met = heap.relent(n);
     let at = timeline.at();
     let is_right = match answer {
-        Ok(ran) => !met && at == 4 && ran == (Ran { ran: 3, stop: Stop::Idle }),
+        Ok(ran) => !met
+            && at == 4
+            && ran
+                == (Ran {
+                    ran: 3,
+                    stop: Stop::Idle,
+                }),
         Err(fault) => met && fault == (Fault::Memory { at }),
     };
     if !is_right || timeline.kept() != at || !is_after(json, alloc, timeline.cluster(), &ALL, at)? {

@@ -2,6 +2,7 @@
 
 use nd_cluster::{Next, Step};
 use nd_drawn::{LINE, point};
+use nd_paths::Pointstamp;
 use nd_timeline::{Command, Fault, Machine, Ran, Reply, Stop, Timeline};
 use nd_told::{Told, start, step_of};
 use nd_watch::{Break, Breaks};
@@ -32,9 +33,15 @@ fn cursor_ends(rt: HostRuntime) -> Result<(), Fail> {
     assert_eq!(rt; timeline.jump(1), Err(Fault::NoSuchPoint));
     assert_eq!(rt; timeline.jump(0), Ok(()));
     assert_eq!(rt; timeline.run(1_000_001, &breaks), Err(Fault::TimelineFull));
-    let idle = Ran { ran: 0, stop: Stop::Idle };
+    let idle = Ran {
+        ran: 0,
+        stop: Stop::Idle,
+    };
     assert_eq!(rt; timeline.run(1_000_000, &breaks), Ok(idle));
-    let limit = Ran { ran: 0, stop: Stop::Limit };
+    let limit = Ran {
+        ran: 0,
+        stop: Stop::Limit,
+    };
     assert_eq!(rt; timeline.run(0, &breaks), Ok(limit));
     Ok(())
 }
@@ -56,6 +63,11 @@ fn new_future(rt: HostRuntime) -> Result<(), Fail> {
     Ok(())
 }
 
+/// Whether processor 0's view has passed a pointstamp.
+fn has_passed<A: Allocator + Copy>(timeline: &Timeline<A>, point: &Pointstamp) -> bool {
+    0 < timeline.cluster().n() && timeline.passed(0, point)
+}
+
 /// A copy goes its own way.
 fn apart<A: Allocator + Copy>(json: Global, alloc: A) -> Option<bool> {
     let mut timeline = fed(json, alloc, 3)?;
@@ -69,11 +81,56 @@ fn apart<A: Allocator + Copy>(json: Global, alloc: A) -> Option<bool> {
             && (timeline.at(), timeline.kept()) == (0, 3)
             && copy.base().count(&a) == 1
             && copy.cluster().count(&a) == 0
-            && !timeline.passed(0, &a),
+            && !has_passed(&timeline, &a),
     )
 }
 
 #[test]
 fn copies_are_apart(rt: HostRuntime) {
     assert_eq!(rt; apart(rt.alloc(), rt.alloc()), Some(true));
+}
+
+/// The number of the first command that is answered otherwise.
+fn first_wrong(machine: &mut Machine, asked: &[(Command, Reply)]) -> Option<usize> {
+    for (i, (command, reply)) in asked.iter().enumerate() {
+        if machine.apply(command) != *reply {
+            return Some(i);
+        }
+    }
+    None
+}
+
+/// Whether a machine answers each kind of command as it should.
+fn answers(alloc: Global) -> Option<bool> {
+    let timeline = fed(alloc, alloc, 0)?;
+    let step = nothing(alloc, &timeline)?;
+    let point = point(timeline.cluster().graph(), "a", &[0])?;
+    let watched = Break::Count { point, at_least: 1 };
+    let mut machine = Machine::new(timeline);
+    let asked = [
+        (Command::SetBreak(watched), Reply::Set { id: 0 }),
+        (Command::Forward(step), Reply::Moved { at: 1, kept: 1 }),
+        (
+            Command::Run(5),
+            Reply::Ran {
+                at: 3,
+                kept: 3,
+                ran: 2,
+                stop: Stop::Idle,
+            },
+        ),
+        (Command::Back, Reply::Moved { at: 2, kept: 3 }),
+        (Command::Redo, Reply::Moved { at: 3, kept: 3 }),
+        (Command::Jump(0), Reply::Moved { at: 0, kept: 3 }),
+        (Command::ClearBreak(0), Reply::Cleared),
+        (Command::ClearBreak(0), Reply::Refused(Fault::NoBreak)),
+        (Command::Back, Reply::Refused(Fault::AtStart)),
+    ];
+    let wrong = first_wrong(&mut machine, &asked);
+    Some(wrong.is_none() && machine.breaks().get(0).is_none() && machine.timeline().kept() == 3)
+}
+
+#[test]
+fn machine_answers(rt: HostRuntime) {
+    assert_eq!(rt; answers(rt.alloc()), Some(true));
 }

@@ -1,9 +1,9 @@
 //! Breakpoints, and those that are set.
 
-use nd_told::{Told, reach};
 use nd_cluster::{Cluster, Next};
 use nd_drawn::{LINE, point};
 use nd_graph::Graph;
+use nd_told::{Told, reach};
 use nd_watch::{Break, Breaks, NoBreak, TooManyBreaks};
 use std::alloc::{Allocator, Global};
 
