@@ -30,14 +30,11 @@ impl<A: Allocator + Copy> Timeline<A> {
                 Ok(()) => {}
                 Err(_) => return Err(Fault::Memory { at }),
             }
-            match breaks.first_hit(self.cluster()) {
-                Some(id) => {
-                    return Ok(Ran {
-                        ran: ran + 1,
-                        stop: Stop::Break(id),
-                    });
-                }
-                None => {}
+            if let Some(id) = breaks.first_hit(self.cluster()) {
+                return Ok(Ran {
+                    ran: ran + 1,
+                    stop: Stop::Break(id),
+                });
             }
         }
         Ok(Ran {

@@ -122,7 +122,6 @@ impl<A: Allocator + Copy> Timeline<A> {
         ensures value { result ≡ self.now.cursor }
         ensures timeline { IsTimeline self.now }
     {
-        let _ = &self.records;
         self.cursor as u64
     }
 
@@ -188,10 +187,7 @@ impl<A: Allocator + Copy> Timeline<A> {
         if at >= MAX_KEPT as u64 {
             return Err(Fault::TimelineFull);
         }
-        let record = match self.plan(step) {
-            Ok(record) => record,
-            Err(fault) => return Err(fault),
-        };
+        let record = self.plan(step)?;
         match self.make(record) {
             Ok(()) => Ok(()),
             Err(NoMemory) => Err(Fault::Memory { at }),
