@@ -1,20 +1,19 @@
 -- What was gathered is written, and a run is answered or ends.
-use Rattle.std.proofs.Common.{◌≡◌, ◌≢◌, ◌∙◌, ℕ, ◌+◌, List, [], ◌∷◌, ◌++◌, length, take, Option, Some, None, Result, Ok, Err, IfOk, IfErr, refl, sym, ap, subst, append_assoc}
-use Rattle.std.proofs.lemmas.List.{append-nil}
+use Rattle.std.proofs.Common.{◌≡◌, ◌∙◌, ℕ, ◌+◌, List, [], ◌++◌, length, take, drop, Option, Some, None, Result, Ok, Err, IfOk, IfErr, sym, ap, subst, append_assoc, take-add}
+use Rattle.std.proofs.lemmas.List.{append-nil, take-append-drop}
 use Rattle.std.proofs.Math.Seq.{take-append-add}
 use Rattle.std.specs.Io.KnownBytes.{Appends}
 use Rattle.serde_json.specs.Data.{Data}
-use Rattle.rewind_lines.specs.Cuts.{whole_lines-more}
 use Rattle.rewind_lines.specs.Lines.{whole_lines_of}
 use Rattle.rewind_lines.specs.Texts.{text_of}
-use Rattle.rewind.specs.Answers.{Phase, refused}
+use Rattle.rewind.specs.Answers.{Phase}
 use Rattle.rewind.specs.Script.{Replies, WroteFront}
 use Rattle.rewind.specs.Stages.{phase_of}
-use Rattle.rewind.specs.States.{Answered, EndsEarly, Faulted, Stands, Stopped, StopsIn}
+use Rattle.rewind.specs.States.{Answered, EndsEarly, Faulted, Stands, Stopped}
 use Rattle.rewind.specs.declared.fault.DebugFault.{DebugFault}
 use Rattle.rewind.specs.declared.fault.DebugFault.TheVariants as fault
 use Rattle.rewind.specs.declared.run.Run as declared
-use Rattle.rewind.proofs.StandLaws.{take_clip}
+use Rattle.rewind.proofs.StandLaws.{whole_lines-front}
 
 abbrev Known : Type 0
 Known = Option (List ℕ)
@@ -103,12 +102,22 @@ ends-stopped n lines before sent old new run fault.Write s e h = absurd s.stops
 ends-stopped n lines before sent old new run fault.TooLong s e h = absurd s.stops
 ends-stopped n lines before sent old new run fault.Close s e h = absurd s.stops
 
--- what ended a run ends it also where more would have come
-pub ends-later : (n : ℕ) (done more all before : List ℕ) (after : Known) (e : DebugFault) → done ++ more ≡ all → EndsEarly n (whole_lines_of done) before after e
-    → EndsEarly n (whole_lines_of all) before after e
-unfolding EndsEarly
-ends-later n done more all before after e same h =
-    let w = whole_lines-more done more in
-    let front : take (length (take h.0 (whole_lines_of done))) (whole_lines_of all) ≡ take h.0 (whole_lines_of done) =
-    ap (take (length (take h.0 (whole_lines_of done)))) (sym (ap whole_lines_of same) ∙ w.1) ∙ take_clip h.0 (whole_lines_of done) w.0 in
-    (length (take h.0 (whole_lines_of done)), subst (λ (ls : List (List ℕ)). Faulted n ls before after e) (sym front) h.1)
+-- the bytes up to one of them, and those from it on
+pub up_to : (done bytes : List ℕ) (from : ℕ) → (done ++ take from bytes) ++ drop from bytes ≡ done ++ bytes
+up_to done bytes from = append_assoc done (take from bytes) (drop from bytes) ∙ ap (λ zs. done ++ zs) (take-append-drop from bytes)
+
+pub up_to-more : (done bytes : List ℕ) (from m : ℕ) → (done ++ take from bytes) ++ take m (drop from bytes) ≡ done ++ take (from + m) bytes
+up_to-more done bytes from m = append_assoc done (take from bytes) (take m (drop from bytes)) ∙ ap (λ zs. done ++ zs) (sym (take-add from m bytes))
+
+-- a write failed on the way
+pub feeds-write : (n k from : ℕ) (done bytes before sent : List ℕ) (old new : Known) (run : declared.Run) (r : Result ℕ DebugFault)
+    → IfOk r (λ m. Stands n ((done ++ take from bytes) ++ take m (drop from bytes)) sent run)
+    → IfErr r (λ e. Stopped n (whole_lines_of ((done ++ take from bytes) ++ drop from bytes)) sent run e)
+    → old ≡ Some (before ++ sent) → Appends old new (take k run.waiting.items) → EndsEarly n (whole_lines_of (done ++ bytes)) before new fault.Write
+feeds-write n k from done bytes before sent old new run r stands stopped e h =
+    let rest = drop from bytes in
+    let all = done ++ take from bytes in
+    let front = λ (m : ℕ) (s : Stands n (all ++ take m rest) sent run).
+    ap (λ xs. take (length s.lines) (whole_lines_of xs)) (sym (up_to all rest m)) ∙ whole_lines-front n (all ++ take m rest) (drop m rest) sent run s in
+    subst (λ (xs : List ℕ). EndsEarly n (whole_lines_of xs) before new fault.Write) (up_to done bytes from)
+    (ends-write n k (whole_lines_of (all ++ rest)) before sent old new run (λ m. all ++ take m rest) r stands stopped front e h)

@@ -1,12 +1,12 @@
 -- How a run of a script ends.
-use Rattle.std.proofs.Common.{◌≡◌, ◌∙◌, ℕ, ◌+◌, ◌-◌, ◌<◌, ◌≤◌, List, [], ◌∷◌, ◌++◌, length, take, drop, refl, Option, Some, None, sym, ap, subst, arith, append_assoc, length-append, Ok, Err}
+use Rattle.std.proofs.Common.{◌≡◌, ◌≢◌, ◌∙◌, ℕ, ◌+◌, ◌-◌, ◌<◌, ◌≤◌, false, List, [], ◌∷◌, ◌++◌, length, take, drop, refl, Option, Some, None, sym, ap, subst, arith, append_assoc, length-append, Ok, Err}
 use Rattle.std.proofs.lemmas.List.{append-nil, take-append-le, take-take, take_all, length-take}
 use Rattle.std.proofs.Math.Seq.{drop-append_seam, take-append-add}
 use Rattle.std.specs.Io.KnownBytes.{Consumes, IsAtEnd, Keeps}
 use Rattle.rewind_lines.specs.Cuts.{whole_lines-at, whole_lines-newline}
 use Rattle.rewind_lines.specs.Lines.{lines_of, whole_lines_of}
 use Rattle.rewind.specs.Answers.{unstarted}
-use Rattle.rewind.specs.Faults.{IsOfRun}
+use Rattle.rewind.specs.Faults.{is_read_fault, IsOfRun}
 use Rattle.rewind.specs.Script.{AreRead, Ends, RepliedTo, Run, Takes, ended, last}
 use Rattle.rewind.specs.Stages.{phase_of}
 use Rattle.rewind.specs.States.{Answered, EndsEarly, Faulted, Going}
@@ -205,11 +205,32 @@ ends-last n limit left input before old new old_text new_text run piece e g h no
     (λ j. last j refl fits refl) (go g.taken g.answered)
 
 -- how many bytes a run took that a line ended
-pub takes-run : (limit taken : ℕ) (e : DebugFault) → IsOfRun e → taken ≤ limit + 1 → Takes limit (Err e) taken
-takes-run limit taken fault.Graph h few = few
-takes-run limit taken fault.Memory h few = few
-takes-run limit taken fault.Write h few = few
-takes-run limit taken fault.Script h few = absurd h
-takes-run limit taken fault.Read h few = absurd h
-takes-run limit taken fault.TooLong h few = absurd h
-takes-run limit taken fault.Close h few = absurd h
+pub takes-run : (limit left old mid new n most : ℕ) (e : DebugFault) → IsOfRun e → mid + left ≡ old + limit → new ≡ mid + n → n ≤ most → most ≤ left + 1
+    → Takes limit (Err e) (new - old)
+takes-run limit left old mid new n most fault.Graph h given took within few = omega arith
+takes-run limit left old mid new n most fault.Memory h given took within few = omega arith
+takes-run limit left old mid new n most fault.Write h given took within few = omega arith
+takes-run limit left old mid new n most fault.Script h given took within few = absurd h
+takes-run limit left old mid new n most fault.Read h given took within few = absurd h
+takes-run limit left old mid new n most fault.TooLong h given took within few = absurd h
+takes-run limit left old mid new n most fault.Close h given took within few = absurd h
+
+-- no read failed where a line ended the run
+pub not-read : (e : DebugFault) → IsOfRun e → is_read_fault {A = ℕ} (Err e) ≡ false
+not-read fault.Graph h = refl
+not-read fault.Memory h = refl
+not-read fault.Write h = refl
+not-read fault.Script h = absurd h
+not-read fault.Read h = absurd h
+not-read fault.TooLong h = absurd h
+not-read fault.Close h = absurd h
+
+-- and no fault of several clients
+pub one-client : (e : DebugFault) → IsOfRun e → (e ≢ fault.Script) × (e ≢ fault.Close)
+one-client fault.Graph h = (λ x. cc, λ x. cc)
+one-client fault.Memory h = (λ x. cc, λ x. cc)
+one-client fault.Write h = (λ x. cc, λ x. cc)
+one-client fault.Script h = absurd h
+one-client fault.Read h = absurd h
+one-client fault.TooLong h = absurd h
+one-client fault.Close h = absurd h

@@ -1,8 +1,7 @@
 -- A run under way goes on by a line, or stops.
-use Rattle.std.proofs.Common.{◌≡◌, ◌≢◌, ◌∙◌, ℕ, ◌+◌, zero, suc, List, [], ◌∷◌, ◌++◌, length, take, Option, Some, None, refl, sym, ap, subst, arith, append_assoc, length-append}
+use Rattle.std.proofs.Common.{◌≡◌, ◌∙◌, ℕ, ◌+◌, zero, suc, List, [], ◌∷◌, ◌++◌, length, take, refl, sym, ap, subst, arith, append_assoc, length-append}
 use Rattle.std.proofs.lemmas.Grind.{flat_map-append}
 use Rattle.std.proofs.lemmas.Bool.{ne_eqb}
-use Rattle.std.proofs.lemmas.List.{append-nil}
 use Rattle.std.proofs.Math.Seq.{take-append_seam, take-length}
 use Rattle.serde_json.specs.Data.{Data}
 use Rattle.rewind_lines.specs.Cuts.{lines-byte, lines-empty, lines-newline, whole_lines-at, whole_lines-more, whole_lines-newline}
@@ -12,7 +11,7 @@ use Rattle.rewind_lines.specs.Texts.{reply_text, text_of}
 use Rattle.rewind.specs.Answers.{Phase, unstarted, refused, Answers}
 use Rattle.rewind.specs.Script.{Run, Replies}
 use Rattle.rewind.specs.Stages.{phase_of}
-use Rattle.rewind.specs.States.{AnswersText, Stands, Stopped, StopsIn}
+use Rattle.rewind.specs.States.{AnswersText, Stands, Stopped}
 use Rattle.rewind.specs.declared.fault.DebugFault.{DebugFault}
 use Rattle.rewind.specs.declared.fault.DebugFault.TheVariants as fault
 use Rattle.rewind.specs.declared.run.Run as declared

@@ -76,7 +76,11 @@ fn answers_in_any_pieces(rt: HostRuntime) -> Result<(), Fail> {
         assert_eq!(rt; debug(rt.alloc(), &mut source, &mut sink, &ONE)?, 6);
         assert!(rt; sink.bytes.as_slice() == want.as_slice(), "by {step}");
         assert!(rt; source.has_ended && !source.has_failed && !sink.has_failed);
-        assert_eq!(rt; source.calls, script.len().div_ceil(step).saturating_add(1), "by {step}");
+        assert_eq!(rt;
+            source.calls,
+            script.len().div_ceil(step).saturating_add(1),
+            "by {step}"
+        );
     }
     Ok(())
 }
@@ -175,7 +179,11 @@ fn stops_at_its_limit(rt: HostRuntime) -> Result<(), Fail> {
 
 #[test]
 fn reads_no_more_of_a_reader_that_failed(rt: HostRuntime) -> Result<(), Fail> {
-    for kind in [ErrorKind::Interrupted, ErrorKind::WouldBlock, ErrorKind::Other] {
+    for kind in [
+        ErrorKind::Interrupted,
+        ErrorKind::WouldBlock,
+        ErrorKind::Other,
+    ] {
         for fails_at in 0..4 {
             let reader = Stumbles {
                 bytes: b"\n\n\n",
@@ -198,7 +206,11 @@ fn reads_no_more_of_a_reader_that_failed(rt: HostRuntime) -> Result<(), Fail> {
 fn writes_no_more_to_a_writer_that_failed(rt: HostRuntime) -> Result<(), Fail> {
     let script = script(rt.alloc())?;
     let want = replies(rt.alloc(), NEVER)?;
-    for kind in [ErrorKind::Interrupted, ErrorKind::WouldBlock, ErrorKind::Other] {
+    for kind in [
+        ErrorKind::Interrupted,
+        ErrorKind::WouldBlock,
+        ErrorKind::Other,
+    ] {
         for takes_none in [false, true] {
             for fails_at in [0, 1, 30, 60] {
                 let writer = Spills {

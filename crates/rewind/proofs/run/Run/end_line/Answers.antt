@@ -1,4 +1,4 @@
-use Rattle.std.proofs.Common.{◌∙◌, ap, refl}
+use Rattle.std.proofs.Common.{refl}
 use Rattle.std.proofs.lemmas.Result.{err_from_is_err_and}
 use Rattle.rewind.proofs.StandLaws.{stopped-memory-here, stopped-refused, stands-next}
 use Rattle.rewind.proofs.run.Run.end_line.Goals as goal

@@ -1,7 +1,7 @@
 use Rattle.std.proofs.Common.{◌≡◌, ◌∙◌, ℕ, suc, ◌+◌, ◌<◌, List, [], ◌∷◌, ◌++◌, length, drop, take, get_or, sym, ap, arith, subst, append_assoc, drop-cons}
-use Rattle.std.proofs.lemmas.List.{take_all, take-append-drop, take_more}
+use Rattle.std.proofs.lemmas.List.{take-append-drop, take_more}
 use Rattle.std.proofs.lemmas.Result.{err_from_is_err_and}
-use Rattle.rewind.specs.States.{Stands, Stopped}
+use Rattle.rewind.specs.States.{Stands}
 use Rattle.rewind.proofs.StandLaws.{stopped-later}
 use Rattle.rewind.proofs.run.Run.gather.Goals as goal
 
@@ -22,3 +22,17 @@ returns-in_err-push-clause-err c =
     rw (p.1, p.2) (λ n done sent s.
     stopped-later n _ (drop (suc c.loop-i.i) c.args.bytes.now) (done ++ c.args.bytes.now) sent _ _ (at_element done c.args.bytes.now c.loop-i.i c.loop-i-test.true)
     (c.in_err-push.ensures.err n (done ++ take c.loop-i.i c.args.bytes.now) sent (c.loop-i.invariant.stands n done sent s)))
+
+pub returns-then-len-ge-WAITING-clause-ok : goal.returns-then-len-ge-WAITING-clause-ok
+returns-then-len-ge-WAITING-clause-ok c = λ n done sent s.
+    subst (λ (xs : List ℕ). Stands n xs sent c.push.new.self) (one_more done c.args.bytes.now c.loop-i.i c.loop-i-test.true)
+    (c.in_ok-push.ensures.ok n (done ++ take c.loop-i.i c.args.bytes.now) sent (c.loop-i.invariant.stands n done sent s))
+
+pub loop-i-preserved : goal.loop-i-preserved
+loop-i-preserved c = record {
+  stands = λ n done sent s.
+      subst (λ (xs : List ℕ). Stands n xs sent c.push.new.self) (one_more done c.args.bytes.now c.loop-i.i c.loop-i-test.true)
+      (c.in_ok-push.ensures.ok n (done ++ take c.loop-i.i c.args.bytes.now) sent (c.loop-i.invariant.stands n done sent s));
+  number = let n = c.in_ok-push.ensures.counts.0 in let m = c.loop-i.invariant.number in omega arith;
+  replied = let n = c.in_ok-push.ensures.counts.1 in let m = c.loop-i.invariant.replied in omega arith;
+}
