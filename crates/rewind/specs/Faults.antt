@@ -35,7 +35,17 @@ status_of TooLong = 3
 status_of Memory = 4
 status_of Close = 5
 
--- the faults that a line's answer may end a run with
+-- the faults that a line may end a run with
+abbrev pub IsOfLine : DebugFault → Type 0
+IsOfLine Graph = Unit {0}
+IsOfLine Script = ⊥
+IsOfLine Read = ⊥
+IsOfLine Write = ⊥
+IsOfLine TooLong = ⊥
+IsOfLine Memory = Unit {0}
+IsOfLine Close = ⊥
+
+-- the faults that a line and the writing of its reply may end a run with
 abbrev pub IsOfRun : DebugFault → Type 0
 IsOfRun Graph = Unit {0}
 IsOfRun Script = ⊥

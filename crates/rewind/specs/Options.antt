@@ -1,5 +1,5 @@
 -- The command line `rewind [--processors N] [--clients C]`, and what clap's reading of the words gives.
-use Rattle.std.specs.Prelude.{ℕ, List, Option, Some, None, codes, pos, ⊤}
+use Rattle.std.specs.Prelude.{◌≢◌, ℕ, List, Option, Some, None, codes, pos, ⊤}
 use Rattle.std.specs.Str.Parse.{digits_value, without_leading_plus}
 use Rattle.clap.specs.Words.{App, Rule, Text, matches_of, new_app, new_rule, one_of, with_rule}
 use Rattle.clap.specs.Kinds.{IsAmong, Kinds}
@@ -8,6 +8,7 @@ use Rattle.clap.specs.declared.builder.action.ArgAction.TheVariants.{Set}
 use Rattle.clap.specs.declared.builder.value_parser.ValueParser.TheVariants as vp
 use Rattle.rewind.specs.declared.options.WordsFault.{WordsFault}
 use Rattle.rewind.specs.declared.options.WordsFault.TheVariants.{Help, Refused, Memory}
+use Rattle.clap.specs.declared.error.kind.ErrorKind.{ErrorKind}
 use Rattle.clap.specs.declared.error.kind.ErrorKind.TheVariants as kind
 
 -- `--NAME NUMBER`, a number from 1 to most
@@ -38,6 +39,10 @@ refusals words = fault_of command_line words
 -- help is asked for
 abbrev pub AskHelp : Kinds → Type 0
 AskHelp kinds = IsAmong kind.DisplayHelp kinds
+
+-- the words are refused in one of these ways, and help is not asked for
+abbrev pub AreRefused : Kinds → Type 0
+AreRefused kinds = (k : ErrorKind) × IsAmong k kinds × (k ≢ kind.DisplayHelp)
 
 -- help was asked for, and this is it
 abbrev pub IsHelp : WordsFault → Type 0

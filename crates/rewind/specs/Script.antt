@@ -48,11 +48,12 @@ pub record RanWhole (processors limit : ℕ) (input : List ℕ) (left : Option (
   pub ended : left ≡ Some []
 
 -- Each whole line of what was read is replied to.
-pub record StoppedReading (processors : ℕ) (input : List ℕ) (left : Option (List ℕ)) (before : List ℕ) (after : Option (List ℕ)) : Type 0 where
+pub record StoppedReading (processors limit : ℕ) (input : List ℕ) (left : Option (List ℕ)) (before : List ℕ) (after : Option (List ℕ)) : Type 0 where
   pub taken : List ℕ
   pub rest : List ℕ
   pub whole : input ≡ taken ++ rest
   pub told : left ≡ Some rest
+  pub within : length taken ≤ limit
   pub replied : RepliedTo processors (whole_lines_of taken) before after
 
 -- The input goes on past the limit: that was seen at one byte more, and each line that is whole by the limit is replied to.
@@ -61,16 +62,39 @@ pub record PassedLimit (processors limit : ℕ) (input : List ℕ) (left : Optio
   pub told : left ≡ Some (drop (limit + 1) input)
   pub replied : RepliedTo processors (whole_lines_of (take limit input)) before after
 
+-- The lines that can be answered once `taken` was read and `rest` is left: those that end in a newline within the limit, and at the input's end the last one too.
+pub data AreRead (limit : ℕ) (taken rest : List ℕ) (lines : List (List ℕ)) : Type 0 where
+  ended : (count : ℕ) → lines ≡ take count (whole_lines_of (take limit taken)) → AreRead limit taken rest lines
+  last : (count : ℕ) → rest ≡ [] → length taken ≤ limit → lines ≡ take count (lines_of taken) → AreRead limit taken rest lines
+
+-- The reader had `input` and has `left`: the run stopped once `taken` was read, at most one byte past the limit, and these of its lines were answered.
+pub record StoppedAt (limit : ℕ) (input : List ℕ) (left : Option (List ℕ)) : Type 0 where
+  pub taken : List ℕ
+  pub rest : List ℕ
+  pub lines : List (List ℕ)
+  pub split : input ≡ taken ++ rest
+  pub told : left ≡ Some rest
+  pub within : length taken ≤ limit + 1
+  pub are_read : AreRead limit taken rest lines
+
 -- How a run of one client ends. The reader had `input` and has `left`; the writer held `before` and holds `after`.
 abbrev pub Ends : ℕ → ℕ → List ℕ → Option (List ℕ) → List ℕ → Option (List ℕ) → Result ℕ DebugFault → Type 0
 Ends processors limit input left before after (Ok n) = RanWhole processors limit input left before after n
-Ends processors limit input left before after (Err fault.Graph) =
-    (count : ℕ) × RefusedAt processors (take count (lines_of input)) before after
-Ends processors limit input left before after (Err fault.Read) = StoppedReading processors input left before after
+Ends processors limit input left before after (Err fault.Graph) = (s : StoppedAt limit input left) × RefusedAt processors s.lines before after
+Ends processors limit input left before after (Err fault.Read) = StoppedReading processors limit input left before after
 Ends processors limit input left before after (Err fault.TooLong) = PassedLimit processors limit input left before after
-Ends processors limit input left before after (Err fault.Memory) =
-    (count : ℕ) × RepliedTo processors (take count (lines_of input)) before after
-Ends processors limit input left before after (Err fault.Write) =
-    (count : ℕ) × WroteFront processors (take count (lines_of input)) before after
+Ends processors limit input left before after (Err fault.Memory) = (s : StoppedAt limit input left) × RepliedTo processors s.lines before after
+Ends processors limit input left before after (Err fault.Write) = (s : StoppedAt limit input left) × WroteFront processors s.lines before after
 Ends processors limit input left before after (Err fault.Script) = ⊥
 Ends processors limit input left before after (Err fault.Close) = ⊥
+
+-- How many bytes a run takes, of a reader that tells them or not: one past the limit only to see that the input goes on.
+abbrev pub Takes : ℕ → Result ℕ DebugFault → ℕ → Type 0
+Takes limit (Ok n) taken = taken ≤ limit
+Takes limit (Err fault.Graph) taken = taken ≤ limit + 1
+Takes limit (Err fault.Read) taken = taken ≤ limit
+Takes limit (Err fault.TooLong) taken = taken ≡ limit + 1
+Takes limit (Err fault.Memory) taken = taken ≤ limit + 1
+Takes limit (Err fault.Write) taken = taken ≤ limit + 1
+Takes limit (Err fault.Script) taken = ⊥
+Takes limit (Err fault.Close) taken = ⊥

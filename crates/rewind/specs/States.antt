@@ -1,10 +1,10 @@
 -- How a run under way stands to what was read and written. For the clauses of private functions.
-use Rattle.std.specs.Prelude.{◌≡◌, ℕ, ◌+◌, List, [], ◌∷◌, ◌++◌, length, take, Option, Some}
+use Rattle.std.specs.Prelude.{◌≡◌, ◌≢◌, ℕ, ◌+◌, List, [], ◌∷◌, ◌++◌, length, take, Option, Some}
 use Rattle.serde_json.specs.Data.{Data}
 use Rattle.rewind_lines.specs.Front.{front_of}
 use Rattle.rewind_lines.specs.Lines.{Reading, lines_of}
 use Rattle.rewind_lines.specs.Texts.{text_of}
-use Rattle.rewind.specs.Answers.{Answers, Phase}
+use Rattle.rewind.specs.Answers.{Answers, Phase, refused}
 use Rattle.rewind.specs.Script.{RefusedAt, RepliedTo, Replies, WroteFront}
 use Rattle.rewind.specs.Stages.{phase_of}
 use Rattle.rewind.specs.declared.fault.DebugFault.{DebugFault}
@@ -18,17 +18,43 @@ pub record AnswersText (old : Phase) (number : ℕ) (reading : Reading) (text : 
   pub is_text : text ≡ text_of replies
   pub is_count : count ≡ length replies
 
--- `done` was read, and the writer held `before` and holds `after`
-pub record Stands (processors : ℕ) (done before : List ℕ) (after : Option (List ℕ)) (run : Run) : Type 0 where
+-- `done` was read, and the replies to its whole lines are `sent`, and then those that wait
+pub record Stands (processors : ℕ) (done sent : List ℕ) (run : Run) : Type 0 where
   pub lines : List (List ℕ)
   pub part : List ℕ
   pub replies : List Data
   pub split : lines_of done ≡ lines ++ part ∷ []
   pub held : run.line ≡ front_of part
   pub ran : Replies processors lines replies (phase_of run.stage)
-  pub written : after ≡ Some (before ++ text_of replies)
+  pub text : text_of replies ≡ sent ++ run.waiting.items
   pub number : run.number ≡ length lines + 1
   pub replied : run.replied ≡ length replies
+
+-- a run whose graph was refused, or for which memory ran out
+abbrev pub StopsIn : DebugFault → Phase → Type 0
+StopsIn fault.Graph phase = phase ≡ refused
+StopsIn fault.Memory phase = phase ≢ refused
+StopsIn fault.Script phase = ⊥
+StopsIn fault.Read phase = ⊥
+StopsIn fault.Write phase = ⊥
+StopsIn fault.TooLong phase = ⊥
+StopsIn fault.Close phase = ⊥
+
+-- a run stopped at one of these lines; the replies are `sent`, and then those that wait
+pub record Stopped (processors : ℕ) (lines : List (List ℕ)) (sent : List ℕ) (run : Run) (e : DebugFault) : Type 0 where
+  pub count : ℕ
+  pub replies : List Data
+  pub phase : Phase
+  pub ran : Replies processors (take count lines) replies phase
+  pub stops : StopsIn e phase
+  pub text : text_of replies ≡ sent ++ run.waiting.items
+
+-- `done` was read, no reply waits, and the writer held `before` and holds `after`
+pub record Answered (processors : ℕ) (done before : List ℕ) (after : Option (List ℕ)) (run : Run) : Type 0 where
+  pub sent : List ℕ
+  pub stands : Stands processors done sent run
+  pub written : after ≡ Some (before ++ sent)
+  pub none_waits : run.waiting.items ≡ []
 
 -- a run of these lines ended with a fault
 unfoldable pub Faulted : ℕ → List (List ℕ) → List ℕ → Option (List ℕ) → DebugFault → Type 0
@@ -40,15 +66,15 @@ Faulted processors lines before after fault.Read = ⊥
 Faulted processors lines before after fault.TooLong = ⊥
 Faulted processors lines before after fault.Close = ⊥
 
--- at one of the input's lines the run ended with a fault
-unfoldable pub EndsEarly : ℕ → List ℕ → List ℕ → Option (List ℕ) → DebugFault → Type 0
-EndsEarly processors input before after e = (count : ℕ) × Faulted processors (take count (lines_of input)) before after e
+-- at one of these lines the run ended with a fault
+unfoldable pub EndsEarly : ℕ → List (List ℕ) → List ℕ → Option (List ℕ) → DebugFault → Type 0
+EndsEarly processors lines before after e = (count : ℕ) × Faulted processors (take count lines) before after e
 
--- `taken` of the input was read, and so many bytes more may be
+-- `taken` of the input was read and answered, and so many bytes more may be read
 pub record Going (processors limit left : ℕ) (input before : List ℕ) (remaining contents : Option (List ℕ)) (run : Run) : Type 0 where
   pub taken : List ℕ
   pub rest : List ℕ
   pub whole : input ≡ taken ++ rest
   pub told : remaining ≡ Some rest
   pub count : left + length taken ≡ limit
-  pub stands : Stands processors taken before contents run
+  pub answered : Answered processors taken before contents run

@@ -8,7 +8,7 @@ ghost use Rattle.clap.specs.Values.{kind_of};
 ghost use Rattle.clap.specs.Built.{FitsChain};
 ghost use Rattle.clap.specs.declared.builder.value_parser.ValueParser.TheVariants as vp;
 ghost use Rattle.clap.specs.declared.builder.command.Command.TheViews.{out-Command};
-ghost use Rattle.rewind.specs.Options.{given, number_or_one, number_rule, refusals, AskHelp, IsHelp, IsRefused};
+ghost use Rattle.rewind.specs.Options.{given, number_or_one, number_rule, refusals, AreRefused, AskHelp, IsHelp, IsRefused};
 
 use clap::error::ErrorKind;
 use clap::{Arg, ArgAction, Command, value_parser};
@@ -114,7 +114,7 @@ pub fn options_of<S: AsStr>(alloc: Global, words: &[S]) -> Result<Options, Words
         × (1 ≤ o.clients) × (o.clients ≤ 1)) }
     ensures taken { OnOk result (refusals (map S.text words.now) ≡ []) }
     ensures help { IfErr result (λ e. IsHelp e → AskHelp (refusals (map S.text words.now))) }
-    ensures refused { IfErr result (λ e. IsRefused e → refusals (map S.text words.now) ≢ []) }
+    ensures refused { IfErr result (λ e. IsRefused e → AreRefused (refusals (map S.text words.now))) }
 {
     let processors = processors_argument(alloc);
     let clients = clients_argument(alloc);

@@ -1,22 +1,24 @@
-//! A run of a script, a byte at a time.
-ghost use Rattle.std.specs.Prelude.{◌≡◌, ◌+◌, ◌<◌, ◌≤◌, ◌^◌, ◌||◌, ◌∷◌, ◌++◌, [], Some, ℕ, List, false, length, IfOk, IfErr, IfSome, OnOk};
+//! A run of a script. The replies to what is read at a time are gathered, and written together.
+ghost use Rattle.std.specs.Prelude.{◌≡◌, ◌+◌, ◌<◌, ◌≤◌, ◌^◌, ◌∷◌, ◌++◌, [], Some, ℕ, List, false, length, take, is_err, IfOk, IfErr, IfSome, OnOk, OnErr};
+ghost use Rattle.std.specs.Io.KnownBytes.{Appends, Consumes, IsAtEnd, Keeps};
 ghost use Rattle.serde_json.specs.View.{view};
 ghost use Rattle.serde_json.specs.Written.{has_float};
 ghost use Rattle.rewind_lines.specs.Front.{front_of};
-ghost use Rattle.rewind_lines.specs.Lines.{json, reading_of};
+ghost use Rattle.rewind_lines.specs.Lines.{json, lines_of, reading_of, whole_lines_of};
 ghost use Rattle.rewind_lines.specs.Readings.{reading_view};
+ghost use Rattle.rewind_lines.specs.Reads.{given_by, is_end};
 ghost use Rattle.rewind.specs.Answers.{Answers, after_fault};
-ghost use Rattle.rewind.specs.Faults.{is_write_fault, IsOfRun};
+ghost use Rattle.rewind.specs.Faults.{is_write_fault, IsOfLine, IsOfRun};
 ghost use Rattle.rewind_forms.specs.Replies.{line_fault};
 ghost use Rattle.std.specs.Option.{option_to_list};
 ghost use Rattle.rewind.specs.Stages.{phase_of, phase_after, replies_of};
-ghost use Rattle.rewind.specs.States.{Stands, EndsEarly, AnswersText};
+ghost use Rattle.rewind.specs.States.{Answered, AnswersText, EndsEarly, Stands, Stopped};
 
 use crate::answer::{answer_first, answer_later};
 use crate::fault::DebugFault;
 use crate::stage::Stage;
 use rewind_forms::{LineFault, replies};
-use rewind_lines::{Line, Reading, Sink, send, text_of};
+use rewind_lines::{Line, Reading, Sink, Source, Unread, send, text_of};
 use serde_json::Value;
 use std::alloc::{AllocError, Global};
 
@@ -122,7 +124,10 @@ fn reply_of(
     }
 }
 
-/// What was read of a script, and what it came to.
+/// The most bytes of replies that wait, but for those to one line.
+const WAITING: usize = 65_536;
+
+/// What was read of a script, what it came to, and the replies that wait to be written.
 #[derive(Drop)]
 pub struct Run {
     alloc: Global,
@@ -130,12 +135,28 @@ pub struct Run {
     line: Line,
     number: u64,
     replied: u64,
+    waiting: Vec<u8>,
+}
+
+/// Writes the replies that wait.
+fn flush<T: Sink>(waiting: &mut Vec<u8>, sink: &mut T) -> Result<(), DebugFault>
+    requires { T.failed sink.old ≡ false }
+    ensures ok { OnOk result (Appends (T.contents sink.old) (T.contents sink.new) waiting.old.items) }
+    ensures none { OnOk result (waiting.new.items ≡ []) }
+    ensures err { IfErr result (λ e. (e ≡ DebugFault.Write)
+        × ((n : ℕ) × Appends (T.contents sink.old) (T.contents sink.new) (take n waiting.old.items))) }
+    ensures failed { T.failed sink.new ≡ is_err result }
+{
+    send(sink, waiting.as_slice())?;
+    waiting.clear();
+    Ok(())
 }
 
 impl Run {
     /// A run of so many processors, before its first line.
     pub fn new(alloc: Global, processors: u8) -> Run
-        ensures stands { (before : List ℕ) → Stands processors [] before (Some before) result }
+        ensures stands { Stands processors [] [] result }
+        ensures none_waits { result.waiting.items ≡ [] }
         ensures number { (result.number ≡ 1) × (result.replied ≡ 0) }
     {
         Run {
@@ -144,6 +165,7 @@ impl Run {
             line: Line::new(alloc),
             number: 1,
             replied: 0,
+            waiting: Vec::new(alloc),
         }
     }
 
@@ -154,20 +176,42 @@ impl Run {
         self.replied
     }
 
-    /// Ends the line, and writes the reply to it.
-    pub fn end_line<T: Sink>(&mut self, sink: &mut T) -> Result<(), DebugFault>
+    /// One read of at most so many bytes, into the front of the chunk. No reply waits for it.
+    pub fn read<S: Source>(
+        &self,
+        source: &mut S,
+        chunk: &mut [u8],
+        most: usize,
+    ) -> Result<usize, Unread>
+        requires none_waits { self.now.waiting.items ≡ [] }
+        requires some { 0 < most }
+        requires room { most ≤ length chunk.old }
+        requires goes_on { S.ended source.old ≡ false }
+        requires sound { S.failed source.old ≡ false }
+        requires few { S.given source.old + most < 2 ^ 64 }
+        ensures within { IfOk result (λ n. n ≤ most) }
+        ensures bytes { IfOk result (λ n.
+            Consumes (S.remaining source.old) (S.remaining source.new) (take n chunk.new)) }
+        ensures end { IfOk result (λ n. n ≡ 0 → IsAtEnd (S.remaining source.new)) }
+        ensures err { OnErr result (Keeps (S.remaining source.old) (S.remaining source.new)) }
+        ensures given { S.given source.new ≡ S.given source.old + given_by result }
+        ensures ended { S.ended source.new ≡ is_end result }
+        ensures failed { S.failed source.new ≡ is_err result }
+    {
+        source.read(&mut chunk[..most])
+    }
+
+    /// Ends the line, and gathers the reply to it.
+    fn end_line(&mut self) -> Result<(), DebugFault>
         requires number { self.old.number + 1 < 2 ^ 64 }
         requires replied { self.old.replied + 1 < 2 ^ 64 }
-        ensures ok { OnOk result ((processors : ℕ) (done before : List ℕ)
-            → Stands processors done before (T.contents sink.old) self.old
-            → Stands processors (done ++ 10 ∷ []) before (T.contents sink.new) self.new) }
-        ensures err { IfErr result (λ e. (processors : ℕ) (done before : List ℕ)
-            → Stands processors done before (T.contents sink.old) self.old
-            → EndsEarly processors done before (T.contents sink.new) e) }
+        ensures ok { OnOk result ((processors : ℕ) (done sent : List ℕ)
+            → Stands processors done sent self.old → Stands processors (done ++ 10 ∷ []) sent self.new) }
+        ensures err { IfErr result (λ e. (processors : ℕ) (done sent : List ℕ)
+            → Stands processors done sent self.old → Stopped processors (lines_of done) sent self.new e) }
         ensures counts { OnOk result ((self.new.number ≡ self.old.number + 1)
             × (self.new.replied ≤ self.old.replied + 1)) }
-        ensures kind { IfErr result IsOfRun }
-        ensures failed { T.failed sink.new ≡ (is_write_fault result || T.failed sink.old) }
+        ensures kind { IfErr result IsOfLine }
     {
         let (text, count, is_last) = reply_of(
             self.alloc,
@@ -175,7 +219,7 @@ impl Run {
             &self.line,
             self.number,
         )?;
-        send(sink, text.as_slice())?;
+        self.waiting.extend_from_slice(text.as_slice())?;
         if is_last {
             return Err(DebugFault::Graph);
         }
@@ -185,47 +229,96 @@ impl Run {
         Ok(())
     }
 
-    /// Reads one more byte, and replies to the line that it ends.
-    fn push<T: Sink>(&mut self, byte: u8, sink: &mut T) -> Result<(), DebugFault>
+    /// Reads one more byte, and gathers the reply to the line that it ends.
+    fn push(&mut self, byte: u8) -> Result<(), DebugFault>
         requires number { self.old.number + 1 < 2 ^ 64 }
         requires replied { self.old.replied + 1 < 2 ^ 64 }
-        ensures ok { OnOk result ((processors : ℕ) (done before : List ℕ)
-            → Stands processors done before (T.contents sink.old) self.old
-            → Stands processors (done ++ byte ∷ []) before (T.contents sink.new) self.new) }
-        ensures err { IfErr result (λ e. (processors : ℕ) (done more before : List ℕ)
-            → Stands processors done before (T.contents sink.old) self.old
-            → EndsEarly processors (done ++ byte ∷ more) before (T.contents sink.new) e) }
+        ensures ok { OnOk result ((processors : ℕ) (done sent : List ℕ)
+            → Stands processors done sent self.old → Stands processors (done ++ byte ∷ []) sent self.new) }
+        ensures err { IfErr result (λ e. (processors : ℕ) (done sent : List ℕ)
+            → Stands processors done sent self.old
+            → Stopped processors (whole_lines_of (done ++ byte ∷ [])) sent self.new e) }
         ensures counts { OnOk result ((self.new.number ≤ self.old.number + 1)
             × (self.new.replied ≤ self.old.replied + 1)) }
-        ensures kind { IfErr result IsOfRun }
-        ensures failed { T.failed sink.new ≡ (is_write_fault result || T.failed sink.old) }
+        ensures kind { IfErr result IsOfLine }
     {
         if byte == b'\n' {
-            self.end_line(sink)
+            self.end_line()
         } else {
             self.line.push(byte)?;
             Ok(())
         }
     }
 
-    /// Reads on, and replies to each line that is whole now.
+    /// Reads on until many bytes of replies wait, and says how far.
+    pub fn gather(&mut self, bytes: &[u8]) -> Result<usize, DebugFault>
+        requires number { self.old.number + length bytes.now < 2 ^ 64 }
+        requires replied { self.old.replied + length bytes.now < 2 ^ 64 }
+        ensures within { IfOk result (λ n. n ≤ length bytes.now) }
+        ensures some { IfOk result (λ n. 0 < length bytes.now → 0 < n) }
+        ensures ok { IfOk result (λ n. (processors : ℕ) (done sent : List ℕ)
+            → Stands processors done sent self.old
+            → Stands processors (done ++ take n bytes.now) sent self.new) }
+        ensures err { IfErr result (λ e. (processors : ℕ) (done sent : List ℕ)
+            → Stands processors done sent self.old
+            → Stopped processors (whole_lines_of (done ++ bytes.now)) sent self.new e) }
+        ensures counts { IfOk result (λ n. (self.new.number ≤ self.old.number + n)
+            × (self.new.replied ≤ self.old.replied + n)) }
+        ensures kind { IfErr result IsOfLine }
+    {
+        for (i, byte) in bytes.iter().enumerate() {
+            self.push(*byte)?;
+            if self.waiting.len() >= WAITING {
+                return Ok(i + 1);
+            }
+        }
+        Ok(bytes.len())
+    }
+
+    /// Reads on, and writes the replies to the lines that are whole now, gathered.
     pub fn feed<T: Sink>(&mut self, bytes: &[u8], sink: &mut T) -> Result<(), DebugFault>
         requires number { self.old.number + length bytes.now < 2 ^ 64 }
         requires replied { self.old.replied + length bytes.now < 2 ^ 64 }
+        requires none_waits { self.old.waiting.items ≡ [] }
+        requires sound { T.failed sink.old ≡ false }
         ensures ok { OnOk result ((processors : ℕ) (done before : List ℕ)
-            → Stands processors done before (T.contents sink.old) self.old
-            → Stands processors (done ++ bytes.now) before (T.contents sink.new) self.new) }
-        ensures err { IfErr result (λ e. (processors : ℕ) (done more before : List ℕ)
-            → Stands processors done before (T.contents sink.old) self.old
-            → EndsEarly processors (done ++ (bytes.now ++ more)) before (T.contents sink.new) e) }
+            → Answered processors done before (T.contents sink.old) self.old
+            → Answered processors (done ++ bytes.now) before (T.contents sink.new) self.new) }
+        ensures err { IfErr result (λ e. (processors : ℕ) (done before : List ℕ)
+            → Answered processors done before (T.contents sink.old) self.old
+            → EndsEarly processors (whole_lines_of (done ++ bytes.now)) before (T.contents sink.new) e) }
         ensures counts { OnOk result ((self.new.number ≤ self.old.number + length bytes.now)
             × (self.new.replied ≤ self.old.replied + length bytes.now)) }
+        ensures none_waits { OnOk result (self.new.waiting.items ≡ []) }
         ensures kind { IfErr result IsOfRun }
-        ensures failed { T.failed sink.new ≡ (is_write_fault result || T.failed sink.old) }
+        ensures failed { T.failed sink.new ≡ is_write_fault result }
     {
-        for byte in bytes {
-            self.push(*byte, sink)?;
+        let mut from = 0;
+        'parts: while from < bytes.len() {
+            let gathered = self.gather(&bytes[from..]);
+            flush(&mut self.waiting, sink)?;
+            from += gathered?;
         }
         Ok(())
+    }
+
+    /// Ends the last line, and writes the reply to it.
+    pub fn finish<T: Sink>(&mut self, sink: &mut T) -> Result<(), DebugFault>
+        requires number { self.old.number + 1 < 2 ^ 64 }
+        requires replied { self.old.replied + 1 < 2 ^ 64 }
+        requires none_waits { self.old.waiting.items ≡ [] }
+        requires sound { T.failed sink.old ≡ false }
+        ensures ok { OnOk result ((processors : ℕ) (done before : List ℕ)
+            → Answered processors done before (T.contents sink.old) self.old
+            → Answered processors (done ++ 10 ∷ []) before (T.contents sink.new) self.new) }
+        ensures err { IfErr result (λ e. (processors : ℕ) (done before : List ℕ)
+            → Answered processors done before (T.contents sink.old) self.old
+            → EndsEarly processors (lines_of done) before (T.contents sink.new) e) }
+        ensures kind { IfErr result IsOfRun }
+        ensures failed { T.failed sink.new ≡ is_write_fault result }
+    {
+        let ended = self.end_line();
+        flush(&mut self.waiting, sink)?;
+        ended
     }
 }

@@ -10,7 +10,8 @@ use Rattle.std.specs.Str.{IsUtf8, is_utf8}
 use Rattle.serde_json.specs.Data.{Data}
 use Rattle.serde_json.specs.Read.{read}
 use Rattle.rewind_lines.specs.Front.{Front, front_of}
-use Rattle.rewind_lines.specs.Lines.{blank, too_long, json_or_none, is_blank_byte, line_limit, json_of, reading_of}
+use Rattle.nd_time.specs.Limits.{max_line}
+use Rattle.rewind_lines.specs.Lines.{blank, too_long, json_or_none, is_blank_byte, json_of, reading_of}
 
 pub json_of-utf8 : (bs : List ℕ) → IsUtf8 bs → json_of bs ≡ read bs
 unfolding json_of
@@ -41,30 +42,30 @@ kept f g bytes longer is_blank =
     made b x y = record { bytes = b; is_longer = x; is_blank = y }
 
 -- a byte goes to the front, which has room
-pub holds-front : (held new : Front) (line : List ℕ) (b : ℕ) → held ≡ front_of line → length held.bytes < line_limit
+pub holds-front : (held new : Front) (line : List ℕ) (b : ℕ) → held ≡ front_of line → length held.bytes < max_line
     → new.bytes ≡ held.bytes ++ b ∷ [] → new.is_longer ≡ held.is_longer → new.is_blank ≡ (held.is_blank && is_blank_byte b)
     → new ≡ front_of (line ++ b ∷ [])
 holds-front held new line b h room front longer is_blank =
-    let n : length held.bytes ≡ length (take line_limit line) = ap (λ f. length f.bytes) h in
-    let short : length line < line_limit = omega (arith, length-take line_limit line) in
-    let all : held.bytes ≡ line = ap (λ f. f.bytes) h ∙ take_all line_limit line (omega arith) in
-    let fits : length (line ++ b ∷ []) ≤ line_limit = omega (arith, length-append line (b ∷ [])) in
+    let n : length held.bytes ≡ length (take max_line line) = ap (λ f. length f.bytes) h in
+    let short : length line < max_line = omega (arith, length-take max_line line) in
+    let all : held.bytes ≡ line = ap (λ f. f.bytes) h ∙ take_all max_line line (omega arith) in
+    let fits : length (line ++ b ∷ []) ≤ max_line = omega (arith, length-append line (b ∷ [])) in
     kept new (front_of (line ++ b ∷ []))
-    (front ∙ (ap (λ xs. xs ++ b ∷ []) all ∙ sym (take_all line_limit (line ++ b ∷ []) fits)))
-    (longer ∙ (ap (λ f. f.is_longer) h ∙ (le-ltb line_limit (length line) (omega arith) ∙ sym (le-ltb line_limit (length (line ++ b ∷ [])) fits))))
+    (front ∙ (ap (λ xs. xs ++ b ∷ []) all ∙ sym (take_all max_line (line ++ b ∷ []) fits)))
+    (longer ∙ (ap (λ f. f.is_longer) h ∙ (le-ltb max_line (length line) (omega arith) ∙ sym (le-ltb max_line (length (line ++ b ∷ [])) fits))))
     (is_blank ∙ blank_more line b held.is_blank (ap (λ f. f.is_blank) h))
 
 -- a byte past the front
-pub holds-longer : (held new : Front) (line : List ℕ) (b : ℕ) → held ≡ front_of line → line_limit ≤ length held.bytes
+pub holds-longer : (held new : Front) (line : List ℕ) (b : ℕ) → held ≡ front_of line → max_line ≤ length held.bytes
     → new.bytes ≡ held.bytes → new.is_longer ≡ true → new.is_blank ≡ (held.is_blank && is_blank_byte b)
     → new ≡ front_of (line ++ b ∷ [])
 holds-longer held new line b h full front longer is_blank =
-    let n : length held.bytes ≡ length (take line_limit line) = ap (λ f. length f.bytes) h in
-    let long : line_limit ≤ length line = omega (arith, length-take line_limit line) in
-    let over : line_limit < length (line ++ b ∷ []) = omega (arith, length-append line (b ∷ [])) in
+    let n : length held.bytes ≡ length (take max_line line) = ap (λ f. length f.bytes) h in
+    let long : max_line ≤ length line = omega (arith, length-take max_line line) in
+    let over : max_line < length (line ++ b ∷ []) = omega (arith, length-append line (b ∷ [])) in
     kept new (front_of (line ++ b ∷ []))
-    (front ∙ (ap (λ f. f.bytes) h ∙ sym (take-append-le line_limit line (b ∷ []) long)))
-    (longer ∙ sym (lt-ltb line_limit (length (line ++ b ∷ [])) over))
+    (front ∙ (ap (λ f. f.bytes) h ∙ sym (take-append-le max_line line (b ∷ []) long)))
+    (longer ∙ sym (lt-ltb max_line (length (line ++ b ∷ [])) over))
     (is_blank ∙ blank_more line b held.is_blank (ap (λ f. f.is_blank) h))
 
 pub reading-blank : (held : Front) (line : List ℕ) → held ≡ front_of line → held.is_blank ≡ true → blank ≡ reading_of line
@@ -77,7 +78,7 @@ pub reading-long : (held : Front) (line : List ℕ) → held ≡ front_of line �
 unfolding reading_of
 reading-long held line h e long =
     let some : list_all is_blank_byte line ≡ false = sym (ap (λ f. f.is_blank) h) ∙ e in
-    let over : nat_lt line_limit (length line) ≡ true = sym (ap (λ f. f.is_longer) h) ∙ long in
+    let over : nat_lt max_line (length line) ≡ true = sym (ap (λ f. f.is_longer) h) ∙ long in
     rw (some, over) refl
 
 pub reading-text : (held : Front) (line : List ℕ) (o : Option Data) → held ≡ front_of line → held.is_blank ≡ false → held.is_longer ≡ false
@@ -85,6 +86,6 @@ pub reading-text : (held : Front) (line : List ℕ) (o : Option Data) → held �
 unfolding reading_of
 reading-text held line o h e short is =
     let some : list_all is_blank_byte line ≡ false = sym (ap (λ f. f.is_blank) h) ∙ e in
-    let under : nat_lt line_limit (length line) ≡ false = sym (ap (λ f. f.is_longer) h) ∙ short in
-    let all : held.bytes ≡ line = ap (λ f. f.bytes) h ∙ take_all line_limit line (ltb-false line_limit (length line) under) in
+    let under : nat_lt max_line (length line) ≡ false = sym (ap (λ f. f.is_longer) h) ∙ short in
+    let all : held.bytes ≡ line = ap (λ f. f.bytes) h ∙ take_all max_line line (ltb-false max_line (length line) under) in
     rw (some, under) (ap json_or_none (is ∙ ap json_of all))

@@ -1,5 +1,5 @@
 -- Laws of an input that is cut into lines. The last part is the line that is being read; those before it are whole.
-use Rattle.std.proofs.Common.{◌≡◌, ◌∙◌, ℕ, ◌+◌, ◌-◌, Bool, true, false, cond, List, [], ◌∷◌, ◌++◌, length, take, refl, ap, arith, length-append}
+use Rattle.std.proofs.Common.{◌≡◌, ◌∙◌, ℕ, ◌+◌, ◌-◌, Bool, true, false, cond, List, [], ◌∷◌, ◌++◌, length, take, refl, sym, ap, arith, append_assoc, length-append}
 use Rattle.std.proofs.Math.Seq.{take-append_seam}
 use Rattle.std.specs.List.{slice_split, onto_first}
 use Rattle.rewind_lines.specs.Lines.{is_newline, lines_of, whole_lines_of}
@@ -86,3 +86,24 @@ whole_lines-at done ls part e =
 -- up to a newline all lines are whole
 pub whole_lines-newline : (done : List ℕ) → whole_lines_of (done ++ 10 ∷ []) ≡ lines_of done
 whole_lines-newline done = whole_lines-at (done ++ 10 ∷ []) (lines_of done) [] (lines-newline done [] ∙ ap (λ ls. lines_of done ++ ls) lines-empty)
+
+-- a list that has an element has a last one
+last-of : (first : List ℕ) (more : Parts) → (lines : Parts) × (part : List ℕ) × (first ∷ more ≡ lines ++ part ∷ [])
+last-of first [] = ([], first, refl)
+last-of first (next ∷ more) = let l = last-of next more in (first ∷ l.0, l.1, ap (λ ps. first ∷ ps) l.2)
+
+whole_lines-cut : (input : List ℕ) (lines : Parts) (part : List ℕ) → cut input ≡ lines ++ part ∷ [] → whole_lines_of input ≡ lines
+unfolding lines_of
+whole_lines-cut input lines part e = whole_lines-at input lines part e
+
+-- whole lines stay whole, whatever follows
+pub whole_lines-more : (done more : List ℕ) → (rest : List (List ℕ)) × (whole_lines_of (done ++ more) ≡ whole_lines_of done ++ rest)
+whole_lines-more done more =
+    let s = some-part done in
+    let l = last-of s.0 s.1 in
+    let m = some-part more in
+    let n = last-of (l.1 ++ m.0) m.1 in
+    let old : cut done ≡ l.0 ++ l.1 ∷ [] = s.2 ∙ l.2 in
+    let new : cut (done ++ more) ≡ (l.0 ++ n.0) ++ n.1 ∷ [] =
+    cut-append done more ∙ rw (old, m.2, joined-at l.0 l.1 m.0 m.1) (ap (λ ps. l.0 ++ ps) n.2 ∙ sym (append_assoc l.0 n.0 (n.1 ∷ []))) in
+    (n.0, whole_lines-cut (done ++ more) (l.0 ++ n.0) n.1 new ∙ ap (λ ps. ps ++ n.0) (sym (whole_lines-cut done l.0 l.1 old)))

@@ -1,7 +1,8 @@
 -- What is kept of a line while it is read.
 use Rattle.std.specs.Prelude.{ℕ, Bool, List, length, take, nat_lt}
 use Rattle.std.specs.List.{list_all}
-use Rattle.rewind_lines.specs.Lines.{is_blank_byte, line_limit}
+use Rattle.nd_time.specs.Limits.{max_line}
+use Rattle.rewind_lines.specs.Lines.{is_blank_byte}
 
 -- the first bytes of a line, whether it has more, and whether all of it is blank
 pub record Front : Type 0 where
@@ -12,7 +13,7 @@ pub record Front : Type 0 where
 -- what is kept of this line
 abbrev pub front_of : List ℕ → Front
 front_of line = record {
-  bytes = take line_limit line;
-  is_longer = nat_lt line_limit (length line);
+  bytes = take max_line line;
+  is_longer = nat_lt max_line (length line);
   is_blank = list_all is_blank_byte line;
 }

@@ -2,5 +2,6 @@ pub mod Cuts
 pub mod Front
 pub mod Lines
 pub mod Readings
+pub mod Reads
 pub mod Texts
 pub mod Writes

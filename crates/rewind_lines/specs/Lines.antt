@@ -4,11 +4,7 @@ use Rattle.std.specs.List.{slice_split, list_all}
 use Rattle.std.specs.Str.{is_utf8}
 use Rattle.serde_json.specs.Data.{Data}
 use Rattle.serde_json.specs.Read.{read}
-use Rattle.rewind_lines.specs.declared.line.TheConstants.{LINE_LIMIT}
-
--- the most bytes of a line
-abbrev pub line_limit : ℕ
-line_limit = LINE_LIMIT
+use Rattle.nd_time.specs.Limits.{max_line}
 
 abbrev pub is_newline : ℕ → Bool
 is_newline b = b == 10
@@ -45,4 +41,4 @@ json_or_none (Some d) = json d
 unfoldable pub reading_of : List ℕ → Reading
 reading_of line =
     if list_all is_blank_byte line then blank
-    else (if nat_lt line_limit (length line) then too_long else json_or_none (json_of line))
+    else (if nat_lt max_line (length line) then too_long else json_or_none (json_of line))

@@ -1,6 +1,7 @@
 //! The line that is being read.
-ghost use Rattle.std.specs.Prelude.{◌≡◌, ◌≤◌, ◌&&◌, ◌∷◌, ◌++◌, [], ℕ, List, length, IfOk, IsOk, OnOk, OnErr};
-ghost use Rattle.rewind_lines.specs.Lines.{is_blank_byte, line_limit, reading_of};
+ghost use Rattle.std.specs.Prelude.{◌≡◌, ◌≤◌, ◌&&◌, ◌||◌, ◌∷◌, ◌++◌, [], ℕ, List, length, IfOk, IsOk, IsTrue, OnOk, OnErr};
+ghost use Rattle.nd_time.specs.Limits.{max_line};
+ghost use Rattle.rewind_lines.specs.Lines.{is_blank_byte, reading_of};
 ghost use Rattle.rewind_lines.specs.Front.{front_of};
 ghost use Rattle.rewind_lines.specs.Readings.{reading_view};
 
@@ -47,7 +48,7 @@ impl<A: Allocator> Line<A> {
         ensures err { OnErr result (self.new ≡ self.old) }
 
         // Past the limit no memory is taken.
-        ensures long { line_limit ≤ length self.old.bytes → IsOk result }
+        ensures long { max_line ≤ length self.old.bytes → IsOk result }
     {
         let is_blank = still_blank(self.is_blank, byte);
         if self.front.len() >= LINE_LIMIT {
@@ -71,8 +72,11 @@ impl<A: Allocator> Line<A> {
 
     /// What the line is read as.
     pub fn reading(&self, alloc: Global) -> Result<Reading, AllocError>
-        ensures { IfOk result (λ r. (line : List ℕ) → self.now ≡ front_of line
+        ensures reading { IfOk result (λ r. (line : List ℕ) → self.now ≡ front_of line
             → reading_view r ≡ reading_of line) }
+
+        // A blank or too long line takes no memory.
+        ensures short { IsTrue (self.now.is_blank || self.now.is_longer) → IsOk result }
     {
         if self.is_blank {
             return Ok(Reading::Blank);

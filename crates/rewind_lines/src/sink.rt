@@ -1,5 +1,5 @@
 //! A sink of bytes, which tells what it holds and whether a write has failed.
-ghost use Rattle.std.specs.Prelude.{◌≡◌, ◌≤◌, ◌||◌, ℕ, List, None, Option, Bool, false, length, take, is_err, IfOk, OnOk, OnErr};
+ghost use Rattle.std.specs.Prelude.{◌≡◌, ◌≤◌, ℕ, List, None, Option, Bool, false, length, take, is_err, IfOk, OnOk, OnErr};
 ghost use Rattle.std.specs.Io.KnownBytes.{Appends, WriteAppends};
 ghost use Rattle.rewind_lines.specs.Writes.{refuses};
 
@@ -11,10 +11,10 @@ use thiserror::Error;
 #[error("a write failed")]
 pub struct Unwritten;
 
-/// A sink of bytes.
+/// A sink of bytes, which is written until it fails, and not again.
 ///
-/// Its `contents` are the bytes that it holds, where it tells them; it has `failed` from the first
-/// call on that answered an error, or took none of some bytes.
+/// Its `contents` are the bytes that it holds, where it tells them; it has `failed` once a write
+/// answered an error, or took none of some bytes.
 pub trait Sink {
     ghost contents: { Self → Option (List ℕ) } = { λ _. None };
 
@@ -22,9 +22,10 @@ pub trait Sink {
 
     /// Takes the front of the bytes, and says how many they are.
     fn write(&mut self, bytes: &[u8]) -> Result<usize, Unwritten>
+        requires { failed self.old ≡ false }
         ensures within { IfOk result (λ n. n ≤ length bytes.now) }
         ensures bytes { WriteAppends (contents self.old) (contents self.new) result bytes.now }
-        ensures failed { failed self.new ≡ (refuses result bytes.now || failed self.old) };
+        ensures failed { failed self.new ≡ refuses result bytes.now };
 }
 
 /// A standard writer as a sink.
@@ -70,10 +71,11 @@ impl<W: Write> Sink for WriteSink<W> {
 
 /// Writes all of the bytes, or the front of them.
 pub fn send<S: Sink>(sink: &mut S, bytes: &[u8]) -> Result<(), Unwritten>
+    requires { S.failed sink.old ≡ false }
     ensures ok { OnOk result (Appends (S.contents sink.old) (S.contents sink.new) bytes.now) }
     ensures err { OnErr result ((n : ℕ)
         × Appends (S.contents sink.old) (S.contents sink.new) (take n bytes.now)) }
-    ensures failed { S.failed sink.new ≡ (is_err result || S.failed sink.old) }
+    ensures failed { S.failed sink.new ≡ is_err result }
 {
     let mut sent = 0;
     'parts: while sent < bytes.len() {

@@ -1,6 +1,8 @@
-//! A source of bytes, which tells what it has left and whether a read has failed.
-ghost use Rattle.std.specs.Prelude.{◌≡◌, ◌≤◌, ◌||◌, ℕ, List, None, Option, Bool, false, length, is_err, IfOk};
+//! A source of bytes, which tells how many it has given, what it has left, and whether it has ended
+//! or failed.
+ghost use Rattle.std.specs.Prelude.{◌≡◌, ◌+◌, ◌<◌, ◌≤◌, ◌^◌, ℕ, List, None, Option, Bool, false, length, is_err, IfOk};
 ghost use Rattle.std.specs.Io.KnownBytes.{ReadConsumes};
+ghost use Rattle.rewind_lines.specs.Reads.{given_by, is_end};
 
 use std::io::Read;
 use thiserror::Error;
@@ -10,38 +12,56 @@ use thiserror::Error;
 #[error("a read failed")]
 pub struct Unread;
 
-/// A source of bytes.
+/// A source of bytes, which is read until it ends or fails, and not again.
 ///
-/// Its `remaining` are the bytes that it has left, where it tells them; it has `failed` from the
-/// first call on that answered an error.
+/// Its `remaining` are the bytes that it has left, where it tells them. It has `given` so many
+/// bytes, whether it tells them or not; it has `ended` once a read gave none, and `failed` once a
+/// read answered an error.
 pub trait Source {
     ghost remaining: { Self → Option (List ℕ) } = { λ _. None };
+
+    ghost given: { Self → ℕ };
+
+    ghost ended: { Self → Bool };
 
     ghost failed: { Self → Bool };
 
     /// Gives the next bytes into the front of the buffer, and how many they are: none only at the
-    /// end, or where the buffer is empty.
+    /// end.
     fn read(&mut self, buffer: &mut [u8]) -> Result<usize, Unread>
+        requires room { 0 < length buffer.old }
+        requires goes_on { ended self.old ≡ false }
+        requires sound { failed self.old ≡ false }
+        requires few { given self.old + length buffer.old < 2 ^ 64 }
         ensures within { IfOk result (λ n. n ≤ length buffer.new) }
         ensures bytes { ReadConsumes (remaining self.old) (remaining self.new) result buffer.new }
-        ensures failed { failed self.new ≡ (is_err result || failed self.old) };
+        ensures given { given self.new ≡ given self.old + given_by result }
+        ensures ended { ended self.new ≡ is_end result }
+        ensures failed { failed self.new ≡ is_err result };
 }
 
 /// A standard reader as a source.
 #[derive(Debug, Drop)]
 pub struct ReadSource<R> {
     pub reader: R,
+    /// How many bytes it has given.
+    pub given: u64,
+    /// Whether a read gave none.
+    pub has_ended: bool,
     /// Whether a read has failed.
     pub has_failed: bool,
 }
 
 impl<R> ReadSource<R> {
-    /// The source of a reader that has not failed.
+    /// The source of a reader that has not been read.
     pub fn new(reader: R) -> Self
-        ensures { (result.reader ≡ reader) × (result.has_failed ≡ false) }
+        ensures reader { result.reader ≡ reader }
+        ensures unread { (result.given ≡ 0) × (result.has_ended ≡ false) × (result.has_failed ≡ false) }
     {
         ReadSource {
             reader,
+            given: 0,
+            has_ended: false,
             has_failed: false,
         }
     }
@@ -50,11 +70,19 @@ impl<R> ReadSource<R> {
 impl<R: Read> Source for ReadSource<R> {
     ghost remaining = { λ s. R.remaining s.reader };
 
+    ghost given = { λ s. s.given };
+
+    ghost ended = { λ s. s.has_ended };
+
     ghost failed = { λ s. s.has_failed };
 
     fn read(&mut self, buffer: &mut [u8]) -> Result<usize, Unread> {
         match self.reader.read(buffer) {
-            Ok(n) => Ok(n),
+            Ok(n) => {
+                self.given += n as u64;
+                self.has_ended = n == 0;
+                Ok(n)
+            }
             Err(_) => {
                 self.has_failed = true;
                 Err(Unread)

@@ -1,8 +1,12 @@
 //! Sources and sinks in memory, which give and take as many bytes a call as they are told, and
-//! fail where they are told.
+//! fail where they are told; and standard readers and writers that fail.
+ghost use Rattle.std.specs.Prelude.{◌≡◌, false};
 
 use rewind_lines::{Sink, Source, Unread, Unwritten};
 use std::alloc::Global;
+use std::cell::Cell;
+use std::io;
+use std::io::{ErrorKind, Read, Write};
 
 /// A call that no run comes to.
 pub const NEVER: usize = usize::MAX;
@@ -14,16 +18,22 @@ pub struct Pieces<'a> {
     pub step: usize,
     pub calls: usize,
     pub fails_at: usize,
+    pub given: u64,
+    pub has_ended: bool,
     pub has_failed: bool,
 }
 
 /// A source of these bytes.
-pub fn pieces_of(bytes: &[u8], step: usize, fails_at: usize) -> Pieces<'_> {
+pub fn pieces_of(bytes: &[u8], step: usize, fails_at: usize) -> Pieces<'_>
+    ensures { (result.given ≡ 0) × (result.has_ended ≡ false) × (result.has_failed ≡ false) }
+{
     Pieces {
         rest: bytes,
         step,
         calls: 0,
         fails_at,
+        given: 0,
+        has_ended: false,
         has_failed: false,
     }
 }
@@ -32,6 +42,10 @@ impl Source for Pieces<'_> {
     ghost use Rattle.std.specs.Prelude.{Some};
 
     ghost remaining = { λ s. Some s.rest.now };
+
+    ghost given = { λ s. s.given };
+
+    ghost ended = { λ s. s.has_ended };
 
     ghost failed = { λ s. s.has_failed };
 
@@ -46,21 +60,30 @@ impl Source for Pieces<'_> {
         let (now, later) = self.rest.split_at(n);
         buffer[..n].copy_from_slice(now);
         self.rest = later;
+        self.given += n as u64;
+        self.has_ended = n == 0;
         Ok(n)
     }
 }
 
-/// Gives newlines without end.
+/// Gives newlines without end, and tells nothing of them.
 #[derive(Drop)]
-pub struct Newlines;
+pub struct Newlines {
+    pub given: u64,
+}
 
 impl Source for Newlines {
     ghost use Rattle.std.specs.Prelude.{false};
+
+    ghost given = { λ s. s.given };
+
+    ghost ended = { λ _. false };
 
     ghost failed = { λ _. false };
 
     fn read(&mut self, buffer: &mut [u8]) -> Result<usize, Unread> {
         buffer.fill(b'\n');
+        self.given += buffer.len() as u64;
         Ok(buffer.len())
     }
 }
@@ -77,7 +100,9 @@ pub struct Taken {
 }
 
 /// A sink that holds nothing.
-pub fn empty_sink(alloc: Global, step: usize, fails_at: usize, takes_none: bool) -> Taken {
+pub fn empty_sink(alloc: Global, step: usize, fails_at: usize, takes_none: bool) -> Taken
+    ensures { result.has_failed ≡ false }
+{
     Taken {
         bytes: Vec::new(alloc),
         step,
@@ -114,6 +139,105 @@ impl Sink for Taken {
         if n == 0 && !bytes.is_empty() {
             self.has_failed = true;
         }
+        Ok(n)
+    }
+}
+
+/// A standard reader that gives a byte a call, and fails once, at the call numbered `fails_at`.
+#[derive(Drop)]
+pub struct Stumbles {
+    pub bytes: &'static [u8],
+    pub calls: usize,
+    pub fails_at: usize,
+    pub kind: ErrorKind,
+}
+
+impl Read for Stumbles {
+    fn read(&mut self, buffer: &mut [u8]) -> io::Result<usize> {
+        let call = self.calls;
+        self.calls = call.saturating_add(1);
+        if call == self.fails_at {
+            return Err(self.kind.into());
+        }
+        if self.bytes.is_empty() || buffer.is_empty() {
+            return Ok(0);
+        }
+        buffer[0] = self.bytes[0];
+        self.bytes = &self.bytes[1..];
+        Ok(1)
+    }
+}
+
+/// A standard writer that takes a byte a call, and once, at the call numbered `fails_at`, fails or takes none.
+#[derive(Drop)]
+pub struct Spills {
+    pub bytes: Vec<u8>,
+    pub calls: usize,
+    pub fails_at: usize,
+    pub takes_none: bool,
+    pub kind: ErrorKind,
+}
+
+impl Write for Spills {
+    fn write(&mut self, bytes: &[u8]) -> io::Result<usize> {
+        let call = self.calls;
+        self.calls = call.saturating_add(1);
+        if call == self.fails_at {
+            return if self.takes_none {
+                Ok(0)
+            } else {
+                Err(self.kind.into())
+            };
+        }
+        if bytes.is_empty() {
+            return Ok(0);
+        }
+        self.bytes.push(bytes[0])?;
+        Ok(1)
+    }
+
+    fn flush(&mut self) -> io::Result<()> {
+        Ok(())
+    }
+}
+
+/// A source in pieces, which notes how many bytes its sink held as it was read.
+#[derive(Drop)]
+pub struct Asks<'a> {
+    pub pieces: Pieces<'a>,
+    pub written: &'a Cell<usize>,
+    pub seen: Vec<usize>,
+}
+
+impl Source for Asks<'_> {
+    ghost given = { λ s. s.pieces.given };
+
+    ghost ended = { λ s. s.pieces.has_ended };
+
+    ghost failed = { λ s. s.pieces.has_failed };
+
+    fn read(&mut self, buffer: &mut [u8]) -> Result<usize, Unread> {
+        if self.seen.push(self.written.get()).is_err() {
+            self.pieces.has_failed = true;
+            return Err(Unread);
+        }
+        self.pieces.read(buffer)
+    }
+}
+
+/// A sink that tells how many bytes it holds.
+#[derive(Drop)]
+pub struct Told<'a> {
+    pub taken: Taken,
+    pub written: &'a Cell<usize>,
+}
+
+impl Sink for Told<'_> {
+    ghost failed = { λ s. s.taken.has_failed };
+
+    fn write(&mut self, bytes: &[u8]) -> Result<usize, Unwritten> {
+        let n = self.taken.write(bytes)?;
+        self.written.set(self.taken.bytes.len());
         Ok(n)
     }
 }

@@ -1,10 +1,12 @@
 //! Runs of one client.
 
-use crate::ends::{NEVER, Newlines, empty_sink, pieces_of};
+use crate::ends::{Asks, NEVER, Newlines, Spills, Stumbles, Told, empty_sink, pieces_of};
 use crate::examples::LINE;
 use rewind::{DebugFault, Options, debug, debug_within};
 use rewind_lines::{ReadSource, WriteSink};
 use std::alloc::{AllocError, Global};
+use std::cell::Cell;
+use std::io::ErrorKind;
 use std::test::Fail;
 
 /// A script's lines, each with its reply. The last has no newline.
@@ -73,7 +75,12 @@ fn answers_in_any_pieces(rt: HostRuntime) -> Result<(), Fail> {
         let mut sink = empty_sink(rt.alloc(), step, NEVER, false);
         assert_eq!(rt; debug(rt.alloc(), &mut source, &mut sink, &ONE)?, 6);
         assert!(rt; sink.bytes.as_slice() == want.as_slice(), "by {step}");
-        assert!(rt; !source.has_failed && !sink.has_failed);
+        assert!(rt; source.has_ended && !source.has_failed && !sink.has_failed);
+        assert_eq!(rt;
+            source.calls,
+            script.len().div_ceil(step).saturating_add(1),
+            "by {step}"
+        );
     }
     Ok(())
 }
@@ -109,20 +116,121 @@ fn fails_with_its_sink(rt: HostRuntime) -> Result<(), Fail> {
 }
 
 #[test]
+fn gathers_its_replies(rt: HostRuntime) -> Result<(), Fail> {
+    let script = script(rt.alloc())?;
+    let want = replies(rt.alloc(), NEVER)?;
+    let mut source = pieces_of(script.as_slice(), 5000, NEVER);
+    let mut sink = empty_sink(rt.alloc(), 5000, NEVER, false);
+    assert_eq!(rt; debug(rt.alloc(), &mut source, &mut sink, &ONE)?, 6);
+    assert!(rt; sink.bytes.as_slice() == want.as_slice());
+    // What was read at once is answered at once, and then the last line, which has no newline.
+    assert_eq!(rt; sink.calls, 2);
+    Ok(())
+}
+
+#[test]
+fn answers_before_it_reads_on(rt: HostRuntime) -> Result<(), Fail> {
+    let script = script(rt.alloc())?;
+    let written = Cell::new(0);
+    let mut source = Asks {
+        pieces: pieces_of(script.as_slice(), 1, NEVER),
+        written: &written,
+        seen: Vec::new(rt.alloc()),
+    };
+    let mut sink = Told {
+        taken: empty_sink(rt.alloc(), 7, NEVER, false),
+        written: &written,
+    };
+    assert_eq!(rt; debug(rt.alloc(), &mut source, &mut sink, &ONE)?, 6);
+    for (read, seen) in source.seen.iter().enumerate() {
+        let want = replies(rt.alloc(), read)?;
+        assert_eq!(rt; *seen, want.len(), "before the byte {read}");
+    }
+    Ok(())
+}
+
+#[test]
 fn stops_at_its_limit(rt: HostRuntime) -> Result<(), Fail> {
-    let mut sink = empty_sink(rt.alloc(), 100, NEVER, false);
-    let ended = debug_within(rt.alloc(), &mut Newlines, &mut sink, &ONE, 10_000);
-    assert_eq!(rt; ended, Err(DebugFault::TooLong));
-    assert!(rt; sink.bytes.is_empty());
+    for limit in [0, 10_000, 65_536, 65_537, 200_000] {
+        let mut source = Newlines { given: 0 };
+        let mut sink = empty_sink(rt.alloc(), 100, NEVER, false);
+        let ended = debug_within(rt.alloc(), &mut source, &mut sink, &ONE, limit);
+        assert_eq!(rt; ended, Err(DebugFault::TooLong));
+        assert_eq!(rt; source.given, (limit as u64).saturating_add(1));
+        assert!(rt; sink.bytes.is_empty());
+    }
     let script = b"{\"vertices\":[],\"edges\":[]}\n{\"do\":\"back\"}\n";
-    for (limit, want) in [(41, Ok(2)), (40, Err(DebugFault::TooLong))] {
+    let first = "{\"locations\":0,\"ok\":true,\"processors\":1}\n";
+    let second = "{\"code\":20,\"error\":\"AtStart\"}\n";
+    for (limit, want, replies) in [
+        (41, Ok(2), [first, second]),
+        (40, Err(DebugFault::TooLong), [first, ""]),
+    ] {
         let mut source = pieces_of(script.as_slice(), 5, NEVER);
+        let mut sink = empty_sink(rt.alloc(), 100, NEVER, false);
         let ended = debug_within(rt.alloc(), &mut source, &mut sink, &ONE, limit);
         assert_eq!(rt; ended, want);
+        let [first, second] = replies;
+        let text = format!(in rt.alloc(); "{first}{second}")?;
+        assert!(rt; sink.bytes.as_slice() == text.as_bytes(), "within {limit}");
     }
-    let text =
-        b"{\"locations\":0,\"ok\":true,\"processors\":1}\n{\"code\":20,\"error\":\"AtStart\"}\n{\"locations\":0,\"ok\":true,\"processors\":1}\n";
-    assert!(rt; sink.bytes.as_slice() == text.as_slice());
+    Ok(())
+}
+
+#[test]
+fn reads_no_more_of_a_reader_that_failed(rt: HostRuntime) -> Result<(), Fail> {
+    for kind in [
+        ErrorKind::Interrupted,
+        ErrorKind::WouldBlock,
+        ErrorKind::Other,
+    ] {
+        for fails_at in 0..4 {
+            let reader = Stumbles {
+                bytes: b"\n\n\n",
+                calls: 0,
+                fails_at,
+                kind,
+            };
+            let mut source = ReadSource::new(reader);
+            let mut sink = empty_sink(rt.alloc(), 100, NEVER, false);
+            let ended = debug(rt.alloc(), &mut source, &mut sink, &ONE);
+            assert_eq!(rt; ended, Err(DebugFault::Read), "at {fails_at}");
+            assert_eq!(rt; source.reader.calls, fails_at.saturating_add(1));
+            assert!(rt; source.has_failed);
+        }
+    }
+    Ok(())
+}
+
+#[test]
+fn writes_no_more_to_a_writer_that_failed(rt: HostRuntime) -> Result<(), Fail> {
+    let script = script(rt.alloc())?;
+    let want = replies(rt.alloc(), NEVER)?;
+    for kind in [
+        ErrorKind::Interrupted,
+        ErrorKind::WouldBlock,
+        ErrorKind::Other,
+    ] {
+        for takes_none in [false, true] {
+            for fails_at in [0, 1, 30, 60] {
+                let writer = Spills {
+                    bytes: Vec::new(rt.alloc()),
+                    calls: 0,
+                    fails_at,
+                    takes_none,
+                    kind,
+                };
+                let mut source = pieces_of(script.as_slice(), 100, NEVER);
+                let mut sink = WriteSink::new(writer);
+                let ended = debug(rt.alloc(), &mut source, &mut sink, &ONE);
+                assert_eq!(rt; ended, Err(DebugFault::Write), "at {fails_at}");
+                assert_eq!(rt; sink.writer.calls, fails_at.saturating_add(1));
+                assert!(rt; sink.has_failed);
+                assert_eq!(rt; sink.writer.bytes.len(), fails_at);
+                assert!(rt; want.starts_with(sink.writer.bytes.as_slice()));
+            }
+        }
+    }
     Ok(())
 }
 

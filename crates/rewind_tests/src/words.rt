@@ -28,35 +28,74 @@ fn reads_both(rt: HostRuntime) -> Result<(), Fail> {
     Ok(())
 }
 
+/// Words that are refused, each with the text that says why.
+static REFUSED: [([&str; 3], &str); 7] = [
+    (
+        ["rewind", "--processors", "9"],
+        "error: invalid value '9' for '--processors <processors>': 9 is not in 1..=8\n\nFor more information, try '--help'.\n",
+    ),
+    (
+        ["rewind", "--processors", "0"],
+        "error: invalid value '0' for '--processors <processors>': 0 is not in 1..=8\n\nFor more information, try '--help'.\n",
+    ),
+    (
+        ["rewind", "--clients", "2"],
+        "error: invalid value '2' for '--clients <clients>': 2 is not in 1..=1\n\nFor more information, try '--help'.\n",
+    ),
+    (
+        ["rewind", "--processors", "one"],
+        "error: invalid value 'one' for '--processors <processors>': invalid digit found in string\n\nFor more information, try '--help'.\n",
+    ),
+    (
+        ["rewind", "--wrong", "1"],
+        "error: unexpected argument '--wrong' found\n\nUsage: rewind [OPTIONS]\n\nFor more information, try '--help'.\n",
+    ),
+    (
+        ["rewind", "--clients=1", "--clients=1"],
+        "error: the argument '--clients <clients>' cannot be used multiple times\n\nUsage: rewind [OPTIONS]\n\nFor more information, try '--help'.\n",
+    ),
+    (
+        ["rewind", "--processors=", "--clients=1"],
+        "error: invalid value '' for '--processors <processors>': cannot parse integer from empty string\n\nFor more information, try '--help'.\n",
+    ),
+];
+
 #[test]
 fn refuses(rt: HostRuntime) -> Result<(), Fail> {
-    let alloc = rt.alloc();
-    let refused = [
-        ["rewind", "--processors", "9"],
-        ["rewind", "--processors", "0"],
-        ["rewind", "--clients", "2"],
-        ["rewind", "--processors", "one"],
-        ["rewind", "--wrong", "1"],
-        ["rewind", "--clients=1", "--clients=1"],
-        ["rewind", "--processors=", "--clients=1"],
-    ];
-    for words in refused.iter() {
-        let outcome = options_of(alloc, words.as_slice());
-        let is_refused = matches!(&outcome, Err(WordsFault::Refused(_)));
-        assert!(rt; is_refused);
+    for (words, text) in REFUSED.iter() {
+        let outcome = options_of(rt.alloc(), words.as_slice());
+        let told = match &outcome {
+            Err(WordsFault::Refused(told)) => told.as_str(),
+            _ => "no refusal",
+        };
+        assert_eq!(rt; told, *text);
     }
     Ok(())
 }
 
+const HELP: &str = concat!(
+    "Runs a script of JSON lines on a model of Naiad's progress protocol, forwards and back\n\n",
+    "Usage: rewind [OPTIONS]\n\n",
+    "Options:\n",
+    "      --processors <processors>  How many processors the modelled cluster has, from 1 to 8, and 1 if not given\n",
+    "      --clients <clients>        How many clients the script has: 1 so far, and 1 if not given\n",
+    "  -h, --help                     Print help\n\n",
+    "The script is read from standard input: a graph, then a command or a query a line.\n\n",
+    "Example:\n",
+    "  {\"vertices\":[{\"name\":\"a\",\"op\":\"input\",\"depth\":0}],\"edges\":[]}\n",
+    "  {\"do\":\"feed\",\"p\":0,\"vertex\":\"a\",\"values\":[],\"next\":\"next\"}\n",
+    "  {\"do\":\"back\"}\n",
+);
+
 #[test]
 fn helps(rt: HostRuntime) -> Result<(), Fail> {
-    let outcome = options_of(rt.alloc(), ["rewind", "--help"].as_slice());
-    let is_help = match &outcome {
-        Err(WordsFault::Help(text)) => {
-            text.contains("--processors") && text.contains("--clients") && text.contains("\"back\"")
-        }
-        _ => false,
-    };
-    assert!(rt; is_help);
+    for asked in ["--help", "-h"] {
+        let outcome = options_of(rt.alloc(), ["rewind", asked].as_slice());
+        let told = match &outcome {
+            Err(WordsFault::Help(text)) => text.as_str(),
+            _ => "no help",
+        };
+        assert_eq!(rt; told, HELP);
+    }
     Ok(())
 }

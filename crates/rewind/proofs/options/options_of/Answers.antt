@@ -1,4 +1,4 @@
-use Rattle.std.proofs.Common.{◌≡◌, ◌∙◌, true, false, List, [], map, codes, inl, inr, ap, ap₂, refl, sym, subst, arith}
+use Rattle.std.proofs.Common.{◌≡◌, ◌∙◌, true, false, List, map, codes, inl, inr, ap, ap₂, refl, sym, subst, arith}
 use Rattle.std.specs.Str.{bytes_eq}
 use Rattle.std.specs.Str.Parse.{ParsesUnsigned, ExplainsUnsignedError, HasUnsignedDigitsIfOk}
 use Rattle.clap.specs.Words.{App, Text, app_of, found_of, is_simple, matches_of, one_of, one_text, rows_of, with_rule}
@@ -10,7 +10,7 @@ use Rattle.clap.specs.declared.error.kind.ErrorKind.TheVariants as kind
 use Rattle.clap.specs.declared.error.kind.ErrorKind.{ErrorKind}
 use Rattle.clap.proofs.OnLiterals.{clap_on_literals}
 use Rattle.clap.proofs.WalkLemmas.{one_text-rows}
-use Rattle.rewind.specs.Options.{command_line, number_or_one}
+use Rattle.rewind.specs.Options.{command_line, number_or_one, AreRefused}
 use Rattle.rewind.proofs.OptionReads.{two_options}
 use Rattle.rewind.proofs.options.options_of.Goals as goal
 
@@ -57,9 +57,9 @@ asked : (k : ErrorKind) (ks : Kinds) (e : Error) → HasKind ks e → kind_of e 
 asked k ks e (inl oom) is = cc
 asked k ks e (inr among) is = subst (λ (x : ErrorKind). IsAmong x ks) is among
 
-some_kind : (ks : Kinds) (e : Error) → HasKind ks e → (kind_of e ≡ kind.OutOfMemory → ⊥) → ks ≡ [] → ⊥
-some_kind ks e (inl oom) other none = other oom
-some_kind ks e (inr among) other none = subst (λ (xs : Kinds). IsAmong (kind_of e) xs) none among
+some_kind : (ks : Kinds) (e : Error) → HasKind ks e → (kind_of e ≡ kind.DisplayHelp → ⊥) → (kind_of e ≡ kind.OutOfMemory → ⊥) → AreRefused ks
+some_kind ks e (inl oom) help other = absurd (other oom)
+some_kind ks e (inr among) help other = (kind_of e, among, help)
 
 pub returns-in-Err-try_get_matches_from-clause-help : goal.returns-in-Err-try_get_matches_from-clause-help
 returns-in-Err-try_get_matches_from-clause-help g c =
@@ -83,4 +83,4 @@ returns-in-Err-try_get_matches_from-clause-refused g c =
     ∙ ap₂ with_rule (c.in-Ok.ensures.shape a.ensures.plain.1 ∙ ap₂ with_rule c.empty_command.ensures.app a.ensures.rule) b.ensures.rule in
     let kinds : HasKind (fault_of command_line words) e =
     subst (λ (x : App). HasKind (fault_of x words) e) is (c.in-Err-try_get_matches_from.ensures.kinds (ap is_simple_and_free is ∙ line_is_free)) in
-    λ h none. some_kind (fault_of command_line words) e kinds (c.fault_of.ensures.refused h).1 none
+    λ h. some_kind (fault_of command_line words) e kinds (c.fault_of.ensures.refused h).0 (c.fault_of.ensures.refused h).1

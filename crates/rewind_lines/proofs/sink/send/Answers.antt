@@ -1,4 +1,4 @@
-use Rattle.std.proofs.Common.{◌∙◌, ◌≤◌, ◌||◌, Bool, length, drop, ap, arith, length-drop, take-add}
+use Rattle.std.proofs.Common.{◌∙◌, ◌≤◌, length, drop, arith, length-drop, take-add}
 use Rattle.std.proofs.lemmas.List.{take_rest}
 use Rattle.rewind_lines.proofs.Known.{Appends-append, refuses-none}
 use Rattle.rewind_lines.proofs.sink.send.Goals as goal
@@ -10,6 +10,5 @@ parts-preserved g c =
     record {
       within = omega (arith, length-drop c.parts.sent c.args.bytes.now);
       appended = rw (take-add c.parts.sent c.in-Ok.n c.args.bytes.now) (Appends-append _ _ _ _ _ c.parts.invariant.appended more);
-      sound = c.in-Ok.ensures.failed
-          ∙ (ap (λ (b : Bool). b || g.S.Sink.failed c.parts.sink) (refuses-none c.in-Ok.n _ c.in-Ok.n-test.1) ∙ c.parts.invariant.sound);
+      sound = c.in-Ok.ensures.failed ∙ refuses-none c.in-Ok.n _ c.in-Ok.n-test.1;
     }

@@ -1,42 +1,63 @@
-use Rattle.std.proofs.Common.{◌≡◌, ◌∙◌, ℕ, suc, ◌+◌, ◌<◌, List, [], ◌∷◌, ◌++◌, length, drop, take, get_or, sym, ap, arith, subst, append_assoc, drop-cons}
-use Rattle.std.proofs.lemmas.List.{take_all, take-append-drop, take_more}
-use Rattle.std.proofs.lemmas.Result.{err_from_is_err_and}
-use Rattle.rewind.specs.States.{EndsEarly, Stands}
+use Rattle.std.proofs.Common.{ℕ, ◌≤◌, List, ◌++◌, length, drop, take, refl, arith, subst, length-drop}
+use Rattle.std.proofs.lemmas.List.{take_all, take_rest}
+use Rattle.std.proofs.lemmas.Result.{IfErr-weaker, IfOk-weaker, err_from_is_err_and}
+use Rattle.rewind_lines.specs.Lines.{whole_lines_of}
+use Rattle.rewind.specs.States.{Answered, EndsEarly}
+use Rattle.rewind.specs.declared.run.Run.{Run}
+use Rattle.rewind.proofs.AnsweredLaws.{answered-flush, ends-stopped, feeds-write, up_to, up_to-more}
 use Rattle.rewind.proofs.run.Run.feed.Goals as goal
 
--- the bytes at one of them, between what was read and what follows
-at_element : (done bytes more : List ℕ) (i : ℕ) → i < length bytes
-    → (done ++ take i bytes) ++ get_or bytes i 0 ∷ (drop (suc i) bytes ++ more) ≡ done ++ (bytes ++ more)
-at_element done bytes more i h =
-    append_assoc done (take i bytes) (get_or bytes i 0 ∷ (drop (suc i) bytes ++ more))
-    ∙ ap (λ zs. done ++ zs)
-    (sym (append_assoc (take i bytes) (get_or bytes i 0 ∷ drop (suc i) bytes) more)
-    ∙ ap (λ zs. zs ++ more) (ap (λ zs. take i bytes ++ zs) (sym (drop-cons bytes i 0 h)) ∙ take-append-drop i bytes))
-
-one_more : (done bytes : List ℕ) (i : ℕ) → i < length bytes → (done ++ take i bytes) ++ get_or bytes i 0 ∷ [] ≡ done ++ take (i + 1) bytes
-one_more done bytes i h = append_assoc done (take i bytes) (get_or bytes i 0 ∷ []) ∙ ap (λ zs. done ++ zs) (sym (take_more bytes i 0 h))
-
-pub returns-in_err-push-clause-err : goal.returns-in_err-push-clause-err
-returns-in_err-push-clause-err g c =
+pub returns-in_err-flush-clause-err : goal.returns-in_err-flush-clause-err
+returns-in_err-flush-clause-err g c =
     let p = err_from_is_err_and c.from_residual.result c.from_residual.ensures.1 in
-    rw (p.1, p.2) (λ n done more before s.
-    subst (λ (xs : List ℕ). EndsEarly n xs before (g.T.Sink.contents c.push.new.sink) c.in_err-push.field-0.0)
-    (at_element done c.args.bytes.now more c.loop-byte.byte-index c.loop-byte-test.true)
-    (c.in_err-push.ensures.err n (done ++ take c.loop-byte.byte-index c.args.bytes.now) (drop (suc c.loop-byte.byte-index) c.args.bytes.now ++ more) before
-    (c.loop-byte.invariant.stands n done before s)))
+    let w = c.in_err-flush.ensures.err in
+    let bytes = c.args.bytes.now in
+    let from = c.parts.from in
+    let ok = rw (take_rest bytes from) at c.gather-gathered.ensures.ok in
+    let err = rw (take_rest bytes from) at c.gather-gathered.ensures.err in
+    rw (p.1, p.2, w.0) (λ n done before s.
+    let a = c.parts.invariant.answered n done before s in
+    feeds-write n w.1.0 from done bytes before a.sent _ _ c.gather-gathered.new.self c.gather-gathered.result
+    (IfOk-weaker c.gather-gathered.result _ _ (λ _ h. h n (done ++ take from bytes) a.sent a.stands) ok)
+    (IfErr-weaker c.gather-gathered.result _ _ (λ _ h. h n (done ++ take from bytes) a.sent a.stands) err)
+    a.written w.1.1)
 
-pub loop-byte-preserved : goal.loop-byte-preserved
-loop-byte-preserved g c = record {
-  stands = λ n done before s.
-      subst (λ (xs : List ℕ). Stands n xs before (g.T.Sink.contents c.push.new.sink) c.push.new.self)
-      (one_more done c.args.bytes.now c.loop-byte.byte-index c.loop-byte-test.true)
-      (c.in_ok-push.ensures.ok n (done ++ take c.loop-byte.byte-index c.args.bytes.now) before (c.loop-byte.invariant.stands n done before s));
-  number = let n = c.in_ok-push.ensures.counts.0 in let m = c.loop-byte.invariant.number in omega arith;
-  replied = let n = c.in_ok-push.ensures.counts.1 in let m = c.loop-byte.invariant.replied in omega arith;
-  failed = c.in_ok-push.ensures.failed ∙ c.loop-byte.invariant.failed;
-}
+pub returns-in_err-from-clause-err : goal.returns-in_err-from-clause-err
+returns-in_err-from-clause-err g c =
+    let p = err_from_is_err_and c.from_residual-in_err-from.result c.from_residual-in_err-from.ensures.1 in
+    let bytes = c.args.bytes.now in
+    let from = c.parts.from in
+    let err = rw (take_rest bytes from) at c.in_err-from.ensures.err in
+    rw (p.1, p.2) (λ n done before s.
+    let a = c.parts.invariant.answered n done before s in
+    subst (λ (xs : List ℕ). EndsEarly n (whole_lines_of xs) before (g.T.Sink.contents c.flush.new.sink) c.in_err-from.field-0.0) (up_to done bytes from)
+    (ends-stopped n (whole_lines_of ((done ++ take from bytes) ++ drop from bytes)) before a.sent _ _ c.gather-gathered.new.self c.in_err-from.field-0.0
+    (err n (done ++ take from bytes) a.sent a.stands) a.written c.in_ok-flush.ensures.ok))
+
+pub parts-preserved : goal.parts-preserved
+parts-preserved g c =
+    let bytes = c.args.bytes.now in
+    let from = c.parts.from in
+    let m = c.in_ok-from.field-0 in
+    let ok = rw (take_rest bytes from) at c.in_ok-from.ensures.ok in
+    let fits : m ≤ length (drop from bytes) = rw (take_rest bytes from) at c.in_ok-from.ensures.within in
+    let i = c.in_ok-from.ensures.counts in
+    let j = c.parts.invariant in
+    record {
+      within = omega (arith, length-drop from bytes);
+      answered = λ n done before s.
+          let a = c.parts.invariant.answered n done before s in
+          let next : Run = record c.gather-gathered.new.self { waiting = c.flush.new.waiting } in
+          subst (λ (xs : List ℕ). Answered n xs before (g.T.Sink.contents c.flush.new.sink) next) (up_to-more done bytes from m)
+          (answered-flush n ((done ++ take from bytes) ++ take m (drop from bytes)) before a.sent (g.T.Sink.contents c.parts.sink) (g.T.Sink.contents c.flush.new.sink) c.gather-gathered.new.self next
+          (ok n (done ++ take from bytes) a.sent a.stands) a.written c.in_ok-flush.ensures.ok c.in_ok-flush.ensures.none refl refl refl refl);
+      none_waits = c.in_ok-flush.ensures.none;
+      number = let x = i.0 in let y = j.number in omega arith;
+      replied = let x = i.1 in let y = j.replied in omega arith;
+      sound = c.in_ok-flush.ensures.failed;
+    }
 
 pub returns-clause-ok : goal.returns-clause-ok
 returns-clause-ok g c = λ n done before s.
-    subst (λ (xs : List ℕ). Stands n (done ++ xs) before (g.T.Sink.contents c.loop-byte.sink) c.loop-byte.self)
-    (take_all c.loop-byte.byte-index c.args.bytes.now c.loop-byte-test.false) (c.loop-byte.invariant.stands n done before s)
+    subst (λ (xs : List ℕ). Answered n (done ++ xs) before (g.T.Sink.contents c.parts.sink) c.parts.self)
+    (take_all c.parts.from c.args.bytes.now c.parts-test.false) (c.parts.invariant.answered n done before s)

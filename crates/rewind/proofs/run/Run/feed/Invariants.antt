@@ -1,12 +1,17 @@
-use Rattle.std.proofs.Common.{◌≡◌, ℕ, ◌+◌, ◌≤◌, List, ◌++◌, take}
-use Rattle.rewind.specs.States.{Stands}
+use Rattle.std.proofs.Common.{◌≡◌, ℕ, ◌+◌, ◌-◌, ◌≤◌, List, [], ◌++◌, false, length, take}
+use Rattle.rewind.specs.States.{Answered}
 use Rattle.rewind.proofs.run.Run.feed.Given as goal
 
-abbrev pub invariant-loop-byte : goal.invariant-loop-byte
-invariant-loop-byte g l = record {
-  stands : (n : ℕ) (done before : List ℕ) → Stands n done before (g.T.Sink.contents l.fn.sink) l.fn.self
-      → Stands n (done ++ take l.byte-index l.bytes) before (g.T.Sink.contents l.sink) l.self;
-  number : l.self.number ≤ l.fn.self.number + l.byte-index;
-  replied : l.self.replied ≤ l.fn.self.replied + l.byte-index;
-  failed : g.T.Sink.failed l.sink ≡ g.T.Sink.failed l.fn.sink;
+abbrev pub invariant-parts : goal.invariant-parts
+invariant-parts g l = record {
+  within : l.from ≤ length l.bytes;
+  answered : (n : ℕ) (done before : List ℕ) → Answered n done before (g.T.Sink.contents l.fn.sink) l.fn.self
+      → Answered n (done ++ take l.from l.bytes) before (g.T.Sink.contents l.sink) l.self;
+  none_waits : l.self.waiting.items ≡ [];
+  number : l.self.number ≤ l.fn.self.number + l.from;
+  replied : l.self.replied ≤ l.fn.self.replied + l.from;
+  sound : g.T.Sink.failed l.sink ≡ false;
 }
+
+abbrev pub decreases-parts : goal.decreases-parts
+decreases-parts g l = length l.bytes - l.from
