@@ -14,7 +14,6 @@ use Rattle.nd_graph.specs.declared.fault.GraphFault.{GraphFault}
 use Rattle.nd_graph.specs.declared.fault.GraphFault.TheVariants.{Shape, Memory}
 use Rattle.rewind_forms.specs.Asked.{asked_of}
 use Rattle.rewind_forms.specs.Replies.{location_fault, line_fault, frontier}
-use Rattle.nd_paths.specs.declared.point.Pointstamp.{Pointstamp}
 use Rattle.nd_delta.specs.Change.{Change, entries}
 use Rattle.nd_view.specs.View.{IsOnFrontier, IsPartWhere}
 use Rattle.nd_protocol.specs.State.{ClusterState, view as view_in}
@@ -27,7 +26,7 @@ use Rattle.rewind_forms.specs.declared.fault.LineFault.TheVariants as line
 use Rattle.std.specs.declared.alloc.Global.{Global}
 use Rattle.nd_timeline.specs.Timeline.{cluster_of}
 use Rattle.nd_timeline.specs.Moves.{MachineValue}
-use Rattle.rewind.specs.Answers.{Phase, running, refused, StartReplies, not_strict, graph_of, graph_of_draft, AskedReply, FormReplies, LineReplies, FrontierReply}
+use Rattle.rewind.specs.Answers.{running, refused, StartReplies, not_strict, graph_of, graph_of_draft, AskedReply, FormReplies, LineReplies, FrontierReply}
 
 -- a value that is no draft
 pub graph_of-refused : (d : Data) (e : GraphFault) → IsUnlessMemory (ok_or (draft_of d) Shape) (Err e) → IsUnlessMemory (graph_of d) (Err e)

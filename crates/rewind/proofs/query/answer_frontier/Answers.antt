@@ -1,4 +1,4 @@
-use Rattle.std.proofs.Common.{◌∙◌, ap, arith, length}
+use Rattle.std.proofs.Common.{◌∙◌, arith, length}
 use Rattle.std.specs.Prelude.{◌<◌}
 use Rattle.nd_cluster.specs.StateText.{entries_data}
 use Rattle.serde_json.specs.View.{view}
