@@ -17,16 +17,16 @@ impl<A: Allocator + Copy> Timeline<A> {
         }
         for ran in 0..limit {
             let at = self.at();
-            let Ok(chosen) = self.cluster().first_enabled(at) else {
+            let Ok(planned) = self.cluster().first_planned(at) else {
                 return Err(Fault::Memory { at });
             };
-            let Some(step) = chosen else {
+            let Some(record) = planned else {
                 return Ok(Ran {
                     ran,
                     stop: Stop::Idle,
                 });
             };
-            match self.forward(&step) {
+            match self.make(record) {
                 Ok(()) => {}
                 Err(_) => return Err(Fault::Memory { at }),
             }

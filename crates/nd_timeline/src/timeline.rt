@@ -159,7 +159,7 @@ impl<A: Allocator + Copy> Timeline<A> {
     }
 
     // Makes a step that is planned.
-    fn make(&mut self, planned: Record<A>) -> Result<(), NoMemory>
+    pub(crate) fn make(&mut self, planned: Record<A>) -> Result<(), NoMemory>
         requires room { self.old.cursor < max_kept }
         requires planned { IsPlanned planned (cluster_of self.old) }
         ensures ok { OnOk result (self.new ≡ extended self.old planned.step) }
