@@ -163,7 +163,7 @@ fn cluster_of<A: Allocator + Copy>(json: Global, alloc: A, row: &Row) -> Option<
     Cluster::of_parts(alloc, &graph, paths, processors, views, mesh)
 }
 
-/// The number of the refusal of the row's step, 0 where it is made and undone again, and `None`
+/// The number of the refusal of the row's step, 0 where it is made, and `None`
 /// where the parts are no state.
 fn number_of<A: Allocator + Copy>(json: Global, alloc: A, row: &Row) -> Option<u64> {
     let mut cluster = cluster_of(json, alloc, row)?;
@@ -171,7 +171,6 @@ fn number_of<A: Allocator + Copy>(json: Global, alloc: A, row: &Row) -> Option<u
     match cluster.plan(&step) {
         Ok(record) => {
             cluster.commit(&record).ok()?;
-            cluster.back(&record).ok()?;
             Some(0)
         }
         Err(refusal) => Some(refusal.number()),
