@@ -1,5 +1,5 @@
 -- What every move of the debugger machine keeps.
-use Rattle.std.proofs.Common.{◌≡◌, ◌<◌, ◌≤◌, ℕ, zero, suc, ◌+◌, List, [], ◌∷◌, ◌++◌, length, take, inl, inr, refl, sym, ap, subst, ◌∙◌, arith, length-append}
+use Rattle.std.proofs.Common.{◌≡◌, ◌<◌, ◌≤◌, ℕ, zero, suc, ◌+◌, List, [], ◌∷◌, ◌++◌, length, take, inl, inr, sym, ap, subst, ◌∙◌, arith, length-append}
 use Rattle.std.proofs.lemmas.List.{length-take-le}
 use Rattle.nd_time.specs.Limits.{max_kept}
 use Rattle.nd_protocol.specs.State.{ClusterState}
@@ -8,11 +8,9 @@ use Rattle.nd_protocol.specs.Enabled.{IsEnabled, AreEnabled}
 use Rattle.nd_protocol.specs.declared.step.Step.{Step}
 use Rattle.nd_watch.specs.Breaks.{BreakMap}
 use Rattle.nd_timeline.specs.Timeline.{TimelineValue, IsTimeline, cluster_of, extended, moved_to}
-use Rattle.nd_timeline.specs.Moves.{MachineValue, Moves, ForwardMoves, BackMoves, RedoMoves, IsOnTheWay, JumpMoves, HasRun, StopsAt, RunMoves, SetMoves, ClearMoves}
+use Rattle.nd_timeline.specs.Moves.{ForwardMoves, BackMoves, RedoMoves, IsOnTheWay, JumpMoves, HasRun, StopsAt, RunMoves}
 use Rattle.nd_timeline.specs.Laws.{MovesKeepBase, MovesKeepTimelines}
-use Rattle.nd_timeline.specs.declared.command.Command.{Command}
 use Rattle.nd_timeline.specs.declared.command.Command.TheVariants as command
-use Rattle.nd_timeline.specs.declared.fault.Fault.{Fault}
 use Rattle.nd_timeline.specs.declared.fault.Fault.TheVariants as fault
 use Rattle.nd_timeline.specs.declared.reply.Stop.{Stop}
 use Rattle.nd_timeline.specs.declared.reply.Stop.TheVariants as stop
