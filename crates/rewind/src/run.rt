@@ -251,7 +251,7 @@ impl Run {
     }
 
     /// Reads on until many bytes of replies wait, and says how far.
-    pub fn gather(&mut self, bytes: &[u8]) -> Result<usize, DebugFault>
+    fn gather(&mut self, bytes: &[u8]) -> Result<usize, DebugFault>
         requires number { self.old.number + length bytes.now < 2 ^ 64 }
         requires replied { self.old.replied + length bytes.now < 2 ^ 64 }
         ensures within { IfOk result (λ n. n ≤ length bytes.now) }
