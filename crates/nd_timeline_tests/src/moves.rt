@@ -63,6 +63,20 @@ fn new_future(rt: HostRuntime) -> Result<(), Fail> {
     Ok(())
 }
 
+#[test]
+fn thousands_are_kept(rt: HostRuntime) -> Result<(), Fail> {
+    let mut timeline = fed(rt.alloc(), rt.alloc(), 3000).ok_or("no timeline")?;
+    timeline.jump(0)?;
+    timeline.jump(3000)?;
+    assert_eq!(rt; (timeline.at(), timeline.kept()), (3000, 3000));
+    let idle = Ran {
+        ran: 2,
+        stop: Stop::Idle,
+    };
+    assert_eq!(rt; timeline.run(10, &Breaks::new()), Ok(idle));
+    Ok(())
+}
+
 /// Whether processor 0's view has passed a pointstamp.
 fn has_passed<A: Allocator + Copy>(timeline: &Timeline<A>, point: &Pointstamp) -> bool {
     0 < timeline.cluster().n() && timeline.passed(0, point)

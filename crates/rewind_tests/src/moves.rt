@@ -1,6 +1,8 @@
 //! Worked examples of the timeline, runs and breakpoints, as scripts with their replies.
 
-use crate::worked::{Example, first_wrong};
+use crate::examples::LINE;
+use crate::worked::{Example, first_wrong, run};
+use std::alloc::{AllocError, Global};
 use std::test::Fail;
 
 static MOVES: [Example; 10] = [
@@ -215,5 +217,29 @@ static MOVES: [Example; 10] = [
 #[test]
 fn moves(rt: HostRuntime) -> Result<(), Fail> {
     assert_eq!(rt; first_wrong(rt.alloc(), &MOVES, None)?, None);
+    Ok(())
+}
+
+// A line's graph, so many feeds that keep the epoch open, and as many steps back.
+fn there_and_back(alloc: Global, times: usize) -> Result<Vec<u8>, AllocError> {
+    let feed = "\n{\"do\":\"feed\",\"p\":0,\"vertex\":\"a\",\"values\":[5],\"next\":\"stay\"}";
+    let mut script = Vec::new(alloc);
+    script.extend_from_slice(LINE.as_bytes())?;
+    for _ in 0..times {
+        script.extend_from_slice(feed.as_bytes())?;
+    }
+    for _ in 0..times {
+        script.extend_from_slice("\n{\"do\":\"back\"}".as_bytes())?;
+    }
+    Ok(script)
+}
+
+#[test]
+fn thousands_of_lines(rt: HostRuntime) -> Result<(), Fail> {
+    let script = there_and_back(rt.alloc(), 5000)?;
+    let (bytes, ended) = run(rt.alloc(), 1, script.as_slice())?;
+    let last = "{\"at\":0,\"kept\":5000,\"ok\":true}\n".as_bytes();
+    assert_eq!(rt; ended, Ok(10_001));
+    assert!(rt; bytes.as_slice().ends_with(last));
     Ok(())
 }

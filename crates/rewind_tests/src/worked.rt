@@ -397,16 +397,16 @@ static REFUSED: [Example; 3] = [
 ];
 
 // What a run of the script writes, and how it ends.
-fn run(
+pub fn run(
     alloc: Global,
     processors: u8,
-    script: &str,
+    script: &[u8],
 ) -> Result<(Vec<u8>, Result<u64, DebugFault>), AllocError> {
     let options = Options {
         processors,
         clients: 1,
     };
-    let mut source = pieces_of(script.as_bytes(), 1000, NEVER);
+    let mut source = pieces_of(script, 1000, NEVER);
     let mut sink = empty_sink(alloc, 1000, NEVER, false);
     let ended = debug(alloc, &mut source, &mut sink, &options);
     Ok((sink.bytes, ended))
@@ -419,7 +419,7 @@ pub fn first_wrong(
     fault: Option<DebugFault>,
 ) -> Result<Option<&'static str>, AllocError> {
     for (name, processors, script, replies) in examples {
-        let (bytes, ended) = run(alloc, *processors, script)?;
+        let (bytes, ended) = run(alloc, *processors, script.as_bytes())?;
         if ended.err() != fault || bytes.as_slice() != replies.as_bytes() {
             return Ok(Some(*name));
         }
@@ -435,6 +435,9 @@ fn worked_examples(rt: HostRuntime) -> Result<(), Fail> {
 
 #[test]
 fn refused_graphs(rt: HostRuntime) -> Result<(), Fail> {
-    assert_eq!(rt; first_wrong(rt.alloc(), &REFUSED, Some(DebugFault::Graph))?, None);
+    assert_eq!(rt;
+        first_wrong(rt.alloc(), &REFUSED, Some(DebugFault::Graph))?,
+        None
+    );
     Ok(())
 }
