@@ -2,7 +2,6 @@
 ghost use Rattle.std.specs.Prelude.{◌≡◌, All, IfSome};
 ghost use Rattle.nd_view.specs.Kept.{IsFor};
 
-use nd_told::{Told, is_state, make, start, step_of};
 use nd_cluster::{Cluster, Next};
 use nd_delta::Delta;
 use nd_drawn::{LINE, LOOP, graph_of, point};
@@ -10,6 +9,7 @@ use nd_graph::Graph;
 use nd_mesh::Mesh;
 use nd_paths::Paths;
 use nd_processor::{Processor, ValueAt};
+use nd_told::{Told, is_state, make, start, step_of};
 use nd_view::View;
 use std::alloc::{Allocator, Global};
 

@@ -1,11 +1,9 @@
 //! Each request for memory of a call refused in turn.
 
-use nd_told::{
-    SUM_NOTIFIED, Script, Told, is_state, make, reach, state_text, step_of, values_of,
-};
 use nd_cluster::{Cluster, Next, NoMemory, Record, Refusal, StartFault, Step, Values};
 use nd_drawn::{LINE, LOOP, SUM, graph_of};
 use nd_graph::Graph;
+use nd_told::{SUM_NOTIFIED, Script, Told, is_state, make, reach, state_text, step_of, values_of};
 use refusing::{MANY, Refusing, in_turn, was_refused};
 use std::alloc::{AllocError, Allocator, Global};
 

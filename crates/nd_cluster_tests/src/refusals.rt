@@ -1,8 +1,8 @@
 //! Steps that are refused.
 
-use nd_told::{Named, SUM_NOTIFIED, Script, Told, make, reach, start, state_text, step_of};
 use nd_cluster::{Cluster, Next, Refusal, Step, Values};
 use nd_drawn::{ADD, DISTINCT, LINE, SUM, point, time};
+use nd_told::{Named, SUM_NOTIFIED, Script, Told, make, reach, start, state_text, step_of};
 use std::alloc::{Allocator, Global};
 use std::test::Fail;
 

@@ -1,9 +1,9 @@
 //! Steps that are made and undone.
 ghost use Rattle.std.specs.Prelude.{◌<◌, length};
 
-use nd_told::{Named, SUM_NOTIFIED, Script, Told, make, reach, start, state_text, step_of};
 use nd_cluster::{Change, Changes, Cluster, Next, Step};
 use nd_drawn::{DISTINCT, EXCHANGE, Entry, LINE, LOOP, SPLIT, SUM, are_entries, point};
+use nd_told::{Named, SUM_NOTIFIED, Script, Told, make, reach, start, state_text, step_of};
 use std::alloc::{Allocator, Global};
 
 /// Runs of which each step is undone.

@@ -1,11 +1,11 @@
 //! Starts of clusters.
 
-use nd_told::start;
 use nd_cluster::{Cluster, StartFault};
 use nd_drawn::{
     ADD, CYCLE, DISTINCT, EMPTY, EXCHANGE, FILTER, LINE, LOOP, NESTED_LOOP, SPLIT, SUM, TWO_WAYS,
     UNGUARDED_LOOP, graph_of, point,
 };
+use nd_told::start;
 use std::alloc::{Allocator, Global};
 use std::test::Fail;
 

@@ -1,10 +1,10 @@
 //! A long way of steps on three processors, and back again.
 ghost use Rattle.std.specs.Prelude.{◌≡◌, ◌<◌, length, OnSome};
 
-use nd_told::{start, state_text};
 use nd_cluster::{Cluster, Next, Part, Points, Step, Values};
 use nd_drawn::graph_text;
 use nd_processor::Processor;
+use nd_told::{start, state_text};
 use std::alloc::{Allocator, Global};
 use std::test::Fail;
 
