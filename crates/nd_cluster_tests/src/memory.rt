@@ -101,6 +101,7 @@ fn copies_in_turn<A: Allocator + Copy>(heap: &Heap, alloc: A, json: Global) -> O
 fn starts_and_copies(rt: HostRuntime) {
     let heap = Refusing::new(rt.alloc());
     assert_eq!(rt; copies_in_turn(&heap, &heap, rt.alloc()), Some(true));
+    assert_eq!(rt; heap.live(), 0);
 }
 
 fn plan<A: Allocator + Copy>(
@@ -233,4 +234,5 @@ fn last_steps(rt: HostRuntime) {
         let met = last_in_turn(&heap, &heap, rt.alloc(), text, *n, run);
         assert!(rt; met.is_some(), "at step {turn} of a sum");
     }
+    assert_eq!(rt; heap.live(), 0);
 }

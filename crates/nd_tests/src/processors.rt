@@ -287,4 +287,5 @@ fn processor_calls(rt: HostRuntime) {
         processor_calls_in_turn(&heap, &heap, rt.alloc()),
         Some(true)
     );
+    assert_eq!(rt; heap.live(), 0);
 }

@@ -179,4 +179,5 @@ fn queue_calls_in_turn<A: Allocator + Copy>(heap: &Heap, alloc: A, json: Global)
 fn queue_calls(rt: HostRuntime) {
     let heap = Refusing::new(rt.alloc());
     assert_eq!(rt; queue_calls_in_turn(&heap, &heap, rt.alloc()), Some(true));
+    assert_eq!(rt; heap.live(), 0);
 }

@@ -49,6 +49,7 @@ fn graph_calls_in_turn<A: Allocator + Copy>(heap: &Heap, alloc: A, json: Global)
 fn graph_calls(rt: HostRuntime) {
     let heap = Refusing::new(rt.alloc());
     assert_eq!(rt; graph_calls_in_turn(&heap, &heap, rt.alloc()), Some(true));
+    assert_eq!(rt; heap.live(), 0);
 }
 
 fn table<A: Allocator + Copy>(heap: &Heap, alloc: A, graph: &Graph<A>) -> Option<u64> {
@@ -70,6 +71,7 @@ fn paths_calls_in_turn<A: Allocator + Copy>(heap: &Heap, alloc: A, json: Global)
 fn paths_calls(rt: HostRuntime) {
     let heap = Refusing::new(rt.alloc());
     assert_eq!(rt; paths_calls_in_turn(&heap, &heap, rt.alloc()), Some(true));
+    assert_eq!(rt; heap.live(), 0);
 }
 
 fn add<A: Allocator + Copy>(
@@ -95,6 +97,7 @@ fn change_add_in_turn<A: Allocator + Copy>(heap: &Heap, alloc: A, json: Global) 
 fn change_add(rt: HostRuntime) {
     let heap = Refusing::new(rt.alloc());
     assert_eq!(rt; change_add_in_turn(&heap, &heap, rt.alloc()), Some(true));
+    assert_eq!(rt; heap.live(), 0);
 }
 
 fn plus<A: Allocator + Copy>(
@@ -128,6 +131,7 @@ fn change_sums_in_turn<A: Allocator + Copy>(heap: &Heap, alloc: A, json: Global)
 fn change_sums(rt: HostRuntime) {
     let heap = Refusing::new(rt.alloc());
     assert_eq!(rt; change_sums_in_turn(&heap, &heap, rt.alloc()), Some(true));
+    assert_eq!(rt; heap.live(), 0);
 }
 
 fn part<A: Allocator + Copy>(
@@ -156,6 +160,7 @@ fn change_parts_in_turn<A: Allocator + Copy>(heap: &Heap, alloc: A, json: Global
 fn change_parts(rt: HostRuntime) {
     let heap = Refusing::new(rt.alloc());
     assert_eq!(rt; change_parts_in_turn(&heap, &heap, rt.alloc()), Some(true));
+    assert_eq!(rt; heap.live(), 0);
 }
 
 // Whether two views have the same entries, and keep the same at them and at the points of a change.
@@ -219,6 +224,7 @@ fn view_sums_in_turn<A: Allocator + Copy>(heap: &Heap, alloc: A, json: Global) -
 fn view_sums(rt: HostRuntime) {
     let heap = Refusing::new(rt.alloc());
     assert_eq!(rt; view_sums_in_turn(&heap, &heap, rt.alloc()), Some(true));
+    assert_eq!(rt; heap.live(), 0);
 }
 
 fn frontier<A: Allocator + Copy>(
@@ -248,4 +254,5 @@ fn view_parts_in_turn<A: Allocator + Copy>(heap: &Heap, alloc: A, json: Global) 
 fn view_parts(rt: HostRuntime) {
     let heap = Refusing::new(rt.alloc());
     assert_eq!(rt; view_parts_in_turn(&heap, &heap, rt.alloc()), Some(true));
+    assert_eq!(rt; heap.live(), 0);
 }

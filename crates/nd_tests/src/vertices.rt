@@ -462,4 +462,5 @@ fn vertex_calls(rt: HostRuntime) {
     let heap = Refusing::new(rt.alloc());
     assert_eq!(rt; record_in_turn(&heap, &heap), Some(true));
     assert_eq!(rt; notice_in_turn(&heap, &heap), Some(true));
+    assert_eq!(rt; heap.live(), 0);
 }

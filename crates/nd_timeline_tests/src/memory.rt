@@ -134,6 +134,7 @@ fn jump_out_of_memory(rt: HostRuntime) {
             assert!(rt; count.is_some(), "in row {row}");
         }
     }
+    assert_eq!(rt; heap.live(), 0);
 }
 
 /// Whether a run of ten with one request refused met it: then the steps made so far are kept.
@@ -174,6 +175,7 @@ fn run_out_of_memory(rt: HostRuntime) -> Result<(), &'static str> {
     let heap = Refusing::new(rt.alloc());
     let count = runs(&heap, rt.alloc(), &heap).ok_or("a wrong answer")?;
     assert!(rt; count > 0);
+    assert_eq!(rt; heap.live(), 0);
     Ok(())
 }
 
@@ -219,14 +221,21 @@ fn redoes<A: Allocator + Copy>(heap: &Heap, json: Global, alloc: A) -> Option<u6
     None
 }
 
+/// Whether each move that wants memory meets each request that is refused.
+fn moves_in_turn<A: Allocator + Copy>(heap: &Heap, json: Global, alloc: A) -> Option<bool> {
+    let base = kept(json, alloc, &ALL)?;
+    Some(
+        news(heap, alloc, base.cluster())? > 0
+            && copies(heap, alloc, &base)? > 0
+            && forwards(heap, json, alloc)? > 0
+            && backs(heap, json, alloc).is_some()
+            && redoes(heap, json, alloc).is_some(),
+    )
+}
+
 #[test]
-fn moves_out_of_memory(rt: HostRuntime) -> Result<(), &'static str> {
+fn moves_out_of_memory(rt: HostRuntime) {
     let heap = Refusing::new(rt.alloc());
-    let base = kept(rt.alloc(), &heap, &ALL).ok_or("no timeline")?;
-    assert!(rt; news(&heap, &heap, base.cluster()).ok_or("a wrong new")? > 0);
-    assert!(rt; copies(&heap, &heap, &base).ok_or("a wrong copy")? > 0);
-    assert!(rt; forwards(&heap, rt.alloc(), &heap).ok_or("a wrong forward")? > 0);
-    assert!(rt; backs(&heap, rt.alloc(), &heap).is_some());
-    assert!(rt; redoes(&heap, rt.alloc(), &heap).is_some());
-    Ok(())
+    assert_eq!(rt; moves_in_turn(&heap, rt.alloc(), &heap), Some(true));
+    assert_eq!(rt; heap.live(), 0);
 }
