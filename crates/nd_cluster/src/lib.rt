@@ -30,6 +30,5 @@ pub use cluster::Cluster;
 pub(crate) use key::RecordAt;
 pub use nd_protocol::{Next, NoMemory, Part, Points, Refusal, Step, Values};
 pub use record::{Changes, Record};
-pub use refuse::MAX_VALUES;
 pub use start::StartFault;
 pub use text::{counts_value, point_value, time_value};

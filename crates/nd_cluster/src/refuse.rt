@@ -15,7 +15,7 @@ use nd_processor::ValueAt;
 use std::alloc::Allocator;
 
 /// The most values of one feed.
-pub const MAX_VALUES: usize = 1024;
+pub(crate) const MAX_VALUES: usize = 1024;
 
 // The operator at a vertex's location; an edge's location counts as a sink.
 pub(crate) fn op_at<B: Allocator>(graph: &Graph<B>, location: usize) -> Op

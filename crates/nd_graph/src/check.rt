@@ -9,7 +9,7 @@ use crate::{Action, Edge, GraphFault, Vertex};
 use nd_time::MAX_DEPTH;
 
 /// The most locations of a graph (this project's own rule).
-pub const MAX_LOCATIONS: usize = 64;
+const MAX_LOCATIONS: usize = 64;
 
 #[tactic(auto, unfolding(crate::specs::Checked::has_bad_port))]
 fn has_bad_port(vertices: &[Vertex], edge: &Edge) -> bool

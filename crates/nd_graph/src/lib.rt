@@ -13,7 +13,6 @@ mod names;
 mod op;
 
 pub use arcs::ArcsFrom;
-pub use check::MAX_LOCATIONS;
 pub use draft::{DraftEdge, GraphDraft};
 pub use fault::GraphFault;
 pub use graph::{Arc, Edge, Graph, Vertex};

@@ -12,6 +12,5 @@ mod table;
 pub use accept::PathFault;
 pub use order::order_is_transitive;
 pub use paths::Paths;
-pub use point::Pointstamp;
+pub use point::{Pointstamp, pointstamps_are_listed};
 pub use summary::{Constants, Summary};
-pub use table::KEEPS;

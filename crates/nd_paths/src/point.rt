@@ -1,6 +1,8 @@
 //! Pointstamps: a location of the graph, and a timestamp there.
 ghost use Rattle.std.specs.Prelude.{◌≡◌, ◌↔◌, IsTrue, IsSome, IfSome};
 ghost use Rattle.nd_paths.specs.Order.{Fits};
+ghost use Rattle.nd_paths.specs.Point.{point_cmp};
+ghost use Rattle.nd_paths.specs.declared.point.Pointstamp.{Pointstamp};
 
 use nd_graph::Graph;
 use nd_map::Key;
@@ -57,3 +59,9 @@ impl Key for Pointstamp {
         self.copy()
     }
 }
+
+/// Pointstamps compare as they are listed: by location, then by epoch, and then by counters in
+/// lexicographic order. A function without code, to be called where its clause is needed.
+pub fn pointstamps_are_listed()
+    ensures { (p q : Pointstamp) → ⟦<Pointstamp as Ord>⟧.cmp p q ≡ point_cmp p q }
+{}

@@ -10,7 +10,9 @@ use nd_time::MAX_DEPTH;
 use std::marker::Model;
 
 /// The constants of a summary, at most `MAX_DEPTH`, outermost first.
-#[derive(Debug, Default, PartialEq, Eq, PartialOrd, Ord, Drop)]
+///
+/// `Default` is what an `ArrayVec` fills its free room with.
+#[derive(Debug, Default, PartialEq, Eq, Drop)]
 pub struct Constants {
     numbers: ArrayVec<u32, MAX_DEPTH>,
 }

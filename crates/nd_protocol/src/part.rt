@@ -1,5 +1,5 @@
 //! Which part of what is unsent a broadcast sends.
-ghost use Rattle.std.specs.Prelude.{◌≡◌, [], ◌∷◌, ◌++◌, IfOk, OnOk, OnErr};
+ghost use Rattle.std.specs.Prelude.{◌≡◌, ◌≢◌, [], ◌∷◌, ◌++◌, IfOk, OnOk, OnErr, MatchBool};
 
 use nd_paths::Pointstamp;
 use std::alloc::{AllocError, Allocator, Global};
@@ -62,6 +62,13 @@ impl<A: Allocator> Points<A> {
         }
         Ok(Points { items })
     }
+
+    /// Whether both name the same pointstamps, in one order.
+    pub fn same(&self, other: &Points<A>) -> bool
+        ensures { MatchBool result (self.now ≡ other.now) (self.now ≢ other.now) }
+    {
+        self.items.as_slice() == other.items.as_slice()
+    }
 }
 
 /// Which part of what is unsent a broadcast sends.
@@ -82,6 +89,17 @@ impl<A: Allocator> Part<A> {
         match self {
             Part::All => Ok(Part::All),
             Part::Points(points) => Ok(Part::Points(points.copy(alloc)?)),
+        }
+    }
+
+    /// Whether both are one part as it is written.
+    pub fn same(&self, other: &Part<A>) -> bool
+        ensures { MatchBool result (self.now ≡ other.now) (self.now ≢ other.now) }
+    {
+        match (self, other) {
+            (Part::All, Part::All) => true,
+            (Part::Points(points), Part::Points(others)) => points.same(others),
+            _ => false,
         }
     }
 }

@@ -54,6 +54,37 @@ pub enum Refusal {
 pub struct NoMemory;
 
 impl Refusal {
+    /// An equal refusal.
+    pub fn copy(&self) -> Refusal
+        ensures { result ≡ self.now }
+    {
+        match self {
+            Refusal::NoProcessor => Refusal::NoProcessor,
+            Refusal::NoVertex => Refusal::NoVertex,
+            Refusal::NoEdge => Refusal::NoEdge,
+            Refusal::NotInput => Refusal::NotInput,
+            Refusal::InputClosed => Refusal::InputClosed,
+            Refusal::TooManyValues => Refusal::TooManyValues,
+            Refusal::EpochFull => Refusal::EpochFull,
+            Refusal::NoRecord => Refusal::NoRecord,
+            Refusal::NoRequest => Refusal::NoRequest,
+            Refusal::NotYet { blocker } => Refusal::NotYet {
+                blocker: blocker.copy(),
+            },
+            Refusal::CounterFull => Refusal::CounterFull,
+            Refusal::ValueRange => Refusal::ValueRange,
+            Refusal::CountFull => Refusal::CountFull,
+            Refusal::DeltaFull => Refusal::DeltaFull,
+            Refusal::NothingToSend => Refusal::NothingToSend,
+            Refusal::NotAdmissible { point } => Refusal::NotAdmissible {
+                point: point.copy(),
+            },
+            Refusal::QueueEmpty => Refusal::QueueEmpty,
+            Refusal::QueueFull => Refusal::QueueFull,
+            Refusal::Memory => Refusal::Memory,
+        }
+    }
+
     /// The refusal's number.
     pub fn number(&self) -> u64
         ensures { result ≡ number_of self.now }

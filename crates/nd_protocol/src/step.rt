@@ -1,5 +1,5 @@
 //! The steps that a cluster can make.
-ghost use Rattle.std.specs.Prelude.{◌≡◌, [], ◌∷◌, ◌++◌, IfOk, OnOk, OnErr};
+ghost use Rattle.std.specs.Prelude.{◌≡◌, ◌≢◌, [], ◌∷◌, ◌++◌, IfOk, OnOk, OnErr, MatchBool};
 
 use crate::Part;
 use nd_time::Timestamp;
@@ -55,6 +55,13 @@ impl<A: Allocator> Values<A> {
         Ok(Values {
             items: Vec::from_slice(alloc, &self.items)?,
         })
+    }
+
+    /// Whether both are the same values in one order.
+    pub fn same(&self, other: &Values<A>) -> bool
+        ensures { MatchBool result (self.now ≡ other.now) (self.now ≢ other.now) }
+    {
+        self.items.as_slice() == other.items.as_slice()
     }
 }
 
@@ -145,6 +152,60 @@ impl<A: Allocator> Step<A> {
                 from: *from,
                 to: *to,
             }),
+        }
+    }
+    /// Whether both are one step.
+    pub fn same(&self, other: &Step<A>) -> bool
+        ensures { MatchBool result (self.now ≡ other.now) (self.now ≢ other.now) }
+    {
+        match (self, other) {
+            (
+                Step::Feed {
+                    p,
+                    vertex,
+                    values,
+                    next,
+                },
+                Step::Feed {
+                    p: q,
+                    vertex: input,
+                    values: others,
+                    next: after,
+                },
+            ) => *p == *q && *vertex == *input && values.same(others) && *next == *after,
+            (
+                Step::Take {
+                    p,
+                    edge,
+                    time,
+                    value,
+                },
+                Step::Take {
+                    p: q,
+                    edge: from,
+                    time: at,
+                    value: other,
+                },
+            ) => *p == *q && *edge == *from && *time == *at && *value == *other,
+            (
+                Step::Notice { p, vertex, time },
+                Step::Notice {
+                    p: q,
+                    vertex: told,
+                    time: at,
+                },
+            ) => *p == *q && *vertex == *told && *time == *at,
+            (Step::Broadcast { p, part }, Step::Broadcast { p: q, part: other }) => {
+                *p == *q && part.same(other)
+            }
+            (
+                Step::Receive { from, to },
+                Step::Receive {
+                    from: sender,
+                    to: receiver,
+                },
+            ) => *from == *sender && *to == *receiver,
+            _ => false,
         }
     }
 }

@@ -4,6 +4,7 @@
 ghost use Rattle.std.specs.Prelude.{◌≡◌, ◌≤◌, ◌<◌, ◌↔◌, IsTrue, IsSome, IfSome, IsOk, IfOk, length};
 ghost use Rattle.nd_time.specs.Time.{Time, IsAtOrBefore, ingress_of, egress_of, feedback_of, last_of};
 ghost use Rattle.nd_time.specs.Limits.{max_depth};
+ghost use Rattle.nd_time.specs.Listing.{time_cmp};
 
 use arrayvec::ArrayVec;
 use std::marker::Model;
@@ -129,3 +130,9 @@ impl Timestamp {
         Ok(next)
     }
 }
+
+/// Timestamps compare as they are listed: by epoch, and then by counters in lexicographic order. A
+/// function without code, to be called where its clause is needed.
+pub fn timestamps_are_listed()
+    ensures { (s t : Time) → ⟦<Timestamp as Ord>⟧.cmp s t ≡ time_cmp s t }
+{}

@@ -14,4 +14,4 @@ pub use fault::Fault;
 pub use laws::moves_keep_timelines;
 pub use machine::Machine;
 pub use reply::{Ran, Reply, Stop};
-pub use timeline::{MAX_KEPT, Timeline};
+pub use timeline::Timeline;

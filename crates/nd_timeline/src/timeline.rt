@@ -17,7 +17,7 @@ use std::alloc::{AllocError, Allocator, Global};
 use std::marker::Model;
 
 /// The most steps that are kept.
-pub const MAX_KEPT: usize = 1_000_000;
+pub(crate) const MAX_KEPT: usize = 1_000_000;
 
 /// A cluster that was reached from a base by kept steps, up to a cursor.
 pub struct Timeline<A: Allocator + Copy = Global> {

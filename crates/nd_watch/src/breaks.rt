@@ -12,7 +12,7 @@ use std::marker::Model;
 use thiserror::Error;
 
 /// The most breakpoints that are set at once.
-pub const MAX_BREAKS: usize = 32;
+const MAX_BREAKS: usize = 32;
 
 /// Each id is given out.
 #[derive(Clone, Copy, Debug, PartialEq, Eq, Drop, Error)]

@@ -4,5 +4,5 @@
 mod breaks;
 mod watch;
 
-pub use breaks::{Breaks, MAX_BREAKS, NoBreak, TooManyBreaks};
+pub use breaks::{Breaks, NoBreak, TooManyBreaks};
 pub use watch::Break;
