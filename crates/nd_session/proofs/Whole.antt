@@ -1,12 +1,12 @@
 -- The end of a session: what the tests show of each client's receipts.
-use Rattle.std.proofs.Common.{◌≡◌, ◌≢◌, ℕ, ◌<◌, ◌≤◌, ◌==◌, inl, inr, true, List, length, take, arith, refl, sym, ap, subst, ◌∙◌}
-use Rattle.std.specs.Prelude.{slice_get, Some, filter, count_by}
+use Rattle.std.proofs.Common.{◌≡◌, ◌≢◌, ℕ, ◌<◌, ◌==◌, inl, inr, true, List, length, take, arith, refl, sym, ap, subst, ◌∙◌}
+use Rattle.std.specs.Prelude.{slice_get, Some, filter}
 use Rattle.std.proofs.lemmas.Option.{slice_get_within}
 use Rattle.std.proofs.lemmas.Bool.{cases_lt, eqb-true, eq-eqb}
 use Rattle.std.proofs.lemmas.List.Sums.{length-filter}
 use Rattle.nd_session.specs.declared.receipt.Receipt.{Receipt}
 use Rattle.nd_session.specs.Log.{ArePlaced, count_of}
-use Rattle.nd_session.specs.Clients.{ClientValue, Holds, IsOwn}
+use Rattle.nd_session.specs.Clients.{ClientValue, IsOwn}
 use Rattle.nd_session.specs.Close.{HeldBelow, IsNewBelow, IsRight, IsWrong, AreRightBelow, HasReceipt, HaveReceiptsBelow, IsUntold, AreInBelow, IsWhole}
 use Rattle.nd_session.specs.Tested.{IsOther, HasInPlace, AreInPlaceBelow, IsFirstUntold, IsClean}
 use Rattle.nd_session.proofs.Filters.{filter_at, found_in, some_at, same_list, in_take, to_take, take_less}
@@ -169,8 +169,8 @@ module _ {A : Type 0} (log : List (Receipt A)) (placed : ArePlaced log) where
   pub is_whole : (clients : List (ClientValue A)) (entered : ℕ) → IsClean log clients entered → IsWhole log clients entered
   is_whole clients entered clean = record {
     receipts = λ k p at.
-    let r = right_at clients clean.right k p at in
-    receipts_are p.number p.receipts r.own r.held (λ i e in_log client. placed_with clients clean.right k p e at client (clean.in_place i (slice_get_within log i e in_log) e in_log));
+        let r = right_at clients clean.right k p at in
+        receipts_are p.number p.receipts r.own r.held (λ i e in_log client. placed_with clients clean.right k p e at client (clean.in_place i (slice_get_within log i e in_log) e in_log));
     apart = apart_at clients clean.right;
     no_others = λ i e at. let h = clean.in_place i (slice_get_within log i e at) e at in record { place = h.place; client = h.client; at = h.at; number_is = h.has.number_is };
     all_in = clean.all_in;

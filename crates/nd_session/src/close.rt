@@ -26,14 +26,9 @@ pub struct Log<A: Allocator + Copy = Global> {
 pub enum CloseWhy {
     /// A client's receipt is not the log's entry at this index, or the client's number was handed in
     /// before (the index is then the log's length), or the entry at this index has no receipt.
-    Mismatch {
-        client: u64,
-        index: u64,
-    },
+    Mismatch { client: u64, index: u64 },
     /// The client of this number was not handed in.
-    ClientMissing {
-        client: u64,
-    },
+    ClientMissing { client: u64 },
 }
 
 /// A session that was closed with other clients, or other receipts, than its own.

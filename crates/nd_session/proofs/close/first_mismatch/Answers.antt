@@ -1,4 +1,4 @@
-use Rattle.std.proofs.Common.{rules, ◌≡◌, ℕ, length, Some, refl, arith, subst, below_more}
+use Rattle.std.proofs.Common.{◌≡◌, ℕ, length, Some, refl, arith, subst, below_more}
 use Rattle.std.specs.Prelude.{slice_get}
 use Rattle.std.proofs.lemmas.Option.{slice_get_read}
 use Rattle.nd_session.specs.Clients.{ClientValue}

@@ -1,4 +1,3 @@
-use Rattle.nd_session.specs.Clients.{IsUnknown}
 use Rattle.nd_session.specs.Faults.{TestFails}
 use Rattle.nd_session.proofs.Logs.{refused}
 use Rattle.nd_session.proofs.Told.{stranger}
