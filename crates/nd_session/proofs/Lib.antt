@@ -1,1 +1,2 @@
-mod Logs
+pub mod Logs
+pub mod Telling

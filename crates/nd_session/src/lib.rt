@@ -2,9 +2,11 @@
 #![tactic(auto)]
 
 mod fault;
+mod laws;
 mod receipt;
 mod state;
 
 pub use fault::SessionFault;
+pub use laws::logs_tell_machines;
 pub use receipt::Receipt;
 pub use state::State;
