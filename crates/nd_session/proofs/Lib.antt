@@ -2,3 +2,4 @@ mod Logs
 mod Told
 mod Filters
 mod Whole
+mod Telling

@@ -1,4 +1,5 @@
 pub mod Log
+pub mod Laws
 pub mod Codes
 pub mod State
 pub mod Kept
