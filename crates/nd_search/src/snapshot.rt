@@ -1,5 +1,6 @@
 //! A snapshot: a timeline of one's own, and the number of log entries that led to it.
-ghost use Rattle.std.specs.Prelude.{◌≡◌, ◌<◌, ◌↔◌, length, IfOk, IsTrue};
+ghost use Rattle.std.specs.Prelude.{◌≡◌, ◌<◌, ◌≤◌, ◌↔◌, length, IfOk, IsTrue};
+ghost use Rattle.nd_time.specs.Limits.{max_kept};
 ghost use Rattle.nd_view.specs.View.{IsPassed};
 ghost use Rattle.nd_protocol.specs.State.{view};
 ghost use Rattle.nd_protocol.specs.Invariant.{KeepsProtocol, IsFinished};
@@ -58,6 +59,20 @@ impl<A: Allocator + Copy> Snapshot<A> {
         self.index
     }
 
+    /// A snapshot keeps few steps: to be called where that has to be known.
+    pub(crate) fn keeps_few(&self)
+        ensures { length self.now.timeline.kept ≤ max_kept }
+    {
+        self.at();
+    }
+
+    /// Its timeline.
+    pub(crate) fn timeline(&self) -> &Timeline<A>
+        ensures { result.now ≡ self.now.timeline }
+    {
+        &self.timeline
+    }
+
     /// How many of the kept steps the cluster has made.
     pub fn at(&self) -> u64
         ensures value { result ≡ self.now.timeline.cursor }
@@ -95,6 +110,7 @@ impl<A: Allocator + Copy> Snapshot<A> {
     pub fn copy(&self, alloc: A) -> Result<Snapshot<A>, AllocError>
         ensures { IfOk result (λ s. s ≡ self.now) }
     {
-        Snapshot::of(alloc, &self.timeline, self.index)
+        let Snapshot { index, timeline } = self;
+        Snapshot::of(alloc, timeline, *index)
     }
 }
