@@ -1,13 +1,13 @@
 //! A script from a source of bytes, its replies to a sink of bytes.
 ghost use Rattle.std.specs.Prelude.{◌≡◌, ◌≢◌, ◌+◌, ◌-◌, ◌<◌, ◌≤◌, ◌^◌, ℕ, List, Some, false, true, length, take, IfErr, OnOk};
 ghost use Rattle.nd_time.specs.Limits.{max_input};
-ghost use Rattle.rewind.specs.Faults.{is_read_fault, is_write_fault};
+ghost use Rattle.rewind_faults.specs.Faults.{is_read_fault, is_write_fault};
 ghost use Rattle.rewind.specs.Script.{Ends, Takes};
 
-use crate::fault::DebugFault;
-use crate::options::Options;
 use crate::run::Run;
+use rewind_faults::DebugFault;
 use rewind_lines::{Sink, Source};
+use rewind_options::Options;
 use std::alloc::Global;
 
 /// The most bytes of a script.

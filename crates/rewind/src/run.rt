@@ -1,109 +1,18 @@
 //! A run of a script. The replies to what is read at a time are gathered, and written together.
-ghost use Rattle.std.specs.Prelude.{◌≡◌, ◌+◌, ◌<◌, ◌≤◌, ◌^◌, ◌∷◌, ◌++◌, [], Some, ℕ, List, false, length, take, is_err, IfOk, IfErr, IfSome, OnOk, OnErr};
+ghost use Rattle.std.specs.Prelude.{◌≡◌, ◌+◌, ◌<◌, ◌≤◌, ◌^◌, ◌∷◌, ◌++◌, [], ℕ, List, false, length, take, is_err, IfOk, IfErr, OnOk, OnErr};
 ghost use Rattle.std.specs.Io.KnownBytes.{Appends, Consumes, IsAtEnd, Keeps};
-ghost use Rattle.serde_json.specs.View.{view};
-ghost use Rattle.serde_json.specs.Written.{has_float};
 ghost use Rattle.rewind_lines.specs.Front.{front_of};
-ghost use Rattle.rewind_lines.specs.Lines.{json, lines_of, reading_of, whole_lines_of};
-ghost use Rattle.rewind_lines.specs.Readings.{reading_view};
+ghost use Rattle.rewind_lines.specs.Lines.{lines_of, reading_of, whole_lines_of};
 ghost use Rattle.rewind_lines.specs.Reads.{given_by, is_end};
-ghost use Rattle.rewind.specs.Answers.{Answers, after_fault};
-ghost use Rattle.rewind.specs.Faults.{is_write_fault, IsOfLine, IsOfRun};
-ghost use Rattle.rewind_forms.specs.Replies.{line_fault};
-ghost use Rattle.std.specs.Option.{option_to_list};
-ghost use Rattle.rewind.specs.Stages.{phase_of, phase_after, replies_of};
+ghost use Rattle.rewind_faults.specs.Faults.{is_write_fault};
+ghost use Rattle.rewind.specs.Faults.{IsOfLine, IsOfRun};
+ghost use Rattle.rewind_answers.specs.Stages.{phase_of, phase_after};
 ghost use Rattle.rewind.specs.States.{Answered, AnswersText, EndsEarly, Stands, Stopped};
 
-use crate::answer::{answer_first, answer_later};
-use crate::fault::DebugFault;
-use crate::stage::Stage;
-use rewind_forms::{LineFault, replies};
-use rewind_lines::{Line, Reading, Sink, Source, Unread, send, text_of};
-use serde_json::Value;
+use rewind_answers::{Stage, answer_line};
+use rewind_faults::DebugFault;
+use rewind_lines::{Line, Sink, Source, Unread, send, text_of};
 use std::alloc::{AllocError, Global};
-
-/// What a line is answered, and whether the run ends there.
-#[derive(Drop)]
-struct Answer {
-    reply: Option<Value>,
-    is_last: bool,
-}
-
-fn goes_on(reply: Value) -> Answer
-    ensures { (result.reply ≡ Some reply) × (result.is_last ≡ false) }
-{
-    Answer {
-        reply: Some(reply),
-        is_last: false,
-    }
-}
-
-/// Answers a line that is no JSON value; as the graph's line it ends the run.
-fn answer_fault(
-    alloc: Global,
-    stage: &Stage,
-    fault: LineFault,
-    line: u64,
-) -> Result<Answer, AllocError>
-    ensures reply { IfOk result (λ a. replies_of a.reply ≡ option_to_list (line_fault fault line)) }
-    ensures after { IfOk result (λ a. phase_after a.is_last stage.now ≡ after_fault (phase_of stage.now)) }
-    ensures text { IfOk result (λ a. IfSome a.reply (λ v. has_float (view v) ≡ false)) }
-{
-    let reply = replies::line_fault(alloc, fault, line)?;
-    Ok(Answer {
-        reply: Some(reply),
-        is_last: matches!(stage, Stage::Unstarted(_)),
-    })
-}
-
-/// Answers the graph's line or a later one.
-fn answer_value(
-    alloc: Global,
-    stage: &mut Stage,
-    value: &Value,
-    line: u64,
-) -> Result<Answer, AllocError>
-    ensures answers { IfOk result (λ a. Answers (phase_of stage.old) line (json (view value.now))
-        (replies_of a.reply) (phase_after a.is_last stage.new)) }
-    ensures text { IfOk result (λ a. IfSome a.reply (λ v. has_float (view v) ≡ false)) }
-{
-    match stage {
-        Stage::Unstarted(processors) => {
-            let (reply, started) = answer_first(alloc, *processors, value)?;
-            let is_last = started.is_none();
-            if let Some(debugger) = started {
-                *stage = Stage::Running(debugger);
-            }
-            Ok(Answer {
-                reply: Some(reply),
-                is_last,
-            })
-        }
-        Stage::Running(debugger) => Ok(goes_on(answer_later(alloc, debugger, value, line)?)),
-    }
-}
-
-/// Answers a line.
-fn answer_line(
-    alloc: Global,
-    stage: &mut Stage,
-    reading: &Reading,
-    line: u64,
-) -> Result<Answer, AllocError>
-    ensures answers { IfOk result (λ a. Answers (phase_of stage.old) line (reading_view reading.now)
-        (replies_of a.reply) (phase_after a.is_last stage.new)) }
-    ensures text { IfOk result (λ a. IfSome a.reply (λ v. has_float (view v) ≡ false)) }
-{
-    match reading {
-        Reading::Blank => Ok(Answer {
-            reply: None,
-            is_last: false,
-        }),
-        Reading::TooLong => answer_fault(alloc, stage, LineFault::LineTooLong, line),
-        Reading::NoJson => answer_fault(alloc, stage, LineFault::BadLine, line),
-        Reading::Json(value) => answer_value(alloc, stage, value, line),
-    }
-}
 
 /// The text that a line is answered with, how many replies it is, and whether the run ends there.
 fn reply_of(

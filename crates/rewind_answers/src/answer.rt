@@ -1,0 +1,113 @@
+//! The replies to the graph's line and to a later line.
+ghost use Rattle.std.specs.Prelude.{◌≡◌, ◌∷◌, [], false, Ok, IfOk};
+ghost use Rattle.nd_graph.specs.Fault.{IsUnlessMemory};
+ghost use Rattle.serde_json.specs.View.{view};
+ghost use Rattle.serde_json.specs.Written.{has_float};
+ghost use Rattle.rewind_answers.specs.Answers.{running, graph_of as graph_in, StartReplies, LineReplies, AskedReply, CommandReply};
+ghost use Rattle.rewind_answers.specs.Stages.{phase_of_start};
+
+use crate::debugger::Debugger;
+use crate::query::answer_query;
+use nd_cluster::{Cluster, StartFault};
+use nd_graph::{Graph, GraphDraft, GraphFault};
+use nd_timeline::Command;
+use rewind_forms::{Asked, asked_of, replies};
+use serde_json::Value;
+use std::alloc::{AllocError, Global};
+
+/// The graph that the value is.
+fn graph_of(alloc: Global, value: &Value) -> Result<Graph, GraphFault>
+    ensures { IsUnlessMemory (graph_in (view value.now)) result }
+{
+    let draft = match GraphDraft::from_value(alloc, value) {
+        Ok(draft) => draft,
+        Err(fault) => return Err(fault),
+    };
+    draft.check(alloc)
+}
+
+/// Starts a cluster on a graph.
+fn start_on(
+    alloc: Global,
+    processors: u8,
+    graph: Graph,
+) -> Result<(Value, Option<Debugger>), AllocError>
+    ensures replies { IfOk result (λ r. StartReplies processors (Ok graph) (view r.0 ∷ []) (phase_of_start r.1)) }
+    ensures text { IfOk result (λ r. has_float (view r.0) ≡ false) }
+{
+    let names = graph.copy(alloc)?;
+    match Cluster::start(alloc, graph, u32::from(processors)) {
+        Ok(cluster) => {
+            let locations = names.location_count() as u64;
+            let reply = replies::graph(alloc, locations, u64::from(processors))?;
+            Ok((reply, Some(Debugger::new(alloc, cluster)?)))
+        }
+        Err(StartFault::BadCount) => {
+            let fault = StartFault::BadCount;
+            Ok((replies::fault(alloc, fault.number(), fault.name())?, None))
+        }
+        Err(StartFault::LoopNotStrict { location }) => {
+            let fault = StartFault::LoopNotStrict { location };
+            let name = names.location_name(location);
+            let reply = replies::location_fault(alloc, fault.number(), fault.name(), name)?;
+            Ok((reply, None))
+        }
+        Err(StartFault::Memory) => Err(AllocError),
+    }
+}
+
+/// Answers the graph's line, and starts the machine where the graph is accepted.
+pub fn answer_first(
+    alloc: Global,
+    processors: u8,
+    value: &Value,
+) -> Result<(Value, Option<Debugger>), AllocError>
+    ensures replies { IfOk result (λ r.
+        StartReplies processors (graph_in (view value.now)) (view r.0 ∷ []) (phase_of_start r.1)) }
+    ensures text { IfOk result (λ r. has_float (view r.0) ≡ false) }
+{
+    let graph = match graph_of(alloc, value) {
+        Ok(graph) => graph,
+        Err(GraphFault::Memory) => return Err(AllocError),
+        Err(fault) => return Ok((replies::fault(alloc, fault.number(), fault.name())?, None)),
+    };
+    start_on(alloc, processors, graph)
+}
+
+// Makes a move of the machine, and replies.
+fn answer_do(alloc: Global, debugger: &mut Debugger, command: &Command) -> Result<Value, AllocError>
+    ensures reply { IfOk result (λ v. CommandReply debugger.old command.now (view v) debugger.new) }
+    ensures text { IfOk result (λ v. has_float (view v) ≡ false) }
+{
+    let reply = debugger.apply(command);
+    replies::command_reply(alloc, debugger.cluster().graph(), &reply)
+}
+
+// Answers a command or a query.
+fn answer_asked(alloc: Global, debugger: &mut Debugger, asked: &Asked) -> Result<Value, AllocError>
+    ensures reply { IfOk result (λ v. AskedReply debugger.old asked.now (view v) debugger.new) }
+    ensures text { IfOk result (λ v. has_float (view v) ≡ false) }
+{
+    match asked {
+        Asked::Do(command) => answer_do(alloc, debugger, command),
+        Asked::Tell(query) => answer_query(alloc, debugger.cluster(), query),
+    }
+}
+
+/// Answers a later line.
+pub fn answer_later(
+    alloc: Global,
+    debugger: &mut Debugger,
+    value: &Value,
+    line: u64,
+) -> Result<Value, AllocError>
+    ensures replies { IfOk result (λ v.
+        LineReplies debugger.old line (view value.now) (view v ∷ []) (running debugger.new)) }
+    ensures text { IfOk result (λ v. has_float (view v) ≡ false) }
+{
+    let asked = match asked_of(alloc, debugger.cluster().graph(), value) {
+        Ok(asked) => asked,
+        Err(fault) => return replies::line_fault(alloc, fault, line),
+    };
+    answer_asked(alloc, debugger, &asked)
+}
