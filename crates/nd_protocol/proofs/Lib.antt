@@ -24,3 +24,4 @@ pub mod Notices
 pub mod Runs
 pub mod Bounds
 pub mod Exchanges
+pub mod Same

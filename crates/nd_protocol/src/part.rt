@@ -63,8 +63,8 @@ impl<A: Allocator> Points<A> {
         Ok(Points { items })
     }
 
-    /// Whether both name the same pointstamps, in one order.
-    pub fn same(&self, other: &Points<A>) -> bool
+    // Whether both name the same pointstamps, in one order.
+    pub(crate) fn same(&self, other: &Points<A>) -> bool
         ensures { MatchBool result (self.now ≡ other.now) (self.now ≢ other.now) }
     {
         self.items.as_slice() == other.items.as_slice()
@@ -92,8 +92,8 @@ impl<A: Allocator> Part<A> {
         }
     }
 
-    /// Whether both are one part as it is written.
-    pub fn same(&self, other: &Part<A>) -> bool
+    // Whether both are one part as it is written.
+    pub(crate) fn same(&self, other: &Part<A>) -> bool
         ensures { MatchBool result (self.now ≡ other.now) (self.now ≢ other.now) }
     {
         match (self, other) {

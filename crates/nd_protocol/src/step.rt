@@ -57,8 +57,8 @@ impl<A: Allocator> Values<A> {
         })
     }
 
-    /// Whether both are the same values in one order.
-    pub fn same(&self, other: &Values<A>) -> bool
+    // Whether both are the same values in one order.
+    pub(crate) fn same(&self, other: &Values<A>) -> bool
         ensures { MatchBool result (self.now ≡ other.now) (self.now ≢ other.now) }
     {
         self.items.as_slice() == other.items.as_slice()
