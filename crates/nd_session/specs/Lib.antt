@@ -1,0 +1,5 @@
+pub mod Log
+pub mod Codes
+pub mod State
+pub mod Kept
+pub mod Faults
