@@ -23,10 +23,8 @@ use Rattle.nd_cluster.specs.declared.start.StartFault.TheVariants as start_fault
 use Rattle.rewind_forms.specs.declared.asked.Asked.{Asked}
 use Rattle.rewind_forms.specs.declared.fault.LineFault.{LineFault}
 use Rattle.rewind_forms.specs.declared.fault.LineFault.TheVariants as line
-use Rattle.std.specs.declared.alloc.Global.{Global}
 use Rattle.nd_timeline.specs.Timeline.{cluster_of}
-use Rattle.nd_timeline.specs.Moves.{MachineValue}
-use Rattle.rewind_answers.specs.Answers.{running, refused, StartReplies, not_strict, graph_of, graph_of_draft, AskedReply, FormReplies, LineReplies, FrontierReply}
+use Rattle.rewind_answers.specs.Answers.{Logged, running, refused, StartReplies, not_strict, graph_of, graph_of_draft, AskedReply, FormReplies, LineReplies, FrontierReply}
 
 -- a value that is no draft
 pub graph_of-refused : (d : Data) (e : GraphFault) → IsUnlessMemory (ok_or (draft_of d) Shape) (Err e) → IsUnlessMemory (graph_of d) (Err e)
@@ -55,7 +53,7 @@ told d e (inr is) some = absurd (some is)
 
 -- ---- commands
 
-pub asked_replies : (m : MachineValue Global) (n : ℕ) (d : Data) (asked : Asked) (r : Result Value AllocError) (new : MachineValue Global) → asked_of (cluster_of m.timeline).graph d ≡ Ok asked
+pub asked_replies : (m : Logged) (n : ℕ) (d : Data) (asked : Asked) (r : Result Value AllocError) (new : Logged) → asked_of (cluster_of m.machine.timeline).graph d ≡ Ok asked
     → IfOk r (λ v. AskedReply m asked (view v) new) → IfOk r (λ v. LineReplies m n d (view v ∷ []) (running new))
 asked_replies m n d asked (Ok v) new is h = subst (λ (o : Result Asked LineFault). FormReplies m n o (view v ∷ []) (running new)) (sym is) (view v, new, h, refl, refl)
 asked_replies m n d asked (Err e) new is h = h
@@ -63,7 +61,7 @@ asked_replies m n d asked (Err e) new is h = h
 no_memory : (e : LineFault) (n : ℕ) (x : Data) → Some x ≡ line_fault e n → e ≢ line.Memory
 no_memory e n x told memory = absurd (cc (ap (λ f. line_fault f n) memory))
 
-pub fault_replies : (m : MachineValue Global) (n : ℕ) (d : Data) (e : LineFault) (r : Result Value AllocError) → (e ≢ line.Memory → asked_of (cluster_of m.timeline).graph d ≡ Err e) → IfOk r (λ v. Some (view v) ≡ line_fault e n)
+pub fault_replies : (m : Logged) (n : ℕ) (d : Data) (e : LineFault) (r : Result Value AllocError) → (e ≢ line.Memory → asked_of (cluster_of m.machine.timeline).graph d ≡ Err e) → IfOk r (λ v. Some (view v) ≡ line_fault e n)
     → IfOk r (λ v. LineReplies m n d (view v ∷ []) (running m))
 fault_replies m n d e (Ok v) is told =
     subst (λ (o : Result Asked LineFault). FormReplies m n o (view v ∷ []) (running m)) (sym (is (no_memory e n (view v) told))) (ap option_to_list told, refl)

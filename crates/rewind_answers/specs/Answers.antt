@@ -1,9 +1,10 @@
 -- What each line of a script may be answered, and what comes of it.
-use Rattle.std.specs.Prelude.{◌≡◌, ◌↔◌, IsTrue, Bool, ℕ, ◌<◌, ◌≤◌, ◌⊎◌, List, [], ◌∷◌, length, Option, Some, None, unsigned_abs, slice_get, Result, Ok, Err}
+use Rattle.std.specs.Prelude.{◌≡◌, ◌≢◌, ◌+◌, ◌↔◌, IsTrue, Bool, ℕ, ◌<◌, ◌≤◌, ◌⊎◌, List, [], ◌∷◌, length, Option, Some, None, unsigned_abs, slice_get, Result, Ok, Err}
 use Rattle.std.specs.Option.{option_to_list}
 use Rattle.std.specs.declared.alloc.Global.{Global}
 use Rattle.serde_json.specs.Data.{Data}
 use Rattle.rewind_lines.specs.Lines.{Reading, blank, too_long, no_json, json}
+use Rattle.nd_time.specs.Limits.{max_log}
 use Rattle.nd_graph.specs.Graph.{Dataflow, location_count, names}
 use Rattle.nd_graph.specs.Draft.{Draft, draft_of}
 use Rattle.nd_graph.specs.Checked.{checked}
@@ -24,6 +25,9 @@ use Rattle.nd_timeline.specs.Timeline.{cluster_of, opened}
 use Rattle.nd_timeline.specs.Moves.{MachineValue, Moves, without_breaks}
 use Rattle.nd_timeline.specs.declared.command.Command.{Command}
 use Rattle.nd_timeline.specs.declared.reply.Reply.{Reply}
+use Rattle.nd_session.specs.Faults.{number_of as number_of_session, name_of as name_of_session}
+use Rattle.nd_session.specs.declared.fault.SessionFault.{SessionFault}
+use Rattle.nd_session.specs.declared.fault.SessionFault.TheVariants.{LogFull, Memory}
 use Rattle.rewind_forms.specs.Asked.{asked_of}
 use Rattle.rewind_forms.specs.Replies.{fault, location_fault, graph, reply_data, faulty, line_fault, count, before, state, known, frontier, passed, not_passed, no_processor}
 use Rattle.rewind_forms.specs.LineFaults.{number_of as number_of_line, name_of as name_of_line}
@@ -34,10 +38,15 @@ use Rattle.rewind_forms.specs.declared.asked.Asked.TheVariants.{Do, Tell}
 use Rattle.rewind_forms.specs.declared.queries.Query.{Query}
 use Rattle.rewind_forms.specs.declared.queries.Query.TheVariants.{State, Count, Before, View, Frontier, Passed}
 
+-- a machine, and how many commands it has answered that were logged
+pub record Logged : Type 0 where
+  pub machine : MachineValue Global
+  pub entries : ℕ
+
 -- before the graph's line, of a number of processors; with the machine; after a graph's line that was refused
 pub data Phase : Type 0 where
   unstarted : ℕ → Phase
-  running : MachineValue Global → Phase
+  running : Logged → Phase
   refused : Phase
 
 -- ---- the graph's line
@@ -63,9 +72,13 @@ abbrev pub StartReplies : ℕ → Result Dataflow GraphFault → List Data → P
 StartReplies processors (Err e) replies new = (replies ≡ fault (number_of e) (name_of e) ∷ []) × (new ≡ refused)
 StartReplies processors (Ok g) replies new =
     ((reply : Data) × RefusedReply processors g reply × (replies ≡ reply ∷ []) × (new ≡ refused))
-    ⊎ (CanStart g processors × (replies ≡ graph (location_count g) processors ∷ []) × (new ≡ running (without_breaks (opened Global (start g processors)))))
+    ⊎ (CanStart g processors × (replies ≡ graph (location_count g) processors ∷ []) × (new ≡ running (record { machine = without_breaks (opened Global (start g processors)); entries = 0 })))
 
 -- ---- the lines after it
+
+-- what a session that answers no command replies
+abbrev pub session_fault : SessionFault Global → Data
+session_fault e = fault (number_of_session e) (name_of_session e)
 
 -- the true count of a pointstamp
 abbrev pub true_count : ClusterState → Pointstamp → ℕ
@@ -101,24 +114,25 @@ QueryReply s (View q) reply = ViewReply s q reply
 QueryReply s (Frontier q) reply = FrontierReply s q reply
 QueryReply s (Passed q x) reply = PassedReply s q x reply
 
--- the machine makes a move, and its reply is shown with the names of the graph
-pub record CommandReply (m : MachineValue Global) (asked : Command Global) (reply : Data) (new : MachineValue Global) : Type 0 where
-  pub answer : Reply
-  pub move : Moves m asked answer new
-  pub shown : reply ≡ reply_data (cluster_of new.timeline).graph answer
+-- A command is answered by a move of the machine, shown with the names of the graph, and is logged; or, exactly where the log is full, by that; or for want of memory.
+pub data CommandReply (m : Logged) (asked : Command Global) (reply : Data) (new : Logged) : Type 0 where
+  moved : (answer : Reply) → m.entries ≢ max_log → Moves m.machine asked answer new.machine → new.entries ≡ m.entries + 1
+      → reply ≡ reply_data (cluster_of new.machine.timeline).graph answer → CommandReply m asked reply new
+  log_full : m.entries ≡ max_log → reply ≡ session_fault LogFull → new ≡ m → CommandReply m asked reply new
+  no_memory : m.entries ≢ max_log → reply ≡ session_fault Memory → new ≡ m → CommandReply m asked reply new
 
--- a command makes a move of the machine, and a query leaves it as it is
-abbrev pub AskedReply : MachineValue Global → Asked → Data → MachineValue Global → Type 0
+-- a query leaves the machine as it is
+abbrev pub AskedReply : Logged → Asked → Data → Logged → Type 0
 AskedReply m (Do command) reply new = CommandReply m command reply new
-AskedReply m (Tell query) reply new = QueryReply (cluster_of m.timeline) query reply × (new ≡ m)
+AskedReply m (Tell query) reply new = QueryReply (cluster_of m.machine.timeline) query reply × (new ≡ m)
 
 -- the reply to a line that is, or is not, a command or a query
-abbrev pub FormReplies : MachineValue Global → ℕ → Result Asked LineFault → List Data → Phase → Type 0
-FormReplies m line (Ok asked) replies new = (reply : Data) × (next : MachineValue Global) × AskedReply m asked reply next × (replies ≡ reply ∷ []) × (new ≡ running next)
+abbrev pub FormReplies : Logged → ℕ → Result Asked LineFault → List Data → Phase → Type 0
+FormReplies m line (Ok asked) replies new = (reply : Data) × (next : Logged) × AskedReply m asked reply next × (replies ≡ reply ∷ []) × (new ≡ running next)
 FormReplies m line (Err e) replies new = (replies ≡ option_to_list (line_fault e line)) × (new ≡ running m)
 
-abbrev pub LineReplies : MachineValue Global → ℕ → Data → List Data → Phase → Type 0
-LineReplies m line d replies new = FormReplies m line (asked_of (cluster_of m.timeline).graph d) replies new
+abbrev pub LineReplies : Logged → ℕ → Data → List Data → Phase → Type 0
+LineReplies m line d replies new = FormReplies m line (asked_of (cluster_of m.machine.timeline).graph d) replies new
 
 -- ---- all lines
 

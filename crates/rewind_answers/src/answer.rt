@@ -4,16 +4,21 @@ ghost use Rattle.nd_graph.specs.Fault.{IsUnlessMemory};
 ghost use Rattle.serde_json.specs.View.{view};
 ghost use Rattle.serde_json.specs.Written.{has_float};
 ghost use Rattle.rewind_answers.specs.Answers.{running, graph_of as graph_in, StartReplies, LineReplies, AskedReply, CommandReply};
-ghost use Rattle.rewind_answers.specs.Stages.{phase_of_start};
+ghost use Rattle.rewind_answers.specs.Stages.{logged, phase_of_start};
+ghost use Rattle.nd_protocol.specs.Invariant.{KeepsProtocol};
+ghost use Rattle.nd_timeline.specs.Timeline.{cluster_of};
 
-use crate::debugger::Debugger;
 use crate::query::answer_query;
 use nd_cluster::{Cluster, StartFault};
 use nd_graph::{Graph, GraphDraft, GraphFault};
-use nd_timeline::Command;
+use nd_session::State;
+use nd_timeline::{Command, Timeline};
 use rewind_forms::{Asked, asked_of, replies};
 use serde_json::Value;
 use std::alloc::{AllocError, Global};
+
+/// The number of the client whose script it is.
+const ONLY_CLIENT: u64 = 0;
 
 /// The graph that the value is.
 fn graph_of(alloc: Global, value: &Value) -> Result<Graph, GraphFault>
@@ -31,7 +36,7 @@ fn start_on(
     alloc: Global,
     processors: u8,
     graph: Graph,
-) -> Result<(Value, Option<Debugger>), AllocError>
+) -> Result<(Value, Option<State>), AllocError>
     ensures replies { IfOk result (λ r. StartReplies processors (Ok graph) (view r.0 ∷ []) (phase_of_start r.1)) }
     ensures text { IfOk result (λ r. has_float (view r.0) ≡ false) }
 {
@@ -40,7 +45,8 @@ fn start_on(
         Ok(cluster) => {
             let locations = names.location_count() as u64;
             let reply = replies::graph(alloc, locations, u64::from(processors))?;
-            Ok((reply, Some(Debugger::new(alloc, cluster)?)))
+            let timeline = Timeline::new(alloc, cluster)?;
+            Ok((reply, Some(State::new(alloc, timeline))))
         }
         Err(StartFault::BadCount) => {
             let fault = StartFault::BadCount;
@@ -56,12 +62,12 @@ fn start_on(
     }
 }
 
-/// Answers the graph's line, and starts the machine where the graph is accepted.
+/// Answers the graph's line, and starts a state where the graph is accepted.
 pub fn answer_first(
     alloc: Global,
     processors: u8,
     value: &Value,
-) -> Result<(Value, Option<Debugger>), AllocError>
+) -> Result<(Value, Option<State>), AllocError>
     ensures replies { IfOk result (λ r.
         StartReplies processors (graph_in (view value.now)) (view r.0 ∷ []) (phase_of_start r.1)) }
     ensures text { IfOk result (λ r. has_float (view r.0) ≡ false) }
@@ -74,40 +80,50 @@ pub fn answer_first(
     start_on(alloc, processors, graph)
 }
 
-// Makes a move of the machine, and replies.
-fn answer_do(alloc: Global, debugger: &mut Debugger, command: &Command) -> Result<Value, AllocError>
-    ensures reply { IfOk result (λ v. CommandReply debugger.old command.now (view v) debugger.new) }
+// The cluster at the cursor.
+fn cluster(state: &State) -> &Cluster
+    ensures value { result.now ≡ cluster_of state.now.machine.timeline }
+    ensures protocol { KeepsProtocol result.now }
+{
+    state.timeline().cluster()
+}
+
+// Has a command answered and logged, and replies.
+fn answer_do(alloc: Global, state: &mut State, command: Command) -> Result<Value, AllocError>
+    ensures reply { IfOk result (λ v. CommandReply (logged state.old) command (view v) (logged state.new)) }
     ensures text { IfOk result (λ v. has_float (view v) ≡ false) }
 {
-    let reply = debugger.apply(command);
-    replies::command_reply(alloc, debugger.cluster().graph(), &reply)
+    match state.apply(alloc, ONLY_CLIENT, command) {
+        Ok(receipt) => replies::command_reply(alloc, cluster(state).graph(), &receipt.reply),
+        Err(fault) => replies::fault(alloc, fault.number(), fault.name()),
+    }
 }
 
 // Answers a command or a query.
-fn answer_asked(alloc: Global, debugger: &mut Debugger, asked: &Asked) -> Result<Value, AllocError>
-    ensures reply { IfOk result (λ v. AskedReply debugger.old asked.now (view v) debugger.new) }
+fn answer_asked(alloc: Global, state: &mut State, asked: Asked) -> Result<Value, AllocError>
+    ensures reply { IfOk result (λ v. AskedReply (logged state.old) asked (view v) (logged state.new)) }
     ensures text { IfOk result (λ v. has_float (view v) ≡ false) }
 {
     match asked {
-        Asked::Do(command) => answer_do(alloc, debugger, command),
-        Asked::Tell(query) => answer_query(alloc, debugger.cluster(), query),
+        Asked::Do(command) => answer_do(alloc, state, command),
+        Asked::Tell(query) => answer_query(alloc, cluster(state), &query),
     }
 }
 
 /// Answers a later line.
 pub fn answer_later(
     alloc: Global,
-    debugger: &mut Debugger,
+    state: &mut State,
     value: &Value,
     line: u64,
 ) -> Result<Value, AllocError>
     ensures replies { IfOk result (λ v.
-        LineReplies debugger.old line (view value.now) (view v ∷ []) (running debugger.new)) }
+        LineReplies (logged state.old) line (view value.now) (view v ∷ []) (running (logged state.new))) }
     ensures text { IfOk result (λ v. has_float (view v) ≡ false) }
 {
-    let asked = match asked_of(alloc, debugger.cluster().graph(), value) {
+    let asked = match asked_of(alloc, cluster(state).graph(), value) {
         Ok(asked) => asked,
         Err(fault) => return replies::line_fault(alloc, fault, line),
     };
-    answer_asked(alloc, debugger, &asked)
+    answer_asked(alloc, state, asked)
 }

@@ -3,9 +3,8 @@
 #![tactic(auto)]
 
 mod answer;
-mod debugger;
 mod query;
 mod stage;
 
-pub use debugger::Debugger;
+pub use answer::answer_first;
 pub use stage::{Answer, Stage, answer_line};

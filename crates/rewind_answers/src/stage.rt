@@ -10,17 +10,17 @@ ghost use Rattle.rewind_answers.specs.Answers.{Answers, after_fault};
 ghost use Rattle.rewind_answers.specs.Stages.{phase_of, phase_after, replies_of};
 
 use crate::answer::{answer_first, answer_later};
-use crate::debugger::Debugger;
+use nd_session::State;
 use rewind_forms::{LineFault, replies};
 use rewind_lines::Reading;
 use serde_json::Value;
 use std::alloc::{AllocError, Global};
 
-/// How far a run has come: before its graph, of a number of processors, or with the debugger machine.
+/// How far a run has come: before its graph, of a number of processors, or with a state.
 #[derive(Drop)]
 pub enum Stage {
     Unstarted(u8),
-    Running(Debugger),
+    Running(State),
 }
 
 /// What a line is answered, and whether the run ends there.
@@ -72,15 +72,15 @@ fn answer_value(
         Stage::Unstarted(processors) => {
             let (reply, started) = answer_first(alloc, *processors, value)?;
             let is_last = started.is_none();
-            if let Some(debugger) = started {
-                *stage = Stage::Running(debugger);
+            if let Some(state) = started {
+                *stage = Stage::Running(state);
             }
             Ok(Answer {
                 reply: Some(reply),
                 is_last,
             })
         }
-        Stage::Running(debugger) => Ok(goes_on(answer_later(alloc, debugger, value, line)?)),
+        Stage::Running(state) => Ok(goes_on(answer_later(alloc, state, value, line)?)),
     }
 }
 
