@@ -1,0 +1,10 @@
+pub mod Answering
+pub mod Drawing
+pub mod Elements
+pub mod Found
+pub mod Joined
+pub mod Lists
+pub mod Shares
+pub mod Steps
+pub mod Totals
+pub mod Walking

@@ -1,5 +1,6 @@
 //! A snapshot: a timeline of one's own, and the number of log entries that led to it.
-ghost use Rattle.std.specs.Prelude.{◌≡◌, ◌<◌, ◌↔◌, length, IfOk, IsTrue};
+ghost use Rattle.std.specs.Prelude.{◌≡◌, ◌<◌, ◌≤◌, ◌↔◌, length, IfOk, IsTrue};
+ghost use Rattle.nd_time.specs.Limits.{max_kept};
 ghost use Rattle.nd_view.specs.View.{IsPassed};
 ghost use Rattle.nd_protocol.specs.State.{view};
 ghost use Rattle.nd_protocol.specs.Invariant.{KeepsProtocol, IsFinished};
@@ -56,6 +57,20 @@ impl<A: Allocator + Copy> Snapshot<A> {
         ensures { result ≡ self.now.index }
     {
         self.index
+    }
+
+    /// A snapshot keeps few steps: to be called where that has to be known.
+    pub(crate) fn keeps_few(&self)
+        ensures { length self.now.timeline.kept ≤ max_kept }
+    {
+        self.timeline.at();
+    }
+
+    /// Its timeline.
+    pub(crate) fn timeline(&self) -> &Timeline<A>
+        ensures { result.now ≡ self.now.timeline }
+    {
+        &self.timeline
     }
 
     /// How many of the kept steps the cluster has made.

@@ -1,0 +1,75 @@
+-- The answer, read off the table of results.
+use Rattle.std.proofs.Common.{◌≡◌, ◌<◌, ◌≤◌, ℕ, zero, suc, ◌+◌, ◌-◌, ◌*◌, ◌/◌, List, All, Option, Some, None, Vec, map, min, length, slice_get, inl, inr, arith, subst, sym, ap, ◌∙◌}
+use Rattle.std.proofs.lemmas.Bool.{cases_lt}
+use Rattle.nd_watch.specs.declared.watch.Break.{Break}
+use Rattle.nd_timeline.specs.Timeline.{TimelineValue}
+use Rattle.nd_search.specs.Answers.{AreClaims}
+use Rattle.nd_search.proofs.Lists.{map_twice}
+use Rattle.nd_search.specs.Least.{HoldsAt, NoHit, IsLeast}
+use Rattle.nd_search.specs.Pieces.{piece_count, piece_start, piece_end}
+use Rattle.nd_search.specs.Works.{IsResult, AreFound, IsSearched, AreTold, NoneBefore, IsFirst, IsFirstGap}
+use Rattle.nd_search.specs.declared.work.Searched.{Searched}
+use Rattle.nd_search.proofs.Elements.{get_below, all_at}
+
+within : (lo hi j : ℕ) → lo ≤ hi → j < piece_count lo hi → piece_start lo j ≤ hi
+within lo hi j le lt = omega (arith, le, lt)
+
+past : (lo hi n : ℕ) → lo ≤ hi → n ≡ piece_count lo hi → hi < piece_start lo n
+past lo hi n le is = omega (arith, le, is)
+
+-- ---- what the parts of a search tell of what it was asked for
+
+pub counted_there : (lo lo' hi hi' : ℕ) → lo ≡ lo' → hi ≡ hi' → piece_count lo hi ≡ piece_count lo' hi'
+counted_there lo lo' hi hi' first last = ap (λ (n : ℕ). piece_count n hi) first ∙ ap (λ (n : ℕ). piece_count lo' n) last
+
+module _ {A : Type 0} where
+  pub searched_there : (b : Break) (t m : TimelineValue A) (lo lo' hi hi' : ℕ) (works : List (Searched A)) → t ≡ m → lo ≡ lo' → hi ≡ hi' → All (IsSearched (HoldsAt t b) lo hi) works → All (IsSearched (HoldsAt m b) lo' hi') works
+  searched_there b t m lo lo' hi hi' works same first last all =
+      subst (λ (t : TimelineValue A). All (IsSearched (HoldsAt t b) lo' hi') works) same
+      (subst (λ (n : ℕ). All (IsSearched (HoldsAt t b) lo' n) works) last
+      (subst (λ (n : ℕ). All (IsSearched (HoldsAt t b) n hi) works) first all))
+
+  pub told_there : (lent works : List (Searched A)) (items rs : List (Option (Option ℕ))) → lent ≡ works → rs ≡ items → AreTold lent items → AreTold works rs
+  told_there lent works items rs same read told =
+      subst (λ (xs : List (Option (Option ℕ))). AreTold works xs) (sym read) (subst (λ (ws : List (Searched A)). AreTold ws items) same told)
+
+  pub claimed_there : (pieces pieces' workers : ℕ) (works : List (Searched A)) (claimed : List (Vec ℕ A)) → pieces ≡ pieces' → claimed ≡ map (λ s. s.claimed) works → AreClaims pieces workers (map (λ s. s.claimed.items) works) → AreClaims pieces' workers (map (λ l. l.items) claimed)
+  claimed_there pieces pieces' workers works claimed count is claims =
+      let lists : map (λ l. l.items) claimed ≡ map (λ s. s.claimed.items) works = ap (λ (ls : List (Vec ℕ A)). map (λ l. l.items) ls) is ∙ map_twice (λ (s : Searched A). s.claimed) (λ (l : Vec ℕ A). l.items) works in
+      subst (λ (n : ℕ). AreClaims n workers (map (λ l. l.items) claimed)) count (subst (λ (ls : List (List ℕ)). AreClaims pieces workers ls) (sym lists) claims)
+
+-- ---- pieces in their order
+
+module _ {A : Type 0} (Hit : ℕ → Type 0) (lo hi : ℕ) (works : List (Searched A)) (rs : List (Option (Option ℕ))) (searched : All (IsSearched Hit lo hi) works) (told : AreTold works rs) where
+  right : (j : ℕ) (r : Option ℕ) → slice_get rs j ≡ Some (Some r) → IsResult Hit lo hi j r
+  right j r at =
+      let t = told j r at in
+      let found : IsSearched Hit lo hi t.work = all_at (IsSearched Hit lo hi) works t.who t.work searched t.there in
+      found.results t.by.place (get_below t.work.found.items t.by.place r t.by.result) j r t.by.piece t.by.result
+
+  none_before : (j : ℕ) → NoneBefore rs j → NoHit Hit lo (min (hi + 1) (piece_start lo j))
+  none_before zero none i from below = absurd (omega (arith, from, below))
+  none_before (suc j) none i from below =
+      elim (cases_lt i (piece_start lo j)) [
+        | inl lt ↦ none_before j (λ k less. none k (omega (arith, less))) i from (omega (arith, below, lt))
+        | inr ge ↦ right j None (none j (omega arith)) i ge (omega (arith, below, ge))
+      ]
+
+  pub is_least : lo ≤ hi → length rs ≡ piece_count lo hi → (r : Option ℕ) → IsFirst rs r → IsLeast Hit lo hi r
+  is_least le len None none = λ i from below. none_before (length rs) none i from (omega (arith, below, past lo hi (length rs) le len))
+  is_least le len (Some i) first =
+      let here = right first.piece (Some i) first.hit in (
+        omega (arith, here.0),
+        omega (arith, here.1),
+        here.2,
+        (λ k from below. elim (cases_lt k (piece_start lo first.piece)) [
+          | inl lt ↦ none_before first.piece first.before k from (omega (arith, lt, below, here.1))
+          | inr ge ↦ here.3 k ge below
+        ]),
+      )
+
+  pub gap_within : length rs ≡ piece_count lo hi → (j : ℕ) → IsFirstGap rs j → j < piece_count lo hi
+  gap_within len j gap = omega (arith, len, get_below rs j None gap.gap)
+
+  pub gap_before : lo ≤ hi → length rs ≡ piece_count lo hi → (j : ℕ) → IsFirstGap rs j → NoHit Hit lo (piece_start lo j)
+  gap_before le len j gap i from below = none_before j gap.before i from (omega (arith, below, within lo hi j le (gap_within len j gap)))

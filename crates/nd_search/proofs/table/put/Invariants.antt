@@ -1,0 +1,9 @@
+use Rattle.std.proofs.Common.{◌≡◌, ◌⊎◌, ℕ, Option, Some, length, slice_get}
+use Rattle.nd_search.specs.Works.{IsToldBy}
+use Rattle.nd_search.proofs.table.put.Given as goal
+
+abbrev pub invariant-loop-k : goal.invariant-loop-k
+invariant-loop-k g l = record {
+  len : length l.results ≡ length l.fn.results;
+  told : (j : ℕ) (r : Option ℕ) → slice_get l.results j ≡ Some (Some r) → (slice_get l.fn.results j ≡ Some (Some r)) ⊎ IsToldBy l.searched j r;
+}

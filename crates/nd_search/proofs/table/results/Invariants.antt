@@ -1,0 +1,16 @@
+use Rattle.std.proofs.Common.{◌≡◌, ◌≤◌, ℕ, Option, Some, None, slice_get, vec_len, vec_capacity}
+use Rattle.nd_search.specs.Works.{AreTold}
+use Rattle.nd_search.proofs.table.results.Given as goal
+
+abbrev pub invariant-loop : goal.invariant-loop
+invariant-loop g l = record {
+  counted : vec_len l.results ≡ l.counter;
+  room : l.pieces ≤ vec_capacity l.results;
+  empty : (j : ℕ) (r : Option (Option ℕ)) → slice_get l.results.items j ≡ Some r → r ≡ None;
+}
+
+abbrev pub invariant-loop-searched : goal.invariant-loop-searched
+invariant-loop-searched g l = record {
+  counted : vec_len l.results ≡ l.pieces;
+  told : AreTold l.works l.results.items;
+}

@@ -1,0 +1,35 @@
+use Rattle.std.proofs.Common.{rules, ◌≡◌, ◌+◌, ◌*◌, ◌++◌, ◌∷◌, [], ◌∙◌, sym, ap, ℕ, List, map, length, length-append, arith, subst}
+use Rattle.std.proofs.lemmas.Iterator.Adapters.{YieldsList-from_vec}
+use Rattle.std.proofs.lemmas.Iterator.Consumers.{YieldsList-turn}
+use Rattle.nd_search.specs.declared.work.Work.{Work}
+use Rattle.nd_search.specs.declared.work.Searched.{Searched}
+use Rattle.nd_search.specs.Claims.{times, times_all}
+use Rattle.nd_search.specs.Works.{HasDrawn}
+use Rattle.nd_search.proofs.Lists.{times_all-more, more_lists, times_under, map-more}
+use Rattle.nd_search.proofs.team.gathered.Goals as goal
+
+pub loop-work-preserved : goal.loop-work-preserved
+loop-work-preserved g c =
+    let A : Type 0 = g.row.A.Denot in
+    let turn = YieldsList-turn (YieldsList-from_vec {s = c.into_iter-work-iterator.result} c.args.works.items (search rules) (search rules)) c.loop-work.yielded c.loop-work.work-iterator c.loop-work.yielded_by c.next.result c.next.new.self c.in-Some.work c.in-Some.is c.next.ensures.steps in
+    let work = c.in-Some.work in
+    let done : HasDrawn c.args.word.now.table_id c.args.pieces work = subst (λ (w : Work A). HasDrawn c.args.word.now.table_id c.args.pieces w) (sym turn.1) (c.requires.all (length c.loop-work.yielded) work turn.0) in
+    let was = c.loop-work.ticket.me.0 in
+    let other = work.ticket.me.0 in
+    let a : c.gather.new.ticket.me.0.allowance ≡ was.allowance + other.allowance = ap (λ m. m.0.allowance) c.gather.ensures.1 in
+    let d : c.gather.new.ticket.me.0.drawn ≡ was.drawn ++ other.drawn = ap (λ m. m.0.drawn) c.gather.ensures.1 in
+    let items : c.push_reserved.new.self.items ≡ c.loop-work.list.items ++ work.searched ∷ [] = c.push_reserved.ensures.items in
+    let more : length c.gather.new.ticket.me.0.drawn ≡ length was.drawn + length other.drawn = ap length d ∙ length-append was.drawn other.drawn in
+    let one : length (c.loop-work.yielded ++ work ∷ []) ≡ length c.loop-work.yielded + 1 = length-append c.loop-work.yielded (work ∷ []) in
+    let each : (length c.loop-work.yielded + 1) * (c.args.pieces + 1) ≡ length c.loop-work.yielded * (c.args.pieces + 1) + (c.args.pieces + 1) = omega arith in record {
+      table = c.gather.ensures.0 ∙ c.loop-work.invariant.table;
+      weight = rw (one, each) (omega (arith, a, more, done.weight, c.loop-work.invariant.weight));
+      each = items ∙ (ap (λ (ss : List (Searched A)). ss ++ work.searched ∷ []) c.loop-work.invariant.each ∙ sym (map-more (λ (w : Work A). w.searched) c.loop-work.yielded work));
+      room = search rules;
+      claimed = λ x.
+          ap (λ (ss : List (Searched A)). times_all x (map (λ s. s.claimed.items) ss)) items
+          ∙ (times_all-more x (λ (s : Searched A). s.claimed.items) c.loop-work.list.items work.searched
+          ∙ (ap (λ (n : ℕ). n + times x work.searched.claimed.items) (c.loop-work.invariant.claimed x)
+          ∙ (sym (more_lists c.args.pieces x was.drawn work.searched.claimed.items done.over done.below done.above)
+          ∙ ap (λ (ys : List ℕ). times_under c.args.pieces x ys) (ap (λ (zs : List ℕ). was.drawn ++ zs) (sym done.drawn) ∙ sym d))));
+    }

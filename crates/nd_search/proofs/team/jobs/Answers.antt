@@ -1,0 +1,34 @@
+use Rattle.std.proofs.Common.{rules, ◌≡◌, ◌+◌, ◌-◌, ◌*◌, ℕ, [], ap, ◌∙◌, arith}
+use Rattle.nd_search.specs.declared.work.Job.{Job}
+use Rattle.nd_search.specs.Hands.{hand}
+use Rattle.nd_search.specs.Works.{IsJob}
+use Rattle.nd_search.proofs.Shares.{enough, share_left, share_given, none_remains}
+use Rattle.nd_search.proofs.Elements.{all_more}
+use Rattle.nd_search.proofs.team.jobs.Goals as goal
+
+pub share-requires-clause-allowed : goal.share-requires-clause-allowed
+share-requires-clause-allowed g c = enough (c.args.pieces + 1) c.args.workers c.loop-number.number c.loop-number.ticket.me c.loop-number.invariant.me c.loop-number-test.true
+
+pub loop-number-preserved : goal.loop-number-preserved
+loop-number-preserved g c =
+    let p : ℕ = c.args.pieces + 1 in
+    let at = c.loop-number.invariant in
+    let job : Job g.row.A.Denot = record { number = c.loop-number.number; timeline = c.in_ok-timeline.timeline; ticket = c.share.result; searched = c.in_ok-searched.searched } in
+    let ready : IsJob c.args.timeline.now c.args.word.now.table_id c.args.pieces job = record {
+      copy = c.in_ok-timeline.ensures;
+      ready = record {
+        table_is = c.share.ensures.right.0 ∙ at.table;
+        me_is = share_given p c.args.workers c.loop-number.number c.loop-number.ticket.me at.me c.share.result.me c.share.ensures.right.1;
+        empty = c.in_ok-searched.ensures;
+      };
+    } in
+    record {
+      table = c.share.ensures.left.0 ∙ at.table;
+      me = share_left p c.args.workers c.loop-number.number c.loop-number.ticket.me at.me c.share.new.ticket.me c.share.ensures.left.1;
+      counted = search rules;
+      room = search rules;
+      ready = all_more (IsJob c.args.timeline.now c.args.word.now.table_id c.args.pieces) c.loop-number.jobs.items c.push_reserved.new.self.items job c.push_reserved.ensures.items at.ready ready;
+    }
+
+pub returns-clause-ticket : goal.returns-clause-ticket
+returns-clause-ticket g c = (c.loop-number.invariant.table, none_remains (c.args.pieces + 1) c.args.workers c.loop-number.number c.loop-number.ticket.me c.loop-number.invariant.me c.loop-number-test.false)

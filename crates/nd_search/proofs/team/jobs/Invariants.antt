@@ -1,0 +1,13 @@
+use Rattle.std.proofs.Common.{◌≡◌, ◌+◌, ◌-◌, ◌*◌, ◌≤◌, [], All, vec_len, vec_capacity}
+use Rattle.nd_search.specs.Hands.{hand}
+use Rattle.nd_search.specs.Works.{IsJob}
+use Rattle.nd_search.proofs.team.jobs.Given as goal
+
+abbrev pub invariant-loop-number : goal.invariant-loop-number
+invariant-loop-number g l = record {
+  table : l.ticket.table_id ≡ l.word.table_id;
+  me : l.ticket.me ≡ (hand (l.pieces + 1) ((l.workers - l.number) * (l.pieces + 1)) [], []);
+  counted : vec_len l.jobs ≡ l.number;
+  room : l.workers ≤ vec_capacity l.jobs;
+  ready : All (IsJob l.timeline l.word.table_id l.pieces) l.jobs.items;
+}

@@ -1,0 +1,76 @@
+use Rattle.std.proofs.Common.{rules, ◌≡◌, ◌+◌, ◌-◌, ◌<◌, ◌++◌, ◌∷◌, [], ℕ, Option, length, length-append, refl, sym, ap, subst, ◌∙◌, arith}
+use Rattle.nd_timeline.specs.Timeline.{TimelineValue}
+use Rattle.nd_search.specs.Least.{HoldsAt}
+use Rattle.atomic_table.specs.declared.shared.Seat.{Seat}
+use Rattle.nd_search.specs.declared.hand.Hand.{Hand}
+use Rattle.nd_search.specs.Hands.{hand}
+use Rattle.nd_search.specs.Works.{IsResult, IsSearched, HasDrawn}
+use Rattle.nd_search.specs.declared.work.Searched.{Searched}
+use Rattle.nd_search.proofs.Walking.{moved_on, stands}
+use Rattle.nd_search.proofs.Shares.{drew}
+use Rattle.nd_search.proofs.Elements.{all_more}
+use Rattle.nd_search.proofs.Found.{begins, ends}
+use Rattle.nd_search.proofs.Drawing.{pieces_drawn, one_over}
+use Rattle.nd_search.proofs.work.Job.work.Goals as goal
+use Rattle.nd_search.proofs.work.Job.work.Goals.{else-loop-test, then-loop-test+then-piece-pieces, then-loop-test+else-piece-pieces+in_default}
+
+abbrev Ticket : Type 0
+Ticket = Seat ℕ Hand
+
+pub loop-preserved : goal.loop-preserved
+loop-preserved g c =
+    let m = c.args.self.timeline in
+    let at = c.loop.invariant in
+    let claimed = c.loop.searched.claimed.items in
+    let piece = c.draw-piece.result in
+    let found : IsResult (HoldsAt m c.args.b.now) c.args.positions.lo c.args.positions.hi piece c.in-Ok.found =
+    subst (λ (t : TimelineValue g.row.A.Denot). IsResult (HoldsAt t c.args.b.now) c.args.positions.lo c.args.positions.hi piece c.in-Ok.found) at.same c.in-Ok.ensures.found in
+    record {
+      table = search rules;
+      me = drew c.loop.ticket.me c.draw-piece.new.ticket.me (c.args.pieces + 1) (c.args.pieces + 1 - c.loop.counter) (c.args.pieces + 1 - (c.loop.counter + 1)) piece claimed c.push_reserved.new.self.items at.me c.draw-piece.ensures.drawn (omega arith) (sym c.push_reserved.ensures.items);
+      counted = search rules;
+      even = search rules;
+      below = all_more (λ x. x < c.args.pieces) claimed c.push_reserved.new.self.items piece c.push_reserved.ensures.items at.below (search rules);
+      claimed_room = search rules;
+      found_room = search rules;
+      same = stands m c.search_piece.new.timeline c.search_piece.new.timeline.cursor (moved_on m c.loop.timeline c.search_piece.new.timeline c.search_piece.new.timeline.cursor at.same c.in-Ok.ensures.same);
+      right = ends (HoldsAt m c.args.b.now) c.args.positions.lo c.args.positions.hi claimed c.push_reserved.new.self.items c.loop.searched.found.items c.push_reserved-in-loop.new.self.items piece c.in-Ok.found at.right at.even found c.push_reserved.ensures.items c.push_reserved-in-loop.ensures.items;
+    }
+
+pub returns-clause-searched : goal.returns-clause-searched
+returns-clause-searched g c =
+    let m = c.args.self.timeline in
+    let P : Searched g.row.A.Denot → Type 0 = λ s. IsSearched (HoldsAt m c.args.b.now) c.args.positions.lo c.args.positions.hi s in
+    elim c.loop-test.branch [
+      | else-loop-test w ↦ subst P (sym w.searched-is) c.loop.invariant.right
+      | then-loop-test+then-piece-pieces w ↦ subst P (sym w.searched-is) c.loop.invariant.right
+      | then-loop-test+else-piece-pieces+in_default w ↦ subst P (sym w.searched-is) (begins (HoldsAt m c.args.b.now) c.args.positions.lo c.args.positions.hi c.loop.searched.claimed.items w.push_reserved.new.self.items c.loop.searched.found.items w.draw-piece.result c.loop.invariant.right w.push_reserved.ensures.items)
+    ]
+
+pub returns-clause-drawn : goal.returns-clause-drawn
+returns-clause-drawn g c =
+    let p : ℕ = c.args.pieces in
+    let k : ℕ = c.loop.counter in
+    let at = c.loop.invariant in
+    let table = c.args.word.now.table_id in
+    let count : length c.loop.searched.claimed.items ≡ k = search rules in
+    let P : Ticket → Searched g.row.A.Denot → Type 0 = λ t s. HasDrawn table p (record { ticket = t; searched = s }) in
+    elim c.loop-test.branch [
+      | else-loop-test w ↦ subst (λ t. P t c.loop-test.searched) (sym w.ticket-is) (subst (λ s. P c.loop.ticket s) (sym w.searched-is)
+          (pieces_drawn table p k (record { ticket = c.loop.ticket; searched = c.loop.searched }) at.table at.me count c.loop.auto.counter-end at.below))
+      | then-loop-test+then-piece-pieces w ↦
+          let n : ℕ = w.draw-piece.result in
+          let me : w.draw-piece.new.ticket.me ≡ (hand (p + 1) (p + 1 - (k + 1)) (c.loop.searched.claimed.items ++ n ∷ []), []) =
+          drew c.loop.ticket.me w.draw-piece.new.ticket.me (p + 1) (p + 1 - k) (p + 1 - (k + 1)) n c.loop.searched.claimed.items (c.loop.searched.claimed.items ++ n ∷ []) at.me w.draw-piece.ensures.drawn (omega arith) refl in
+          subst (λ t. P t c.loop-test.searched) (sym w.ticket-is) (subst (λ s. P w.draw-piece.new.ticket s) (sym w.searched-is)
+          (one_over table p k (record { ticket = w.draw-piece.new.ticket; searched = c.loop.searched }) (w.draw-piece.ensures.ticket.0 ∙ at.table) n w.if-piece-pieces.true me count w.loop-test.true at.below))
+      | then-loop-test+else-piece-pieces+in_default w ↦
+          let n : ℕ = w.draw-piece.result in
+          let more = w.push_reserved.new.self in
+          let me : w.draw-piece.new.ticket.me ≡ (hand (p + 1) (p + 1 - (k + 1)) more.items, []) =
+          drew c.loop.ticket.me w.draw-piece.new.ticket.me (p + 1) (p + 1 - k) (p + 1 - (k + 1)) n c.loop.searched.claimed.items more.items at.me w.draw-piece.ensures.drawn (omega arith) (sym w.push_reserved.ensures.items) in
+          let counted : length more.items ≡ k + 1 = ap length w.push_reserved.ensures.items ∙ omega (arith, length-append c.loop.searched.claimed.items (n ∷ []), count) in
+          let below = all_more (λ x. x < p) c.loop.searched.claimed.items more.items n w.push_reserved.ensures.items at.below (search rules) in
+          subst (λ t. P t c.loop-test.searched) (sym w.ticket-is) (subst (λ s. P w.draw-piece.new.ticket s) (sym w.searched-is)
+          (pieces_drawn table p (k + 1) (record { ticket = w.draw-piece.new.ticket; searched = record { claimed = more; found = c.loop.searched.found } }) (w.draw-piece.ensures.ticket.0 ∙ at.table) me counted (omega (arith, w.loop-test.true)) below))
+    ]

@@ -1,0 +1,19 @@
+use Rattle.std.proofs.Common.{◌≡◌, ◌+◌, ◌-◌, ◌<◌, [], All, length, vec_len, vec_capacity}
+use Rattle.nd_timeline.specs.Timeline.{moved_to}
+use Rattle.nd_search.specs.Least.{HoldsAt}
+use Rattle.nd_search.specs.Hands.{hand}
+use Rattle.nd_search.specs.Works.{IsSearched}
+use Rattle.nd_search.proofs.work.Job.work.Given as goal
+
+abbrev pub invariant-loop : goal.invariant-loop
+invariant-loop g l = record {
+  table : l.ticket.table_id ≡ l.word.table_id;
+  me : l.ticket.me ≡ (hand (l.pieces + 1) (l.pieces + 1 - l.counter) l.searched.claimed.items, []);
+  counted : vec_len l.searched.claimed ≡ l.counter;
+  even : length l.searched.found.items ≡ length l.searched.claimed.items;
+  below : All (λ x. x < l.pieces) l.searched.claimed.items;
+  claimed_room : l.pieces < vec_capacity l.searched.claimed;
+  found_room : l.pieces < vec_capacity l.searched.found;
+  same : l.timeline ≡ moved_to l.fn.self.timeline l.timeline.cursor;
+  right : IsSearched (HoldsAt l.fn.self.timeline l.b) l.positions.lo l.positions.hi l.searched;
+}

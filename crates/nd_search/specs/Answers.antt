@@ -1,0 +1,44 @@
+-- What a search may answer (this project's own rule).
+use Rattle.std.specs.Prelude.{◌≡◌, ℕ, ◌<◌, ◌≤◌, List, length, map, min, Vec}
+use Rattle.nd_time.specs.Limits.{max_workers}
+use Rattle.nd_watch.specs.declared.watch.Break.{Break}
+use Rattle.nd_timeline.specs.Timeline.{TimelineValue}
+use Rattle.nd_search.specs.Least.{HoldsAt, NoHit}
+use Rattle.nd_search.specs.Pieces.{piece_count, piece_start}
+use Rattle.nd_search.specs.Claims.{AreTheNumbersBelow}
+use Rattle.nd_search.specs.declared.fault.SearchFault.{SearchFault}
+use Rattle.nd_search.specs.declared.fault.SearchFault.TheVariants.{BadRange, NoWorkers, NoSuchPoint, Memory, Missing}
+
+-- there is something to search, by someone, in so many kept steps
+pub record MaySearch (kept lo hi workers : ℕ) : Type 0 where
+  pub range : lo ≤ hi
+  pub some : 0 < workers
+  pub within : hi ≤ kept
+
+-- why there is nothing to search
+abbrev pub CannotSearch : {A : Type 0} → ℕ → ℕ → ℕ → ℕ → SearchFault A → Type 0
+CannotSearch kept lo hi workers BadRange = hi < lo
+CannotSearch kept lo hi workers NoWorkers = (lo ≤ hi) × (workers ≡ 0)
+CannotSearch kept lo hi workers NoSuchPoint = (lo ≤ hi) × (0 < workers) × (kept < hi)
+CannotSearch kept lo hi workers Memory = ⊥
+CannotSearch kept lo hi workers (Missing piece claimed) = ⊥
+
+-- which pieces were claimed: one list for each worker, together the numbers below some number of pieces
+pub record AreClaims (pieces workers : ℕ) (lists : List (List ℕ)) : Type 0 where
+  pub started : length lists ≡ min workers max_workers
+  pub count : ℕ
+  pub few : count ≤ pieces
+  pub once : AreTheNumbersBelow count lists
+
+-- a piece is missing: those before it were searched without a hit
+pub record IsMissing {A : Type 0} (m : TimelineValue A) (b : Break) (lo hi workers piece : ℕ) (lists : List (List ℕ)) : Type 0 where
+  pub one_of_them : piece < piece_count lo hi
+  pub before : NoHit (HoldsAt m b) lo (piece_start lo piece)
+  pub claims : AreClaims (piece_count lo hi) workers lists
+
+-- why a search answers nothing
+abbrev pub SearchFails : {A : Type 0} → TimelineValue A → Break → ℕ → ℕ → ℕ → SearchFault A → Type 0
+SearchFails m b lo hi workers Memory = MaySearch (length m.kept) lo hi workers
+SearchFails m b lo hi workers (Missing piece claimed) =
+    MaySearch (length m.kept) lo hi workers × IsMissing m b lo hi workers piece (map (λ l. l.items) claimed.items)
+SearchFails m b lo hi workers fault = CannotSearch (length m.kept) lo hi workers fault

@@ -1,0 +1,32 @@
+-- The rule of the claim word (this project's own rule).
+use Rattle.std.specs.Prelude.{◌≡◌, ℕ, ◌+◌, ◌^◌, ◌<◌, List, [], ◌∷◌, length, slice_index}
+use Rattle.nd_search.specs.declared.hand.Hand.{Hand}
+use Rattle.nd_search.specs.Claims.{times, once_below}
+
+-- a seat's view: what a worker's seat is given, what is left of it, and the numbers that were drawn
+abbrev pub hand : ℕ → ℕ → List ℕ → Hand
+hand each allowance drawn = record { each = each; allowance = allowance; drawn = drawn }
+
+-- the weights of the views, added up
+abbrev pub total : (Hand → ℕ) → List Hand → ℕ
+total f [] = 0
+total f (v ∷ vs) = f v + total f vs
+
+abbrev pub allowance_of : Hand → ℕ
+allowance_of v = v.allowance
+
+-- what a view was given, of which it has drawn some
+abbrev pub weight_of : Hand → ℕ
+weight_of v = v.allowance + length v.drawn
+
+abbrev pub times_in : ℕ → Hand → ℕ
+times_in x v = times x v.drawn
+
+-- the views' lists are together the numbers below the word, each once; the word plus the views' allowances is all that
+-- was given, so the word never wraps
+pub record IsClaimed (all : ℕ) (words : List ℕ) (views : List Hand) : Type 0 where
+  pub one_word : words ≡ slice_index words 0 ∷ []
+  pub allowed : slice_index words 0 + total allowance_of views ≡ all
+  pub weighed : total weight_of views ≡ all
+  pub drawn : (x : ℕ) → total (times_in x) views ≡ once_below x (slice_index words 0)
+  pub fits : all < 2 ^ 64

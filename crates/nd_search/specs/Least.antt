@@ -1,0 +1,19 @@
+-- *Least hit*: the least position of a kept list at which a breakpoint holds (this project's own rule).
+use Rattle.std.specs.Prelude.{ℕ, ◌+◌, ◌<◌, ◌≤◌, take, Option, Some, None}
+use Rattle.nd_protocol.specs.Steps.{after}
+use Rattle.nd_watch.specs.Breaks.{Holds}
+use Rattle.nd_watch.specs.declared.watch.Break.{Break}
+use Rattle.nd_timeline.specs.Timeline.{TimelineValue}
+
+-- the breakpoint holds at a position: of the cluster that so many of the kept steps make of the base
+abbrev pub HoldsAt : {A : Type 0} → TimelineValue A → Break → ℕ → Type 0
+HoldsAt m b i = Holds (after m.base (take i m.kept)) b
+
+-- there is no hit from one position on and before another
+abbrev pub NoHit : (ℕ → Type 0) → ℕ → ℕ → Type 0
+NoHit Hit from end = (i : ℕ) → from ≤ i → i < end → Hit i → ⊥
+
+-- the least hit from one position to another, which both count, or none
+abbrev pub IsLeast : (ℕ → Type 0) → ℕ → ℕ → Option ℕ → Type 0
+IsLeast Hit from to None = NoHit Hit from (to + 1)
+IsLeast Hit from to (Some i) = (from ≤ i) × (i ≤ to) × Hit i × NoHit Hit from i

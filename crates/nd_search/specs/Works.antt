@@ -1,0 +1,102 @@
+-- What a worker is given, what it does, and the table of all results; for the contracts of this crate's own functions.
+use Rattle.std.specs.Prelude.{◌≡◌, ℕ, ◌+◌, ◌<◌, ◌≤◌, List, [], ◌∷◌, ◌++◌, length, All, Option, Some, None, slice_get, vec_capacity}
+use Rattle.atomic_table.specs.Seated.{TableId}
+use Rattle.nd_timeline.specs.Timeline.{TimelineValue}
+use Rattle.nd_search.specs.Least.{IsLeast}
+use Rattle.nd_search.specs.Pieces.{piece_start, piece_end}
+use Rattle.nd_search.specs.Hands.{hand}
+use Rattle.nd_search.specs.declared.work.Job.{Job}
+use Rattle.nd_search.specs.declared.work.Work.{Work}
+use Rattle.nd_search.specs.declared.work.Searched.{Searched}
+
+-- ---- results
+
+-- what is told of piece j is right
+abbrev pub IsResult : (ℕ → Type 0) → ℕ → ℕ → ℕ → Option ℕ → Type 0
+IsResult Hit lo hi j r = IsLeast Hit (piece_start lo j) (piece_end lo hi j) r
+
+-- each result is that of the piece that was claimed at its place
+pub record AreFound (Hit : ℕ → Type 0) (lo hi : ℕ) (claimed : List ℕ) (found : List (Option ℕ)) : Type 0 where
+  pub within : length found ≤ length claimed
+  pub results : (k : ℕ) → k < length found → (j : ℕ) (r : Option ℕ) → slice_get claimed k ≡ Some j → slice_get found k ≡ Some r → IsResult Hit lo hi j r
+
+abbrev pub IsSearched : {A : Type 0} → (ℕ → Type 0) → ℕ → ℕ → Searched A → Type 0
+IsSearched Hit lo hi s = AreFound Hit lo hi s.claimed.items s.found.items
+
+-- the worker tells this of piece j
+pub record IsToldBy {A : Type 0} (s : Searched A) (j : ℕ) (r : Option ℕ) : Type 0 where
+  pub place : ℕ
+  pub piece : slice_get s.claimed.items place ≡ Some j
+  pub result : slice_get s.found.items place ≡ Some r
+
+-- it claimed at least as many pieces as it tells of
+abbrev pub IsEven : {A : Type 0} → Searched A → Type 0
+IsEven s = length s.found.items ≤ length s.claimed.items
+
+-- ---- workers
+
+-- nothing yet, and room for the pieces
+pub record IsEmpty {A : Type 0} (pieces : ℕ) (s : Searched A) : Type 0 where
+  pub nothing_claimed : s.claimed.items ≡ []
+  pub nothing_found : s.found.items ≡ []
+  pub claimed_room : pieces < vec_capacity s.claimed
+  pub found_room : pieces < vec_capacity s.found
+
+-- a seat that may draw each piece once, and one number more, and room for the pieces
+pub record IsReady {A : Type 0} (table : TableId) (pieces : ℕ) (job : Job A) : Type 0 where
+  pub table_is : job.ticket.table_id ≡ table
+  pub me_is : job.ticket.me ≡ (hand (pieces + 1) (pieces + 1) [], [])
+  pub empty : IsEmpty pieces job.searched
+
+-- and a copy of the timeline
+pub record IsJob {A : Type 0} (m : TimelineValue A) (table : TableId) (pieces : ℕ) (job : Job A) : Type 0 where
+  pub copy : job.timeline ≡ m
+  pub ready : IsReady table pieces job
+
+-- what was drawn are the pieces that were claimed, and then numbers that are no pieces
+pub record HasDrawn {A : Type 0} (table : TableId) (pieces : ℕ) (work : Work A) : Type 0 where
+  pub table_is : work.ticket.table_id ≡ table
+  pub no_slots : work.ticket.me.1 ≡ []
+  pub weight : work.ticket.me.0.allowance + length work.ticket.me.0.drawn ≡ pieces + 1
+  pub below : All (λ x. x < pieces) work.searched.claimed.items
+  pub over : List ℕ
+  pub above : All (λ x. pieces ≤ x) over
+  pub drawn : work.ticket.me.0.drawn ≡ work.searched.claimed.items ++ over
+
+-- a worker's work
+pub record IsWork {A : Type 0} (Hit : ℕ → Type 0) (lo hi : ℕ) (table : TableId) (pieces : ℕ) (work : Work A) : Type 0 where
+  pub drawn : HasDrawn table pieces work
+  pub searched : IsSearched Hit lo hi work.searched
+
+-- ---- the table of results, by piece
+
+-- a worker tells this of piece j
+pub record IsTold {A : Type 0} (works : List (Searched A)) (j : ℕ) (r : Option ℕ) : Type 0 where
+  pub who : ℕ
+  pub work : Searched A
+  pub there : slice_get works who ≡ Some work
+  pub by : IsToldBy work j r
+
+-- each result in the table is told by a worker
+abbrev pub AreTold : {A : Type 0} → List (Searched A) → List (Option (Option ℕ)) → Type 0
+AreTold works rs = (j : ℕ) (r : Option ℕ) → slice_get rs j ≡ Some (Some r) → IsTold works j r
+
+-- the pieces before j have results, and no hit
+abbrev pub NoneBefore : List (Option (Option ℕ)) → ℕ → Type 0
+NoneBefore rs j = (k : ℕ) → k < j → slice_get rs k ≡ Some (Some None)
+
+-- the first piece with a hit, all before having none
+pub record IsFirstHit (rs : List (Option (Option ℕ))) (i : ℕ) : Type 0 where
+  pub piece : ℕ
+  pub hit : slice_get rs piece ≡ Some (Some (Some i))
+  pub before : NoneBefore rs piece
+
+-- the first hit, or none where all pieces have results
+abbrev pub IsFirst : List (Option (Option ℕ)) → Option ℕ → Type 0
+IsFirst rs None = NoneBefore rs (length rs)
+IsFirst rs (Some i) = IsFirstHit rs i
+
+-- the first piece without a result, before which there is no hit
+pub record IsFirstGap (rs : List (Option (Option ℕ))) (j : ℕ) : Type 0 where
+  pub gap : slice_get rs j ≡ Some None
+  pub before : NoneBefore rs j
