@@ -13,9 +13,11 @@ use rewind_answers::{Stage, answer_line};
 use rewind_faults::DebugFault;
 use rewind_lines::{Line, Sink, Source, Unread, send, text_of};
 use std::alloc::{AllocError, Global};
+use std::thread::Threads;
 
 /// The text that a line is answered with, how many replies it is, and whether the run ends there.
-fn reply_of(
+fn reply_of<R: Threads + Sync>(
+    rt: &R,
     alloc: Global,
     stage: &mut Stage,
     line: &Line,
@@ -26,7 +28,7 @@ fn reply_of(
     ensures one { IfOk result (λ r. r.1 ≤ 1) }
 {
     let reading = line.reading(alloc)?;
-    let answer = answer_line(alloc, stage, &reading, number)?;
+    let answer = answer_line(rt, alloc, stage, &reading, number)?;
     match &answer.reply {
         None => Ok((Vec::new(alloc), 0, answer.is_last)),
         Some(reply) => Ok((text_of(alloc, reply)?, 1, answer.is_last)),
@@ -111,7 +113,7 @@ impl Run {
     }
 
     /// Ends the line, and gathers the reply to it.
-    fn end_line(&mut self) -> Result<(), DebugFault>
+    fn end_line<R: Threads + Sync>(&mut self, rt: &R) -> Result<(), DebugFault>
         requires number { self.old.number + 1 < 2 ^ 64 }
         requires replied { self.old.replied + 1 < 2 ^ 64 }
         ensures ok { OnOk result ((processors : ℕ) (done sent : List ℕ)
@@ -123,6 +125,7 @@ impl Run {
         ensures kind { IfErr result IsOfLine }
     {
         let (text, count, is_last) = reply_of(
+            rt,
             self.alloc,
             &mut self.stage,
             &self.line,
@@ -139,7 +142,7 @@ impl Run {
     }
 
     /// Reads one more byte, and gathers the reply to the line that it ends.
-    fn push(&mut self, byte: u8) -> Result<(), DebugFault>
+    fn push<R: Threads + Sync>(&mut self, rt: &R, byte: u8) -> Result<(), DebugFault>
         requires number { self.old.number + 1 < 2 ^ 64 }
         requires replied { self.old.replied + 1 < 2 ^ 64 }
         ensures ok { OnOk result ((processors : ℕ) (done sent : List ℕ)
@@ -152,7 +155,7 @@ impl Run {
         ensures kind { IfErr result IsOfLine }
     {
         if byte == b'\n' {
-            self.end_line()
+            self.end_line(rt)
         } else {
             self.line.push(byte)?;
             Ok(())
@@ -160,7 +163,7 @@ impl Run {
     }
 
     /// Reads on until many bytes of replies wait, and says how far.
-    fn gather(&mut self, bytes: &[u8]) -> Result<usize, DebugFault>
+    fn gather<R: Threads + Sync>(&mut self, rt: &R, bytes: &[u8]) -> Result<usize, DebugFault>
         requires number { self.old.number + length bytes.now < 2 ^ 64 }
         requires replied { self.old.replied + length bytes.now < 2 ^ 64 }
         ensures within { IfOk result (λ n. n ≤ length bytes.now) }
@@ -176,7 +179,7 @@ impl Run {
         ensures kind { IfErr result IsOfLine }
     {
         for (i, byte) in bytes.iter().enumerate() {
-            self.push(*byte)?;
+            self.push(rt, *byte)?;
             if self.waiting.len() >= WAITING {
                 return Ok(i + 1);
             }
@@ -185,7 +188,12 @@ impl Run {
     }
 
     /// Reads on, and writes the replies to the lines that are whole now, gathered.
-    pub fn feed<T: Sink>(&mut self, bytes: &[u8], sink: &mut T) -> Result<(), DebugFault>
+    pub fn feed<R: Threads + Sync, T: Sink>(
+        &mut self,
+        rt: &R,
+        bytes: &[u8],
+        sink: &mut T,
+    ) -> Result<(), DebugFault>
         requires number { self.old.number + length bytes.now < 2 ^ 64 }
         requires replied { self.old.replied + length bytes.now < 2 ^ 64 }
         requires none_waits { self.old.waiting.items ≡ [] }
@@ -204,7 +212,7 @@ impl Run {
     {
         let mut from = 0;
         'parts: while from < bytes.len() {
-            let gathered = self.gather(&bytes[from..]);
+            let gathered = self.gather(rt, &bytes[from..]);
             flush(&mut self.waiting, sink)?;
             from += gathered?;
         }
@@ -212,7 +220,11 @@ impl Run {
     }
 
     /// Ends the last line, and writes the reply to it.
-    pub fn finish<T: Sink>(&mut self, sink: &mut T) -> Result<(), DebugFault>
+    pub fn finish<R: Threads + Sync, T: Sink>(
+        &mut self,
+        rt: &R,
+        sink: &mut T,
+    ) -> Result<(), DebugFault>
         requires number { self.old.number + 1 < 2 ^ 64 }
         requires replied { self.old.replied + 1 < 2 ^ 64 }
         requires none_waits { self.old.waiting.items ≡ [] }
@@ -226,7 +238,7 @@ impl Run {
         ensures kind { IfErr result IsOfRun }
         ensures failed { T.failed sink.new ≡ is_write_fault result }
     {
-        let ended = self.end_line();
+        let ended = self.end_line(rt);
         flush(&mut self.waiting, sink)?;
         ended
     }

@@ -21,22 +21,28 @@ use Rattle.nd_cluster.specs.StateText.{state_data, entries_data, point_data}
 use Rattle.nd_protocol.specs.Start.{start}
 use Rattle.nd_cluster.specs.Starting.{IsStartFault, CanStart, start_number, start_name}
 use Rattle.nd_cluster.specs.declared.start.StartFault.TheVariants as start_fault
-use Rattle.nd_timeline.specs.Timeline.{cluster_of, opened}
+use Rattle.nd_watch.specs.declared.watch.Break.{Break}
+use Rattle.nd_timeline.specs.Timeline.{TimelineValue, cluster_of, opened}
 use Rattle.nd_timeline.specs.Moves.{MachineValue, Moves, without_breaks}
 use Rattle.nd_timeline.specs.declared.command.Command.{Command}
 use Rattle.nd_timeline.specs.declared.reply.Reply.{Reply}
+use Rattle.nd_search.specs.Least.{HoldsAt, IsLeast as IsLeastHit}
+use Rattle.nd_search.specs.Answers.{MaySearch, SearchFails}
+use Rattle.nd_search.specs.Faults.{number_of as number_of_search, name_of as name_of_search}
+use Rattle.nd_search.specs.declared.fault.SearchFault.{SearchFault}
+use Rattle.nd_search.specs.declared.fault.SearchFault.TheVariants as search
 use Rattle.nd_session.specs.Faults.{number_of as number_of_session, name_of as name_of_session}
 use Rattle.nd_session.specs.declared.fault.SessionFault.{SessionFault}
 use Rattle.nd_session.specs.declared.fault.SessionFault.TheVariants.{LogFull, Memory}
 use Rattle.rewind_forms.specs.Asked.{asked_of}
-use Rattle.rewind_forms.specs.Replies.{fault, location_fault, graph, reply_data, faulty, line_fault, count, before, state, known, frontier, passed, not_passed, no_processor}
+use Rattle.rewind_forms.specs.Replies.{fault, location_fault, piece_fault, graph, reply_data, faulty, line_fault, count, before, state, known, frontier, passed, not_passed, no_processor, found}
 use Rattle.rewind_forms.specs.LineFaults.{number_of as number_of_line, name_of as name_of_line}
 use Rattle.rewind_forms.specs.declared.fault.LineFault.{LineFault}
 use Rattle.rewind_forms.specs.declared.fault.LineFault.TheVariants.{LineTooLong, BadLine}
 use Rattle.rewind_forms.specs.declared.asked.Asked.{Asked}
 use Rattle.rewind_forms.specs.declared.asked.Asked.TheVariants.{Do, Tell}
 use Rattle.rewind_forms.specs.declared.queries.Query.{Query}
-use Rattle.rewind_forms.specs.declared.queries.Query.TheVariants.{State, Count, Before, View, Frontier, Passed}
+use Rattle.rewind_forms.specs.declared.queries.Query.TheVariants.{State, Count, Before, View, Frontier, Passed, Search}
 
 -- a machine, and how many commands it has answered that were logged
 pub record Logged : Type 0 where
@@ -105,14 +111,28 @@ PassedReply s q t reply =
     × ((IsPassed s.graph (view s q) t × (reply ≡ passed))
     ⊎ ((x : Pointstamp) × IsLeast (IsBlocker s.graph (view s q) t) x × (reply ≡ not_passed (point_data s.graph x)))))
 
--- the reply to a query, asked of a cluster
-abbrev pub QueryReply : ClusterState → Query → Data → Type 0
-QueryReply s State reply = reply ≡ state (state_data s)
-QueryReply s (Count x) reply = reply ≡ count (true_count s x)
-QueryReply s (Before x y) reply = (b : Bool) × (IsTrue b ↔ CouldResultIn s.graph x y) × (reply ≡ before b)
-QueryReply s (View q) reply = ViewReply s q reply
-QueryReply s (Frontier q) reply = FrontierReply s q reply
-QueryReply s (Passed q x) reply = PassedReply s q x reply
+-- the reply to a search that has no answer; want of memory outside the workers' walks is none
+abbrev pub search_fault : SearchFault Global → Option Data
+search_fault search.Memory = None
+search_fault (search.Missing piece claimed) = Some (piece_fault (number_of_search (search.Missing piece claimed)) (name_of_search (search.Missing piece claimed)) piece)
+search_fault e = Some (fault (number_of_search e) (name_of_search e))
+
+-- A search is answered by the least position at which the breakpoint holds, or by null where it holds at none; or by the first of the faults
+-- whose condition holds; or by a piece that is missing, before which there is no such position.
+pub data SearchReply (m : TimelineValue Global) (when : Break) (lo hi workers : ℕ) (reply : Data) : Type 0 where
+  searched : (least : Option ℕ) → MaySearch (length m.kept) lo hi workers → IsLeastHit (HoldsAt m when) lo hi least → reply ≡ found least
+      → SearchReply m when lo hi workers reply
+  fails : (e : SearchFault Global) → SearchFails m when lo hi workers e → Some reply ≡ search_fault e → SearchReply m when lo hi workers reply
+
+-- the reply to a query, asked of a timeline: of its cluster at the cursor, or of all that it keeps
+abbrev pub QueryReply : TimelineValue Global → Query → Data → Type 0
+QueryReply m State reply = reply ≡ state (state_data (cluster_of m))
+QueryReply m (Count x) reply = reply ≡ count (true_count (cluster_of m) x)
+QueryReply m (Before x y) reply = (b : Bool) × (IsTrue b ↔ CouldResultIn (cluster_of m).graph x y) × (reply ≡ before b)
+QueryReply m (View q) reply = ViewReply (cluster_of m) q reply
+QueryReply m (Frontier q) reply = FrontierReply (cluster_of m) q reply
+QueryReply m (Passed q x) reply = PassedReply (cluster_of m) q x reply
+QueryReply m (Search when lo hi workers) reply = SearchReply m when lo hi workers reply
 
 -- A command is answered by a move of the machine, shown with the names of the graph, and is logged; or, exactly where the log is full, by that; or for want of memory.
 pub data CommandReply (m : Logged) (asked : Command Global) (reply : Data) (new : Logged) : Type 0 where
@@ -124,7 +144,7 @@ pub data CommandReply (m : Logged) (asked : Command Global) (reply : Data) (new 
 -- a query leaves the machine as it is
 abbrev pub AskedReply : Logged → Asked → Data → Logged → Type 0
 AskedReply m (Do command) reply new = CommandReply m command reply new
-AskedReply m (Tell query) reply new = QueryReply (cluster_of m.machine.timeline) query reply × (new ≡ m)
+AskedReply m (Tell query) reply new = QueryReply m.machine.timeline query reply × (new ≡ m)
 
 -- the reply to a line that is, or is not, a command or a query
 abbrev pub FormReplies : Logged → ℕ → Result Asked LineFault → List Data → Phase → Type 0

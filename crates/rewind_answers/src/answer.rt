@@ -16,6 +16,7 @@ use nd_timeline::{Command, Timeline};
 use rewind_forms::{Asked, asked_of, replies};
 use serde_json::Value;
 use std::alloc::{AllocError, Global};
+use std::thread::Threads;
 
 /// The number of the client whose script it is.
 const ONLY_CLIENT: u64 = 0;
@@ -80,8 +81,8 @@ pub fn answer_first(
     start_on(alloc, processors, graph)
 }
 
-// The cluster at the cursor.
-fn cluster(state: &State) -> &Cluster
+/// The cluster at the cursor.
+pub fn cluster(state: &State) -> &Cluster
     ensures value { result.now ≡ cluster_of state.now.machine.timeline }
     ensures protocol { KeepsProtocol result.now }
 {
@@ -100,18 +101,24 @@ fn answer_do(alloc: Global, state: &mut State, command: Command) -> Result<Value
 }
 
 // Answers a command or a query.
-fn answer_asked(alloc: Global, state: &mut State, asked: Asked) -> Result<Value, AllocError>
+fn answer_asked<R: Threads + Sync>(
+    rt: &R,
+    alloc: Global,
+    state: &mut State,
+    asked: Asked,
+) -> Result<Value, AllocError>
     ensures reply { IfOk result (λ v. AskedReply (logged state.old) asked (view v) (logged state.new)) }
     ensures text { IfOk result (λ v. has_float (view v) ≡ false) }
 {
     match asked {
         Asked::Do(command) => answer_do(alloc, state, command),
-        Asked::Tell(query) => answer_query(alloc, cluster(state), &query),
+        Asked::Tell(query) => answer_query(rt, alloc, state, &query),
     }
 }
 
 /// Answers a later line.
-pub fn answer_later(
+pub fn answer_later<R: Threads + Sync>(
+    rt: &R,
     alloc: Global,
     state: &mut State,
     value: &Value,
@@ -125,5 +132,5 @@ pub fn answer_later(
         Ok(asked) => asked,
         Err(fault) => return replies::line_fault(alloc, fault, line),
     };
-    answer_asked(alloc, state, asked)
+    answer_asked(rt, alloc, state, asked)
 }

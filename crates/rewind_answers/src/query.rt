@@ -1,18 +1,23 @@
 //! The replies to queries.
-ghost use Rattle.std.specs.Prelude.{◌≡◌, ◌↔◌, Bool, false, IfOk, IsTrue};
+ghost use Rattle.std.specs.Prelude.{◌≡◌, ◌↔◌, Bool, false, Some, IfOk, IsTrue};
 ghost use Rattle.nd_paths.specs.Order.{CouldResultIn};
 ghost use Rattle.nd_protocol.specs.Invariant.{IsSettled};
 ghost use Rattle.nd_cluster.specs.StateText.{state_data};
 ghost use Rattle.serde_json.specs.View.{view};
 ghost use Rattle.serde_json.specs.Written.{has_float};
 ghost use Rattle.rewind_forms.specs.Replies.{count as count_data, before as before_data, state};
-ghost use Rattle.rewind_answers.specs.Answers.{QueryReply, ViewReply, FrontierReply, PassedReply, true_count};
+ghost use Rattle.rewind_answers.specs.Answers.{QueryReply, ViewReply, FrontierReply, PassedReply, SearchReply, search_fault, true_count};
 
+use crate::answer::cluster;
 use nd_cluster::{Cluster, counts_value, point_value};
 use nd_paths::Pointstamp;
+use nd_search::{OpenGate, SearchFault, search};
+use nd_session::State;
+use nd_watch::Break;
 use rewind_forms::{Query, replies};
 use serde_json::Value;
 use std::alloc::{AllocError, Global};
+use std::thread::Threads;
 
 // Replies with the state.
 fn answer_state(alloc: Global, cluster: &Cluster) -> Result<Value, AllocError>
@@ -100,12 +105,51 @@ fn answer_passed(
     }
 }
 
-/// Answers a query.
-pub fn answer_query(alloc: Global, cluster: &Cluster, query: &Query) -> Result<Value, AllocError>
-    requires { IsSettled cluster.now }
-    ensures reply { IfOk result (λ v. QueryReply cluster.now query.now (view v)) }
+// Replies to a search that has no answer; want of memory outside the workers' walks is none.
+fn refuse_search(alloc: Global, fault: &SearchFault) -> Result<Value, AllocError>
+    ensures reply { IfOk result (λ v. Some (view v) ≡ search_fault fault.now) }
     ensures text { IfOk result (λ v. has_float (view v) ≡ false) }
 {
+    match fault {
+        SearchFault::Memory => Err(AllocError),
+        SearchFault::Missing { piece, claimed: _ } => {
+            replies::piece_fault(alloc, fault.number(), fault.name(), *piece)
+        }
+        other => replies::fault(alloc, other.number(), other.name()),
+    }
+}
+
+// Replies with the least position at which a breakpoint holds.
+fn answer_search<R: Threads + Sync>(
+    rt: &R,
+    alloc: Global,
+    state: &State,
+    when: &Break,
+    lo: u64,
+    hi: u64,
+    workers: u64,
+) -> Result<Value, AllocError>
+    ensures reply { IfOk result (λ v. SearchReply state.now.machine.timeline when.now lo hi workers (view v)) }
+    ensures text { IfOk result (λ v. has_float (view v) ≡ false) }
+{
+    let snapshot = state.snapshot(alloc)?;
+    match search(rt, alloc, &snapshot, when, lo, hi, workers, &OpenGate) {
+        Ok(least) => replies::found(alloc, least),
+        Err(fault) => refuse_search(alloc, &fault),
+    }
+}
+
+/// Answers a query.
+pub fn answer_query<R: Threads + Sync>(
+    rt: &R,
+    alloc: Global,
+    state: &State,
+    query: &Query,
+) -> Result<Value, AllocError>
+    ensures reply { IfOk result (λ v. QueryReply state.now.machine.timeline query.now (view v)) }
+    ensures text { IfOk result (λ v. has_float (view v) ≡ false) }
+{
+    let cluster = cluster(state);
     match query {
         Query::State => answer_state(alloc, cluster),
         Query::Count(point) => answer_count(alloc, cluster, point),
@@ -113,5 +157,11 @@ pub fn answer_query(alloc: Global, cluster: &Cluster, query: &Query) -> Result<V
         Query::View(q) => answer_view(alloc, cluster, *q),
         Query::Frontier(q) => answer_frontier(alloc, cluster, *q),
         Query::Passed(q, point) => answer_passed(alloc, cluster, *q, point),
+        Query::Search {
+            when,
+            lo,
+            hi,
+            workers,
+        } => answer_search(rt, alloc, state, when, *lo, *hi, *workers),
     }
 }

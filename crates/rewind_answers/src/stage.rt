@@ -15,6 +15,7 @@ use rewind_forms::{LineFault, replies};
 use rewind_lines::Reading;
 use serde_json::Value;
 use std::alloc::{AllocError, Global};
+use std::thread::Threads;
 
 /// How far a run has come: before its graph, of a number of processors, or with a state.
 #[derive(Drop)]
@@ -58,7 +59,8 @@ fn answer_fault(
 }
 
 // Answers the graph's line or a later one.
-fn answer_value(
+fn answer_value<R: Threads + Sync>(
+    rt: &R,
     alloc: Global,
     stage: &mut Stage,
     value: &Value,
@@ -80,7 +82,7 @@ fn answer_value(
                 is_last,
             })
         }
-        Stage::Running(state) => Ok(goes_on(answer_later(alloc, state, value, line)?)),
+        Stage::Running(state) => Ok(goes_on(answer_later(rt, alloc, state, value, line)?)),
     }
 }
 
@@ -88,7 +90,8 @@ fn answer_value(
 ///
 /// A blank line has no reply. A faulty line changes nothing, and ends the run where it is the
 /// graph's; so does a graph that is refused. A reply has no float, so that it can be written.
-pub fn answer_line(
+pub fn answer_line<R: Threads + Sync>(
+    rt: &R,
     alloc: Global,
     stage: &mut Stage,
     reading: &Reading,
@@ -105,6 +108,6 @@ pub fn answer_line(
         }),
         Reading::TooLong => answer_fault(alloc, stage, LineFault::LineTooLong, line),
         Reading::NoJson => answer_fault(alloc, stage, LineFault::BadLine, line),
-        Reading::Json(value) => answer_value(alloc, stage, value, line),
+        Reading::Json(value) => answer_value(rt, alloc, stage, value, line),
     }
 }
