@@ -1,1 +1,4 @@
 mod Logs
+mod Told
+mod Filters
+mod Whole

@@ -23,7 +23,6 @@ use Rattle.nd_session.specs.declared.fault.SessionFault.{SessionFault}
 use Rattle.nd_session.specs.declared.fault.SessionFault.TheVariants.{Memory}
 use Rattle.nd_session.specs.Log.{IsStart, count_of, IsPlaced, ArePlaced, Leads, IsLegal, opening_of}
 use Rattle.nd_session.specs.Kept.{AreCounts, IsKept}
-use Rattle.nd_session.specs.Faults.{ApplyFails}
 
 -- an element of a longer list is one of the list or the last
 pub slice_get-snoc : {X : Type 0} (xs : List X) (x : X) (i : ℕ) (y : X) → slice_get (xs ++ x ∷ []) i ≡ Some y
@@ -137,9 +136,9 @@ module _ {A : Type 0} where
   placed_last log e index number =
       let whole : take (length log) log ≡ log = take-length log in record { index = index; number = rw whole number }
 
-  -- a growth is refused where there is room
-  pub refused : {T : Type 0} (log : List (Receipt A)) (r : Result T (SessionFault A)) → IsErrAnd r (λ f. f ≡ Memory) → length log < max_log → IfErr r (ApplyFails log)
-  refused {T} log r h room =
+  -- a growth was refused
+  pub refused : {T : Type 0} (P : SessionFault A → Type 0) (r : Result T (SessionFault A)) → IsErrAnd r (λ f. f ≡ Memory) → P Memory → IfErr r P
+  refused {T} P r h room =
       let f = err_from_is_err_and r h in
-      let P : Result T (SessionFault A) → Type 0 = λ r. IfErr r (ApplyFails log) in
-      subst P (sym f.1) (subst (ApplyFails log) (sym f.2) room)
+      let Q : Result T (SessionFault A) → Type 0 = λ r. IfErr r P in
+      subst Q (sym f.1) (subst P (sym f.2) room)

@@ -1,11 +1,12 @@
 //! A debugger machine with the log of the commands that it has answered.
-ghost use Rattle.std.specs.Prelude.{◌≡◌, ◌↔◌, ◌≤◌, [], ◌∷◌, ◌++◌, length, Err, IfOk, IfErr, OnErr, IsTrue};
+ghost use Rattle.std.specs.Prelude.{◌≡◌, ◌↔◌, ◌<◌, ◌≤◌, [], ◌∷◌, ◌++◌, length, Err, IfOk, IfErr, OnErr, MatchBool};
 ghost use Rattle.nd_time.specs.Limits.{max_log};
 ghost use Rattle.nd_protocol.specs.Invariant.{KeepsProtocol};
 ghost use Rattle.nd_search.specs.Snapshot.{snapshot_of};
 ghost use Rattle.nd_timeline.specs.Moves.{Moves, without_breaks};
 ghost use Rattle.nd_session.specs.Log.{IsStart, IsPlaced, IsLegal, count_of, opening_of};
 ghost use Rattle.nd_session.specs.State.{StateValue};
+ghost use Rattle.nd_session.specs.Clients.{IsHistory};
 ghost use Rattle.nd_session.specs.Faults.{ApplyFails};
 
 use crate::{Receipt, SessionFault};
@@ -92,9 +93,17 @@ impl<A: Allocator + Copy> State<A> {
         &self.log
     }
 
+    // The log, with all that holds of it.
+    pub(crate) fn history(&self) -> &[Receipt<A>]
+        ensures value { result.now ≡ self.now.log }
+        ensures history { IsHistory self.now.log self.now.machine }
+    {
+        &self.log
+    }
+
     // Whether the log has as many entries as it may have.
     pub(crate) fn is_full(&self) -> bool
-        ensures { IsTrue result ↔ (length self.now.log ≡ max_log) }
+        ensures { MatchBool result (length self.now.log ≡ max_log) (length self.now.log < max_log) }
     {
         self.log.len() >= MAX_LOG
     }
@@ -156,5 +165,21 @@ impl<A: Allocator + Copy> State<A> {
         ensures { IfOk result (λ s. s ≡ snapshot_of self.now.machine.timeline (length self.now.log)) }
     {
         Snapshot::of(alloc, self.timeline(), self.log.len() as u64)
+    }
+
+    // What it was made of.
+    pub(crate) fn into_parts(self) -> (Timeline<A>, Breaks, Vec<Receipt<A>, A>)
+        ensures timeline { result.0 ≡ self.machine.timeline }
+        ensures breaks { result.1 ≡ self.machine.breaks }
+        ensures log { result.2.items ≡ self.log }
+        ensures history { IsHistory self.log self.machine }
+    {
+        let State {
+            machine,
+            log,
+            counts: _,
+        } = self;
+        let (timeline, breaks) = machine.into_parts();
+        (timeline, breaks, log)
     }
 }

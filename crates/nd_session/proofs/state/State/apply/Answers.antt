@@ -1,15 +1,16 @@
 use Rattle.std.proofs.Common.{rules, length, ap}
 use Rattle.nd_session.specs.declared.receipt.Receipt.{Receipt}
 use Rattle.nd_session.specs.Log.{IsPlaced}
+use Rattle.nd_session.specs.Faults.{ApplyFails}
 use Rattle.nd_session.specs.State.{StateValue}
 use Rattle.nd_session.proofs.Logs.{refused, kept_grows, legal_grows, placed_last}
 use Rattle.nd_session.proofs.state.State.apply.Goals as goal
 
 pub returns-in_err-reserve-clause-fails : goal.returns-in_err-reserve-clause-fails
-returns-in_err-reserve-clause-fails g c = refused c.args.self.now.log c.from_residual-in_err-reserve.result c.from_residual-in_err-reserve.ensures.1 (search rules)
+returns-in_err-reserve-clause-fails g c = refused (ApplyFails c.args.self.now.log) c.from_residual-in_err-reserve.result c.from_residual-in_err-reserve.ensures.1 (search rules)
 
 pub returns-in_err-put-clause-fails : goal.returns-in_err-put-clause-fails
-returns-in_err-put-clause-fails g c = refused c.args.self.now.log c.from_residual-in_err-put.result c.from_residual-in_err-put.ensures.1 (search rules)
+returns-in_err-put-clause-fails g c = refused (ApplyFails c.args.self.now.log) c.from_residual-in_err-put.result c.from_residual-in_err-put.ensures.1 (search rules)
 
 abbrev entry : (g : _) → goal.After-push_reserved g → Receipt g.row.A.Denot
 entry g c = record { index = c.len-index.result; client = c.args.client; number = c.count-number.result; command = c.args.command; reply = c.apply-reply.result }
