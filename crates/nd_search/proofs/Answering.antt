@@ -1,13 +1,13 @@
 -- The answer, read off the table of results.
-use Rattle.std.proofs.Common.{◌≡◌, ◌<◌, ◌≤◌, ℕ, zero, suc, ◌+◌, ◌-◌, ◌*◌, ◌/◌, List, All, Option, Some, None, Vec, map, min, length, slice_get, inl, inr, arith, subst, sym, ap, ◌∙◌}
+use Rattle.std.proofs.Common.{◌≡◌, ◌<◌, ◌≤◌, ℕ, zero, suc, ◌+◌, List, All, Option, Some, None, Vec, map, min, length, slice_get, inl, inr, arith, subst, sym, ap, ◌∙◌}
 use Rattle.std.proofs.lemmas.Bool.{cases_lt}
 use Rattle.nd_watch.specs.declared.watch.Break.{Break}
 use Rattle.nd_timeline.specs.Timeline.{TimelineValue}
 use Rattle.nd_search.specs.Answers.{AreClaims}
 use Rattle.nd_search.proofs.Lists.{map_twice}
 use Rattle.nd_search.specs.Least.{HoldsAt, NoHit, IsLeast}
-use Rattle.nd_search.specs.Pieces.{piece_count, piece_start, piece_end}
-use Rattle.nd_search.specs.Works.{IsResult, AreFound, IsSearched, AreTold, NoneBefore, IsFirst, IsFirstGap}
+use Rattle.nd_search.specs.Pieces.{piece_count, piece_start}
+use Rattle.nd_search.specs.Works.{IsResult, IsSearched, AreTold, NoneBefore, IsFirst, IsFirstGap}
 use Rattle.nd_search.specs.declared.work.Searched.{Searched}
 use Rattle.nd_search.proofs.Elements.{get_below, all_at}
 

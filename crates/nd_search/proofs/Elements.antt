@@ -1,7 +1,7 @@
 -- Lists, element by element.
-use Rattle.std.proofs.Common.{◌≡◌, ◌<◌, ◌⊎◌, ℕ, zero, suc, List, [], ◌∷◌, ◌++◌, All, Option, Some, length, map, take, drop, slice_get, inl, inr, refl, sym, ap, subst, ◌∙◌, arith}
+use Rattle.std.proofs.Common.{◌≡◌, ◌<◌, ◌⊎◌, ℕ, zero, suc, List, [], ◌∷◌, ◌++◌, All, Some, length, map, take, drop, slice_get, inl, inr, refl, sym, ap, subst, ◌∙◌, arith}
 use Rattle.std.proofs.lemmas.List.{take-append-le, take_all}
-use Rattle.std.proofs.lemmas.List.Elements.{All-append}
+use Rattle.std.proofs.lemmas.List.Elements.{All-nil, All-append}
 
 length_of : {Y Z : Type 0} (h : Y → Z) (ys : List Y) → length (map h ys) ≡ length ys
 length_of h [] = refl
@@ -11,6 +11,9 @@ module _ {X : Type 0} where
   single : (P : X → Type 0) (x : X) → P x → All P (x ∷ [])
   single P x here zero d lt = here
   single P x here (suc k) d lt = absurd (omega (arith, lt))
+
+  pub all_none : (P : X → Type 0) (xs : List X) → xs ≡ [] → All P xs
+  all_none P xs none = subst (All P) (sym none) (All-nil P)
 
   -- one more
   pub all_more : (P : X → Type 0) (xs ys : List X) (x : X) → ys ≡ xs ++ x ∷ [] → All P xs → P x → All P ys

@@ -1,9 +1,17 @@
 -- What a worker has found, one piece further.
-use Rattle.std.proofs.Common.{◌≡◌, ◌<◌, ℕ, List, [], ◌∷◌, ◌++◌, All, Option, Some, inl, inr, length, length-append, slice_get, sym, ap, subst, ◌∙◌, arith}
+use Rattle.std.proofs.Common.{◌≡◌, ℕ, List, [], ◌∷◌, ◌++◌, Option, inl, inr, length, length-append, sym, ap, subst, arith}
 use Rattle.nd_search.specs.Works.{IsResult, AreFound}
 use Rattle.nd_search.proofs.Elements.{slice_get-snoc}
 
 module _ (Hit : ℕ → Type 0) (lo hi : ℕ) where
+  -- nothing yet
+  pub starts : (claimed : List ℕ) (found : List (Option ℕ)) → claimed ≡ [] → found ≡ [] → AreFound Hit lo hi claimed found
+  starts claimed found none nothing =
+      let empty : length found ≡ 0 = ap length nothing in record {
+        within = omega (arith, empty);
+        results = λ k below j r at there. absurd (omega (arith, empty, below));
+      }
+
   -- a piece is claimed
   pub begins : (claimed more : List ℕ) (found : List (Option ℕ)) (j : ℕ) → AreFound Hit lo hi claimed found → more ≡ claimed ++ j ∷ [] → AreFound Hit lo hi more found
   begins claimed more found j w is =

@@ -1,7 +1,6 @@
 -- What the seats of the workers are given, and what they have drawn.
-use Rattle.std.proofs.Common.{◌≡◌, ◌<◌, ◌≤◌, ℕ, zero, suc, ◌+◌, ◌-◌, ◌*◌, List, [], ◌∷◌, ◌++◌, All, length, length-append, append-nil, refl, sym, ap, subst, ◌∙◌, inl, inr, arith}
+use Rattle.std.proofs.Common.{◌≡◌, ◌<◌, ◌≤◌, ℕ, zero, suc, ◌+◌, ◌-◌, ◌*◌, List, [], ◌∷◌, ◌++◌, sym, ap, ◌∙◌, inl, inr, arith}
 use Rattle.std.proofs.lemmas.Bool.{cases_lt}
-use Rattle.atomic_table.specs.Seated.{TableId}
 use Rattle.nd_search.specs.declared.hand.Hand.{Hand}
 use Rattle.nd_search.specs.Hands.{hand}
 
@@ -48,6 +47,17 @@ module _ {X : Type 0} where
 
     pub none_remains : workers ≤ number → me ≡ (hand p 0 [], [])
     none_remains all = is ∙ ap (λ (a : ℕ). (hand p a [], [])) (no_share (workers - number) p (omega (arith, all)))
+
+  -- at the start
+  pub undrawn : (me : Me X) (p : ℕ) (claimed : List ℕ) → me ≡ (hand p p [], []) → claimed ≡ [] → me ≡ (hand p (p - 0) claimed, [])
+  undrawn me p claimed is none =
+      let same : p ≡ p - 0 = omega arith in
+      is ∙ (ap (λ (a : ℕ). (hand p a [], [])) same ∙ ap (λ (ns : List ℕ). (hand p (p - 0) ns, [])) (sym none))
+
+  pub unshared : (me : Me X) (p workers : ℕ) → me ≡ (hand p (workers * p) [], []) → me ≡ (hand p ((workers - 0) * p) [], [])
+  unshared me p workers is =
+      let same : workers ≡ workers - 0 = omega arith in
+      is ∙ ap (λ (n : ℕ). (hand p (n * p) [], [])) same
 
   -- a number is drawn
   pub drew : (me new : Me X) (each a b n : ℕ) (claimed more : List ℕ) → me ≡ (hand each a claimed, []) → new ≡ (hand me.0.each (me.0.allowance - 1) (me.0.drawn ++ n ∷ []), me.1) → a - 1 ≡ b → claimed ++ n ∷ [] ≡ more → new ≡ (hand each b more, [])

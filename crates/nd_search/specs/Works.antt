@@ -1,5 +1,5 @@
 -- What a worker is given, what it does, and the table of all results; for the contracts of this crate's own functions.
-use Rattle.std.specs.Prelude.{◌≡◌, ℕ, ◌+◌, ◌<◌, ◌≤◌, List, [], ◌∷◌, ◌++◌, length, All, Option, Some, None, slice_get, vec_capacity}
+use Rattle.std.specs.Prelude.{◌≡◌, ℕ, ◌+◌, ◌<◌, ◌≤◌, List, [], ◌++◌, length, All, Option, Some, None, slice_get, vec_capacity}
 use Rattle.atomic_table.specs.Seated.{TableId}
 use Rattle.nd_timeline.specs.Timeline.{TimelineValue}
 use Rattle.nd_search.specs.Least.{IsLeast}

@@ -63,7 +63,7 @@ impl<A: Allocator + Copy> Snapshot<A> {
     pub(crate) fn keeps_few(&self)
         ensures { length self.now.timeline.kept ≤ max_kept }
     {
-        self.timeline.at();
+        self.at();
     }
 
     /// Its timeline.
@@ -110,6 +110,7 @@ impl<A: Allocator + Copy> Snapshot<A> {
     pub fn copy(&self, alloc: A) -> Result<Snapshot<A>, AllocError>
         ensures { IfOk result (λ s. s ≡ self.now) }
     {
-        Snapshot::of(alloc, &self.timeline, self.index)
+        let Snapshot { index, timeline } = self;
+        Snapshot::of(alloc, timeline, *index)
     }
 }

@@ -1,10 +1,7 @@
-use Rattle.std.proofs.Common.{◌≡◌, ◌≤◌, ◌∙◌, ℕ, List, All, Option, Vec, map, length, sym, ap, subst}
+use Rattle.std.proofs.Common.{◌≡◌, ◌≤◌, ◌∙◌, ℕ, List, Option, length}
 use Rattle.nd_search.specs.declared.work.Searched.{Searched}
 use Rattle.nd_search.specs.Least.{HoldsAt}
 use Rattle.nd_search.specs.Pieces.{piece_count}
-use Rattle.nd_search.specs.Works.{IsSearched, AreTold}
-use Rattle.nd_search.specs.Answers.{AreClaims}
-use Rattle.nd_search.proofs.Lists.{map_twice}
 use Rattle.nd_search.proofs.Answering.{is_least, gap_within, gap_before, searched_there, told_there, counted_there, claimed_there}
 use Rattle.nd_search.proofs.searching.search.Goals as goal
 

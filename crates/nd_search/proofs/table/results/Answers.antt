@@ -1,6 +1,5 @@
-use Rattle.std.proofs.Common.{◌≡◌, ◌⊎◌, ℕ, Option, Some, None, length, slice_get, inl, inr, sym, ap, subst, ◌∙◌, arith, rules}
+use Rattle.std.proofs.Common.{◌≡◌, Some, None, length, slice_get, inl, inr, sym, ap, ◌∙◌, rules}
 use Rattle.std.proofs.lemmas.Option.{slice_get-get_or}
-use Rattle.nd_search.specs.Works.{IsToldBy, IsTold}
 use Rattle.nd_search.proofs.Elements.{refilled}
 use Rattle.nd_search.proofs.table.results.Goals as goal
 

@@ -1,4 +1,4 @@
-use Rattle.std.proofs.Common.{◌≡◌, ◌+◌, ◌*◌, ◌≤◌, ℕ, length, map, nat_lt, cond, vec_len, vec_capacity}
+use Rattle.std.proofs.Common.{◌≡◌, ◌+◌, ◌*◌, ◌≤◌, ℕ, length, map, nat_lt, cond, vec_capacity}
 use Rattle.nd_search.specs.Claims.{times, times_all}
 use Rattle.nd_search.proofs.team.gathered.Given as goal
 

@@ -1,13 +1,22 @@
-use Rattle.std.proofs.Common.{rules, ◌≡◌, ◌+◌, ◌-◌, ◌*◌, ℕ, [], ap, ◌∙◌, arith}
+use Rattle.std.proofs.Common.{rules, ◌+◌, ℕ, ◌∙◌}
 use Rattle.nd_search.specs.declared.work.Job.{Job}
-use Rattle.nd_search.specs.Hands.{hand}
 use Rattle.nd_search.specs.Works.{IsJob}
-use Rattle.nd_search.proofs.Shares.{enough, share_left, share_given, none_remains}
-use Rattle.nd_search.proofs.Elements.{all_more}
+use Rattle.nd_search.proofs.Shares.{unshared, enough, share_left, share_given, none_remains}
+use Rattle.nd_search.proofs.Elements.{all_none, all_more}
 use Rattle.nd_search.proofs.team.jobs.Goals as goal
 
 pub share-requires-clause-allowed : goal.share-requires-clause-allowed
 share-requires-clause-allowed g c = enough (c.args.pieces + 1) c.args.workers c.loop-number.number c.loop-number.ticket.me c.loop-number.invariant.me c.loop-number-test.true
+
+pub loop-number-init : goal.loop-number-init
+loop-number-init g c =
+    record {
+      table = c.requires.word.0;
+      me = unshared c.args.ticket.now.me (c.args.pieces + 1) c.args.workers c.requires.whole;
+      counted = search rules;
+      room = search rules;
+      ready = all_none (IsJob c.args.timeline.now c.args.word.now.table_id c.args.pieces) c.in_ok-jobs.jobs.items c.in_ok-jobs.ensures.items;
+    }
 
 pub loop-number-preserved : goal.loop-number-preserved
 loop-number-preserved g c =

@@ -1,9 +1,9 @@
-use Rattle.std.proofs.Common.{rules, ◌≡◌, ◌≤◌, ◌∙◌, ℕ, All, cond, nat_lt, min, length, map, sym, ap, subst, arith}
+use Rattle.std.proofs.Common.{rules, ◌≡◌, ◌∙◌, ℕ, cond, nat_lt, min, length, sym, ap, subst, arith}
 use Rattle.nd_search.specs.declared.work.Job.{Job}
 use Rattle.nd_search.specs.declared.work.Work.{Work}
 use Rattle.nd_search.specs.declared.work.Searched.{Searched}
 use Rattle.nd_search.specs.Least.{HoldsAt}
-use Rattle.nd_search.specs.Works.{IsJob, IsWork, IsSearched}
+use Rattle.nd_search.specs.Works.{IsJob, IsSearched}
 use Rattle.nd_search.proofs.Elements.{all_mapped, length_twice}
 use Rattle.nd_search.proofs.Joined.{all_done}
 use Rattle.nd_search.proofs.Lists.{below_min}

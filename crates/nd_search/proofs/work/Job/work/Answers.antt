@@ -1,4 +1,4 @@
-use Rattle.std.proofs.Common.{rules, ◌≡◌, ◌+◌, ◌-◌, ◌<◌, ◌++◌, ◌∷◌, [], ℕ, Option, length, length-append, refl, sym, ap, subst, ◌∙◌, arith}
+use Rattle.std.proofs.Common.{rules, ◌≡◌, ◌+◌, ◌-◌, ◌<◌, ◌++◌, ◌∷◌, [], ℕ, length, length-append, refl, sym, ap, subst, ◌∙◌, arith}
 use Rattle.nd_timeline.specs.Timeline.{TimelineValue}
 use Rattle.nd_search.specs.Least.{HoldsAt}
 use Rattle.atomic_table.specs.declared.shared.Seat.{Seat}
@@ -7,15 +7,32 @@ use Rattle.nd_search.specs.Hands.{hand}
 use Rattle.nd_search.specs.Works.{IsResult, IsSearched, HasDrawn}
 use Rattle.nd_search.specs.declared.work.Searched.{Searched}
 use Rattle.nd_search.proofs.Walking.{moved_on, stands}
-use Rattle.nd_search.proofs.Shares.{drew}
-use Rattle.nd_search.proofs.Elements.{all_more}
-use Rattle.nd_search.proofs.Found.{begins, ends}
+use Rattle.nd_search.proofs.Shares.{undrawn, drew}
+use Rattle.nd_search.proofs.Elements.{all_none, all_more}
+use Rattle.nd_search.proofs.Found.{starts, begins, ends}
 use Rattle.nd_search.proofs.Drawing.{pieces_drawn, one_over}
 use Rattle.nd_search.proofs.work.Job.work.Goals as goal
 use Rattle.nd_search.proofs.work.Job.work.Goals.{else-loop-test, then-loop-test+then-piece-pieces, then-loop-test+else-piece-pieces+in_default}
 
 abbrev Ticket : Type 0
 Ticket = Seat ℕ Hand
+
+pub loop-init : goal.loop-init
+loop-init g c =
+    let job = c.requires.job in
+    let s = c.args.self.searched in
+    let none : length s.claimed.items ≡ 0 = ap length job.empty.nothing_claimed in
+    let nothing : length s.found.items ≡ 0 = ap length job.empty.nothing_found in record {
+      table = job.table_is;
+      me = undrawn c.args.self.ticket.me (c.args.pieces + 1) s.claimed.items job.me_is job.empty.nothing_claimed;
+      counted = search rules;
+      even = omega (arith, none, nothing);
+      below = all_none (λ x. x < c.args.pieces) s.claimed.items job.empty.nothing_claimed;
+      claimed_room = job.empty.claimed_room;
+      found_room = job.empty.found_room;
+      same = refl;
+      right = starts (HoldsAt c.args.self.timeline c.args.b.now) c.args.positions.lo c.args.positions.hi s.claimed.items s.found.items job.empty.nothing_claimed job.empty.nothing_found;
+    }
 
 pub loop-preserved : goal.loop-preserved
 loop-preserved g c =
