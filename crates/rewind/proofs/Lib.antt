@@ -1,6 +1,4 @@
-pub mod AnswerLaws
 pub mod AnsweredLaws
 pub mod DriverLaws
-pub mod OptionReads
 pub mod RunLaws
 pub mod StandLaws

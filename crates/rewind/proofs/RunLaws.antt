@@ -3,7 +3,7 @@ use Rattle.std.proofs.Common.{◌≡◌, ◌∙◌, ℕ, ◌+◌, List, [], ◌�
 use Rattle.std.proofs.lemmas.List.{append-nil}
 use Rattle.serde_json.specs.Data.{Data}
 use Rattle.rewind_lines.specs.Lines.{reading_of}
-use Rattle.rewind.specs.Answers.{Answers, Phase}
+use Rattle.rewind_answers.specs.Answers.{Answers, Phase}
 use Rattle.rewind.specs.Script.{Run}
 
 pub Run-push : (old mid new : Phase) (k n : ℕ) (lines : List (List ℕ)) (line : List ℕ) (replies first : List Data) → n ≡ k + length lines

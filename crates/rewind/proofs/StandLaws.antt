@@ -8,15 +8,15 @@ use Rattle.rewind_lines.specs.Cuts.{lines-byte, lines-empty, lines-newline, whol
 use Rattle.rewind_lines.specs.Front.{front_of}
 use Rattle.rewind_lines.specs.Lines.{lines_of, reading_of, whole_lines_of}
 use Rattle.rewind_lines.specs.Texts.{reply_text, text_of}
-use Rattle.rewind.specs.Answers.{Phase, unstarted, refused, Answers}
+use Rattle.rewind_answers.specs.Answers.{Phase, unstarted, refused, Answers}
 use Rattle.rewind.specs.Script.{Run, Replies}
-use Rattle.rewind.specs.Stages.{phase_of}
+use Rattle.rewind_answers.specs.Stages.{phase_of}
 use Rattle.rewind.specs.States.{AnswersText, Stands, Stopped}
-use Rattle.rewind.specs.declared.fault.DebugFault.{DebugFault}
-use Rattle.rewind.specs.declared.fault.DebugFault.TheVariants as fault
+use Rattle.rewind_faults.specs.declared.fault.DebugFault.{DebugFault}
+use Rattle.rewind_faults.specs.declared.fault.DebugFault.TheVariants as fault
 use Rattle.rewind.specs.declared.run.Run as declared
-use Rattle.rewind.specs.declared.stage.Stage.{Stage}
-use Rattle.rewind.specs.declared.stage.Stage.TheVariants.{Unstarted, Running}
+use Rattle.rewind_answers.specs.declared.stage.Stage.{Stage}
+use Rattle.rewind_answers.specs.declared.stage.Stage.TheVariants.{Unstarted, Running}
 use Rattle.rewind.proofs.RunLaws.{Run-push}
 
 -- a stage is no refused graph's

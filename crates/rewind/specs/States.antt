@@ -4,11 +4,11 @@ use Rattle.serde_json.specs.Data.{Data}
 use Rattle.rewind_lines.specs.Front.{front_of}
 use Rattle.rewind_lines.specs.Lines.{Reading, lines_of}
 use Rattle.rewind_lines.specs.Texts.{text_of}
-use Rattle.rewind.specs.Answers.{Answers, Phase, refused}
+use Rattle.rewind_answers.specs.Answers.{Answers, Phase, refused}
 use Rattle.rewind.specs.Script.{RefusedAt, RepliedTo, Replies, WroteFront}
-use Rattle.rewind.specs.Stages.{phase_of}
-use Rattle.rewind.specs.declared.fault.DebugFault.{DebugFault}
-use Rattle.rewind.specs.declared.fault.DebugFault.TheVariants as fault
+use Rattle.rewind_answers.specs.Stages.{phase_of}
+use Rattle.rewind_faults.specs.declared.fault.DebugFault.{DebugFault}
+use Rattle.rewind_faults.specs.declared.fault.DebugFault.TheVariants as fault
 use Rattle.rewind.specs.declared.run.Run.{Run}
 
 -- a line's replies, as text and by their number

@@ -1,14 +1,15 @@
 //! A script from a source of bytes, its replies to a sink of bytes.
 ghost use Rattle.std.specs.Prelude.{◌≡◌, ◌≢◌, ◌+◌, ◌-◌, ◌<◌, ◌≤◌, ◌^◌, ℕ, List, Some, false, true, length, take, IfErr, OnOk};
 ghost use Rattle.nd_time.specs.Limits.{max_input};
-ghost use Rattle.rewind.specs.Faults.{is_read_fault, is_write_fault};
+ghost use Rattle.rewind_faults.specs.Faults.{is_read_fault, is_write_fault};
 ghost use Rattle.rewind.specs.Script.{Ends, Takes};
 
-use crate::fault::DebugFault;
-use crate::options::Options;
 use crate::run::Run;
+use rewind_faults::DebugFault;
 use rewind_lines::{Sink, Source};
+use rewind_options::Options;
 use std::alloc::Global;
+use std::thread::Threads;
 
 /// The most bytes of a script.
 pub const INPUT_LIMIT: usize = 268_435_456;
@@ -28,8 +29,10 @@ fn front(bytes: &[u8], n: usize) -> &[u8]
 /// At most `INPUT_LIMIT` bytes are run; one more ends the run with `TooLong`, so a source that
 /// never ends does not keep it reading. A graph that is refused ends it with `Graph`, whatever
 /// follows. The replies to the lines that are whole go out before more is read. `Script` and
-/// `Close` never come: they belong to scripts of several clients.
-pub fn debug<S: Source, T: Sink>(
+/// `Close` never come: they belong to scripts of several clients. The runtime gives the threads of
+/// searches, and of nothing else.
+pub fn debug<R: Threads + Sync, S: Source, T: Sink>(
+    rt: &R,
     alloc: Global,
     source: &mut S,
     sink: &mut T,
@@ -51,11 +54,12 @@ pub fn debug<S: Source, T: Sink>(
     ensures write { T.failed sink.new ≡ is_write_fault result }
     ensures one_client { IfErr result (λ e. (e ≢ DebugFault.Script) × (e ≢ DebugFault.Close)) }
 {
-    debug_within(alloc, source, sink, options, INPUT_LIMIT)
+    debug_within(rt, alloc, source, sink, options, INPUT_LIMIT)
 }
 
 /// The same, of a script of at most `limit` bytes.
-pub fn debug_within<S: Source, T: Sink>(
+pub fn debug_within<R: Threads + Sync, S: Source, T: Sink>(
+    rt: &R,
     alloc: Global,
     source: &mut S,
     sink: &mut T,
@@ -84,14 +88,14 @@ pub fn debug_within<S: Source, T: Sink>(
         let most = CHUNK.min(left + 1);
         let n = run.read(source, chunk, most)?;
         if n == 0 {
-            run.finish(sink)?;
+            run.finish(rt, sink)?;
             return Ok(run.replied());
         }
         if n > left {
-            run.feed(front(chunk, left), sink)?;
+            run.feed(rt, front(chunk, left), sink)?;
             return Err(DebugFault::TooLong);
         }
-        run.feed(front(chunk, n), sink)?;
+        run.feed(rt, front(chunk, n), sink)?;
         left -= n;
     }
 }

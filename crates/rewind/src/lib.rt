@@ -2,15 +2,9 @@
 //! lines is read from a source of bytes, and each line is answered to a sink of bytes.
 #![tactic(auto)]
 
-mod answer;
-mod debugger;
 mod driver;
-mod fault;
-mod options;
-mod query;
 mod run;
-mod stage;
 
 pub use driver::{INPUT_LIMIT, debug, debug_within};
-pub use fault::DebugFault;
-pub use options::{Options, WordsFault, options_of};
+pub use rewind_faults::DebugFault;
+pub use rewind_options::{Options, WordsFault, options_of};

@@ -1,112 +1,23 @@
 //! A run of a script. The replies to what is read at a time are gathered, and written together.
-ghost use Rattle.std.specs.Prelude.{◌≡◌, ◌+◌, ◌<◌, ◌≤◌, ◌^◌, ◌∷◌, ◌++◌, [], Some, ℕ, List, false, length, take, is_err, IfOk, IfErr, IfSome, OnOk, OnErr};
+ghost use Rattle.std.specs.Prelude.{◌≡◌, ◌+◌, ◌<◌, ◌≤◌, ◌^◌, ◌∷◌, ◌++◌, [], ℕ, List, false, length, take, is_err, IfOk, IfErr, OnOk, OnErr};
 ghost use Rattle.std.specs.Io.KnownBytes.{Appends, Consumes, IsAtEnd, Keeps};
-ghost use Rattle.serde_json.specs.View.{view};
-ghost use Rattle.serde_json.specs.Written.{has_float};
 ghost use Rattle.rewind_lines.specs.Front.{front_of};
-ghost use Rattle.rewind_lines.specs.Lines.{json, lines_of, reading_of, whole_lines_of};
-ghost use Rattle.rewind_lines.specs.Readings.{reading_view};
+ghost use Rattle.rewind_lines.specs.Lines.{lines_of, reading_of, whole_lines_of};
 ghost use Rattle.rewind_lines.specs.Reads.{given_by, is_end};
-ghost use Rattle.rewind.specs.Answers.{Answers, after_fault};
-ghost use Rattle.rewind.specs.Faults.{is_write_fault, IsOfLine, IsOfRun};
-ghost use Rattle.rewind_forms.specs.Replies.{line_fault};
-ghost use Rattle.std.specs.Option.{option_to_list};
-ghost use Rattle.rewind.specs.Stages.{phase_of, phase_after, replies_of};
+ghost use Rattle.rewind_faults.specs.Faults.{is_write_fault};
+ghost use Rattle.rewind.specs.Faults.{IsOfLine, IsOfRun};
+ghost use Rattle.rewind_answers.specs.Stages.{phase_of, phase_after};
 ghost use Rattle.rewind.specs.States.{Answered, AnswersText, EndsEarly, Stands, Stopped};
 
-use crate::answer::{answer_first, answer_later};
-use crate::fault::DebugFault;
-use crate::stage::Stage;
-use rewind_forms::{LineFault, replies};
-use rewind_lines::{Line, Reading, Sink, Source, Unread, send, text_of};
-use serde_json::Value;
+use rewind_answers::{Stage, answer_line};
+use rewind_faults::DebugFault;
+use rewind_lines::{Line, Sink, Source, Unread, send, text_of};
 use std::alloc::{AllocError, Global};
-
-/// What a line is answered, and whether the run ends there.
-#[derive(Drop)]
-struct Answer {
-    reply: Option<Value>,
-    is_last: bool,
-}
-
-fn goes_on(reply: Value) -> Answer
-    ensures { (result.reply ≡ Some reply) × (result.is_last ≡ false) }
-{
-    Answer {
-        reply: Some(reply),
-        is_last: false,
-    }
-}
-
-/// Answers a line that is no JSON value; as the graph's line it ends the run.
-fn answer_fault(
-    alloc: Global,
-    stage: &Stage,
-    fault: LineFault,
-    line: u64,
-) -> Result<Answer, AllocError>
-    ensures reply { IfOk result (λ a. replies_of a.reply ≡ option_to_list (line_fault fault line)) }
-    ensures after { IfOk result (λ a. phase_after a.is_last stage.now ≡ after_fault (phase_of stage.now)) }
-    ensures text { IfOk result (λ a. IfSome a.reply (λ v. has_float (view v) ≡ false)) }
-{
-    let reply = replies::line_fault(alloc, fault, line)?;
-    Ok(Answer {
-        reply: Some(reply),
-        is_last: matches!(stage, Stage::Unstarted(_)),
-    })
-}
-
-/// Answers the graph's line or a later one.
-fn answer_value(
-    alloc: Global,
-    stage: &mut Stage,
-    value: &Value,
-    line: u64,
-) -> Result<Answer, AllocError>
-    ensures answers { IfOk result (λ a. Answers (phase_of stage.old) line (json (view value.now))
-        (replies_of a.reply) (phase_after a.is_last stage.new)) }
-    ensures text { IfOk result (λ a. IfSome a.reply (λ v. has_float (view v) ≡ false)) }
-{
-    match stage {
-        Stage::Unstarted(processors) => {
-            let (reply, started) = answer_first(alloc, *processors, value)?;
-            let is_last = started.is_none();
-            if let Some(debugger) = started {
-                *stage = Stage::Running(debugger);
-            }
-            Ok(Answer {
-                reply: Some(reply),
-                is_last,
-            })
-        }
-        Stage::Running(debugger) => Ok(goes_on(answer_later(alloc, debugger, value, line)?)),
-    }
-}
-
-/// Answers a line.
-fn answer_line(
-    alloc: Global,
-    stage: &mut Stage,
-    reading: &Reading,
-    line: u64,
-) -> Result<Answer, AllocError>
-    ensures answers { IfOk result (λ a. Answers (phase_of stage.old) line (reading_view reading.now)
-        (replies_of a.reply) (phase_after a.is_last stage.new)) }
-    ensures text { IfOk result (λ a. IfSome a.reply (λ v. has_float (view v) ≡ false)) }
-{
-    match reading {
-        Reading::Blank => Ok(Answer {
-            reply: None,
-            is_last: false,
-        }),
-        Reading::TooLong => answer_fault(alloc, stage, LineFault::LineTooLong, line),
-        Reading::NoJson => answer_fault(alloc, stage, LineFault::BadLine, line),
-        Reading::Json(value) => answer_value(alloc, stage, value, line),
-    }
-}
+use std::thread::Threads;
 
 /// The text that a line is answered with, how many replies it is, and whether the run ends there.
-fn reply_of(
+fn reply_of<R: Threads + Sync>(
+    rt: &R,
     alloc: Global,
     stage: &mut Stage,
     line: &Line,
@@ -117,7 +28,7 @@ fn reply_of(
     ensures one { IfOk result (λ r. r.1 ≤ 1) }
 {
     let reading = line.reading(alloc)?;
-    let answer = answer_line(alloc, stage, &reading, number)?;
+    let answer = answer_line(rt, alloc, stage, &reading, number)?;
     match &answer.reply {
         None => Ok((Vec::new(alloc), 0, answer.is_last)),
         Some(reply) => Ok((text_of(alloc, reply)?, 1, answer.is_last)),
@@ -202,7 +113,7 @@ impl Run {
     }
 
     /// Ends the line, and gathers the reply to it.
-    fn end_line(&mut self) -> Result<(), DebugFault>
+    fn end_line<R: Threads + Sync>(&mut self, rt: &R) -> Result<(), DebugFault>
         requires number { self.old.number + 1 < 2 ^ 64 }
         requires replied { self.old.replied + 1 < 2 ^ 64 }
         ensures ok { OnOk result ((processors : ℕ) (done sent : List ℕ)
@@ -214,6 +125,7 @@ impl Run {
         ensures kind { IfErr result IsOfLine }
     {
         let (text, count, is_last) = reply_of(
+            rt,
             self.alloc,
             &mut self.stage,
             &self.line,
@@ -230,7 +142,7 @@ impl Run {
     }
 
     /// Reads one more byte, and gathers the reply to the line that it ends.
-    fn push(&mut self, byte: u8) -> Result<(), DebugFault>
+    fn push<R: Threads + Sync>(&mut self, rt: &R, byte: u8) -> Result<(), DebugFault>
         requires number { self.old.number + 1 < 2 ^ 64 }
         requires replied { self.old.replied + 1 < 2 ^ 64 }
         ensures ok { OnOk result ((processors : ℕ) (done sent : List ℕ)
@@ -243,7 +155,7 @@ impl Run {
         ensures kind { IfErr result IsOfLine }
     {
         if byte == b'\n' {
-            self.end_line()
+            self.end_line(rt)
         } else {
             self.line.push(byte)?;
             Ok(())
@@ -251,7 +163,7 @@ impl Run {
     }
 
     /// Reads on until many bytes of replies wait, and says how far.
-    fn gather(&mut self, bytes: &[u8]) -> Result<usize, DebugFault>
+    fn gather<R: Threads + Sync>(&mut self, rt: &R, bytes: &[u8]) -> Result<usize, DebugFault>
         requires number { self.old.number + length bytes.now < 2 ^ 64 }
         requires replied { self.old.replied + length bytes.now < 2 ^ 64 }
         ensures within { IfOk result (λ n. n ≤ length bytes.now) }
@@ -267,7 +179,7 @@ impl Run {
         ensures kind { IfErr result IsOfLine }
     {
         for (i, byte) in bytes.iter().enumerate() {
-            self.push(*byte)?;
+            self.push(rt, *byte)?;
             if self.waiting.len() >= WAITING {
                 return Ok(i + 1);
             }
@@ -276,7 +188,12 @@ impl Run {
     }
 
     /// Reads on, and writes the replies to the lines that are whole now, gathered.
-    pub fn feed<T: Sink>(&mut self, bytes: &[u8], sink: &mut T) -> Result<(), DebugFault>
+    pub fn feed<R: Threads + Sync, T: Sink>(
+        &mut self,
+        rt: &R,
+        bytes: &[u8],
+        sink: &mut T,
+    ) -> Result<(), DebugFault>
         requires number { self.old.number + length bytes.now < 2 ^ 64 }
         requires replied { self.old.replied + length bytes.now < 2 ^ 64 }
         requires none_waits { self.old.waiting.items ≡ [] }
@@ -295,7 +212,7 @@ impl Run {
     {
         let mut from = 0;
         'parts: while from < bytes.len() {
-            let gathered = self.gather(&bytes[from..]);
+            let gathered = self.gather(rt, &bytes[from..]);
             flush(&mut self.waiting, sink)?;
             from += gathered?;
         }
@@ -303,7 +220,11 @@ impl Run {
     }
 
     /// Ends the last line, and writes the reply to it.
-    pub fn finish<T: Sink>(&mut self, sink: &mut T) -> Result<(), DebugFault>
+    pub fn finish<R: Threads + Sync, T: Sink>(
+        &mut self,
+        rt: &R,
+        sink: &mut T,
+    ) -> Result<(), DebugFault>
         requires number { self.old.number + 1 < 2 ^ 64 }
         requires replied { self.old.replied + 1 < 2 ^ 64 }
         requires none_waits { self.old.waiting.items ≡ [] }
@@ -317,7 +238,7 @@ impl Run {
         ensures kind { IfErr result IsOfRun }
         ensures failed { T.failed sink.new ≡ is_write_fault result }
     {
-        let ended = self.end_line();
+        let ended = self.end_line(rt);
         flush(&mut self.waiting, sink)?;
         ended
     }

@@ -8,6 +8,7 @@ use rewind::{DebugFault, Options, WordsFault, debug, options_of};
 use rewind_lines::{ReadSource, WriteSink};
 use std::io::ErrorKind;
 use std::process::ExitCode;
+use std::thread::Threads;
 use std::{env, io};
 
 /// The status of words that were refused.
@@ -20,10 +21,10 @@ fn report(rt: &impl Eprint, fault: DebugFault) -> u8 {
 }
 
 /// Runs the script.
-fn run<R: Input + Print + Eprint + AllocGlobal>(rt: &R, options: &Options) -> u8 {
+fn run<R: Input + Print + Eprint + AllocGlobal + Threads + Sync>(rt: &R, options: &Options) -> u8 {
     let mut source = ReadSource::new(rt.reader());
     let mut sink = WriteSink::new(io::writer(rt));
-    match debug(rt.alloc(), &mut source, &mut sink, options) {
+    match debug(rt, rt.alloc(), &mut source, &mut sink, options) {
         Ok(_) => 0,
         Err(fault) => report(rt, fault),
     }

@@ -1,14 +1,16 @@
 -- The query that a line is: the shapes of its values, then the names, then the times.
 use Rattle.std.specs.Prelude.{[], ◌∷◌, if◌then◌else◌, Option, Some, None, codes, Result, Ok}
 use Rattle.serde_json.specs.Data.{Data}
-use Rattle.nd_json.specs.Forms.{small_at}
+use Rattle.serde_json.specs.Find.{get}
+use Rattle.nd_json.specs.Forms.{small_at, whole_at}
 use Rattle.nd_graph.specs.Graph.{Dataflow}
 use Rattle.rewind_forms.specs.Forms.{given, after, among, point_at, is_form}
 use Rattle.rewind_forms.specs.Places.{location_named, time_of, point_there}
+use Rattle.rewind_forms.specs.Breaks.{break_of}
 use Rattle.rewind_forms.specs.declared.fault.LineFault.{LineFault}
 use Rattle.rewind_forms.specs.declared.fault.LineFault.TheVariants.{BadShape, UnknownName, BadTime}
 use Rattle.rewind_forms.specs.declared.queries.Query.{Query}
-use Rattle.rewind_forms.specs.declared.queries.Query.TheVariants.{State, Count, Before, View, Frontier, Passed}
+use Rattle.rewind_forms.specs.declared.queries.Query.TheVariants.{State, Count, Before, View, Frontier, Passed, Search}
 
 unfoldable pub count_of : Dataflow → Data → Result Query LineFault
 count_of g d = after (point_there g d) (λ point. Ok (Count point))
@@ -36,6 +38,15 @@ passed_of g d =
     after (point_there g d) (λ point.
     Ok (Passed q point)))
 
+unfoldable pub search_of : Dataflow → Data → Result Query LineFault
+search_of g d =
+    given BadShape (whole_at (codes "lo") d) (λ lo.
+    given BadShape (whole_at (codes "hi") d) (λ hi.
+    given BadShape (whole_at (codes "workers") d) (λ workers.
+    given BadShape (get (codes "when") d) (λ when.
+    after (break_of g when) (λ condition.
+    Ok (Search condition lo hi workers))))))
+
 -- the query; nothing where the line has not the form of one
 unfoldable pub query_of : Dataflow → Data → Result (Option Query) LineFault
 query_of g d =
@@ -45,4 +56,5 @@ query_of g d =
     else (if is_form (codes "view") (codes "do" ∷ codes "q" ∷ []) d then among (view_of d)
     else (if is_form (codes "frontier") (codes "do" ∷ codes "q" ∷ []) d then among (frontier_of d)
     else (if is_form (codes "passed") (codes "at" ∷ codes "do" ∷ codes "q" ∷ codes "time" ∷ []) d then among (passed_of g d)
-    else Ok None)))))
+    else (if is_form (codes "search") (codes "do" ∷ codes "hi" ∷ codes "lo" ∷ codes "when" ∷ codes "workers" ∷ []) d then among (search_of g d)
+    else Ok None))))))

@@ -1,6 +1,6 @@
 -- The replies, as JSON values.
 use Rattle.std.specs.Prelude.{ℕ, Bool, true, false, List, codes, Option, Some, None}
-use Rattle.serde_json.specs.Data.{Data, boolean, number, string, object, unsigned, no_members, member}
+use Rattle.serde_json.specs.Data.{Data, null, boolean, number, string, object, unsigned, no_members, member}
 use Rattle.nd_graph.specs.Graph.{Dataflow}
 use Rattle.nd_protocol.specs.Refusals.{number_of, name_of}
 use Rattle.nd_cluster.specs.StateText.{point_data}
@@ -25,6 +25,11 @@ fault code name = object (member (codes "code") (number (unsigned code)) (member
 abbrev pub location_fault : ℕ → List ℕ → List ℕ → Data
 location_fault code name location = object (member (codes "code") (number (unsigned code))
     (member (codes "error") (string name) (member (codes "location") (string location) no_members)))
+
+-- {"code":n,"error":name,"piece":n}
+abbrev pub piece_fault : ℕ → List ℕ → ℕ → Data
+piece_fault code name piece = object (member (codes "code") (number (unsigned code))
+    (member (codes "error") (string name) (member (codes "piece") (number (unsigned piece)) no_members)))
 
 -- {"locations":n,"ok":true,"processors":n}
 abbrev pub graph : ℕ → ℕ → Data
@@ -126,3 +131,12 @@ not_passed point = object (member (codes "ok") (boolean true) (member (codes "pa
 
 abbrev pub no_processor : Data
 no_processor = fault (number_of NoProcessor) (name_of NoProcessor)
+
+-- a position, or null
+abbrev pub position : Option ℕ → Data
+position None = null
+position (Some n) = number (unsigned n)
+
+-- {"found":n or null,"ok":true}
+abbrev pub found : Option ℕ → Data
+found least = object (member (codes "found") (position least) (member (codes "ok") (boolean true) no_members))

@@ -1,15 +1,17 @@
 //! Queries: what a line asks to be told.
 ghost use Rattle.std.specs.Prelude.{◌≡◌, ◌≢◌, Ok, Err, IfOk, IfErr};
 ghost use Rattle.serde_json.specs.View.{view};
-ghost use Rattle.rewind_forms.specs.Queries.{count_of as count_in, before_of as before_in, view_of as view_in, frontier_of as frontier_in, passed_of as passed_in, query_of as query_in};
+ghost use Rattle.rewind_forms.specs.Queries.{count_of as count_in, before_of as before_in, view_of as view_in, frontier_of as frontier_in, passed_of as passed_in, search_of as search_in, query_of as query_in};
 
 use crate::LineFault;
+use crate::breaks::break_of;
 use crate::forms::is_form;
 use crate::places::{location_named, time_of};
 use crate::points::{point_at, point_there};
 use nd_graph::Graph;
-use nd_json::small_at;
+use nd_json::{small_at, whole_at};
 use nd_paths::Pointstamp;
+use nd_watch::Break;
 use serde_json::Value;
 use std::alloc::Global;
 
@@ -28,6 +30,13 @@ pub enum Query {
     Frontier(u32),
     /// Whether a processor's view has passed a pointstamp.
     Passed(u32, Pointstamp),
+    /// The least position from one to another, which both count, at which a breakpoint holds.
+    Search {
+        when: Break,
+        lo: u64,
+        hi: u64,
+        workers: u64,
+    },
 }
 
 #[tactic(auto, unfolding(crate::specs::Queries::count_of))]
@@ -88,6 +97,24 @@ fn passed_of(alloc: Global, graph: &Graph, value: &Value) -> Result<Query, LineF
     Ok(Query::Passed(q, point))
 }
 
+#[tactic(auto, unfolding(crate::specs::Queries::search_of))]
+fn search_of(alloc: Global, graph: &Graph, value: &Value) -> Result<Query, LineFault>
+    ensures ok { IfOk result (λ c. search_in graph.now (view value.now) ≡ Ok c) }
+    ensures err { IfErr result (λ e. e ≢ LineFault.Memory → search_in graph.now (view value.now) ≡ Err e) }
+{
+    let lo = whole_at(value, "lo").ok_or(LineFault::BadShape)?;
+    let hi = whole_at(value, "hi").ok_or(LineFault::BadShape)?;
+    let workers = whole_at(value, "workers").ok_or(LineFault::BadShape)?;
+    let shown = value.get("when").ok_or(LineFault::BadShape)?;
+    let when = break_of(alloc, graph, shown)?;
+    Ok(Query::Search {
+        when,
+        lo,
+        hi,
+        workers,
+    })
+}
+
 /// The query that the value is, against the graph; `None` where it has not the form of one.
 #[tactic(auto, unfolding(crate::specs::Queries::query_of))]
 pub fn query_of(alloc: Global, graph: &Graph, value: &Value) -> Result<Option<Query>, LineFault>
@@ -106,6 +133,8 @@ pub fn query_of(alloc: Global, graph: &Graph, value: &Value) -> Result<Option<Qu
         Ok(Some(frontier_of(value)?))
     } else if is_form(value, "passed", &["at", "do", "q", "time"]) {
         Ok(Some(passed_of(alloc, graph, value)?))
+    } else if is_form(value, "search", &["do", "hi", "lo", "when", "workers"]) {
+        Ok(Some(search_of(alloc, graph, value)?))
     } else {
         Ok(None)
     }

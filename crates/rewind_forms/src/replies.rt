@@ -4,7 +4,7 @@ ghost use Rattle.serde_json.specs.View.{view};
 ghost use Rattle.serde_json.specs.Written.{has_float};
 ghost use Rattle.rewind_forms.specs.Replies.{fault as fault_data, location_fault as location_fault_data, graph as graph_data, moved as moved_data, ran as ran_data, stop as stop_data, reply_data};
 ghost use Rattle.rewind_forms.specs.Replies.{point_fault as point_fault_data, fault_at as fault_at_data, step_refused as step_refused_data, refused as refused_data, before as before_data, faulty as faulty_data, line_fault as line_fault_data, count as count_data, state as state_data};
-ghost use Rattle.rewind_forms.specs.Replies.{known as known_data, frontier as frontier_data, passed as passed_data, not_passed as not_passed_data, no_processor as no_processor_data};
+ghost use Rattle.rewind_forms.specs.Replies.{known as known_data, frontier as frontier_data, passed as passed_data, not_passed as not_passed_data, no_processor as no_processor_data, piece_fault as piece_fault_data, found as found_data};
 
 use crate::LineFault;
 use nd_cluster::point_value;
@@ -33,6 +33,14 @@ pub fn location_fault(
     ensures text { IfOk result (λ v. has_float (view v) ≡ false) }
 {
     json!(in alloc; {"code": number, "error": name, "location": location})
+}
+
+/// A fault's number and name, and the piece of a search that it leaves without a result.
+pub fn piece_fault(alloc: Global, number: u64, name: &str, piece: u64) -> Result<Value, AllocError>
+    ensures reply { IfOk result (λ v. view v ≡ piece_fault_data number name.now piece) }
+    ensures text { IfOk result (λ v. has_float (view v) ≡ false) }
+{
+    json!(in alloc; {"code": number, "error": name, "piece": piece})
 }
 
 /// The reply to a graph: the number of its locations, and of the processors.
@@ -238,4 +246,12 @@ pub fn no_processor(alloc: Global) -> Result<Value, AllocError>
 {
     let refusal = Refusal::NoProcessor;
     fault(alloc, refusal.number(), refusal.name())
+}
+
+/// The reply to a search: the least position at which its breakpoint holds, if there is one.
+pub fn found(alloc: Global, least: Option<u64>) -> Result<Value, AllocError>
+    ensures reply { IfOk result (λ v. view v ≡ found_data least) }
+    ensures text { IfOk result (λ v. has_float (view v) ≡ false) }
+{
+    json!(in alloc; {"found": least, "ok": true})
 }

@@ -4,6 +4,7 @@ use crate::ends::{NEVER, empty_sink, pieces_of};
 use rewind::{DebugFault, Options, debug};
 use std::alloc::{AllocError, Global};
 use std::test::Fail;
+use std::thread::Threads;
 
 /// The graph of one input, one sink and an edge between them.
 pub const LINE: &str =
@@ -12,7 +13,8 @@ pub const LINE: &str =
 pub const LINE_REPLY: &str = "{\"locations\":3,\"ok\":true,\"processors\":1}\n";
 
 /// What a run of the script writes, and how it ends.
-pub fn run(
+pub fn run<R: Threads + Sync>(
+    rt: &R,
     alloc: Global,
     processors: u8,
     script: &[&str],
@@ -28,7 +30,7 @@ pub fn run(
     };
     let mut source = pieces_of(text.as_slice(), 1000, NEVER);
     let mut sink = empty_sink(alloc, 1000, NEVER, false);
-    let ended = debug(alloc, &mut source, &mut sink, &options);
+    let ended = debug(rt, alloc, &mut source, &mut sink, &options);
     Ok((sink.bytes, ended))
 }
 
@@ -48,7 +50,7 @@ fn feed_and_back(rt: HostRuntime) -> Result<(), Fail> {
         "{\"do\":\"back\"}",
         "{\"do\":\"state\"}",
     ];
-    let (bytes, ended) = run(rt.alloc(), 1, script.as_slice())?;
+    let (bytes, ended) = run(&rt, rt.alloc(), 1, script.as_slice())?;
     assert_eq!(rt; ended, Ok(6));
     let want = format!(in rt.alloc();
         "{LINE_REPLY}{EMPTY_STATE}{{\"at\":1,\"kept\":1,\"ok\":true}}\n{FED_STATE}{{\"at\":0,\"kept\":1,\"ok\":true}}\n{EMPTY_STATE}"
@@ -65,7 +67,7 @@ fn add_overflows(rt: HostRuntime) -> Result<(), Fail> {
         "{\"do\":\"take\",\"p\":0,\"edge\":\"am\",\"time\":[0],\"value\":9223372036854775807}",
         "{\"do\":\"count\",\"at\":\"am\",\"time\":[0]}",
     ];
-    let (bytes, ended) = run(rt.alloc(), 1, script.as_slice())?;
+    let (bytes, ended) = run(&rt, rt.alloc(), 1, script.as_slice())?;
     assert_eq!(rt; ended, Ok(4));
     let want =
         "{\"locations\":5,\"ok\":true,\"processors\":1}\n{\"at\":1,\"kept\":1,\"ok\":true}\n{\"code\":12,\"error\":\"ValueRange\"}\n{\"count\":1,\"ok\":true}\n";
@@ -79,7 +81,7 @@ fn a_cycle_is_not_strict(rt: HostRuntime) -> Result<(), Fail> {
         "{\"vertices\":[{\"name\":\"a\",\"op\":\"input\",\"depth\":0},{\"name\":\"m\",\"op\":\"add\",\"depth\":0,\"k\":0}],\"edges\":[{\"name\":\"am\",\"from\":\"a\",\"port\":0,\"to\":\"m\",\"route\":\"local\"},{\"name\":\"mm\",\"from\":\"m\",\"port\":0,\"to\":\"m\",\"route\":\"local\"}]}",
         "{\"do\":\"state\"}",
     ];
-    let (bytes, ended) = run(rt.alloc(), 1, script.as_slice())?;
+    let (bytes, ended) = run(&rt, rt.alloc(), 1, script.as_slice())?;
     assert_eq!(rt; ended, Err(DebugFault::Graph));
     let want = "{\"code\":46,\"error\":\"LoopNotStrict\",\"location\":\"m\"}\n";
     assert!(rt; bytes.as_slice() == want.as_bytes());
@@ -106,7 +108,7 @@ fn line_faults(rt: HostRuntime) -> Result<(), Fail> {
             "{\"code\":31,\"error\":\"BadShape\",\"line\":2}\n",
         ),
     ] {
-        let (bytes, ended) = run(rt.alloc(), 1, [LINE, line].as_slice())?;
+        let (bytes, ended) = run(&rt, rt.alloc(), 1, [LINE, line].as_slice())?;
         assert_eq!(rt; ended, Ok(2));
         let want = format!(in rt.alloc(); "{LINE_REPLY}{reply}")?;
         assert!(rt; bytes.as_slice() == want.as_bytes(), "at {line}");

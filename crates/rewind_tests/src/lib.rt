@@ -12,6 +12,8 @@ mod refusals;
 #[cfg(test)]
 mod runs;
 #[cfg(test)]
+mod searches;
+#[cfg(test)]
 mod words;
 #[cfg(test)]
 mod worked;

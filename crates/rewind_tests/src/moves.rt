@@ -216,7 +216,7 @@ static MOVES: [Example; 10] = [
 
 #[test]
 fn moves(rt: HostRuntime) -> Result<(), Fail> {
-    assert_eq!(rt; first_wrong(rt.alloc(), &MOVES, None)?, None);
+    assert_eq!(rt; first_wrong(&rt, rt.alloc(), &MOVES, None)?, None);
     Ok(())
 }
 
@@ -237,7 +237,7 @@ fn there_and_back(alloc: Global, times: usize) -> Result<Vec<u8>, AllocError> {
 #[test]
 fn thousands_of_lines(rt: HostRuntime) -> Result<(), Fail> {
     let script = there_and_back(rt.alloc(), 5000)?;
-    let (bytes, ended) = run(rt.alloc(), 1, script.as_slice())?;
+    let (bytes, ended) = run(&rt, rt.alloc(), 1, script.as_slice())?;
     let last = "{\"at\":0,\"kept\":5000,\"ok\":true}\n".as_bytes();
     assert_eq!(rt; ended, Ok(10_001));
     assert!(rt; bytes.as_slice().ends_with(last));

@@ -72,7 +72,7 @@ static GRAPHS: [(&str, u8, &str); 11] = [
 fn refuses_graphs(rt: HostRuntime) -> Result<(), Fail> {
     for (graph, processors, reply) in GRAPHS.iter() {
         let script = [*graph, "{\"do\":\"state\"}"];
-        let (bytes, ended) = run(rt.alloc(), *processors, script.as_slice())?;
+        let (bytes, ended) = run(&rt, rt.alloc(), *processors, script.as_slice())?;
         assert_eq!(rt; ended, Err(DebugFault::Graph), "at {graph}");
         assert!(rt; bytes.as_slice() == reply.as_bytes(), "at {graph}");
     }
@@ -97,7 +97,7 @@ fn refuses_long_graph_lines(rt: HostRuntime) -> Result<(), Fail> {
         };
         let mut source = pieces_of(script.as_slice(), 4000, NEVER);
         let mut sink = empty_sink(rt.alloc(), 100, NEVER, false);
-        let ended = debug(rt.alloc(), &mut source, &mut sink, &options);
+        let ended = debug(&rt, rt.alloc(), &mut source, &mut sink, &options);
         assert_eq!(rt; ended, Err(DebugFault::Graph));
         assert!(rt; sink.bytes.as_slice() == reply.as_bytes(), "at {length}");
     }
@@ -145,7 +145,7 @@ fn refuses_steps(rt: HostRuntime) -> Result<(), Fail> {
         ),
     ] {
         let close = "{\"do\":\"feed\",\"p\":0,\"vertex\":\"a\",\"values\":[5],\"next\":\"close\"}";
-        let (bytes, ended) = run(rt.alloc(), 1, [LINE, close, line].as_slice())?;
+        let (bytes, ended) = run(&rt, rt.alloc(), 1, [LINE, close, line].as_slice())?;
         assert_eq!(rt; ended, Ok(3));
         let want = format!(in rt.alloc();
             "{LINE_REPLY}{{\"at\":1,\"kept\":1,\"ok\":true}}\n{reply}"

@@ -73,7 +73,7 @@ fn answers_in_any_pieces(rt: HostRuntime) -> Result<(), Fail> {
     for step in [1, 2, 7, 5000] {
         let mut source = pieces_of(script.as_slice(), step, NEVER);
         let mut sink = empty_sink(rt.alloc(), step, NEVER, false);
-        assert_eq!(rt; debug(rt.alloc(), &mut source, &mut sink, &ONE)?, 6);
+        assert_eq!(rt; debug(&rt, rt.alloc(), &mut source, &mut sink, &ONE)?, 6);
         assert!(rt; sink.bytes.as_slice() == want.as_slice(), "by {step}");
         assert!(rt; source.has_ended && !source.has_failed && !sink.has_failed);
         assert_eq!(rt;
@@ -91,7 +91,7 @@ fn fails_with_its_source(rt: HostRuntime) -> Result<(), Fail> {
     for fails_at in 0..=script.len() {
         let mut source = pieces_of(script.as_slice(), 1, fails_at);
         let mut sink = empty_sink(rt.alloc(), 100, NEVER, false);
-        let ended = debug(rt.alloc(), &mut source, &mut sink, &ONE);
+        let ended = debug(&rt, rt.alloc(), &mut source, &mut sink, &ONE);
         assert_eq!(rt; ended, Err(DebugFault::Read));
         let want = replies(rt.alloc(), fails_at)?;
         assert!(rt; sink.bytes.as_slice() == want.as_slice(), "at {fails_at}");
@@ -107,7 +107,7 @@ fn fails_with_its_sink(rt: HostRuntime) -> Result<(), Fail> {
         for takes_none in [false, true] {
             let mut source = pieces_of(script.as_slice(), 100, NEVER);
             let mut sink = empty_sink(rt.alloc(), 1, fails_at, takes_none);
-            let ended = debug(rt.alloc(), &mut source, &mut sink, &ONE);
+            let ended = debug(&rt, rt.alloc(), &mut source, &mut sink, &ONE);
             assert_eq!(rt; ended, Err(DebugFault::Write));
             assert!(rt; sink.bytes.as_slice() == &want.as_slice()[..fails_at]);
         }
@@ -121,7 +121,7 @@ fn gathers_its_replies(rt: HostRuntime) -> Result<(), Fail> {
     let want = replies(rt.alloc(), NEVER)?;
     let mut source = pieces_of(script.as_slice(), 5000, NEVER);
     let mut sink = empty_sink(rt.alloc(), 5000, NEVER, false);
-    assert_eq!(rt; debug(rt.alloc(), &mut source, &mut sink, &ONE)?, 6);
+    assert_eq!(rt; debug(&rt, rt.alloc(), &mut source, &mut sink, &ONE)?, 6);
     assert!(rt; sink.bytes.as_slice() == want.as_slice());
     // What was read at once is answered at once, and then the last line, which has no newline.
     assert_eq!(rt; sink.calls, 2);
@@ -141,7 +141,7 @@ fn answers_before_it_reads_on(rt: HostRuntime) -> Result<(), Fail> {
         taken: empty_sink(rt.alloc(), 7, NEVER, false),
         written: &written,
     };
-    assert_eq!(rt; debug(rt.alloc(), &mut source, &mut sink, &ONE)?, 6);
+    assert_eq!(rt; debug(&rt, rt.alloc(), &mut source, &mut sink, &ONE)?, 6);
     for (read, seen) in source.seen.iter().enumerate() {
         let want = replies(rt.alloc(), read)?;
         assert_eq!(rt; *seen, want.len(), "before the byte {read}");
@@ -154,7 +154,7 @@ fn stops_at_its_limit(rt: HostRuntime) -> Result<(), Fail> {
     for limit in [0, 10_000, 65_536, 65_537, 200_000] {
         let mut source = Newlines { given: 0 };
         let mut sink = empty_sink(rt.alloc(), 100, NEVER, false);
-        let ended = debug_within(rt.alloc(), &mut source, &mut sink, &ONE, limit);
+        let ended = debug_within(&rt, rt.alloc(), &mut source, &mut sink, &ONE, limit);
         assert_eq!(rt; ended, Err(DebugFault::TooLong));
         assert_eq!(rt; source.given, (limit as u64).saturating_add(1));
         assert!(rt; sink.bytes.is_empty());
@@ -168,7 +168,7 @@ fn stops_at_its_limit(rt: HostRuntime) -> Result<(), Fail> {
     ] {
         let mut source = pieces_of(script.as_slice(), 5, NEVER);
         let mut sink = empty_sink(rt.alloc(), 100, NEVER, false);
-        let ended = debug_within(rt.alloc(), &mut source, &mut sink, &ONE, limit);
+        let ended = debug_within(&rt, rt.alloc(), &mut source, &mut sink, &ONE, limit);
         assert_eq!(rt; ended, want);
         let [first, second] = replies;
         let text = format!(in rt.alloc(); "{first}{second}")?;
@@ -193,7 +193,7 @@ fn reads_no_more_of_a_reader_that_failed(rt: HostRuntime) -> Result<(), Fail> {
             };
             let mut source = ReadSource::new(reader);
             let mut sink = empty_sink(rt.alloc(), 100, NEVER, false);
-            let ended = debug(rt.alloc(), &mut source, &mut sink, &ONE);
+            let ended = debug(&rt, rt.alloc(), &mut source, &mut sink, &ONE);
             assert_eq!(rt; ended, Err(DebugFault::Read), "at {fails_at}");
             assert_eq!(rt; source.reader.calls, fails_at.saturating_add(1));
             assert!(rt; source.has_failed);
@@ -222,7 +222,7 @@ fn writes_no_more_to_a_writer_that_failed(rt: HostRuntime) -> Result<(), Fail> {
                 };
                 let mut source = pieces_of(script.as_slice(), 100, NEVER);
                 let mut sink = WriteSink::new(writer);
-                let ended = debug(rt.alloc(), &mut source, &mut sink, &ONE);
+                let ended = debug(&rt, rt.alloc(), &mut source, &mut sink, &ONE);
                 assert_eq!(rt; ended, Err(DebugFault::Write), "at {fails_at}");
                 assert_eq!(rt; sink.writer.calls, fails_at.saturating_add(1));
                 assert!(rt; sink.has_failed);
@@ -244,7 +244,7 @@ fn passes_over_a_long_line(rt: HostRuntime) -> Result<(), Fail> {
     script.extend_from_slice(b"1\n\xff\n{\"do\":\"back\"}")?;
     let mut source = ReadSource::new(script.as_slice());
     let mut sink = WriteSink::new(Vec::new(rt.alloc()));
-    assert_eq!(rt; debug(rt.alloc(), &mut source, &mut sink, &ONE)?, 4);
+    assert_eq!(rt; debug(&rt, rt.alloc(), &mut source, &mut sink, &ONE)?, 4);
     let want =
         "{\"locations\":0,\"ok\":true,\"processors\":1}\n{\"code\":33,\"error\":\"LineTooLong\",\"line\":3}\n{\"code\":30,\"error\":\"BadLine\",\"line\":4}\n{\"code\":20,\"error\":\"AtStart\"}\n";
     assert!(rt; sink.writer.as_slice() == want.as_bytes());

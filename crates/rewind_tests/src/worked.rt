@@ -4,6 +4,7 @@ use crate::ends::{NEVER, empty_sink, pieces_of};
 use rewind::{DebugFault, Options, debug};
 use std::alloc::{AllocError, Global};
 use std::test::Fail;
+use std::thread::Threads;
 
 // An example's name, its number of processors, its script, and the replies to it.
 pub type Example = (&'static str, u8, &'static str, &'static str);
@@ -397,7 +398,8 @@ static REFUSED: [Example; 3] = [
 ];
 
 // What a run of the script writes, and how it ends.
-pub fn run(
+pub fn run<R: Threads + Sync>(
+    rt: &R,
     alloc: Global,
     processors: u8,
     script: &[u8],
@@ -408,18 +410,19 @@ pub fn run(
     };
     let mut source = pieces_of(script, 1000, NEVER);
     let mut sink = empty_sink(alloc, 1000, NEVER, false);
-    let ended = debug(alloc, &mut source, &mut sink, &options);
+    let ended = debug(rt, alloc, &mut source, &mut sink, &options);
     Ok((sink.bytes, ended))
 }
 
 // The first example whose replies are others, or whose run does not end so.
-pub fn first_wrong(
+pub fn first_wrong<R: Threads + Sync>(
+    rt: &R,
     alloc: Global,
     examples: &[Example],
     fault: Option<DebugFault>,
 ) -> Result<Option<&'static str>, AllocError> {
     for (name, processors, script, replies) in examples {
-        let (bytes, ended) = run(alloc, *processors, script.as_bytes())?;
+        let (bytes, ended) = run(rt, alloc, *processors, script.as_bytes())?;
         if ended.err() != fault || bytes.as_slice() != replies.as_bytes() {
             return Ok(Some(*name));
         }
@@ -429,14 +432,14 @@ pub fn first_wrong(
 
 #[test]
 fn worked_examples(rt: HostRuntime) -> Result<(), Fail> {
-    assert_eq!(rt; first_wrong(rt.alloc(), &ANSWERED, None)?, None);
+    assert_eq!(rt; first_wrong(&rt, rt.alloc(), &ANSWERED, None)?, None);
     Ok(())
 }
 
 #[test]
 fn refused_graphs(rt: HostRuntime) -> Result<(), Fail> {
     assert_eq!(rt;
-        first_wrong(rt.alloc(), &REFUSED, Some(DebugFault::Graph))?,
+        first_wrong(&rt, rt.alloc(), &REFUSED, Some(DebugFault::Graph))?,
         None
     );
     Ok(())

@@ -1,0 +1,172 @@
+-- What each line of a script may be answered, and what comes of it.
+use Rattle.std.specs.Prelude.{◌≡◌, ◌≢◌, ◌+◌, ◌↔◌, IsTrue, Bool, ℕ, ◌<◌, ◌≤◌, ◌⊎◌, List, [], ◌∷◌, length, Option, Some, None, unsigned_abs, slice_get, Result, Ok, Err}
+use Rattle.std.specs.Option.{option_to_list}
+use Rattle.std.specs.declared.alloc.Global.{Global}
+use Rattle.serde_json.specs.Data.{Data}
+use Rattle.rewind_lines.specs.Lines.{Reading, blank, too_long, no_json, json}
+use Rattle.nd_time.specs.Limits.{max_log}
+use Rattle.nd_graph.specs.Graph.{Dataflow, location_count, names}
+use Rattle.nd_graph.specs.Draft.{Draft, draft_of}
+use Rattle.nd_graph.specs.Checked.{checked}
+use Rattle.nd_graph.specs.Fault.{number_of, name_of}
+use Rattle.nd_graph.specs.declared.fault.GraphFault.{GraphFault}
+use Rattle.nd_graph.specs.declared.fault.GraphFault.TheVariants.{Shape}
+use Rattle.nd_paths.specs.Order.{CouldResultIn}
+use Rattle.nd_paths.specs.declared.point.Pointstamp.{Pointstamp}
+use Rattle.nd_delta.specs.Change.{Change, at, entries}
+use Rattle.nd_delta.specs.Least.{IsLeast}
+use Rattle.nd_view.specs.View.{IsPassed, IsBlocker, IsOnFrontier, IsPartWhere}
+use Rattle.nd_protocol.specs.State.{ClusterState, truth, view}
+use Rattle.nd_cluster.specs.StateText.{state_data, entries_data, point_data}
+use Rattle.nd_protocol.specs.Start.{start}
+use Rattle.nd_cluster.specs.Starting.{IsStartFault, CanStart, start_number, start_name}
+use Rattle.nd_cluster.specs.declared.start.StartFault.TheVariants as start_fault
+use Rattle.nd_watch.specs.declared.watch.Break.{Break}
+use Rattle.nd_timeline.specs.Timeline.{TimelineValue, cluster_of, opened}
+use Rattle.nd_timeline.specs.Moves.{MachineValue, Moves, without_breaks}
+use Rattle.nd_timeline.specs.declared.command.Command.{Command}
+use Rattle.nd_timeline.specs.declared.reply.Reply.{Reply}
+use Rattle.nd_search.specs.Least.{HoldsAt, IsLeast as IsLeastHit}
+use Rattle.nd_search.specs.Answers.{MaySearch, SearchFails}
+use Rattle.nd_search.specs.Faults.{number_of as number_of_search, name_of as name_of_search}
+use Rattle.nd_search.specs.declared.fault.SearchFault.{SearchFault}
+use Rattle.nd_search.specs.declared.fault.SearchFault.TheVariants as search
+use Rattle.nd_session.specs.Faults.{number_of as number_of_session, name_of as name_of_session}
+use Rattle.nd_session.specs.declared.fault.SessionFault.{SessionFault}
+use Rattle.nd_session.specs.declared.fault.SessionFault.TheVariants.{LogFull, Memory}
+use Rattle.rewind_forms.specs.Asked.{asked_of}
+use Rattle.rewind_forms.specs.Replies.{fault, location_fault, piece_fault, graph, reply_data, faulty, line_fault, count, before, state, known, frontier, passed, not_passed, no_processor, found}
+use Rattle.rewind_forms.specs.LineFaults.{number_of as number_of_line, name_of as name_of_line}
+use Rattle.rewind_forms.specs.declared.fault.LineFault.{LineFault}
+use Rattle.rewind_forms.specs.declared.fault.LineFault.TheVariants.{LineTooLong, BadLine}
+use Rattle.rewind_forms.specs.declared.asked.Asked.{Asked}
+use Rattle.rewind_forms.specs.declared.asked.Asked.TheVariants.{Do, Tell}
+use Rattle.rewind_forms.specs.declared.queries.Query.{Query}
+use Rattle.rewind_forms.specs.declared.queries.Query.TheVariants.{State, Count, Before, View, Frontier, Passed, Search}
+
+-- a machine, and how many commands it has answered that were logged
+pub record Logged : Type 0 where
+  pub machine : MachineValue Global
+  pub entries : ℕ
+
+-- before the graph's line, of a number of processors; with the machine; after a graph's line that was refused
+pub data Phase : Type 0 where
+  unstarted : ℕ → Phase
+  running : Logged → Phase
+  refused : Phase
+
+-- ---- the graph's line
+
+-- the graph of a draft, or the reply to one that is refused
+abbrev pub graph_of_draft : Option Draft → Result Dataflow GraphFault
+graph_of_draft None = Err Shape
+graph_of_draft (Some draft) = checked draft
+
+-- the graph that a value is, or its fault
+unfoldable pub graph_of : Data → Result Dataflow GraphFault
+graph_of d = graph_of_draft (draft_of d)
+
+-- why no cluster starts on a graph, and the reply
+pub data RefusedReply (processors : ℕ) (g : Dataflow) (reply : Data) : Type 0 where
+  bad_count : IsStartFault g processors start_fault.BadCount → reply ≡ fault (start_number start_fault.BadCount) (start_name start_fault.BadCount)
+      → RefusedReply processors g reply
+  not_strict : (l : ℕ) (name : List ℕ) → IsStartFault g processors (start_fault.LoopNotStrict l) → slice_get (names g) l ≡ Some name
+      → reply ≡ location_fault (start_number (start_fault.LoopNotStrict l)) (start_name (start_fault.LoopNotStrict l)) name → RefusedReply processors g reply
+
+-- the reply to the graph's line, and the phase after it
+abbrev pub StartReplies : ℕ → Result Dataflow GraphFault → List Data → Phase → Type 0
+StartReplies processors (Err e) replies new = (replies ≡ fault (number_of e) (name_of e) ∷ []) × (new ≡ refused)
+StartReplies processors (Ok g) replies new =
+    ((reply : Data) × RefusedReply processors g reply × (replies ≡ reply ∷ []) × (new ≡ refused))
+    ⊎ (CanStart g processors × (replies ≡ graph (location_count g) processors ∷ []) × (new ≡ running (record { machine = without_breaks (opened Global (start g processors)); entries = 0 })))
+
+-- ---- the lines after it
+
+-- what a session that answers no command replies
+abbrev pub session_fault : SessionFault Global → Data
+session_fault e = fault (number_of_session e) (name_of_session e)
+
+-- the true count of a pointstamp
+abbrev pub true_count : ClusterState → Pointstamp → ℕ
+true_count s x = unsigned_abs (at (truth s.processors) x)
+
+-- the entries of processor q's view
+abbrev pub ViewReply : ClusterState → ℕ → Data → Type 0
+ViewReply s q reply =
+    ((length s.processors ≤ q) × (reply ≡ no_processor))
+    ⊎ ((q < length s.processors) × (reply ≡ known (entries_data s.graph (entries (view s q)))))
+
+-- the part of processor q's view that is on its frontier
+abbrev pub FrontierReply : ClusterState → ℕ → Data → Type 0
+FrontierReply s q reply =
+    ((length s.processors ≤ q) × (reply ≡ no_processor))
+    ⊎ ((q < length s.processors)
+    × ((f : Change) × IsPartWhere (IsOnFrontier s.graph (view s q)) (view s q) f × (reply ≡ frontier (entries_data s.graph (entries f)))))
+
+-- whether processor q's view has passed a pointstamp, and if not, the least that stands in the way
+abbrev pub PassedReply : ClusterState → ℕ → Pointstamp → Data → Type 0
+PassedReply s q t reply =
+    ((length s.processors ≤ q) × (reply ≡ no_processor))
+    ⊎ ((q < length s.processors)
+    × ((IsPassed s.graph (view s q) t × (reply ≡ passed))
+    ⊎ ((x : Pointstamp) × IsLeast (IsBlocker s.graph (view s q) t) x × (reply ≡ not_passed (point_data s.graph x)))))
+
+-- the reply to a search that has no answer; want of memory outside the workers' walks is none
+abbrev pub search_fault : SearchFault Global → Option Data
+search_fault search.Memory = None
+search_fault (search.Missing piece claimed) = Some (piece_fault (number_of_search (search.Missing piece claimed)) (name_of_search (search.Missing piece claimed)) piece)
+search_fault e = Some (fault (number_of_search e) (name_of_search e))
+
+-- A search is answered by the least position at which the breakpoint holds, or by null where it holds at none; or by the first of the faults
+-- whose condition holds; or by a piece that is missing, before which there is no such position.
+pub data SearchReply (m : TimelineValue Global) (when : Break) (lo hi workers : ℕ) (reply : Data) : Type 0 where
+  searched : (least : Option ℕ) → MaySearch (length m.kept) lo hi workers → IsLeastHit (HoldsAt m when) lo hi least → reply ≡ found least
+      → SearchReply m when lo hi workers reply
+  fails : (e : SearchFault Global) → SearchFails m when lo hi workers e → Some reply ≡ search_fault e → SearchReply m when lo hi workers reply
+
+-- the reply to a query, asked of a timeline: of its cluster at the cursor, or of all that it keeps
+abbrev pub QueryReply : TimelineValue Global → Query → Data → Type 0
+QueryReply m State reply = reply ≡ state (state_data (cluster_of m))
+QueryReply m (Count x) reply = reply ≡ count (true_count (cluster_of m) x)
+QueryReply m (Before x y) reply = (b : Bool) × (IsTrue b ↔ CouldResultIn (cluster_of m).graph x y) × (reply ≡ before b)
+QueryReply m (View q) reply = ViewReply (cluster_of m) q reply
+QueryReply m (Frontier q) reply = FrontierReply (cluster_of m) q reply
+QueryReply m (Passed q x) reply = PassedReply (cluster_of m) q x reply
+QueryReply m (Search when lo hi workers) reply = SearchReply m when lo hi workers reply
+
+-- A command is answered by a move of the machine, shown with the names of the graph, and is logged; or, exactly where the log is full, by that; or for want of memory.
+pub data CommandReply (m : Logged) (asked : Command Global) (reply : Data) (new : Logged) : Type 0 where
+  moved : (answer : Reply) → m.entries ≢ max_log → Moves m.machine asked answer new.machine → new.entries ≡ m.entries + 1
+      → reply ≡ reply_data (cluster_of new.machine.timeline).graph answer → CommandReply m asked reply new
+  log_full : m.entries ≡ max_log → reply ≡ session_fault LogFull → new ≡ m → CommandReply m asked reply new
+  no_memory : m.entries ≢ max_log → reply ≡ session_fault Memory → new ≡ m → CommandReply m asked reply new
+
+-- a query leaves the machine as it is
+abbrev pub AskedReply : Logged → Asked → Data → Logged → Type 0
+AskedReply m (Do command) reply new = CommandReply m command reply new
+AskedReply m (Tell query) reply new = QueryReply m.machine.timeline query reply × (new ≡ m)
+
+-- the reply to a line that is, or is not, a command or a query
+abbrev pub FormReplies : Logged → ℕ → Result Asked LineFault → List Data → Phase → Type 0
+FormReplies m line (Ok asked) replies new = (reply : Data) × (next : Logged) × AskedReply m asked reply next × (replies ≡ reply ∷ []) × (new ≡ running next)
+FormReplies m line (Err e) replies new = (replies ≡ option_to_list (line_fault e line)) × (new ≡ running m)
+
+abbrev pub LineReplies : Logged → ℕ → Data → List Data → Phase → Type 0
+LineReplies m line d replies new = FormReplies m line (asked_of (cluster_of m.machine.timeline).graph d) replies new
+
+-- ---- all lines
+
+-- a line that is no JSON value ends the run as the graph's, and changes nothing as a later one
+abbrev pub after_fault : Phase → Phase
+after_fault (unstarted processors) = refused
+after_fault (running machine) = running machine
+after_fault refused = refused
+
+-- the replies to one line, none or one, and the phase after it; after a refused graph no line is answered
+abbrev pub Answers : Phase → ℕ → Reading → List Data → Phase → Type 0
+Answers refused line reading replies new = ⊥
+Answers old line blank replies new = (replies ≡ []) × (new ≡ old)
+Answers old line too_long replies new = (replies ≡ faulty (number_of_line LineTooLong) (name_of_line LineTooLong) line ∷ []) × (new ≡ after_fault old)
+Answers old line no_json replies new = (replies ≡ faulty (number_of_line BadLine) (name_of_line BadLine) line ∷ []) × (new ≡ after_fault old)
+Answers (unstarted processors) line (json d) replies new = StartReplies processors (graph_of d) replies new
+Answers (running m) line (json d) replies new = LineReplies m line d replies new

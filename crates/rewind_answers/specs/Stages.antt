@@ -1,0 +1,32 @@
+-- The phases that a run's values stand for.
+use Rattle.std.specs.Prelude.{Bool, true, false, List, [], ◌∷◌, length, Option, Some, None}
+use Rattle.serde_json.specs.Data.{Data}
+use Rattle.serde_json.specs.View.{view}
+use Rattle.serde_json.specs.declared.value.Value.{Value}
+use Rattle.std.specs.declared.alloc.Global.{Global}
+use Rattle.nd_session.specs.State.{StateValue}
+use Rattle.rewind_answers.specs.Answers.{Logged, Phase, unstarted, running, refused}
+use Rattle.rewind_answers.specs.declared.stage.Stage.{Stage}
+use Rattle.rewind_answers.specs.declared.stage.Stage.TheVariants.{Unstarted, Running}
+
+-- the machine of a state, and the length of its log
+abbrev pub logged : StateValue Global → Logged
+logged s = record { machine = s.machine; entries = length s.log }
+
+abbrev pub phase_of : Stage → Phase
+phase_of (Unstarted processors) = unstarted processors
+phase_of (Running state) = running (logged state)
+
+-- the phase after the graph's line, with a state or none
+abbrev pub phase_of_start : Option (StateValue Global) → Phase
+phase_of_start None = refused
+phase_of_start (Some state) = running (logged state)
+
+-- the phase after an answer, the last one or not
+abbrev pub phase_after : Bool → Stage → Phase
+phase_after true stage = refused
+phase_after false stage = phase_of stage
+
+abbrev pub replies_of : Option Value → List Data
+replies_of None = []
+replies_of (Some reply) = view reply ∷ []

@@ -1,0 +1,136 @@
+//! The replies to the graph's line and to a later line.
+ghost use Rattle.std.specs.Prelude.{◌≡◌, ◌∷◌, [], false, Ok, IfOk};
+ghost use Rattle.nd_graph.specs.Fault.{IsUnlessMemory};
+ghost use Rattle.serde_json.specs.View.{view};
+ghost use Rattle.serde_json.specs.Written.{has_float};
+ghost use Rattle.rewind_answers.specs.Answers.{running, graph_of as graph_in, StartReplies, LineReplies, AskedReply, CommandReply};
+ghost use Rattle.rewind_answers.specs.Stages.{logged, phase_of_start};
+ghost use Rattle.nd_protocol.specs.Invariant.{KeepsProtocol};
+ghost use Rattle.nd_timeline.specs.Timeline.{cluster_of};
+
+use crate::query::answer_query;
+use nd_cluster::{Cluster, StartFault};
+use nd_graph::{Graph, GraphDraft, GraphFault};
+use nd_session::State;
+use nd_timeline::{Command, Timeline};
+use rewind_forms::{Asked, asked_of, replies};
+use serde_json::Value;
+use std::alloc::{AllocError, Global};
+use std::thread::Threads;
+
+/// The number of the client whose script it is.
+const ONLY_CLIENT: u64 = 0;
+
+/// The graph that the value is.
+fn graph_of(alloc: Global, value: &Value) -> Result<Graph, GraphFault>
+    ensures { IsUnlessMemory (graph_in (view value.now)) result }
+{
+    let draft = match GraphDraft::from_value(alloc, value) {
+        Ok(draft) => draft,
+        Err(fault) => return Err(fault),
+    };
+    draft.check(alloc)
+}
+
+/// Starts a cluster on a graph.
+fn start_on(
+    alloc: Global,
+    processors: u8,
+    graph: Graph,
+) -> Result<(Value, Option<State>), AllocError>
+    ensures replies { IfOk result (λ r. StartReplies processors (Ok graph) (view r.0 ∷ []) (phase_of_start r.1)) }
+    ensures text { IfOk result (λ r. has_float (view r.0) ≡ false) }
+{
+    let names = graph.copy(alloc)?;
+    match Cluster::start(alloc, graph, u32::from(processors)) {
+        Ok(cluster) => {
+            let locations = names.location_count() as u64;
+            let reply = replies::graph(alloc, locations, u64::from(processors))?;
+            let timeline = Timeline::new(alloc, cluster)?;
+            Ok((reply, Some(State::new(alloc, timeline))))
+        }
+        Err(StartFault::BadCount) => {
+            let fault = StartFault::BadCount;
+            Ok((replies::fault(alloc, fault.number(), fault.name())?, None))
+        }
+        Err(StartFault::LoopNotStrict { location }) => {
+            let fault = StartFault::LoopNotStrict { location };
+            let name = names.location_name(location);
+            let reply = replies::location_fault(alloc, fault.number(), fault.name(), name)?;
+            Ok((reply, None))
+        }
+        Err(StartFault::Memory) => Err(AllocError),
+    }
+}
+
+/// Answers the graph's line, and starts a state where the graph is accepted.
+pub fn answer_first(
+    alloc: Global,
+    processors: u8,
+    value: &Value,
+) -> Result<(Value, Option<State>), AllocError>
+    ensures replies { IfOk result (λ r.
+        StartReplies processors (graph_in (view value.now)) (view r.0 ∷ []) (phase_of_start r.1)) }
+    ensures text { IfOk result (λ r. has_float (view r.0) ≡ false) }
+{
+    let graph = match graph_of(alloc, value) {
+        Ok(graph) => graph,
+        Err(GraphFault::Memory) => return Err(AllocError),
+        Err(fault) => return Ok((replies::fault(alloc, fault.number(), fault.name())?, None)),
+    };
+    start_on(alloc, processors, graph)
+}
+
+/// The cluster at the cursor.
+pub fn cluster(state: &State) -> &Cluster
+    ensures value { result.now ≡ cluster_of state.now.machine.timeline }
+    ensures protocol { KeepsProtocol result.now }
+{
+    state.timeline().cluster()
+}
+
+// Has a command answered and logged, and replies.
+fn answer_do(alloc: Global, state: &mut State, command: Command) -> Result<Value, AllocError>
+    ensures reply { IfOk result (λ v. CommandReply (logged state.old) command (view v) (logged state.new)) }
+    ensures text { IfOk result (λ v. has_float (view v) ≡ false) }
+{
+    match state.apply(alloc, ONLY_CLIENT, command) {
+        Ok(receipt) => replies::command_reply(alloc, cluster(state).graph(), &receipt.reply),
+        Err(fault) => replies::fault(alloc, fault.number(), fault.name()),
+    }
+}
+
+// Answers a command or a query.
+fn answer_asked<R: Threads + Sync>(
+    rt: &R,
+    alloc: Global,
+    state: &mut State,
+    asked: Asked,
+) -> Result<Value, AllocError>
+    ensures reply { IfOk result (λ v. AskedReply (logged state.old) asked (view v) (logged state.new)) }
+    ensures text { IfOk result (λ v. has_float (view v) ≡ false) }
+{
+    match asked {
+        Asked::Do(command) => answer_do(alloc, state, command),
+        Asked::Tell(query) => answer_query(rt, alloc, state, &query),
+    }
+}
+
+/// Answers a later line.
+pub fn answer_later<R: Threads + Sync>(
+    rt: &R,
+    alloc: Global,
+    state: &mut State,
+    value: &Value,
+    line: u64,
+) -> Result<Value, AllocError>
+    ensures replies { IfOk result (λ v.
+        LineReplies (logged state.old) line (view value.now) (view v ∷ []) (running (logged state.new))) }
+    ensures text { IfOk result (λ v. has_float (view v) ≡ false) }
+{
+    let asked = match asked_of(alloc, cluster(state).graph(), value) {
+        Ok(asked) => asked,
+        Err(fault) => return replies::line_fault(alloc, fault, line),
+    };
+    answer_asked(rt, alloc, state, asked)
+}

@@ -1,0 +1,10 @@
+//! What one line of a script is answered, and what comes of it. Nothing here knows of bytes, of
+//! sources or of sinks.
+#![tactic(auto)]
+
+mod answer;
+mod query;
+mod stage;
+
+pub use answer::answer_first;
+pub use stage::{Answer, Stage, answer_line};

@@ -1,0 +1,167 @@
+//! The replies to queries.
+ghost use Rattle.std.specs.Prelude.{◌≡◌, ◌↔◌, Bool, false, Some, IfOk, IsTrue};
+ghost use Rattle.nd_paths.specs.Order.{CouldResultIn};
+ghost use Rattle.nd_protocol.specs.Invariant.{IsSettled};
+ghost use Rattle.nd_cluster.specs.StateText.{state_data};
+ghost use Rattle.serde_json.specs.View.{view};
+ghost use Rattle.serde_json.specs.Written.{has_float};
+ghost use Rattle.rewind_forms.specs.Replies.{count as count_data, before as before_data, state};
+ghost use Rattle.rewind_answers.specs.Answers.{QueryReply, ViewReply, FrontierReply, PassedReply, SearchReply, search_fault, true_count};
+
+use crate::answer::cluster;
+use nd_cluster::{Cluster, counts_value, point_value};
+use nd_paths::Pointstamp;
+use nd_search::{OpenGate, SearchFault, search};
+use nd_session::State;
+use nd_watch::Break;
+use rewind_forms::{Query, replies};
+use serde_json::Value;
+use std::alloc::{AllocError, Global};
+use std::thread::Threads;
+
+// Replies with the state.
+fn answer_state(alloc: Global, cluster: &Cluster) -> Result<Value, AllocError>
+    ensures reply { IfOk result (λ v. view v ≡ state (state_data cluster.now)) }
+    ensures text { IfOk result (λ v. has_float (view v) ≡ false) }
+{
+    let Ok(shown) = cluster.state_value(alloc) else {
+        return Err(AllocError);
+    };
+    replies::state(alloc, shown)
+}
+
+// Replies with the true count of a pointstamp.
+fn answer_count(alloc: Global, cluster: &Cluster, point: &Pointstamp) -> Result<Value, AllocError>
+    requires { IsSettled cluster.now }
+    ensures reply { IfOk result (λ v. view v ≡ count_data (true_count cluster.now point.now)) }
+    ensures text { IfOk result (λ v. has_float (view v) ≡ false) }
+{
+    let Ok(count) = u64::try_from(cluster.count(point)) else {
+        unreachable!()
+    };
+    replies::count(alloc, count)
+}
+
+// Replies whether one pointstamp could result in another.
+fn answer_before(
+    alloc: Global,
+    cluster: &Cluster,
+    from: &Pointstamp,
+    to: &Pointstamp,
+) -> Result<Value, AllocError>
+    ensures reply { IfOk result (λ v. (b : Bool) × (IsTrue b ↔ CouldResultIn cluster.now.graph from.now to.now) × (view v ≡ before_data b)) }
+    ensures text { IfOk result (λ v. has_float (view v) ≡ false) }
+{
+    replies::before(alloc, cluster.paths().before(from, to))
+}
+
+// Replies with the view of a processor.
+fn answer_view(alloc: Global, cluster: &Cluster, q: u32) -> Result<Value, AllocError>
+    ensures reply { IfOk result (λ v. ViewReply cluster.now q (view v)) }
+    ensures text { IfOk result (λ v. has_float (view v) ≡ false) }
+{
+    let q = q as usize;
+    if q >= cluster.n() {
+        return replies::no_processor(alloc);
+    }
+    let shown = counts_value(alloc, cluster.graph(), cluster.view(q).entries())?;
+    replies::known(alloc, shown)
+}
+
+// Replies with the frontier of a processor's view.
+fn answer_frontier(alloc: Global, cluster: &Cluster, q: u32) -> Result<Value, AllocError>
+    ensures reply { IfOk result (λ v. FrontierReply cluster.now q (view v)) }
+    ensures text { IfOk result (λ v. has_float (view v) ≡ false) }
+{
+    let q = q as usize;
+    if q >= cluster.n() {
+        return replies::no_processor(alloc);
+    }
+    let first = cluster.view(q).frontier(alloc, cluster.paths())?;
+    let shown = counts_value(alloc, cluster.graph(), first.entries())?;
+    replies::frontier(alloc, shown)
+}
+
+// Replies whether a processor's view has passed a pointstamp.
+fn answer_passed(
+    alloc: Global,
+    cluster: &Cluster,
+    q: u32,
+    point: &Pointstamp,
+) -> Result<Value, AllocError>
+    ensures reply { IfOk result (λ v. PassedReply cluster.now q point.now (view v)) }
+    ensures text { IfOk result (λ v. has_float (view v) ≡ false) }
+{
+    let q = q as usize;
+    if q >= cluster.n() {
+        return replies::no_processor(alloc);
+    }
+    match cluster.blocker(q, point) {
+        None => replies::passed(alloc),
+        Some(blocker) => {
+            let shown = point_value(alloc, cluster.graph(), &blocker)?;
+            replies::not_passed(alloc, shown)
+        }
+    }
+}
+
+// Replies to a search that has no answer; want of memory outside the workers' walks is none.
+fn refuse_search(alloc: Global, fault: &SearchFault) -> Result<Value, AllocError>
+    ensures reply { IfOk result (λ v. Some (view v) ≡ search_fault fault.now) }
+    ensures text { IfOk result (λ v. has_float (view v) ≡ false) }
+{
+    match fault {
+        SearchFault::Memory => Err(AllocError),
+        SearchFault::Missing { piece, claimed: _ } => {
+            replies::piece_fault(alloc, fault.number(), fault.name(), *piece)
+        }
+        other => replies::fault(alloc, other.number(), other.name()),
+    }
+}
+
+// Replies with the least position at which a breakpoint holds.
+fn answer_search<R: Threads + Sync>(
+    rt: &R,
+    alloc: Global,
+    state: &State,
+    when: &Break,
+    lo: u64,
+    hi: u64,
+    workers: u64,
+) -> Result<Value, AllocError>
+    ensures reply { IfOk result (λ v. SearchReply state.now.machine.timeline when.now lo hi workers (view v)) }
+    ensures text { IfOk result (λ v. has_float (view v) ≡ false) }
+{
+    let snapshot = state.snapshot(alloc)?;
+    match search(rt, alloc, &snapshot, when, lo, hi, workers, &OpenGate) {
+        Ok(least) => replies::found(alloc, least),
+        Err(fault) => refuse_search(alloc, &fault),
+    }
+}
+
+/// Answers a query.
+pub fn answer_query<R: Threads + Sync>(
+    rt: &R,
+    alloc: Global,
+    state: &State,
+    query: &Query,
+) -> Result<Value, AllocError>
+    ensures reply { IfOk result (λ v. QueryReply state.now.machine.timeline query.now (view v)) }
+    ensures text { IfOk result (λ v. has_float (view v) ≡ false) }
+{
+    let cluster = cluster(state);
+    match query {
+        Query::State => answer_state(alloc, cluster),
+        Query::Count(point) => answer_count(alloc, cluster, point),
+        Query::Before(from, to) => answer_before(alloc, cluster, from, to),
+        Query::View(q) => answer_view(alloc, cluster, *q),
+        Query::Frontier(q) => answer_frontier(alloc, cluster, *q),
+        Query::Passed(q, point) => answer_passed(alloc, cluster, *q, point),
+        Query::Search {
+            when,
+            lo,
+            hi,
+            workers,
+        } => answer_search(rt, alloc, state, when, *lo, *hi, *workers),
+    }
+}

@@ -1,0 +1,36 @@
+-- Which faults a run ends with.
+use Rattle.std.specs.Prelude.{ℕ, Bool, true, false, Result, Ok, Err}
+use Rattle.rewind_faults.specs.declared.fault.DebugFault.{DebugFault}
+use Rattle.rewind_faults.specs.declared.fault.DebugFault.TheVariants.{Graph, Script, Read, Write, TooLong, Memory, Close}
+
+-- it ended since a read failed
+abbrev pub is_read_fault : {A : Type 0} → Result A DebugFault → Bool
+is_read_fault (Ok x) = false
+is_read_fault (Err Graph) = false
+is_read_fault (Err Script) = false
+is_read_fault (Err Read) = true
+is_read_fault (Err Write) = false
+is_read_fault (Err TooLong) = false
+is_read_fault (Err Memory) = false
+is_read_fault (Err Close) = false
+
+-- it ended since a write failed
+abbrev pub is_write_fault : {A : Type 0} → Result A DebugFault → Bool
+is_write_fault (Ok x) = false
+is_write_fault (Err Graph) = false
+is_write_fault (Err Script) = false
+is_write_fault (Err Read) = false
+is_write_fault (Err Write) = true
+is_write_fault (Err TooLong) = false
+is_write_fault (Err Memory) = false
+is_write_fault (Err Close) = false
+
+-- the exit status of a program whose run ended so
+abbrev pub status_of : DebugFault → ℕ
+status_of Graph = 2
+status_of Script = 2
+status_of Read = 3
+status_of Write = 3
+status_of TooLong = 3
+status_of Memory = 4
+status_of Close = 5
