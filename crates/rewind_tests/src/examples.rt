@@ -8,7 +8,7 @@ use std::thread::Threads;
 
 /// The graph of one input, one sink and an edge between them.
 pub const LINE: &str =
-    "{\"vertices\":[{\"name\":\"a\",\"op\":\"input\",\"depth\":0},{\"name\":\"z\",\"op\":\"sink\",\"depth\":0}],\"edges\":[{\"name\":\"az\",\"from\":\"a\",\"port\":0,\"to\":\"z\",\"route\":\"local\"}]}";
+    r#"{"vertices":[{"name":"a","op":"input","depth":0},{"name":"z","op":"sink","depth":0}],"edges":[{"name":"az","from":"a","port":0,"to":"z","route":"local"}]}"#;
 
 pub const LINE_REPLY: &str = "{\"locations\":3,\"ok\":true,\"processors\":1}\n";
 
@@ -44,11 +44,11 @@ const FED_STATE: &str =
 fn feed_and_back(rt: HostRuntime) -> Result<(), Fail> {
     let script = [
         LINE,
-        "{\"do\":\"state\"}",
-        "{\"do\":\"feed\",\"p\":0,\"vertex\":\"a\",\"values\":[5],\"next\":\"next\"}",
-        "{\"do\":\"state\"}",
-        "{\"do\":\"back\"}",
-        "{\"do\":\"state\"}",
+        r#"{"do":"state"}"#,
+        r#"{"do":"feed","p":0,"vertex":"a","values":[5],"next":"next"}"#,
+        r#"{"do":"state"}"#,
+        r#"{"do":"back"}"#,
+        r#"{"do":"state"}"#,
     ];
     let (bytes, ended) = run(&rt, rt.alloc(), 1, script.as_slice())?;
     assert_eq!(rt; ended, Ok(6));
@@ -62,10 +62,10 @@ fn feed_and_back(rt: HostRuntime) -> Result<(), Fail> {
 #[test]
 fn add_overflows(rt: HostRuntime) -> Result<(), Fail> {
     let script = [
-        "{\"vertices\":[{\"name\":\"a\",\"op\":\"input\",\"depth\":0},{\"name\":\"m\",\"op\":\"add\",\"depth\":0,\"k\":1},{\"name\":\"z\",\"op\":\"sink\",\"depth\":0}],\"edges\":[{\"name\":\"am\",\"from\":\"a\",\"port\":0,\"to\":\"m\",\"route\":\"local\"},{\"name\":\"mz\",\"from\":\"m\",\"port\":0,\"to\":\"z\",\"route\":\"local\"}]}",
-        "{\"do\":\"feed\",\"p\":0,\"vertex\":\"a\",\"values\":[9223372036854775807],\"next\":\"close\"}",
-        "{\"do\":\"take\",\"p\":0,\"edge\":\"am\",\"time\":[0],\"value\":9223372036854775807}",
-        "{\"do\":\"count\",\"at\":\"am\",\"time\":[0]}",
+        r#"{"vertices":[{"name":"a","op":"input","depth":0},{"name":"m","op":"add","depth":0,"k":1},{"name":"z","op":"sink","depth":0}],"edges":[{"name":"am","from":"a","port":0,"to":"m","route":"local"},{"name":"mz","from":"m","port":0,"to":"z","route":"local"}]}"#,
+        r#"{"do":"feed","p":0,"vertex":"a","values":[9223372036854775807],"next":"close"}"#,
+        r#"{"do":"take","p":0,"edge":"am","time":[0],"value":9223372036854775807}"#,
+        r#"{"do":"count","at":"am","time":[0]}"#,
     ];
     let (bytes, ended) = run(&rt, rt.alloc(), 1, script.as_slice())?;
     assert_eq!(rt; ended, Ok(4));
@@ -78,8 +78,8 @@ fn add_overflows(rt: HostRuntime) -> Result<(), Fail> {
 #[test]
 fn a_cycle_is_not_strict(rt: HostRuntime) -> Result<(), Fail> {
     let script = [
-        "{\"vertices\":[{\"name\":\"a\",\"op\":\"input\",\"depth\":0},{\"name\":\"m\",\"op\":\"add\",\"depth\":0,\"k\":0}],\"edges\":[{\"name\":\"am\",\"from\":\"a\",\"port\":0,\"to\":\"m\",\"route\":\"local\"},{\"name\":\"mm\",\"from\":\"m\",\"port\":0,\"to\":\"m\",\"route\":\"local\"}]}",
-        "{\"do\":\"state\"}",
+        r#"{"vertices":[{"name":"a","op":"input","depth":0},{"name":"m","op":"add","depth":0,"k":0}],"edges":[{"name":"am","from":"a","port":0,"to":"m","route":"local"},{"name":"mm","from":"m","port":0,"to":"m","route":"local"}]}"#,
+        r#"{"do":"state"}"#,
     ];
     let (bytes, ended) = run(&rt, rt.alloc(), 1, script.as_slice())?;
     assert_eq!(rt; ended, Err(DebugFault::Graph));
@@ -92,19 +92,19 @@ fn a_cycle_is_not_strict(rt: HostRuntime) -> Result<(), Fail> {
 fn line_faults(rt: HostRuntime) -> Result<(), Fail> {
     for (line, reply) in [
         (
-            "{\"do\":\"take\",\"p\":0,\"edge\":\"zz\",\"time\":[0],\"value\":1}",
+            r#"{"do":"take","p":0,"edge":"zz","time":[0],"value":1}"#,
             "{\"code\":32,\"error\":\"UnknownName\",\"line\":2}\n",
         ),
         (
-            "{\"do\":\"take\",\"p\":0,\"edge\":\"az\",\"time\":[0,0],\"value\":1}",
+            r#"{"do":"take","p":0,"edge":"az","time":[0,0],"value":1}"#,
             "{\"code\":34,\"error\":\"BadTime\",\"line\":2}\n",
         ),
         (
-            "{\"do\":\"fly\"}",
+            r#"{"do":"fly"}"#,
             "{\"code\":31,\"error\":\"BadShape\",\"line\":2}\n",
         ),
         (
-            "{\"do\":\"feed\",\"p\":0,\"vertex\":\"a\",\"values\":[1.5],\"next\":\"next\"}",
+            r#"{"do":"feed","p":0,"vertex":"a","values":[1.5],"next":"next"}"#,
             "{\"code\":31,\"error\":\"BadShape\",\"line\":2}\n",
         ),
     ] {

@@ -10,59 +10,59 @@ static GRAPHS: [(&str, u8, &str); 11] = [
     ("\n{\"start\":-1}", 1, "{\"code\":40,\"error\":\"Shape\"}\n"),
     // No key "edges".
     (
-        "{\"vertices\":[{\"name\":\"a\",\"op\":\"input\",\"depth\":0},{\"name\":\"z\",\"op\":\"sink\",\"depth\":0}]}",
+        r#"{"vertices":[{"name":"a","op":"input","depth":0},{"name":"z","op":"sink","depth":0}]}"#,
         1,
         "{\"code\":40,\"error\":\"Shape\"}\n",
     ),
     // An edge with the name of a vertex.
     (
-        "{\"vertices\":[{\"name\":\"a\",\"op\":\"input\",\"depth\":0},{\"name\":\"z\",\"op\":\"sink\",\"depth\":0}],\"edges\":[{\"name\":\"z\",\"from\":\"a\",\"port\":0,\"to\":\"z\",\"route\":\"local\"}]}",
+        r#"{"vertices":[{"name":"a","op":"input","depth":0},{"name":"z","op":"sink","depth":0}],"edges":[{"name":"z","from":"a","port":0,"to":"z","route":"local"}]}"#,
         1,
         "{\"code\":41,\"error\":\"DoubleName\"}\n",
     ),
     // An edge to no vertex.
     (
-        "{\"vertices\":[{\"name\":\"a\",\"op\":\"input\",\"depth\":0},{\"name\":\"z\",\"op\":\"sink\",\"depth\":0}],\"edges\":[{\"name\":\"az\",\"from\":\"a\",\"port\":0,\"to\":\"q\",\"route\":\"local\"}]}",
+        r#"{"vertices":[{"name":"a","op":"input","depth":0},{"name":"z","op":"sink","depth":0}],"edges":[{"name":"az","from":"a","port":0,"to":"q","route":"local"}]}"#,
         1,
         "{\"code\":42,\"error\":\"UnknownName\"}\n",
     ),
     // An input has no port 1.
     (
-        "{\"vertices\":[{\"name\":\"a\",\"op\":\"input\",\"depth\":0},{\"name\":\"z\",\"op\":\"sink\",\"depth\":0}],\"edges\":[{\"name\":\"az\",\"from\":\"a\",\"port\":1,\"to\":\"z\",\"route\":\"local\"}]}",
+        r#"{"vertices":[{"name":"a","op":"input","depth":0},{"name":"z","op":"sink","depth":0}],"edges":[{"name":"az","from":"a","port":1,"to":"z","route":"local"}]}"#,
         1,
         "{\"code\":43,\"error\":\"BadPort\"}\n",
     ),
     // An edge from a sink to an input.
     (
-        "{\"vertices\":[{\"name\":\"a\",\"op\":\"input\",\"depth\":0},{\"name\":\"z\",\"op\":\"sink\",\"depth\":0}],\"edges\":[{\"name\":\"az\",\"from\":\"z\",\"port\":0,\"to\":\"a\",\"route\":\"local\"}]}",
+        r#"{"vertices":[{"name":"a","op":"input","depth":0},{"name":"z","op":"sink","depth":0}],"edges":[{"name":"az","from":"z","port":0,"to":"a","route":"local"}]}"#,
         1,
         "{\"code\":43,\"error\":\"BadPort\"}\n",
     ),
     // A sink at depth 1 behind an edge at depth 0.
     (
-        "{\"vertices\":[{\"name\":\"a\",\"op\":\"input\",\"depth\":0},{\"name\":\"z\",\"op\":\"sink\",\"depth\":1}],\"edges\":[{\"name\":\"az\",\"from\":\"a\",\"port\":0,\"to\":\"z\",\"route\":\"local\"}]}",
+        r#"{"vertices":[{"name":"a","op":"input","depth":0},{"name":"z","op":"sink","depth":1}],"edges":[{"name":"az","from":"a","port":0,"to":"z","route":"local"}]}"#,
         1,
         "{\"code\":44,\"error\":\"DepthMismatch\"}\n",
     ),
     // A depth above 4.
     (
-        "{\"vertices\":[{\"name\":\"z\",\"op\":\"sink\",\"depth\":5}],\"edges\":[]}",
+        r#"{"vertices":[{"name":"z","op":"sink","depth":5}],"edges":[]}"#,
         2,
         "{\"code\":45,\"error\":\"TooLarge\"}\n",
     ),
     (
-        "{\"vertices\":[],\"edges\":[]}",
+        r#"{"vertices":[],"edges":[]}"#,
         9,
         "{\"code\":48,\"error\":\"BadCount\"}\n",
     ),
     // The processors are counted before the loops are judged.
     (
-        "{\"vertices\":[{\"name\":\"m\",\"op\":\"add\",\"depth\":0,\"k\":0}],\"edges\":[{\"name\":\"mm\",\"from\":\"m\",\"port\":0,\"to\":\"m\",\"route\":\"local\"}]}",
+        r#"{"vertices":[{"name":"m","op":"add","depth":0,"k":0}],"edges":[{"name":"mm","from":"m","port":0,"to":"m","route":"local"}]}"#,
         9,
         "{\"code\":48,\"error\":\"BadCount\"}\n",
     ),
     (
-        "{\"sta",
+        r#"{"sta"#,
         1,
         "{\"code\":30,\"error\":\"BadLine\",\"line\":1}\n",
     ),
@@ -71,7 +71,7 @@ static GRAPHS: [(&str, u8, &str); 11] = [
 #[test]
 fn refuses_graphs(rt: HostRuntime) -> Result<(), Fail> {
     for (graph, processors, reply) in GRAPHS.iter() {
-        let script = [*graph, "{\"do\":\"state\"}"];
+        let script = [*graph, r#"{"do":"state"}"#];
         let (bytes, ended) = run(&rt, rt.alloc(), *processors, script.as_slice())?;
         assert_eq!(rt; ended, Err(DebugFault::Graph), "at {graph}");
         assert!(rt; bytes.as_slice() == reply.as_bytes(), "at {graph}");
@@ -108,43 +108,43 @@ fn refuses_long_graph_lines(rt: HostRuntime) -> Result<(), Fail> {
 fn refuses_steps(rt: HostRuntime) -> Result<(), Fail> {
     for (line, reply) in [
         (
-            "{\"do\":\"feed\",\"p\":1,\"vertex\":\"a\",\"values\":[],\"next\":\"next\"}",
+            r#"{"do":"feed","p":1,"vertex":"a","values":[],"next":"next"}"#,
             "{\"code\":1,\"error\":\"NoProcessor\"}\n",
         ),
         (
-            "{\"do\":\"take\",\"p\":1,\"edge\":\"az\",\"time\":[0],\"value\":5}",
+            r#"{"do":"take","p":1,"edge":"az","time":[0],"value":5}"#,
             "{\"code\":1,\"error\":\"NoProcessor\"}\n",
         ),
         (
-            "{\"do\":\"feed\",\"p\":0,\"vertex\":\"z\",\"values\":[],\"next\":\"next\"}",
+            r#"{"do":"feed","p":0,"vertex":"z","values":[],"next":"next"}"#,
             "{\"code\":4,\"error\":\"NotInput\"}\n",
         ),
         (
-            "{\"do\":\"feed\",\"p\":0,\"vertex\":\"a\",\"values\":[],\"next\":\"next\"}",
+            r#"{"do":"feed","p":0,"vertex":"a","values":[],"next":"next"}"#,
             "{\"code\":5,\"error\":\"InputClosed\"}\n",
         ),
         (
-            "{\"do\":\"take\",\"p\":0,\"edge\":\"az\",\"time\":[1],\"value\":5}",
+            r#"{"do":"take","p":0,"edge":"az","time":[1],"value":5}"#,
             "{\"code\":8,\"error\":\"NoRecord\"}\n",
         ),
         (
-            "{\"do\":\"broadcast\",\"p\":1}",
+            r#"{"do":"broadcast","p":1}"#,
             "{\"code\":1,\"error\":\"NoProcessor\"}\n",
         ),
         (
-            "{\"do\":\"broadcast\",\"p\":0,\"part\":[]}",
+            r#"{"do":"broadcast","p":0,"part":[]}"#,
             "{\"code\":15,\"error\":\"NothingToSend\"}\n",
         ),
         (
-            "{\"do\":\"receive\",\"from\":1,\"to\":0}",
+            r#"{"do":"receive","from":1,"to":0}"#,
             "{\"code\":1,\"error\":\"NoProcessor\"}\n",
         ),
         (
-            "{\"do\":\"receive\",\"from\":0,\"to\":0}",
+            r#"{"do":"receive","from":0,"to":0}"#,
             "{\"code\":17,\"error\":\"QueueEmpty\"}\n",
         ),
     ] {
-        let close = "{\"do\":\"feed\",\"p\":0,\"vertex\":\"a\",\"values\":[5],\"next\":\"close\"}";
+        let close = r#"{"do":"feed","p":0,"vertex":"a","values":[5],"next":"close"}"#;
         let (bytes, ended) = run(&rt, rt.alloc(), 1, [LINE, close, line].as_slice())?;
         assert_eq!(rt; ended, Ok(3));
         let want = format!(in rt.alloc();

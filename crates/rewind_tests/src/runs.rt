@@ -14,24 +14,24 @@ static LINES: [(&str, &str); 8] = [
     (" \r", ""),
     (LINE, "{\"locations\":3,\"ok\":true,\"processors\":1}\n"),
     (
-        "{\"do\":\"feed\",\"p\":0,\"vertex\":\"a\",\"values\":[5],\"next\":\"next\"}",
+        r#"{"do":"feed","p":0,"vertex":"a","values":[5],"next":"next"}"#,
         "{\"at\":1,\"kept\":1,\"ok\":true}\n",
     ),
     ("", ""),
     (
-        "{\"value\":6,\"time\":[0],\"edge\":\"az\",\"p\":0,\"do\":\"take\"}",
+        r#"{"value":6,"time":[0],"edge":"az","p":0,"do":"take"}"#,
         "{\"code\":8,\"error\":\"NoRecord\"}\n",
     ),
     (
-        "{\"do\":\"ba",
+        r#"{"do":"ba"#,
         "{\"code\":30,\"error\":\"BadLine\",\"line\":6}\n",
     ),
     (
-        "{\"do\":\"count\",\"at\":\"az\",\"time\":[0.0]}",
+        r#"{"do":"count","at":"az","time":[0.0]}"#,
         "{\"code\":31,\"error\":\"BadShape\",\"line\":7}\n",
     ),
     (
-        "{\"do\":\"count\",\"at\":\"az\",\"time\":[0]}",
+        r#"{"do":"count","at":"az","time":[0]}"#,
         "{\"count\":1,\"ok\":true}\n",
     ),
 ];
