@@ -19,7 +19,11 @@ fn starts<A: Allocator + Copy>(json: Global, alloc: A, text: &str, n: u32) -> Op
 fn starts_at_the_ends(rt: HostRuntime) {
     let heap = Refusing::new(rt.alloc());
     for (text, n) in [(EMPTY, 1), (EMPTY, 8), (LONG, 1), (LONG, 8)] {
-        assert_eq!(rt; starts(rt.alloc(), &heap, text, n), Some(true), "at {n} on {text}");
+        assert_eq!(rt;
+            starts(rt.alloc(), &heap, text, n),
+            Some(true),
+            "at {n} on {text}"
+        );
     }
     assert_eq!(rt; heap.live(), 0);
 }
@@ -54,9 +58,21 @@ fn goes<A: Allocator + Copy>(
 fn fed<A: Allocator + Copy>(json: Global, alloc: A, count: i64) -> Option<(usize, u128)> {
     let mut cluster = start(json, alloc, LONG, 8)?;
     let (entries, is_back) = goes(json, alloc, &mut cluster, &feed(alloc, 7, count)?)?;
-    let (all, _) = goes(json, alloc, &mut cluster, &Step::Broadcast { p: 7, part: Part::All })?;
+    let (all, _) = goes(
+        json,
+        alloc,
+        &mut cluster,
+        &Step::Broadcast {
+            p: 7,
+            part: Part::All,
+        },
+    )?;
     let first = point(cluster.graph(), "e1", &[0])?;
-    if is_back { Some((entries, cluster.count(&first))) } else { None }
+    if is_back {
+        Some((entries, cluster.count(&first)))
+    } else {
+        None
+    }
 }
 
 #[test]

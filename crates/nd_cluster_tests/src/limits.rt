@@ -173,12 +173,7 @@ fn cluster_of<A: Allocator + Copy>(
 
 /// The number of the refusal of the row's step, 0 where it is made, and `None`
 /// where the parts are no state.
-fn number_of<A: Allocator + Copy>(
-    heap: &Heap,
-    json: Global,
-    alloc: A,
-    row: &Row,
-) -> Option<u64> {
+fn number_of<A: Allocator + Copy>(heap: &Heap, json: Global, alloc: A, row: &Row) -> Option<u64> {
     let mut cluster = cluster_of(heap, json, alloc, row)?;
     let step = step_of(alloc, cluster.graph(), &row.3)?;
     match cluster.plan(&step) {

@@ -66,7 +66,11 @@ fn readers_take_no_memory(rt: HostRuntime) {
     let heap = Refusing::new(rt.alloc());
     for read in &READS {
         let made = read.0;
-        assert_eq!(rt; reads(&heap, rt.alloc(), &heap, read), Some(true), "after {made}");
+        assert_eq!(rt;
+            reads(&heap, rt.alloc(), &heap, read),
+            Some(true),
+            "after {made}"
+        );
     }
     assert_eq!(rt; entries(&heap, rt.alloc(), &heap), Some(5));
     assert_eq!(rt; heap.live(), 0);
