@@ -1,5 +1,7 @@
+pub mod Choosing
 pub mod Copying
 pub mod Keeping
 pub mod KeptSteps
 pub mod Refusing
 pub mod Running
+pub mod Telling

@@ -3,3 +3,4 @@ pub mod Timeline
 pub mod Moves
 pub mod Laws
 pub mod Reached
+pub mod Codes

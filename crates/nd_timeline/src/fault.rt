@@ -1,5 +1,5 @@
 //! Why a command is refused.
-ghost use Rattle.std.specs.Prelude.{◌≡◌};
+ghost use Rattle.std.specs.Prelude.{◌≡◌, ◌≢◌, MatchBool};
 ghost use Rattle.nd_timeline.specs.Faults.{number_of, name_of};
 
 use nd_protocol::Refusal;
@@ -26,6 +26,29 @@ pub enum Fault {
 }
 
 impl Fault {
+    /// An equal fault. It takes no memory.
+    pub fn copy(&self) -> Fault
+        ensures { result ≡ self.now }
+    {
+        match self {
+            Fault::Step(refusal) => Fault::Step(refusal.copy()),
+            Fault::Memory { at } => Fault::Memory { at: *at },
+            Fault::AtStart => Fault::AtStart,
+            Fault::AtEnd => Fault::AtEnd,
+            Fault::NoSuchPoint => Fault::NoSuchPoint,
+            Fault::TimelineFull => Fault::TimelineFull,
+            Fault::TooManyBreaks => Fault::TooManyBreaks,
+            Fault::NoBreak => Fault::NoBreak,
+        }
+    }
+
+    /// Whether both are one fault.
+    pub fn same(&self, other: &Fault) -> bool
+        ensures { MatchBool result (self.now ≡ other.now) (self.now ≢ other.now) }
+    {
+        *self == *other
+    }
+
     /// The fault's number.
     pub fn number(&self) -> u64
         ensures { result ≡ number_of self.now }

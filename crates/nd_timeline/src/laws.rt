@@ -1,6 +1,6 @@
-//! What every move of the debugger machine keeps: a function without code, to be called where its
-//! clauses are needed.
-ghost use Rattle.nd_timeline.specs.Laws.{MovesKeepBase, MovesKeepTimelines};
+//! What every move of the debugger machine keeps, and what its replies tell: functions without code, to be called
+//! where their clauses are needed.
+ghost use Rattle.nd_timeline.specs.Laws.{MovesKeepBase, MovesKeepTimelines, ChoicesAreUnique, RepliesTellMachines};
 
 use std::alloc::Allocator;
 
@@ -8,4 +8,10 @@ use std::alloc::Allocator;
 pub fn moves_keep_timelines<A: Allocator>()
     ensures base { MovesKeepBase A }
     ensures timeline { MovesKeepTimelines A }
+{}
+
+/// A cluster has one step to choose at a turn, and a machine's reply to a command tells the machine after it.
+pub fn replies_tell_machines<A: Allocator>()
+    ensures choice { ChoicesAreUnique A }
+    ensures machine { RepliesTellMachines A }
 {}

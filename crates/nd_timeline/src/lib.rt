@@ -11,7 +11,7 @@ mod timeline;
 
 pub use command::Command;
 pub use fault::Fault;
-pub use laws::moves_keep_timelines;
+pub use laws::{moves_keep_timelines, replies_tell_machines};
 pub use machine::Machine;
 pub use reply::{Ran, Reply, Stop};
 pub use timeline::Timeline;

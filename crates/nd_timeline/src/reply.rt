@@ -1,4 +1,5 @@
 //! What a command is answered.
+ghost use Rattle.std.specs.Prelude.{◌≡◌, ◌≢◌, MatchBool};
 
 use crate::Fault;
 
@@ -43,4 +44,39 @@ pub enum Reply {
     Cleared,
     /// The command is refused.
     Refused(Fault),
+}
+
+impl Reply {
+    /// An equal reply. It takes no memory.
+    pub fn copy(&self) -> Reply
+        ensures { result ≡ self.now }
+    {
+        match self {
+            Reply::Moved { at, kept } => Reply::Moved {
+                at: *at,
+                kept: *kept,
+            },
+            Reply::Ran {
+                at,
+                kept,
+                ran,
+                stop,
+            } => Reply::Ran {
+                at: *at,
+                kept: *kept,
+                ran: *ran,
+                stop: *stop,
+            },
+            Reply::Set { id } => Reply::Set { id: *id },
+            Reply::Cleared => Reply::Cleared,
+            Reply::Refused(fault) => Reply::Refused(fault.copy()),
+        }
+    }
+
+    /// Whether both are one reply.
+    pub fn same(&self, other: &Reply) -> bool
+        ensures { MatchBool result (self.now ≡ other.now) (self.now ≢ other.now) }
+    {
+        *self == *other
+    }
 }

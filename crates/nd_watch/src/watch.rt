@@ -1,5 +1,5 @@
 //! A breakpoint.
-ghost use Rattle.std.specs.Prelude.{◌≡◌, ◌↔◌, IsTrue};
+ghost use Rattle.std.specs.Prelude.{◌≡◌, ◌≢◌, ◌↔◌, IsTrue, MatchBool};
 ghost use Rattle.nd_watch.specs.Breaks.{Holds};
 
 use nd_cluster::Cluster;
@@ -91,6 +91,49 @@ impl Break {
                 value: *value,
                 at_least: *at_least,
             },
+        }
+    }
+
+    /// Whether both are one breakpoint.
+    pub fn same(&self, other: &Break) -> bool
+        ensures { MatchBool result (self.now ≡ other.now) (self.now ≢ other.now) }
+    {
+        match (self, other) {
+            (
+                Break::Passed { q, point },
+                Break::Passed {
+                    q: p,
+                    point: another,
+                },
+            ) => *q == *p && *point == *another,
+            (
+                Break::Count { point, at_least },
+                Break::Count {
+                    point: another,
+                    at_least: least,
+                },
+            ) => *point == *another && *at_least == *least,
+            (
+                Break::Queue { from, to, at_least },
+                Break::Queue {
+                    from: sender,
+                    to: receiver,
+                    at_least: least,
+                },
+            ) => *from == *sender && *to == *receiver && *at_least == *least,
+            (
+                Break::Sink {
+                    vertex,
+                    value,
+                    at_least,
+                },
+                Break::Sink {
+                    vertex: sink,
+                    value: counted,
+                    at_least: least,
+                },
+            ) => *vertex == *sink && *value == *counted && *at_least == *least,
+            _ => false,
         }
     }
 }

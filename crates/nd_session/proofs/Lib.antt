@@ -1,0 +1,5 @@
+mod Logs
+mod Told
+mod Filters
+mod Whole
+mod Telling

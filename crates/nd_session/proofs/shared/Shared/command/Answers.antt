@@ -1,0 +1,30 @@
+use Rattle.std.proofs.Common.{rules, inr}
+use Rattle.nd_session.specs.declared.receipt.Receipt.{Receipt}
+use Rattle.nd_session.specs.Clients.{HoldsLast}
+use Rattle.nd_session.specs.Faults.{CommandFails}
+use Rattle.nd_session.proofs.Logs.{refused}
+use Rattle.nd_session.proofs.Told.{own_grows}
+use Rattle.nd_session.proofs.shared.Shared.command.Goals as goal
+
+pub returns-in_err-reserve-clause-fails : goal.returns-in_err-reserve-clause-fails
+returns-in_err-reserve-clause-fails g c =
+    refused (CommandFails c.args.self.now.entered c.args.self.now.state.log c.args.client.now)
+    c.from_residual-in_err-reserve.result c.from_residual-in_err-reserve.ensures.1 (inr (search rules))
+
+pub returns-in_err-asked-clause-fails : goal.returns-in_err-asked-clause-fails
+returns-in_err-asked-clause-fails g c =
+    refused (CommandFails c.args.self.now.entered c.args.self.now.state.log c.args.client.now)
+    c.from_residual-in_err-asked.result c.from_residual-in_err-asked.ensures.1 (inr (search rules))
+
+pub invariant_of-client-2 : goal.invariant_of-client-2
+invariant_of-client-2 g c =
+    let known : HoldsLast c.args.self.now.state.log c.client.inside.receipts.items = search rules in
+    let pushed : Receipt g.row.A.Denot = record {
+      index = c.in_ok-receipt.receipt.index;
+      client = c.in_ok-receipt.receipt.client;
+      number = c.in_ok-receipt.receipt.number;
+      command = c.in_ok-asked.asked;
+      reply = c.copy-2.result;
+    } in
+    rw (c.push_reserved.ensures.items, c.reserve.ensures.items)
+    (own_grows c.client.inside.number c.args.self.now.state.log c.client.inside.receipts.items pushed c.client.invariant known (search rules) (search rules))

@@ -1,0 +1,92 @@
+-- What a client was told, against the log of a session (this project's own rule).
+use Rattle.std.specs.Prelude.{◌≡◌, ℕ, ◌-◌, ◌<◌, ◌≤◌, ◌⊎◌, List, length, slice_get, Option, Some, MatchOption, refl}
+use Rattle.std.specs.Option.{option_map_or}
+use Rattle.std.specs.Coded.{Coded, code_by, coded×, coded_ℕ, coded_list}
+use Rattle.nd_protocol.specs.Invariant.{KeepsProtocol}
+use Rattle.nd_timeline.specs.Moves.{MachineValue}
+use Rattle.nd_timeline.specs.declared.command.Command.{Command}
+use Rattle.nd_search.specs.Snapshot.{SnapshotValue}
+use Rattle.nd_session.specs.Codes.{receipt_code}
+use Rattle.nd_session.specs.Log.{IsStart, IsLegal, opening_of}
+use Rattle.nd_session.specs.declared.receipt.Receipt.{Receipt}
+
+-- a client: its number, and its receipts in the order in which it got them
+pub record ClientValue (A : Type 0) : Type 0 where
+  pub number : ℕ
+  pub receipts : List (Receipt A)
+
+abbrev pub client_code : (A : Type 0) → Coded (ClientValue A)
+client_code A =
+    code_by _ (coded× coded_ℕ (coded_list (receipt_code A)))
+    (λ p. (p.number, p.receipts)) (λ t. record { number = t.0; receipts = t.1 }) (λ _. refl)
+
+-- ---- receipts and a log
+
+-- the log has this receipt at its index
+abbrev pub Holds : {A : Type 0} → List (Receipt A) → Receipt A → Type 0
+Holds log r = slice_get log r.index ≡ Some r
+
+-- the last receipt, if there is one
+abbrev pub last_of : {A : Type 0} → List (Receipt A) → Option (Receipt A)
+last_of rs = slice_get rs (length rs - 1)
+
+-- the log has the last receipt, if there is one, at its index
+abbrev pub HoldsLast : {A : Type 0} → List (Receipt A) → List (Receipt A) → Type 0
+HoldsLast log rs = MatchOption (last_of rs) (Unit {0}) (λ r. Holds log r)
+
+-- a place above the index of the last receipt, if there is one
+abbrev pub IsAboveLast : {A : Type 0} → ℕ → List (Receipt A) → Type 0
+IsAboveLast i rs = MatchOption (last_of rs) (Unit {0}) (λ r. r.index < i)
+
+-- the receipts are those of one client, in the log's order
+pub record IsOwn {A : Type 0} (number : ℕ) (receipts : List (Receipt A)) : Type 0 where
+  pub client : (k : ℕ) (r : Receipt A) → slice_get receipts k ≡ Some r → r.client ≡ number
+  pub order : (j k : ℕ) (r s : Receipt A) → j < k → slice_get receipts j ≡ Some r → slice_get receipts k ≡ Some s → r.index < s.index
+
+-- ---- one history
+
+-- what holds of a log and a machine under a session's lock: the machine began at a start, and the log led from there to it
+pub record IsHistory {A : Type 0} (log : List (Receipt A)) (machine : MachineValue A) : Type 0 where
+  pub start : IsStart machine.timeline.base
+  pub protocol : KeepsProtocol machine.timeline.base
+  pub legal : IsLegal (opening_of machine) log machine
+
+-- the answer to a client's command is an entry of a history that has the client's last receipt before it
+pub record IsTold {A : Type 0} (p : ClientValue A) (command : Command A) (r : Receipt A) : Type 0 where
+  pub log : List (Receipt A)
+  pub machine : MachineValue A
+  pub history : IsHistory log machine
+  pub entry : Holds log r
+  pub last : HoldsLast log p.receipts
+  pub later : IsAboveLast r.index p.receipts
+  pub client : r.client ≡ p.number
+  pub command_is : r.command ≡ command
+
+-- a snapshot is of the machine after a history of its length that has the client's last receipt
+pub record IsSeen {A : Type 0} (p : ClientValue A) (s : SnapshotValue A) : Type 0 where
+  pub log : List (Receipt A)
+  pub machine : MachineValue A
+  pub history : IsHistory log machine
+  pub length_is : length log ≡ s.index
+  pub timeline_is : s.timeline ≡ machine.timeline
+  pub last : HoldsLast log p.receipts
+  pub later : IsAboveLast s.index p.receipts
+  pub start : IsStart s.timeline.base
+  pub protocol : KeepsProtocol s.timeline.base
+
+-- ---- strangers
+
+-- the client's number was given out, and the log has its last receipt
+pub record IsKnown {A : Type 0} (entered : ℕ) (log : List (Receipt A)) (p : ClientValue A) : Type 0 where
+  pub given : p.number < entered
+  pub last : HoldsLast log p.receipts
+
+-- one of the two fails
+abbrev pub IsUnknown : {A : Type 0} → ℕ → List (Receipt A) → ClientValue A → Type 0
+IsUnknown entered log p = (entered ≤ p.number) ⊎ (HoldsLast log p.receipts → ⊥)
+
+-- what a client is told that is not known: the index of its last receipt, or 0, and the log's entry there
+pub record IsStranger {A : Type 0} (entered : ℕ) (log : List (Receipt A)) (p : ClientValue A) (index : ℕ) (found : Option (Receipt A)) : Type 0 where
+  pub unknown : IsUnknown entered log p
+  pub index_is : index ≡ option_map_or (λ r. r.index) (last_of p.receipts) 0
+  pub found_is : found ≡ slice_get log index

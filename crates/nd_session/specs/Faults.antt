@@ -1,0 +1,77 @@
+-- The number and the name of each fault of a session, and when it is answered (this project's own rule).
+use Rattle.std.specs.Prelude.{◌≡◌, ℕ, ◌<◌, ◌≤◌, ◌⊎◌, List, length, codes}
+use Rattle.nd_time.specs.Limits.{max_log, max_clients}
+use Rattle.nd_timeline.specs.Moves.{MachineValue}
+use Rattle.nd_session.specs.Clients.{ClientValue, IsHistory, IsKnown, IsUnknown, IsStranger}
+use Rattle.nd_session.specs.declared.receipt.Receipt.{Receipt}
+use Rattle.nd_session.specs.declared.fault.SessionFault.{SessionFault}
+use Rattle.nd_session.specs.declared.fault.SessionFault.TheVariants.{NotThisSession, LogFull, TooManyClients, Memory}
+
+abbrev pub number_of : {A : Type 0} → SessionFault A → ℕ
+number_of (NotThisSession index found) = 26
+number_of LogFull = 27
+number_of TooManyClients = 28
+number_of Memory = 29
+
+abbrev pub name_of : {A : Type 0} → SessionFault A → List ℕ
+name_of (NotThisSession index found) = codes "NotThisSession"
+name_of LogFull = codes "LogFull"
+name_of TooManyClients = codes "TooManyClients"
+name_of Memory = codes "Memory"
+
+-- a state with this log refuses a command so
+abbrev pub ApplyFails : {A : Type 0} → List (Receipt A) → SessionFault A → Type 0
+ApplyFails log (NotThisSession index found) = ⊥
+ApplyFails log LogFull = length log ≡ max_log
+ApplyFails log TooManyClients = ⊥
+ApplyFails log Memory = length log < max_log
+
+-- ---- under the lock, with this log and so many clients entered
+
+-- the test of a client fails so
+abbrev pub TestFails : {A : Type 0} → ℕ → List (Receipt A) → ClientValue A → SessionFault A → Type 0
+TestFails entered log p (NotThisSession index found) = IsStranger entered log p index found
+TestFails entered log p LogFull = ⊥
+TestFails entered log p TooManyClients = ⊥
+TestFails entered log p Memory = IsUnknown entered log p
+
+-- a client's command fails so; memory is wanted for a stranger's answer, or for a known client's entry
+abbrev pub CommandFails : {A : Type 0} → ℕ → List (Receipt A) → ClientValue A → SessionFault A → Type 0
+CommandFails entered log p (NotThisSession index found) = IsStranger entered log p index found
+CommandFails entered log p LogFull = IsKnown entered log p × (length log ≡ max_log)
+CommandFails entered log p TooManyClients = ⊥
+CommandFails entered log p Memory = IsUnknown entered log p ⊎ (length log < max_log)
+
+-- a copy for a client fails so
+abbrev pub CopyFails : {A : Type 0} → ℕ → List (Receipt A) → ClientValue A → SessionFault A → Type 0
+CopyFails entered log p (NotThisSession index found) = IsStranger entered log p index found
+CopyFails entered log p LogFull = ⊥
+CopyFails entered log p TooManyClients = ⊥
+CopyFails entered log p Memory = Unit {0}
+
+-- entering fails so
+abbrev pub EnterFails : {A : Type 0} → ℕ → SessionFault A → Type 0
+EnterFails entered (NotThisSession index found) = ⊥
+EnterFails entered LogFull = ⊥
+EnterFails entered TooManyClients = max_clients ≤ entered
+EnterFails entered Memory = entered < max_clients
+
+-- ---- outside the lock: there is a history and a number of clients at which a call fails so
+
+pub record CommandMayFail {A : Type 0} (p : ClientValue A) (fault : SessionFault A) : Type 0 where
+  pub log : List (Receipt A)
+  pub machine : MachineValue A
+  pub entered : ℕ
+  pub history : IsHistory log machine
+  pub fails : CommandFails entered log p fault
+
+pub record CopyMayFail {A : Type 0} (p : ClientValue A) (fault : SessionFault A) : Type 0 where
+  pub log : List (Receipt A)
+  pub machine : MachineValue A
+  pub entered : ℕ
+  pub history : IsHistory log machine
+  pub fails : CopyFails entered log p fault
+
+pub record EnterMayFail {A : Type 0} (fault : SessionFault A) : Type 0 where
+  pub entered : ℕ
+  pub fails : EnterFails entered fault

@@ -1,0 +1,9 @@
+pub mod Log
+pub mod Laws
+pub mod Codes
+pub mod State
+pub mod Kept
+pub mod Clients
+pub mod Faults
+pub mod Close
+pub mod Tested

@@ -1,0 +1,49 @@
+-- The log of a session: which logs are legal (this project's own rule).
+use Rattle.std.specs.Prelude.{◌≡◌, ℕ, ◌==◌, List, [], ◌∷◌, take, count_by, slice_get, Some}
+use Rattle.nd_graph.specs.Graph.{Dataflow}
+use Rattle.nd_protocol.specs.State.{ClusterState}
+use Rattle.nd_protocol.specs.Start.{start}
+use Rattle.nd_timeline.specs.Timeline.{opened}
+use Rattle.nd_timeline.specs.Moves.{MachineValue, Moves, without_breaks}
+use Rattle.nd_session.specs.declared.receipt.Receipt.{Receipt}
+
+-- ---- where a log begins
+
+-- a cluster is the start of some processors on some graph
+pub record IsStart (s : ClusterState) : Type 0 where
+  pub graph : Dataflow
+  pub count : ℕ
+  pub is : s ≡ start graph count
+
+-- the machine that a machine's log began with: no step is kept, and no breakpoint set
+abbrev pub opening_of : {A : Type 0} → MachineValue A → MachineValue A
+opening_of {A} m = without_breaks (opened A m.timeline.base)
+
+-- ---- entries
+
+-- how many entries are a client's
+abbrev pub count_of : {A : Type 0} → ℕ → List (Receipt A) → ℕ
+count_of client log = count_by (λ e. e.client == client) log
+
+-- an entry at this place of a log tells the place, and how many entries of its client stand before it
+pub record IsPlaced {A : Type 0} (log : List (Receipt A)) (i : ℕ) (e : Receipt A) : Type 0 where
+  pub index : e.index ≡ i
+  pub number : e.number ≡ count_of e.client (take i log)
+
+-- so does each entry
+abbrev pub ArePlaced : {A : Type 0} → List (Receipt A) → Type 0
+ArePlaced {A} log = (i : ℕ) (e : Receipt A) → slice_get log i ≡ Some e → IsPlaced log i e
+
+-- the entries lead from one machine to another, each by a move for its command with its reply
+unfoldable pub Leads : {A : Type 0} → MachineValue A → List (Receipt A) → MachineValue A → Type 0
+Leads m [] new = new ≡ m
+Leads {A} m (e ∷ es) new = record {
+  mid : MachineValue A;
+  moves : Moves m e.command e.reply mid;
+  rest : Leads mid es new;
+}
+
+-- a log that can be one of commands to a machine that began so, and leaves it so
+pub record IsLegal {A : Type 0} (opening : MachineValue A) (log : List (Receipt A)) (machine : MachineValue A) : Type 0 where
+  pub placed : ArePlaced log
+  pub leads : Leads opening log machine

@@ -1,0 +1,209 @@
+//! The end of a session: each client's receipts against the log.
+ghost use Rattle.std.specs.Prelude.{◌≤◌, length, IfOk, IfErr, IfSome, IfNone, MatchBool};
+ghost use Rattle.nd_session.specs.Log.{ArePlaced};
+ghost use Rattle.nd_session.specs.Close.{HeldBelow, IsNewBelow, IsIn, AreInBelow, IsRight, AreRightBelow, IsFirstWrong, IsWrong, IsMismatch, ClosesWith, IsWhole, IsSettled, IsLeft};
+ghost use Rattle.nd_session.specs.Tested.{IsOther, IsFirstMissing, HasAt, HasInPlace, AreInPlaceBelow, IsFirstUntold, IsClean};
+
+use crate::shared::{Shared, holds};
+use crate::{Client, Receipt};
+use nd_timeline::Timeline;
+use nd_watch::Breaks;
+use std::alloc::{Allocator, Global};
+
+/// What a session leaves.
+#[derive(Drop)]
+pub struct Log<A: Allocator + Copy = Global> {
+    /// The commands that were answered, in order.
+    pub entries: Vec<Receipt<A>, A>,
+    /// How many clients have entered.
+    pub entered: u64,
+    pub timeline: Timeline<A>,
+    pub breaks: Breaks,
+}
+
+/// What is wrong with the clients that a session is closed with.
+#[derive(Clone, Copy, Debug, Drop, PartialEq, Eq)]
+pub enum CloseWhy {
+    /// A client's receipt is not the log's entry at this index, or the client's number was handed in
+    /// before (the index is then the log's length), or the entry at this index has no receipt.
+    Mismatch { client: u64, index: u64 },
+    /// The client of this number was not handed in.
+    ClientMissing { client: u64 },
+}
+
+/// A session that was closed with other clients, or other receipts, than its own.
+#[derive(Drop)]
+pub struct CloseFault<A: Allocator + Copy = Global> {
+    pub why: CloseWhy,
+    pub log: Log<A>,
+}
+
+// The index of the first receipt that is not the log's entry there.
+fn first_wrong<A: Allocator>(log: &[Receipt<A>], receipts: &[Receipt<A>]) -> Option<u64>
+    ensures none { IfNone result (HeldBelow log.now receipts.now (length receipts.now)) }
+    ensures some { IfSome result (IsFirstWrong log.now receipts.now) }
+{
+    for (j, receipt) in receipts.iter().enumerate() {
+        if !holds(log, receipt) {
+            return Some(receipt.index);
+        }
+    }
+    None
+}
+
+// Whether none of the first k clients has this number.
+fn is_new<A: Allocator + Copy>(clients: &[Client<A>], k: usize, number: u64) -> bool
+    requires { k ≤ length clients.now }
+    ensures { MatchBool result (IsNewBelow clients.now k number) (IsOther clients.now k number) }
+{
+    for j in 0..k {
+        if clients[j].number() == number {
+            return false;
+        }
+    }
+    true
+}
+
+// Whether a client has this number.
+fn is_in<A: Allocator + Copy>(clients: &[Client<A>], number: u64) -> bool
+    ensures { MatchBool result (IsIn clients.now number) (¬ IsIn clients.now number) }
+{
+    !is_new(clients, clients.len(), number)
+}
+
+// The index by which it is told what is wrong with a client that was handed in after k others.
+fn wrong_with<A: Allocator + Copy>(
+    log: &[Receipt<A>],
+    clients: &[Client<A>],
+    k: usize,
+    client: &Client<A>,
+) -> Option<u64>
+    requires { k ≤ length clients.now }
+    ensures right { IfNone result (IsRight log.now clients.now k client.now) }
+    ensures wrong { IfSome result (IsWrong log.now clients.now k client.now) }
+{
+    if let Some(index) = first_wrong(log, client.receipts()) {
+        return Some(index);
+    }
+    if is_new(clients, k, client.number()) {
+        None
+    } else {
+        Some(log.len() as u64)
+    }
+}
+
+// The first client with which something is wrong, and the index by which it is told.
+fn first_mismatch<A: Allocator + Copy>(
+    log: &[Receipt<A>],
+    clients: &[Client<A>],
+) -> Option<(u64, u64)>
+    ensures none { IfNone result (AreRightBelow log.now clients.now (length clients.now)) }
+    ensures some { IfSome result (λ m. IsMismatch log.now clients.now m.0 m.1) }
+{
+    for (k, client) in clients.iter().enumerate() {
+        if let Some(index) = wrong_with(log, clients, k, client) {
+            return Some((client.number(), index));
+        }
+    }
+    None
+}
+
+// The least number that was given out and not handed in.
+fn first_missing<A: Allocator + Copy>(clients: &[Client<A>], entered: u64) -> Option<u64>
+    ensures none { IfNone result (AreInBelow clients.now entered) }
+    ensures some { IfSome result (IsFirstMissing clients.now entered) }
+{
+    for n in 0..entered {
+        if !is_in(clients, n) {
+            return Some(n);
+        }
+    }
+    None
+}
+
+// Whether the client has the entry's number, and the entry in its place.
+fn has_at<A: Allocator + Copy>(client: &Client<A>, entry: &Receipt<A>) -> bool
+    ensures { MatchBool result (HasAt client.now entry.now) (¬ HasAt client.now entry.now) }
+{
+    client.number() == entry.client
+        && match client.receipts().get(entry.number as usize) {
+            Some(receipt) => receipt.same(entry),
+            None => false,
+        }
+}
+
+// Whether a client has the entry in its place.
+fn has_in_place<A: Allocator + Copy>(clients: &[Client<A>], entry: &Receipt<A>) -> bool
+    ensures { MatchBool result (HasInPlace clients.now entry.now) (¬ HasInPlace clients.now entry.now) }
+{
+    for client in clients {
+        if has_at(client, entry) {
+            return true;
+        }
+    }
+    false
+}
+
+// The client and the index of the first entry that no client has in its place.
+fn first_untold<A: Allocator + Copy>(
+    log: &[Receipt<A>],
+    clients: &[Client<A>],
+) -> Option<(u64, u64)>
+    ensures none { IfNone result (AreInPlaceBelow log.now clients.now (length log.now)) }
+    ensures some { IfSome result (λ m. IsFirstUntold log.now clients.now m.0 m.1) }
+{
+    for (i, entry) in log.iter().enumerate() {
+        if !has_in_place(clients, entry) {
+            return Some((entry.client, i as u64));
+        }
+    }
+    None
+}
+
+// What is found first, if something is wrong.
+fn found_wrong<A: Allocator + Copy>(
+    log: &[Receipt<A>],
+    clients: &[Client<A>],
+    entered: u64,
+) -> Option<CloseWhy>
+    requires { ArePlaced log.now }
+    ensures clean { IfNone result (IsClean log.now clients.now entered) }
+    ensures wrong { IfSome result (ClosesWith log.now clients.now entered) }
+{
+    if let Some((client, index)) = first_mismatch(log, clients) {
+        return Some(CloseWhy::Mismatch { client, index });
+    }
+    if let Some(client) = first_missing(clients, entered) {
+        return Some(CloseWhy::ClientMissing { client });
+    }
+    if let Some((client, index)) = first_untold(log, clients) {
+        return Some(CloseWhy::Mismatch { client, index });
+    }
+    None
+}
+
+impl<A: Allocator + Copy> Shared<A> {
+    // What the state and these clients leave. It takes no memory.
+    pub(crate) fn close(self, clients: &[Client<A>]) -> Result<Log<A>, CloseFault<A>>
+        ensures whole { IfOk result (λ l. IsWhole l.entries.items clients.now l.entered) }
+        ensures wrong { IfErr result (λ f. ClosesWith f.log.entries.items clients.now f.log.entered f.why) }
+        ensures settled { IfOk result IsSettled }
+        ensures fault_settled { IfErr result (λ f. IsSettled f.log) }
+        ensures left { IfOk result (IsLeft self) }
+        ensures fault_left { IfErr result (λ f. IsLeft self f.log) }
+    {
+        let Shared { state, entered } = self;
+        let (timeline, breaks, entries) = state.into_parts();
+        let why = found_wrong(&entries, clients, entered);
+        let log = Log {
+            entries,
+            entered,
+            timeline,
+            breaks,
+        };
+        match why {
+            None => Ok(log),
+            Some(why) => Err(CloseFault { why, log }),
+        }
+    }
+}

@@ -1,0 +1,61 @@
+//! Why a session refuses a call.
+ghost use Rattle.std.specs.Prelude.{◌≡◌};
+ghost use Rattle.nd_session.specs.Faults.{number_of, name_of};
+
+use crate::Receipt;
+use std::alloc::{AllocError, Allocator, Global};
+
+/// Why a session refuses a call (this project's own rule).
+#[derive(Drop)]
+pub enum SessionFault<A: Allocator = Global> {
+    /// The client's number was not given out here, or the log does not have its last receipt.
+    NotThisSession {
+        /// The index of the client's last receipt, or 0 where it has none.
+        index: u64,
+        /// The log's entry there.
+        found: Option<Receipt<A>>,
+    },
+    /// The log has as many entries as it may have.
+    LogFull,
+    /// Each number of a client is given out.
+    TooManyClients,
+    /// A growth was refused.
+    Memory,
+}
+
+impl<A: Allocator> SessionFault<A> {
+    /// The fault's number.
+    pub fn number(&self) -> u64
+        ensures { result ≡ number_of self.now }
+    {
+        match self {
+            SessionFault::NotThisSession { index: _, found: _ } => 26,
+            SessionFault::LogFull => 27,
+            SessionFault::TooManyClients => 28,
+            SessionFault::Memory => 29,
+        }
+    }
+
+    /// The fault's name.
+    pub fn name(&self) -> &'static str
+        ensures { result.now ≡ name_of self.now }
+    {
+        match self {
+            SessionFault::NotThisSession { index: _, found: _ } => "NotThisSession",
+            SessionFault::LogFull => "LogFull",
+            SessionFault::TooManyClients => "TooManyClients",
+            SessionFault::Memory => "Memory",
+        }
+    }
+}
+
+impl<A: Allocator> From<AllocError> for SessionFault<A> {
+    ghost use Rattle.std.specs.Prelude.{◌≡◌};
+    ghost use Rattle.nd_session.specs.declared.fault.SessionFault.TheVariants.{Memory};
+
+    ghost from_gives = { λ _ r. r ≡ Memory };
+
+    fn from(_: AllocError) -> SessionFault<A> {
+        SessionFault::Memory
+    }
+}

@@ -1,0 +1,45 @@
+//! An entry of the log, as its client is told it.
+ghost use Rattle.std.specs.Prelude.{◌≡◌, ◌≢◌, IfOk, MatchBool};
+
+use nd_timeline::{Command, Reply};
+use std::alloc::{AllocError, Allocator, Global};
+
+/// A command that was answered: an entry of the log, and what its client is told (this project's own
+/// rule).
+#[derive(Drop)]
+pub struct Receipt<A: Allocator = Global> {
+    /// The entry's place in the log, counted from 0.
+    pub index: u64,
+    /// The number of the client that gave the command.
+    pub client: u64,
+    /// How many entries of this client stand before this one.
+    pub number: u64,
+    pub command: Command<A>,
+    pub reply: Reply,
+}
+
+impl<A: Allocator> Receipt<A> {
+    /// An equal receipt.
+    pub fn copy(&self, alloc: A) -> Result<Receipt<A>, AllocError>
+        ensures { IfOk result (λ r. r ≡ self.now) }
+    {
+        Ok(Receipt {
+            index: self.index,
+            client: self.client,
+            number: self.number,
+            command: self.command.copy(alloc)?,
+            reply: self.reply.copy(),
+        })
+    }
+
+    /// Whether both are one receipt.
+    pub fn same(&self, other: &Receipt<A>) -> bool
+        ensures { MatchBool result (self.now ≡ other.now) (self.now ≢ other.now) }
+    {
+        self.index == other.index
+            && self.client == other.client
+            && self.number == other.number
+            && self.command.same(&other.command)
+            && self.reply.same(&other.reply)
+    }
+}

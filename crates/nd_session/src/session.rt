@@ -1,0 +1,79 @@
+//! A state that many clients drive through one lock.
+ghost use Rattle.std.specs.Prelude.{◌≡◌, ◌<◌, [], ◌∷◌, ◌++◌, IfOk, IfErr, OnErr};
+ghost use Rattle.nd_time.specs.Limits.{max_clients};
+ghost use Rattle.nd_session.specs.Clients.{IsTold, IsSeen};
+ghost use Rattle.nd_session.specs.Close.{ClosesWith, IsWhole, IsSettled};
+ghost use Rattle.nd_session.specs.Faults.{CommandMayFail, CopyMayFail, EnterMayFail};
+
+use crate::shared::Shared;
+use crate::{Client, CloseFault, Log, Receipt, SessionFault, State};
+use nd_search::Snapshot;
+use nd_timeline::Command;
+use std::alloc::{Allocator, Global};
+use std::sync::{Mutex, Wait};
+
+/// A state that many threads drive, each as a client, through one lock (this project's own rule).
+#[derive(Drop)]
+pub struct Session<A: Allocator + Copy = Global> {
+    lock: Mutex<Shared<A>>,
+}
+
+impl<A: Allocator + Copy> Session<A> {
+    /// A session that no client has entered yet.
+    pub fn new(state: State<A>) -> Session<A> {
+        Session {
+            lock: Mutex::new(Shared::new(state)),
+        }
+    }
+
+    /// A client of the next number, counted from 0. A number is not given out twice.
+    pub fn enter(&self, rt: &impl Wait, alloc: A) -> Result<Client<A>, SessionFault<A>>
+        ensures receipts { IfOk result (λ c. c.receipts ≡ []) }
+        ensures few { IfOk result (λ c. c.number < max_clients) }
+        ensures fails { IfErr result EnterMayFail }
+    {
+        self.lock.lock(rt).enter(alloc)
+    }
+
+    /// Answers a client's command, and logs it. The client keeps the receipt.
+    pub fn command(
+        &self,
+        rt: &impl Wait,
+        alloc: A,
+        client: &mut Client<A>,
+        command: Command<A>,
+    ) -> Result<Receipt<A>, SessionFault<A>>
+        ensures told { IfOk result (IsTold client.old command) }
+        ensures kept { IfOk result (λ r. client.new ≡ record client.old { receipts = client.old.receipts ++ r ∷ [] }) }
+        ensures same { OnErr result (client.new ≡ client.old) }
+        ensures fails { IfErr result (CommandMayFail client.old) }
+    {
+        self.lock.lock(rt).command(alloc, client, command)
+    }
+
+    /// A copy of the timeline as it is now, and the length of the log. It is no command and not logged.
+    pub fn copy(
+        &self,
+        rt: &impl Wait,
+        alloc: A,
+        client: &Client<A>,
+    ) -> Result<Snapshot<A>, SessionFault<A>>
+        ensures seen { IfOk result (IsSeen client.now) }
+        ensures fails { IfErr result (CopyMayFail client.now) }
+    {
+        self.lock.lock(rt).copy(alloc, client)
+    }
+
+    /// Ends the session, with all its clients. It takes no memory and waits for nobody.
+    ///
+    /// The session is ended in all cases, and the fault carries the log, too.
+    pub fn close(self, clients: Vec<Client<A>, A>) -> Result<Log<A>, CloseFault<A>>
+        ensures whole { IfOk result (λ l. IsWhole l.entries.items clients.items l.entered) }
+        ensures wrong { IfErr result (λ f. ClosesWith f.log.entries.items clients.items f.log.entered f.why) }
+        ensures settled { IfOk result IsSettled }
+        ensures fault_settled { IfErr result (λ f. IsSettled f.log) }
+    {
+        let Session { lock } = self;
+        lock.into_inner().close(&clients)
+    }
+}

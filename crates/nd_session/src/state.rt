@@ -1,0 +1,185 @@
+//! A debugger machine with the log of the commands that it has answered.
+ghost use Rattle.std.specs.Prelude.{◌≡◌, ◌↔◌, ◌<◌, ◌≤◌, [], ◌∷◌, ◌++◌, length, Err, IfOk, IfErr, OnErr, MatchBool};
+ghost use Rattle.nd_time.specs.Limits.{max_log};
+ghost use Rattle.nd_protocol.specs.Invariant.{KeepsProtocol};
+ghost use Rattle.nd_search.specs.Snapshot.{snapshot_of};
+ghost use Rattle.nd_timeline.specs.Moves.{Moves, without_breaks};
+ghost use Rattle.nd_session.specs.Log.{IsStart, IsPlaced, IsLegal, count_of, opening_of};
+ghost use Rattle.nd_session.specs.State.{StateValue};
+ghost use Rattle.nd_session.specs.Clients.{IsHistory};
+ghost use Rattle.nd_session.specs.Faults.{ApplyFails};
+
+use crate::{Receipt, SessionFault};
+use nd_map::TreeMap;
+use nd_search::Snapshot;
+use nd_timeline::{Command, Machine, Timeline, moves_keep_timelines};
+use nd_watch::Breaks;
+use std::alloc::{AllocError, Allocator, Global};
+use std::marker::Model;
+
+/// The most entries of a log.
+const MAX_LOG: usize = 1_000_000;
+
+/// A debugger machine with the log of the commands that it has answered (this project's own rule).
+pub struct State<A: Allocator + Copy = Global> {
+    machine: Machine<A>,
+    log: Vec<Receipt<A>, A>,
+    // How many entries each client has that has one, so that no command goes through the log.
+    counts: TreeMap<usize, u64, A>,
+}
+
+impl<A: Allocator + Copy> Model for State<A> {
+    ghost use Rattle.nd_session.specs.State.{StateValue, state_code};
+    ghost use Rattle.nd_session.specs.Kept.{IsKept};
+
+    ghost Value = { StateValue A };
+
+    ghost coded = { state_code A };
+
+    ghost view = { λ a. record { machine = a.machine; log = a.log.items } };
+
+    ghost invariant = { λ a. IsKept a.machine a.log.items a.counts };
+}
+
+impl<A: Allocator + Copy> Drop for State<A> {
+    fn drop(self) {
+        let State {
+            machine: _,
+            log: _,
+            counts: _,
+        } = self;
+    }
+}
+
+impl<A: Allocator + Copy> State<A> {
+    /// The state of a timeline that keeps nothing yet, and begins at a start.
+    pub fn new(alloc: A, timeline: Timeline<A>) -> State<A>
+        requires fresh { timeline.kept ≡ [] }
+        requires start { IsStart timeline.base }
+        requires protocol { KeepsProtocol timeline.base }
+        ensures { result ≡ record { machine = without_breaks timeline; log = [] } }
+    {
+        // This call's clause says that the cursor stands within what is kept.
+        let _ = timeline.at();
+        State {
+            machine: Machine::new(timeline),
+            log: Vec::new(alloc),
+            counts: TreeMap::new(alloc),
+        }
+    }
+
+    /// Its timeline.
+    pub fn timeline(&self) -> &Timeline<A>
+        ensures value { result.now ≡ self.now.machine.timeline }
+        ensures start { IsStart self.now.machine.timeline.base }
+        ensures protocol { KeepsProtocol self.now.machine.timeline.base }
+    {
+        self.machine.timeline()
+    }
+
+    /// Its breakpoints.
+    pub fn breaks(&self) -> &Breaks
+        ensures { result.now ≡ self.now.machine.breaks }
+    {
+        self.machine.breaks()
+    }
+
+    /// The commands that it has answered, in order.
+    pub fn log(&self) -> &[Receipt<A>]
+        ensures value { result.now ≡ self.now.log }
+        ensures legal { IsLegal (opening_of self.now.machine) self.now.log self.now.machine }
+        ensures few { length self.now.log ≤ max_log }
+    {
+        &self.log
+    }
+
+    // The log, with all that holds of it.
+    pub(crate) fn history(&self) -> &[Receipt<A>]
+        ensures value { result.now ≡ self.now.log }
+        ensures history { IsHistory self.now.log self.now.machine }
+    {
+        &self.log
+    }
+
+    // Whether the log has as many entries as it may have.
+    pub(crate) fn is_full(&self) -> bool
+        ensures { MatchBool result (length self.now.log ≡ max_log) (length self.now.log < max_log) }
+    {
+        self.log.len() >= MAX_LOG
+    }
+
+    // How many entries a client has.
+    fn count(&self, client: u64) -> u64
+        ensures { result ≡ count_of client self.now.log }
+    {
+        self.counts.get(&(client as usize)).unwrap_or(0)
+    }
+
+    /// Answers a client's command, and logs it.
+    pub fn apply(
+        &mut self,
+        alloc: A,
+        client: u64,
+        command: Command<A>,
+    ) -> Result<Receipt<A>, SessionFault<A>>
+        ensures entry { IfOk result (λ r. self.new.log ≡ self.old.log ++ r ∷ []) }
+        ensures client { IfOk result (λ r. r.client ≡ client) }
+        ensures command { IfOk result (λ r. r.command ≡ command) }
+        ensures placed { IfOk result (λ r. IsPlaced self.old.log (length self.old.log) r) }
+        ensures moved { IfOk result (λ r. Moves self.old.machine command r.reply self.new.machine) }
+        ensures legal { IsLegal (opening_of self.old.machine) self.new.log self.new.machine }
+        ensures base { self.new.machine.timeline.base ≡ self.old.machine.timeline.base }
+        ensures same { OnErr result (self.new ≡ self.old) }
+        ensures full { (result ≡ Err SessionFault.LogFull) ↔ (length self.old.log ≡ max_log) }
+        ensures fails { IfErr result (ApplyFails self.old.log) }
+    {
+        if self.is_full() {
+            return Err(SessionFault::LogFull);
+        }
+        moves_keep_timelines::<A>();
+        let index = self.log.len() as u64;
+        let number = self.count(client);
+        let asked = command.copy(alloc)?;
+        self.log.reserve(1)?;
+        self.counts.put(&(client as usize), number + 1)?;
+        let reply = self.machine.apply(&command);
+        let receipt = Receipt {
+            index,
+            client,
+            number,
+            command: asked,
+            reply: reply.copy(),
+        };
+        self.log.push_reserved(Receipt {
+            index,
+            client,
+            number,
+            command,
+            reply,
+        });
+        Ok(receipt)
+    }
+
+    /// A copy of the timeline, under the length of the log.
+    pub fn snapshot(&self, alloc: A) -> Result<Snapshot<A>, AllocError>
+        ensures { IfOk result (λ s. s ≡ snapshot_of self.now.machine.timeline (length self.now.log)) }
+    {
+        Snapshot::of(alloc, self.timeline(), self.log.len() as u64)
+    }
+
+    // What it was made of.
+    pub(crate) fn into_parts(self) -> (Timeline<A>, Breaks, Vec<Receipt<A>, A>)
+        ensures timeline { result.0 ≡ self.machine.timeline }
+        ensures breaks { result.1 ≡ self.machine.breaks }
+        ensures log { result.2.items ≡ self.log }
+        ensures history { IsHistory self.log self.machine }
+    {
+        let State {
+            machine,
+            log,
+            counts: _,
+        } = self;
+        let (timeline, breaks) = machine.into_parts();
+        (timeline, breaks, log)
+    }
+}

@@ -1,0 +1,108 @@
+-- The reply to a command tells the machine after it.
+use Rattle.std.proofs.Common.{◌≡◌, ℕ, zero, suc, sym, ap, subst, ◌∙◌, arith}
+use Rattle.nd_protocol.specs.declared.step.Step.{Step}
+use Rattle.nd_watch.specs.Breaks.{BreakMap}
+use Rattle.nd_watch.specs.declared.watch.Break.{Break}
+use Rattle.nd_timeline.specs.Timeline.{TimelineValue, cluster_of, extended}
+use Rattle.nd_timeline.specs.Moves.{MachineValue, ForwardMoves, BackMoves, RedoMoves, JumpMoves, Goes, HasRun, StopsAt, RunMoves, SetMoves, ClearMoves}
+use Rattle.nd_timeline.specs.Laws.{RepliesTellMachines}
+use Rattle.nd_timeline.specs.declared.command.Command.TheVariants as command
+use Rattle.nd_timeline.specs.declared.fault.Fault.TheVariants as fault
+use Rattle.nd_timeline.specs.declared.reply.Stop.{Stop}
+use Rattle.nd_timeline.specs.declared.reply.Stop.TheVariants as stop
+use Rattle.nd_timeline.specs.declared.reply.Reply.{Reply}
+use Rattle.nd_timeline.specs.declared.reply.Reply.TheVariants as reply
+use Rattle.nd_timeline.proofs.Choosing.{one_choice}
+
+module _ {A : Type 0} where
+  -- ---- the timeline, but for a run
+
+  one_forward : (m new other : TimelineValue A) (x : Step A) (r : Reply) → ForwardMoves m x r new → ForwardMoves m x r other → new ≡ other
+  one_forward m new other x (reply.Refused fault.TimelineFull) h k = h.1 ∙ sym k.1
+  one_forward m new other x (reply.Refused (fault.Step r)) h k = h.2 ∙ sym k.2
+  one_forward m new other x (reply.Refused (fault.Memory at)) h k = h.3 ∙ sym k.3
+  one_forward m new other x (reply.Moved at kept) h k = h.4 ∙ sym k.4
+  one_forward m new other x _ h k = absurd h
+
+  one_back : (m new other : TimelineValue A) (r : Reply) → BackMoves m r new → BackMoves m r other → new ≡ other
+  one_back m new other (reply.Refused fault.AtStart) h k = h.1 ∙ sym k.1
+  one_back m new other (reply.Refused (fault.Memory at)) h k = h.2 ∙ sym k.2
+  one_back m new other (reply.Moved at kept) h k = h.3 ∙ sym k.3
+  one_back m new other _ h k = absurd h
+
+  one_redo : (m new other : TimelineValue A) (r : Reply) → RedoMoves m r new → RedoMoves m r other → new ≡ other
+  one_redo m new other (reply.Refused fault.AtEnd) h k = h.1 ∙ sym k.1
+  one_redo m new other (reply.Refused (fault.Memory at)) h k = h.2 ∙ sym k.2
+  one_redo m new other (reply.Moved at kept) h k = h.3 ∙ sym k.3
+  one_redo m new other _ h k = absurd h
+
+  one_jump : (m new other : TimelineValue A) (n : ℕ) (r : Reply) → JumpMoves m n r new → JumpMoves m n r other → new ≡ other
+  one_jump m new other n (reply.Refused fault.NoSuchPoint) h k = h.1 ∙ sym k.1
+  one_jump m new other n (reply.Refused (fault.Memory at)) h k = h.2 ∙ sym k.2
+  one_jump m new other n (reply.Moved at kept) h k = h.3 ∙ sym k.3
+  one_jump m new other n _ h k = absurd h
+
+  -- ---- a run
+
+  one_step : (m l new other : TimelineValue A) (x y : Step A) → m ≡ l → Goes m x new → Goes l y other → new ≡ other
+  one_step m l new other x y same g h =
+      let k : Goes m y other = subst (λ (m : TimelineValue A). Goes m y other) (sym same) h in
+      g.made ∙ ap (extended m) (one_choice (cluster_of m) m.cursor x y g.chosen k.chosen) ∙ sym k.made
+
+  one_run : (breaks : BreakMap) (n : ℕ) (m new other : TimelineValue A) → HasRun breaks n m new → HasRun breaks n m other → new ≡ other
+  unfolding HasRun
+  one_run breaks zero m new other h k = h ∙ sym k
+  one_run breaks (suc n) m new other h k =
+      one_step h.mid k.mid new other h.step k.step (one_run breaks n m h.mid k.mid h.earlier k.earlier) h.last k.last
+
+  -- runs that have made as many steps
+  one_run_of : (breaks : BreakMap) (n c : ℕ) (m new other : TimelineValue A) → n ≡ c → HasRun breaks n m new → HasRun breaks c m other → new ≡ other
+  one_run_of breaks n c m new other same h k = one_run breaks n m new other h (subst (λ n. HasRun breaks n m other) (sym same) k)
+
+  one_stop : (breaks : BreakMap) (limit : ℕ) (m : TimelineValue A) (ran : ℕ) (why : Stop) (new other : TimelineValue A)
+      → StopsAt breaks limit m ran why new → StopsAt breaks limit m ran why other → new ≡ other
+  one_stop breaks limit m ran stop.Limit new other h k = one_run breaks ran m new other h.1 k.1
+  one_stop breaks limit m ran stop.Idle new other h k = one_run breaks ran m new other h.1 k.1
+  one_stop breaks limit m ran (stop.Break id) new other h k =
+      let count : h.before ≡ k.before = omega (arith, h.count, k.count) in
+      one_step h.mid k.mid new other h.step k.step (one_run_of breaks h.before k.before m h.mid k.mid count h.earlier k.earlier) h.last k.last
+
+  one_ran : (m new other : TimelineValue A) (limit : ℕ) (breaks : BreakMap) (r : Reply) → RunMoves m limit breaks r new → RunMoves m limit breaks r other → new ≡ other
+  one_ran m new other limit breaks (reply.Refused fault.TimelineFull) h k = h.1 ∙ sym k.1
+  one_ran m new other limit breaks (reply.Refused (fault.Memory at)) h k =
+      let count : h.1.0 ≡ k.1.0 = omega (arith, h.1.3, k.1.3) in
+      one_run_of breaks h.1.0 k.1.0 m new other count h.1.2 k.1.2
+  one_ran m new other limit breaks (reply.Ran at kept ran why) h k = one_stop breaks limit m ran why new other h.1 k.1
+  one_ran m new other limit breaks _ h k = absurd h
+
+-- ---- the breakpoints
+
+one_set : (m new other : BreakMap) (b : Break) (r : Reply) → SetMoves m b r new → SetMoves m b r other → new ≡ other
+one_set m new other b (reply.Refused fault.TooManyBreaks) h k = h.1 ∙ sym k.1
+one_set m new other b (reply.Set id) h k = h.1 ∙ sym k.1
+one_set m new other b _ h k = absurd h
+
+one_clear : (m new other : BreakMap) (id : ℕ) (r : Reply) → ClearMoves m id r new → ClearMoves m id r other → new ≡ other
+one_clear m new other id (reply.Refused fault.NoBreak) h k = h.1 ∙ sym k.1
+one_clear m new other id reply.Cleared h k = h.1 ∙ sym k.1
+one_clear m new other id _ h k = absurd h
+
+-- ---- the machine
+
+module _ {A : Type 0} where
+  one_machine : (new other : MachineValue A) → new.timeline ≡ other.timeline → new.breaks ≡ other.breaks → new ≡ other
+  one_machine new other timeline breaks = λ i. record { timeline = timeline i; breaks = breaks i }
+
+pub replies_tell : (A : Type 0) → RepliesTellMachines A
+replies_tell A m new other (command.Forward x) r h k =
+    one_machine new other (one_forward m.timeline new.timeline other.timeline x r h.0 k.0) (h.1 ∙ sym k.1)
+replies_tell A m new other command.Back r h k = one_machine new other (one_back m.timeline new.timeline other.timeline r h.0 k.0) (h.1 ∙ sym k.1)
+replies_tell A m new other command.Redo r h k = one_machine new other (one_redo m.timeline new.timeline other.timeline r h.0 k.0) (h.1 ∙ sym k.1)
+replies_tell A m new other (command.Jump n) r h k =
+    one_machine new other (one_jump m.timeline new.timeline other.timeline n r h.0 k.0) (h.1 ∙ sym k.1)
+replies_tell A m new other (command.Run limit) r h k =
+    one_machine new other (one_ran m.timeline new.timeline other.timeline limit m.breaks r h.0 k.0) (h.1 ∙ sym k.1)
+replies_tell A m new other (command.SetBreak b) r h k =
+    one_machine new other (h.1 ∙ sym k.1) (one_set m.breaks new.breaks other.breaks b r h.0 k.0)
+replies_tell A m new other (command.ClearBreak id) r h k =
+    one_machine new other (h.1 ∙ sym k.1) (one_clear m.breaks new.breaks other.breaks id r h.0 k.0)

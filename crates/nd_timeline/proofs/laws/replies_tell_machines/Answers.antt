@@ -1,0 +1,9 @@
+use Rattle.nd_timeline.proofs.Choosing.{one_choice}
+use Rattle.nd_timeline.proofs.Telling.{replies_tell}
+use Rattle.nd_timeline.proofs.laws.replies_tell_machines.Goals as goal
+
+pub returns-clause-choice : goal.returns-clause-choice
+returns-clause-choice g c = one_choice {A = g.row.A.Denot}
+
+pub returns-clause-machine : goal.returns-clause-machine
+returns-clause-machine g c = replies_tell g.row.A.Denot
