@@ -3,6 +3,8 @@
 #![tactic(auto)]
 
 #[cfg(test)]
+mod ends;
+#[cfg(test)]
 mod limits;
 #[cfg(test)]
 mod memory;
@@ -12,5 +14,7 @@ mod refusals;
 mod runs;
 #[cfg(test)]
 mod starts;
+#[cfg(test)]
+mod unasked;
 #[cfg(test)]
 mod walk;

@@ -2,6 +2,7 @@
 ghost use Rattle.std.specs.Prelude.{◌≡◌, All, IfSome};
 ghost use Rattle.nd_view.specs.Kept.{IsFor};
 
+use crate::memory::Heap;
 use nd_cluster::{Cluster, Next};
 use nd_delta::Delta;
 use nd_drawn::{LINE, LOOP, graph_of, point};
@@ -11,6 +12,7 @@ use nd_paths::Paths;
 use nd_processor::{Processor, ValueAt};
 use nd_told::{Told, is_state, make, start, step_of};
 use nd_view::View;
+use refusing::{Refusing, unasked};
 use std::alloc::{Allocator, Global};
 
 /// The greatest count and entry.
@@ -152,21 +154,27 @@ fn one<A: Allocator + Copy>(alloc: A, paths: &Paths<A>, view: View<A>) -> Option
     Some(views)
 }
 
-/// The cluster of one processor with what it holds, if that is a state.
-fn cluster_of<A: Allocator + Copy>(json: Global, alloc: A, row: &Row) -> Option<Cluster<A>> {
+/// The cluster of one processor with what it holds, if that is a state. It is made of its parts
+/// while no memory is given.
+fn cluster_of<A: Allocator + Copy>(
+    heap: &Heap,
+    json: Global,
+    alloc: A,
+    row: &Row,
+) -> Option<Cluster<A>> {
     let graph = graph_of(json, alloc, row.0)?;
     let paths = paths_of(alloc, &graph)?;
     let mut processors = Vec::new(alloc);
     processors.push(processor_of(alloc, &graph, &row.1)?).ok()?;
     let views = one(alloc, &paths, view_of(alloc, &paths, &row.2)?)?;
     let mesh = mesh_of(alloc, &graph, &row.2)?;
-    Cluster::of_parts(alloc, &graph, paths, processors, views, mesh)
+    unasked!(heap: Cluster::of_parts(alloc, &graph, paths, processors, views, mesh))
 }
 
 /// The number of the refusal of the row's step, 0 where it is made, and `None`
 /// where the parts are no state.
-fn number_of<A: Allocator + Copy>(json: Global, alloc: A, row: &Row) -> Option<u64> {
-    let mut cluster = cluster_of(json, alloc, row)?;
+fn number_of<A: Allocator + Copy>(heap: &Heap, json: Global, alloc: A, row: &Row) -> Option<u64> {
+    let mut cluster = cluster_of(heap, json, alloc, row)?;
     let step = step_of(alloc, cluster.graph(), &row.3)?;
     match cluster.plan(&step) {
         Ok(record) => {
@@ -271,14 +279,17 @@ static ROWS: [Row; 18] = [
 
 #[test]
 fn number_limits(rt: HostRuntime) {
+    let heap = Refusing::new(rt.alloc());
     for (i, row) in ROWS.iter().enumerate() {
-        assert_eq!(rt; number_of(rt.alloc(), rt.alloc(), row), row.4, "in row {i}");
+        let number = number_of(&heap, rt.alloc(), &heap, row);
+        assert_eq!(rt; number, row.4, "in row {i}");
     }
+    assert_eq!(rt; heap.live(), 0);
 }
 
 /// Whether the last epoch of an input is closed.
-fn closes<A: Allocator + Copy>(json: Global, alloc: A) -> Option<bool> {
-    let mut cluster = cluster_of(json, alloc, &ROWS[4])?;
+fn closes<A: Allocator + Copy>(heap: &Heap, json: Global, alloc: A) -> Option<bool> {
+    let mut cluster = cluster_of(heap, json, alloc, &ROWS[4])?;
     let step = step_of(alloc, cluster.graph(), &ROWS[4].3)?;
     make(&mut cluster, &step)?;
     Some(is_state(
@@ -291,7 +302,9 @@ fn closes<A: Allocator + Copy>(json: Global, alloc: A) -> Option<bool> {
 
 #[test]
 fn last_epoch_closes(rt: HostRuntime) {
-    assert_eq!(rt; closes(rt.alloc(), rt.alloc()), Some(true));
+    let heap = Refusing::new(rt.alloc());
+    assert_eq!(rt; closes(&heap, rt.alloc(), &heap), Some(true));
+    assert_eq!(rt; heap.live(), 0);
 }
 
 /// Whether a start has no step that may be chosen, whoever's turn it is.

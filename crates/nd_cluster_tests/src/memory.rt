@@ -8,7 +8,7 @@ use refusing::{MANY, Refusing, in_turn, was_refused};
 use std::alloc::{AllocError, Allocator, Global};
 
 /// The allocator of these tests.
-type Heap = Refusing<Global>;
+pub type Heap = Refusing<Global>;
 
 /// Runs of whose last step memory is refused.
 static RUNS: [Script; 7] = [

@@ -117,7 +117,7 @@ const CLOSED: Script = (
 );
 
 /// Makes a step, undoes it and makes it again: whether the states are what they were each time.
-fn goes_and_comes_back<A: Allocator + Copy>(
+pub fn goes_and_comes_back<A: Allocator + Copy>(
     json: Global,
     cluster: &mut Cluster<A>,
     step: &Step<A>,

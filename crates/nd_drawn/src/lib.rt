@@ -114,6 +114,37 @@ pub const DEEP: &str = graph_text!(
     sz: s 0 -> z local
 );
 
+// A line of 32 vertices, with an edge more from one of them to the last: 64 locations.
+macro_rules! long_text {
+    ($from:ident) => {
+        graph_text!(
+            v0 input 0, v1 add 0 k 0, v2 add 0 k 0, v3 add 0 k 0, v4 add 0 k 0, v5 add 0 k 0,
+            v6 add 0 k 0, v7 add 0 k 0, v8 add 0 k 0, v9 add 0 k 0, v10 add 0 k 0, v11 add 0 k 0,
+            v12 add 0 k 0, v13 add 0 k 0, v14 add 0 k 0, v15 add 0 k 0, v16 add 0 k 0, v17 add 0 k 0,
+            v18 add 0 k 0, v19 add 0 k 0, v20 add 0 k 0, v21 add 0 k 0, v22 add 0 k 0, v23 add 0 k 0,
+            v24 add 0 k 0, v25 add 0 k 0, v26 add 0 k 0, v27 add 0 k 0, v28 add 0 k 0, v29 add 0 k 0,
+            v30 add 0 k 0, v31 add 0 k 0;
+            e1: v0 0 -> v1 local, e2: v1 0 -> v2 local, e3: v2 0 -> v3 local, e4: v3 0 -> v4 local,
+            e5: v4 0 -> v5 local, e6: v5 0 -> v6 local, e7: v6 0 -> v7 local, e8: v7 0 -> v8 local,
+            e9: v8 0 -> v9 local, e10: v9 0 -> v10 local, e11: v10 0 -> v11 local,
+            e12: v11 0 -> v12 local, e13: v12 0 -> v13 local, e14: v13 0 -> v14 local,
+            e15: v14 0 -> v15 local, e16: v15 0 -> v16 local, e17: v16 0 -> v17 local,
+            e18: v17 0 -> v18 local, e19: v18 0 -> v19 local, e20: v19 0 -> v20 local,
+            e21: v20 0 -> v21 local, e22: v21 0 -> v22 local, e23: v22 0 -> v23 local,
+            e24: v23 0 -> v24 local, e25: v24 0 -> v25 local, e26: v25 0 -> v26 local,
+            e27: v26 0 -> v27 local, e28: v27 0 -> v28 local, e29: v28 0 -> v29 local,
+            e30: v29 0 -> v30 local, e31: v30 0 -> v31 local,
+            e: $from 0 -> v31 exchange
+        )
+    };
+}
+
+/// A line of 64 locations.
+pub const LONG: &str = long_text!(v30);
+
+/// A line of 64 locations whose last vertex is in a loop that goes through no feedback.
+pub const LONG_LOOP: &str = long_text!(v31);
+
 /// The graph of a JSON text.
 pub fn graph_of<A: Allocator + Copy>(json: Global, alloc: A, text: &str) -> Option<Graph<A>> {
     let value = Value::from_str(json, text).ok()?;

@@ -14,7 +14,7 @@ use refusing::{Refusing, in_turn};
 use std::alloc::{AllocError, Allocator, Global};
 
 /// The record of 7 on an edge of *distinct*, at epoch 0.
-fn record<A: Allocator + Copy>(graph: &Graph<A>) -> Option<ValueAt> {
+pub fn record<A: Allocator + Copy>(graph: &Graph<A>) -> Option<ValueAt> {
     Some(ValueAt {
         point: point(graph, "ad", &[0])?,
         value: 7,
@@ -46,7 +46,7 @@ fn holds_requests<A: Allocator + Copy>(
 }
 
 /// Moves the token of the first vertex from where it is.
-fn move_token<A: Allocator + Copy>(
+pub fn move_token<A: Allocator + Copy>(
     processor: &mut Processor<A>,
     new: Option<u32>,
 ) -> Result<(), AllocError> {
@@ -70,7 +70,7 @@ fn holds_tokens<A: Allocator + Copy>(
 
 /// Gives the item 7 of the second vertex a number at epoch 0. `None` where that is 0, or there is no
 /// such vertex.
-fn set_item<A: Allocator + Copy>(
+pub fn set_item<A: Allocator + Copy>(
     processor: &mut Processor<A>,
     new: Option<i64>,
 ) -> Option<Result<(), AllocError>> {
@@ -83,7 +83,7 @@ fn set_item<A: Allocator + Copy>(
 }
 
 /// The number of that item.
-fn item<A: Allocator + Copy>(processor: &Processor<A>) -> Option<i64> {
+pub fn item<A: Allocator + Copy>(processor: &Processor<A>) -> Option<i64> {
     if processor.vertex_count() < 2 {
         return None;
     }
@@ -116,8 +116,23 @@ fn holds_sinks<A: Allocator + Copy>(processor: &mut Processor<A>) -> Option<bool
     )
 }
 
+/// Takes the unsent entries at these points out and puts them back: whether all is as it was.
 #[tactic(auto, using(crate::proofs::Parts::is_part, crate::proofs::Parts::is_apart))]
-fn holds_unsent<A: Allocator + Copy>(
+pub fn part_returns<A: Allocator + Copy>(
+    processor: &mut Processor<A>,
+    alloc: A,
+    points: &[Pointstamp],
+) -> Option<bool> {
+    let part = processor.unsent().part(alloc, points).ok()?;
+    let before = processor.unsent().copy(alloc).ok()?;
+    processor.take_part(&part);
+    processor.put_part(&part).ok()?;
+    Some(processor.unsent().entries() == before.entries())
+}
+
+/// Whether what is unsent holds two entries, one of them taken out and put back.
+#[tactic(auto, using(crate::proofs::Parts::is_part, crate::proofs::Parts::is_apart))]
+pub fn holds_unsent<A: Allocator + Copy>(
     processor: &mut Processor<A>,
     alloc: A,
     graph: &Graph<A>,

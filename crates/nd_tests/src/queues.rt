@@ -8,7 +8,8 @@ use refusing::{Refusing, in_turn};
 use std::alloc::{AllocError, Allocator, Global};
 use std::test::Fail;
 
-fn push<A: Allocator + Copy>(
+/// Puts a change into each queue from a processor, `None` where there is no such one.
+pub fn push<A: Allocator + Copy>(
     mesh: &mut Mesh<A>,
     from: usize,
     change: &Delta<A>,
@@ -20,8 +21,8 @@ fn push<A: Allocator + Copy>(
     }
 }
 
-// Whether each queue of the sender had a change to take back.
-fn unpush<A: Allocator + Copy>(mesh: &mut Mesh<A>, from: usize) -> Option<bool> {
+/// Whether each queue of the sender had a change to take back.
+pub fn unpush<A: Allocator + Copy>(mesh: &mut Mesh<A>, from: usize) -> Option<bool> {
     if from < mesh.n() {
         Some(mesh.unpush_all(from).is_ok())
     } else {
@@ -29,7 +30,8 @@ fn unpush<A: Allocator + Copy>(mesh: &mut Mesh<A>, from: usize) -> Option<bool> 
     }
 }
 
-fn pop<A: Allocator + Copy>(mesh: &mut Mesh<A>, from: usize, to: usize) -> Option<Delta<A>> {
+/// Takes the oldest change out of a queue, where there is one.
+pub fn pop<A: Allocator + Copy>(mesh: &mut Mesh<A>, from: usize, to: usize) -> Option<Delta<A>> {
     if from < mesh.n() && to < mesh.n() {
         mesh.pop(from, to).ok()
     } else {
@@ -37,7 +39,8 @@ fn pop<A: Allocator + Copy>(mesh: &mut Mesh<A>, from: usize, to: usize) -> Optio
     }
 }
 
-fn unpop<A: Allocator + Copy>(
+/// Puts a change at the front of a queue, `None` where there is no such one.
+pub fn unpop<A: Allocator + Copy>(
     mesh: &mut Mesh<A>,
     from: usize,
     to: usize,
@@ -52,7 +55,8 @@ fn unpop<A: Allocator + Copy>(
     }
 }
 
-fn len<A: Allocator + Copy>(mesh: &Mesh<A>, from: usize, to: usize) -> Option<usize> {
+/// How many changes a queue has.
+pub fn len<A: Allocator + Copy>(mesh: &Mesh<A>, from: usize, to: usize) -> Option<usize> {
     if from < mesh.n() && to < mesh.n() {
         Some(mesh.len(from, to))
     } else {
@@ -60,8 +64,8 @@ fn len<A: Allocator + Copy>(mesh: &Mesh<A>, from: usize, to: usize) -> Option<us
     }
 }
 
-// Whether the change at a place of a queue is this one.
-fn is_at<A: Allocator + Copy>(
+/// Whether the change at a place of a queue is this one.
+pub fn is_at<A: Allocator + Copy>(
     mesh: &Mesh<A>,
     from: usize,
     to: usize,

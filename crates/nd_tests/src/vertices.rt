@@ -194,7 +194,7 @@ static NOTICES: [Case; 4] = [
 ];
 
 /// Gives an item a number.
-fn set<A: Allocator + Copy>(
+pub fn set<A: Allocator + Copy>(
     state: &mut VertexState<A>,
     time: &Timestamp,
     item: i64,
@@ -293,7 +293,7 @@ fn is_edited<A: Allocator + Copy>(state: &VertexState<A>, edits: &[ItemEdit]) ->
 }
 
 /// Makes the edits of an effect and takes them back: whether the items are as they should be.
-fn goes_and_comes_back<A: Allocator + Copy>(
+pub fn goes_and_comes_back<A: Allocator + Copy>(
     alloc: A,
     state: &mut VertexState<A>,
     effect: &Effect<A>,
@@ -425,13 +425,19 @@ fn revert<A: Allocator + Copy>(
     None
 }
 
-/// What a vertex keeps that has so many items of epoch 0: 12 are more than one node of a tree holds.
-fn many<A: Allocator + Copy>(alloc: A, count: i64) -> Option<VertexState<A>> {
-    let mut state = VertexState::new(alloc);
+/// Gives the items of epoch 0 below so many the number 1.
+pub fn add_items<A: Allocator + Copy>(state: &mut VertexState<A>, count: i64) -> Option<()> {
     let time = time(&[0])?;
     for item in 0..count {
-        set(&mut state, &time, item, 1)?.ok()?;
+        set(state, &time, item, 1)?.ok()?;
     }
+    Some(())
+}
+
+/// What a vertex keeps that has so many items of epoch 0: 12 are more than one node of a tree holds.
+pub fn many<A: Allocator + Copy>(alloc: A, count: i64) -> Option<VertexState<A>> {
+    let mut state = VertexState::new(alloc);
+    add_items(&mut state, count)?;
     Some(state)
 }
 

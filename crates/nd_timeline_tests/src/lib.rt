@@ -6,4 +6,6 @@ mod memory;
 #[cfg(test)]
 mod moves;
 #[cfg(test)]
+mod unasked;
+#[cfg(test)]
 mod watch;

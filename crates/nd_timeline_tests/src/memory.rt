@@ -9,7 +9,7 @@ use refusing::{MANY, Refusing, in_turn, was_refused};
 use std::alloc::{AllocError, Allocator, Global};
 
 /// The allocator of these tests.
-type Heap = Refusing<Global>;
+pub type Heap = Refusing<Global>;
 
 /// Ten feeds of nothing.
 static TEN: Script = (
@@ -30,10 +30,10 @@ static TEN: Script = (
 );
 
 /// A record that a run takes, broadcasts and receives.
-static ONE: Script = (LINE, 1, &[Told::Feed(0, "a", &[5], Next::Close)]);
+pub static ONE: Script = (LINE, 1, &[Told::Feed(0, "a", &[5], Next::Close)]);
 
 /// What a run makes of it.
-static ALL: Script = (
+pub static ALL: Script = (
     LINE,
     1,
     &[
@@ -45,7 +45,7 @@ static ALL: Script = (
 );
 
 /// The timeline that keeps the steps of a script.
-fn kept<A: Allocator + Copy>(json: Global, alloc: A, script: &Script) -> Option<Timeline<A>> {
+pub fn kept<A: Allocator + Copy>(json: Global, alloc: A, script: &Script) -> Option<Timeline<A>> {
     let (text, n, steps) = script;
     let mut timeline = Timeline::new(alloc, start(json, alloc, text, *n)?).ok()?;
     for told in *steps {

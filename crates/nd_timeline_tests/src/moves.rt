@@ -10,7 +10,7 @@ use std::alloc::{Allocator, Global};
 use std::test::Fail;
 
 /// A timeline on a line that keeps so many feeds of nothing.
-fn fed<A: Allocator + Copy>(json: Global, alloc: A, times: usize) -> Option<Timeline<A>> {
+pub fn fed<A: Allocator + Copy>(json: Global, alloc: A, times: usize) -> Option<Timeline<A>> {
     let mut timeline = Timeline::new(alloc, start(json, alloc, LINE, 1)?).ok()?;
     for _ in 0..times {
         timeline.forward(&nothing(alloc, &timeline)?).ok()?;

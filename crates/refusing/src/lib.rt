@@ -127,3 +127,18 @@ macro_rules! in_turn {
         }
     };
 }
+
+/// What is answered while each request for memory is refused.
+///
+/// A request that is made all the same is answered with `None`, in a function that answers an option.
+#[macro_export]
+macro_rules! unasked {
+    ($heap:ident: $answer:expr) => {{
+        $heap.refuse(0);
+        let answer = $answer;
+        if $heap.relent(0) {
+            return None;
+        }
+        answer
+    }};
+}

@@ -1,0 +1,207 @@
+//! Calls that take no memory, made while none is given.
+
+ghost use Rattle.nd_processor.specs.Edits.{IsPartOf};
+ghost use Rattle.nd_view.specs.Kept.{IsFor};
+
+use crate::kinds::{KINDS, Kind};
+use crate::processors::{item, move_token, record, set_item};
+use crate::queues::{is_at, len, pop, push, unpush};
+use crate::refusals::Heap;
+use crate::vertices::{many, set};
+use crate::views::view;
+use nd_delta::Delta;
+use nd_drawn::{DISTINCT, LINE, are_entries, change, graph_of, paths_of, point, time};
+use nd_graph::Graph;
+use nd_mesh::Mesh;
+use nd_paths::Paths;
+use nd_processor::{Processor, ValueAt};
+use nd_time::Timestamp;
+use nd_vertex::VertexState;
+use nd_view::View;
+use refusing::{Refusing, unasked};
+use std::alloc::{Allocator, Global};
+
+/// Whether a change of -1 at a and 2 at z tells them, and takes what is added to a.
+fn change_tells<A: Allocator + Copy>(paths: &Paths<A>, change: &mut Delta<A>) -> Option<bool> {
+    let graph = paths.graph();
+    let (a, az) = (point(graph, "a", &[0])?, point(graph, "az", &[0])?);
+    let is_told = (change.get(&a), change.get(&az), change.len()) == (-1, 0, 2)
+        && are_entries(graph, change.entries(), &[("a", 0, -1), ("z", 0, 2)])
+        && change.unsupported(paths).is_none();
+    change.add(&a, 2).ok()?;
+    let is_more = change.unsupported(paths).is_some_and(|point| point == a)
+        && change.unsupported_by(paths, &[az.copy()]).is_some();
+    change.add(&a, -1).ok()?;
+    change.add(&az, 0).ok()?;
+    Some(is_told && is_more && are_entries(graph, change.entries(), &[("z", 0, 2)]))
+}
+
+fn changes_tell<A: Allocator + Copy>(heap: &Heap, alloc: A, json: Global) -> Option<bool> {
+    let paths = paths_of(json, alloc, LINE)?;
+    let mut change = change(alloc, paths.graph(), &[("a", 0, -1), ("z", 0, 2)])?;
+    let is_told = unasked!(heap: change_tells(&paths, &mut change)?);
+    let part = unasked!(heap: change.part(alloc, &[]).ok()?);
+    Some(is_told && part.len() == 0)
+}
+
+/// Whether a view of 3 at a and -1 at az tells what it holds.
+fn view_tells<A: Allocator + Copy>(paths: &Paths<A>, view: &View<A>) -> Option<bool>
+    requires { IsFor paths.now view.now }
+{
+    let graph = paths.graph();
+    let (a, z) = (point(graph, "a", &[0])?, point(graph, "z", &[0])?);
+    Some(
+        view.get(&a) == 3
+            && are_entries(graph, view.entries(), &[("a", 0, 3), ("az", 0, -1)])
+            && !view.passed(paths, &z)
+            && view.blocker(paths, &z).is_some_and(|point| point == a)
+            && view.blocker_before(paths, &a).is_none()
+            && view.precursors(paths, &z) == 1
+            && (view.kept(&a), view.kept(&z)) == (Some(0), None),
+    )
+}
+
+fn views_tell<A: Allocator + Copy>(heap: &Heap, alloc: A, json: Global) -> Option<bool> {
+    let paths = paths_of(json, alloc, LINE)?;
+    let held = view(alloc, &paths, &[("a", 0, 3), ("az", 0, -1)])?;
+    let is_told = unasked!(heap: view_tells(&paths, &held)?);
+    let less = view(alloc, &paths, &[("a", 0, -1)])?;
+    let frontier = unasked!(heap: less.frontier(alloc, &paths).ok()?);
+    Some(is_told && frontier.len() == 0)
+}
+
+/// Gives items from 0 on other numbers, and then takes them out: how many are left.
+fn left_of<A: Allocator + Copy>(
+    state: &mut VertexState<A>,
+    time: &Timestamp,
+    count: i64,
+) -> Option<usize> {
+    for item in 0..count {
+        set(state, time, item, 2)?.ok()?;
+        if state.get(time, item) != Some(2) {
+            return None;
+        }
+    }
+    for item in 0..count {
+        let old = state.get(time, item);
+        state.set(time, item, old, None).ok()?;
+    }
+    Some(state.entries().count())
+}
+
+fn vertices_tell<A: Allocator + Copy>(heap: &Heap, alloc: A) -> Option<bool> {
+    let mut state = many(alloc, 100)?;
+    let time = time(&[0])?;
+    let left = unasked!(heap: left_of(&mut state, &time, 100)?);
+    Some(left == 0)
+}
+
+/// Whether two queues from 1, each with one change twice, give it back from both ends.
+fn queues_give<A: Allocator + Copy>(mesh: &mut Mesh<A>, change: &Delta<A>) -> Option<bool> {
+    let is_there = mesh.n() == 2 && len(mesh, 1, 0) == Some(2) && is_at(mesh, 1, 0, 1, change);
+    let is_oldest = pop(mesh, 1, 0)?.entries() == change.entries();
+    let is_newest = unpush(mesh, 1)?;
+    let is_empty = !unpush(mesh, 1)? && pop(mesh, 1, 0).is_none();
+    Some(is_there && is_oldest && is_newest && is_empty && len(mesh, 1, 1) == Some(1))
+}
+
+fn queues_tell<A: Allocator + Copy>(heap: &Heap, alloc: A, json: Global) -> Option<bool> {
+    let graph = graph_of(json, alloc, LINE)?;
+    let change = change(alloc, &graph, &[("a", 0, 1), ("z", 0, 1)])?;
+    let mut mesh = Mesh::new(alloc, 2).ok()?;
+    for _ in 0..2 {
+        push(&mut mesh, 1, &change)?.ok()?;
+    }
+    Some(unasked!(heap: queues_give(&mut mesh, &change)?))
+}
+
+/// Adds a record, a request, an item, a count of a sink and an unsent entry, and moves the token.
+fn adds<A: Allocator + Copy>(processor: &mut Processor<A>, key: &ValueAt) -> Option<()> {
+    processor.add_records(key, 1).ok()?;
+    processor.add_request(&key.point).ok()?;
+    set_item(processor, Some(3))?.ok()?;
+    processor.add_sink(2, 7, 1).ok()?;
+    processor.add_unsent(&key.point, -1).ok()?;
+    move_token(processor, Some(1)).ok()
+}
+
+/// A processor with a record, a request, an item, a count of a sink and two unsent entries.
+fn holding<A: Allocator + Copy>(alloc: A, graph: &Graph<A>, key: &ValueAt) -> Option<Processor<A>> {
+    let mut processor = Processor::start(alloc, graph).ok()?;
+    adds(&mut processor, key)?;
+    processor.add_unsent(&point(graph, "z", &[0])?, 2).ok()?;
+    Some(processor)
+}
+
+/// Whether a processor tells that it holds these, of records and counts two.
+fn processor_tells<A: Allocator + Copy>(processor: &Processor<A>, key: &ValueAt) -> bool {
+    processor.first_record() == Some((key, 2))
+        && processor.records().count() == 1
+        && processor.has_request(&key.point)
+        && processor.first_request() == Some(&key.point)
+        && processor.requests().count() == 1
+        && processor.token(0) == Some(1)
+        && processor.tokens().len() == 1
+        && processor.vertex_count() == 3
+        && item(processor) == Some(3)
+        && processor.sinks().count() == 1
+        && processor.unsent().len() == 2
+}
+
+/// Takes all of it: whether nothing is left but an entry of what is unsent.
+fn gives_up<A: Allocator + Copy>(
+    processor: &mut Processor<A>,
+    key: &ValueAt,
+    part: &Delta<A>,
+) -> Option<bool>
+    requires { IsPartOf part.now processor.old.unsent }
+{
+    processor.take_part(part);
+    if processor.count_of(key) != 2 || processor.sink_count(2, 7) != 2 {
+        return None;
+    }
+    processor.take_records(key, 2);
+    processor.take_sink(2, 7, 2);
+    processor.drop_request(&key.point);
+    set_item(processor, None)?.ok()?;
+    Some(
+        processor.first_record().is_none()
+            && processor.first_request().is_none()
+            && processor.sinks().next().is_none()
+            && item(processor).is_none()
+            && processor.unsent().len() == 1,
+    )
+}
+
+#[tactic(auto, using(crate::proofs::Parts::is_part))]
+fn processors_tell<A: Allocator + Copy>(heap: &Heap, alloc: A, json: Global) -> Option<bool> {
+    let graph = graph_of(json, alloc, DISTINCT)?;
+    let key = record(&graph)?;
+    let mut processor = holding(alloc, &graph, &key)?;
+    unasked!(heap: adds(&mut processor, &key)?);
+    let is_told = unasked!(heap: processor_tells(&processor, &key));
+    let part = processor.unsent().part(alloc, &[key.point.copy()]).ok()?;
+    let is_given = unasked!(heap: gives_up(&mut processor, &key, &part)?);
+    Some(is_told && is_given)
+}
+
+/// Whether the calls of a kind that take no memory answer as they should while none is given.
+fn answers<A: Allocator + Copy>(heap: &Heap, alloc: A, json: Global, kind: Kind) -> Option<bool> {
+    match kind {
+        Kind::Changes => changes_tell(heap, alloc, json),
+        Kind::Views => views_tell(heap, alloc, json),
+        Kind::Vertices => vertices_tell(heap, alloc),
+        Kind::Queues => queues_tell(heap, alloc, json),
+        Kind::Processors => processors_tell(heap, alloc, json),
+    }
+}
+
+#[test]
+fn calls_that_take_none(rt: HostRuntime) {
+    let heap = Refusing::new(rt.alloc());
+    for kind in KINDS {
+        let answers = answers(&heap, &heap, rt.alloc(), kind);
+        assert_eq!(rt; answers, Some(true), "of {kind:?}");
+        assert_eq!(rt; heap.live(), 0, "of {kind:?}");
+    }
+}
