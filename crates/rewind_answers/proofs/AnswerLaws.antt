@@ -1,5 +1,5 @@
 -- How a graph's value and a command's value are answered.
-use Rattle.std.proofs.Common.{◌≡◌, ◌≢◌, ℕ, List, [], ◌∷◌, Option, Some, None, Result, Ok, Err, IfOk, refl, sym, ap, subst, ◌∙◌, inl, inr}
+use Rattle.std.proofs.Common.{◌≡◌, ◌≢◌, ℕ, ◌+◌, List, [], ◌∷◌, Option, Some, None, Result, Ok, Err, IfOk, refl, sym, ap, subst, ◌∙◌, inl, inr}
 use Rattle.std.specs.Prelude.{◌<◌, length, slice_get}
 use Rattle.std.specs.Option.{ok_or, option_to_list}
 use Rattle.std.specs.declared.alloc.AllocError.{AllocError}
@@ -13,7 +13,7 @@ use Rattle.nd_graph.specs.Fault.{IsUnlessMemory}
 use Rattle.nd_graph.specs.declared.fault.GraphFault.{GraphFault}
 use Rattle.nd_graph.specs.declared.fault.GraphFault.TheVariants.{Shape, Memory}
 use Rattle.rewind_forms.specs.Asked.{asked_of}
-use Rattle.rewind_forms.specs.Replies.{location_fault, line_fault, frontier}
+use Rattle.rewind_forms.specs.Replies.{location_fault, line_fault, frontier, reply_data}
 use Rattle.nd_delta.specs.Change.{Change, entries}
 use Rattle.nd_view.specs.View.{IsOnFrontier, IsPartWhere}
 use Rattle.nd_protocol.specs.State.{ClusterState, view as view_in}
@@ -23,8 +23,13 @@ use Rattle.nd_cluster.specs.declared.start.StartFault.TheVariants as start_fault
 use Rattle.rewind_forms.specs.declared.asked.Asked.{Asked}
 use Rattle.rewind_forms.specs.declared.fault.LineFault.{LineFault}
 use Rattle.rewind_forms.specs.declared.fault.LineFault.TheVariants as line
+use Rattle.std.specs.declared.alloc.Global.{Global}
+use Rattle.nd_time.specs.Limits.{max_log}
 use Rattle.nd_timeline.specs.Timeline.{cluster_of}
-use Rattle.rewind_answers.specs.Answers.{Logged, running, refused, StartReplies, not_strict, graph_of, graph_of_draft, AskedReply, FormReplies, LineReplies, FrontierReply}
+use Rattle.nd_timeline.specs.Moves.{Moves}
+use Rattle.nd_timeline.specs.declared.command.Command.{Command}
+use Rattle.nd_timeline.specs.declared.reply.Reply.{Reply}
+use Rattle.rewind_answers.specs.Answers.{Logged, running, refused, StartReplies, not_strict, graph_of, graph_of_draft, AskedReply, CommandReply, moved, FormReplies, LineReplies, FrontierReply}
 
 -- a value that is no draft
 pub graph_of-refused : (d : Data) (e : GraphFault) → IsUnlessMemory (ok_or (draft_of d) Shape) (Err e) → IsUnlessMemory (graph_of d) (Err e)
@@ -57,6 +62,12 @@ pub asked_replies : (m : Logged) (n : ℕ) (d : Data) (asked : Asked) (r : Resul
     → IfOk r (λ v. AskedReply m asked (view v) new) → IfOk r (λ v. LineReplies m n d (view v ∷ []) (running new))
 asked_replies m n d asked (Ok v) new is h = subst (λ (o : Result Asked LineFault). FormReplies m n o (view v ∷ []) (running new)) (sym is) (view v, new, h, refl, refl)
 asked_replies m n d asked (Err e) new is h = h
+
+-- a command that the machine was moved by
+pub moved_replies : (m new : Logged) (asked : Command Global) (answer : Reply) (g : Dataflow) (r : Result Value AllocError) → m.entries ≢ max_log → Moves m.machine asked answer new.machine
+    → new.entries ≡ m.entries + 1 → g ≡ (cluster_of new.machine.timeline).graph → IfOk r (λ v. view v ≡ reply_data g answer) → IfOk r (λ v. CommandReply m asked (view v) new)
+moved_replies m new asked answer g (Ok v) room move count same told = moved answer room move count (told ∙ ap (λ h. reply_data h answer) same)
+moved_replies m new asked answer g (Err x) room move count same told = told
 
 no_memory : (e : LineFault) (n : ℕ) (x : Data) → Some x ≡ line_fault e n → e ≢ line.Memory
 no_memory e n x told memory = absurd (cc (ap (λ f. line_fault f n) memory))
