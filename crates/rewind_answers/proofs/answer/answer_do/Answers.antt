@@ -1,4 +1,4 @@
-use Rattle.std.proofs.Common.{◌≡◌, ◌∙◌, ◌∷◌, [], ap, length-append}
+use Rattle.std.proofs.Common.{◌∙◌, ◌∷◌, [], ap, length-append}
 use Rattle.rewind_answers.specs.Stages.{logged}
 use Rattle.rewind_answers.proofs.AnswerLaws.{moved_replies}
 use Rattle.rewind_answers.proofs.answer.answer_do.Goals as goal
