@@ -1,5 +1,5 @@
 -- How a graph's value and a command's value are answered.
-use Rattle.std.proofs.Common.{◌≡◌, ◌≢◌, ℕ, List, [], ◌∷◌, Option, Some, None, Result, Ok, Err, IfOk, refl, sym, ap, subst, ◌∙◌, inl, inr}
+use Rattle.std.proofs.Common.{◌≡◌, ◌≢◌, ℕ, ◌+◌, List, [], ◌∷◌, Option, Some, None, Result, Ok, Err, IfOk, refl, sym, ap, subst, ◌∙◌, inl, inr}
 use Rattle.std.specs.Prelude.{◌<◌, length, slice_get}
 use Rattle.std.specs.Option.{ok_or, option_to_list}
 use Rattle.std.specs.declared.alloc.AllocError.{AllocError}
@@ -13,7 +13,7 @@ use Rattle.nd_graph.specs.Fault.{IsUnlessMemory}
 use Rattle.nd_graph.specs.declared.fault.GraphFault.{GraphFault}
 use Rattle.nd_graph.specs.declared.fault.GraphFault.TheVariants.{Shape, Memory}
 use Rattle.rewind_forms.specs.Asked.{asked_of}
-use Rattle.rewind_forms.specs.Replies.{location_fault, line_fault, frontier}
+use Rattle.rewind_forms.specs.Replies.{found as found_data, location_fault, line_fault, frontier, reply_data}
 use Rattle.nd_delta.specs.Change.{Change, entries}
 use Rattle.nd_view.specs.View.{IsOnFrontier, IsPartWhere}
 use Rattle.nd_protocol.specs.State.{ClusterState, view as view_in}
@@ -23,8 +23,19 @@ use Rattle.nd_cluster.specs.declared.start.StartFault.TheVariants as start_fault
 use Rattle.rewind_forms.specs.declared.asked.Asked.{Asked}
 use Rattle.rewind_forms.specs.declared.fault.LineFault.{LineFault}
 use Rattle.rewind_forms.specs.declared.fault.LineFault.TheVariants as line
-use Rattle.nd_timeline.specs.Timeline.{cluster_of}
-use Rattle.rewind_answers.specs.Answers.{Logged, running, refused, StartReplies, not_strict, graph_of, graph_of_draft, AskedReply, FormReplies, LineReplies, FrontierReply}
+use Rattle.std.specs.declared.alloc.Global.{Global}
+use Rattle.nd_time.specs.Limits.{max_log}
+use Rattle.nd_watch.specs.declared.watch.Break.{Break}
+use Rattle.nd_timeline.specs.Timeline.{TimelineValue, cluster_of}
+use Rattle.nd_search.specs.Least.{HoldsAt, IsLeast as IsLeastHit}
+use Rattle.nd_search.specs.Answers.{MaySearch, SearchFails}
+use Rattle.nd_search.specs.declared.fault.SearchFault.{SearchFault}
+use Rattle.rewind_forms.specs.declared.queries.Query.{Query}
+use Rattle.rewind_forms.specs.declared.queries.Query.TheVariants.{Frontier}
+use Rattle.nd_timeline.specs.Moves.{Moves}
+use Rattle.nd_timeline.specs.declared.command.Command.{Command}
+use Rattle.nd_timeline.specs.declared.reply.Reply.{Reply}
+use Rattle.rewind_answers.specs.Answers.{Logged, running, refused, StartReplies, not_strict, graph_of, graph_of_draft, AskedReply, CommandReply, moved, FormReplies, LineReplies, FrontierReply, QueryReply, SearchReply, searched, unanswered, search_fault}
 
 -- a value that is no draft
 pub graph_of-refused : (d : Data) (e : GraphFault) → IsUnlessMemory (ok_or (draft_of d) Shape) (Err e) → IsUnlessMemory (graph_of d) (Err e)
@@ -58,6 +69,12 @@ pub asked_replies : (m : Logged) (n : ℕ) (d : Data) (asked : Asked) (r : Resul
 asked_replies m n d asked (Ok v) new is h = subst (λ (o : Result Asked LineFault). FormReplies m n o (view v ∷ []) (running new)) (sym is) (view v, new, h, refl, refl)
 asked_replies m n d asked (Err e) new is h = h
 
+-- a command that the machine was moved by
+pub moved_replies : (m new : Logged) (asked : Command Global) (answer : Reply) (g : Dataflow) (r : Result Value AllocError) → m.entries ≢ max_log → Moves m.machine asked answer new.machine
+    → new.entries ≡ m.entries + 1 → g ≡ (cluster_of new.machine.timeline).graph → IfOk r (λ v. view v ≡ reply_data g answer) → IfOk r (λ v. CommandReply m asked (view v) new)
+moved_replies m new asked answer g (Ok v) room move count same told = moved answer room move count (told ∙ ap (λ h. reply_data h answer) same)
+moved_replies m new asked answer g (Err x) room move count same told = told
+
 no_memory : (e : LineFault) (n : ℕ) (x : Data) → Some x ≡ line_fault e n → e ≢ line.Memory
 no_memory e n x told memory = absurd (cc (ap (λ f. line_fault f n) memory))
 
@@ -76,6 +93,27 @@ frontier_replies s q g v f d (Ok w) there graph is part shown reply =
     let same : IsPartWhere (IsOnFrontier g (view_in s q)) (view_in s q) f = subst (λ (u : Change). IsPartWhere (IsOnFrontier g u) u f) is part in
     inr (there, (f, subst (λ (h : Dataflow). IsPartWhere (IsOnFrontier h (view_in s q)) (view_in s q) f) graph same, reply ∙ ap frontier shown))
 frontier_replies s q g v f d (Err e) there graph is part shown reply = reply
+
+-- the frontier of the cluster at the cursor
+pub frontier_query : (m : TimelineValue Global) (s : ClusterState) (q : ℕ) (query : Query) (r : Result Value AllocError) → s ≡ cluster_of m → query ≡ Frontier q
+    → IfOk r (λ v. FrontierReply s q (view v)) → IfOk r (λ v. QueryReply m query (view v))
+frontier_query m s q query (Ok v) same is reply =
+    subst (λ (x : Query). QueryReply m x (view v)) (sym is) (subst (λ (u : ClusterState). FrontierReply u q (view v)) same reply)
+frontier_query m s q query (Err x) same is reply = reply
+
+-- ---- searches, of the timeline of a snapshot
+
+pub found_replies : (m t : TimelineValue Global) (when : Break) (lo hi workers : ℕ) (least : Option ℕ) (r : Result Value AllocError) → t ≡ m → MaySearch (length t.kept) lo hi workers
+    → IsLeastHit (HoldsAt t when) lo hi least → IfOk r (λ v. view v ≡ found_data least) → IfOk r (λ v. SearchReply m when lo hi workers (view v))
+found_replies m t when lo hi workers least (Ok v) same may hit told =
+    searched least (subst (λ (u : TimelineValue Global). MaySearch (length u.kept) lo hi workers) same may)
+    (subst (λ (u : TimelineValue Global). IsLeastHit (HoldsAt u when) lo hi least) same hit) told
+found_replies m t when lo hi workers least (Err x) same may hit told = told
+
+pub failed_replies : (m t : TimelineValue Global) (when : Break) (lo hi workers : ℕ) (e : SearchFault Global) (r : Result Value AllocError) → t ≡ m
+    → SearchFails t when lo hi workers e → IfOk r (λ v. Some (view v) ≡ search_fault e) → IfOk r (λ v. SearchReply m when lo hi workers (view v))
+failed_replies m t when lo hi workers e (Ok v) same why told = unanswered e (subst (λ (u : TimelineValue Global). SearchFails u when lo hi workers e) same why) told
+failed_replies m t when lo hi workers e (Err x) same why told = told
 
 -- ---- starts
 

@@ -122,7 +122,7 @@ search_fault e = Some (fault (number_of_search e) (name_of_search e))
 pub data SearchReply (m : TimelineValue Global) (when : Break) (lo hi workers : ℕ) (reply : Data) : Type 0 where
   searched : (least : Option ℕ) → MaySearch (length m.kept) lo hi workers → IsLeastHit (HoldsAt m when) lo hi least → reply ≡ found least
       → SearchReply m when lo hi workers reply
-  fails : (e : SearchFault Global) → SearchFails m when lo hi workers e → Some reply ≡ search_fault e → SearchReply m when lo hi workers reply
+  unanswered : (e : SearchFault Global) → SearchFails m when lo hi workers e → Some reply ≡ search_fault e → SearchReply m when lo hi workers reply
 
 -- the reply to a query, asked of a timeline: of its cluster at the cursor, or of all that it keeps
 abbrev pub QueryReply : TimelineValue Global → Query → Data → Type 0
