@@ -1,0 +1,69 @@
+//! Sessions and commands that the tests begin with.
+
+use nd_cluster::{Cluster, Next};
+use nd_drawn::graph_of;
+use nd_graph::Graph;
+use nd_session::{Session, State};
+use nd_timeline::{Command, Timeline};
+use nd_told::{Told, step_of};
+use nd_watch::Break;
+use std::alloc::{Allocator, Global};
+
+/// A command, its step by the names of locations.
+#[derive(Drop)]
+pub enum Asked {
+    Forward(Told),
+    Back,
+    Redo,
+    Jump(u64),
+    Run(u64),
+    /// The breakpoint that holds where the sink of this name has counted the value.
+    Sink(&'static str, i64),
+    Clear(u64),
+}
+
+/// A feed of nothing.
+pub const NOTHING: Asked = Asked::Forward(Told::Feed(0, "a", &[], Next::Next));
+
+/// The command that is told.
+pub fn command_of<A: Allocator + Copy>(
+    alloc: A,
+    graph: &Graph<A>,
+    asked: &Asked,
+) -> Option<Command<A>> {
+    match asked {
+        Asked::Forward(told) => Some(Command::Forward(step_of(alloc, graph, told)?)),
+        Asked::Back => Some(Command::Back),
+        Asked::Redo => Some(Command::Redo),
+        Asked::Jump(to) => Some(Command::Jump(*to)),
+        Asked::Run(limit) => Some(Command::Run(*limit)),
+        Asked::Sink(name, value) => Some(Command::SetBreak(Break::Sink {
+            vertex: graph.location_of(name)?,
+            value: *value,
+            at_least: 1,
+        })),
+        Asked::Clear(id) => Some(Command::ClearBreak(*id)),
+    }
+}
+
+/// The state of a start.
+pub fn opened<A: Allocator + Copy>(json: Global, alloc: A, text: &str, n: u32) -> Option<State<A>> {
+    let graph = graph_of(json, alloc, text)?;
+    let Ok(cluster) = Cluster::start(alloc, graph, n) else {
+        return None;
+    };
+    let Ok(timeline) = Timeline::new(alloc, cluster) else {
+        return None;
+    };
+    Some(State::new(alloc, timeline))
+}
+
+/// A session of a start.
+pub fn session_of<A: Allocator + Copy>(
+    json: Global,
+    alloc: A,
+    text: &str,
+    n: u32,
+) -> Option<Session<A>> {
+    Some(Session::new(opened(json, alloc, text, n)?))
+}

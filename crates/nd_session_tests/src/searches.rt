@@ -1,0 +1,190 @@
+//! Searches of snapshots: the worked ones, how the pieces are claimed, and each request for memory refused in turn.
+
+use crate::sign::Sign;
+use nd_cluster::Next;
+use nd_drawn::{LINE, point};
+use nd_search::{Gate, OpenGate, SearchFault, Snapshot, search};
+use nd_timeline::Timeline;
+use nd_told::{Told, start, step_of};
+use nd_watch::Break;
+use refusing::{MANY, Refusing, in_turn, was_refused};
+use std::alloc::{AllocError, Allocator, Global};
+use std::rt::Clock;
+use std::sync::atomic::{AtomicBool, AtomicU64, Ordering};
+use std::test::Fail;
+use std::thread::Threads;
+
+/// The allocator of the tests that refuse memory.
+type Heap = Refusing<Global>;
+
+/// A feed of nothing.
+static NOTHING: Told = Told::Feed(0, "a", &[], Next::Next);
+
+/// Forwards a step so many times.
+fn forward<A: Allocator + Copy>(
+    alloc: A,
+    timeline: &mut Timeline<A>,
+    told: &Told,
+    times: u64,
+) -> Option<()> {
+    for _ in 0..times {
+        let step = step_of(alloc, timeline.cluster().graph(), told)?;
+        timeline.forward(&step).ok()?;
+    }
+    Some(())
+}
+
+/// A snapshot of a line, its cursor at the end of what is kept: so many feeds of nothing, a feed of
+/// the value, its take, and again so many feeds of nothing.
+fn fed<A: Allocator + Copy>(
+    json: Global,
+    alloc: A,
+    before: u64,
+    taken: Option<(Told, Told)>,
+    behind: u64,
+) -> Option<Snapshot<A>> {
+    let mut timeline = Timeline::new(alloc, start(json, alloc, LINE, 1)?).ok()?;
+    forward(alloc, &mut timeline, &NOTHING, before)?;
+    if let Some((feed, take)) = taken {
+        forward(alloc, &mut timeline, &feed, 1)?;
+        forward(alloc, &mut timeline, &take, 1)?;
+    }
+    forward(alloc, &mut timeline, &NOTHING, behind)?;
+    Snapshot::of(alloc, &timeline, 0).ok()
+}
+
+/// The break that holds where a place has a count of 1 at least at an epoch.
+fn count<A: Allocator + Copy>(snapshot: &Snapshot<A>, name: &str, epoch: u32) -> Option<Break> {
+    Some(Break::Count {
+        point: point(snapshot.cluster().graph(), name, &[epoch])?,
+        at_least: 1,
+    })
+}
+
+/// The break that holds where the sink has counted a value.
+fn sink<A: Allocator + Copy>(snapshot: &Snapshot<A>, value: i64) -> Option<Break> {
+    Some(Break::Sink {
+        vertex: snapshot.cluster().graph().location_of("z")?,
+        value,
+        at_least: 1,
+    })
+}
+
+/// Holds whoever has piece 0 until another comes with piece 1.
+#[derive(Drop)]
+struct Held<'a, R: Clock>(Sign<'a, R>);
+
+impl<R: Clock + Sync> Gate for Held<'_, R> {
+    fn call(&self, _who: u64, piece: u64) {
+        if piece == 1 {
+            self.0.give();
+        } else {
+            self.0.wait();
+        }
+    }
+}
+
+#[test]
+fn at_the_same_time(rt: HostRuntime) -> Result<(), Fail> {
+    let alloc = rt.alloc();
+    let snapshot = fed(alloc, alloc, 31, None, 0).ok_or("no snapshot")?;
+    let b = count(&snapshot, "az", 0).ok_or("no breakpoint")?;
+    let gate = Held(Sign::new(&rt));
+    let answer = search(&rt, alloc, &snapshot, &b, 0, 31, 2, &gate);
+    assert!(rt; matches!(answer, Ok(None)));
+    assert!(rt; gate.0.came());
+    Ok(())
+}
+
+/// Counts the calls, and those of a worker or a piece that is not there.
+#[derive(Drop)]
+struct Counted {
+    workers: u64,
+    pieces: u64,
+    calls: AtomicU64,
+    is_wrong: AtomicBool,
+}
+
+impl Gate for Counted {
+    fn call(&self, who: u64, piece: u64) {
+        self.calls.fetch_add(1, Ordering::SeqCst);
+        if who >= self.workers || piece >= self.pieces {
+            self.is_wrong.store(true, Ordering::SeqCst);
+        }
+    }
+}
+
+#[test]
+fn least_of_all_hits(rt: HostRuntime) -> Result<(), Fail> {
+    let alloc = rt.alloc();
+    let steps = (
+        Told::Feed(0, "a", &[5], Next::Next),
+        Told::Take(0, "az", &[14], 5),
+    );
+    // The take is step 16, so the value is counted from there on; the token is at epoch 30 at 31, and at 39 at 40.
+    let snapshot = fed(alloc, alloc, 14, Some(steps), 24).ok_or("no snapshot")?;
+    let five = sink(&snapshot, 5).ok_or("no sink")?;
+    let last = count(&snapshot, "a", 39).ok_or("no token")?;
+    let rows = [
+        (&five, 0, 40, 3, Some(16)),
+        (&five, 17, 40, 2, Some(17)),
+        (&five, 0, 15, 1, None),
+        (&five, 15, 15, 1, None),
+        (&five, 16, 16, 1, Some(16)),
+        (&last, 0, 40, 3, Some(40)),
+        (&last, 25, 40, 1, Some(40)),
+        (&last, 24, 40, 2, Some(40)),
+        (&last, 0, 39, 3, None),
+        (&last, 40, 40, 1, Some(40)),
+    ];
+    for workers in [1, 2, 3, 8, 65, u64::MAX] {
+        for (row, (b, lo, hi, pieces, wanted)) in rows.iter().enumerate() {
+            let gate = Counted {
+                workers: workers.min(64),
+                pieces: *pieces,
+                calls: AtomicU64::new(0),
+                is_wrong: AtomicBool::new(false),
+            };
+            let answer = search(&rt, alloc, &snapshot, b, *lo, *hi, workers, &gate);
+            assert!(rt;
+                matches!(answer, Ok(found) if found == *wanted),
+                "row {row}, {workers} workers"
+            );
+            assert_eq!(rt; gate.calls.load(Ordering::SeqCst), *pieces, "row {row}");
+            assert!(rt; !gate.is_wrong.load(Ordering::SeqCst), "row {row}");
+        }
+    }
+    Ok(())
+}
+
+fn snapshots<A: Allocator + Copy>(heap: &Heap, alloc: A, timeline: &Timeline<A>) -> Option<u64> {
+    in_turn!(heap: {} Snapshot::of(alloc, timeline, 7); AllocError, true);
+    None
+}
+
+fn copies<A: Allocator + Copy>(heap: &Heap, alloc: A, snapshot: &Snapshot<A>) -> Option<u64> {
+    in_turn!(heap: {} snapshot.copy(alloc); AllocError, true);
+    None
+}
+
+/// Whether making and copying a snapshot each meet a request that is refused, and the copy is one of it.
+fn snapshots_in_turn<A: Allocator + Copy>(heap: &Heap, json: Global, alloc: A) -> Option<bool> {
+    let mut timeline = Timeline::new(alloc, start(json, alloc, LINE, 1)?).ok()?;
+    forward(alloc, &mut timeline, &NOTHING, 2)?;
+    timeline.back().ok()?;
+    let snapshot = Snapshot::of(alloc, &timeline, 7).ok()?;
+    let copy = snapshot.copy(alloc).ok()?;
+    timeline.jump(0).ok()?;
+    Some(
+        snapshots(heap, alloc, &timeline)? > 0
+            && copies(heap, alloc, &snapshot)? > 0
+            && (copy.index(), copy.at(), copy.kept()) == (7, 1, 2),
+    )
+}
+
+#[test]
+fn snapshots_out_of_memory(rt: HostRuntime) {
+    let heap = Refusing::new(rt.alloc());
+    assert_eq!(rt; snapshots_in_turn(&heap, rt.alloc(), &heap), Some(true));
+    assert_eq!(rt; heap.live(), 0);
+}

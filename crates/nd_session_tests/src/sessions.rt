@@ -1,0 +1,223 @@
+//! Sessions: clients in threads, strangers, openings, and a search beside a command.
+
+use crate::opened::{NOTHING, command_of, opened, session_of};
+use crate::sign::Sign;
+use nd_cluster::Cluster;
+use nd_drawn::{
+    ADD, DISTINCT, EMPTY, EXCHANGE, FILTER, LINE, LOOP, NESTED_LOOP, SPLIT, SUM, TWO_WAYS,
+    graph_of, point, time,
+};
+use nd_mesh::Mesh;
+use nd_processor::Processor;
+use nd_search::{Gate, search};
+use nd_session::{Client, Log, Receipt, Session, SessionFault};
+use nd_timeline::{Command, Fault, Reply};
+use nd_told::{start, state_text};
+use nd_vertex::VertexState;
+use nd_view::View;
+use nd_watch::Break;
+use std::alloc::Global;
+use std::rt::Clock;
+use std::sync::Wait;
+use std::test::Fail;
+use std::thread;
+use std::thread::Threads;
+
+/// So many feeds of nothing on a line.
+fn feeds(alloc: Global, times: u64) -> Option<Vec<Command>> {
+    let graph = graph_of(alloc, alloc, LINE)?;
+    let mut commands = Vec::new(alloc);
+    for _ in 0..times {
+        commands.push(command_of(alloc, &graph, &NOTHING)?).ok()?;
+    }
+    Some(commands)
+}
+
+/// A client that has stopped, and whether all its commands were answered.
+#[derive(Drop)]
+struct Served {
+    client: Client,
+    is_whole: bool,
+}
+
+/// Gives a client's commands in order, until one is refused.
+fn serve<R: Wait>(
+    rt: &R,
+    alloc: Global,
+    session: &Session,
+    mut client: Client,
+    commands: Vec<Command>,
+) -> Served {
+    for command in commands {
+        if session.command(rt, alloc, &mut client, command).is_err() {
+            return Served {
+                client,
+                is_whole: false,
+            };
+        }
+    }
+    Served {
+        client,
+        is_whole: true,
+    }
+}
+
+/// The graphs on which clusters start.
+static STARTS: [&str; 11] = [
+    LINE,
+    EXCHANGE,
+    NESTED_LOOP,
+    TWO_WAYS,
+    SUM,
+    ADD,
+    LOOP,
+    DISTINCT,
+    SPLIT,
+    FILTER,
+    EMPTY,
+];
+
+/// Whether the first copy from a session is of the start.
+fn opens<R: Wait>(rt: &R, alloc: Global, text: &str, n: u32) -> Option<bool> {
+    let started = start(alloc, alloc, text, n)?;
+    let session = session_of(alloc, alloc, text, n)?;
+    let client = session.enter(rt, alloc).ok()?;
+    let snapshot = session.copy(rt, alloc, &client).ok()?;
+    let cluster = snapshot.cluster();
+    let (graph, wanted) = (cluster.graph(), started.graph());
+    if graph.vertices().len() != wanted.vertices().len()
+        || graph.edges().len() != wanted.edges().len()
+    {
+        return Some(false);
+    }
+    for location in 0..wanted.location_count() {
+        let name = wanted.location_name(location);
+        if graph.location_of(name) != Some(location) {
+            return Some(false);
+        }
+    }
+    let state = state_text(alloc, cluster)?;
+    Some(
+        (snapshot.index(), snapshot.at(), snapshot.kept()) == (0, 0, 0)
+            && cluster.n() == n as usize
+            && state.as_str() == state_text(alloc, &started)?.as_str(),
+    )
+}
+
+#[test]
+fn session_openings(rt: HostRuntime) {
+    for (row, text) in STARTS.iter().enumerate() {
+        for n in [1, 3] {
+            assert_eq!(rt;
+                opens(&rt, rt.alloc(), text, n),
+                Some(true),
+                "in row {row}, {n} processors"
+            );
+        }
+    }
+}
+
+#[test]
+fn sixty_four_clients(rt: HostRuntime) -> Result<(), Fail> {
+    let alloc = rt.alloc();
+    let session = session_of(alloc, alloc, LINE, 1).ok_or("no session")?;
+    for number in 0..64 {
+        let client = session.enter(&rt, alloc).ok().ok_or("no client")?;
+        assert_eq!(rt; client.number(), number);
+    }
+    assert!(rt; matches!(session.enter(&rt, alloc), Err(SessionFault::TooManyClients)));
+    Ok(())
+}
+
+/// The most entries of a log.
+const MOST: u64 = 1_000_000;
+
+/// Whether so many commands are answered and logged.
+fn answers_backs(alloc: Global, times: u64) -> Option<bool> {
+    let mut state = opened(alloc, alloc, LINE, 1)?;
+    for _ in 0..times {
+        let receipt = state.apply(alloc, 0, Command::Back).ok()?;
+        if receipt.reply != Reply::Refused(Fault::AtStart) {
+            return Some(false);
+        }
+    }
+    let is_full = matches!(
+        state.apply(alloc, 0, Command::Back),
+        Err(SessionFault::LogFull)
+    );
+    Some(is_full && state.log().len() as u64 == times)
+}
+
+#[test]
+fn a_log_is_full(rt: HostRuntime) {
+    assert_eq!(rt; answers_backs(rt.alloc(), MOST), Some(true));
+}
+
+/// Tells that a search has begun, and holds it until a command is answered.
+#[derive(Drop)]
+struct Between<'a, R: Clock> {
+    begun: Sign<'a, R>,
+    answered: Sign<'a, R>,
+}
+
+impl<R: Clock + Sync> Gate for Between<'_, R> {
+    fn call(&self, _who: u64, _piece: u64) {
+        self.begun.give();
+        self.answered.wait();
+    }
+}
+
+/// What a client finds in a copy of its own.
+fn found<R: Wait + Threads + Sync, G: Gate>(
+    rt: &R,
+    alloc: Global,
+    session: &Session,
+    client: &Client,
+    b: &Break,
+    gate: &G,
+) -> Option<Option<u64>> {
+    let snapshot = session.copy(rt, alloc, client).ok()?;
+    search(rt, alloc, &snapshot, b, 0, snapshot.kept(), 2, gate).ok()
+}
+
+/// A command of another client, once the search has begun.
+fn answered<R: Wait + Clock>(
+    rt: &R,
+    alloc: Global,
+    session: &Session,
+    client: &mut Client,
+    gate: &Between<R>,
+) -> Option<Reply> {
+    gate.begun.wait();
+    let receipt = session.command(rt, alloc, client, Command::Back).ok()?;
+    gate.answered.give();
+    Some(receipt.reply.copy())
+}
+
+#[test]
+fn at_the_same_time(rt: HostRuntime) -> Result<(), Fail> {
+    let alloc = rt.alloc();
+    let session = session_of(alloc, alloc, LINE, 1).ok_or("no session")?;
+    let first = session.enter(&rt, alloc).ok().ok_or("no client")?;
+    let mut second = session.enter(&rt, alloc).ok().ok_or("no client")?;
+    let three = feeds(alloc, 3).ok_or("no commands")?;
+    let first = serve(&rt, alloc, &session, first, three);
+    let graph = graph_of(alloc, alloc, LINE).ok_or("no graph")?;
+    let b = Break::Count {
+        point: point(&graph, "a", &[2]).ok_or("no point")?,
+        at_least: 1,
+    };
+    let gate = Between {
+        begun: Sign::new(&rt),
+        answered: Sign::new(&rt),
+    };
+    let (hit, reply) = thread::join(
+        &rt,
+        || found(&rt, alloc, &session, &first.client, &b, &gate),
+        || answered(&rt, alloc, &session, &mut second, &gate),
+    );
+    assert_eq!(rt; reply, Some(Reply::Moved { at: 2, kept: 3 }));
+    assert_eq!(rt; hit, Some(Some(2)));
+    assert!(rt; gate.begun.came() && gate.answered.came());
+    Ok(())
+}
