@@ -4,6 +4,8 @@
 #[cfg(test)]
 mod closes;
 #[cfg(test)]
+mod memory;
+#[cfg(test)]
 mod opened;
 #[cfg(test)]
 mod searches;

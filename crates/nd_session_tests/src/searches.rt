@@ -70,6 +70,37 @@ fn sink<A: Allocator + Copy>(snapshot: &Snapshot<A>, value: i64) -> Option<Break
     })
 }
 
+#[test]
+fn searches(rt: HostRuntime) -> Result<(), Fail> {
+    let alloc = rt.alloc();
+    let steps = (
+        Told::Feed(0, "a", &[5], Next::Close),
+        Told::Take(0, "az", &[0], 5),
+    );
+    let snapshot = fed(alloc, alloc, 0, Some(steps), 0).ok_or("no snapshot")?;
+    let five = sink(&snapshot, 5).ok_or("no sink")?;
+    let rows = [
+        (sink(&snapshot, 5), Some(2)),
+        (count(&snapshot, "a", 0), Some(0)),
+        (count(&snapshot, "az", 0), Some(1)),
+        (sink(&snapshot, 6), None),
+    ];
+    for (row, (b, wanted)) in rows.into_iter().enumerate() {
+        let b = b.ok_or("no breakpoint")?;
+        let answer = search(&rt, alloc, &snapshot, &b, 0, 2, 8, &OpenGate);
+        assert!(rt;
+            matches!(answer, Ok(found) if found == wanted),
+            "in row {row}"
+        );
+    }
+    for (lo, hi, workers, number) in [(2, 1, 8, 50), (0, 2, 0, 51), (0, 3, 8, 22)] {
+        let answer = search(&rt, alloc, &snapshot, &five, lo, hi, workers, &OpenGate);
+        let fault = answer.err().ok_or("an answer")?;
+        assert_eq!(rt; fault.number(), number);
+    }
+    Ok(())
+}
+
 /// Holds whoever has piece 0 until another comes with piece 1.
 #[derive(Drop)]
 struct Held<'a, R: Clock>(Sign<'a, R>);
@@ -155,6 +186,110 @@ fn least_of_all_hits(rt: HostRuntime) -> Result<(), Fail> {
         }
     }
     Ok(())
+}
+
+/// Whether the lists are together the numbers below some number, each once.
+fn are_below<A: Allocator>(alloc: Global, lists: &[Vec<u64, A>]) -> Option<bool> {
+    let mut all = Vec::new(alloc);
+    for list in lists {
+        for piece in list {
+            all.push(*piece).ok()?;
+        }
+    }
+    all.sort_unstable();
+    for (i, piece) in all.iter().enumerate() {
+        if *piece != i as u64 {
+            return Some(false);
+        }
+    }
+    Some(true)
+}
+
+/// A search by two workers with one request refused: whether it met it, and whether a worker did.
+///
+/// `None` for an answer that is not the one with ample memory and not want of it, and where a block
+/// stays.
+fn searched<A: Allocator + Copy + Send, R: Threads + Sync>(
+    rt: &R,
+    heap: &Heap,
+    json: Global,
+    alloc: A,
+    asked: (&Snapshot<A>, &Break, Option<u64>),
+    n: u64,
+) -> Option<(bool, bool)> {
+    let (snapshot, b, wanted) = asked;
+    let live = heap.live();
+    heap.refuse(n);
+    let answer = search(rt, alloc, snapshot, b, 0, 31, 2, &OpenGate);
+    let met = heap.relent(n);
+    let (is_right, is_missing) = match answer {
+        Ok(found) => (found == wanted, false),
+        Err(SearchFault::Memory) => (met, false),
+        Err(SearchFault::Missing { piece: _, claimed }) => {
+            (met && are_below(json, claimed.as_slice())?, true)
+        }
+        Err(_) => (false, false),
+    };
+    if is_right && heap.live() == live {
+        Some((met, is_missing))
+    } else {
+        None
+    }
+}
+
+/// A search with each request refused in turn: how often one was, and how often in a walk.
+fn searched_in_turn<A: Allocator + Copy + Send, R: Threads + Sync>(
+    rt: &R,
+    heap: &Heap,
+    json: Global,
+    alloc: A,
+    asked: (&Snapshot<A>, &Break, Option<u64>),
+) -> Option<(u64, u64)> {
+    let mut walks = 0;
+    for n in 0..MANY {
+        let (met, is_missing) = searched(rt, heap, json, alloc, asked, n)?;
+        if !met {
+            return Some((n, walks));
+        }
+        walks = if is_missing { n } else { walks };
+    }
+    None
+}
+
+/// A snapshot of a line that keeps 31 feeds of nothing, the cursor at their end or before them.
+fn at_either_end<A: Allocator + Copy>(json: Global, alloc: A, is_end: bool) -> Option<Snapshot<A>> {
+    let mut timeline = Timeline::new(alloc, start(json, alloc, LINE, 1)?).ok()?;
+    forward(alloc, &mut timeline, &NOTHING, 31)?;
+    if !is_end {
+        timeline.jump(0).ok()?;
+    }
+    Snapshot::of(alloc, &timeline, 0).ok()
+}
+
+/// Whether each search answers as it may, whichever request is refused, and the walks from the start met some.
+fn searches_in_turn<A: Allocator + Copy + Send, R: Threads + Sync>(
+    rt: &R,
+    heap: &Heap,
+    json: Global,
+    alloc: A,
+) -> Option<bool> {
+    let end = at_either_end(json, alloc, true)?;
+    let begin = at_either_end(json, alloc, false)?;
+    let nowhere = count(&end, "az", 0)?;
+    let early = count(&end, "a", 3)?;
+    let late = count(&end, "a", 20)?;
+    let (refused, _) = searched_in_turn(rt, heap, json, alloc, (&end, &nowhere, None))?;
+    let (_, walks) = searched_in_turn(rt, heap, json, alloc, (&begin, &nowhere, None))?;
+    searched_in_turn(rt, heap, json, alloc, (&begin, &early, Some(3)))?;
+    searched_in_turn(rt, heap, json, alloc, (&begin, &late, Some(20)))?;
+    Some(refused > 0 && walks > 0)
+}
+
+#[test]
+fn search_out_of_memory(rt: HostRuntime) {
+    let heap = Refusing::new(rt.alloc());
+    assert_eq!(rt; searches_in_turn(&rt, &heap, rt.alloc(), &heap), Some(true));
+    assert_eq!(rt; heap.live(), 0);
 }
 
 fn snapshots<A: Allocator + Copy>(heap: &Heap, alloc: A, timeline: &Timeline<A>) -> Option<u64> {

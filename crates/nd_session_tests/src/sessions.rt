@@ -62,6 +62,181 @@ fn serve<R: Wait>(
     }
 }
 
+/// Whether so many entries are a client's, in its order.
+fn are_numbered(entries: &[Receipt], client: u64, count: usize) -> bool {
+    let own = entries.iter().filter(|entry| entry.client == client);
+    for (number, entry) in own.enumerate() {
+        if entry.number != number as u64 {
+            return false;
+        }
+    }
+    entries
+        .iter()
+        .filter(|entry| entry.client == client)
+        .count()
+        == count
+}
+
+/// Whether the entries are of feeds of nothing, the first at the start.
+fn are_feeds(entries: &[Receipt], feed: &Command) -> bool {
+    for (i, entry) in entries.iter().enumerate() {
+        let reply = Reply::Moved {
+            at: i as u64 + 1,
+            kept: i as u64 + 1,
+        };
+        if entry.index != i as u64 || entry.reply != reply || !entry.command.same(feed) {
+            return false;
+        }
+    }
+    true
+}
+
+#[test]
+fn two_clients(rt: HostRuntime) -> Result<(), Fail> {
+    let alloc = rt.alloc();
+    let session = session_of(alloc, alloc, LINE, 1).ok_or("no session")?;
+    let first = session.enter(&rt, alloc).ok().ok_or("no client")?;
+    let second = session.enter(&rt, alloc).ok().ok_or("no client")?;
+    let five = feeds(alloc, 5).ok_or("no commands")?;
+    let more = feeds(alloc, 5).ok_or("no commands")?;
+    let feed = feeds(alloc, 1)
+        .ok_or("no commands")?
+        .pop()
+        .ok_or("no command")?;
+    let (first, second) = thread::join(
+        &rt,
+        || serve(&rt, alloc, &session, first, five),
+        || serve(&rt, alloc, &session, second, more),
+    );
+    assert!(rt; first.is_whole && second.is_whole);
+    let mut clients = Vec::new(alloc);
+    clients.push(first.client)?;
+    clients.push(second.client)?;
+    let Ok(log) = session.close(clients) else {
+        panic!(rt; "the session did not close")
+    };
+    assert_eq!(rt; (log.entries.len(), log.entered), (10, 2));
+    assert!(rt; are_feeds(log.entries.as_slice(), &feed));
+    for client in 0..2 {
+        assert!(rt;
+            are_numbered(log.entries.as_slice(), client, 5),
+            "of client {client}"
+        );
+    }
+    assert_eq!(rt; (log.timeline.at(), log.timeline.kept()), (10, 10));
+    assert_eq!(rt; copies(alloc, &log), Some(true));
+    Ok(())
+}
+
+/// A cluster of copies of the parts of a cluster of one processor with empty queues.
+fn of_copies(alloc: Global, cluster: &Cluster) -> Option<Cluster> {
+    if cluster.n() != 1 {
+        return None;
+    }
+    let graph = cluster.graph().copy(alloc).ok()?;
+    let Ok(paths) = cluster.paths().copy(alloc) else {
+        return None;
+    };
+    let processor: Processor = cluster.processor(0).copy(alloc).ok()?;
+    let Ok(view) = cluster.view(0).copy(alloc) else {
+        return None;
+    };
+    let mesh = Mesh::new(alloc, 1).ok()?.copy(alloc).ok()?;
+    let mut processors = Vec::new(alloc);
+    processors.push(processor).ok()?;
+    let mut views: Vec<View> = Vec::new(alloc);
+    views.push(view).ok()?;
+    if graph.location_count() != cluster.graph().location_count() {
+        return None;
+    }
+    Cluster::of_parts(alloc, cluster.graph(), paths, processors, views, mesh)
+}
+
+/// Whether a change and what a vertex keeps are copied as they are.
+fn copies_of_maps(alloc: Global, cluster: &Cluster) -> Option<bool> {
+    if cluster.n() != 1 {
+        return None;
+    }
+    let unsent = cluster.processor(0).unsent();
+    let change = unsent.copy(alloc).ok()?;
+    let mut state = VertexState::new(alloc);
+    let zero = time(&[0])?;
+    let old = state.get(&zero, 7);
+    state.set(&zero, 7, old, Some(2)).ok()?;
+    let copied = state.copy(alloc).ok()?;
+    Some(
+        unsent.len() > 0 && change.entries() == unsent.entries() && copied.get(&zero, 7) == Some(2),
+    )
+}
+
+/// Whether what a session leaves is copied as it is: its cluster and the parts of that, a kept step, a planned record
+/// and a receipt.
+fn copies(alloc: Global, log: &Log) -> Option<bool> {
+    let cluster = log.timeline.cluster();
+    let text = state_text(alloc, cluster)?;
+    let whole = state_text(alloc, &cluster.copy(alloc).ok()?)?;
+    let parts = state_text(alloc, &of_copies(alloc, cluster)?)?;
+    let step = log.timeline.step(0)?;
+    let record = cluster.plan(step).ok()?;
+    let again = record.copy(alloc).ok()?;
+    let receipt = log.entries.first()?;
+    Some(
+        whole.as_str() == text.as_str()
+            && parts.as_str() == text.as_str()
+            && copies_of_maps(alloc, cluster)?
+            && step.copy(alloc).ok()?.same(step)
+            && again.step.same(step)
+            && again.entries() == record.entries()
+            && receipt.copy(alloc).ok()?.same(receipt),
+    )
+}
+
+/// Whether a call is answered 26 with this index, and with this entry or none.
+fn is_stranger<T: Drop>(
+    answer: Result<T, SessionFault>,
+    wanted: u64,
+    entry: Option<&Receipt>,
+) -> bool {
+    let Err(SessionFault::NotThisSession { index, found }) = answer else {
+        return false;
+    };
+    index == wanted
+        && match (found, entry) {
+            (Some(found), Some(entry)) => found.same(entry),
+            (None, None) => true,
+            _ => false,
+        }
+}
+
+#[test]
+fn strangers(rt: HostRuntime) -> Result<(), Fail> {
+    let alloc = rt.alloc();
+    let other = session_of(alloc, alloc, LINE, 1).ok_or("no session")?;
+    let mut stranger = other.enter(&rt, alloc).ok().ok_or("no client")?;
+    let unknown = other.enter(&rt, alloc).ok().ok_or("no client")?;
+    let feed = feeds(alloc, 1)
+        .ok_or("no commands")?
+        .pop()
+        .ok_or("no command")?;
+    let told = other.command(&rt, alloc, &mut stranger, feed);
+    assert_eq!(rt; told.ok().ok_or("no receipt")?.index, 0);
+    let session = session_of(alloc, alloc, LINE, 1).ok_or("no session")?;
+    let mut own = session.enter(&rt, alloc).ok().ok_or("no client")?;
+    let answer = session.command(&rt, alloc, &mut stranger, Command::Back);
+    assert!(rt; is_stranger(answer, 0, None));
+    assert!(rt; is_stranger(session.copy(&rt, alloc, &unknown), 0, None));
+    let entry = session.command(&rt, alloc, &mut own, Command::Back);
+    let entry = entry.ok().ok_or("no receipt")?;
+    assert_eq!(rt; entry.reply, Reply::Refused(Fault::AtStart));
+    let answer = session.command(&rt, alloc, &mut stranger, Command::Back);
+    assert!(rt; is_stranger(answer, 0, Some(&entry)));
+    assert!(rt; is_stranger(session.copy(&rt, alloc, &stranger), 0, Some(&entry)));
+    assert!(rt; is_stranger(session.copy(&rt, alloc, &unknown), 0, Some(&entry)));
+    assert_eq!(rt; stranger.receipts().len(), 1);
+    assert!(rt; session.copy(&rt, alloc, &own).is_ok());
+    Ok(())
+}
+
 /// The graphs on which clusters start.
 static STARTS: [&str; 11] = [
     LINE,

@@ -1,0 +1,365 @@
+//! Each request for memory of a session's calls refused in turn.
+
+use crate::opened::{Asked, NOTHING, command_of, opened, session_of};
+use nd_cluster::Next;
+use nd_drawn::{LINE, graph_of};
+use nd_search::Snapshot;
+use nd_session::{Client, Receipt, Session, SessionFault};
+use nd_timeline::{Fault, Reply, Stop};
+use nd_told::{Told, is_state, state_text};
+use refusing::{MANY, Refusing, in_turn, was_refused};
+use std::alloc::{AllocError, Allocator, Global};
+use std::sync::Wait;
+
+/// The allocator of these tests.
+type Heap = Refusing<Global>;
+
+/// A feed of a value.
+const FEED: Asked = Asked::Forward(Told::Feed(0, "a", &[5], Next::Next));
+
+/// What a command is answered with ample memory.
+#[derive(Drop)]
+enum Wanted {
+    /// The cursor, and how many steps are kept.
+    Moved(u64, u64),
+    /// A run that was idle after so many steps, behind a feed.
+    Idle(u64),
+    Set,
+    Cleared,
+    AtStart,
+}
+
+fn reply_of(wanted: &Wanted) -> Reply {
+    match wanted {
+        Wanted::Moved(at, kept) => Reply::Moved {
+            at: *at,
+            kept: *kept,
+        },
+        Wanted::Idle(ran) => Reply::Ran {
+            at: ran.saturating_add(1),
+            kept: ran.saturating_add(1),
+            ran: *ran,
+            stop: Stop::Idle,
+        },
+        Wanted::Set => Reply::Set { id: 0 },
+        Wanted::Cleared => Reply::Cleared,
+        Wanted::AtStart => Reply::Refused(Fault::AtStart),
+    }
+}
+
+/// What is asked before, a command, and what it is answered with ample memory.
+type Row = (&'static [Asked], Asked, Wanted);
+
+/// A command of each kind.
+static ROWS: [Row; 9] = [
+    (&[], FEED, Wanted::Moved(1, 1)),
+    (&[NOTHING], Asked::Back, Wanted::Moved(0, 1)),
+    (&[FEED], Asked::Back, Wanted::Moved(0, 1)),
+    (&[FEED, Asked::Back], Asked::Redo, Wanted::Moved(1, 1)),
+    (
+        &[FEED, NOTHING, NOTHING],
+        Asked::Jump(0),
+        Wanted::Moved(0, 3),
+    ),
+    (&[FEED], Asked::Run(10), Wanted::Idle(3)),
+    (&[], Asked::Sink("z", 5), Wanted::Set),
+    (&[Asked::Sink("z", 5)], Asked::Clear(0), Wanted::Cleared),
+    (&[], Asked::Back, Wanted::AtStart),
+];
+
+/// Gives commands, each of which is answered.
+fn give<A: Allocator + Copy, R: Wait>(
+    rt: &R,
+    json: Global,
+    alloc: A,
+    session: &Session<A>,
+    client: &mut Client<A>,
+    list: &[Asked],
+) -> Option<()> {
+    let graph = graph_of(json, alloc, LINE)?;
+    for asked in list {
+        let command = command_of(alloc, &graph, asked)?;
+        session.command(rt, alloc, client, command).ok()?;
+    }
+    Some(())
+}
+
+/// Whether two snapshots are of one machine after one log.
+fn are_equal<A: Allocator + Copy>(
+    json: Global,
+    before: &Snapshot<A>,
+    after: &Snapshot<A>,
+) -> Option<bool> {
+    let text = state_text(json, before.cluster())?;
+    Some(
+        (before.index(), before.at(), before.kept()) == (after.index(), after.at(), after.kept())
+            && is_state(json, after.cluster(), text.as_str()),
+    )
+}
+
+/// Whether the answer is one that may be given: the one with ample memory, or want of memory in a step that is logged,
+/// with the cursor where the snapshot has it.
+fn may_answer<A: Allocator + Copy>(
+    receipt: &Receipt<A>,
+    met: bool,
+    wanted: &Wanted,
+    after: &Snapshot<A>,
+) -> bool {
+    let is_told = match &receipt.reply {
+        Reply::Refused(Fault::Memory { at }) => met && *at == after.at(),
+        reply => reply.same(&reply_of(wanted)),
+    };
+    is_told && after.index().checked_sub(1) == Some(receipt.index)
+}
+
+fn wants_memory<T, A: Allocator>(answer: &Result<T, SessionFault<A>>) -> bool {
+    matches!(answer, Err(SessionFault::Memory))
+}
+
+/// A command with one request refused: whether it met it.
+///
+/// Then nothing is logged, or the answer is; and in both cases the session closes with the client's receipts.
+fn commanded<A: Allocator + Copy, R: Wait>(
+    rt: &R,
+    heap: &Heap,
+    json: Global,
+    alloc: A,
+    row: &Row,
+    n: u64,
+) -> Option<bool> {
+    let (list, asked, wanted) = row;
+    let session = session_of(json, alloc, LINE, 1)?;
+    let mut client = session.enter(rt, alloc).ok()?;
+    give(rt, json, alloc, &session, &mut client, list)?;
+    let before = session.copy(rt, alloc, &client).ok()?;
+    let command = command_of(alloc, &graph_of(json, alloc, LINE)?, asked)?;
+    heap.refuse(n);
+    let answer = session.command(rt, alloc, &mut client, command);
+    let met = heap.relent(n);
+    let after = session.copy(rt, alloc, &client).ok()?;
+    let is_refused = met && wants_memory(&answer);
+    let is_right = match answer.ok() {
+        Some(receipt) => may_answer(&receipt, met, wanted, &after),
+        None => is_refused && are_equal(json, &before, &after)?,
+    };
+    let entries = client.receipts().len();
+    let mut clients = Vec::new(alloc);
+    clients.push(client).ok()?;
+    let log = session.close(clients).ok()?;
+    if is_right && log.entries.len() == entries && entries as u64 == after.index() {
+        Some(met)
+    } else {
+        None
+    }
+}
+
+/// A command with each request refused in turn: how many were.
+fn commanded_in_turn<A: Allocator + Copy, R: Wait>(
+    rt: &R,
+    heap: &Heap,
+    json: Global,
+    alloc: A,
+    row: &Row,
+) -> Option<u64> {
+    for n in 0..MANY {
+        if !commanded(rt, heap, json, alloc, row, n)? {
+            return Some(n);
+        }
+    }
+    None
+}
+
+#[test]
+fn command_out_of_memory(rt: HostRuntime) {
+    let heap = Refusing::new(rt.alloc());
+    for (number, row) in ROWS.iter().enumerate() {
+        let count = commanded_in_turn(&rt, &heap, rt.alloc(), &heap, row);
+        assert!(rt; count.is_some(), "in row {number}");
+        assert!(rt; number > 0 || count != Some(0));
+    }
+    assert_eq!(rt; heap.live(), 0);
+}
+
+/// An entry with one request refused: whether it met it. The next number is the one that was due.
+fn enters<A: Allocator + Copy, R: Wait>(
+    rt: &R,
+    heap: &Heap,
+    json: Global,
+    alloc: A,
+    n: u64,
+) -> Option<bool> {
+    let session = session_of(json, alloc, LINE, 1)?;
+    session.enter(rt, alloc).ok()?;
+    heap.refuse(n);
+    let answer = session.enter(rt, alloc);
+    let met = heap.relent(n);
+    let next = session.enter(rt, alloc).ok()?.number();
+    let is_refused = met && wants_memory(&answer);
+    let is_right = match answer.ok() {
+        Some(client) => !met && client.number() == 1 && next == 2,
+        None => is_refused && next == 1,
+    };
+    if is_right { Some(met) } else { None }
+}
+
+/// A copy with one request refused: whether it met it. Nothing is logged.
+fn copied<A: Allocator + Copy, R: Wait>(
+    rt: &R,
+    heap: &Heap,
+    json: Global,
+    alloc: A,
+    n: u64,
+) -> Option<bool> {
+    let session = session_of(json, alloc, LINE, 1)?;
+    let mut client = session.enter(rt, alloc).ok()?;
+    give(rt, json, alloc, &session, &mut client, &[FEED])?;
+    let before = session.copy(rt, alloc, &client).ok()?;
+    heap.refuse(n);
+    let answer = session.copy(rt, alloc, &client);
+    let met = heap.relent(n);
+    let after = session.copy(rt, alloc, &client).ok()?;
+    let is_refused = met && wants_memory(&answer);
+    let is_right = match answer.ok() {
+        Some(snapshot) => !met && are_equal(json, &before, &snapshot)?,
+        None => is_refused,
+    };
+    if is_right && are_equal(json, &before, &after)? {
+        Some(met)
+    } else {
+        None
+    }
+}
+
+/// A stranger's command with one request refused: whether it met it. It is told the entry, or that memory is wanted.
+fn refused<A: Allocator + Copy, R: Wait>(
+    rt: &R,
+    heap: &Heap,
+    json: Global,
+    alloc: A,
+    n: u64,
+) -> Option<bool> {
+    let other = session_of(json, alloc, LINE, 1)?;
+    let mut stranger = other.enter(rt, alloc).ok()?;
+    give(rt, json, alloc, &other, &mut stranger, &[Asked::Back])?;
+    let session = session_of(json, alloc, LINE, 1)?;
+    let mut client = session.enter(rt, alloc).ok()?;
+    give(rt, json, alloc, &session, &mut client, &[FEED])?;
+    heap.refuse(n);
+    let fault = session.copy(rt, alloc, &stranger).err();
+    let met = heap.relent(n);
+    let number = if met { 29 } else { 26 };
+    if fault?.number() == number {
+        Some(met)
+    } else {
+        None
+    }
+}
+
+/// Whether each of these calls meets requests that are refused.
+fn calls_in_turn<A: Allocator + Copy, R: Wait>(
+    rt: &R,
+    heap: &Heap,
+    json: Global,
+    alloc: A,
+) -> Option<bool> {
+    let mut met = (0, 0, 0);
+    for n in 0..MANY {
+        let each = (
+            enters(rt, heap, json, alloc, n)?,
+            copied(rt, heap, json, alloc, n)?,
+            refused(rt, heap, json, alloc, n)?,
+        );
+        if each == (false, false, false) {
+            return Some(met.0 > 0 && met.1 > 0 && met.2 > 0);
+        }
+        met = (
+            if each.0 { n + 1 } else { met.0 },
+            if each.1 { n + 1 } else { met.1 },
+            if each.2 { n + 1 } else { met.2 },
+        );
+    }
+    None
+}
+
+#[test]
+fn calls_out_of_memory(rt: HostRuntime) {
+    let heap = Refusing::new(rt.alloc());
+    assert_eq!(rt; calls_in_turn(&rt, &heap, rt.alloc(), &heap), Some(true));
+    assert_eq!(rt; heap.live(), 0);
+}
+
+/// A state's command with one request refused: whether it met it. Then nothing is logged, or the answer is.
+fn applied<A: Allocator + Copy>(
+    heap: &Heap,
+    json: Global,
+    alloc: A,
+    row: &Row,
+    n: u64,
+) -> Option<bool> {
+    let (list, asked, wanted) = row;
+    let graph = graph_of(json, alloc, LINE)?;
+    let mut state = opened(json, alloc, LINE, 1)?;
+    for before in *list {
+        state
+            .apply(alloc, 0, command_of(alloc, &graph, before)?)
+            .ok()?;
+    }
+    let before = state.snapshot(alloc).ok()?;
+    let command = command_of(alloc, &graph, asked)?;
+    heap.refuse(n);
+    let answer = state.apply(alloc, 0, command);
+    let met = heap.relent(n);
+    let after = state.snapshot(alloc).ok()?;
+    let is_refused = met && wants_memory(&answer);
+    let is_right = match answer.ok() {
+        Some(receipt) => may_answer(&receipt, met, wanted, &after),
+        None => is_refused && are_equal(json, &before, &after)?,
+    };
+    if is_right && state.log().len() as u64 == after.index() {
+        Some(met)
+    } else {
+        None
+    }
+}
+
+/// A state's command with each request refused in turn: how many were.
+fn applied_in_turn<A: Allocator + Copy>(
+    heap: &Heap,
+    json: Global,
+    alloc: A,
+    row: &Row,
+) -> Option<u64> {
+    for n in 0..MANY {
+        if !applied(heap, json, alloc, row, n)? {
+            return Some(n);
+        }
+    }
+    None
+}
+
+#[test]
+fn apply_out_of_memory(rt: HostRuntime) {
+    let heap = Refusing::new(rt.alloc());
+    for (number, row) in ROWS.iter().enumerate() {
+        let count = applied_in_turn(&heap, rt.alloc(), &heap, row);
+        assert!(rt; count.is_some(), "in row {number}");
+        assert!(rt; number > 0 || count != Some(0));
+    }
+    assert_eq!(rt; heap.live(), 0);
+}
+
+fn receipt_copies<A: Allocator + Copy>(heap: &Heap, json: Global, alloc: A) -> Option<u64> {
+    let mut state = opened(json, alloc, LINE, 1)?;
+    let command = command_of(alloc, &graph_of(json, alloc, LINE)?, &FEED)?;
+    let receipt = state.apply(alloc, 0, command).ok()?;
+    in_turn!(heap: {} receipt.copy(alloc); AllocError, true);
+    None
+}
+
+#[test]
+fn copy_of_a_receipt_out_of_memory(rt: HostRuntime) {
+    let heap = Refusing::new(rt.alloc());
+    let count = receipt_copies(&heap, rt.alloc(), &heap);
+    assert!(rt; matches!(count, Some(n) if n > 0));
+    assert_eq!(rt; heap.live(), 0);
+}
