@@ -243,13 +243,6 @@ sorted-entries m = entries_sorted m.map
 abbrev pub IsWithin : Change → Type 0
 IsWithin m = (q : Pointstamp) → unsigned_abs (at m q) ≤ max_count
 
-one_within : (b : Bool) (x y : ℤ) → unsigned_abs x ≤ max_count → unsigned_abs y ≤ max_count → unsigned_abs (cond b x y) ≤ max_count
-one_within true x y g h = g
-one_within false x y g h = h
-
-pub within-set : (m : Change) (k : Pointstamp) (v : ℤ) → IsWithin m → unsigned_abs v ≤ max_count → IsWithin (set m k v)
-within-set m k v within v_within q = rw (at-set m k v q) (one_within (is_point q k) v (at m q) v_within (within q))
-
 -- ---- laws of `set`
 same_point : (k : Pointstamp) → is_point k k ≡ true
 same_point k = ap is_eq (tied_itself point_total k)
@@ -285,12 +278,6 @@ minus-plus m n = same _ _ (λ q. let d = at-minus (plus m n) n q in let e = at-p
 
 pub plus-minus : (m n : Change) → plus (minus m n) n ≡ m
 plus-minus m n = same _ _ (λ q. let d = at-plus (minus m n) n q in let e = at-minus m n q in omega (arith, ints, d, e))
-
-pub plus-comm : (m n : Change) → plus m n ≡ plus n m
-plus-comm m n = same _ _ (λ q. let d = at-plus m n q in let e = at-plus n m q in omega (arith, ints, d, e))
-
-pub plus-none : (m : Change) → plus m none ≡ m
-plus-none m = same _ _ (λ q. let d = at-plus m none q in let e = at-none q in omega (arith, ints, d, e))
 
 -- ---- one entry more
 absent_of : (x : Option ℤ) → x ≢ Some (pos 0) → or_zero x ≡ pos 0 → is_some x ≡ false

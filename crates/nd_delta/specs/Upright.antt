@@ -16,5 +16,5 @@ pub record IsUnsupported {P : Type 0} (R : P → P → Type 0) (H : P → Type 0
   pub alone : IsSupported R H f x → ⊥
 
 -- a processor holds no points
-abbrev pub Holds : Pointstamp → Type 0
-Holds x = ⊥
+abbrev pub HoldsNothing : Pointstamp → Type 0
+HoldsNothing x = ⊥

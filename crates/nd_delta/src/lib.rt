@@ -5,7 +5,7 @@ ghost use Rattle.std.specs.Prelude.{◌≡◌, ◌≢◌, ◌↔◌, ◌<◌, �
 ghost use Rattle.nd_time.specs.Limits.{max_count};
 ghost use Rattle.nd_paths.specs.Order.{IsStrictlyBefore};
 ghost use Rattle.nd_paths.specs.declared.point.Pointstamp.{Pointstamp};
-ghost use Rattle.nd_delta.specs.Upright.{IsSupported, IsUnsupported, IsUpright, Holds};
+ghost use Rattle.nd_delta.specs.Upright.{IsSupported, IsUnsupported, IsUpright, HoldsNothing};
 ghost use Rattle.nd_delta.specs.Least.{IsLeast};
 ghost use Rattle.nd_delta.specs.Change.{none, at, set, size, plus, minus, part, combined, IsTooLarge, IsWithin, entries as listed};
 
@@ -274,8 +274,8 @@ impl<A: Allocator> Delta<A> {
     /// The least pointstamp with a positive integer and nothing negative strictly before it,
     /// or `None` where the change is upright (this project's own rule).
     pub fn unsupported<B: Allocator>(&self, paths: &Paths<B>) -> Option<Pointstamp>
-        ensures upright { IsNone result ↔ IsUpright (IsStrictlyBefore paths.now) Holds (at self.now) }
-        ensures least { IfSome result (IsLeast (IsUnsupported (IsStrictlyBefore paths.now) Holds (at self.now))) }
+        ensures upright { IsNone result ↔ IsUpright (IsStrictlyBefore paths.now) HoldsNothing (at self.now) }
+        ensures least { IfSome result (IsLeast (IsUnsupported (IsStrictlyBefore paths.now) HoldsNothing (at self.now))) }
     {
         self.unsupported_by(paths, &[])
     }

@@ -258,13 +258,6 @@ module _ {K X : Type 0} {R : K → K → Ordering} {N : Number X} (o : IsTotalOr
       ∙ ap (λ b. cond b (int_at n q -ℤ int_at m q) (pos 0)) (list_any-append (eq_by_cmp R q) (keys_of (entries m)) (keys_of (entries n)))
       ∙ less_list _ _ (int_at m q) (int_at n q) (λ e. ap N.int (at-absent m q e) ∙ N.kept_zero) (λ e. ap N.int (at-absent n q e) ∙ N.kept_zero)
 
-  -- entries that tell the difference at each key are as many as the keys at which the maps differ
-  pub changed_entries : IsAntisymmetric R → (m n : Counts R N) (es : List (K × ℤ)) → T (is_sorted R es) → ((q : K) → find R q es ≢ Some (pos 0))
-      → ((q : K) → or_else (pos 0) (find R q es) ≡ int_at n q -ℤ int_at m q) → length es ≡ changed m n
-  changed_entries tells m n es sorted some is =
-      let e : of_entries {N = integers} o es ≡ difference m n = same o tells _ _ (λ q. at-of_entries integers o tells es q ∙ is q ∙ sym (at-difference tells m n q)) in
-      ap length (sym (entries-of_entries integers o tells es sorted some)) ∙ ap size e
-
 -- ---- there and back
 
 overwritten : {X : Type 0} (b : Bool) (x y z : X) → (b ≡ true → x ≡ z) → cond b x (cond b y z) ≡ z

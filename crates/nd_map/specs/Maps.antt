@@ -2,15 +2,14 @@
 --     find-without                  what is found after a key was taken out
 --     from_entries-put, -without    an edit of the entries is that edit of their map
 --     entries-from_entries          the entries of their map are the entries themselves
---     len-from_entries              and there are as many
 -- Two finite maps that answer alike are equal by `same_map` of std, two lists of entries by `same_entries`.
-use Rattle.std.specs.Prelude.{◌≡◌, Bool, true, false, cond, not, List, None, length, refl}
+use Rattle.std.specs.Prelude.{◌≡◌, Bool, true, false, cond, not, List, None, refl}
 use Rattle.std.proofs.Common.{sym, ap, ◌∙◌}
 use Rattle.std.specs.declared.cmp.Ordering.{Ordering}
 use Rattle.std.specs.Ordering.{eq_by_cmp, is_eq}
 use Rattle.std.specs.Cmp.{IsTotalOrder, eq_by_cmp_equiv}
 use Rattle.std.proofs.lemmas.Cmp.{alike_right}
-use Rattle.std.specs.FinMap.{FinMap, IsAntisymmetric, entries, entries_sorted, insert, remove, len, from_entries, find, put, get-entries, get-insert, get-remove, get-from_entries, len-entries, same_map}
+use Rattle.std.specs.FinMap.{IsAntisymmetric, entries, entries_sorted, insert, remove, from_entries, find, put, get-entries, get-insert, get-remove, get-from_entries, same_map}
 use Rattle.std.specs.FinMap.Entries.{find-put, find-where_key, is_sorted-put, is_sorted-where_key, same_entries}
 use Rattle.nd_map.specs.Listed.{IsListed, without}
 
@@ -47,9 +46,3 @@ module _ {K X : Type 0} (R : K → K → Ordering) (o : IsTotalOrder R) where
     entries-from_entries es h =
         same_entries R o same (entries (from_entries {R = R} es)) es (entries_sorted (from_entries {R = R} es)) h
         (λ q. sym (get-entries (from_entries {R = R} es) q) ∙ get-from_entries o es q)
-
-    pub from_entries-entries : (m : FinMap R X) → from_entries (entries m) ≡ m
-    from_entries-entries m = same_map o same _ _ (λ q. get-from_entries o (entries m) q ∙ sym (get-entries m q))
-
-    pub len-from_entries : (es : List (K × X)) → IsListed R es → len (from_entries {R = R} es) ≡ length es
-    len-from_entries es h = len-entries (from_entries {R = R} es) ∙ ap length (entries-from_entries es h)

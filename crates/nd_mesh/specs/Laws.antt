@@ -1,7 +1,7 @@
 -- Laws of the queues as lists: what is read after each change, and that each is undone by its inverse.
-use Rattle.std.specs.Prelude.{◌≡◌, ◌≢◌, ℕ, ◌<◌, ◌-◌, zero, suc, List, [], ◌∷◌, ◌++◌, length, map, Some, slice_get, slice_index_or as get_or, slice_set as set, refl}
+use Rattle.std.specs.Prelude.{◌≡◌, ℕ, ◌<◌, ◌-◌, List, [], ◌∷◌, ◌++◌, length, map, Some, slice_get, slice_index_or as get_or, slice_set as set, refl}
 use Rattle.std.proofs.Common.{ap, ◌∙◌, arith}
-use Rattle.std.proofs.lemmas.List.{length-set, length-append, get_or-set_same, get_or-set_other, set-set, set-get_or, take_at}
+use Rattle.std.proofs.lemmas.List.{length-append, get_or-set_same, set-set, set-get_or, take_at}
 use Rattle.nd_delta.specs.Change.{Change}
 use Rattle.nd_mesh.specs.Mesh.{appended, without_newest, without_oldest, row, queue, with_queue, pushed, unpushed, popped, unpopped}
 
@@ -12,19 +12,8 @@ without_newest-appended c q = take_at q (c ∷ []) (length (q ++ c ∷ []) - 1) 
 
 -- ---- one queue among all
 
-pub length-with_queue : (m : List (List (List Change))) (from to : ℕ) (q : List Change) → length (with_queue m from to q) ≡ length m
-length-with_queue m from to q = length-set m from (set (row m from) to q)
-
 pub queue-with_queue : (m : List (List (List Change))) (from to : ℕ) (q : List Change) → from < length m → to < length (row m from) → queue (with_queue m from to q) from to ≡ q
 queue-with_queue m from to q f t = ap (λ r. get_or r to []) (get_or-set_same m from (set (row m from) to q) [] f) ∙ get_or-set_same (row m from) to q [] t
-
--- the other queues from the same processor
-pub queue-with_queue_beside : (m : List (List (List Change))) (from to k : ℕ) (q : List Change) → from < length m → k ≢ to → queue (with_queue m from to q) from k ≡ queue m from k
-queue-with_queue_beside m from to k q f apart = ap (λ r. get_or r k []) (get_or-set_same m from (set (row m from) to q) [] f) ∙ get_or-set_other (row m from) to k q [] apart
-
--- the queues from other processors
-pub row-with_queue : (m : List (List (List Change))) (from to j : ℕ) (q : List Change) → j ≢ from → row (with_queue m from to q) j ≡ row m j
-row-with_queue m from to j q apart = get_or-set_other m from j (set (row m from) to q) [] apart
 
 pub with_queue-twice : (m : List (List (List Change))) (from to : ℕ) (q r : List Change) → from < length m → with_queue (with_queue m from to q) from to r ≡ with_queue m from to r
 with_queue-twice m from to q r f =
@@ -37,22 +26,8 @@ with_queue-same m from to = ap (set m from) (set-get_or (row m from) to []) ∙ 
 
 -- ---- all queues from one processor
 
-pub length-pushed : (m : List (List (List Change))) (from : ℕ) (c : Change) → length (pushed m from c) ≡ length m
-length-pushed m from c = length-set m from (map (appended c) (row m from))
-
 pub row-pushed : (m : List (List (List Change))) (from : ℕ) (c : Change) → from < length m → row (pushed m from c) from ≡ map (appended c) (row m from)
 row-pushed m from c f = get_or-set_same m from (map (appended c) (row m from)) [] f
-
-pub row-pushed_beside : (m : List (List (List Change))) (from j : ℕ) (c : Change) → j ≢ from → row (pushed m from c) j ≡ row m j
-row-pushed_beside m from j c apart = get_or-set_other m from j (map (appended c) (row m from)) [] apart
-
-at_map : (f : List Change → List Change) (qs : List (List Change)) (k : ℕ) → k < length qs → get_or (map f qs) k [] ≡ f (get_or qs k [])
-at_map f [] k lt = absurd (omega arith)
-at_map f (q ∷ qs) zero lt = refl
-at_map f (q ∷ qs) (suc k) lt = at_map f qs k (omega arith)
-
-pub queue-pushed : (m : List (List (List Change))) (from to : ℕ) (c : Change) → from < length m → to < length (row m from) → queue (pushed m from c) from to ≡ appended c (queue m from to)
-queue-pushed m from to c f t = ap (λ r. get_or r to []) (row-pushed m from c f) ∙ at_map (appended c) (row m from) to t
 
 -- ---- inverses
 

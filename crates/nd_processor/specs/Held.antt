@@ -160,26 +160,12 @@ in_tokens-remove m v x =
 pub held-added : (q : ProcessorState) (k : ValueAt) (n : ℕ) (x : Pointstamp) → held (record q { records = added value_at_total q.records k (pos n) }) x ≡ held q x + many_at k.point n x
 held-added q k n x = let e = in_records-added q.records k n x in omega arith
 
-pub held-taken : (q : ProcessorState) (k : ValueAt) (n : ℕ) (x : Pointstamp) → n ≤ at q.records k
-    → held (record q { records = added value_at_total q.records k (neg_ℤ (pos n)) }) x + many_at k.point n x ≡ held q x
-held-taken q k n x h = let e = in_records-taken q.records k n x h in omega arith
-
-pub held-asked : (q : ProcessorState) (p x : Pointstamp) → fin.get q.requests p ≡ None → held (record q { requests = fin.insert q.requests p tt }) x ≡ held q x + one_at p x
-held-asked q p x h = let e = in_requests-insert q.requests p x h in omega arith
-
-pub held-dropped : (q : ProcessorState) (p x : Pointstamp) → fin.get q.requests p ≡ Some tt → held (record q { requests = fin.remove q.requests p }) x + one_at p x ≡ held q x
-held-dropped q p x h = let e = in_requests-remove q.requests p x h in omega arith
-
 pub held-token : (q : ProcessorState) (v e : ℕ) (x : Pointstamp)
     → held (record q { tokens = fin.insert q.tokens v e }) x + token_at v (fin.get q.tokens v) x ≡ held q x + token_at v (Some e) x
 held-token q v e x = let m = in_tokens-insert q.tokens v e x in omega arith
 
 pub held-closed : (q : ProcessorState) (v : ℕ) (x : Pointstamp) → held (record q { tokens = fin.remove q.tokens v }) x + token_at v (fin.get q.tokens v) x ≡ held q x
 held-closed q v x = let m = in_tokens-remove q.tokens v x in omega arith
-
--- items, sink counts and what is unsent are not outstanding
-pub held-others : (q : ProcessorState) (items : List Items) (sinks : Counts sink_cmp naturals) (unsent : Change) (x : Pointstamp) → held (record q { items = items; sinks = sinks; unsent = unsent }) x ≡ held q x
-held-others q items sinks unsent x = refl
 
 -- ---- empty maps
 

@@ -3,7 +3,7 @@
 
 ghost use Rattle.std.specs.Prelude.{◌≡◌, ◌≤◌, ◌<◌, ◌↔◌, IsTrue, IsSome, IfSome, IsOk, IfOk, length};
 ghost use Rattle.nd_time.specs.Time.{Time, IsAtOrBefore, ingress_of, egress_of, feedback_of, last_of};
-ghost use Rattle.nd_time.specs.Limits.{max_depth};
+ghost use Rattle.nd_time.specs.Limits.{max_depth, max_counter};
 ghost use Rattle.nd_time.specs.Listing.{time_cmp};
 
 use arrayvec::ArrayVec;
@@ -13,7 +13,7 @@ use thiserror::Error;
 /// The most loops that may lie within one another.
 pub const MAX_DEPTH: usize = 4;
 
-/// A loop counter stands at 4294967295 and cannot rise.
+/// A loop counter stands at its greatest value, 4294967295, and cannot rise.
 #[derive(Clone, Copy, Debug, PartialEq, Eq, Drop, Error)]
 #[error("the loop counter is at its limit")]
 pub struct CounterFull;
@@ -24,7 +24,7 @@ pub struct CounterFull;
 #[derive(Debug, PartialEq, Eq, PartialOrd, Ord, Drop)]
 pub struct Timestamp {
     epoch: u32,
-    counters: ArrayVec<u32, 4>,
+    counters: ArrayVec<u32, MAX_DEPTH>,
 }
 
 impl Model for Timestamp {
@@ -116,7 +116,7 @@ impl Timestamp {
     /// The timestamp past a feedback vertex: the innermost counter plus 1.
     pub fn feedback(&self) -> Result<Timestamp, CounterFull>
         requires { 0 < length self.now.counters }
-        ensures room { IsOk result ↔ (last_of self.now.counters < 4294967295) }
+        ensures room { IsOk result ↔ (last_of self.now.counters < max_counter) }
         ensures value { IfOk result (λ t. t ≡ record { epoch = self.now.epoch; counters = feedback_of self.now.counters }) }
     {
         let mut next = self.copy();

@@ -1,12 +1,11 @@
 -- Several views of one graph: what one who holds them needs of them.
 --     maps, AreFor              their maps;  the kept counts of each are those of the graph
 --     maps-get, maps-set        the map of one of them, and of one that another takes the place of
---     for_set, for_more         the views stay those of the graph where one is written, or comes in
+--     for_set                   the views stay those of the graph where one is written
 --     same_all                  they are equal where their maps are
-use Rattle.std.proofs.Common.{◌≡◌, ◌<◌, ℕ, zero, suc, List, [], ◌∷◌, ◌++◌, length, map, get_or, set, refl, ap, sym, ◌∙◌, arith}
+use Rattle.std.proofs.Common.{◌≡◌, ◌<◌, ℕ, zero, suc, List, [], ◌∷◌, length, map, get_or, set, refl, ap, sym, ◌∙◌, arith}
 use Rattle.std.specs.Prelude.{All}
 use Rattle.std.proofs.lemmas.List.{get_or-map}
-use Rattle.std.proofs.lemmas.List.Elements.{All-append}
 use Rattle.nd_graph.specs.Graph.{Dataflow}
 use Rattle.nd_delta.specs.Change.{Change}
 use Rattle.nd_view.specs.Kept.{Kept, IsFor}
@@ -39,9 +38,6 @@ pub for_set : (g : Dataflow) (vs : List Kept) (q : ℕ) (v : Kept) → AreFor g 
 for_set g [] q v h for = h
 for_set g (w ∷ vs) zero v h for = for_cons g v vs for (for_tail g w vs h)
 for_set g (w ∷ vs) (suc q) v h for = for_cons g w (set vs q v) (h 0 w (omega arith)) (for_set g vs q v (for_tail g w vs h) for)
-
-pub for_more : (g : Dataflow) (vs : List Kept) (v : Kept) → AreFor g vs → IsFor g v → AreFor g (vs ++ v ∷ [])
-for_more g vs v h for = All-append (IsFor g) vs (v ∷ []) h (for_cons g v [] for (λ k d lt. absurd (omega (arith, lt))))
 
 pub same_all : (g : Dataflow) (vs ws : List Kept) → AreFor g vs → AreFor g ws → maps vs ≡ maps ws → vs ≡ ws
 same_all g [] [] a b e = refl
