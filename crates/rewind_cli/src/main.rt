@@ -4,10 +4,11 @@
 //! refused, and else with that of the fault, which standard error names.
 #![tactic(auto)]
 
-use rewind::{DebugFault, Options, WordsFault, debug, options_of};
+use rewind::{DebugFault, OpenGate, Options, WordsFault, debug, debug_clients, options_of};
 use rewind_lines::{ReadSource, WriteSink};
 use std::io::ErrorKind;
 use std::process::ExitCode;
+use std::sync::Wait;
 use std::thread::Threads;
 use std::{env, io};
 
@@ -20,12 +21,20 @@ fn report(rt: &impl Eprint, fault: DebugFault) -> u8 {
     fault.status()
 }
 
-/// Runs the script.
-fn run<R: Input + Print + Eprint + AllocGlobal + Threads + Sync>(rt: &R, options: &Options) -> u8 {
+/// Runs the script of one client, or of several, who wait for nobody but one another.
+fn run<R: Input + Print + Eprint + AllocGlobal + Threads + Wait + Sync>(
+    rt: &R,
+    options: &Options,
+) -> u8 {
     let mut source = ReadSource::new(rt.reader());
     let mut sink = WriteSink::new(io::writer(rt));
-    match debug(rt, rt.alloc(), &mut source, &mut sink, options) {
-        Ok(_) => 0,
+    let ended = if options.clients == 1 {
+        debug(rt, rt.alloc(), &mut source, &mut sink, options).map(|_| ())
+    } else {
+        debug_clients(rt, rt.alloc(), &mut source, &mut sink, options, &OpenGate)
+    };
+    match ended {
+        Ok(()) => 0,
         Err(fault) => report(rt, fault),
     }
 }

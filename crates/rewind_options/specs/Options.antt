@@ -6,6 +6,7 @@ use Rattle.clap.specs.Kinds.{IsAmong, Kinds}
 use Rattle.clap.specs.Faults.{fault_of}
 use Rattle.clap.specs.declared.builder.action.ArgAction.TheVariants.{Set}
 use Rattle.clap.specs.declared.builder.value_parser.ValueParser.TheVariants as vp
+use Rattle.nd_time.specs.Limits.{max_clients, max_processors}
 use Rattle.rewind_options.specs.declared.options.WordsFault.{WordsFault}
 use Rattle.rewind_options.specs.declared.options.WordsFault.TheVariants.{Help, Refused, Memory}
 use Rattle.clap.specs.declared.error.kind.ErrorKind.{ErrorKind}
@@ -21,7 +22,7 @@ number_rule name most = record (new_rule name) {
 
 -- the command, and its two options
 abbrev pub command_line : App
-command_line = with_rule (with_rule (new_app (codes "rewind")) (number_rule (codes "processors") 8)) (number_rule (codes "clients") 1)
+command_line = with_rule (with_rule (new_app (codes "rewind")) (number_rule (codes "processors") max_processors)) (number_rule (codes "clients") max_clients)
 
 -- the text that the words give to an option, if they give one
 abbrev pub given : Text → List Text → Option Text

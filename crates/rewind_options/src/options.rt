@@ -8,6 +8,7 @@ ghost use Rattle.clap.specs.Values.{kind_of};
 ghost use Rattle.clap.specs.Built.{FitsChain};
 ghost use Rattle.clap.specs.declared.builder.value_parser.ValueParser.TheVariants as vp;
 ghost use Rattle.clap.specs.declared.builder.command.Command.TheViews.{out-Command};
+ghost use Rattle.nd_time.specs.Limits.{max_clients, max_processors};
 ghost use Rattle.rewind_options.specs.Options.{given, number_or_one, number_rule, refusals, AreRefused, AskHelp, IsHelp, IsRefused};
 
 use clap::error::ErrorKind;
@@ -51,9 +52,9 @@ pub enum WordsFault {
 }
 
 fn processors_argument(alloc: Global) -> Arg<'static>
-    ensures rule { rule_of result ≡ number_rule (codes "processors") 8 }
+    ensures rule { rule_of result ≡ number_rule (codes "processors") max_processors }
     ensures plain { FitsChain result }
-    ensures parser { result.value_parser ≡ Some (vp.Signed (pos 1) (pos 8)) }
+    ensures parser { result.value_parser ≡ Some (vp.Signed (pos 1) (pos max_processors)) }
 {
     Arg::new(alloc, "processors")
         .long("processors")
@@ -63,15 +64,15 @@ fn processors_argument(alloc: Global) -> Arg<'static>
 }
 
 fn clients_argument(alloc: Global) -> Arg<'static>
-    ensures rule { rule_of result ≡ number_rule (codes "clients") 1 }
+    ensures rule { rule_of result ≡ number_rule (codes "clients") max_clients }
     ensures plain { FitsChain result }
-    ensures parser { result.value_parser ≡ Some (vp.Signed (pos 1) (pos 1)) }
+    ensures parser { result.value_parser ≡ Some (vp.Signed (pos 1) (pos max_clients)) }
 {
     Arg::new(alloc, "clients")
         .long("clients")
         .action(ArgAction::Set)
-        .value_parser(value_parser!(u8).range(1..=1))
-        .help("How many clients the script has: 1 so far, and 1 if not given")
+        .value_parser(value_parser!(u8).range(1..=64))
+        .help("How many clients the script has, from 1 to 64, and 1 if not given")
 }
 
 /// The command before its arguments.
@@ -110,8 +111,8 @@ pub fn options_of<S: AsStr>(alloc: Global, words: &[S]) -> Result<Options, Words
         ≡ number_or_one (given (codes "processors") (map S.text words.now))) }
     ensures clients { IfOk result (λ o. o.clients
         ≡ number_or_one (given (codes "clients") (map S.text words.now))) }
-    ensures range { IfOk result (λ o. (1 ≤ o.processors) × (o.processors ≤ 8)
-        × (1 ≤ o.clients) × (o.clients ≤ 1)) }
+    ensures range { IfOk result (λ o. (1 ≤ o.processors) × (o.processors ≤ max_processors)
+        × (1 ≤ o.clients) × (o.clients ≤ max_clients)) }
     ensures taken { OnOk result (refusals (map S.text words.now) ≡ []) }
     ensures help { IfErr result (λ e. IsHelp e → AskHelp (refusals (map S.text words.now))) }
     ensures refused { IfErr result (λ e. IsRefused e → AreRefused (refusals (map S.text words.now))) }

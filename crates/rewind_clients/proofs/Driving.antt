@@ -1,0 +1,179 @@
+-- What clients made of their commands, against the log of their session.
+use Rattle.std.proofs.Common.{◌≡◌, ◌∙◌, ◌==◌, ◌⊎◌, inl, inr, ℕ, zero, suc, ◌+◌, ◌<◌, ◌≤◌, get_or, List, [], ◌∷◌, ◌++◌, length, take, map, Option, Some, None, Global, Vec, refl, sym, ap, subst, arith, length-append}
+use Rattle.std.specs.Prelude.{filter, option_map, replicate, slice_get, slice_index_or, slice_set}
+use Rattle.std.proofs.lemmas.Option.{slice_get-map, slice_get_within, slice_get_cases}
+use Rattle.std.proofs.lemmas.List.{length-map, map-append}
+use Rattle.std.proofs.lemmas.Grind.{replicate_next}
+use Rattle.serde_json.specs.Data.{Data}
+use Rattle.nd_timeline.specs.declared.command.Command.{Command}
+use Rattle.nd_timeline.specs.Moves.{MachineValue}
+use Rattle.nd_session.specs.Clients.{ClientValue, IsHistory}
+use Rattle.nd_protocol.specs.Invariant.{KeepsProtocol}
+use Rattle.nd_session.specs.Close.{IsIn, IsWhole}
+use Rattle.nd_session.specs.Log.{IsStart, Leads, opening_of}
+use Rattle.nd_session.specs.declared.receipt.Receipt.{Receipt}
+use Rattle.nd_session.specs.declared.fault.SessionFault.{SessionFault}
+use Rattle.nd_session.specs.declared.fault.SessionFault.TheVariants.{Memory}
+use Rattle.rewind_clients.specs.Intake.{Commands}
+use Rattle.rewind_clients.specs.Intakes.{lists_of}
+use Rattle.rewind_clients.specs.Served.{AreDone, AreFresh, IsDone, IsFresh, asked}
+use Rattle.rewind_clients.specs.Told.{Ended, IsServed, Told, Tells, commands_of, lines_data}
+use Rattle.rewind_clients.specs.declared.drive.Done.{Done}
+use Rattle.rewind_clients.specs.declared.drive.Task.{Task}
+
+-- an element of a mapped list comes from one of the list
+pub found-map : {A B : Type 0} (f : A → B) (xs : List A) (i : ℕ) (y : B) → slice_get (map f xs) i ≡ Some y → (x : A) × (slice_get xs i ≡ Some x) × (f x ≡ y)
+found-map f xs i y h = from (slice_get xs i) (sym (slice_get-map f xs i) ∙ h) refl
+  where
+    from : (o : Option _) → option_map f o ≡ Some y → slice_get xs i ≡ o → (x : _) × (slice_get xs i ≡ Some x) × (f x ≡ y)
+    from None e is = absurd (cc e)
+    from (Some x) e is = (x, is, cc e)
+
+-- a list has an element at each place below its length
+pub at-place : {A : Type 0} (xs : List A) (i : ℕ) → i < length xs → (x : A) × (slice_get xs i ≡ Some x)
+at-place xs i h = from (slice_get_cases xs i).1
+  where
+    from : (((x : _) × (i < length xs) × (slice_get xs i ≡ Some x) × (get_or xs i x ≡ x)) ⊎ ((length xs ≤ i) × (slice_get xs i ≡ None))) → (x : _) × (slice_get xs i ≡ Some x)
+    from (inl c) = (c.0, c.2)
+    from (inr c) = absurd (let a = c.0 in omega arith)
+
+-- ---- no client made a command
+
+abbrev none-of : List (Command Global) → Ended
+none-of [] = None
+none-of (x ∷ xs) = Some Memory
+
+none-served : (list : List (Command Global)) → IsServed list [] (none-of list)
+none-served [] = refl
+none-served (x ∷ xs) = (0, omega arith, refl)
+
+-- there are lines that may be told of commands
+pub some-lines : (commands : Commands) (machine : MachineValue Global) → IsHistory [] machine → (lines : List Data) × Tells commands lines
+some-lines commands machine history = (
+  _,
+  record {
+    log = [];
+    machine = machine;
+    faults = map none-of commands;
+    told = record {
+      history = history;
+      clients = length-map commands none-of;
+      known = λ i e at. absurd (cc at);
+      served = λ c list ended at gone.
+          let m = found-map none-of commands c ended gone in
+          let same : m.0 ≡ list = cc (sym m.1 ∙ at) in
+          subst (λ (o : Ended). IsServed list [] o) (sym (ap none-of same) ∙ m.2) (none-served list);
+    };
+    shown = refl;
+  },
+)
+
+-- a machine's opening, of which nothing was asked
+pub opened-history : (m : MachineValue Global) → IsStart m.timeline.base → KeepsProtocol m.timeline.base → IsHistory [] (opening_of m)
+unfolding Leads
+opened-history m start protocol = record { start = start; protocol = protocol; legal = record { placed = λ i e at. absurd (cc at); leads = refl } }
+
+-- ---- what the clients made
+
+-- the client at a place, its task and its commands
+pub record Place (commands : Commands) (ts : List Task) (ds : List Done) (k : ℕ) (d : Done) : Type 0 where
+  pub task : Task
+  pub asked_for : List (Command Global)
+  pub at : slice_get commands k ≡ Some asked_for
+  pub number : d.client.number ≡ k
+  pub served : IsServed asked_for (asked d.client.receipts) d.fault
+
+placed : (commands : Commands) (ts : List Task) (ds : List Done) (k : ℕ) (d : Done) → AreFresh commands ts → AreDone ts ds → length ds ≡ length ts → slice_get ds k ≡ Some d → Place commands ts ds k d
+placed commands ts ds k d fresh done size at =
+    let within : k < length ds = slice_get_within ds k d at in
+    let count : length ts ≡ length commands = fresh.count in
+    let t = at-place ts k (omega arith) in
+    let x = at-place commands k (omega arith) in
+    let f = fresh.each k x.0 t.0 x.1 t.1 in
+    let g = done k t.0 d t.1 at in
+    record {
+      task = t.0;
+      asked_for = x.0;
+      at = x.1;
+      number = g.number ∙ f.number_is;
+      served = subst (λ (cs : List (Command Global)). IsServed cs (asked d.client.receipts) d.fault) f.commands_are (g.served f.receipts);
+    }
+
+-- the receipts of the client of a number are the log's entries of that number
+own-entries : (log : List (Receipt Global)) (k : ℕ) (p : ClientValue Global) → p.receipts ≡ filter (λ e. e.client == p.number) log → p.number ≡ k → asked p.receipts ≡ commands_of k log
+own-entries log k p h e = ap asked h ∙ ap (λ (n : ℕ). commands_of n log) e
+
+pub driven : (commands : Commands) (ts : List Task) (ds : List Done) (clients : List (ClientValue Global)) (faults : List Ended) (log : List (Receipt Global)) (machine : MachineValue Global) (entered : ℕ)
+    → AreFresh commands ts → AreDone ts ds → length ds ≡ length ts → clients ≡ map (λ d. d.client) ds → faults ≡ map (λ d. d.fault) ds
+    → IsWhole log clients entered → IsHistory log machine → Told commands log machine faults
+driven commands ts ds clients faults log machine entered fresh done size are faults_are whole history = record {
+  history = history;
+  clients =
+      let a : length faults ≡ length ds = ap length faults_are ∙ length-map ds (λ (d : Done). d.fault) in
+      let b : length ts ≡ length commands = fresh.count in
+      omega arith;
+  known = λ i e at.
+      let w = whole.no_others i e at in
+      let m = found-map (λ (d : Done). d.client) ds w.place w.client (ap (λ (cs : List (ClientValue Global)). slice_get cs w.place) (sym are) ∙ w.at) in
+      let p = placed commands ts ds w.place m.0 fresh done size m.1 in
+      let within : w.place < length commands = slice_get_within commands w.place p.asked_for p.at in
+      let number : e.client ≡ w.place = sym w.number_is ∙ (sym (ap (λ (c : ClientValue Global). c.number) m.2) ∙ p.number) in
+      omega arith;
+  served = λ c list ended at gone.
+      let m = found-map (λ (d : Done). d.fault) ds c ended (ap (λ (fs : List Ended). slice_get fs c) (sym faults_are) ∙ gone) in
+      let p = placed commands ts ds c m.0 fresh done size m.1 in
+      let same : p.asked_for ≡ list = cc (sym p.at ∙ at) in
+      let mine : slice_get clients c ≡ Some m.0.client = ap (λ (cs : List (ClientValue Global)). slice_get cs c) are ∙ (slice_get-map (λ (d : Done). d.client) ds c ∙ ap (option_map (λ (d : Done). d.client)) m.1) in
+      let made = own-entries log c m.0.client (whole.receipts c m.0.client mine) p.number in
+      subst (λ (o : Ended). IsServed list (commands_of c log) o) m.2
+      (subst (λ (cs : List (Command Global)). IsServed cs (commands_of c log) m.0.fault) same
+      (subst (λ (cs : List (Command Global)). IsServed p.asked_for cs m.0.fault) made p.served));
+}
+
+-- ---- clients enter, one after another
+
+-- an element of a list with one more is of the list, or that one
+pub slice_get-snoc : {X : Type 0} (xs : List X) (x : X) (i : ℕ) (y : X) → slice_get (xs ++ x ∷ []) i ≡ Some y
+    → ((i < length xs) × (slice_get xs i ≡ Some y)) ⊎ ((i ≡ length xs) × (x ≡ y))
+slice_get-snoc [] x zero y e = inr (refl, cc)
+slice_get-snoc [] x (suc i) y e = absurd cc
+slice_get-snoc (z ∷ xs) x zero y e = inl (omega arith, e)
+slice_get-snoc (z ∷ xs) x (suc i) y e =
+    elim (slice_get-snoc xs x i y e) [ inl p ↦ inl (omega arith, p.1) | inr p ↦ inr (ap suc p.0, p.1) ]
+
+pub fresh-none : AreFresh [] []
+fresh-none = record { count = refl; each = λ i list t at there. absurd (cc at) }
+
+pub fresh-more : (commands : Commands) (ts : List Task) (list : List (Command Global)) (t : Task) → AreFresh commands ts → IsFresh (length ts) list t → AreFresh (commands ++ list ∷ []) (ts ++ t ∷ [])
+fresh-more commands ts list t h f = record {
+  count = let n : length ts ≡ length commands = h.count in omega (arith, length-append ts (t ∷ []), length-append commands (list ∷ []));
+  each = λ i asked u at there.
+      let n : length ts ≡ length commands = h.count in
+      each i asked u n (slice_get-snoc commands list i asked at) (slice_get-snoc ts t i u there);
+}
+  where
+    each : (i : ℕ) (asked : List (Command Global)) (u : Task) → length ts ≡ length commands → ((i < length commands) × (slice_get commands i ≡ Some asked)) ⊎ ((i ≡ length commands) × (list ≡ asked))
+        → ((i < length ts) × (slice_get ts i ≡ Some u)) ⊎ ((i ≡ length ts) × (t ≡ u)) → IsFresh i asked u
+    each i asked u n (inl a) (inl b) = h.each i asked u a.1 b.1
+    each i asked u n (inr a) (inr b) =
+        subst (λ (j : ℕ). IsFresh j asked u) (sym b.0) (subst (λ (v : Task). IsFresh (length ts) asked v) b.1 (subst (λ (cs : List (Command Global)). IsFresh (length ts) cs t) a.1 f))
+    each i asked u n (inl a) (inr b) = absurd (let x = a.0 in let y = b.0 in omega arith)
+    each i asked u n (inr a) (inl b) = absurd (let x = a.0 in let y = b.0 in omega arith)
+
+-- ---- commands, one behind another
+
+-- no client has a command yet
+pub none-more : (n : ℕ) (vs : List (Vec (Command Global) Global)) (v : Vec (Command Global) Global) → lists_of vs ≡ replicate n [] → v.items ≡ [] → lists_of (vs ++ v ∷ []) ≡ replicate (n + 1) []
+none-more n vs v h none = map-append (λ w. w.items) vs (v ∷ []) ∙ (ap (λ ls. ls ++ v.items ∷ []) h ∙ (ap (λ l. replicate n [] ++ l ∷ []) none ∙ sym (replicate_next n [])))
+
+-- a client has one more
+pub lists-set : (vs : List (Vec (Command Global) Global)) (i : ℕ) (v d : Vec (Command Global) Global) (x : Command Global) → i < length vs → v.items ≡ (slice_index_or vs i d).items ++ x ∷ []
+    → lists_of (slice_set vs i v) ≡ slice_set (lists_of vs) i (slice_index_or (lists_of vs) i [] ++ x ∷ [])
+lists-set [] i v d x h e = absurd (omega arith)
+lists-set (w ∷ ws) zero v d x h e = ap (λ l. l ∷ lists_of ws) e
+lists-set (w ∷ ws) (suc i) v d x h e = ap (λ ls. w.items ∷ ls) (lists-set ws i v d x (omega arith) e)
+
+-- ---- a whole list of clients' commands
+
+pub lists-one : (ys : List (Vec (Command Global) Global)) (v : Vec (Command Global) Global) → lists_of (ys ++ v ∷ []) ≡ lists_of ys ++ v.items ∷ []
+lists-one ys v = map-append (λ w. w.items) ys (v ∷ [])

@@ -1,0 +1,43 @@
+use Rattle.std.proofs.Common.{◌∙◌, ◌∷◌, [], refl, ap}
+use Rattle.std.proofs.lemmas.Result.{err_from_is_err_and}
+use Rattle.serde_json.specs.View.{view}
+use Rattle.nd_session.specs.Log.{opening_of}
+use Rattle.rewind_answers.specs.Stages.{logged}
+use Rattle.rewind_clients.specs.Intake.{script}
+use Rattle.rewind_clients.specs.Intakes.{lists_of}
+use Rattle.rewind_clients.specs.Told.{Tells, lines_data, machine_of}
+use Rattle.rewind_clients.proofs.Driving.{opened-history, some-lines}
+use Rattle.rewind_clients.proofs.Ending.{script-ends, stops-driving, stops-first}
+use Rattle.rewind_clients.proofs.clients.answer_script.Goals as goal
+
+pub returns-in_err-tell_one-clause-run : goal.returns-in_err-tell_one-clause-run
+returns-in_err-tell_one-clause-run g c =
+    let p = err_from_is_err_and c.from_residual.result c.from_residual.ensures.1 in
+    let s = c.args.script in
+    let t = some-lines (lists_of s.commands.items) (opening_of s.state.machine) (opened-history s.state.machine c.timeline.ensures.start c.timeline.ensures.protocol) in
+    rw (p.1, p.2) (λ before told.
+    stops-first (script (view s.reply) (logged s.state) (lists_of s.commands.items)) (view s.reply) t.0 before _ _ (t.0, t.1, refl) (c.in_err-tell_one.ensures.err before told))
+
+pub returns-in_err-driven-clause-run : goal.returns-in_err-driven-clause-run
+returns-in_err-driven-clause-run g c =
+    let p = err_from_is_err_and c.from_residual-in_err-driven.result c.from_residual-in_err-driven.ensures.1 in
+    let s = c.args.script in
+    let t = some-lines (lists_of s.commands.items) (opening_of s.state.machine) (opened-history s.state.machine c.timeline.ensures.start c.timeline.ensures.protocol) in
+    rw (p.1, p.2) (λ before told.
+    stops-driving (view s.reply) (logged s.state) (lists_of s.commands.items) t.0 before _ _ t.1 c.in_err-driven.ensures.kind (c.in_ok-tell_one.ensures.ok before told))
+
+pub returns-clause-run : goal.returns-clause-run
+returns-clause-run g c =
+    let s = c.args.script in
+    let d = c.in_ok-driven.driven in
+    let graph = c.graph.ensures ∙ ap (λ x. x.graph) c.cluster.ensures.value in
+    let lines = lines_data c.graph.result.now c.as_slice.result.now c.as_slice-2.result.now in
+    let t : Tells (lists_of s.commands.items) lines = record {
+      log = d.log.entries.items;
+      machine = machine_of d.log;
+      faults = d.faults.items;
+      told = c.in_ok-driven.ensures.told;
+      shown = λ i. lines_data (graph i) (c.as_slice.ensures.value i) (c.as_slice-2.ensures.value i);
+    } in
+    λ before told.
+    script-ends (view s.reply) (logged s.state) (lists_of s.commands.items) lines before _ _ c.tell_log.result t (c.in_ok-tell_one.ensures.ok before told) c.tell_log.ensures.ok c.tell_log.ensures.err

@@ -1,0 +1,8 @@
+use Rattle.std.proofs.Common.{◌≡◌, map}
+use Rattle.rewind_clients.proofs.drive.split.Given as goal
+
+abbrev pub invariant-loop-one : goal.invariant-loop-one
+invariant-loop-one l = record {
+  clients : l.clients.items ≡ map (λ d. d.client) l.yielded;
+  faults : l.faults.items ≡ map (λ d. d.fault) l.yielded;
+}

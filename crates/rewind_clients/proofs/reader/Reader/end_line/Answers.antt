@@ -1,0 +1,6 @@
+use Rattle.std.proofs.Common.{refl}
+use Rattle.rewind_clients.proofs.Reading.{stands-next}
+use Rattle.rewind_clients.proofs.reader.Reader.end_line.Goals as goal
+
+pub returns-clause-ok : goal.returns-clause-ok
+returns-clause-ok c = λ o done s. stands-next o done c.args.self.now _ _ s (c.in_ok-reading.ensures.reading s.part s.held) c.in_ok-read_line.ensures.reads c.clear.ensures refl refl

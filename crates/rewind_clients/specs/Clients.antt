@@ -1,0 +1,92 @@
+-- How a run of several clients ends, and what it writes.
+use Rattle.std.specs.Prelude.{◌≡◌, ℕ, ◌+◌, ◌<◌, ◌≤◌, List, [], ◌∷◌, ◌++◌, length, drop, Option, Some, Result, Ok, Err}
+use Rattle.serde_json.specs.Data.{Data}
+use Rattle.rewind_lines.specs.Lines.{lines_of}
+use Rattle.rewind_lines.specs.Texts.{text_of}
+use Rattle.rewind_faults.specs.declared.fault.DebugFault.{DebugFault}
+use Rattle.rewind_faults.specs.declared.fault.DebugFault.TheVariants as fault
+use Rattle.rewind_clients.specs.Intake.{Intake, Reads, nothing, refused_graph, faulty_line, script}
+use Rattle.rewind_clients.specs.Told.{Tells}
+use Rattle.rewind_clients.specs.Written.{WroteFront, WroteLines}
+
+-- the reader had `input` and has `left`: all was read, at most `limit` bytes, and its lines come to this
+pub record ReadWhole (processors clients limit : ℕ) (input : List ℕ) (left : Option (List ℕ)) (intake : Intake) : Type 0 where
+  pub reads : Reads processors clients nothing 1 (lines_of input) intake
+  pub within : length input ≤ limit
+  pub ended : left ≡ Some []
+
+-- the reader had `input` and has `left`, and some of it was read
+pub record ReadPart (limit : ℕ) (input : List ℕ) (left : Option (List ℕ)) : Type 0 where
+  pub taken : List ℕ
+  pub rest : List ℕ
+  pub split : input ≡ taken ++ rest
+  pub told : left ≡ Some rest
+  pub within : length taken ≤ limit + 1
+
+-- what is written where the lines come to this: a graph's or a faulty line's reply alone, or all
+abbrev pub Replies : Intake → List Data → Type 0
+Replies nothing replies = replies ≡ []
+Replies (refused_graph reply) replies = replies ≡ reply ∷ []
+Replies (faulty_line reply) replies = replies ≡ reply ∷ []
+Replies (script reply machine commands) replies = (lines : List Data) × Tells commands lines × (replies ≡ reply ∷ lines)
+
+-- which of them end a run well, with Graph, and with Script
+abbrev pub EndsWell : Intake → Type 0
+EndsWell nothing = Unit {0}
+EndsWell (refused_graph reply) = ⊥
+EndsWell (faulty_line reply) = ⊥
+EndsWell (script reply machine commands) = Unit {0}
+
+abbrev pub IsRefused : Intake → Type 0
+IsRefused nothing = ⊥
+IsRefused (refused_graph reply) = Unit {0}
+IsRefused (faulty_line reply) = ⊥
+IsRefused (script reply machine commands) = ⊥
+
+abbrev pub IsFaulty : Intake → Type 0
+IsFaulty nothing = ⊥
+IsFaulty (refused_graph reply) = ⊥
+IsFaulty (faulty_line reply) = Unit {0}
+IsFaulty (script reply machine commands) = ⊥
+
+-- how reading fails before all was read
+abbrev pub ReadFails : ℕ → List ℕ → Option (List ℕ) → DebugFault → Type 0
+ReadFails limit input left fault.Read = ReadPart limit input left
+ReadFails limit input left fault.Memory = ReadPart limit input left
+ReadFails limit input left fault.TooLong = (limit < length input) × (left ≡ Some (drop (limit + 1) input))
+ReadFails limit input left fault.Graph = ⊥
+ReadFails limit input left fault.Script = ⊥
+ReadFails limit input left fault.Write = ⊥
+ReadFails limit input left fault.Close = ⊥
+
+-- the writer held `before` and holds `after`: all replies were written
+abbrev pub WroteAll : Intake → List ℕ → Option (List ℕ) → Type 0
+WroteAll intake before after = (replies : List Data) × Replies intake replies × (after ≡ Some (before ++ text_of replies))
+
+-- what is written of a script that was read, and how the run ends
+abbrev pub Writes : Intake → List ℕ → Option (List ℕ) → Result (Unit {0}) DebugFault → Type 0
+Writes intake before after (Ok done) = EndsWell intake × WroteAll intake before after
+Writes intake before after (Err fault.Graph) = IsRefused intake × WroteAll intake before after
+Writes intake before after (Err fault.Script) = IsFaulty intake × WroteAll intake before after
+Writes intake before after (Err fault.Write) = (replies : List Data) × Replies intake replies × WroteFront replies before after
+Writes intake before after (Err fault.Memory) = (replies : List Data) × Replies intake replies × WroteLines replies before after
+Writes intake before after (Err fault.Close) = (replies : List Data) × Replies intake replies × WroteLines replies before after
+Writes intake before after (Err fault.Read) = ⊥
+Writes intake before after (Err fault.TooLong) = ⊥
+
+-- How a run of several clients ends. The reader had `input` and has `left`; the writer held `before` and holds `after`.
+pub data Ends (processors clients limit : ℕ) (input : List ℕ) (left : Option (List ℕ)) (before : List ℕ) (after : Option (List ℕ)) (result : Result (Unit {0}) DebugFault) : Type 0 where
+  unread : (e : DebugFault) → result ≡ Err e → ReadFails limit input left e → after ≡ Some before → Ends processors clients limit input left before after result
+  answered : (intake : Intake) → ReadWhole processors clients limit input left intake → Writes intake before after result
+      → Ends processors clients limit input left before after result
+
+-- how many bytes are taken, of a reader that tells them or not: all of a script, and one past the limit only to see that it goes on
+abbrev pub Takes : {A : Type 0} → ℕ → Result A DebugFault → ℕ → Type 0
+Takes limit (Ok x) taken = taken ≤ limit
+Takes limit (Err fault.Graph) taken = taken ≤ limit
+Takes limit (Err fault.Script) taken = taken ≤ limit
+Takes limit (Err fault.Read) taken = taken ≤ limit
+Takes limit (Err fault.TooLong) taken = taken ≡ limit + 1
+Takes limit (Err fault.Write) taken = taken ≤ limit
+Takes limit (Err fault.Memory) taken = taken ≤ limit
+Takes limit (Err fault.Close) taken = taken ≤ limit

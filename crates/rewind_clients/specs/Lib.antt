@@ -1,0 +1,10 @@
+pub mod Clients
+pub mod Intake
+pub mod Intakes
+pub mod Numbers
+pub mod Orders
+pub mod Outbox
+pub mod Readers
+pub mod Served
+pub mod Told
+pub mod Written

@@ -1,0 +1,69 @@
+-- What a line behind the graph's asks for in a script of several clients, and of which client.
+use Rattle.std.specs.Prelude.{ℕ, ◌||◌, Bool, true, false, List, codes, nat_lt, if◌then◌else◌, Option, Some, None, Result, Ok, Err}
+use Rattle.serde_json.specs.Data.{Data}
+use Rattle.nd_json.specs.Forms.{has_text}
+use Rattle.nd_graph.specs.Graph.{Dataflow}
+use Rattle.rewind_lines.specs.Lines.{Reading, blank, too_long, no_json, json}
+use Rattle.rewind_forms.specs.Asked.{asked_of}
+use Rattle.rewind_forms.specs.LineFaults.{number_of as number_of_line, name_of as name_of_line}
+use Rattle.rewind_forms.specs.Replies.{faulty}
+use Rattle.rewind_forms.specs.declared.asked.Asked.{Asked}
+use Rattle.rewind_forms.specs.declared.asked.Asked.TheVariants.{Do, Tell}
+use Rattle.rewind_forms.specs.declared.fault.LineFault.{LineFault}
+use Rattle.rewind_forms.specs.declared.fault.LineFault.TheVariants.{LineTooLong, BadLine, BadShape, UnknownName, BadTime, Memory}
+use Rattle.rewind_clients.specs.Numbers.{Named, named_of}
+use Rattle.rewind_clients.specs.declared.order.Order.{Order}
+use Rattle.rewind_clients.specs.declared.order.OrderFault.{OrderFault}
+use Rattle.rewind_clients.specs.declared.order.OrderFault.TheVariants.{Line, BadClient, OneClientOnly}
+
+-- the line asks for this
+abbrev pub asks : List ℕ → Data → Bool
+asks name d = has_text (codes "do") name d
+
+-- the line asks to be told something, and for no command
+unfoldable pub is_query : Data → Bool
+is_query d =
+    asks (codes "state") d || (asks (codes "view") d || (asks (codes "frontier") d || (asks (codes "passed") d
+    || (asks (codes "count") d || (asks (codes "before") d || asks (codes "search") d)))))
+
+-- a line of a client that is there: queries belong to scripts of one client
+abbrev pub of_client : ℕ → Bool → Result Asked LineFault → Result Order OrderFault
+of_client client true asked = Err OneClientOnly
+of_client client false (Ok (Do command)) = Ok (record { client = client; command = command })
+of_client client false (Ok (Tell query)) = Err OneClientOnly
+of_client client false (Err e) = Err (Line e)
+
+-- the form is tested before the client's number, and all names and times behind both
+abbrev pub among : ℕ → ℕ → Bool → Result Asked LineFault → Result Order OrderFault
+among clients client query (Err BadShape) = Err (Line BadShape)
+among clients client query asked = if nat_lt client clients then of_client client query asked else Err BadClient
+
+abbrev pub order_named : ℕ → Dataflow → Option Named → Result Order OrderFault
+order_named clients g None = Err (Line BadShape)
+order_named clients g (Some named) = among clients named.client (is_query named.rest) (asked_of g named.rest)
+
+-- what a line's value asks for, against a graph, where there are so many clients
+unfoldable pub order_of : ℕ → Dataflow → Data → Result Order OrderFault
+order_of clients g d = order_named clients g (named_of d)
+
+-- what a line asks for that is not blank
+abbrev pub order_in : ℕ → Dataflow → Reading → Result Order OrderFault
+order_in clients g blank = Err (Line BadShape)
+order_in clients g too_long = Err (Line LineTooLong)
+order_in clients g no_json = Err (Line BadLine)
+order_in clients g (json d) = order_of clients g d
+
+-- the number and the name under which a line is answered
+abbrev pub number_of : OrderFault → ℕ
+number_of (Line e) = number_of_line e
+number_of BadClient = 35
+number_of OneClientOnly = 36
+
+abbrev pub name_of : OrderFault → List ℕ
+name_of (Line e) = name_of_line e
+name_of BadClient = codes "BadClient"
+name_of OneClientOnly = codes "OneClientOnly"
+
+-- the reply to a faulty line of this number
+abbrev pub order_fault : OrderFault → ℕ → Data
+order_fault e line = faulty (number_of e) (name_of e) line

@@ -1,0 +1,39 @@
+-- How a script that is being read stands. For the clauses of private functions.
+use Rattle.std.specs.Prelude.{◌≡◌, ℕ, ◌+◌, List, ◌∷◌, [], ◌++◌, length, Option, Some}
+use Rattle.rewind_lines.specs.Front.{front_of}
+use Rattle.rewind_lines.specs.Lines.{lines_of}
+use Rattle.rewind_faults.specs.declared.fault.DebugFault.{DebugFault}
+use Rattle.rewind_faults.specs.declared.fault.DebugFault.TheVariants as fault
+use Rattle.rewind_options.specs.declared.options.Options.{Options}
+use Rattle.rewind_clients.specs.Intake.{Reads, nothing}
+use Rattle.rewind_clients.specs.Intakes.{intake_view}
+use Rattle.rewind_clients.specs.declared.reader.Reader.{Reader}
+
+-- `done` was read, and its whole lines were taken in
+pub record StandsAt (options : Options) (done : List ℕ) (reader : Reader) : Type 0 where
+  pub lines : List (List ℕ)
+  pub part : List ℕ
+  pub split : lines_of done ≡ lines ++ part ∷ []
+  pub held : reader.line ≡ front_of part
+  pub reads : Reads options.processors options.clients nothing 1 lines (intake_view reader.intake)
+  pub number : reader.number ≡ length lines + 1
+  pub same : reader.options ≡ options
+
+-- `taken` of the input was read, and so many bytes more may be read
+pub record Going (options : Options) (limit left : ℕ) (input : List ℕ) (remaining : Option (List ℕ)) (reader : Reader) : Type 0 where
+  pub taken : List ℕ
+  pub rest : List ℕ
+  pub whole : input ≡ taken ++ rest
+  pub told : remaining ≡ Some rest
+  pub count : left + length taken ≡ limit
+  pub stands : StandsAt options taken reader
+
+-- the faults of reading
+abbrev pub IsOfReading : DebugFault → Type 0
+IsOfReading fault.Read = Unit {0}
+IsOfReading fault.TooLong = Unit {0}
+IsOfReading fault.Memory = Unit {0}
+IsOfReading fault.Graph = ⊥
+IsOfReading fault.Script = ⊥
+IsOfReading fault.Write = ⊥
+IsOfReading fault.Close = ⊥

@@ -1,0 +1,72 @@
+-- What clients' commands are answered, and what of it is written.
+use Rattle.std.specs.Prelude.{◌≡◌, ◌==◌, ℕ, ◌+◌, ◌<◌, List, [], ◌∷◌, ◌++◌, length, take, map, filter, slice_get, codes, Option, Some, None}
+use Rattle.std.specs.declared.alloc.Global.{Global}
+use Rattle.serde_json.specs.Data.{Data, number, string, object, unsigned, no_members, member}
+use Rattle.nd_graph.specs.Graph.{Dataflow}
+use Rattle.nd_timeline.specs.Timeline.{cluster_of}
+use Rattle.nd_timeline.specs.Moves.{MachineValue}
+use Rattle.nd_timeline.specs.declared.command.Command.{Command}
+use Rattle.nd_session.specs.Clients.{IsHistory}
+use Rattle.nd_session.specs.Faults.{number_of, name_of}
+use Rattle.nd_session.specs.declared.close.Log.{Log}
+use Rattle.nd_session.specs.declared.receipt.Receipt.{Receipt}
+use Rattle.nd_session.specs.declared.fault.SessionFault.{SessionFault}
+use Rattle.rewind_forms.specs.Replies.{reply_data}
+use Rattle.rewind_clients.specs.Intake.{Commands}
+
+-- {"client":c,"number":n,"reply":reply}
+abbrev pub entry : ℕ → ℕ → Data → Data
+entry client count reply = object (member (codes "client") (number (unsigned client))
+    (member (codes "number") (number (unsigned count)) (member (codes "reply") reply no_members)))
+
+-- an entry of the log, with the names of the graph
+abbrev pub entry_data : Dataflow → Receipt Global → Data
+entry_data g e = entry e.client e.number (reply_data g e.reply)
+
+-- {"client":c,"code":n,"error":name}
+abbrev pub client_fault : ℕ → ℕ → List ℕ → Data
+client_fault client code name = object (member (codes "client") (number (unsigned client))
+    (member (codes "code") (number (unsigned code)) (member (codes "error") (string name) no_members)))
+
+-- a client's fault, or none
+abbrev pub Ended : Type 0
+Ended = Option (SessionFault Global)
+
+-- the faults of the clients that had one, by their numbers from k on
+abbrev pub faults_data : ℕ → List Ended → List Data
+faults_data k [] = []
+faults_data k (None ∷ faults) = faults_data (k + 1) faults
+faults_data k (Some e ∷ faults) = client_fault k (number_of e) (name_of e) ∷ faults_data (k + 1) faults
+
+-- a client's commands, as a log has them
+abbrev pub commands_of : ℕ → List (Receipt Global) → List (Command Global)
+commands_of client log = map (λ e. e.command) (filter (λ e. e.client == client) log)
+
+-- of a client's commands the first are in the log, and all of them where it ended without a fault
+abbrev pub IsServed : List (Command Global) → List (Command Global) → Ended → Type 0
+IsServed commands made None = made ≡ commands
+IsServed commands made (Some e) = (n : ℕ) × (n < length commands) × (made ≡ take n commands)
+
+-- These entries and faults are told: a legal log from a start, of the clients' first commands, each client's in order.
+pub record Told (commands : Commands) (log : List (Receipt Global)) (machine : MachineValue Global) (faults : List Ended) : Type 0 where
+  pub history : IsHistory log machine
+  pub clients : length faults ≡ length commands
+  pub known : (i : ℕ) (e : Receipt Global) → slice_get log i ≡ Some e → e.client < length commands
+  pub served : (c : ℕ) (asked : List (Command Global)) (ended : Ended) → slice_get commands c ≡ Some asked → slice_get faults c ≡ Some ended
+      → IsServed asked (commands_of c log) ended
+
+-- the machine of what a session left
+abbrev pub machine_of : Log Global → MachineValue Global
+machine_of l = record { timeline = l.timeline; breaks = l.breaks }
+
+-- the lines of a log, and of the clients' faults
+abbrev pub lines_data : Dataflow → List (Receipt Global) → List Ended → List Data
+lines_data g log faults = map (entry_data g) log ++ faults_data 0 faults
+
+-- the lines behind the graph's reply
+pub record Tells (commands : Commands) (lines : List Data) : Type 0 where
+  pub log : List (Receipt Global)
+  pub machine : MachineValue Global
+  pub faults : List Ended
+  pub told : Told commands log machine faults
+  pub shown : lines ≡ lines_data (cluster_of machine.timeline).graph log faults

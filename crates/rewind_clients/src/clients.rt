@@ -1,0 +1,114 @@
+//! A script of several clients from a source of bytes, its replies to a sink of bytes.
+ghost use Rattle.std.specs.Prelude.{◌≡◌, ◌+◌, ◌-◌, ◌<◌, ◌^◌, ℕ, List, Some, false, true, IfErr, OnOk};
+ghost use Rattle.nd_time.specs.Limits.{max_input};
+ghost use Rattle.serde_json.specs.View.{view};
+ghost use Rattle.rewind_answers.specs.Stages.{logged};
+ghost use Rattle.rewind_faults.specs.Faults.{is_write_fault, is_read_fault};
+ghost use Rattle.rewind_clients.specs.Clients.{Ends, Takes, Writes};
+ghost use Rattle.rewind_clients.specs.Intake.{script as script_in};
+ghost use Rattle.rewind_clients.specs.Served.{IsOfAnswering};
+ghost use Rattle.rewind_clients.specs.Intakes.{intake_view, lists_of};
+
+use crate::drive::drive_session;
+use crate::intake::{Intake, Script};
+use crate::reader::read_script;
+use crate::tell::{tell_log, tell_one};
+use nd_search::Gate;
+use rewind_faults::DebugFault;
+use rewind_lines::{Sink, Source};
+use rewind_options::Options;
+use std::alloc::Global;
+use std::sync::Wait;
+use std::thread::Threads;
+
+/// The most bytes of a script.
+const INPUT_LIMIT: usize = 268_435_456;
+
+// Answers a script that was read whole: the graph's line, then what the clients were answered.
+fn answer_script<R: Threads + Wait + Sync, T: Sink, G: Gate>(
+    rt: &R,
+    alloc: Global,
+    sink: &mut T,
+    script: Script,
+    gate: &G,
+) -> Result<(), DebugFault>
+    requires sound { T.failed sink.old ≡ false }
+    ensures run { (before : List ℕ) → T.contents sink.old ≡ Some before
+        → Writes (script_in (view script.reply) (logged script.state) (lists_of script.commands.items)) before (T.contents sink.new) result }
+    ensures kind { IfErr result IsOfAnswering }
+    ensures write { T.failed sink.new ≡ is_write_fault result }
+{
+    // This call's clauses say that the state began at a start.
+    let _ = script.state.timeline();
+    tell_one(alloc, sink, &script.reply)?;
+    let driven = drive_session(rt, alloc, script.state, script.commands, gate)?;
+    tell_log(
+        alloc,
+        sink,
+        driven.log.timeline.cluster().graph(),
+        driven.log.entries.as_slice(),
+        driven.faults.as_slice(),
+    )
+}
+
+// Answers what the lines of a script came to.
+fn answer<R: Threads + Wait + Sync, T: Sink, G: Gate>(
+    rt: &R,
+    alloc: Global,
+    sink: &mut T,
+    intake: Intake,
+    gate: &G,
+) -> Result<(), DebugFault>
+    requires sound { T.failed sink.old ≡ false }
+    ensures run { (before : List ℕ) → T.contents sink.old ≡ Some before
+        → Writes (intake_view intake) before (T.contents sink.new) result }
+    ensures kind { IfErr result IsOfAnswering }
+    ensures write { T.failed sink.new ≡ is_write_fault result }
+{
+    match intake {
+        Intake::Nothing => Ok(()),
+        Intake::Refused(reply) => {
+            tell_one(alloc, sink, &reply)?;
+            Err(DebugFault::Graph)
+        }
+        Intake::Faulty(reply) => {
+            tell_one(alloc, sink, &reply)?;
+            Err(DebugFault::Script)
+        }
+        Intake::Whole(script) => answer_script(rt, alloc, sink, script, gate),
+    }
+}
+
+/// Runs the script of several clients, each client's commands on a thread of its own.
+///
+/// All of the script is read first, at most `INPUT_LIMIT` bytes; after a fault of reading nothing
+/// is written. The first faulty line is answered alone, and no command is run. Else the graph's
+/// reply is written, and then, once all clients have stopped, the entries of the log and a line for
+/// each client whose command was answered with a fault of the session. The gate is called with a
+/// client's number and that of its command before each.
+pub fn debug_clients<R: Threads + Wait + Sync, S: Source, T: Sink, G: Gate>(
+    rt: &R,
+    alloc: Global,
+    source: &mut S,
+    sink: &mut T,
+    options: &Options,
+    gate: &G,
+) -> Result<(), DebugFault>
+    requires goes_on { S.ended source.old ≡ false }
+    requires unfailed { S.failed source.old ≡ false }
+    requires few { S.given source.old + max_input + 1 < 2 ^ 64 }
+    requires sound { T.failed sink.old ≡ false }
+    ensures run { (input before : List ℕ) → S.remaining source.old ≡ Some input → T.contents sink.old ≡ Some before
+        → Ends options.now.processors options.now.clients max_input input (S.remaining source.new) before (T.contents sink.new) result }
+
+    // Whether the source tells its bytes or not, so many are taken, and all where it ended.
+    ensures takes { Takes max_input result (S.given source.new - S.given source.old) }
+    ensures ended { OnOk result (S.ended source.new ≡ true) }
+
+    // Read and Write are answered exactly where the source or the sink failed.
+    ensures read { S.failed source.new ≡ is_read_fault result }
+    ensures write { T.failed sink.new ≡ is_write_fault result }
+{
+    let intake = read_script(alloc, source, options, INPUT_LIMIT)?;
+    answer(rt, alloc, sink, intake, gate)
+}

@@ -1,0 +1,164 @@
+//! Clients' commands, each client's on a thread of its own.
+ghost use Rattle.std.specs.Prelude.{◌≡◌, [], map, IfOk, IfErr, vec_len};
+ghost use Rattle.rewind_clients.specs.Intakes.{lists_of};
+ghost use Rattle.rewind_clients.specs.Served.{AreDone, AreFresh, IsDone, IsOfDriving, asked};
+ghost use Rattle.rewind_clients.specs.Told.{IsServed, Told, machine_of};
+
+use nd_search::Gate;
+use nd_session::{Client, Log, Session, SessionFault, State};
+use nd_timeline::Command;
+use rewind_faults::DebugFault;
+use std::alloc::{AllocError, Global};
+use std::sync::Wait;
+use std::thread;
+use std::thread::Threads;
+
+/// A client that has entered, and its commands.
+#[derive(Drop)]
+pub struct Task {
+    pub client: Client,
+    pub commands: Vec<Command>,
+}
+
+/// A client that has stopped, and why if it did not make all its commands.
+#[derive(Drop)]
+pub struct Done {
+    pub client: Client,
+    pub fault: Option<SessionFault>,
+}
+
+/// What a run of clients left.
+#[derive(Drop)]
+pub struct Driven {
+    pub log: Log,
+    /// For each client why it did not make all its commands, if it did not.
+    pub faults: Vec<Option<SessionFault>>,
+}
+
+// Makes a client's commands in order, until one is answered with a fault.
+fn drive<R: Wait, G: Gate>(
+    rt: &R,
+    alloc: Global,
+    session: &Session,
+    gate: &G,
+    mut client: Client,
+    commands: Vec<Command>,
+) -> Done
+    ensures number { result.client.number ≡ client.number }
+    ensures served { client.receipts ≡ []
+        → IsServed commands.items (asked result.client.receipts) result.fault }
+{
+    for command in commands {
+        gate.call(client.number(), client.receipts().len() as u64);
+        if let Err(fault) = session.command(rt, alloc, &mut client, command) {
+            return Done {
+                client,
+                fault: Some(fault),
+            };
+        }
+    }
+    Done {
+        client,
+        fault: None,
+    }
+}
+
+// The next client, of this number. Another number, or none, is a session that does not add up.
+fn enter<R: Wait>(
+    rt: &R,
+    alloc: Global,
+    session: &Session,
+    number: u64,
+) -> Result<Client, DebugFault>
+    ensures number { IfOk result (λ c. c.number ≡ number) }
+    ensures receipts { IfOk result (λ c. c.receipts ≡ []) }
+    ensures kind { IfErr result IsOfDriving }
+{
+    let client = match session.enter(rt, alloc) {
+        Ok(client) => client,
+        Err(SessionFault::Memory) => return Err(DebugFault::Memory),
+        Err(_) => return Err(DebugFault::Close),
+    };
+    if client.number() == number {
+        Ok(client)
+    } else {
+        Err(DebugFault::Close)
+    }
+}
+
+// All clients enter, in the order of their numbers, before any command.
+fn enter_all<R: Wait>(
+    rt: &R,
+    alloc: Global,
+    session: &Session,
+    commands: Vec<Vec<Command>>,
+) -> Result<Vec<Task>, DebugFault>
+    ensures fresh { IfOk result (λ v. AreFresh (lists_of commands.items) v.items) }
+    ensures kind { IfErr result IsOfDriving }
+{
+    let mut tasks = Vec::with_capacity(alloc, commands.len())?;
+    for list in commands {
+        let client = enter(rt, alloc, session, tasks.len() as u64)?;
+        tasks.push(Task {
+            client,
+            commands: list,
+        })?;
+    }
+    Ok(tasks)
+}
+
+// Each client's commands, on a thread of its own where one can be made. All are joined.
+fn drive_all<R: Threads + Wait + Sync, G: Gate>(
+    rt: &R,
+    alloc: Global,
+    session: &Session,
+    gate: &G,
+    tasks: Vec<Task>,
+) -> Result<Vec<Done>, AllocError>
+    ensures len { IfOk result (λ v. vec_len v ≡ vec_len tasks) }
+    ensures done { IfOk result (λ v. AreDone tasks.items v.items) }
+{
+    let worker = |task: Task| -> Done
+        ensures { IsDone task result }
+    { drive(rt, alloc, session, gate, task.client, task.commands) };
+    thread::map_vec(rt, tasks, &worker)
+}
+
+// The clients, and why each stopped.
+fn split(
+    alloc: Global,
+    done: Vec<Done>,
+) -> Result<(Vec<Client>, Vec<Option<SessionFault>>), AllocError>
+    ensures clients { IfOk result (λ r. r.0.items ≡ map (λ d. d.client) done.items) }
+    ensures faults { IfOk result (λ r. r.1.items ≡ map (λ d. d.fault) done.items) }
+{
+    let mut clients = Vec::with_capacity(alloc, done.len())?;
+    let mut faults = Vec::with_capacity(alloc, done.len())?;
+    for one in done {
+        clients.push(one.client)?;
+        faults.push(one.fault)?;
+    }
+    Ok((clients, faults))
+}
+
+/// Runs all clients' commands on a session of the state, and closes it.
+pub fn drive_session<R: Threads + Wait + Sync, G: Gate>(
+    rt: &R,
+    alloc: Global,
+    state: State,
+    commands: Vec<Vec<Command>>,
+    gate: &G,
+) -> Result<Driven, DebugFault>
+    ensures told { IfOk result (λ d.
+        Told (lists_of commands.items) d.log.entries.items (machine_of d.log) d.faults.items) }
+    ensures kind { IfErr result IsOfDriving }
+{
+    let session = Session::new(state);
+    let tasks = enter_all(rt, alloc, &session, commands)?;
+    let done = drive_all(rt, alloc, &session, gate, tasks)?;
+    let (clients, faults) = split(alloc, done)?;
+    match session.close(clients) {
+        Ok(log) => Ok(Driven { log, faults }),
+        Err(_) => Err(DebugFault::Close),
+    }
+}

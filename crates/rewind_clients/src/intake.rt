@@ -1,0 +1,173 @@
+//! What the lines of a script come to, read one after another.
+ghost use Rattle.std.specs.Prelude.{◌≡◌, ◌<◌, [], Some, length, IfOk, OnOk};
+ghost use Rattle.serde_json.specs.Data.{Data};
+ghost use Rattle.serde_json.specs.View.{view};
+ghost use Rattle.nd_timeline.specs.Timeline.{cluster_of};
+ghost use Rattle.rewind_lines.specs.Lines.{json};
+ghost use Rattle.rewind_lines.specs.Readings.{reading_view};
+ghost use Rattle.rewind_forms.specs.Replies.{line_fault};
+ghost use Rattle.rewind_answers.specs.Stages.{logged};
+ghost use Rattle.rewind_clients.specs.Orders.{order_in as order_line};
+ghost use Rattle.rewind_clients.specs.Intake.{Begins, refused_graph, ReadsLine, no_commands as no_commands_in, ordered, with_command};
+ghost use Rattle.rewind_clients.specs.Intakes.{intake_view, lists_of, or_faulty};
+
+use crate::order::{Order, order_fault, order_in};
+use crate::shown::Shown;
+use nd_session::State;
+use nd_timeline::Command;
+use rewind_answers::answer_first;
+use rewind_forms::{LineFault, replies};
+use rewind_lines::Reading;
+use serde_json::Value;
+use std::alloc::{AllocError, Global};
+
+/// A script that was read whole.
+#[derive(Drop)]
+pub struct Script {
+    /// The graph's reply.
+    pub reply: Shown,
+    /// The state that begins at the graph's start.
+    pub state: State,
+    /// Each client's commands, in the order of its lines.
+    pub commands: Vec<Vec<Command>>,
+}
+
+/// What the lines read so far come to.
+#[derive(Drop)]
+pub enum Intake {
+    /// All were blank.
+    Nothing,
+    /// The graph's line was refused, and this is its reply.
+    Refused(Shown),
+    /// A line behind the graph's is faulty, and this is its reply.
+    Faulty(Shown),
+    /// A graph, and clients' commands.
+    Whole(Script),
+}
+
+// No client has a command yet.
+fn no_commands(alloc: Global, clients: u8) -> Result<Vec<Vec<Command>>, AllocError>
+    ensures { IfOk result (λ v. lists_of v.items ≡ no_commands_in clients) }
+{
+    let mut commands = Vec::with_capacity(alloc, usize::from(clients))?;
+    for _ in 0..clients {
+        commands.push(Vec::new(alloc))?;
+    }
+    Ok(commands)
+}
+
+// What a line that is no JSON value comes to before the graph's: it ends the run.
+fn refuse(alloc: Global, fault: LineFault, line: u64) -> Result<Intake, AllocError>
+    ensures { IfOk result (λ new. (reply : Data) × (Some reply ≡ line_fault fault line)
+        × (intake_view new ≡ refused_graph reply)) }
+{
+    Ok(Intake::Refused(Shown::new(replies::line_fault(
+        alloc, fault, line,
+    )?)))
+}
+
+// What the graph's line comes to, by its value.
+fn start(
+    alloc: Global,
+    processors: u8,
+    clients: u8,
+    value: &Value,
+    line: u64,
+) -> Result<Intake, AllocError>
+    ensures { IfOk result (λ new.
+        Begins processors clients line (json (view value.now)) (intake_view new)) }
+{
+    let (value, started) = answer_first(alloc, processors, value)?;
+    let reply = Shown::new(value);
+    match started {
+        None => Ok(Intake::Refused(reply)),
+        Some(state) => Ok(Intake::Whole(Script {
+            reply,
+            state,
+            commands: no_commands(alloc, clients)?,
+        })),
+    }
+}
+
+// What the graph's line, or a blank one before it, comes to.
+fn begin(
+    alloc: Global,
+    processors: u8,
+    clients: u8,
+    reading: &Reading,
+    line: u64,
+) -> Result<Intake, AllocError>
+    ensures { IfOk result (λ new.
+        Begins processors clients line (reading_view reading.now) (intake_view new)) }
+{
+    match reading {
+        Reading::Blank => Ok(Intake::Nothing),
+        Reading::TooLong => refuse(alloc, LineFault::LineTooLong, line),
+        Reading::NoJson => refuse(alloc, LineFault::BadLine, line),
+        Reading::Json(value) => start(alloc, processors, clients, value, line),
+    }
+}
+
+// Puts a command behind those of its client.
+fn add_command(commands: &mut Vec<Vec<Command>>, order: Order) -> Result<(), AllocError>
+    requires { order.client < length commands.old.items }
+    ensures { OnOk result
+        (lists_of commands.new.items ≡ with_command order (lists_of commands.old.items)) }
+{
+    let client = order.client as usize;
+    commands[client].push(order.command)?;
+    Ok(())
+}
+
+impl Script {
+    // Takes in a line that is not blank; what it says where it is faulty.
+    fn read_order(
+        &mut self,
+        alloc: Global,
+        reading: Reading,
+        line: u64,
+    ) -> Result<Option<Shown>, AllocError>
+        ensures { IfOk result (λ r. or_faulty r self.new ≡ ordered (view self.old.reply)
+            (logged self.old.state) (lists_of self.old.commands.items) line
+            (order_line (length self.old.commands.items)
+            (cluster_of self.old.state.machine.timeline).graph (reading_view reading))) }
+    {
+        let graph = self.state.timeline().cluster().graph();
+        match order_in(alloc, self.commands.len(), graph, reading)? {
+            Ok(order) => {
+                add_command(&mut self.commands, order)?;
+                Ok(None)
+            }
+            Err(fault) => Ok(Some(Shown::new(order_fault(alloc, fault, line)?))),
+        }
+    }
+}
+
+impl Intake {
+    /// Reads on by the line of this number.
+    pub fn read_line(
+        &mut self,
+        alloc: Global,
+        processors: u8,
+        clients: u8,
+        reading: Reading,
+        line: u64,
+    ) -> Result<(), AllocError>
+        ensures reads { OnOk result (ReadsLine processors clients (intake_view self.old) line
+            (reading_view reading) (intake_view self.new)) }
+    {
+        match self {
+            Intake::Nothing => *self = begin(alloc, processors, clients, &reading, line)?,
+            Intake::Refused(_) | Intake::Faulty(_) => (),
+            Intake::Whole(script) => {
+                if matches!(reading, Reading::Blank) {
+                    return Ok(());
+                }
+                if let Some(reply) = script.read_order(alloc, reading, line)? {
+                    *self = Intake::Faulty(reply);
+                }
+            }
+        }
+        Ok(())
+    }
+}

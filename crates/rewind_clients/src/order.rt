@@ -1,0 +1,150 @@
+//! What a line behind the graph's asks for, and of which client.
+ghost use Rattle.std.specs.Prelude.{◌≡◌, ◌<◌, false, IfOk};
+ghost use Rattle.serde_json.specs.View.{view};
+ghost use Rattle.serde_json.specs.Written.{has_float};
+ghost use Rattle.rewind_lines.specs.Readings.{reading_view};
+ghost use Rattle.rewind_clients.specs.Orders.{among, asks as asks_in, is_query as is_query_in, order_of as order_in_value, order_in as order_in_line, order_fault as order_fault_data, number_of, name_of};
+
+use crate::numbers::without;
+use nd_graph::Graph;
+use nd_json::{has_text, whole_at};
+use nd_timeline::Command;
+use rewind_forms::{Asked, LineFault, asked_of};
+use rewind_lines::Reading;
+use serde_json::{Value, json};
+use std::alloc::{AllocError, Global};
+
+/// A client's command.
+#[derive(Drop)]
+pub struct Order {
+    pub client: u64,
+    pub command: Command,
+}
+
+/// Why a line of a script of several clients is no command (this project's own rule).
+#[derive(Clone, Copy, Debug, PartialEq, Eq, Drop)]
+pub enum OrderFault {
+    /// As in a script of one client.
+    Line(LineFault),
+    /// The line names a client that is not there.
+    BadClient,
+    /// The line asks for what only a script of one client can be told.
+    OneClientOnly,
+}
+
+impl OrderFault {
+    /// The fault's number.
+    pub fn number(self) -> u64
+        ensures { result ≡ number_of self }
+    {
+        match self {
+            OrderFault::Line(fault) => fault.number(),
+            OrderFault::BadClient => 35,
+            OrderFault::OneClientOnly => 36,
+        }
+    }
+
+    /// The fault's name.
+    pub fn name(self) -> &'static str
+        ensures { result.now ≡ name_of self }
+    {
+        match self {
+            OrderFault::Line(fault) => fault.name(),
+            OrderFault::BadClient => "BadClient",
+            OrderFault::OneClientOnly => "OneClientOnly",
+        }
+    }
+}
+
+/// The reply to a faulty line of this number.
+pub fn order_fault(alloc: Global, fault: OrderFault, line: u64) -> Result<Value, AllocError>
+    ensures reply { IfOk result (λ v. view v ≡ order_fault_data fault line) }
+    ensures text { IfOk result (λ v. has_float (view v) ≡ false) }
+{
+    json!(in alloc; {"code": fault.number(), "error": fault.name(), "line": line})
+}
+
+// Whether the line asks for this.
+fn asks(value: &Value, name: &str) -> bool
+    ensures { result ≡ asks_in name.now (view value.now) }
+{
+    has_text(value, "do", name)
+}
+
+// Whether the line asks to be told something, and for no command.
+#[tactic(auto, unfolding(crate::specs::Orders::is_query))]
+fn is_query(value: &Value) -> bool
+    ensures { result ≡ is_query_in (view value.now) }
+{
+    asks(value, "state")
+        || asks(value, "view")
+        || asks(value, "frontier")
+        || asks(value, "passed")
+        || asks(value, "count")
+        || asks(value, "before")
+        || asks(value, "search")
+}
+
+// The order of a line that has a form, among so many clients.
+fn settle(
+    clients: usize,
+    client: u64,
+    query: bool,
+    asked: Result<Asked, LineFault>,
+) -> Result<Order, OrderFault>
+    ensures value { result ≡ among clients client query asked }
+    ensures within { IfOk result (λ o. o.client < clients) }
+{
+    if let Err(LineFault::BadShape) = asked {
+        return Err(OrderFault::Line(LineFault::BadShape));
+    }
+    if client >= clients as u64 {
+        return Err(OrderFault::BadClient);
+    }
+    match (query, asked) {
+        (false, Ok(Asked::Do(command))) => Ok(Order { client, command }),
+        (false, Err(fault)) => Err(OrderFault::Line(fault)),
+        _ => Err(OrderFault::OneClientOnly),
+    }
+}
+
+// What a line's value asks for.
+#[tactic(auto, unfolding(crate::specs::Orders::order_of))]
+fn order_of(
+    alloc: Global,
+    clients: usize,
+    graph: &Graph,
+    value: Value,
+) -> Result<Result<Order, OrderFault>, AllocError>
+    ensures value { IfOk result (λ r. r ≡ order_in_value clients graph.now (view value)) }
+    ensures within { IfOk result (λ r. IfOk r (λ o. o.client < clients)) }
+{
+    let Some(client) = whole_at(&value, "client") else {
+        return Ok(Err(OrderFault::Line(LineFault::BadShape)));
+    };
+    let rest = without(value, "client");
+    let query = is_query(&rest);
+    match asked_of(alloc, graph, &rest) {
+        Ok(asked) => Ok(settle(clients, client, query, Ok(asked))),
+        Err(LineFault::Memory) => Err(AllocError),
+        Err(fault) => Ok(settle(clients, client, query, Err(fault))),
+    }
+}
+
+/// What a line asks for that is not blank, among so many clients; the outer `Err` is want of memory.
+pub fn order_in(
+    alloc: Global,
+    clients: usize,
+    graph: &Graph,
+    reading: Reading,
+) -> Result<Result<Order, OrderFault>, AllocError>
+    ensures value { IfOk result (λ r. r ≡ order_in_line clients graph.now (reading_view reading)) }
+    ensures within { IfOk result (λ r. IfOk r (λ o. o.client < clients)) }
+{
+    match reading {
+        Reading::Blank => Ok(Err(OrderFault::Line(LineFault::BadShape))),
+        Reading::TooLong => Ok(Err(OrderFault::Line(LineFault::LineTooLong))),
+        Reading::NoJson => Ok(Err(OrderFault::Line(LineFault::BadLine))),
+        Reading::Json(value) => order_of(alloc, clients, graph, value),
+    }
+}

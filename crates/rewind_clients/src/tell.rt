@@ -1,0 +1,150 @@
+//! What the clients were answered, as lines.
+ghost use Rattle.std.specs.Prelude.{◌≡◌, ◌++◌, ◌∷◌, [], ℕ, List, Some, false, map, IfOk, IfErr, OnOk};
+ghost use Rattle.serde_json.specs.Data.{Data};
+ghost use Rattle.serde_json.specs.View.{view};
+ghost use Rattle.serde_json.specs.Written.{has_float};
+ghost use Rattle.nd_session.specs.Faults.{number_of, name_of};
+ghost use Rattle.rewind_lines.specs.Texts.{text_of};
+ghost use Rattle.rewind_faults.specs.Faults.{is_write_fault};
+ghost use Rattle.rewind_clients.specs.Outbox.{Gathered, IsOfWriting, StopsIn};
+ghost use Rattle.rewind_clients.specs.Told.{client_fault, entry_data, faults_data, lines_data};
+
+use crate::outbox::Outbox;
+use crate::shown::Shown;
+use nd_graph::Graph;
+use nd_session::{Receipt, SessionFault};
+use rewind_faults::DebugFault;
+use rewind_forms::replies;
+use rewind_lines::Sink;
+use serde_json::{Value, json};
+use std::alloc::{AllocError, Global};
+
+// The line of an entry of the log.
+fn entry_value(alloc: Global, graph: &Graph, entry: &Receipt) -> Result<Value, AllocError>
+    ensures reply { IfOk result (λ v. view v ≡ entry_data graph.now entry.now) }
+    ensures text { IfOk result (λ v. has_float (view v) ≡ false) }
+{
+    let reply = replies::command_reply(alloc, graph, &entry.reply)?;
+    json!(in alloc; {"client": entry.client, "number": entry.number, "reply": reply})
+}
+
+// The line of a client whose command was answered with a fault.
+fn fault_value(alloc: Global, client: u64, fault: &SessionFault) -> Result<Value, AllocError>
+    ensures reply { IfOk result (λ v. view v ≡ client_fault client (number_of fault.now) (name_of fault.now)) }
+    ensures text { IfOk result (λ v. has_float (view v) ≡ false) }
+{
+    json!(in alloc; {"client": client, "code": fault.number(), "error": fault.name()})
+}
+
+/// Gathers the lines of the entries of a log.
+pub fn put_log<T: Sink>(
+    alloc: Global,
+    outbox: &mut Outbox,
+    sink: &mut T,
+    graph: &Graph,
+    log: &[Receipt],
+) -> Result<(), DebugFault>
+    requires sound { T.failed sink.old ≡ false }
+    ensures ok { OnOk result ((replies : List Data) (before : List ℕ)
+        → Gathered replies outbox.old.waiting.items before (T.contents sink.old)
+        → Gathered (replies ++ map (entry_data graph.now) log.now) outbox.new.waiting.items before (T.contents sink.new)) }
+    ensures err { IfErr result (λ e. (replies : List Data) (before : List ℕ)
+        → Gathered replies outbox.old.waiting.items before (T.contents sink.old)
+        → StopsIn (replies ++ map (entry_data graph.now) log.now) before (T.contents sink.new) e) }
+    ensures kind { IfErr result IsOfWriting }
+    ensures failed { T.failed sink.new ≡ is_write_fault result }
+{
+    for entry in log {
+        let value = entry_value(alloc, graph, entry)?;
+        outbox.put(sink, &value)?;
+    }
+    Ok(())
+}
+
+// Gathers the line of a client's fault, if it had one.
+fn put_fault<T: Sink>(
+    alloc: Global,
+    outbox: &mut Outbox,
+    sink: &mut T,
+    client: u64,
+    fault: &Option<SessionFault>,
+) -> Result<(), DebugFault>
+    requires sound { T.failed sink.old ≡ false }
+    ensures ok { OnOk result ((replies : List Data) (before : List ℕ)
+        → Gathered replies outbox.old.waiting.items before (T.contents sink.old)
+        → Gathered (replies ++ faults_data client (fault.now ∷ [])) outbox.new.waiting.items before (T.contents sink.new)) }
+    ensures err { IfErr result (λ e. (replies : List Data) (before : List ℕ)
+        → Gathered replies outbox.old.waiting.items before (T.contents sink.old)
+        → StopsIn (replies ++ faults_data client (fault.now ∷ [])) before (T.contents sink.new) e) }
+    ensures kind { IfErr result IsOfWriting }
+    ensures failed { T.failed sink.new ≡ is_write_fault result }
+{
+    let Some(fault) = fault else {
+        return Ok(());
+    };
+    let value = fault_value(alloc, client, fault)?;
+    outbox.put(sink, &value)?;
+    Ok(())
+}
+
+/// Gathers the lines of the clients' faults.
+pub fn put_faults<T: Sink>(
+    alloc: Global,
+    outbox: &mut Outbox,
+    sink: &mut T,
+    faults: &[Option<SessionFault>],
+) -> Result<(), DebugFault>
+    requires sound { T.failed sink.old ≡ false }
+    ensures ok { OnOk result ((replies : List Data) (before : List ℕ)
+        → Gathered replies outbox.old.waiting.items before (T.contents sink.old)
+        → Gathered (replies ++ faults_data 0 faults.now) outbox.new.waiting.items before (T.contents sink.new)) }
+    ensures err { IfErr result (λ e. (replies : List Data) (before : List ℕ)
+        → Gathered replies outbox.old.waiting.items before (T.contents sink.old)
+        → StopsIn (replies ++ faults_data 0 faults.now) before (T.contents sink.new) e) }
+    ensures kind { IfErr result IsOfWriting }
+    ensures failed { T.failed sink.new ≡ is_write_fault result }
+{
+    for (client, fault) in faults.iter().enumerate() {
+        put_fault(alloc, outbox, sink, client as u64, fault)?;
+    }
+    Ok(())
+}
+
+/// Writes a reply alone.
+pub fn tell_one<T: Sink>(alloc: Global, sink: &mut T, reply: &Shown) -> Result<(), DebugFault>
+    requires sound { T.failed sink.old ≡ false }
+    ensures ok { OnOk result ((before : List ℕ) → T.contents sink.old ≡ Some before
+        → T.contents sink.new ≡ Some (before ++ text_of (view reply.now ∷ []))) }
+    ensures err { IfErr result (λ e. (before : List ℕ) → T.contents sink.old ≡ Some before
+        → StopsIn (view reply.now ∷ []) before (T.contents sink.new) e) }
+    ensures kind { IfErr result IsOfWriting }
+    ensures failed { T.failed sink.new ≡ is_write_fault result }
+{
+    let mut outbox = Outbox::new(alloc);
+    outbox.put(sink, reply.value())?;
+    outbox.flush(sink)?;
+    Ok(())
+}
+
+/// Writes the lines of a log, and of the clients' faults.
+pub fn tell_log<T: Sink>(
+    alloc: Global,
+    sink: &mut T,
+    graph: &Graph,
+    log: &[Receipt],
+    faults: &[Option<SessionFault>],
+) -> Result<(), DebugFault>
+    requires sound { T.failed sink.old ≡ false }
+    ensures ok { OnOk result ((before : List ℕ) → T.contents sink.old ≡ Some before
+        → T.contents sink.new ≡ Some (before ++ text_of (lines_data graph.now log.now faults.now))) }
+    ensures err { IfErr result (λ e. (before : List ℕ) → T.contents sink.old ≡ Some before
+        → StopsIn (lines_data graph.now log.now faults.now) before (T.contents sink.new) e) }
+    ensures kind { IfErr result IsOfWriting }
+    ensures failed { T.failed sink.new ≡ is_write_fault result }
+{
+    let mut outbox = Outbox::new(alloc);
+    put_log(alloc, &mut outbox, sink, graph, log)?;
+    put_faults(alloc, &mut outbox, sink, faults)?;
+    outbox.flush(sink)?;
+    Ok(())
+}
