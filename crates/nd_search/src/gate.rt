@@ -1,12 +1,13 @@
-//! A call that a worker makes before each piece.
+//! A call that a worker makes before each piece, and a client before each command.
 
-/// What a search calls before each piece, by which a test can hold a worker (this project's own
-/// rule).
+/// What a search calls before each piece, and what a run of several clients calls before each
+/// command, by which a test can hold a worker or a client (this project's own rule).
 ///
-/// No answer of a search depends on it.
+/// No answer depends on it.
 pub trait Gate: Sync {
-    /// Worker `who`, counted from 0, is about to search a piece.
-    fn call(&self, who: u64, piece: u64);
+    /// Worker or client `who`, counted from 0, is about to search this piece or make its command
+    /// of this number.
+    fn call(&self, who: u64, number: u64);
 }
 
 /// A gate that returns at once.
@@ -14,5 +15,5 @@ pub trait Gate: Sync {
 pub struct OpenGate;
 
 impl Gate for OpenGate {
-    fn call(&self, _who: u64, _piece: u64) {}
+    fn call(&self, _who: u64, _number: u64) {}
 }
