@@ -11,5 +11,3 @@ mod opened;
 mod searches;
 #[cfg(test)]
 mod sessions;
-#[cfg(test)]
-mod sign;

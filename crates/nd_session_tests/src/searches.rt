@@ -1,9 +1,9 @@
 //! Searches of snapshots: the worked ones, how the pieces are claimed, and each request for memory refused in turn.
 
-use crate::sign::Sign;
 use nd_cluster::Next;
 use nd_drawn::{LINE, point};
 use nd_search::{Gate, OpenGate, SearchFault, Snapshot, search};
+use nd_sign::Sign;
 use nd_timeline::Timeline;
 use nd_told::{Told, start, step_of};
 use nd_watch::Break;

@@ -7,6 +7,6 @@ mod run;
 
 pub use driver::{INPUT_LIMIT, debug, debug_within};
 pub use nd_search::{Gate, OpenGate};
-pub use rewind_clients::debug_clients;
+pub use rewind_clients::{debug_clients, debug_clients_within};
 pub use rewind_faults::DebugFault;
 pub use rewind_options::{Options, WordsFault, options_of};

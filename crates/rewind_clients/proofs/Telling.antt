@@ -91,7 +91,7 @@ faults-step xs fs i f h at =
     ap (λ ds. ds ++ faults_data (i + 1) (drop (i + 1) fs)) (faults-one xs fs i f h at)
     ∙ (append_assoc xs (faults_data 0 (take (i + 1) fs)) (faults_data (i + 1) (drop (i + 1) fs))
     ∙ ap (λ ds. xs ++ ds) (
-      let size : 0 + length (take (i + 1) fs) ≡ i + 1 = omega (arith, length-take (i + 1) fs) in
-      ap (λ j. faults_data 0 (take (i + 1) fs) ++ faults_data j (drop (i + 1) fs)) (sym size)
-      ∙ (sym (faults-append 0 (take (i + 1) fs) (drop (i + 1) fs)) ∙ ap (faults_data 0) (take-append-drop (i + 1) fs))
+    let size : 0 + length (take (i + 1) fs) ≡ i + 1 = omega (arith, length-take (i + 1) fs) in
+    ap (λ j. faults_data 0 (take (i + 1) fs) ++ faults_data j (drop (i + 1) fs)) (sym size)
+    ∙ (sym (faults-append 0 (take (i + 1) fs) (drop (i + 1) fs)) ∙ ap (faults_data 0) (take-append-drop (i + 1) fs))
     ))

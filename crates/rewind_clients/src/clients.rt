@@ -109,6 +109,31 @@ pub fn debug_clients<R: Threads + Wait + Sync, S: Source, T: Sink, G: Gate>(
     ensures read { S.failed source.new ≡ is_read_fault result }
     ensures write { T.failed sink.new ≡ is_write_fault result }
 {
-    let intake = read_script(alloc, source, options, INPUT_LIMIT)?;
+    debug_clients_within(rt, alloc, source, sink, options, gate, INPUT_LIMIT)
+}
+
+/// The same, of a script of at most `limit` bytes.
+pub fn debug_clients_within<R: Threads + Wait + Sync, S: Source, T: Sink, G: Gate>(
+    rt: &R,
+    alloc: Global,
+    source: &mut S,
+    sink: &mut T,
+    options: &Options,
+    gate: &G,
+    limit: usize,
+) -> Result<(), DebugFault>
+    requires limit { limit < 2 ^ 63 }
+    requires goes_on { S.ended source.old ≡ false }
+    requires unfailed { S.failed source.old ≡ false }
+    requires few { S.given source.old + limit + 1 < 2 ^ 64 }
+    requires sound { T.failed sink.old ≡ false }
+    ensures run { (input before : List ℕ) → S.remaining source.old ≡ Some input → T.contents sink.old ≡ Some before
+        → Ends options.now.processors options.now.clients limit input (S.remaining source.new) before (T.contents sink.new) result }
+    ensures takes { Takes limit result (S.given source.new - S.given source.old) }
+    ensures ended { OnOk result (S.ended source.new ≡ true) }
+    ensures read { S.failed source.new ≡ is_read_fault result }
+    ensures write { T.failed sink.new ≡ is_write_fault result }
+{
+    let intake = read_script(alloc, source, options, limit)?;
     answer(rt, alloc, sink, intake, gate)
 }

@@ -61,9 +61,7 @@ fn refuse(alloc: Global, fault: LineFault, line: u64) -> Result<Intake, AllocErr
     ensures { IfOk result (λ new. (reply : Data) × (Some reply ≡ line_fault fault line)
         × (intake_view new ≡ refused_graph reply)) }
 {
-    Ok(Intake::Refused(Shown::new(replies::line_fault(
-        alloc, fault, line,
-    )?)))
+    Ok(Intake::Refused(Shown::new(replies::line_fault(alloc, fault, line)?)))
 }
 
 // What the graph's line comes to, by its value.

@@ -11,4 +11,4 @@ mod reader;
 mod shown;
 mod tell;
 
-pub use clients::debug_clients;
+pub use clients::{debug_clients, debug_clients_within};

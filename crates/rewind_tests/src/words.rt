@@ -6,13 +6,13 @@ use std::test::Fail;
 #[test]
 fn reads_both(rt: HostRuntime) -> Result<(), Fail> {
     let alloc = rt.alloc();
-    let words = ["rewind", "--clients=1", "--processors", "+8"];
+    let words = ["rewind", "--clients=64", "--processors", "+8"];
     let both = options_of(alloc, words.as_slice());
     let is_read = matches!(
         &both,
         Ok(Options {
             processors: 8,
-            clients: 1
+            clients: 64
         })
     );
     assert!(rt; is_read);
@@ -39,8 +39,8 @@ static REFUSED: [([&str; 3], &str); 7] = [
         "error: invalid value '0' for '--processors <processors>': 0 is not in 1..=8\n\nFor more information, try '--help'.\n",
     ),
     (
-        ["rewind", "--clients", "2"],
-        "error: invalid value '2' for '--clients <clients>': 2 is not in 1..=1\n\nFor more information, try '--help'.\n",
+        ["rewind", "--clients", "65"],
+        "error: invalid value '65' for '--clients <clients>': 65 is not in 1..=64\n\nFor more information, try '--help'.\n",
     ),
     (
         ["rewind", "--processors", "one"],
@@ -78,7 +78,7 @@ const HELP: &str = concat!(
     "Usage: rewind [OPTIONS]\n\n",
     "Options:\n",
     "      --processors <processors>  How many processors the modelled cluster has, from 1 to 8, and 1 if not given\n",
-    "      --clients <clients>        How many clients the script has: 1 so far, and 1 if not given\n",
+    "      --clients <clients>        How many clients the script has, from 1 to 64, and 1 if not given\n",
     "  -h, --help                     Print help\n\n",
     "The script is read from standard input: a graph, then a command or a query a line.\n\n",
     "Example:\n",

@@ -1,4 +1,5 @@
-//! What one thread waits for and another gives.
+//! A sign that one thread waits for and another gives, for tests.
+#![tactic(auto)]
 
 use std::rt::Clock;
 use std::sync::atomic::{AtomicBool, Ordering};
