@@ -48,7 +48,11 @@ pub record IsReady {A : Type 0} (table : TableId) (pieces : ℕ) (job : Job A) :
   pub me_is : job.ticket.me ≡ (hand (pieces + 1) (pieces + 1) [], [])
   pub empty : IsEmpty pieces job.searched
 
--- and a copy of the timeline
+-- a copy of the timeline
+abbrev pub IsCopy : {A : Type 0} → TimelineValue A → TimelineValue A → Type 0
+IsCopy m t = t ≡ m
+
+-- a worker that is ready, with a copy of the timeline
 pub record IsJob {A : Type 0} (m : TimelineValue A) (table : TableId) (pieces : ℕ) (job : Job A) : Type 0 where
   pub copy : job.timeline ≡ m
   pub ready : IsReady table pieces job

@@ -57,7 +57,7 @@ fn claims<A: Allocator + Copy>(
 /// At most 64 workers are started, each on a thread of its own and with a copy of the snapshot's
 /// timeline (this project's own rule). They claim pieces of 16 positions, one after the other, and
 /// call the gate before each. One that is refused memory in its walk stops, and the others go on.
-pub fn search<A: Allocator + Copy + Send, R: Threads + Sync, G: Gate>(
+pub fn search<A: Allocator + Copy + Send + Sync, R: Threads + Sync, G: Gate>(
     rt: &R,
     alloc: A,
     snapshot: &Snapshot<A>,

@@ -1,12 +1,13 @@
 //! The workers of a search: each with a copy of the timeline, and on a thread of its own.
-ghost use Rattle.std.specs.Prelude.{◌≡◌, ◌+◌, ◌*◌, ◌<◌, ◌≤◌, ℕ, [], length, map, min, nat_lt, cond, All, IfOk, vec_len};
+ghost use Rattle.std.specs.Prelude.{◌≡◌, ◌+◌, ◌*◌, ◌<◌, ◌≤◌, ℕ, [], length, map, min, nat_lt, cond, All, Ok, IfOk, vec_len};
 ghost use Rattle.nd_time.specs.Limits.{max_kept, max_workers};
+ghost use Rattle.nd_timeline.specs.Timeline.{TimelineValue};
 ghost use Rattle.nd_search.specs.Least.{HoldsAt};
 ghost use Rattle.nd_search.specs.Pieces.{piece_count};
 ghost use Rattle.nd_search.specs.Claims.{times, times_all};
 ghost use Rattle.nd_search.specs.Answers.{AreClaims};
 ghost use Rattle.nd_search.specs.Hands.{hand};
-ghost use Rattle.nd_search.specs.Works.{IsJob, IsReady, HasDrawn, IsSearched, IsWork, IsEmpty};
+ghost use Rattle.nd_search.specs.Works.{IsCopy, IsJob, IsReady, HasDrawn, IsSearched, IsWork, IsEmpty};
 
 use crate::Gate;
 use crate::board::{Ticket, Word, end_board, gather, open_board, share};
@@ -32,10 +33,43 @@ fn room<A: Allocator + Copy>(alloc: A, pieces: u64) -> Result<Searched<A>, Alloc
     })
 }
 
+// The copies, where all were made.
+fn granted<A: Allocator + Copy>(
+    alloc: A,
+    made: Vec<Result<Timeline<A>, AllocError>, A>,
+) -> Result<Vec<Timeline<A>, A>, AllocError>
+    ensures each { IfOk result (λ v. made.items ≡ map Ok v.items) }
+    ensures len { IfOk result (λ v. vec_len v ≡ vec_len made) }
+{
+    let mut copies = Vec::with_capacity(alloc, made.len())?;
+    for copy in made {
+        copies.push_reserved(copy?);
+    }
+    Ok(copies)
+}
+
+// A copy of the timeline for each worker. They are made side by side, since a long run takes as
+// long to copy as to walk.
+fn copies<A: Allocator + Copy + Send + Sync, R: Threads + Sync>(
+    rt: &R,
+    alloc: A,
+    timeline: &Timeline<A>,
+    workers: u64,
+) -> Result<Vec<Timeline<A>, A>, AllocError>
+    ensures len { IfOk result (λ v. vec_len v ≡ workers) }
+    ensures same { IfOk result (λ v. All (IsCopy timeline.now) v.items) }
+{
+    let copier = |_: usize| -> Result<Timeline<A>, AllocError>
+        ensures { IfOk result (IsCopy timeline.entry.now) }
+    { timeline.copy(alloc) };
+    let made = thread::map_indices(rt, alloc, workers as usize, &copier)?;
+    granted(alloc, made)
+}
+
 // A copy, a seat and room for each worker.
 fn jobs<A: Allocator + Copy>(
     alloc: A,
-    timeline: &Timeline<A>,
+    mut copies: Vec<Timeline<A>, A>,
     word: &Word,
     ticket: &mut Ticket,
     workers: u64,
@@ -44,13 +78,17 @@ fn jobs<A: Allocator + Copy>(
     requires word { (ticket.old.table_id ≡ word.now.table_id) × (0 < word.now.table_id.words) }
     requires whole { ticket.old.me ≡ (hand (pieces + 1) (workers * (pieces + 1)) [], []) }
     requires small { (workers ≤ max_workers) × (pieces ≤ max_kept + 1) }
-    ensures all { IfOk result (λ v. All (IsJob timeline.now word.now.table_id pieces) v.items) }
+    requires enough { vec_len copies ≡ workers }
+    ensures all { (m : TimelineValue A) → All (IsCopy m) copies.items
+        → IfOk result (λ v. All (IsJob m word.now.table_id pieces) v.items) }
     ensures len { IfOk result (λ v. vec_len v ≡ workers) }
     ensures ticket { IfOk result (λ _. (ticket.new.table_id ≡ word.now.table_id) × (ticket.new.me ≡ (hand (pieces + 1) 0 [], []))) }
 {
     let mut jobs = Vec::with_capacity(alloc, workers as usize)?;
     for number in 0..workers {
-        let timeline = timeline.copy(alloc)?;
+        let Some(timeline) = copies.pop() else {
+            unreachable!()
+        };
         let searched = room(alloc, pieces)?;
         jobs.push_reserved(Job {
             number,
@@ -91,7 +129,7 @@ fn gathered<A: Allocator + Copy>(
 }
 
 /// What each worker claims and finds. All are joined.
-pub(crate) fn search_all<A: Allocator + Copy + Send, R: Threads + Sync, G: Gate>(
+pub(crate) fn search_all<A: Allocator + Copy + Send + Sync, R: Threads + Sync, G: Gate>(
     rt: &R,
     alloc: A,
     timeline: &Timeline<A>,
@@ -108,7 +146,8 @@ pub(crate) fn search_all<A: Allocator + Copy + Send, R: Threads + Sync, G: Gate>
     let workers = workers.min(MAX_WORKERS);
     let (board, mut ticket) = open_board(alloc, workers, pieces + 1)?;
     let word = &board.shared;
-    let jobs = jobs(alloc, timeline, word, &mut ticket, workers, pieces)?;
+    let copies = copies(rt, alloc, timeline, workers)?;
+    let jobs = jobs(alloc, copies, word, &mut ticket, workers, pieces)?;
     let worker = |job: Job<A>| -> Work<A>
         requires { IsReady word.now.table_id pieces job × (0 < word.now.table_id.words) × (positions.lo ≤ positions.hi) × (positions.hi ≤ max_kept) × (pieces ≡ piece_count positions.lo positions.hi) }
         ensures { IsWork (HoldsAt job.timeline b.entry.now) positions.lo positions.hi word.entry.now.table_id pieces result }

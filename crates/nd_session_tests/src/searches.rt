@@ -209,7 +209,7 @@ fn are_below<A: Allocator>(alloc: Global, lists: &[Vec<u64, A>]) -> Option<bool>
 ///
 /// `None` for an answer that is not the one with ample memory and not want of it, and where a block
 /// stays.
-fn searched<A: Allocator + Copy + Send, R: Threads + Sync>(
+fn searched<A: Allocator + Copy + Send + Sync, R: Threads + Sync>(
     rt: &R,
     heap: &Heap,
     json: Global,
@@ -238,7 +238,7 @@ fn searched<A: Allocator + Copy + Send, R: Threads + Sync>(
 }
 
 /// A search with each request refused in turn: how often one was, and how often in a walk.
-fn searched_in_turn<A: Allocator + Copy + Send, R: Threads + Sync>(
+fn searched_in_turn<A: Allocator + Copy + Send + Sync, R: Threads + Sync>(
     rt: &R,
     heap: &Heap,
     json: Global,
@@ -267,7 +267,7 @@ fn at_either_end<A: Allocator + Copy>(json: Global, alloc: A, is_end: bool) -> O
 }
 
 /// Whether each search answers as it may, whichever request is refused, and the walks from the start met some.
-fn searches_in_turn<A: Allocator + Copy + Send, R: Threads + Sync>(
+fn searches_in_turn<A: Allocator + Copy + Send + Sync, R: Threads + Sync>(
     rt: &R,
     heap: &Heap,
     json: Global,

@@ -1,4 +1,4 @@
-use Rattle.std.proofs.Common.{rules, ◌≡◌, ◌∙◌, ℕ, cond, nat_lt, min, length, sym, ap, subst, arith}
+use Rattle.std.proofs.Common.{rules, ◌≡◌, ◌∙◌, ◌+◌, ◌*◌, ℕ, vec_len, cond, nat_lt, min, length, sym, ap, subst, arith}
 use Rattle.nd_search.specs.declared.work.Job.{Job}
 use Rattle.nd_search.specs.declared.work.Work.{Work}
 use Rattle.nd_search.specs.declared.work.Searched.{Searched}
@@ -12,17 +12,25 @@ use Rattle.nd_search.proofs.team.search_all.Goals as goal
 pub map_vec-requires-after_bounds : goal.map_vec-requires-after_bounds
 map_vec-requires-after_bounds g c κs within =
     λ i x lt is.
-    let job : IsJob c.args.timeline.now c.in_ok-board.board.shared.table_id c.pieces-pieces.result x = subst (λ (j : Job g.row.A.Denot). IsJob c.args.timeline.now c.in_ok-board.board.shared.table_id c.pieces-pieces.result j) (sym is) (c.in_ok-jobs.ensures.all i x lt) in
-    ((job.ready, omega (arith, c.in_ok-board.ensures.word.0), c.requires.range.0, c.requires.range.1, c.pieces-pieces.ensures), (c.type_bounds.send-A, record { shared = c.type_bounds.sync-G.shared }, c.type_bounds.frees-A-Allocator))
+    let job : IsJob c.args.timeline.now c.in_ok-board.board.shared.table_id c.pieces-pieces.result x = subst (λ (j : Job g.row.A.Denot). IsJob c.args.timeline.now c.in_ok-board.board.shared.table_id c.pieces-pieces.result j) (sym is) (c.in_ok-jobs.ensures.all c.args.timeline.now c.in_ok-copies.ensures.same i x lt) in
+    ((job.ready, omega (arith, c.in_ok-board.ensures.word.0), c.requires.range.0, c.requires.range.1, c.pieces-pieces.ensures), (c.type_bounds.send-A, record { shared = c.type_bounds.sync-A.shared }, record { shared = c.type_bounds.sync-G.shared }, c.type_bounds.frees-A-Allocator))
 
 pub gathered-requires-clause-all : goal.gathered-requires-clause-all
 gathered-requires-clause-all g c =
-    let done = all_done _ _ c.args.timeline.now c.args.b.now c.args.positions.lo c.args.positions.hi c.in_ok-board.board.shared.table_id c.pieces-pieces.result c.in_ok-jobs.jobs.items c.in_ok-works.works.items (search rules) c.in_ok-jobs.ensures.all c.in_ok-works.ensures.each (λ job w met. met) in
+    let done = all_done _ _ c.args.timeline.now c.args.b.now c.args.positions.lo c.args.positions.hi c.in_ok-board.board.shared.table_id c.pieces-pieces.result c.in_ok-jobs.jobs.items c.in_ok-works.works.items (search rules) (c.in_ok-jobs.ensures.all c.args.timeline.now c.in_ok-copies.ensures.same) c.in_ok-works.ensures.each (λ job w met. met) in
     λ k d lt. (done k d lt).drawn
+
+pub end_board-requires-clause-board : goal.end_board-requires-clause-board
+end_board-requires-clause-board g c = (c.in_ok-list.ensures.ticket.0, c.in_ok-board.ensures.word.0, c.in_ok-board.ensures.word.1)
+
+pub end_board-requires-clause-whole : goal.end_board-requires-clause-whole
+end_board-requires-clause-whole g c =
+    let all : vec_len c.in_ok-works.works ≡ c.min-workers.result = c.in_ok-works.ensures.len ∙ c.in_ok-jobs.ensures.len in
+    c.in_ok-list.ensures.ticket.1 ∙ (ap (λ (n : ℕ). n * (c.pieces-pieces.result + 1)) all ∙ sym (ap (λ p. p.1) c.in_ok-board.ensures.key))
 
 pub returns-clause-found : goal.returns-clause-found
 returns-clause-found g c =
-    let done = all_done _ _ c.args.timeline.now c.args.b.now c.args.positions.lo c.args.positions.hi c.in_ok-board.board.shared.table_id c.pieces-pieces.result c.in_ok-jobs.jobs.items c.in_ok-works.works.items (search rules) c.in_ok-jobs.ensures.all c.in_ok-works.ensures.each (λ job w met. met) in
+    let done = all_done _ _ c.args.timeline.now c.args.b.now c.args.positions.lo c.args.positions.hi c.in_ok-board.board.shared.table_id c.pieces-pieces.result c.in_ok-jobs.jobs.items c.in_ok-works.works.items (search rules) (c.in_ok-jobs.ensures.all c.args.timeline.now c.in_ok-copies.ensures.same) c.in_ok-works.ensures.each (λ job w met. met) in
     all_mapped (λ (w : Work g.row.A.Denot). w.searched) (λ (s : Searched g.row.A.Denot). IsSearched (HoldsAt c.args.timeline.now c.args.b.now) c.args.positions.lo c.args.positions.hi s) c.in_ok-works.works.items c.in_ok-list.list.items c.in_ok-list.ensures.each
     (λ k d lt. (done k d lt).searched)
 
@@ -30,7 +38,8 @@ pub returns-clause-claims : goal.returns-clause-claims
 returns-clause-claims g c =
     let n : ℕ = c.end_board.result in
     let p : ℕ = c.pieces-pieces.result in
-    let team : length c.in_ok-works.works.items ≡ min c.args.workers 64 = search rules in record {
+    let same : length c.in_ok-works.works.items ≡ vec_len c.in_ok-works.works = search rules in
+    let team : length c.in_ok-works.works.items ≡ min c.args.workers 64 = same ∙ (c.in_ok-works.ensures.len ∙ (c.in_ok-jobs.ensures.len ∙ c.min-workers.ensures)) in record {
       started = length_twice (λ (w : Work g.row.A.Denot). w.searched) (λ (s : Searched g.row.A.Denot). s.claimed.items) c.in_ok-works.works.items c.in_ok-list.list.items c.in_ok-list.ensures.each ∙ team;
       count = min n p;
       few = omega (arith, c.pieces-pieces.ensures);
