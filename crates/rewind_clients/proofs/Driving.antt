@@ -1,5 +1,5 @@
 -- What clients made of their commands, against the log of their session.
-use Rattle.std.proofs.Common.{◌≡◌, ◌∙◌, ◌==◌, ◌⊎◌, inl, inr, ℕ, zero, suc, ◌+◌, ◌<◌, ◌≤◌, get_or, List, [], ◌∷◌, ◌++◌, length, take, map, Option, Some, None, Global, Vec, refl, sym, ap, subst, arith, length-append}
+use Rattle.std.proofs.Common.{◌≡◌, ◌∙◌, ◌==◌, ◌⊎◌, inl, inr, ℕ, zero, suc, ◌+◌, ◌<◌, ◌≤◌, get_or, List, [], ◌∷◌, ◌++◌, length, map, Option, Some, None, Global, Vec, refl, sym, ap, subst, arith, length-append}
 use Rattle.std.specs.Prelude.{filter, option_map, replicate, slice_get, slice_index_or, slice_set}
 use Rattle.std.proofs.lemmas.Option.{slice_get-map, slice_get_within, slice_get_cases}
 use Rattle.std.proofs.lemmas.List.{length-map, map-append}
@@ -9,15 +9,14 @@ use Rattle.nd_timeline.specs.declared.command.Command.{Command}
 use Rattle.nd_timeline.specs.Moves.{MachineValue}
 use Rattle.nd_session.specs.Clients.{ClientValue, IsHistory}
 use Rattle.nd_protocol.specs.Invariant.{KeepsProtocol}
-use Rattle.nd_session.specs.Close.{IsIn, IsWhole}
+use Rattle.nd_session.specs.Close.{IsWhole}
 use Rattle.nd_session.specs.Log.{IsStart, Leads, opening_of}
 use Rattle.nd_session.specs.declared.receipt.Receipt.{Receipt}
-use Rattle.nd_session.specs.declared.fault.SessionFault.{SessionFault}
 use Rattle.nd_session.specs.declared.fault.SessionFault.TheVariants.{Memory}
 use Rattle.rewind_clients.specs.Intake.{Commands}
 use Rattle.rewind_clients.specs.Intakes.{lists_of}
-use Rattle.rewind_clients.specs.Served.{AreDone, AreFresh, IsDone, IsFresh, asked}
-use Rattle.rewind_clients.specs.Told.{Ended, IsServed, Told, Tells, commands_of, lines_data}
+use Rattle.rewind_clients.specs.Served.{AreDone, AreFresh, IsFresh, asked}
+use Rattle.rewind_clients.specs.Told.{Ended, IsServed, Told, Tells, commands_of}
 use Rattle.rewind_clients.specs.declared.drive.Done.{Done}
 use Rattle.rewind_clients.specs.declared.drive.Task.{Task}
 

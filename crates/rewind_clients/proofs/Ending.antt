@@ -1,5 +1,5 @@
 -- What is written of a script, by how far its run came.
-use Rattle.std.proofs.Common.{◌≡◌, ◌∙◌, ℕ, zero, suc, ◌+◌, List, [], ◌∷◌, ◌++◌, length, take, Option, Some, None, Result, Err, Ok, OnOk, IfErr, false, refl, sym, ap, arith, append_assoc}
+use Rattle.std.proofs.Common.{◌≡◌, ◌∙◌, ℕ, zero, suc, ◌+◌, List, [], ◌∷◌, ◌++◌, length, take, Some, Result, Err, Ok, OnOk, IfErr, false, refl, sym, ap, append_assoc}
 use Rattle.std.proofs.lemmas.List.{append-nil}
 use Rattle.std.proofs.Math.Seq.{take-append-add}
 use Rattle.serde_json.specs.Data.{Data}
@@ -10,7 +10,7 @@ use Rattle.rewind_faults.specs.declared.fault.DebugFault.{DebugFault}
 use Rattle.rewind_faults.specs.declared.fault.DebugFault.TheVariants as fault
 use Rattle.rewind_clients.specs.Clients.{Replies, Writes}
 use Rattle.rewind_clients.specs.Intake.{Commands, Intake, nothing, refused_graph, faulty_line, script}
-use Rattle.rewind_clients.specs.Outbox.{Gathered, IsOfWriting, StopsIn}
+use Rattle.rewind_clients.specs.Outbox.{Gathered, StopsIn}
 use Rattle.rewind_clients.specs.Readers.{IsOfReading}
 use Rattle.rewind_clients.specs.Served.{IsOfDriving}
 use Rattle.rewind_clients.specs.Told.{Tells}

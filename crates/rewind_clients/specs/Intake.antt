@@ -4,7 +4,7 @@ use Rattle.std.specs.declared.alloc.Global.{Global}
 use Rattle.serde_json.specs.Data.{Data}
 use Rattle.nd_timeline.specs.Timeline.{cluster_of}
 use Rattle.nd_timeline.specs.declared.command.Command.{Command}
-use Rattle.rewind_lines.specs.Lines.{Reading, blank, too_long, no_json, json, reading_of}
+use Rattle.rewind_lines.specs.Lines.{Reading, blank, reading_of}
 use Rattle.rewind_answers.specs.Answers.{Answers, Logged, Phase, unstarted, running, refused}
 use Rattle.rewind_clients.specs.Orders.{order_in, order_fault}
 use Rattle.rewind_clients.specs.declared.order.Order.{Order}

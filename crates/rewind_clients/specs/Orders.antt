@@ -10,7 +10,7 @@ use Rattle.rewind_forms.specs.Replies.{faulty}
 use Rattle.rewind_forms.specs.declared.asked.Asked.{Asked}
 use Rattle.rewind_forms.specs.declared.asked.Asked.TheVariants.{Do, Tell}
 use Rattle.rewind_forms.specs.declared.fault.LineFault.{LineFault}
-use Rattle.rewind_forms.specs.declared.fault.LineFault.TheVariants.{LineTooLong, BadLine, BadShape, UnknownName, BadTime, Memory}
+use Rattle.rewind_forms.specs.declared.fault.LineFault.TheVariants.{LineTooLong, BadLine, BadShape}
 use Rattle.rewind_clients.specs.Numbers.{Named, named_of}
 use Rattle.rewind_clients.specs.declared.order.Order.{Order}
 use Rattle.rewind_clients.specs.declared.order.OrderFault.{OrderFault}

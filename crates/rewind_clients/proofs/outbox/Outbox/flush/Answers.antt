@@ -1,4 +1,3 @@
-use Rattle.std.proofs.Common.{subst, sym, List, ℕ}
 use Rattle.std.proofs.lemmas.Result.{err_from_is_err_and}
 use Rattle.rewind_clients.proofs.Gathering.{flushed, front-written}
 use Rattle.rewind_clients.proofs.outbox.Outbox.flush.Goals as goal
