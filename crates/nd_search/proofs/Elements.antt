@@ -1,6 +1,6 @@
 -- Lists, element by element.
-use Rattle.std.proofs.Common.{◌≡◌, ◌<◌, ◌⊎◌, ℕ, zero, suc, List, [], ◌∷◌, ◌++◌, All, Some, length, map, take, drop, slice_get, get_or, Result, Ok, Err, IfOk, inl, inr, refl, sym, ap, subst, ◌∙◌, arith}
-use Rattle.std.proofs.lemmas.List.{take-append-le, take_all, get_or-map}
+use Rattle.std.proofs.Common.{◌≡◌, ◌<◌, ◌⊎◌, ℕ, zero, suc, List, [], ◌∷◌, ◌++◌, All, Some, length, map, take, drop, slice_get, inl, inr, refl, sym, ap, subst, ◌∙◌, arith}
+use Rattle.std.proofs.lemmas.List.{take-append-le, take_all}
 use Rattle.std.proofs.lemmas.List.Elements.{All-nil, All-append}
 
 length_of : {Y Z : Type 0} (h : Y → Z) (ys : List Y) → length (map h ys) ≡ length ys
@@ -53,14 +53,3 @@ module _ {X : Type 0} where
   -- what was lent whole comes back
   pub refilled : (n : ℕ) (xs ws : List X) → n ≡ length xs → length ws ≡ length xs → take n (ws ++ drop (length ws) xs) ≡ ws
   refilled n xs ws is same = take-append-le n ws (drop (length ws) xs) (omega (arith, is, same)) ∙ take_all n ws (omega (arith, is, same))
-
-  -- what holds of each answer that is none but Ok holds of each value
-  pub all_granted : {E : Type 0} (P : X → Type 0) (rs : List (Result X E)) (xs : List X) → rs ≡ map Ok xs
-      → ((k : ℕ) (r : Result X E) → k < length rs → IfOk (get_or rs k r) P) → All P xs
-  all_granted {E} P rs xs is each k d lt =
-      subst (λ r. IfOk r P) (ap (λ l. get_or l k (Ok d)) is ∙ get_or-map Ok xs k d (Ok d) lt) (each k (Ok d) (omega (arith, ap length is, length_of {Y = X} {Z = Result X E} Ok xs, lt)))
-
--- what follows of each value follows of an answer
-pub granted_so : {X E : Type 0} (P Q : X → Type 0) (r : Result X E) → IfOk r P → ((x : X) → P x → Q x) → IfOk r Q
-granted_so P Q (Ok x) h so = so x h
-granted_so P Q (Err e) h so = h

@@ -5,6 +5,8 @@ use Rattle.nd_protocol.specs.State.{ClusterState}
 use Rattle.nd_watch.specs.Breaks.{Holds}
 use Rattle.nd_watch.specs.declared.watch.Break.{Break}
 use Rattle.nd_timeline.specs.Timeline.{TimelineValue, cluster_of, moved_to}
+use Rattle.nd_timeline.specs.Walks.{IsOn}
+use Rattle.nd_timeline.specs.declared.walk.Walk.{Walk}
 use Rattle.nd_search.specs.Least.{HoldsAt, NoHit}
 
 -- no hit here either
@@ -15,13 +17,10 @@ no_hit_more Hit from i none here k le lt hit =
       | inr more ↦ let same : k ≡ i = omega (arith, lt, more) in here (subst Hit same hit)
     ]
 
-module _ {A : Type 0} (m : TimelineValue A) where
-  -- moved again
-  pub moved_on : (old new : TimelineValue A) (i : ℕ) → old ≡ moved_to m old.cursor → new ≡ moved_to old i → new ≡ moved_to m i
-  moved_on old new i same made = made ∙ ap (λ (t : TimelineValue A). moved_to t i) same
+module _ {A : Type 0} (m : TimelineValue A) (w : Walk A) (i : ℕ) where
+  -- what holds of the walk's cluster holds at its position
+  pub hit_here : (b : Break) → IsOn m w → w.at ≡ i → Holds w.cluster b → HoldsAt m b i
+  hit_here b on is holds = subst (HoldsAt m b) is (subst (λ (s : ClusterState). Holds s b) on.cluster holds)
 
-  pub stands : (new : TimelineValue A) (i : ℕ) → new ≡ moved_to m i → new ≡ moved_to m new.cursor
-  stands new i is = subst (λ (n : ℕ). new ≡ moved_to m n) (sym (ap (λ (t : TimelineValue A). t.cursor) is)) is
-
-  pub not_here : (b : Break) (new : TimelineValue A) (i : ℕ) (k : ClusterState) → new ≡ moved_to m i → k ≡ cluster_of new → (Holds k b → ⊥) → HoldsAt m b i → ⊥
-  not_here b new i k is cluster fails holds = fails (subst (λ (s : ClusterState). Holds s b) (sym (cluster ∙ ap cluster_of is)) holds)
+  pub not_here : (b : Break) → IsOn m w → w.at ≡ i → (Holds w.cluster b → ⊥) → HoldsAt m b i → ⊥
+  not_here b on is fails hit = fails (subst (λ (s : ClusterState). Holds s b) (sym on.cluster) (subst (HoldsAt m b) (sym is) hit))

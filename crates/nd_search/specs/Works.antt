@@ -2,6 +2,7 @@
 use Rattle.std.specs.Prelude.{◌≡◌, ℕ, ◌+◌, ◌<◌, ◌≤◌, List, [], ◌++◌, length, All, Option, Some, None, slice_get, vec_capacity}
 use Rattle.atomic_table.specs.Seated.{TableId}
 use Rattle.nd_timeline.specs.Timeline.{TimelineValue}
+use Rattle.nd_timeline.specs.Walks.{IsOn}
 use Rattle.nd_search.specs.Least.{IsLeast}
 use Rattle.nd_search.specs.Pieces.{piece_start, piece_end}
 use Rattle.nd_search.specs.Hands.{hand}
@@ -42,20 +43,12 @@ pub record IsEmpty {A : Type 0} (pieces : ℕ) (s : Searched A) : Type 0 where
   pub claimed_room : pieces < vec_capacity s.claimed
   pub found_room : pieces < vec_capacity s.found
 
--- a seat that may draw each piece once, and one number more, and room for the pieces
-pub record IsReady {A : Type 0} (table : TableId) (pieces : ℕ) (job : Job A) : Type 0 where
+-- a walk over the timeline, a seat that may draw each piece once, and one number more, and room for the pieces
+pub record IsReady {A : Type 0} (m : TimelineValue A) (table : TableId) (pieces : ℕ) (job : Job A) : Type 0 where
+  pub on : IsOn m job.walk
   pub table_is : job.ticket.table_id ≡ table
   pub me_is : job.ticket.me ≡ (hand (pieces + 1) (pieces + 1) [], [])
   pub empty : IsEmpty pieces job.searched
-
--- a copy of the timeline
-abbrev pub IsCopy : {A : Type 0} → TimelineValue A → TimelineValue A → Type 0
-IsCopy m t = t ≡ m
-
--- a worker that is ready, with a copy of the timeline
-pub record IsJob {A : Type 0} (m : TimelineValue A) (table : TableId) (pieces : ℕ) (job : Job A) : Type 0 where
-  pub copy : job.timeline ≡ m
-  pub ready : IsReady table pieces job
 
 -- what was drawn are the pieces that were claimed, and then numbers that are no pieces
 pub record HasDrawn {A : Type 0} (table : TableId) (pieces : ℕ) (work : Work A) : Type 0 where

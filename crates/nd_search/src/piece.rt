@@ -1,12 +1,12 @@
 //! The positions of a search, in pieces.
-ghost use Rattle.std.specs.Prelude.{◌≡◌, ◌+◌, ◌*◌, ◌<◌, ◌≤◌, length, IfOk, OnOk};
+ghost use Rattle.std.specs.Prelude.{◌≡◌, ◌+◌, ◌*◌, ◌<◌, ◌≤◌, IfOk};
 ghost use Rattle.nd_time.specs.Limits.{max_kept, piece_length};
-ghost use Rattle.nd_timeline.specs.Timeline.{moved_to};
+ghost use Rattle.nd_timeline.specs.Walks.{IsOn};
 ghost use Rattle.nd_search.specs.Least.{HoldsAt, IsLeast};
 ghost use Rattle.nd_search.specs.Pieces.{piece_count, piece_start, piece_end};
 ghost use Rattle.nd_search.specs.Works.{IsResult};
 
-use nd_timeline::{Fault, Timeline};
+use nd_timeline::{Fault, Timeline, Walk};
 use nd_watch::Break;
 use std::alloc::Allocator;
 
@@ -31,37 +31,47 @@ impl Positions {
 
     /// Searches one piece: the least of its positions at which the breakpoint holds.
     ///
-    /// The timeline goes there from where it stands by the shorter way.
+    /// The walk goes there from where it stands by the shorter way.
     pub(crate) fn search_piece<A: Allocator + Copy>(
         self,
-        timeline: &mut Timeline<A>,
+        timeline: &Timeline<A>,
+        walk: &mut Walk<A>,
         b: &Break,
         piece: u64,
     ) -> Result<Option<u64>, Fault>
         requires range { (self.lo ≤ self.hi) × (self.hi ≤ max_kept) }
         requires piece { piece < piece_count self.lo self.hi }
-        ensures found { IfOk result (IsResult (HoldsAt timeline.old b.now) self.lo self.hi piece) }
-        ensures same { OnOk result (timeline.new ≡ moved_to timeline.old timeline.new.cursor) }
+        requires on { IsOn timeline.now walk.old }
+        ensures found { IfOk result (IsResult (HoldsAt timeline.now b.now) self.lo self.hi piece) }
+        ensures on { IsOn timeline.now walk.new }
     {
         let start = self.lo + PIECE_LENGTH * piece;
-        first_hit(timeline, b, start, self.hi.min(start + (PIECE_LENGTH - 1)))
+        first_hit(
+            timeline,
+            walk,
+            b,
+            start,
+            self.hi.min(start + (PIECE_LENGTH - 1)),
+        )
     }
 }
 
 // Goes from one position to another, and stops at the first at which the breakpoint holds.
 fn first_hit<A: Allocator + Copy>(
-    timeline: &mut Timeline<A>,
+    timeline: &Timeline<A>,
+    walk: &mut Walk<A>,
     b: &Break,
     from: u64,
     to: u64,
 ) -> Result<Option<u64>, Fault>
-    requires { to ≤ max_kept }
-    ensures found { IfOk result (IsLeast (HoldsAt timeline.old b.now) from to) }
-    ensures same { OnOk result (timeline.new ≡ moved_to timeline.old timeline.new.cursor) }
+    requires few { to ≤ max_kept }
+    requires on { IsOn timeline.now walk.old }
+    ensures found { IfOk result (IsLeast (HoldsAt timeline.now b.now) from to) }
+    ensures on { IsOn timeline.now walk.new }
 {
     for i in from..to + 1 {
-        timeline.jump(i)?;
-        if b.holds(timeline.cluster()) {
+        timeline.walk_to(walk, i)?;
+        if b.holds(&walk.cluster) {
             return Ok(Some(i));
         }
     }

@@ -54,8 +54,8 @@ fn claims<A: Allocator + Copy>(
 
 /// The least position from `lo` to `hi`, both included, at which the breakpoint holds.
 ///
-/// At most 64 workers are started, each on a thread of its own and with a copy of the snapshot's
-/// timeline (this project's own rule). They claim pieces of 16 positions, one after the other, and
+/// At most 64 workers are started, each on a thread of its own and with a cluster of its own that
+/// walks over the snapshot's steps (this project's own rule). They claim pieces of 16 positions, one after the other, and
 /// call the gate before each. One that is refused memory in its walk stops, and the others go on.
 pub fn search<A: Allocator + Copy + Send + Sync, R: Threads + Sync, G: Gate>(
     rt: &R,

@@ -1,13 +1,12 @@
-//! The workers of a search: each with a copy of the timeline, and on a thread of its own.
-ghost use Rattle.std.specs.Prelude.{◌≡◌, ◌+◌, ◌*◌, ◌<◌, ◌≤◌, ℕ, [], length, map, min, nat_lt, cond, All, Ok, IfOk, vec_len};
+//! The workers of a search: each with a walk over the timeline, and on a thread of its own.
+ghost use Rattle.std.specs.Prelude.{◌≡◌, ◌+◌, ◌*◌, ◌<◌, ◌≤◌, ℕ, [], length, map, min, nat_lt, cond, All, IfOk, vec_len};
 ghost use Rattle.nd_time.specs.Limits.{max_kept, max_workers};
-ghost use Rattle.nd_timeline.specs.Timeline.{TimelineValue};
 ghost use Rattle.nd_search.specs.Least.{HoldsAt};
 ghost use Rattle.nd_search.specs.Pieces.{piece_count};
 ghost use Rattle.nd_search.specs.Claims.{times, times_all};
 ghost use Rattle.nd_search.specs.Answers.{AreClaims};
 ghost use Rattle.nd_search.specs.Hands.{hand};
-ghost use Rattle.nd_search.specs.Works.{IsCopy, IsJob, IsReady, HasDrawn, IsSearched, IsWork, IsEmpty};
+ghost use Rattle.nd_search.specs.Works.{IsReady, HasDrawn, IsSearched, IsWork, IsEmpty};
 
 use crate::Gate;
 use crate::board::{Ticket, Word, end_board, gather, open_board, share};
@@ -33,43 +32,11 @@ fn room<A: Allocator + Copy>(alloc: A, pieces: u64) -> Result<Searched<A>, Alloc
     })
 }
 
-// The copies, where all were made.
-fn granted<A: Allocator + Copy>(
-    alloc: A,
-    made: Vec<Result<Timeline<A>, AllocError>, A>,
-) -> Result<Vec<Timeline<A>, A>, AllocError>
-    ensures each { IfOk result (λ v. made.items ≡ map Ok v.items) }
-    ensures len { IfOk result (λ v. vec_len v ≡ vec_len made) }
-{
-    let mut copies = Vec::with_capacity(alloc, made.len())?;
-    for copy in made {
-        copies.push_reserved(copy?);
-    }
-    Ok(copies)
-}
-
-// A copy of the timeline for each worker. They are made side by side, since a long run takes as
-// long to copy as to walk.
-fn copies<A: Allocator + Copy + Send + Sync, R: Threads + Sync>(
-    rt: &R,
-    alloc: A,
-    timeline: &Timeline<A>,
-    workers: u64,
-) -> Result<Vec<Timeline<A>, A>, AllocError>
-    ensures len { IfOk result (λ v. vec_len v ≡ workers) }
-    ensures same { IfOk result (λ v. All (IsCopy timeline.now) v.items) }
-{
-    let copier = |_: usize| -> Result<Timeline<A>, AllocError>
-        ensures { IfOk result (IsCopy timeline.entry.now) }
-    { timeline.copy(alloc) };
-    let made = thread::map_indices(rt, alloc, workers as usize, &copier)?;
-    granted(alloc, made)
-}
-
-// A copy, a seat and room for each worker.
+// A walk, a seat and room for each worker.
 fn jobs<A: Allocator + Copy>(
     alloc: A,
-    mut copies: Vec<Timeline<A>, A>,
+    timeline: &Timeline<A>,
+    lo: u64,
     word: &Word,
     ticket: &mut Ticket,
     workers: u64,
@@ -78,21 +45,17 @@ fn jobs<A: Allocator + Copy>(
     requires word { (ticket.old.table_id ≡ word.now.table_id) × (0 < word.now.table_id.words) }
     requires whole { ticket.old.me ≡ (hand (pieces + 1) (workers * (pieces + 1)) [], []) }
     requires small { (workers ≤ max_workers) × (pieces ≤ max_kept + 1) }
-    requires enough { vec_len copies ≡ workers }
-    ensures all { (m : TimelineValue A) → All (IsCopy m) copies.items
-        → IfOk result (λ v. All (IsJob m word.now.table_id pieces) v.items) }
+    ensures all { IfOk result (λ v. All (IsReady timeline.now word.now.table_id pieces) v.items) }
     ensures len { IfOk result (λ v. vec_len v ≡ workers) }
     ensures ticket { IfOk result (λ _. (ticket.new.table_id ≡ word.now.table_id) × (ticket.new.me ≡ (hand (pieces + 1) 0 [], []))) }
 {
     let mut jobs = Vec::with_capacity(alloc, workers as usize)?;
     for number in 0..workers {
-        let Some(timeline) = copies.pop() else {
-            unreachable!()
-        };
+        let walk = timeline.walk_near(alloc, lo)?;
         let searched = room(alloc, pieces)?;
         jobs.push_reserved(Job {
             number,
-            timeline,
+            walk,
             ticket: share(word, ticket),
             searched,
         });
@@ -146,12 +109,19 @@ pub(crate) fn search_all<A: Allocator + Copy + Send + Sync, R: Threads + Sync, G
     let workers = workers.min(MAX_WORKERS);
     let (board, mut ticket) = open_board(alloc, workers, pieces + 1)?;
     let word = &board.shared;
-    let copies = copies(rt, alloc, timeline, workers)?;
-    let jobs = jobs(alloc, copies, word, &mut ticket, workers, pieces)?;
+    let jobs = jobs(
+        alloc,
+        timeline,
+        positions.lo,
+        word,
+        &mut ticket,
+        workers,
+        pieces,
+    )?;
     let worker = |job: Job<A>| -> Work<A>
-        requires { IsReady word.now.table_id pieces job × (0 < word.now.table_id.words) × (positions.lo ≤ positions.hi) × (positions.hi ≤ max_kept) × (pieces ≡ piece_count positions.lo positions.hi) }
-        ensures { IsWork (HoldsAt job.timeline b.entry.now) positions.lo positions.hi word.entry.now.table_id pieces result }
-    { job.work(word, gate, b, positions, pieces) };
+        requires { IsReady timeline.now word.now.table_id pieces job × (0 < word.now.table_id.words) × (positions.lo ≤ positions.hi) × (positions.hi ≤ max_kept) × (pieces ≡ piece_count positions.lo positions.hi) }
+        ensures { IsWork (HoldsAt timeline.entry.now b.entry.now) positions.lo positions.hi word.entry.now.table_id pieces result }
+    { job.work(timeline, word, gate, b, positions, pieces) };
     let works = thread::map_vec(rt, jobs, &worker)?;
     let list = gathered(alloc, word, &mut ticket, works, pieces)?;
     end_board(board, ticket);

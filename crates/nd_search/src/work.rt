@@ -8,7 +8,7 @@ ghost use Rattle.nd_search.specs.Works.{IsReady, HasDrawn, IsSearched};
 use crate::Gate;
 use crate::board::{Ticket, Word, draw};
 use crate::piece::Positions;
-use nd_timeline::Timeline;
+use nd_timeline::{Timeline, Walk};
 use nd_watch::Break;
 use std::alloc::Allocator;
 
@@ -24,7 +24,7 @@ pub(crate) struct Searched<A: Allocator> {
 #[derive(Drop)]
 pub(crate) struct Job<A: Allocator + Copy> {
     pub(crate) number: u64,
-    pub(crate) timeline: Timeline<A>,
+    pub(crate) walk: Walk<A>,
     pub(crate) ticket: Ticket,
     pub(crate) searched: Searched<A>,
 }
@@ -40,22 +40,23 @@ impl<A: Allocator + Copy> Job<A> {
     /// Claims piece after piece and searches it, until a number is no piece or memory is refused.
     pub(crate) fn work<G: Gate>(
         self,
+        timeline: &Timeline<A>,
         word: &Word,
         gate: &G,
         b: &Break,
         positions: Positions,
         pieces: u64,
     ) -> Work<A>
-        requires job { IsReady word.now.table_id pieces self }
+        requires job { IsReady timeline.now word.now.table_id pieces self }
         requires word { 0 < word.now.table_id.words }
         requires range { (positions.lo ≤ positions.hi) × (positions.hi ≤ max_kept) }
         requires pieces { pieces ≡ piece_count positions.lo positions.hi }
         ensures drawn { HasDrawn word.now.table_id pieces result }
-        ensures searched { IsSearched (HoldsAt self.timeline b.now) positions.lo positions.hi result.searched }
+        ensures searched { IsSearched (HoldsAt timeline.now b.now) positions.lo positions.hi result.searched }
     {
         let Job {
             number,
-            mut timeline,
+            mut walk,
             mut ticket,
             mut searched,
         } = self;
@@ -66,7 +67,7 @@ impl<A: Allocator + Copy> Job<A> {
             }
             searched.claimed.push_reserved(piece);
             gate.call(number, piece);
-            let Ok(found) = positions.search_piece(&mut timeline, b, piece) else {
+            let Ok(found) = positions.search_piece(timeline, &mut walk, b, piece) else {
                 break;
             };
             searched.found.push_reserved(found);

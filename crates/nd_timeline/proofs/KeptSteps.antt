@@ -129,6 +129,15 @@ module _ {A : Type 0} where
       let here : n < length (steps_of rs) = subst (λ (m : TimelineValue A). m.cursor < length m.kept) (sym is) lt in
       omega (arith, here, length-map rs (λ r. r.step))
 
+  -- a kept step leads from where those before it have led
+  pub kept_at : (base cluster : ClusterState) (rs : List (Record A)) (n : ℕ) (m : TimelineValue A) (i : ℕ) (d : Record A) → IsReached base cluster rs n → record { base = base; kept = steps_of rs; cursor = n } ≡ m → i < length m.kept
+      → Leads (get_or rs i d) (cluster_of (moved_to m i)) (cluster_of (moved_to m (i + 1)))
+  kept_at base cluster rs n m i d was is lt =
+      let here : i < length (steps_of rs) = subst (λ (m : TimelineValue A). i < length m.kept) (sym is) lt in
+      let within : i < length rs = omega (arith, here, length-map rs (λ r. r.step)) in
+      subst (λ (m : TimelineValue A). Leads (get_or rs i d) (cluster_of (moved_to m i)) (cluster_of (moved_to m (i + 1)))) is
+      (record { planned = planned-at base rs i d within was.planned; after = ap (λ k. after base (take k (steps_of rs))) (add-one i) ∙ after-take base rs i d within })
+
   -- ---- a jump, step by step
 
   pub cursor_is : (m s : TimelineValue A) (k : ℕ) → s ≡ moved_to m k → s.cursor ≡ k

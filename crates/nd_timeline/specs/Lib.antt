@@ -1,5 +1,6 @@
 pub mod Faults
 pub mod Timeline
+pub mod Walks
 pub mod Moves
 pub mod Laws
 pub mod Reached

@@ -8,6 +8,7 @@ mod machine;
 mod reply;
 mod run;
 mod timeline;
+mod walk;
 
 pub use command::Command;
 pub use fault::Fault;
@@ -15,3 +16,4 @@ pub use laws::{moves_keep_timelines, replies_tell_machines};
 pub use machine::Machine;
 pub use reply::{Ran, Reply, Stop};
 pub use timeline::Timeline;
+pub use walk::Walk;

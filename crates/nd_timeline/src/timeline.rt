@@ -4,7 +4,7 @@ ghost use Rattle.nd_time.specs.Limits.{max_kept};
 ghost use Rattle.nd_view.specs.View.{IsPassed};
 ghost use Rattle.nd_protocol.specs.State.{view};
 ghost use Rattle.nd_protocol.specs.Invariant.{KeepsProtocol, IsFinished};
-ghost use Rattle.nd_cluster.specs.Records.{IsPlanned};
+ghost use Rattle.nd_cluster.specs.Records.{IsPlanned, Leads};
 ghost use Rattle.nd_timeline.specs.Timeline.{opened, cluster_of, extended, moved_to, IsTimeline};
 ghost use Rattle.nd_timeline.specs.Reached.{AreCopies};
 ghost use Rattle.nd_timeline.specs.Moves.{moved_reply, StepFails, ForwardMoves, BackMoves, RedoMoves, JumpMoves};
@@ -141,6 +141,14 @@ impl<A: Allocator + Copy> Timeline<A> {
             return None;
         }
         Some(&self.records[i as usize].step)
+    }
+
+    /// The record of a kept step.
+    pub(crate) fn record(&self, i: u64) -> &Record<A>
+        requires { i < length self.now.kept }
+        ensures { Leads result.now (cluster_of (moved_to self.now i)) (cluster_of (moved_to self.now (i + 1))) }
+    {
+        &self.records[i as usize]
     }
 
     // The record of a step, or why there is none.

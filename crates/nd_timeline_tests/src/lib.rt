@@ -1,4 +1,4 @@
-//! Tests of timelines: the ends of the cursor, runs, copies, and each request for memory refused in turn.
+//! Tests of timelines: the ends of the cursor, runs, copies, walks, and each request for memory refused in turn.
 #![tactic(auto)]
 
 #[cfg(test)]
@@ -7,5 +7,7 @@ mod memory;
 mod moves;
 #[cfg(test)]
 mod unasked;
+#[cfg(test)]
+mod walks;
 #[cfg(test)]
 mod watch;

@@ -12,7 +12,7 @@ use std::alloc::{AllocError, Allocator, Global};
 pub type Heap = Refusing<Global>;
 
 /// Ten feeds of nothing.
-static TEN: Script = (
+pub static TEN: Script = (
     LINE,
     1,
     &[
@@ -56,16 +56,15 @@ pub fn kept<A: Allocator + Copy>(json: Global, alloc: A, script: &Script) -> Opt
 }
 
 /// Whether the cluster is the one after so many steps of a script.
-fn is_after<A: Allocator + Copy>(
+pub fn is_after<A: Allocator + Copy>(
     json: Global,
-    alloc: A,
     cluster: &Cluster<A>,
     script: &Script,
     count: u64,
 ) -> Option<bool> {
     let (text, n, steps) = script;
     let front = steps.get(..count as usize)?;
-    let fresh = reach(json, alloc, text, *n, front)?;
+    let fresh = reach(json, json, text, *n, front)?;
     let wanted = state_text(json, &fresh)?;
     Some(is_state(json, cluster, wanted.as_str()))
 }
@@ -112,7 +111,7 @@ fn jumps<A: Allocator + Copy>(
         }
         let to = if is_back { 0 } else { kept };
         let (at, met) = jumped(heap, &mut timeline, to, n)?;
-        if !is_after(json, alloc, timeline.cluster(), script, at)? {
+        if !is_after(json, timeline.cluster(), script, at)? {
             return None;
         }
         if timeline.kept() != kept {
@@ -154,7 +153,7 @@ fn run_meets<A: Allocator + Copy>(heap: &Heap, json: Global, alloc: A, n: u64) -
                 }),
         Err(fault) => met && fault == (Fault::Memory { at }),
     };
-    if !is_right || timeline.kept() != at || !is_after(json, alloc, timeline.cluster(), &ALL, at)? {
+    if !is_right || timeline.kept() != at || !is_after(json, timeline.cluster(), &ALL, at)? {
         return None;
     }
     Some(met)

@@ -1,17 +1,16 @@
-use Rattle.std.proofs.Common.{◌≡◌, true, false, arith}
-use Rattle.nd_timeline.specs.Timeline.{moved_to}
+use Rattle.std.proofs.Common.{rules, ◌≡◌, ap, true, false, arith}
 use Rattle.nd_search.specs.Least.{HoldsAt}
-use Rattle.nd_search.proofs.Walking.{no_hit_more, moved_on, stands, not_here}
+use Rattle.nd_search.proofs.Walking.{no_hit_more, hit_here, not_here}
 use Rattle.nd_search.proofs.piece.first_hit.Goals as goal
 
 pub loop-i-preserved : goal.loop-i-preserved
 loop-i-preserved g c =
     let m = c.args.timeline.now in
-    let new = c.jump.new.self in
-    let there : new ≡ moved_to m c.loop-i.i = moved_on m c.loop-i.timeline new c.loop-i.i c.loop-i.invariant.same c.in_ok-jump.ensures.3 in record {
-      same = stands m new c.loop-i.i there;
+    let on = c.walk_to.ensures.on in
+    let there : c.walk_to.new.walk.at ≡ c.loop-i.i = ap (λ t. t.cursor) c.in_ok-walk_to.ensures.jump.3 in record {
+      on = on;
       none = no_hit_more (HoldsAt m c.args.b.now) c.args.from c.loop-i.i c.loop-i.invariant.none
-          (not_here m c.args.b.now new c.loop-i.i c.cluster.result.now there c.cluster.ensures.value
+          (not_here m c.walk_to.new.walk c.loop-i.i c.args.b.now on there
           (λ h. let yes : c.holds.result ≡ true = c.holds.ensures.1 h in let no : c.holds.result ≡ false = c.if-holds.false in cc));
     }
 

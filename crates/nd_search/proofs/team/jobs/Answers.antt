@@ -1,8 +1,6 @@
-use Rattle.std.proofs.Common.{rules, ◌+◌, ℕ, ◌∙◌, All}
+use Rattle.std.proofs.Common.{rules, ◌+◌, ℕ, ◌∙◌}
 use Rattle.nd_search.specs.declared.work.Job.{Job}
-use Rattle.std.proofs.lemmas.List.Elements.{All-pop}
-use Rattle.nd_timeline.specs.Timeline.{TimelineValue}
-use Rattle.nd_search.specs.Works.{IsCopy, IsJob, IsReady}
+use Rattle.nd_search.specs.Works.{IsReady}
 use Rattle.nd_search.proofs.Shares.{unshared, enough, share_left, share_given, none_remains}
 use Rattle.nd_search.proofs.Elements.{all_none, all_more}
 use Rattle.nd_search.proofs.team.jobs.Goals as goal
@@ -17,31 +15,26 @@ loop-number-init g c =
       me = unshared c.args.ticket.now.me (c.args.pieces + 1) c.args.workers c.requires.whole;
       counted = search rules;
       room = search rules;
-      left = search rules;
-      same = λ m all. all;
-      ready = λ m all. all_none (IsJob m c.args.word.now.table_id c.args.pieces) c.in_ok-jobs.jobs.items c.in_ok-jobs.ensures.items;
+      ready = all_none (IsReady c.args.timeline.now c.args.word.now.table_id c.args.pieces) c.in_ok-jobs.jobs.items c.in_ok-jobs.ensures.items;
     }
 
 pub loop-number-preserved : goal.loop-number-preserved
 loop-number-preserved g c =
     let p : ℕ = c.args.pieces + 1 in
     let at = c.loop-number.invariant in
-    let job : Job g.row.A.Denot = record { number = c.loop-number.number; timeline = c.in-Some.timeline; ticket = c.share.result; searched = c.in_ok-searched.searched } in
-    let ready : IsReady c.args.word.now.table_id c.args.pieces job = record {
+    let job : Job g.row.A.Denot = record { number = c.loop-number.number; walk = c.in_ok-walk.walk; ticket = c.share.result; searched = c.in_ok-searched.searched } in
+    let ready : IsReady c.args.timeline.now c.args.word.now.table_id c.args.pieces job = record {
+      on = c.in_ok-walk.ensures;
       table_is = c.share.ensures.right.0 ∙ at.table;
       me_is = share_given p c.args.workers c.loop-number.number c.loop-number.ticket.me at.me c.share.result.me c.share.ensures.right.1;
       empty = c.in_ok-searched.ensures;
     } in
-    let split = λ (m : TimelineValue g.row.A.Denot) (all : All (IsCopy m) c.args.copies.items). All-pop (IsCopy m) c.loop-number.copies.items c.pop.new.self.items c.pop.result c.pop.ensures.items (at.same m all) in
     record {
       table = c.share.ensures.left.0 ∙ at.table;
       me = share_left p c.args.workers c.loop-number.number c.loop-number.ticket.me at.me c.share.new.ticket.me c.share.ensures.left.1;
       counted = search rules;
       room = search rules;
-      left = search rules;
-      same = λ m all. (split m all).0;
-      ready = λ m all. all_more (IsJob m c.args.word.now.table_id c.args.pieces) c.loop-number.jobs.items c.push_reserved.new.self.items job c.push_reserved.ensures.items (at.ready m all)
-          (record { copy = rw c.in-Some.is at (split m all).1; ready = ready });
+      ready = all_more (IsReady c.args.timeline.now c.args.word.now.table_id c.args.pieces) c.loop-number.jobs.items c.push_reserved.new.self.items job c.push_reserved.ensures.items at.ready ready;
     }
 
 pub returns-clause-ticket : goal.returns-clause-ticket

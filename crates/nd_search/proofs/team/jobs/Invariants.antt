@@ -1,7 +1,6 @@
 use Rattle.std.proofs.Common.{◌≡◌, ◌+◌, ◌-◌, ◌*◌, ◌≤◌, [], All, vec_len, vec_capacity}
-use Rattle.nd_timeline.specs.Timeline.{TimelineValue}
 use Rattle.nd_search.specs.Hands.{hand}
-use Rattle.nd_search.specs.Works.{IsCopy, IsJob}
+use Rattle.nd_search.specs.Works.{IsReady}
 use Rattle.nd_search.proofs.team.jobs.Given as goal
 
 abbrev pub invariant-loop-number : goal.invariant-loop-number
@@ -10,7 +9,5 @@ invariant-loop-number g l = record {
   me : l.ticket.me ≡ (hand (l.pieces + 1) ((l.workers - l.number) * (l.pieces + 1)) [], []);
   counted : vec_len l.jobs ≡ l.number;
   room : l.workers ≤ vec_capacity l.jobs;
-  left : vec_len l.copies ≡ l.workers - l.number;
-  same : (m : TimelineValue g.row.A.Denot) → All (IsCopy m) l.fn.copies.items → All (IsCopy m) l.copies.items;
-  ready : (m : TimelineValue g.row.A.Denot) → All (IsCopy m) l.fn.copies.items → All (IsJob m l.word.table_id l.pieces) l.jobs.items;
+  ready : All (IsReady l.timeline l.word.table_id l.pieces) l.jobs.items;
 }

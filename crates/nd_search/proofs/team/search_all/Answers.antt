@@ -3,7 +3,7 @@ use Rattle.nd_search.specs.declared.work.Job.{Job}
 use Rattle.nd_search.specs.declared.work.Work.{Work}
 use Rattle.nd_search.specs.declared.work.Searched.{Searched}
 use Rattle.nd_search.specs.Least.{HoldsAt}
-use Rattle.nd_search.specs.Works.{IsJob, IsSearched}
+use Rattle.nd_search.specs.Works.{IsReady, IsSearched}
 use Rattle.nd_search.proofs.Elements.{all_mapped, length_twice}
 use Rattle.nd_search.proofs.Joined.{all_done}
 use Rattle.nd_search.proofs.Lists.{below_min}
@@ -12,12 +12,12 @@ use Rattle.nd_search.proofs.team.search_all.Goals as goal
 pub map_vec-requires-after_bounds : goal.map_vec-requires-after_bounds
 map_vec-requires-after_bounds g c κs within =
     λ i x lt is.
-    let job : IsJob c.args.timeline.now c.in_ok-board.board.shared.table_id c.pieces-pieces.result x = subst (λ (j : Job g.row.A.Denot). IsJob c.args.timeline.now c.in_ok-board.board.shared.table_id c.pieces-pieces.result j) (sym is) (c.in_ok-jobs.ensures.all c.args.timeline.now c.in_ok-copies.ensures.same i x lt) in
-    ((job.ready, omega (arith, c.in_ok-board.ensures.word.0), c.requires.range.0, c.requires.range.1, c.pieces-pieces.ensures), (c.type_bounds.send-A, record { shared = c.type_bounds.sync-A.shared }, record { shared = c.type_bounds.sync-G.shared }, c.type_bounds.frees-A-Allocator))
+    let ready : IsReady c.args.timeline.now c.in_ok-board.board.shared.table_id c.pieces-pieces.result x = subst (λ (j : Job g.row.A.Denot). IsReady c.args.timeline.now c.in_ok-board.board.shared.table_id c.pieces-pieces.result j) (sym is) (c.in_ok-jobs.ensures.all i x lt) in
+    ((ready, omega (arith, c.in_ok-board.ensures.word.0), c.requires.range.0, c.requires.range.1, c.pieces-pieces.ensures), (c.type_bounds.send-A, record { shared = c.type_bounds.sync-A.shared }, record { shared = c.type_bounds.sync-G.shared }, c.type_bounds.frees-A-Allocator))
 
 pub gathered-requires-clause-all : goal.gathered-requires-clause-all
 gathered-requires-clause-all g c =
-    let done = all_done _ _ c.args.timeline.now c.args.b.now c.args.positions.lo c.args.positions.hi c.in_ok-board.board.shared.table_id c.pieces-pieces.result c.in_ok-jobs.jobs.items c.in_ok-works.works.items (search rules) (c.in_ok-jobs.ensures.all c.args.timeline.now c.in_ok-copies.ensures.same) c.in_ok-works.ensures.each (λ job w met. met) in
+    let done = all_done _ _ c.args.timeline.now c.args.b.now c.args.positions.lo c.args.positions.hi c.in_ok-board.board.shared.table_id c.pieces-pieces.result c.in_ok-jobs.jobs.items c.in_ok-works.works.items (search rules) c.in_ok-works.ensures.each (λ job w met. met) in
     λ k d lt. (done k d lt).drawn
 
 pub end_board-requires-clause-board : goal.end_board-requires-clause-board
@@ -30,7 +30,7 @@ end_board-requires-clause-whole g c =
 
 pub returns-clause-found : goal.returns-clause-found
 returns-clause-found g c =
-    let done = all_done _ _ c.args.timeline.now c.args.b.now c.args.positions.lo c.args.positions.hi c.in_ok-board.board.shared.table_id c.pieces-pieces.result c.in_ok-jobs.jobs.items c.in_ok-works.works.items (search rules) (c.in_ok-jobs.ensures.all c.args.timeline.now c.in_ok-copies.ensures.same) c.in_ok-works.ensures.each (λ job w met. met) in
+    let done = all_done _ _ c.args.timeline.now c.args.b.now c.args.positions.lo c.args.positions.hi c.in_ok-board.board.shared.table_id c.pieces-pieces.result c.in_ok-jobs.jobs.items c.in_ok-works.works.items (search rules) c.in_ok-works.ensures.each (λ job w met. met) in
     all_mapped (λ (w : Work g.row.A.Denot). w.searched) (λ (s : Searched g.row.A.Denot). IsSearched (HoldsAt c.args.timeline.now c.args.b.now) c.args.positions.lo c.args.positions.hi s) c.in_ok-works.works.items c.in_ok-list.list.items c.in_ok-list.ensures.each
     (λ k d lt. (done k d lt).searched)
 

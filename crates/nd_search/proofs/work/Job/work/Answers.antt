@@ -1,12 +1,10 @@
 use Rattle.std.proofs.Common.{rules, ◌≡◌, ◌+◌, ◌-◌, ◌<◌, ◌++◌, ◌∷◌, [], ℕ, length, length-append, refl, sym, ap, subst, ◌∙◌, arith}
-use Rattle.nd_timeline.specs.Timeline.{TimelineValue}
 use Rattle.nd_search.specs.Least.{HoldsAt}
 use Rattle.atomic_table.specs.declared.shared.Seat.{Seat}
 use Rattle.nd_search.specs.declared.hand.Hand.{Hand}
 use Rattle.nd_search.specs.Hands.{hand}
-use Rattle.nd_search.specs.Works.{IsResult, IsSearched, HasDrawn}
+use Rattle.nd_search.specs.Works.{IsSearched, HasDrawn}
 use Rattle.nd_search.specs.declared.work.Searched.{Searched}
-use Rattle.nd_search.proofs.Walking.{moved_on, stands}
 use Rattle.nd_search.proofs.Shares.{undrawn, drew}
 use Rattle.nd_search.proofs.Elements.{all_none, all_more}
 use Rattle.nd_search.proofs.Found.{starts, begins, ends}
@@ -30,18 +28,16 @@ loop-init g c =
       below = all_none (λ x. x < c.args.pieces) s.claimed.items job.empty.nothing_claimed;
       claimed_room = job.empty.claimed_room;
       found_room = job.empty.found_room;
-      same = refl;
-      right = starts (HoldsAt c.args.self.timeline c.args.b.now) c.args.positions.lo c.args.positions.hi s.claimed.items s.found.items job.empty.nothing_claimed job.empty.nothing_found;
+      on = job.on;
+      right = starts (HoldsAt c.args.timeline.now c.args.b.now) c.args.positions.lo c.args.positions.hi s.claimed.items s.found.items job.empty.nothing_claimed job.empty.nothing_found;
     }
 
 pub loop-preserved : goal.loop-preserved
 loop-preserved g c =
-    let m = c.args.self.timeline in
+    let m = c.args.timeline.now in
     let at = c.loop.invariant in
     let claimed = c.loop.searched.claimed.items in
     let piece = c.draw-piece.result in
-    let found : IsResult (HoldsAt m c.args.b.now) c.args.positions.lo c.args.positions.hi piece c.in-Ok.found =
-    subst (λ (t : TimelineValue g.row.A.Denot). IsResult (HoldsAt t c.args.b.now) c.args.positions.lo c.args.positions.hi piece c.in-Ok.found) at.same c.in-Ok.ensures.found in
     record {
       table = search rules;
       me = drew c.loop.ticket.me c.draw-piece.new.ticket.me (c.args.pieces + 1) (c.args.pieces + 1 - c.loop.counter) (c.args.pieces + 1 - (c.loop.counter + 1)) piece claimed c.push_reserved.new.self.items at.me c.draw-piece.ensures.drawn (omega arith) (sym c.push_reserved.ensures.items);
@@ -50,13 +46,13 @@ loop-preserved g c =
       below = all_more (λ x. x < c.args.pieces) claimed c.push_reserved.new.self.items piece c.push_reserved.ensures.items at.below (search rules);
       claimed_room = search rules;
       found_room = search rules;
-      same = stands m c.search_piece.new.timeline c.search_piece.new.timeline.cursor (moved_on m c.loop.timeline c.search_piece.new.timeline c.search_piece.new.timeline.cursor at.same c.in-Ok.ensures.same);
-      right = ends (HoldsAt m c.args.b.now) c.args.positions.lo c.args.positions.hi claimed c.push_reserved.new.self.items c.loop.searched.found.items c.push_reserved-in-loop.new.self.items piece c.in-Ok.found at.right at.even found c.push_reserved.ensures.items c.push_reserved-in-loop.ensures.items;
+      on = c.search_piece.ensures.on;
+      right = ends (HoldsAt m c.args.b.now) c.args.positions.lo c.args.positions.hi claimed c.push_reserved.new.self.items c.loop.searched.found.items c.push_reserved-in-loop.new.self.items piece c.in-Ok.found at.right at.even c.in-Ok.ensures.found c.push_reserved.ensures.items c.push_reserved-in-loop.ensures.items;
     }
 
 pub returns-clause-searched : goal.returns-clause-searched
 returns-clause-searched g c =
-    let m = c.args.self.timeline in
+    let m = c.args.timeline.now in
     let P : Searched g.row.A.Denot → Type 0 = λ s. IsSearched (HoldsAt m c.args.b.now) c.args.positions.lo c.args.positions.hi s in
     elim c.loop-test.branch [
       | else-loop-test w ↦ subst P (sym w.searched-is) c.loop.invariant.right

@@ -1,5 +1,5 @@
 use Rattle.std.proofs.Common.{◌≡◌, ◌+◌, ◌-◌, ◌<◌, [], All, length, vec_len, vec_capacity}
-use Rattle.nd_timeline.specs.Timeline.{moved_to}
+use Rattle.nd_timeline.specs.Walks.{IsOn}
 use Rattle.nd_search.specs.Least.{HoldsAt}
 use Rattle.nd_search.specs.Hands.{hand}
 use Rattle.nd_search.specs.Works.{IsSearched}
@@ -14,6 +14,6 @@ invariant-loop g l = record {
   below : All (λ x. x < l.pieces) l.searched.claimed.items;
   claimed_room : l.pieces < vec_capacity l.searched.claimed;
   found_room : l.pieces < vec_capacity l.searched.found;
-  same : l.timeline ≡ moved_to l.fn.self.timeline l.timeline.cursor;
-  right : IsSearched (HoldsAt l.fn.self.timeline l.b) l.positions.lo l.positions.hi l.searched;
+  on : IsOn l.timeline l.walk;
+  right : IsSearched (HoldsAt l.timeline l.b) l.positions.lo l.positions.hi l.searched;
 }
