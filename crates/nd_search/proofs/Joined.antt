@@ -1,5 +1,5 @@
 -- What the workers leave, once all are joined.
-use Rattle.std.proofs.Common.{◌≡◌, ℕ, List, All, length, sym, subst, arith}
+use Rattle.std.proofs.Common.{◌≡◌, ℕ, List, All, length, arith}
 use Rattle.std.specs.Fork.{GivesJobs}
 use denote.Param.Members.{Shared}
 use Rattle.atomic_table.specs.Seated.{TableId}

@@ -138,6 +138,11 @@ module _ {A : Type 0} where
       subst (λ (m : TimelineValue A). Leads (get_or rs i d) (cluster_of (moved_to m i)) (cluster_of (moved_to m (i + 1)))) is
       (record { planned = planned-at base rs i d within was.planned; after = ap (λ k. after base (take k (steps_of rs))) (add-one i) ∙ after-take base rs i d within })
 
+  -- no kept step has been made at the start
+  pub at_start : (m : TimelineValue A) → cluster_of (moved_to m 0) ≡ m.base
+  unfolding after
+  at_start m = refl
+
   -- ---- a jump, step by step
 
   pub cursor_is : (m s : TimelineValue A) (k : ℕ) → s ≡ moved_to m k → s.cursor ≡ k

@@ -44,6 +44,8 @@ impl<A: Allocator + Copy> Timeline<A> {
         ensures ok { OnOk result (walk.new.at ≡ walk.old.at + 1) }
         ensures err { OnErr result (walk.new.at ≡ walk.old.at) }
     {
+        // This call's clause says that few steps are kept.
+        let _ = self.at();
         let Ok(()) = walk.cluster.commit(self.record(walk.at)) else {
             return Err(NoMemory);
         };
@@ -77,14 +79,17 @@ impl<A: Allocator + Copy> Timeline<A> {
             return Err(Fault::NoSuchPoint);
         }
         let from = walk.at;
-        for at in from..n {
-            if let Err(NoMemory) = self.walk_on(walk) {
-                return Err(Fault::Memory { at });
+        if from <= n {
+            for at in from..n {
+                if let Err(NoMemory) = self.walk_on(walk) {
+                    return Err(Fault::Memory { at });
+                }
             }
-        }
-        for undone in 0..from.saturating_sub(n) {
-            if let Err(NoMemory) = self.walk_back(walk) {
-                return Err(Fault::Memory { at: from - undone });
+        } else {
+            for undone in 0..from - n {
+                if let Err(NoMemory) = self.walk_back(walk) {
+                    return Err(Fault::Memory { at: from - undone });
+                }
             }
         }
         Ok(())
