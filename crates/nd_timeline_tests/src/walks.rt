@@ -26,15 +26,17 @@ fn goes<A: Allocator + Copy>(
 fn walks<A: Allocator + Copy>(json: Global, alloc: A, at: u64, near: u64) -> Option<bool> {
     let mut timeline = kept(json, alloc, &ALL)?;
     timeline.jump(at).ok()?;
-    let mut walk = timeline.walk_near(alloc, near).ok()?;
-    let is_there = goes(json, &timeline, &mut walk, &ALL, near)?
-        && goes(json, &timeline, &mut walk, &ALL, 0)?
-        && goes(json, &timeline, &mut walk, &ALL, 3)?
-        && goes(json, &timeline, &mut walk, &ALL, 4)?
-        && goes(json, &timeline, &mut walk, &ALL, 1)?;
+    let Ok(mut walk) = timeline.walk_near(alloc, near) else {
+        return None;
+    };
+    let first = goes(json, &timeline, &mut walk, &ALL, near)?;
+    let start = goes(json, &timeline, &mut walk, &ALL, 0)?;
+    let third = goes(json, &timeline, &mut walk, &ALL, 3)?;
+    let end = goes(json, &timeline, &mut walk, &ALL, 4)?;
+    let again = goes(json, &timeline, &mut walk, &ALL, 1)?;
     let beyond = timeline.walk_to(&mut walk, 5);
     Some(
-        is_there
+        (first && start && third && end && again)
             && beyond == Err(Fault::NoSuchPoint)
             && walk.at == 1
             && (timeline.at(), timeline.kept()) == (at, 4),
@@ -66,7 +68,9 @@ fn walk_meets<A: Allocator + Copy>(
     let timeline = kept(json, alloc, script)?;
     let kept = timeline.kept();
     let (near, to) = if is_back { (kept, 0) } else { (0, kept) };
-    let mut walk = timeline.walk_near(alloc, near).ok()?;
+    let Ok(mut walk) = timeline.walk_near(alloc, near) else {
+        return None;
+    };
     heap.refuse(n);
     let answer = timeline.walk_to(&mut walk, to);
     let met = heap.relent(n);
