@@ -6,10 +6,6 @@ use Rattle.nd_search.specs.Claims.{times, once_below}
 use Rattle.nd_search.specs.Claims.{times_all}
 use Rattle.nd_search.proofs.Totals.{times-append}
 
-pub times_all-snoc : (x : ℕ) (ls : List (List ℕ)) (l : List ℕ) → times_all x (ls ++ l ∷ []) ≡ times_all x ls + times x l
-times_all-snoc x [] l = omega arith
-times_all-snoc x (k ∷ ls) l = omega (arith, times_all-snoc x ls l)
-
 pub times_all-more : {X : Type 0} (x : ℕ) (items : X → List ℕ) (vs : List X) (v : X) → times_all x (map items (vs ++ v ∷ [])) ≡ times_all x (map items vs) + times x (items v)
 times_all-more x items [] v = omega arith
 times_all-more x items (u ∷ vs) v = omega (arith, times_all-more x items vs v)

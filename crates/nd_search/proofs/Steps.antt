@@ -28,9 +28,6 @@ kept all n views id v h at some_left =
     subst P (sym next) now
 
 module _ {S : Type 0} (all : ℕ) where
-  abbrev Rule : State S Hand → Type 0
-  Rule s = IsClaimed all s.words s.views
-
   pub draws : (slots id : ℕ) (v : Hand) (c : List (ℕ × S)) → 0 < v.allowance
       → Allows (λ (s : State S Hand). IsClaimed all s.words s.views) slots id (v, c) 0 (λ n. (n + 1) % 2 ^ 64) (λ n after. after ≡ (hand v.each (v.allowance - 1) (v.drawn ++ n ∷ []), c))
   draws slots id v c some_left s h homes at fits =

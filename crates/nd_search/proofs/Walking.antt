@@ -18,9 +18,6 @@ no_hit_more Hit from i none here k le lt hit =
     ]
 
 module _ {A : Type 0} (m : TimelineValue A) (w : Walk A) (i : ℕ) where
-  -- what holds of the walk's cluster holds at its position
-  pub hit_here : (b : Break) → IsOn m w → w.at ≡ i → Holds w.cluster b → HoldsAt m b i
-  hit_here b on is holds = subst (HoldsAt m b) is (subst (λ (s : ClusterState). Holds s b) on.cluster holds)
-
+  -- where it does not hold of the walk's cluster, its position is no hit
   pub not_here : (b : Break) → IsOn m w → w.at ≡ i → (Holds w.cluster b → ⊥) → HoldsAt m b i → ⊥
   not_here b on is fails hit = fails (subst (λ (s : ClusterState). Holds s b) (sym on.cluster) (subst (HoldsAt m b) (sym is) hit))

@@ -14,7 +14,7 @@ use Rattle.nd_session.specs.declared.receipt.Receipt.{Receipt}
 use Rattle.nd_session.specs.declared.fault.SessionFault.{SessionFault}
 use Rattle.nd_session.specs.Log.{IsStart, IsPlaced, IsLegal, opening_of}
 use Rattle.nd_session.specs.Clients.{ClientValue, Holds, last_of, HoldsLast, IsAboveLast, IsOwn, IsHistory, IsKnown, IsUnknown, IsStranger, IsTold, IsSeen}
-use Rattle.nd_session.specs.Faults.{CommandFails, CopyFails, EnterFails, CommandMayFail, CopyMayFail, EnterMayFail}
+use Rattle.nd_session.specs.Faults.{CommandFails, CopyFails, CommandMayFail, CopyMayFail}
 use Rattle.nd_session.proofs.Logs.{slice_get-snoc}
 
 pub slice_get-append : {X : Type 0} (xs ys : List X) (i : ℕ) (y : X) → slice_get xs i ≡ Some y → slice_get (xs ++ ys) i ≡ Some y
@@ -139,10 +139,6 @@ module _ {A : Type 0} where
     pub copy_may_fail : {T : Type 0} (result : Result T (SessionFault A)) → IfErr result (CopyFails entered log p) → IfErr result (CopyMayFail p)
     copy_may_fail (Ok x) fails = tt
     copy_may_fail (Err e) fails = record { log = log; machine = m; entered = entered; history = history; fails = fails }
-
-  pub enter_may_fail : {T : Type 0} (entered : ℕ) (result : Result T (SessionFault A)) → IfErr result (EnterFails entered) → IfErr result EnterMayFail
-  enter_may_fail entered (Ok x) fails = tt
-  enter_may_fail entered (Err e) fails = record { entered = entered; fails = fails }
 
   -- what a stranger is told
   pub stranger : (entered : ℕ) (log : List (Receipt A)) (p : ClientValue A) (read rs : List (Receipt A)) (index : ℕ) (found : Option (Receipt A))

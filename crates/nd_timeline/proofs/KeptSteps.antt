@@ -1,5 +1,5 @@
 -- Kept steps: one more at the end, the front of them, and the step at a place.
-use Rattle.std.proofs.Common.{◌≡◌, ◌<◌, ◌≤◌, ℕ, zero, suc, ◌+◌, ◌-◌, List, [], ◌∷◌, ◌++◌, length, take, get_or, refl, sym, ap, subst, ◌∙◌, arith, add-one, length-append}
+use Rattle.std.proofs.Common.{◌≡◌, ◌<◌, ℕ, zero, suc, ◌+◌, ◌-◌, List, [], ◌∷◌, ◌++◌, length, take, get_or, refl, sym, ap, subst, ◌∙◌, arith, add-one, length-append}
 use Rattle.std.proofs.lemmas.List.{length-map, length-take-le, map-append, take-map, take_all}
 use Rattle.nd_time.specs.Limits.{max_kept}
 use Rattle.nd_protocol.specs.State.{ClusterState}
@@ -11,9 +11,6 @@ use Rattle.nd_protocol.specs.declared.step.Step.{Step}
 use Rattle.nd_cluster.specs.Records.{IsPlanned, Leads}
 use Rattle.nd_cluster.specs.declared.record.Record.{Record}
 use Rattle.nd_timeline.specs.Timeline.{TimelineValue, cluster_of, moved_to, IsTimeline}
-use Rattle.nd_timeline.specs.Moves.{JumpMoves, IsOnTheWay}
-use Rattle.nd_timeline.specs.declared.fault.Fault.TheVariants.{Memory}
-use Rattle.nd_timeline.specs.declared.reply.Reply.TheVariants.{Moved, Refused}
 use Rattle.nd_timeline.specs.Reached.{steps_of, ArePlanned, IsReached}
 
 module _ {A : Type 0} where
@@ -142,23 +139,3 @@ module _ {A : Type 0} where
   pub at_start : (m : TimelineValue A) → cluster_of (moved_to m 0) ≡ m.base
   unfolding after
   at_start m = refl
-
-  -- ---- a jump, step by step
-
-  pub cursor_is : (m s : TimelineValue A) (k : ℕ) → s ≡ moved_to m k → s.cursor ≡ k
-  cursor_is m s k is = ap (λ (s : TimelineValue A). s.cursor) is
-
-  pub kept_is : (m s : TimelineValue A) (k : ℕ) → s ≡ moved_to m k → length s.kept ≡ length m.kept
-  kept_is m s k is = ap (λ (s : TimelineValue A). length s.kept) is
-
-  pub one_on : (m s t : TimelineValue A) (k : ℕ) → s ≡ moved_to m k → t ≡ moved_to s (s.cursor + 1) → t ≡ moved_to m (k + 1)
-  one_on m s t k is made = made ∙ ap (λ (s : TimelineValue A). moved_to s (s.cursor + 1)) is
-
-  pub one_back : (m s t : TimelineValue A) (k j : ℕ) → s ≡ moved_to m k → t ≡ moved_to s (s.cursor - 1) → j ≡ k - 1 → t ≡ moved_to m j
-  one_back m s t k j is made less = made ∙ ap (λ (s : TimelineValue A). moved_to s (s.cursor - 1)) is ∙ ap (moved_to m) (sym less)
-
-  pub arrived : (m new : TimelineValue A) (n k : ℕ) → n ≤ length m.kept → new ≡ moved_to m k → k ≡ n → JumpMoves m n (Moved new.cursor (length new.kept)) new
-  arrived m new n k within is at = (within, cursor_is m new k is ∙ at, kept_is m new k is, is ∙ ap (moved_to m) at)
-
-  pub stuck : (m s new : TimelineValue A) (n k : ℕ) → n ≤ length m.kept → IsOnTheWay m.cursor n k → s ≡ moved_to m k → new ≡ s → JumpMoves m n (Refused (Memory k)) new
-  stuck m s new n k within way is same = (within, way, same ∙ is)

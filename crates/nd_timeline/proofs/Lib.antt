@@ -2,6 +2,5 @@ pub mod Choosing
 pub mod Copying
 pub mod Keeping
 pub mod KeptSteps
-pub mod Refusing
 pub mod Running
 pub mod Telling

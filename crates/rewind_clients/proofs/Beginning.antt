@@ -3,9 +3,9 @@ use Rattle.std.proofs.Common.{◌≡◌, ℕ, [], ◌∷◌, Some, Result, Ok, E
 use Rattle.std.specs.Option.{option_to_list}
 use Rattle.std.specs.declared.alloc.AllocError.{AllocError}
 use Rattle.serde_json.specs.Data.{Data}
-use Rattle.rewind_lines.specs.Lines.{blank, too_long, no_json, json}
-use Rattle.rewind_answers.specs.Answers.{Logged, StartReplies, graph_of, unstarted, running, refused}
-use Rattle.rewind_clients.specs.Intake.{Begins, no_commands, nothing, refused_graph, script}
+use Rattle.rewind_lines.specs.Lines.{blank, too_long, no_json}
+use Rattle.rewind_answers.specs.Answers.{unstarted, refused}
+use Rattle.rewind_clients.specs.Intake.{Begins, nothing, refused_graph}
 use Rattle.rewind_clients.specs.Intakes.{intake_view}
 use Rattle.rewind_clients.specs.declared.intake.Intake.{Intake}
 use Rattle.rewind_forms.specs.Replies.{line_fault}
@@ -25,11 +25,3 @@ pub begins-bad : (p c n : ℕ) (r : Result Intake AllocError) → IfOk r (λ new
     → IfOk r (λ new. Begins p c n no_json (intake_view new))
 begins-bad p c n (Ok new) h = record { replies = h.0 ∷ []; phase = refused; answers = (ap option_to_list h.1, refl); begun = h.2 }
 begins-bad p c n (Err e) h = h
-
--- the graph is refused
-pub begins-refused : (p c n : ℕ) (d reply : Data) → StartReplies p (graph_of d) (reply ∷ []) refused → Begins p c n (json d) (refused_graph reply)
-begins-refused p c n d reply h = record { replies = reply ∷ []; phase = refused; answers = h; begun = refl }
-
--- the graph is accepted
-pub begins-script : (p c n : ℕ) (d reply : Data) (m : Logged) → StartReplies p (graph_of d) (reply ∷ []) (running m) → Begins p c n (json d) (script reply m (no_commands c))
-begins-script p c n d reply m h = record { replies = reply ∷ []; phase = running m; answers = h; begun = refl }

@@ -1,9 +1,8 @@
 -- What clients made of their commands, against the log of their session.
-use Rattle.std.proofs.Common.{◌≡◌, ◌∙◌, ◌==◌, ◌⊎◌, inl, inr, ℕ, zero, suc, ◌+◌, ◌<◌, ◌≤◌, get_or, List, [], ◌∷◌, ◌++◌, length, map, Option, Some, None, Global, Vec, refl, sym, ap, subst, arith, length-append}
-use Rattle.std.specs.Prelude.{filter, option_map, replicate, slice_get, slice_index_or, slice_set}
+use Rattle.std.proofs.Common.{◌≡◌, ◌∙◌, ◌==◌, ◌⊎◌, inl, inr, ℕ, zero, suc, ◌<◌, ◌≤◌, get_or, List, [], ◌∷◌, ◌++◌, length, map, Option, Some, None, Global, Vec, refl, sym, ap, subst, arith, length-append}
+use Rattle.std.specs.Prelude.{filter, option_map, slice_get, slice_index_or, slice_set}
 use Rattle.std.proofs.lemmas.Option.{slice_get-map, slice_get_within, slice_get_cases}
 use Rattle.std.proofs.lemmas.List.{length-map, map-append}
-use Rattle.std.proofs.lemmas.Grind.{replicate_next}
 use Rattle.serde_json.specs.Data.{Data}
 use Rattle.nd_timeline.specs.declared.command.Command.{Command}
 use Rattle.nd_timeline.specs.Moves.{MachineValue}
@@ -140,9 +139,6 @@ slice_get-snoc (z ∷ xs) x zero y e = inl (omega arith, e)
 slice_get-snoc (z ∷ xs) x (suc i) y e =
     elim (slice_get-snoc xs x i y e) [ inl p ↦ inl (omega arith, p.1) | inr p ↦ inr (ap suc p.0, p.1) ]
 
-pub fresh-none : AreFresh [] []
-fresh-none = record { count = refl; each = λ i list t at there. absurd (cc at) }
-
 pub fresh-more : (commands : Commands) (ts : List Task) (list : List (Command Global)) (t : Task) → AreFresh commands ts → IsFresh (length ts) list t → AreFresh (commands ++ list ∷ []) (ts ++ t ∷ [])
 fresh-more commands ts list t h f = record {
   count = let n : length ts ≡ length commands = h.count in omega (arith, length-append ts (t ∷ []), length-append commands (list ∷ []));
@@ -160,10 +156,6 @@ fresh-more commands ts list t h f = record {
     each i asked u n (inr a) (inl b) = absurd (let x = a.0 in let y = b.0 in omega arith)
 
 -- ---- commands, one behind another
-
--- no client has a command yet
-pub none-more : (n : ℕ) (vs : List (Vec (Command Global) Global)) (v : Vec (Command Global) Global) → lists_of vs ≡ replicate n [] → v.items ≡ [] → lists_of (vs ++ v ∷ []) ≡ replicate (n + 1) []
-none-more n vs v h none = map-append (λ w. w.items) vs (v ∷ []) ∙ (ap (λ ls. ls ++ v.items ∷ []) h ∙ (ap (λ l. replicate n [] ++ l ∷ []) none ∙ sym (replicate_next n [])))
 
 -- a client has one more
 pub lists-set : (vs : List (Vec (Command Global) Global)) (i : ℕ) (v d : Vec (Command Global) Global) (x : Command Global) → i < length vs → v.items ≡ (slice_index_or vs i d).items ++ x ∷ []

@@ -9,7 +9,7 @@ use Rattle.rewind_faults.specs.Faults.{is_write_fault}
 use Rattle.rewind_faults.specs.declared.fault.DebugFault.{DebugFault}
 use Rattle.rewind_faults.specs.declared.fault.DebugFault.TheVariants as fault
 use Rattle.rewind_clients.specs.Clients.{Replies, Writes}
-use Rattle.rewind_clients.specs.Intake.{Commands, Intake, nothing, refused_graph, faulty_line, script}
+use Rattle.rewind_clients.specs.Intake.{Commands, Intake, refused_graph, faulty_line, script}
 use Rattle.rewind_clients.specs.Outbox.{Gathered, StopsIn}
 use Rattle.rewind_clients.specs.Readers.{IsOfReading}
 use Rattle.rewind_clients.specs.Served.{IsOfDriving}
@@ -79,9 +79,6 @@ refused-told reply before after e = (tt, (reply ∷ [], refl, e))
 
 pub faulty-told : (reply : Data) (before : List ℕ) (after : Known) → after ≡ Some (before ++ text_of (reply ∷ [])) → Writes (faulty_line reply) before after (Err fault.Script)
 faulty-told reply before after e = (tt, (reply ∷ [], refl, e))
-
-pub nothing-told : (before : List ℕ) (after : Known) → after ≡ Some before → Writes nothing before after (Ok tt)
-nothing-told before after e = (tt, ([], refl, e ∙ ap Some (sym (append-nil before))))
 
 -- it could not be written whole, for these replies of which it is the first
 pub stops-first : (intake : Intake) (reply : Data) (lines : List Data) (before : List ℕ) (after : Known) (e : DebugFault) → Replies intake (reply ∷ lines)

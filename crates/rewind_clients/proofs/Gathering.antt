@@ -1,5 +1,5 @@
 -- Replies that are gathered, and then written.
-use Rattle.std.proofs.Common.{◌≡◌, ◌∙◌, ℕ, ◌+◌, List, [], ◌∷◌, ◌++◌, length, take, Option, Some, None, refl, sym, ap, subst, append_assoc}
+use Rattle.std.proofs.Common.{◌≡◌, ◌∙◌, ℕ, ◌+◌, List, [], ◌++◌, length, take, Option, Some, None, refl, sym, ap, subst, append_assoc}
 use Rattle.std.proofs.lemmas.List.{append-nil}
 use Rattle.std.proofs.lemmas.Grind.{flat_map-append}
 use Rattle.std.proofs.Math.Seq.{take-append-add}
@@ -45,15 +45,4 @@ front-written replies waiting before old new n h wrote = record {
   count = length (text_of h.sent) + n;
   written = written-on old new before (text_of h.sent) (take n waiting) h.written wrote
       ∙ ap (λ t. Some (before ++ t)) (sym (ap (take (length (text_of h.sent) + n)) (whole replies waiting before old h) ∙ take-append-add (text_of h.sent) waiting n));
-}
-
--- one more waits
-pub one-more : (replies : List Data) (reply : Data) (waiting more before : List ℕ) (after : Known) → Gathered replies waiting before after → more ≡ waiting ++ reply_text reply
-    → Gathered (replies ++ reply ∷ []) more before after
-one-more replies reply waiting more before after h add = record {
-  sent = h.sent;
-  kept = h.kept ++ reply ∷ [];
-  split = ap (λ rs. rs ++ reply ∷ []) h.split ∙ append_assoc h.sent h.kept (reply ∷ []);
-  waits = add ∙ (ap (λ t. t ++ reply_text reply) h.waits ∙ sym (text_of-append h.kept (reply ∷ []) ∙ ap (λ t. text_of h.kept ++ t) (append-nil (reply_text reply))));
-  written = h.written;
 }

@@ -97,13 +97,6 @@ read-on input taken rest piece old new whole told h =
 at-end : (more : List ℕ) (new : Option (List ℕ)) → new ≡ Some more → IsAtEnd new → more ≡ []
 at-end more new e h = subst IsAtEnd e h
 
--- before anything was read
-pub going-new : (o : Options) (limit : ℕ) (input : List ℕ) (left : Option (List ℕ)) (r : Reader) → left ≡ Some input → StandsAt o [] r → Going o limit limit input left r
-going-new o limit input left r told s = record { taken = []; rest = input; whole = refl; told = told; count = omega arith; stands = s }
-
-pub fails-first : (limit : ℕ) (input : List ℕ) (left : Option (List ℕ)) → left ≡ Some input → ReadPart limit input left
-fails-first limit input left told = record { taken = []; rest = input; split = refl; told = told; within = omega arith }
-
 -- the reader failed
 pub fails-read : (o : Options) (limit left : ℕ) (input : List ℕ) (old new : Option (List ℕ)) (r : Reader) → Going o limit left input old r → Keeps old new
     → ReadPart limit input new

@@ -69,14 +69,6 @@ faults-append k (None ∷ xs) ys = faults-append (k + 1) xs ys ∙ ap (λ j. fau
 faults-append k (Some e ∷ xs) ys =
     ap (λ ds. client_fault k (number_of e) (name_of e) ∷ ds) (faults-append (k + 1) xs ys ∙ ap (λ j. faults_data (k + 1) xs ++ faults_data j ys) (omega arith))
 
--- those up to one of them, and the others
-pub faults-rest : (xs : List Data) (fs : List Ended) (i : ℕ) → i < length fs → (xs ++ faults_data 0 (take i fs)) ++ faults_data i (drop i fs) ≡ xs ++ faults_data 0 fs
-faults-rest xs fs i h =
-    let size : 0 + length (take i fs) ≡ i = omega (arith, length-take i fs) in
-    append_assoc xs (faults_data 0 (take i fs)) (faults_data i (drop i fs))
-    ∙ ap (λ ds. xs ++ ds) (ap (λ j. faults_data 0 (take i fs) ++ faults_data j (drop i fs)) (sym size)
-    ∙ (sym (faults-append 0 (take i fs) (drop i fs)) ∙ ap (faults_data 0) (take-append-drop i fs)))
-
 pub faults-one : (xs : List Data) (fs : List Ended) (i : ℕ) (f : Ended) → i < length fs → f ≡ get_or fs i f → (xs ++ faults_data 0 (take i fs)) ++ faults_data i (f ∷ []) ≡ xs ++ faults_data 0 (take (i + 1) fs)
 faults-one xs fs i f h at =
     let size : 0 + length (take i fs) ≡ i = omega (arith, length-take i fs) in
