@@ -19,7 +19,8 @@ pub struct Walk<A: Allocator + Copy = Global> {
 }
 
 impl<A: Allocator + Copy> Timeline<A> {
-    /// A walk that begins at the start or at the cursor, whichever is nearer to a position.
+    /// A walk that is to go to a position: it begins at the start where that lies in the front half of
+    /// the way to the cursor, and else at the cursor. No clause says which.
     pub fn walk_near(&self, alloc: A, n: u64) -> Result<Walk<A>, AllocError>
         ensures { IfOk result (IsOn self.now) }
     {
