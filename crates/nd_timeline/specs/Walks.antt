@@ -1,5 +1,5 @@
 -- Walks over the kept steps of a timeline (this project's own rule).
-use Rattle.std.specs.Prelude.{◌≡◌, ◌≤◌, length}
+use Rattle.std.specs.Prelude.{ℕ, ◌≡◌, ◌+◌, ◌<◌, ◌≤◌, length}
 use Rattle.nd_timeline.specs.Timeline.{TimelineValue, cluster_of, moved_to}
 use Rattle.nd_timeline.specs.declared.walk.Walk.{Walk}
 
@@ -7,3 +7,8 @@ use Rattle.nd_timeline.specs.declared.walk.Walk.{Walk}
 pub record IsOn {A : Type 0} (m : TimelineValue A) (w : Walk A) : Type 0 where
   pub within : w.at ≤ length m.kept
   pub cluster : w.cluster ≡ cluster_of (moved_to m w.at)
+
+-- a walk begins at the start or at the cursor, whichever is nearer to a position, and at the start where both are as near
+pub record BeginsNear {A : Type 0} (m : TimelineValue A) (n : ℕ) (w : Walk A) : Type 0 where
+  pub start : n + n ≤ m.cursor → w.at ≡ 0
+  pub cursor : m.cursor < n + n → w.at ≡ m.cursor

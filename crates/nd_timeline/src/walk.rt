@@ -2,7 +2,7 @@
 ghost use Rattle.std.specs.Prelude.{◌≡◌, ◌+◌, ◌-◌, ◌<◌, ◌≤◌, length, IfOk, OnOk, OnErr};
 ghost use Rattle.nd_timeline.specs.Timeline.{moved_to};
 ghost use Rattle.nd_timeline.specs.Moves.{moved_reply, JumpMoves};
-ghost use Rattle.nd_timeline.specs.Walks.{IsOn};
+ghost use Rattle.nd_timeline.specs.Walks.{BeginsNear, IsOn};
 
 use crate::{Fault, Timeline};
 use nd_cluster::Cluster;
@@ -19,12 +19,12 @@ pub struct Walk<A: Allocator + Copy = Global> {
 }
 
 impl<A: Allocator + Copy> Timeline<A> {
-    /// A walk that is to go to a position: it begins at the start where that lies in the front half of
-    /// the way to the cursor, and else at the cursor. No clause says which.
+    /// A walk that is to go to a position: it begins at the start or at the cursor, whichever is nearer.
     pub fn walk_near(&self, alloc: A, n: u64) -> Result<Walk<A>, AllocError>
-        ensures { IfOk result (IsOn self.now) }
+        ensures on { IfOk result (IsOn self.now) }
+        ensures near { IfOk result (BeginsNear self.now n) }
     {
-        if n < self.at() / 2 {
+        if n <= self.at() / 2 {
             Ok(Walk {
                 at: 0,
                 cluster: self.base().copy(alloc)?,

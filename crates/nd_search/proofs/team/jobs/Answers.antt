@@ -24,7 +24,7 @@ loop-number-preserved g c =
     let at = c.loop-number.invariant in
     let job : Job g.row.A.Denot = record { number = c.loop-number.number; walk = c.in_ok-walk.walk; ticket = c.share.result; searched = c.in_ok-searched.searched } in
     let ready : IsReady c.args.timeline.now c.args.word.now.table_id c.args.pieces job = record {
-      on = c.in_ok-walk.ensures;
+      on = c.in_ok-walk.ensures.on;
       table_is = c.share.ensures.right.0 ∙ at.table;
       me_is = share_given p c.args.workers c.loop-number.number c.loop-number.ticket.me at.me c.share.result.me c.share.ensures.right.1;
       empty = c.in_ok-searched.ensures;
