@@ -19,8 +19,7 @@ use Rattle.nd_protocol.specs.Enabled.{IsEnabled}
 use Rattle.nd_protocol.specs.declared.refusal.Refusal.TheVariants.{NoProcessor, NoRecord, NoRequest}
 use Rattle.nd_protocol.specs.declared.step.Step.{Step}
 use Rattle.nd_protocol.specs.declared.step.Step.TheVariants.{Feed, Take, Notice, Broadcast, Receive}
-use Rattle.nd_protocol.specs.declared.part.Part.TheVariants.{All, Points}
-use Rattle.nd_cluster.specs.Choice.{IsCandidate, performer, wait, rank, IsListedBefore, ComesFirst, IsChosen, IsIdle, IsFirst, HasNone, IsOf, IsOfRank}
+use Rattle.nd_cluster.specs.Choice.{IsCandidate, performer, wait, ComesFirst, IsChosen, IsFirst, HasNone, IsOf, IsOfRank}
 
 -- ---- a list in order, from which what was tried and refused is gone
 
@@ -101,9 +100,6 @@ module _ (n turn : ℕ) (some : 0 < n) where
             ∙ ap (λ k. k % n) (let e : r + (q + n - r) ≡ q + n = omega (arith, within) in e) ∙ add-mod_right q n ∙ mod-eq_of_lt lt
       ]
 
-  pub wait_below : (q : ℕ) → wait n turn q < n
-  wait_below q = mod-lt (q + n - turn % n) some
-
 below : (n p : ℕ) → (n ≤ p → ⊥) → p < n
 below n p h = omega (arith, h)
 
@@ -129,20 +125,6 @@ module _ (A : Type 0) (s : ClusterState) where
   no_receive p none (Take _ edge t value) candidate kind e = absurd (omega (arith, kind.1))
   no_receive p none (Notice _ vertex t) candidate kind e = absurd (omega (arith, kind.1))
   no_receive p none (Broadcast _ part) candidate kind e = absurd (omega (arith, kind.1))
-
-  first_receive_of : (p from : ℕ) → ((k : ℕ) → k < from → NoReceive p k) → (y : Step A) → IsCandidate y → IsOfRank p 0 y → ComesFirst y (Receive from p) → IsEnabled s y → ⊥
-  first_receive_of p from none (Receive k to) candidate kind before e =
-      elim before [
-        | inl lower ↦ absurd (omega (arith, lower))
-        | inr same ↦ none k same.1 (subst (λ q. IsEnabled {A = A} s (Receive k q)) kind.0 e)
-      ]
-  first_receive_of p from none (Feed _ vertex values _) candidate kind before e = candidate
-  first_receive_of p from none (Take _ edge t value) candidate kind before e = absurd (omega (arith, kind.1))
-  first_receive_of p from none (Notice _ vertex t) candidate kind before e = absurd (omega (arith, kind.1))
-  first_receive_of p from none (Broadcast _ part) candidate kind before e = absurd (omega (arith, kind.1))
-
-  pub first_receive : (p from : ℕ) → ((k : ℕ) → k < from → NoReceive p k) → IsEnabled {A = A} s (Receive from p) → IsFirst {A = A} s (IsOfRank p 0) (Receive from p)
-  first_receive p from none e = record { candidate = tt; kind = (refl, refl); enabled = e; first = first_receive_of p from none }
 
   -- ---- the takes on a processor
   abbrev pub Taking : ℕ → ValueAt → Step A
@@ -230,63 +212,6 @@ module _ (A : Type 0) (s : ClusterState) where
     first = first_notice_of p d.0 (none_before point_cmp point_total point_exact (CanNotice p) d es listed all);
   }
 
-  -- ---- the broadcast of all that a processor has to send
-  pub no_broadcast : (p : ℕ) → (IsEnabled {A = A} s (Broadcast p All) → ⊥) → HasNone {A = A} s (IsOfRank p 3)
-  no_broadcast p not (Broadcast q All) candidate kind e = not (subst (λ q. IsEnabled {A = A} s (Broadcast q All)) kind.0 e)
-  no_broadcast p not (Broadcast q (Points points)) candidate kind e = candidate
-  no_broadcast p not (Feed _ vertex values _) candidate kind e = candidate
-  no_broadcast p not (Receive from _) candidate kind e = absurd (omega (arith, kind.1))
-  no_broadcast p not (Take _ edge t value) candidate kind e = absurd (omega (arith, kind.1))
-  no_broadcast p not (Notice _ vertex t) candidate kind e = absurd (omega (arith, kind.1))
-
-  unlisted : (p q : ℕ) (y : Step A) → IsListedBefore y (Broadcast q All) → ⊥
-  unlisted p q (Feed _ vertex values _) h = h
-  unlisted p q (Take _ edge t value) h = h
-  unlisted p q (Notice _ vertex t) h = h
-  unlisted p q (Broadcast _ part) h = h
-  unlisted p q (Receive from _) h = h
-
-  pub first_broadcast : (p : ℕ) → IsEnabled {A = A} s (Broadcast p All) → IsFirst {A = A} s (IsOfRank p 3) (Broadcast p All)
-  first_broadcast p e = record {
-    candidate = tt;
-    kind = (refl, refl);
-    enabled = e;
-    first = λ y candidate kind before _. elim before [
-      | inl lower ↦ absurd (omega (arith, lower, kind.1))
-      | inr same ↦ unlisted p p y same.1
-    ];
-  }
-
-  -- ---- all kinds of a processor
-
-  -- no kind before r has an enabled step
-  abbrev pub NoneBelow : ℕ → ℕ → Type 0
-  NoneBelow p r = (q : ℕ) → q < r → HasNone {A = A} s (IsOfRank p q)
-
-  pub none_below : (p r : ℕ) → NoneBelow p r → HasNone {A = A} s (IsOfRank p r) → NoneBelow p (r + 1)
-  none_below p r none here q lt = elim (split q r lt) [ inl h ↦ none q h | inr e ↦ subst (λ k. HasNone {A = A} s (IsOfRank p k)) (sym e) here ]
-
-  pub first_of_kind : (p r : ℕ) (x : Step A) → NoneBelow p r → IsFirst s (IsOfRank p r) x → IsFirst s (IsOf p) x
-  first_of_kind p r x none h = record {
-    candidate = h.candidate;
-    kind = h.kind.0;
-    enabled = h.enabled;
-    first = λ y candidate kind before e. elim before [
-      | inl lower ↦ none (rank y) (omega (arith, lower, h.kind.1)) y candidate (kind, refl) e
-      | inr same ↦ h.first y candidate (kind, same.0 ∙ h.kind.1) (inr same) e
-    ];
-  }
-
-  candidate_rank : (y : Step A) → IsCandidate y → rank y < 4
-  candidate_rank (Feed p vertex values _) h = absurd h
-  candidate_rank (Take p edge t value) h = omega arith
-  candidate_rank (Notice p vertex t) h = omega arith
-  candidate_rank (Broadcast p part) h = omega arith
-  candidate_rank (Receive from to) h = omega arith
-
-  pub no_kind : (p : ℕ) → NoneBelow p 4 → HasNone {A = A} s (IsOf p)
-  no_kind p none y candidate kind e = none (rank y) (candidate_rank y candidate) y candidate (kind, refl) e
-
   -- ---- all processors
 
   -- no candidate of a processor whose turn came is enabled
@@ -314,6 +239,3 @@ module _ (A : Type 0) (s : ClusterState) where
         | inr h ↦ here y candidate
             (sym (whose_wait (length s.processors) turn some (performer y) (performer_there y e)) ∙ ap (λ k. (turn % length s.processors + k) % length s.processors) h) e
       ]
-
-  pub idle_of : 0 < length s.processors → (turn : ℕ) → NoneWaits turn (length s.processors) → IsIdle A s
-  idle_of some turn none = record { none = λ y candidate e. none y candidate (wait_below (length s.processors) turn some (performer y)) e }

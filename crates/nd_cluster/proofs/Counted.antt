@@ -21,9 +21,6 @@ use Rattle.nd_processor.specs.declared.key.ValueAt.{ValueAt}
 abbrev pub records_at : Pointstamp → List (ValueAt × ℕ) → ℕ
 records_at x es = weight (λ (k : ValueAt) n. cond (is_point x k.point) n 0) es
 
-pub records_next : (x : Pointstamp) (e : ValueAt × ℕ) (es rest : List (ValueAt × ℕ)) → rest ≡ e ∷ es → records_at x rest ≡ cond (is_point x e.0.point) e.1 0 + records_at x es
-records_next x e es rest is = ap (records_at x) is ∙ sum_by-cons (λ (d : ValueAt × ℕ). cond (is_point x d.0.point) d.1 0) e es
-
 at_most : (b : Bool) (n k : ℕ) → n ≤ k → cond b n 0 ≤ k
 at_most true n k h = h
 at_most false n k h = omega arith

@@ -1,9 +1,9 @@
 -- What the tests of a plan say together: that a step is enabled, or for which limit it is refused.
-use Rattle.std.proofs.Common.{◌<◌, ℕ, ℤ, List, inl, inr, sym, subst, arith}
+use Rattle.std.proofs.Common.{◌<◌, ℕ, ℤ, List, arith}
 use Rattle.nd_time.specs.Time.{Time}
 use Rattle.nd_protocol.specs.State.{ClusterState}
 use Rattle.nd_protocol.specs.Steps.{stepped}
-use Rattle.nd_protocol.specs.Enabled.{HasLargeCount, HasLargeEntry, FeedFails, TakeFails, NoticeFails, Fails, IsAdmissible, IsEnabled, IsFreeBelow, MayWantMemory, IsRefused}
+use Rattle.nd_protocol.specs.Enabled.{HasLargeCount, HasLargeEntry, FeedFails, TakeFails, NoticeFails, Fails, IsAdmissible, IsEnabled, IsFreeBelow, IsRefused}
 use Rattle.nd_protocol.specs.Refusals.{number_of}
 use Rattle.nd_protocol.specs.declared.step.Step.{Step}
 use Rattle.nd_protocol.specs.declared.step.Step.TheVariants.{Feed, Take, Notice, Broadcast, Receive}
@@ -82,16 +82,6 @@ module _ {A : Type 0} (s : ClusterState) where
   admissible (Receive from to) works = absurd works
 
   module _ (x : Step A) (works : Works x) (free : IsFreeBelow s x 13) where
-    -- want of memory may be answered
-    pub may_want_memory : MayWantMemory s x
-    may_want_memory = record {
-      free = λ r sure h. elim sure [
-        | inl lt ↦ free.free r lt h
-        | inr (inl is) ↦ never x works r (subst (λ q. 14 < number_of q) (sym is) (omega arith)) h
-        | inr (inr is) ↦ never x works r (subst (λ q. 14 < number_of q) (sym is) (omega arith)) h
-      ];
-    }
-
     -- a refusal for the limit of counts is the one of least number
     pub count_refused : HasLargeCount (stepped s x) → IsRefused s x CountFull
     count_refused large = record { fails = count_fails x works large; least = free }

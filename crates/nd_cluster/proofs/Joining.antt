@@ -41,9 +41,6 @@ pub record AddsNone (k : Place) (cs : List Change) : Type 0 where
   pub never : often k cs ≡ 0
   pub nothing : total_at (edits_of cs) k ≡ pos 0
 
-once_if_never : (k : Place) (cs : List Change) → AddsNone k cs → Adds k (pos 0) cs
-once_if_never k cs h = record { once = (let e = h.never in omega (arith, e)); total = h.nothing }
-
 step_none : (b : Bool) (n : ℕ) (z g : ℤ) → b ≡ false → n ≡ 0 → z ≡ pos 0 → (cond b 1 0 + n ≡ 0) × (cond b g (pos 0) +ℤ z ≡ pos 0)
 step_none true n z g e f h = absurd (cc)
 step_none false n z g e f h = (omega (arith, f), omega (arith, ints, h))

@@ -1,13 +1,12 @@
 -- What the tests of a take and of a notice have shown lets their vertices act; and what remains to be refused.
-use Rattle.std.proofs.Common.{inl, inr, ◌≡◌, ℕ, zero, suc, ◌-◌, ◌<◌, ◌≤◌, ℤ, pos, Bool, true, false, cond, not, get_or, ◌&&◌, ◌||◌, ◌==◌, List, [], ◌∷◌, ◌++◌, map, length, Option, Some, None, refl, sym, ap, subst, ◌∙◌, arith, lt_of_not-le}
+use Rattle.std.proofs.Common.{inl, inr, ◌≡◌, ℕ, zero, suc, ◌-◌, ◌<◌, ◌≤◌, Bool, true, false, cond, not, get_or, ◌&&◌, ◌||◌, ◌==◌, List, [], ◌∷◌, ◌++◌, map, length, Option, Some, None, refl, sym, ap, subst, ◌∙◌, arith, lt_of_not-le}
 use Rattle.std.proofs.lemmas.Bool.Decides.{nat_tests}
 use Rattle.std.proofs.lemmas.List.{length-map}
-use Rattle.std.specs.Prelude.{nat_lt, int_lt, slice_get}
+use Rattle.std.specs.Prelude.{nat_lt, slice_get}
 use Rattle.std.specs.Option.{option_map_or}
 use Rattle.std.specs.List.{list_any}
-use Rattle.nd_time.specs.Limits.{max_counter, max_depth, max_values}
-use Rattle.nd_time.specs.Time.{Time, last_of}
-use Rattle.nd_map.specs.Counts.{at as number_at}
+use Rattle.nd_time.specs.Limits.{max_counter, max_depth}
+use Rattle.nd_time.specs.Time.{last_of}
 use Rattle.nd_graph.specs.declared.op.Op.{Op}
 use Rattle.nd_graph.specs.declared.op.Op.TheVariants as op
 use Rattle.nd_graph.specs.declared.op.Action.{Action}
@@ -25,10 +24,9 @@ use Rattle.nd_delta.specs.Change.{Change, none}
 use Rattle.nd_view.specs.View.{IsPrecursor}
 use Rattle.nd_view.specs.Kept.{Kept, IsFor}
 use Rattle.nd_view.specs.Views.{maps-get}
-use Rattle.nd_vertex.specs.Items.{Items, item_key}
-use Rattle.nd_vertex.specs.Table.{Outcome, on_record, on_notice, is_zero}
-use Rattle.nd_vertex.specs.Effects.{IsEffect, IsCounterFull, IsInRange, MayActAt}
-use Rattle.nd_vertex.specs.declared.effect.Effect.{Effect}
+use Rattle.nd_vertex.specs.Items.{Items}
+use Rattle.nd_vertex.specs.Table.{Outcome, on_record}
+use Rattle.nd_vertex.specs.Effects.{IsCounterFull, IsInRange, MayActAt}
 use Rattle.nd_processor.specs.State.{ProcessorState, idle, items_at}
 use Rattle.nd_processor.specs.declared.key.ValueAt.{ValueAt}
 use Rattle.nd_protocol.specs.State.{ClusterState, processor, view}
@@ -37,7 +35,7 @@ use Rattle.nd_protocol.specs.Fitting.{IsState, ProcessorFits, IsAtEdge}
 use Rattle.nd_protocol.specs.Enabled.{TakeFails, NoticeFails}
 use Rattle.nd_protocol.specs.Refusals.{number_of}
 use Rattle.nd_protocol.specs.declared.refusal.Refusal.{Refusal}
-use Rattle.nd_protocol.specs.declared.refusal.Refusal.TheVariants.{NoProcessor, NoVertex, NoEdge, NoRecord, NotYet, CounterFull, ValueRange}
+use Rattle.nd_protocol.specs.declared.refusal.Refusal.TheVariants.{NoProcessor, NoEdge, NoRecord, NotYet, CounterFull, ValueRange}
 use Rattle.nd_cluster.specs.Seen.{seen, IsSeen}
 use Rattle.nd_cluster.specs.Tested.{TakePasses, TakeRefused, NoticePasses, NoticeRefused}
 use Rattle.nd_cluster.proofs.Takes.{target_there}
@@ -127,29 +125,10 @@ take_stands s p k target state sound is on =
       may = subst (λ t. MayActAt (action_of (op_at s.graph t)) (length k.point.time.counters)) (sym is) (may_target s.graph k.point.location (length k.point.time.counters) sound low at_edge.fits.depth);
     }
 
-feedback_of_action : (o : Op) → action_of o ≡ Feedback → o ≡ op.Feedback
-feedback_of_action op.Input e = absurd (cc)
-feedback_of_action op.Ingress e = absurd (cc)
-feedback_of_action op.Egress e = absurd (cc)
-feedback_of_action op.Feedback e = refl
-feedback_of_action (op.Add k) e = absurd (cc)
-feedback_of_action (op.Mul k) e = absurd (cc)
-feedback_of_action (op.Below k) e = absurd (cc)
-feedback_of_action (op.Split k) e = absurd (cc)
-feedback_of_action op.Sum e = absurd (cc)
-feedback_of_action op.Distinct e = absurd (cc)
-feedback_of_action op.Sink e = absurd (cc)
-
 module _ (s : ClusterState) (p : ℕ) (k : ValueAt) (target : ℕ) (is : target ≡ target_of s.graph k.point.location) (on : TakePasses s p k.point.location k.point.time k.value 11) where
   -- the operator of the target, and what it does with the record
   abbrev target_op : Op
   target_op = op_at s.graph (target_of s.graph k.point.location)
-
-  pub take_full : last_of k.point.time.counters ≤ max_counter → IsCounterFull (op_at s.graph target) k.point.time → TakeRefused s p k.point.location k.point.time k.value CounterFull
-  take_full small full =
-      let h : IsCounterFull target_op k.point.time = subst (λ t. IsCounterFull (op_at s.graph t) k.point.time) is full in
-      let most : last_of k.point.time.counters ≡ max_counter = (let a : max_counter ≤ last_of k.point.time.counters = h.full in omega arith) in
-      record { fails = λ new. (feedback_of_action target_op h.feedback, most); least = on }
 
   not_full : (IsCounterFull (op_at s.graph target) k.point.time → ⊥) → (target_op ≡ op.Feedback) × (last_of k.point.time.counters ≡ max_counter) → ⊥
   not_full h f =
@@ -212,13 +191,6 @@ module _ (s : ClusterState) (p : ℕ) (x : Pointstamp) (on : NoticePasses s p x.
   pub notice_here : p < length s.processors
   notice_here = lt_of_not-le (on.free s NoProcessor (omega arith))
 
-  pub notice_vertex : IsState s → x.location < length (processor s p).items
-  notice_vertex state =
-      let place : x.location < length s.graph.vertices = lt_of_not-le (on.free s NoVertex (omega arith)) in
-      let fits : ProcessorFits s.graph (processor s p) = state.fits.processors p idle notice_here in
-      let n : length (processor s p).items ≡ length s.graph.vertices = fits.vertices in
-      omega arith
-
   pub notice_blocked : (g : Dataflow) (m : Change) → g ≡ s.graph → view s p ≡ m → (blocker : Pointstamp) → IsLeast (IsPrecursor g m x) blocker → NoticeRefused s p x.location x.time (NotYet blocker)
   notice_blocked g m e f blocker h = record {
     fails = λ new. subst (λ c. IsLeast (IsPrecursor s.graph c x) blocker) (sym f) (subst (λ d. IsLeast (IsPrecursor d m x) blocker) e h);
@@ -236,50 +208,3 @@ module _ (s : ClusterState) (p : ℕ) (x : Pointstamp) (on : NoticePasses s p x.
       passes new CounterFull lt f = f
       passes new ValueRange lt f = f
       passes new r lt f = on.free new r (omega (arith, lt)) f
-
--- ---- how many values a vertex emits
-
-one_or_none : {X : Type 0} (b : Bool) (x : X) → length (cond b (x ∷ []) []) ≤ 1
-one_or_none true x = omega arith
-one_or_none false x = omega arith
-
-none_or_one : {X : Type 0} (b : Bool) (x : X) → length (cond b [] (x ∷ [])) ≤ 1
-none_or_one true x = omega arith
-none_or_one false x = omega arith
-
-few_on_record : (o : Op) (m : Items) (t : Time) (v : ℤ) → length (on_record o m t v).emissions ≤ 1
-few_on_record op.Input m t v = omega arith
-few_on_record op.Ingress m t v = omega arith
-few_on_record op.Egress m t v = omega arith
-few_on_record op.Feedback m t v = omega arith
-few_on_record (op.Add k) m t v = omega arith
-few_on_record (op.Mul k) m t v = omega arith
-few_on_record (op.Below k) m t v = one_or_none (int_lt v k) (0, v)
-few_on_record (op.Split k) m t v = omega arith
-few_on_record op.Sum m t v = omega arith
-few_on_record op.Distinct m t v = one_or_none (is_zero (number_at m (item_key t v))) (0, v)
-few_on_record op.Sink m t v = omega arith
-
-few_on_notice : (o : Op) (m : Items) (t : Time) → length (on_notice o m t).emissions ≤ 1
-few_on_notice op.Input m t = omega arith
-few_on_notice op.Ingress m t = omega arith
-few_on_notice op.Egress m t = omega arith
-few_on_notice op.Feedback m t = omega arith
-few_on_notice (op.Add k) m t = omega arith
-few_on_notice (op.Mul k) m t = omega arith
-few_on_notice (op.Below k) m t = omega arith
-few_on_notice (op.Split k) m t = omega arith
-few_on_notice op.Sum m t = none_or_one (is_zero (number_at m (item_key t (pos 0)))) (0, number_at m (item_key t (pos 0)))
-few_on_notice op.Distinct m t = omega arith
-few_on_notice op.Sink m t = omega arith
-
-few : {A : Type 0} (m : Items) (o : Op) (t : Time) (out : Outcome) (e : Effect A) → IsEffect m o t out e → length out.emissions ≤ 1 → length e.emits.items ≤ max_values
-few m o t out e so h =
-    let n : length e.emits.items ≡ length out.emissions = ap length so.emits ∙ length-map out.emissions _ in
-    omega arith
-
-pub few_recorded : {A : Type 0} (m : Items) (o : Op) (t : Time) (v : ℤ) (e : Effect A) → IsEffect m o t (on_record o m t v) e → length e.emits.items ≤ max_values
-few_recorded m o t v e so = few m o t (on_record o m t v) e so (few_on_record o m t v)
-
-pub few_noticed : {A : Type 0} (m : Items) (o : Op) (t : Time) (e : Effect A) → IsEffect m o t (on_notice o m t) e → length e.emits.items ≤ max_values
-few_noticed m o t e so = few m o t (on_notice o m t) e so (few_on_notice o m t)

@@ -1,5 +1,5 @@
 -- Changes made one after the other, and undone.
-use Rattle.std.proofs.Common.{◌≡◌, ◌≢◌, ◌<◌, ◌≤◌, ◌+◌, ℕ, zero, suc, ℤ, pos, ◌+ℤ◌, ◌-ℤ◌, unsigned_abs, Bool, true, false, cond, List, [], ◌∷◌, ◌++◌, take, length, get_or, refl, sym, ap, subst, ◌∙◌, arith, inl, inr}
+use Rattle.std.proofs.Common.{◌≡◌, ◌<◌, ◌≤◌, ◌+◌, ℕ, zero, suc, ℤ, pos, ◌+ℤ◌, ◌-ℤ◌, unsigned_abs, Bool, true, false, cond, List, [], ◌∷◌, ◌++◌, take, length, get_or, refl, sym, ap, subst, ◌∙◌, arith, inl, inr}
 use Rattle.std.proofs.lemmas.Int.{ints}
 use Rattle.std.proofs.lemmas.Bool.{cases_lt}
 use Rattle.std.proofs.lemmas.List.{take_more, take_all, get_or_past}
@@ -89,9 +89,6 @@ limits-made s c limits fits k =
 none_within : unsigned_abs (pos 0) ≤ max_count
 none_within = omega arith
 
-abs_of : (n : ℕ) → n ≤ max_count → unsigned_abs (pos n) ≤ max_count
-abs_of n h = h
-
 module _ (s : ClusterState) (within : IsWithinLimits s) where
   of_processor : (p : ℕ) (f : ProcessorState → ℤ) → f idle ≡ pos 0 → ((q : ProcessorState) → ProcessorIsWithin q → unsigned_abs (f q) ≤ max_count) → unsigned_abs (f (processor s p)) ≤ max_count
   of_processor p f none bound = elim (cases_lt p (length s.processors)) [
@@ -160,28 +157,10 @@ module _ (s : ClusterState) (cs : List Change) (runs : IsRunnable s cs) (limits 
   pub back_state : unmade (state_at s cs (k + 1)) (get_or cs k d) ≡ state_at s cs k
   back_state = ap (λ t. unmade t (get_or cs k d)) (state_more s cs k d lt) ∙ unmade-made (state_at s cs k) (get_or cs k d) (runs.fits k d lt)
 
-  -- a change where nothing stands is among the first, and so are those before it
-  pub added_first : standing (state_at s cs k) (place_of (get_or cs k d)) ≡ pos 0 → k < runs.turn
-  added_first none = elim (cases_lt k runs.turn) [ inl h ↦ h | inr h ↦ absurd (runs.finds k d lt h none) ]
-
-  -- undone, a change where nothing stands is among the last
-  pub added_last : standing (state_at s cs (k + 1)) (place_of (get_or cs k d)) ≡ pos 0 → runs.turn ≤ k
-  added_last none = elim (cases_lt k runs.turn) [ inl h ↦ absurd (runs.leaves k d lt h none) | inr h ↦ h ]
-
 -- ---- the same for a change that a loop has read, in a state that equals the one there
 module _ (s : ClusterState) (cs : List Change) (runs : IsRunnable s cs) (limits : Limits s) (k : ℕ) (x : Change) (lt : k < length cs) (is : x ≡ get_or cs k x) (t : ClusterState) where
-  pub fits_here : t ≡ state_at s cs k → Fits t x
-  fits_here now = subst (λ c. Fits t c) (sym is) (subst (λ u. Fits u (get_or cs k x)) (sym now) (runs.fits k x lt))
-
   pub next_here : t ≡ state_at s cs k → made t x ≡ state_at s cs (k + 1)
   next_here now = (λ i. made (now i) (is i)) ∙ sym (state_more s cs k x lt)
-
-  pub first_here : t ≡ state_at s cs k → standing t (place_of x) ≡ pos 0 → k < runs.turn
-  first_here now none = added_first s cs runs limits k x lt ((λ i. standing (sym now i) (place_of (sym is i))) ∙ none)
-
-  -- one that is made again finds something there
-  pub finds_here : t ≡ state_at s cs k → runs.turn ≤ k → standing t (place_of x) ≢ pos 0
-  finds_here now past none = absurd (runs.finds k x lt past ((λ i. standing (sym now i) (place_of (sym is i))) ∙ none))
 
   module _ (i : ℕ) (above : i ≡ k + 1) (now : t ≡ state_at s cs i) where
     from_above : t ≡ state_at s cs (k + 1)
@@ -192,13 +171,6 @@ module _ (s : ClusterState) (cs : List Change) (runs : IsRunnable s cs) (limits 
 
     pub back_here : unmade t x ≡ state_at s cs k
     back_here = (λ j. unmade (from_above j) (is j)) ∙ back_state s cs runs limits k x lt
-
-    pub last_here : standing t (place_of x) ≡ pos 0 → runs.turn ≤ k
-    last_here none = added_last s cs runs limits k x lt ((λ j. standing (sym from_above j) (place_of (sym is j))) ∙ none)
-
-    -- one that is undone finds something there
-    pub leaves_here : k < runs.turn → standing t (place_of x) ≢ pos 0
-    leaves_here first none = absurd (runs.leaves k x lt first ((λ j. standing (sym from_above j) (place_of (sym is j))) ∙ none))
 
 -- ---- the same over a list of processors alone
 

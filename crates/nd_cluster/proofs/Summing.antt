@@ -33,13 +33,6 @@ module _ {K : Type 0} (R : K → K → Ordering) (o : IsTotalOrder R) (es : List
     sums = λ q. subst (λ x. IfSome x IsSum) (sym (find-without R o q k es)) (one_of (eq_by_cmp R q k) None (find R q es) tt (sums.sums q));
   }
 
-  pub within_found : AreSums R es → unsigned_abs (found R es k) ≤ max_count
-  within_found sums = by (find R k es) (sums.sums k)
-    where
-      by : (x : Option ℤ) → IfSome x IsSum → unsigned_abs (or_else (pos 0) x) ≤ max_count
-      by None h = omega arith
-      by (Some z) h = h.within
-
   pub added_put : (n v : ℤ) → v ≡ found R es k +ℤ n → IsAdded R k n es (put R k v es)
   added_put n v is q = ap (or_else (pos 0)) (find-put R o q k v es) ∙ or_else-cond (pos 0) (eq_by_cmp R q k) (Some v) (find R q es) ∙ ap (λ x. cond (eq_by_cmp R q k) x (found R es q)) is
 

@@ -134,8 +134,3 @@ module _ {K X : Type 0} (R : K → K → Ordering) (o : IsTotalOrder R) where
   without_gap p [] i s h = refl
   without_gap p (e ∷ es) zero s h = sym (ap (λ r. let rest = where_key R (λ k. not (eq_by_cmp R p k)) es in cond (not (is_eq r)) (e ∷ rest) rest) h ∙ ap (λ fs. e ∷ fs) (passes p es e.0 h (first _ _ s)))
   without_gap p (e ∷ es) (suc i) s h = rw h.0 (ap (λ fs. e ∷ fs) (without_gap p es i (second _ _ s) h.1))
-
-  -- a key below all is not found
-  pub not_below : (p : K) (es : List (K × X)) → T (below_all R p es) → find R p es ≡ None
-  not_below p [] h = refl
-  not_below p (e ∷ es) h = ap (λ r. cond (is_eq r) (Some e.1) (find R p es)) (less _ (first _ _ h)) ∙ not_below p es (second _ _ h)

@@ -1,10 +1,10 @@
 -- Each change of the queues leaves a mesh.
-use Rattle.std.proofs.Common.{◌≡◌, ℕ, ◌<◌, ◌≤◌, ◌-◌, List, [], ◌∷◌, length, map, replicate, get_or, subst, sym, ◌∙◌, inl, inr, arith}
+use Rattle.std.proofs.Common.{◌≡◌, ℕ, ◌<◌, ◌≤◌, ◌-◌, List, [], ◌∷◌, length, map, get_or, subst, sym, ◌∙◌, inl, inr, arith}
 use Rattle.std.proofs.Math.ListN.{set}
 use Rattle.std.specs.List.{All}
 use Rattle.std.proofs.lemmas.Bool.{cases_lt}
-use Rattle.std.proofs.lemmas.List.{length-set, length-map, length-take, length-drop, length-replicate, length_push, get_or_default}
-use Rattle.std.proofs.lemmas.List.Elements.{All-set, All-map, All-replicate}
+use Rattle.std.proofs.lemmas.List.{length-set, length-map, length-take, length-drop, length_push, get_or_default}
+use Rattle.std.proofs.lemmas.List.Elements.{All-set, All-map}
 use Rattle.nd_time.specs.Limits.{max_queue}
 use Rattle.nd_delta.specs.Change.{Change}
 use Rattle.nd_mesh.specs.Mesh.{appended, without_newest, without_oldest, row, queue, with_queue, pushed, unpushed, popped, unpopped, HasQueue, IsFull, IsMesh}
@@ -12,12 +12,6 @@ use Rattle.nd_mesh.specs.Mesh.{appended, without_newest, without_oldest, row, qu
 -- each queue is within the limit
 abbrev pub AreWithin : List (List Change) → Type 0
 AreWithin queues = All (λ q. length q ≤ max_queue) queues
-
-pub mesh_start : (n : ℕ) → IsMesh (replicate n (replicate n []))
-mesh_start n = record {
-  square = All-replicate (λ queues. length queues ≡ length (replicate n (replicate {A = List Change} n []))) n (replicate n []) (length-replicate n [] ∙ sym (length-replicate n (replicate n [])));
-  within = All-replicate AreWithin n (replicate n []) (All-replicate (λ q. length q ≤ max_queue) n [] (omega arith));
-}
 
 -- another row of the same length, within the limit
 mesh_set : (m : List (List (List Change))) (from : ℕ) (queues : List (List Change)) → IsMesh m → length queues ≡ length m → AreWithin queues → IsMesh (set m from queues)

@@ -1,7 +1,7 @@
 -- What a processor keeps, as the state that it is seen as: look-ups and edits.
 use Rattle.std.proofs.Common.{◌≡◌, ◌≤◌, ◌<◌, ℕ, ◌+◌, ◌-◌, ℤ, pos, ◌+ℤ◌, neg_ℤ, List, length, map, Option, Some, None, sym, ap, subst, ◌∙◌}
 use Rattle.std.specs.Option.{option_map}
-use Rattle.std.specs.Prelude.{slice_get, slice_set, slice_index_or, OnOk, OnErr, Result, Ok, Err, ◌↔◌, IsTrue, is_some, Bool}
+use Rattle.std.specs.Prelude.{slice_get, slice_set, slice_index_or, OnOk, Result, Ok, Err, ◌↔◌, IsTrue, is_some, Bool}
 use Rattle.std.proofs.lemmas.List.{get_or_default}
 use Rattle.std.proofs.lemmas.Option.{slice_get-map}
 use Rattle.std.proofs.lemmas.Cmp.{nat_cmp_total}
@@ -32,10 +32,6 @@ use Rattle.nd_processor.proofs.Keeping.{at_number, of_put_count, kept_entries, k
 pub on_ok : {A E : Type 0} {P Q : Type 0} (r : Result A E) → (P → Q) → OnOk r P → OnOk r Q
 on_ok (Ok x) f h = f h
 on_ok (Err e) f h = h
-
-pub on_err : {A E : Type 0} {P Q : Type 0} (r : Result A E) → (P → Q) → OnErr r P → OnErr r Q
-on_err (Ok x) f h = h
-on_err (Err e) f h = f h
 
 pub asked : (x y : Option (Unit {0})) (b : Bool) → b ≡ is_some x → x ≡ y → IsTrue b ↔ (y ≡ Some tt)
 asked None y b e same = ((λ t. absurd (cc)), λ s. absurd (cc))

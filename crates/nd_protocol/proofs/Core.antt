@@ -104,11 +104,6 @@ module _ {P C : Type 0} (R : P → P → Type 0) (at : C → P → ℤ) where
       ⊎ (((p : ℕ) × (c : C) × Broadcasts p c r s)
       ⊎ ((p : ℕ) × (q : ℕ) × (c : C) × Receives p q c r s))
 
-  -- a run over these readings, the first the one after r
-  abbrev pub IsRun : Reading P C → List (Reading P C) → Reading P C → Type 0
-  IsRun r [] s = s ≡ r
-  IsRun r (mid ∷ rest) s = Steps r mid × IsRun mid rest s
-
   -- the start: each view is the truth, and nothing is on its way
   pub record IsStart (r : Reading P C) : Type 0 where
     pub view : (q : ℕ) → q < r.n → (x : P) → at (r.view q) x ≡ pos (r.truth x)

@@ -1,7 +1,7 @@
 -- Each step keeps the invariant.
 use Rattle.std.proofs.Common.{◌≡◌, ◌≢◌, ℕ, zero, suc, ◌<◌, ◌≤◌, ◌⊎◌, inl, inr, List, [], ◌∷◌, ◌++◌, length, drop, refl, sym, subst, subst₂, ap, arith, ℤ, pos, ◌+ℤ◌}
 use Rattle.std.proofs.lemmas.Int.{ints}
-use Rattle.nd_protocol.proofs.Core.{IsStrictOrder, IsFinite, IsHeld, sum_at, Reading, pending, IsBalanced, IsSound, Adds, Performs, Broadcasts, Receives, Steps, IsRun, IsStart}
+use Rattle.nd_protocol.proofs.Core.{IsStrictOrder, IsFinite, IsHeld, sum_at, Reading, pending, IsBalanced, IsSound, Adds, Performs, Broadcasts, Receives, Steps, IsStart}
 use Rattle.nd_delta.specs.Upright.{IsUpright}
 use Rattle.nd_protocol.specs.Invariant.{total}
 use Rattle.nd_protocol.proofs.UprightSums.{in_left, in_right, zero_or_not, finite_zero, finite_sum, upright_same, upright_wider, upright_sum}
@@ -272,7 +272,3 @@ module _ {P C : Type 0} (R : P → P → Type 0) (o : IsStrictOrder R) (at : C �
   step_kept r s (inl (p, d, step)) sound = performed p d r s step sound
   step_kept r s (inr (inl (p, c, step))) sound = sent p c r s step sound
   step_kept r s (inr (inr (p, q, c, step))) sound = taken p q c r s step sound
-
-  pub run_kept : (r : Reading P C) (mids : List (Reading P C)) (s : Reading P C) → IsRun R at r mids s → IsSound R at r → IsSound R at s
-  run_kept r [] s e sound = subst (λ v. IsSound R at v) (sym e) sound
-  run_kept r (mid ∷ mids) s (first, rest) sound = run_kept mid mids s rest (step_kept r mid first sound)

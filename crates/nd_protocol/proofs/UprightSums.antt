@@ -1,5 +1,5 @@
 -- Sums of upright changes are upright.
-use Rattle.std.proofs.Common.{◌≡◌, ◌≢◌, ℕ, zero, suc, ◌<◌, ◌⊎◌, inl, inr, List, [], ◌∷◌, ◌++◌, refl, sym, subst, ◌∙◌, arith, ℤ, pos, ◌+ℤ◌, ◌<ℤ◌}
+use Rattle.std.proofs.Common.{◌≡◌, ◌≢◌, ℕ, zero, suc, ◌<◌, ◌⊎◌, inl, inr, List, [], ◌∷◌, ◌++◌, refl, sym, subst, arith, ℤ, pos, ◌+ℤ◌, ◌<ℤ◌}
 use Rattle.std.proofs.lemmas.Int.{ints, by_lt_z}
 use Rattle.nd_protocol.proofs.Core.{IsStrictOrder, IsIn, IsFinite}
 use Rattle.nd_protocol.specs.Invariant.{total}
@@ -31,9 +31,6 @@ finite_sum f g (s, hs) (t, ht) = (
     | inr ne ↦ in_left s t x (hs x ne)
   ],
 )
-
-pub finite_same : {P : Type 0} (f g : P → ℤ) → ((x : P) → g x ≡ f x) → IsFinite f → IsFinite g
-finite_same f g same (s, hs) = (s, λ x h. hs x (λ e. h (same x ∙ e)))
 
 pub finite_total : {P : Type 0} (n : ℕ) (f : ℕ → P → ℤ) → ((p : ℕ) → IsFinite (f p)) → IsFinite (λ x. total n (λ p. f p x))
 finite_total zero f h = finite_zero

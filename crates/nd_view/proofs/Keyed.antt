@@ -18,10 +18,6 @@ use Rattle.nd_view.proofs.Moves.{alike, apart, itself, at-elsewhere}
 use Rattle.nd_view.proofs.Parts.{IsAmong, split}
 use Rattle.nd_view.proofs.Shifts.{found_put, found_other, size_put}
 
--- a view whose keys are right and whose counts are those of the graph
-pub for_counts : (g : Dataflow) (m : Change) (es : List (Pointstamp × ℕ)) → IsListed point_cmp es → ((q : Pointstamp) → IsKeptAt g m q (find point_cmp q es)) → IsFor g (record { map = m; counts = es })
-for_counts g m es listed each = record { listed = listed; each = each }
-
 -- a view of a graph has the right keys
 pub keyed_for : (g : Dataflow) (m : Change) (es : List (Pointstamp × ℕ)) → IsFor g (record { map = m; counts = es }) → IsKeyed m es
 keyed_for g m es h = record {

@@ -2,7 +2,6 @@
 use Rattle.std.proofs.Common.{◌≡◌, ◌≢◌, ◌≤◌, ◌<◌, ◌+◌, ◌-◌, ◌||◌, ◌*◌, ℕ, zero, suc, ℤ, pos, Bool, true, false, List, [], ◌∷◌, ◌++◌, take, drop, length, get_or, refl, sym, ap, subst, ◌∙◌, ◌⊎◌, inl, inr, arith, true≢false, w64, to_z, of_z, unsigned_abs}
 use Rattle.std.specs.Prelude.{◌<ℤ◌}
 use Rattle.std.proofs.lemmas.Int.{ints, to_z-of_z, fits_signed_from_abs}
-use Rattle.std.proofs.lemmas.Bool.{cases_lt}
 use Rattle.std.proofs.lemmas.List.{take_more, take_all, map-append}
 use Rattle.std.proofs.Math.Seq.{drop-cons, drop-length}
 use Rattle.std.proofs.lemmas.List.Folds.{list_any-append}
@@ -10,7 +9,7 @@ use Rattle.std.proofs.lemmas.Map.Views.{tells_apart}
 use Rattle.nd_time.specs.Limits.{max_count}
 use Rattle.nd_paths.specs.Point.{point_exact}
 use Rattle.nd_paths.specs.declared.point.Pointstamp.{Pointstamp}
-use Rattle.nd_delta.specs.Change.{Change, at, set, combined, entries, points_of, has_point, is_point, same, at-set_same, at-plus, at-minus, at-absent, IsTooLarge, IsWithin}
+use Rattle.nd_delta.specs.Change.{Change, at, set, combined, entries, points_of, has_point, is_point, same, at-set_same, at-plus, at-minus, at-absent}
 use Rattle.nd_view.specs.Room.{IsWithinRoom, IsAlikeAt, IsAlikeOff, AllWithinRoom}
 use Rattle.nd_view.proofs.Fors.{signed}
 use Rattle.nd_view.proofs.Moves.{decided, alike, apart, at-elsewhere, index_some}
@@ -62,10 +61,6 @@ none_done d q e = true≢false (sym e)
 neither : (a b : Bool) → (a || b) ≡ false → (a ≡ false) × (b ≡ false)
 neither true b e = absurd (cc)
 neither false b e = (refl, e)
-
-first_true : (a b : Bool) → a ≡ true → (a || b) ≡ true
-first_true true b e = refl
-first_true false b e = absurd (cc)
 
 -- one point more: what holds of some points and off them
 module _ (ks more : List Pointstamp) (p : Pointstamp) (split : (q : Pointstamp) → has_point q more ≡ true → (has_point q ks ≡ true) ⊎ (q ≡ p)) (rest : (q : Pointstamp) → has_point q more ≡ false → (has_point q ks ≡ false) × (is_point q p ≡ false)) where
@@ -233,10 +228,6 @@ put_back m d before s n first second off off_too = same n m (λ q. by q (has_poi
     by : (q : Pointstamp) (c : Bool) → has_point q (all_of d) ≡ c → at n q ≡ at m q
     by q true e = second q e ∙ first q e
     by q false e = off_too q e ∙ off q e
-
--- a change that is not too large is within the limit
-pub within : (m : Change) → (IsTooLarge m → ⊥) → IsWithin m
-within m fits q = elim (cases_lt max_count (unsigned_abs (at m q))) [ inl lt ↦ absurd (fits (q, lt)) | inr le ↦ le ]
 
 -- an integer as the code keeps it
 pub small : (z : ℤ) → unsigned_abs z ≤ 2 * max_count → to_z w64 (of_z w64 z) ≡ z

@@ -68,9 +68,6 @@ module _ (g : Dataflow) (m : Change) (x : Pointstamp) (up : Bool) where
     pub done : (q : Pointstamp) → IsEarly ks i q → IsKeptAt g m q (find point_cmp q es)
     pub rest : (q : Pointstamp) → (IsEarly ks i q → ⊥) → IsReady g m x up q (find point_cmp q es)
 
-  pub shifted_none : (es : List (Pointstamp × ℕ)) → IsListed point_cmp es → ((q : Pointstamp) → IsReady g m x up q (find point_cmp q es)) → IsShifted (keys_of es) 0 es
-  shifted_none es listed ready = record { keys = refl; listed = listed; done = λ q early. absurd (omega (arith, early.early)); rest = λ q _. ready q }
-
   -- what such a count is good for
   pub room : (q : Pointstamp) (n : ℕ) → IsMovable g m q up (Some n) → up ≡ true → n + 1 ≤ size m
   room q n h e = by up h e
