@@ -1,7 +1,7 @@
 //! Changes: finite maps from pointstamps to integers other than 0 (Naiad, SOSP 2013, section 3.3).
 #![tactic(auto)]
 
-ghost use Rattle.std.specs.Prelude.{◌≡◌, ◌≢◌, ◌↔◌, ◌<◌, ◌≤◌, ◌+ℤ◌, ◌<ℤ◌, ◌*◌, pos, unsigned_abs, OnOk, OnErr, IfOk, IfSome, IsNone, IsTrue, Err, Contains};
+ghost use Rattle.std.specs.Prelude.{◌≡◌, ◌≢◌, [], ◌↔◌, ◌<◌, ◌≤◌, ◌+ℤ◌, ◌<ℤ◌, ◌*◌, pos, unsigned_abs, OnOk, OnErr, IfOk, IfSome, IsNone, IsTrue, Err, Contains};
 ghost use Rattle.nd_time.specs.Limits.{max_count};
 ghost use Rattle.nd_paths.specs.Order.{IsStrictlyBefore};
 ghost use Rattle.nd_paths.specs.declared.point.Pointstamp.{Pointstamp};
@@ -134,12 +134,13 @@ impl<A: Allocator> Delta<A> {
         Ok(())
     }
 
-    /// Adds `n` to the integer of a pointstamp. A pointstamp that has one takes no memory.
+    /// Adds `n` to the integer of a pointstamp. A pointstamp that has one takes no memory, nor does adding 0.
     pub fn add(&mut self, point: &Pointstamp, n: i64) -> Result<(), DeltaFault>
         ensures ok { OnOk result (self.new ≡ set self.old point.now (at self.old point.now +ℤ n)) }
         ensures err { OnErr result (self.new ≡ self.old) }
         ensures full { (result ≡ Err (DeltaFault.DeltaFull)) ↔ (max_count < unsigned_abs (at self.old point.now +ℤ n)) }
         ensures no_growth { at self.old point.now ≢ pos 0 → result ≢ Err (DeltaFault.Memory) }
+        ensures nothing { n ≡ pos 0 → result ≢ Err (DeltaFault.Memory) }
         ensures within { unsigned_abs (at self.old point.now) ≤ max_count }
     {
         let Some(sum) = self.get(point).checked_add(n) else {
@@ -227,9 +228,11 @@ impl<A: Allocator> Delta<A> {
     }
 
     /// The entries at these pointstamps. A repeated one counts once, and one without an entry adds nothing.
+    /// No pointstamps take no memory.
     pub fn part(&self, alloc: A, points: &[Pointstamp]) -> Result<Delta<A>, AllocError>
         ensures ok { IfOk result (λ d. d ≡ part self.now points.now) }
         ensures within { IsWithin self.now }
+        ensures some { OnErr result (points.now ≢ []) }
     {
         let _ = &self.map;
         let mut kept = Delta::new(alloc);

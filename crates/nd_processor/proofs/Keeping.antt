@@ -1,5 +1,5 @@
 -- Edits of the entries of a tally: what they keep, and the map of counts that they make.
-use Rattle.std.proofs.Common.{◌≡◌, ◌≢◌, ◌≤◌, ℕ, Bool, true, false, cond, List, Option, Some, None, IfSome, nat_eq, refl, sym, ap, subst, ◌∙◌, arith}
+use Rattle.std.proofs.Common.{◌≡◌, ◌≢◌, ◌≤◌, ◌+◌, ◌-◌, ℕ, ℤ, pos, ◌+ℤ◌, neg_ℤ, Bool, true, false, cond, List, Option, Some, None, IfSome, nat_eq, refl, sym, ap, subst, ◌∙◌, arith}
 use Rattle.std.proofs.lemmas.Bool.Decides.{nat_tests}
 use Rattle.std.specs.declared.cmp.Ordering.{Ordering}
 use Rattle.std.specs.Ordering.{eq_by_cmp}
@@ -9,7 +9,9 @@ use Rattle.std.specs.FinMap.Entries.{find-put}
 use Rattle.nd_time.specs.Limits.{max_count}
 use Rattle.nd_map.specs.Listed.{without}
 use Rattle.nd_map.specs.Maps.{find-without, listed-put, listed-without}
-use Rattle.nd_map.specs.Counts.{naturals, or_else, at, set, same, of_entries, at-of_entries, at-set, entries, entries-of_entries}
+use Rattle.nd_map.specs.Counts.{Counts, naturals, natural, or_else, at, set, added, same, of_entries, at-of_entries, at-set, entries, entries-of_entries}
+use Rattle.nd_processor.specs.Edits.{more-back, less-back}
+use Rattle.nd_processor.specs.Held.{natural-less}
 use Rattle.nd_processor.specs.Kept.{IsCount, IsKept, number, put_count}
 
 one_of : (b : Bool) (w x : Option ℕ) → IfSome w IsCount → IfSome x IsCount → IfSome (cond b w x) IsCount
@@ -77,3 +79,24 @@ module _ {K : Type 0} (R : K → K → Ordering) (o : IsTotalOrder R) (tells : I
 
   pub kept_within : IsKept R es → (k : K) → at (of_entries {N = naturals} o es) k ≤ max_count
   kept_within kept k = subst (λ n. n ≤ max_count) (at_number R o es k tells) (within_number R o es k kept)
+
+-- ---- the entries after an edit, where those before it make the map m
+module _ {K : Type 0} (R : K → K → Ordering) (o : IsTotalOrder R) (tells : IsAntisymmetric R) (es : List (K × ℕ)) (m : Counts R naturals) (is_m : of_entries o es ≡ m) (k : K) where
+  pub number_at : number R es k ≡ at m k
+  number_at = at_number R o es k tells ∙ ap (λ (c : Counts R naturals). at c k) is_m
+
+  changed : (n z : ℕ) (fs : List (K × ℕ)) → fs ≡ put_count R k n es → n ≡ z → of_entries {N = naturals} o fs ≡ set o m k z
+  changed n z fs is same = ap (of_entries {N = naturals} o) is ∙ of_put_count R o es k tells n ∙ (λ i. set o (is_m i) k (same i))
+
+  pub more : (n : ℕ) (fs : List (K × ℕ)) → fs ≡ put_count R k (number R es k + n) es → of_entries o fs ≡ added o m k (pos n)
+  more n fs is = changed (number R es k + n) (at m k + n) fs is (ap (λ c. c + n) number_at)
+
+  pub more_undone : (n : ℕ) (fs : List (K × ℕ)) → fs ≡ put_count R k (number R es k + n) es → added o (of_entries o fs) k (neg_ℤ (pos n)) ≡ m
+  more_undone n fs is = ap (λ (c : Counts R naturals). added o c k (neg_ℤ (pos n))) (more n fs is) ∙ more-back o tells m k n
+
+  pub less : (n : ℕ) (fs : List (K × ℕ)) → n ≤ at m k → fs ≡ put_count R k (number R es k - n) es → of_entries o fs ≡ added o m k (neg_ℤ (pos n))
+  less n fs h is =
+      changed (number R es k - n) (natural (pos (at m k) +ℤ neg_ℤ (pos n))) fs is (ap (λ c. c - n) number_at ∙ sym (natural-less (at m k) n h))
+
+  pub less_undone : (n : ℕ) (fs : List (K × ℕ)) → n ≤ at m k → fs ≡ put_count R k (number R es k - n) es → added o (of_entries o fs) k (pos n) ≡ m
+  less_undone n fs h is = ap (λ (c : Counts R naturals). added o c k (pos n)) (less n fs h is) ∙ less-back o tells m k n h

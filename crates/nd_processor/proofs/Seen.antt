@@ -20,12 +20,11 @@ use Rattle.nd_vertex.specs.Edits.{item_of, with_item}
 use Rattle.nd_vertex.specs.declared.key.ItemKey.{ItemKey}
 use Rattle.nd_processor.specs.Keys.{value_at_cmp, value_at_total, value_at_exact, sink_cmp, sink_total, sink_exact}
 use Rattle.nd_processor.specs.State.{ProcessorState}
-use Rattle.nd_processor.specs.Held.{natural-less}
 use Rattle.nd_processor.specs.Kept.{IsKept, number, put_count, seen}
-use Rattle.nd_processor.specs.Edits.{more-back, less-back, with_value, value-back, with_vertex_item, vertex_item-back}
+use Rattle.nd_processor.specs.Edits.{with_value, value-back, with_vertex_item, vertex_item-back}
 use Rattle.nd_processor.specs.declared.key.ValueAt.{ValueAt}
 use Rattle.nd_processor.specs.declared.key.SinkKey.{SinkKey}
-use Rattle.nd_processor.proofs.Keeping.{at_number, of_put_count, kept_entries, kept_within}
+use Rattle.nd_processor.proofs.Keeping.{at_number, kept_entries, kept_within, more, more_undone, less, less_undone}
 
 -- ---- answers that are Results
 
@@ -49,37 +48,24 @@ module _ (records : List (ValueAt × ℕ)) (requests : List (Pointstamp × Unit 
   pub records_within : IsKept value_at_cmp records → (k : ValueAt) → at state.records k ≤ max_count
   records_within kept k = subst (λ (q : ProcessorState). at q.records k ≤ max_count) view (kept_within value_at_cmp value_at_total value_at_exact records kept k)
 
-  -- another count of a key
-  records_set : (k : ValueAt) (n m : ℕ) (fs : List (ValueAt × ℕ)) → fs ≡ put_count value_at_cmp k n records → n ≡ m → seen fs requests tokens items sinks unsent ≡ record state { records = set value_at_total state.records k m }
-  records_set k n m fs is same =
-      let e : of_entries {N = naturals} value_at_total fs ≡ set value_at_total (of_entries {N = naturals} value_at_total records) k m
-      = ap (of_entries {N = naturals} value_at_total) is ∙ of_put_count value_at_cmp value_at_total records k value_at_exact n ∙ ap (set value_at_total (of_entries {N = naturals} value_at_total records) k) same in
-      (λ i. record (seen records requests tokens items sinks unsent) { records = e i }) ∙ ap (λ (q : ProcessorState). record q { records = set value_at_total q.records k m }) view
-
   pub records_added : (k : ValueAt) (n : ℕ) (fs : List (ValueAt × ℕ)) → fs ≡ put_count value_at_cmp k (number value_at_cmp records k + n) records
       → seen fs requests tokens items sinks unsent ≡ record state { records = added value_at_total state.records k (pos n) }
-  records_added k n fs is = records_set k (number value_at_cmp records k + n) (at state.records k + n) fs is (ap (λ m. m + n) (records_at k))
+  records_added k n fs is = λ i. record (view i) { records = more value_at_cmp value_at_total value_at_exact records state.records (ap (λ (q : ProcessorState). q.records) view) k n fs is i }
 
   pub records_more_undone : (k : ValueAt) (n : ℕ) (fs : List (ValueAt × ℕ)) → fs ≡ put_count value_at_cmp k (number value_at_cmp records k + n) records
       → record (seen fs requests tokens items sinks unsent) { records = added value_at_total (of_entries value_at_total fs) k (neg_ℤ (pos n)) } ≡ state
-  records_more_undone k n fs is =
-      ap (λ (q : ProcessorState). record q { records = added value_at_total q.records k (neg_ℤ (pos n)) }) (records_added k n fs is)
-      ∙ (λ i. record state { records = more-back value_at_total value_at_exact state.records k n i })
+  records_more_undone k n fs is = λ i. record (view i) { records = more_undone value_at_cmp value_at_total value_at_exact records state.records (ap (λ (q : ProcessorState). q.records) view) k n fs is i }
 
   pub records_there : (k : ValueAt) (n : ℕ) → n ≤ at state.records k → n ≤ number value_at_cmp records k
   records_there k n h = subst (λ m. n ≤ m) (sym (records_at k)) h
 
   pub records_taken : (k : ValueAt) (n : ℕ) (fs : List (ValueAt × ℕ)) → n ≤ at state.records k → fs ≡ put_count value_at_cmp k (number value_at_cmp records k - n) records
       → seen fs requests tokens items sinks unsent ≡ record state { records = added value_at_total state.records k (neg_ℤ (pos n)) }
-  records_taken k n fs h is =
-      records_set k (number value_at_cmp records k - n) (natural (pos (at state.records k) +ℤ neg_ℤ (pos n))) fs is
-      (ap (λ m. m - n) (records_at k) ∙ sym (natural-less (at state.records k) n h))
+  records_taken k n fs h is = λ i. record (view i) { records = less value_at_cmp value_at_total value_at_exact records state.records (ap (λ (q : ProcessorState). q.records) view) k n fs h is i }
 
   pub records_less_undone : (k : ValueAt) (n : ℕ) (fs : List (ValueAt × ℕ)) → n ≤ at state.records k → fs ≡ put_count value_at_cmp k (number value_at_cmp records k - n) records
       → record (seen fs requests tokens items sinks unsent) { records = added value_at_total (of_entries value_at_total fs) k (pos n) } ≡ state
-  records_less_undone k n fs h is =
-      ap (λ (q : ProcessorState). record q { records = added value_at_total q.records k (pos n) }) (records_taken k n fs h is)
-      ∙ (λ i. record state { records = less-back value_at_total value_at_exact state.records k n h i })
+  records_less_undone k n fs h is = λ i. record (view i) { records = less_undone value_at_cmp value_at_total value_at_exact records state.records (ap (λ (q : ProcessorState). q.records) view) k n fs h is i }
 
   pub records_absent : (k : ValueAt) → find value_at_cmp k records ≡ None → at state.records k ≡ 0
   records_absent k none = sym (records_at k) ∙ ap (or_else 0) none
@@ -96,37 +82,24 @@ module _ (records : List (ValueAt × ℕ)) (requests : List (Pointstamp × Unit 
   pub sinks_within : IsKept sink_cmp sinks → (k : SinkKey) → at state.sinks k ≤ max_count
   sinks_within kept k = subst (λ (q : ProcessorState). at q.sinks k ≤ max_count) view (kept_within sink_cmp sink_total sink_exact sinks kept k)
 
-  -- another count of a key
-  sinks_set : (k : SinkKey) (n m : ℕ) (fs : List (SinkKey × ℕ)) → fs ≡ put_count sink_cmp k n sinks → n ≡ m → seen records requests tokens items fs unsent ≡ record state { sinks = set sink_total state.sinks k m }
-  sinks_set k n m fs is same =
-      let e : of_entries {N = naturals} sink_total fs ≡ set sink_total (of_entries {N = naturals} sink_total sinks) k m
-      = ap (of_entries {N = naturals} sink_total) is ∙ of_put_count sink_cmp sink_total sinks k sink_exact n ∙ ap (set sink_total (of_entries {N = naturals} sink_total sinks) k) same in
-      (λ i. record (seen records requests tokens items sinks unsent) { sinks = e i }) ∙ ap (λ (q : ProcessorState). record q { sinks = set sink_total q.sinks k m }) view
-
   pub sinks_added : (k : SinkKey) (n : ℕ) (fs : List (SinkKey × ℕ)) → fs ≡ put_count sink_cmp k (number sink_cmp sinks k + n) sinks
       → seen records requests tokens items fs unsent ≡ record state { sinks = added sink_total state.sinks k (pos n) }
-  sinks_added k n fs is = sinks_set k (number sink_cmp sinks k + n) (at state.sinks k + n) fs is (ap (λ m. m + n) (sinks_at k))
+  sinks_added k n fs is = λ i. record (view i) { sinks = more sink_cmp sink_total sink_exact sinks state.sinks (ap (λ (q : ProcessorState). q.sinks) view) k n fs is i }
 
   pub sinks_more_undone : (k : SinkKey) (n : ℕ) (fs : List (SinkKey × ℕ)) → fs ≡ put_count sink_cmp k (number sink_cmp sinks k + n) sinks
       → record (seen records requests tokens items fs unsent) { sinks = added sink_total (of_entries sink_total fs) k (neg_ℤ (pos n)) } ≡ state
-  sinks_more_undone k n fs is =
-      ap (λ (q : ProcessorState). record q { sinks = added sink_total q.sinks k (neg_ℤ (pos n)) }) (sinks_added k n fs is)
-      ∙ (λ i. record state { sinks = more-back sink_total sink_exact state.sinks k n i })
+  sinks_more_undone k n fs is = λ i. record (view i) { sinks = more_undone sink_cmp sink_total sink_exact sinks state.sinks (ap (λ (q : ProcessorState). q.sinks) view) k n fs is i }
 
   pub sinks_there : (k : SinkKey) (n : ℕ) → n ≤ at state.sinks k → n ≤ number sink_cmp sinks k
   sinks_there k n h = subst (λ m. n ≤ m) (sym (sinks_at k)) h
 
   pub sinks_taken : (k : SinkKey) (n : ℕ) (fs : List (SinkKey × ℕ)) → n ≤ at state.sinks k → fs ≡ put_count sink_cmp k (number sink_cmp sinks k - n) sinks
       → seen records requests tokens items fs unsent ≡ record state { sinks = added sink_total state.sinks k (neg_ℤ (pos n)) }
-  sinks_taken k n fs h is =
-      sinks_set k (number sink_cmp sinks k - n) (natural (pos (at state.sinks k) +ℤ neg_ℤ (pos n))) fs is
-      (ap (λ m. m - n) (sinks_at k) ∙ sym (natural-less (at state.sinks k) n h))
+  sinks_taken k n fs h is = λ i. record (view i) { sinks = less sink_cmp sink_total sink_exact sinks state.sinks (ap (λ (q : ProcessorState). q.sinks) view) k n fs h is i }
 
   pub sinks_less_undone : (k : SinkKey) (n : ℕ) (fs : List (SinkKey × ℕ)) → n ≤ at state.sinks k → fs ≡ put_count sink_cmp k (number sink_cmp sinks k - n) sinks
       → record (seen records requests tokens items fs unsent) { sinks = added sink_total (of_entries sink_total fs) k (pos n) } ≡ state
-  sinks_less_undone k n fs h is =
-      ap (λ (q : ProcessorState). record q { sinks = added sink_total q.sinks k (pos n) }) (sinks_taken k n fs h is)
-      ∙ (λ i. record state { sinks = less-back sink_total sink_exact state.sinks k n h i })
+  sinks_less_undone k n fs h is = λ i. record (view i) { sinks = less_undone sink_cmp sink_total sink_exact sinks state.sinks (ap (λ (q : ProcessorState). q.sinks) view) k n fs h is i }
 
   pub sinks_absent : (k : SinkKey) → find sink_cmp k sinks ≡ None → at state.sinks k ≡ 0
   sinks_absent k none = sym (sinks_at k) ∙ ap (or_else 0) none

@@ -1,6 +1,6 @@
 -- Where nothing on the frontier is before a point, nothing positive is.
-use Rattle.std.proofs.Common.{◌≡◌, ◌≢◌, ◌<◌, ℕ, zero, suc, pos, Bool, true, false, List, ◌∷◌, length, get_or, Option, Some, None, Result, Ok, Err, cond, sym, ap, subst, ◌∙◌, ◌⊎◌, inl, inr, arith, refl}
-use Rattle.std.specs.Prelude.{◌<ℤ◌, Contains, slice_index_or, IfOk, IfSome}
+use Rattle.std.proofs.Common.{◌≡◌, ◌≢◌, ◌<◌, ℕ, zero, suc, pos, Bool, true, false, List, [], ◌∷◌, length, get_or, Option, Some, None, Result, Ok, Err, cond, sym, ap, subst, ◌∙◌, ◌⊎◌, inl, inr, arith, refl}
+use Rattle.std.specs.Prelude.{◌<ℤ◌, Contains, slice_index_or, IfOk, IfSome, OnErr}
 use Rattle.std.proofs.lemmas.List.{get_or-map, length-map}
 use Rattle.std.specs.FinMap.{find}
 use Rattle.nd_paths.specs.Point.{point_cmp, point_exact}
@@ -93,6 +93,15 @@ frontier_part g v h m m_is first room listed f f_is = record {
     by : (x : Pointstamp) → at f x ≢ pos 0 → (b : Bool) → has_point x first ≡ b → IsOnFrontier g v.map x
     by x some true e = first_of_zero g v h x (listed.only x (Contains-from_any (tells_apart point_exact) x first e))
     by x some false e = absurd (some (value x ∙ ap (λ b. cond b (at v.map x) (pos 0)) e))
+
+-- where something is listed, there is a frontier
+pub frontier_some : (g : Dataflow) (v : Kept) → IsFor g v → (first : List Pointstamp) (room : ℕ) → IsFrontierList v.counts first room → first ≢ [] → (x : Pointstamp) × IsOnFrontier g v.map x
+frontier_some g v h [] room listed some = absurd (some refl)
+frontier_some g v h (x ∷ rest) room listed some = (x, first_of_zero g v h x (listed.only x (0, omega arith, refl)))
+
+pub on_err : {X E P Q : Type 0} (r : Result X E) → (P → Q) → OnErr r P → OnErr r Q
+on_err (Ok x) f h = h
+on_err (Err e) f h = f h
 
 pub if_ok : {X E : Type 0} (r : Result X E) (P Q : X → Type 0) → ((x : X) → P x → Q x) → IfOk r P → IfOk r Q
 if_ok (Ok x) P Q f p = f x p

@@ -460,13 +460,15 @@ impl<A: Allocator + Copy> View<A> {
     }
 
     /// The part of the view at its positive pointstamps that have nothing positive strictly before them.
+    /// Where there is none it takes no memory.
     pub fn frontier<B: Allocator>(
         &self,
         alloc: A,
         _paths: &Paths<B>,
     ) -> Result<Delta<A>, AllocError>
         requires { IsFor _paths.now self.now }
-        ensures { IfOk result (IsPartWhere (IsOnFrontier _paths.now self.now.map) self.now.map) }
+        ensures value { IfOk result (IsPartWhere (IsOnFrontier _paths.now self.now.map) self.now.map) }
+        ensures some { OnErr result ((x : Pointstamp) × IsOnFrontier _paths.now self.now.map x) }
     {
         self.counts.part(alloc, &self.first)
     }

@@ -10,5 +10,5 @@ returns-clause-reply c =
     let s = c.args.cluster.now in
     let there : c.args.q < length s.processors = omega (arith, c.n.ensures) in
     frontier_replies s c.args.q c.paths.result.now c.view.result.now.map c.in_ok-first.first (view c.in_ok-shown.shown) c.frontier-2.result there
-    c.paths.ensures c.view.ensures.map c.in_ok-first.ensures
+    c.paths.ensures c.view.ensures.map c.in_ok-first.ensures.value
     (c.in_ok-shown.ensures.reply ∙ (λ i. entries_data (c.graph.ensures i) (c.entries.ensures.listed i))) c.frontier-2.ensures.reply

@@ -1,4 +1,4 @@
-use Rattle.std.proofs.Common.{◌≡◌, true, false, cond, FitsSigned, pos, ◌+ℤ◌, w64, lit<, ap, sym, subst, ◌∙◌}
+use Rattle.std.proofs.Common.{◌≡◌, true, false, cond, FitsSigned, pos, ◌+ℤ◌, w64, lit<, ap, sym, subst, ◌∙◌, rules}
 use Rattle.std.specs.Option.{unwrap_or}
 use Rattle.std.proofs.lemmas.Int.{to_z-of_z}
 use Rattle.nd_map.specs.Counts.{at, set}
@@ -52,3 +52,6 @@ returns-in_default g c =
       fault = tt;
       range = tt;
     }
+
+pub returns-in-None-get-clause-ok : goal.returns-in-None-get-clause-ok
+returns-in-None-get-clause-ok g c = search rules

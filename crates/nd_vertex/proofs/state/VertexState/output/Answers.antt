@@ -17,3 +17,6 @@ returns-in-None-checked_mul-clause-range g c = λ r.
     let range : FitsSigned w64 k = search rules in
     let all : FitsSigned w64 (c.args.value *ℤ k) = (subst (λ o. IsInRange (on_record o c.args.self.now c.args.time.now c.args.value)) c.in-Mul.is r).emissions 0 (0, pos 0) (omega arith) in
     c.in-None-checked_mul.ensures (subst (FitsSigned w64) (λ i. sym (to_z-of_z w64 c.args.value c.ranges.value) i *ℤ sym (to_z-of_z w64 k range) i) all)
+
+pub returns-else-value-k-2-clause-ok : goal.returns-else-value-k-2-clause-ok
+returns-else-value-k-2-clause-ok g c = search rules

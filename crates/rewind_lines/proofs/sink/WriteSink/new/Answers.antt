@@ -1,0 +1,5 @@
+use Rattle.std.proofs.Common.{rules}
+use Rattle.rewind_lines.proofs.sink.WriteSink.new.Goals as goal
+
+pub returns : goal.returns
+returns g c = search rules
