@@ -1,4 +1,4 @@
-use Rattle.std.proofs.Common.{◌≡◌, length, subst, arith}
+use Rattle.std.proofs.Common.{◌≡◌, length, subst, arith, rules}
 use Rattle.nd_paths.specs.Table.{entry, ShowsFail}
 use Rattle.nd_paths.proofs.AllRows.{made_more, made_accepted, made_least, shown, not_shown}
 use Rattle.nd_paths.proofs.accept.rows_of.Goals as goal
@@ -29,3 +29,6 @@ pub returns-clause-rows : goal.returns-clause-rows
 returns-clause-rows g c =
     let e : c.loop-location.location ≡ length c.args.depths.now = omega arith in
     made_least c.args.depths.now c.args.arcs.now c.loop-location.rows.items c.loop-location.location c.requires.agree c.requires.deep e c.loop-location.invariant
+
+pub returns-in-Err-clause-fault : goal.returns-in-Err-clause-fault
+returns-in-Err-clause-fault g c = search rules

@@ -1,3 +1,4 @@
+use Rattle.std.proofs.lemmas.Grind.{common_steps}
 use Rattle.std.proofs.Common.{ap, subst, sym, refl, true≢false, vec_capacity, arith}
 use Rattle.nd_view.specs.View.{IsBefore}
 use Rattle.nd_view.proofs.Fors.{first_of_zero, zero_of_first}
@@ -24,3 +25,6 @@ returns g c =
           (λ y on before. let among = listed.all y (zero_of_first d v c.requires y on) in c.loop-first.invariant among.0 (omega (arith, among.1, c.loop-first-test.false)) y (subst (λ z. IsBefore d c.args.strictly z c.args.point.now) (sym among.2) before))
           found.0 found.1),
     )
+
+pub loop-first-preserved : goal.loop-first-preserved
+loop-first-preserved g c = grind (arith, common_steps)
