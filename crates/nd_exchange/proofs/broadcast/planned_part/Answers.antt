@@ -1,4 +1,4 @@
-use Rattle.std.proofs.Common.{sym, ap, subst, ◌∙◌}
+use Rattle.std.proofs.Common.{sym, ap, subst, ◌∙◌, rules}
 use Rattle.nd_processor.specs.Edits.{IsPartOf}
 use Rattle.nd_protocol.specs.Steps.{chosen}
 use Rattle.nd_exchange.proofs.Parts.{chosen_there}
@@ -8,3 +8,6 @@ pub returns-clause-there : goal.returns-clause-there
 returns-clause-there g c =
     subst (λ m. IsPartOf m c.args.processor.now.unsent) (sym (c.in-Ok.ensures ∙ ap (chosen c.args.part.now) c.unsent-2.ensures))
     (chosen_there c.args.part.now c.args.processor.now.unsent)
+
+pub returns-clause-upright : goal.returns-clause-upright
+returns-clause-upright g c = search rules

@@ -1,4 +1,4 @@
-use Rattle.std.proofs.Common.{sym, ap, subst}
+use Rattle.std.proofs.Common.{sym, ap, subst, rules}
 use Rattle.nd_processor.specs.Edits.{IsApart}
 use Rattle.nd_exchange.proofs.Parts.{part_leaves}
 use Rattle.nd_exchange.proofs.broadcast.sent.Goals as goal
@@ -7,3 +7,6 @@ pub returns-clause-apart : goal.returns-clause-apart
 returns-clause-apart g c =
     subst (IsApart c.args.part.now) (sym (ap (λ q. q.unsent) c.take_part.ensures.taken))
     (part_leaves c.args.processor.now.unsent c.args.part.now c.requires.part)
+
+pub returns-in_default-clause-processor_err : goal.returns-in_default-clause-processor_err
+returns-in_default-clause-processor_err g c = search rules
