@@ -28,7 +28,6 @@ pub mod Joining
 pub mod Assembling
 pub mod Started
 pub mod Counted
-pub mod Shown
 pub mod Filling
 pub mod Enabling
 pub mod Passed

@@ -2,7 +2,6 @@ pub mod Places
 pub mod Standing
 pub mod Changes
 pub mod Edits
-pub mod StateText
 pub mod Undone
 pub mod Plans
 pub mod Sums

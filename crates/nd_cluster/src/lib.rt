@@ -31,4 +31,3 @@ pub(crate) use key::RecordAt;
 pub use nd_protocol::{Next, NoMemory, Part, Points, Refusal, Step, Values};
 pub use record::{Changes, Record};
 pub use start::StartFault;
-pub use text::{counts_value, point_value, time_value};

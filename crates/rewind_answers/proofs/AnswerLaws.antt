@@ -17,7 +17,7 @@ use Rattle.rewind_forms.specs.Replies.{found as found_data, location_fault, line
 use Rattle.nd_delta.specs.Change.{Change, entries}
 use Rattle.nd_view.specs.View.{IsOnFrontier, IsPartWhere}
 use Rattle.nd_protocol.specs.State.{ClusterState, view as view_in}
-use Rattle.nd_cluster.specs.StateText.{entries_data}
+use Rattle.nd_shown.specs.StateText.{entries_data}
 use Rattle.nd_cluster.specs.Starting.{IsStartFault, start_number, start_name}
 use Rattle.nd_cluster.specs.declared.start.StartFault.TheVariants as start_fault
 use Rattle.rewind_forms.specs.declared.asked.Asked.{Asked}

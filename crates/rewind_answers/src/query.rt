@@ -2,17 +2,18 @@
 ghost use Rattle.std.specs.Prelude.{◌≡◌, ◌↔◌, Bool, false, Some, IfOk, IsTrue};
 ghost use Rattle.nd_paths.specs.Order.{CouldResultIn};
 ghost use Rattle.nd_protocol.specs.Invariant.{IsSettled};
-ghost use Rattle.nd_cluster.specs.StateText.{state_data};
+ghost use Rattle.nd_shown.specs.StateText.{state_data};
 ghost use Rattle.serde_json.specs.View.{view};
 ghost use Rattle.serde_json.specs.Written.{has_float};
 ghost use Rattle.rewind_forms.specs.Replies.{count as count_data, before as before_data, state};
 ghost use Rattle.rewind_answers.specs.Answers.{QueryReply, ViewReply, FrontierReply, PassedReply, SearchReply, search_fault, true_count};
 
 use crate::answer::cluster;
-use nd_cluster::{Cluster, counts_value, point_value};
+use nd_cluster::Cluster;
 use nd_paths::Pointstamp;
 use nd_search::{OpenGate, SearchFault, search};
 use nd_session::State;
+use nd_shown::{counts_value, point_value};
 use nd_watch::Break;
 use rewind_forms::{Query, replies};
 use serde_json::Value;

@@ -3,7 +3,7 @@ use Rattle.std.specs.Prelude.{ℕ, Bool, true, false, List, codes, Option, Some,
 use Rattle.serde_json.specs.Data.{Data, null, boolean, number, string, object, unsigned, no_members, member}
 use Rattle.nd_graph.specs.Graph.{Dataflow}
 use Rattle.nd_protocol.specs.Refusals.{number_of, name_of}
-use Rattle.nd_cluster.specs.StateText.{point_data}
+use Rattle.nd_shown.specs.StateText.{point_data}
 use Rattle.nd_protocol.specs.declared.refusal.Refusal.{Refusal}
 use Rattle.nd_protocol.specs.declared.refusal.Refusal.TheVariants.{NoProcessor, NotYet, NotAdmissible}
 use Rattle.nd_timeline.specs.Faults.{number_of as number_of_fault, name_of as name_of_fault}

@@ -7,9 +7,9 @@ ghost use Rattle.rewind_forms.specs.Replies.{point_fault as point_fault_data, fa
 ghost use Rattle.rewind_forms.specs.Replies.{known as known_data, frontier as frontier_data, passed as passed_data, not_passed as not_passed_data, no_processor as no_processor_data, piece_fault as piece_fault_data, found as found_data};
 
 use crate::LineFault;
-use nd_cluster::point_value;
 use nd_graph::Graph;
 use nd_protocol::Refusal;
+use nd_shown::point_value;
 use nd_timeline::{Reply, Stop};
 use serde_json::{Value, json};
 use std::alloc::{AllocError, Allocator, Global};
