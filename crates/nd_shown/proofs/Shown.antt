@@ -14,7 +14,6 @@ use Rattle.nd_view.specs.Kept.{Kept}
 use Rattle.nd_vertex.specs.Items.{Items}
 use Rattle.nd_vertex.specs.declared.key.ItemKey.{ItemKey}
 use Rattle.nd_processor.specs.State.{ProcessorState}
-use Rattle.nd_protocol.specs.State.{ClusterState}
 use Rattle.nd_shown.specs.StateText.{row, point_data, record_data, sink_data, token_data, entry_data, item_data, items_data, processor_members, processor_data, queues_data, whole_data, state_data}
 
 -- ---- items

@@ -13,3 +13,9 @@ returns-clause-ok c =
     let set : fin.get c.args.self.now c.args.id ≢ None = search rules in
     taken_out c.self.inside.slots.items c.as_mut_slice.result.now c.write.new.slots c.args.self.now c.args.id c.as_mut_slice.ensures.value c.write.ensures c.self.view_is
     (within c.as_mut_slice.result.now c.self.inside.slots.items c.args.self.now c.args.id c.as_mut_slice.ensures.value c.self.view_is set)
+
+pub returns-then-is_none-clause-ok : goal.returns-then-is_none-clause-ok
+returns-then-is_none-clause-ok c = search rules
+
+pub returns-then-is_none-clause-was : goal.returns-then-is_none-clause-was
+returns-then-is_none-clause-was c = search rules

@@ -15,3 +15,6 @@ loop-id-preserved g c =
 
 pub returns-clause-none : goal.returns-clause-none
 returns-clause-none g c = λ _. no_hit_at_all c.args.self.now c.args.cluster.now c.end-id-end.result c.loop-id.id c.end-id-end.ensures.past c.loop-id-test.false c.loop-id.invariant
+
+pub returns-then-holds-clause-some : goal.returns-then-holds-clause-some
+returns-then-holds-clause-some g c = search rules

@@ -1,4 +1,4 @@
-use Rattle.std.proofs.Common.{◌≤◌, Some, length, ap, ◌∙◌, arith}
+use Rattle.std.proofs.Common.{◌≤◌, Some, length, ap, ◌∙◌, arith, rules}
 use Rattle.std.specs.Prelude.{slice_set}
 use Rattle.nd_watch.proofs.Slots.{put_in, pushed_in, next_at_most}
 use Rattle.nd_watch.proofs.breaks.Breaks.put.Goals as goal
@@ -10,3 +10,6 @@ pub returns-else-id-len : goal.returns-else-id-len
 returns-else-id-len c =
     let past : length c.self.inside.slots.items ≤ c.args.id = omega arith in
     rw c.push.ensures.items (pushed_in c.self.inside.slots.items c.args.self.now c.args.id c.args.b c.self.view_is (next_at_most c.self.inside.slots.items c.args.self.now c.args.id c.self.view_is c.requires past))
+
+pub push-requires : goal.push-requires
+push-requires c = search rules

@@ -11,3 +11,9 @@ returns-then-vertex-vertices g c =
     let counted : c.sink_count.result ≡ sunk c.args.cluster.now.processors c.in-Sink.vertex c.in-Sink.value = subst (λ v. c.sink_count.result ≡ sunk c.args.cluster.now.processors c.in-Sink.vertex v) (to_z-of_z w64 c.in-Sink.value range) c.sink_count.ensures in
     let counts : IsTrue (nat_le c.in-Sink.at_least c.sink_count.result) ↔ (c.in-Sink.at_least ≤ sunk c.args.cluster.now.processors c.in-Sink.vertex c.in-Sink.value) = search rules in
     rw c.in-Sink.is ((λ yes. (there, counts.0 yes)), (λ h. counts.1 h.1))
+
+pub returns-then-q-n : goal.returns-then-q-n
+returns-then-q-n g c = search rules
+
+pub returns-then-to-n : goal.returns-then-to-n
+returns-then-to-n g c = search rules
