@@ -1,26 +1,34 @@
-//! Repeats one call many times, so that `bench/run` can take its time from outside.
+//! Drives machines, states and sessions, so that `bench/sessions` can tell what they take.
 //!
-//! The words are what to repeat, how many pointstamps a change or a view is to have, and how often;
-//! the graph is read from standard input. Without words nothing is done, and that is what a test runs.
+//! The words are what to drive, by what, how many commands, and how many parts or clients; the graph is read from
+//! standard input. What each part took is printed in microseconds, by the clock and of all processors, and then how
+//! many commands were refused. Without words nothing is done, and that is what a test runs.
 #![tactic(auto)]
 
-mod changes;
-mod orders;
+mod clock;
+mod drives;
+mod scripts;
 
+use clock::Taken;
+use drives::Answer;
 use nd_graph::{Graph, GraphDraft};
-use nd_paths::Paths;
 use serde_json::Value;
 use std::alloc::Global;
 use std::env::{self, Env};
 use std::io;
 use std::process::ExitCode;
+use std::rt::Clock;
+use std::sync::Wait;
+use std::thread::Threads;
+use std::time::CpuClock;
 
-/// What to repeat, on how many pointstamps, and how often.
+/// What to drive, by what, how many commands, and among how many.
 #[derive(Drop)]
 struct Task {
     name: String,
-    points: usize,
-    times: usize,
+    by: String,
+    count: u64,
+    among: u64,
 }
 
 /// The task that the program's words name, where they name one.
@@ -28,8 +36,9 @@ fn task_of<R: Env + AllocGlobal>(rt: &R) -> Option<Task> {
     let mut words = env::args(rt).ok()?.skip(1);
     Some(Task {
         name: words.next()?,
-        points: words.next()?.as_str().parse().ok()?,
-        times: words.next()?.as_str().parse().ok()?,
+        by: words.next()?,
+        count: words.next()?.as_str().parse().ok()?,
+        among: words.next()?.as_str().parse().ok()?,
     })
 }
 
@@ -40,24 +49,29 @@ fn graph_of(alloc: Global, text: &str) -> Option<Graph> {
     draft.check(alloc).ok()
 }
 
-/// Does the task on the graph; none where there was no memory, or no such task.
-fn perform(alloc: Global, task: &Task, graph: &Graph) -> Option<()> {
-    let paths = Paths::of(alloc, graph).ok()?;
+/// Does the task on the graph of a text; none where there was no memory, or no such task.
+fn perform<R: Clock + CpuClock + Threads + Wait + Sync>(
+    rt: &R,
+    alloc: Global,
+    task: &Task,
+    text: &str,
+) -> Option<Answer> {
+    let graph = graph_of(alloc, text)?;
+    let scripts = scripts::all(alloc, &graph, task.by.as_str(), task.count, task.among)?;
     match task.name.as_str() {
-        "paths" => orders::make(alloc, graph, task.times),
-        "before" => orders::compare(graph, &paths, task.times),
-        "add" => changes::add(alloc, graph, task.points, task.times),
-        "plus" => changes::plus(alloc, graph, task.points, task.times),
-        "apply" => changes::apply(alloc, graph, &paths, task.points, task.times),
-        "view" => changes::view(alloc, graph, &paths, task.points, task.times),
-        "stay" => changes::stay(alloc, graph, &paths, task.points, task.times),
-        "come_and_go" => changes::come_and_go(alloc, graph, &paths, task.points, task.times),
-        "unapply" => changes::unapply(alloc, graph, &paths, task.points, task.times),
-        "hindered" => changes::hindered(alloc, graph, &paths, task.points, task.times),
-        "passed" => changes::passed(alloc, graph, &paths, task.points, task.times),
-        "frontier" => changes::frontier(alloc, graph, &paths, task.points, task.times),
+        "machine" => drives::machine(rt, alloc, graph, scripts),
+        "state" => drives::state(rt, alloc, graph, scripts),
+        "session" => drives::session(rt, alloc, graph, scripts),
         _ => None,
     }
+}
+
+/// Prints what was taken, and how many commands were refused.
+fn tell(rt: &impl Print, answer: &Answer) -> io::Result<()> {
+    for Taken { clock, processors } in &answer.taken {
+        println!(rt; "{clock} {processors}")?;
+    }
+    println!(rt; "{}", answer.refused)
 }
 
 fn main(rt: HostRuntime) -> ExitCode {
@@ -68,9 +82,11 @@ fn main(rt: HostRuntime) -> ExitCode {
     let Ok(text) = io::read_to_string(alloc, rt.reader()) else {
         return ExitCode::FAILURE;
     };
-    let done = graph_of(alloc, text.as_str()).and_then(|graph| perform(alloc, &task, &graph));
-    match done {
-        Some(()) => ExitCode::SUCCESS,
-        None => ExitCode::FAILURE,
+    let Some(answer) = perform(&rt, alloc, &task, text.as_str()) else {
+        return ExitCode::FAILURE;
+    };
+    match tell(&rt, &answer) {
+        Ok(()) => ExitCode::SUCCESS,
+        Err(_) => ExitCode::FAILURE,
     }
 }

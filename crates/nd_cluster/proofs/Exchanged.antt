@@ -1,9 +1,12 @@
 -- Why a broadcast and a receive are enabled or refused, and how much they change.
 use Rattle.std.proofs.Common.{◌≡◌, ◌≢◌, ◌⊎◌, inl, inr, ℕ, zero, suc, ◌+◌, ◌-◌, ◌<◌, ◌≤◌, ℤ, pos, negsuc, List, [], length, Vec, Result, Ok, Err, Some, None, refl, sym, ap, subst, ◌∙◌, arith, get_or-set_same, get_or-set_other}
 use Rattle.std.proofs.lemmas.Bool.{cases_lt}
+use Rattle.std.proofs.lemmas.Int.{ints}
+use Rattle.std.proofs.lemmas.List.{get_or_past}
 use Rattle.std.specs.Prelude.{slice_get, unsigned_abs}
 use Rattle.nd_time.specs.Limits.{max_count}
-use Rattle.nd_delta.specs.Change.{Change, none, at, plus, size, IsTooLarge}
+use Rattle.nd_delta.specs.Change.{Change, none, at, at-none, plus, size, IsTooLarge}
+use Rattle.nd_processor.specs.State.{ProcessorState, idle}
 use Rattle.nd_processor.specs.Edits.{IsPartOf}
 use Rattle.nd_mesh.specs.Mesh.{row, HasQueue, IsFull}
 use Rattle.nd_protocol.specs.State.{ClusterState, processor, view, queue}
@@ -19,19 +22,14 @@ use Rattle.nd_protocol.specs.declared.step.Step.TheVariants.{Feed, Take, Notice,
 use Rattle.nd_protocol.specs.declared.refusal.Refusal.{Refusal}
 use Rattle.nd_protocol.specs.declared.refusal.Refusal.TheVariants.{NoProcessor, DeltaFull, NothingToSend, NotAdmissible, QueueEmpty, QueueFull, Memory}
 use Rattle.nd_exchange.specs.Exchanges.{LeavesUpright, ReceiveFails}
-use Rattle.nd_cluster.specs.Places.{unsent_of, view_of}
-use Rattle.nd_map.specs.Counts.{size as size_of}
-use Rattle.nd_cluster.specs.Standing.{difference, queues_changed, changed}
-use Rattle.nd_cluster.specs.Edits.{Works}
-use Rattle.nd_cluster.specs.Plans.{LeadsTo}
-use Rattle.nd_cluster.specs.declared.change.Change.{Change as Single}
+use Rattle.nd_record.specs.Standing.{changed}
+use Rattle.nd_record.specs.Counted.{SentChanges, ReceivedChanges}
+use Rattle.nd_record.specs.Exchanges.{received-front}
+use Rattle.nd_work.specs.Edits.{Works}
+use Rattle.nd_record.specs.Plans.{LeadsTo}
+use Rattle.nd_record.specs.declared.change.Change.{Change as Single}
 use Rattle.nd_cluster.specs.Records.{shared, Plans, ComesLast}
-use Rattle.nd_cluster.specs.declared.record.Changes.TheVariants.{Each, Sent, Received}
-use Rattle.nd_cluster.proofs.Running.{limits_of}
-use Rattle.nd_cluster.proofs.Exchanging.{received-front}
-use Rattle.nd_cluster.proofs.StepMoves.{StepMoves}
-use Rattle.nd_cluster.proofs.Exact.{moves, queues-stepped}
-use Rattle.nd_cluster.proofs.Differing.{queues_same, sent_changed, received_changed}
+use Rattle.nd_record.specs.declared.record.Changes.TheVariants.{Each, Sent, Received}
 
 zero_or_not : (z : ℤ) → (z ≡ pos 0) ⊎ (z ≢ pos 0)
 zero_or_not (pos zero) = inl refl
@@ -57,11 +55,9 @@ module _ {A : Type 0} (s : ClusterState) where
   none_shared (Broadcast p _) works = absurd works
   none_shared (Receive from to) works = absurd works
 
-  pub work_plans : (x : Step A) (changes : Vec Single A) → Works x → IsState s → IsEnabled s x → LeadsTo s (stepped s x) changes.items → Plans s x (Each changes)
-  work_plans x changes works state may leads =
-      let m : StepMoves s x = moves s x works state (record { free = λ r lt. may.free r }) in
-      let same : queues_changed s (stepped s x) ≡ 0 = queues_same s (stepped s x) (queues-stepped s x m) in
-      let all : length changes.items + shared s x ≡ size_of (difference s (stepped s x)) + queues_changed s (stepped s x) = omega (arith, leads.small, none_shared x works, same) in
+  pub work_plans : (x : Step A) (changes : Vec Single A) → Works x → IsEnabled s x → LeadsTo s (stepped s x) changes.items → Plans s x (Each changes)
+  work_plans x changes works may leads =
+      let all : length changes.items + shared s x ≡ changed s (stepped s x) = omega (arith, leads.small, none_shared x works) in
       record { enabled = may; makes = (leads.runs, leads.arrives); small = all }
 
 -- ---- a notice
@@ -92,11 +88,11 @@ module _ {A : Type 0} (s : ClusterState) (p : ℕ) (part : Part A) (c : Change) 
             room (q, subst (λ n. q < n) (sym (state.fits.each_receiver p [] sender)) lt, full)
         by r h = h
 
-    pub broadcast_plans : IsPartOf c (processor s p).unsent → Plans {A = A} s (Broadcast p part) (Sent p c)
+    pub broadcast_plans : SentChanges → IsPartOf c (processor s p).unsent → Plans {A = A} s (Broadcast p part) (Sent p c)
     unfolding stepped
-    broadcast_plans there =
+    broadcast_plans law there =
         let to : sent s p c ≡ stepped {A = A} s (Broadcast p part) = ap (sent s p) is in
-        let many : changed s (sent s p c) ≡ size c + length s.processors = sent_changed s p c state.fits here (is_part c (processor s p).unsent there) in
+        let many : changed s (sent s p c) ≡ size c + length s.processors = law s p c state.fits here (is_part c (processor s p).unsent there) in
         let count : size c + 1 + (length s.processors - 1) ≡ changed s (sent s p c) = omega (arith, many, here) in
         record { enabled = enabled; makes = record { there = here; part = there; room = room; arrives = to }; small = count ∙ ap (changed s) to }
 
@@ -113,10 +109,19 @@ error_or d (Err e) = e
 pub error_is : {T E : Type 0} (r : Result T E) (a b : E) → r ≡ Err a → r ≡ Err b → a ≡ b
 error_is r a b h k = ap (error_or a) (sym h ∙ k)
 
+no_entry : (z : ℤ) → z ≡ pos 0 → max_count < unsigned_abs z → ⊥
+no_entry z e large = omega (arith, ints, e, large)
+
 -- no entry is past its limit in a state
 small_entries : (s : ClusterState) → IsState s → HasLargeEntry s → ⊥
-small_entries s state (of_unsent p x large) = let l : unsigned_abs (at (processor s p).unsent x) ≤ max_count = limits_of s state.within (unsent_of p x) in omega arith
-small_entries s state (of_view q x large) = let l : unsigned_abs (at (view s q) x) ≤ max_count = limits_of s state.within (view_of q x) in omega arith
+small_entries s state (of_unsent p x large) = elim (cases_lt p (length s.processors)) [
+  | inl lt ↦ let l : unsigned_abs (at (processor s p).unsent x) ≤ max_count = (state.within.processors p idle lt).unsent x in omega (arith, l, large)
+  | inr past ↦ no_entry (at (processor s p).unsent x) (ap (λ (q : ProcessorState). at q.unsent x) (get_or_past s.processors p idle past) ∙ at-none x) large
+]
+small_entries s state (of_view q x large) = elim (cases_lt q (length s.views)) [
+  | inl lt ↦ let l : unsigned_abs (at (view s q) x) ≤ max_count = state.within.views q none lt x in omega (arith, l, large)
+  | inr past ↦ no_entry (at (view s q) x) (ap (λ (c : Change). at c x) (get_or_past s.views q none past) ∙ at-none x) large
+]
 
 module _ (A : Type 0) (s : ClusterState) (from to : ℕ) (state : IsState s) (here : from < length s.processors) (there : to < length s.processors) where
   two_there : (length s.processors ≤ from) ⊎ (length s.processors ≤ to) → ⊥
@@ -150,10 +155,10 @@ module _ (A : Type 0) (s : ClusterState) (from to : ℕ) (state : IsState s) (he
       | inr other ↦ small_entries s state (of_view q x (subst (λ d. max_count < unsigned_abs (at d x)) (views_beside q other) large))
     ]
 
-    pub receive_plans : (IsTooLarge (plus (view s to) c) → ⊥) → Plans {A = A} s (Receive from to) (Received from to c)
+    pub receive_plans : ReceivedChanges → (IsTooLarge (plus (view s to) c) → ⊥) → Plans {A = A} s (Receive from to) (Received from to c)
     unfolding stepped
-    receive_plans room =
-        let many : changed s (received s from to) ≡ size c + 1 = received_changed s from to c state.fits here there front in
+    receive_plans law room =
+        let many : changed s (received s from to) ≡ size c + 1 = law s from to c state.fits here there front in
         let count : size c + 1 + 0 ≡ changed s (received s from to) = omega (arith, many) in
         record {
           enabled = record { free = by; admissible = tt };

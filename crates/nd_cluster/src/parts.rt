@@ -7,7 +7,7 @@ ghost use Rattle.nd_map.specs.Counts.{entries as counts_of};
 ghost use Rattle.nd_paths.specs.Order.{Fits};
 ghost use Rattle.nd_processor.specs.State.{items_at, token_point as point_of_token};
 ghost use Rattle.nd_cluster.specs.Parts.{IsSinkKey, ItemsFit, RowFits, RowIsWithin};
-ghost use Rattle.nd_cluster.specs.Seen.{seen};
+ghost use Rattle.nd_record.specs.Seen.{seen};
 ghost use Rattle.nd_mesh.specs.Mesh.{queue};
 ghost use Rattle.nd_view.specs.Kept.{Kept, IsFor};
 ghost use Rattle.nd_protocol.specs.Fitting.{IsAtVertex, IsAtEdge, ChangeFits, ChangeIsWithin, ProcessorFits, ProcessorIsWithin, IsState};

@@ -2,16 +2,17 @@
 ghost use Rattle.std.specs.Prelude.{◌≡◌, ◌≢◌, ◌+◌, Err, IfOk, IfErr, OnOk, length};
 ghost use Rattle.nd_protocol.specs.Steps.{stepped};
 ghost use Rattle.nd_protocol.specs.Enabled.{IsEnabled, IsRefused, MayWantMemory};
-ghost use Rattle.nd_cluster.specs.Edits.{Works};
-ghost use Rattle.nd_cluster.specs.Standing.{changed};
-ghost use Rattle.nd_cluster.specs.Records.{named, shared, Plans, ComesLast, IsPlanned};
+ghost use Rattle.nd_work.specs.Edits.{Works};
+ghost use Rattle.nd_record.specs.Standing.{changed};
+ghost use Rattle.nd_record.specs.Records.{named};
+ghost use Rattle.nd_cluster.specs.Records.{shared, Plans, ComesLast, IsPlanned};
 ghost use Rattle.nd_protocol.specs.declared.step.Step.TheVariants.{Broadcast as Sending, Receive as Receiving};
 ghost use Rattle.nd_protocol.specs.declared.refusal.Refusal.TheVariants.{Memory};
 
-use crate::record::Changes;
-use crate::{Cluster, Part, Record, Refusal, Step};
+use crate::{Changes, Cluster, Part, Record, Refusal, Step};
 use nd_exchange::{planned_front, planned_part};
 use nd_protocol::protocol_is_safe;
+use nd_record::changes_are_counted;
 use std::alloc::Allocator;
 
 impl<A: Allocator + Copy> Cluster<A> {
@@ -22,7 +23,6 @@ impl<A: Allocator + Copy> Cluster<A> {
         ensures refused { IfErr result (λ r. r ≢ Memory → IsRefused self.now step.now r) }
         ensures memory { result ≡ Err Memory → MayWantMemory self.now step.now }
     {
-        let _ = self.processor_count();
         Ok(Changes::Each(self.work_changes(step)?))
     }
 
@@ -32,6 +32,7 @@ impl<A: Allocator + Copy> Cluster<A> {
         ensures refused { IfErr result (λ r. r ≢ Memory → IsRefused self.now (Sending p part.now) r) }
         ensures memory { result ≡ Err Memory → MayWantMemory self.now (Sending p part.now) }
     {
+        changes_are_counted();
         let _ = self.processor_count();
         let sender = p as usize;
         if sender >= self.n() {
@@ -50,6 +51,7 @@ impl<A: Allocator + Copy> Cluster<A> {
         ensures refused { IfErr result (λ r. r ≢ Memory → IsRefused {A = A} self.now (Receiving from to) r) }
         ensures memory { result ≡ Err Memory → MayWantMemory {A = A} self.now (Receiving from to) }
     {
+        changes_are_counted();
         let _ = self.processor_count();
         let (sender, receiver) = (from as usize, to as usize);
         if sender >= self.n() || receiver >= self.n() {

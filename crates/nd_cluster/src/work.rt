@@ -3,18 +3,17 @@ ghost use Rattle.std.specs.Prelude.{◌≡◌, ◌≢◌, Err, IfOk, IfErr, OnOk
 ghost use Rattle.nd_protocol.specs.Steps.{stepped};
 ghost use Rattle.nd_protocol.specs.Fitting.{IsState};
 ghost use Rattle.nd_protocol.specs.Enabled.{IsEnabled, IsFreeBelow, IsRefused, MayWantMemory};
-ghost use Rattle.nd_cluster.specs.Edits.{edits, Works};
-ghost use Rattle.nd_cluster.specs.Plans.{LeadsTo};
-ghost use Rattle.nd_cluster.specs.Drafts.{AddsUp, fed_edits, taken_edits, noticed_edits};
+ghost use Rattle.nd_work.specs.Edits.{Works};
+ghost use Rattle.nd_record.specs.Plans.{Reaches, LeadsTo};
 ghost use Rattle.nd_cluster.specs.Tested.{FeedPasses, FeedRefused, TakePasses, TakeRefused, NoticePasses, NoticeRefused};
+ghost use Rattle.nd_protocol.specs.declared.step.Step.TheVariants.{Feed as Feeding, Take as Taking, Notice as Noticing};
 ghost use Rattle.nd_protocol.specs.declared.refusal.Refusal.TheVariants.{Memory};
 
-use crate::draft::Draft;
-use crate::feed::feed_draft;
-use crate::react::{notice_draft, take_draft};
 use crate::{Change, Cluster, Next, Refusal, Step};
 use nd_paths::Pointstamp;
 use nd_processor::ValueAt;
+use nd_record::{in_order, limit_refusal};
+use nd_work::{feed_changes, notice_changes, take_changes};
 use std::alloc::Allocator;
 
 impl<A: Allocator + Copy> Cluster<A> {
@@ -27,31 +26,31 @@ impl<A: Allocator + Copy> Cluster<A> {
         self.n() as u32
     }
 
-    // What a feed adds, or why it is refused, but for the limits.
+    // What a feed changes, or why it is refused, but for the limits.
     fn feed_parts(
         &self,
         p: u32,
         vertex: usize,
         values: &[i64],
         next: Next,
-    ) -> Result<Draft<A>, Refusal>
-        ensures adds { IfOk result (AddsUp self.now (fed_edits self.now p vertex values.now next)) }
+    ) -> Result<Vec<Change, A>, Refusal>
+        ensures reaches { IfOk result (λ v. Reaches self.now (stepped {A = A} self.now (Feeding p vertex values.now next)) v.items) }
         ensures free { OnOk result (FeedPasses self.now p vertex values.now next 13) }
         ensures refused { IfErr result (λ r. r ≢ Memory → FeedRefused self.now p vertex values.now next r) }
         ensures memory { result ≡ Err Memory → FeedPasses self.now p vertex values.now next 13 }
     {
         let epoch = self.feed_epoch(p, vertex, values, next)?;
         let n = self.processor_count();
-        let Ok(draft) = feed_draft(self.alloc, self.graph(), n, p, vertex, epoch, values, next)
+        let Ok(all) = feed_changes(self.alloc, self.graph(), n, p, vertex, epoch, values, next)
         else {
             return Err(Refusal::Memory);
         };
-        Ok(draft)
+        Ok(all)
     }
 
-    // What a take adds, or why it is refused, but for the limits.
-    fn take_parts(&self, p: u32, key: &ValueAt) -> Result<Draft<A>, Refusal>
-        ensures adds { IfOk result (AddsUp self.now (taken_edits self.now p key.now.point.location key.now.point.time key.now.value)) }
+    // What a take changes, or why it is refused, but for the limits.
+    fn take_parts(&self, p: u32, key: &ValueAt) -> Result<Vec<Change, A>, Refusal>
+        ensures reaches { IfOk result (λ v. Reaches self.now (stepped {A = A} self.now (Taking p key.now.point.location key.now.point.time key.now.value)) v.items) }
         ensures free { OnOk result (TakePasses self.now p key.now.point.location key.now.point.time key.now.value 13) }
         ensures refused { IfErr result (λ r. r ≢ Memory → TakeRefused self.now p key.now.point.location key.now.point.time key.now.value r) }
         ensures memory { result ≡ Err Memory → TakePasses self.now p key.now.point.location key.now.point.time key.now.value 13 }
@@ -59,16 +58,16 @@ impl<A: Allocator + Copy> Cluster<A> {
         let target = self.take_target(p, key)?;
         let (effect, asks) = self.take_effect(p, key, target)?;
         let n = self.processor_count();
-        let Ok(draft) = take_draft(self.alloc, self.graph(), n, p, key, target, &effect, asks)
+        let Ok(all) = take_changes(self.alloc, self.graph(), n, p, key, target, &effect, asks)
         else {
             return Err(Refusal::Memory);
         };
-        Ok(draft)
+        Ok(all)
     }
 
-    // What a notice adds, or why it is refused, but for the limits.
-    fn notice_parts(&self, p: u32, point: &Pointstamp) -> Result<Draft<A>, Refusal>
-        ensures adds { IfOk result (AddsUp self.now (noticed_edits self.now p point.now.location point.now.time)) }
+    // What a notice changes, or why it is refused, but for the limits.
+    fn notice_parts(&self, p: u32, point: &Pointstamp) -> Result<Vec<Change, A>, Refusal>
+        ensures reaches { IfOk result (λ v. Reaches self.now (stepped {A = A} self.now (Noticing p point.now.location point.now.time)) v.items) }
         ensures free { OnOk result (NoticePasses self.now p point.now.location point.now.time 13) }
         ensures refused { IfErr result (λ r. r ≢ Memory → NoticeRefused self.now p point.now.location point.now.time r) }
         ensures memory { result ≡ Err Memory → NoticePasses self.now p point.now.location point.now.time 13 }
@@ -76,16 +75,16 @@ impl<A: Allocator + Copy> Cluster<A> {
         self.notice_asked(p, point)?;
         let effect = self.notice_effect(p, point)?;
         let n = self.processor_count();
-        let Ok(draft) = notice_draft(self.alloc, self.graph(), n, p, point, &effect) else {
+        let Ok(all) = notice_changes(self.alloc, self.graph(), n, p, point, &effect) else {
             return Err(Refusal::Memory);
         };
-        Ok(draft)
+        Ok(all)
     }
 
-    // What a feed, a take or a notice adds, or why it is refused, but for the limits.
-    fn parts(&self, step: &Step<A>) -> Result<Draft<A>, Refusal>
+    // What a feed, a take or a notice changes, or why it is refused, but for the limits.
+    fn parts(&self, step: &Step<A>) -> Result<Vec<Change, A>, Refusal>
         requires { Works step.now }
-        ensures adds { IfOk result (AddsUp self.now (edits self.now step.now)) }
+        ensures reaches { IfOk result (λ v. Reaches self.now (stepped self.now step.now) v.items) }
         ensures free { OnOk result (IsFreeBelow self.now step.now 13) }
         ensures refused { IfErr result (λ r. r ≢ Memory → IsRefused self.now step.now r) }
         ensures memory { result ≡ Err Memory → IsFreeBelow self.now step.now 13 }
@@ -133,14 +132,11 @@ impl<A: Allocator + Copy> Cluster<A> {
         ensures memory { result ≡ Err Memory → MayWantMemory self.now step.now }
     {
         let _ = self.processor_count();
-        let draft = self.parts(step)?;
-        let Ok(all) = draft.join() else {
-            return Err(Refusal::Memory);
-        };
-        if let Some(refusal) = self.limit_refusal(&all) {
+        let all = self.parts(step)?;
+        if let Some(refusal) = limit_refusal(&self.processors, &all) {
             return Err(refusal);
         }
-        let Ok(changes) = self.in_order(&all) else {
+        let Ok(changes) = in_order(self.alloc, &self.processors, &all) else {
             return Err(Refusal::Memory);
         };
         Ok(changes)

@@ -1,20 +1,12 @@
-//! Tests of clusters: starts, steps that are made and undone, refusals, breakpoints, and each request
-//! for memory refused in turn.
+//! Tests of clusters: worked examples by their names, the changes that a record lists, each request for memory
+//! refused in turn, readers that take none, copies, and calls with ample memory.
 #![tactic(auto)]
 
 #[cfg(test)]
-mod ends;
+mod ample;
 #[cfg(test)]
 mod limits;
 #[cfg(test)]
 mod memory;
 #[cfg(test)]
-mod refusals;
-#[cfg(test)]
-mod runs;
-#[cfg(test)]
-mod starts;
-#[cfg(test)]
-mod unasked;
-#[cfg(test)]
-mod walk;
+mod worked;

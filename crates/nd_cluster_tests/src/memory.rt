@@ -1,14 +1,73 @@
 //! Each request for memory of a call refused in turn.
 
-use nd_cluster::{Cluster, Next, NoMemory, Record, Refusal, StartFault, Step, Values};
-use nd_drawn::{LINE, LOOP, SUM, graph_of};
-use nd_graph::Graph;
+use nd_cluster::{Cluster, Next, NoMemory, Refusal, StartFault, Step};
+use nd_drawn::{LINE, LOOP, SUM};
 use nd_told::{SUM_NOTIFIED, Script, Told, is_state, make, reach, state_text, step_of, values_of};
-use refusing::{MANY, Refusing, in_turn, was_refused};
+use refusing::{Refusing, in_turn, met};
 use std::alloc::{AllocError, Allocator, Global};
 
 /// The allocator of these tests.
 pub type Heap = Refusing<Global>;
+
+/// A call on clusters, or on what they are given.
+#[derive(Debug, Clone, Copy, Drop)]
+enum Call {
+    Start,
+    CopyCluster,
+    CopyStep,
+    CopyRecord,
+    PushValue,
+}
+
+/// Whether a call met the request that was refused. `None` where it answered or left what it should not.
+fn meets<A: Allocator + Copy>(
+    heap: &Heap,
+    alloc: A,
+    json: Global,
+    call: Call,
+    n: u64,
+) -> Option<bool> {
+    let cluster = reach(json, alloc, LINE, 2, &[])?;
+    let told = Told::Feed(0, "a", &[5, 6], Next::Close);
+    let step = step_of(alloc, cluster.graph(), &told)?;
+    match call {
+        Call::Start => {
+            let graph = cluster.graph().copy(alloc).ok()?;
+            met!(heap, n: Cluster::start(alloc, graph, 2); StartFault::Memory, true)
+        }
+        Call::CopyCluster => met!(heap, n: cluster.copy(alloc); AllocError, true),
+        Call::CopyStep => met!(heap, n: step.copy(alloc); AllocError, true),
+        Call::CopyRecord => {
+            let record = cluster.plan(&step).ok()?;
+            met!(heap, n: record.copy(alloc); AllocError, true)
+        }
+        Call::PushValue => {
+            let mut values = values_of(alloc, &[1, 2])?.copy(alloc).ok()?;
+            met!(heap, n: values.push(3); AllocError, values.as_slice() == [1, 2].as_slice())
+        }
+    }
+}
+
+/// How many requests of a call were refused before it met none.
+fn refused<A: Allocator + Copy>(heap: &Heap, alloc: A, json: Global, call: Call) -> Option<u64> {
+    in_turn(|n| meets(heap, alloc, json, call, n))
+}
+
+#[test]
+fn starts_and_copies(rt: HostRuntime) {
+    let heap = Refusing::new(rt.alloc());
+    for call in [
+        Call::Start,
+        Call::CopyCluster,
+        Call::CopyStep,
+        Call::CopyRecord,
+        Call::PushValue,
+    ] {
+        let count = refused(&heap, &heap, rt.alloc(), call);
+        assert_eq!(rt; count.map(|count| count > 0), Some(true), "of {call:?}");
+        assert_eq!(rt; heap.live(), 0, "of {call:?}");
+    }
+}
 
 /// Runs of whose last step memory is refused.
 static RUNS: [Script; 7] = [
@@ -56,150 +115,74 @@ static RUNS: [Script; 7] = [
     ),
 ];
 
-fn start<A: Allocator + Copy>(heap: &Heap, alloc: A, graph: &Graph<A>) -> Option<u64> {
-    in_turn!(heap: { let graph = graph.copy(alloc).ok()?; }
-        Cluster::start(alloc, graph, 2); StartFault::Memory, true);
-    None
+/// A cluster, its next step, and the texts of its state before that and after it.
+#[derive(Drop)]
+struct Case<'a, A: Allocator + Copy> {
+    base: &'a Cluster<A>,
+    step: &'a Step<A>,
+    before: &'a str,
+    after: &'a str,
 }
 
-fn cluster_copy<A: Allocator + Copy>(heap: &Heap, alloc: A, cluster: &Cluster<A>) -> Option<u64> {
-    in_turn!(heap: {} cluster.copy(alloc); AllocError, true);
-    None
-}
-
-fn step_copy<A: Allocator + Copy>(heap: &Heap, alloc: A, step: &Step<A>) -> Option<u64> {
-    in_turn!(heap: {} step.copy(alloc); AllocError, true);
-    None
-}
-
-fn record_copy<A: Allocator + Copy>(heap: &Heap, alloc: A, record: &Record<A>) -> Option<u64> {
-    in_turn!(heap: {} record.copy(alloc); AllocError, true);
-    None
-}
-
-fn push<A: Allocator + Copy>(heap: &Heap, alloc: A, base: &Values<A>) -> Option<u64> {
-    in_turn!(heap: { let mut values = base.copy(alloc).ok()?; }
-        values.push(3); AllocError, values.as_slice() == base.as_slice());
-    None
-}
-
-fn copies_in_turn<A: Allocator + Copy>(heap: &Heap, alloc: A, json: Global) -> Option<bool> {
-    let cluster = reach(json, alloc, LINE, 2, &[])?;
-    let told = Told::Feed(0, "a", &[5, 6], Next::Close);
-    let step = step_of(alloc, cluster.graph(), &told)?;
-    let record = cluster.plan(&step).ok()?;
-    Some(
-        start(heap, alloc, cluster.graph())? > 0
-            && cluster_copy(heap, alloc, &cluster)? > 0
-            && step_copy(heap, alloc, &step)? > 0
-            && record_copy(heap, alloc, &record)? > 0
-            && push(heap, alloc, &values_of(alloc, &[1, 2])?)? > 0,
-    )
-}
-
-#[test]
-fn starts_and_copies(rt: HostRuntime) {
-    let heap = Refusing::new(rt.alloc());
-    assert_eq!(rt; copies_in_turn(&heap, &heap, rt.alloc()), Some(true));
-    assert_eq!(rt; heap.live(), 0);
-}
-
-fn plan<A: Allocator + Copy>(
+/// Whether the plan of a step met the request that was refused.
+fn meets_plan<A: Allocator + Copy>(
     heap: &Heap,
     json: Global,
-    cluster: &Cluster<A>,
-    step: &Step<A>,
-    before: &str,
-) -> Option<u64> {
-    in_turn!(heap: {} cluster.plan(step); Refusal::Memory, is_state(json, cluster, before));
-    None
+    case: &Case<A>,
+    n: u64,
+) -> Option<bool> {
+    met!(heap, n: case.base.plan(case.step); Refusal::Memory, is_state(json, case.base, case.before))
 }
 
-/// Whether the commit of a step met the request that was refused; it succeeds afterwards.
+/// The same of the commit of a step, which succeeds afterwards.
 fn meets_commit<A: Allocator + Copy>(
     heap: &Heap,
     json: Global,
     cluster: &mut Cluster<A>,
-    step: &Step<A>,
-    before: &str,
+    case: &Case<A>,
     n: u64,
 ) -> Option<bool> {
-    let record = cluster.plan(step).ok()?;
-    heap.refuse(n);
-    let fault = cluster.commit(&record).err();
-    let refused = heap.relent(n);
-    let met = was_refused(refused, fault, NoMemory, is_state(json, cluster, before))?;
+    let record = cluster.plan(case.step).ok()?;
+    let met =
+        met!(heap, n: cluster.commit(&record); NoMemory, is_state(json, cluster, case.before))?;
     if met {
-        make(cluster, step)?;
+        make(cluster, case.step)?;
     }
     Some(met)
 }
 
-fn commit<A: Allocator + Copy>(
-    heap: &Heap,
-    alloc: A,
-    json: Global,
-    base: &Cluster<A>,
-    step: &Step<A>,
-    before: &str,
-) -> Option<u64> {
-    for n in 0..MANY {
-        let mut cluster = base.copy(alloc).ok()?;
-        if !meets_commit(heap, json, &mut cluster, step, before, n)? {
-            return Some(n);
-        }
-    }
-    None
-}
-
-/// Whether the back-step of a step met the request that was refused.
+/// The same of the back-step of a step.
 fn meets_back<A: Allocator + Copy>(
     heap: &Heap,
     json: Global,
     cluster: &mut Cluster<A>,
-    step: &Step<A>,
-    after: &str,
+    case: &Case<A>,
     n: u64,
 ) -> Option<bool> {
-    let record = cluster.plan(step).ok()?;
+    let record = cluster.plan(case.step).ok()?;
     cluster.commit(&record).ok()?;
-    heap.refuse(n);
-    let fault = cluster.back(&record).err();
-    let refused = heap.relent(n);
-    was_refused(refused, fault, NoMemory, is_state(json, cluster, after))
+    met!(heap, n: cluster.back(&record); NoMemory, is_state(json, cluster, case.after))
 }
 
-fn back<A: Allocator + Copy>(
+/// The same of either, on a copy of the cluster.
+fn on_copy<A: Allocator + Copy>(
     heap: &Heap,
     alloc: A,
     json: Global,
-    base: &Cluster<A>,
-    step: &Step<A>,
-    after: &str,
-) -> Option<u64> {
-    for n in 0..MANY {
-        let mut cluster = base.copy(alloc).ok()?;
-        if !meets_back(heap, json, &mut cluster, step, after, n)? {
-            return Some(n);
-        }
+    case: &Case<A>,
+    is_back: bool,
+    n: u64,
+) -> Option<bool> {
+    let mut cluster = case.base.copy(alloc).ok()?;
+    if is_back {
+        meets_back(heap, json, &mut cluster, case, n)
+    } else {
+        meets_commit(heap, json, &mut cluster, case, n)
     }
-    None
 }
 
-/// The text of the state after a step.
-fn text_after<A: Allocator + Copy>(
-    json: Global,
-    alloc: A,
-    base: &Cluster<A>,
-    step: &Step<A>,
-) -> Option<String> {
-    let mut cluster = base.copy(alloc).ok()?;
-    make(&mut cluster, step)?;
-    state_text(json, &cluster)
-}
-
-/// How many requests were refused of the plan and of the commit of a run's last step. Each refusal,
-/// also of its back-step, left all as it was.
+/// How many requests were refused of the plan, of the commit and of the back-step of a run's last step. Each refusal
+/// left all as it was.
 fn last_in_turn<A: Allocator + Copy>(
     heap: &Heap,
     alloc: A,
@@ -207,16 +190,22 @@ fn last_in_turn<A: Allocator + Copy>(
     text: &str,
     n: u32,
     steps: &[Told],
-) -> Option<(u64, u64)> {
+) -> Option<(u64, u64, u64)> {
     let (last, first) = steps.split_last()?;
     let base = reach(json, alloc, text, n, first)?;
     let step = step_of(alloc, base.graph(), last)?;
     let before = state_text(json, &base)?;
-    let after = text_after(json, alloc, &base, &step)?;
-    back(heap, alloc, json, &base, &step, after.as_str())?;
+    let after = state_text(json, &reach(json, alloc, text, n, steps)?)?;
+    let case = Case {
+        base: &base,
+        step: &step,
+        before: before.as_str(),
+        after: after.as_str(),
+    };
     Some((
-        plan(heap, json, &base, &step, before.as_str())?,
-        commit(heap, alloc, json, &base, &step, before.as_str())?,
+        in_turn(|n| meets_plan(heap, json, &case, n))?,
+        in_turn(|n| on_copy(heap, alloc, json, &case, false, n))?,
+        in_turn(|n| on_copy(heap, alloc, json, &case, true, n))?,
     ))
 }
 
@@ -225,7 +214,7 @@ fn last_steps(rt: HostRuntime) {
     let heap = Refusing::new(rt.alloc());
     for (row, (text, n, steps)) in RUNS.iter().enumerate() {
         let met = last_in_turn(&heap, &heap, rt.alloc(), text, *n, steps);
-        let (plans, commits) = met.unwrap_or((0, 0));
+        let (plans, commits, _) = met.unwrap_or((0, 0, 0));
         assert!(rt; plans > 0 && commits > 0, "in row {row}");
     }
     let (text, n, steps) = &SUM_NOTIFIED;

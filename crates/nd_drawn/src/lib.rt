@@ -91,33 +91,8 @@ pub const FILTER: &str = graph_text!(
 /// A loop that goes through no feedback.
 pub const CYCLE: &str = graph_text!(a input 0, m add 0 k 0; am: a 0 -> m local, mm: m 0 -> m local);
 
-/// Two loops that share a vertex.
-pub const TWIN_LOOPS: &str = graph_text!(
-    a input 0, i ingress 0, m add 1 k 0, f feedback 1, g feedback 1, e egress 1, z sink 0;
-    ai: a 0 -> i local, im: i 0 -> m local, mf: m 0 -> f local, fm: f 0 -> m local, mg: m 0 -> g local,
-    gm: g 0 -> m local, me: m 0 -> e local, ez: e 0 -> z local
-);
-
-/// A loop that leaves a deeper one and enters it anew at each turn.
-pub const REENTERED_LOOP: &str = graph_text!(
-    a input 0, i ingress 0, f feedback 1, j ingress 1, g feedback 2, d egress 2, e egress 1, z sink 0;
-    ai: a 0 -> i local, ij: i 0 -> j local, jg: j 0 -> g local, gg: g 0 -> g local, gd: g 0 -> d local,
-    df: d 0 -> f local, fj: f 0 -> j local, de: d 0 -> e local, ez: e 0 -> z local
-);
-
-/// Four loops within one another.
-pub const DEEP: &str = graph_text!(
-    a input 0, i ingress 0, j ingress 1, k ingress 2, l ingress 3, f feedback 4, p egress 4, q egress 3,
-    r egress 2, s egress 1, z sink 0;
-    ai: a 0 -> i local, ij: i 0 -> j local, jk: j 0 -> k local, kl: k 0 -> l local, lf: l 0 -> f local,
-    ff: f 0 -> f local, fp: f 0 -> p local, pq: p 0 -> q local, qr: q 0 -> r local, rs: r 0 -> s local,
-    sz: s 0 -> z local
-);
-
-// A line of 32 vertices, with an edge more from one of them to the last: 64 locations.
-macro_rules! long_text {
-    ($from:ident) => {
-        graph_text!(
+/// A line of 32 vertices, with an edge more to the last: 64 locations.
+pub const LONG: &str = graph_text!(
             v0 input 0, v1 add 0 k 0, v2 add 0 k 0, v3 add 0 k 0, v4 add 0 k 0, v5 add 0 k 0,
             v6 add 0 k 0, v7 add 0 k 0, v8 add 0 k 0, v9 add 0 k 0, v10 add 0 k 0, v11 add 0 k 0,
             v12 add 0 k 0, v13 add 0 k 0, v14 add 0 k 0, v15 add 0 k 0, v16 add 0 k 0, v17 add 0 k 0,
@@ -134,16 +109,8 @@ macro_rules! long_text {
             e24: v23 0 -> v24 local, e25: v24 0 -> v25 local, e26: v25 0 -> v26 local,
             e27: v26 0 -> v27 local, e28: v27 0 -> v28 local, e29: v28 0 -> v29 local,
             e30: v29 0 -> v30 local, e31: v30 0 -> v31 local,
-            e: $from 0 -> v31 exchange
-        )
-    };
-}
-
-/// A line of 64 locations.
-pub const LONG: &str = long_text!(v30);
-
-/// A line of 64 locations whose last vertex is in a loop that goes through no feedback.
-pub const LONG_LOOP: &str = long_text!(v31);
+            e: v30 0 -> v31 exchange
+);
 
 /// The graph of a JSON text.
 pub fn graph_of<A: Allocator + Copy>(json: Global, alloc: A, text: &str) -> Option<Graph<A>> {

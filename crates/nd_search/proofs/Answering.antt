@@ -1,15 +1,17 @@
 -- The answer, read off the table of results.
 use Rattle.std.proofs.Common.{◌≡◌, ◌<◌, ◌≤◌, ℕ, zero, suc, ◌+◌, List, All, Option, Some, None, Vec, map, min, length, slice_get, inl, inr, arith, subst, sym, ap, ◌∙◌}
 use Rattle.std.proofs.lemmas.Bool.{cases_lt}
+use Rattle.nd_time.specs.Limits.{max_workers}
 use Rattle.nd_watch.specs.declared.watch.Break.{Break}
 use Rattle.nd_timeline.specs.Timeline.{TimelineValue}
-use Rattle.nd_search.specs.Answers.{AreClaims}
+use Rattle.nd_search.specs.Answers.{AreClaims, IsLastClaim}
 use Rattle.nd_search.proofs.Lists.{map_twice}
 use Rattle.nd_search.specs.Least.{HoldsAt, NoHit, IsLeast}
 use Rattle.nd_search.specs.Pieces.{piece_count, piece_start}
-use Rattle.nd_search.specs.Works.{IsResult, IsSearched, AreTold, NoneBefore, IsFirst, IsFirstGap}
+use Rattle.nd_search.specs.Works.{IsResult, IsSearched, AreTold, AreIn, HaveStopped, NoneBefore, IsFirst, IsFirstGap}
 use Rattle.nd_search.specs.declared.work.Searched.{Searched}
-use Rattle.nd_search.proofs.Elements.{get_below, all_at}
+use Rattle.nd_search.proofs.Elements.{get_below, all_at, length_of}
+use Rattle.nd_search.proofs.Stopping.{last_claim}
 
 within : (lo hi j : ℕ) → lo ≤ hi → j < piece_count lo hi → piece_start lo j ≤ hi
 within lo hi j le lt = omega (arith, le, lt)
@@ -32,6 +34,18 @@ module _ {A : Type 0} where
   pub told_there : (lent works : List (Searched A)) (items rs : List (Option (Option ℕ))) → lent ≡ works → rs ≡ items → AreTold lent items → AreTold works rs
   told_there lent works items rs same read told =
       subst (λ (xs : List (Option (Option ℕ))). AreTold works xs) (sym read) (subst (λ (ws : List (Searched A)). AreTold ws items) same told)
+
+  pub all_in_there : (lent works : List (Searched A)) (items rs : List (Option (Option ℕ))) → lent ≡ works → rs ≡ items → AreIn lent items → AreIn works rs
+  all_in_there lent works items rs same read all_in =
+      subst (λ (xs : List (Option (Option ℕ))). AreIn works xs) (sym read) (subst (λ (ws : List (Searched A)). AreIn ws items) same all_in)
+
+  pub stopped_there : (pieces pieces' workers j : ℕ) (works : List (Searched A)) (claimed : List (Vec ℕ A)) (rs : List (Option (Option ℕ))) → pieces ≡ pieces' → claimed ≡ map (λ s. s.claimed) works → AreTold works rs → AreIn works rs → HaveStopped pieces works
+      → AreClaims pieces workers (map (λ s. s.claimed.items) works) → 0 < workers → IsFirstGap rs j → j < pieces' → IsLastClaim j (map (λ l. l.items) claimed)
+  stopped_there pieces pieces' workers j works claimed rs same is told all_in stopped claims some gap lt =
+      let lists : map (λ l. l.items) claimed ≡ map (λ s. s.claimed.items) works = ap (λ (ls : List (Vec ℕ A)). map (λ l. l.items) ls) is ∙ map_twice (λ (s : Searched A). s.claimed) (λ (l : Vec ℕ A). l.items) works in
+      let started : length works ≡ min workers max_workers = sym (length_of (λ (s : Searched A). s.claimed.items) works) ∙ claims.started in
+      subst (λ (ls : List (List ℕ)). IsLastClaim j ls) (sym lists)
+      (last_claim rs j gap pieces claims.count works told all_in stopped (omega (arith, started, some)) claims.once (omega (arith, same, lt)))
 
   pub claimed_there : (pieces pieces' workers : ℕ) (works : List (Searched A)) (claimed : List (Vec ℕ A)) → pieces ≡ pieces' → claimed ≡ map (λ s. s.claimed) works → AreClaims pieces workers (map (λ s. s.claimed.items) works) → AreClaims pieces' workers (map (λ l. l.items) claimed)
   claimed_there pieces pieces' workers works claimed count is claims =

@@ -3,7 +3,7 @@ use Rattle.std.proofs.Common.{◌≡◌, ◌<◌, ◌⊎◌, ℕ, zero, suc, Lis
 use Rattle.std.proofs.lemmas.List.{take-append-le, take_all}
 use Rattle.std.proofs.lemmas.List.Elements.{All-nil, All-append}
 
-length_of : {Y Z : Type 0} (h : Y → Z) (ys : List Y) → length (map h ys) ≡ length ys
+pub length_of : {Y Z : Type 0} (h : Y → Z) (ys : List Y) → length (map h ys) ≡ length ys
 length_of h [] = refl
 length_of h (y ∷ ys) = ap suc (length_of h ys)
 

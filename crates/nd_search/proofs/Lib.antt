@@ -6,5 +6,6 @@ pub mod Joined
 pub mod Lists
 pub mod Shares
 pub mod Steps
+pub mod Stopping
 pub mod Totals
 pub mod Walking

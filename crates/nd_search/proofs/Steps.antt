@@ -75,3 +75,16 @@ module _ {S : Type 0} (all : ℕ) where
       let weight : total weight_of s.views ≡ weight_of v = h.weighed ∙ sym whole in
       let none : (w : Hand) → weight_of w ≡ 0 → times_in x w ≡ 0 = (λ w e. times_none x w.drawn (omega arith)) in
       subst Q word_is (sym (only_one (times_in x) weight_of none s.views id v at weight) ∙ h.drawn x)
+
+  -- it has drawn as many numbers as the word tells
+  pub counts : (id : ℕ) (v : Hand) (words : List ℕ) (slots : List S) (word : ℕ) → Final (Seen (λ (s : State S Hand). IsClaimed all s.words s.views) id v) words slots → get_elem? words 0 ≡ some word → v.allowance + length v.drawn ≡ all
+      → word ≡ length v.drawn
+  counts id v words slots word (s, (h, at), same, homes, rest) at_word whole =
+      let n = slice_index s.words 0 in
+      let P : List ℕ → Type 0 = λ ws. get_elem? ws 0 ≡ some word in
+      let first : get_elem? (n ∷ []) 0 ≡ some word = subst P h.one_word (subst P (sym same) at_word) in
+      let word_is : n ≡ word = some-injective n word first in
+      let weight : total weight_of s.views ≡ weight_of v = h.weighed ∙ sym whole in
+      let none : (w : Hand) → weight_of w ≡ 0 → allowance_of w ≡ 0 = (λ w e. omega arith) in
+      let left : total allowance_of s.views ≡ v.allowance = only_one allowance_of weight_of none s.views id v at weight in
+      omega (arith, word_is, left, h.allowed, whole)

@@ -1,5 +1,5 @@
 -- What a search may answer (this project's own rule).
-use Rattle.std.specs.Prelude.{◌≡◌, ℕ, ◌<◌, ◌≤◌, List, length, map, min}
+use Rattle.std.specs.Prelude.{◌≡◌, ℕ, ◌-◌, ◌<◌, ◌≤◌, List, length, map, min, slice_get, Some}
 use Rattle.nd_time.specs.Limits.{max_workers}
 use Rattle.nd_watch.specs.declared.watch.Break.{Break}
 use Rattle.nd_timeline.specs.Timeline.{TimelineValue}
@@ -30,11 +30,19 @@ pub record AreClaims (pieces workers : ℕ) (lists : List (List ℕ)) : Type 0 w
   pub few : count ≤ pieces
   pub once : AreTheNumbersBelow count lists
 
--- a piece is missing: those before it were searched without a hit
+-- a list ends with this piece: its worker stopped in it
+pub record IsLastClaim (piece : ℕ) (lists : List (List ℕ)) : Type 0 where
+  pub who : ℕ
+  pub list : List ℕ
+  pub there : slice_get lists who ≡ Some list
+  pub last : slice_get list (length list - 1) ≡ Some piece
+
+-- a piece is missing: a worker stopped in it, and those before it were searched without a hit
 pub record IsMissing {A : Type 0} (m : TimelineValue A) (b : Break) (lo hi workers piece : ℕ) (lists : List (List ℕ)) : Type 0 where
   pub one_of_them : piece < piece_count lo hi
   pub before : NoHit (HoldsAt m b) lo (piece_start lo piece)
   pub claims : AreClaims (piece_count lo hi) workers lists
+  pub stopped : IsLastClaim piece lists
 
 -- why a search answers nothing
 abbrev pub SearchFails : {A : Type 0} → TimelineValue A → Break → ℕ → ℕ → ℕ → SearchFault A → Type 0

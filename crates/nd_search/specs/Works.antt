@@ -1,10 +1,11 @@
 -- What a worker is given, what it does, and the table of all results; for the contracts of this crate's own functions.
-use Rattle.std.specs.Prelude.{◌≡◌, ℕ, ◌+◌, ◌<◌, ◌≤◌, List, [], ◌++◌, length, All, Option, Some, None, slice_get, vec_capacity}
+use Rattle.std.specs.Prelude.{◌≡◌, ℕ, ◌+◌, ◌<◌, ◌≤◌, ◌⊎◌, List, [], ◌∷◌, ◌++◌, length, map, All, Option, Some, None, slice_get, vec_capacity}
 use Rattle.atomic_table.specs.Seated.{TableId}
 use Rattle.nd_timeline.specs.Timeline.{TimelineValue}
 use Rattle.nd_timeline.specs.Walks.{IsOn}
 use Rattle.nd_search.specs.Least.{IsLeast}
 use Rattle.nd_search.specs.Pieces.{piece_start, piece_end}
+use Rattle.nd_search.specs.Claims.{times, AreTheNumbersBelow}
 use Rattle.nd_search.specs.Hands.{hand}
 use Rattle.nd_search.specs.declared.work.Job.{Job}
 use Rattle.nd_search.specs.declared.work.Work.{Work}
@@ -34,6 +35,14 @@ pub record IsToldBy {A : Type 0} (s : Searched A) (j : ℕ) (r : Option ℕ) : T
 abbrev pub IsEven : {A : Type 0} → Searched A → Type 0
 IsEven s = length s.found.items ≤ length s.claimed.items
 
+-- it tells of each piece that it claimed
+abbrev pub IsComplete : {A : Type 0} → Searched A → Type 0
+IsComplete s = length s.found.items ≡ length s.claimed.items
+
+-- it tells of each but the last, in which it was refused memory
+abbrev pub IsCutOff : {A : Type 0} → Searched A → Type 0
+IsCutOff s = length s.claimed.items ≡ length s.found.items + 1
+
 -- ---- workers
 
 -- nothing yet, and room for the pieces
@@ -60,10 +69,35 @@ pub record HasDrawn {A : Type 0} (table : TableId) (pieces : ℕ) (work : Work A
   pub above : All (λ x. pieces ≤ x) over
   pub drawn : work.ticket.me.0.drawn ≡ work.searched.claimed.items ++ over
 
+-- a number that is no piece was drawn
+pub record HasNoPiece (pieces : ℕ) (drawn : List ℕ) : Type 0 where
+  pub number : ℕ
+  pub no_piece : pieces ≤ number
+  pub there : 0 < times number drawn
+
+-- no piece is left: a number that is none was drawn, or more numbers than there are pieces
+abbrev pub NoneIsLeft : ℕ → List ℕ → Type 0
+NoneIsLeft pieces drawn = HasNoPiece pieces drawn ⊎ (pieces < length drawn)
+
+-- a worker stops where it is refused memory in a piece, or tells of all its pieces and none is left
+abbrev pub HasStopped : {A : Type 0} → ℕ → Work A → Type 0
+HasStopped pieces work = IsCutOff work.searched ⊎ (IsComplete work.searched × NoneIsLeft pieces work.ticket.me.0.drawn)
+
 -- a worker's work
 pub record IsWork {A : Type 0} (Hit : ℕ → Type 0) (lo hi : ℕ) (table : TableId) (pieces : ℕ) (work : Work A) : Type 0 where
   pub drawn : HasDrawn table pieces work
   pub searched : IsSearched Hit lo hi work.searched
+  pub stopped : HasStopped pieces work
+
+-- what all drew, one worker after the other
+abbrev pub all_drawn : {A : Type 0} → List (Work A) → List ℕ
+all_drawn [] = []
+all_drawn (w ∷ ws) = w.ticket.me.0.drawn ++ all_drawn ws
+
+-- each worker was cut off or tells of all its pieces; and all were cut off, or each piece was claimed
+pub record HaveStopped {A : Type 0} (pieces : ℕ) (works : List (Searched A)) : Type 0 where
+  pub each : All (λ s. IsCutOff s ⊎ IsComplete s) works
+  pub all : All IsCutOff works ⊎ AreTheNumbersBelow pieces (map (λ s. s.claimed.items) works)
 
 -- ---- the table of results, by piece
 
@@ -77,6 +111,10 @@ pub record IsTold {A : Type 0} (works : List (Searched A)) (j : ℕ) (r : Option
 -- each result in the table is told by a worker
 abbrev pub AreTold : {A : Type 0} → List (Searched A) → List (Option (Option ℕ)) → Type 0
 AreTold works rs = (j : ℕ) (r : Option ℕ) → slice_get rs j ≡ Some (Some r) → IsTold works j r
+
+-- no piece that a worker tells of is without a result in the table
+abbrev pub AreIn : {A : Type 0} → List (Searched A) → List (Option (Option ℕ)) → Type 0
+AreIn works rs = (j : ℕ) (r : Option ℕ) → IsTold works j r → slice_get rs j ≡ Some None → ⊥
 
 -- the pieces before j have results, and no hit
 abbrev pub NoneBefore : List (Option (Option ℕ)) → ℕ → Type 0

@@ -97,7 +97,8 @@ pub(crate) fn gather(word: &Word, ticket: &mut Ticket, other: Ticket)
 pub(crate) fn end_board<A: Allocator>(board: Board<A>, ticket: Ticket) -> u64
     requires board { (ticket.table_id ≡ board.shared.table_id) × (board.shared.table_id.words ≡ 1) × (board.shared.table_id.slots ≡ 0) }
     requires whole { ticket.me.0.allowance + length ticket.me.0.drawn ≡ board.shared.key.1 }
-    ensures { (x : ℕ) → times x ticket.me.0.drawn ≡ once_below x result }
+    ensures each { (x : ℕ) → times x ticket.me.0.drawn ≡ once_below x result }
+    ensures count { result ≡ length ticket.me.0.drawn }
 {
     let closed = board.close_with(ticket);
     let word = closed.word(0);

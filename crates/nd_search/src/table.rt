@@ -1,6 +1,6 @@
 //! The results of all workers by piece, and the least hit among them.
-ghost use Rattle.std.specs.Prelude.{◌≡◌, ◌≤◌, ◌⊎◌, ℕ, Option, Some, length, All, IfOk, IfErr, MatchResult, slice_get, vec_len};
-ghost use Rattle.nd_search.specs.Works.{IsEven, IsToldBy, AreTold, IsFirst, IsFirstGap};
+ghost use Rattle.std.specs.Prelude.{◌≡◌, ◌≤◌, ◌⊎◌, ℕ, Option, Some, None, length, All, IfOk, IfErr, MatchResult, slice_get, vec_len};
+ghost use Rattle.nd_search.specs.Works.{IsEven, IsToldBy, AreTold, AreIn, IsFirst, IsFirstGap};
 
 use crate::work::Searched;
 use std::alloc::{AllocError, Allocator};
@@ -10,6 +10,8 @@ fn put<A: Allocator>(searched: &Searched<A>, results: &mut [Option<Option<u64>>]
     requires { IsEven searched.now }
     ensures len { length results.new ≡ length results.old }
     ensures told { (j : ℕ) (r : Option ℕ) → slice_get results.new j ≡ Some (Some r) → (slice_get results.old j ≡ Some (Some r)) ⊎ IsToldBy searched.now j r }
+    ensures was_empty { (j : ℕ) → slice_get results.new j ≡ Some None → slice_get results.old j ≡ Some None }
+    ensures all_in { (j : ℕ) (r : Option ℕ) → IsToldBy searched.now j r → slice_get results.new j ≡ Some None → ⊥ }
 {
     for k in 0..searched.found.len() {
         let piece = searched.claimed[k];
@@ -28,6 +30,7 @@ pub(crate) fn results<A: Allocator + Copy>(
     requires { All IsEven works.now }
     ensures len { IfOk result (λ v. vec_len v ≡ pieces) }
     ensures told { IfOk result (λ v. AreTold works.now v.items) }
+    ensures all_in { IfOk result (λ v. AreIn works.now v.items) }
 {
     let mut results = Vec::with_capacity(alloc, pieces as usize)?;
     for _ in 0..pieces {

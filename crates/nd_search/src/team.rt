@@ -6,7 +6,7 @@ ghost use Rattle.nd_search.specs.Pieces.{piece_count};
 ghost use Rattle.nd_search.specs.Claims.{times, times_all};
 ghost use Rattle.nd_search.specs.Answers.{AreClaims};
 ghost use Rattle.nd_search.specs.Hands.{hand};
-ghost use Rattle.nd_search.specs.Works.{IsReady, HasDrawn, IsSearched, IsWork, IsEmpty};
+ghost use Rattle.nd_search.specs.Works.{IsReady, HasDrawn, IsSearched, IsWork, IsEmpty, HaveStopped, all_drawn};
 
 use crate::Gate;
 use crate::board::{Ticket, Word, end_board, gather, open_board, share};
@@ -77,6 +77,7 @@ fn gathered<A: Allocator + Copy>(
     requires small { pieces ≤ max_kept + 1 }
     ensures ticket { IfOk result (λ _. (ticket.new.table_id ≡ word.now.table_id) × (ticket.new.me.0.allowance + length ticket.new.me.0.drawn ≡ vec_len works * (pieces + 1))) }
     ensures claimed { IfOk result (λ v. (x : ℕ) → times_all x (map (λ s. s.claimed.items) v.items) ≡ cond (nat_lt x pieces) (times x ticket.new.me.0.drawn) 0) }
+    ensures drawn { IfOk result (λ _. ticket.new.me.0.drawn ≡ all_drawn works.items) }
     ensures each { IfOk result (λ v. v.items ≡ map (λ w. w.searched) works.items) }
 {
     let mut list = Vec::with_capacity(alloc, works.len())?;
@@ -104,6 +105,7 @@ pub(crate) fn search_all<A: Allocator + Copy + Send + Sync, R: Threads + Sync, G
     requires range { (positions.lo ≤ positions.hi) × (positions.hi ≤ max_kept) }
     ensures found { IfOk result (λ v. All (IsSearched (HoldsAt timeline.now b.now) positions.lo positions.hi) v.items) }
     ensures claims { IfOk result (λ v. AreClaims (piece_count positions.lo positions.hi) workers (map (λ s. s.claimed.items) v.items)) }
+    ensures stopped { IfOk result (λ v. HaveStopped (piece_count positions.lo positions.hi) v.items) }
 {
     let pieces = positions.pieces();
     let workers = workers.min(MAX_WORKERS);

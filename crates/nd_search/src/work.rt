@@ -3,7 +3,7 @@ ghost use Rattle.std.specs.Prelude.{◌≡◌, ◌<◌, ◌≤◌};
 ghost use Rattle.nd_time.specs.Limits.{max_kept};
 ghost use Rattle.nd_search.specs.Least.{HoldsAt};
 ghost use Rattle.nd_search.specs.Pieces.{piece_count};
-ghost use Rattle.nd_search.specs.Works.{IsReady, HasDrawn, IsSearched};
+ghost use Rattle.nd_search.specs.Works.{IsReady, HasDrawn, IsSearched, HasStopped};
 
 use crate::Gate;
 use crate::board::{Ticket, Word, draw};
@@ -53,6 +53,7 @@ impl<A: Allocator + Copy> Job<A> {
         requires pieces { pieces ≡ piece_count positions.lo positions.hi }
         ensures drawn { HasDrawn word.now.table_id pieces result }
         ensures searched { IsSearched (HoldsAt timeline.now b.now) positions.lo positions.hi result.searched }
+        ensures stopped { HasStopped pieces result }
     {
         let Job {
             number,

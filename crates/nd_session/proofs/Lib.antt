@@ -1,3 +1,4 @@
+mod Starting
 mod Logs
 mod Told
 mod Filters

@@ -15,6 +15,7 @@ use Rattle.std.proofs.lemmas.List.{take-append-le}
 use Rattle.std.proofs.lemmas.List.Sums.{sum_by-append, sum_by-cons}
 use Rattle.nd_time.specs.Limits.{max_log}
 use Rattle.nd_protocol.specs.State.{ClusterState}
+use Rattle.nd_protocol.specs.Fitting.{IsState}
 use Rattle.nd_protocol.specs.Invariant.{KeepsProtocol}
 use Rattle.nd_timeline.specs.Timeline.{TimelineValue, IsTimeline, opened}
 use Rattle.nd_timeline.specs.Moves.{MachineValue, Moves, without_breaks}
@@ -107,10 +108,11 @@ module _ {A : Type 0} where
       λ i. record { base = t.base; kept = none i; cursor = front i }
 
   -- a start that keeps nothing
-  pub kept_new : (t : TimelineValue A) → t.kept ≡ [] → IsTimeline t → IsStart t.base → KeepsProtocol t.base → IsKept (without_breaks t) [] []
+  pub kept_new : (t : TimelineValue A) → t.kept ≡ [] → IsTimeline t → IsStart t.base → IsState t.base → KeepsProtocol t.base → IsKept (without_breaks t) [] []
   unfolding Leads
-  kept_new t none is start protocol = record {
+  kept_new t none is start state protocol = record {
     start = start;
+    state = state;
     protocol = protocol;
     legal = record { placed = λ i e at. absurd cc; leads = ap (λ (t : TimelineValue A). without_breaks t) (fresh t none is) };
     few = omega arith;
@@ -126,6 +128,7 @@ module _ {A : Type 0} where
       let number : e.number ≡ count_of e.client log = placed.number ∙ ap (λ l. count_of e.client l) whole in
       let P : ClusterState → Type 0 = λ s. IsLegal (without_breaks (opened A s)) (log ++ e ∷ []) new in record {
         start = subst IsStart (sym base) kept.start;
+        state = subst IsState (sym base) kept.state;
         protocol = subst KeepsProtocol (sym base) kept.protocol;
         legal = subst P (sym base) (legal_grows (opening_of m) m new log e kept.legal placed moves);
         few = omega (arith, length-append log (e ∷ []), room);

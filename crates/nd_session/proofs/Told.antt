@@ -1,10 +1,12 @@
 -- What a client knows of the log behind the lock, once the lock is given up.
-use Rattle.std.proofs.Common.{◌≡◌, ℕ, zero, suc, ◌-◌, ◌<◌, inl, inr, List, [], ◌∷◌, ◌++◌, length, get_or, arith, refl, sym, ap, subst, ◌∙◌}
+use Rattle.std.proofs.Common.{◌≡◌, ℕ, zero, suc, ◌-◌, ◌<◌, ◌≤◌, inl, inr, List, [], ◌∷◌, ◌++◌, length, length-append, get_or, arith, refl, sym, ap, subst, ◌∙◌}
 use Rattle.std.specs.Prelude.{slice_get, Option, Some, None, MatchOption, Result, Ok, Err, IfOk, IfErr, OnOk}
 use Rattle.std.specs.Option.{option_map_or}
 use Rattle.std.proofs.lemmas.Option.{slice_get_within, slice_get-get_or}
 use Rattle.std.proofs.lemmas.Bool.{cases_lt}
 use Rattle.nd_protocol.specs.State.{ClusterState}
+use Rattle.nd_time.specs.Limits.{max_log}
+use Rattle.nd_protocol.specs.Fitting.{IsState}
 use Rattle.nd_protocol.specs.Invariant.{KeepsProtocol}
 use Rattle.nd_timeline.specs.Timeline.{opened}
 use Rattle.nd_timeline.specs.Moves.{MachineValue, without_breaks}
@@ -42,12 +44,14 @@ module _ {A : Type 0} where
   last_below log rs h = match_some (last_of rs) (λ r. Holds log r) (λ r. r.index < length log) (λ r p. slice_get_within log r.index r p) h
 
   -- a history goes on from its base
-  pub history_grows : (log next : List (Receipt A)) (m new : MachineValue A) → IsHistory log m → IsLegal (opening_of m) next new → new.timeline.base ≡ m.timeline.base → IsHistory next new
-  history_grows log next m new h legal base =
+  pub history_grows : (log next : List (Receipt A)) (m new : MachineValue A) → IsHistory log m → IsLegal (opening_of m) next new → new.timeline.base ≡ m.timeline.base → length next ≤ max_log → IsHistory next new
+  history_grows log next m new h legal base few =
       let P : ClusterState → Type 0 = λ s. IsLegal (without_breaks (opened A s)) next new in record {
         start = subst IsStart (sym base) h.start;
+        state = subst IsState (sym base) h.state;
         protocol = subst KeepsProtocol (sym base) h.protocol;
         legal = subst P (sym base) legal;
+        few = few;
       }
 
   -- ---- a client's own receipts
@@ -97,17 +101,17 @@ module _ {A : Type 0} where
   module _ (log : List (Receipt A)) (m : MachineValue A) (history : IsHistory log m) (entered : ℕ) (p : ClientValue A) where
     -- what a command was answered
     pub told : (command : Command A) (next : List (Receipt A)) (new : MachineValue A) (result : Result (Receipt A) (SessionFault A))
-        → OnOk result (IsLegal (opening_of m) next new) → OnOk result (new.timeline.base ≡ m.timeline.base) → OnOk result (IsKnown entered log p)
+        → OnOk result (IsLegal (opening_of m) next new) → OnOk result (new.timeline.base ≡ m.timeline.base) → OnOk result (IsKnown entered log p) → OnOk result (length log < max_log)
         → IfOk result (λ r. next ≡ log ++ r ∷ []) → IfOk result (λ r. IsPlaced log (length log) r) → IfOk result (λ r. r.client ≡ p.number) → IfOk result (λ r. r.command ≡ command)
         → IfOk result (IsTold p command)
-    told command next new (Err e) legal base known logged placed client asked = tt
-    told command next new (Ok r) legal base known logged placed client asked =
+    told command next new (Err e) legal base known room logged placed client asked = tt
+    told command next new (Ok r) legal base known room logged placed client asked =
         let P : List (Receipt A) → Type 0 = λ l. IsLegal (opening_of m) l new in
         let Q : ℕ → Type 0 = λ i. slice_get (log ++ r ∷ []) i ≡ Some r in
         let S : ℕ → Type 0 = λ i. IsAboveLast i p.receipts in record {
           log = log ++ r ∷ [];
           machine = new;
-          history = history_grows log (log ++ r ∷ []) m new history (subst P logged legal) base;
+          history = history_grows log (log ++ r ∷ []) m new history (subst P logged legal) base (omega (arith, length-append log (r ∷ []), room));
           entry = subst Q (sym placed.index) (slice_get-seam log r);
           last = last_stays log (r ∷ []) p.receipts known.last;
           later = subst S (sym placed.index) (last_below log p.receipts known.last);

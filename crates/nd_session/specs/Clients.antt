@@ -2,6 +2,8 @@
 use Rattle.std.specs.Prelude.{◌≡◌, ℕ, ◌-◌, ◌<◌, ◌≤◌, ◌⊎◌, List, length, slice_get, Option, Some, MatchOption, refl}
 use Rattle.std.specs.Option.{option_map_or}
 use Rattle.std.specs.Coded.{Coded, code_by, coded×, coded_ℕ, coded_list}
+use Rattle.nd_time.specs.Limits.{max_log}
+use Rattle.nd_protocol.specs.Fitting.{IsState}
 use Rattle.nd_protocol.specs.Invariant.{KeepsProtocol}
 use Rattle.nd_timeline.specs.Moves.{MachineValue}
 use Rattle.nd_timeline.specs.declared.command.Command.{Command}
@@ -45,11 +47,13 @@ pub record IsOwn {A : Type 0} (number : ℕ) (receipts : List (Receipt A)) : Typ
 
 -- ---- one history
 
--- what holds of a log and a machine under a session's lock: the machine began at a start, and the log led from there to it
+-- what holds of a log and a machine under a session's lock: the machine began at a start, and the log, which is no longer than it may be, led from there to it
 pub record IsHistory {A : Type 0} (log : List (Receipt A)) (machine : MachineValue A) : Type 0 where
   pub start : IsStart machine.timeline.base
+  pub state : IsState machine.timeline.base
   pub protocol : KeepsProtocol machine.timeline.base
   pub legal : IsLegal (opening_of machine) log machine
+  pub few : length log ≤ max_log
 
 -- the answer to a client's command is an entry of a history that has the client's last receipt before it
 pub record IsTold {A : Type 0} (p : ClientValue A) (command : Command A) (r : Receipt A) : Type 0 where

@@ -3,6 +3,7 @@ use Rattle.std.specs.Prelude.{◌≡◌, ℕ, ◌≤◌, List, length, unwrap_or
 use Rattle.std.specs.Ordering.{nat_cmp}
 use Rattle.std.specs.FinMap.{find}
 use Rattle.nd_time.specs.Limits.{max_log}
+use Rattle.nd_protocol.specs.Fitting.{IsState}
 use Rattle.nd_protocol.specs.Invariant.{KeepsProtocol}
 use Rattle.nd_timeline.specs.Moves.{MachineValue}
 use Rattle.nd_session.specs.Log.{IsStart, IsLegal, count_of, opening_of}
@@ -15,6 +16,7 @@ AreCounts counts log = (client : ℕ) → unwrap_or (find nat_cmp client counts)
 -- what holds of every state: its log is legal and leaves its machine, which began at a start
 pub record IsKept {A : Type 0} (machine : MachineValue A) (log : List (Receipt A)) (counts : List (ℕ × ℕ)) : Type 0 where
   pub start : IsStart machine.timeline.base
+  pub state : IsState machine.timeline.base
   pub protocol : KeepsProtocol machine.timeline.base
   pub legal : IsLegal (opening_of machine) log machine
   pub few : length log ≤ max_log

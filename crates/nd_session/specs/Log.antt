@@ -1,6 +1,8 @@
 -- The log of a session: which logs are legal (this project's own rule).
-use Rattle.std.specs.Prelude.{◌≡◌, ℕ, ◌==◌, List, [], ◌∷◌, take, count_by, slice_get, Some}
+use Rattle.std.specs.Prelude.{◌≡◌, ℕ, ◌<◌, ◌≤◌, ◌==◌, List, [], ◌∷◌, take, count_by, slice_get, Some}
+use Rattle.nd_time.specs.Limits.{max_processors}
 use Rattle.nd_graph.specs.Graph.{Dataflow}
+use Rattle.nd_paths.specs.Order.{IsAccepted}
 use Rattle.nd_protocol.specs.State.{ClusterState}
 use Rattle.nd_protocol.specs.Start.{start}
 use Rattle.nd_timeline.specs.Timeline.{opened}
@@ -9,11 +11,14 @@ use Rattle.nd_session.specs.declared.receipt.Receipt.{Receipt}
 
 -- ---- where a log begins
 
--- a cluster is the start of some processors on some graph
+-- a cluster is the start of some processors, and not too many, on a graph on which one can start
 pub record IsStart (s : ClusterState) : Type 0 where
   pub graph : Dataflow
   pub count : ℕ
   pub is : s ≡ start graph count
+  pub accepted : IsAccepted graph
+  pub some : 0 < count
+  pub few : count ≤ max_processors
 
 -- the machine that a machine's log began with: no step is kept, and no breakpoint set
 abbrev pub opening_of : {A : Type 0} → MachineValue A → MachineValue A

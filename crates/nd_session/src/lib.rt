@@ -17,3 +17,5 @@ pub use laws::logs_tell_machines;
 pub use receipt::Receipt;
 pub use session::Session;
 pub use state::State;
+// What a session is asked, and what it replies.
+pub use nd_timeline::{Command, Reply};

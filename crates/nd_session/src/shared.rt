@@ -1,7 +1,7 @@
 //! What lies under a session's lock.
 ghost use Rattle.std.specs.Prelude.{◌≡◌, ◌+◌, ◌<◌, [], ◌∷◌, ◌++◌, length, slice_get, IfOk, IfErr, OnOk, OnErr, MatchBool};
 ghost use Rattle.std.specs.Option.{option_map_or};
-ghost use Rattle.nd_time.specs.Limits.{max_clients};
+ghost use Rattle.nd_time.specs.Limits.{max_clients, max_log};
 ghost use Rattle.nd_timeline.specs.Moves.{Moves};
 ghost use Rattle.nd_search.specs.Snapshot.{snapshot_of};
 ghost use Rattle.nd_session.specs.Clients.{Holds, last_of, HoldsLast, IsHistory, IsKnown, IsUnknown};
@@ -129,6 +129,7 @@ impl<A: Allocator + Copy> Shared<A> {
         ensures moved { IfOk result (λ r. Moves self.old.state.machine command r.reply self.new.state.machine) }
         ensures known { OnOk result (IsKnown self.old.entered self.old.state.log client.old) }
         ensures history { IsHistory self.old.state.log self.old.state.machine }
+        ensures room { OnOk result (length self.old.state.log < max_log) }
         ensures legal { OnOk result (IsLegal (opening_of self.old.state.machine) self.new.state.log self.new.state.machine) }
         ensures base { OnOk result (self.new.state.machine.timeline.base ≡ self.old.state.machine.timeline.base) }
         ensures kept { IfOk result (λ r. client.new ≡ record client.old { receipts = client.old.receipts ++ r ∷ [] }) }

@@ -1,6 +1,7 @@
 //! A debugger machine with the log of the commands that it has answered.
 ghost use Rattle.std.specs.Prelude.{◌≡◌, ◌↔◌, ◌<◌, ◌≤◌, [], ◌∷◌, ◌++◌, length, Err, IfOk, IfErr, OnErr, MatchBool};
 ghost use Rattle.nd_time.specs.Limits.{max_log};
+ghost use Rattle.nd_protocol.specs.Fitting.{IsState};
 ghost use Rattle.nd_protocol.specs.Invariant.{KeepsProtocol};
 ghost use Rattle.nd_search.specs.Snapshot.{snapshot_of};
 ghost use Rattle.nd_timeline.specs.Moves.{Moves, without_breaks};
@@ -11,6 +12,7 @@ ghost use Rattle.nd_session.specs.Faults.{ApplyFails};
 
 use crate::{Receipt, SessionFault};
 use nd_map::TreeMap;
+use nd_protocol::starts_keep_protocol;
 use nd_search::Snapshot;
 use nd_timeline::{Command, Machine, Timeline, moves_keep_timelines};
 use nd_watch::Breaks;
@@ -56,11 +58,15 @@ impl<A: Allocator + Copy> State<A> {
     pub fn new(alloc: A, timeline: Timeline<A>) -> State<A>
         requires fresh { timeline.kept ≡ [] }
         requires start { IsStart timeline.base }
-        requires protocol { KeepsProtocol timeline.base }
         ensures { result ≡ record { machine = without_breaks timeline; log = [] } }
     {
-        // This call's clause says that the cursor stands within what is kept.
+        // The clauses of these three say that the cursor stands within what is kept, that edges join vertices, and that
+        // depths agree along the arcs.
         let _ = timeline.at();
+        let graph = timeline.base().graph();
+        let _ = graph.vertices();
+        let _ = graph.all_arcs();
+        starts_keep_protocol();
         State {
             machine: Machine::new(timeline),
             log: Vec::new(alloc),
@@ -72,6 +78,7 @@ impl<A: Allocator + Copy> State<A> {
     pub fn timeline(&self) -> &Timeline<A>
         ensures value { result.now ≡ self.now.machine.timeline }
         ensures start { IsStart self.now.machine.timeline.base }
+        ensures state { IsState self.now.machine.timeline.base }
         ensures protocol { KeepsProtocol self.now.machine.timeline.base }
     {
         self.machine.timeline()

@@ -7,7 +7,7 @@ use nd_search::Snapshot;
 use nd_session::{Client, Receipt, Session, SessionFault};
 use nd_timeline::{Fault, Reply, Stop};
 use nd_told::{Told, is_state, state_text};
-use refusing::{MANY, Refusing, in_turn, was_refused};
+use refusing::{MANY, Refusing, in_turn, met};
 use std::alloc::{AllocError, Allocator, Global};
 use std::sync::Wait;
 
@@ -329,12 +329,7 @@ fn applied_in_turn<A: Allocator + Copy>(
     alloc: A,
     row: &Row,
 ) -> Option<u64> {
-    for n in 0..MANY {
-        if !applied(heap, json, alloc, row, n)? {
-            return Some(n);
-        }
-    }
-    None
+    in_turn(|n| applied(heap, json, alloc, row, n))
 }
 
 #[test]
@@ -348,12 +343,17 @@ fn apply_out_of_memory(rt: HostRuntime) {
     assert_eq!(rt; heap.live(), 0);
 }
 
-fn receipt_copies<A: Allocator + Copy>(heap: &Heap, json: Global, alloc: A) -> Option<u64> {
+/// Whether a copy of a receipt met the request that was refused.
+fn meets_copy<A: Allocator + Copy>(heap: &Heap, json: Global, alloc: A, n: u64) -> Option<bool> {
     let mut state = opened(json, alloc, LINE, 1)?;
     let command = command_of(alloc, &graph_of(json, alloc, LINE)?, &FEED)?;
     let receipt = state.apply(alloc, 0, command).ok()?;
-    in_turn!(heap: {} receipt.copy(alloc); AllocError, true);
-    None
+    met!(heap, n: receipt.copy(alloc); AllocError, true)
+}
+
+/// How many requests were refused before it met none.
+fn receipt_copies<A: Allocator + Copy>(heap: &Heap, json: Global, alloc: A) -> Option<u64> {
+    in_turn(|n| meets_copy(heap, json, alloc, n))
 }
 
 #[test]

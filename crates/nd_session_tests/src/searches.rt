@@ -7,7 +7,7 @@ use nd_sign::Sign;
 use nd_timeline::Timeline;
 use nd_told::{Told, start, step_of};
 use nd_watch::Break;
-use refusing::{MANY, Refusing, in_turn, was_refused};
+use refusing::{MANY, Refusing, in_turn, met};
 use std::alloc::{AllocError, Allocator, Global};
 use std::rt::Clock;
 use std::sync::atomic::{AtomicBool, AtomicU64, Ordering};
@@ -101,12 +101,37 @@ fn searches(rt: HostRuntime) -> Result<(), Fail> {
     Ok(())
 }
 
-/// Holds whoever has piece 0 until another comes with piece 1.
+/// Who came to each of two pieces, counted from 1; 0 where nobody did.
 #[derive(Drop)]
-struct Held<'a, R: Clock>(Sign<'a, R>);
+struct Recorded([AtomicU64; 2]);
+
+impl Recorded {
+    fn new() -> Recorded {
+        Recorded([AtomicU64::new(0), AtomicU64::new(0)])
+    }
+
+    /// Whether this worker came to this piece.
+    fn has(&self, who: u64, piece: u64) -> bool {
+        let one = self.0.get(piece as usize);
+        one.is_some_and(|by| by.load(Ordering::SeqCst) == who.wrapping_add(1))
+    }
+}
+
+impl Gate for Recorded {
+    fn call(&self, who: u64, piece: u64) {
+        if let Some(by) = self.0.get(piece as usize) {
+            by.store(who.wrapping_add(1), Ordering::SeqCst);
+        }
+    }
+}
+
+/// Holds whoever has piece 0 until another comes with piece 1, and records who has which.
+#[derive(Drop)]
+struct Held<'a, R: Clock>(Sign<'a, R>, Recorded);
 
 impl<R: Clock + Sync> Gate for Held<'_, R> {
-    fn call(&self, _who: u64, piece: u64) {
+    fn call(&self, who: u64, piece: u64) {
+        self.1.call(who, piece);
         if piece == 1 {
             self.0.give();
         } else {
@@ -120,10 +145,12 @@ fn at_the_same_time(rt: HostRuntime) -> Result<(), Fail> {
     let alloc = rt.alloc();
     let snapshot = fed(alloc, alloc, 31, None, 0).ok_or("no snapshot")?;
     let b = count(&snapshot, "az", 0).ok_or("no breakpoint")?;
-    let gate = Held(Sign::new(&rt));
+    let gate = Held(Sign::new(&rt), Recorded::new());
     let answer = search(&rt, alloc, &snapshot, &b, 0, 31, 2, &gate);
     assert!(rt; matches!(answer, Ok(None)));
     assert!(rt; gate.0.came());
+    let is_in_order = gate.1.has(0, 0) && gate.1.has(1, 1);
+    assert!(rt; is_in_order || gate.1.has(1, 0) && gate.1.has(0, 1));
     Ok(())
 }
 
@@ -205,6 +232,25 @@ fn are_below<A: Allocator>(alloc: Global, lists: &[Vec<u64, A>]) -> Option<bool>
     Some(true)
 }
 
+/// Whether the gate was called for each claimed piece, by the worker that claimed it: for the one in which it was refused
+/// memory too, so before the search of it.
+fn were_called<A: Allocator>(gate: &Recorded, lists: &[Vec<u64, A>]) -> bool {
+    for (who, list) in lists.iter().enumerate() {
+        for piece in list {
+            if !gate.has(who as u64, *piece) {
+                return false;
+            }
+        }
+    }
+    true
+}
+
+/// Whether a list ends with the piece, and no hit lies before it.
+fn is_stopped_in<A: Allocator>(piece: u64, lists: &[Vec<u64, A>], hit: Option<u64>) -> bool {
+    let is_last = lists.iter().any(|list| list.last() == Some(&piece));
+    is_last && hit.is_none_or(|position| position >= 16 * piece)
+}
+
 /// A search by two workers with one request refused: whether it met it, and whether a worker did.
 ///
 /// `None` for an answer that is not the one with ample memory and not want of it, and where a block
@@ -220,13 +266,18 @@ fn searched<A: Allocator + Copy + Send + Sync, R: Threads + Sync>(
     let (snapshot, b, wanted) = asked;
     let live = heap.live();
     heap.refuse(n);
-    let answer = search(rt, alloc, snapshot, b, 0, 31, 2, &OpenGate);
+    let gate = Recorded::new();
+    let answer = search(rt, alloc, snapshot, b, 0, 31, 2, &gate);
     let met = heap.relent(n);
     let (is_right, is_missing) = match answer {
         Ok(found) => (found == wanted, false),
         Err(SearchFault::Memory) => (met, false),
-        Err(SearchFault::Missing { piece: _, claimed }) => {
-            (met && are_below(json, claimed.as_slice())?, true)
+        Err(SearchFault::Missing { piece, claimed }) => {
+            let is_stopped = is_stopped_in(piece, claimed.as_slice(), wanted);
+            (
+                met && is_stopped && are_below(json, claimed.as_slice())?,
+                true,
+            )
         }
         Err(_) => (false, false),
     };
@@ -292,34 +343,40 @@ fn search_out_of_memory(rt: HostRuntime) {
     assert_eq!(rt; heap.live(), 0);
 }
 
-fn snapshots<A: Allocator + Copy>(heap: &Heap, alloc: A, timeline: &Timeline<A>) -> Option<u64> {
-    in_turn!(heap: {} Snapshot::of(alloc, timeline, 7); AllocError, true);
-    None
-}
-
-fn copies<A: Allocator + Copy>(heap: &Heap, alloc: A, snapshot: &Snapshot<A>) -> Option<u64> {
-    in_turn!(heap: {} snapshot.copy(alloc); AllocError, true);
-    None
-}
-
-/// Whether making and copying a snapshot each meet a request that is refused, and the copy is one of it.
-fn snapshots_in_turn<A: Allocator + Copy>(heap: &Heap, json: Global, alloc: A) -> Option<bool> {
+/// Whether making a snapshot, or a copy of one, met the request that was refused.
+fn meets<A: Allocator + Copy>(
+    heap: &Heap,
+    json: Global,
+    alloc: A,
+    is_copy: bool,
+    n: u64,
+) -> Option<bool> {
     let mut timeline = Timeline::new(alloc, start(json, alloc, LINE, 1)?).ok()?;
     forward(alloc, &mut timeline, &NOTHING, 2)?;
-    timeline.back().ok()?;
-    let snapshot = Snapshot::of(alloc, &timeline, 7).ok()?;
-    let copy = snapshot.copy(alloc).ok()?;
-    timeline.jump(0).ok()?;
-    Some(
-        snapshots(heap, alloc, &timeline)? > 0
-            && copies(heap, alloc, &snapshot)? > 0
-            && (copy.index(), copy.at(), copy.kept()) == (7, 1, 2),
-    )
+    if is_copy {
+        let snapshot = Snapshot::of(alloc, &timeline, 7).ok()?;
+        met!(heap, n: snapshot.copy(alloc); AllocError, true)
+    } else {
+        met!(heap, n: Snapshot::of(alloc, &timeline, 7); AllocError, true)
+    }
+}
+
+/// How many requests were refused before it met none.
+fn snapshots<A: Allocator + Copy>(
+    heap: &Heap,
+    json: Global,
+    alloc: A,
+    is_copy: bool,
+) -> Option<u64> {
+    in_turn(|n| meets(heap, json, alloc, is_copy, n))
 }
 
 #[test]
 fn snapshots_out_of_memory(rt: HostRuntime) {
     let heap = Refusing::new(rt.alloc());
-    assert_eq!(rt; snapshots_in_turn(&heap, rt.alloc(), &heap), Some(true));
+    for is_copy in [false, true] {
+        let count = snapshots(&heap, rt.alloc(), &heap, is_copy);
+        assert!(rt; matches!(count, Some(n) if n > 0));
+    }
     assert_eq!(rt; heap.live(), 0);
 }

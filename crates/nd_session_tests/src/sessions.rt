@@ -9,7 +9,7 @@ use nd_drawn::{
 use nd_mesh::Mesh;
 use nd_processor::Processor;
 use nd_search::{Gate, search};
-use nd_session::{Client, Log, Receipt, Session, SessionFault};
+use nd_session::{Client, CloseWhy, Log, Receipt, Session, SessionFault};
 use nd_sign::Sign;
 use nd_timeline::{Command, Fault, Reply};
 use nd_told::{start, state_text};
@@ -234,6 +234,10 @@ fn strangers(rt: HostRuntime) -> Result<(), Fail> {
     assert!(rt; is_stranger(session.copy(&rt, alloc, &unknown), 0, Some(&entry)));
     assert_eq!(rt; stranger.receipts().len(), 1);
     assert!(rt; session.copy(&rt, alloc, &own).is_ok());
+    let mut clients = Vec::new(alloc);
+    clients.push(stranger)?;
+    let why = other.close(clients).err().ok_or("it closed")?.why;
+    assert_eq!(rt; why, CloseWhy::ClientMissing { client: 1 });
     Ok(())
 }
 

@@ -2,41 +2,14 @@
 
 ghost use Rattle.nd_view.specs.Kept.{IsFor};
 
-use crate::views::view;
 use nd_delta::Delta;
-use nd_drawn::{LINE, LOOP, are_entries, change, paths_of, point};
+use nd_drawn::{LOOP, paths_of};
 use nd_graph::Graph;
 use nd_paths::{Paths, Pointstamp};
 use nd_time::Timestamp;
 use nd_view::View;
-use std::alloc::{Allocator, Global};
+use std::alloc::Global;
 use std::test::Fail;
-
-#[test]
-fn counts_follow(rt: HostRuntime) -> Result<(), Fail> {
-    let paths = paths_of(rt.alloc(), rt.alloc(), LINE).ok_or("no paths")?;
-    let a = point(paths.graph(), "a", &[0]).ok_or("no point")?;
-    let az = point(paths.graph(), "az", &[0]).ok_or("no point")?;
-    let both = change(rt.alloc(), paths.graph(), &[("a", 0, 1), ("az", 0, 1)]).ok_or("no change")?;
-    let less = change(rt.alloc(), paths.graph(), &[("a", 0, -2)]).ok_or("no change")?;
-    let mut view = view(rt.alloc(), &paths, &[]).ok_or("no view")?;
-    view.apply(&paths, &both)?;
-    let frontier = view.frontier(rt.alloc(), &paths)?;
-    assert!(rt; are_entries(paths.graph(), frontier.entries(), &[("a", 0, 1)]));
-    assert_eq!(rt; view.precursors(&paths, &az), 1);
-    view.apply(&paths, &less)?;
-    assert!(rt; are_entries(paths.graph(), view.entries(), &[("a", 0, -1), ("az", 0, 1)]));
-    let frontier = view.frontier(rt.alloc(), &paths)?;
-    assert!(rt; are_entries(paths.graph(), frontier.entries(), &[("az", 0, 1)]));
-    assert_eq!(rt; view.precursors(&paths, &az), 0);
-    assert_eq!(rt; view.kept(&az), Some(0));
-    assert_eq!(rt; view.kept(&a), None);
-    view.unapply(&paths, &less)?;
-    let frontier = view.frontier(rt.alloc(), &paths)?;
-    assert!(rt; are_entries(paths.graph(), frontier.entries(), &[("a", 0, 1)]));
-    assert_eq!(rt; view.kept(&az), Some(1));
-    Ok(())
-}
 
 /// The points of a location at an epoch whose counters are all the same.
 fn add_points(

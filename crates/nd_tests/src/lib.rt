@@ -1,35 +1,23 @@
-//! Tests that cross the crates from timestamps to processors: worked examples by their names, the order
-//! of pointstamps against walks, each request for memory refused in
-//! turn, calls that take none, and copies that take their own.
+//! Tests that cross the crates from timestamps to processors: worked examples by their names, a view's counts
+//! against counts over all points, each request for memory refused in turn, calls that take none, and calls
+//! with ample memory, on nothing and on hundreds.
 #![tactic(auto)]
 
 #[cfg(test)]
-mod changes;
+mod ample;
 #[cfg(test)]
-mod copies;
-#[cfg(test)]
-mod ends;
-#[cfg(test)]
-mod graphs;
+mod holdings;
 #[cfg(test)]
 mod kept;
 #[cfg(test)]
 mod kinds;
 #[cfg(test)]
-mod orders;
-#[cfg(test)]
-mod processors;
-#[cfg(test)]
 mod queues;
 #[cfg(test)]
-mod refusals;
-#[cfg(test)]
-mod times;
+mod refused;
 #[cfg(test)]
 mod unasked;
 #[cfg(test)]
-mod vertices;
-#[cfg(test)]
 mod views;
 #[cfg(test)]
-mod walks;
+mod worked;

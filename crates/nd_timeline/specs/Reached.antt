@@ -7,8 +7,9 @@ use Rattle.nd_protocol.specs.State.{ClusterState, cluster_code}
 use Rattle.nd_protocol.specs.Steps.{after, stepped}
 use Rattle.nd_protocol.specs.Codes.{step_code}
 use Rattle.nd_protocol.specs.declared.step.Step.{Step}
-use Rattle.nd_cluster.specs.Records.{AreEqual, IsPlanned}
-use Rattle.nd_cluster.specs.declared.record.Record.{Record}
+use Rattle.nd_record.specs.Records.{AreEqual}
+use Rattle.nd_cluster.specs.Records.{IsPlanned}
+use Rattle.nd_record.specs.declared.record.Record.{Record}
 use Rattle.nd_watch.specs.Breaks.{break_code}
 use Rattle.nd_timeline.specs.Timeline.{TimelineValue}
 use Rattle.nd_timeline.specs.Moves.{MachineValue}

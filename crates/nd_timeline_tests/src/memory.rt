@@ -2,10 +2,10 @@
 
 use nd_cluster::{Cluster, Next};
 use nd_drawn::LINE;
-use nd_timeline::{Fault, Ran, Stop, Timeline};
+use nd_timeline::{Fault, Timeline};
 use nd_told::{SUM_NOTIFIED, Script, Told, is_state, reach, start, state_text, step_of};
 use nd_watch::Breaks;
-use refusing::{MANY, Refusing, in_turn, was_refused};
+use refusing::{Refusing, in_turn, met};
 use std::alloc::{AllocError, Allocator, Global};
 
 /// The allocator of these tests.
@@ -69,33 +69,32 @@ pub fn is_after<A: Allocator + Copy>(
     Some(is_state(json, cluster, wanted.as_str()))
 }
 
-/// A jump with one request refused: the cursor that it reached, and whether it met that request.
-fn jumped<A: Allocator + Copy>(
+/// Whether a jump from one end of a script to the other met the request that was refused: then it stands where it says.
+fn meets_jump<A: Allocator + Copy>(
     heap: &Heap,
-    timeline: &mut Timeline<A>,
-    to: u64,
+    json: Global,
+    alloc: A,
+    script: &Script,
+    is_back: bool,
     n: u64,
-) -> Option<(u64, bool)> {
-    heap.refuse(n);
-    let answer = timeline.jump(to);
-    let met = heap.relent(n);
-    let at = timeline.at();
-    match answer {
-        Ok(()) => {
-            if met || at != to {
-                return None;
-            }
-        }
-        Err(fault) => {
-            if !met || fault != (Fault::Memory { at }) {
-                return None;
-            }
-        }
+) -> Option<bool> {
+    let mut timeline = kept(json, alloc, script)?;
+    let kept = timeline.kept();
+    let to = if is_back { 0 } else { kept };
+    if !is_back {
+        timeline.jump(0).ok()?;
     }
-    Some((at, met))
+    let met = met!(heap, n: timeline.jump(to); Fault::Memory { at: timeline.at() }, true)?;
+    let at = timeline.at();
+    let is_there = timeline.kept() == kept && (met || at == to);
+    if is_there && is_after(json, timeline.cluster(), script, at)? {
+        Some(met)
+    } else {
+        None
+    }
 }
 
-/// Jumps from one end of a script to the other, each request refused in turn: how many were.
+/// How many requests of such a jump were refused before it met none.
 fn jumps<A: Allocator + Copy>(
     heap: &Heap,
     json: Global,
@@ -103,25 +102,7 @@ fn jumps<A: Allocator + Copy>(
     script: &Script,
     is_back: bool,
 ) -> Option<u64> {
-    for n in 0..MANY {
-        let mut timeline = kept(json, alloc, script)?;
-        let kept = timeline.kept();
-        if !is_back {
-            timeline.jump(0).ok()?;
-        }
-        let to = if is_back { 0 } else { kept };
-        let (at, met) = jumped(heap, &mut timeline, to, n)?;
-        if !is_after(json, timeline.cluster(), script, at)? {
-            return None;
-        }
-        if timeline.kept() != kept {
-            return None;
-        }
-        if !met {
-            return Some(n);
-        }
-    }
-    None
+    in_turn(|n| meets_jump(heap, json, alloc, script, is_back, n))
 }
 
 #[test]
@@ -136,105 +117,81 @@ fn jump_out_of_memory(rt: HostRuntime) {
     assert_eq!(rt; heap.live(), 0);
 }
 
-/// Whether a run of ten with one request refused met it: then the steps made so far are kept.
-fn run_meets<A: Allocator + Copy>(heap: &Heap, json: Global, alloc: A, n: u64) -> Option<bool> {
-    let mut timeline = kept(json, alloc, &ONE)?;
-    heap.refuse(n);
-    let answer = timeline.run(10, &Breaks::new());
-    let met = heap.relent(n);
-    let at = timeline.at();
-    let is_right = match answer {
-        Ok(ran) => !met
-            && at == 4
-            && ran
-                == (Ran {
-                    ran: 3,
-                    stop: Stop::Idle,
-                }),
-        Err(fault) => met && fault == (Fault::Memory { at }),
-    };
-    if !is_right || timeline.kept() != at || !is_after(json, timeline.cluster(), &ALL, at)? {
-        return None;
-    }
-    Some(met)
+/// A move, or a call that makes a timeline.
+#[derive(Debug, Clone, Copy, Drop)]
+enum Move {
+    New,
+    Copy,
+    Forward,
+    Back,
+    Redo,
+    Run,
 }
 
-/// A run with each request refused in turn: how many were.
-fn runs<A: Allocator + Copy>(heap: &Heap, json: Global, alloc: A) -> Option<u64> {
-    for n in 0..MANY {
-        if !run_meets(heap, json, alloc, n)? {
-            return Some(n);
+/// Each of them, and whether it asks for memory for sure.
+static MOVES: [(Move, bool); 6] = [
+    (Move::New, true),
+    (Move::Copy, true),
+    (Move::Forward, true),
+    (Move::Back, false),
+    (Move::Redo, false),
+    (Move::Run, true),
+];
+
+/// Whether a move met the request that was refused: then the timeline is where it was, or a run where it came to.
+fn meets<A: Allocator + Copy>(
+    heap: &Heap,
+    json: Global,
+    alloc: A,
+    call: Move,
+    n: u64,
+) -> Option<bool> {
+    let base = kept(json, alloc, &ALL)?;
+    let mut timeline = kept(json, alloc, &ONE)?.copy(alloc).ok()?;
+    let mut whole = base.copy(alloc).ok()?;
+    match call {
+        Move::New => {
+            let cluster = base.cluster().copy(alloc).ok()?;
+            met!(heap, n: Timeline::new(alloc, cluster); AllocError, true)
+        }
+        Move::Copy => met!(heap, n: base.copy(alloc); AllocError, true),
+        Move::Forward => {
+            let step = step_of(alloc, base.cluster().graph(), &Told::Take(0, "az", &[0], 5))?;
+            met!(heap, n: timeline.forward(&step); Fault::Memory { at: 1 },
+                is_after(json, timeline.cluster(), &ALL, 1)?)
+        }
+        Move::Back => met!(heap, n: whole.back(); Fault::Memory { at: 4 },
+            is_after(json, whole.cluster(), &ALL, 4)?),
+        Move::Redo => {
+            whole.jump(1).ok()?;
+            met!(heap, n: whole.redo(); Fault::Memory { at: 1 },
+                is_after(json, whole.cluster(), &ALL, 1)?)
+        }
+        Move::Run => {
+            let met = met!(heap, n: timeline.run(10, &Breaks::new());
+                Fault::Memory { at: timeline.at() }, true)?;
+            let (at, kept) = (timeline.at(), timeline.kept());
+            let is_there = is_after(json, timeline.cluster(), &ALL, at)?;
+            if is_there && kept == at && (met || at == 4) {
+                Some(met)
+            } else {
+                None
+            }
         }
     }
-    None
 }
 
-#[test]
-fn run_out_of_memory(rt: HostRuntime) -> Result<(), &'static str> {
-    let heap = Refusing::new(rt.alloc());
-    let count = runs(&heap, rt.alloc(), &heap).ok_or("a wrong answer")?;
-    assert!(rt; count > 0);
-    assert_eq!(rt; heap.live(), 0);
-    Ok(())
-}
-
-/// The timeline is where it was.
-fn stays<A: Allocator + Copy>(json: Global, timeline: &Timeline<A>, at: u64, text: &str) -> bool {
-    timeline.at() == at && is_state(json, timeline.cluster(), text)
-}
-
-fn news<A: Allocator + Copy>(heap: &Heap, alloc: A, base: &Cluster<A>) -> Option<u64> {
-    in_turn!(heap: { let cluster = base.copy(alloc).ok()?; }
-        Timeline::new(alloc, cluster); AllocError, true);
-    None
-}
-
-fn copies<A: Allocator + Copy>(heap: &Heap, alloc: A, timeline: &Timeline<A>) -> Option<u64> {
-    in_turn!(heap: {} timeline.copy(alloc); AllocError, true);
-    None
-}
-
-fn forwards<A: Allocator + Copy>(heap: &Heap, json: Global, alloc: A) -> Option<u64> {
-    let base = kept(json, alloc, &ONE)?;
-    let step = step_of(alloc, base.cluster().graph(), &Told::Take(0, "az", &[0], 5))?;
-    let text = state_text(json, base.cluster())?;
-    in_turn!(heap: { let mut timeline = base.copy(alloc).ok()?; }
-        timeline.forward(&step); Fault::Memory { at: 1 }, stays(json, &timeline, 1, text.as_str()));
-    None
-}
-
-fn backs<A: Allocator + Copy>(heap: &Heap, json: Global, alloc: A) -> Option<u64> {
-    let base = kept(json, alloc, &ALL)?;
-    let text = state_text(json, base.cluster())?;
-    in_turn!(heap: { let mut timeline = base.copy(alloc).ok()?; }
-        timeline.back(); Fault::Memory { at: 4 }, stays(json, &timeline, 4, text.as_str()));
-    None
-}
-
-fn redoes<A: Allocator + Copy>(heap: &Heap, json: Global, alloc: A) -> Option<u64> {
-    let mut base = kept(json, alloc, &ALL)?;
-    base.jump(1).ok()?;
-    let text = state_text(json, base.cluster())?;
-    in_turn!(heap: { let mut timeline = base.copy(alloc).ok()?; }
-        timeline.redo(); Fault::Memory { at: 1 }, stays(json, &timeline, 1, text.as_str()));
-    None
-}
-
-/// Whether each move that wants memory meets each request that is refused.
-fn moves_in_turn<A: Allocator + Copy>(heap: &Heap, json: Global, alloc: A) -> Option<bool> {
-    let base = kept(json, alloc, &ALL)?;
-    Some(
-        news(heap, alloc, base.cluster())? > 0
-            && copies(heap, alloc, &base)? > 0
-            && forwards(heap, json, alloc)? > 0
-            && backs(heap, json, alloc).is_some()
-            && redoes(heap, json, alloc).is_some(),
-    )
+/// How many requests of a move were refused before it met none.
+fn refused<A: Allocator + Copy>(heap: &Heap, json: Global, alloc: A, call: Move) -> Option<u64> {
+    in_turn(|n| meets(heap, json, alloc, call, n))
 }
 
 #[test]
 fn moves_out_of_memory(rt: HostRuntime) {
     let heap = Refusing::new(rt.alloc());
-    assert_eq!(rt; moves_in_turn(&heap, rt.alloc(), &heap), Some(true));
-    assert_eq!(rt; heap.live(), 0);
+    for (call, asks) in MOVES {
+        let count = refused(&heap, rt.alloc(), &heap, call);
+        assert!(rt; matches!(count, Some(n) if n > 0 || !asks), "of {call:?}");
+        assert_eq!(rt; heap.live(), 0, "of {call:?}");
+    }
 }

@@ -110,22 +110,31 @@ pub fn was_refused<E: PartialEq + Drop>(
     if is_right { Some(refused) } else { None }
 }
 
-/// Makes a call on values that are made ready before each time, refusing one request after the other.
+/// Makes a call while the request of a number is refused, and says whether it met that one.
 ///
-/// It returns how many were refused before the call met none, in a function that answers an option.
+/// `None` where it answered, or left its values, otherwise than it should.
 #[macro_export]
-macro_rules! in_turn {
-    ($heap:ident: { $($ready:tt)* } $call:expr; $want:expr, $is_as_before:expr) => {
-        for n in 0..$crate::MANY {
-            $($ready)*
-            $heap.refuse(n);
-            let fault = $call.err();
-            let refused = $heap.relent(n);
-            if !$crate::was_refused(refused, fault, $want, $is_as_before)? {
-                return Some(n);
-            }
+macro_rules! met {
+    ($heap:ident, $n:ident: $call:expr; $want:expr, $is_as_before:expr) => {{
+        $heap.refuse($n);
+        let fault = $call.err();
+        let refused = $heap.relent($n);
+        $crate::was_refused(refused, fault, $want, $is_as_before)
+    }};
+}
+
+/// Refuses one request of a call after the other: how many were refused before the call met none.
+///
+/// `meets` makes the call on fresh values with the request of a number refused, and says whether it met that one.
+pub fn in_turn<F: Fn(u64) -> Option<bool>>(meets: F) -> Option<u64>
+    requires { F.IsAlwaysCallable meets }
+{
+    for n in 0..MANY {
+        if !meets(n)? {
+            return Some(n);
         }
-    };
+    }
+    None
 }
 
 /// What is answered while each request for memory is refused.

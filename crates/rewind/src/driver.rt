@@ -5,9 +5,8 @@ ghost use Rattle.rewind_faults.specs.Faults.{is_read_fault, is_write_fault};
 ghost use Rattle.rewind.specs.Script.{Ends, Takes};
 
 use crate::run::Run;
-use rewind_faults::DebugFault;
+use rewind_faults::{DebugFault, Options};
 use rewind_lines::{Sink, Source};
-use rewind_options::Options;
 use std::alloc::Global;
 use std::thread::Threads;
 

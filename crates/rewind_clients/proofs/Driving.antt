@@ -1,12 +1,14 @@
 -- What clients made of their commands, against the log of their session.
-use Rattle.std.proofs.Common.{◌≡◌, ◌∙◌, ◌==◌, ◌⊎◌, inl, inr, ℕ, zero, suc, ◌<◌, ◌≤◌, get_or, List, [], ◌∷◌, ◌++◌, length, map, Option, Some, None, Global, Vec, refl, sym, ap, subst, arith, length-append}
+use Rattle.std.proofs.Common.{◌≡◌, ◌∙◌, ◌==◌, ◌⊎◌, inl, inr, ℕ, zero, suc, ◌<◌, ◌≤◌, get_or, List, [], ◌∷◌, ◌++◌, All, length, map, Option, Some, None, Global, Vec, refl, sym, ap, subst, arith, length-append}
 use Rattle.std.specs.Prelude.{filter, option_map, slice_get, slice_index_or, slice_set}
 use Rattle.std.proofs.lemmas.Option.{slice_get-map, slice_get_within, slice_get_cases}
 use Rattle.std.proofs.lemmas.List.{length-map, map-append}
+use Rattle.std.proofs.lemmas.List.Elements.{All-append}
 use Rattle.serde_json.specs.Data.{Data}
 use Rattle.nd_timeline.specs.declared.command.Command.{Command}
 use Rattle.nd_timeline.specs.Moves.{MachineValue}
 use Rattle.nd_session.specs.Clients.{ClientValue, IsHistory}
+use Rattle.nd_protocol.specs.Fitting.{IsState}
 use Rattle.nd_protocol.specs.Invariant.{KeepsProtocol}
 use Rattle.nd_session.specs.Close.{IsWhole}
 use Rattle.nd_session.specs.Log.{IsStart, Leads, opening_of}
@@ -15,7 +17,7 @@ use Rattle.nd_session.specs.declared.fault.SessionFault.TheVariants.{Memory}
 use Rattle.rewind_clients.specs.Intake.{Commands}
 use Rattle.rewind_clients.specs.Intakes.{lists_of}
 use Rattle.rewind_clients.specs.Served.{AreDone, AreFresh, IsFresh, asked}
-use Rattle.rewind_clients.specs.Told.{Ended, IsServed, Told, Tells, commands_of}
+use Rattle.rewind_clients.specs.Told.{Ended, MayEnd, IsServed, Told, Tells, commands_of}
 use Rattle.rewind_clients.specs.declared.drive.Done.{Done}
 use Rattle.rewind_clients.specs.declared.drive.Task.{Task}
 
@@ -45,6 +47,23 @@ none-served : (list : List (Command Global)) → IsServed list [] (none-of list)
 none-served [] = refl
 none-served (x ∷ xs) = (0, omega arith, refl)
 
+may-none : (list : List (Command Global)) → MayEnd (none-of list)
+may-none [] = tt
+may-none (x ∷ xs) = tt
+
+all-none : (commands : Commands) → All MayEnd (map none-of commands)
+all-none [] k d lt = absurd (omega (arith, lt))
+all-none (list ∷ commands) zero d lt = may-none list
+all-none (list ∷ commands) (suc k) d lt = all-none commands k d (omega (arith, lt))
+
+-- one more client ended as it may
+pub ended-more : (fs gs : List Ended) (f : Ended) → gs ≡ fs ++ f ∷ [] → All MayEnd fs → MayEnd f → All MayEnd gs
+ended-more fs gs f is all here = subst (All MayEnd) (sym is) (All-append MayEnd fs (f ∷ []) all one)
+  where
+    one : All MayEnd (f ∷ [])
+    one zero d lt = here
+    one (suc k) d lt = absurd (omega (arith, lt))
+
 -- there are lines that may be told of commands
 pub some-lines : (commands : Commands) (machine : MachineValue Global) → IsHistory [] machine → (lines : List Data) × Tells commands lines
 some-lines commands machine history = (
@@ -56,6 +75,7 @@ some-lines commands machine history = (
     told = record {
       history = history;
       clients = length-map commands none-of;
+      ended = all-none commands;
       known = λ i e at. absurd (cc at);
       served = λ c list ended at gone.
           let m = found-map none-of commands c ended gone in
@@ -67,9 +87,9 @@ some-lines commands machine history = (
 )
 
 -- a machine's opening, of which nothing was asked
-pub opened-history : (m : MachineValue Global) → IsStart m.timeline.base → KeepsProtocol m.timeline.base → IsHistory [] (opening_of m)
+pub opened-history : (m : MachineValue Global) → IsStart m.timeline.base → IsState m.timeline.base → KeepsProtocol m.timeline.base → IsHistory [] (opening_of m)
 unfolding Leads
-opened-history m start protocol = record { start = start; protocol = protocol; legal = record { placed = λ i e at. absurd (cc at); leads = refl } }
+opened-history m start state protocol = record { start = start; state = state; protocol = protocol; legal = record { placed = λ i e at. absurd (cc at); leads = refl }; few = omega arith }
 
 -- ---- what the clients made
 
@@ -103,9 +123,10 @@ own-entries log k p h e = ap asked h ∙ ap (λ (n : ℕ). commands_of n log) e
 
 pub driven : (commands : Commands) (ts : List Task) (ds : List Done) (clients : List (ClientValue Global)) (faults : List Ended) (log : List (Receipt Global)) (machine : MachineValue Global) (entered : ℕ)
     → AreFresh commands ts → AreDone ts ds → length ds ≡ length ts → clients ≡ map (λ d. d.client) ds → faults ≡ map (λ d. d.fault) ds
-    → IsWhole log clients entered → IsHistory log machine → Told commands log machine faults
-driven commands ts ds clients faults log machine entered fresh done size are faults_are whole history = record {
+    → All MayEnd faults → IsWhole log clients entered → IsHistory log machine → Told commands log machine faults
+driven commands ts ds clients faults log machine entered fresh done size are faults_are ended whole history = record {
   history = history;
+  ended = ended;
   clients =
       let a : length faults ≡ length ds = ap length faults_are ∙ length-map ds (λ (d : Done). d.fault) in
       let b : length ts ≡ length commands = fresh.count in

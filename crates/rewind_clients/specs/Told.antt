@@ -1,5 +1,5 @@
 -- What clients' commands are answered, and what of it is written.
-use Rattle.std.specs.Prelude.{◌≡◌, ◌==◌, ℕ, ◌+◌, ◌<◌, List, [], ◌∷◌, ◌++◌, length, take, map, filter, slice_get, codes, Option, Some, None}
+use Rattle.std.specs.Prelude.{◌≡◌, ◌==◌, ℕ, ◌+◌, ◌<◌, List, [], ◌∷◌, ◌++◌, length, take, map, filter, slice_get, codes, All, Option, Some, None}
 use Rattle.std.specs.declared.alloc.Global.{Global}
 use Rattle.serde_json.specs.Data.{Data, number, string, object, unsigned, no_members, member}
 use Rattle.nd_graph.specs.Graph.{Dataflow}
@@ -11,6 +11,7 @@ use Rattle.nd_session.specs.Faults.{number_of, name_of}
 use Rattle.nd_session.specs.declared.close.Log.{Log}
 use Rattle.nd_session.specs.declared.receipt.Receipt.{Receipt}
 use Rattle.nd_session.specs.declared.fault.SessionFault.{SessionFault}
+use Rattle.nd_session.specs.declared.fault.SessionFault.TheVariants.{NotThisSession, LogFull, TooManyClients, Memory}
 use Rattle.rewind_forms.specs.Replies.{reply_data}
 use Rattle.rewind_clients.specs.Intake.{Commands}
 
@@ -32,6 +33,14 @@ client_fault client code name = object (member (codes "client") (number (unsigne
 abbrev pub Ended : Type 0
 Ended = Option (SessionFault Global)
 
+-- a client of a run made all its commands, or met a full log or a refused growth
+abbrev pub MayEnd : Ended → Type 0
+MayEnd None = Unit {0}
+MayEnd (Some LogFull) = Unit {0}
+MayEnd (Some Memory) = Unit {0}
+MayEnd (Some TooManyClients) = ⊥
+MayEnd (Some (NotThisSession index found)) = ⊥
+
 -- the faults of the clients that had one, by their numbers from k on
 abbrev pub faults_data : ℕ → List Ended → List Data
 faults_data k [] = []
@@ -47,10 +56,12 @@ abbrev pub IsServed : List (Command Global) → List (Command Global) → Ended 
 IsServed commands made None = made ≡ commands
 IsServed commands made (Some e) = (n : ℕ) × (n < length commands) × (made ≡ take n commands)
 
--- These entries and faults are told: a legal log from a start, of the clients' first commands, each client's in order.
+-- These entries and faults are told: a legal log from a start, of the clients' first commands, each client's in order;
+-- and no fault but LogFull and Memory.
 pub record Told (commands : Commands) (log : List (Receipt Global)) (machine : MachineValue Global) (faults : List Ended) : Type 0 where
   pub history : IsHistory log machine
   pub clients : length faults ≡ length commands
+  pub ended : All MayEnd faults
   pub known : (i : ℕ) (e : Receipt Global) → slice_get log i ≡ Some e → e.client < length commands
   pub served : (c : ℕ) (asked : List (Command Global)) (ended : Ended) → slice_get commands c ≡ Some asked → slice_get faults c ≡ Some ended
       → IsServed asked (commands_of c log) ended

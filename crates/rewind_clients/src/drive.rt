@@ -1,8 +1,8 @@
 //! Clients' commands, each client's on a thread of its own.
-ghost use Rattle.std.specs.Prelude.{◌≡◌, [], map, IfOk, IfErr, vec_len};
+ghost use Rattle.std.specs.Prelude.{◌≡◌, [], All, map, IfOk, IfErr, MatchBool, vec_len};
 ghost use Rattle.rewind_clients.specs.Intakes.{lists_of};
 ghost use Rattle.rewind_clients.specs.Served.{AreDone, AreFresh, IsDone, IsOfDriving, asked};
-ghost use Rattle.rewind_clients.specs.Told.{IsServed, Told, machine_of};
+ghost use Rattle.rewind_clients.specs.Told.{IsServed, MayEnd, Told, machine_of};
 
 use nd_search::Gate;
 use nd_session::{Client, Log, Session, SessionFault, State};
@@ -124,17 +124,35 @@ fn drive_all<R: Threads + Wait + Sync, G: Gate>(
     thread::map_vec(rt, tasks, &worker)
 }
 
-// The clients, and why each stopped.
+// Whether a client of a run may end so: it made all its commands, or met a full log or a refused growth.
+fn may_end(fault: &Option<SessionFault>) -> bool
+    ensures { MatchBool result (MayEnd fault.now) (MayEnd fault.now → ⊥) }
+{
+    match fault {
+        None => true,
+        Some(SessionFault::LogFull) => true,
+        Some(SessionFault::Memory) => true,
+        Some(SessionFault::TooManyClients) => false,
+        Some(SessionFault::NotThisSession { index: _, found: _ }) => false,
+    }
+}
+
+// The clients, and why each stopped. Another fault than a client may end with is one of a session that does not add up.
 fn split(
     alloc: Global,
     done: Vec<Done>,
-) -> Result<(Vec<Client>, Vec<Option<SessionFault>>), AllocError>
+) -> Result<(Vec<Client>, Vec<Option<SessionFault>>), DebugFault>
     ensures clients { IfOk result (λ r. r.0.items ≡ map (λ d. d.client) done.items) }
     ensures faults { IfOk result (λ r. r.1.items ≡ map (λ d. d.fault) done.items) }
+    ensures ended { IfOk result (λ r. All MayEnd r.1.items) }
+    ensures kind { IfErr result IsOfDriving }
 {
     let mut clients = Vec::with_capacity(alloc, done.len())?;
     let mut faults = Vec::with_capacity(alloc, done.len())?;
     for one in done {
+        if !may_end(&one.fault) {
+            return Err(DebugFault::Close);
+        }
         clients.push(one.client)?;
         faults.push(one.fault)?;
     }

@@ -3,15 +3,14 @@ ghost use Rattle.std.specs.Prelude.{◌≡◌, ◌+◌, ◌-◌, ◌<◌, ◌≤
 ghost use Rattle.std.specs.Io.KnownBytes.{Consumes, IsAtEnd, Keeps};
 ghost use Rattle.rewind_lines.specs.Reads.{given_by, is_end};
 ghost use Rattle.rewind_faults.specs.Faults.{is_read_fault};
-ghost use Rattle.rewind_options.specs.declared.options.Options.{Options as TheOptions};
+ghost use Rattle.rewind_faults.specs.declared.options.Options.{Options as TheOptions};
 ghost use Rattle.rewind_clients.specs.Clients.{ReadFails, ReadWhole, Takes};
 ghost use Rattle.rewind_clients.specs.Intakes.{intake_view};
 ghost use Rattle.rewind_clients.specs.Readers.{IsOfReading, StandsAt};
 
 use crate::intake::Intake;
-use rewind_faults::DebugFault;
+use rewind_faults::{DebugFault, Options};
 use rewind_lines::{Line, Source, Unread};
-use rewind_options::Options;
 use std::alloc::{AllocError, Global};
 
 /// The most bytes that are read at a time.

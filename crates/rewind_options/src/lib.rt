@@ -3,4 +3,4 @@
 
 mod options;
 
-pub use options::{Options, WordsFault, options_of};
+pub use options::{WordsFault, options_of};

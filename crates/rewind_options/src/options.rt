@@ -13,6 +13,7 @@ ghost use Rattle.rewind_options.specs.Options.{given, number_or_one, number_rule
 
 use clap::error::ErrorKind;
 use clap::{Arg, ArgAction, Command, value_parser};
+use rewind_faults::Options;
 use std::alloc::Global;
 use std::convert::AsStr;
 use thiserror::Error;
@@ -29,13 +30,6 @@ const EXAMPLE: &str = concat!(
     "  {\"do\":\"feed\",\"p\":0,\"vertex\":\"a\",\"values\":[],\"next\":\"next\"}\n",
     "  {\"do\":\"back\"}",
 );
-
-/// How many processors and clients a run has.
-#[derive(Clone, Copy, Debug, Drop, PartialEq, Eq)]
-pub struct Options {
-    pub processors: u8,
-    pub clients: u8,
-}
 
 /// Why the words gave no options. The texts are the parser's.
 #[derive(Debug, Drop, Error)]

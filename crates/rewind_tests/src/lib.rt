@@ -1,4 +1,4 @@
-//! Tests of whole runs, over sources and sinks in memory.
+//! Tests of whole runs, over sources and sinks in memory: what a script run by the program cannot show.
 #![tactic(auto)]
 
 #[cfg(test)]
@@ -6,16 +6,4 @@ mod clients;
 #[cfg(test)]
 mod ends;
 #[cfg(test)]
-mod examples;
-#[cfg(test)]
-mod moves;
-#[cfg(test)]
-mod refusals;
-#[cfg(test)]
 mod runs;
-#[cfg(test)]
-mod searches;
-#[cfg(test)]
-mod words;
-#[cfg(test)]
-mod worked;

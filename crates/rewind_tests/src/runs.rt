@@ -1,18 +1,24 @@
 //! Runs of one client.
 
 use crate::ends::{Asks, NEVER, Newlines, Spills, Stumbles, Told, empty_sink, pieces_of};
-use crate::examples::LINE;
 use rewind::{DebugFault, Options, debug, debug_within};
 use rewind_lines::{ReadSource, WriteSink};
 use std::alloc::{AllocError, Global};
 use std::cell::Cell;
 use std::io::ErrorKind;
 use std::test::Fail;
+use std::thread::Threads;
+
+/// The graph of one input, one sink and an edge between them.
+pub const LINE: &str =
+    r#"{"vertices":[{"name":"a","op":"input","depth":0},{"name":"z","op":"sink","depth":0}],"edges":[{"name":"az","from":"a","port":0,"to":"z","route":"local"}]}"#;
+
+pub const LINE_REPLY: &str = "{\"locations\":3,\"ok\":true,\"processors\":1}\n";
 
 /// A script's lines, each with its reply. The last has no newline.
 static LINES: [(&str, &str); 8] = [
     (" \r", ""),
-    (LINE, "{\"locations\":3,\"ok\":true,\"processors\":1}\n"),
+    (LINE, LINE_REPLY),
     (
         r#"{"do":"feed","p":0,"vertex":"a","values":[5],"next":"next"}"#,
         "{\"at\":1,\"kept\":1,\"ok\":true}\n",
@@ -248,5 +254,101 @@ fn passes_over_a_long_line(rt: HostRuntime) -> Result<(), Fail> {
     let want =
         "{\"locations\":0,\"ok\":true,\"processors\":1}\n{\"code\":33,\"error\":\"LineTooLong\",\"line\":3}\n{\"code\":30,\"error\":\"BadLine\",\"line\":4}\n{\"code\":20,\"error\":\"AtStart\"}\n";
     assert!(rt; sink.writer.as_slice() == want.as_bytes());
+    Ok(())
+}
+
+/// What a run of the script writes, and how it ends.
+fn run<R: Threads + Sync>(
+    rt: &R,
+    alloc: Global,
+    options: &Options,
+    script: &[u8],
+) -> Result<(Vec<u8>, Result<u64, DebugFault>), AllocError> {
+    let mut source = pieces_of(script, 4000, NEVER);
+    let mut sink = empty_sink(alloc, 1000, NEVER, false);
+    let ended = debug(rt, alloc, &mut source, &mut sink, options);
+    Ok((sink.bytes, ended))
+}
+
+/// Numbers of processors that no words ask for, each with a graph. They are counted before the loops are judged.
+static COUNTS: [(&str, u8, &str); 4] = [
+    ("no-processors", 0, LINE),
+    ("nine-processors", 9, LINE),
+    (
+        "nine-processors-of-nothing",
+        9,
+        r#"{"vertices":[],"edges":[]}"#,
+    ),
+    (
+        "nine-processors-of-a-loop",
+        9,
+        r#"{"vertices":[{"name":"m","op":"add","depth":0,"k":0}],"edges":[{"name":"mm","from":"m","port":0,"to":"m","route":"local"}]}"#,
+    ),
+];
+
+#[test]
+fn refuses_counts_of_processors(rt: HostRuntime) -> Result<(), Fail> {
+    for (name, processors, graph) in COUNTS.iter() {
+        let options = Options {
+            processors: *processors,
+            clients: 1,
+        };
+        let (bytes, ended) = run(&rt, rt.alloc(), &options, graph.as_bytes())?;
+        assert_eq!(rt; ended, Err(DebugFault::Graph), "at {name}");
+        let want = "{\"code\":48,\"error\":\"BadCount\"}\n";
+        assert!(rt; bytes.as_slice() == want.as_bytes(), "at {name}");
+    }
+    Ok(())
+}
+
+/// A graph line of so many digits: too long past 65,536, and else a number out of range.
+#[test]
+fn refuses_long_graph_lines(rt: HostRuntime) -> Result<(), Fail> {
+    for (length, reply) in [
+        (65_536, "{\"code\":30,\"error\":\"BadLine\",\"line\":1}\n"),
+        (
+            65_537,
+            "{\"code\":33,\"error\":\"LineTooLong\",\"line\":1}\n",
+        ),
+    ] {
+        let mut script = Vec::new(rt.alloc());
+        script.resize(length, b'1')?;
+        let (bytes, ended) = run(&rt, rt.alloc(), &ONE, script.as_slice())?;
+        assert_eq!(rt; ended, Err(DebugFault::Graph));
+        assert!(rt; bytes.as_slice() == reply.as_bytes(), "at {length}");
+    }
+    Ok(())
+}
+
+/// A line's graph, so many feeds that keep the epoch open, and as many steps back.
+fn there_and_back(alloc: Global, times: usize) -> Result<Vec<u8>, AllocError> {
+    let feed = "\n{\"do\":\"feed\",\"p\":0,\"vertex\":\"a\",\"values\":[5],\"next\":\"stay\"}";
+    let mut script = Vec::new(alloc);
+    script.extend_from_slice(LINE.as_bytes())?;
+    for _ in 0..times {
+        script.extend_from_slice(feed.as_bytes())?;
+    }
+    for _ in 0..times {
+        script.extend_from_slice("\n{\"do\":\"back\"}".as_bytes())?;
+    }
+    Ok(script)
+}
+
+#[test]
+fn thousands_of_lines(rt: HostRuntime) -> Result<(), Fail> {
+    let script = there_and_back(rt.alloc(), 5000)?;
+    let (bytes, ended) = run(&rt, rt.alloc(), &ONE, script.as_slice())?;
+    let last = "{\"at\":0,\"kept\":5000,\"ok\":true}\n".as_bytes();
+    assert_eq!(rt; ended, Ok(10_001));
+    assert!(rt; bytes.as_slice().ends_with(last));
+    Ok(())
+}
+
+/// The one fault to which no run comes.
+#[test]
+fn tells_a_log_mismatch(rt: HostRuntime) -> Result<(), Fail> {
+    let told = format!(in rt.alloc(); "{}", DebugFault::Close)?;
+    assert_eq!(rt; told.as_str(), "log mismatch");
+    assert_eq!(rt; DebugFault::Close.status(), 5);
     Ok(())
 }

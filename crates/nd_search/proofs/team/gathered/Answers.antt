@@ -5,6 +5,7 @@ use Rattle.nd_search.specs.declared.work.Work.{Work}
 use Rattle.nd_search.specs.declared.work.Searched.{Searched}
 use Rattle.nd_search.specs.Claims.{times, times_all}
 use Rattle.nd_search.specs.Works.{HasDrawn}
+use Rattle.nd_search.proofs.Stopping.{drawn_more}
 use Rattle.nd_search.proofs.Lists.{times_all-more, more_lists, times_under, map-more}
 use Rattle.nd_search.proofs.team.gathered.Goals as goal
 
@@ -24,6 +25,7 @@ loop-work-preserved g c =
     let each : (length c.loop-work.yielded + 1) * (c.args.pieces + 1) ≡ length c.loop-work.yielded * (c.args.pieces + 1) + (c.args.pieces + 1) = omega arith in record {
       table = c.gather.ensures.0 ∙ c.loop-work.invariant.table;
       weight = rw (one, each) (omega (arith, a, more, done.weight, c.loop-work.invariant.weight));
+      drawn = d ∙ (ap (λ (ns : List ℕ). ns ++ other.drawn) c.loop-work.invariant.drawn ∙ sym (drawn_more c.loop-work.yielded work));
       each = items ∙ (ap (λ (ss : List (Searched A)). ss ++ work.searched ∷ []) c.loop-work.invariant.each ∙ sym (map-more (λ (w : Work A). w.searched) c.loop-work.yielded work));
       room = search rules;
       claimed = λ x.

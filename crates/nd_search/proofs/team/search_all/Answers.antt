@@ -1,11 +1,13 @@
-use Rattle.std.proofs.Common.{rules, ◌≡◌, ◌∙◌, ◌+◌, ◌*◌, ℕ, vec_len, cond, nat_lt, min, length, sym, ap, subst, arith}
+use Rattle.std.proofs.Common.{rules, ◌≡◌, ◌∙◌, ◌+◌, ◌*◌, ℕ, List, vec_len, cond, nat_lt, min, length, sym, ap, subst, arith}
 use Rattle.nd_search.specs.declared.work.Job.{Job}
 use Rattle.nd_search.specs.declared.work.Work.{Work}
 use Rattle.nd_search.specs.declared.work.Searched.{Searched}
 use Rattle.nd_search.specs.Least.{HoldsAt}
-use Rattle.nd_search.specs.Works.{IsReady, IsSearched}
+use Rattle.nd_search.specs.Claims.{times}
+use Rattle.nd_search.specs.Works.{IsReady, IsSearched, HaveStopped}
 use Rattle.nd_search.proofs.Elements.{all_mapped, length_twice}
 use Rattle.nd_search.proofs.Joined.{all_done}
+use Rattle.nd_search.proofs.Stopping.{have_stopped}
 use Rattle.nd_search.proofs.Lists.{below_min}
 use Rattle.nd_search.proofs.team.search_all.Goals as goal
 
@@ -43,5 +45,18 @@ returns-clause-claims g c =
       started = length_twice (λ (w : Work g.row.A.Denot). w.searched) (λ (s : Searched g.row.A.Denot). s.claimed.items) c.in_ok-works.works.items c.in_ok-list.list.items c.in_ok-list.ensures.each ∙ team;
       count = min n p;
       few = omega (arith, c.pieces-pieces.ensures);
-      once = λ x. c.in_ok-list.ensures.claimed x ∙ (ap (λ (k : ℕ). cond (nat_lt x p) k 0) (c.end_board.ensures x) ∙ below_min x n p);
+      once = λ x. c.in_ok-list.ensures.claimed x ∙ (ap (λ (k : ℕ). cond (nat_lt x p) k 0) (c.end_board.ensures.each x) ∙ below_min x n p);
     }
+
+pub returns-clause-stopped : goal.returns-clause-stopped
+returns-clause-stopped g c =
+    let n : ℕ = c.end_board.result in
+    let p : ℕ = c.pieces-pieces.result in
+    let works : List (Work g.row.A.Denot) = c.in_ok-works.works.items in
+    let list : List (Searched g.row.A.Denot) = c.in_ok-list.list.items in
+    let done = all_done _ _ c.args.timeline.now c.args.b.now c.args.positions.lo c.args.positions.hi c.in_ok-board.board.shared.table_id p c.in_ok-jobs.jobs.items works (search rules) c.in_ok-works.ensures.each (λ job w met. met) in
+    let drawn = c.in_ok-list.ensures.drawn in
+    subst (λ (m : ℕ). HaveStopped m list) c.pieces-pieces.ensures
+    (have_stopped p n works list c.in_ok-list.ensures.each (λ k d lt. (done k d lt).stopped)
+    (λ x. ap (times x) (sym drawn) ∙ c.end_board.ensures.each x) (c.end_board.ensures.count ∙ ap length drawn)
+    (λ x. c.in_ok-list.ensures.claimed x ∙ (ap (λ (k : ℕ). cond (nat_lt x p) k 0) (c.end_board.ensures.each x) ∙ below_min x n p)))

@@ -1,7 +1,7 @@
 use Rattle.std.proofs.Common.{sym, subst}
 use Rattle.nd_protocol.specs.Steps.{stepped}
 use Rattle.nd_protocol.specs.Invariant.{IsSettled, KeepsProtocol}
-use Rattle.nd_cluster.specs.Records.{Makes}
+use Rattle.nd_record.specs.Records.{Makes}
 use Rattle.nd_cluster.proofs.Seeing.{is_seen}
 use Rattle.nd_cluster.proofs.cluster.Cluster.commit.Goals as goal
 

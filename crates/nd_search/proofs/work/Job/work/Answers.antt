@@ -1,13 +1,14 @@
-use Rattle.std.proofs.Common.{rules, ◌≡◌, ◌+◌, ◌-◌, ◌<◌, ◌++◌, ◌∷◌, [], ℕ, length, length-append, refl, sym, ap, subst, ◌∙◌, arith}
+use Rattle.std.proofs.Common.{rules, ◌≡◌, ◌+◌, ◌-◌, ◌<◌, ◌++◌, ◌∷◌, [], ℕ, length, length-append, inl, inr, refl, sym, ap, subst, ◌∙◌, arith}
 use Rattle.nd_search.specs.Least.{HoldsAt}
 use Rattle.atomic_table.specs.declared.shared.Seat.{Seat}
 use Rattle.nd_search.specs.declared.hand.Hand.{Hand}
 use Rattle.nd_search.specs.Hands.{hand}
-use Rattle.nd_search.specs.Works.{IsSearched, HasDrawn}
+use Rattle.nd_search.specs.Works.{IsSearched, HasDrawn, HasStopped}
 use Rattle.nd_search.specs.declared.work.Searched.{Searched}
 use Rattle.nd_search.proofs.Shares.{undrawn, drew}
 use Rattle.nd_search.proofs.Elements.{all_none, all_more}
 use Rattle.nd_search.proofs.Found.{starts, begins, ends}
+use Rattle.nd_search.proofs.Stopping.{just_drawn}
 use Rattle.nd_search.proofs.Drawing.{pieces_drawn, one_over}
 use Rattle.nd_search.proofs.work.Job.work.Goals as goal
 use Rattle.nd_search.proofs.work.Job.work.Goals.{else-loop-test, then-loop-test+then-piece-pieces, then-loop-test+else-piece-pieces+in_default}
@@ -86,4 +87,26 @@ returns-clause-drawn g c =
           let below = all_more (λ x. x < p) c.loop.searched.claimed.items more.items n w.push_reserved.ensures.items at.below (search rules) in
           subst (λ t. P t c.loop-test.searched) (sym w.ticket-is) (subst (λ s. P w.draw-piece.new.ticket s) (sym w.searched-is)
           (pieces_drawn table p (k + 1) (record { ticket = w.draw-piece.new.ticket; searched = record { claimed = more; found = c.loop.searched.found } }) (w.draw-piece.ensures.ticket.0 ∙ at.table) me counted (omega (arith, w.loop-test.true)) below))
+    ]
+
+pub returns-clause-stopped : goal.returns-clause-stopped
+returns-clause-stopped g c =
+    let p : ℕ = c.args.pieces in
+    let at = c.loop.invariant in
+    let count : length c.loop.searched.claimed.items ≡ c.loop.counter = search rules in
+    let drawn : c.loop.ticket.me.0.drawn ≡ c.loop.searched.claimed.items = ap (λ m. m.0.drawn) at.me in
+    let P : Ticket → Searched g.row.A.Denot → Type 0 = λ t s. HasStopped p (record { ticket = t; searched = s }) in
+    elim c.loop-test.branch [
+      | else-loop-test w ↦ subst (λ t. P t c.loop-test.searched) (sym w.ticket-is) (subst (λ s. P c.loop.ticket s) (sym w.searched-is)
+          (inr (at.even, inr (omega (arith, w.loop-test.false, count, ap length drawn)))))
+      | then-loop-test+then-piece-pieces w ↦
+          let n : ℕ = w.draw-piece.result in
+          let now : w.draw-piece.new.ticket.me.0.drawn ≡ c.loop.ticket.me.0.drawn ++ n ∷ [] = ap (λ m. m.0.drawn) w.draw-piece.ensures.drawn in
+          subst (λ t. P t c.loop-test.searched) (sym w.ticket-is) (subst (λ s. P w.draw-piece.new.ticket s) (sym w.searched-is)
+          (inr (at.even, inl (record { number = n; no_piece = w.if-piece-pieces.true; there = just_drawn n c.loop.ticket.me.0.drawn w.draw-piece.new.ticket.me.0.drawn now }))))
+      | then-loop-test+else-piece-pieces+in_default w ↦
+          let more = w.push_reserved.new.self in
+          let counted : length more.items ≡ c.loop.counter + 1 = ap length w.push_reserved.ensures.items ∙ omega (arith, length-append c.loop.searched.claimed.items (w.draw-piece.result ∷ []), count) in
+          subst (λ t. P t c.loop-test.searched) (sym w.ticket-is) (subst (λ s. P w.draw-piece.new.ticket s) (sym w.searched-is)
+          (inl (omega (arith, counted, count, at.even))))
     ]

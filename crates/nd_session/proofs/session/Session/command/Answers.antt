@@ -7,7 +7,7 @@ returns-clause-told g c =
     let new = c.command.new.self.state in
     let made = c.command.ensures in
     told was.state.log was.state.machine made.history was.entered c.args.client.now c.args.command new.log new.machine c.command.result
-    made.legal made.base made.known made.logged made.placed made.client made.command
+    made.legal made.base made.known made.room made.logged made.placed made.client made.command
 
 pub returns-clause-fails : goal.returns-clause-fails
 returns-clause-fails g c =

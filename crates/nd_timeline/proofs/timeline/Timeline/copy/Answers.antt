@@ -1,5 +1,5 @@
 use Rattle.std.proofs.Common.{List, subst}
-use Rattle.nd_cluster.specs.declared.record.Record.{Record}
+use Rattle.nd_record.specs.declared.record.Record.{Record}
 use Rattle.nd_timeline.specs.Reached.{AreCopies}
 use Rattle.nd_timeline.proofs.Copying.{reached_copy, same_value}
 use Rattle.nd_timeline.proofs.timeline.Timeline.copy.Goals as goal

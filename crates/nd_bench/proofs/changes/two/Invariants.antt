@@ -1,5 +1,0 @@
-use Rattle.nd_view.specs.Kept.{IsFor}
-use Rattle.nd_bench.proofs.changes.two.Given as goal
-
-abbrev pub invariant-loop : goal.invariant-loop
-invariant-loop l = IsFor l.paths l.view

@@ -1,0 +1,54 @@
+//! Records made and undone in a cluster.
+ghost use Rattle.std.specs.Prelude.{◌≡◌, OnOk, OnErr};
+ghost use Rattle.nd_protocol.specs.State.{ClusterState};
+ghost use Rattle.nd_protocol.specs.Steps.{stepped};
+ghost use Rattle.nd_protocol.specs.Invariant.{IsSettled, KeepsProtocol};
+ghost use Rattle.nd_cluster.specs.Records.{IsPlanned, Leads, IsCommitted};
+
+use crate::Cluster;
+use nd_protocol::{NoMemory, steps_keep_protocol};
+use nd_record::Record;
+use std::alloc::Allocator;
+
+impl<A: Allocator + Copy> Cluster<A> {
+    /// Makes the step of a record that was planned in this state.
+    pub fn commit(&mut self, planned: &Record<A>) -> Result<(), NoMemory>
+        requires { IsPlanned planned.now self.old }
+        ensures step { OnOk result (self.new ≡ stepped self.old planned.now.step) }
+        ensures leads { OnOk result (Leads planned.now self.old self.new) }
+        ensures settled { OnOk result (IsSettled self.old → IsSettled self.new) }
+        ensures protocol { OnOk result (KeepsProtocol self.old → KeepsProtocol self.new) }
+        ensures err { OnErr result (self.new ≡ self.old) }
+    {
+        steps_keep_protocol::<A>();
+        let Ok(()) = planned.changes.make(
+            &mut self.processors,
+            &mut self.views,
+            &mut self.mesh,
+            &self.paths,
+        )
+        else {
+            return Err(NoMemory);
+        };
+        Ok(())
+    }
+
+    /// Undoes the step of a record, in the state that its commit left.
+    pub fn back(&mut self, made: &Record<A>) -> Result<(), NoMemory>
+        requires { IsCommitted made.now self.old }
+        ensures ok { OnOk result ((s : ClusterState) → Leads made.now s self.old → self.new ≡ s) }
+        ensures err { OnErr result (self.new ≡ self.old) }
+    {
+        let Ok(()) = made.changes.undo(
+            self.alloc,
+            &mut self.processors,
+            &mut self.views,
+            &mut self.mesh,
+            &self.paths,
+        )
+        else {
+            return Err(NoMemory);
+        };
+        Ok(())
+    }
+}

@@ -1,4 +1,0 @@
-use Rattle.nd_cluster_tests.proofs.limits.seen.Goals as goal
-
-pub apply-requires : goal.apply-requires
-apply-requires g c = c.new-view.ensures.for_all c.args.paths.now

@@ -1,0 +1,74 @@
+//! The worked examples, by their names, and the changes that a record lists.
+
+use crate::limits::{ROWS, closes, number_of};
+use nd_cluster::{Change, Changes, Cluster, Next, StartFault};
+use nd_drawn::{LINE, LOOP, graph_of};
+use nd_told::{Told, start, step_of};
+use refusing::Refusing;
+use std::alloc::Global;
+
+/// Why a cluster of n processors does not start on a line, if so.
+fn fault_of(alloc: Global, n: u32) -> Option<StartFault> {
+    Cluster::start(alloc, graph_of(alloc, alloc, LINE)?, n).err()
+}
+
+/// Whether a start has no step that may be chosen, whoever's turn it is.
+fn is_idle(alloc: Global, text: &str, n: u32) -> Option<bool> {
+    let cluster = start(alloc, alloc, text, n)?;
+    Some(cluster.first_enabled(0).ok()?.is_none() && cluster.first_enabled(2).ok()?.is_none())
+}
+
+#[test]
+fn processor_counts(rt: HostRuntime) {
+    for n in [0, 9] {
+        assert_eq!(rt; fault_of(rt.alloc(), n), Some(StartFault::BadCount));
+    }
+    for (text, n) in [(LINE, 1), (LINE, 8), (LOOP, 3)] {
+        assert_eq!(rt; is_idle(rt.alloc(), text, n), Some(true));
+    }
+}
+
+#[test]
+fn number_limits(rt: HostRuntime) {
+    let heap = Refusing::new(rt.alloc());
+    for (i, row) in ROWS.iter().enumerate() {
+        assert_eq!(rt;
+            number_of(&heap, rt.alloc(), &heap, row),
+            Some(row.3),
+            "in row {i}"
+        );
+    }
+    assert_eq!(rt; closes(&heap, rt.alloc(), &heap), Some(true));
+    assert_eq!(rt; heap.live(), 0);
+}
+
+/// How many of the changes are of tokens, of records that come twice, and of what is unsent.
+fn kinds(changes: &[Change]) -> (usize, usize, usize) {
+    let mut kinds: (usize, usize, usize) = (0, 0, 0);
+    for change in changes {
+        match change {
+            Change::Token { .. } => kinds.0 = kinds.0.saturating_add(1),
+            Change::Records { n, .. } if *n == 2 => kinds.1 = kinds.1.saturating_add(1),
+            Change::Unsent { .. } => kinds.2 = kinds.2.saturating_add(1),
+            _ => {}
+        }
+    }
+    kinds
+}
+
+/// Whether the record of a feed of *line* changes these, as does a copy.
+fn lists_changes(alloc: Global) -> Option<bool> {
+    let cluster = start(alloc, alloc, LINE, 1)?;
+    let told = Told::Feed(0, "a", &[7, 7], Next::Close);
+    let record = cluster.plan(&step_of(alloc, cluster.graph(), &told)?).ok()?;
+    let copy = record.copy(alloc).ok()?;
+    let (Changes::Each(changes), Changes::Each(copied)) = (&record.changes, &copy.changes) else {
+        return None;
+    };
+    Some(kinds(changes) == (1, 1, 2) && copied.as_slice() == changes.as_slice())
+}
+
+#[test]
+fn changes_of_a_feed(rt: HostRuntime) {
+    assert_eq!(rt; lists_changes(rt.alloc()), Some(true));
+}

@@ -1,0 +1,11 @@
+pub mod Putting
+pub mod Listing
+pub mod Running
+pub mod Planning
+pub mod Edited
+pub mod Seeing
+pub mod Exchanging
+pub mod Filling
+pub mod Differences
+pub mod Differing
+pub mod Reaching

@@ -1,0 +1,499 @@
+-- A list of changes in which no place stands twice can be run, in the order of their kinds, and leads where its sums say.
+use Rattle.std.proofs.Common.{◌≡◌, ◌≢◌, ◌<◌, ◌≤◌, ◌+◌, ◌-◌, ◌⊎◌, ℕ, zero, suc, ℤ, pos, negsuc, ◌+ℤ◌, ◌-ℤ◌, Bool, true, false, cond, List, [], ◌∷◌, ◌++◌, take, drop, length, get_or, nat_eq, T, Option, Some, None, is_some, refl, sym, ap, subst, ◌∙◌, arith, inl, inr, drop-cons, true≢false}
+use Rattle.std.proofs.lemmas.Int.{ints}
+use Rattle.std.proofs.lemmas.List.{take_more, take_all, take-append-drop, get_or_append_left, get_or-append_right, length-append}
+use Rattle.std.proofs.lemmas.Bool.Decides.{nat_tests}
+use Rattle.std.proofs.lemmas.Map.Views.{tells_apart}
+use Rattle.std.specs.List.{filter}
+use Rattle.std.specs.Ordering.{eq_by_cmp}
+use Rattle.std.specs.FinMap.{find, is_sorted}
+use Rattle.std.specs.FinMap.Entries.{put, is_sorted-put, find-put, length-put}
+use Rattle.nd_map.specs.Counts.{or_else, integers, entries, of_entries, at-of_entries, entries-of_entries, same, size}
+use Rattle.nd_vertex.specs.Table.{is_zero}
+use Rattle.nd_protocol.specs.State.{ClusterState}
+use Rattle.nd_protocol.specs.Fitting.{IsWithinLimits}
+use Rattle.nd_record.specs.Places.{Place, place_cmp, place_total, place_exact}
+use Rattle.nd_record.specs.Standing.{standing, IsThere, MayStand, difference}
+use Rattle.nd_record.specs.Changes.{place_of, gain_of, made, FindsOld, NamesNumbers, IsWithinAt, Fits, Finds, applied, state_at, IsRunnable}
+use Rattle.nd_record.specs.Edits.{total_at, edits_of}
+use Rattle.nd_record.specs.Plans.{often, Once, Each, IsSmallGain, Reaches, kind_by, kind, of_kind, ordered, LeadsTo}
+use Rattle.nd_record.specs.declared.change.Change.{Change}
+use Rattle.nd_record.specs.declared.change.Change.TheVariants.{Records, Request, Token, State, Sink, Unsent}
+use Rattle.nd_record.proofs.Putting.{SameShape, shape-turned, shape-through, there_alike, there_where, same_state, standing-put_other, may_stand}
+use Rattle.nd_record.specs.Alike.{same_key}
+use Rattle.nd_record.proofs.Differing.{queues_same}
+use Rattle.nd_record.proofs.Listing.{at-difference, zero_or_not}
+use Rattle.nd_record.proofs.Running.{shape-made, shape-applied, landed, moved_by, state_none, state_more, all_made, limits_of}
+
+-- changes that reach a state keep the shape
+shape_of : (s t : ClusterState) (cs : List Change) → Reaches s t cs → SameShape s t
+shape_of s t cs h = record { graph = sym h.graph; processors = sym h.count; items = λ p. sym (h.items p); views = ap length (sym h.views); queues = sym h.queues }
+
+-- ---- sums over lists
+
+abbrev total : Place → List Change → ℤ
+total k cs = total_at (edits_of cs) k
+
+often-append : (k : Place) (cs ds : List Change) → often k (cs ++ ds) ≡ often k cs + often k ds
+often-append k [] ds = omega arith
+often-append k (c ∷ cs) ds = let e = often-append k cs ds in omega (arith, e)
+
+total-append : (k : Place) (cs ds : List Change) → total k (cs ++ ds) ≡ total k cs +ℤ total k ds
+total-append k [] ds = omega (arith, ints)
+total-append k (c ∷ cs) ds = let e = total-append k cs ds in omega (arith, ints, e)
+
+-- changes by kind are the same changes
+module _ (f : Change → ℕ) (low : (c : Change) → f c ≤ 2) where
+  abbrev pick : ℕ → List Change → List Change
+  pick k cs = filter (λ c. nat_eq (f c) k) cs
+
+  each : (n : ℕ) → n ≤ 2 → (c : Change) (p : List Change → ℕ) → ((ds : List Change) → p (c ∷ ds) ≡ p (c ∷ []) + p ds) → (x y z : List Change)
+      → p (cond (nat_eq n 0) (c ∷ x) x) + (p (cond (nat_eq n 1) (c ∷ y) y) + p (cond (nat_eq n 2) (c ∷ z) z)) ≡ p (c ∷ []) + (p x + (p y + p z))
+  each zero h c p cons x y z = let e = cons x in omega (arith, e)
+  each (suc zero) h c p cons x y z = let e = cons y in omega (arith, e)
+  each (suc (suc zero)) h c p cons x y z = let e = cons z in omega (arith, e)
+  each (suc (suc (suc n))) h c p cons x y z = absurd (omega (arith, h))
+
+  each_z : (n : ℕ) → n ≤ 2 → (c : Change) (p : List Change → ℤ) → ((ds : List Change) → p (c ∷ ds) ≡ p (c ∷ []) +ℤ p ds) → (x y z : List Change)
+      → p (cond (nat_eq n 0) (c ∷ x) x) +ℤ (p (cond (nat_eq n 1) (c ∷ y) y) +ℤ p (cond (nat_eq n 2) (c ∷ z) z)) ≡ p (c ∷ []) +ℤ (p x +ℤ (p y +ℤ p z))
+  each_z zero h c p cons x y z = let e = cons x in omega (arith, ints, e)
+  each_z (suc zero) h c p cons x y z = let e = cons y in omega (arith, ints, e)
+  each_z (suc (suc zero)) h c p cons x y z = let e = cons z in omega (arith, ints, e)
+  each_z (suc (suc (suc n))) h c p cons x y z = absurd (omega (arith, h))
+
+  often-cons : (k : Place) (c : Change) (ds : List Change) → often k (c ∷ ds) ≡ often k (c ∷ []) + often k ds
+  often-cons k c ds = omega arith
+
+  total-cons : (k : Place) (c : Change) (ds : List Change) → total k (c ∷ ds) ≡ total k (c ∷ []) +ℤ total k ds
+  total-cons k c ds = omega (arith, ints)
+
+  often-picked : (k : Place) (cs : List Change) → often k (pick 0 cs) + (often k (pick 1 cs) + often k (pick 2 cs)) ≡ often k cs
+  often-picked k [] = refl
+  often-picked k (c ∷ cs) =
+      let ih = often-picked k cs in
+      let e = each (f c) (low c) c (often k) (often-cons k c) (pick 0 cs) (pick 1 cs) (pick 2 cs) in
+      let d = often-cons k c cs in
+      e ∙ ap (λ n. often k (c ∷ []) + n) ih ∙ sym d
+
+  total-picked : (k : Place) (cs : List Change) → total k (pick 0 cs) +ℤ (total k (pick 1 cs) +ℤ total k (pick 2 cs)) ≡ total k cs
+  total-picked k [] = omega (arith, ints)
+  total-picked k (c ∷ cs) =
+      let ih = total-picked k cs in
+      let e = each_z (f c) (low c) c (total k) (total-cons k c) (pick 0 cs) (pick 1 cs) (pick 2 cs) in
+      let d = total-cons k c cs in
+      e ∙ ap (λ n. total k (c ∷ []) +ℤ n) ih ∙ sym d
+
+-- ---- every change of a list
+
+each_at : (P : Change → Type 0) (cs : List Change) (k : ℕ) (d : Change) → Each P cs → k < length cs → P (get_or cs k d)
+each_at P [] k d h lt = absurd (omega (arith, lt))
+each_at P (c ∷ cs) zero d h lt = h.0
+each_at P (c ∷ cs) (suc k) d h lt = each_at P cs k d h.1 (omega (arith, lt))
+
+each_take : (P : Change → Type 0) (cs : List Change) (k : ℕ) → Each P cs → Each P (take k cs)
+each_take P cs zero h = tt
+each_take P [] (suc k) h = tt
+each_take P (c ∷ cs) (suc k) h = (h.0, each_take P cs k h.1)
+
+pub each_append : (P : Change → Type 0) (cs ds : List Change) → Each P cs → Each P ds → Each P (cs ++ ds)
+each_append P [] ds h i = i
+each_append P (c ∷ cs) ds h i = (h.0, each_append P cs ds h.1 i)
+
+each_picked : (P Q : Change → Type 0) (p : Change → Bool) → ((c : Change) → p c ≡ true → P c → Q c) → (cs : List Change) → Each P cs → Each Q (filter p cs)
+each_picked P Q p imp [] h = tt
+each_picked P Q p imp (c ∷ cs) h = elim (p c) as (λ b. p c ≡ b → Each Q (cond b (c ∷ filter p cs) (filter p cs))) [
+  | true ↦ λ t. (imp c t h.0, each_picked P Q p imp cs h.1)
+  | false ↦ λ t. each_picked P Q p imp cs h.1
+] refl
+
+pub each_from : (P : Change → Type 0) (cs : List Change) → ((k : ℕ) (d : Change) → k < length cs → P (get_or cs k d)) → Each P cs
+each_from P [] h = tt
+each_from P (c ∷ cs) h = (h 0 c (omega arith), each_from P cs (λ k d lt. h (suc k) d (omega (arith, lt))))
+
+pub each_through : (P Q : Change → Type 0) → ((c : Change) → P c → Q c) → (cs : List Change) → Each P cs → Each Q cs
+each_through P Q imp [] h = tt
+each_through P Q imp (c ∷ cs) h = (imp c h.0, each_through P Q imp cs h.1)
+
+-- ---- a place that stands once
+
+not_there : (b : Bool) (n : ℕ) → cond b 1 0 + n ≡ 0 → b ≡ false
+not_there true n e = absurd (omega (arith, e))
+not_there false n e = refl
+
+rest_none : (b : Bool) (n : ℕ) → cond b 1 0 + n ≡ 0 → n ≡ 0
+rest_none true n e = absurd (omega (arith, e))
+rest_none false n e = omega (arith, e)
+
+none_added : (b : Bool) (z w : ℤ) → b ≡ false → w ≡ pos 0 → cond b z (pos 0) +ℤ w ≡ pos 0
+none_added true z w e h = absurd (true≢false e)
+none_added false z w e h = omega (arith, ints, h)
+
+-- a place that does not stand in the list has nothing added
+pub never_added : (k : Place) (cs : List Change) → often k cs ≡ 0 → total k cs ≡ pos 0
+never_added k [] e = refl
+never_added k (c ∷ cs) e =
+    none_added (eq_by_cmp place_cmp k (place_of c)) (gain_of c) (total k cs) (not_there (eq_by_cmp place_cmp k (place_of c)) (often k cs) e)
+    (never_added k cs (rest_none (eq_by_cmp place_cmp k (place_of c)) (often k cs) e))
+
+module _ (cs : List Change) (once : Once cs) (k : ℕ) (d : Change) (lt : k < length cs) where
+  around : often (place_of (get_or cs k d)) (take k cs) + (1 + often (place_of (get_or cs k d)) (drop (suc k) cs)) ≡ often (place_of (get_or cs k d)) cs
+  around =
+      let c = get_or cs k d in
+      let x = place_of c in
+      let split : often x (take k cs) + often x (drop k cs) ≡ often x cs = sym (often-append x (take k cs) (drop k cs)) ∙ ap (often x) (take-append-drop k cs) in
+      let here : often x (drop k cs) ≡ 1 + often x (drop (suc k) cs)
+      = ap (often x) (drop-cons cs k d lt) ∙ ap (λ b. cond b 1 0 + often x (drop (suc k) cs)) (same_key place_total x) in
+      ap (λ n. often x (take k cs) + n) (sym here) ∙ split
+
+  often_before : often (place_of (get_or cs k d)) (take k cs) ≡ 0
+  often_before = let e = around in let h = once (place_of (get_or cs k d)) in omega (arith, e, h)
+
+  often_after : often (place_of (get_or cs k d)) (drop (suc k) cs) ≡ 0
+  often_after = let e = around in let h = once (place_of (get_or cs k d)) in omega (arith, e, h)
+
+  -- what is added at its place is its gain
+  pub gain_alone : total (place_of (get_or cs k d)) cs ≡ gain_of (get_or cs k d)
+  gain_alone =
+      let c = get_or cs k d in
+      let x = place_of c in
+      let split : total x (take k cs) +ℤ total x (drop k cs) ≡ total x cs = sym (total-append x (take k cs) (drop k cs)) ∙ ap (total x) (take-append-drop k cs) in
+      let here : total x (drop k cs) ≡ gain_of c +ℤ total x (drop (suc k) cs)
+      = ap (total x) (drop-cons cs k d lt) ∙ ap (λ b. cond b (gain_of c) (pos 0) +ℤ total x (drop (suc k) cs)) (same_key place_total x) in
+      let before : total x (take k cs) ≡ pos 0 = never_added x (take k cs) often_before in
+      let after : total x (drop (suc k) cs) ≡ pos 0 = never_added x (drop (suc k) cs) often_after in
+      sym split ∙ (λ i. before i +ℤ here i) ∙ ap (λ z. pos 0 +ℤ (gain_of c +ℤ z)) after ∙ alone (gain_of c)
+    where
+      alone : (z : ℤ) → pos 0 +ℤ (z +ℤ pos 0) ≡ z
+      alone z = omega (arith, ints)
+
+-- a place that does not stand in the list keeps what stands at it
+untouched : (s : ClusterState) (cs : List Change) (k : Place) → Each (λ c. IsThere s (place_of c)) cs → often k cs ≡ 0 → standing (applied s cs) k ≡ standing s k
+unfolding applied
+untouched s [] k there none = refl
+untouched s (c ∷ cs) k there none =
+    let e : eq_by_cmp place_cmp k (place_of c) ≡ false = not_there (eq_by_cmp place_cmp k (place_of c)) (often k cs) none in
+    let rest : often k cs ≡ 0 = rest_none (eq_by_cmp place_cmp k (place_of c)) (often k cs) none in
+    let other : k ≢ place_of c = λ h. true≢false (sym (same_key place_total (place_of c)) ∙ ap (λ i. eq_by_cmp place_cmp i (place_of c)) (sym h) ∙ e) in
+    untouched (made s c) cs k
+    (each_through (λ d. IsThere s (place_of d)) (λ d. IsThere (made s c) (place_of d)) (λ d. there_alike s (made s c) (place_of d) (shape-turned (made s c) s (shape-made s c))) cs there.1) rest
+    ∙ standing-put_other s (place_of c) (standing s (place_of c) +ℤ gain_of c) k there.0 other
+
+finds_moved : (s u : ClusterState) (c : Change) → standing u (place_of c) ≡ standing s (place_of c) → FindsOld s c → FindsOld u c
+finds_moved s u (Token p vertex old new) e h = e ∙ h
+finds_moved s u (State p vertex t item old new) e h = e ∙ h
+finds_moved s u (Records p edge t value n) e h = tt
+finds_moved s u (Request p vertex t add) e h = tt
+finds_moved s u (Sink p vertex value) e h = tt
+finds_moved s u (Unsent p point n) e h = tt
+
+-- a change fits wherever the same stands at its place
+fits_moved : (s u : ClusterState) (c : Change) → SameShape u s → standing u (place_of c) ≡ standing s (place_of c) → Fits s c → Fits u c
+fits_moved s u c shape e fits = record {
+  there = there_alike s u (place_of c) (shape-turned u s shape) fits.there;
+  old = finds_moved s u c e fits.old;
+  numbers = fits.numbers;
+  may = subst (λ z. MayStand (place_of c) (z +ℤ gain_of c)) (sym e) fits.may;
+  within = subst (λ z. IsWithinAt (place_of c) (z +ℤ gain_of c)) (sym e) fits.within;
+}
+
+-- ---- the kinds
+
+zero_is : (z : ℤ) → is_zero z ≡ true → z ≡ pos 0
+zero_is (pos zero) e = refl
+zero_is (pos (suc n)) e = absurd (true≢false (sym e))
+zero_is (negsuc n) e = absurd (true≢false (sym e))
+
+zero_not : (z : ℤ) → is_zero z ≡ false → z ≢ pos 0
+zero_not z e h = absurd (true≢false (ap is_zero (sym h) ∙ e))
+
+kind_low : (a b : Bool) → kind_by a b ≤ 2
+kind_low true b = omega arith
+kind_low false true = omega arith
+kind_low false false = omega arith
+
+first_by : (x : ℤ) (a b : Bool) → is_zero x ≡ a → kind_by a b ≡ 0 → x ≡ pos 0
+first_by x true b t h = zero_is x t
+first_by x false true t h = absurd (omega (arith, h))
+first_by x false false t h = absurd (omega (arith, h))
+
+second_by : (y : ℤ) (a b : Bool) → is_zero y ≡ b → kind_by a b ≡ 1 → y ≢ pos 0
+second_by y true b t h = absurd (omega (arith, h))
+second_by y false true t h = absurd (omega (arith, h))
+second_by y false false t h = zero_not y t
+
+third_by : (x : ℤ) (a b : Bool) → is_zero x ≡ a → kind_by a b ≡ 2 → x ≢ pos 0
+third_by x true b t h = absurd (omega (arith, h))
+third_by x false b t h = zero_not x t
+
+eq_is : (m n : ℕ) → nat_eq m n ≡ true → m ≡ n
+eq_is m n e = grind (arith, nat_tests, e)
+
+abbrev before_of : ClusterState → Change → ℤ
+before_of s c = standing s (place_of c)
+
+abbrev after_of : ClusterState → Change → ℤ
+after_of s c = standing s (place_of c) +ℤ gain_of c
+
+no_more : (x g : ℤ) → x ≡ pos 0 → x +ℤ g ≡ pos 0 → g ≡ pos 0
+no_more x g e h = omega (arith, ints, e, h)
+
+module _ (s : ClusterState) (all : List Change) (some : Each (λ c. gain_of c ≢ pos 0) all) where
+  -- a change of the first kind puts something where nothing stands
+  leave_first : Each (λ c. after_of s c ≢ pos 0) (of_kind s 0 all)
+  leave_first = each_picked (λ c. gain_of c ≢ pos 0) (λ c. after_of s c ≢ pos 0) (λ c. nat_eq (kind s c) 0)
+      (λ c t n e. n (no_more (before_of s c) (gain_of c) (first_by (before_of s c) (is_zero (before_of s c)) (is_zero (after_of s c)) refl (eq_is (kind s c) 0 t)) e)) all some
+
+  leave_second : Each (λ c. after_of s c ≢ pos 0) (of_kind s 1 all)
+  leave_second = each_picked (λ c. gain_of c ≢ pos 0) (λ c. after_of s c ≢ pos 0) (λ c. nat_eq (kind s c) 1)
+      (λ c t n. second_by (after_of s c) (is_zero (before_of s c)) (is_zero (after_of s c)) refl (eq_is (kind s c) 1 t)) all some
+
+  find_third : Each (λ c. before_of s c ≢ pos 0) (of_kind s 2 all)
+  find_third = each_picked (λ c. gain_of c ≢ pos 0) (λ c. before_of s c ≢ pos 0) (λ c. nat_eq (kind s c) 2)
+      (λ c t n. third_by (before_of s c) (is_zero (before_of s c)) (is_zero (after_of s c)) refl (eq_is (kind s c) 2 t)) all some
+
+-- ---- a list that can be run
+
+module _ (s : ClusterState) (front tail : List Change) (once : Once (front ++ tail)) (fit : Each (Fits s) (front ++ tail))
+    (leave : Each (λ c. after_of s c ≢ pos 0) front) (find : Each (λ c. before_of s c ≢ pos 0) tail) where
+  fits_at : (k : ℕ) (d : Change) → k < length (front ++ tail) → Fits s (get_or (front ++ tail) k d)
+  fits_at k d lt = each_at (Fits s) (front ++ tail) k d fit lt
+
+  untouched_at : (k : ℕ) (d : Change) → k < length (front ++ tail) → standing (state_at s (front ++ tail) k) (place_of (get_or (front ++ tail) k d)) ≡ standing s (place_of (get_or (front ++ tail) k d))
+  unfolding state_at
+  untouched_at k d lt =
+      untouched s (take k (front ++ tail)) (place_of (get_or (front ++ tail) k d))
+      (each_take (λ c. IsThere s (place_of c)) (front ++ tail) k (each_through (Fits s) (λ c. IsThere s (place_of c)) (λ c h. h.there) (front ++ tail) fit))
+      (often_before (front ++ tail) once k d lt)
+
+  shape_at : (k : ℕ) → SameShape (state_at s (front ++ tail) k) s
+  unfolding state_at
+  shape_at k = shape-applied s (take k (front ++ tail))
+
+  fits_in_turn : (k : ℕ) (d : Change) → k < length (front ++ tail) → Fits (state_at s (front ++ tail) k) (get_or (front ++ tail) k d)
+  fits_in_turn k d lt = fits_moved s (state_at s (front ++ tail) k) (get_or (front ++ tail) k d) (shape_at k) (untouched_at k d lt) (fits_at k d lt)
+
+  leaves_in_turn : (k : ℕ) (d : Change) → k < length (front ++ tail) → k < length front → Finds (state_at s (front ++ tail) (k + 1)) (get_or (front ++ tail) k d)
+  leaves_in_turn k d lt first z =
+      let c = get_or (front ++ tail) k d in
+      let here : c ≡ get_or front k d = get_or_append_left front tail d k first in
+      let e : standing (state_at s (front ++ tail) (k + 1)) (place_of c) ≡ after_of s c
+      = ap (λ t. standing t (place_of c)) (state_more s (front ++ tail) k d lt) ∙ landed (state_at s (front ++ tail) k) c (fits_in_turn k d lt) ∙ ap (λ x. x +ℤ gain_of c) (untouched_at k d lt) in
+      subst (λ x. after_of s x ≢ pos 0) (sym here) (each_at (λ x. after_of s x ≢ pos 0) front k d leave first) (sym e ∙ z)
+
+  finds_in_turn : (k : ℕ) (d : Change) → k < length (front ++ tail) → length front ≤ k → Finds (state_at s (front ++ tail) k) (get_or (front ++ tail) k d)
+  finds_in_turn k d lt past z =
+      let there : k - length front < length tail = omega (arith, past, lt, length-append front tail) in
+      subst (λ x. before_of s x ≢ pos 0) (sym (get_or-append_right front tail (length front) k d refl past))
+      (each_at (λ x. before_of s x ≢ pos 0) tail (k - length front) d find there) (sym (untouched_at k d lt) ∙ z)
+
+  pub runnable : IsRunnable s (front ++ tail)
+  runnable = record { turn = length front; fits = fits_in_turn; leaves = leaves_in_turn; finds = finds_in_turn }
+
+-- ---- where the run leads
+
+plus_none : (x : ℤ) → x +ℤ pos 0 ≡ x
+plus_none x = omega (arith, ints)
+
+none_plus : (x : ℤ) → pos 0 +ℤ x ≡ x
+none_plus x = omega (arith, ints)
+
+plus_by : (x y z : ℤ) → (x +ℤ y) +ℤ z ≡ x +ℤ (y +ℤ (z +ℤ pos 0))
+plus_by x y z = omega (arith, ints)
+
+by_key : (b : Bool) (x y g : ℤ) → (b ≡ true → y ≡ x) → cond b (y +ℤ g) x ≡ x +ℤ cond b g (pos 0)
+by_key true x y g e = ap (λ z. z +ℤ g) (e refl)
+by_key false x y g e = sym (plus_none x)
+
+moved_more : (t : ClusterState) (k : Place) (c : Change) → Fits t c → standing (made t c) k ≡ standing t k +ℤ cond (eq_by_cmp place_cmp k (place_of c)) (gain_of c) (pos 0)
+moved_more t k c fits =
+    moved_by t c k fits
+    ∙ by_key (eq_by_cmp place_cmp k (place_of c)) (standing t k) (standing t (place_of c)) (gain_of c) (λ e. ap (standing t) (sym (tells_apart place_exact k (place_of c) e)))
+
+some_change : Change
+some_change = Sink 0 0 (pos 0)
+
+moved_at : (s : ClusterState) (cs : List Change) (runs : IsRunnable s cs) (j : Place) (k : ℕ) → k ≤ length cs → standing (state_at s cs k) j ≡ standing s j +ℤ total j (take k cs)
+moved_at s cs runs j zero h = ap (λ t. standing t j) (state_none s cs) ∙ sym (plus_none (standing s j))
+moved_at s cs runs j (suc k) h =
+    let lt : k < length cs = omega (arith, h) in
+    let c = get_or cs k some_change in
+    let t = state_at s cs k in
+    let more : suc k ≡ k + 1 = omega arith in
+    let ih : standing t j ≡ standing s j +ℤ total j (take k cs) = moved_at s cs runs j k (omega (arith, h)) in
+    let a : standing (state_at s cs (suc k)) j ≡ standing t j +ℤ cond (eq_by_cmp place_cmp j (place_of c)) (gain_of c) (pos 0)
+    = ap (λ i. standing (state_at s cs i) j) more ∙ ap (λ u. standing u j) (state_more s cs k some_change lt) ∙ moved_more t j c (runs.fits k some_change lt) in
+    let b : total j (take (suc k) cs) ≡ total j (take k cs) +ℤ (cond (eq_by_cmp place_cmp j (place_of c)) (gain_of c) (pos 0) +ℤ pos 0)
+    = ap (λ i. total j (take i cs)) more ∙ ap (total j) (take_more cs k some_change lt) ∙ total-append j (take k cs) (c ∷ []) in
+    a ∙ ap (λ x. x +ℤ cond (eq_by_cmp place_cmp j (place_of c)) (gain_of c) (pos 0)) ih ∙ plus_by (standing s j) (total j (take k cs)) _ ∙ ap (λ x. standing s j +ℤ x) (sym b)
+
+pub moved : (s : ClusterState) (cs : List Change) → IsRunnable s cs → (j : Place) → standing (applied s cs) j ≡ standing s j +ℤ total_at (edits_of cs) j
+moved s cs runs j =
+    ap (λ u. standing u j) (sym (all_made s cs (length cs) (omega arith))) ∙ moved_at s cs runs j (length cs) (omega arith)
+    ∙ ap (λ x. standing s j +ℤ total j x) (take_all (length cs) cs (omega arith))
+
+-- ---- as many changes as places at which the states differ
+
+-- the gains in the order of their places
+sorted : List Change → List (Place × ℤ)
+sorted [] = []
+sorted (c ∷ cs) = put place_cmp (place_of c) (gain_of c) (sorted cs)
+
+sorted_is : (cs : List Change) → T (is_sorted place_cmp (sorted cs))
+unfolding sorted
+sorted_is [] = tt
+sorted_is (c ∷ cs) = is_sorted-put place_cmp place_total (place_of c) (gain_of c) (sorted cs) (sorted_is cs)
+
+none_found : (b : Bool) (v : ℤ) (x : Option ℤ) → b ≡ false → x ≡ None → cond b (Some v) x ≡ None
+none_found true v x e h = absurd (true≢false e)
+none_found false v x e h = h
+
+sorted_without : (cs : List Change) (k : Place) → often k cs ≡ 0 → find place_cmp k (sorted cs) ≡ None
+unfolding sorted
+sorted_without [] k e = refl
+sorted_without (c ∷ cs) k e =
+    find-put place_cmp place_total k (place_of c) (gain_of c) (sorted cs)
+    ∙ none_found (eq_by_cmp place_cmp k (place_of c)) (gain_of c) _ (not_there (eq_by_cmp place_cmp k (place_of c)) (often k cs) e)
+    (sorted_without cs k (rest_none (eq_by_cmp place_cmp k (place_of c)) (often k cs) e))
+
+less_often : (b : Bool) (n : ℕ) → cond b 1 0 + n ≤ 1 → n ≤ 1
+less_often true n h = omega (arith, h)
+less_often false n h = omega (arith, h)
+
+once_tail : (c : Change) (cs : List Change) → Once (c ∷ cs) → Once cs
+once_tail c cs once k = less_often (eq_by_cmp place_cmp k (place_of c)) (often k cs) (once k)
+
+alone_there : (b : Bool) (n : ℕ) → b ≡ true → cond b 1 0 + n ≤ 1 → n ≡ 0
+alone_there true n e h = omega (arith, h)
+alone_there false n e h = absurd (true≢false (sym e))
+
+by_found : (b : Bool) (g w : ℤ) (x : Option ℤ) → (b ≡ true → w ≡ pos 0) → or_else (pos 0) x ≡ w → or_else (pos 0) (cond b (Some g) x) ≡ cond b g (pos 0) +ℤ w
+by_found true g w x e h = sym (ap (λ z. g +ℤ z) (e refl) ∙ plus_none g)
+by_found false g w x e h = h ∙ sym (none_plus w)
+
+-- what is found among them is what the list adds
+sorted_found : (cs : List Change) → Once cs → (k : Place) → or_else (pos 0) (find place_cmp k (sorted cs)) ≡ total k cs
+unfolding sorted
+sorted_found [] once k = refl
+sorted_found (c ∷ cs) once k =
+    ap (or_else (pos 0)) (find-put place_cmp place_total k (place_of c) (gain_of c) (sorted cs))
+    ∙ by_found (eq_by_cmp place_cmp k (place_of c)) (gain_of c) (total k cs) (find place_cmp k (sorted cs))
+    (λ e. never_added k cs (alone_there (eq_by_cmp place_cmp k (place_of c)) (often k cs) e (once k)))
+    (sorted_found cs (once_tail c cs once) k)
+
+kept_some : (b : Bool) (v : ℤ) (x : Option ℤ) → v ≢ pos 0 → x ≢ Some (pos 0) → cond b (Some v) x ≢ Some (pos 0)
+kept_some true v x p q e = p (ap (or_else (pos 0)) e)
+kept_some false v x p q e = q e
+
+sorted_some : (cs : List Change) → Each (λ c. gain_of c ≢ pos 0) cs → (k : Place) → find place_cmp k (sorted cs) ≢ Some (pos 0)
+unfolding sorted
+sorted_some [] some k e = cc
+sorted_some (c ∷ cs) some k e =
+    kept_some (eq_by_cmp place_cmp k (place_of c)) (gain_of c) (find place_cmp k (sorted cs)) some.0 (sorted_some cs some.1 k)
+    (sym (find-put place_cmp place_total k (place_of c) (gain_of c) (sorted cs)) ∙ e)
+
+sorted_length : (cs : List Change) → Once cs → length (sorted cs) ≡ length cs
+unfolding sorted
+sorted_length [] once = refl
+sorted_length (c ∷ cs) once =
+    let none : often (place_of c) cs ≡ 0 = alone_there (eq_by_cmp place_cmp (place_of c) (place_of c)) (often (place_of c) cs) (same_key place_total (place_of c)) (once (place_of c)) in
+    let more : length cs + 1 ≡ suc (length cs) = omega arith in
+    length-put place_cmp place_total (place_of c) (gain_of c) (sorted cs) (sorted_is cs)
+    ∙ ap (λ x. cond (is_some x) (length (sorted cs)) (length (sorted cs) + 1)) (sorted_without cs (place_of c) none)
+    ∙ ap (λ n. n + 1) (sorted_length cs (once_tail c cs once)) ∙ more
+
+less_by : (x y z : ℤ) → y ≡ x +ℤ z → z ≡ y -ℤ x
+less_by x y z e = omega (arith, ints, e)
+
+pub as_many : (s t : ClusterState) (cs : List Change) → Once cs → Each (λ c. gain_of c ≢ pos 0) cs → ((k : Place) → standing t k ≡ standing s k +ℤ total_at (edits_of cs) k) → length cs ≡ size (difference s t)
+as_many s t cs once some totals =
+    let e : of_entries {N = integers} place_total (sorted cs) ≡ difference s t
+    = same place_total place_exact _ _ (λ k. at-of_entries integers place_total place_exact (sorted cs) k ∙ sorted_found cs once k ∙ less_by (standing s k) (standing t k) (total k cs) (totals k) ∙ sym (at-difference s t k)) in
+    sym (sorted_length cs once) ∙ ap length (sym (entries-of_entries integers place_total place_exact (sorted cs) (sorted_is cs) (sorted_some cs some))) ∙ ap (λ m. length (entries m)) e
+
+-- ---- the plan
+
+module _ (s t : ClusterState) (cs : List Change) (joined : Reaches s t cs) where
+  module _ (k : ℕ) (d : Change) (lt : k < length cs) where
+    comes_to : standing t (place_of (get_or cs k d)) ≡ after_of s (get_or cs k d)
+    comes_to = joined.totals (place_of (get_or cs k d)) ∙ ap (λ z. standing s (place_of (get_or cs k d)) +ℤ z) (gain_alone cs joined.once k d lt)
+
+    there_by : (before_of s (get_or cs k d) ≡ pos 0) ⊎ (before_of s (get_or cs k d) ≢ pos 0) → IsThere s (place_of (get_or cs k d))
+    there_by (inr some) = there_where s (place_of (get_or cs k d)) some
+    there_by (inl none) =
+        there_alike t s (place_of (get_or cs k d)) (shape-turned s t (shape_of s t cs joined))
+        (there_where t (place_of (get_or cs k d)) (λ e. each_at (λ c. gain_of c ≢ pos 0) cs k d joined.some lt (no_more (before_of s (get_or cs k d)) (gain_of (get_or cs k d)) none (sym comes_to ∙ e))))
+
+    joined_fits : IsWithinLimits t → Fits s (get_or cs k d)
+    joined_fits within = record {
+      there = there_by (zero_or_not (before_of s (get_or cs k d)));
+      old = each_at (FindsOld s) cs k d joined.old lt;
+      numbers = each_at NamesNumbers cs k d joined.numbers lt;
+      may = subst (MayStand (place_of (get_or cs k d))) comes_to (may_stand t (place_of (get_or cs k d)));
+      within = subst (IsWithinAt (place_of (get_or cs k d))) comes_to (limits_of t within (place_of (get_or cs k d)));
+    }
+
+  -- what the changes alter is there
+  pub each_there : Each (λ c. IsThere s (place_of c)) cs
+  each_there = each_from (λ c. IsThere s (place_of c)) cs (λ k d lt. there_by k d lt (zero_or_not (before_of s (get_or cs k d))))
+
+module _ (s t : ClusterState) (all : List Change) (joined : Reaches s t all) where
+  low : (c : Change) → kind s c ≤ 2
+  low c = kind_low (is_zero (before_of s c)) (is_zero (after_of s c))
+
+  ordered_each : (P : Change → Type 0) → Each P all → Each P (ordered s all)
+  ordered_each P h =
+      each_append P (of_kind s 0 all ++ of_kind s 1 all) (of_kind s 2 all)
+      (each_append P (of_kind s 0 all) (of_kind s 1 all) (each_picked P P (λ c. nat_eq (kind s c) 0) (λ c t h. h) all h) (each_picked P P (λ c. nat_eq (kind s c) 1) (λ c t h. h) all h))
+      (each_picked P P (λ c. nat_eq (kind s c) 2) (λ c t h. h) all h)
+
+  ordered_often : (k : Place) → often k (ordered s all) ≡ often k all
+  ordered_often k =
+      let a = often-append k (of_kind s 0 all ++ of_kind s 1 all) (of_kind s 2 all) in
+      let b = often-append k (of_kind s 0 all) (of_kind s 1 all) in
+      let e = often-picked (kind s) low k all in
+      a ∙ ap (λ n. n + often k (of_kind s 2 all)) b ∙ summed (often k (of_kind s 0 all)) (often k (of_kind s 1 all)) (often k (of_kind s 2 all)) ∙ e
+    where
+      summed : (x y z : ℕ) → x + y + z ≡ x + (y + z)
+      summed x y z = omega arith
+
+  ordered_total : (k : Place) → total k (ordered s all) ≡ total k all
+  ordered_total k =
+      let a = total-append k (of_kind s 0 all ++ of_kind s 1 all) (of_kind s 2 all) in
+      let b = total-append k (of_kind s 0 all) (of_kind s 1 all) in
+      let e = total-picked (kind s) low k all in
+      a ∙ ap (λ n. n +ℤ total k (of_kind s 2 all)) b ∙ summed (total k (of_kind s 0 all)) (total k (of_kind s 1 all)) (total k (of_kind s 2 all)) ∙ e
+    where
+      summed : (x y z : ℤ) → (x +ℤ y) +ℤ z ≡ x +ℤ (y +ℤ z)
+      summed x y z = omega (arith, ints)
+
+  ordered_joined : Reaches s t (ordered s all)
+  ordered_joined = record {
+    within = joined.within;
+    graph = joined.graph;
+    views = joined.views;
+    queues = joined.queues;
+    count = joined.count;
+    items = joined.items;
+    small = ordered_each IsSmallGain joined.small;
+    once = λ k. subst (λ n. n ≤ 1) (sym (ordered_often k)) (joined.once k);
+    some = ordered_each (λ c. gain_of c ≢ pos 0) joined.some;
+    old = ordered_each (FindsOld s) joined.old;
+    numbers = ordered_each NamesNumbers joined.numbers;
+    totals = λ k. joined.totals k ∙ ap (λ z. standing s k +ℤ z) (sym (ordered_total k));
+  }
+
+  ordered_runs : IsWithinLimits t → IsRunnable s (ordered s all)
+  ordered_runs within =
+      runnable s (of_kind s 0 all ++ of_kind s 1 all) (of_kind s 2 all) ordered_joined.once
+      (each_from (Fits s) (ordered s all) (λ k d lt. joined_fits s t (ordered s all) ordered_joined k d lt within))
+      (each_append (λ c. after_of s c ≢ pos 0) (of_kind s 0 all) (of_kind s 1 all) (leave_first s all joined.some) (leave_second s all joined.some))
+      (find_third s all joined.some)
+
+  -- the changes in the order of their kinds can be run, lead to t, and are as many as the places and queues at which it differs
+  pub planned : IsWithinLimits t → LeadsTo s t (ordered s all)
+  planned within = record {
+    runs = ordered_runs within;
+    arrives = same_state (applied s (ordered s all)) t (shape-through (applied s (ordered s all)) s t (shape-applied s (ordered s all)) (shape_of s t all joined))
+        (λ k. moved s (ordered s all) (ordered_runs within) k ∙ sym (ordered_joined.totals k));
+    small = (let keys = as_many s t (ordered s all) ordered_joined.once ordered_joined.some ordered_joined.totals in let ends = queues_same s t joined.queues in omega (arith, keys, ends));
+  }

@@ -1,0 +1,14 @@
+pub mod Places
+pub mod Alike
+pub mod Standing
+pub mod Changes
+pub mod Edits
+pub mod Undone
+pub mod Plans
+pub mod Seen
+pub mod Exchanges
+pub mod Records
+pub mod Slots
+pub mod Limits
+pub mod Turns
+pub mod Counted

@@ -1,0 +1,16 @@
+//! Records of steps: what they change in the parts of a cluster, in which order, and how that is made and undone.
+#![tactic(auto)]
+
+mod change;
+mod counted;
+mod exchange;
+mod limits;
+mod making;
+mod order;
+mod record;
+
+pub use change::Change;
+pub use counted::changes_are_counted;
+pub use limits::limit_refusal;
+pub use order::in_order;
+pub use record::{Changes, Record};

@@ -1,0 +1,338 @@
+//! Changes made in a processor, and undone.
+ghost use Rattle.std.specs.Prelude.{◌≡◌, ◌≤◌, ◌<◌, ◌≤ℤ◌, ◌+ℤ◌, ◌-ℤ◌, ℤ, pos, length, slice_index_or, unsigned_abs, OnOk, OnErr};
+ghost use Rattle.nd_time.specs.Limits.{max_count};
+ghost use Rattle.nd_processor.specs.State.{idle};
+ghost use Rattle.nd_record.specs.Changes.{place_of, made, unmade, Fits, IsRunnable, applied};
+ghost use Rattle.nd_record.specs.Standing.{standing};
+ghost use Rattle.nd_record.specs.Slots.{records_at, unsent_at, stands, puts, slot_of, owner_of, made_in, unmade_in, FitsIn, ReturnsIn};
+ghost use Rattle.nd_record.specs.Undone.{Returns, Limits, Runs, HasRun, only};
+ghost use Rattle.nd_protocol.specs.State.{ClusterState};
+ghost use Rattle.nd_protocol.specs.Steps.{record_key, point_at};
+
+use crate::Change;
+use nd_delta::DeltaFault;
+use nd_paths::Pointstamp;
+use nd_processor::{CountFault, Processor, ValueAt};
+use nd_time::Timestamp;
+use std::alloc::{AllocError, Allocator};
+
+// So many records more of a key, or less where negative. A key that is there takes no memory.
+fn more_records<A: Allocator + Copy>(
+    processor: &mut Processor<A>,
+    key: &ValueAt,
+    n: i64,
+) -> Result<(), AllocError>
+    requires some { pos 0 ≤ℤ (stands processor.old (records_at key.now) +ℤ n) }
+    requires within { unsigned_abs (stands processor.old (records_at key.now) +ℤ n) ≤ max_count }
+    ensures ok { OnOk result (processor.new ≡ puts processor.old (records_at key.now) (stands processor.old (records_at key.now) +ℤ n)) }
+    ensures err { OnErr result (processor.new ≡ processor.old) }
+    ensures absent { OnErr result (stands processor.old (records_at key.now) ≡ pos 0) }
+{
+    if n < 0 {
+        processor.take_records(key, n.unsigned_abs());
+        return Ok(());
+    }
+    match processor.add_records(key, n.unsigned_abs()) {
+        Ok(()) => Ok(()),
+        Err(CountFault::Memory) => Err(AllocError),
+        Err(CountFault::CountFull) => unreachable!(),
+    }
+}
+
+// So many records less of a key, or more where negative. A key that is there takes no memory.
+fn less_records<A: Allocator + Copy>(
+    processor: &mut Processor<A>,
+    key: &ValueAt,
+    n: i64,
+) -> Result<(), AllocError>
+    requires some { pos 0 ≤ℤ (stands processor.old (records_at key.now) -ℤ n) }
+    requires within { unsigned_abs (stands processor.old (records_at key.now) -ℤ n) ≤ max_count }
+    ensures ok { OnOk result (processor.new ≡ puts processor.old (records_at key.now) (stands processor.old (records_at key.now) -ℤ n)) }
+    ensures err { OnErr result (processor.new ≡ processor.old) }
+    ensures absent { OnErr result (stands processor.old (records_at key.now) ≡ pos 0) }
+{
+    if n > 0 {
+        processor.take_records(key, n.unsigned_abs());
+        return Ok(());
+    }
+    match processor.add_records(key, n.unsigned_abs()) {
+        Ok(()) => Ok(()),
+        Err(CountFault::Memory) => Err(AllocError),
+        Err(CountFault::CountFull) => unreachable!(),
+    }
+}
+
+// So much more at a pointstamp of what is unsent. A pointstamp that has an entry takes no memory.
+fn more_unsent<A: Allocator + Copy>(
+    processor: &mut Processor<A>,
+    point: &Pointstamp,
+    n: i64,
+) -> Result<(), AllocError>
+    requires { unsigned_abs (stands processor.old (unsent_at point.now) +ℤ n) ≤ max_count }
+    ensures ok { OnOk result (processor.new ≡ puts processor.old (unsent_at point.now) (stands processor.old (unsent_at point.now) +ℤ n)) }
+    ensures err { OnErr result (processor.new ≡ processor.old) }
+    ensures absent { OnErr result (stands processor.old (unsent_at point.now) ≡ pos 0) }
+{
+    match processor.add_unsent(point, n) {
+        Ok(()) => Ok(()),
+        Err(DeltaFault::Memory) => Err(AllocError),
+        Err(DeltaFault::DeltaFull) => unreachable!(),
+    }
+}
+
+// So much less at a pointstamp of what is unsent. A pointstamp that has an entry takes no memory.
+fn less_unsent<A: Allocator + Copy>(
+    processor: &mut Processor<A>,
+    point: &Pointstamp,
+    n: i64,
+) -> Result<(), AllocError>
+    requires held { unsigned_abs (stands processor.old (unsent_at point.now)) ≤ max_count }
+    requires within { unsigned_abs (stands processor.old (unsent_at point.now) -ℤ n) ≤ max_count }
+    ensures ok { OnOk result (processor.new ≡ puts processor.old (unsent_at point.now) (stands processor.old (unsent_at point.now) -ℤ n)) }
+    ensures err { OnErr result (processor.new ≡ processor.old) }
+    ensures absent { OnErr result (stands processor.old (unsent_at point.now) ≡ pos 0) }
+{
+    more_unsent(processor, point, -n)
+}
+
+// The record of a value at an edge's pointstamp.
+pub(crate) fn value_at(edge: usize, time: &Timestamp, value: i64) -> ValueAt
+    ensures { result ≡ record_key edge time.now value }
+{
+    ValueAt {
+        point: Pointstamp {
+            location: edge,
+            time: time.copy(),
+        },
+        value,
+    }
+}
+
+// The pointstamp of a vertex.
+fn vertex_point(vertex: usize, time: &Timestamp) -> Pointstamp
+    ensures { result ≡ point_at vertex time.now }
+{
+    Pointstamp {
+        location: vertex,
+        time: time.copy(),
+    }
+}
+
+// Makes a change. Where something stands already it takes no memory.
+fn make_in<A: Allocator + Copy>(
+    processor: &mut Processor<A>,
+    change: &Change,
+) -> Result<(), AllocError>
+    requires { FitsIn processor.old change.now }
+    ensures ok { OnOk result (processor.new ≡ made_in processor.old change.now) }
+    ensures err { OnErr result (processor.new ≡ processor.old) }
+    ensures absent { OnErr result (stands processor.old (slot_of change.now) ≡ pos 0) }
+{
+    match change {
+        Change::Records {
+            p: _,
+            edge,
+            time,
+            value,
+            n,
+        } => more_records(processor, &value_at(*edge, time, *value), *n),
+        Change::Request {
+            p: _,
+            vertex,
+            time,
+            add: true,
+        } => processor.add_request(&vertex_point(*vertex, time)),
+        Change::Request {
+            p: _,
+            vertex,
+            time,
+            add: false,
+        } => {
+            processor.drop_request(&vertex_point(*vertex, time));
+            Ok(())
+        }
+        Change::Token {
+            p: _,
+            vertex,
+            old,
+            new,
+        } => processor.move_token(*vertex, *old, *new),
+        Change::State {
+            p: _,
+            vertex,
+            time,
+            item,
+            old,
+            new,
+        } => processor.set_item(*vertex, time, *item, *old, *new),
+        Change::Sink {
+            p: _,
+            vertex,
+            value,
+        } => match processor.add_sink(*vertex, *value, 1) {
+            Ok(()) => Ok(()),
+            Err(CountFault::Memory) => Err(AllocError),
+            Err(CountFault::CountFull) => unreachable!(),
+        },
+        Change::Unsent { p: _, point, n } => more_unsent(processor, point, *n),
+    }
+}
+
+// Undoes a change. Where something stands it takes no memory.
+fn undo_in<A: Allocator + Copy>(
+    processor: &mut Processor<A>,
+    change: &Change,
+) -> Result<(), AllocError>
+    requires { ReturnsIn processor.old change.now }
+    ensures ok { OnOk result (processor.new ≡ unmade_in processor.old change.now) }
+    ensures err { OnErr result (processor.new ≡ processor.old) }
+    ensures absent { OnErr result (stands processor.old (slot_of change.now) ≡ pos 0) }
+{
+    match change {
+        Change::Records {
+            p: _,
+            edge,
+            time,
+            value,
+            n,
+        } => less_records(processor, &value_at(*edge, time, *value), *n),
+        Change::Request {
+            p: _,
+            vertex,
+            time,
+            add: true,
+        } => {
+            processor.drop_request(&vertex_point(*vertex, time));
+            Ok(())
+        }
+        Change::Request {
+            p: _,
+            vertex,
+            time,
+            add: false,
+        } => processor.add_request(&vertex_point(*vertex, time)),
+        Change::Token {
+            p: _,
+            vertex,
+            old,
+            new,
+        } => processor.move_token(*vertex, *new, *old),
+        Change::State {
+            p: _,
+            vertex,
+            time,
+            item,
+            old,
+            new,
+        } => processor.set_item(*vertex, time, *item, *new, *old),
+        Change::Sink {
+            p: _,
+            vertex,
+            value,
+        } => {
+            processor.take_sink(*vertex, *value, 1);
+            Ok(())
+        }
+        Change::Unsent { p: _, point, n } => less_unsent(processor, point, *n),
+    }
+}
+
+impl Change {
+    // Whose processor it is of.
+    pub(crate) fn owner(&self) -> usize
+        ensures { result ≡ owner_of self.now }
+    {
+        match self {
+            Change::Records { p, .. }
+            | Change::Request { p, .. }
+            | Change::Token { p, .. }
+            | Change::State { p, .. }
+            | Change::Sink { p, .. }
+            | Change::Unsent { p, .. } => *p as usize,
+        }
+    }
+}
+
+// One of the processors.
+pub(crate) fn processor_of<A: Allocator + Copy>(
+    processors: &[Processor<A>],
+    p: usize,
+) -> &Processor<A>
+    requires { p < length processors.now }
+    ensures { result.now ≡ slice_index_or processors.now p idle }
+{
+    &processors[p]
+}
+
+// Makes a change in one of the processors. Where something stands already it takes no memory.
+fn make<A: Allocator + Copy>(
+    processors: &mut Vec<Processor<A>, A>,
+    change: &Change,
+) -> Result<(), AllocError>
+    requires { Fits (only processors.old.items) change.now }
+    ensures ok { OnOk result (only processors.new.items ≡ made (only processors.old.items) change.now) }
+    ensures err { OnErr result (processors.new.items ≡ processors.old.items) }
+    ensures absent { OnErr result (standing (only processors.old.items) (place_of change.now) ≡ pos 0) }
+{
+    let processor = &mut processors[change.owner()];
+    make_in(processor, change)
+}
+
+// Undoes a change in one of the processors. Where something stands it takes no memory.
+fn undo<A: Allocator + Copy>(
+    processors: &mut Vec<Processor<A>, A>,
+    change: &Change,
+) -> Result<(), AllocError>
+    requires { Returns (only processors.old.items) change.now }
+    ensures ok { OnOk result (only processors.new.items ≡ unmade (only processors.old.items) change.now) }
+    ensures err { OnErr result (processors.new.items ≡ processors.old.items) }
+    ensures absent { OnErr result (standing (only processors.old.items) (place_of change.now) ≡ pos 0) }
+{
+    let processor = &mut processors[change.owner()];
+    undo_in(processor, change)
+}
+
+// Makes changes, one after the other. What a refused growth interrupts is taken back by removals.
+pub(crate) fn make_all<A: Allocator + Copy>(
+    processors: &mut Vec<Processor<A>, A>,
+    changes: &[Change],
+) -> Result<(), AllocError>
+    requires runs { IsRunnable (only processors.old.items) changes.now }
+    requires limits { Limits (only processors.old.items) }
+    ensures ok { OnOk result (only processors.new.items ≡ applied (only processors.old.items) changes.now) }
+    ensures err { OnErr result (processors.new.items ≡ processors.old.items) }
+{
+    for i in 0..changes.len() {
+        let Ok(()) = make(processors, &changes[i]) else {
+            for j in (0..i).rev() {
+                let Ok(()) = undo(processors, &changes[j]) else {
+                    return Err(AllocError);
+                };
+            }
+            return Err(AllocError);
+        };
+    }
+    Ok(())
+}
+
+// Undoes changes, from the last to the first. What a refused growth interrupts is made again.
+pub(crate) fn undo_all<A: Allocator + Copy>(
+    processors: &mut Vec<Processor<A>, A>,
+    changes: &[Change],
+) -> Result<(), AllocError>
+    requires { HasRun (only processors.old.items) changes.now }
+    ensures ok { OnOk result ((s : ClusterState) → Runs s (only processors.old.items) changes.now → only processors.new.items ≡ s) }
+    ensures err { OnErr result (processors.new.items ≡ processors.old.items) }
+{
+    for i in (0..changes.len()).rev() {
+        let Ok(()) = undo(processors, &changes[i]) else {
+            for j in i + 1..changes.len() {
+                let Ok(()) = make(processors, &changes[j]) else {
+                    return Err(AllocError);
+                };
+            }
+            return Err(AllocError);
+        };
+    }
+    Ok(())
+}

@@ -1,0 +1,67 @@
+//! What processors hold: items of a vertex, the token of another, and parts of what is unsent.
+
+ghost use Rattle.std.specs.Prelude.{IfSome};
+ghost use Rattle.nd_processor.specs.Edits.{IsApart};
+
+use nd_delta::Delta;
+use nd_drawn::time;
+use nd_processor::Processor;
+use nd_time::Timestamp;
+use nd_vertex::VertexState;
+use std::alloc::{AllocError, Allocator};
+
+/// Gives an item a number that is not 0, or `None` where it is.
+pub fn set<A: Allocator + Copy>(
+    state: &mut VertexState<A>,
+    time: &Timestamp,
+    item: i64,
+    number: Option<i64>,
+) -> Option<Result<(), AllocError>> {
+    if number == Some(0) {
+        return None;
+    }
+    let old = state.get(time, item);
+    Some(state.set(time, item, old, number))
+}
+
+/// Moves the token of the first vertex from where it is.
+pub fn move_token<A: Allocator + Copy>(
+    processor: &mut Processor<A>,
+    new: Option<u32>,
+) -> Result<(), AllocError> {
+    let old = processor.token(0);
+    processor.move_token(0, old, new)?;
+    Ok(())
+}
+
+/// The number of the item 7 of the second vertex at epoch 0.
+pub fn item<A: Allocator + Copy>(processor: &Processor<A>) -> Option<i64> {
+    if processor.vertex_count() < 2 {
+        return None;
+    }
+    processor.vertex_state(1).get(&time(&[0])?, 7)
+}
+
+/// Gives that item another number. `None` where that is 0, or there is no such vertex.
+pub fn set_item<A: Allocator + Copy>(
+    processor: &mut Processor<A>,
+    new: Option<i64>,
+) -> Option<Result<(), AllocError>> {
+    if new == Some(0) || processor.vertex_count() < 2 {
+        return None;
+    }
+    let time = time(&[0])?;
+    let old = processor.vertex_state(1).get(&time, 7);
+    Some(processor.set_item(1, &time, 7, old, new))
+}
+
+/// Takes the first of the unsent entries out.
+#[tactic(auto, using(crate::proofs::Parts::is_part, crate::proofs::Parts::is_apart))]
+pub fn take_first<A: Allocator + Copy>(processor: &mut Processor<A>, alloc: A) -> Option<Delta<A>>
+    ensures { IfSome result (λ d. IsApart d processor.new.unsent) }
+{
+    let point = processor.unsent().entries().first()?.0.copy();
+    let part = processor.unsent().part(alloc, &[point]).ok()?;
+    processor.take_part(&part);
+    Some(part)
+}

@@ -1,0 +1,323 @@
+//! The worked examples, by their names.
+
+use crate::queues::{len, pop, push, unpop, unpush};
+use crate::views::view;
+use nd_delta::{Delta, DeltaFault};
+use nd_drawn::{
+    CYCLE, EMPTY, LINE, NESTED_LOOP, TWO_WAYS, UNGUARDED_LOOP, are_entries, change, graph_of,
+    graph_text, paths_of, point, time,
+};
+use nd_graph::{Action, GraphDraft, GraphFault, Op};
+use nd_mesh::{LIMIT, Mesh, PushFault};
+use nd_paths::{Constants, PathFault, Paths, Summary};
+use nd_time::{CounterFull, Timestamp};
+use nd_vertex::{Effect, VertexFault, VertexState};
+use serde_json::Value;
+use std::alloc::{AllocError, Global};
+use std::test::Fail;
+
+/// The time past a vertex of this action, or `None` where there is no such time.
+fn moved(action: Action, time: &Timestamp) -> Option<Timestamp> {
+    match action {
+        Action::Identity => Some(time.copy()),
+        Action::Ingress => time.ingress(),
+        Action::Egress => time.egress(),
+        Action::Feedback => {
+            if time.depth() == 0 {
+                return None;
+            }
+            time.feedback().ok()
+        }
+    }
+}
+
+#[test]
+fn time_limits(rt: HostRuntime) -> Result<(), Fail> {
+    assert_eq!(rt; Timestamp::new(0, &[1, 2, 3, 4, 5]), None);
+    let moves: [(Action, &[u32], Option<&[u32]>); 6] = [
+        (Action::Ingress, &[0, 1, 2, 3, 4], None),
+        (Action::Ingress, &[7], Some(&[7, 0])),
+        (Action::Egress, &[0], None),
+        (Action::Egress, &[0, 3], Some(&[0])),
+        (Action::Feedback, &[0, 1, 4], Some(&[0, 1, 5])),
+        (Action::Feedback, &[0, 4294967295], None),
+    ];
+    for (action, from, to) in moves {
+        let from = time(from).ok_or("no time")?;
+        assert_eq!(rt; moved(action, &from), to.and_then(time), "from {from:?}");
+    }
+    let last = Timestamp::new(0, &[4294967295]).ok_or("no time")?;
+    assert_eq!(rt; last.feedback(), Err(CounterFull));
+    Ok(())
+}
+
+#[test]
+fn time_order(rt: HostRuntime) -> Result<(), Fail> {
+    let pairs: [(&[u32], &[u32], bool); 5] = [
+        (&[0, 1, 9], &[0, 2, 0], true),
+        (&[0, 2, 0], &[0, 1, 9], false),
+        (&[1, 0], &[0, 5], false),
+        (&[0], &[0, 0], false),
+        (&[0, 0], &[0], false),
+    ];
+    for (s, t, is_before) in pairs {
+        let s = time(s).ok_or("no time")?;
+        let t = time(t).ok_or("no time")?;
+        assert_eq!(rt; s.at_or_before(&t), is_before, "from {s:?} to {t:?}");
+    }
+    Ok(())
+}
+
+/// The fault of the graph of a JSON text.
+fn fault_of(alloc: Global, text: &str) -> Option<GraphFault> {
+    let value = Value::from_str(alloc, text).ok()?;
+    match GraphDraft::from_value(alloc, &value) {
+        Ok(draft) => draft.check(alloc).err(),
+        Err(fault) => Some(fault),
+    }
+}
+
+/// The JSON text of a graph of so many vertices and no edge.
+fn vertices_alone(alloc: Global, count: usize) -> Result<String, AllocError> {
+    let mut text = String::new(alloc);
+    text.push_str("{\"vertices\":[")?;
+    for number in 0..count {
+        let comma = if number == 0 { "" } else { "," };
+        let vertex = format!(in alloc;
+            "{comma}{{\"name\":\"v{number}\",\"op\":\"sink\",\"depth\":0}}"
+        )?;
+        text.push_str(vertex.as_str())?;
+    }
+    text.push_str("],\"edges\":[]}")?;
+    Ok(text)
+}
+
+/// Graphs, each with its fault.
+static FAULTS: [(&str, Option<GraphFault>); 7] = [
+    (
+        r#"{"vertices":[{"name":"a","op":"input","depth":0},{"name":"z","op":"sink","depth":0}]}"#,
+        Some(GraphFault::Shape),
+    ),
+    (
+        graph_text!(a input 0, z sink 0; z: a 0 -> z local),
+        Some(GraphFault::DoubleName),
+    ),
+    (
+        graph_text!(a input 0, z sink 0; az: a 0 -> q local),
+        Some(GraphFault::UnknownName),
+    ),
+    (
+        graph_text!(a input 0, z sink 0; az: a 1 -> z local),
+        Some(GraphFault::BadPort),
+    ),
+    (
+        graph_text!(a input 0, z sink 0; az: z 0 -> a local),
+        Some(GraphFault::BadPort),
+    ),
+    (
+        graph_text!(a input 0, z sink 1; az: a 0 -> z local),
+        Some(GraphFault::DepthMismatch),
+    ),
+    (EMPTY, None),
+];
+
+#[test]
+fn graph_faults(rt: HostRuntime) -> Result<(), Fail> {
+    for (text, fault) in FAULTS {
+        assert_eq!(rt; fault_of(rt.alloc(), text), fault, "at {text}");
+    }
+    for (count, fault) in [(64, None), (65, Some(GraphFault::TooLarge))] {
+        let text = vertices_alone(rt.alloc(), count)?;
+        assert_eq!(rt; fault_of(rt.alloc(), text.as_str()), fault, "at {count}");
+    }
+    Ok(())
+}
+
+#[test]
+fn loop_not_strict(rt: HostRuntime) -> Result<(), Fail> {
+    for (text, name) in [
+        (UNGUARDED_LOOP, Some("m")),
+        (CYCLE, Some("m")),
+        (NESTED_LOOP, None),
+    ] {
+        let graph = graph_of(rt.alloc(), rt.alloc(), text).ok_or("no graph")?;
+        let location = match Paths::of(rt.alloc(), &graph) {
+            Err(PathFault::LoopNotStrict { location }) => Some(location),
+            _ => None,
+        };
+        let wanted = name.and_then(|name| graph.location_of(name));
+        assert_eq!(rt; location, wanted, "in {text}");
+    }
+    Ok(())
+}
+
+/// Whether the summaries between two locations of *two-ways* are those that keep and that drop the counter.
+fn has_two(paths: &Paths) -> Option<bool> {
+    let graph = paths.graph();
+    let (from, to) = (graph.location_of("x")?, graph.location_of("z")?);
+    if from >= graph.location_count() || to >= graph.location_count() {
+        return None;
+    }
+    let both = [
+        Summary {
+            keep: 1,
+            add: 0,
+            constants: Constants::new(&[])?,
+        },
+        Summary {
+            keep: 0,
+            add: 0,
+            constants: Constants::new(&[1])?,
+        },
+    ];
+    let found = paths.summaries(from, to);
+    Some(found.as_slice() == both.as_slice())
+}
+
+#[test]
+fn two_summaries(rt: HostRuntime) -> Result<(), Fail> {
+    let paths = paths_of(rt.alloc(), rt.alloc(), TWO_WAYS).ok_or("no paths")?;
+    assert_eq!(rt; has_two(&paths), Some(true));
+    let pairs: [(&[u32], &[u32], bool); 3] = [
+        (&[0, 5], &[0, 1], true),
+        (&[0, 5], &[0, 0], false),
+        (&[0, 0], &[0, 0], true),
+    ];
+    for (s, t, is_before) in pairs {
+        let s = point(paths.graph(), "x", s).ok_or("no point")?;
+        let t = point(paths.graph(), "z", t).ok_or("no point")?;
+        assert_eq!(rt; paths.before(&s, &t), is_before, "from {s:?} to {t:?}");
+    }
+    Ok(())
+}
+
+/// Whether what is added at a point is kept up to the limit.
+fn is_limited(alloc: Global) -> Option<bool> {
+    let graph = graph_of(alloc, alloc, LINE)?;
+    let p = point(&graph, "a", &[0])?;
+    let mut delta = Delta::new(alloc);
+    delta.add(&p, 1_099_511_627_776).ok()?;
+    let is_full = delta.add(&p, 1) == Err(DeltaFault::DeltaFull);
+    let is_kept = delta.get(&p) == 1_099_511_627_776;
+    delta.add(&p, -1_099_511_627_776).ok()?;
+    Some(is_full && is_kept && delta.len() == 0)
+}
+
+/// Whether the sum, the difference and the part of two changes are what they should be.
+fn sums(alloc: Global) -> Option<bool> {
+    let graph = graph_of(alloc, alloc, LINE)?;
+    let r = point(&graph, "z", &[0])?;
+    let one = change(alloc, &graph, &[("a", 0, 2)])?;
+    let other = change(alloc, &graph, &[("a", 0, -2), ("z", 0, 1)])?;
+    let sum = one.plus(alloc, &other).ok()?;
+    let difference = one.minus(alloc, &other).ok()?;
+    let part = other.part(alloc, &[r.copy(), r]).ok()?;
+    Some(
+        are_entries(&graph, sum.entries(), &[("z", 0, 1)])
+            && are_entries(&graph, difference.entries(), &[("a", 0, 4), ("z", 0, -1)])
+            && are_entries(&graph, part.entries(), &[("z", 0, 1)]),
+    )
+}
+
+#[test]
+fn change_limits(rt: HostRuntime) {
+    assert_eq!(rt; is_limited(rt.alloc()), Some(true));
+    assert_eq!(rt; sums(rt.alloc()), Some(true));
+}
+
+/// Whether a view that was given a change, and then its opposite, goes back over both.
+fn is_undone(alloc: Global) -> Option<bool> {
+    let paths = paths_of(alloc, alloc, LINE)?;
+    let more = change(alloc, paths.graph(), &[("a", 0, 1)])?;
+    let less = change(alloc, paths.graph(), &[("a", 0, -1)])?;
+    let mut view = view(alloc, &paths, &more)?;
+    view.apply(&paths, &less).ok()?;
+    let is_gone = view.entries().is_empty();
+    view.unapply(&paths, &less).ok()?;
+    let is_back = view.entries() == more.entries();
+    view.unapply(&paths, &more).ok()?;
+    Some(is_gone && is_back && view.entries().is_empty())
+}
+
+#[test]
+fn view_undone(rt: HostRuntime) {
+    assert_eq!(rt; is_undone(rt.alloc()), Some(true));
+}
+
+#[test]
+fn queue_ends(rt: HostRuntime) -> Result<(), Fail> {
+    let graph = graph_of(rt.alloc(), rt.alloc(), LINE).ok_or("no graph")?;
+    let change = change(rt.alloc(), &graph, &[("a", 0, 1)]).ok_or("no change")?;
+    let mut mesh = Mesh::new(rt.alloc(), 1)?;
+    for n in 0..LIMIT {
+        assert_eq!(rt; push(&mut mesh, 0, &change), Some(Ok(())), "at {n}");
+    }
+    assert_eq!(rt;
+        push(&mut mesh, 0, &change),
+        Some(Err(PushFault::QueueFull))
+    );
+    assert!(rt; pop(&mut mesh, 0, 0).is_some());
+    assert_eq!(rt; push(&mut mesh, 0, &change), Some(Ok(())));
+    Ok(())
+}
+
+/// Whether a change goes through new queues of one processor, and back.
+fn goes_through(alloc: Global, change: &Delta) -> Option<bool> {
+    let mut mesh = Mesh::new(alloc, 1).ok()?;
+    let is_new = pop(&mut mesh, 0, 0).is_none() && !unpush(&mut mesh, 0)?;
+    push(&mut mesh, 0, change)?.ok()?;
+    let popped = pop(&mut mesh, 0, 0)?;
+    let is_same = popped.entries() == change.entries();
+    unpop(&mut mesh, 0, 0, popped)?.ok()?;
+    let is_put = len(&mesh, 0, 0) == Some(1) && unpush(&mut mesh, 0)?;
+    Some(is_new && is_same && is_put && len(&mesh, 0, 0) == Some(0))
+}
+
+/// The same of a change of two entries.
+fn two_go_through(alloc: Global) -> Option<bool> {
+    let graph = graph_of(alloc, alloc, LINE)?;
+    goes_through(alloc, &change(alloc, &graph, &[("a", 0, -1), ("z", 0, 2)])?)
+}
+
+#[test]
+fn queue_ends_when_new(rt: HostRuntime) {
+    assert_eq!(rt; two_go_through(rt.alloc()), Some(true));
+}
+
+/// Whether an effect asks for a notice, and gives the sum 2, and no more.
+fn sets_two(effect: &Effect) -> Option<bool> {
+    let edit = effect.items.first()?;
+    let is_set = edit.key.item == 0 && edit.old.is_none() && edit.new == Some(2);
+    Some(is_set && effect.asks && effect.items.len() == 1 && effect.emits.is_empty())
+}
+
+/// Whether an effect emits the sum 2 on port 0 and takes it out, and no more.
+fn emits_two(effect: &Effect) -> Option<bool> {
+    let (edit, emitted) = (effect.items.first()?, effect.emits.first()?);
+    let is_emitted = emitted.port == 0 && emitted.value == 2 && edit.old == Some(2);
+    Some(is_emitted && edit.new.is_none() && effect.items.len() == 1 && effect.emits.len() == 1)
+}
+
+/// Whether a sum's vertex does on a record of 2, and on the notice after it, what it should.
+fn sums_two(alloc: Global) -> Option<bool> {
+    let time = time(&[0])?;
+    let mut state = VertexState::new(alloc);
+    let record = state.on_record(alloc, Op::Sum, &time, 2).ok()?;
+    state.commit(&record).ok()?;
+    let is_set = state.get(&time, 0) == Some(2) && sets_two(&record)?;
+    let is_emitted = emits_two(&state.on_notice(alloc, Op::Sum, &time).ok()?)?;
+    state.revert(&record).ok()?;
+    Some(is_set && is_emitted && state.get(&time, 0).is_none())
+}
+
+#[test]
+fn operator_effects(rt: HostRuntime) -> Result<(), Fail> {
+    assert_eq!(rt; sums_two(rt.alloc()), Some(true));
+    let time = time(&[0]).ok_or("no time")?;
+    let state = VertexState::new(rt.alloc());
+    let twice = state.on_record(rt.alloc(), Op::Mul(2), &time, 4_611_686_018_427_387_904);
+    assert!(rt; matches!(twice, Err(VertexFault::ValueRange)));
+    let turned = state.on_record(rt.alloc(), Op::Mul(-1), &time, i64::MIN);
+    assert!(rt; matches!(turned, Err(VertexFault::ValueRange)));
+    Ok(())
+}

@@ -1,0 +1,14 @@
+use Rattle.std.proofs.Common.{List, sym, subst}
+use Rattle.std.proofs.lemmas.Result.{IfOk-weaker}
+use Rattle.nd_protocol.specs.Steps.{stepped}
+use Rattle.nd_protocol.specs.declared.step.Step.{Step}
+use Rattle.nd_protocol.specs.declared.step.Step.TheVariants.{Take}
+use Rattle.nd_record.specs.Plans.{Reaches}
+use Rattle.nd_record.specs.declared.change.Change.{Change}
+use Rattle.nd_work.proofs.Assembling.{reaches}
+use Rattle.nd_work.proofs.react.take_changes.Goals as goal
+
+pub returns : goal.returns
+returns g c = IfOk-weaker c.join.result _ _ (λ _ is s has so state free.
+    let x : Step _ = Take c.args.p c.args.key.now.point.location c.args.key.now.point.time c.args.key.now.value in
+    subst (λ (cs : List Change). Reaches s (stepped s x) cs) (sym is) (reaches s x tt state free _ (c.in_ok-take_draft.ensures s has so))) c.join.ensures

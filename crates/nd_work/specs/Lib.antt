@@ -1,0 +1,4 @@
+pub mod Edits
+pub mod Sums
+pub mod Drafts
+pub mod Targets

@@ -1,0 +1,167 @@
+//! By how much a step changes each place, summed up.
+ghost use Rattle.std.specs.Prelude.{◌≡◌, ◌≤◌, ◌*◌, ◌+◌, ◌+ℤ◌, ℕ, ℤ, pos, unsigned_abs, ◌++◌, map, length, OnOk, IfOk};
+ghost use Rattle.std.specs.FinMap.{find};
+ghost use Rattle.nd_time.specs.Limits.{max_count};
+ghost use Rattle.nd_record.specs.Places.{Place, record_of, unsent_of};
+ghost use Rattle.nd_work.specs.Edits.{come_edits};
+ghost use Rattle.nd_work.specs.Drafts.{record_change as change_of_records, unsent_change as change_of_unsent};
+ghost use Rattle.nd_work.specs.Sums.{AreSums, IsAdded, found, AreSummed, IsMore, AddsAll, sum_at};
+
+use crate::RecordAt;
+use nd_map::{Key, TreeMap};
+use nd_paths::Pointstamp;
+use nd_processor::ValueAt;
+use nd_record::Change;
+use std::alloc::{AllocError, Allocator};
+
+// By how much the processor p of a step changes the records of all, and its own unsent entries.
+pub(crate) struct Sums<A: Allocator> {
+    pub(crate) p: u32,
+    pub(crate) records: TreeMap<RecordAt, i64, A>,
+    pub(crate) unsent: TreeMap<Pointstamp, i64, A>,
+}
+
+impl<A: Allocator> Drop for Sums<A> {
+    fn drop(self) {
+        let Sums {
+            p: _,
+            records: _,
+            unsent: _,
+        } = self;
+    }
+}
+
+// The sum at a key.
+fn find_in<K: Key, A: Allocator>(sums: &TreeMap<K, i64, A>, key: &K) -> i64
+    requires { AreSums K.cmp sums.now }
+    ensures value { result ≡ found K.cmp sums.now key.now }
+    ensures within { unsigned_abs result ≤ max_count }
+{
+    match sums.get(key) {
+        Some(n) => n,
+        None => 0,
+    }
+}
+
+// An integer more at a key. Where nothing is left the key goes.
+fn add_in<K: Key, A: Allocator + Copy>(
+    sums: &mut TreeMap<K, i64, A>,
+    key: &K,
+    n: i64,
+) -> Result<(), AllocError>
+    requires kept { AreSums K.cmp sums.old }
+    requires fits { unsigned_abs (found K.cmp sums.old key.now +ℤ n) ≤ max_count }
+    ensures ok { OnOk result (IsAdded K.cmp key.now n sums.old sums.new) }
+    ensures kept { AreSums K.cmp sums.new }
+{
+    let sum = find_in(sums, key) + n;
+    if sum == 0 {
+        sums.remove(key);
+        return Ok(());
+    }
+    let Ok(()) = sums.put(key, sum) else {
+        return Err(AllocError);
+    };
+    Ok(())
+}
+
+// The change that adds so many records.
+fn record_change(at: &RecordAt, n: &i64) -> Change
+    ensures { result ≡ change_of_records (at.now, n.now) }
+{
+    Change::Records {
+        p: at.p,
+        edge: at.key.point.location,
+        time: at.key.point.time.copy(),
+        value: at.key.value,
+        n: *n,
+    }
+}
+
+// The change that adds so much to what processor p is to send.
+fn unsent_change(p: u32, point: &Pointstamp, n: &i64) -> Change
+    ensures { result ≡ change_of_unsent p (point.now, n.now) }
+{
+    Change::Unsent {
+        p,
+        point: point.copy(),
+        n: *n,
+    }
+}
+
+impl<A: Allocator + Copy> Sums<A> {
+    // No change yet.
+    pub(crate) fn new(alloc: A, p: u32) -> Sums<A>
+        ensures kept { AreSummed result }
+        ensures p { result.p ≡ p }
+        ensures nothing { (k : Place) → sum_at result k ≡ pos 0 }
+    {
+        Sums {
+            p,
+            records: TreeMap::new(alloc),
+            unsent: TreeMap::new(alloc),
+        }
+    }
+
+    // So many records more at processor p.
+    pub(crate) fn add_records(&mut self, p: u32, key: &ValueAt, n: i64) -> Result<(), AllocError>
+        requires kept { AreSummed self.old }
+        requires fits { unsigned_abs (sum_at self.old (record_of p key.now) +ℤ n) ≤ max_count }
+        ensures ok { OnOk result (IsMore self.old (record_of p key.now) n self.new) }
+        ensures kept { AreSummed self.new }
+    {
+        let at = RecordAt { p, key: key.copy() };
+        let Ok(()) = add_in(&mut self.records, &at, n) else {
+            return Err(AllocError);
+        };
+        Ok(())
+    }
+
+    // So much more that is unsent at a pointstamp.
+    pub(crate) fn add_unsent(&mut self, point: &Pointstamp, n: i64) -> Result<(), AllocError>
+        requires kept { AreSummed self.old }
+        requires fits { unsigned_abs (sum_at self.old (unsent_of self.old.p point.now) +ℤ n) ≤ max_count }
+        ensures ok { OnOk result (IsMore self.old (unsent_of self.old.p point.now) n self.new) }
+        ensures kept { AreSummed self.new }
+    {
+        let Ok(()) = add_in(&mut self.unsent, point, n) else {
+            return Err(AllocError);
+        };
+        Ok(())
+    }
+
+    // The records that come, and that they are to be sent.
+    pub(crate) fn add_come(&mut self, come: &[(u32, ValueAt)]) -> Result<(), AllocError>
+        requires kept { AreSummed self.old }
+        requires small { (k : Place) → unsigned_abs (sum_at self.old k) ≤ 8 }
+        requires few { length come.now ≤ 65536 }
+        ensures ok { OnOk result (AddsAll self.old (come_edits self.old.p come.now) self.new) }
+        ensures kept { AreSummed self.new }
+    {
+        for record in come {
+            self.add_records(record.0, &record.1, 1)?;
+            self.add_unsent(&record.1.point, 1)?;
+        }
+        Ok(())
+    }
+
+    // The changes of records, after those that are there.
+    pub(crate) fn list_records(&self, to: &mut Vec<Change, A>) -> Result<(), AllocError>
+        ensures { OnOk result (to.new.items ≡ to.old.items ++ map change_of_records self.now.records) }
+    {
+        for (at, n) in self.records.iter() {
+            to.push(record_change(at, n))?;
+        }
+        Ok(())
+    }
+
+    // The changes of unsent entries, after those that are there.
+    pub(crate) fn list_unsent(&self, to: &mut Vec<Change, A>) -> Result<(), AllocError>
+        ensures { OnOk result (to.new.items ≡ to.old.items ++ map (change_of_unsent self.now.p) self.now.unsent) }
+    {
+        for (point, n) in self.unsent.iter() {
+            to.push(unsent_change(self.p, point, n))?;
+        }
+        Ok(())
+    }
+}

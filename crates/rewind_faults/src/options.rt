@@ -1,0 +1,8 @@
+//! What a run of a script is told before it begins.
+
+/// How many processors and clients a run has.
+#[derive(Clone, Copy, Debug, Drop, PartialEq, Eq)]
+pub struct Options {
+    pub processors: u8,
+    pub clients: u8,
+}

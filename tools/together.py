@@ -1,0 +1,165 @@
+"""The must-fail edits of a crate, tried together: one check of one copy with all those that change different functions.
+
+A function's proof rests on the contracts of what it calls and on no other body. So of bodies that are turned in different
+functions of one copy each is refused, or not, as it would be alone. An edit counts as refused only where the prover's line of
+each edited function gives a reason of its own, and names a place in that function or in its folder of answers, for its
+meaning: not a name that went, and not another function that is not proved. The check is asked for the edited functions alone, so
+that what stands above them is not read. What was not refused so is tried again with the rest, over what the earlier checks of
+this run proved, and at last alone, by the toolchain's own trial."""
+import collections
+import os
+import re
+import tempfile
+
+FUNCTION = re.compile(r"\s*(?:pub(?:\([^)]*\))?\s+)?(?:const\s+)?(?:unsafe\s+)?fn\s+(\w+)")
+# a proof file that names what an edit took away, and what cites a proof that another edit broke
+OF_NAMES = re.compile(r"(\./)?proofs/.*(has no field|is not in scope|has no `|was not admitted|was not checked)")
+# an error, or a goal that is left open
+AGAINST = re.compile(r"(?:\./)?\S+?:\d+:\d+: error|note: (?:\./)?\S+?:\d+:\d+: it is not proved that ")
+PLACE = re.compile(r"(?:note: )?(?:\./)?(\S+?):(\d+):\d+: ")
+VERDICT = re.compile(r"fn (\S+): (.*)")
+
+# A function: its file, the last names that the prover has for it, its first line and its last.
+Function = collections.namedtuple("Function", "file names first last")
+
+
+def pairs(edit):
+    """The file, the old text and the new text of each pair of an edit; each text is one line."""
+    path, old, found = None, None, []
+    with open(edit, encoding="utf-8") as lines:
+        for line in lines.read().split("\n"):
+            if line.startswith("file: "):
+                path = line[len("file: ") :].strip()
+            elif line.startswith("old: "):
+                old = line[len("old: ") :]
+            elif line.startswith("new:"):
+                found.append((path, old, line[len("new:") :].removeprefix(" ")))
+    return found
+
+
+def without_angles(text):
+    """The text without what stands between < and >."""
+    deep, kept = 0, []
+    for at, letter in enumerate(text):
+        if letter == "<":
+            deep += 1
+        elif letter != ">":
+            kept.append(letter if not deep else "")
+        elif text[at - 1 : at] != "-":
+            deep -= 1
+    return "".join(kept)
+
+
+def owner(lines, at):
+    """The type, and after it the trait, of the impl around a line; none where there is no impl."""
+    first = next((i for i in range(at, -1, -1) if lines[i].startswith(("impl", "unsafe impl", "}"))), None)
+    if first is None or lines[first].startswith("}"):
+        return None
+    head = " ".join(lines[first : at + 1]).removeprefix("unsafe ").removeprefix("impl")
+    head = without_angles(head.partition("{")[0]).partition(" where ")[0]
+    names = [it.strip().rpartition("::")[2] for it in head.split(" for ")]
+    return names[-1] + "".join(names[:-1])
+
+
+def function_at(file, source, at):
+    """The function around a place of a source, with its attributes, or none."""
+    lines, line = source.split("\n"), source.count("\n", 0, at)
+    top = next((i for i in range(line, -1, -1) if FUNCTION.match(lines[i])), None)
+    if top is None:
+        return None
+    indent = lines[top][: len(lines[top]) - len(lines[top].lstrip())]
+    last = next((i for i in range(top + 1, len(lines)) if lines[i].startswith(indent + "}")), -1)
+    first = top
+    while first and re.match(r"\s*(#\[|///)", lines[first - 1]):
+        first -= 1
+    around = owner(lines, top) if indent else file.removeprefix("src/").removesuffix(".rt").rpartition("/")[2]
+    names = FUNCTION.match(lines[top])[1] if around in ("lib", "main") else f"{around}::{FUNCTION.match(lines[top])[1]}"
+    return Function(file, names, first + 1, last + 1) if last >= line and around else None
+
+
+def made(edit, folder, texts):
+    """The functions that an edit changes and the texts with it, or nothing where it changes anything else."""
+    texts, found = dict(texts), set()
+    for path, old, new in pairs(edit):
+        if path not in texts:
+            with open(f"{folder}/{path}", encoding="utf-8") as it:
+                texts[path] = it.read()
+        is_there = path.startswith("src/") and texts[path].count(old) == 1
+        function = function_at(path, texts[path], texts[path].index(old)) if is_there else None
+        if not function:
+            return None, None
+        found.add(function)
+        texts[path] = texts[path].replace(old, new)
+    return found, texts
+
+
+def chosen(folder, left):
+    """Those edits that change different functions, each with its functions, and the texts with all of them."""
+    taken, found, texts = set(), {}, {}
+    for edit in left:
+        functions, more = made(edit, folder, texts)
+        if functions and not functions & taken:
+            taken, texts, found[edit] = taken | functions, more, functions
+    return found, texts
+
+
+def whole(lines):
+    """The prover's messages, each on one line: what goes on on further lines begins with spaces there."""
+    found = []
+    for line in lines:
+        if line.startswith("  ") and found:
+            found[-1] += " " + line.strip()
+        else:
+            found.append(line)
+    return found
+
+
+def is_in(line, function):
+    """Whether a line of the prover names a place in the function."""
+    at = PLACE.match(line)
+    return bool(at) and at[1] == function.file and function.first <= int(at[2]) <= function.last
+
+
+def reason(verdicts, told, function):
+    """What the prover says against this function's own meaning, if it says so."""
+    paths = [it for it in verdicts if it.partition("::")[2].endswith(function.names)]
+    paths = [it for it in paths if re.search(rf"(^|::){re.escape(function.names)}$", it.partition("::")[2])]
+    if len(paths) != 1 or not re.match(r"not proved|no proof: expected answers", verdicts[paths[0]]):
+        return None
+    answers = f"proofs/{paths[0].partition('::')[2].replace('::', '/')}/"
+    return next((it for it in told if PLACE.match(it)[1].startswith(answers) or is_in(it, function)), None)
+
+
+def refused_together(rt, crate, edits, texts, flags, kept):
+    """What one check with all these edits says against each that it refuses, and the edits that keep it from judging.
+
+    The check is asked for the edited functions alone, and reads what they call and no more."""
+    only = [word for functions in edits.values() for it in functions for word in ("--only", it.names)]
+    ran = rt.checked(crate, texts, [*flags, *only], kept)
+    lines = ran.stdout.rstrip("\n").split("\n")
+    is_judged = ran.returncode == 1 and lines[-1].startswith("only=") and not rt.rtlib.STALE.search(ran.stdout)
+    unread = [it for it in lines if (rt.unread(it, texts) if is_judged else ": error" in it)]
+    if unread or not is_judged:
+        return {}, [it for it, functions in edits.items() if any(is_in(line, at) for line in unread for at in functions)]
+    verdicts = dict(it.groups() for it in map(VERDICT.match, lines) if it)
+    told = [it for it in whole(lines) if AGAINST.match(it) and not OF_NAMES.match(it)]
+    said = {it: [reason(verdicts, told, at) for at in functions] for it, functions in edits.items()}
+    return {it: why[0] for it, why in said.items() if all(why)}, []
+
+
+def must_fail_all(rt, in_turn, crate, edits, flags):
+    """For each edit whether the prover refuses it, and what to say, as the toolchain's trial, which is handed in."""
+    left, refused = [it for it in edits if not rt.read_edit(it, crate.folder)[1]], {}
+    with tempfile.TemporaryDirectory(prefix="rt-together-") as kept:
+        while left:
+            together, texts = chosen(crate.folder, left)
+            said, barred = refused_together(rt, crate, together, texts, flags, kept) if together else ({}, [])
+            if not said and not barred:
+                break
+            refused.update(said)
+            left = [it for it in left if it not in said and it not in barred]
+    alone = [it for it in edits if it not in refused]
+    given = dict(zip(alone, in_turn(crate, alone, flags)))
+    for edit, why in refused.items():
+        given[edit] = True, f"must-fail {crate.name}/{os.path.basename(edit)}: refused, as it must be: {why[:160]}"
+    return [given[it] for it in edits]
