@@ -1,5 +1,5 @@
 -- Changes made one after the other, and undone.
-use Rattle.std.proofs.Common.{◌≡◌, ◌<◌, ◌≤◌, ◌+◌, ℕ, zero, suc, ℤ, pos, ◌+ℤ◌, ◌-ℤ◌, unsigned_abs, Bool, true, false, cond, List, [], ◌∷◌, ◌++◌, take, length, get_or, refl, sym, ap, subst, ◌∙◌, arith, inl, inr}
+use Rattle.std.proofs.Common.{◌≡◌, ◌<◌, ◌≤◌, ◌+◌, ℕ, zero, suc, ℤ, pos, neg_ℤ, ◌+ℤ◌, ◌-ℤ◌, unsigned_abs, Bool, true, false, not, cond, List, [], ◌∷◌, ◌++◌, take, length, get_or, refl, sym, ap, subst, ◌∙◌, arith, inl, inr}
 use Rattle.std.proofs.lemmas.Int.{ints}
 use Rattle.std.proofs.lemmas.Bool.{cases_lt}
 use Rattle.std.proofs.lemmas.List.{take_more, take_all, get_or_past}
@@ -127,8 +127,8 @@ twice_at_most : (x n : ℤ) → unsigned_abs x ≤ max_count → unsigned_abs (x
 twice_at_most x n h g = omega (arith, ints, h, g)
 
 can_turn : (s : ClusterState) (c : Change) → Limits s → Fits s c → CanTurn c
-can_turn s (Records p edge t value n) limits fits = twice_at_most _ n (limits (place_of (Records p edge t value n))) fits.inside.within
-can_turn s (Unsent p point n) limits fits = twice_at_most _ n (limits (place_of (Unsent p point n))) fits.inside.within
+can_turn s (Records p edge t value n) limits fits = twice_at_most (standing s (place_of (Records p edge t value n))) n (limits (place_of (Records p edge t value n))) fits.inside.within
+can_turn s (Unsent p point n) limits fits = twice_at_most (standing s (place_of (Unsent p point n))) n (limits (place_of (Unsent p point n))) fits.inside.within
 can_turn s (Request p vertex t add) limits fits = tt
 can_turn s (Token p vertex old new) limits fits = tt
 can_turn s (State p vertex t item old new) limits fits = tt
