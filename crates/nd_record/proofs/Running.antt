@@ -14,9 +14,9 @@ use Rattle.nd_processor.specs.State.{ProcessorState, idle}
 use Rattle.nd_protocol.specs.State.{ClusterState, processor, view}
 use Rattle.nd_protocol.specs.Fitting.{IsWithinLimits, ProcessorIsWithin}
 use Rattle.nd_record.specs.Places.{Place, place_at, records_at, request_at, token_at, item_at, sink_at, unsent_at, view_of, place_cmp, place_exact}
-use Rattle.nd_record.specs.Slots.{from_epoch, from_number, SlotMay, SlotWithin}
+use Rattle.nd_record.specs.Slots.{from_epoch, from_number}
 use Rattle.nd_record.specs.Standing.{standing, put_at, IsThere, MayStand, IsWithinAt}
-use Rattle.nd_record.specs.Changes.{owner_of, slot_of, place_of, from_add, gain_of, inverse, made, FindsOld, NamesNumbers, Fits, applied, state_at, IsRunnable}
+use Rattle.nd_record.specs.Changes.{place_of, from_add, gain_of, inverse, made, FindsOld, NamesNumbers, Fits, applied, state_at, IsRunnable}
 use Rattle.nd_record.specs.Undone.{CanTurn, Limits, Runs, only}
 use Rattle.nd_record.specs.declared.change.Change.{Change}
 use Rattle.nd_record.specs.declared.change.Change.TheVariants.{Records, Request, Token, State, Sink, Unsent}
