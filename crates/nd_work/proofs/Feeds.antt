@@ -16,7 +16,7 @@ use Rattle.nd_protocol.specs.declared.refusal.Refusal.TheVariants.{NoProcessor, 
 use Rattle.nd_protocol.specs.declared.step.Step.TheVariants.{Feed}
 use Rattle.nd_protocol.specs.declared.step.Next.{Next as Afterwards}
 use Rattle.nd_protocol.specs.declared.step.Next.TheVariants as token
-use Rattle.nd_record.specs.Places.{Place, place_at, records_at, request_at, token_at, item_at, sink_at, unsent_at}
+use Rattle.nd_record.specs.Places.{Place, place_at, records_at, request_at, token_at as token_slot, item_at, sink_at, unsent_at}
 use Rattle.nd_record.specs.Slots.{from_epoch}
 use Rattle.nd_record.specs.Edits.{Edit, total_at}
 use Rattle.nd_work.specs.Edits.{token_edits}
@@ -71,7 +71,7 @@ module _ (p : ℕ) (q : ProcessorState) (vertex epoch : ℕ) (found : fin.get q.
   abbrev own : Afterwards → List Edit
   own next = token_edits p vertex epoch next
 
-  tokens_move : (next : Afterwards) (v : ℕ) → from_epoch (fin.get (after next).tokens v) ≡ from_epoch (fin.get q.tokens v) +ℤ total_at (own next) (place_at p (token_at v))
+  tokens_move : (next : Afterwards) (v : ℕ) → from_epoch (fin.get (after next).tokens v) ≡ from_epoch (fin.get q.tokens v) +ℤ total_at (own next) (place_at p (token_slot v))
   tokens_move token.Next v =
       ap from_epoch (fin.get-insert nat_cmp_total q.tokens vertex (epoch + 1) v)
       ∙ token_on (eq_by_cmp nat_cmp v vertex) (fin.get q.tokens v) epoch (pos 0) (found_at v) refl
@@ -105,7 +105,7 @@ module _ (p : ℕ) (q : ProcessorState) (vertex epoch : ℕ) (found : fin.get q.
   outstanding_moves token.Stay x = nothing_more (pos (held q x)) (pos 0) refl
 
   -- at places of other kinds there is nothing more
-  record_total : (next : Afterwards) (k : Place) → ((v : ℕ) → is_place k (place_at p (token_at v)) ≡ false) → ((x : Pointstamp) → is_place k (place_at p (unsent_at x)) ≡ false) → total_at (own next) k ≡ pos 0
+  record_total : (next : Afterwards) (k : Place) → ((v : ℕ) → is_place k (place_at p (token_slot v)) ≡ false) → ((x : Pointstamp) → is_place k (place_at p (unsent_at x)) ≡ false) → total_at (own next) k ≡ pos 0
   record_total token.Next k a b = rw (a vertex, b (token_point vertex epoch), b (token_point vertex (epoch + 1))) refl
   record_total token.Close k a b = rw (a vertex, b (token_point vertex epoch)) refl
   record_total token.Stay k a b = refl

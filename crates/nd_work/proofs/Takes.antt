@@ -1,7 +1,7 @@
 -- A take: a record goes off its edge, and the edge's target does what it does.
-use Rattle.std.proofs.Common.{lit<, ◌≡◌, inl, inr, ℕ, zero, suc, ◌+◌, ◌-◌, ◌<◌, ◌≤◌, ℤ, pos, negsuc, ◌+ℤ◌, Bool, false, cond, All, Some, List, [], ◌∷◌, ◌++◌, length, append_assoc, length-set, lt_of_not-le, refl, sym, ap, ◌∙◌, arith}
+use Rattle.std.proofs.Common.{lit<, ◌≡◌, inl, inr, ℕ, zero, suc, ◌+◌, ◌<◌, ◌≤◌, ℤ, pos, negsuc, ◌+ℤ◌, Bool, false, cond, List, ◌∷◌, ◌++◌, length, append_assoc, length-set, lt_of_not-le, refl, sym, ap, ◌∙◌, arith}
 use Rattle.std.proofs.lemmas.Int.{ints}
-use Rattle.std.specs.Prelude.{slice_get, slice_set}
+use Rattle.std.specs.Prelude.{slice_set}
 use Rattle.std.specs.FinMap as fin
 use Rattle.nd_time.specs.Time.{Time}
 use Rattle.nd_map.specs.Counts.{at as number_at, int_at, added}
