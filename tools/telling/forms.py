@@ -75,9 +75,10 @@ def form_shown(start, form):
 def keys_faults(value, form, where=""):
     """What is wrong with the keys of an object that is to have those of a form, each fault in words."""
     missing = [key for key in form if key not in value and key not in OPTIONAL]
+    others = [key for key in value if key not in form]
     faults = []
-    for key in (it for it in value if it not in form):
-        meant = nearest(key, missing)
+    for key in others:
+        meant = missing[0] if len(missing) == len(others) == 1 else nearest(key, missing)
         if meant:
             missing.remove(meant)
             faults.append(f"the key {shown(key)}{where} is to be {shown(meant)}")
@@ -147,21 +148,18 @@ def likeliest(value):
 
 
 def shape_faults(value, has_clients):
-    """What keeps a value from having the form of a line, each fault in words."""
+    """What keeps a value from having the form of a line, each fault in words; where keys are wrong, the right form last."""
     if not isinstance(value, dict):
         return [f'{shown(value)} {values.kind_of(value)}; a line is an object that says what to do, as {{"do":"back"}}']
-    start = {"client": WHOLE, "do": VERTEX} if has_clients else {"do": VERTEX}
-    outside = keys_faults({"client": 0} if "client" in value else {}, {"client": WHOLE}) if has_clients else []
-    if has_clients:
-        outside = [it for it in outside if "missing" in it] + value_faults(value, {"client": WHOLE})
+    start = {"client": WHOLE} if has_clients else {}
     wrong = word_faults(value)
-    word = value.get("do")
-    if wrong and (values.text(word) or word not in FORMS):
-        return outside + wrong
-    faults = [it for it in keys_faults(value, {**start, **FORMS[word]}) if '"client" is missing' not in it]
-    faults = outside + faults + value_faults(value, FORMS[word])
-    if "when" in FORMS[word] and "when" in value:
-        faults += when_faults(value["when"])
-    head = ['"client":0'] if has_clients else []
-    is_keys = any("the key" in it for it in faults)
-    return faults + [f"right is {form_shown([*head, do_of(word)], FORMS[word])}"] if is_keys else faults
+    if wrong:
+        given = {key: value[key] for key in start if key in value}
+        return wrong + keys_faults(given, start) + value_faults(given, start)
+    form = FORMS[value["do"]]
+    faults = keys_faults(value, {**start, "do": VERTEX, **form})
+    if faults:
+        head = ['"client":0'] if has_clients else []
+        faults.append(f"right is {form_shown([*head, do_of(value['do'])], form)}")
+    faults += value_faults(value, {**start, **form})
+    return faults + (when_faults(value["when"]) if "when" in form and "when" in value else [])

@@ -33,10 +33,8 @@ def raw(value):
 
 def kind_of(value):
     """What a value is, in words."""
-    if value is None:
-        return "is null"
-    if isinstance(value, bool):
-        return "is true or false"
+    if value is None or isinstance(value, bool):
+        return "is no number, text, list or object"
     if isinstance(value, Written):
         return "is not written as a whole number"
     for kind, words in ((str, "is a text"), (list, "is a list"), (dict, "is an object")):
