@@ -2,7 +2,7 @@
 
     from runs import run_script
     told = run_script(open(path, "rb").read(), ["--processors", "3"])
-    told.graph                the graph as the script's first line has it, or None where that is no JSON object
+    told.graph                the graph as the script's line has it, or None where none was met
     told.status, told.error   the program's exit status, and what it wrote to standard error
     told.entries              an Entry a reply, in the order of the replies, the graph's first:
         entry.line            the Line that it answers: line.number from 1, line.text as bytes without its newline,
@@ -12,7 +12,8 @@
         entry.answers         the replies to the queries that were put in after it; [] where none could be
         entry.state           of those replies the state after the line, or None
 
-The queries are '{"do":"state"}' alone where no others are given, and change nothing. They move the lines that follow, so
+The queries are '{"do":"state"}' alone where no others are given, and change nothing; lines before the graph's, which is the
+one whose reply counts places, are followed by none. They move the lines that follow, so
 a faulty line's number is put back. Where queries are not allowed (several clients), or what the program writes with them
 is not what the script alone gets and as many answers, the script runs alone, and its entries have no answers past the
 first line at which the two runs differ.
@@ -83,9 +84,11 @@ def replies_of(output):
     return replies if all(isinstance(it, dict) for it in replies) else []
 
 
-def graph_of(lines):
-    value = lines[0].value if lines else None
-    return value if isinstance(value, dict) else None
+def graph_of(lines, entries):
+    """The graph's value: that of the line whose reply counts places; where none does, of the first with vertices."""
+    read = [it.line for it in entries if "locations" in it.reply and it.line]
+    values = [it.value for it in read or lines[:2]]
+    return next((it for it in values if isinstance(it, dict) and (read or "vertices" in it)), None)
 
 
 def entries_alone(lines, replies):
@@ -116,31 +119,40 @@ def with_line(reply, number):
     return {**reply, "line": number} if "line" in reply and "error" in reply else reply
 
 
-def entries_asked(lines, replies, width):
-    """The entries of a run in which so many lines are given for each line: it, and the queries after it."""
-    groups = [replies[at : at + width] for at in range(0, len(replies), width)]
-    return [
-        Entry(line, with_line(group[0], line.number), None, group[1:]) for line, group in zip(lines, groups) if len(group) == width
-    ]
+def entries_asked(lines, queries, before, words):
+    """The entries of a run with the queries after each line but so many before the graph's, and how the program ended."""
+    given, widths = [], []
+    for at, line in enumerate(lines):
+        put_in = [] if at < before else [it.encode() for it in queries]
+        given += [line.text, *put_in]
+        widths.append(1 + len(put_in))
+    status, output, error = run_bytes(b"".join(it + b"\n" for it in given), words)
+    replies, entries = replies_of(output), []
+    for line, width in zip(lines, widths):
+        first, *answers = replies[:width] or [None]
+        if first is None or len(answers) < width - 1:
+            break
+        entries.append(Entry(line, with_line(first, line.number), None, answers))
+        replies = replies[width:]
+    return entries, status, output, error
 
 
 def run_script(script, words=(), queries=(STATE,)):
-    """The run of a script, with the answers to the queries after each line."""
-    words, lines, width = list(words), lines_of(script), 1 + len(queries)
-    asked = [text for line in lines for text in (line.text, *(it.encode() for it in queries))]
-    status, output, error = run_bytes(b"".join(it + b"\n" for it in asked), words)
-    replies = replies_of(output)
-    graph = graph_of(lines)
-    with_queries = entries_asked(lines, replies, width)
-    if status == 0 and len(replies) == width * len(lines) > 0:
-        return Run(words, graph, with_queries, status, error, output)
+    """The run of a script, with the answers to the queries after each line from the graph's on."""
+    words, lines = list(words), lines_of(script)
+    asked, status, output, error = entries_asked(lines, queries, 0, words)
+    if status == 0 and len(asked) == len(lines) > 0:
+        return Run(words, graph_of(lines, asked), asked, status, error, output)
     status, output, error = run_bytes(script, words)
     alone = entries_alone(lines, replies_of(output))
-    for at, (it, other) in enumerate(zip(alone, with_queries)):
+    before = next((at for at, it in enumerate(alone) if "locations" in it.reply), 0)
+    if before:
+        asked = entries_asked(lines, queries, before, words)[0]
+    for at, (it, other) in enumerate(zip(alone, asked)):
         if (it.line, it.reply) != (other.line, other.reply) or it.client is not None:
             break
         alone[at] = other
-    return Run(words, graph, alone, status, error, output)
+    return Run(words, graph_of(lines, alone), alone, status, error, output)
 
 
 def answers_after(script, number, texts, words=()):

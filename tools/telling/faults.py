@@ -3,6 +3,7 @@ from runs import lines_of
 from telling import forms, graph_faults, names, texts, values
 from telling.answers import Teller
 from telling.commands import command_words, counted, graph_words, unread
+from telling.values import shown
 
 LONGEST = 65536
 
@@ -13,8 +14,9 @@ def teller_of(told, script):
     A faulty line that is answered before the graph is one of several clients' script, whose graph was read."""
     first = told.entries[0] if told.entries else None
     has_fault_alone = first is not None and first.line.number != lines_of(script)[0].number
-    is_read = first is not None and ("ok" in first.reply or has_fault_alone)
-    teller = Teller(names.Graph(told.graph) if is_read else None, first.reply.get("processors") if first else None)
+    started = next((it.reply for it in told.entries if "locations" in it.reply), {})
+    is_read = started or has_fault_alone
+    teller = Teller(names.Graph(told.graph) if is_read else None, started.get("processors"))
     teller.has_clients = has_fault_alone or any(it.client is not None for it in told.entries)
     return teller
 
@@ -29,9 +31,16 @@ def told_line(entry, before, teller):
     if "locations" in reply:
         counts = counted(reply["locations"], "place"), counted(reply["processors"], "processor")
         return graph_words(entry.line.value), [f"read: {counts[0]}, {counts[1]}"]
-    if teller.graph is None:
+    if "error" in reply and teller.graph is None:
         return unread(entry.line.text), faulty(reply, faults_in(entry.line.text, lambda it: graph_faults.graph_faults(it, reply)))
+    if not is_known(entry.line.value):
+        return unread(entry.line.text), [shown(reply, None)]
     return command_words(entry.line.value), teller.told(entry.line.value, reply, before)
+
+
+def is_known(value):
+    """Whether a line that the program has read is one of the forms that this tool tells."""
+    return isinstance(value, dict) and value.get("do") in forms.FORMS
 
 
 def faulty(reply, faults):
