@@ -1,9 +1,6 @@
 """The program's replies in words, with what a script's earlier replies told: the cursor, the kept steps, the breakpoints."""
-from telling.commands import at, condition, counted, some_of
-from telling.forms import listed, nearest
-from telling.values import shown
-
-MOST_TIMES = 12
+from telling.commands import at, condition, counted, some_of, time_in
+from telling.forms import listed
 
 
 class Teller:
@@ -52,8 +49,8 @@ class Teller:
 
     def kept_positions(self):
         if self.kept is None:
-            return "how far kept goes was not told"
-        return f"kept goes from position 0 to {self.kept}" if self.kept else "no step is kept, so position 0 is the only one"
+            return "how many are kept was not told"
+        return f"kept are the positions 0 to {self.kept}" if self.kept else "no step is kept, so position 0 is the only one"
 
     def no_processor(self, value, reply, before):
         """Which of the processors of a line is none, and which there are."""
@@ -101,7 +98,7 @@ def no_record(teller, value, reply, before):
 
 
 def no_request(teller, value, reply, before):
-    said = f"on processor {value['p']} {value['vertex']} has not asked for a notice at {at('', value['time']).strip()}"
+    said = f"on processor {value['p']} {value['vertex']} has not asked for a notice at {time_in(value['time'])}"
     if before is None:
         return said
     asked = before["processors"][value["p"]]["requests"]
@@ -129,8 +126,8 @@ REFUSALS = {
     "NoRecord": no_record,
     "NoRequest": no_request,
     "NotYet": not_yet,
-    "CounterFull": sentence("the feedback would raise a loop counter past 4294967295"),
-    "ValueRange": sentence("a value or a sum would leave the range of 64 bits"),
+    "CounterFull": lambda teller, value, reply, before: f"{teller.graph.worker(value)} would raise a counter past 4294967295",
+    "ValueRange": lambda teller, value, reply, before: f"{teller.graph.worker(value)} would make a number past 64 bits",
     "CountFull": sentence("a record's or a sink's count would pass 1099511627776"),
     "DeltaFull": sentence("an unsent entry or one of a view would pass 1099511627776"),
     "NothingToSend": sentence("nothing of this is unsent"),

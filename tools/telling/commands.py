@@ -3,6 +3,8 @@ from telling.forms import listed
 from telling.values import shown
 
 MOST = 8
+# A space at which no line is broken; what is printed has a plain one.
+FIRM = "\N{NO-BREAK SPACE}"
 NEXT = {"next": "goes on to the next epoch", "close": "gives up its token", "stay": "stays at its epoch"}
 
 
@@ -11,8 +13,8 @@ def time_in(time):
 
 
 def at(place, time):
-    """A place and a time, as they stand in every sentence and table."""
-    return f"{place} {time_in(time)}"
+    """A place and a time, which a line does not part."""
+    return f"{place}{FIRM}{time_in(time)}"
 
 
 def counted(count, thing):
@@ -51,7 +53,7 @@ def condition(when):
         return f"{least} of records, requests and tokens at {at(it['at'], it['time'])}"
     if name == "queue":
         return f"{least} of changes on their way from processor {it['from']} to {it['to']}"
-    return f"{it['vertex']} has counted the value {it['value']} {least} times"
+    return f"{it['vertex']} has counted the value {it['value']} at least {counted(it['at_least'], 'time')}"
 
 
 WORDS = {
@@ -76,14 +78,21 @@ WORDS = {
 }
 
 
+def vertex_words(it):
+    number = f" {it['k']}" if "k" in it else ""
+    return f"{it['name']} ({it['op']}{number}{', depth ' + str(it['depth']) if it['depth'] else ''})"
+
+
+def edge_words(it):
+    port = f" port {it['port']}" if it["port"] else ""
+    return f"{it['name']} from {it['from']}{port} to {it['to']} ({it['route']})"
+
+
 def graph_words(graph):
-    """A graph in words: its vertices, and its edges."""
-    number = lambda it: f" {it['k']}" if "k" in it else ""
-    depth = lambda it: f", depth {it['depth']}" if it["depth"] else ""
-    vertices = [f"{it['name']} ({it['op']}{number(it)}{depth(it)})" for it in graph["vertices"]]
-    port = lambda it: f" port {it['port']}" if it["port"] else ""
-    edges = [f"{it['name']} from {it['from']}{port(it)} to {it['to']} ({it['route']})" for it in graph["edges"]]
-    return f"the graph: {', '.join(vertices) or 'no vertex'}; {', '.join(edges) or 'no edge'}"
+    """What a graph has, a sentence each for its vertices and its edges."""
+    vertices = ", ".join(map(vertex_words, graph["vertices"])) or "none"
+    edges = ", ".join(map(edge_words, graph["edges"])) or "none"
+    return [f"vertices: {vertices}", f"edges: {edges}"]
 
 
 def command_words(value):

@@ -30,7 +30,7 @@ def told_line(entry, before, teller):
         return unread(entry.line.text), faulty(reply, line_faults(entry.line.text, reply, teller))
     if "locations" in reply:
         counts = counted(reply["locations"], "place"), counted(reply["processors"], "processor")
-        return graph_words(entry.line.value), [f"read: {counts[0]}, {counts[1]}"]
+        return "the graph", [*graph_words(entry.line.value), f"read: {counts[0]}, {counts[1]}"]
     if "error" in reply and teller.graph is None:
         return unread(entry.line.text), faulty(reply, faults_in(entry.line.text, lambda it: graph_faults.graph_faults(it, reply)))
     if not is_known(entry.line.value):

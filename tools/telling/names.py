@@ -3,6 +3,7 @@ import json
 
 from runs import answers_after
 from telling import forms
+from telling.commands import vertex_words
 from telling.forms import EDGE, PLACE, POINT, POINTS, TIME, VERTEX, listed, nearest
 from telling.values import shown
 
@@ -23,6 +24,11 @@ class Graph:
         """The names of a kind of thing."""
         of_kind = {"vertex": self.vertices, "edge": self.edges}
         return list(of_kind.get(wanted, self.order))
+
+    def worker(self, value):
+        """The vertex at which a take or a notice does its work."""
+        name = self.edges[value["edge"]]["to"] if "edge" in value else value["vertex"]
+        return vertex_words(self.vertices[name])
 
     def kind(self, name):
         """What a name is that of."""

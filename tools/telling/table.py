@@ -84,13 +84,13 @@ def columns(rows, processors):
 def block(rows, processors):
     """The table's lines for some of the processors."""
     names = ["point"] + [f"{place} {time_in(time)}" for (place, time), _, _ in rows]
-    lines = [[name.ljust(max(map(len, names)) + 1)] for name in names]
+    lines = [[name.ljustmax(map(len, names))] for name in names]
     for group in columns(rows, processors):
         texts = [[head + " ", *cells] for head, cells in group]
         widths = [max(map(len, it)) for it in texts]
         for at, line in enumerate(lines):
             line.append(" ".join(it[at].rjust(width) for it, width in zip(texts, widths)))
-    return ["| ".join(line).rstrip() for line in lines]
+    return [" | ".join(line).rstrip() for line in lines]
 
 
 def blocks(rows, count):
