@@ -84,7 +84,7 @@ def columns(rows, processors):
 def block(rows, processors):
     """The table's lines for some of the processors."""
     names = ["point"] + [f"{place} {time_in(time)}" for (place, time), _, _ in rows]
-    lines = [[name.ljustmax(map(len, names))] for name in names]
+    lines = [[name.ljust(max(map(len, names)))] for name in names]
     for group in columns(rows, processors):
         texts = [[head + " ", *cells] for head, cells in group]
         widths = [max(map(len, it)) for it in texts]
