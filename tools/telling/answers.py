@@ -159,7 +159,7 @@ def points(entries):
 
 
 def passed(teller, value, reply):
-    return ["yes" if reply["passed"] else f"no: its view has {at(*reply['point'])} at or before it, of such the least"]
+    return ["yes" if reply["passed"] else f"no: its view has {at(*reply['point'])} at or before it"]
 
 
 ANSWERS = {
