@@ -56,8 +56,8 @@ class Teller:
         """Which of the processors of a line is none, and which there are."""
         asked = [value[key] for key in ("p", "q", "from", "to") if isinstance(value.get(key), int)]
         absent = sorted({it for it in asked if self.processors is not None and it >= self.processors})
-        there = "processor 0 alone" if self.processors == 1 else f"the processors 0 to {(self.processors or 0) - 1}"
-        return f"there is no processor {listed(map(str, absent), 'or')}; there is {there}" if absent else ""
+        there = "is processor 0 alone" if self.processors == 1 else f"are the processors 0 to {(self.processors or 0) - 1}"
+        return f"there is no processor {listed(map(str, absent), 'or')}; there {there}" if absent else ""
 
     def not_input(self, value, reply, before):
         inputs = [name for name, it in self.graph.vertices.items() if it["op"] == "input"]
