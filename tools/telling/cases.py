@@ -30,6 +30,8 @@ ROUND = graph(
 )
 FEED = do("feed", p=0, vertex="a", values=[5], next="close")
 LOOP = [json.dumps(ROUND), FEED, do("run", limit=3), do("broadcast", p=0), do("run", limit=4), do("jump", to=2), do("redo")]
+SUMS = [SUM, do("feed", p=0, vertex="a", values=[2, 3], next="next"), do("take", p=0, edge="as", time=[0], value=2)]
+SUMS += [do("take", p=0, edge="as", time=[0], value=3), do("run", limit=2)]
 TOP = 2**63 - 1
 CLIENTS = [LINE, '{"client":0,"do":"feed","p":0,"vertex":"a","values":[5],"next":"close"}', '{"client":0,"do":"back"}']
 
@@ -187,6 +189,11 @@ GRAPH_FAULTS = {
     "into an input": (graph([A, S], [edge("sa", "s", "a")]), 43, 'the edge "sa" enters "a", which is an input'),
     "an input's depth": (graph([vertex("a", "input", 1)], []), 44, 'the input "a" is at depth 1'),
     "an edge's depth": (graph([A, vertex("i", "ingress"), Z], [edge("ai", "a", "i"), edge("iz", "i", "z")]), 44, 'the edge "iz" leaves'),
+    "an edge out of a loop": (
+        graph([A, vertex("in", "ingress"), vertex("out", "egress", 1), vertex("z", "sink", 1)],
+              [edge("ai", "a", "in"), edge("io", "in", "out"), edge("oz", "out", "z")]),
+        44, 'DepthMismatch: the edge "oz" leaves the egress "out" of depth 1 with depth 0 and enters "z", which is at depth 1',
+    ),
     "no loop to leave": (graph([vertex("e", "egress")], []), 44, 'the egress "e" is at depth 0'),
     "too deep": (graph([vertex("s", "sum", 5)], []), 45, '"s" is at depth 5; at most 4 may be'),
     "too many": (graph([vertex(f"s{n}", "sum") for n in range(65)], []), 45, "there are 65 vertices and edges; at most 64"),
