@@ -13,10 +13,10 @@
         entry.state           of those replies the state after the line, or None
 
 The queries are '{"do":"state"}' alone where no others are given, and change nothing; lines before the graph's, which is the
-one whose reply counts places, are followed by none. They move the lines that follow, so
-a faulty line's number is put back. Where queries are not allowed (several clients), or what the program writes with them
-is not what the script alone gets and as many answers, the script runs alone, and its entries have no answers past the
-first line at which the two runs differ.
+one whose reply counts places, are followed by none. They move the lines that follow, so a faulty line's number is put back.
+Where the program does not answer all of that with status 0 (queries are not allowed with several clients, a graph may be
+refused), the script runs alone as well: its replies and status are those given, and entries have answers up to the first
+reply in which the two runs differ.
 
 The program is ./rewind, or what REWIND_PROGRAM names in the environment, as the tests do to run the built one alone.
 
