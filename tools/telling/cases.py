@@ -103,6 +103,13 @@ TOLD = {
         (19, "refused, 22 NoSuchPoint: position 5 is past the last kept step; kept are the positions 0 to 1"),
         (20, "there is no processor 9"),
     ]),
+    "sinks": ([], [
+        LINE, do("feed", p=0, vertex="a", values=[5, 5, 6], next="close"), do("take", p=0, edge="az", time=[0], value=6),
+        do("take", p=0, edge="az", time=[0], value=5), do("take", p=0, edge="az", time=[0], value=5), do("back"), do("state"),
+    ], 0, [
+        (3, "sinks have counted: z 6"), (4, "sinks have counted: z 5"), (5, "sinks have counted: z 5 (2 times)"),
+        (6, "sinks have counted: z 5"), (7, "sinks have counted: z 5, z 6"),
+    ]),
     "nothing kept": ([], [LINE, do("jump", to=1)], 0, [(2, "no step is kept, so position 0 is the only one")]),
     # what no step can move
     "idle on a value": ([], [
