@@ -248,7 +248,7 @@ fn were_called<A: Allocator>(gate: &Recorded, lists: &[Vec<u64, A>]) -> bool {
 /// Whether a list ends with the piece, and no hit lies before it.
 fn is_stopped_in<A: Allocator>(piece: u64, lists: &[Vec<u64, A>], hit: Option<u64>) -> bool {
     let is_last = lists.iter().any(|list| list.last() == Some(&piece));
-    is_last && hit.is_none_or(|position| position >= 16 * piece)
+    is_last && hit.is_none_or(|position| position / 16 >= piece)
 }
 
 /// A search by two workers with one request refused: whether it met it, and whether a worker did.
