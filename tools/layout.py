@@ -7,10 +7,11 @@
     drawn.paths["az"]              the edge as the points of cubic curves, as SVG's 'M' and 'C' take them
 
 Layers go from left to right, or downwards where 'down' is set. An edge that closes a loop goes against that direction. An
-edge's label is laid out as a node of its own, in a layer between, so no two labels meet."""
+edge's label is laid out as a node of its own, in a layer between, so no two labels meet; the edge passes below it."""
 from typing import NamedTuple
 
 SWEEPS = 24
+OWN_LOOP = 44
 
 
 class Edge(NamedTuple):
@@ -82,8 +83,10 @@ class Room:
         for it in edges:
             if it.start == it.end:
                 self.loops.append(it)
-                continue
-            self.add_chain(it, it.name in closing, turn)
+                wide, high = self.sizes[it.start]
+                self.sizes[it.start] = wide, high + 2 * OWN_LOOP
+            else:
+                self.add_chain(it, it.name in closing, turn)
         self.neighbours = {node: [] for node in self.sizes}
         for chain in self.chains:
             for one, other in zip(chain.stops, chain.stops[1:]):
@@ -104,6 +107,10 @@ class Room:
             self.layer[stop] = layer
             stops.append(stop)
         self.chains.append(Chain(edge, stops + [end], is_turned))
+
+    def below(self, node):
+        """How far below a node's middle the edges at it pass: a label stands above its edge."""
+        return self.sizes[node][1] / 2 if node in self.label_of.values() and not self.down else 0.0
 
     def columns(self):
         """The nodes of each layer, in the order in which they came."""
@@ -162,7 +169,7 @@ def spread(wishes, gaps):
 
 def across(room, columns, gap):
     """Where each node stands across the layers: near the mean of its neighbours, no two too close."""
-    where = {}
+    where, below = {}, {node: room.below(node) for node in room.sizes}
     gaps = [[(room.sizes[a][1] + room.sizes[b][1]) / 2 + gap for a, b in zip(it, it[1:])] for it in columns]
     for column, between in zip(columns, gaps):
         placed = spread([0.0] * len(column), between)
@@ -172,7 +179,7 @@ def across(room, columns, gap):
         for column, between in order if sweep % 2 == 0 else reversed(order):
             wishes = []
             for node in column:
-                near = [where[it] for it in room.neighbours[node]] or [where[node]]
+                near = [where[it] + below[it] - below[node] for it in room.neighbours[node]] or [where[node]]
                 wishes.append((sum(near) / len(near) + where[node]) / 2)
             where.update(zip(column, spread(wishes, between)))
     return where
@@ -194,11 +201,12 @@ def path_of(room, chain, where, spans):
     for at, stop in enumerate(chain.stops):
         begin, end = spans[room.layer[stop]]
         middle, half = (begin + end) / 2, room.sizes[stop][0] / 2
+        height = where[stop] + room.below(stop)
         if at == 0 or at == len(chain.stops) - 1:
             side = middle + half if at == 0 else middle - half
-            points.append((side, where[stop]))
+            points.append((side, height))
         else:
-            points += [(begin, where[stop]), (end, where[stop])]
+            points += [(begin, height), (end, height)]
     curve = [points[0]]
     for (x, y), (to_x, to_y) in zip(points, points[1:]):
         bend = (to_x - x) / 2
@@ -206,10 +214,11 @@ def path_of(room, chain, where, spans):
     return list(reversed(curve)) if chain.is_turned else curve
 
 
-def own_loop(middle, size):
-    """An edge from a node to itself, above it."""
+def own_loop(middle, size, count):
+    """An edge from a node to itself, above it and above the earlier ones."""
     (x, y), (width, height) = middle, size
-    low, high, half = y - height / 2, y - height / 2 - 30, width / 4
+    low, half = y - height / 2, width / 4
+    high = low - OWN_LOOP * count + OWN_LOOP / 2
     return [(x + half, low), (x + half, high), (x - half, high), (x - half, low)]
 
 
@@ -219,7 +228,7 @@ def layout(sizes, edges, gap=24, layer_gap=28, down=False):
     columns = ordered(room)
     where, spans = across(room, columns, gap), along(room, columns, layer_gap)
     flip = (lambda x, y: (y, x)) if down else (lambda x, y: (x, y))
-    least = min((where[it] - room.sizes[it][1] / 2 for it in where), default=0) - (46 if room.loops and not down else 0)
+    least = min((where[it] - room.sizes[it][1] / 2 for it in where), default=0)
     greatest = max((where[it] + room.sizes[it][1] / 2 for it in where), default=0)
     where = {node: it - least for node, it in where.items()}
     length = spans[-1][1] if spans else 0
@@ -231,9 +240,11 @@ def layout(sizes, edges, gap=24, layer_gap=28, down=False):
     nodes = {node: middle(node) for node in sizes}
     labels = {name: middle(stop) for name, stop in room.label_of.items()}
     paths = {it.edge.name: [tidy(flip(*point)) for point in path_of(room, it, where, spans)] for it in room.chains}
-    for it in room.loops:
-        paths[it.name] = [tidy(point) for point in own_loop(nodes[it.start], sizes[it.start])]
-        labels[it.name] = tidy((nodes[it.start][0], nodes[it.start][1] - sizes[it.start][1] / 2 - 34))
+    for at, it in enumerate(room.loops):
+        count = sum(other.start == it.start for other in room.loops[: at + 1])
+        (x, y), (_, high) = nodes[it.start], sizes[it.start]
+        paths[it.name] = [tidy(point) for point in own_loop((x, y), sizes[it.start], count)]
+        labels[it.name] = tidy((x, y - high / 2 - OWN_LOOP * (count - 0.5)))
     return Drawn(*tidy(flip(length, greatest - least)), nodes, labels, paths)
 
 

@@ -7,7 +7,7 @@ from html import escape
 from layout import Drawn, Edge, layout, tidy
 
 LETTER = 7.3
-COUNT_LETTERS = 13
+COUNT_LETTERS = 12
 
 
 def width_of(text, letter=LETTER):
@@ -18,10 +18,14 @@ def kind_of(vertex):
     return f"{vertex['op']} {vertex['k']}" if "k" in vertex else vertex["op"]
 
 
+def port_of(edge):
+    return f" port {edge['port']}" if edge["port"] else ""
+
+
 def sizes_of(graph):
     """The size of each vertex's box and of each edge's label."""
-    boxes = {it["name"]: (max(width_of(it["name"]), width_of(kind_of(it)), width_of("9 requests")) + 22, 58) for it in graph["vertices"]}
-    labels = {it["name"]: (max(width_of(it["name"]), COUNT_LETTERS * LETTER) + 10, 36) for it in graph["edges"]}
+    boxes = {it["name"]: (max(width_of(it["name"]), width_of(kind_of(it)), width_of("9 requests")) + 14, 58) for it in graph["vertices"]}
+    labels = {it["name"]: (max(width_of(it["name"] + port_of(it)), COUNT_LETTERS * LETTER) + 4, 38) for it in graph["edges"]}
     return boxes, labels
 
 
@@ -38,7 +42,7 @@ def laid_out(graph, uses_dot=True):
 def dot_source(graph, boxes, labels):
     """The graph for dot, its names as numbers; a label is an empty box of the size that is wanted."""
     number = {it["name"]: at for at, it in enumerate(graph["vertices"])}
-    lines = ["digraph { rankdir=LR; nodesep=0.3; ranksep=0.35; node [shape=box, fixedsize=true, label=\"\"];"]
+    lines = ["digraph { rankdir=LR; nodesep=0.25; ranksep=0.22; node [shape=box, fixedsize=true, label=\"\"];"]
     for name, at in number.items():
         lines.append(f"v{at} [width={boxes[name][0] / 72:.3f}, height={boxes[name][1] / 72:.3f}];")
     for at, it in enumerate(graph["edges"]):
@@ -84,9 +88,9 @@ def graph_svg(graph, drawn):
     for at, it in enumerate(graph["edges"]):
         parts.append(label_svg(it, drawn.labels[it["name"]], labels[it["name"]], len(graph["vertices"]) + at))
     wide, high = drawn.width + 12, drawn.height + 12
-    head = '<defs><marker id="tip" viewBox="0 0 8 8" refX="7" refY="4" markerWidth="8" markerHeight="8" orient="auto">'
+    head = '<defs><marker id="tip" viewBox="0 0 8 8" refX="7" refY="4" markerUnits="userSpaceOnUse" markerWidth="10" markerHeight="10" orient="auto">'
     head += '<path d="M0,0 L8,4 L0,8 z"/></marker></defs>'
-    size = f'viewBox="-6 -6 {wide:g} {high:g}" style="width:{wide:g}px;min-width:{min(wide, max(360, wide * 0.7)):g}px"'
+    size = f'viewBox="-6 -6 {wide:g} {high:g}" style="width:{wide:g}px;min-width:{min(wide, max(360, wide * 0.8)):g}px"'
     return f'<svg xmlns="http://www.w3.org/2000/svg" class="graph" role="img" aria-label="the graph" {size}>{head}{"".join(parts)}</svg>'
 
 
@@ -106,8 +110,8 @@ def vertex_svg(vertex, middle, size, number):
 
 def label_svg(edge, middle, size, number):
     (x, y), (wide, high) = middle, size
-    back = f'<rect x="{x - wide / 2:g}" y="{y - high / 2:g}" width="{wide:g}" height="{high:g}" rx="6"/>'
-    port = f' <tspan class="kind">port {edge["port"]}</tspan>' if edge["port"] else ""
+    back = f'<rect x="{x - wide / 2:g}" y="{y - high / 2 + 2:g}" width="{wide:g}" height="{high - 4:g}" rx="6"/>'
+    port = f'<tspan class="kind">{port_of(edge)}</tspan>'
     name = f'<text class="name" x="{x:g}" y="{y - 4:g}">{escape(edge["name"])}{port}</text>'
     count = f'<text class="count" x="{x:g}" y="{y + 12:g}"></text>'
     return f'<g class="place label" data-place="{number}"><title></title>{back}{name}{count}</g>'

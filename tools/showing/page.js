@@ -4,6 +4,7 @@ const run = JSON.parse(document.getElementById("run").textContent);
 const LONG_QUEUE = 8;
 const LONG_LIST = 24;
 const MOST_STEPS = 120;
+const MANY = 5;
 const by = (id) => document.getElementById(id);
 let position = 0;
 
@@ -189,4 +190,5 @@ by("slider").addEventListener("input", () => move(Number(by("slider").value)));
 by("back").addEventListener("click", () => move(position - 1));
 by("on").addEventListener("click", () => move(position + 1));
 window.addEventListener("hashchange", () => show(asked()));
+document.querySelector("main").classList.toggle("many", run.processors >= MANY);
 show(asked());

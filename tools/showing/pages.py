@@ -23,12 +23,28 @@ def dumped(value):
 
 def embedded(value):
     """A value as JSON that may stand inside a script element."""
-    return dumped(value).replace("<", "\\u003c").replace(">", "\\u003e").replace("&", "\\u0026")
+    return json.dumps(value, separators=(",", ":"), ensure_ascii=False).replace("<", "\\u003c").replace(">", "\\u003e").replace("&", "\\u0026")
+
+
+def replayed(told, words):
+    """The run of several clients' log by one client, who is given the same replies: with the states after them."""
+    asked = [it for it in told.entries[1:] if it.line]
+    values = [{key: value for key, value in it.line.value.items() if key != "client"} for it in asked]
+    script = b"\n".join([told.entries[0].line.text, *(dumped(it).encode() for it in values)])
+    others = [it for at, it in enumerate(words) if "--clients" not in (it.split("=")[0], words[at - 1] if at else "")]
+    alone = run_script(script, others, QUERIES).entries
+    if [it.reply for it in alone] != [it.reply for it in [told.entries[0], *asked]]:
+        return told
+    states = {number: it.answers for number, it in enumerate(alone)}
+    numbers = iter(range(len(alone)))
+    return told._replace(entries=[it._replace(answers=states[next(numbers)]) if it.line else it for it in told.entries])
 
 
 def page_of(name, script, words, uses_dot=True):
     """The page of a script's run, and the run."""
     told = run_script(script, words, QUERIES)
+    if any(it.client is not None for it in told.entries):
+        told = replayed(told, words)
     positions, states = shown_positions(told, script, dumped)
     start = next((it.reply for it in told.entries if "locations" in it.reply), None)
     graph = graph_svg(told.graph, laid_out(told.graph, uses_dot)) if start else "<p>The program has read no graph.</p>"
