@@ -1,0 +1,135 @@
+"""A run as a space-time diagram: a line a processor, its steps as points, and each change as an arrow from its broadcast to
+its receive."""
+from showing.states import changes, number
+from showing.svgs import box, dot, line, picture, text
+from telling.commands import at
+
+STEPS = ("feed", "take", "notice", "broadcast", "receive")
+LEFT, TOP, COLUMN, ROW = 150, 78, 158, 150
+
+
+def steps_of(told):
+    """The entries that made a step, up to the first that goes back."""
+    steps = []
+    for it in told.entries[1:]:
+        kind = it.line.value["do"]
+        if kind in ("back", "jump", "redo", "run"):
+            break
+        if kind in STEPS and "error" not in it.reply:
+            steps.append(it)
+    return steps
+
+
+def processor_of(value):
+    return value["to"] if value["do"] == "receive" else value["p"]
+
+
+def words_of(value):
+    """What a step does, in few words."""
+    kind = value["do"]
+    if kind == "feed":
+        fed = f"feeds {', '.join(map(str, value['values']))} into {value['vertex']}"
+        return [fed, {"close": "and closes it", "next": "and goes on", "stay": "and stays"}[value["next"]]]
+    if kind == "take":
+        return [f"takes {value['value']}", f"off {at(value['edge'], value['time'])}"]
+    if kind == "receive":
+        return [f"receives from {value['from']}"]
+    return ["broadcasts"] if kind == "broadcast" else ["runs the notice", at(value["vertex"], value["time"])]
+
+
+def arrows_of(steps, before):
+    """Each change: its sender's step, its receiver, the step of its receive or None, and its entries."""
+    arrows, waiting = [], {}
+    for index, it in enumerate(steps):
+        value, old = it.line.value, steps[index - 1].state if index else before
+        if value["do"] == "broadcast":
+            sender = value["p"]
+            for q, queue in enumerate(it.state["queues"][sender]):
+                if len(queue) > len(old["queues"][sender][q]) and q != sender:
+                    arrow = [index, q, None, queue[-1]]
+                    arrows.append(arrow)
+                    waiting.setdefault((sender, q), []).append(arrow)
+        if value["do"] == "receive" and value["from"] != value["to"]:
+            waiting[value["from"], value["to"]].pop(0)[2] = index
+    return arrows
+
+
+def spot(index, processor):
+    return LEFT + COLUMN * index + COLUMN / 2, TOP + ROW * processor
+
+
+def arrow_parts(arrow, steps):
+    """A change that was received as an arrow; one that was not as a short dashed one."""
+    begin, receiver, end, entries = arrow
+    sender = steps[begin].line.value["p"]
+    x, y = spot(begin, sender)
+    if end is None:
+        down = 1 if receiver > sender else -1
+        return [line(x, y, x + 34, y + down * 40, "line dashed", "tip")]
+    to_x, to_y = spot(end, receiver)
+    share = 8 / ((to_x - x) ** 2 + (to_y - y) ** 2) ** 0.5
+    middle = x + (to_x - x) * 0.5, y + (to_y - y) * 0.5
+    parts = [line(x, y, to_x - (to_x - x) * share, to_y - (to_y - y) * share, "line thick", "thick-tip")]
+    for index, words in enumerate(changes(entries)):
+        parts.append(text(middle[0] + 14, middle[1] + (18 * index + 14 if to_y < y else 18 * index - 14), words, "fixed small start accent"))
+    return parts
+
+
+def view_parts(x, y, view):
+    """What a view holds, an entry a line, a negative one marked."""
+    high = 8 + 17 * max(len(view), 1)
+    longest = max([len(at(place, time)) + len(number(n)) + 2 for place, time, n in view], default=7)
+    parts = [box(x, y + 14 + high / 2, longest * 7.6 + 14, high, "box", 4)]
+    for index, (place, time, n) in enumerate(view):
+        classes = "fixed small bad" if n < 0 else "fixed small"
+        parts.append(text(x, y + 31 + 17 * index, f"{at(place, time)}: {number(n)}", classes))
+    return parts if view else [*parts, text(x, y + 31, "nothing", "small soft")]
+
+
+def truth_of(state):
+    """The true counts of a state, each in words."""
+    from telling.table import Points
+
+    order = {}
+    for it in state["processors"]:
+        for key in ("tokens", "records", "requests", "view"):
+            for entry in it[key]:
+                order.setdefault(entry[0], entry[0])
+    points = Points(state, order)
+    return [f"{at(place, time)}: {n}" for (place, time), n in sorted(points.truth.items()) if n]
+
+
+def lagging_view(told, name):
+    """The picture of a run."""
+    steps, start = steps_of(told), told.entries[0].state
+    count = len(start["processors"])
+    wide, high = LEFT + COLUMN * len(steps) + 24, TOP + ROW * count + 30
+    parts = [text(20, 30, f"{name}: each view from what has reached it", "head start")]
+    for p in range(count):
+        _, y = spot(0, p)
+        parts += [text(20, y - 10, f"processor {p}", "head start"), text(64, y + 10, "views", "small soft")]
+        parts += [line(LEFT - 30, y, wide - 20, y, "line", "tip"), *view_parts(64, y, start["processors"][p]["view"])]
+    for arrow in arrows_of(steps, start):
+        parts += arrow_parts(arrow, steps)
+    for index, it in enumerate(steps):
+        parts += step_parts(index, it)
+    y = TOP + ROW * count - 12
+    parts.append(text(20, y, "in truth", "head start"))
+    for index, it in enumerate(steps):
+        for row, words in enumerate(truth_of(it.state)):
+            parts.append(text(spot(index, 0)[0], y + 18 * row, words, "fixed small"))
+    title = f"The steps of {name} on {count} processors; a view that has heard of a take before the feed holds a negative entry."
+    return picture(wide, high, title, parts)
+
+
+def step_parts(index, entry):
+    """A step on its processor's line, with the view that a receive leaves."""
+    value = entry.line.value
+    processor = processor_of(value)
+    x, y = spot(index, processor)
+    words = words_of(value)
+    parts = [dot(x, y)]
+    parts += [text(x, y - 12 - 16 * (len(words) - 1 - row), it, "small") for row, it in enumerate(words)]
+    if value["do"] == "receive":
+        parts += view_parts(x, y, entry.state["processors"][processor]["view"])
+    return parts
