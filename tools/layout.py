@@ -11,6 +11,7 @@ edge's label is laid out as a node of its own, in a layer between, so no two lab
 from typing import NamedTuple
 
 SWEEPS = 24
+SETTLING = 120
 OWN_LOOP = 44
 
 
@@ -79,7 +80,7 @@ class Room:
         self.sizes = {node: turn(it) for node, it in sizes.items()}
         closing = closing_edges(list(sizes), edges)
         self.layer = layers_of(list(sizes), edges, closing)
-        self.label_of, self.chains, self.loops = {}, [], []
+        self.label_of, self.chains, self.loops, self.stops = {}, [], [], set()
         for it in edges:
             if it.start == it.end:
                 self.loops.append(it)
@@ -105,6 +106,7 @@ class Room:
             if is_label:
                 self.label_of[edge.name] = stop
             self.layer[stop] = layer
+            self.stops.add(stop)
             stops.append(stop)
         self.chains.append(Chain(edge, stops + [end], is_turned))
 
@@ -152,19 +154,24 @@ def ordered(room):
     return best
 
 
-def spread(wishes, gaps):
-    """The numbers nearest to the wishes, by squares, in which each is at least a gap behind the one before."""
+def spread(wishes, weights, gaps):
+    """The numbers nearest to the wishes, by weighted squares, in which each is at least a gap behind the one before."""
     offsets = [0.0]
     for gap in gaps:
         offsets.append(offsets[-1] + gap)
     blocks = []
-    for wish, offset in zip(wishes, offsets):
-        blocks.append([wish - offset, 1])
+    for wish, weight, offset in zip(wishes, weights, offsets):
+        blocks.append([wish - offset, weight, 1])
         while len(blocks) > 1 and blocks[-2][0] > blocks[-1][0]:
-            (low, m), (high, n) = blocks[-2:]
-            blocks[-2:] = [[(low * m + high * n) / (m + n), m + n]]
-    placed = [value for value, count in blocks for _ in range(count)]
+            (low, m, few), (high, n, more) = blocks[-2:]
+            blocks[-2:] = [[(low * m + high * n) / (m + n), m + n, few + more]]
+    placed = [value for value, _, count in blocks for _ in range(count)]
     return [value + offset for value, offset in zip(placed, offsets)]
+
+
+def pull(room, node, other):
+    """How strongly an edge is to be straight between two nodes: most where neither is a node of the graph."""
+    return (1, 3, 9)[(node in room.stops) + (other in room.stops)]
 
 
 def across(room, columns, gap):
@@ -172,16 +179,17 @@ def across(room, columns, gap):
     where, below = {}, {node: room.below(node) for node in room.sizes}
     gaps = [[(room.sizes[a][1] + room.sizes[b][1]) / 2 + gap for a, b in zip(it, it[1:])] for it in columns]
     for column, between in zip(columns, gaps):
-        placed = spread([0.0] * len(column), between)
-        where.update(zip(column, placed))
-    for sweep in range(SWEEPS):
+        where.update(zip(column, spread([0.0] * len(column), [1] * len(column), between)))
+    for sweep in range(SETTLING):
         order = list(zip(columns, gaps))
         for column, between in order if sweep % 2 == 0 else reversed(order):
-            wishes = []
+            wishes, weights = [], []
             for node in column:
-                near = [where[it] + below[it] - below[node] for it in room.neighbours[node]] or [where[node]]
-                wishes.append((sum(near) / len(near) + where[node]) / 2)
-            where.update(zip(column, spread(wishes, between)))
+                near = [(pull(room, node, it), where[it] + below[it] - below[node]) for it in room.neighbours[node]]
+                near = near or [(1, where[node])]
+                weights.append(sum(weight for weight, _ in near))
+                wishes.append(sum(weight * it for weight, it in near) / weights[-1])
+            where.update(zip(column, spread(wishes, weights, between)))
     return where
 
 

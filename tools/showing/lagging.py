@@ -3,9 +3,10 @@ its receive."""
 from showing.states import changes, number
 from showing.svgs import box, dot, line, picture, text
 from telling.commands import at
+from telling.table import Points
 
 STEPS = ("feed", "take", "notice", "broadcast", "receive")
-LEFT, TOP, COLUMN, ROW = 150, 78, 158, 150
+LEFT, TOP, COLUMN, ROW = 150, 104, 158, 150
 
 
 def steps_of(told):
@@ -65,21 +66,23 @@ def arrow_parts(arrow, steps):
     x, y = spot(begin, sender)
     if end is None:
         down = 1 if receiver > sender else -1
-        return [line(x, y, x + 34, y + down * 40, "line dashed", "tip")]
+        return [line(x, y, x + 12, y + down * 48, "line dashed", "tip")]
     to_x, to_y = spot(end, receiver)
     share = 8 / ((to_x - x) ** 2 + (to_y - y) ** 2) ** 0.5
-    middle = x + (to_x - x) * 0.5, y + (to_y - y) * 0.5
+    middle = x + (to_x - x) * 0.4, y + (to_y - y) * 0.4
     parts = [line(x, y, to_x - (to_x - x) * share, to_y - (to_y - y) * share, "line thick", "thick-tip")]
     for index, words in enumerate(changes(entries)):
         parts.append(text(middle[0] + 14, middle[1] + (18 * index + 14 if to_y < y else 18 * index - 14), words, "fixed small start accent"))
     return parts
 
 
-def view_parts(x, y, view):
+def view_parts(left, y, view):
     """What a view holds, an entry a line, a negative one marked."""
     high = 8 + 17 * max(len(view), 1)
-    longest = max([len(at(place, time)) + len(number(n)) + 2 for place, time, n in view], default=7)
-    parts = [box(x, y + 14 + high / 2, longest * 7.6 + 14, high, "box", 4)]
+    wide = max([len(at(place, time)) + len(number(n)) + 2 for place, time, n in view], default=7) * 7.6 + 14
+    x = left + wide / 2
+    rim = "box bad-box" if any(n < 0 for _, _, n in view) else "box"
+    parts = [box(x, y + 14 + high / 2, wide, high, rim, 4)]
     for index, (place, time, n) in enumerate(view):
         classes = "fixed small bad" if n < 0 else "fixed small"
         parts.append(text(x, y + 31 + 17 * index, f"{at(place, time)}: {number(n)}", classes))
@@ -88,8 +91,6 @@ def view_parts(x, y, view):
 
 def truth_of(state):
     """The true counts of a state, each in words."""
-    from telling.table import Points
-
     order = {}
     for it in state["processors"]:
         for key in ("tokens", "records", "requests", "view"):
@@ -103,17 +104,18 @@ def lagging_view(told, name):
     """The picture of a run."""
     steps, start = steps_of(told), told.entries[0].state
     count = len(start["processors"])
-    wide, high = LEFT + COLUMN * len(steps) + 24, TOP + ROW * count + 30
+    wide, high = LEFT + COLUMN * len(steps) + 50, TOP + ROW * count - 30
     parts = [text(20, 30, f"{name}: each view from what has reached it", "head start")]
+    parts.append(text(20, 50, "dashed: a change that is on its way still; those from a processor to itself are left out", "small soft start"))
     for p in range(count):
         _, y = spot(0, p)
-        parts += [text(20, y - 10, f"processor {p}", "head start"), text(64, y + 10, "views", "small soft")]
-        parts += [line(LEFT - 30, y, wide - 20, y, "line", "tip"), *view_parts(64, y, start["processors"][p]["view"])]
+        parts += [text(20, y - 10, f"processor {p}", "head start"), text(20, y + 8, "its view", "small soft start")]
+        parts += [line(LEFT - 30, y, wide - 20, y, "line", "tip"), *view_parts(20, y, start["processors"][p]["view"])]
     for arrow in arrows_of(steps, start):
         parts += arrow_parts(arrow, steps)
     for index, it in enumerate(steps):
         parts += step_parts(index, it)
-    y = TOP + ROW * count - 12
+    y = TOP + ROW * count - 66
     parts.append(text(20, y, "in truth", "head start"))
     for index, it in enumerate(steps):
         for row, words in enumerate(truth_of(it.state)):
@@ -129,7 +131,8 @@ def step_parts(index, entry):
     x, y = spot(index, processor)
     words = words_of(value)
     parts = [dot(x, y)]
-    parts += [text(x, y - 12 - 16 * (len(words) - 1 - row), it, "small") for row, it in enumerate(words)]
+    side, aside = {"broadcast": ("small end", 4), "receive": ("small start", 8)}.get(value["do"], ("small", 0))
+    parts += [text(x + aside, y - 12 - 16 * (len(words) - 1 - row), it, side) for row, it in enumerate(words)]
     if value["do"] == "receive":
-        parts += view_parts(x, y, entry.state["processors"][processor]["view"])
+        parts += view_parts(x - 4, y, entry.state["processors"][processor]["view"])
     return parts

@@ -24,19 +24,19 @@ def lines_of_times(times):
     return [*lines, f"and {len(times) - MOST} more"] if len(times) > MOST else lines
 
 
-def zones(graph, drawn, sizes):
-    """A ground behind the vertices of each depth that lies in a loop."""
+def grounds(graph, drawn, sizes, labels):
+    """Behind the vertices and edges of each depth that lies in a loop a ground that follows them and nothing else."""
+    depths = {it["name"]: it["depth"] for it in graph["vertices"]}
     parts = []
-    for depth in range(1, 1 + max(it["depth"] for it in graph["vertices"])):
-        inside = [it["name"] for it in graph["vertices"] if it["depth"] >= depth]
-        spots = [(drawn.nodes[it], sizes[it]) for it in inside]
-        ends = {it["name"] for it in graph["vertices"] if it["depth"] >= depth}
-        spots += [(drawn.labels[it["name"]], (90, 60)) for it in graph["edges"] if it["from"] in ends and it["to"] in ends]
-        spread = 30 - 12 * depth
-        left, right = (f(x + side * w / 2 for (x, _), (w, _) in spots) for f, side in ((min, -1), (max, 1)))
-        top, low = (f(y + side * h / 2 for (_, y), (_, h) in spots) for f, side in ((min, -1), (max, 1)))
-        parts.append(box((left + right) / 2, (top + low) / 2, right - left + 2 * spread, low - top + 2 * spread, "zone", 12))
-        parts.append(text(left - spread + 10, top - spread + 16, f"loop {depth}", "small soft start"))
+    for depth in range(1, 1 + max(depths.values())):
+        classes, spread = ("loop", 20) if depth % 2 else ("deep", 12)
+        for it in graph["edges"]:
+            if depths[it["to"]] >= depth:
+                (x, y), (wide, high) = drawn.labels[it["name"]], labels[it["name"]]
+                parts.append(curve(drawn.paths[it["name"]], f"{classes}-edge", wide=2 * spread))
+                parts.append(box(x, y, wide + spread, high + spread, classes, spread))
+        inside = [name for name, it in depths.items() if it >= depth]
+        parts += [box(*drawn.nodes[it], sizes[it][0] + 2 * spread, sizes[it][1] + 2 * spread, classes, spread) for it in inside]
     return parts
 
 
@@ -55,7 +55,7 @@ def nested_loop(told, name):
     lines = {edge: lines_of_times(it) for edge, it in times.items()}
     labels = {edge: (max(map(len, it), default=3) * 7.4 + 12, 16 * len(it) + 8) for edge, it in lines.items()}
     drawn = layout(sizes, [Edge(it["name"], it["from"], it["to"], labels[it["name"]]) for it in graph["edges"]], gap=30, layer_gap=14)
-    parts = zones(graph, drawn, sizes)
+    parts = grounds(graph, drawn, sizes, labels)
     parts += [curve(points) for points in drawn.paths.values()]
     for it in graph["vertices"]:
         parts += vertex_parts(it, drawn.nodes[it["name"]], sizes[it["name"]])
@@ -63,5 +63,6 @@ def nested_loop(told, name):
         top = y + labels[edge][1] / 2 - 16 * len(lines[edge])
         parts += [text(x, top + 16 * row + 8, words, "fixed small") for row, words in enumerate(lines[edge])]
     head = text(20, 28, f"{name}: the times of the records on each edge, as they came", "head start")
+    head += text(20, 48, "the ground behind: a loop, and another one: a loop within it", "small soft start")
     title = f"The graph of {name}, with the times of its records: an ingress appends a counter, a feedback adds 1, an egress drops it."
-    return picture(drawn.width + 40, drawn.height + 110, title, [head, moved(20, 70, parts)])
+    return picture(drawn.width + 50, drawn.height + 120, title, [head, moved(25, 92, parts)])

@@ -1,4 +1,5 @@
 """Two pictures of the repository itself: the path of a line through the crates, and the crates and who stands on whom."""
+import json
 import re
 
 from layout import Edge, layout
@@ -6,8 +7,8 @@ from showing.svgs import box, curve, line, moved, picture, text
 
 # What comes of a line, and the crates between each and the next one; docs/ARCHITECTURE.md tells the same in a block of text.
 STAGES = ["bytes", "line", "JSON value", "command", "move", "reply", "reply value", "bytes"]
-CRATES = [["rewind_lines"], ["rewind_lines"], ["nd_json", "rewind_forms"], ["rewind_answers"], ["nd_timeline"], ["rewind_forms"], ["rewind_lines"]]
-FAMILIES = (("rewind", "the program"), ("nd_", "the debugger"))
+CRATES = [["rewind_lines"], ["rewind_lines"], ["nd_json", "rewind_forms"], ["nd_timeline"], ["nd_timeline"], ["rewind_forms"], ["rewind_lines"]]
+PROGRAM = "rewind_cli"
 
 
 def crates_of(source):
@@ -20,21 +21,21 @@ def crates_of(source):
     return {name: [it for it in below if it in crates] for name, below in crates.items()}
 
 
+def reach(crates, name):
+    """The crates that one stands on, through others too."""
+    return set(crates[name]).union(*(reach(crates, it) for it in crates[name]))
+
+
 def nearest_below(crates):
     """Of those that a crate stands on those alone that it does not reach through another."""
-    reached = {}
-
-    def reach(name):
-        if name not in reached:
-            reached[name] = set(crates[name]).union(*(reach(it) for it in crates[name]))
-        return reached[name]
-
-    return {name: [it for it in below if not any(it in reach(other) for other in below)] for name, below in crates.items()}
+    reached = {name: reach(crates, name) for name in crates}
+    return {name: [it for it in below if not any(it in reached[other] for other in below)] for name, below in crates.items()}
 
 
 def crates_picture(source):
     """The crates in layers, the lowest at the foot."""
     crates = nearest_below(crates_of(source))
+    program = {PROGRAM, *reach(crates, PROGRAM)}
     sizes = {name: (len(name) * 7.8 + 18, 28) for name in crates}
     edges = [Edge(f"{name} {it}", it, name) for name, below in crates.items() for it in below]
     drawn = layout(sizes, edges, gap=14, layer_gap=34, down=True)
@@ -42,9 +43,10 @@ def crates_picture(source):
     parts = [curve([turned(it) for it in reversed(points)]) for points in drawn.paths.values()]
     for name, middle in drawn.nodes.items():
         x, y = turned(middle)
-        parts += [box(x, y, *sizes[name]), text(x, y + 4.5, name, "fixed")]
+        parts += [box(x, y, *sizes[name], "box" if name in program else "box dashed"), text(x, y + 4.5, name, "fixed")]
     head = text(20, 28, "The crates: an arrow leads to one that a crate stands on; what it reaches through others has none", "head start")
-    return picture(drawn.width + 40, drawn.height + 70, "The crates, each above those that it stands on.", [head, moved(20, 50, parts)])
+    head += text(20, 48, "dashed: for tests and measuring alone, no part of the program", "small soft start")
+    return picture(drawn.width + 40, drawn.height + 90, "The crates, each above those that it stands on.", [head, moved(20, 70, parts)])
 
 
 def told_path(page):
@@ -54,14 +56,10 @@ def told_path(page):
     return stages, re.findall(r"\w+", block[2]) if block else []
 
 
-def without_repeats(names):
-    return [it for at, it in enumerate(names) if at == 0 or names[at - 1] != it]
-
-
 def path_fault(page, crates):
     """What is stale in the path that is drawn, or None: it is the page's path, through crates that are there."""
     stages, named = told_path(page)
-    drawn = without_repeats([it for between in CRATES for it in between if it != "rewind_answers"])
+    drawn = [it for at, between in enumerate(CRATES) if at == 0 or CRATES[at - 1] != between for it in between]
     if stages != STAGES or named != drawn:
         return f"docs/ARCHITECTURE.md tells another path of a line than tools/showing/rooms.py: {stages} {named}"
     gone = [it for between in CRATES for it in between if it not in crates]
@@ -82,6 +80,7 @@ def path_picture(told, number):
             middle = (x_of(at - 1) + x_of(at)) / 2
             parts += [text(middle, 92 - 16 * (len(names) - 1 - row), it, "fixed small accent") for row, it in enumerate(names)]
             parts.append(line(middle, 98, middle, 122, "line dashed"))
+    parts.append(text(20, 50, "rewind_answers walks it for one line, and rewind for all", "small soft start"))
     parts += [text(20, 200, f"in, line {number}:", "soft start"), text(120, 200, entry.line.text.decode(), "fixed start")]
     parts += [text(20, 224, "out:", "soft start"), text(120, 224, reply_text(told, entry), "fixed start")]
     return picture(x_of(len(STAGES) - 1) + 72, 246, "What comes of a line from its bytes to the bytes of its reply, and the crates between.", parts)
@@ -89,6 +88,4 @@ def path_picture(told, number):
 
 def reply_text(told, entry):
     """The reply as it stands in the program's own output."""
-    import json
-
     return json.dumps(entry.reply, separators=(",", ":"), sort_keys=True)

@@ -2,9 +2,9 @@
 from html import escape
 
 STYLE = """
-svg { --ground: #ffffff; --ink: #1b2330; --soft: #566273; --rim: #8b98a8; --box: #f1f4f8; --deep: #e2eaf4; --accent: #0b5cb8; --bad: #b3261e; }
+svg { --ground: #ffffff; --ink: #1b2330; --soft: #566273; --rim: #8b98a8; --box: #f4f6f9; --loop: #dfe8f3; --deep: #c6d6ea; --accent: #0b5cb8; --bad: #b3261e; }
 @media (prefers-color-scheme: dark) {
-  svg { --ground: #12161c; --ink: #e7ebf1; --soft: #a3afbf; --rim: #6b7889; --box: #1e252e; --deep: #27323f; --accent: #7fbcff; --bad: #ff9a90; }
+  svg { --ground: #12161c; --ink: #e7ebf1; --soft: #a3afbf; --rim: #6b7889; --box: #161b22; --loop: #26313e; --deep: #374658; --accent: #7fbcff; --bad: #ff9a90; }
 }
 .ground { fill: var(--ground); }
 text { font: 13px sans-serif; fill: var(--ink); text-anchor: middle; }
@@ -20,7 +20,11 @@ text { font: 13px sans-serif; fill: var(--ink); text-anchor: middle; }
 .thick { stroke: var(--accent); stroke-width: 2; }
 .dashed { stroke-dasharray: 6 4; }
 .box { fill: var(--box); stroke: var(--rim); stroke-width: 1.2; }
-.zone { fill: var(--deep); stroke: var(--rim); stroke-dasharray: 3 4; fill-opacity: 0.45; }
+.bad-box { stroke: var(--bad); stroke-width: 2; }
+.loop { fill: var(--loop); stroke: none; }
+.loop-edge { fill: none; stroke: var(--loop); }
+.deep { fill: var(--deep); stroke: none; }
+.deep-edge { fill: none; stroke: var(--deep); }
 .dot { fill: var(--accent); }
 .tip { fill: var(--rim); }
 .thick-tip { fill: var(--accent); }
@@ -51,10 +55,11 @@ def line(x, y, to_x, to_y, classes="line", tip=None):
     return f'<path class="{classes}" d="M{number(x)},{number(y)} L{number(to_x)},{number(to_y)}"{end}/>\n'
 
 
-def curve(points, classes="line", tip="tip"):
+def curve(points, classes="line", tip="tip", wide=None):
     """An edge of a layout."""
     rest = " ".join(f"{number(x)},{number(y)}" for x, y in points[1:])
-    return f'<path class="{classes}" d="M{number(points[0][0])},{number(points[0][1])} C{rest}" marker-end="url(#{tip})"/>\n'
+    end = f' stroke-width="{wide}" stroke-linecap="round"' if wide else f' marker-end="url(#{tip})"'
+    return f'<path class="{classes}" d="M{number(points[0][0])},{number(points[0][1])} C{rest}"{end}/>\n'
 
 
 def dot(x, y):
