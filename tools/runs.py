@@ -13,10 +13,12 @@
         entry.state           of those replies the state after the line, or None
 
 The queries are '{"do":"state"}' alone where no others are given, and change nothing; lines before the graph's, which is the
-one whose reply counts places, are followed by none. They move the lines that follow, so
-a faulty line's number is put back. Where queries are not allowed (several clients), or what the program writes with them
-is not what the script alone gets and as many answers, the script runs alone, and its entries have no answers past the
-first line at which the two runs differ.
+one whose reply counts places, are followed by none. They move the lines that follow, so a faulty line's number is put back.
+Where the program does not answer all of that with status 0 (queries are not allowed with several clients, a graph may be
+refused), the script runs alone as well: its replies and status are those given, and entries have answers up to the first
+reply in which the two runs differ.
+
+The program is ./rewind, or what REWIND_PROGRAM names in the environment, as the tests do to run the built one alone.
 
     answers_after(script, 7, ['{"do":"back"}'], words)      the replies to lines that follow the line 7 of a copy"""
 import json
@@ -25,7 +27,7 @@ import subprocess
 from typing import NamedTuple
 
 TOP = os.path.dirname(os.path.dirname(os.path.abspath(__file__)))
-PROGRAM = os.path.join(TOP, "rewind")
+PROGRAM = os.environ.get("REWIND_PROGRAM", os.path.join(TOP, "rewind"))
 STATE = '{"do":"state"}'
 
 
@@ -74,7 +76,8 @@ def lines_of(script):
 
 def run_bytes(script, words):
     """The program's status, the bytes that it writes, and what it says on standard error."""
-    ran = subprocess.run([PROGRAM, *words], input=script, stdout=subprocess.PIPE, stderr=subprocess.PIPE)
+    how = {"executable": PROGRAM, "input": script, "stdout": subprocess.PIPE, "stderr": subprocess.PIPE}
+    ran = subprocess.run(["rewind", *words], **how)
     return ran.returncode, ran.stdout, ran.stderr.decode(errors="replace")
 
 

@@ -63,6 +63,6 @@ def nested_loop(told, name):
         top = y + labels[edge][1] / 2 - 16 * len(lines[edge])
         parts += [text(x, top + 16 * row + 8, words, "fixed small") for row, words in enumerate(lines[edge])]
     head = text(20, 28, f"{name}: the times of the records on each edge, as they came", "head start")
-    head += text(20, 48, "the ground behind: a loop, and another one: a loop within it", "small soft start")
+    head += text(20, 48, "the ground shows what lies in a loop, the stronger one what lies in a loop within it", "small soft start")
     title = f"The graph of {name}, with the times of its records: an ingress appends a counter, a feedback adds 1, an egress drops it."
     return picture(drawn.width + 50, drawn.height + 120, title, [head, moved(25, 92, parts)])

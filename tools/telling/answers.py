@@ -6,8 +6,8 @@ from telling.forms import listed
 class Teller:
     """Tells one reply after the other, and keeps what they tell of the timeline."""
 
-    def __init__(self, graph, processors):
-        self.graph, self.processors = graph, processors
+    def __init__(self, graph, processors, has_clients):
+        self.graph, self.processors, self.has_clients = graph, processors, has_clients
         self.kept, self.breaks = 0, {}
 
     def told(self, value, reply, before):
@@ -56,8 +56,8 @@ class Teller:
         """Which of the processors of a line is none, and which there are."""
         asked = [value[key] for key in ("p", "q", "from", "to") if isinstance(value.get(key), int)]
         absent = sorted({it for it in asked if self.processors is not None and it >= self.processors})
-        there = "processor 0 alone" if self.processors == 1 else f"the processors 0 to {(self.processors or 0) - 1}"
-        return f"there is no processor {listed(map(str, absent), 'or')}; there is {there}" if absent else ""
+        there = "is processor 0 alone" if self.processors == 1 else f"are the processors 0 to {(self.processors or 0) - 1}"
+        return f"there is no processor {listed(map(str, absent), 'or')}; there {there}" if absent else ""
 
     def not_input(self, value, reply, before):
         inputs = [name for name, it in self.graph.vertices.items() if it["op"] == "input"]
@@ -110,7 +110,13 @@ def queue_empty(teller, value, reply, before):
     if before is None:
         return said
     senders = [p for p, row in enumerate(before["queues"]) if row[value["to"]]]
-    return f"{said}; to {value['to']} something is on its way from: {some_of(senders)}"
+    return f"{said}; to {value['to']} something is on its way from {some_of(senders)}" if senders else f"{said}, nor from others"
+
+
+def timeline_full(teller, value, reply, before):
+    if value["do"] == "run":
+        return f"the limit, {value['limit']}, is above 1000000 less the cursor"
+    return "the cursor is at 1000000, where no step is made; going back makes room"
 
 
 def sentence(words):
@@ -138,7 +144,7 @@ REFUSALS = {
     "AtStart": sentence("no step is kept before the cursor"),
     "AtEnd": sentence("no step is kept behind the cursor"),
     "NoSuchPoint": Teller.no_such_point,
-    "TimelineFull": sentence("at most 1000000 steps are kept; going back makes room, and a run's limit must fit"),
+    "TimelineFull": timeline_full,
     "TooManyBreaks": sentence("32 breakpoints are set; at most 32 may be"),
     "NoBreak": Teller.no_break,
     "LogFull": sentence("1000000 commands are logged, and no more are made"),
@@ -159,7 +165,7 @@ def points(entries):
 
 
 def passed(teller, value, reply):
-    return ["yes" if reply["passed"] else f"no: its view has {at(*reply['point'])} at or before it, of such the least"]
+    return ["yes" if reply["passed"] else f"no: its view has {at(*reply['point'])} at or before it"]
 
 
 ANSWERS = {

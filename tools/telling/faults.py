@@ -15,10 +15,9 @@ def teller_of(told, script):
     first = told.entries[0] if told.entries else None
     has_fault_alone = first is not None and first.line.number != lines_of(script)[0].number
     started = next((it.reply for it in told.entries if "locations" in it.reply), {})
-    is_read = started or has_fault_alone
-    teller = Teller(names.Graph(told.graph) if is_read else None, started.get("processors"))
-    teller.has_clients = has_fault_alone or any(it.client is not None for it in told.entries)
-    return teller
+    graph = names.Graph(told.graph) if started or has_fault_alone else None
+    has_clients = has_fault_alone or any(it.client is not None for it in told.entries)
+    return Teller(graph, started.get("processors"), has_clients)
 
 
 def told_line(entry, before, teller):

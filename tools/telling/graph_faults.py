@@ -25,7 +25,8 @@ OP = values.one_of(*PLAIN, *NUMBERED)
 ROUTE = values.one_of("local", "exchange")
 VERTEX = {"name": NAME, "op": OP, "depth": SMALL}
 EDGE = {"name": NAME, "from": REFERRED, "port": SMALL, "to": REFERRED, "route": ROUTE}
-GRAPH = {"vertices": ("a list of vertices", values.list_of(lambda it: None)), "edges": ("a list of edges", values.list_of(lambda it: None))}
+ANY_LIST = values.list_of(lambda it: None)
+GRAPH = {"vertices": ("a list of vertices", ANY_LIST), "edges": ("a list of edges", ANY_LIST)}
 
 
 def shape_faults(graph):
@@ -47,9 +48,14 @@ def part_faults(value, is_vertex):
     if not isinstance(value, dict):
         return [f"it {values.kind_of(value)}, and is to be an object"]
     form = form_of_vertex(value) if is_vertex else EDGE
-    near = nearest(value["op"], PLAIN + NUMBERED) if is_vertex and isinstance(value.get("op"), str) and OP[1](value["op"]) else None
-    hint = [f"the nearest op is {shown(near)}"] if near else []
-    return keys_faults(value, form) + value_faults(value, form) + hint
+    return keys_faults(value, form) + value_faults(value, form) + (op_hint(value.get("op")) if is_vertex else [])
+
+
+def op_hint(op):
+    """The nearest op of a text that is none."""
+    is_wrong = isinstance(op, str) and op not in PLAIN + NUMBERED
+    near = nearest(op, PLAIN + NUMBERED) if is_wrong else None
+    return [f"the nearest op is {shown(near)}"] if near else []
 
 
 def form_of_vertex(value):

@@ -8,12 +8,17 @@ MOST_SHOWN = 12
 
 
 def steps_left(state):
-    """The takes and notices that a state suggests, each with its words."""
+    """The steps that a state suggests, each with the words for what it would move."""
     for p, it in enumerate(state["processors"]):
         for edge, time, value, _ in it["records"]:
             yield {"do": "take", "p": p, "edge": edge, "time": time, "value": value}, f"record {value} at {at(edge, time)}"
         for vertex, time in it["requests"]:
             yield {"do": "notice", "p": p, "vertex": vertex, "time": time}, f"notice of {at(vertex, time)}"
+        if it["unsent"]:
+            yield {"do": "broadcast", "p": p}, "what is unsent"
+        for to, changes in enumerate(state["queues"][p]):
+            if changes:
+                yield {"do": "receive", "from": p, "to": to}, f"the first change on its way to {to}"
 
 
 def left(script, number, words, state, teller):
@@ -28,8 +33,8 @@ def left(script, number, words, state, teller):
         if "error" not in reply:
             break
         why = teller.refused(step, reply, None)[0].removeprefix("refused, ")
-        said.append(f"processor {step['p']}, {thing}: {why}")
+        said.append(f"processor {step.get('p', step.get('from'))}, {thing}: {why}")
     if not steps:
-        return ["no record and no request for a notice is left"]
+        return ["no record, request, unsent entry or change on its way"]
     more = len(said) - MOST_SHOWN
     return said[:MOST_SHOWN] + ([f"and {more} more"] if more > 0 else [])

@@ -106,15 +106,22 @@ def width_of(lines):
     return max(map(len, lines))
 
 
-def queues_and_sinks(state):
-    """What is on its way, and what sinks have counted, a sentence each; none where there is nothing."""
+def queues_and_sinks(state, before, is_whole=False):
+    """What is on its way, and what the sinks have counted where that differs from before, a sentence each where there is any."""
     queues = [
         f"{len(changes)} from {p} to {q}" for p, row in enumerate(state["queues"]) for q, changes in enumerate(row) if changes
     ]
+    now, old = sink_counts(state), sink_counts(before) if before and not is_whole else {}
+    changed = {key: now.get(key, 0) for key in [*now, *old] if now.get(key) != old.get(key)}
+    sinks = [f"{vertex} {value}" + (f" ({number} times)" if number != 1 else "") for (vertex, value), number in changed.items()]
+    on_way = [f"changes on their way: {', '.join(queues)}"] if queues else []
+    return on_way + ([f"sinks have counted: {', '.join(sinks)}"] if sinks else [])
+
+
+def sink_counts(state):
+    """How often the sinks of all processors have counted each value."""
     counts = {}
     for it in state["processors"]:
         for vertex, value, number in it["sinks"]:
             counts[vertex, value] = counts.get((vertex, value), 0) + number
-    sinks = [f"{vertex} {value}" + (f" ({number} times)" if number > 1 else "") for (vertex, value), number in counts.items()]
-    on_way = [f"changes on their way: {', '.join(queues)}"] if queues else []
-    return on_way + ([f"sinks have counted: {', '.join(sinks)}"] if sinks else [])
+    return counts
