@@ -42,7 +42,7 @@ function showKept(it) {
   by("cursor").textContent = `cursor at ${it.at} of ${it.kept} kept ${it.kept === 1 ? "step" : "steps"}`;
 }
 
-function showPlaces(now, before) {
+function showPlaces(now, before, mark) {
   for (const place of document.querySelectorAll(".graph .place")) {
     const here = now && now.places[place.dataset.place];
     const old = before && before.places[place.dataset.place];
@@ -56,7 +56,7 @@ function showPlaces(now, before) {
     place.querySelector("title").textContent = here ? [`${here.n} ${here.of}`, ...lines].join("\n") : "nothing is here";
     place.classList.toggle("busy", Boolean(here));
     const isChanged = before && now && JSON.stringify(here) !== JSON.stringify(old);
-    place.classList.toggle("changed", Boolean(isChanged));
+    place.classList.toggle("changed", Boolean(isChanged) || place.dataset.place === mark);
   }
   for (const edge of document.querySelectorAll(".graph .edge")) {
     edge.classList.toggle("busy-edge", Boolean(now && now.places[edge.dataset.edge]));
@@ -140,6 +140,7 @@ function showProcessors(now, before) {
       if (!texts.length && !isChanged) continue;
       row.append(made("span", `${kind} `, isChanged ? "changed" : "none"), ...chips(texts.length ? texts : ["none"], LONG_LIST));
     }
+    if (row.childElementCount === 1) row.append(made("span", "nothing", "none"));
     parts.push(row);
   });
   by("processors").replaceChildren(made("h2", "What each processor holds"), ...parts);
@@ -162,7 +163,7 @@ function show(at) {
   showStep(it);
   showKept(it);
   showBreaks(it);
-  showPlaces(now, before);
+  showPlaces(now, before, it.mark);
   for (const id of ["points", "queues", "processors"]) by(id).hidden = !now;
   if (!now) return;
   showPoints(now, before);

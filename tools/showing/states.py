@@ -102,33 +102,42 @@ def cut(text):
     return text if len(text) <= LONGEST else f"{text[:LONGEST]} .. ({counted(len(text), 'letter')} in all)"
 
 
+def order_of(graph):
+    """The number of each place, in the order of listing."""
+    return {it["name"]: at for at, it in enumerate(graph["vertices"] + graph["edges"])}
+
+
+def breaks_of(teller, reply):
+    """The breakpoints that are set, as the replies so far tell, and which of them a run has stopped at."""
+    stop = reply.get("stop")
+    stopped = stop["break"] if isinstance(stop, dict) else None
+    return [{"id": key, "when": when, "holds": key == stopped} for key, when in sorted(teller.breaks.items())]
+
+
+def shown_line(entry, dumped):
+    """A line and its reply as they are; of a refused graph the place that the reply names."""
+    return {
+        "line": entry.line.number if entry.line else None,
+        "client": entry.client,
+        "text": cut(entry.line.text.decode(errors="backslashreplace").strip()) if entry.line else "",
+        "reply": cut(dumped(entry.reply)),
+        "refused": "error" in entry.reply,
+        "mark": str(order_of(entry.line.value)[entry.reply["location"]]) if "location" in entry.reply else None,
+    }
+
+
 def shown_positions(told, script, dumped):
     """A position for each reply, and the states that they are at, each once."""
     teller = faults.teller_of(told, script)
     positions, states, place_of = [], [], {}
-    here = {"at": 0, "kept": 0}
-    before, stopped = None, None
+    here, before = {"at": 0, "kept": 0}, None
     for entry in told.entries:
         asked, answer = faults.told_line(entry, before, teller)
         here = {key: entry.reply.get(key, here[key]) for key in here}
-        stop = entry.reply.get("stop")
-        stopped = stop["break"] if isinstance(stop, dict) else None
-        before = entry.state
-        key = dumped(entry.answers)
+        before, key = entry.state, dumped(entry.answers)
         if before is not None and key not in place_of:
             place_of[key] = len(states)
-            states.append(shown_state(before, teller.graph.order, entry.answers))
-        positions.append({
-            "line": entry.line.number if entry.line else None,
-            "client": entry.client,
-            "text": cut(entry.line.text.decode(errors="backslashreplace").strip()) if entry.line else "",
-            "reply": cut(dumped(entry.reply)),
-            "asked": asked,
-            "answer": answer,
-            "refused": "error" in entry.reply,
-            "at": here["at"],
-            "kept": here["kept"],
-            "breaks": [{"id": key, "when": when, "holds": key == stopped} for key, when in sorted(teller.breaks.items())],
-            "state": place_of[key] if before is not None else None,
-        })
+            states.append(shown_state(before, order_of(told.graph), entry.answers))
+        told_here = {"asked": asked, "answer": answer, "state": place_of[key] if before is not None else None}
+        positions.append({**shown_line(entry, dumped), **told_here, **here, "breaks": breaks_of(teller, entry.reply)})
     return positions, states
