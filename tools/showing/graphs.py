@@ -24,7 +24,8 @@ def port_of(edge):
 
 def sizes_of(graph):
     """The size of each vertex's box and of each edge's label."""
-    boxes = {it["name"]: (max(width_of(it["name"]), width_of(kind_of(it)), width_of("9 requests")) + 14, 58) for it in graph["vertices"]}
+    widest = lambda *texts: max(map(width_of, texts))
+    boxes = {it["name"]: (widest(it["name"], kind_of(it), "9 requests") + 14, 58) for it in graph["vertices"]}
     labels = {it["name"]: (max(width_of(it["name"] + port_of(it)), COUNT_LETTERS * LETTER) + 4, 38) for it in graph["edges"]}
     return boxes, labels
 
@@ -88,10 +89,11 @@ def graph_svg(graph, drawn):
     for at, it in enumerate(graph["edges"]):
         parts.append(label_svg(it, drawn.labels[it["name"]], labels[it["name"]], len(graph["vertices"]) + at))
     wide, high = drawn.width + 12, drawn.height + 12
-    head = '<defs><marker id="tip" viewBox="0 0 8 8" refX="7" refY="4" markerUnits="userSpaceOnUse" markerWidth="10" markerHeight="10" orient="auto">'
-    head += '<path d="M0,0 L8,4 L0,8 z"/></marker></defs>'
+    head = '<defs><marker id="tip" viewBox="0 0 8 8" refX="7" refY="4" markerUnits="userSpaceOnUse" markerWidth="10" '
+    head += 'markerHeight="10" orient="auto"><path d="M0,0 L8,4 L0,8 z"/></marker></defs>'
     size = f'viewBox="-6 -6 {wide:g} {high:g}" style="width:{wide:g}px;min-width:{min(wide, max(360, wide * 0.8)):g}px"'
-    return f'<svg xmlns="http://www.w3.org/2000/svg" class="graph" role="img" aria-label="the graph" {size}>{head}{"".join(parts)}</svg>'
+    start = f'<svg xmlns="http://www.w3.org/2000/svg" class="graph" role="img" aria-label="the graph" {size}>'
+    return f"{start}{head}{''.join(parts)}</svg>"
 
 
 def edge_svg(edge, points, number):

@@ -72,7 +72,8 @@ def arrow_parts(arrow, steps):
     middle = x + (to_x - x) * 0.4, y + (to_y - y) * 0.4
     parts = [line(x, y, to_x - (to_x - x) * share, to_y - (to_y - y) * share, "line thick", "thick-tip")]
     for index, words in enumerate(changes(entries)):
-        parts.append(text(middle[0] + 14, middle[1] + (18 * index + 14 if to_y < y else 18 * index - 14), words, "fixed small start accent"))
+        beside = middle[1] + 18 * index + (14 if to_y < y else -14)
+        parts.append(text(middle[0] + 14, beside, words, "fixed small start accent"))
     return parts
 
 
@@ -106,7 +107,8 @@ def lagging_view(told, name):
     count = len(start["processors"])
     wide, high = LEFT + COLUMN * len(steps) + 50, TOP + ROW * count - 30
     parts = [text(20, 30, f"{name}: each view from what has reached it", "head start")]
-    parts.append(text(20, 50, "dashed: a change that is on its way still; those from a processor to itself are left out", "small soft start"))
+    more = "dashed: a change that is on its way still; those from a processor to itself are left out"
+    parts.append(text(20, 50, more, "small soft start"))
     for p in range(count):
         _, y = spot(0, p)
         parts += [text(20, y - 10, f"processor {p}", "head start"), text(20, y + 8, "its view", "small soft start")]
@@ -120,7 +122,7 @@ def lagging_view(told, name):
     for index, it in enumerate(steps):
         for row, words in enumerate(truth_of(it.state)):
             parts.append(text(spot(index, 0)[0], y + 18 * row, words, "fixed small"))
-    title = f"The steps of {name} on {count} processors; a view that has heard of a take before the feed holds a negative entry."
+    title = f"The steps of {name} on {count} processors; a view that heard of a take before the feed holds a negative entry."
     return picture(wide, high, title, parts)
 
 

@@ -35,16 +35,18 @@ def grounds(graph, drawn, sizes, labels):
                 (x, y), (wide, high) = drawn.labels[it["name"]], labels[it["name"]]
                 parts.append(curve(drawn.paths[it["name"]], f"{classes}-edge", wide=2 * spread))
                 parts.append(box(x, y, wide + spread, high + spread, classes, spread))
-        inside = [name for name, it in depths.items() if it >= depth]
-        parts += [box(*drawn.nodes[it], sizes[it][0] + 2 * spread, sizes[it][1] + 2 * spread, classes, spread) for it in inside]
+        for name in (it for it, own in depths.items() if own >= depth):
+            wide, high = sizes[name]
+            parts.append(box(*drawn.nodes[name], wide + 2 * spread, high + 2 * spread, classes, spread))
     return parts
 
 
 def vertex_parts(vertex, middle, size):
     x, y = middle
     does = DOES.get(vertex["op"])
-    parts = [box(x, y, *size), text(x, y - (12 if does else 4), vertex["name"], "head"), text(x, y + (4 if does else 12), kind_of(vertex), "soft")]
-    return parts + ([text(x, y + 20, does, "small accent")] if does else [])
+    top = y - (12 if does else 4)
+    parts = [box(x, y, *size), text(x, top, vertex["name"], "head"), text(x, top + 16, kind_of(vertex), "soft")]
+    return parts + ([text(x, top + 32, does, "small accent")] if does else [])
 
 
 def nested_loop(told, name):
@@ -54,7 +56,8 @@ def nested_loop(told, name):
     sizes = {it["name"]: (wide.get(it["op"], 78), 60) for it in graph["vertices"]}
     lines = {edge: lines_of_times(it) for edge, it in times.items()}
     labels = {edge: (max(map(len, it), default=3) * 7.4 + 12, 16 * len(it) + 8) for edge, it in lines.items()}
-    drawn = layout(sizes, [Edge(it["name"], it["from"], it["to"], labels[it["name"]]) for it in graph["edges"]], gap=30, layer_gap=14)
+    edges = [Edge(it["name"], it["from"], it["to"], labels[it["name"]]) for it in graph["edges"]]
+    drawn = layout(sizes, edges, gap=30, layer_gap=14)
     parts = grounds(graph, drawn, sizes, labels)
     parts += [curve(points) for points in drawn.paths.values()]
     for it in graph["vertices"]:
@@ -63,6 +66,7 @@ def nested_loop(told, name):
         top = y + labels[edge][1] / 2 - 16 * len(lines[edge])
         parts += [text(x, top + 16 * row + 8, words, "fixed small") for row, words in enumerate(lines[edge])]
     head = text(20, 28, f"{name}: the times of the records on each edge, as they came", "head start")
-    head += text(20, 48, "the ground shows what lies in a loop, the stronger one what lies in a loop within it", "small soft start")
-    title = f"The graph of {name}, with the times of its records: an ingress appends a counter, a feedback adds 1, an egress drops it."
+    more = "the ground shows what lies in a loop, the stronger one what lies in a loop within it"
+    head += text(20, 48, more, "small soft start")
+    title = f"The graph of {name} with times of records: an ingress appends a counter, a feedback adds 1, an egress drops it."
     return picture(drawn.width + 50, drawn.height + 120, title, [head, moved(25, 92, parts)])

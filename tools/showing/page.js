@@ -83,7 +83,9 @@ function cell(text, old, classes) {
 
 function pointRow(row, old, hasBefore) {
   const it = made("tr");
-  const was = (kind, p) => (!hasBefore ? undefined : old ? (p === null ? old[kind] : old[kind][p]) : kind === "unsent" ? "" : "0");
+  const nothing = (kind) => (kind === "unsent" ? "" : "0");
+  const stood = (kind, p) => (p === null ? old[kind] : old[kind][p]);
+  const was = (kind, p) => (!hasBefore ? undefined : old ? stood(kind, p) : nothing(kind));
   it.append(made("td", row.at), cell(row.truth, was("truth", null), ["edged"]));
   row.view.forEach((text, p) => {
     it.append(cell(text, was("view", p), [p === 0 && "edged", text !== row.truth && "apart", row.front[p] && "front"]));
@@ -96,7 +98,8 @@ function pointRow(row, old, hasBefore) {
 function allRows(now, before) {
   const here = new Set(now.points.map((it) => it.at));
   const gone = (before ? before.points : []).filter((it) => !here.has(it.at));
-  const empty = (it) => ({ at: it.at, truth: "0", view: it.view.map(() => "0"), unsent: it.unsent.map(() => ""), front: it.front.map(() => 0) });
+  const all = (it, text) => it.view.map(() => text);
+  const empty = (it) => ({ at: it.at, truth: "0", view: all(it, "0"), unsent: all(it, ""), front: all(it, 0) });
   return [...now.points, ...gone.map(empty)];
 }
 
@@ -122,7 +125,8 @@ function showQueues(now, before) {
   const rows = now.queues.map((it) => {
     const row = made("div", undefined, "row");
     const isChanged = before && old.get(`${it.from} ${it.to}`) !== JSON.stringify(it);
-    row.append(made("b", `${it.from} \u2192 ${it.to}`, isChanged ? "changed" : ""), ...chips(it.changes.map((entries) => entries.join(", ")), LONG_QUEUE));
+    const texts = it.changes.map((entries) => entries.join(", "));
+    row.append(made("b", `${it.from} \u2192 ${it.to}`, isChanged ? "changed" : ""), ...chips(texts, LONG_QUEUE));
     return row;
   });
   const none = made("p", "every queue is empty", "none");
@@ -138,7 +142,8 @@ function showProcessors(now, before) {
     for (const [kind, texts] of Object.entries(it)) {
       const isChanged = old && JSON.stringify(old[kind]) !== JSON.stringify(texts);
       if (!texts.length && !isChanged) continue;
-      row.append(made("span", `${kind} `, isChanged ? "changed" : "none"), ...chips(texts.length ? texts : ["none"], LONG_LIST));
+      const shown = chips(texts.length ? texts : ["none"], LONG_LIST);
+      row.append(made("span", `${kind} `, isChanged ? "changed" : "none"), ...shown);
     }
     if (row.childElementCount === 1) row.append(made("span", "nothing", "none"));
     parts.push(row);
@@ -149,7 +154,8 @@ function showProcessors(now, before) {
 function showBreaks(it) {
   const rows = it.breaks.map((one) => {
     const row = made("div", undefined, "row");
-    row.append(made("b", `${one.id}`, one.holds ? "changed" : ""), made("span", one.when + (one.holds ? ": the run stopped here" : "")));
+    const stopped = one.holds ? ": the run stopped here" : "";
+    row.append(made("b", `${one.id}`, one.holds ? "changed" : ""), made("span", one.when + stopped));
     return row;
   });
   by("breaks").replaceChildren(made("h2", "Breakpoints that are set"), ...(rows.length ? rows : [made("p", "none", "none")]));
@@ -165,6 +171,7 @@ function show(at) {
   showBreaks(it);
   showPlaces(now, before, it.mark);
   for (const id of ["points", "queues", "processors"]) by(id).hidden = !now;
+  document.querySelector("main").classList.toggle("many", !now || run.processors >= MANY);
   if (!now) return;
   showPoints(now, before);
   showQueues(now, before);
@@ -181,7 +188,12 @@ function asked() {
   return Number.isNaN(at) ? 0 : at;
 }
 
-const KEYS = { ArrowLeft: () => position - 1, ArrowRight: () => position + 1, Home: () => 0, End: () => run.positions.length - 1 };
+const KEYS = {
+  ArrowLeft: () => position - 1,
+  ArrowRight: () => position + 1,
+  Home: () => 0,
+  End: () => run.positions.length - 1,
+};
 document.addEventListener("keydown", (event) => {
   if (!(event.key in KEYS) || event.altKey || event.ctrlKey || event.metaKey) return;
   event.preventDefault();
@@ -191,5 +203,4 @@ by("slider").addEventListener("input", () => move(Number(by("slider").value)));
 by("back").addEventListener("click", () => move(position - 1));
 by("on").addEventListener("click", () => move(position + 1));
 window.addEventListener("hashchange", () => show(asked()));
-document.querySelector("main").classList.toggle("many", run.processors >= MANY);
 show(asked());

@@ -7,7 +7,8 @@ from showing.svgs import box, curve, line, moved, picture, text
 
 # What comes of a line, and the crates between each and the next one; docs/ARCHITECTURE.md tells the same in a block of text.
 STAGES = ["bytes", "line", "JSON value", "command", "move", "reply", "reply value", "bytes"]
-CRATES = [["rewind_lines"], ["rewind_lines"], ["nd_json", "rewind_forms"], ["nd_timeline"], ["nd_timeline"], ["rewind_forms"], ["rewind_lines"]]
+CRATES = ["rewind_lines", "rewind_lines", "nd_json rewind_forms", "nd_timeline", "nd_timeline", "rewind_forms", "rewind_lines"]
+CRATES = [it.split() for it in CRATES]
 PROGRAM = "rewind_cli"
 
 
@@ -44,9 +45,11 @@ def crates_picture(source):
     for name, middle in drawn.nodes.items():
         x, y = turned(middle)
         parts += [box(x, y, *sizes[name], "box" if name in program else "box dashed"), text(x, y + 4.5, name, "fixed")]
-    head = text(20, 28, "The crates: an arrow leads to one that a crate stands on; what it reaches through others has none", "head start")
+    words = "The crates: an arrow leads to one that a crate stands on; what it reaches through others has none"
+    head = text(20, 28, words, "head start")
     head += text(20, 48, "dashed: for tests and measuring alone, no part of the program", "small soft start")
-    return picture(drawn.width + 40, drawn.height + 90, "The crates, each above those that it stands on.", [head, moved(20, 70, parts)])
+    title = "The crates, each above those that it stands on."
+    return picture(drawn.width + 40, drawn.height + 90, title, [head, moved(20, 70, parts)])
 
 
 def told_path(page):
@@ -83,7 +86,8 @@ def path_picture(told, number):
     parts.append(text(20, 50, "rewind_answers walks it for one line, and rewind for all", "small soft start"))
     parts += [text(20, 200, f"in, line {number}:", "soft start"), text(120, 200, entry.line.text.decode(), "fixed start")]
     parts += [text(20, 224, "out:", "soft start"), text(120, 224, reply_text(told, entry), "fixed start")]
-    return picture(x_of(len(STAGES) - 1) + 72, 246, "What comes of a line from its bytes to the bytes of its reply, and the crates between.", parts)
+    title = "What comes of a line from its bytes to the bytes of its reply, and the crates between."
+    return picture(x_of(len(STAGES) - 1) + 72, 246, title, parts)
 
 
 def reply_text(told, entry):

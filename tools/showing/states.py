@@ -32,7 +32,7 @@ def added(counts, time, count):
 
 
 def place_counts(state, order):
-    """What stands at each place over all processors: records on an edge, tokens or requests at a vertex, what a sink counted."""
+    """What stands at each place over all processors: records, tokens or requests, and what a sink has counted."""
     records, requests, tokens, sinks = ({} for _ in range(4))
     for it in state["processors"]:
         for place, time, _, count in it["records"]:

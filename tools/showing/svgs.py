@@ -2,9 +2,15 @@
 from html import escape
 
 STYLE = """
-svg { --ground: #ffffff; --ink: #1b2330; --soft: #566273; --rim: #8b98a8; --box: #f4f6f9; --loop: #dfe8f3; --deep: #c6d6ea; --accent: #0b5cb8; --bad: #b3261e; }
+svg {
+  --ground: #ffffff; --ink: #1b2330; --soft: #566273; --rim: #8b98a8; --box: #f4f6f9;
+  --loop: #dfe8f3; --deep: #c6d6ea; --accent: #0b5cb8; --bad: #b3261e;
+}
 @media (prefers-color-scheme: dark) {
-  svg { --ground: #12161c; --ink: #e7ebf1; --soft: #a3afbf; --rim: #6b7889; --box: #161b22; --loop: #26313e; --deep: #374658; --accent: #7fbcff; --bad: #ff9a90; }
+  svg {
+    --ground: #12161c; --ink: #e7ebf1; --soft: #a3afbf; --rim: #6b7889; --box: #161b22;
+    --loop: #26313e; --deep: #374658; --accent: #7fbcff; --bad: #ff9a90;
+  }
 }
 .ground { fill: var(--ground); }
 text { font: 13px sans-serif; fill: var(--ink); text-anchor: middle; }
