@@ -47,7 +47,8 @@ def number(value):
 
 
 def text(x, y, words, classes=""):
-    return f'<text x="{number(x)}" y="{number(y)}" class="{classes}">{escape(words)}</text>\n'
+    plain = escape(words.replace("\u00a0", " "))
+    return f'<text x="{number(x)}" y="{number(y)}" class="{classes}">{plain}</text>\n'
 
 
 def box(x, y, wide, high, classes="box", round_by=7):
