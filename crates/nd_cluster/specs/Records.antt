@@ -31,11 +31,13 @@ abbrev pub ComesLast : {A : Type 0} → ClusterState → Step A → Type 0
 ComesLast s (Notice p vertex t) = KeepsProtocol s → (x : Pointstamp) → IsStrictlyBefore s.graph x (point_at vertex t) → at (truth s.processors) x ≡ pos 0
 ComesLast s _ = Unit {0}
 
--- the record's step is enabled in this state, and its changes make it
+-- the record's step is enabled in this state, and its changes make it; they name as many keys and ends of queues as the step changes,
+-- the end that all queues of a broadcast have in common once
 pub record IsPlanned {A : Type 0} (r : Record A) (s : ClusterState) : Type 0 where
   pub state : IsState s
   pub enabled : IsEnabled s r.step
   pub makes : Makes s r.changes (stepped s r.step)
+  pub small : named r.changes + shared s r.step ≡ changed s (stepped s r.step)
 
 -- the record was planned in s, and its step leads to t
 pub record Leads {A : Type 0} (r : Record A) (s t : ClusterState) : Type 0 where

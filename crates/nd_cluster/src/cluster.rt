@@ -4,6 +4,7 @@ ghost use Rattle.nd_delta.specs.Least.{IsLeast};
 ghost use Rattle.nd_view.specs.View.{IsPassed, IsBlocker};
 ghost use Rattle.nd_view.specs.Kept.{IsFor};
 ghost use Rattle.nd_protocol.specs.State.{processor, view, queue};
+ghost use Rattle.nd_protocol.specs.Fitting.{IsState};
 ghost use Rattle.nd_protocol.specs.Invariant.{KeepsProtocol, IsFinished};
 
 use nd_graph::Graph;
@@ -50,9 +51,11 @@ impl<A: Allocator + Copy> Model for Cluster<A> {
 }
 
 impl<A: Allocator + Copy> Cluster<A> {
-    /// How many processors it has: 1 to 8.
+    /// How many processors it has: 1 to 8. What a cluster is, its keys, its counts and its depths, is
+    /// within the limits, whoever made it.
     pub fn n(&self) -> usize
-        ensures { result ≡ length self.now.processors }
+        ensures value { result ≡ length self.now.processors }
+        ensures state { IsState self.now }
     {
         self.processors.len()
     }
@@ -103,7 +106,9 @@ impl<A: Allocator + Copy> Cluster<A> {
         requires { q < length self.now.processors }
         ensures passed { IsNone result ↔ IsPassed self.now.graph (view self.now q) point.now }
         ensures least { IfSome result (IsLeast (IsBlocker self.now.graph (view self.now q) point.now)) }
+        ensures finished { IsNone result → KeepsProtocol self.now → IsFinished self.now point.now }
     {
+        protocol_is_safe::<A>();
         self.view(q).blocker(&self.paths, point)
     }
 

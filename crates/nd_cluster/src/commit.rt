@@ -2,24 +2,28 @@
 ghost use Rattle.std.specs.Prelude.{◌≡◌, OnOk, OnErr};
 ghost use Rattle.nd_protocol.specs.State.{ClusterState};
 ghost use Rattle.nd_protocol.specs.Steps.{stepped};
-ghost use Rattle.nd_protocol.specs.Invariant.{IsSettled, KeepsProtocol};
+ghost use Rattle.nd_protocol.specs.Invariant.{IsSettled, KeepsProtocol, IsFinished};
+ghost use Rattle.nd_paths.specs.declared.point.Pointstamp.{Pointstamp};
 ghost use Rattle.nd_cluster.specs.Records.{IsPlanned, Leads, IsCommitted};
 
 use crate::Cluster;
-use nd_protocol::{NoMemory, steps_keep_protocol};
+use nd_protocol::{NoMemory, protocol_is_safe, steps_keep_protocol};
 use nd_record::Record;
 use std::alloc::Allocator;
 
 impl<A: Allocator + Copy> Cluster<A> {
-    /// Makes the step of a record that was planned in this state.
+    /// Makes the step of a record that was planned in this state. Where the cluster has the protocol
+    /// invariant, what is finished stays finished (FORTE 2013).
     pub fn commit(&mut self, planned: &Record<A>) -> Result<(), NoMemory>
         requires { IsPlanned planned.now self.old }
         ensures step { OnOk result (self.new ≡ stepped self.old planned.now.step) }
         ensures leads { OnOk result (Leads planned.now self.old self.new) }
         ensures settled { OnOk result (IsSettled self.old → IsSettled self.new) }
         ensures protocol { OnOk result (KeepsProtocol self.old → KeepsProtocol self.new) }
+        ensures finished { OnOk result (KeepsProtocol self.old → (x : Pointstamp) → IsFinished self.old x → IsFinished self.new x) }
         ensures err { OnErr result (self.new ≡ self.old) }
     {
+        protocol_is_safe::<A>();
         steps_keep_protocol::<A>();
         let Ok(()) = planned.changes.make(
             &mut self.processors,

@@ -323,6 +323,7 @@ impl<A: Allocator + Copy> Cluster<A> {
         requires paths { paths ≡ graph.now }
         requires views { All (IsFor graph.now) views.items }
         ensures some { IfSome result (λ c. c ≡ seen graph.now processors.items views.items mesh) }
+        ensures state { IfSome result IsState }
         ensures none { IsNone result → IsState (seen graph.now processors.items views.items mesh) → ⊥ }
     {
         let _ = graph;

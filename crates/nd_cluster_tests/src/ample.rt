@@ -19,9 +19,7 @@ static STEPS: [Told; 3] = [
 fn tells<A: Allocator + Copy>(cluster: &Cluster<A>) -> Option<bool> {
     let az = point(cluster.graph(), "az", &[0])?;
     let z = point(cluster.paths().graph(), "z", &[0])?;
-    if cluster.n() != 1 {
-        return None;
-    }
+    let _ = cluster.n();
     let counts = (
         cluster.view(0).entries().len(),
         cluster.queue_len(0, 0),

@@ -18,8 +18,9 @@ use Rattle.nd_protocol.specs.State.{ClusterState, processor, view, queue}
 use Rattle.nd_protocol.specs.Exchange.{IsPart, sent, received, received_from}
 use Rattle.nd_protocol.specs.Fitting.{KeysFit}
 use Rattle.nd_protocol.specs.Truth.{kept-set}
-use Rattle.nd_record.specs.Places.{Place, record_of, request_of, token_of, item_of, sink_of, unsent_of, view_of}
-use Rattle.nd_record.specs.Standing.{standing, from_request, from_epoch, difference, queues_changed, changed}
+use Rattle.nd_record.specs.Places.{Place, place_at, records_at, request_at, token_at, item_at, sink_at, unsent_at, view_of}
+use Rattle.nd_record.specs.Slots.{from_request, from_epoch}
+use Rattle.nd_record.specs.Standing.{standing, difference, queues_changed, changed}
 use Rattle.nd_record.specs.Alike.{is_place, place_itself}
 use Rattle.nd_record.proofs.Differences.{of_one_map, IsNone, keys_changed, alike_queues, unlike_queues, none_below, each_below, one_below}
 
@@ -36,27 +37,27 @@ module _ (s : ClusterState) (p : ℕ) (c : Change) (fits : KeysFit s) (here : p 
   abbrev after : ProcessorState
   after = record (processor s p) { unsent = minus (processor s p).unsent c }
 
-  sent_here : (x : Pointstamp) → standing (sent s p c) (unsent_of p x) ≡ standing s (unsent_of p x) +ℤ neg_ℤ (in_change c x)
+  sent_here : (x : Pointstamp) → standing (sent s p c) (place_at p (unsent_at x)) ≡ standing s (place_at p (unsent_at x)) +ℤ neg_ℤ (in_change c x)
   unfolding sent
   sent_here x = ap (λ (q : ProcessorState). in_change q.unsent x) (get_or-set_same s.processors p after idle here) ∙ at-minus (processor s p).unsent c x ∙ less_is (in_change (processor s p).unsent x) (in_change c x)
     where
       less_is : (a b : ℤ) → a -ℤ b ≡ a +ℤ neg_ℤ b
       less_is a b = omega (arith, ints)
 
-  sent_others : (k : Place) → IsNone (unsent_of p) k → standing (sent s p c) k ≡ standing s k
+  sent_others : (k : Place) → IsNone (λ k. place_at p (unsent_at k)) k → standing (sent s p c) k ≡ standing s k
   unfolding sent
-  sent_others (record_of n key) apart = ap (λ m. int_at m key) (kept-set (λ q. q.records) s.processors p after refl n)
-  sent_others (request_of n x) apart = ap (λ m. from_request (fin.get m x)) (kept-set (λ q. q.requests) s.processors p after refl n)
-  sent_others (token_of n v) apart = ap (λ m. from_epoch (fin.get m v)) (kept-set (λ q. q.tokens) s.processors p after refl n)
-  sent_others (item_of n v key) apart = ap (λ m. number_at (get_or m v no_counts) key) (kept-set (λ q. q.items) s.processors p after refl n)
-  sent_others (sink_of n key) apart = ap (λ m. int_at m key) (kept-set (λ q. q.sinks) s.processors p after refl n)
-  sent_others (unsent_of n x) apart =
+  sent_others (place_at n (records_at key)) apart = ap (λ m. int_at m key) (kept-set (λ q. q.records) s.processors p after refl n)
+  sent_others (place_at n (request_at x)) apart = ap (λ m. from_request (fin.get m x)) (kept-set (λ q. q.requests) s.processors p after refl n)
+  sent_others (place_at n (token_at v)) apart = ap (λ m. from_epoch (fin.get m v)) (kept-set (λ q. q.tokens) s.processors p after refl n)
+  sent_others (place_at n (item_at v key)) apart = ap (λ m. number_at (get_or m v no_counts) key) (kept-set (λ q. q.items) s.processors p after refl n)
+  sent_others (place_at n (sink_at key)) apart = ap (λ m. int_at m key) (kept-set (λ q. q.sinks) s.processors p after refl n)
+  sent_others (place_at n (unsent_at x)) apart =
       ap (λ (q : ProcessorState). in_change q.unsent x)
-      (get_or-set_other s.processors p n after idle (λ e. true≢false (sym (place_itself (unsent_of n x)) ∙ ap (λ m. is_place (unsent_of n x) (unsent_of m x)) e ∙ apart x)))
+      (get_or-set_other s.processors p n after idle (λ e. true≢false (sym (place_itself (place_at n (unsent_at x))) ∙ ap (λ m. is_place (place_at n (unsent_at x)) (place_at m (unsent_at x))) e ∙ apart x)))
   sent_others (view_of n x) apart = refl
 
   sent_keys : keys (difference s (sent s p c)) ≡ size c
-  sent_keys = keys_changed (unsent_of p) (λ a b. of_one_map p (point_cmp a b)) (λ x. refl) neg_ℤ refl (λ z e. omega (arith, ints, e)) c s (sent s p c) sent_here sent_others
+  sent_keys = keys_changed (λ k. place_at p (unsent_at k)) (λ a b. of_one_map p (point_cmp a b)) (λ x. refl) neg_ℤ refl (λ z e. omega (arith, ints, e)) c s (sent s p c) sent_here sent_others
 
   sender : p < length s.queues
   sender = subst (λ n. p < n) (sym fits.each_sender) here
@@ -101,12 +102,12 @@ module _ (s : ClusterState) (p q : ℕ) (c : Change) (rest : List Change) (fits 
   received_others (view_of n x) apart =
       ap (λ v. in_change v x)
       (get_or-set_other s.views q n (plus (view s q) c) no_change (λ e. true≢false (sym (place_itself (view_of n x)) ∙ ap (λ m. is_place (view_of n x) (view_of m x)) e ∙ apart x)))
-  received_others (record_of n key) apart = refl
-  received_others (request_of n x) apart = refl
-  received_others (token_of n v) apart = refl
-  received_others (item_of n v key) apart = refl
-  received_others (sink_of n key) apart = refl
-  received_others (unsent_of n x) apart = refl
+  received_others (place_at n (records_at key)) apart = refl
+  received_others (place_at n (request_at x)) apart = refl
+  received_others (place_at n (token_at v)) apart = refl
+  received_others (place_at n (item_at v key)) apart = refl
+  received_others (place_at n (sink_at key)) apart = refl
+  received_others (place_at n (unsent_at x)) apart = refl
 
   received_keys : keys (difference s then_state) ≡ size c
   received_keys = keys_changed (view_of q) (λ a b. of_one_map q (point_cmp a b)) (λ x. refl) (λ z. z) refl (λ z e. e) c s then_state received_here received_others

@@ -1,8 +1,8 @@
 -- Broadcasts and receives in what is kept of a cluster: where they lead, and where undoing them leads back to.
-use Rattle.std.proofs.Common.{◌≡◌, ℕ, ◌<◌, ◌≤◌, ◌-◌, ◌-ℤ◌, List, [], ◌∷◌, length, get_or, set, drop, Result, Ok, Err, OnOk, Some, refl, sym, ap, subst, ◌∙◌, arith, length-set, get_or-set_same}
+use Rattle.std.proofs.Common.{◌≡◌, ℕ, ◌<◌, ◌≤◌, ◌-◌, ◌-ℤ◌, List, [], length, get_or, set, drop, Result, Ok, Err, OnOk, sym, ap, subst, ◌∙◌, arith, length-set, get_or-set_same}
 use Rattle.std.proofs.lemmas.Int.{ints}
 use Rattle.std.proofs.lemmas.List.{set-set, set-get_or, length-drop, length-map}
-use Rattle.std.specs.Prelude.{slice_get, unwrap_or, unsigned_abs}
+use Rattle.std.specs.Prelude.{unsigned_abs}
 use Rattle.nd_time.specs.Limits.{max_count, max_queue}
 use Rattle.nd_graph.specs.Graph.{Dataflow}
 use Rattle.nd_delta.specs.Change.{Change, none, at, plus, minus, at-minus, IsTooLarge, minus-plus, plus-minus}
@@ -13,7 +13,7 @@ use Rattle.nd_processor.specs.Edits.{IsApart}
 use Rattle.nd_mesh.specs.Mesh.{row, pushed, unpushed, popped, unpopped, IsFull, queue as queue_in}
 use Rattle.nd_mesh.specs.Laws.{queue-with_queue, unpushed-pushed, unpopped-popped}
 use Rattle.nd_protocol.specs.State.{ClusterState, processor, view, queue}
-use Rattle.nd_protocol.specs.Exchange.{sent, received_from, received}
+use Rattle.nd_protocol.specs.Exchange.{sent}
 use Rattle.nd_protocol.specs.Fitting.{QueueIsWithin, IsState}
 use Rattle.nd_exchange.specs.Exchanges.{IsNewest}
 use Rattle.nd_record.specs.Exchanges.{with_unsent, map_at, received-front}

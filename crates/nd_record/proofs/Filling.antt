@@ -8,13 +8,13 @@ use Rattle.nd_processor.specs.State.{ProcessorState, idle}
 use Rattle.nd_protocol.specs.State.{ClusterState}
 use Rattle.nd_protocol.specs.Fitting.{IsWithinLimits, ProcessorIsWithin, QueueIsWithin}
 use Rattle.nd_protocol.specs.Enabled.{HasLargeCount, of_record, of_sink, HasLargeEntry, of_unsent, of_view}
-use Rattle.nd_record.specs.Places.{Place, record_of, request_of, token_of, item_of, sink_of, unsent_of, view_of}
-use Rattle.nd_record.specs.Standing.{standing}
-use Rattle.nd_record.specs.Changes.{place_of, gain_of, IsWithinAt}
+use Rattle.nd_record.specs.Places.{Place, place_at, records_at, request_at, token_at, item_at, sink_at, unsent_at, view_of}
+use Rattle.nd_record.specs.Standing.{standing, CountAt, EntryAt, IsWithinAt}
+use Rattle.nd_record.specs.Changes.{place_of, gain_of}
 use Rattle.nd_record.specs.Edits.{total_at, edits_of}
 use Rattle.nd_record.specs.Plans.{often, Each, Reaches}
 use Rattle.nd_record.specs.Undone.{Limits}
-use Rattle.nd_record.specs.Limits.{CountAt, EntryAt, CountStays, EntryStays, StaysWithin}
+use Rattle.nd_record.specs.Limits.{CountStaysOf, EntryStaysOf, StaysWithin}
 use Rattle.nd_record.specs.declared.change.Change.{Change}
 use Rattle.nd_record.specs.declared.change.Change.TheVariants.{Sink}
 use Rattle.nd_record.specs.Alike.{is_place, same_place}
@@ -87,22 +87,22 @@ at_most : (n m : ℕ) → (n ≤ m) ⊎ (n ≤ m → ⊥)
 at_most n m = elim (cases_lt m n) [ inl lt ↦ inr (not_past m n lt) | inr le ↦ inl le ]
 
 count_test : (k : Place) (z : ℤ) → CountAt k z ⊎ (CountAt k z → ⊥)
-count_test (record_of p key) z = at_most (unsigned_abs z) max_count
-count_test (sink_of p key) z = at_most (unsigned_abs z) max_count
-count_test (request_of p point) z = inl tt
-count_test (token_of p vertex) z = inl tt
-count_test (item_of p vertex key) z = inl tt
-count_test (unsent_of p point) z = inl tt
+count_test (place_at p (records_at key)) z = at_most (unsigned_abs z) max_count
+count_test (place_at p (sink_at key)) z = at_most (unsigned_abs z) max_count
+count_test (place_at p (request_at point)) z = inl tt
+count_test (place_at p (token_at vertex)) z = inl tt
+count_test (place_at p (item_at vertex key)) z = inl tt
+count_test (place_at p (unsent_at point)) z = inl tt
 count_test (view_of q point) z = inl tt
 
 entry_test : (k : Place) (z : ℤ) → EntryAt k z ⊎ (EntryAt k z → ⊥)
-entry_test (unsent_of p point) z = at_most (unsigned_abs z) max_count
+entry_test (place_at p (unsent_at point)) z = at_most (unsigned_abs z) max_count
 entry_test (view_of q point) z = at_most (unsigned_abs z) max_count
-entry_test (record_of p key) z = inl tt
-entry_test (request_of p point) z = inl tt
-entry_test (token_of p vertex) z = inl tt
-entry_test (item_of p vertex key) z = inl tt
-entry_test (sink_of p key) z = inl tt
+entry_test (place_at p (records_at key)) z = inl tt
+entry_test (place_at p (request_at point)) z = inl tt
+entry_test (place_at p (token_at vertex)) z = inl tt
+entry_test (place_at p (item_at vertex key)) z = inl tt
+entry_test (place_at p (sink_at key)) z = inl tt
 
 -- ---- states past the limits
 
@@ -110,86 +110,91 @@ past : (n : ℕ) → (n ≤ max_count → ⊥) → max_count < n
 past n h = elim (cases_lt max_count n) [ inl lt ↦ lt | inr le ↦ absurd (h le) ]
 
 large_count : (t : ClusterState) (k : Place) → (CountAt k (standing t k) → ⊥) → HasLargeCount t
-large_count t (record_of p key) h = of_record p key (past _ h)
-large_count t (sink_of p key) h = of_sink p key (past _ h)
-large_count t (request_of p point) h = absurd (h tt)
-large_count t (token_of p vertex) h = absurd (h tt)
-large_count t (item_of p vertex key) h = absurd (h tt)
-large_count t (unsent_of p point) h = absurd (h tt)
+large_count t (place_at p (records_at key)) h = of_record p key (past _ h)
+large_count t (place_at p (sink_at key)) h = of_sink p key (past _ h)
+large_count t (place_at p (request_at point)) h = absurd (h tt)
+large_count t (place_at p (token_at vertex)) h = absurd (h tt)
+large_count t (place_at p (item_at vertex key)) h = absurd (h tt)
+large_count t (place_at p (unsent_at point)) h = absurd (h tt)
 large_count t (view_of q point) h = absurd (h tt)
 
 large_entry : (t : ClusterState) (k : Place) → (EntryAt k (standing t k) → ⊥) → HasLargeEntry t
-large_entry t (unsent_of p point) h = of_unsent p point (past _ h)
+large_entry t (place_at p (unsent_at point)) h = of_unsent p point (past _ h)
 large_entry t (view_of q point) h = of_view q point (past _ h)
-large_entry t (record_of p key) h = absurd (h tt)
-large_entry t (request_of p point) h = absurd (h tt)
-large_entry t (token_of p vertex) h = absurd (h tt)
-large_entry t (item_of p vertex key) h = absurd (h tt)
-large_entry t (sink_of p key) h = absurd (h tt)
+large_entry t (place_at p (records_at key)) h = absurd (h tt)
+large_entry t (place_at p (request_at point)) h = absurd (h tt)
+large_entry t (place_at p (token_at vertex)) h = absurd (h tt)
+large_entry t (place_at p (item_at vertex key)) h = absurd (h tt)
+large_entry t (place_at p (sink_at key)) h = absurd (h tt)
 
 small_counts : (t : ClusterState) → ((k : Place) → CountAt k (standing t k)) → HasLargeCount t → ⊥
-small_counts t h (of_record p k lt) = not_past _ _ lt (h (record_of p k))
-small_counts t h (of_sink p k lt) = not_past _ _ lt (h (sink_of p k))
+small_counts t h (of_record p k lt) = not_past _ _ lt (h (place_at p (records_at k)))
+small_counts t h (of_sink p k lt) = not_past _ _ lt (h (place_at p (sink_at k)))
 
 small_entries : (t : ClusterState) → ((k : Place) → EntryAt k (standing t k)) → HasLargeEntry t → ⊥
-small_entries t h (of_unsent p x lt) = not_past _ _ lt (h (unsent_of p x))
+small_entries t h (of_unsent p x lt) = not_past _ _ lt (h (place_at p (unsent_at x)))
 small_entries t h (of_view q x lt) = not_past _ _ lt (h (view_of q x))
 
 -- ---- both limits
 
 count_part : (k : Place) (z : ℤ) → IsWithinAt k z → CountAt k z
-count_part (record_of p key) z h = h
-count_part (sink_of p key) z h = h
-count_part (request_of p point) z h = tt
-count_part (token_of p vertex) z h = tt
-count_part (item_of p vertex key) z h = tt
-count_part (unsent_of p point) z h = tt
+count_part (place_at p (records_at key)) z h = h
+count_part (place_at p (sink_at key)) z h = h
+count_part (place_at p (request_at point)) z h = tt
+count_part (place_at p (token_at vertex)) z h = tt
+count_part (place_at p (item_at vertex key)) z h = tt
+count_part (place_at p (unsent_at point)) z h = tt
 count_part (view_of q point) z h = tt
 
 entry_part : (k : Place) (z : ℤ) → IsWithinAt k z → EntryAt k z
-entry_part (unsent_of p point) z h = h
+entry_part (place_at p (unsent_at point)) z h = h
 entry_part (view_of q point) z h = h
-entry_part (record_of p key) z h = tt
-entry_part (request_of p point) z h = tt
-entry_part (token_of p vertex) z h = tt
-entry_part (item_of p vertex key) z h = tt
-entry_part (sink_of p key) z h = tt
+entry_part (place_at p (records_at key)) z h = tt
+entry_part (place_at p (request_at point)) z h = tt
+entry_part (place_at p (token_at vertex)) z h = tt
+entry_part (place_at p (item_at vertex key)) z h = tt
+entry_part (place_at p (sink_at key)) z h = tt
 
 both_parts : (k : Place) (z : ℤ) → CountAt k z → EntryAt k z → IsWithinAt k z
-both_parts (record_of p key) z h g = h
-both_parts (sink_of p key) z h g = h
-both_parts (unsent_of p point) z h g = g
+both_parts (place_at p (records_at key)) z h g = h
+both_parts (place_at p (sink_at key)) z h g = h
+both_parts (place_at p (unsent_at point)) z h g = g
 both_parts (view_of q point) z h g = g
-both_parts (request_of p point) z h g = tt
-both_parts (token_of p vertex) z h g = tt
-both_parts (item_of p vertex key) z h g = tt
+both_parts (place_at p (request_at point)) z h g = tt
+both_parts (place_at p (token_at vertex)) z h g = tt
+both_parts (place_at p (item_at vertex key)) z h g = tt
 
 any_default : (qs : List ProcessorState) (i : ℕ) (d : ProcessorState) → i < length qs → get_or qs i idle ≡ get_or qs i d
 any_default [] i d lt = absurd (omega (arith, lt))
 any_default (q ∷ qs) zero d lt = refl
 any_default (q ∷ qs) (suc i) d lt = any_default qs i d (omega (arith, lt))
 
-pub both_stay : (s : ClusterState) (cs : List Change) → Each (CountStays s) cs → Each (EntryStays s) cs → Each (StaysWithin s) cs
+pub both_stay : (s : ClusterState) (cs : List Change) → Each (CountStaysOf s.processors) cs → Each (EntryStaysOf s.processors) cs → Each (StaysWithin s) cs
+unfolding CountStaysOf EntryStaysOf
 both_stay s [] h g = tt
 both_stay s (c ∷ cs) h g = (both_parts (place_of c) _ h.0 g.0, both_stay s cs h.1 g.1)
 
 module _ (s : ClusterState) (cs : List Change) where
-  pub counts_pass : (Each (CountStays s) cs → ⊥) → (t : ClusterState) → Reaches s t cs → HasLargeCount t
+  pub counts_pass : (Each (CountStaysOf s.processors) cs → ⊥) → (t : ClusterState) → Reaches s t cs → HasLargeCount t
+  unfolding CountStaysOf
   counts_pass h t reaches =
-      let m = missed (CountStays s) (λ c. count_test (place_of c) _) cs h in
-      let d : Change = Sink 0 0 (pos 0) in
+      let m = missed (CountStaysOf s.processors) (λ c. count_test (place_of c) _) cs h in
+      let d : Change = Sink 0 0 (pos 0) true in
       large_count t (place_of (get_or cs m.at d)) (fails_then CountAt s t cs reaches m.at d m.within (m.fails d))
 
-  pub entries_pass : (Each (EntryStays s) cs → ⊥) → (t : ClusterState) → Reaches s t cs → HasLargeEntry t
+  pub entries_pass : (Each (EntryStaysOf s.processors) cs → ⊥) → (t : ClusterState) → Reaches s t cs → HasLargeEntry t
+  unfolding EntryStaysOf
   entries_pass h t reaches =
-      let m = missed (EntryStays s) (λ c. entry_test (place_of c) _) cs h in
-      let d : Change = Sink 0 0 (pos 0) in
+      let m = missed (EntryStaysOf s.processors) (λ c. entry_test (place_of c) _) cs h in
+      let d : Change = Sink 0 0 (pos 0) true in
       large_entry t (place_of (get_or cs m.at d)) (fails_then EntryAt s t cs reaches m.at d m.within (m.fails d))
 
-  pub counts_fit : Each (CountStays s) cs → (t : ClusterState) → Reaches s t cs → HasLargeCount t → ⊥
+  pub counts_fit : Each (CountStaysOf s.processors) cs → (t : ClusterState) → Reaches s t cs → HasLargeCount t → ⊥
+  unfolding CountStaysOf
   counts_fit h t reaches = small_counts t (holds_then CountAt s t cs reaches (λ k. count_part k (standing s k) (limits_of s reaches.within k)) h)
 
-  pub entries_fit : Each (EntryStays s) cs → (t : ClusterState) → Reaches s t cs → HasLargeEntry t → ⊥
+  pub entries_fit : Each (EntryStaysOf s.processors) cs → (t : ClusterState) → Reaches s t cs → HasLargeEntry t → ⊥
+  unfolding EntryStaysOf
   entries_fit h t reaches = small_entries t (holds_then EntryAt s t cs reaches (λ k. entry_part k (standing s k) (limits_of s reaches.within k)) h)
 
   -- the state that is reached is within the limits if each change leaves its place so
@@ -200,9 +205,9 @@ module _ (s : ClusterState) (cs : List Change) where
         some = subst (λ n. 0 < n) (sym reaches.count) reaches.within.some;
         few = subst (λ n. n ≤ max_processors) (sym reaches.count) reaches.within.few;
         processors = λ i q lt. subst ProcessorIsWithin (any_default t.processors i q lt) (record {
-          records = λ k. limits (record_of i k);
-          sinks = λ k. limits (sink_of i k);
-          unsent = λ y. limits (unsent_of i y);
+          records = λ k. limits (place_at i (records_at k));
+          sinks = λ k. limits (place_at i (sink_at k));
+          unsent = λ y. limits (place_at i (unsent_at y));
         });
         views = subst (λ vs. All (λ c. (y : _) → unsigned_abs (in_change c y) ≤ max_count) vs) (sym reaches.views) reaches.within.views;
         queues = subst (λ rows. All (λ row. All QueueIsWithin row) rows) (sym reaches.queues) reaches.within.queues;

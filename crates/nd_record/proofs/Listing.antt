@@ -17,10 +17,10 @@ use Rattle.nd_vertex.specs.Items.{item_exact}
 use Rattle.nd_processor.specs.Keys.{value_at_exact, sink_exact}
 use Rattle.nd_processor.specs.State.{ProcessorState, idle, items_at}
 use Rattle.nd_protocol.specs.State.{ClusterState, processor, view}
-use Rattle.nd_record.specs.Places.{Place, record_of, request_of, token_of, item_of, sink_of, unsent_of, view_of, place_cmp, place_total, place_exact}
-use Rattle.nd_record.specs.Standing.{from_request, from_epoch, standing, IsThere, places_of_processor, places_of, difference}
-use Rattle.nd_record.specs.Slots.{Slot, records_at, request_at, token_at, item_at, sink_at, unsent_at, place_at, stands}
-use Rattle.nd_record.proofs.Putting.{by_slot, standing-slot, there_where, there-slot, slot_there}
+use Rattle.nd_record.specs.Places.{Slot, Place, place_at, records_at, request_at, token_at, item_at, sink_at, unsent_at, view_of, place_cmp, place_total, place_exact}
+use Rattle.nd_record.specs.Standing.{standing, IsThere, places_of_processor, places_of, difference}
+use Rattle.nd_record.specs.Slots.{from_request, from_epoch, stands}
+use Rattle.nd_record.proofs.Putting.{there_where, slot_there}
 use Rattle.nd_record.specs.Alike.{same_key}
 
 -- ---- tests of lists
@@ -97,38 +97,38 @@ in_keys m q some = sym (contains_key-keys m q) ∙ is_there (fin.get m q) some
 
 in_processor : (p : ℕ) (q : ProcessorState) (l : Slot) → stands q l ≢ pos 0 → list_any (eq_by_cmp place_cmp (place_at p l)) (places_of_processor p q) ≡ true
 in_processor p q (records_at key) some =
-    on_left _ (map (λ e. record_of p e.0) (entries q.records)) _
-    (carried value_at_exact place_total (record_of p) (λ e. e.0) key (entries q.records) (in_entries q.records key (λ e. some (ap pos e))))
+    on_left _ (map (λ e. place_at p (records_at e.0)) (entries q.records)) _
+    (carried value_at_exact place_total (λ k. place_at p (records_at k)) (λ e. e.0) key (entries q.records) (in_entries q.records key (λ e. some (ap pos e))))
 in_processor p q (request_at point) some =
-    on_right _ (map (λ e. record_of p e.0) (entries q.records)) _
-    (on_left _ (map (λ x. request_of p x) (fin.keys q.requests)) _
-    (carried_keys point_exact place_total (request_of p) point (fin.keys q.requests) (in_keys q.requests point (λ e. some (ap from_request e)))))
+    on_right _ (map (λ e. place_at p (records_at e.0)) (entries q.records)) _
+    (on_left _ (map (λ x. place_at p (request_at x)) (fin.keys q.requests)) _
+    (carried_keys point_exact place_total (λ k. place_at p (request_at k)) point (fin.keys q.requests) (in_keys q.requests point (λ e. some (ap from_request e)))))
 in_processor p q (token_at vertex) some =
-    on_right _ (map (λ e. record_of p e.0) (entries q.records)) _
-    (on_right _ (map (λ x. request_of p x) (fin.keys q.requests)) _
-    (on_left _ (map (λ e. token_of p e.0) (fin.entries q.tokens)) _
-    (carried exact_unsigned place_total (token_of p) (λ e. e.0) vertex (fin.entries q.tokens) (in_keys q.tokens vertex (λ e. some (ap from_epoch e))))))
+    on_right _ (map (λ e. place_at p (records_at e.0)) (entries q.records)) _
+    (on_right _ (map (λ x. place_at p (request_at x)) (fin.keys q.requests)) _
+    (on_left _ (map (λ e. place_at p (token_at e.0)) (fin.entries q.tokens)) _
+    (carried exact_unsigned place_total (λ k. place_at p (token_at k)) (λ e. e.0) vertex (fin.entries q.tokens) (in_keys q.tokens vertex (λ e. some (ap from_epoch e))))))
 in_processor p q (item_at vertex key) some =
-    on_right _ (map (λ e. record_of p e.0) (entries q.records)) _
-    (on_right _ (map (λ x. request_of p x) (fin.keys q.requests)) _
-    (on_right _ (map (λ e. token_of p e.0) (fin.entries q.tokens)) _
-    (on_left _ (flat_map (λ i. map (λ e. item_of p i.0 e.0) (entries i.1)) (enumerate_from 0 q.items)) _
-    (in_flat_at (eq_by_cmp place_cmp (item_of p vertex key)) (λ i. map (λ e. item_of p i.0 e.0) (entries i.1)) q.items vertex no_counts (slot_there q (item_at vertex key) some)
-    (carried item_exact place_total (item_of p vertex) (λ e. e.0) key (entries (items_at q vertex)) (in_entries (items_at q vertex) key some))))))
+    on_right _ (map (λ e. place_at p (records_at e.0)) (entries q.records)) _
+    (on_right _ (map (λ x. place_at p (request_at x)) (fin.keys q.requests)) _
+    (on_right _ (map (λ e. place_at p (token_at e.0)) (fin.entries q.tokens)) _
+    (on_left _ (flat_map (λ i. map (λ e. place_at p (item_at i.0 e.0)) (entries i.1)) (enumerate_from 0 q.items)) _
+    (in_flat_at (eq_by_cmp place_cmp (place_at p (item_at vertex key))) (λ i. map (λ e. place_at p (item_at i.0 e.0)) (entries i.1)) q.items vertex no_counts (slot_there q (item_at vertex key) some)
+    (carried item_exact place_total (λ k. place_at p (item_at vertex k)) (λ e. e.0) key (entries (items_at q vertex)) (in_entries (items_at q vertex) key some))))))
 in_processor p q (sink_at key) some =
-    on_right _ (map (λ e. record_of p e.0) (entries q.records)) _
-    (on_right _ (map (λ x. request_of p x) (fin.keys q.requests)) _
-    (on_right _ (map (λ e. token_of p e.0) (fin.entries q.tokens)) _
-    (on_right _ (flat_map (λ i. map (λ e. item_of p i.0 e.0) (entries i.1)) (enumerate_from 0 q.items)) _
-    (on_left _ (map (λ e. sink_of p e.0) (entries q.sinks)) _
-    (carried sink_exact place_total (sink_of p) (λ e. e.0) key (entries q.sinks) (in_entries q.sinks key (λ e. some (ap pos e))))))))
+    on_right _ (map (λ e. place_at p (records_at e.0)) (entries q.records)) _
+    (on_right _ (map (λ x. place_at p (request_at x)) (fin.keys q.requests)) _
+    (on_right _ (map (λ e. place_at p (token_at e.0)) (fin.entries q.tokens)) _
+    (on_right _ (flat_map (λ i. map (λ e. place_at p (item_at i.0 e.0)) (entries i.1)) (enumerate_from 0 q.items)) _
+    (on_left _ (map (λ e. place_at p (sink_at e.0)) (entries q.sinks)) _
+    (carried sink_exact place_total (λ k. place_at p (sink_at k)) (λ e. e.0) key (entries q.sinks) (in_entries q.sinks key (λ e. some (ap pos e))))))))
 in_processor p q (unsent_at point) some =
-    on_right _ (map (λ e. record_of p e.0) (entries q.records)) _
-    (on_right _ (map (λ x. request_of p x) (fin.keys q.requests)) _
-    (on_right _ (map (λ e. token_of p e.0) (fin.entries q.tokens)) _
-    (on_right _ (flat_map (λ i. map (λ e. item_of p i.0 e.0) (entries i.1)) (enumerate_from 0 q.items)) _
-    (on_right _ (map (λ e. sink_of p e.0) (entries q.sinks)) _
-    (carried point_exact place_total (unsent_of p) (λ e. e.0) point (listed q.unsent) (in_points q.unsent point some))))))
+    on_right _ (map (λ e. place_at p (records_at e.0)) (entries q.records)) _
+    (on_right _ (map (λ x. place_at p (request_at x)) (fin.keys q.requests)) _
+    (on_right _ (map (λ e. place_at p (token_at e.0)) (fin.entries q.tokens)) _
+    (on_right _ (flat_map (λ i. map (λ e. place_at p (item_at i.0 e.0)) (entries i.1)) (enumerate_from 0 q.items)) _
+    (on_right _ (map (λ e. place_at p (sink_at e.0)) (entries q.sinks)) _
+    (carried point_exact place_total (λ k. place_at p (unsent_at k)) (λ e. e.0) point (listed q.unsent) (in_points q.unsent point some))))))
 
 abbrev listed_processor : ℕ × ProcessorState → List Place
 listed_processor i = places_of_processor i.0 i.1
@@ -137,17 +137,17 @@ abbrev listed_view : ℕ × Change → List Place
 listed_view i = map (λ e. view_of i.0 e.0) (listed i.1)
 
 -- what stands somewhere is listed
-pub in_places : (s : ClusterState) (k : Place) → standing s k ≢ pos 0 → has_key place_cmp k (places_of s) ≡ true
-in_places s k some = by_slot (λ j. standing s j ≢ pos 0 → IsThere s j → has_key place_cmp j (places_of s) ≡ true)
-    (λ p l some there.
+listed_where : (s : ClusterState) (k : Place) → standing s k ≢ pos 0 → IsThere s k → has_key place_cmp k (places_of s) ≡ true
+listed_where s (place_at p l) some there =
     on_left (eq_by_cmp place_cmp (place_at p l)) (flat_map listed_processor (enumerate_from 0 s.processors)) (flat_map listed_view (enumerate_from 0 s.views))
-    (in_flat_at (eq_by_cmp place_cmp (place_at p l)) listed_processor s.processors p idle (there-slot s p l there).0
-    (in_processor p (processor s p) l (λ e. some (standing-slot s p l ∙ e)))))
-    (λ q x some there.
+    (in_flat_at (eq_by_cmp place_cmp (place_at p l)) listed_processor s.processors p idle there.0 (in_processor p (processor s p) l some))
+listed_where s (view_of q x) some there =
     on_right (eq_by_cmp place_cmp (view_of q x)) (flat_map listed_processor (enumerate_from 0 s.processors)) (flat_map listed_view (enumerate_from 0 s.views))
     (in_flat_at (eq_by_cmp place_cmp (view_of q x)) listed_view s.views q no_change there
-    (carried point_exact place_total (view_of q) (λ e. e.0) x (listed (view s q)) (in_points (view s q) x some))))
-    k some (there_where s k some)
+    (carried point_exact place_total (view_of q) (λ e. e.0) x (listed (view s q)) (in_points (view s q) x some)))
+
+pub in_places : (s : ClusterState) (k : Place) → standing s k ≢ pos 0 → has_key place_cmp k (places_of s) ≡ true
+in_places s k some = listed_where s k some (there_where s k some)
 
 pub zero_or_not : (z : ℤ) → (z ≡ pos 0) ⊎ (z ≢ pos 0)
 zero_or_not (pos zero) = inl refl

@@ -13,8 +13,8 @@ use Rattle.nd_vertex.specs.Table.{is_zero}
 use Rattle.nd_protocol.specs.State.{ClusterState}
 use Rattle.nd_protocol.specs.Fitting.{IsWithinLimits}
 use Rattle.nd_record.specs.Places.{Place, place_cmp, place_total, place_exact}
-use Rattle.nd_record.specs.Standing.{standing, IsThere, MayStand, difference}
-use Rattle.nd_record.specs.Changes.{place_of, gain_of, made, FindsOld, NamesNumbers, IsWithinAt, Fits, Finds, applied, state_at, IsRunnable}
+use Rattle.nd_record.specs.Standing.{standing, IsThere, MayStand, IsWithinAt, difference}
+use Rattle.nd_record.specs.Changes.{place_of, gain_of, made, FindsOld, NamesNumbers, Fits, Finds, applied, state_at, IsRunnable}
 use Rattle.nd_record.specs.Edits.{total_at, edits_of}
 use Rattle.nd_record.specs.Plans.{often, Once, Each, IsSmallGain, Reaches, kind_by, kind, of_kind, ordered, LeadsTo}
 use Rattle.nd_record.specs.declared.change.Change.{Change}
@@ -183,18 +183,23 @@ finds_moved s u (Token p vertex old new) e h = e ∙ h
 finds_moved s u (State p vertex t item old new) e h = e ∙ h
 finds_moved s u (Records p edge t value n) e h = tt
 finds_moved s u (Request p vertex t add) e h = tt
-finds_moved s u (Sink p vertex value) e h = tt
+finds_moved s u (Sink p vertex value add) e h = tt
 finds_moved s u (Unsent p point n) e h = tt
 
 -- a change fits wherever the same stands at its place
 fits_moved : (s u : ClusterState) (c : Change) → SameShape u s → standing u (place_of c) ≡ standing s (place_of c) → Fits s c → Fits u c
-fits_moved s u c shape e fits = record {
-  there = there_alike s u (place_of c) (shape-turned u s shape) fits.there;
-  old = finds_moved s u c e fits.old;
-  numbers = fits.numbers;
-  may = subst (λ z. MayStand (place_of c) (z +ℤ gain_of c)) (sym e) fits.may;
-  within = subst (λ z. IsWithinAt (place_of c) (z +ℤ gain_of c)) (sym e) fits.within;
-}
+fits_moved s u c shape e fits =
+    let there : IsThere u (place_of c) = there_alike s u (place_of c) (shape-turned u s shape) (fits.owner, fits.inside.there) in
+    record {
+      owner = there.0;
+      inside = record {
+        there = there.1;
+        old = finds_moved s u c e fits.inside.old;
+        numbers = fits.inside.numbers;
+        may = subst (λ z. MayStand (place_of c) (z +ℤ gain_of c)) (sym e) fits.inside.may;
+        within = subst (λ z. IsWithinAt (place_of c) (z +ℤ gain_of c)) (sym e) fits.inside.within;
+      };
+    }
 
 -- ---- the kinds
 
@@ -262,7 +267,7 @@ module _ (s : ClusterState) (front tail : List Change) (once : Once (front ++ ta
   unfolding state_at
   untouched_at k d lt =
       untouched s (take k (front ++ tail)) (place_of (get_or (front ++ tail) k d))
-      (each_take (λ c. IsThere s (place_of c)) (front ++ tail) k (each_through (Fits s) (λ c. IsThere s (place_of c)) (λ c h. h.there) (front ++ tail) fit))
+      (each_take (λ c. IsThere s (place_of c)) (front ++ tail) k (each_through (Fits s) (λ c. IsThere s (place_of c)) (λ c h. (h.owner, h.inside.there)) (front ++ tail) fit))
       (often_before (front ++ tail) once k d lt)
 
   shape_at : (k : ℕ) → SameShape (state_at s (front ++ tail) k) s
@@ -310,7 +315,7 @@ moved_more t k c fits =
     ∙ by_key (eq_by_cmp place_cmp k (place_of c)) (standing t k) (standing t (place_of c)) (gain_of c) (λ e. ap (standing t) (sym (tells_apart place_exact k (place_of c) e)))
 
 some_change : Change
-some_change = Sink 0 0 (pos 0)
+some_change = Sink 0 0 (pos 0) true
 
 moved_at : (s : ClusterState) (cs : List Change) (runs : IsRunnable s cs) (j : Place) (k : ℕ) → k ≤ length cs → standing (state_at s cs k) j ≡ standing s j +ℤ total j (take k cs)
 moved_at s cs runs j zero h = ap (λ t. standing t j) (state_none s cs) ∙ sym (plus_none (standing s j))
@@ -424,13 +429,18 @@ module _ (s t : ClusterState) (cs : List Change) (joined : Reaches s t cs) where
         (there_where t (place_of (get_or cs k d)) (λ e. each_at (λ c. gain_of c ≢ pos 0) cs k d joined.some lt (no_more (before_of s (get_or cs k d)) (gain_of (get_or cs k d)) none (sym comes_to ∙ e))))
 
     joined_fits : IsWithinLimits t → Fits s (get_or cs k d)
-    joined_fits within = record {
-      there = there_by (zero_or_not (before_of s (get_or cs k d)));
-      old = each_at (FindsOld s) cs k d joined.old lt;
-      numbers = each_at NamesNumbers cs k d joined.numbers lt;
-      may = subst (MayStand (place_of (get_or cs k d))) comes_to (may_stand t (place_of (get_or cs k d)));
-      within = subst (IsWithinAt (place_of (get_or cs k d))) comes_to (limits_of t within (place_of (get_or cs k d)));
-    }
+    joined_fits within =
+        let there : IsThere s (place_of (get_or cs k d)) = there_by (zero_or_not (before_of s (get_or cs k d))) in
+        record {
+          owner = there.0;
+          inside = record {
+            there = there.1;
+            old = each_at (FindsOld s) cs k d joined.old lt;
+            numbers = each_at NamesNumbers cs k d joined.numbers lt;
+            may = subst (MayStand (place_of (get_or cs k d))) comes_to (may_stand t (place_of (get_or cs k d)));
+            within = subst (IsWithinAt (place_of (get_or cs k d))) comes_to (limits_of t within (place_of (get_or cs k d)));
+          };
+        }
 
   -- what the changes alter is there
   pub each_there : Each (λ c. IsThere s (place_of c)) cs

@@ -2,7 +2,7 @@
 --     standing-put, standing-put_other     what stands at the place, and at each other place
 --     SameShape, shape-put                 states that differ in their maps alone
 --     same_state                           states of one shape in which the same stands everywhere are equal
-use Rattle.std.proofs.Common.{◌≡◌, ◌≢◌, ◌<◌, ◌+◌, ◌⊎◌, ℕ, zero, suc, ℤ, pos, negsuc, ◌≤ℤ◌, true, false, cond, List, Option, Some, None, length, get_or, set, refl, sym, ap, subst, ◌∙◌, arith, inl, inr, true≢false}
+use Rattle.std.proofs.Common.{◌≡◌, ◌≢◌, ◌<◌, ◌+◌, ◌⊎◌, ℕ, zero, suc, ℤ, pos, negsuc, ◌≤ℤ◌, true, false, cond, List, Option, Some, None, length, get_or, set, refl, sym, ap, ◌∙◌, arith, inl, inr, true≢false}
 use Rattle.std.proofs.lemmas.Int.{ints}
 use Rattle.std.proofs.lemmas.Bool.{cases_lt, cases_eq}
 use Rattle.std.proofs.lemmas.Cmp.{nat_cmp_total}
@@ -24,62 +24,10 @@ use Rattle.nd_vertex.specs.declared.key.ItemKey.{ItemKey}
 use Rattle.nd_processor.specs.Keys.{value_at_cmp, sink_cmp, value_at_total, value_at_exact, sink_total, sink_exact}
 use Rattle.nd_processor.specs.State.{ProcessorState, Requests, idle, items_at}
 use Rattle.nd_protocol.specs.State.{ClusterState, processor, view}
-use Rattle.nd_record.specs.Places.{Place, record_of, request_of, token_of, item_of, sink_of, unsent_of, view_of, place_cmp, place_total, place_exact}
+use Rattle.nd_record.specs.Places.{Slot, Place, place_at, records_at, request_at, token_at, item_at, sink_at, unsent_at, view_of, place_cmp, place_total, place_exact}
 use Rattle.nd_record.specs.Alike.{same_key, other_key}
-use Rattle.nd_record.specs.Slots.{Slot, records_at, request_at, token_at, item_at, sink_at, unsent_at, place_at, stands, puts, SlotIsThere, SlotMay}
-use Rattle.nd_record.specs.Standing.{from_request, from_epoch, standing, with_request, with_epoch, with_processor, put_at, IsThere, MayStand}
-
--- ---- the places of one processor
-
--- every place is a processor's or a view's
-pub by_slot : (P : Place → Type 0) → ((p : ℕ) (l : Slot) → P (place_at p l)) → ((q : ℕ) (x : Pointstamp) → P (view_of q x)) → (k : Place) → P k
-by_slot P f g (record_of p key) = f p (records_at key)
-by_slot P f g (request_of p point) = f p (request_at point)
-by_slot P f g (token_of p vertex) = f p (token_at vertex)
-by_slot P f g (item_of p vertex key) = f p (item_at vertex key)
-by_slot P f g (sink_of p key) = f p (sink_at key)
-by_slot P f g (unsent_of p point) = f p (unsent_at point)
-by_slot P f g (view_of q point) = g q point
-
-pub standing-slot : (s : ClusterState) (p : ℕ) (l : Slot) → standing s (place_at p l) ≡ stands (processor s p) l
-standing-slot s p (records_at key) = refl
-standing-slot s p (request_at point) = refl
-standing-slot s p (token_at vertex) = refl
-standing-slot s p (item_at vertex key) = refl
-standing-slot s p (sink_at key) = refl
-standing-slot s p (unsent_at point) = refl
-
-pub put-slot : (s : ClusterState) (p : ℕ) (l : Slot) (z : ℤ) → put_at s (place_at p l) z ≡ with_processor s p (puts (processor s p) l z)
-put-slot s p (records_at key) z = refl
-put-slot s p (request_at point) z = refl
-put-slot s p (token_at vertex) z = refl
-put-slot s p (item_at vertex key) z = refl
-put-slot s p (sink_at key) z = refl
-put-slot s p (unsent_at point) z = refl
-
-pub there-slot : (s : ClusterState) (p : ℕ) (l : Slot) → IsThere s (place_at p l) → (p < length s.processors) × SlotIsThere (processor s p) l
-there-slot s p (records_at key) h = (h, tt)
-there-slot s p (request_at point) h = (h, tt)
-there-slot s p (token_at vertex) h = (h, tt)
-there-slot s p (item_at vertex key) h = h
-there-slot s p (sink_at key) h = (h, tt)
-there-slot s p (unsent_at point) h = (h, tt)
-
-pub slot-there : (s : ClusterState) (p : ℕ) (l : Slot) → p < length s.processors → SlotIsThere (processor s p) l → IsThere s (place_at p l)
-slot-there s p (records_at key) h g = h
-slot-there s p (request_at point) h g = h
-slot-there s p (token_at vertex) h g = h
-slot-there s p (item_at vertex key) h g = (h, g)
-slot-there s p (sink_at key) h g = h
-slot-there s p (unsent_at point) h g = h
-
-pub may-slot : (p : ℕ) (l : Slot) (z : ℤ) → MayStand (place_at p l) z → SlotMay l z
-may-slot p (records_at key) z h = h
-may-slot p (request_at point) z h = h
-may-slot p (token_at vertex) z h = h
-may-slot p (item_at vertex key) z h = h
-may-slot p (sink_at key) z h = h
-may-slot p (unsent_at point) z h = h
+use Rattle.nd_record.specs.Slots.{from_request, from_epoch, with_request, with_epoch, stands, puts, SlotIsThere, SlotMay}
+use Rattle.nd_record.specs.Standing.{standing, put_at, IsThere, MayStand}
 
 -- ---- another integer at one place of a processor
 
@@ -154,25 +102,20 @@ stands-puts_other q l z m there ne = refl
 -- ---- another integer at one place of a cluster
 
 pub standing-put : (s : ClusterState) (k : Place) (z : ℤ) → IsThere s k → MayStand k z → standing (put_at s k z) k ≡ z
-standing-put s = by_slot (λ k. (z : ℤ) → IsThere s k → MayStand k z → standing (put_at s k z) k ≡ z)
-    (λ p l z there may.
-    let t = there-slot s p l there in
-    ap (λ u. standing u (place_at p l)) (put-slot s p l z) ∙ standing-slot (with_processor s p (puts (processor s p) l z)) p l
-    ∙ ap (λ q. stands q l) (get_or-set_same s.processors p (puts (processor s p) l z) idle t.0)
-    ∙ stands-puts (processor s p) l z t.1 (may-slot p l z may))
-    (λ q x z there may.
+standing-put s (place_at p l) z there may =
+    ap (λ q. stands q l) (get_or-set_same s.processors p (puts (processor s p) l z) idle there.0) ∙ stands-puts (processor s p) l z there.1 may
+standing-put s (view_of q x) z there may =
     ap (λ c. in_change c x) (get_or-set_same s.views q (with_entry (view s q) x z) no_change there)
-    ∙ in_change-set (view s q) x z x ∙ ap (λ b. cond b z (in_change (view s q) x)) (same_key point_total x))
+    ∙ in_change-set (view s q) x z x ∙ ap (λ b. cond b z (in_change (view s q) x)) (same_key point_total x)
 
 other_of_slot : (s : ClusterState) (p : ℕ) (l : Slot) (z : ℤ) (n : ℕ) (m : Slot) → IsThere s (place_at p l) → place_at n m ≢ place_at p l
     → stands (get_or (set s.processors p (puts (processor s p) l z)) n idle) m ≡ stands (processor s n) m
 other_of_slot s p l z n m there ne =
-    let t = there-slot s p l there in
     elim (cases_eq n p) [
       | inl e ↦
           ap (λ i. stands (get_or (set s.processors p (puts (processor s p) l z)) i idle) m) e
-          ∙ ap (λ q. stands q m) (get_or-set_same s.processors p (puts (processor s p) l z) idle t.0)
-          ∙ stands-puts_other (processor s p) l z m t.1 (λ d. ne (λ i. place_at (e i) (d i)))
+          ∙ ap (λ q. stands q m) (get_or-set_same s.processors p (puts (processor s p) l z) idle there.0)
+          ∙ stands-puts_other (processor s p) l z m there.1 (λ d. ne (λ i. place_at (e i) (d i)))
           ∙ ap (λ i. stands (processor s i) m) (sym e)
       | inr o ↦ ap (λ q. stands q m) (get_or-set_other s.processors p n (puts (processor s p) l z) idle o)
     ]
@@ -189,15 +132,10 @@ other_of_view s q x z n y there ne = elim (cases_eq n q) [
 ]
 
 pub standing-put_other : (s : ClusterState) (k : Place) (z : ℤ) (j : Place) → IsThere s k → j ≢ k → standing (put_at s k z) j ≡ standing s j
-standing-put_other s = by_slot (λ k. (z : ℤ) (j : Place) → IsThere s k → j ≢ k → standing (put_at s k z) j ≡ standing s j)
-    (λ p l z. by_slot (λ j. IsThere s (place_at p l) → j ≢ place_at p l → standing (put_at s (place_at p l) z) j ≡ standing s j)
-    (λ n m there ne.
-    ap (λ u. standing u (place_at n m)) (put-slot s p l z) ∙ standing-slot (with_processor s p (puts (processor s p) l z)) n m
-    ∙ other_of_slot s p l z n m there ne ∙ sym (standing-slot s n m))
-    (λ n y there ne. ap (λ u. standing u (view_of n y)) (put-slot s p l z)))
-    (λ q x z. by_slot (λ j. IsThere s (view_of q x) → j ≢ view_of q x → standing (put_at s (view_of q x) z) j ≡ standing s j)
-    (λ n m there ne. standing-slot (put_at s (view_of q x) z) n m ∙ sym (standing-slot s n m))
-    (λ n y there ne. other_of_view s q x z n y there ne))
+standing-put_other s (place_at p l) z (place_at n m) there ne = other_of_slot s p l z n m there ne
+standing-put_other s (place_at p l) z (view_of n y) there ne = refl
+standing-put_other s (view_of q x) z (place_at n m) there ne = refl
+standing-put_other s (view_of q x) z (view_of n y) there ne = other_of_view s q x z n y there ne
 
 -- both at once
 pub standing-put_at : (s : ClusterState) (k : Place) (z : ℤ) (j : Place) → IsThere s k → MayStand k z → standing (put_at s k z) j ≡ cond (eq_by_cmp place_cmp j k) z (standing s j)
@@ -244,30 +182,32 @@ kept_at f xs p y d h n = elim (cases_lt p (length xs)) [
 ]
 
 pub shape-put : (s : ClusterState) (k : Place) (z : ℤ) → SameShape (put_at s k z) s
-shape-put s = by_slot (λ k. (z : ℤ) → SameShape (put_at s k z) s)
-    (λ p l z. subst (λ t. SameShape t s) (sym (put-slot s p l z)) (record {
-      graph = refl;
-      processors = length-set s.processors p (puts (processor s p) l z);
-      items = kept_at (λ (q : ProcessorState). length q.items) s.processors p (puts (processor s p) l z) idle (items-puts (processor s p) l z);
-      views = refl;
-      queues = refl;
-    }))
-    (λ q x z. record {
-      graph = refl;
-      processors = refl;
-      items = λ p. refl;
-      views = length-set s.views q (with_entry (view s q) x z);
-      queues = refl;
-    })
+shape-put s (place_at p l) z = record {
+  graph = refl;
+  processors = length-set s.processors p (puts (processor s p) l z);
+  items = kept_at (λ (q : ProcessorState). length q.items) s.processors p (puts (processor s p) l z) idle (items-puts (processor s p) l z);
+  views = refl;
+  queues = refl;
+}
+shape-put s (view_of q x) z = record {
+  graph = refl;
+  processors = refl;
+  items = λ p. refl;
+  views = length-set s.views q (with_entry (view s q) x z);
+  queues = refl;
+}
 
 -- the maps are there alike
+slot_alike : (q r : ProcessorState) (l : Slot) → length q.items ≡ length r.items → SlotIsThere q l → SlotIsThere r l
+slot_alike q r (item_at vertex key) e there = rw (sym e) there
+slot_alike q r (records_at key) e there = tt
+slot_alike q r (request_at point) e there = tt
+slot_alike q r (token_at vertex) e there = tt
+slot_alike q r (sink_at key) e there = tt
+slot_alike q r (unsent_at point) e there = tt
+
 pub there_alike : (s t : ClusterState) (k : Place) → SameShape s t → IsThere s k → IsThere t k
-there_alike s t (record_of p key) h there = rw (sym h.processors) there
-there_alike s t (request_of p point) h there = rw (sym h.processors) there
-there_alike s t (token_of p vertex) h there = rw (sym h.processors) there
-there_alike s t (item_of p vertex key) h there = (rw (sym h.processors) there.0, rw (sym (h.items p)) there.1)
-there_alike s t (sink_of p key) h there = rw (sym h.processors) there
-there_alike s t (unsent_of p point) h there = rw (sym h.processors) there
+there_alike s t (place_at p l) h there = (rw (sym h.processors) there.0, slot_alike (processor s p) (processor t p) l (h.items p) there.1)
 there_alike s t (view_of q point) h there = rw (sym h.views) there
 
 -- ---- states in which the same stands everywhere
@@ -300,7 +240,7 @@ same_processor q r len h =
 pub same_state : (s t : ClusterState) → SameShape s t → ((k : Place) → standing s k ≡ standing t k) → s ≡ t
 same_state s t shape h =
     let processors : s.processors ≡ t.processors
-    = ext_get_or idle s.processors t.processors shape.processors (λ p lt. same_processor (processor s p) (processor t p) (shape.items p) (λ l. sym (standing-slot s p l) ∙ h (place_at p l) ∙ standing-slot t p l)) in
+    = ext_get_or idle s.processors t.processors shape.processors (λ p lt. same_processor (processor s p) (processor t p) (shape.items p) (λ l. h (place_at p l))) in
     let views : s.views ≡ t.views = ext_get_or no_change s.views t.views shape.views (λ q lt. same_change (view s q) (view t q) (λ x. h (view_of q x))) in
     λ i. record { graph = shape.graph i; processors = processors i; views = views i; queues = shape.queues i }
 
@@ -317,13 +257,16 @@ epoch_may (Some n) = omega (arith, ints)
 count_may : (n : ℕ) → pos 0 ≤ℤ pos n
 count_may n = omega (arith, ints)
 
+may_be : (q : ProcessorState) (l : Slot) → SlotMay l (stands q l)
+may_be q (records_at key) = count_may _
+may_be q (request_at point) = request_may _
+may_be q (token_at vertex) = epoch_may _
+may_be q (item_at vertex key) = tt
+may_be q (sink_at key) = count_may _
+may_be q (unsent_at point) = tt
+
 pub may_stand : (s : ClusterState) (k : Place) → MayStand k (standing s k)
-may_stand s (record_of p key) = count_may _
-may_stand s (request_of p point) = request_may _
-may_stand s (token_of p vertex) = epoch_may _
-may_stand s (item_of p vertex key) = tt
-may_stand s (sink_of p key) = count_may _
-may_stand s (unsent_of p point) = tt
+may_stand s (place_at p l) = may_be (processor s p) l
 may_stand s (view_of q point) = tt
 
 idle_stands : (l : Slot) → stands idle l ≡ pos 0
@@ -342,12 +285,11 @@ slot_there q (item_at vertex key) some = elim (cases_lt vertex (length q.items))
 slot_there q l some = tt
 
 pub there_where : (s : ClusterState) (k : Place) → standing s k ≢ pos 0 → IsThere s k
-there_where s = by_slot (λ k. standing s k ≢ pos 0 → IsThere s k)
-    (λ p l some. elim (cases_lt p (length s.processors)) [
-      | inl lt ↦ slot-there s p l lt (slot_there (processor s p) l (λ e. some (standing-slot s p l ∙ e)))
-      | inr past ↦ absurd (some (standing-slot s p l ∙ ap (λ q. stands q l) (get_or_past s.processors p idle past) ∙ idle_stands l))
-    ])
-    (λ q x some. elim (cases_lt q (length s.views)) [
-      | inl lt ↦ lt
-      | inr past ↦ absurd (some (ap (λ c. in_change c x) (get_or_past s.views q no_change past) ∙ in_no_change x))
-    ])
+there_where s (place_at p l) some = elim (cases_lt p (length s.processors)) [
+  | inl lt ↦ (lt, slot_there (processor s p) l some)
+  | inr past ↦ absurd (some (ap (λ q. stands q l) (get_or_past s.processors p idle past) ∙ idle_stands l))
+]
+there_where s (view_of q x) some = elim (cases_lt q (length s.views)) [
+  | inl lt ↦ lt
+  | inr past ↦ absurd (some (ap (λ c. in_change c x) (get_or_past s.views q no_change past) ∙ in_no_change x))
+]

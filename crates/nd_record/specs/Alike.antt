@@ -14,7 +14,7 @@ use Rattle.nd_vertex.specs.declared.key.ItemKey.{ItemKey}
 use Rattle.nd_processor.specs.Keys.{value_at_cmp, value_at_total, value_at_exact, sink_cmp, sink_total, sink_exact}
 use Rattle.nd_processor.specs.declared.key.ValueAt.{ValueAt}
 use Rattle.nd_processor.specs.declared.key.SinkKey.{SinkKey}
-use Rattle.nd_record.specs.Places.{Place, record_of, request_of, token_of, item_of, sink_of, unsent_of, place_cmp, place_total, place_exact}
+use Rattle.nd_record.specs.Places.{Place, place_at, records_at, request_at, token_at, item_at, sink_at, unsent_at, place_cmp, place_total, place_exact}
 
 -- ---- keys that compare alike or not
 
@@ -54,44 +54,44 @@ module _ {K : Type 0} {S : K → K → Ordering} (o : IsTotalOrder S) (tells : I
 
 -- the key of a place, or d where it has none of the kind
 abbrev point_in : Pointstamp → Place → Pointstamp
-point_in d (request_of p x) = x
-point_in d (unsent_of p x) = x
+point_in d (place_at p (request_at x)) = x
+point_in d (place_at p (unsent_at x)) = x
 point_in d _ = d
 
 abbrev record_in : ValueAt → Place → ValueAt
-record_in d (record_of p k) = k
+record_in d (place_at p (records_at k)) = k
 record_in d _ = d
 
 abbrev vertex_in : ℕ → Place → ℕ
-vertex_in d (token_of p v) = v
-vertex_in d (item_of p v k) = v
+vertex_in d (place_at p (token_at v)) = v
+vertex_in d (place_at p (item_at v k)) = v
 vertex_in d _ = d
 
 abbrev item_in : ItemKey → Place → ItemKey
-item_in d (item_of p v k) = k
+item_in d (place_at p (item_at v k)) = k
 item_in d _ = d
 
 abbrev sink_in : SinkKey → Place → SinkKey
-sink_in d (sink_of p k) = k
+sink_in d (place_at p (sink_at k)) = k
 sink_in d _ = d
 
-pub record-test : (p : ℕ) (a b : ValueAt) → is_place (record_of p a) (record_of p b) ≡ eq_by_cmp value_at_cmp a b
-record-test p a b = same_test value_at_total value_at_exact (record_of p) (λ c d e. ap (record_in c) e) a b
+pub record-test : (p : ℕ) (a b : ValueAt) → is_place (place_at p (records_at a)) (place_at p (records_at b)) ≡ eq_by_cmp value_at_cmp a b
+record-test p a b = same_test value_at_total value_at_exact (λ k. place_at p (records_at k)) (λ c d e. ap (record_in c) e) a b
 
-pub request-test : (p : ℕ) (a b : Pointstamp) → is_place (request_of p a) (request_of p b) ≡ eq_by_cmp point_cmp a b
-request-test p a b = same_test point_total point_exact (request_of p) (λ c d e. ap (point_in c) e) a b
+pub request-test : (p : ℕ) (a b : Pointstamp) → is_place (place_at p (request_at a)) (place_at p (request_at b)) ≡ eq_by_cmp point_cmp a b
+request-test p a b = same_test point_total point_exact (λ k. place_at p (request_at k)) (λ c d e. ap (point_in c) e) a b
 
-pub token-test : (p : ℕ) (a b : ℕ) → is_place (token_of p a) (token_of p b) ≡ eq_by_cmp nat_cmp a b
-token-test p a b = same_test nat_cmp_total fin.nat_cmp-IsAntisymmetric (token_of p) (λ c d e. ap (vertex_in c) e) a b
+pub token-test : (p : ℕ) (a b : ℕ) → is_place (place_at p (token_at a)) (place_at p (token_at b)) ≡ eq_by_cmp nat_cmp a b
+token-test p a b = same_test nat_cmp_total fin.nat_cmp-IsAntisymmetric (λ k. place_at p (token_at k)) (λ c d e. ap (vertex_in c) e) a b
 
-pub item-test : (p v : ℕ) (a b : ItemKey) → is_place (item_of p v a) (item_of p v b) ≡ eq_by_cmp item_cmp a b
-item-test p v a b = same_test item_total item_exact (item_of p v) (λ c d e. ap (item_in c) e) a b
+pub item-test : (p v : ℕ) (a b : ItemKey) → is_place (place_at p (item_at v a)) (place_at p (item_at v b)) ≡ eq_by_cmp item_cmp a b
+item-test p v a b = same_test item_total item_exact (λ k. place_at p (item_at v k)) (λ c d e. ap (item_in c) e) a b
 
-pub item_elsewhere : (p v w : ℕ) (a b : ItemKey) → (v ≡ w → ⊥) → is_place (item_of p v a) (item_of p w b) ≡ false
-item_elsewhere p v w a b apart = other_place (item_of p v a) (item_of p w b) (λ e. apart (ap (vertex_in v) e))
+pub item_elsewhere : (p v w : ℕ) (a b : ItemKey) → (v ≡ w → ⊥) → is_place (place_at p (item_at v a)) (place_at p (item_at w b)) ≡ false
+item_elsewhere p v w a b apart = other_place (place_at p (item_at v a)) (place_at p (item_at w b)) (λ e. apart (ap (vertex_in v) e))
 
-pub sink-test : (p : ℕ) (a b : SinkKey) → is_place (sink_of p a) (sink_of p b) ≡ eq_by_cmp sink_cmp a b
-sink-test p a b = same_test sink_total sink_exact (sink_of p) (λ c d e. ap (sink_in c) e) a b
+pub sink-test : (p : ℕ) (a b : SinkKey) → is_place (place_at p (sink_at a)) (place_at p (sink_at b)) ≡ eq_by_cmp sink_cmp a b
+sink-test p a b = same_test sink_total sink_exact (λ k. place_at p (sink_at k)) (λ c d e. ap (sink_in c) e) a b
 
-pub unsent-test : (p : ℕ) (a b : Pointstamp) → is_place (unsent_of p a) (unsent_of p b) ≡ eq_by_cmp point_cmp a b
-unsent-test p a b = same_test point_total point_exact (unsent_of p) (λ c d e. ap (point_in c) e) a b
+pub unsent-test : (p : ℕ) (a b : Pointstamp) → is_place (place_at p (unsent_at a)) (place_at p (unsent_at b)) ≡ eq_by_cmp point_cmp a b
+unsent-test p a b = same_test point_total point_exact (λ k. place_at p (unsent_at k)) (λ c d e. ap (point_in c) e) a b

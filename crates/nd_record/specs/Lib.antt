@@ -1,5 +1,6 @@
 pub mod Places
 pub mod Alike
+pub mod Slots
 pub mod Standing
 pub mod Changes
 pub mod Edits
@@ -8,7 +9,6 @@ pub mod Plans
 pub mod Seen
 pub mod Exchanges
 pub mod Records
-pub mod Slots
 pub mod Limits
 pub mod Turns
 pub mod Counted

@@ -1,4 +1,4 @@
--- The places of a cluster's state: the keys of its maps, each with its processor.
+-- The places of a cluster's state: a key of one of a processor's maps, with the processor, or one of a view.
 use Rattle.std.specs.Prelude.{◌≡◌, ℕ, zero, suc, ℤ, pos, [], refl}
 use Rattle.std.specs.declared.cmp.Ordering.{Ordering}
 use Rattle.std.specs.Ordering.{nat_cmp, int_cmp, ordering_then}
@@ -14,14 +14,18 @@ use Rattle.nd_vertex.specs.declared.key.ItemKey.{ItemKey}
 use Rattle.nd_processor.specs.declared.key.ValueAt.{ValueAt}
 use Rattle.nd_processor.specs.declared.key.SinkKey.{SinkKey}
 
--- a key of one of processor p's maps
+-- a key of one of a processor's maps
+pub data Slot : Type 0 where
+  records_at : (key : ValueAt) → Slot
+  request_at : (point : Pointstamp) → Slot
+  token_at : (vertex : ℕ) → Slot
+  item_at : (vertex : ℕ) (key : ItemKey) → Slot
+  sink_at : (key : SinkKey) → Slot
+  unsent_at : (point : Pointstamp) → Slot
+
+-- a key of one of processor p's maps, or of q's view
 pub data Place : Type 0 where
-  record_of : (p : ℕ) (key : ValueAt) → Place
-  request_of : (p : ℕ) (point : Pointstamp) → Place
-  token_of : (p : ℕ) (vertex : ℕ) → Place
-  item_of : (p : ℕ) (vertex : ℕ) (key : ItemKey) → Place
-  sink_of : (p : ℕ) (key : SinkKey) → Place
-  unsent_of : (p : ℕ) (point : Pointstamp) → Place
+  place_at : (p : ℕ) (slot : Slot) → Place
   view_of : (q : ℕ) (point : Pointstamp) → Place
 
 -- ---- places in order, so that finite maps may have them as keys
@@ -32,34 +36,34 @@ no_time = record { epoch = 0; counters = [] }
 
 -- which map it is, whose, and where in it
 abbrev pub parts : Place → ℕ × (ℕ × (Pointstamp × ℤ))
-parts (record_of p key) = (0, (p, (key.point, key.value)))
-parts (request_of p point) = (1, (p, (point, pos 0)))
-parts (token_of p vertex) = (2, (p, (record { location = vertex; time = no_time }, pos 0)))
-parts (item_of p vertex key) = (3, (p, (record { location = vertex; time = key.time }, key.item)))
-parts (sink_of p key) = (4, (p, (record { location = key.vertex; time = no_time }, key.value)))
-parts (unsent_of p point) = (5, (p, (point, pos 0)))
+parts (place_at p (records_at key)) = (0, (p, (key.point, key.value)))
+parts (place_at p (request_at point)) = (1, (p, (point, pos 0)))
+parts (place_at p (token_at vertex)) = (2, (p, (record { location = vertex; time = no_time }, pos 0)))
+parts (place_at p (item_at vertex key)) = (3, (p, (record { location = vertex; time = key.time }, key.item)))
+parts (place_at p (sink_at key)) = (4, (p, (record { location = key.vertex; time = no_time }, key.value)))
+parts (place_at p (unsent_at point)) = (5, (p, (point, pos 0)))
 parts (view_of q point) = (6, (q, (point, pos 0)))
 
 -- the place of these parts
 abbrev from_parts : ℕ → ℕ → Pointstamp → ℤ → Place
-from_parts zero p x v = record_of p (record { point = x; value = v })
-from_parts (suc zero) p x v = request_of p x
-from_parts (suc (suc zero)) p x v = token_of p x.location
-from_parts (suc (suc (suc zero))) p x v = item_of p x.location (record { time = x.time; item = v })
-from_parts (suc (suc (suc (suc zero)))) p x v = sink_of p (record { vertex = x.location; value = v })
-from_parts (suc (suc (suc (suc (suc zero))))) p x v = unsent_of p x
+from_parts zero p x v = place_at p (records_at (record { point = x; value = v }))
+from_parts (suc zero) p x v = place_at p (request_at x)
+from_parts (suc (suc zero)) p x v = place_at p (token_at x.location)
+from_parts (suc (suc (suc zero))) p x v = place_at p (item_at x.location (record { time = x.time; item = v }))
+from_parts (suc (suc (suc (suc zero)))) p x v = place_at p (sink_at (record { vertex = x.location; value = v }))
+from_parts (suc (suc (suc (suc (suc zero))))) p x v = place_at p (unsent_at x)
 from_parts (suc (suc (suc (suc (suc (suc n)))))) p x v = view_of p x
 
 abbrev rebuilt : ℕ × (ℕ × (Pointstamp × ℤ)) → Place
 rebuilt t = from_parts t.0 t.1.0 t.1.1.0 t.1.1.1
 
 rebuilt-parts : (k : Place) → rebuilt (parts k) ≡ k
-rebuilt-parts (record_of p key) = refl
-rebuilt-parts (request_of p point) = refl
-rebuilt-parts (token_of p vertex) = refl
-rebuilt-parts (item_of p vertex key) = refl
-rebuilt-parts (sink_of p key) = refl
-rebuilt-parts (unsent_of p point) = refl
+rebuilt-parts (place_at p (records_at key)) = refl
+rebuilt-parts (place_at p (request_at point)) = refl
+rebuilt-parts (place_at p (token_at vertex)) = refl
+rebuilt-parts (place_at p (item_at vertex key)) = refl
+rebuilt-parts (place_at p (sink_at key)) = refl
+rebuilt-parts (place_at p (unsent_at point)) = refl
 rebuilt-parts (view_of q point) = refl
 
 abbrev in_map_cmp : Pointstamp × ℤ → Pointstamp × ℤ → Ordering

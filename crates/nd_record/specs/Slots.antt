@@ -1,42 +1,36 @@
--- The places of one processor, and what stands at them.
-use Rattle.std.specs.Prelude.{◌≡◌, ◌<◌, ◌⊎◌, ℕ, ℤ, pos, ◌+ℤ◌, ◌-ℤ◌, ◌≤ℤ◌, List, length, slice_index_or, slice_set, unsigned_abs, ◌≤◌}
+-- What stands at a key of a processor's maps, as an integer that is 0 where nothing does, and the processor with another integer there.
+use Rattle.std.specs.Prelude.{◌≡◌, ◌<◌, ◌⊎◌, ◌≤◌, ℕ, zero, suc, ◌+◌, ℤ, pos, negsuc, ◌≤ℤ◌, cond, length, Option, Some, None, slice_set, unsigned_abs}
+use Rattle.std.specs.Ordering.{nat_cmp}
 use Rattle.std.specs.FinMap as fin
 use Rattle.nd_time.specs.Limits.{max_count}
 use Rattle.nd_map.specs.Counts.{natural, at as number_at, int_at, set}
 use Rattle.nd_paths.specs.declared.point.Pointstamp.{Pointstamp}
 use Rattle.nd_delta.specs.Change.{at as in_change, set as with_entry}
-use Rattle.nd_vertex.specs.Items.{item_total, item_key}
-use Rattle.nd_vertex.specs.declared.key.ItemKey.{ItemKey}
+use Rattle.nd_vertex.specs.Items.{item_total}
+use Rattle.nd_vertex.specs.Table.{is_zero}
 use Rattle.nd_processor.specs.Keys.{value_at_total, sink_total}
-use Rattle.nd_processor.specs.State.{ProcessorState, idle, items_at}
-use Rattle.nd_processor.specs.declared.key.ValueAt.{ValueAt}
-use Rattle.nd_processor.specs.declared.key.SinkKey.{SinkKey}
-use Rattle.nd_protocol.specs.Steps.{record_key, point_at}
-use Rattle.nd_record.specs.Places.{Place, record_of, request_of, token_of, item_of, sink_of, unsent_of}
-use Rattle.nd_record.specs.Standing.{from_request, from_epoch, from_number, with_request, with_epoch}
-use Rattle.nd_record.specs.Changes.{gain_of, NamesNumbers}
-use Rattle.nd_record.specs.declared.change.Change.{Change}
-use Rattle.nd_record.specs.declared.change.Change.TheVariants.{Records, Request, Token, State, Sink, Unsent}
+use Rattle.nd_processor.specs.State.{ProcessorState, Requests, items_at}
+use Rattle.nd_record.specs.Places.{Slot, records_at, request_at, token_at, item_at, sink_at, unsent_at}
 
--- a key of one of a processor's maps
-pub data Slot : Type 0 where
-  records_at : (key : ValueAt) → Slot
-  request_at : (point : Pointstamp) → Slot
-  token_at : (vertex : ℕ) → Slot
-  item_at : (vertex : ℕ) (key : ItemKey) → Slot
-  sink_at : (key : SinkKey) → Slot
-  unsent_at : (point : Pointstamp) → Slot
+-- ---- what is there or not, as an integer
 
--- the place of a cluster
-abbrev pub place_at : ℕ → Slot → Place
-place_at p (records_at key) = record_of p key
-place_at p (request_at point) = request_of p point
-place_at p (token_at vertex) = token_of p vertex
-place_at p (item_at vertex key) = item_of p vertex key
-place_at p (sink_at key) = sink_of p key
-place_at p (unsent_at point) = unsent_of p point
+-- 1 for a request, 0 for none
+abbrev pub from_request : Option (Unit {0}) → ℤ
+from_request None = pos 0
+from_request (Some u) = pos 1
 
--- what stands there
+-- 1 more than a token's epoch, 0 for none
+abbrev pub from_epoch : Option ℕ → ℤ
+from_epoch None = pos 0
+from_epoch (Some epoch) = pos (epoch + 1)
+
+-- an item's number, 0 for none
+abbrev pub from_number : Option ℤ → ℤ
+from_number None = pos 0
+from_number (Some n) = n
+
+-- ---- what stands at a key
+
 abbrev pub stands : ProcessorState → Slot → ℤ
 stands q (records_at key) = int_at q.records key
 stands q (request_at point) = from_request (fin.get q.requests point)
@@ -45,7 +39,16 @@ stands q (item_at vertex key) = number_at (items_at q vertex) key
 stands q (sink_at key) = int_at q.sinks key
 stands q (unsent_at point) = in_change q.unsent point
 
--- the processor with another integer there
+-- ---- another integer at one key
+
+abbrev pub with_request : Requests → Pointstamp → ℤ → Requests
+with_request m x z = cond (is_zero z) (fin.remove m x) (fin.insert m x tt)
+
+abbrev pub with_epoch : fin.FinMap nat_cmp ℕ → ℕ → ℤ → fin.FinMap nat_cmp ℕ
+with_epoch m vertex (pos zero) = fin.remove m vertex
+with_epoch m vertex (pos (suc epoch)) = fin.insert m vertex epoch
+with_epoch m vertex (negsuc n) = m
+
 abbrev pub puts : ProcessorState → Slot → ℤ → ProcessorState
 puts q (records_at key) z = record q { records = set value_at_total q.records key (natural z) }
 puts q (request_at point) z = record q { requests = with_request q.requests point z }
@@ -53,6 +56,8 @@ puts q (token_at vertex) z = record q { tokens = with_epoch q.tokens vertex z }
 puts q (item_at vertex key) z = record q { items = slice_set q.items vertex (set item_total (items_at q vertex) key z) }
 puts q (sink_at key) z = record q { sinks = set sink_total q.sinks key (natural z) }
 puts q (unsent_at point) z = record q { unsent = with_entry q.unsent point z }
+
+-- ---- what may stand there
 
 -- the map is there
 abbrev pub SlotIsThere : ProcessorState → Slot → Type 0
@@ -68,67 +73,20 @@ SlotMay (item_at vertex key) z = Unit {0}
 SlotMay (sink_at key) z = pos 0 ≤ℤ z
 SlotMay (unsent_at point) z = Unit {0}
 
--- ---- the same of changes
+-- counts of records and of sinks are within their limit
+abbrev pub CountWithin : Slot → ℤ → Type 0
+CountWithin (records_at key) z = unsigned_abs z ≤ max_count
+CountWithin (sink_at key) z = unsigned_abs z ≤ max_count
+CountWithin _ z = Unit {0}
 
--- whose processor a change is of, and where in it
-abbrev pub owner_of : Change → ℕ
-owner_of (Records p edge t value n) = p
-owner_of (Request p vertex t add) = p
-owner_of (Token p vertex old new) = p
-owner_of (State p vertex t item old new) = p
-owner_of (Sink p vertex value) = p
-owner_of (Unsent p point n) = p
+-- so are entries of unsent changes
+abbrev pub EntryWithin : Slot → ℤ → Type 0
+EntryWithin (unsent_at point) z = unsigned_abs z ≤ max_count
+EntryWithin _ z = Unit {0}
 
-abbrev pub slot_of : Change → Slot
-slot_of (Records p edge t value n) = records_at (record_key edge t value)
-slot_of (Request p vertex t add) = request_at (point_at vertex t)
-slot_of (Token p vertex old new) = token_at vertex
-slot_of (State p vertex t item old new) = item_at vertex (item_key t item)
-slot_of (Sink p vertex value) = sink_at (record { vertex = vertex; value = value })
-slot_of (Unsent p point n) = unsent_at point
-
--- the processor that a change is of
-abbrev pub own : List ProcessorState → Change → ProcessorState
-own processors c = slice_index_or processors (owner_of c) idle
-
--- what a change that names numbers finds before it and after it
-abbrev pub Replaces : ProcessorState → Change → Type 0
-Replaces q (Token p vertex old new) = stands q (token_at vertex) ≡ from_epoch old
-Replaces q (State p vertex t item old new) = stands q (item_at vertex (item_key t item)) ≡ from_number old
-Replaces q _ = Unit {0}
-
-abbrev pub Replaced : ProcessorState → Change → Type 0
-Replaced q (Token p vertex old new) = stands q (token_at vertex) ≡ from_epoch new
-Replaced q (State p vertex t item old new) = stands q (item_at vertex (item_key t item)) ≡ from_number new
-Replaced q _ = Unit {0}
-
--- records, sink counts and unsent entries are within their limit
+-- so is either
 abbrev pub SlotWithin : Slot → ℤ → Type 0
 SlotWithin (records_at key) z = unsigned_abs z ≤ max_count
 SlotWithin (sink_at key) z = unsigned_abs z ≤ max_count
 SlotWithin (unsent_at point) z = unsigned_abs z ≤ max_count
 SlotWithin _ z = Unit {0}
-
--- a change may be made in a processor
-pub record FitsIn (q : ProcessorState) (c : Change) : Type 0 where
-  pub there : SlotIsThere q (slot_of c)
-  pub old : Replaces q c
-  pub numbers : NamesNumbers c
-  pub may : SlotMay (slot_of c) (stands q (slot_of c) +ℤ gain_of c)
-  pub within : SlotWithin (slot_of c) (stands q (slot_of c) +ℤ gain_of c)
-
--- a change may be undone in a processor
-pub record ReturnsIn (q : ProcessorState) (c : Change) : Type 0 where
-  pub there : SlotIsThere q (slot_of c)
-  pub new : Replaced q c
-  pub numbers : NamesNumbers c
-  pub may : SlotMay (slot_of c) (stands q (slot_of c) -ℤ gain_of c)
-  pub held : SlotWithin (slot_of c) (stands q (slot_of c))
-  pub within : SlotWithin (slot_of c) (stands q (slot_of c) -ℤ gain_of c)
-
--- the processor after a change, and the processor before it
-abbrev pub made_in : ProcessorState → Change → ProcessorState
-made_in q c = puts q (slot_of c) (stands q (slot_of c) +ℤ gain_of c)
-
-abbrev pub unmade_in : ProcessorState → Change → ProcessorState
-unmade_in q c = puts q (slot_of c) (stands q (slot_of c) -ℤ gain_of c)

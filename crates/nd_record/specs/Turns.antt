@@ -3,9 +3,9 @@ use Rattle.std.specs.Prelude.{ℕ, ◌+ℤ◌, List, nat_eq}
 use Rattle.std.specs.List.{filter}
 use Rattle.nd_vertex.specs.Table.{is_zero}
 use Rattle.nd_processor.specs.State.{ProcessorState}
-use Rattle.nd_record.specs.Changes.{gain_of}
+use Rattle.nd_record.specs.Slots.{stands}
+use Rattle.nd_record.specs.Changes.{slot_of, gain_of, own}
 use Rattle.nd_record.specs.Plans.{kind_by}
-use Rattle.nd_record.specs.Slots.{slot_of, stands, own}
 use Rattle.nd_record.specs.declared.change.Change.{Change}
 use Rattle.nd_record.specs.declared.order.Turn.{Turn}
 use Rattle.nd_record.specs.declared.order.Turn.TheVariants.{Comes, Alters, Goes}

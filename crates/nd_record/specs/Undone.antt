@@ -1,28 +1,19 @@
--- Changes undone, and runs of changes over a list of processors.
-use Rattle.std.specs.Prelude.{◌≡◌, ◌-ℤ◌, List, []}
-use Rattle.nd_vertex.specs.Items.{item_key}
+-- Runs of changes that are undone, and runs over a list of processors.
+use Rattle.std.specs.Prelude.{◌≡◌, ◌≤◌, ◌+◌, List, [], unsigned_abs}
+use Rattle.nd_time.specs.Limits.{max_count}
 use Rattle.nd_processor.specs.State.{ProcessorState}
 use Rattle.nd_protocol.specs.State.{ClusterState}
-use Rattle.nd_record.specs.Places.{Place, token_of, item_of}
-use Rattle.nd_record.specs.Standing.{standing, from_epoch, from_number, IsThere, MayStand}
-use Rattle.nd_record.specs.Changes.{place_of, gain_of, NamesNumbers, IsWithinAt, IsRunnable, applied}
+use Rattle.nd_record.specs.Places.{Place}
+use Rattle.nd_record.specs.Standing.{standing, IsWithinAt}
+use Rattle.nd_record.specs.Changes.{IsRunnable, applied}
 use Rattle.nd_record.specs.declared.change.Change.{Change}
-use Rattle.nd_record.specs.declared.change.Change.TheVariants.{Token, State}
+use Rattle.nd_record.specs.declared.change.Change.TheVariants.{Records, Unsent}
 
--- a change that names a new number finds it once it is made
-abbrev pub FindsNew : ClusterState → Change → Type 0
-FindsNew t (Token p vertex old new) = standing t (token_of p vertex) ≡ from_epoch new
-FindsNew t (State p vertex time item old new) = standing t (item_of p vertex (item_key time item)) ≡ from_number new
-FindsNew t _ = Unit {0}
-
--- the change may be undone in this state
-pub record Returns (t : ClusterState) (c : Change) : Type 0 where
-  pub there : IsThere t (place_of c)
-  pub new : FindsNew t c
-  pub numbers : NamesNumbers c
-  pub may : MayStand (place_of c) (standing t (place_of c) -ℤ gain_of c)
-  pub held : IsWithinAt (place_of c) (standing t (place_of c))
-  pub within : IsWithinAt (place_of c) (standing t (place_of c) -ℤ gain_of c)
+-- a sum that leads from one number within the limit to another, so that its negative is an integer too
+abbrev pub CanTurn : Change → Type 0
+CanTurn (Records p edge t value n) = unsigned_abs n ≤ max_count + max_count
+CanTurn (Unsent p point n) = unsigned_abs n ≤ max_count + max_count
+CanTurn _ = Unit {0}
 
 -- all that stands is within its limit
 abbrev pub Limits : ClusterState → Type 0

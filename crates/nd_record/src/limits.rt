@@ -4,7 +4,7 @@ ghost use Rattle.nd_protocol.specs.State.{ClusterState};
 ghost use Rattle.nd_protocol.specs.Enabled.{HasLargeCount, HasLargeEntry};
 ghost use Rattle.nd_protocol.specs.Fitting.{IsWithinLimits};
 ghost use Rattle.nd_record.specs.Plans.{Each, IsSmallGain, ReachesIn};
-ghost use Rattle.nd_record.specs.Slots.{owner_of};
+ghost use Rattle.nd_record.specs.Changes.{owner_of};
 ghost use Rattle.nd_record.specs.Limits.{CountStaysIn, EntryStaysIn, CountStaysOf, EntryStaysOf};
 
 use crate::Change;
@@ -35,9 +35,10 @@ fn count_stays_in<A: Allocator + Copy>(processor: &Processor<A>, change: &Change
             p: _,
             vertex,
             value,
+            add,
         } => {
             let count = processor.sink_count(*vertex, *value);
-            count < COUNT_LIMIT
+            !*add || count < COUNT_LIMIT
         }
         Change::Request { .. }
         | Change::Token { .. }

@@ -1,11 +1,12 @@
-//! Changes made in a processor, and undone.
-ghost use Rattle.std.specs.Prelude.{◌≡◌, ◌≤◌, ◌<◌, ◌≤ℤ◌, ◌+ℤ◌, ◌-ℤ◌, ℤ, pos, length, slice_index_or, unsigned_abs, OnOk, OnErr};
+//! Changes made, and undone by their inverses.
+ghost use Rattle.std.specs.Prelude.{◌≡◌, ◌≤◌, ◌<◌, ◌≤ℤ◌, ◌+ℤ◌, ℤ, pos, length, slice_index_or, unsigned_abs, OnOk, OnErr};
 ghost use Rattle.nd_time.specs.Limits.{max_count};
 ghost use Rattle.nd_processor.specs.State.{idle};
-ghost use Rattle.nd_record.specs.Changes.{place_of, made, unmade, Fits, IsRunnable, applied};
+ghost use Rattle.nd_record.specs.Places.{records_at, unsent_at};
+ghost use Rattle.nd_record.specs.Slots.{stands, puts};
 ghost use Rattle.nd_record.specs.Standing.{standing};
-ghost use Rattle.nd_record.specs.Slots.{records_at, unsent_at, stands, puts, slot_of, owner_of, made_in, unmade_in, FitsIn, ReturnsIn};
-ghost use Rattle.nd_record.specs.Undone.{Returns, Limits, Runs, HasRun, only};
+ghost use Rattle.nd_record.specs.Changes.{owner_of, slot_of, place_of, inverse, made_in, made, FitsIn, Fits, IsRunnable, applied};
+ghost use Rattle.nd_record.specs.Undone.{CanTurn, Limits, Runs, HasRun, only};
 ghost use Rattle.nd_protocol.specs.State.{ClusterState};
 ghost use Rattle.nd_protocol.specs.Steps.{record_key, point_at};
 
@@ -39,29 +40,6 @@ fn more_records<A: Allocator + Copy>(
     }
 }
 
-// So many records less of a key, or more where negative. A key that is there takes no memory.
-fn less_records<A: Allocator + Copy>(
-    processor: &mut Processor<A>,
-    key: &ValueAt,
-    n: i64,
-) -> Result<(), AllocError>
-    requires some { pos 0 ≤ℤ (stands processor.old (records_at key.now) -ℤ n) }
-    requires within { unsigned_abs (stands processor.old (records_at key.now) -ℤ n) ≤ max_count }
-    ensures ok { OnOk result (processor.new ≡ puts processor.old (records_at key.now) (stands processor.old (records_at key.now) -ℤ n)) }
-    ensures err { OnErr result (processor.new ≡ processor.old) }
-    ensures absent { OnErr result (stands processor.old (records_at key.now) ≡ pos 0) }
-{
-    if n > 0 {
-        processor.take_records(key, n.unsigned_abs());
-        return Ok(());
-    }
-    match processor.add_records(key, n.unsigned_abs()) {
-        Ok(()) => Ok(()),
-        Err(CountFault::Memory) => Err(AllocError),
-        Err(CountFault::CountFull) => unreachable!(),
-    }
-}
-
 // So much more at a pointstamp of what is unsent. A pointstamp that has an entry takes no memory.
 fn more_unsent<A: Allocator + Copy>(
     processor: &mut Processor<A>,
@@ -78,21 +56,6 @@ fn more_unsent<A: Allocator + Copy>(
         Err(DeltaFault::Memory) => Err(AllocError),
         Err(DeltaFault::DeltaFull) => unreachable!(),
     }
-}
-
-// So much less at a pointstamp of what is unsent. A pointstamp that has an entry takes no memory.
-fn less_unsent<A: Allocator + Copy>(
-    processor: &mut Processor<A>,
-    point: &Pointstamp,
-    n: i64,
-) -> Result<(), AllocError>
-    requires held { unsigned_abs (stands processor.old (unsent_at point.now)) ≤ max_count }
-    requires within { unsigned_abs (stands processor.old (unsent_at point.now) -ℤ n) ≤ max_count }
-    ensures ok { OnOk result (processor.new ≡ puts processor.old (unsent_at point.now) (stands processor.old (unsent_at point.now) -ℤ n)) }
-    ensures err { OnErr result (processor.new ≡ processor.old) }
-    ensures absent { OnErr result (stands processor.old (unsent_at point.now) ≡ pos 0) }
-{
-    more_unsent(processor, point, -n)
 }
 
 // The record of a value at an edge's pointstamp.
@@ -169,71 +132,22 @@ fn make_in<A: Allocator + Copy>(
             p: _,
             vertex,
             value,
+            add: true,
         } => match processor.add_sink(*vertex, *value, 1) {
             Ok(()) => Ok(()),
             Err(CountFault::Memory) => Err(AllocError),
             Err(CountFault::CountFull) => unreachable!(),
         },
-        Change::Unsent { p: _, point, n } => more_unsent(processor, point, *n),
-    }
-}
-
-// Undoes a change. Where something stands it takes no memory.
-fn undo_in<A: Allocator + Copy>(
-    processor: &mut Processor<A>,
-    change: &Change,
-) -> Result<(), AllocError>
-    requires { ReturnsIn processor.old change.now }
-    ensures ok { OnOk result (processor.new ≡ unmade_in processor.old change.now) }
-    ensures err { OnErr result (processor.new ≡ processor.old) }
-    ensures absent { OnErr result (stands processor.old (slot_of change.now) ≡ pos 0) }
-{
-    match change {
-        Change::Records {
-            p: _,
-            edge,
-            time,
-            value,
-            n,
-        } => less_records(processor, &value_at(*edge, time, *value), *n),
-        Change::Request {
-            p: _,
-            vertex,
-            time,
-            add: true,
-        } => {
-            processor.drop_request(&vertex_point(*vertex, time));
-            Ok(())
-        }
-        Change::Request {
-            p: _,
-            vertex,
-            time,
-            add: false,
-        } => processor.add_request(&vertex_point(*vertex, time)),
-        Change::Token {
-            p: _,
-            vertex,
-            old,
-            new,
-        } => processor.move_token(*vertex, *new, *old),
-        Change::State {
-            p: _,
-            vertex,
-            time,
-            item,
-            old,
-            new,
-        } => processor.set_item(*vertex, time, *item, *new, *old),
         Change::Sink {
             p: _,
             vertex,
             value,
+            add: false,
         } => {
             processor.take_sink(*vertex, *value, 1);
             Ok(())
         }
-        Change::Unsent { p: _, point, n } => less_unsent(processor, point, *n),
+        Change::Unsent { p: _, point, n } => more_unsent(processor, point, *n),
     }
 }
 
@@ -278,18 +192,18 @@ fn make<A: Allocator + Copy>(
     make_in(processor, change)
 }
 
-// Undoes a change in one of the processors. Where something stands it takes no memory.
+// Undoes a change in one of the processors: makes its inverse. Where something stands it takes no memory.
 fn undo<A: Allocator + Copy>(
     processors: &mut Vec<Processor<A>, A>,
     change: &Change,
 ) -> Result<(), AllocError>
-    requires { Returns (only processors.old.items) change.now }
-    ensures ok { OnOk result (only processors.new.items ≡ unmade (only processors.old.items) change.now) }
+    requires fits { Fits (only processors.old.items) (inverse change.now) }
+    requires turns { CanTurn change.now }
+    ensures ok { OnOk result (only processors.new.items ≡ made (only processors.old.items) (inverse change.now)) }
     ensures err { OnErr result (processors.new.items ≡ processors.old.items) }
-    ensures absent { OnErr result (standing (only processors.old.items) (place_of change.now) ≡ pos 0) }
+    ensures absent { OnErr result (standing (only processors.old.items) (place_of (inverse change.now)) ≡ pos 0) }
 {
-    let processor = &mut processors[change.owner()];
-    undo_in(processor, change)
+    make(processors, &change.inverse())
 }
 
 // Makes changes, one after the other. What a refused growth interrupts is taken back by removals.

@@ -4,9 +4,8 @@ ghost use Rattle.nd_time.specs.Limits.{max_count};
 ghost use Rattle.nd_protocol.specs.State.{ClusterState};
 ghost use Rattle.nd_protocol.specs.Fitting.{IsWithinLimits};
 ghost use Rattle.nd_vertex.specs.Table.{is_zero};
-ghost use Rattle.nd_record.specs.Changes.{NamesNumbers};
+ghost use Rattle.nd_record.specs.Changes.{NamesNumbers, owner_of, own, FindsIn};
 ghost use Rattle.nd_record.specs.Plans.{Each, ReachesIn, LeadsTo, kind_by};
-ghost use Rattle.nd_record.specs.Slots.{owner_of, own, Replaces};
 ghost use Rattle.nd_record.specs.Turns.{number_of, kind_in, kind_of, of_turn};
 
 use crate::Change;
@@ -62,7 +61,7 @@ impl Turn {
 
 // The turn of a change in a processor.
 fn turn_in<A: Allocator + Copy>(processor: &Processor<A>, change: &Change) -> Turn
-    requires old { Replaces processor.now change.now }
+    requires old { FindsIn processor.now change.now }
     requires numbers { NamesNumbers change.now }
     ensures { number_of result ≡ kind_in processor.now change.now }
 {
@@ -113,7 +112,11 @@ fn turn_in<A: Allocator + Copy>(processor: &Processor<A>, change: &Change) -> Tu
             p: _,
             vertex,
             value,
-        } => Turn::by_gain(processor.sink_count(*vertex, *value) as i64, 1),
+            add,
+        } => {
+            let gain = if *add { 1 } else { -1 };
+            Turn::by_gain(processor.sink_count(*vertex, *value) as i64, gain)
+        }
         Change::Unsent { p: _, point, n } => Turn::by_gain(processor.unsent().get(point), *n),
     }
 }
@@ -122,7 +125,7 @@ fn turn_in<A: Allocator + Copy>(processor: &Processor<A>, change: &Change) -> Tu
 #[tactic(auto, unfolding(crate::specs::Turns::kind_of))]
 fn turn_of<A: Allocator + Copy>(processors: &[Processor<A>], change: &Change) -> Turn
     requires there { owner_of change.now < length processors.now }
-    requires old { Replaces (own processors.now change.now) change.now }
+    requires old { FindsIn (own processors.now change.now) change.now }
     requires numbers { NamesNumbers change.now }
     ensures { number_of result ≡ kind_of processors.now change.now }
 {
@@ -137,7 +140,7 @@ fn gather<A: Allocator + Copy>(
     to: &mut Vec<Change, A>,
 ) -> Result<(), AllocError>
     requires there { Each (λ c. owner_of c < length processors.now) from.now }
-    requires old { Each (λ c. Replaces (own processors.now c) c) from.now }
+    requires old { Each (λ c. FindsIn (own processors.now c) c) from.now }
     requires numbers { Each NamesNumbers from.now }
     ensures { OnOk result (to.new.items ≡ to.old.items ++ of_turn processors.now (number_of turn) from.now) }
 {

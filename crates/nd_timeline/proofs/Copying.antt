@@ -1,13 +1,14 @@
 -- Copies of records: they promise what the records do.
-use Rattle.std.proofs.Common.{◌≡◌, ◌<◌, ℕ, zero, suc, List, [], ◌∷◌, ◌++◌, length, take, get_or, refl, sym, ap, subst, ◌∙◌, arith}
-use Rattle.nd_delta.specs.Change.{Change as Delta}
+use Rattle.std.proofs.Common.{◌≡◌, ◌<◌, ◌+◌, ℕ, zero, suc, List, [], ◌∷◌, ◌++◌, length, take, get_or, refl, sym, ap, subst, ◌∙◌, arith}
+use Rattle.nd_delta.specs.Change.{Change as Delta, size}
 use Rattle.nd_protocol.specs.State.{ClusterState}
 use Rattle.nd_protocol.specs.Steps.{after, stepped}
 use Rattle.nd_protocol.specs.Enabled.{IsEnabled}
 use Rattle.nd_protocol.specs.declared.step.Step.{Step}
 use Rattle.nd_record.specs.Changes.{IsRunnable, applied}
-use Rattle.nd_record.specs.Records.{AreEqual, Sends, Receives, Makes}
-use Rattle.nd_cluster.specs.Records.{IsPlanned}
+use Rattle.nd_record.specs.Standing.{changed}
+use Rattle.nd_record.specs.Records.{named, AreEqual, Sends, Receives, Makes}
+use Rattle.nd_cluster.specs.Records.{shared, IsPlanned}
 use Rattle.nd_record.specs.declared.change.Change.{Change}
 use Rattle.nd_record.specs.declared.record.Changes.{Changes}
 use Rattle.nd_record.specs.declared.record.Changes.TheVariants.{Each, Sent, Received}
@@ -29,6 +30,18 @@ module _ {A : Type 0} where
   makes s t (Received from to c) (Each ds) is h = absurd is
   makes s t (Received from to c) (Sent q d) is h = absurd is
 
+  -- they name as many keys
+  same_named : (cs ds : Changes A) → AreEqual cs ds → named ds ≡ named cs
+  same_named (Each cs) (Each ds) is = ap (λ (xs : List Change). length xs) is
+  same_named (Sent p c) (Sent q d) is = ap (λ (d : Delta). size d + 1) is.1
+  same_named (Received from to c) (Received k l d) is = ap (λ (d : Delta). size d + 1) is.2
+  same_named (Each cs) (Sent q d) is = absurd is
+  same_named (Each cs) (Received k l d) is = absurd is
+  same_named (Sent p c) (Each ds) is = absurd is
+  same_named (Sent p c) (Received k l d) is = absurd is
+  same_named (Received from to c) (Each ds) is = absurd is
+  same_named (Received from to c) (Sent q d) is = absurd is
+
   -- a copy was planned where the record was
   planned_copy : (s : ClusterState) (r q : Record A) → IsCopy r q → IsPlanned r s → IsPlanned q s
   planned_copy s r q is h =
@@ -37,6 +50,7 @@ module _ {A : Type 0} where
         state = h.state;
         enabled = subst (λ (x : Step A). IsEnabled s x) same h.enabled;
         makes = subst (λ (x : Step A). Makes s q.changes (stepped s x)) same (makes s (stepped s r.step) r.changes q.changes is.1 h.makes);
+        small = ap (λ n. n + shared s q.step) (same_named r.changes q.changes is.1) ∙ subst (λ (x : Step A). named r.changes + shared s x ≡ changed s (stepped s x)) same h.small;
       }
 
   planned_copies : (s : ClusterState) (rs qs : List (Record A)) → AreCopies rs qs → ArePlanned s rs → ArePlanned s qs

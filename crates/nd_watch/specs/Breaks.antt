@@ -5,6 +5,7 @@ use Rattle.std.specs.Coded.{Coded, code_by, coded×, coded⊎, coded_ℕ, coded_
 use Rattle.std.specs.Ordering.{nat_cmp}
 use Rattle.std.specs.FinMap as fin
 use Rattle.nd_time.specs.Limits.{max_breaks}
+use Rattle.nd_graph.specs.Graph.{location_count}
 use Rattle.nd_paths.specs.Point.{point_code}
 use Rattle.nd_paths.specs.declared.point.Pointstamp.{Pointstamp}
 use Rattle.nd_delta.specs.Change.{at}
@@ -14,10 +15,10 @@ use Rattle.nd_cluster.specs.Sinks.{sunk}
 use Rattle.nd_watch.specs.declared.watch.Break.{Break}
 use Rattle.nd_watch.specs.declared.watch.Break.TheVariants.{Passed, Count, Queue, Sink}
 
--- a breakpoint holds of a cluster: the processors and the vertex that it names are there, and its condition is met
+-- a breakpoint holds of a cluster: the processors, the vertex or the location that it names are there, and its condition is met
 abbrev pub Holds : ClusterState → Break → Type 0
-Holds s (Passed q point) = (q < length s.processors) × IsPassed s.graph (view s q) point
-Holds s (Count point at_least) = pos at_least ≤ℤ at (truth s.processors) point
+Holds s (Passed q point) = (q < length s.processors) × (point.location < location_count s.graph) × IsPassed s.graph (view s q) point
+Holds s (Count point at_least) = (point.location < location_count s.graph) × (pos at_least ≤ℤ at (truth s.processors) point)
 Holds s (Queue from to at_least) = (from < length s.processors) × (to < length s.processors) × (at_least ≤ length (queue s from to))
 Holds s (Sink vertex value at_least) = (vertex < length s.graph.vertices) × (at_least ≤ sunk s.processors vertex value)
 

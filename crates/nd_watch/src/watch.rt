@@ -1,5 +1,6 @@
 //! A breakpoint.
-ghost use Rattle.std.specs.Prelude.{◌≡◌, ◌≢◌, ◌↔◌, IsTrue, MatchBool};
+ghost use Rattle.std.specs.Prelude.{◌≡◌, ◌≢◌, ◌↔◌, ◌<◌, IsTrue, MatchBool};
+ghost use Rattle.nd_graph.specs.Graph.{location_count};
 ghost use Rattle.nd_watch.specs.Breaks.{Holds};
 
 use nd_cluster::Cluster;
@@ -8,7 +9,7 @@ use std::alloc::Allocator;
 
 /// A condition on a cluster.
 ///
-/// One that names a processor or a vertex that is not there never holds.
+/// One that names a processor, a vertex or a location that is not there never holds.
 #[derive(Drop)]
 pub enum Break {
     /// The view of processor q has passed a pointstamp.
@@ -35,6 +36,13 @@ pub enum Break {
     },
 }
 
+// Whether the graph has the location of a pointstamp.
+fn has_place<A: Allocator + Copy>(cluster: &Cluster<A>, point: &Pointstamp) -> bool
+    ensures { IsTrue result ↔ (point.now.location < location_count cluster.now.graph) }
+{
+    point.location < cluster.graph().location_count()
+}
+
 impl Break {
     /// Whether the condition holds.
     pub fn holds<A: Allocator + Copy>(&self, cluster: &Cluster<A>) -> bool
@@ -43,9 +51,11 @@ impl Break {
         match self {
             Break::Passed { q, point } => {
                 let q = *q as usize;
-                q < cluster.n() && cluster.passed(q, point)
+                q < cluster.n() && has_place(cluster, point) && cluster.passed(q, point)
             }
-            Break::Count { point, at_least } => u128::from(*at_least) <= cluster.count(point),
+            Break::Count { point, at_least } => {
+                has_place(cluster, point) && u128::from(*at_least) <= cluster.count(point)
+            }
             Break::Queue { from, to, at_least } => {
                 let from = *from as usize;
                 let to = *to as usize;

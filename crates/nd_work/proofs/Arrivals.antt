@@ -13,7 +13,7 @@ use Rattle.nd_processor.specs.Held.{held-added}
 use Rattle.nd_processor.specs.declared.key.ValueAt.{ValueAt}
 use Rattle.nd_protocol.specs.Steps.{with_record, with_records}
 use Rattle.nd_protocol.specs.Truth.{count, count-set}
-use Rattle.nd_record.specs.Places.{Place, record_of, unsent_of}
+use Rattle.nd_record.specs.Places.{Place, place_at, records_at, unsent_at}
 use Rattle.nd_record.specs.Edits.{total_at}
 use Rattle.nd_work.specs.Edits.{come_edits}
 use Rattle.nd_record.specs.Alike.{is_place, other_place, record-test, unsent-test}
@@ -27,7 +27,7 @@ AreTo n (r ∷ rs) = (r.0 < n) × AreTo n rs
 -- how many come to a key of processor q, and how many to a pointstamp
 abbrev pub comes : List (ℕ × ValueAt) → ℕ → ValueAt → ℕ
 comes [] q key = 0
-comes (r ∷ rs) q key = cond (is_place (record_of q key) (record_of r.0 r.1)) 1 0 + comes rs q key
+comes (r ∷ rs) q key = cond (is_place (place_at q (records_at key)) (place_at r.0 (records_at r.1))) 1 0 + comes rs q key
 
 abbrev pub arrives : List (ℕ × ValueAt) → Pointstamp → ℕ
 arrives [] x = 0
@@ -39,33 +39,33 @@ one_place : (b : Bool) (n : ℕ) (t : ℤ) → t ≡ pos n → cond b (pos 1) (p
 one_place true n t e = omega (arith, ints)
 one_place false n t e = omega (arith, ints)
 
-come_records : (rs : List (ℕ × ValueAt)) (q : ℕ) (key : ValueAt) → total_at (map (λ r. (record_of r.0 r.1, pos 1)) rs) (record_of q key) ≡ pos (comes rs q key)
+come_records : (rs : List (ℕ × ValueAt)) (q : ℕ) (key : ValueAt) → total_at (map (λ r. (place_at r.0 (records_at r.1), pos 1)) rs) (place_at q (records_at key)) ≡ pos (comes rs q key)
 come_records [] q key = refl
-come_records (r ∷ rs) q key = one_place (is_place (record_of q key) (record_of r.0 r.1)) (comes rs q key) _ (come_records rs q key)
+come_records (r ∷ rs) q key = one_place (is_place (place_at q (records_at key)) (place_at r.0 (records_at r.1))) (comes rs q key) _ (come_records rs q key)
 
-come_unsent : (p : ℕ) (rs : List (ℕ × ValueAt)) (x : Pointstamp) → total_at (map (λ r. (unsent_of p r.1.point, pos 1)) rs) (unsent_of p x) ≡ pos (arrives rs x)
+come_unsent : (p : ℕ) (rs : List (ℕ × ValueAt)) (x : Pointstamp) → total_at (map (λ r. (place_at p (unsent_at r.1.point), pos 1)) rs) (place_at p (unsent_at x)) ≡ pos (arrives rs x)
 come_unsent p [] x = refl
 come_unsent p (r ∷ rs) x =
-    ap (λ b. cond b (pos 1) (pos 0) +ℤ total_at (map (λ r. (unsent_of p r.1.point, pos 1)) rs) (unsent_of p x)) (unsent-test p x r.1.point)
+    ap (λ b. cond b (pos 1) (pos 0) +ℤ total_at (map (λ r. (place_at p (unsent_at r.1.point), pos 1)) rs) (place_at p (unsent_at x))) (unsent-test p x r.1.point)
     ∙ one_place (is_point x r.1.point) (arrives rs x) _ (come_unsent p rs x)
 
 module _ (p : ℕ) (rs : List (ℕ × ValueAt)) where
-  both : (k : Place) (a b : ℤ) → total_at (map (λ r. (record_of r.0 r.1, pos 1)) rs) k ≡ a → total_at (map (λ r. (unsent_of p r.1.point, pos 1)) rs) k ≡ b → total_at (come_edits p rs) k ≡ a +ℤ b
-  both k a b e f = total_at-append (map (λ r. (record_of r.0 r.1, pos 1)) rs) (map (λ r. (unsent_of p r.1.point, pos 1)) rs) k ∙ (λ i. e i +ℤ f i)
+  both : (k : Place) (a b : ℤ) → total_at (map (λ r. (place_at r.0 (records_at r.1), pos 1)) rs) k ≡ a → total_at (map (λ r. (place_at p (unsent_at r.1.point), pos 1)) rs) k ≡ b → total_at (come_edits p rs) k ≡ a +ℤ b
+  both k a b e f = total_at-append (map (λ r. (place_at r.0 (records_at r.1), pos 1)) rs) (map (λ r. (place_at p (unsent_at r.1.point), pos 1)) rs) k ∙ (λ i. e i +ℤ f i)
 
-  no_record : (k : Place) → ((r : ℕ × ValueAt) → is_place k (record_of r.0 r.1) ≡ false) → total_at (map (λ r. (record_of r.0 r.1, pos 1)) rs) k ≡ pos 0
-  no_record k apart = total_at-map_apart (λ (r : ℕ × ValueAt). record_of r.0 r.1) (λ r. pos 1) k apart rs
+  no_record : (k : Place) → ((r : ℕ × ValueAt) → is_place k (place_at r.0 (records_at r.1)) ≡ false) → total_at (map (λ r. (place_at r.0 (records_at r.1), pos 1)) rs) k ≡ pos 0
+  no_record k apart = total_at-map_apart (λ (r : ℕ × ValueAt). place_at r.0 (records_at r.1)) (λ r. pos 1) k apart rs
 
-  no_unsent : (k : Place) → ((r : ℕ × ValueAt) → is_place k (unsent_of p r.1.point) ≡ false) → total_at (map (λ r. (unsent_of p r.1.point, pos 1)) rs) k ≡ pos 0
-  no_unsent k apart = total_at-map_apart (λ (r : ℕ × ValueAt). unsent_of p r.1.point) (λ r. pos 1) k apart rs
+  no_unsent : (k : Place) → ((r : ℕ × ValueAt) → is_place k (place_at p (unsent_at r.1.point)) ≡ false) → total_at (map (λ r. (place_at p (unsent_at r.1.point), pos 1)) rs) k ≡ pos 0
+  no_unsent k apart = total_at-map_apart (λ (r : ℕ × ValueAt). place_at p (unsent_at r.1.point)) (λ r. pos 1) k apart rs
 
-  pub come-record : (q : ℕ) (key : ValueAt) → total_at (come_edits p rs) (record_of q key) ≡ pos (comes rs q key)
-  come-record q key = both (record_of q key) (pos (comes rs q key)) (pos 0) (come_records rs q key) (no_unsent (record_of q key) (λ r. refl)) ∙ omega (arith, ints)
+  pub come-record : (q : ℕ) (key : ValueAt) → total_at (come_edits p rs) (place_at q (records_at key)) ≡ pos (comes rs q key)
+  come-record q key = both (place_at q (records_at key)) (pos (comes rs q key)) (pos 0) (come_records rs q key) (no_unsent (place_at q (records_at key)) (λ r. refl)) ∙ omega (arith, ints)
 
-  pub come-unsent : (x : Pointstamp) → total_at (come_edits p rs) (unsent_of p x) ≡ pos (arrives rs x)
-  come-unsent x = both (unsent_of p x) (pos 0) (pos (arrives rs x)) (no_record (unsent_of p x) (λ r. refl)) (come_unsent p rs x) ∙ omega (arith, ints)
+  pub come-unsent : (x : Pointstamp) → total_at (come_edits p rs) (place_at p (unsent_at x)) ≡ pos (arrives rs x)
+  come-unsent x = both (place_at p (unsent_at x)) (pos 0) (pos (arrives rs x)) (no_record (place_at p (unsent_at x)) (λ r. refl)) (come_unsent p rs x) ∙ omega (arith, ints)
 
-  pub come-apart : (k : Place) → ((r : ℕ × ValueAt) → is_place k (record_of r.0 r.1) ≡ false) → ((r : ℕ × ValueAt) → is_place k (unsent_of p r.1.point) ≡ false) → total_at (come_edits p rs) k ≡ pos 0
+  pub come-apart : (k : Place) → ((r : ℕ × ValueAt) → is_place k (place_at r.0 (records_at r.1)) ≡ false) → ((r : ℕ × ValueAt) → is_place k (place_at p (unsent_at r.1.point)) ≡ false) → total_at (come_edits p rs) k ≡ pos 0
   come-apart k e f = both k (pos 0) (pos 0) (no_record k e) (no_unsent k f)
 
 -- ---- the processors with them
@@ -90,18 +90,18 @@ abbrev number : List ProcessorState → ℕ → ValueAt → ℕ
 number qs q key = number_at (slice_index_or qs q idle).records key
 
 one_comes : (qs : List ProcessorState) (r : ℕ × ValueAt) → r.0 < length qs → (q : ℕ) (key : ValueAt)
-    → number (with_record qs r) q key ≡ number qs q key + cond (is_place (record_of q key) (record_of r.0 r.1)) 1 0
+    → number (with_record qs r) q key ≡ number qs q key + cond (is_place (place_at q (records_at key)) (place_at r.0 (records_at r.1))) 1 0
 one_comes qs r lt q key =
     let w : ProcessorState = slice_index_or qs r.0 idle in
     let m : Counts value_at_cmp naturals = added value_at_total w.records r.1 (pos 1) in
     elim (decided q r.0) [
-      | inl e ↦ subst (λ i. number (with_record qs r) i key ≡ number qs i key + cond (is_place (record_of i key) (record_of r.0 r.1)) 1 0) (sym e)
+      | inl e ↦ subst (λ i. number (with_record qs r) i key ≡ number qs i key + cond (is_place (place_at i (records_at key)) (place_at r.0 (records_at r.1))) 1 0) (sym e)
           (ap (λ (v : ProcessorState). number_at v.records key) (get_or-set_same qs r.0 (record w { records = m }) idle lt)
           ∙ number-added w.records r.1 key ∙ ap (λ b. number qs r.0 key + cond b 1 0) (sym (record-test r.0 key r.1)))
       | inr apart ↦
           ap (λ (v : ProcessorState). number_at v.records key) (get_or-set_other qs r.0 q (record w { records = m }) idle apart)
           ∙ (let z : number qs q key ≡ number qs q key + 0 = omega arith in z)
-          ∙ ap (λ b. number qs q key + cond b 1 0) (sym (other_place (record_of q key) (record_of r.0 r.1) (λ e. apart_of q r.0 apart (ap owner e))))
+          ∙ ap (λ b. number qs q key + cond b 1 0) (sym (other_place (place_at q (records_at key)) (place_at r.0 (records_at r.1)) (λ e. apart_of q r.0 apart (ap owner e))))
     ]
 
 pub records-come : (qs : List ProcessorState) (rs : List (ℕ × ValueAt)) → AreTo (length qs) rs → (q : ℕ) (key : ValueAt)

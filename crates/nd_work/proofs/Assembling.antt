@@ -1,5 +1,5 @@
 -- The joined list of a draft reaches the state after the step.
-use Rattle.std.proofs.Common.{◌≡◌, ℤ, ◌+ℤ◌, sym, ap, ◌∙◌}
+use Rattle.std.proofs.Common.{◌+ℤ◌, sym, ap, ◌∙◌}
 use Rattle.nd_protocol.specs.State.{ClusterState}
 use Rattle.nd_protocol.specs.Steps.{stepped}
 use Rattle.nd_protocol.specs.Fitting.{IsState}

@@ -14,8 +14,8 @@ use Rattle.nd_protocol.specs.Steps.{made_on, emitted, epoch_of, flat}
 use Rattle.nd_protocol.specs.declared.step.Next.{Next as Afterwards}
 use Rattle.nd_protocol.specs.declared.step.Next.TheVariants as token
 use Rattle.nd_protocol.specs.declared.step.Step.TheVariants.{Feed}
-use Rattle.nd_record.specs.Places.{place_cmp, token_of, unsent_of}
-use Rattle.nd_record.specs.Standing.{from_epoch}
+use Rattle.nd_record.specs.Places.{place_cmp, place_at, token_at, unsent_at}
+use Rattle.nd_record.specs.Slots.{from_epoch}
 use Rattle.nd_record.specs.Changes.{place_of}
 use Rattle.nd_work.specs.Edits.{token_edits, come, come_edits}
 use Rattle.nd_record.specs.Plans.{Once}
@@ -44,7 +44,7 @@ module _ (s : ClusterState) (p vertex epoch : ℕ) (held : fin.get (processor s 
 
   -- the token's move alone
   pub token_pushed : {A : Type 0} (d f : Draft A) → AddsUp s [] d → d.singles.items ≡ [] → f.singles.items ≡ d.singles.items ++ Token p vertex (Some epoch) new ∷ [] → f.sums ≡ d.sums
-      → AddsUp s ((token_of p vertex, from_epoch new -ℤ pos (epoch + 1)) ∷ []) f
+      → AddsUp s ((place_at p (token_at vertex), from_epoch new -ℤ pos (epoch + 1)) ∷ []) f
   token_pushed d f adds none singles sums =
       let c = Token p vertex (Some epoch) new in
       pushed s [] d adds f (c ∷ []) (token_sound, tt) (subst Once (ap (λ cs. cs ++ c ∷ []) (sym none)) (one_once c)) singles sums
@@ -61,19 +61,19 @@ later epoch e = absurd (omega (arith, ap (λ o. unwrap_or o 0) e))
 -- the drafts of a token's moves: d, then with the change of the token, then with what is unsent
 module _ {A : Type 0} (s : ClusterState) (p vertex epoch : ℕ) (held : fin.get (processor s p).tokens vertex ≡ Some epoch) (d f : Draft A) (adds : AddsUp s [] d) (none : d.singles.items ≡ []) (performer : d.sums.p ≡ p) where
   pub closed_adds : f.singles.items ≡ d.singles.items ++ Token p vertex (Some epoch) None ∷ [] → f.sums ≡ d.sums
-      → (point : Pointstamp) → point ≡ token_point vertex epoch → (h : Draft A) → Follows f ((unsent_of f.sums.p point, negsuc 0) ∷ []) h → AddsUp s (token_edits p vertex epoch token.Close) h
+      → (point : Pointstamp) → point ≡ token_point vertex epoch → (h : Draft A) → Follows f ((place_at f.sums.p (unsent_at point), negsuc 0) ∷ []) h → AddsUp s (token_edits p vertex epoch token.Close) h
   closed_adds singles sums point at h follows =
       let same : f.sums.p ≡ p = ap (λ (x : Sums A). x.p) sums ∙ performer in
-      subst (λ es. AddsUp s es h) (λ i. (token_of p vertex, close_gain epoch i) ∷ (unsent_of (same i) (at i), negsuc 0) ∷ [])
+      subst (λ es. AddsUp s es h) (λ i. (place_at p (token_at vertex), close_gain epoch i) ∷ (place_at (same i) (unsent_at (at i)), negsuc 0) ∷ [])
       (follows.adds s _ (token_pushed s p vertex epoch held None (λ e. cc) d f adds none singles sums))
 
   pub next_adds : f.singles.items ≡ d.singles.items ++ Token p vertex (Some epoch) (Some (epoch + 1)) ∷ [] → f.sums ≡ d.sums
-      → (point : Pointstamp) → point ≡ token_point vertex epoch → (h : Draft A) → Follows f ((unsent_of f.sums.p point, negsuc 0) ∷ []) h
-      → (next : Pointstamp) → next ≡ token_point vertex (epoch + 1) → (j : Draft A) → Follows h ((unsent_of h.sums.p next, pos 1) ∷ []) j → AddsUp s (token_edits p vertex epoch token.Next) j
+      → (point : Pointstamp) → point ≡ token_point vertex epoch → (h : Draft A) → Follows f ((place_at f.sums.p (unsent_at point), negsuc 0) ∷ []) h
+      → (next : Pointstamp) → next ≡ token_point vertex (epoch + 1) → (j : Draft A) → Follows h ((place_at h.sums.p (unsent_at next), pos 1) ∷ []) j → AddsUp s (token_edits p vertex epoch token.Next) j
   next_adds singles sums point at h follows next at_next j then =
       let same : f.sums.p ≡ p = ap (λ (x : Sums A). x.p) sums ∙ performer in
       let same_then : h.sums.p ≡ p = follows.p ∙ same in
-      subst (λ es. AddsUp s es j) (λ i. (token_of p vertex, next_gain epoch i) ∷ (unsent_of (same i) (at i), negsuc 0) ∷ (unsent_of (same_then i) (at_next i), pos 1) ∷ [])
+      subst (λ es. AddsUp s es j) (λ i. (place_at p (token_at vertex), next_gain epoch i) ∷ (place_at (same i) (unsent_at (at i)), negsuc 0) ∷ (place_at (same_then i) (unsent_at (at_next i)), pos 1) ∷ [])
       (then.adds s _ (follows.adds s _ (token_pushed s p vertex epoch held (Some (epoch + 1)) (later epoch) d f adds none singles sums)))
 
 -- the records of a feed are those that come

@@ -16,8 +16,8 @@ use Rattle.nd_protocol.specs.declared.refusal.Refusal.TheVariants.{NoProcessor, 
 use Rattle.nd_protocol.specs.declared.step.Step.TheVariants.{Feed}
 use Rattle.nd_protocol.specs.declared.step.Next.{Next as Afterwards}
 use Rattle.nd_protocol.specs.declared.step.Next.TheVariants as token
-use Rattle.nd_record.specs.Places.{Place, record_of, request_of, token_of, item_of, sink_of, unsent_of}
-use Rattle.nd_record.specs.Standing.{from_epoch}
+use Rattle.nd_record.specs.Places.{Place, place_at, records_at, request_at, token_at as token_slot, item_at, sink_at, unsent_at}
+use Rattle.nd_record.specs.Slots.{from_epoch}
 use Rattle.nd_record.specs.Edits.{Edit, total_at}
 use Rattle.nd_work.specs.Edits.{token_edits}
 use Rattle.nd_record.specs.Alike.{is_place, token-test, unsent-test}
@@ -39,13 +39,13 @@ more_by_test : (b : Bool) (t : ℤ) → cond b (pos 1) (pos 0) +ℤ t ≡ pos (c
 more_by_test true t = refl
 more_by_test false t = refl
 
-pub one_more : (p : ℕ) (y x : Pointstamp) (es : List Edit) → total_at ((unsent_of p y, pos 1) ∷ es) (unsent_of p x) ≡ pos (one_at y x) +ℤ total_at es (unsent_of p x)
-one_more p y x es = ap (λ b. cond b (pos 1) (pos 0) +ℤ total_at es (unsent_of p x)) (unsent-test p x y) ∙ more_by_test (is_point x y) (total_at es (unsent_of p x))
+pub one_more : (p : ℕ) (y x : Pointstamp) (es : List Edit) → total_at ((place_at p (unsent_at y), pos 1) ∷ es) (place_at p (unsent_at x)) ≡ pos (one_at y x) +ℤ total_at es (place_at p (unsent_at x))
+one_more p y x es = ap (λ b. cond b (pos 1) (pos 0) +ℤ total_at es (place_at p (unsent_at x))) (unsent-test p x y) ∙ more_by_test (is_point x y) (total_at es (place_at p (unsent_at x)))
 
-pub one_less : (p : ℕ) (y x : Pointstamp) (es : List Edit) → total_at ((unsent_of p y, negsuc 0) ∷ es) (unsent_of p x) +ℤ pos (one_at y x) ≡ total_at es (unsent_of p x)
+pub one_less : (p : ℕ) (y x : Pointstamp) (es : List Edit) → total_at ((place_at p (unsent_at y), negsuc 0) ∷ es) (place_at p (unsent_at x)) +ℤ pos (one_at y x) ≡ total_at es (place_at p (unsent_at x))
 one_less p y x es =
-    ap (λ b. cond b (negsuc 0) (pos 0) +ℤ total_at es (unsent_of p x) +ℤ pos (one_at y x)) (unsent-test p x y)
-    ∙ by_test (is_point x y) (negsuc 0) (total_at es (unsent_of p x)) 1 (omega (arith, ints))
+    ap (λ b. cond b (negsuc 0) (pos 0) +ℤ total_at es (place_at p (unsent_at x)) +ℤ pos (one_at y x)) (unsent-test p x y)
+    ∙ by_test (is_point x y) (negsuc 0) (total_at es (place_at p (unsent_at x))) 1 (omega (arith, ints))
 
 -- ---- the token
 
@@ -71,7 +71,7 @@ module _ (p : ℕ) (q : ProcessorState) (vertex epoch : ℕ) (found : fin.get q.
   abbrev own : Afterwards → List Edit
   own next = token_edits p vertex epoch next
 
-  tokens_move : (next : Afterwards) (v : ℕ) → from_epoch (fin.get (after next).tokens v) ≡ from_epoch (fin.get q.tokens v) +ℤ total_at (own next) (token_of p v)
+  tokens_move : (next : Afterwards) (v : ℕ) → from_epoch (fin.get (after next).tokens v) ≡ from_epoch (fin.get q.tokens v) +ℤ total_at (own next) (place_at p (token_slot v))
   tokens_move token.Next v =
       ap from_epoch (fin.get-insert nat_cmp_total q.tokens vertex (epoch + 1) v)
       ∙ token_on (eq_by_cmp nat_cmp v vertex) (fin.get q.tokens v) epoch (pos 0) (found_at v) refl
@@ -85,27 +85,27 @@ module _ (p : ℕ) (q : ProcessorState) (vertex epoch : ℕ) (found : fin.get q.
   token_was : (x : Pointstamp) → token_at vertex (fin.get q.tokens vertex) x ≡ one_at (token_point vertex epoch) x
   token_was x = ap (λ (o : Option ℕ). token_at vertex o x) found
 
-  outstanding_moves : (next : Afterwards) (x : Pointstamp) → pos (held (after next) x) ≡ pos (held q x) +ℤ total_at (own next) (unsent_of p x)
+  outstanding_moves : (next : Afterwards) (x : Pointstamp) → pos (held (after next) x) ≡ pos (held q x) +ℤ total_at (own next) (place_at p (unsent_at x))
   outstanding_moves token.Next x =
       let a : held (after token.Next) x + token_at vertex (fin.get q.tokens vertex) x ≡ held q x + one_at (token_point vertex (epoch + 1)) x = held-token q vertex (epoch + 1) x in
       let b = token_was x in
-      let rest : List Edit = (unsent_of p (token_point vertex (epoch + 1)), pos 1) ∷ [] in
-      let c : total_at ((unsent_of p (token_point vertex epoch), negsuc 0) ∷ rest) (unsent_of p x) +ℤ pos (one_at (token_point vertex epoch) x) ≡ total_at rest (unsent_of p x)
+      let rest : List Edit = (place_at p (unsent_at (token_point vertex (epoch + 1))), pos 1) ∷ [] in
+      let c : total_at ((place_at p (unsent_at (token_point vertex epoch)), negsuc 0) ∷ rest) (place_at p (unsent_at x)) +ℤ pos (one_at (token_point vertex epoch) x) ≡ total_at rest (place_at p (unsent_at x))
       = one_less p (token_point vertex epoch) x rest in
-      let d : total_at rest (unsent_of p x) ≡ pos (one_at (token_point vertex (epoch + 1)) x) +ℤ pos 0 = one_more p (token_point vertex (epoch + 1)) x [] in
-      let e : total_at (own token.Next) (unsent_of p x) ≡ pos 0 +ℤ total_at ((unsent_of p (token_point vertex epoch), negsuc 0) ∷ rest) (unsent_of p x) = refl in
+      let d : total_at rest (place_at p (unsent_at x)) ≡ pos (one_at (token_point vertex (epoch + 1)) x) +ℤ pos 0 = one_more p (token_point vertex (epoch + 1)) x [] in
+      let e : total_at (own token.Next) (place_at p (unsent_at x)) ≡ pos 0 +ℤ total_at ((place_at p (unsent_at (token_point vertex epoch)), negsuc 0) ∷ rest) (place_at p (unsent_at x)) = refl in
       omega (arith, ints)
   outstanding_moves token.Close x =
       let a : held (after token.Close) x + token_at vertex (fin.get q.tokens vertex) x ≡ held q x = held-closed q vertex x in
       let b = token_was x in
-      let c : total_at ((unsent_of p (token_point vertex epoch), negsuc 0) ∷ []) (unsent_of p x) +ℤ pos (one_at (token_point vertex epoch) x) ≡ pos 0
+      let c : total_at ((place_at p (unsent_at (token_point vertex epoch)), negsuc 0) ∷ []) (place_at p (unsent_at x)) +ℤ pos (one_at (token_point vertex epoch) x) ≡ pos 0
       = one_less p (token_point vertex epoch) x [] in
-      let e : total_at (own token.Close) (unsent_of p x) ≡ pos 0 +ℤ total_at ((unsent_of p (token_point vertex epoch), negsuc 0) ∷ []) (unsent_of p x) = refl in
+      let e : total_at (own token.Close) (place_at p (unsent_at x)) ≡ pos 0 +ℤ total_at ((place_at p (unsent_at (token_point vertex epoch)), negsuc 0) ∷ []) (place_at p (unsent_at x)) = refl in
       omega (arith, ints)
   outstanding_moves token.Stay x = nothing_more (pos (held q x)) (pos 0) refl
 
   -- at places of other kinds there is nothing more
-  record_total : (next : Afterwards) (k : Place) → ((v : ℕ) → is_place k (token_of p v) ≡ false) → ((x : Pointstamp) → is_place k (unsent_of p x) ≡ false) → total_at (own next) k ≡ pos 0
+  record_total : (next : Afterwards) (k : Place) → ((v : ℕ) → is_place k (place_at p (token_slot v)) ≡ false) → ((x : Pointstamp) → is_place k (place_at p (unsent_at x)) ≡ false) → total_at (own next) k ≡ pos 0
   record_total token.Next k a b = rw (a vertex, b (token_point vertex epoch), b (token_point vertex (epoch + 1))) refl
   record_total token.Close k a b = rw (a vertex, b (token_point vertex epoch)) refl
   record_total token.Stay k a b = refl
@@ -117,11 +117,11 @@ module _ (p : ℕ) (q : ProcessorState) (vertex epoch : ℕ) (found : fin.get q.
 
   pub feed_moves : (next : Afterwards) → IsMove p q (after next) (own next)
   feed_moves next = record {
-    records = λ key. nothing_more _ _ (record_total next (record_of p key) (λ v. refl) (λ x. refl));
-    requests = λ x. nothing_more _ _ (record_total next (request_of p x) (λ v. refl) (λ x. refl));
+    records = λ key. nothing_more _ _ (record_total next (place_at p (records_at key)) (λ v. refl) (λ x. refl));
+    requests = λ x. nothing_more _ _ (record_total next (place_at p (request_at x)) (λ v. refl) (λ x. refl));
     tokens = tokens_move next;
-    items = λ v key. nothing_more _ _ (record_total next (item_of p v key) (λ v. refl) (λ x. refl));
-    sinks = λ key. nothing_more _ _ (record_total next (sink_of p key) (λ v. refl) (λ x. refl));
+    items = λ v key. nothing_more _ _ (record_total next (place_at p (item_at v key)) (λ v. refl) (λ x. refl));
+    sinks = λ key. nothing_more _ _ (record_total next (place_at p (sink_at key)) (λ v. refl) (λ x. refl));
     unsent = refl;
     outstanding = outstanding_moves next;
     own_alone = mine next;

@@ -14,8 +14,8 @@ use Rattle.nd_vertex.specs.declared.key.ItemKey.{ItemKey}
 use Rattle.nd_vertex.specs.declared.effect.ItemEdit.{ItemEdit}
 use Rattle.nd_processor.specs.State.{items_at}
 use Rattle.nd_protocol.specs.State.{ClusterState, processor}
-use Rattle.nd_record.specs.Places.{Place, record_of, request_of, token_of, item_of, sink_of, unsent_of, view_of}
-use Rattle.nd_record.specs.Standing.{from_number}
+use Rattle.nd_record.specs.Places.{Place, place_at, records_at, request_at, token_at, item_at, sink_at, unsent_at, view_of}
+use Rattle.nd_record.specs.Slots.{from_number}
 use Rattle.nd_record.specs.Edits.{total_at, edits_of}
 use Rattle.nd_work.specs.Edits.{item_edits}
 use Rattle.nd_record.specs.Plans.{often, Once, Each}
@@ -61,23 +61,23 @@ module _ (p vertex : ℕ) where
   abbrev pub changes : List ItemEdit → List Change
   changes es = map (state_change p vertex) es
 
-  not_among : (b : ItemKey) (es : List ItemEdit) → AllByRecursion (λ y. eq_by_cmp item_cmp b y ≡ false) (keys es) → often (item_of p vertex b) (changes es) ≡ 0
+  not_among : (b : ItemKey) (es : List ItemEdit) → AllByRecursion (λ y. eq_by_cmp item_cmp b y ≡ false) (keys es) → often (place_at p (item_at vertex b)) (changes es) ≡ 0
   not_among b [] h = refl
   not_among b (e ∷ es) h =
-      ap (λ t. cond t 1 0 + often (item_of p vertex b) (changes es)) (item-test p vertex b e.key ∙ h.0)
+      ap (λ t. cond t 1 0 + often (place_at p (item_at vertex b)) (changes es)) (item-test p vertex b e.key ∙ h.0)
       ∙ (let r = not_among b es h.1 in omega (arith, r))
 
-  once_by : (k : Place) (e : ItemEdit) (es : List ItemEdit) (t : Bool) → is_place k (item_of p vertex e.key) ≡ t → AllByRecursion (λ y. eq_by_cmp item_cmp e.key y ≡ false) (keys es) → often k (changes es) ≤ 1
+  once_by : (k : Place) (e : ItemEdit) (es : List ItemEdit) (t : Bool) → is_place k (place_at p (item_at vertex e.key)) ≡ t → AllByRecursion (λ y. eq_by_cmp item_cmp e.key y ≡ false) (keys es) → often k (changes es) ≤ 1
       → cond t 1 0 + often k (changes es) ≤ 1
   once_by k e es true t head rest =
-      let none : often k (changes es) ≡ 0 = ap (λ x. often x (changes es)) (same_place k (item_of p vertex e.key) t) ∙ not_among e.key es head in
+      let none : often k (changes es) ≡ 0 = ap (λ x. often x (changes es)) (same_place k (place_at p (item_at vertex e.key)) t) ∙ not_among e.key es head in
       omega (arith, none)
   once_by k e es false t head rest = omega (arith, rest)
 
   pub items_once : (es : List ItemEdit) → IsDistinct (eq_by_cmp item_cmp) (keys es) → Once (changes es)
   items_once [] h k = omega arith
   items_once (e ∷ es) h k =
-      once_by k e es (is_place k (item_of p vertex e.key)) refl (IsDistinct-head (eq_by_cmp item_cmp) e.key (keys es) h)
+      once_by k e es (is_place k (place_at p (item_at vertex e.key))) refl (IsDistinct-head (eq_by_cmp item_cmp) e.key (keys es) h)
       (items_once es (IsDistinct-tail (eq_by_cmp item_cmp) e.key (keys es) h) k)
 
   -- ---- what they add
@@ -95,7 +95,7 @@ module _ (p vertex : ℕ) where
   gains key e m rest false t old = omega (arith, ints)
 
   pub items_gain : (m : Items) (es : List ItemEdit) → All (λ e. item_found m e.key ≡ e.old) es → IsDistinct (eq_by_cmp item_cmp) (keys es) → (key : ItemKey)
-      → number_at (edited m es) key ≡ number_at m key +ℤ total_at (edits_of (changes es)) (item_of p vertex key)
+      → number_at (edited m es) key ≡ number_at m key +ℤ total_at (edits_of (changes es)) (place_at p (item_at vertex key))
   items_gain m [] olds once key = omega (arith, ints)
   items_gain m (e ∷ es) olds once key =
       let head : AllByRecursion (λ y. eq_by_cmp item_cmp e.key y ≡ false) (keys es) = IsDistinct-head (eq_by_cmp item_cmp) e.key (keys es) once in
@@ -106,40 +106,40 @@ module _ (p vertex : ℕ) where
       found_so m n f.key (at-set item_total m e.key (number_of e.new) f.key ∙ ap (λ t. cond t (number_of e.new) (number_at m f.key)) apart)
       ∙ olds (suc i) d (omega (arith, lt)) in
       items_gain n es later (IsDistinct-tail (eq_by_cmp item_cmp) e.key (keys es) once) key
-      ∙ ap (λ z. z +ℤ total_at (edits_of (changes es)) (item_of p vertex key)) (at-set item_total m e.key (number_of e.new) key)
-      ∙ gains key e m (total_at (edits_of (changes es)) (item_of p vertex key)) (eq_by_cmp item_cmp key e.key) refl (olds 0 e (omega arith))
-      ∙ ap (λ t. number_at m key +ℤ (cond t (from_number e.new -ℤ from_number e.old) (pos 0) +ℤ total_at (edits_of (changes es)) (item_of p vertex key))) (sym (item-test p vertex key e.key))
+      ∙ ap (λ z. z +ℤ total_at (edits_of (changes es)) (place_at p (item_at vertex key))) (at-set item_total m e.key (number_of e.new) key)
+      ∙ gains key e m (total_at (edits_of (changes es)) (place_at p (item_at vertex key))) (eq_by_cmp item_cmp key e.key) refl (olds 0 e (omega arith))
+      ∙ ap (λ t. number_at m key +ℤ (cond t (from_number e.new -ℤ from_number e.old) (pos 0) +ℤ total_at (edits_of (changes es)) (place_at p (item_at vertex key)))) (sym (item-test p vertex key e.key))
 
-  elsewhere : (k : Place) → ((key : ItemKey) → k ≢ item_of p vertex key) → (m n : Items) (es : List ItemEdit) → total_at (edits_of (changes es)) k ≡ total_at (item_edits p vertex m n) k
-  elsewhere k other m n es = none es ∙ sym (total_at-map_apart (λ (e : ItemKey × ℤ). item_of p vertex e.0) (λ e. e.1) k (λ e. other_place k (item_of p vertex e.0) (other e.0)) _)
+  elsewhere : (k : Place) → ((key : ItemKey) → k ≢ place_at p (item_at vertex key)) → (m n : Items) (es : List ItemEdit) → total_at (edits_of (changes es)) k ≡ total_at (item_edits p vertex m n) k
+  elsewhere k other m n es = none es ∙ sym (total_at-map_apart (λ (e : ItemKey × ℤ). place_at p (item_at vertex e.0)) (λ e. e.1) k (λ e. other_place k (place_at p (item_at vertex e.0)) (other e.0)) _)
     where
       none : (es : List ItemEdit) → total_at (edits_of (changes es)) k ≡ pos 0
       none [] = refl
       none (e ∷ es) =
-          ap (λ t. cond t (from_number e.new -ℤ from_number e.old) (pos 0) +ℤ total_at (edits_of (changes es)) k) (other_place k (item_of p vertex e.key) (other e.key))
+          ap (λ t. cond t (from_number e.new -ℤ from_number e.old) (pos 0) +ℤ total_at (edits_of (changes es)) k) (other_place k (place_at p (item_at vertex e.key)) (other e.key))
           ∙ (let r = none es in omega (arith, ints, r))
 
   -- they add what the edits of the step say
   pub items_total : (m n : Items) (es : List ItemEdit) → LeadsTo m es n → (k : Place) → total_at (edits_of (changes es)) k ≡ total_at (item_edits p vertex m n) k
-  items_total m n es leads (record_of q key) = elsewhere (record_of q key) (λ x e. cc) m n es
-  items_total m n es leads (request_of q x) = elsewhere (request_of q x) (λ y e. cc) m n es
-  items_total m n es leads (token_of q v) = elsewhere (token_of q v) (λ x e. cc) m n es
-  items_total m n es leads (sink_of q key) = elsewhere (sink_of q key) (λ x e. cc) m n es
-  items_total m n es leads (unsent_of q x) = elsewhere (unsent_of q x) (λ y e. cc) m n es
+  items_total m n es leads (place_at q (records_at key)) = elsewhere (place_at q (records_at key)) (λ x e. cc) m n es
+  items_total m n es leads (place_at q (request_at x)) = elsewhere (place_at q (request_at x)) (λ y e. cc) m n es
+  items_total m n es leads (place_at q (token_at v)) = elsewhere (place_at q (token_at v)) (λ x e. cc) m n es
+  items_total m n es leads (place_at q (sink_at key)) = elsewhere (place_at q (sink_at key)) (λ x e. cc) m n es
+  items_total m n es leads (place_at q (unsent_at x)) = elsewhere (place_at q (unsent_at x)) (λ y e. cc) m n es
   items_total m n es leads (view_of q x) = elsewhere (view_of q x) (λ y e. cc) m n es
-  items_total m n es leads (item_of q w key) = by (decided q p) (decided w vertex)
+  items_total m n es leads (place_at q (item_at w key)) = by (decided q p) (decided w vertex)
     where
-      here : total_at (edits_of (changes es)) (item_of p vertex key) ≡ total_at (item_edits p vertex m n) (item_of p vertex key)
+      here : total_at (edits_of (changes es)) (place_at p (item_at vertex key)) ≡ total_at (item_edits p vertex m n) (place_at p (item_at vertex key))
       here =
-          let a : number_at n key ≡ number_at m key +ℤ total_at (edits_of (changes es)) (item_of p vertex key)
+          let a : number_at n key ≡ number_at m key +ℤ total_at (edits_of (changes es)) (place_at p (item_at vertex key))
           = ap (λ x. number_at x key) (sym leads.edited_is) ∙ items_gain m es leads.can_edit.olds leads.can_edit.once key in
           let b = items-here p vertex m n key in
           omega (arith, ints, a, b)
 
-      by : (q ≡ p) ⊎ (q ≡ p → ⊥) → (w ≡ vertex) ⊎ (w ≡ vertex → ⊥) → total_at (edits_of (changes es)) (item_of q w key) ≡ total_at (item_edits p vertex m n) (item_of q w key)
-      by (inl e) (inl f) = subst (λ (t : ℕ × ℕ). total_at (edits_of (changes es)) (item_of t.0 t.1 key) ≡ total_at (item_edits p vertex m n) (item_of t.0 t.1 key)) (λ i. (sym e i, sym f i)) here
-      by (inl e) (inr g) = elsewhere (item_of q w key) (λ x is. g (cc)) m n es
-      by (inr g) f = elsewhere (item_of q w key) (λ x is. g (cc)) m n es
+      by : (q ≡ p) ⊎ (q ≡ p → ⊥) → (w ≡ vertex) ⊎ (w ≡ vertex → ⊥) → total_at (edits_of (changes es)) (place_at q (item_at w key)) ≡ total_at (item_edits p vertex m n) (place_at q (item_at w key))
+      by (inl e) (inl f) = subst (λ (t : ℕ × ℕ). total_at (edits_of (changes es)) (place_at t.0 (item_at t.1 key)) ≡ total_at (item_edits p vertex m n) (place_at t.0 (item_at t.1 key))) (λ i. (sym e i, sym f i)) here
+      by (inl e) (inr g) = elsewhere (place_at q (item_at w key)) (λ x is. g (cc)) m n es
+      by (inr g) f = elsewhere (place_at q (item_at w key)) (λ x is. g (cc)) m n es
 
 -- ---- each may be made
 

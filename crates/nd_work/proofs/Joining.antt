@@ -15,7 +15,7 @@ use Rattle.nd_map.specs.Entries.{listed-tail, absent_in_tail, all_found}
 use Rattle.nd_paths.specs.Point.{point_cmp, point_total, point_exact}
 use Rattle.nd_paths.specs.declared.point.Pointstamp.{Pointstamp}
 use Rattle.nd_protocol.specs.State.{ClusterState}
-use Rattle.nd_record.specs.Places.{Place, record_of, request_of, token_of, item_of, sink_of, unsent_of, view_of}
+use Rattle.nd_record.specs.Places.{Place, place_at, records_at, request_at, token_at, item_at, sink_at, unsent_at, view_of}
 use Rattle.nd_record.specs.Changes.{place_of, gain_of, FindsOld, NamesNumbers}
 use Rattle.nd_record.specs.Edits.{Edit, total_at, edits_of}
 use Rattle.nd_record.specs.Plans.{often, Once, Each, IsSmallGain}
@@ -61,7 +61,7 @@ single_small (Records p edge t value n) h = absurd h
 single_small (Request p vertex t add) h = tt
 single_small (Token p vertex old new) h = tt
 single_small (State p vertex t item old new) h = tt
-single_small (Sink p vertex value) h = tt
+single_small (Sink p vertex value add) h = tt
 single_small (Unsent p point n) h = absurd h
 
 module _ {K : Type 0} (R : K → K → Ordering) (o : IsTotalOrder R) (tells : IsAntisymmetric R) (f : K × ℤ → Change) (k : Place) (q : K)
@@ -100,20 +100,20 @@ module _ {K : Type 0} (R : K → K → Ordering) (o : IsTotalOrder R) (tells : I
 
 -- ---- single changes are at no place of records or unsent entries
 
-single_apart : (c : Change) → IsSingle c → (q : ℕ) (key : _) → is_place (record_of q key) (place_of c) ≡ false
+single_apart : (c : Change) → IsSingle c → (q : ℕ) (key : _) → is_place (place_at q (records_at key)) (place_of c) ≡ false
 single_apart (Records p edge t value n) h q key = absurd h
 single_apart (Request p vertex t add) h q key = refl
 single_apart (Token p vertex old new) h q key = refl
 single_apart (State p vertex t item old new) h q key = refl
-single_apart (Sink p vertex value) h q key = refl
+single_apart (Sink p vertex value add) h q key = refl
 single_apart (Unsent p point n) h q key = absurd h
 
-single_sent : (c : Change) → IsSingle c → (q : ℕ) (x : Pointstamp) → is_place (unsent_of q x) (place_of c) ≡ false
+single_sent : (c : Change) → IsSingle c → (q : ℕ) (x : Pointstamp) → is_place (place_at q (unsent_at x)) (place_of c) ≡ false
 single_sent (Records p edge t value n) h q x = absurd h
 single_sent (Request p vertex t add) h q x = refl
 single_sent (Token p vertex old new) h q x = refl
 single_sent (State p vertex t item old new) h q x = refl
-single_sent (Sink p vertex value) h q x = refl
+single_sent (Sink p vertex value add) h q x = refl
 single_sent (Unsent p point n) h q x = absurd h
 
 never_single : (s : ClusterState) (k : Place) → ((c : Change) → IsSingle c → is_place k (place_of c) ≡ false) → (cs : List Change) → Each (IsSound s) cs → often k cs ≡ 0
@@ -129,10 +129,10 @@ module _ {A : Type 0} (s : ClusterState) (es : List Edit) (d : Draft A) (adds : 
   abbrev us : List Change
   us = map (unsent_change d.sums.p) d.sums.unsent
 
-  no_records : (k : Place) → ((e : RecordAt × ℤ) → is_place k (record_of e.0.p e.0.key) ≡ false) → AddsNone k rs
+  no_records : (k : Place) → ((e : RecordAt × ℤ) → is_place k (place_at e.0.p (records_at e.0.key)) ≡ false) → AddsNone k rs
   no_records k other = none_of record_change k other d.sums.records
 
-  no_unsent : (k : Place) → ((e : Pointstamp × ℤ) → is_place k (unsent_of d.sums.p e.0) ≡ false) → AddsNone k us
+  no_unsent : (k : Place) → ((e : Pointstamp × ℤ) → is_place k (place_at d.sums.p (unsent_at e.0)) ≡ false) → AddsNone k us
   no_unsent k other = none_of (unsent_change d.sums.p) k other d.sums.unsent
 
   -- a place stands at most once in the three lists together, and has its sum from the last two
@@ -146,9 +146,9 @@ module _ {A : Type 0} (s : ClusterState) (es : List Edit) (d : Draft A) (adds : 
     sum = (let b = r.nothing in let c = u.nothing in omega (arith, ints, z, b, c));
   }
 
-  at_record : (q : ℕ) (key : _) → At (record_of q key)
+  at_record : (q : ℕ) (key : _) → At (place_at q (records_at key))
   at_record q key =
-      let k = record_of q key in
+      let k = place_at q (records_at key) in
       let r = listed_once record_at_cmp record_at_total record_at_exact record_change k (record { p = q; key = key }) (λ e. refl) (λ e. refl) d.sums.records adds.kept.records.listed in
       let u = no_unsent k (λ e. refl) in
       let n = never_single s k (λ c h. single_apart c h q key) d.singles.items adds.sound in
@@ -157,12 +157,12 @@ module _ {A : Type 0} (s : ClusterState) (es : List Edit) (d : Draft A) (adds : 
         sum = (let a = r.total in let b = u.nothing in omega (arith, ints, a, b));
       }
 
-  at_unsent : (q : ℕ) (x : Pointstamp) → At (unsent_of q x)
+  at_unsent : (q : ℕ) (x : Pointstamp) → At (place_at q (unsent_at x))
   at_unsent q x = by (decided q d.sums.p)
     where
-      by : (q ≡ d.sums.p) ⊎ (q ≡ d.sums.p → ⊥) → At (unsent_of q x)
-      by (inl e) = subst (λ p. At (unsent_of p x)) (sym e) (
-          let k = unsent_of d.sums.p x in
+      by : (q ≡ d.sums.p) ⊎ (q ≡ d.sums.p → ⊥) → At (place_at q (unsent_at x))
+      by (inl e) = subst (λ p. At (place_at p (unsent_at x))) (sym e) (
+          let k = place_at d.sums.p (unsent_at x) in
           let r = no_records k (λ e. refl) in
           let u = listed_once point_cmp point_total point_exact (unsent_change d.sums.p) k x (λ e. unsent-test d.sums.p x e.0) (λ e. refl) d.sums.unsent adds.kept.unsent.listed in
           let n = never_single s k (λ c h. single_sent c h d.sums.p x) d.singles.items adds.sound in
@@ -172,17 +172,17 @@ module _ {A : Type 0} (s : ClusterState) (es : List Edit) (d : Draft A) (adds : 
             sum = (let a = r.nothing in let b = u.total in omega (arith, ints, a, b, z));
           })
       by (inr other) =
-          let k = unsent_of q x in
+          let k = place_at q (unsent_at x) in
           neither k (ap (λ b. cond b (found point_cmp d.sums.unsent x) (pos 0)) (other_key exact_unsigned q d.sums.p other))
-          (no_records k (λ e. refl)) (no_unsent k (λ e. other_place k (unsent_of d.sums.p e.0) (λ is. other (cc))))
+          (no_records k (λ e. refl)) (no_unsent k (λ e. other_place k (place_at d.sums.p (unsent_at e.0)) (λ is. other (cc))))
 
   at_all : (k : Place) → At k
-  at_all (record_of q key) = at_record q key
-  at_all (request_of q x) = neither (request_of q x) refl (no_records (request_of q x) (λ e. refl)) (no_unsent (request_of q x) (λ e. refl))
-  at_all (token_of q v) = neither (token_of q v) refl (no_records (token_of q v) (λ e. refl)) (no_unsent (token_of q v) (λ e. refl))
-  at_all (item_of q v x) = neither (item_of q v x) refl (no_records (item_of q v x) (λ e. refl)) (no_unsent (item_of q v x) (λ e. refl))
-  at_all (sink_of q x) = neither (sink_of q x) refl (no_records (sink_of q x) (λ e. refl)) (no_unsent (sink_of q x) (λ e. refl))
-  at_all (unsent_of q x) = at_unsent q x
+  at_all (place_at q (records_at key)) = at_record q key
+  at_all (place_at q (request_at x)) = neither (place_at q (request_at x)) refl (no_records (place_at q (request_at x)) (λ e. refl)) (no_unsent (place_at q (request_at x)) (λ e. refl))
+  at_all (place_at q (token_at v)) = neither (place_at q (token_at v)) refl (no_records (place_at q (token_at v)) (λ e. refl)) (no_unsent (place_at q (token_at v)) (λ e. refl))
+  at_all (place_at q (item_at v x)) = neither (place_at q (item_at v x)) refl (no_records (place_at q (item_at v x)) (λ e. refl)) (no_unsent (place_at q (item_at v x)) (λ e. refl))
+  at_all (place_at q (sink_at x)) = neither (place_at q (sink_at x)) refl (no_records (place_at q (sink_at x)) (λ e. refl)) (no_unsent (place_at q (sink_at x)) (λ e. refl))
+  at_all (place_at q (unsent_at x)) = at_unsent q x
   at_all (view_of q x) = neither (view_of q x) refl (no_records (view_of q x) (λ e. refl)) (no_unsent (view_of q x) (λ e. refl))
 
   edits_append : (cs ds : List Change) (k : Place) → total_at (edits_of (cs ++ ds)) k ≡ total_at (edits_of cs) k +ℤ total_at (edits_of ds) k

@@ -21,8 +21,8 @@ use Rattle.nd_protocol.specs.Fitting.{IsState, ProcessorFits}
 use Rattle.nd_protocol.specs.Enabled.{IsFreeBelow}
 use Rattle.nd_protocol.specs.declared.refusal.Refusal.TheVariants.{NoProcessor, NoVertex, NoRequest}
 use Rattle.nd_protocol.specs.declared.step.Step.TheVariants.{Notice}
-use Rattle.nd_record.specs.Places.{Place, record_of, request_of, token_of, item_of, sink_of, unsent_of}
-use Rattle.nd_record.specs.Standing.{from_request}
+use Rattle.nd_record.specs.Places.{Place, place_at, records_at, request_at, token_at, item_at, sink_at, unsent_at}
+use Rattle.nd_record.specs.Slots.{from_request}
 use Rattle.nd_record.specs.Edits.{Edit, total_at}
 use Rattle.nd_work.specs.Edits.{item_edits}
 use Rattle.nd_record.specs.Alike.{is_place, request-test}
@@ -46,37 +46,37 @@ module _ (p : ℕ) (q : ProcessorState) (y : Pointstamp) (vertex : ℕ) (items :
   by_items = item_edits p vertex (items_at q vertex) items
 
   abbrev pub own_notice : List Edit
-  own_notice = (request_of p y, negsuc 0) ∷ (unsent_of p y, negsuc 0) ∷ by_items
+  own_notice = (place_at p (request_at y), negsuc 0) ∷ (place_at p (unsent_at y), negsuc 0) ∷ by_items
 
   -- at a place apart from the two of the request that goes
-  past_two : (place : Place) (t : ℤ) → is_place place (request_of p y) ≡ false → is_place place (unsent_of p y) ≡ false → total_at by_items place ≡ t → total_at own_notice place ≡ t
+  past_two : (place : Place) (t : ℤ) → is_place place (place_at p (request_at y)) ≡ false → is_place place (place_at p (unsent_at y)) ≡ false → total_at by_items place ≡ t → total_at own_notice place ≡ t
   past_two place t a b e = rw (a, b) (let z : pos 0 +ℤ (pos 0 +ℤ total_at by_items place) ≡ t = omega (arith, ints) in z)
 
-  no_items : (place : Place) → ((j : ItemKey) → is_place place (item_of p vertex j) ≡ false) → total_at by_items place ≡ pos 0
+  no_items : (place : Place) → ((j : ItemKey) → is_place place (place_at p (item_at vertex j)) ≡ false) → total_at by_items place ≡ pos 0
   no_items place apart = items-apart p vertex (items_at q vertex) items place apart
 
-  requests_notice : fin.get q.requests y ≡ Some tt → (x : Pointstamp) → from_request (fin.get (fin.remove q.requests y) x) ≡ from_request (fin.get q.requests x) +ℤ total_at own_notice (request_of p x)
+  requests_notice : fin.get q.requests y ≡ Some tt → (x : Pointstamp) → from_request (fin.get (fin.remove q.requests y) x) ≡ from_request (fin.get q.requests x) +ℤ total_at own_notice (place_at p (request_at x))
   requests_notice found x =
-      let rest : total_at ((unsent_of p y, negsuc 0) ∷ by_items) (request_of p x) ≡ pos 0 = let e = no_items (request_of p x) (λ j. refl) in omega (arith, ints) in
+      let rest : total_at ((place_at p (unsent_at y), negsuc 0) ∷ by_items) (place_at p (request_at x)) ≡ pos 0 = let e = no_items (place_at p (request_at x)) (λ j. refl) in omega (arith, ints) in
       ap from_request (fin.get-remove point_total q.requests y x)
-      ∙ one_dropped (eq_by_cmp point_cmp x y) (fin.get q.requests x) (total_at ((unsent_of p y, negsuc 0) ∷ by_items) (request_of p x)) (λ e. ap (fin.get q.requests) (tells_apart point_exact x y e) ∙ found) rest
-      ∙ ap (λ b. from_request (fin.get q.requests x) +ℤ (cond b (negsuc 0) (pos 0) +ℤ total_at ((unsent_of p y, negsuc 0) ∷ by_items) (request_of p x))) (sym (request-test p x y))
+      ∙ one_dropped (eq_by_cmp point_cmp x y) (fin.get q.requests x) (total_at ((place_at p (unsent_at y), negsuc 0) ∷ by_items) (place_at p (request_at x))) (λ e. ap (fin.get q.requests) (tells_apart point_exact x y e) ∙ found) rest
+      ∙ ap (λ b. from_request (fin.get q.requests x) +ℤ (cond b (negsuc 0) (pos 0) +ℤ total_at ((place_at p (unsent_at y), negsuc 0) ∷ by_items) (place_at p (request_at x)))) (sym (request-test p x y))
 
-  outstanding_notice : fin.get q.requests y ≡ Some tt → (x : Pointstamp) → pos (held after_notice x) ≡ pos (held q x) +ℤ total_at own_notice (unsent_of p x)
+  outstanding_notice : fin.get q.requests y ≡ Some tt → (x : Pointstamp) → pos (held after_notice x) ≡ pos (held q x) +ℤ total_at own_notice (place_at p (unsent_at x))
   outstanding_notice found x =
       let a : in_requests (fin.remove q.requests y) x + one_at y x ≡ in_requests q.requests x = in_requests-remove q.requests y x found in
-      let b : total_at ((unsent_of p y, negsuc 0) ∷ by_items) (unsent_of p x) +ℤ pos (one_at y x) ≡ total_at by_items (unsent_of p x) = one_less p y x by_items in
-      let c : total_at by_items (unsent_of p x) ≡ pos 0 = no_items (unsent_of p x) (λ j. refl) in
-      let d : total_at own_notice (unsent_of p x) ≡ pos 0 +ℤ total_at ((unsent_of p y, negsuc 0) ∷ by_items) (unsent_of p x) = refl in
+      let b : total_at ((place_at p (unsent_at y), negsuc 0) ∷ by_items) (place_at p (unsent_at x)) +ℤ pos (one_at y x) ≡ total_at by_items (place_at p (unsent_at x)) = one_less p y x by_items in
+      let c : total_at by_items (place_at p (unsent_at x)) ≡ pos 0 = no_items (place_at p (unsent_at x)) (λ j. refl) in
+      let d : total_at own_notice (place_at p (unsent_at x)) ≡ pos 0 +ℤ total_at ((place_at p (unsent_at y), negsuc 0) ∷ by_items) (place_at p (unsent_at x)) = refl in
       omega (arith, ints)
 
   pub notice_moves : fin.get q.requests y ≡ Some tt → vertex < length q.items → IsMove p q after_notice own_notice
   notice_moves found lt = record {
-    records = λ key. nothing_more _ _ (past_two (record_of p key) (pos 0) refl refl (no_items (record_of p key) (λ j. refl)));
+    records = λ key. nothing_more _ _ (past_two (place_at p (records_at key)) (pos 0) refl refl (no_items (place_at p (records_at key)) (λ j. refl)));
     requests = requests_notice found;
-    tokens = λ v. nothing_more _ _ (past_two (token_of p v) (pos 0) refl refl (no_items (token_of p v) (λ j. refl)));
-    items = λ v key. items-move p vertex q.items items lt v key ∙ ap (λ t. number_at (items_at q v) key +ℤ t) (sym (past_two (item_of p v key) _ refl refl refl));
-    sinks = λ key. nothing_more _ _ (past_two (sink_of p key) (pos 0) refl refl (no_items (sink_of p key) (λ j. refl)));
+    tokens = λ v. nothing_more _ _ (past_two (place_at p (token_at v)) (pos 0) refl refl (no_items (place_at p (token_at v)) (λ j. refl)));
+    items = λ v key. items-move p vertex q.items items lt v key ∙ ap (λ t. number_at (items_at q v) key +ℤ t) (sym (past_two (place_at p (item_at v key)) _ refl refl refl));
+    sinks = λ key. nothing_more _ _ (past_two (place_at p (sink_at key)) (pos 0) refl refl (no_items (place_at p (sink_at key)) (λ j. refl)));
     unsent = refl;
     outstanding = outstanding_notice found;
     own_alone = (refl, (refl, items-own p vertex (items_at q vertex) items));

@@ -19,7 +19,7 @@ use Rattle.nd_processor.specs.declared.key.ValueAt.{ValueAt}
 use Rattle.nd_protocol.specs.State.{ClusterState, processor}
 use Rattle.nd_protocol.specs.Steps.{made_on, emitted, take_outcome, notice_outcome, point_at}
 use Rattle.nd_protocol.specs.declared.step.Step.TheVariants.{Take, Notice}
-use Rattle.nd_record.specs.Places.{Place, record_of, request_of, token_of, item_of, sink_of, unsent_of, view_of}
+use Rattle.nd_record.specs.Places.{Place, place_at, records_at, request_at, token_at, item_at, sink_at, unsent_at, view_of}
 use Rattle.nd_record.specs.Changes.{place_of, gain_of}
 use Rattle.nd_record.specs.Edits.{Edit, total_at, edits_of}
 use Rattle.nd_work.specs.Edits.{ask_edits, item_edits, sink_edits, come, come_edits}
@@ -40,23 +40,23 @@ at_most_one true = omega arith
 at_most_one false = omega arith
 
 module _ (p vertex : ℕ) (t : Time) where
-  no_state : (k : Place) → ((e : ItemEdit) → is_place k (item_of p vertex e.key) ≡ false) → (es : List ItemEdit) → often k (map (state_change p vertex) es) ≡ 0
+  no_state : (k : Place) → ((e : ItemEdit) → is_place k (place_at p (item_at vertex e.key)) ≡ false) → (es : List ItemEdit) → often k (map (state_change p vertex) es) ≡ 0
   no_state k other [] = refl
   no_state k other (e ∷ es) = ap (λ b. cond b 1 0 + often k (map (state_change p vertex) es)) (other e) ∙ (let r = no_state k other es in omega (arith, r))
 
   request_few : (k : Place) (request : Option Bool) → often k (request_changes p vertex t request) ≤ 1
   request_few k None = omega arith
-  request_few k (Some add) = at_most_one (is_place k (request_of p (point_at vertex t)))
+  request_few k (Some add) = at_most_one (is_place k (place_at p (request_at (point_at vertex t))))
 
   sink_few : (k : Place) (counted : Option ℤ) → often k (sink_changes p vertex counted) ≤ 1
   sink_few k None = omega arith
-  sink_few k (Some value) = at_most_one (is_place k (sink_of p (record { vertex = vertex; value = value })))
+  sink_few k (Some value) = at_most_one (is_place k (place_at p (sink_at (record { vertex = vertex; value = value }))))
 
-  no_request : (k : Place) → is_place k (request_of p (point_at vertex t)) ≡ false → (request : Option Bool) → often k (request_changes p vertex t request) ≡ 0
+  no_request : (k : Place) → is_place k (place_at p (request_at (point_at vertex t))) ≡ false → (request : Option Bool) → often k (request_changes p vertex t request) ≡ 0
   no_request k other None = refl
   no_request k other (Some add) = ap (λ b. cond b 1 0 + 0) other
 
-  no_sink : (k : Place) → ((value : ℤ) → is_place k (sink_of p (record { vertex = vertex; value = value })) ≡ false) → (counted : Option ℤ) → often k (sink_changes p vertex counted) ≡ 0
+  no_sink : (k : Place) → ((value : ℤ) → is_place k (place_at p (sink_at (record { vertex = vertex; value = value }))) ≡ false) → (counted : Option ℤ) → often k (sink_changes p vertex counted) ≡ 0
   no_sink k other None = refl
   no_sink k other (Some value) = ap (λ b. cond b 1 0 + 0) (other value)
 
@@ -70,20 +70,20 @@ module _ (p vertex : ℕ) (t : Time) where
         let b = often_append k states (sink_changes p vertex counted) in
         omega (arith, a, b)
 
-    neither : (k : Place) → is_place k (request_of p (point_at vertex t)) ≡ false → ((value : ℤ) → is_place k (sink_of p (record { vertex = vertex; value = value })) ≡ false) → often k (vertex_changes p vertex t request items counted) ≤ 1
+    neither : (k : Place) → is_place k (place_at p (request_at (point_at vertex t))) ≡ false → ((value : ℤ) → is_place k (place_at p (sink_at (record { vertex = vertex; value = value }))) ≡ false) → often k (vertex_changes p vertex t request items counted) ≤ 1
     neither k r n = let a = split k in let b = no_request k r request in let c = no_sink k n counted in let d = once k in omega (arith, a, b, c, d)
 
     pub vertex_once : Once (vertex_changes p vertex t request items counted)
-    vertex_once (record_of q x) = neither (record_of q x) refl (λ v. refl)
-    vertex_once (token_of q x) = neither (token_of q x) refl (λ v. refl)
-    vertex_once (item_of q w x) = neither (item_of q w x) refl (λ v. refl)
-    vertex_once (unsent_of q x) = neither (unsent_of q x) refl (λ v. refl)
+    vertex_once (place_at q (records_at x)) = neither (place_at q (records_at x)) refl (λ v. refl)
+    vertex_once (place_at q (token_at x)) = neither (place_at q (token_at x)) refl (λ v. refl)
+    vertex_once (place_at q (item_at w x)) = neither (place_at q (item_at w x)) refl (λ v. refl)
+    vertex_once (place_at q (unsent_at x)) = neither (place_at q (unsent_at x)) refl (λ v. refl)
     vertex_once (view_of q x) = neither (view_of q x) refl (λ v. refl)
-    vertex_once (request_of q x) =
-        let k = request_of q x in
+    vertex_once (place_at q (request_at x)) =
+        let k = place_at q (request_at x) in
         let a = split k in let b = no_sink k (λ v. refl) counted in let c = no_state k (λ e. refl) items in let d = request_few k request in omega (arith, a, b, c, d)
-    vertex_once (sink_of q x) =
-        let k = sink_of q x in
+    vertex_once (place_at q (sink_at x)) =
+        let k = place_at q (sink_at x) in
         let a = split k in let b = no_request k refl request in let c = no_state k (λ e. refl) items in let d = sink_few k counted in omega (arith, a, b, c, d)
 
 -- ---- each may be made
@@ -119,7 +119,7 @@ vertex_total p vertex t request items counted m n leads k =
 
 asked_total : (p : ℕ) (vertex : ℕ) (t : Time) (b : Bool) (k : Place)
     → total_at (sent_if b p (point_at vertex t)) k +ℤ total_at (edits_of (request_changes p vertex t (request_if b))) k
-    ≡ total_at (cond b ((request_of p (point_at vertex t), pos 1) ∷ (unsent_of p (point_at vertex t), pos 1) ∷ []) []) k
+    ≡ total_at (cond b ((place_at p (request_at (point_at vertex t)), pos 1) ∷ (place_at p (unsent_at (point_at vertex t)), pos 1) ∷ []) []) k
 asked_total p vertex t true k = omega (arith, ints)
 asked_total p vertex t false k = refl
 
@@ -157,7 +157,7 @@ module _ {A : Type 0} (s : ClusterState) (p : ℕ) (effect : Effect A) where
   -- the edits of a take, in the order in which they are drafted
   abbrev pub take_drafted : ℕ → ValueAt → Bool → List (ℕ × ValueAt) → List Edit
   take_drafted target k asks rs =
-      ((((record_of p k, negsuc 0) ∷ (unsent_of p k.point, negsuc 0) ∷ []) ++ sent_if asks p (point_at target k.point.time))
+      ((((place_at p (records_at k), negsuc 0) ∷ (place_at p (unsent_at k.point), negsuc 0) ∷ []) ++ sent_if asks p (point_at target k.point.time))
       ++ edits_of (vertex_changes p target k.point.time (request_if asks) effect.items.items (counted_if effect.sink k.value)))
       ++ come_edits p rs
 
@@ -167,7 +167,7 @@ module _ {A : Type 0} (s : ClusterState) (p : ℕ) (effect : Effect A) where
       let t = k.point.time in
       let o : Outcome = take_outcome s p k.point.location t k.value in
       let m : Items = items_at (processor s p) target in
-      let first : List Edit = (record_of p k, negsuc 0) ∷ (unsent_of p k.point, negsuc 0) ∷ [] in
+      let first : List Edit = (place_at p (records_at k), negsuc 0) ∷ (place_at p (unsent_at k.point), negsuc 0) ∷ [] in
       let sent : List Edit = sent_if asks p (point_at target t) in
       let vertex : List Edit = edits_of (vertex_changes p target t (request_if asks) effect.items.items (counted_if effect.sink k.value)) in
       let a = total-append ((first ++ sent) ++ vertex) (come_edits p rs) q in
@@ -176,7 +176,7 @@ module _ {A : Type 0} (s : ClusterState) (p : ℕ) (effect : Effect A) where
       let d = vertex_total p target t (request_if asks) effect.items.items (counted_if effect.sink k.value) m o.items so.does.items q in
       let e = asked_total p target t asks q in
       let f = counted_total p target k.value effect.sink q in
-      let asked : List Edit = cond asks ((request_of p (point_at target t), pos 1) ∷ (unsent_of p (point_at target t), pos 1) ∷ []) [] in
+      let asked : List Edit = cond asks ((place_at p (request_at (point_at target t)), pos 1) ∷ (place_at p (unsent_at (point_at target t)), pos 1) ∷ []) [] in
       let sunk : List Edit = sink_edits p target k.value effect.sink in
       let u = total-append first (asked ++ (item_edits p target m o.items ++ (sunk ++ come_edits p rs))) q in
       let v = total-append asked (item_edits p target m o.items ++ (sunk ++ come_edits p rs)) q in
@@ -186,19 +186,19 @@ module _ {A : Type 0} (s : ClusterState) (p : ℕ) (effect : Effect A) where
       same ∙ ap (λ es. total_at es q) (whole target k asks so rs is)
     where
       whole : (target : ℕ) (k : ValueAt) (asks : Bool) (so : TakesSo s p target k effect asks) (rs : List (ℕ × ValueAt)) → rs ≡ come {A = Unit {0}} s (Take p k.point.location k.point.time k.value)
-          → ((record_of p k, negsuc 0) ∷ (unsent_of p k.point, negsuc 0) ∷ [])
-          ++ (cond asks ((request_of p (point_at target k.point.time), pos 1) ∷ (unsent_of p (point_at target k.point.time), pos 1) ∷ []) []
+          → ((place_at p (records_at k), negsuc 0) ∷ (place_at p (unsent_at k.point), negsuc 0) ∷ [])
+          ++ (cond asks ((place_at p (request_at (point_at target k.point.time)), pos 1) ∷ (place_at p (unsent_at (point_at target k.point.time)), pos 1) ∷ []) []
           ++ (item_edits p target (items_at (processor s p) target) (take_outcome s p k.point.location k.point.time k.value).items
           ++ (sink_edits p target k.value effect.sink ++ come_edits p rs)))
           ≡ taken_edits s p k.point.location k.point.time k.value
       whole target k asks so rs is =
           let o : Outcome = take_outcome s p k.point.location k.point.time k.value in
           let asked : asks ≡ (o.asks && is_none (fin.get (processor s p).requests (point_at target k.point.time))) = so.anew ∙ ap (λ b. b && is_none (fin.get (processor s p).requests (point_at target k.point.time))) so.does.asks in
-          (λ i. ((record_of p k, negsuc 0) ∷ (unsent_of p k.point, negsuc 0) ∷ [])
-          ++ (cond (asked i) ((request_of p (point_at target k.point.time), pos 1) ∷ (unsent_of p (point_at target k.point.time), pos 1) ∷ []) []
+          (λ i. ((place_at p (records_at k), negsuc 0) ∷ (place_at p (unsent_at k.point), negsuc 0) ∷ [])
+          ++ (cond (asked i) ((place_at p (request_at (point_at target k.point.time)), pos 1) ∷ (place_at p (unsent_at (point_at target k.point.time)), pos 1) ∷ []) []
           ++ (item_edits p target (items_at (processor s p) target) o.items
           ++ (sink_edits p target k.value (so.does.sink i) ++ come_edits p (is i)))))
-          ∙ ap (λ v. ((record_of p k, negsuc 0) ∷ (unsent_of p k.point, negsuc 0) ∷ [])
+          ∙ ap (λ v. ((place_at p (records_at k), negsuc 0) ∷ (place_at p (unsent_at k.point), negsuc 0) ∷ [])
           ++ (ask_edits s p v k.point.time o.asks
           ++ (item_edits p v (items_at (processor s p) v) o.items
           ++ (sink_edits p v k.value o.counts ++ come_edits p (come {A = Unit {0}} s (Take p k.point.location k.point.time k.value)))))) so.goes
@@ -206,7 +206,7 @@ module _ {A : Type 0} (s : ClusterState) (p : ℕ) (effect : Effect A) where
   -- the edits of a notice, in the order in which they are drafted
   abbrev pub notice_drafted : Pointstamp → List (ℕ × ValueAt) → List Edit
   notice_drafted x rs =
-      (((unsent_of p x, negsuc 0) ∷ []) ++ edits_of (vertex_changes p x.location x.time (Some false) effect.items.items None))
+      (((place_at p (unsent_at x), negsuc 0) ∷ []) ++ edits_of (vertex_changes p x.location x.time (Some false) effect.items.items None))
       ++ come_edits p rs
 
   pub notice_total : (x : Pointstamp) → NoticesSo s p x effect → (rs : List (ℕ × ValueAt)) → rs ≡ come {A = Unit {0}} s (Notice p x.location x.time)
@@ -214,12 +214,12 @@ module _ {A : Type 0} (s : ClusterState) (p : ℕ) (effect : Effect A) where
   notice_total x so rs is q =
       let o : Outcome = notice_outcome s p x.location x.time in
       let m : Items = items_at (processor s p) x.location in
-      let first : List Edit = (unsent_of p x, negsuc 0) ∷ [] in
+      let first : List Edit = (place_at p (unsent_at x), negsuc 0) ∷ [] in
       let vertex : List Edit = edits_of (vertex_changes p x.location x.time (Some false) effect.items.items None) in
       let a = total-append (first ++ vertex) (come_edits p rs) q in
       let b = total-append first vertex q in
       let d = vertex_total p x.location x.time (Some false) effect.items.items None m o.items so.does.items q in
-      let both : List Edit = (request_of p x, negsuc 0) ∷ (unsent_of p x, negsuc 0) ∷ [] in
+      let both : List Edit = (place_at p (request_at x), negsuc 0) ∷ (place_at p (unsent_at x), negsuc 0) ∷ [] in
       let u = total-append both (item_edits p x.location m o.items ++ come_edits p rs) q in
       let v = total-append (item_edits p x.location m o.items) (come_edits p rs) q in
       let same : total_at (notice_drafted x rs) q ≡ total_at (both ++ (item_edits p x.location m o.items ++ come_edits p rs)) q = omega (arith, ints, a, b, d, u, v) in
@@ -231,24 +231,24 @@ singles_none : {A : Type 0} (d f : Draft A) → f.singles ≡ d.singles → d.si
 singles_none d f same none = ap (λ v. v.items) same ∙ none
 
 module _ {A : Type 0} (s : ClusterState) (p : ℕ) (effect : Effect A) (d0 d1 : Draft A) (adds : AddsUp s [] d0) (none : d0.singles.items ≡ []) (performer : d0.sums.p ≡ p) where
-  pub notice_adds : (x : Pointstamp) → NoticesSo s p x effect → Follows d0 ((unsent_of d0.sums.p x, negsuc 0) ∷ []) d1 → d1.singles ≡ d0.singles
+  pub notice_adds : (x : Pointstamp) → NoticesSo s p x effect → Follows d0 ((place_at d0.sums.p (unsent_at x), negsuc 0) ∷ []) d1 → d1.singles ≡ d0.singles
       → (items : List ItemEdit) → items ≡ effect.items.items → (d2 : Draft A) → d2.singles.items ≡ d1.singles.items ++ vertex_changes p x.location x.time (Some false) items None → d2.sums ≡ d1.sums
       → (rs : List (ℕ × ValueAt)) → rs ≡ come {A = Unit {0}} s (Notice p x.location x.time) → (d3 : Draft A) → Follows d2 (come_edits d2.sums.p rs) d3
       → AddsUp s (noticed_edits s p x.location x.time) d3
   notice_adds x so first same items items_is d2 pushes sums rs rs_is d3 then =
       let vc : List Change = vertex_changes p x.location x.time (Some false) effect.items.items None in
-      let a1 : AddsUp s ((unsent_of p x, negsuc 0) ∷ []) d1 = subst (λ q. AddsUp s ((unsent_of q x, negsuc 0) ∷ []) d1) performer (first.adds s [] adds) in
+      let a1 : AddsUp s ((place_at p (unsent_at x), negsuc 0) ∷ []) d1 = subst (λ q. AddsUp s ((place_at q (unsent_at x), negsuc 0) ∷ []) d1) performer (first.adds s [] adds) in
       let once : Once vc = vertex_once p x.location x.time (Some false) effect.items.items None (items_once p x.location effect.items.items so.does.items.can_edit.once) in
       let sound : Each (IsSound s) vc = vertex_sound s p x.location x.time (Some false) effect.items.items None (notice_outcome s p x.location x.time).items so.does.items in
-      let a2 : AddsUp s (((unsent_of p x, negsuc 0) ∷ []) ++ edits_of vc) d2
-      = pushed s ((unsent_of p x, negsuc 0) ∷ []) d1 a1 d2 vc sound (subst Once (ap (λ cs. cs ++ vc) (sym (singles_none d0 d1 same none))) once)
+      let a2 : AddsUp s (((place_at p (unsent_at x), negsuc 0) ∷ []) ++ edits_of vc) d2
+      = pushed s ((place_at p (unsent_at x), negsuc 0) ∷ []) d1 a1 d2 vc sound (subst Once (ap (λ cs. cs ++ vc) (sym (singles_none d0 d1 same none))) once)
       (pushes ∙ ap (λ ys. d1.singles.items ++ vertex_changes p x.location x.time (Some false) ys None) items_is) sums in
       let now : d2.sums.p ≡ p = ap (λ (y : Sums A). y.p) sums ∙ first.p ∙ performer in
-      let a3 : AddsUp s (notice_drafted s p effect x rs) d3 = subst (λ q. AddsUp s ((((unsent_of p x, negsuc 0) ∷ []) ++ edits_of vc) ++ come_edits q rs) d3) now (then.adds s _ a2) in
+      let a3 : AddsUp s (notice_drafted s p effect x rs) d3 = subst (λ q. AddsUp s ((((place_at p (unsent_at x), negsuc 0) ∷ []) ++ edits_of vc) ++ come_edits q rs) d3) now (then.adds s _ a2) in
       listed_anew s (notice_drafted s p effect x rs) d3 a3 d3 (noticed_edits s p x.location x.time) (notice_total s p effect x so rs rs_is)
 
-  pub take_adds : (target : ℕ) (k : ValueAt) (asks : Bool) → TakesSo s p target k effect asks → Follows d0 ((record_of p k, negsuc 0) ∷ []) d1 → d1.singles ≡ d0.singles
-      → (d2 : Draft A) → Follows d1 ((unsent_of d1.sums.p k.point, negsuc 0) ∷ []) d2 → d2.singles ≡ d1.singles
+  pub take_adds : (target : ℕ) (k : ValueAt) (asks : Bool) → TakesSo s p target k effect asks → Follows d0 ((place_at p (records_at k), negsuc 0) ∷ []) d1 → d1.singles ≡ d0.singles
+      → (d2 : Draft A) → Follows d1 ((place_at d1.sums.p (unsent_at k.point), negsuc 0) ∷ []) d2 → d2.singles ≡ d1.singles
       → (x : Pointstamp) → x ≡ point_at target k.point.time → (d3 : Draft A) → Follows d2 (sent_if asks d2.sums.p x) d3 → d3.singles ≡ d2.singles
       → (items : List ItemEdit) → items ≡ effect.items.items → (request : Option Bool) → request ≡ request_if asks → (counted : Option ℤ) → counted ≡ counted_if effect.sink k.value
       → (d4 : Draft A) → d4.singles.items ≡ d3.singles.items ++ vertex_changes p x.location x.time request items counted → d4.sums ≡ d3.sums
@@ -257,10 +257,10 @@ module _ {A : Type 0} (s : ClusterState) (p : ℕ) (effect : Effect A) (d0 d1 : 
   take_adds target k asks so goes same1 d2 leaves same2 x x_is d3 sent same3 items items_is request request_is counted counted_is d4 pushes sums rs rs_is d5 then =
       let t = k.point.time in
       let vc : List Change = vertex_changes p target t (request_if asks) effect.items.items (counted_if effect.sink k.value) in
-      let two : List Edit = (record_of p k, negsuc 0) ∷ (unsent_of p k.point, negsuc 0) ∷ [] in
+      let two : List Edit = (place_at p (records_at k), negsuc 0) ∷ (place_at p (unsent_at k.point), negsuc 0) ∷ [] in
       let at1 : d1.sums.p ≡ p = goes.p ∙ performer in
       let at2 : d2.sums.p ≡ p = leaves.p ∙ at1 in
-      let a2 : AddsUp s two d2 = subst (λ q. AddsUp s ((record_of p k, negsuc 0) ∷ (unsent_of q k.point, negsuc 0) ∷ []) d2) at1 (leaves.adds s _ (goes.adds s [] adds)) in
+      let a2 : AddsUp s two d2 = subst (λ q. AddsUp s ((place_at p (records_at k), negsuc 0) ∷ (place_at q (unsent_at k.point), negsuc 0) ∷ []) d2) at1 (leaves.adds s _ (goes.adds s [] adds)) in
       let a3 : AddsUp s (two ++ sent_if asks p (point_at target t)) d3 = subst (λ es. AddsUp s (two ++ es) d3) (λ i. sent_if asks (at2 i) (x_is i)) (sent.adds s two a2) in
       let once : Once vc = vertex_once p target t (request_if asks) effect.items.items (counted_if effect.sink k.value) (items_once p target effect.items.items so.does.items.can_edit.once) in
       let sound : Each (IsSound s) vc = vertex_sound s p target t (request_if asks) effect.items.items (counted_if effect.sink k.value) (take_outcome s p k.point.location t k.value).items so.does.items in

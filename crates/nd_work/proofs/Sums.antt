@@ -9,7 +9,7 @@ use Rattle.nd_map.specs.Entries.{listed-tail, absent_in_tail}
 use Rattle.nd_map.specs.Counts.{entries, difference, or_else, at as number_at, at-entries, entries_listed, at-difference}
 use Rattle.nd_vertex.specs.Items.{Items, item_cmp, item_total, item_exact}
 use Rattle.nd_vertex.specs.declared.key.ItemKey.{ItemKey}
-use Rattle.nd_record.specs.Places.{Place, record_of, request_of, token_of, item_of, sink_of, unsent_of, view_of}
+use Rattle.nd_record.specs.Places.{Place, place_at, records_at, request_at, token_at, item_at, sink_at, unsent_at, view_of}
 use Rattle.nd_record.specs.Edits.{Edit, total_at}
 use Rattle.nd_work.specs.Edits.{item_edits}
 use Rattle.nd_record.specs.Alike.{is_place, same_place, item-test, item_elsewhere}
@@ -30,12 +30,12 @@ total_at-map_apart f g k apart (x ∷ xs) = without_it (is_place k (f x)) (g x) 
 
 -- whose map a place is in
 abbrev pub owner : Place → Option ℕ
-owner (record_of p key) = Some p
-owner (request_of p point) = Some p
-owner (token_of p vertex) = Some p
-owner (item_of p vertex key) = Some p
-owner (sink_of p key) = Some p
-owner (unsent_of p point) = Some p
+owner (place_at p (records_at key)) = Some p
+owner (place_at p (request_at point)) = Some p
+owner (place_at p (token_at vertex)) = Some p
+owner (place_at p (item_at vertex key)) = Some p
+owner (place_at p (sink_at key)) = Some p
+owner (place_at p (unsent_at point)) = Some p
 owner (view_of q point) = None
 
 pub apart_of : (k p : ℕ) → (k ≡ p → ⊥) → Some k ≡ Some p → ⊥
@@ -72,22 +72,22 @@ add_found true n rest e = ap (λ r. n +ℤ or_else (pos 0) r) (e refl) ∙ omega
 add_found false n rest e = omega (arith, ints)
 
 listed_items : (p vertex : ℕ) (es : List (ItemKey × ℤ)) → IsListed item_cmp es → (key : ItemKey)
-    → total_at (map (λ e. (item_of p vertex e.0, e.1)) es) (item_of p vertex key) ≡ or_else (pos 0) (find item_cmp key es)
+    → total_at (map (λ e. (place_at p (item_at vertex e.0), e.1)) es) (place_at p (item_at vertex key)) ≡ or_else (pos 0) (find item_cmp key es)
 listed_items p vertex [] h key = refl
 listed_items p vertex (e ∷ es) h key =
-    ap (λ b. cond b e.1 (pos 0) +ℤ total_at (map (λ e. (item_of p vertex e.0, e.1)) es) (item_of p vertex key)) (item-test p vertex key e.0)
+    ap (λ b. cond b e.1 (pos 0) +ℤ total_at (map (λ e. (place_at p (item_at vertex e.0), e.1)) es) (place_at p (item_at vertex key))) (item-test p vertex key e.0)
     ∙ ap (λ t. cond (eq_by_cmp item_cmp key e.0) e.1 (pos 0) +ℤ t) (listed_items p vertex es (listed-tail item_cmp e es h) key)
     ∙ add_found (eq_by_cmp item_cmp key e.0) e.1 (find item_cmp key es) (λ t. ap (λ k. find item_cmp k es) (tells_apart item_exact key e.0 t) ∙ absent_in_tail item_cmp e es h)
 
 -- the edits of a vertex's items make the old ones the new ones
-pub items-here : (p vertex : ℕ) (old new : Items) (key : ItemKey) → number_at new key ≡ number_at old key +ℤ total_at (item_edits p vertex old new) (item_of p vertex key)
+pub items-here : (p vertex : ℕ) (old new : Items) (key : ItemKey) → number_at new key ≡ number_at old key +ℤ total_at (item_edits p vertex old new) (place_at p (item_at vertex key))
 items-here p vertex old new key =
-    let a : total_at (item_edits p vertex old new) (item_of p vertex key) ≡ or_else (pos 0) (find item_cmp key (entries (difference item_total old new)))
+    let a : total_at (item_edits p vertex old new) (place_at p (item_at vertex key)) ≡ or_else (pos 0) (find item_cmp key (entries (difference item_total old new)))
     = listed_items p vertex (entries (difference item_total old new)) (entries_listed (difference item_total old new)) key in
     let b = at-entries (difference item_total old new) key in
     let c = at-difference item_total item_exact old new key in
     omega (arith, ints)
 
-pub items-of_others : (p vertex w : ℕ) (old new : Items) (key : ItemKey) → (w ≡ vertex → ⊥) → total_at (item_edits p vertex old new) (item_of p w key) ≡ pos 0
+pub items-of_others : (p vertex w : ℕ) (old new : Items) (key : ItemKey) → (w ≡ vertex → ⊥) → total_at (item_edits p vertex old new) (place_at p (item_at w key)) ≡ pos 0
 items-of_others p vertex w old new key other =
-    total_at-map_apart (λ (e : ItemKey × ℤ). item_of p vertex e.0) (λ e. e.1) (item_of p w key) (λ e. item_elsewhere p w vertex key e.0 other) (entries (difference item_total old new))
+    total_at-map_apart (λ (e : ItemKey × ℤ). place_at p (item_at vertex e.0)) (λ e. e.1) (place_at p (item_at w key)) (λ e. item_elsewhere p w vertex key e.0 other) (entries (difference item_total old new))

@@ -1,7 +1,7 @@
 -- A take: a record goes off its edge, and the edge's target does what it does.
-use Rattle.std.proofs.Common.{lit<, ◌≡◌, inl, inr, ℕ, zero, suc, ◌+◌, ◌-◌, ◌<◌, ◌≤◌, ℤ, pos, negsuc, ◌+ℤ◌, Bool, false, cond, All, Some, List, [], ◌∷◌, ◌++◌, length, append_assoc, length-set, lt_of_not-le, refl, sym, ap, ◌∙◌, arith}
+use Rattle.std.proofs.Common.{lit<, ◌≡◌, inl, inr, ℕ, zero, suc, ◌+◌, ◌<◌, ◌≤◌, ℤ, pos, negsuc, ◌+ℤ◌, Bool, false, cond, List, ◌∷◌, ◌++◌, length, append_assoc, length-set, lt_of_not-le, refl, sym, ap, ◌∙◌, arith}
 use Rattle.std.proofs.lemmas.Int.{ints}
-use Rattle.std.specs.Prelude.{slice_get, slice_set}
+use Rattle.std.specs.Prelude.{slice_set}
 use Rattle.std.specs.FinMap as fin
 use Rattle.nd_time.specs.Time.{Time}
 use Rattle.nd_map.specs.Counts.{at as number_at, int_at, added}
@@ -20,8 +20,8 @@ use Rattle.nd_protocol.specs.Fitting.{IsState, ProcessorFits}
 use Rattle.nd_protocol.specs.Enabled.{IsFreeBelow}
 use Rattle.nd_protocol.specs.declared.refusal.Refusal.TheVariants.{NoProcessor, NoEdge, NoRecord}
 use Rattle.nd_protocol.specs.declared.step.Step.TheVariants.{Take}
-use Rattle.nd_record.specs.Places.{Place, record_of, request_of, token_of, item_of, sink_of, unsent_of}
-use Rattle.nd_record.specs.Standing.{from_request}
+use Rattle.nd_record.specs.Places.{Place, place_at, records_at, request_at, token_at, item_at, sink_at, unsent_at}
+use Rattle.nd_record.specs.Slots.{from_request}
 use Rattle.nd_record.specs.Edits.{Edit, total_at}
 use Rattle.nd_work.specs.Edits.{item_edits, sink_edits, come_edits, come}
 use Rattle.nd_record.specs.Alike.{is_place}
@@ -57,7 +57,7 @@ module _ (p : ℕ) (q : ProcessorState) (k : ValueAt) (y : Pointstamp) (vertex :
   effect = by_asking ++ (by_items ++ by_counting)
 
   abbrev pub own_take : List Edit
-  own_take = (record_of p k, negsuc 0) ∷ (unsent_of p k.point, negsuc 0) ∷ effect
+  own_take = (place_at p (records_at k), negsuc 0) ∷ (place_at p (unsent_at k.point), negsuc 0) ∷ effect
 
   in_parts : (place : Place) (a b c : ℤ) → total_at by_asking place ≡ a → total_at by_items place ≡ b → total_at by_counting place ≡ c → total_at effect place ≡ a +ℤ (b +ℤ c)
   in_parts place a b c e f g =
@@ -65,62 +65,62 @@ module _ (p : ℕ) (q : ProcessorState) (k : ValueAt) (y : Pointstamp) (vertex :
       let v : total_at (by_items ++ by_counting) place ≡ total_at by_items place +ℤ total_at by_counting place = total_at-append by_items by_counting place in
       omega (arith, ints)
 
-  record_part : (key : ValueAt) → total_at effect (record_of p key) ≡ pos 0
+  record_part : (key : ValueAt) → total_at effect (place_at p (records_at key)) ≡ pos 0
   record_part key =
-      in_parts (record_of p key) (pos 0) (pos 0) (pos 0) (asked-apart p y asks q.requests (record_of p key) refl refl)
-      (items-apart p vertex (items_at q vertex) items (record_of p key) (λ j. refl)) (sinks-apart p vertex value counts (record_of p key) (λ j. refl))
+      in_parts (place_at p (records_at key)) (pos 0) (pos 0) (pos 0) (asked-apart p y asks q.requests (place_at p (records_at key)) refl refl)
+      (items-apart p vertex (items_at q vertex) items (place_at p (records_at key)) (λ j. refl)) (sinks-apart p vertex value counts (place_at p (records_at key)) (λ j. refl))
 
-  request_part : (x : Pointstamp) → total_at effect (request_of p x) ≡ total_at by_asking (request_of p x)
+  request_part : (x : Pointstamp) → total_at effect (place_at p (request_at x)) ≡ total_at by_asking (place_at p (request_at x))
   request_part x =
-      in_parts (request_of p x) (total_at by_asking (request_of p x)) (pos 0) (pos 0) refl
-      (items-apart p vertex (items_at q vertex) items (request_of p x) (λ j. refl)) (sinks-apart p vertex value counts (request_of p x) (λ j. refl)) ∙ omega (arith, ints)
+      in_parts (place_at p (request_at x)) (total_at by_asking (place_at p (request_at x))) (pos 0) (pos 0) refl
+      (items-apart p vertex (items_at q vertex) items (place_at p (request_at x)) (λ j. refl)) (sinks-apart p vertex value counts (place_at p (request_at x)) (λ j. refl)) ∙ omega (arith, ints)
 
-  token_part : (v : ℕ) → total_at effect (token_of p v) ≡ pos 0
+  token_part : (v : ℕ) → total_at effect (place_at p (token_at v)) ≡ pos 0
   token_part v =
-      in_parts (token_of p v) (pos 0) (pos 0) (pos 0) (asked-apart p y asks q.requests (token_of p v) refl refl)
-      (items-apart p vertex (items_at q vertex) items (token_of p v) (λ j. refl)) (sinks-apart p vertex value counts (token_of p v) (λ j. refl))
+      in_parts (place_at p (token_at v)) (pos 0) (pos 0) (pos 0) (asked-apart p y asks q.requests (place_at p (token_at v)) refl refl)
+      (items-apart p vertex (items_at q vertex) items (place_at p (token_at v)) (λ j. refl)) (sinks-apart p vertex value counts (place_at p (token_at v)) (λ j. refl))
 
-  item_part : (place : Place) → is_place place (request_of p y) ≡ false → is_place place (unsent_of p y) ≡ false → ((j : SinkKey) → is_place place (sink_of p j) ≡ false) → total_at effect place ≡ total_at by_items place
+  item_part : (place : Place) → is_place place (place_at p (request_at y)) ≡ false → is_place place (place_at p (unsent_at y)) ≡ false → ((j : SinkKey) → is_place place (place_at p (sink_at j)) ≡ false) → total_at effect place ≡ total_at by_items place
   item_part place a b c =
       in_parts place (pos 0) (total_at by_items place) (pos 0) (asked-apart p y asks q.requests place a b) refl (sinks-apart p vertex value counts place c) ∙ omega (arith, ints)
 
-  sink_part : (key : SinkKey) → total_at effect (sink_of p key) ≡ total_at by_counting (sink_of p key)
+  sink_part : (key : SinkKey) → total_at effect (place_at p (sink_at key)) ≡ total_at by_counting (place_at p (sink_at key))
   sink_part key =
-      in_parts (sink_of p key) (pos 0) (pos 0) (total_at by_counting (sink_of p key)) (asked-apart p y asks q.requests (sink_of p key) refl refl)
-      (items-apart p vertex (items_at q vertex) items (sink_of p key) (λ j. refl)) refl ∙ omega (arith, ints)
+      in_parts (place_at p (sink_at key)) (pos 0) (pos 0) (total_at by_counting (place_at p (sink_at key))) (asked-apart p y asks q.requests (place_at p (sink_at key)) refl refl)
+      (items-apart p vertex (items_at q vertex) items (place_at p (sink_at key)) (λ j. refl)) refl ∙ omega (arith, ints)
 
-  unsent_part : (x : Pointstamp) → total_at effect (unsent_of p x) ≡ total_at by_asking (unsent_of p x)
+  unsent_part : (x : Pointstamp) → total_at effect (place_at p (unsent_at x)) ≡ total_at by_asking (place_at p (unsent_at x))
   unsent_part x =
-      in_parts (unsent_of p x) (total_at by_asking (unsent_of p x)) (pos 0) (pos 0) refl
-      (items-apart p vertex (items_at q vertex) items (unsent_of p x) (λ j. refl)) (sinks-apart p vertex value counts (unsent_of p x) (λ j. refl)) ∙ omega (arith, ints)
+      in_parts (place_at p (unsent_at x)) (total_at by_asking (place_at p (unsent_at x))) (pos 0) (pos 0) refl
+      (items-apart p vertex (items_at q vertex) items (place_at p (unsent_at x)) (λ j. refl)) (sinks-apart p vertex value counts (place_at p (unsent_at x)) (λ j. refl)) ∙ omega (arith, ints)
 
   -- at a place apart from the two of the record that goes
-  past_two : (place : Place) (t : ℤ) → is_place place (record_of p k) ≡ false → is_place place (unsent_of p k.point) ≡ false → total_at effect place ≡ t → total_at own_take place ≡ t
+  past_two : (place : Place) (t : ℤ) → is_place place (place_at p (records_at k)) ≡ false → is_place place (place_at p (unsent_at k.point)) ≡ false → total_at effect place ≡ t → total_at own_take place ≡ t
   past_two place t a b e = rw (a, b) (let z : pos 0 +ℤ (pos 0 +ℤ total_at effect place) ≡ t = omega (arith, ints) in z)
 
-  outstanding_take : 1 ≤ number_at q.records k → (x : Pointstamp) → pos (held after_take x) ≡ pos (held q x) +ℤ total_at own_take (unsent_of p x)
+  outstanding_take : 1 ≤ number_at q.records k → (x : Pointstamp) → pos (held after_take x) ≡ pos (held q x) +ℤ total_at own_take (place_at p (unsent_at x))
   outstanding_take some x =
       let a : in_records after_take.records x + one_at k.point x ≡ in_records q.records x = in_records-taken q.records k 1 x some in
-      let b : pos (in_requests after_take.requests x) ≡ pos (in_requests q.requests x) +ℤ total_at by_asking (unsent_of p x) = requests-held p y asks q.requests x in
-      let c : total_at ((unsent_of p k.point, negsuc 0) ∷ effect) (unsent_of p x) +ℤ pos (one_at k.point x) ≡ total_at effect (unsent_of p x) = one_less p k.point x effect in
+      let b : pos (in_requests after_take.requests x) ≡ pos (in_requests q.requests x) +ℤ total_at by_asking (place_at p (unsent_at x)) = requests-held p y asks q.requests x in
+      let c : total_at ((place_at p (unsent_at k.point), negsuc 0) ∷ effect) (place_at p (unsent_at x)) +ℤ pos (one_at k.point x) ≡ total_at effect (place_at p (unsent_at x)) = one_less p k.point x effect in
       let d = unsent_part x in
-      let e : total_at own_take (unsent_of p x) ≡ pos 0 +ℤ total_at ((unsent_of p k.point, negsuc 0) ∷ effect) (unsent_of p x) = refl in
+      let e : total_at own_take (place_at p (unsent_at x)) ≡ pos 0 +ℤ total_at ((place_at p (unsent_at k.point), negsuc 0) ∷ effect) (place_at p (unsent_at x)) = refl in
       omega (arith, ints)
 
   pub take_moves : 1 ≤ number_at q.records k → vertex < length q.items → IsMove p q after_take own_take
   take_moves some lt = record {
     records = λ key. record-goes p q.records k key _ some (record_rest key);
-    requests = λ x. requests-move p y asks q.requests x ∙ ap (λ t. from_request (fin.get q.requests x) +ℤ t) (sym (past_two (request_of p x) _ refl refl (request_part x)));
-    tokens = λ v. nothing_more _ _ (past_two (token_of p v) (pos 0) refl refl (token_part v));
-    items = λ v key. items-move p vertex q.items items lt v key ∙ ap (λ t. number_at (items_at q v) key +ℤ t) (sym (past_two (item_of p v key) _ refl refl (item_part (item_of p v key) refl refl (λ j. refl))));
-    sinks = λ key. sinks-move p vertex value counts q.sinks key ∙ ap (λ t. int_at q.sinks key +ℤ t) (sym (past_two (sink_of p key) _ refl refl (sink_part key)));
+    requests = λ x. requests-move p y asks q.requests x ∙ ap (λ t. from_request (fin.get q.requests x) +ℤ t) (sym (past_two (place_at p (request_at x)) _ refl refl (request_part x)));
+    tokens = λ v. nothing_more _ _ (past_two (place_at p (token_at v)) (pos 0) refl refl (token_part v));
+    items = λ v key. items-move p vertex q.items items lt v key ∙ ap (λ t. number_at (items_at q v) key +ℤ t) (sym (past_two (place_at p (item_at v key)) _ refl refl (item_part (place_at p (item_at v key)) refl refl (λ j. refl))));
+    sinks = λ key. sinks-move p vertex value counts q.sinks key ∙ ap (λ t. int_at q.sinks key +ℤ t) (sym (past_two (place_at p (sink_at key)) _ refl refl (sink_part key)));
     unsent = refl;
     outstanding = outstanding_take some;
     own_alone = (refl, (refl, AreOf-append p by_asking (by_items ++ by_counting) (asked-own p y asks q.requests) (AreOf-append p by_items by_counting (items-own p vertex (items_at q vertex) items) (sinks-own p vertex value counts))));
     many_items = length-set q.items vertex items;
   }
     where
-      record_rest : (key : ValueAt) → total_at ((unsent_of p k.point, negsuc 0) ∷ effect) (record_of p key) ≡ pos 0
+      record_rest : (key : ValueAt) → total_at ((place_at p (unsent_at k.point), negsuc 0) ∷ effect) (place_at p (records_at key)) ≡ pos 0
       record_rest key = let e = record_part key in omega (arith, ints)
 
 -- ---- the step
@@ -153,7 +153,7 @@ take_written {A = A} s p edge t value state on =
       after = after_take p q k (point_at target t) target value outcome.asks outcome.counts outcome.items;
       own = own_take p q k (point_at target t) target value outcome.asks outcome.counts outcome.items;
       is = refl;
-      adds = ap (λ es. (record_of p k, negsuc 0) ∷ (unsent_of p k.point, negsuc 0) ∷ es)
+      adds = ap (λ es. (place_at p (records_at k), negsuc 0) ∷ (place_at p (unsent_at k.point), negsuc 0) ∷ es)
           (regroup (asked p (point_at target t) outcome.asks q.requests) (item_edits p target (items_at q target) outcome.items) (sink_edits p target value outcome.counts) (come_edits p (come {A = A} s (Take p edge t value))));
       to = AreTo-flat (length s.processors) (emitted g (length s.processors) p target t) (λ e. emitted-below g (length s.processors) p target t e lt) outcome.emissions;
       move = take_moves p q k (point_at target t) target value outcome.asks outcome.counts outcome.items some kept;

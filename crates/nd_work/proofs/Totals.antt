@@ -7,7 +7,7 @@ use Rattle.nd_time.specs.Limits.{max_count}
 use Rattle.nd_paths.specs.Point.{point_cmp, point_exact}
 use Rattle.nd_paths.specs.declared.point.Pointstamp.{Pointstamp}
 use Rattle.nd_processor.specs.declared.key.ValueAt.{ValueAt}
-use Rattle.nd_record.specs.Places.{Place, place_cmp, record_of, request_of, token_of, item_of, sink_of, unsent_of, view_of}
+use Rattle.nd_record.specs.Places.{Place, place_cmp, place_at, records_at, request_at, token_at, item_at, sink_at, unsent_at, view_of}
 use Rattle.nd_record.specs.Edits.{Edit, total_at}
 use Rattle.nd_work.specs.Edits.{come_edits}
 use Rattle.nd_work.specs.Sums.{record_at_cmp, record_at_exact, IsAdded, found, IsMore, AddsAll, sum_at}
@@ -33,15 +33,15 @@ total-one place n k = plus_nothing (here k place n)
 
 -- one more record
 pub come_more : (p : ℕ) (rs : List (ℕ × ValueAt)) (r : ℕ × ValueAt) (k : Place)
-    → total_at (come_edits p (rs ++ r ∷ [])) k ≡ (total_at (come_edits p rs) k +ℤ here k (record_of r.0 r.1) (pos 1)) +ℤ here k (unsent_of p r.1.point) (pos 1)
+    → total_at (come_edits p (rs ++ r ∷ [])) k ≡ (total_at (come_edits p rs) k +ℤ here k (place_at r.0 (records_at r.1)) (pos 1)) +ℤ here k (place_at p (unsent_at r.1.point)) (pos 1)
 come_more p rs r k =
-    let made = λ (x : ℕ × ValueAt). let e : Edit = (record_of x.0 x.1, pos 1) in e in
-    let sent = λ (x : ℕ × ValueAt). let e : Edit = (unsent_of p x.1.point, pos 1) in e in
+    let made = λ (x : ℕ × ValueAt). let e : Edit = (place_at x.0 (records_at x.1), pos 1) in e in
+    let sent = λ (x : ℕ × ValueAt). let e : Edit = (place_at p (unsent_at x.1.point), pos 1) in e in
     let a : total_at (come_edits p (rs ++ r ∷ [])) k ≡ total_at (map made (rs ++ r ∷ [])) k +ℤ total_at (map sent (rs ++ r ∷ [])) k = total-append (map made (rs ++ r ∷ [])) (map sent (rs ++ r ∷ [])) k in
     let b : total_at (come_edits p rs) k ≡ total_at (map made rs) k +ℤ total_at (map sent rs) k = total-append (map made rs) (map sent rs) k in
-    let m : total_at (map made (rs ++ r ∷ [])) k ≡ total_at (map made rs) k +ℤ (here k (record_of r.0 r.1) (pos 1) +ℤ pos 0)
+    let m : total_at (map made (rs ++ r ∷ [])) k ≡ total_at (map made rs) k +ℤ (here k (place_at r.0 (records_at r.1)) (pos 1) +ℤ pos 0)
     = ap (λ es. total_at es k) (map-append made rs (r ∷ [])) ∙ total-append (map made rs) (made r ∷ []) k in
-    let s : total_at (map sent (rs ++ r ∷ [])) k ≡ total_at (map sent rs) k +ℤ (here k (unsent_of p r.1.point) (pos 1) +ℤ pos 0)
+    let s : total_at (map sent (rs ++ r ∷ [])) k ≡ total_at (map sent rs) k +ℤ (here k (place_at p (unsent_at r.1.point)) (pos 1) +ℤ pos 0)
     = ap (λ es. total_at es k) (map-append sent rs (r ∷ [])) ∙ total-append (map sent rs) (sent r ∷ []) k in
     omega (arith, ints, a, b, m, s)
 
@@ -61,9 +61,9 @@ ones_few f (x ∷ xs) k = one_few (eq_by_cmp place_cmp k (f x)) (length xs) _ (o
 
 pub come_few : (p : ℕ) (rs : List (ℕ × ValueAt)) (k : Place) → IsFew (2 * length rs) (total_at (come_edits p rs) k)
 come_few p rs k =
-    let a = ones_few (λ (r : ℕ × ValueAt). record_of r.0 r.1) rs k in
-    let b = ones_few (λ (r : ℕ × ValueAt). unsent_of p r.1.point) rs k in
-    let e = total-append (map (λ (r : ℕ × ValueAt). let e : Edit = (record_of r.0 r.1, pos 1) in e) rs) (map (λ (r : ℕ × ValueAt). let e : Edit = (unsent_of p r.1.point, pos 1) in e) rs) k in
+    let a = ones_few (λ (r : ℕ × ValueAt). place_at r.0 (records_at r.1)) rs k in
+    let b = ones_few (λ (r : ℕ × ValueAt). place_at p (unsent_at r.1.point)) rs k in
+    let e = total-append (map (λ (r : ℕ × ValueAt). let e : Edit = (place_at r.0 (records_at r.1), pos 1) in e) rs) (map (λ (r : ℕ × ValueAt). let e : Edit = (place_at p (unsent_at r.1.point), pos 1) in e) rs) k in
     record { count = a.count + b.count; is = (let x = a.is in let y = b.is in omega (arith, ints, e, x, y)); few = omega (arith, a.few, b.few) }
 
 -- ---- one edit of the sums
@@ -74,19 +74,19 @@ first_alike Equal = refl
 first_alike Greater = refl
 
 module _ {A : Type 0} (s : Sums A) where
-  pub more_records : (p : ℕ) (key : ValueAt) (n : ℤ) (rs : List (RecordAt × ℤ)) → IsAdded record_at_cmp (record { p = p; key = key }) n s.records rs → IsMore s (record_of p key) n (record s { records = rs })
+  pub more_records : (p : ℕ) (key : ValueAt) (n : ℤ) (rs : List (RecordAt × ℤ)) → IsAdded record_at_cmp (record { p = p; key = key }) n s.records rs → IsMore s (place_at p (records_at key)) n (record s { records = rs })
   more_records p key n rs added = record { p = refl; sums = sums }
     where
-      sums : (q : Place) → sum_at (record s { records = rs }) q ≡ sum_at s q +ℤ here q (record_of p key) n
-      sums (record_of a k) = more_found record_at_cmp record_at_exact (record { p = p; key = key }) n s.records rs added (record { p = a; key = k })
-      sums (request_of a x) = refl
-      sums (token_of a v) = refl
-      sums (item_of a v k) = refl
-      sums (sink_of a k) = refl
-      sums (unsent_of a x) = sym (plus_nothing _)
+      sums : (q : Place) → sum_at (record s { records = rs }) q ≡ sum_at s q +ℤ here q (place_at p (records_at key)) n
+      sums (place_at a (records_at k)) = more_found record_at_cmp record_at_exact (record { p = p; key = key }) n s.records rs added (record { p = a; key = k })
+      sums (place_at a (request_at x)) = refl
+      sums (place_at a (token_at v)) = refl
+      sums (place_at a (item_at v k)) = refl
+      sums (place_at a (sink_at k)) = refl
+      sums (place_at a (unsent_at x)) = sym (plus_nothing _)
       sums (view_of a x) = refl
 
-  pub more_unsent : (point : Pointstamp) (n : ℤ) (us : List (Pointstamp × ℤ)) → IsAdded point_cmp point n s.unsent us → IsMore s (unsent_of s.p point) n (record s { unsent = us })
+  pub more_unsent : (point : Pointstamp) (n : ℤ) (us : List (Pointstamp × ℤ)) → IsAdded point_cmp point n s.unsent us → IsMore s (place_at s.p (unsent_at point)) n (record s { unsent = us })
   more_unsent point n us added = record { p = refl; sums = sums }
     where
       both : (r : Ordering) (x : Pointstamp) → cond (is_eq r) (found point_cmp us x) (pos 0) ≡ cond (is_eq r) (found point_cmp s.unsent x) (pos 0) +ℤ cond (is_eq (ordering_then r (ordering_then (point_cmp x point) Equal))) n (pos 0)
@@ -94,19 +94,19 @@ module _ {A : Type 0} (s : Sums A) where
       both Less x = refl
       both Greater x = refl
 
-      sums : (q : Place) → sum_at (record s { unsent = us }) q ≡ sum_at s q +ℤ here q (unsent_of s.p point) n
-      sums (record_of a k) = sym (plus_nothing _)
-      sums (request_of a x) = refl
-      sums (token_of a v) = refl
-      sums (item_of a v k) = refl
-      sums (sink_of a k) = refl
-      sums (unsent_of a x) = both (nat_cmp a s.p) x
+      sums : (q : Place) → sum_at (record s { unsent = us }) q ≡ sum_at s q +ℤ here q (place_at s.p (unsent_at point)) n
+      sums (place_at a (records_at k)) = sym (plus_nothing _)
+      sums (place_at a (request_at x)) = refl
+      sums (place_at a (token_at v)) = refl
+      sums (place_at a (item_at v k)) = refl
+      sums (place_at a (sink_at k)) = refl
+      sums (place_at a (unsent_at x)) = both (nat_cmp a s.p) x
       sums (view_of a x) = refl
 
 -- ---- the records that come, one by one
 
 module _ {A : Type 0} (s : Sums A) (come : List (ℕ × ValueAt)) (i : ℕ) (t : Sums A) (so_far : AddsAll s (come_edits s.p (take i come)) t) where
-  pub come_step : (r : ℕ × ValueAt) → i < length come → r ≡ get_or come i r → (u v : Sums A) → IsMore t (record_of r.0 r.1) (pos 1) u → IsMore u (unsent_of u.p r.1.point) (pos 1) v
+  pub come_step : (r : ℕ × ValueAt) → i < length come → r ≡ get_or come i r → (u v : Sums A) → IsMore t (place_at r.0 (records_at r.1)) (pos 1) u → IsMore u (place_at u.p (unsent_at r.1.point)) (pos 1) v
       → AddsAll s (come_edits s.p (take (i + 1) come)) v
   come_step r lt is u v one two = record { p = two.p ∙ one.p ∙ so_far.p; sums = sums }
     where
@@ -121,7 +121,7 @@ module _ {A : Type 0} (s : Sums A) (come : List (ℕ × ValueAt)) (i : ℕ) (t :
           let a = two.sums k in
           let b = one.sums k in
           let e = so_far.sums k in
-          let f : here k (unsent_of u.p r.1.point) (pos 1) ≡ here k (unsent_of s.p r.1.point) (pos 1) = ap (λ p. here k (unsent_of p r.1.point) (pos 1)) performer in
+          let f : here k (place_at u.p (unsent_at r.1.point)) (pos 1) ≡ here k (place_at s.p (unsent_at r.1.point)) (pos 1) = ap (λ p. here k (place_at p (unsent_at r.1.point)) (pos 1)) performer in
           let m = ap (λ rs. total_at (come_edits s.p rs) k) more ∙ come_more s.p (take i come) r k in
           omega (arith, ints, a, b, e, f, m)
 

@@ -15,8 +15,9 @@ use Rattle.nd_processor.specs.declared.key.SinkKey.{SinkKey}
 use Rattle.nd_protocol.specs.State.{ClusterState, processor, view}
 use Rattle.nd_protocol.specs.Steps.{with_records, with_gain, gain}
 use Rattle.nd_protocol.specs.Truth.{length-records, kept-set, kept-records, count, count-set, gain-count}
-use Rattle.nd_record.specs.Places.{Place, record_of, request_of, token_of, item_of, sink_of, unsent_of, view_of}
-use Rattle.nd_record.specs.Standing.{standing, from_request, from_epoch}
+use Rattle.nd_record.specs.Places.{Place, place_at, records_at, request_at, token_at, item_at, sink_at, unsent_at, view_of}
+use Rattle.nd_record.specs.Slots.{from_request, from_epoch}
+use Rattle.nd_record.specs.Standing.{standing}
 use Rattle.nd_record.specs.Edits.{Edit, total_at}
 use Rattle.nd_work.specs.Edits.{come_edits}
 use Rattle.nd_record.specs.Alike.{other_place}
@@ -25,13 +26,13 @@ use Rattle.nd_work.proofs.Arrivals.{AreTo, comes, arrives, come-record, come-uns
 
 -- processor p, written anew, has more by its edits at each of its places; what is outstanding in it moves as its edits of the unsent change say
 pub record IsMove (p : ℕ) (q r : ProcessorState) (own : List Edit) : Type 0 where
-  pub records : (key : ValueAt) → int_at r.records key ≡ int_at q.records key +ℤ total_at own (record_of p key)
-  pub requests : (x : Pointstamp) → from_request (fin.get r.requests x) ≡ from_request (fin.get q.requests x) +ℤ total_at own (request_of p x)
-  pub tokens : (v : ℕ) → from_epoch (fin.get r.tokens v) ≡ from_epoch (fin.get q.tokens v) +ℤ total_at own (token_of p v)
-  pub items : (v : ℕ) (key : ItemKey) → number_at (items_at r v) key ≡ number_at (items_at q v) key +ℤ total_at own (item_of p v key)
-  pub sinks : (key : SinkKey) → int_at r.sinks key ≡ int_at q.sinks key +ℤ total_at own (sink_of p key)
+  pub records : (key : ValueAt) → int_at r.records key ≡ int_at q.records key +ℤ total_at own (place_at p (records_at key))
+  pub requests : (x : Pointstamp) → from_request (fin.get r.requests x) ≡ from_request (fin.get q.requests x) +ℤ total_at own (place_at p (request_at x))
+  pub tokens : (v : ℕ) → from_epoch (fin.get r.tokens v) ≡ from_epoch (fin.get q.tokens v) +ℤ total_at own (place_at p (token_at v))
+  pub items : (v : ℕ) (key : ItemKey) → number_at (items_at r v) key ≡ number_at (items_at q v) key +ℤ total_at own (place_at p (item_at v key))
+  pub sinks : (key : SinkKey) → int_at r.sinks key ≡ int_at q.sinks key +ℤ total_at own (place_at p (sink_at key))
   pub unsent : r.unsent ≡ q.unsent
-  pub outstanding : (x : Pointstamp) → pos (held r x) ≡ pos (held q x) +ℤ total_at own (unsent_of p x)
+  pub outstanding : (x : Pointstamp) → pos (held r x) ≡ pos (held q x) +ℤ total_at own (place_at p (unsent_at x))
   pub own_alone : AreOf p own
   pub many_items : length r.items ≡ length q.items
 
@@ -89,74 +90,74 @@ module _ (qs : List ProcessorState) (p : ℕ) (r : ProcessorState) (own : List E
     abbrev done : List ProcessorState
     done = with_records (slice_set qs p r) rs
 
-    records_now : (k : ℕ) (key : ValueAt) → int_at (now k).records key ≡ int_at (before k).records key +ℤ added_at (record_of k key)
+    records_now : (k : ℕ) (key : ValueAt) → int_at (now k).records key ≡ int_at (before k).records key +ℤ added_at (place_at k (records_at key))
     records_now k key =
         let q : ProcessorState = slice_index_or done p idle in
         let a : number_at (now k).records key ≡ number_at (slice_index_or done k idle).records key
         = kept-set (λ w. number_at w.records key) done p (record q { unsent = plus q.unsent (gain qs done) }) refl k in
         let b : number_at (slice_index_or done k idle).records key ≡ number_at (slice_index_or (slice_set qs p r) k idle).records key + comes rs k key
         = records-come (slice_set qs p r) rs (subst (λ n. AreTo n rs) (sym (length-set qs p r)) to) k key in
-        let c : pos (number_at (slice_index_or (slice_set qs p r) k idle).records key) ≡ pos (number_at (before k).records key) +ℤ total_at own (record_of k key)
-        = one_moves (λ w. int_at w.records key) (λ i. record_of i key) (move.records key) (λ i apart. total_at-elsewhere p own (record_of i key) move.own_alone (apart_of i p apart)) k in
-        let d : total_at (come_edits p rs) (record_of k key) ≡ pos (comes rs k key) = come-record p rs k key in
+        let c : pos (number_at (slice_index_or (slice_set qs p r) k idle).records key) ≡ pos (number_at (before k).records key) +ℤ total_at own (place_at k (records_at key))
+        = one_moves (λ w. int_at w.records key) (λ i. place_at i (records_at key)) (move.records key) (λ i apart. total_at-elsewhere p own (place_at i (records_at key)) move.own_alone (apart_of i p apart)) k in
+        let d : total_at (come_edits p rs) (place_at k (records_at key)) ≡ pos (comes rs k key) = come-record p rs k key in
         omega (arith, ints)
 
-    requests_now : (k : ℕ) (x : Pointstamp) → from_request (fin.get (now k).requests x) ≡ from_request (fin.get (before k).requests x) +ℤ added_at (request_of k x)
+    requests_now : (k : ℕ) (x : Pointstamp) → from_request (fin.get (now k).requests x) ≡ from_request (fin.get (before k).requests x) +ℤ added_at (place_at k (request_at x))
     requests_now k x =
-        by_own (request_of k x) _ _
+        by_own (place_at k (request_at x)) _ _
         (ap (λ (m : Requests). from_request (fin.get m x)) (kept-written (λ q. q.requests) (λ q m. refl) (λ q c. refl) qs p r rs k)
-        ∙ one_moves (λ w. from_request (fin.get w.requests x)) (λ i. request_of i x) (move.requests x) (λ i apart. total_at-elsewhere p own (request_of i x) move.own_alone (apart_of i p apart)) k)
-        (come-apart p rs (request_of k x) (λ s. refl) (λ s. refl))
+        ∙ one_moves (λ w. from_request (fin.get w.requests x)) (λ i. place_at i (request_at x)) (move.requests x) (λ i apart. total_at-elsewhere p own (place_at i (request_at x)) move.own_alone (apart_of i p apart)) k)
+        (come-apart p rs (place_at k (request_at x)) (λ s. refl) (λ s. refl))
 
-    tokens_now : (k : ℕ) (v : ℕ) → from_epoch (fin.get (now k).tokens v) ≡ from_epoch (fin.get (before k).tokens v) +ℤ added_at (token_of k v)
+    tokens_now : (k : ℕ) (v : ℕ) → from_epoch (fin.get (now k).tokens v) ≡ from_epoch (fin.get (before k).tokens v) +ℤ added_at (place_at k (token_at v))
     tokens_now k v =
-        by_own (token_of k v) _ _
+        by_own (place_at k (token_at v)) _ _
         (ap (λ (m : fin.FinMap nat_cmp ℕ). from_epoch (fin.get m v)) (kept-written (λ q. q.tokens) (λ q m. refl) (λ q c. refl) qs p r rs k)
-        ∙ one_moves (λ w. from_epoch (fin.get w.tokens v)) (λ i. token_of i v) (move.tokens v) (λ i apart. total_at-elsewhere p own (token_of i v) move.own_alone (apart_of i p apart)) k)
-        (come-apart p rs (token_of k v) (λ s. refl) (λ s. refl))
+        ∙ one_moves (λ w. from_epoch (fin.get w.tokens v)) (λ i. place_at i (token_at v)) (move.tokens v) (λ i apart. total_at-elsewhere p own (place_at i (token_at v)) move.own_alone (apart_of i p apart)) k)
+        (come-apart p rs (place_at k (token_at v)) (λ s. refl) (λ s. refl))
 
-    items_now : (k v : ℕ) (key : ItemKey) → number_at (items_at (now k) v) key ≡ number_at (items_at (before k) v) key +ℤ added_at (item_of k v key)
+    items_now : (k v : ℕ) (key : ItemKey) → number_at (items_at (now k) v) key ≡ number_at (items_at (before k) v) key +ℤ added_at (place_at k (item_at v key))
     items_now k v key =
-        by_own (item_of k v key) _ _
+        by_own (place_at k (item_at v key)) _ _
         (ap (λ m. number_at m key) (kept-written (λ q. items_at q v) (λ q m. refl) (λ q c. refl) qs p r rs k)
-        ∙ one_moves (λ w. number_at (items_at w v) key) (λ i. item_of i v key) (move.items v key) (λ i apart. total_at-elsewhere p own (item_of i v key) move.own_alone (apart_of i p apart)) k)
-        (come-apart p rs (item_of k v key) (λ s. refl) (λ s. refl))
+        ∙ one_moves (λ w. number_at (items_at w v) key) (λ i. place_at i (item_at v key)) (move.items v key) (λ i apart. total_at-elsewhere p own (place_at i (item_at v key)) move.own_alone (apart_of i p apart)) k)
+        (come-apart p rs (place_at k (item_at v key)) (λ s. refl) (λ s. refl))
 
-    sinks_now : (k : ℕ) (key : SinkKey) → int_at (now k).sinks key ≡ int_at (before k).sinks key +ℤ added_at (sink_of k key)
+    sinks_now : (k : ℕ) (key : SinkKey) → int_at (now k).sinks key ≡ int_at (before k).sinks key +ℤ added_at (place_at k (sink_at key))
     sinks_now k key =
-        by_own (sink_of k key) (int_at (now k).sinks key) (int_at (before k).sinks key)
+        by_own (place_at k (sink_at key)) (int_at (now k).sinks key) (int_at (before k).sinks key)
         (ap (λ (m : Counts sink_cmp naturals). int_at m key) (kept-written (λ q. q.sinks) (λ q m. refl) (λ q c. refl) qs p r rs k)
-        ∙ one_moves (λ w. int_at w.sinks key) (λ i. sink_of i key) (move.sinks key) (λ i apart. total_at-elsewhere p own (sink_of i key) move.own_alone (apart_of i p apart)) k)
-        (come-apart p rs (sink_of k key) (λ s. refl) (λ s. refl))
+        ∙ one_moves (λ w. int_at w.sinks key) (λ i. place_at i (sink_at key)) (move.sinks key) (λ i apart. total_at-elsewhere p own (place_at i (sink_at key)) move.own_alone (apart_of i p apart)) k)
+        (come-apart p rs (place_at k (sink_at key)) (λ s. refl) (λ s. refl))
 
     -- the step adds to the truth what the edits add to the performer's unsent change
-    gained : (x : Pointstamp) → in_change (gain qs done) x ≡ added_at (unsent_of p x)
+    gained : (x : Pointstamp) → in_change (gain qs done) x ≡ added_at (place_at p (unsent_at x))
     gained x =
         let a = gain-count qs done x in
         let b : count done x ≡ count (slice_set qs p r) x + arrives rs x = count-come (slice_set qs p r) rs (subst (λ n. AreTo n rs) (sym (length-set qs p r)) to) x in
         let c : count (slice_set qs p r) x + held (before p) x ≡ count qs x + held r x = count-set qs p r x lt in
         let d = move.outstanding x in
-        let e : total_at (come_edits p rs) (unsent_of p x) ≡ pos (arrives rs x) = come-unsent p rs x in
+        let e : total_at (come_edits p rs) (place_at p (unsent_at x)) ≡ pos (arrives rs x) = come-unsent p rs x in
         omega (arith, ints)
 
     unsent_before : (k : ℕ) → (slice_index_or done k idle).unsent ≡ (before k).unsent
     unsent_before k = kept-records (λ q. q.unsent) (λ q m. refl) (slice_set qs p r) rs k ∙ kept-set (λ q. q.unsent) qs p r move.unsent k
 
-    unsent_now : (k : ℕ) (x : Pointstamp) → in_change (now k).unsent x ≡ in_change (before k).unsent x +ℤ added_at (unsent_of k x)
+    unsent_now : (k : ℕ) (x : Pointstamp) → in_change (now k).unsent x ≡ in_change (before k).unsent x +ℤ added_at (place_at k (unsent_at x))
     unsent_now k x =
         let q : ProcessorState = slice_index_or done p idle in
         let last : ProcessorState = record q { unsent = plus q.unsent (gain qs done) } in
         elim (decided k p) [
-          | inl e ↦ subst (λ i. in_change (now i).unsent x ≡ in_change (before i).unsent x +ℤ added_at (unsent_of i x)) (sym e)
+          | inl e ↦ subst (λ i. in_change (now i).unsent x ≡ in_change (before i).unsent x +ℤ added_at (place_at i (unsent_at x))) (sym e)
               (ap (λ (w : ProcessorState). in_change w.unsent x) (get_or-set_same done p last idle (subst (λ n. p < n) (sym (length-records (slice_set qs p r) rs ∙ length-set qs p r)) lt))
               ∙ at-plus q.unsent (gain qs done) x
               ∙ (λ i. in_change (unsent_before p i) x +ℤ gained x i))
           | inr apart ↦
               let a : in_change (now k).unsent x ≡ in_change (before k).unsent x
               = ap (λ (w : ProcessorState). in_change w.unsent x) (get_or-set_other done p k last idle apart) ∙ ap (λ c. in_change c x) (unsent_before k) in
-              let b : total_at own (unsent_of k x) ≡ pos 0 = total_at-elsewhere p own (unsent_of k x) move.own_alone (apart_of k p apart) in
-              let c : total_at (come_edits p rs) (unsent_of k x) ≡ pos 0
-              = come-apart p rs (unsent_of k x) (λ s. refl) (λ s. other_place (unsent_of k x) (unsent_of p s.1.point) (λ e. apart_of k p apart (ap owner e))) in
+              let b : total_at own (place_at k (unsent_at x)) ≡ pos 0 = total_at-elsewhere p own (place_at k (unsent_at x)) move.own_alone (apart_of k p apart) in
+              let c : total_at (come_edits p rs) (place_at k (unsent_at x)) ≡ pos 0
+              = come-apart p rs (place_at k (unsent_at x)) (λ s. refl) (λ s. other_place (place_at k (unsent_at x)) (place_at p (unsent_at s.1.point)) (λ e. apart_of k p apart (ap owner e))) in
               omega (arith, ints)
         ]
 
@@ -169,10 +170,10 @@ module _ (qs : List ProcessorState) (p : ℕ) (r : ProcessorState) (own : List E
 -- such a step adds at each place what the performer's own edits and those of the records that come add
 pub standing-written : (s : ClusterState) (p : ℕ) (r : ProcessorState) (own : List Edit) (rs : List (ℕ × ValueAt)) → p < length s.processors → AreTo (length s.processors) rs
     → IsMove p (processor s p) r own → (k : Place) → standing (record s { processors = written s.processors p r rs }) k ≡ standing s k +ℤ (total_at own k +ℤ total_at (come_edits p rs) k)
-standing-written s p r own rs lt to move (record_of k key) = records_now s.processors p r own lt rs to move k key
-standing-written s p r own rs lt to move (request_of k x) = requests_now s.processors p r own lt rs to move k x
-standing-written s p r own rs lt to move (token_of k v) = tokens_now s.processors p r own lt rs to move k v
-standing-written s p r own rs lt to move (item_of k v key) = items_now s.processors p r own lt rs to move k v key
-standing-written s p r own rs lt to move (sink_of k key) = sinks_now s.processors p r own lt rs to move k key
-standing-written s p r own rs lt to move (unsent_of k x) = unsent_now s.processors p r own lt rs to move k x
+standing-written s p r own rs lt to move (place_at k (records_at key)) = records_now s.processors p r own lt rs to move k key
+standing-written s p r own rs lt to move (place_at k (request_at x)) = requests_now s.processors p r own lt rs to move k x
+standing-written s p r own rs lt to move (place_at k (token_at v)) = tokens_now s.processors p r own lt rs to move k v
+standing-written s p r own rs lt to move (place_at k (item_at v key)) = items_now s.processors p r own lt rs to move k v key
+standing-written s p r own rs lt to move (place_at k (sink_at key)) = sinks_now s.processors p r own lt rs to move k key
+standing-written s p r own rs lt to move (place_at k (unsent_at x)) = unsent_now s.processors p r own lt rs to move k x
 standing-written s p r own rs lt to move (view_of k x) = view_now s.processors p r own lt rs to move s k x

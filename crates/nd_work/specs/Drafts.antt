@@ -13,7 +13,7 @@ use Rattle.nd_vertex.specs.declared.effect.ItemEdit.{ItemEdit}
 use Rattle.nd_protocol.specs.State.{ClusterState, processor}
 use Rattle.nd_protocol.specs.declared.step.Step.TheVariants.{Feed, Take, Notice}
 use Rattle.nd_protocol.specs.declared.step.Next.{Next as Afterwards}
-use Rattle.nd_record.specs.Places.{Place, unsent_of}
+use Rattle.nd_record.specs.Places.{Place, place_at, unsent_at}
 use Rattle.nd_record.specs.Changes.{gain_of, FindsOld, NamesNumbers}
 use Rattle.nd_record.specs.Edits.{Edit, total_at, edits_of}
 use Rattle.nd_work.specs.Edits.{edits}
@@ -30,7 +30,7 @@ IsSingle (Records p edge t value n) = ⊥
 IsSingle (Request p vertex t add) = Unit {0}
 IsSingle (Token p vertex old new) = Unit {0}
 IsSingle (State p vertex t item old new) = Unit {0}
-IsSingle (Sink p vertex value) = Unit {0}
+IsSingle (Sink p vertex value add) = Unit {0}
 IsSingle (Unsent p point n) = ⊥
 
 -- a single change that may be made in the state
@@ -87,7 +87,7 @@ request_changes p vertex t (Some add) = Request p vertex t add ∷ []
 -- a value that a sink counts, if any
 abbrev pub sink_changes : ℕ → ℕ → Option ℤ → List Change
 sink_changes p vertex None = []
-sink_changes p vertex (Some value) = Sink p vertex value ∷ []
+sink_changes p vertex (Some value) = Sink p vertex value true ∷ []
 
 -- all single changes at one vertex
 abbrev pub vertex_changes : ℕ → ℕ → Time → Option Bool → List ItemEdit → Option ℤ → List Change
@@ -113,7 +113,7 @@ request_if true = Some true
 request_if false = None
 
 abbrev pub sent_if : Bool → ℕ → Pointstamp → List Edit
-sent_if true p x = (unsent_of p x, pos 1) ∷ []
+sent_if true p x = (place_at p (unsent_at x), pos 1) ∷ []
 sent_if false p x = []
 
 -- the value that a sink counts

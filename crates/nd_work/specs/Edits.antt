@@ -13,7 +13,7 @@ use Rattle.nd_protocol.specs.declared.step.Step.{Step}
 use Rattle.nd_protocol.specs.declared.step.Step.TheVariants.{Feed, Take, Notice, Broadcast, Receive}
 use Rattle.nd_protocol.specs.declared.step.Next.{Next as Afterwards}
 use Rattle.nd_protocol.specs.declared.step.Next.TheVariants as token
-use Rattle.nd_record.specs.Places.{record_of, request_of, token_of, item_of, sink_of, unsent_of}
+use Rattle.nd_record.specs.Places.{place_at, records_at, request_at, token_at, item_at, sink_at, unsent_at}
 use Rattle.nd_record.specs.Edits.{Edit}
 
 -- ---- the records that a step makes, with their processors
@@ -35,30 +35,30 @@ come s (Receive from to) = []
 
 -- each is there once more, and processor p has it to send
 abbrev pub come_edits : ℕ → List (ℕ × ValueAt) → List Edit
-come_edits p rs = map (λ r. (record_of r.0 r.1, pos 1)) rs ++ map (λ r. (unsent_of p r.1.point, pos 1)) rs
+come_edits p rs = map (λ r. (place_at r.0 (records_at r.1), pos 1)) rs ++ map (λ r. (place_at p (unsent_at r.1.point), pos 1)) rs
 
 -- ---- what else a step adds
 
 -- the token's move from an epoch
 abbrev pub token_edits : ℕ → ℕ → ℕ → Afterwards → List Edit
 token_edits p vertex epoch token.Next =
-    (token_of p vertex, pos 1) ∷ (unsent_of p (token_point vertex epoch), negsuc 0) ∷ (unsent_of p (token_point vertex (epoch + 1)), pos 1) ∷ []
-token_edits p vertex epoch token.Close = (token_of p vertex, negsuc epoch) ∷ (unsent_of p (token_point vertex epoch), negsuc 0) ∷ []
+    (place_at p (token_at vertex), pos 1) ∷ (place_at p (unsent_at (token_point vertex epoch)), negsuc 0) ∷ (place_at p (unsent_at (token_point vertex (epoch + 1))), pos 1) ∷ []
+token_edits p vertex epoch token.Close = (place_at p (token_at vertex), negsuc epoch) ∷ (place_at p (unsent_at (token_point vertex epoch)), negsuc 0) ∷ []
 token_edits p vertex epoch token.Stay = []
 
 -- the items that have another number then
 abbrev pub item_edits : ℕ → ℕ → Items → Items → List Edit
-item_edits p vertex old new = map (λ e. (item_of p vertex e.0, e.1)) (entries (difference item_total old new))
+item_edits p vertex old new = map (λ e. (place_at p (item_at vertex e.0), e.1)) (entries (difference item_total old new))
 
 -- a request that was not there
 abbrev pub ask_edits : ClusterState → ℕ → ℕ → Time → Bool → List Edit
 ask_edits s p vertex t asks =
     cond (asks && is_none (fin.get (processor s p).requests (point_at vertex t)))
-    ((request_of p (point_at vertex t), pos 1) ∷ (unsent_of p (point_at vertex t), pos 1) ∷ [])
+    ((place_at p (request_at (point_at vertex t)), pos 1) ∷ (place_at p (unsent_at (point_at vertex t)), pos 1) ∷ [])
     []
 
 abbrev pub sink_edits : ℕ → ℕ → ℤ → Bool → List Edit
-sink_edits p vertex value counts = cond counts ((sink_of p (record { vertex = vertex; value = value }), pos 1) ∷ []) []
+sink_edits p vertex value counts = cond counts ((place_at p (sink_at (record { vertex = vertex; value = value })), pos 1) ∷ []) []
 
 -- all that a step adds
 abbrev pub edits : {A : Type 0} → ClusterState → Step A → List Edit
@@ -66,13 +66,13 @@ edits {A} s (Feed p vertex values next) = token_edits p vertex (epoch_of s p ver
 edits {A} s (Take p edge t value) =
     let target = target_of s.graph edge in
     let outcome = take_outcome s p edge t value in
-    (record_of p (record_key edge t value), negsuc 0) ∷ (unsent_of p (point_at edge t), negsuc 0) ∷ []
+    (place_at p (records_at (record_key edge t value)), negsuc 0) ∷ (place_at p (unsent_at (point_at edge t)), negsuc 0) ∷ []
     ++ (ask_edits s p target t outcome.asks
     ++ (item_edits p target (items_at (processor s p) target) outcome.items
     ++ (sink_edits p target value outcome.counts
     ++ come_edits p (come {A = A} s (Take p edge t value)))))
 edits {A} s (Notice p vertex t) =
-    (request_of p (point_at vertex t), negsuc 0) ∷ (unsent_of p (point_at vertex t), negsuc 0) ∷ []
+    (place_at p (request_at (point_at vertex t)), negsuc 0) ∷ (place_at p (unsent_at (point_at vertex t)), negsuc 0) ∷ []
     ++ (item_edits p vertex (items_at (processor s p) vertex) (notice_outcome s p vertex t).items
     ++ come_edits p (come {A = A} s (Notice p vertex t)))
 edits s (Broadcast p _) = []

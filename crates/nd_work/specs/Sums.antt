@@ -13,7 +13,7 @@ use Rattle.nd_map.specs.Listed.{IsListed}
 use Rattle.nd_paths.specs.Point.{point_cmp}
 use Rattle.nd_processor.specs.Keys.{value_at_cmp, value_at_total, value_at_exact}
 use Rattle.nd_processor.specs.declared.key.ValueAt.{ValueAt}
-use Rattle.nd_record.specs.Places.{Place, place_cmp, record_of, request_of, token_of, item_of, sink_of, unsent_of, view_of}
+use Rattle.nd_record.specs.Places.{Place, place_cmp, place_at, records_at, request_at, token_at, item_at, sink_at, unsent_at, view_of}
 use Rattle.nd_record.specs.Edits.{Edit, total_at}
 use Rattle.nd_work.specs.declared.key.RecordAt.{RecordAt}
 use Rattle.nd_work.specs.declared.net.Sums.{Sums}
@@ -53,12 +53,12 @@ pub record AreSummed {A : Type 0} (s : Sums A) : Type 0 where
 
 -- the sum at a place; only records and the performer's own unsent entries are summed
 abbrev pub sum_at : {A : Type 0} → Sums A → Place → ℤ
-sum_at s (record_of p key) = found record_at_cmp s.records (record { p = p; key = key })
-sum_at s (request_of p point) = pos 0
-sum_at s (token_of p vertex) = pos 0
-sum_at s (item_of p vertex key) = pos 0
-sum_at s (sink_of p key) = pos 0
-sum_at s (unsent_of p point) = cond (eq_by_cmp nat_cmp p s.p) (found point_cmp s.unsent point) (pos 0)
+sum_at s (place_at p (records_at key)) = found record_at_cmp s.records (record { p = p; key = key })
+sum_at s (place_at p (request_at point)) = pos 0
+sum_at s (place_at p (token_at vertex)) = pos 0
+sum_at s (place_at p (item_at vertex key)) = pos 0
+sum_at s (place_at p (sink_at key)) = pos 0
+sum_at s (place_at p (unsent_at point)) = cond (eq_by_cmp nat_cmp p s.p) (found point_cmp s.unsent point) (pos 0)
 sum_at s (view_of q point) = pos 0
 
 -- the second sums have n more at one place

@@ -1,7 +1,7 @@
 //! What a step adds, before it is put into the order of a record.
 ghost use Rattle.std.specs.Prelude.{◌≡◌, ◌≤◌, ◌*◌, ◌+◌, ◌++◌, ◌∷◌, [], ℕ, ℤ, unsigned_abs, length, map, IfOk, OnOk};
 ghost use Rattle.nd_protocol.specs.State.{ClusterState};
-ghost use Rattle.nd_record.specs.Places.{record_of, unsent_of};
+ghost use Rattle.nd_record.specs.Places.{place_at, records_at, unsent_at};
 ghost use Rattle.nd_work.specs.Edits.{come_edits};
 ghost use Rattle.nd_work.specs.Drafts.{AddsUp, IsSmall, Follows, state_change, vertex_changes, joined};
 
@@ -56,7 +56,7 @@ impl<A: Allocator + Copy> Draft<A> {
     pub(crate) fn add_record(&mut self, p: u32, key: &ValueAt, n: i64) -> Result<(), AllocError>
         requires small { IsSmall 6 self.old }
         requires one { unsigned_abs n ≤ 1 }
-        ensures follows { OnOk result (Follows self.old ((record_of p key.now, n) ∷ []) self.new) }
+        ensures follows { OnOk result (Follows self.old ((place_at p (records_at key.now), n) ∷ []) self.new) }
         ensures small { OnOk result ((b : ℕ) → IsSmall b self.old → IsSmall (b + 1) self.new) }
         ensures singles { self.new.singles ≡ self.old.singles }
     {
@@ -70,7 +70,7 @@ impl<A: Allocator + Copy> Draft<A> {
     pub(crate) fn add_unsent(&mut self, point: &Pointstamp, n: i64) -> Result<(), AllocError>
         requires small { IsSmall 6 self.old }
         requires one { unsigned_abs n ≤ 1 }
-        ensures follows { OnOk result (Follows self.old ((unsent_of self.old.sums.p point.now, n) ∷ []) self.new) }
+        ensures follows { OnOk result (Follows self.old ((place_at self.old.sums.p (unsent_at point.now), n) ∷ []) self.new) }
         ensures small { OnOk result ((b : ℕ) → IsSmall b self.old → IsSmall (b + 1) self.new) }
         ensures singles { self.new.singles ≡ self.old.singles }
     {
@@ -116,7 +116,12 @@ impl<A: Allocator + Copy> Draft<A> {
         }
         self.push_items(p, vertex, items)?;
         if let Some(value) = counted {
-            self.push(Change::Sink { p, vertex, value })?;
+            self.push(Change::Sink {
+                p,
+                vertex,
+                value,
+                add: true,
+            })?;
         }
         Ok(())
     }

@@ -2,7 +2,7 @@
 ghost use Rattle.std.specs.Prelude.{◌≡◌, ◌≤◌, ◌*◌, ◌+◌, ◌+ℤ◌, ℕ, ℤ, pos, unsigned_abs, ◌++◌, map, length, OnOk, IfOk};
 ghost use Rattle.std.specs.FinMap.{find};
 ghost use Rattle.nd_time.specs.Limits.{max_count};
-ghost use Rattle.nd_record.specs.Places.{Place, record_of, unsent_of};
+ghost use Rattle.nd_record.specs.Places.{Place, place_at, records_at, unsent_at};
 ghost use Rattle.nd_work.specs.Edits.{come_edits};
 ghost use Rattle.nd_work.specs.Drafts.{record_change as change_of_records, unsent_change as change_of_unsent};
 ghost use Rattle.nd_work.specs.Sums.{AreSums, IsAdded, found, AreSummed, IsMore, AddsAll, sum_at};
@@ -106,8 +106,8 @@ impl<A: Allocator + Copy> Sums<A> {
     // So many records more at processor p.
     pub(crate) fn add_records(&mut self, p: u32, key: &ValueAt, n: i64) -> Result<(), AllocError>
         requires kept { AreSummed self.old }
-        requires fits { unsigned_abs (sum_at self.old (record_of p key.now) +ℤ n) ≤ max_count }
-        ensures ok { OnOk result (IsMore self.old (record_of p key.now) n self.new) }
+        requires fits { unsigned_abs (sum_at self.old (place_at p (records_at key.now)) +ℤ n) ≤ max_count }
+        ensures ok { OnOk result (IsMore self.old (place_at p (records_at key.now)) n self.new) }
         ensures kept { AreSummed self.new }
     {
         let at = RecordAt { p, key: key.copy() };
@@ -120,8 +120,8 @@ impl<A: Allocator + Copy> Sums<A> {
     // So much more that is unsent at a pointstamp.
     pub(crate) fn add_unsent(&mut self, point: &Pointstamp, n: i64) -> Result<(), AllocError>
         requires kept { AreSummed self.old }
-        requires fits { unsigned_abs (sum_at self.old (unsent_of self.old.p point.now) +ℤ n) ≤ max_count }
-        ensures ok { OnOk result (IsMore self.old (unsent_of self.old.p point.now) n self.new) }
+        requires fits { unsigned_abs (sum_at self.old (place_at self.old.p (unsent_at point.now)) +ℤ n) ≤ max_count }
+        ensures ok { OnOk result (IsMore self.old (place_at self.old.p (unsent_at point.now)) n self.new) }
         ensures kept { AreSummed self.new }
     {
         let Ok(()) = add_in(&mut self.unsent, point, n) else {

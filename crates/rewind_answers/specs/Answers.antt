@@ -17,6 +17,7 @@ use Rattle.nd_delta.specs.Change.{Change, at, entries}
 use Rattle.nd_delta.specs.Least.{IsLeast}
 use Rattle.nd_view.specs.View.{IsPassed, IsBlocker, IsOnFrontier, IsPartWhere}
 use Rattle.nd_protocol.specs.State.{ClusterState, truth, view}
+use Rattle.nd_protocol.specs.Invariant.{IsFinished}
 use Rattle.nd_shown.specs.StateText.{state_data, entries_data, point_data}
 use Rattle.nd_protocol.specs.Start.{start}
 use Rattle.nd_cluster.specs.Starting.{IsStartFault, CanStart, start_number, start_name}
@@ -103,12 +104,12 @@ FrontierReply s q reply =
     ⊎ ((q < length s.processors)
     × ((f : Change) × IsPartWhere (IsOnFrontier s.graph (view s q)) (view s q) f × (reply ≡ frontier (entries_data s.graph (entries f)))))
 
--- whether processor q's view has passed a pointstamp, and if not, the least that stands in the way
+-- whether processor q's view has passed a pointstamp, which is then finished, and if not, the least that stands in the way
 abbrev pub PassedReply : ClusterState → ℕ → Pointstamp → Data → Type 0
 PassedReply s q t reply =
     ((length s.processors ≤ q) × (reply ≡ no_processor))
     ⊎ ((q < length s.processors)
-    × ((IsPassed s.graph (view s q) t × (reply ≡ passed))
+    × (((IsPassed s.graph (view s q) t × IsFinished s t) × (reply ≡ passed))
     ⊎ ((x : Pointstamp) × IsLeast (IsBlocker s.graph (view s q) t) x × (reply ≡ not_passed (point_data s.graph x)))))
 
 -- the reply to a search that has no answer; want of memory outside the workers' walks is none

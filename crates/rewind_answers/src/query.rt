@@ -1,7 +1,7 @@
 //! The replies to queries.
 ghost use Rattle.std.specs.Prelude.{◌≡◌, ◌↔◌, Bool, false, Some, IfOk, IsTrue};
 ghost use Rattle.nd_paths.specs.Order.{CouldResultIn};
-ghost use Rattle.nd_protocol.specs.Invariant.{IsSettled};
+ghost use Rattle.nd_protocol.specs.Invariant.{IsSettled, KeepsProtocol};
 ghost use Rattle.nd_shown.specs.StateText.{state_data};
 ghost use Rattle.serde_json.specs.View.{view};
 ghost use Rattle.serde_json.specs.Written.{has_float};
@@ -90,6 +90,7 @@ fn answer_passed(
     q: u32,
     point: &Pointstamp,
 ) -> Result<Value, AllocError>
+    requires { KeepsProtocol cluster.now }
     ensures reply { IfOk result (λ v. PassedReply cluster.now q point.now (view v)) }
     ensures text { IfOk result (λ v. has_float (view v) ≡ false) }
 {

@@ -65,14 +65,16 @@ ended-more fs gs f is all here = subst (All MayEnd) (sym is) (All-append MayEnd 
     one (suc k) d lt = absurd (omega (arith, lt))
 
 -- there are lines that may be told of commands
-pub some-lines : (commands : Commands) (machine : MachineValue Global) → IsHistory [] machine → (lines : List Data) × Tells commands lines
-some-lines commands machine history = (
+pub some-lines : (opening : MachineValue Global) (commands : Commands) (machine : MachineValue Global) → machine.timeline.base ≡ opening.timeline.base → IsHistory [] machine
+    → (lines : List Data) × Tells opening commands lines
+some-lines opening commands machine begins history = (
   _,
   record {
     log = [];
     machine = machine;
     faults = map none-of commands;
     told = record {
+      begins = begins;
       history = history;
       clients = length-map commands none-of;
       ended = all-none commands;
@@ -123,8 +125,10 @@ own-entries log k p h e = ap asked h ∙ ap (λ (n : ℕ). commands_of n log) e
 
 pub driven : (commands : Commands) (ts : List Task) (ds : List Done) (clients : List (ClientValue Global)) (faults : List Ended) (log : List (Receipt Global)) (machine : MachineValue Global) (entered : ℕ)
     → AreFresh commands ts → AreDone ts ds → length ds ≡ length ts → clients ≡ map (λ d. d.client) ds → faults ≡ map (λ d. d.fault) ds
-    → All MayEnd faults → IsWhole log clients entered → IsHistory log machine → Told commands log machine faults
-driven commands ts ds clients faults log machine entered fresh done size are faults_are ended whole history = record {
+    → All MayEnd faults → IsWhole log clients entered → IsHistory log machine → (opening : MachineValue Global) → machine.timeline.base ≡ opening.timeline.base
+    → Told opening commands log machine faults
+driven commands ts ds clients faults log machine entered fresh done size are faults_are ended whole history opening begins = record {
+  begins = begins;
   history = history;
   ended = ended;
   clients =

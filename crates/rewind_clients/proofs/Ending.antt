@@ -92,7 +92,7 @@ stops-first intake reply lines before after fault.TooLong are h = absurd h
 stops-first intake reply lines before after fault.Close are h = absurd h
 
 -- the graph's reply was written, and then the run of the clients failed
-pub stops-driving : (reply : Data) (m : Logged) (commands : Commands) (lines : List Data) (before : List ℕ) (after : Known) (e : DebugFault) → Tells commands lines → IsOfDriving e
+pub stops-driving : (reply : Data) (m : Logged) (commands : Commands) (lines : List Data) (before : List ℕ) (after : Known) (e : DebugFault) → Tells m.machine commands lines → IsOfDriving e
     → after ≡ Some (before ++ text_of (reply ∷ [])) → Writes (script reply m commands) before after (Err e)
 stops-driving reply m commands lines before after fault.Memory t h e = (reply ∷ lines, (lines, t, refl), record { count = 1; written = e })
 stops-driving reply m commands lines before after fault.Close t h e = (reply ∷ lines, (lines, t, refl), record { count = 1; written = e })
@@ -103,7 +103,7 @@ stops-driving reply m commands lines before after fault.Write t h e = absurd h
 stops-driving reply m commands lines before after fault.TooLong t h e = absurd h
 
 -- the lines behind it could not be written whole
-pub stops-telling : (reply : Data) (m : Logged) (commands : Commands) (lines : List Data) (before : List ℕ) (after : Known) (e : DebugFault) → Tells commands lines
+pub stops-telling : (reply : Data) (m : Logged) (commands : Commands) (lines : List Data) (before : List ℕ) (after : Known) (e : DebugFault) → Tells m.machine commands lines
     → StopsIn lines (before ++ text_of (reply ∷ [])) after e → Writes (script reply m commands) before after (Err e)
 stops-telling reply m commands lines before after fault.Memory t h = (reply ∷ lines, (lines, t, refl), lines-behind reply lines before after h)
 stops-telling reply m commands lines before after fault.Write t h = (reply ∷ lines, (lines, t, refl), front-behind reply lines before after h)
@@ -114,12 +114,12 @@ stops-telling reply m commands lines before after fault.TooLong t h = absurd h
 stops-telling reply m commands lines before after fault.Close t h = absurd h
 
 -- all was written
-pub script-told : (reply : Data) (m : Logged) (commands : Commands) (lines : List Data) (before : List ℕ) (after : Known) → Tells commands lines
+pub script-told : (reply : Data) (m : Logged) (commands : Commands) (lines : List Data) (before : List ℕ) (after : Known) → Tells m.machine commands lines
     → after ≡ Some ((before ++ text_of (reply ∷ [])) ++ text_of lines) → Writes (script reply m commands) before after (Ok tt)
 script-told reply m commands lines before after t e = (tt, (reply ∷ lines, (lines, t, refl), e ∙ ap Some (joined before (reply ∷ []) lines)))
 
 -- or not all
-pub script-ends : (reply : Data) (m : Logged) (commands : Commands) (lines : List Data) (before : List ℕ) (old after : Known) (r : Result (Unit {0}) DebugFault) → Tells commands lines
+pub script-ends : (reply : Data) (m : Logged) (commands : Commands) (lines : List Data) (before : List ℕ) (old after : Known) (r : Result (Unit {0}) DebugFault) → Tells m.machine commands lines
     → old ≡ Some (before ++ text_of (reply ∷ [])) → OnOk r ((b : List ℕ) → old ≡ Some b → after ≡ Some (b ++ text_of lines))
     → IfErr r (λ e. (b : List ℕ) → old ≡ Some b → StopsIn lines b after e) → Writes (script reply m commands) before after r
 script-ends reply m commands lines before old after (Ok u) t had ok err = script-told reply m commands lines before after t (ok _ had)

@@ -5,3 +5,4 @@ pub mod Gathering
 pub mod Members
 pub mod Reading
 pub mod Telling
+pub mod Starts

@@ -28,7 +28,7 @@ abbrev pub Replies : Intake → List Data → Type 0
 Replies nothing replies = replies ≡ []
 Replies (refused_graph reply) replies = replies ≡ reply ∷ []
 Replies (faulty_line reply) replies = replies ≡ reply ∷ []
-Replies (script reply machine commands) replies = (lines : List Data) × Tells commands lines × (replies ≡ reply ∷ lines)
+Replies (script reply machine commands) replies = (lines : List Data) × Tells machine.machine commands lines × (replies ≡ reply ∷ lines)
 
 -- which of them end a run well, with Graph, and with Script
 abbrev pub EndsWell : Intake → Type 0

@@ -56,9 +56,10 @@ abbrev pub IsServed : List (Command Global) → List (Command Global) → Ended 
 IsServed commands made None = made ≡ commands
 IsServed commands made (Some e) = (n : ℕ) × (n < length commands) × (made ≡ take n commands)
 
--- These entries and faults are told: a legal log from a start, of the clients' first commands, each client's in order;
--- and no fault but LogFull and Memory.
-pub record Told (commands : Commands) (log : List (Receipt Global)) (machine : MachineValue Global) (faults : List Ended) : Type 0 where
+-- These entries and faults are told: a legal log from where the script's machine began, of the clients' first commands, each
+-- client's in order; and no fault but LogFull and Memory.
+pub record Told (opening : MachineValue Global) (commands : Commands) (log : List (Receipt Global)) (machine : MachineValue Global) (faults : List Ended) : Type 0 where
+  pub begins : machine.timeline.base ≡ opening.timeline.base
   pub history : IsHistory log machine
   pub clients : length faults ≡ length commands
   pub ended : All MayEnd faults
@@ -74,10 +75,10 @@ machine_of l = record { timeline = l.timeline; breaks = l.breaks }
 abbrev pub lines_data : Dataflow → List (Receipt Global) → List Ended → List Data
 lines_data g log faults = map (entry_data g) log ++ faults_data 0 faults
 
--- the lines behind the graph's reply
-pub record Tells (commands : Commands) (lines : List Data) : Type 0 where
+-- the lines behind the graph's reply, of a machine that began as this one
+pub record Tells (opening : MachineValue Global) (commands : Commands) (lines : List Data) : Type 0 where
   pub log : List (Receipt Global)
   pub machine : MachineValue Global
   pub faults : List Ended
-  pub told : Told commands log machine faults
+  pub told : Told opening commands log machine faults
   pub shown : lines ≡ lines_data (cluster_of machine.timeline).graph log faults

@@ -4,6 +4,7 @@ ghost use Rattle.rewind_clients.specs.Intakes.{lists_of};
 ghost use Rattle.rewind_clients.specs.Served.{AreDone, AreFresh, IsDone, IsOfDriving, asked};
 ghost use Rattle.rewind_clients.specs.Told.{IsServed, MayEnd, Told, machine_of};
 
+use crate::same::same_graph;
 use nd_search::Gate;
 use nd_session::{Client, Log, Session, SessionFault, State};
 use nd_timeline::Command;
@@ -159,7 +160,8 @@ fn split(
     Ok((clients, faults))
 }
 
-/// Runs all clients' commands on a session of the state, and closes it.
+/// Runs all clients' commands on a session of the state, and closes it. A log that began elsewhere is
+/// one of a session that does not add up.
 pub fn drive_session<R: Threads + Wait + Sync, G: Gate>(
     rt: &R,
     alloc: Global,
@@ -168,15 +170,26 @@ pub fn drive_session<R: Threads + Wait + Sync, G: Gate>(
     gate: &G,
 ) -> Result<Driven, DebugFault>
     ensures told { IfOk result (λ d.
-        Told (lists_of commands.items) d.log.entries.items (machine_of d.log) d.faults.items) }
+        Told state.machine (lists_of commands.items) d.log.entries.items (machine_of d.log) d.faults.items) }
     ensures kind { IfErr result IsOfDriving }
 {
+    // A lock's contract does not tell what it first held, so it is looked at afterwards.
+    let begun = state.timeline().base();
+    let graph = begun.graph().copy(alloc)?;
+    let count = begun.n();
     let session = Session::new(state);
     let tasks = enter_all(rt, alloc, &session, commands)?;
     let done = drive_all(rt, alloc, &session, gate, tasks)?;
     let (clients, faults) = split(alloc, done)?;
     match session.close(clients) {
-        Ok(log) => Ok(Driven { log, faults }),
+        Ok(log) => {
+            let left = log.timeline.base();
+            if left.n() == count && same_graph(left.graph(), &graph) {
+                Ok(Driven { log, faults })
+            } else {
+                Err(DebugFault::Close)
+            }
+        }
         Err(_) => Err(DebugFault::Close),
     }
 }

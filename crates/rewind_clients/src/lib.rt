@@ -8,6 +8,7 @@ mod numbers;
 mod order;
 mod outbox;
 mod reader;
+mod same;
 mod shown;
 mod tell;
 

@@ -2,7 +2,7 @@ use Rattle.std.proofs.Common.{◌≡◌, ◌<◌, ◌≤◌, ◌+◌, ◌-◌, l
 use Rattle.nd_protocol.specs.State.{ClusterState}
 use Rattle.nd_record.specs.Undone.{only}
 use Rattle.nd_record.proofs.Edited.{processors_of}
-use Rattle.nd_record.proofs.Running.{state_none, all_made, next_here, returns_here, back_here}
+use Rattle.nd_record.proofs.Running.{state_none, all_made, next_here, turns_here, fits_here, back_here}
 use Rattle.nd_record.proofs.making.make_all.Goals as goal
 
 pub loop-i-init : goal.loop-i-init
@@ -14,12 +14,18 @@ loop-i-preserved g c =
     c.in-Ok.ensures.ok
     ∙ next_here s c.args.changes.now c.requires.runs c.requires.limits c.loop-i.i c.index-changes-i.result c.loop-i-test.true c.index-changes-i.is (only c.loop-i.processors.items) c.loop-i.invariant
 
-pub undo-requires : goal.undo-requires
-undo-requires g c =
+pub undo-requires-clause-fits : goal.undo-requires-clause-fits
+undo-requires-clause-fits g c =
     let s : ClusterState = only c.args.processors.now.items in
     let lt : c.loop-j.j - 1 < length c.args.changes.now = omega (arith, c.loop-i-test.true, c.loop-j.invariant.before, c.loop-j-test.true) in
     let above : c.loop-j.j ≡ c.loop-j.j - 1 + 1 = omega (arith, c.loop-j-test.true) in
-    returns_here s c.args.changes.now c.requires.runs c.requires.limits (c.loop-j.j - 1) c.index-changes-j.result lt c.index-changes-j.is (only c.loop-j.processors.items) c.loop-j.j above c.loop-j.invariant.now
+    fits_here s c.args.changes.now c.requires.runs c.requires.limits (c.loop-j.j - 1) c.index-changes-j.result lt c.index-changes-j.is (only c.loop-j.processors.items) c.loop-j.j above c.loop-j.invariant.now
+
+pub undo-requires-clause-turns : goal.undo-requires-clause-turns
+undo-requires-clause-turns g c =
+    let s : ClusterState = only c.args.processors.now.items in
+    let lt : c.loop-j.j - 1 < length c.args.changes.now = omega (arith, c.loop-i-test.true, c.loop-j.invariant.before, c.loop-j-test.true) in
+    turns_here s c.args.changes.now c.requires.runs c.requires.limits (c.loop-j.j - 1) c.index-changes-j.result lt c.index-changes-j.is (only c.loop-j.processors.items)
 
 pub loop-j-preserved : goal.loop-j-preserved
 loop-j-preserved g c =

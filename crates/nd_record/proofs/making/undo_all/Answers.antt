@@ -1,7 +1,7 @@
 use Rattle.std.proofs.Common.{◌≡◌, ◌<◌, ◌≤◌, ◌+◌, ◌-◌, length, sym, ◌∙◌, arith}
 use Rattle.nd_record.specs.Undone.{only}
 use Rattle.nd_record.proofs.Edited.{processors_of}
-use Rattle.nd_record.proofs.Running.{state_none, all_made, next_here, returns_here, back_here}
+use Rattle.nd_record.proofs.Running.{state_none, all_made, next_here, turns_here, fits_here, back_here}
 use Rattle.nd_record.proofs.making.undo_all.Goals as goal
 
 pub loop-i-init : goal.loop-i-init
@@ -10,12 +10,18 @@ loop-i-init g c = record {
   now = λ s h. sym h.arrives ∙ sym (all_made s c.args.changes.now (length c.args.changes.now) (omega arith));
 }
 
-pub undo-requires : goal.undo-requires
-undo-requires g c =
+pub undo-requires-clause-fits : goal.undo-requires-clause-fits
+undo-requires-clause-fits g c =
     let h = c.requires.runs in
     let lt : c.loop-i.i - 1 < length c.args.changes.now = omega (arith, c.loop-i.invariant.within, c.loop-i-test.true) in
     let above : c.loop-i.i ≡ c.loop-i.i - 1 + 1 = omega (arith, c.loop-i-test.true) in
-    returns_here c.requires.state c.args.changes.now h.runs h.limits (c.loop-i.i - 1) c.index-changes-i.result lt c.index-changes-i.is (only c.loop-i.processors.items) c.loop-i.i above (c.loop-i.invariant.now c.requires.state h)
+    fits_here c.requires.state c.args.changes.now h.runs h.limits (c.loop-i.i - 1) c.index-changes-i.result lt c.index-changes-i.is (only c.loop-i.processors.items) c.loop-i.i above (c.loop-i.invariant.now c.requires.state h)
+
+pub undo-requires-clause-turns : goal.undo-requires-clause-turns
+undo-requires-clause-turns g c =
+    let h = c.requires.runs in
+    let lt : c.loop-i.i - 1 < length c.args.changes.now = omega (arith, c.loop-i.invariant.within, c.loop-i-test.true) in
+    turns_here c.requires.state c.args.changes.now h.runs h.limits (c.loop-i.i - 1) c.index-changes-i.result lt c.index-changes-i.is (only c.loop-i.processors.items)
 
 pub loop-i-preserved : goal.loop-i-preserved
 loop-i-preserved g c =

@@ -8,7 +8,7 @@ use Rattle.rewind_answers.proofs.query.answer_frontier.Goals as goal
 pub returns-clause-reply : goal.returns-clause-reply
 returns-clause-reply c =
     let s = c.args.cluster.now in
-    let there : c.args.q < length s.processors = omega (arith, c.n.ensures) in
+    let there : c.args.q < length s.processors = omega (arith, c.n.ensures.value) in
     frontier_replies s c.args.q c.paths.result.now c.view.result.now.map c.in_ok-first.first (view c.in_ok-shown.shown) c.frontier-2.result there
     c.paths.ensures c.view.ensures.map c.in_ok-first.ensures.value
     (c.in_ok-shown.ensures.reply ∙ (λ i. entries_data (c.graph.ensures i) (c.entries.ensures.listed i))) c.frontier-2.ensures.reply

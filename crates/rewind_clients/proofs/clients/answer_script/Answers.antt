@@ -14,7 +14,7 @@ pub returns-in_err-tell_one-clause-run : goal.returns-in_err-tell_one-clause-run
 returns-in_err-tell_one-clause-run g c =
     let p = err_from_is_err_and c.from_residual.result c.from_residual.ensures.1 in
     let s = c.args.script in
-    let t = some-lines (lists_of s.commands.items) (opening_of s.state.machine) (opened-history s.state.machine c.timeline.ensures.start c.timeline.ensures.state c.timeline.ensures.protocol) in
+    let t = some-lines s.state.machine (lists_of s.commands.items) (opening_of s.state.machine) refl (opened-history s.state.machine c.timeline.ensures.start c.timeline.ensures.state c.timeline.ensures.protocol) in
     rw (p.1, p.2) (λ before told.
     stops-first (script (view s.reply) (logged s.state) (lists_of s.commands.items)) (view s.reply) t.0 before _ _ (t.0, t.1, refl) (c.in_err-tell_one.ensures.err before told))
 
@@ -22,7 +22,7 @@ pub returns-in_err-driven-clause-run : goal.returns-in_err-driven-clause-run
 returns-in_err-driven-clause-run g c =
     let p = err_from_is_err_and c.from_residual-in_err-driven.result c.from_residual-in_err-driven.ensures.1 in
     let s = c.args.script in
-    let t = some-lines (lists_of s.commands.items) (opening_of s.state.machine) (opened-history s.state.machine c.timeline.ensures.start c.timeline.ensures.state c.timeline.ensures.protocol) in
+    let t = some-lines s.state.machine (lists_of s.commands.items) (opening_of s.state.machine) refl (opened-history s.state.machine c.timeline.ensures.start c.timeline.ensures.state c.timeline.ensures.protocol) in
     rw (p.1, p.2) (λ before told.
     stops-driving (view s.reply) (logged s.state) (lists_of s.commands.items) t.0 before _ _ t.1 c.in_err-driven.ensures.kind (c.in_ok-tell_one.ensures.ok before told))
 
@@ -32,7 +32,7 @@ returns-clause-run g c =
     let d = c.in_ok-driven.driven in
     let graph = c.graph.ensures ∙ ap (λ x. x.graph) c.cluster.ensures.value in
     let lines = lines_data c.graph.result.now c.as_slice.result.now c.as_slice-2.result.now in
-    let t : Tells (lists_of s.commands.items) lines = record {
+    let t : Tells s.state.machine (lists_of s.commands.items) lines = record {
       log = d.log.entries.items;
       machine = machine_of d.log;
       faults = d.faults.items;

@@ -14,7 +14,7 @@ returns-clause-ok g c =
     let s = c.args.self.now in
     let d = c.in_ok-change.change in
     let q : c.processor.result.now ≡ processor s c.args.p = c.processor.ensures in
-    broadcast_plans s c.args.p c.args.part.now d c.processor_count.ensures.state (omega (arith, c.n.ensures, c.if-sender-n.false))
+    broadcast_plans s c.args.p c.args.part.now d c.processor_count.ensures.state (omega (arith, c.n.ensures.value, c.if-sender-n.false))
     (c.in_ok-change.ensures.part ∙ ap (λ (r : ProcessorState). chosen c.args.part.now r.unsent) q)
     c.in_ok-change.ensures.some
     (subst (λ (r : ProcessorState). LeavesUpright s.graph r d) q (subst (λ (k : Dataflow). LeavesUpright k c.processor.result.now d) (ap (λ (t : ClusterState). t.graph) c.self.view_is) c.in_ok-change.ensures.upright))

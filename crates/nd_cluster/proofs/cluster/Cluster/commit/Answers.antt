@@ -1,9 +1,17 @@
-use Rattle.std.proofs.Common.{sym, subst}
-use Rattle.nd_protocol.specs.Steps.{stepped}
-use Rattle.nd_protocol.specs.Invariant.{IsSettled, KeepsProtocol}
+use Rattle.std.proofs.Common.{[], ◌∷◌, sym, subst}
+use Rattle.nd_paths.specs.declared.point.Pointstamp.{Pointstamp}
+use Rattle.nd_protocol.specs.State.{ClusterState}
+use Rattle.nd_protocol.specs.Steps.{stepped, after}
+use Rattle.nd_protocol.specs.declared.step.Step.{Step}
+use Rattle.nd_protocol.specs.Invariant.{IsSettled, KeepsProtocol, IsFinished}
 use Rattle.nd_record.specs.Records.{Makes}
 use Rattle.nd_cluster.proofs.Seeing.{is_seen}
 use Rattle.nd_cluster.proofs.cluster.Cluster.commit.Goals as goal
+
+-- after the one step of a list
+finished_after : {A : Type 0} (s : ClusterState) (x : Step A) (p : Pointstamp) → IsFinished (after s (x ∷ [])) p → IsFinished (stepped s x) p
+unfolding after
+finished_after s x p h = h
 
 pub make-requires-clause-makes : goal.make-requires-clause-makes
 make-requires-clause-makes g c =
@@ -30,3 +38,8 @@ returns-clause-settled g c = λ h.
 pub returns-clause-protocol : goal.returns-clause-protocol
 returns-clause-protocol g c = λ h.
     subst KeepsProtocol (sym (returns-clause-step g c)) (c.steps_keep_protocol.ensures.protocol c.args.self.now c.args.planned.now.step c.requires.state c.requires.enabled h)
+
+pub returns-clause-finished : goal.returns-clause-finished
+returns-clause-finished g c = λ h x is.
+    subst (λ (s : ClusterState). IsFinished s x) (sym (returns-clause-step g c))
+    (finished_after c.args.self.now c.args.planned.now.step x (c.protocol_is_safe.ensures.finished c.args.self.now (c.args.planned.now.step ∷ []) c.requires.state h (c.requires.enabled, tt) x is))

@@ -7,7 +7,7 @@ pub overflow_cast-result : goal.overflow_cast-result
 overflow_cast-result g c =
     let state : IsState c.args.self.now = subst IsState c.self.view_is c.self.invariant.state in
     let few : length c.args.self.now.processors ≤ max_processors = state.within.few in
-    omega (arith, few, c.n.ensures)
+    omega (arith, few, c.n.ensures.value)
 
 pub returns-clause-state : goal.returns-clause-state
 returns-clause-state g c = subst IsState c.self.view_is c.self.invariant.state

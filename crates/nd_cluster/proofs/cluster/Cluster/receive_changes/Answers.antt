@@ -13,8 +13,8 @@ pub returns-in_err-change-clause-refused : goal.returns-in_err-change-clause-ref
 returns-in_err-change-clause-refused g c =
     let a = c.self.inside in
     let s = c.args.self.now in
-    let from : c.args.from < length s.processors = omega (arith, c.n.ensures, c.if-sender-n.false) in
-    let to : c.args.to < length s.processors = omega (arith, c.n-else-sender-n.ensures, c.if-receiver-n.false) in
+    let from : c.args.from < length s.processors = omega (arith, c.n.ensures.value, c.if-sender-n.false) in
+    let to : c.args.to < length s.processors = omega (arith, c.n-else-sender-n.ensures.value, c.if-receiver-n.false) in
     let known = (seen_view a.paths a.processors.items a.views.items a.mesh s c.args.to c.index-view.result.now c.self.invariant c.self.view_is to c.index-view.ensures).1 in
     let p = err_from_is_err_and c.from_residual.result c.from_residual.ensures.1 in
     rw (p.1) (receive_refused _ s c.args.from c.args.to c.processor_count.ensures.state from to p.0
@@ -25,8 +25,8 @@ pub returns-in_err-change-clause-memory : goal.returns-in_err-change-clause-memo
 returns-in_err-change-clause-memory g c = λ e.
     let a = c.self.inside in
     let s = c.args.self.now in
-    let from : c.args.from < length s.processors = omega (arith, c.n.ensures, c.if-sender-n.false) in
-    let to : c.args.to < length s.processors = omega (arith, c.n-else-sender-n.ensures, c.if-receiver-n.false) in
+    let from : c.args.from < length s.processors = omega (arith, c.n.ensures.value, c.if-sender-n.false) in
+    let to : c.args.to < length s.processors = omega (arith, c.n-else-sender-n.ensures.value, c.if-receiver-n.false) in
     let known = (seen_view a.paths a.processors.items a.views.items a.mesh s c.args.to c.index-view.result.now c.self.invariant c.self.view_is to c.index-view.ensures).1 in
     let p = err_from_is_err_and c.from_residual.result c.from_residual.ensures.1 in
     let memory : Memory ≡ c.in_err-change.field-0.0 = error_is c.from_residual.result Memory p.0 e p.1 ∙ p.2 in
@@ -39,8 +39,8 @@ returns-clause-ok g c =
     let a = c.self.inside in
     let s = c.args.self.now in
     let d = c.in_ok-change.change in
-    let from : c.args.from < length s.processors = omega (arith, c.n.ensures, c.if-sender-n.false) in
-    let to : c.args.to < length s.processors = omega (arith, c.n-else-sender-n.ensures, c.if-receiver-n.false) in
+    let from : c.args.from < length s.processors = omega (arith, c.n.ensures.value, c.if-sender-n.false) in
+    let to : c.args.to < length s.processors = omega (arith, c.n-else-sender-n.ensures.value, c.if-receiver-n.false) in
     let known = (seen_view a.paths a.processors.items a.views.items a.mesh s c.args.to c.index-view.result.now c.self.invariant c.self.view_is to c.index-view.ensures).1 in
     receive_plans _ s c.args.from c.args.to c.processor_count.ensures.state from to d
     (ap (λ (t : ClusterState). slice_get (queue t c.args.from c.args.to) 0) (sym c.self.view_is) ∙ c.in_ok-change.ensures.front)

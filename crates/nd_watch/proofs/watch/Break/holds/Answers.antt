@@ -12,8 +12,5 @@ returns-then-vertex-vertices g c =
     let counts : IsTrue (nat_le c.in-Sink.at_least c.sink_count.result) ↔ (c.in-Sink.at_least ≤ sunk c.args.cluster.now.processors c.in-Sink.vertex c.in-Sink.value) = search rules in
     rw c.in-Sink.is ((λ yes. (there, counts.0 yes)), (λ h. counts.1 h.1))
 
-pub returns-then-q-n : goal.returns-then-q-n
-returns-then-q-n g c = search rules
-
 pub returns-then-to-n : goal.returns-then-to-n
 returns-then-to-n g c = search rules

@@ -1,16 +1,16 @@
-use Rattle.nd_record.specs.Places.{record_of, unsent_of}
+use Rattle.nd_record.specs.Places.{place_at, records_at, unsent_at}
 use Rattle.nd_work.proofs.Totals.{come_step, fits_first, fits_second}
 use Rattle.nd_work.proofs.net.Sums.add_come.Goals as goal
 
 pub add_records-requires-clause-fits : goal.add_records-requires-clause-fits
 add_records-requires-clause-fits g c =
     let r = c.record-item.result in
-    fits_first c.args.self.now c.args.come.now c.loop-record.record-index c.loop-record.self c.loop-record.invariant.so_far c.requires.small c.requires.few c.loop-record-test.true (record_of r.0 r.1)
+    fits_first c.args.self.now c.args.come.now c.loop-record.record-index c.loop-record.self c.loop-record.invariant.so_far c.requires.small c.requires.few c.loop-record-test.true (place_at r.0 (records_at r.1))
 
 pub add_unsent-requires-clause-fits : goal.add_unsent-requires-clause-fits
 add_unsent-requires-clause-fits g c =
     let r = c.record-item.result in
-    fits_second c.args.self.now c.args.come.now c.loop-record.record-index c.loop-record.self c.loop-record.invariant.so_far c.requires.small c.requires.few c.loop-record-test.true (record_of r.0 r.1) c.add_records.new.self c.in_ok-add_records.ensures.ok (unsent_of c.add_records.new.self.p r.1.point)
+    fits_second c.args.self.now c.args.come.now c.loop-record.record-index c.loop-record.self c.loop-record.invariant.so_far c.requires.small c.requires.few c.loop-record-test.true (place_at r.0 (records_at r.1)) c.add_records.new.self c.in_ok-add_records.ensures.ok (place_at c.add_records.new.self.p (unsent_at r.1.point))
 
 pub loop-record-preserved : goal.loop-record-preserved
 loop-record-preserved g c =

@@ -1,0 +1,59 @@
+//! Whether two graphs are one.
+ghost use Rattle.std.specs.Prelude.{◌≡◌, IsTrue};
+
+use nd_graph::{Edge, Graph, Vertex};
+
+// Whether two vertices are one.
+fn same_vertex(one: &Vertex, other: &Vertex) -> bool
+    ensures { IsTrue result → one.now ≡ other.now }
+{
+    one.name == other.name && one.op == other.op && one.depth == other.depth
+}
+
+// Whether two edges are one.
+fn same_edge(one: &Edge, other: &Edge) -> bool
+    ensures { IsTrue result → one.now ≡ other.now }
+{
+    one.name == other.name
+        && one.from == other.from
+        && one.port == other.port
+        && one.to == other.to
+        && one.route == other.route
+}
+
+// Whether two lists of vertices are one.
+fn same_vertices(one: &[Vertex], other: &[Vertex]) -> bool
+    ensures { IsTrue result → one.now ≡ other.now }
+{
+    if one.len() != other.len() {
+        return false;
+    }
+    for i in 0..one.len() {
+        if !same_vertex(&one[i], &other[i]) {
+            return false;
+        }
+    }
+    true
+}
+
+// Whether two lists of edges are one.
+fn same_edges(one: &[Edge], other: &[Edge]) -> bool
+    ensures { IsTrue result → one.now ≡ other.now }
+{
+    if one.len() != other.len() {
+        return false;
+    }
+    for i in 0..one.len() {
+        if !same_edge(&one[i], &other[i]) {
+            return false;
+        }
+    }
+    true
+}
+
+/// Whether two graphs have the same vertices and edges.
+pub fn same_graph(one: &Graph, other: &Graph) -> bool
+    ensures { IsTrue result → one.now ≡ other.now }
+{
+    same_vertices(one.vertices(), other.vertices()) && same_edges(one.edges(), other.edges())
+}

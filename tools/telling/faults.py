@@ -1,0 +1,77 @@
+"""A line and its answer in words, where the line may be faulty: what was wrong with it, and what would be right."""
+from runs import lines_of
+from telling import forms, graph_faults, names, texts, values
+from telling.answers import Teller
+from telling.commands import command_words, counted, graph_words, unread
+from telling.values import shown
+
+LONGEST = 65536
+
+
+def teller_of(told, script):
+    """The one who tells a run's replies; it has no graph where the program has read none.
+
+    A faulty line that is answered before the graph is one of several clients' script, whose graph was read."""
+    first = told.entries[0] if told.entries else None
+    has_fault_alone = first is not None and first.line.number != lines_of(script)[0].number
+    started = next((it.reply for it in told.entries if "locations" in it.reply), {})
+    graph = names.Graph(told.graph) if started or has_fault_alone else None
+    has_clients = has_fault_alone or any(it.client is not None for it in told.entries)
+    return Teller(graph, started.get("processors"), has_clients)
+
+
+def told_line(entry, before, teller):
+    """What a line asks for, and its answer in a list of sentences; 'before' is the state at which it was asked, or None."""
+    reply = entry.reply
+    if entry.line is None:
+        return "makes no further command", teller.refused({}, reply, None)
+    if "line" in reply:
+        return unread(entry.line.text), faulty(reply, line_faults(entry.line.text, reply, teller))
+    if "locations" in reply:
+        counts = counted(reply["locations"], "place"), counted(reply["processors"], "processor")
+        return "the graph", [*graph_words(entry.line.value), f"read: {counts[0]}, {counts[1]}"]
+    if "error" in reply and teller.graph is None:
+        return unread(entry.line.text), faulty(reply, faults_in(entry.line.text, lambda it: graph_faults.graph_faults(it, reply)))
+    if not is_known(entry.line.value):
+        return unread(entry.line.text), [shown(reply, None)]
+    return command_words(entry.line.value), teller.told(entry.line.value, reply, before)
+
+
+def is_known(value):
+    """Whether a line that the program has read is one of the forms that this tool tells."""
+    return isinstance(value, dict) and value.get("do") in forms.FORMS
+
+
+def faulty(reply, faults):
+    """The fault's name, then what is wrong, a sentence each."""
+    start = f"faulty, {reply['code']} {reply['error']}"
+    return [f"{start}: {faults[0]}", *faults[1:]] if faults else [start]
+
+
+def faults_in(text, faults_of):
+    """What is wrong with a line's value; nothing where it has none that Python reads."""
+    try:
+        value = values.value_of(text)
+    except (ValueError, RecursionError):
+        return []
+    return faults_of(value)
+
+
+def line_faults(text, reply, teller):
+    """What is wrong with a line that got this reply, each fault in words."""
+    name = reply["error"]
+    if name == "LineTooLong":
+        return [f"the line has {len(text)} bytes; at most {LONGEST} may be"]
+    if name == "BadLine":
+        found = texts.break_of(text)
+        return [f"it breaks as JSON at column {found[0]}: {found[1]}"] if found else []
+    return faults_in(text, lambda value: FAULTS[name](value, teller)) if name in FAULTS else []
+
+
+FAULTS = {
+    "BadShape": lambda value, teller: forms.shape_faults(value, teller.has_clients),
+    "UnknownName": lambda value, teller: names.unknown_names(teller.graph, value),
+    "BadTime": lambda value, teller: names.wrong_times(teller.graph, value),
+    "BadClient": lambda value, teller: [f"\"client\" is {value['client']}, and is to be below the number of clients"],
+    "OneClientOnly": lambda value, teller: [f"\"{value['do']}\" is a query or a search; with several clients there are none"],
+}

@@ -1,0 +1,156 @@
+"""What is wrong with a graph that the program has refused, by the number of its answer: where in the line, and what is right."""
+from telling.forms import keys_faults, listed, nearest, value_faults
+from telling import values
+from telling.forms import SIGNED, SMALL
+from telling.values import shown
+
+PLAIN = ("input", "ingress", "egress", "feedback", "sum", "distinct", "sink")
+NUMBERED = ("add", "mul", "below", "split")
+MOST, DEEPEST = 64, 4
+BEYOND = {"ingress": 1, "egress": -1}
+
+
+def name_fault(value):
+    if values.text(value):
+        return values.text(value)
+    if not 1 <= len(value.encode()) <= 32:
+        return f"has {len(value.encode())} bytes"
+    odd = next((it for it in value if not "!" <= it <= "~"), None)
+    return f"has {shown(odd)} in it" if odd else None
+
+
+NAME = ("a text of 1 to 32 bytes, each from ! to ~", name_fault)
+REFERRED = ("the name of a vertex, a text", values.text)
+OP = values.one_of(*PLAIN, *NUMBERED)
+ROUTE = values.one_of("local", "exchange")
+VERTEX = {"name": NAME, "op": OP, "depth": SMALL}
+EDGE = {"name": NAME, "from": REFERRED, "port": SMALL, "to": REFERRED, "route": ROUTE}
+ANY_LIST = values.list_of(lambda it: None)
+GRAPH = {"vertices": ("a list of vertices", ANY_LIST), "edges": ("a list of edges", ANY_LIST)}
+
+
+def shape_faults(graph):
+    """What keeps a value from having a graph's form: the faults of its keys, or those of its first wrong vertex or edge."""
+    if not isinstance(graph, dict):
+        return [f'{shown(graph)} {values.kind_of(graph)}; a graph is an object with the keys "vertices" and "edges"']
+    faults = keys_faults(graph, GRAPH) + value_faults(graph, GRAPH)
+    if faults:
+        return faults
+    for key in GRAPH:
+        for at, it in enumerate(graph[key]):
+            faults = part_faults(it, key == "vertices")
+            if faults:
+                return [f"{part_shown(key, at, it)}: {wrong}" for wrong in faults]
+    return []
+
+
+def part_faults(value, is_vertex):
+    if not isinstance(value, dict):
+        return [f"it {values.kind_of(value)}, and is to be an object"]
+    form = form_of_vertex(value) if is_vertex else EDGE
+    return keys_faults(value, form) + value_faults(value, form) + (op_hint(value.get("op")) if is_vertex else [])
+
+
+def op_hint(op):
+    """The nearest op of a text that is none."""
+    is_wrong = isinstance(op, str) and op not in PLAIN + NUMBERED
+    near = nearest(op, PLAIN + NUMBERED) if is_wrong else None
+    return [f"the nearest op is {shown(near)}"] if near else []
+
+
+def form_of_vertex(value):
+    """The form of a vertex of this op; where the op is none, a number k may be there."""
+    op = value.get("op")
+    if op in PLAIN:
+        return VERTEX
+    is_there = op in NUMBERED or "k" in value
+    return {**VERTEX, "k": SIGNED} if is_there else VERTEX
+
+
+def part_shown(key, at, value):
+    name = value.get("name") if isinstance(value, dict) else None
+    return f"{key}[{at}]" + (f" ({name})" if name and not name_fault(name) else "")
+
+
+def double_names(graph):
+    """The names that two vertices or edges have."""
+    seen, faults = {}, []
+    for key in GRAPH:
+        for at, it in enumerate(graph[key]):
+            here = f"{key}[{at}]"
+            if it["name"] in seen:
+                faults.append(f"{shown(it['name'])} is the name of {seen[it['name']]} and of {here}")
+            seen.setdefault(it["name"], here)
+    return faults
+
+
+def unknown_names(graph):
+    """The ends of edges that are no vertices."""
+    vertices = [it["name"] for it in graph["vertices"]]
+    edges = [it["name"] for it in graph["edges"]]
+    faults = []
+    for edge in graph["edges"]:
+        for key in ("from", "to"):
+            if edge[key] not in vertices:
+                near = nearest(edge[key], vertices)
+                hint = f"; the nearest vertex is {shown(near)}" if near else f"; the vertices are {listed(map(shown, vertices))}"
+                what = "is an edge and no vertex" if edge[key] in edges else "is no vertex"
+                faults.append(f"the edge {shown(edge['name'])}: {shown(key)}:{shown(edge[key])} {what}{hint}")
+    return faults
+
+
+def bad_ports(graph):
+    """The edges that leave a vertex on a port that it has not, or enter an input."""
+    ops = {it["name"]: it["op"] for it in graph["vertices"]}
+    faults = []
+    for edge in graph["edges"]:
+        ports = {"sink": 0, "split": 2}.get(ops[edge["from"]], 1)
+        if edge["port"] >= ports:
+            has = ("no port", "port 0 alone", "the ports 0 and 1")[ports]
+            start = f"the edge {shown(edge['name'])} leaves the {ops[edge['from']]} {shown(edge['from'])}"
+            faults.append(f"{start} on port {edge['port']}, which has {has}")
+        if ops[edge["to"]] == "input":
+            faults.append(f"the edge {shown(edge['name'])} enters {shown(edge['to'])}, which is an input")
+    return faults
+
+
+def wrong_depths(graph):
+    """The vertices that cannot be at their depth, and the edges whose depth is not that of the vertex that they enter."""
+    vertices = {it["name"]: it for it in graph["vertices"]}
+    faults = []
+    for name, it in vertices.items():
+        if it["op"] == "input" and it["depth"] != 0:
+            faults.append(f"the input {shown(name)} is at depth {it['depth']}; inputs are at depth 0")
+        if it["op"] in ("egress", "feedback") and it["depth"] == 0:
+            faults.append(f"the {it['op']} {shown(name)} is at depth 0, where there is no loop")
+    for edge in graph["edges"]:
+        start, end = vertices[edge["from"]], vertices[edge["to"]]
+        depth = start["depth"] + BEYOND.get(start["op"], 0)
+        if depth != end["depth"]:
+            leaves = f"leaves the {start['op']} {shown(start['name'])} of depth {start['depth']} with depth {depth}"
+            enters = f"enters {shown(end['name'])}, which is at depth {end['depth']}"
+            faults.append(f"the edge {shown(edge['name'])} {leaves} and {enters}")
+    return faults
+
+
+def too_large(graph):
+    """What passes the limits."""
+    count = len(graph["vertices"]) + len(graph["edges"])
+    faults = [f"there are {count} vertices and edges; at most {MOST} may be"] if count > MOST else []
+    for it in graph["vertices"]:
+        if it["depth"] > DEEPEST:
+            faults.append(f"{shown(it['name'])} is at depth {it['depth']}; at most {DEEPEST} may be")
+    return faults
+
+
+FAULTS = {40: shape_faults, 41: double_names, 42: unknown_names, 43: bad_ports, 44: wrong_depths, 45: too_large}
+
+
+def graph_faults(value, reply):
+    """What is wrong with a graph that was refused by this reply, each fault in words."""
+    if "location" in reply:
+        place = shown(reply["location"])
+        walk = f"a walk from {place} comes back to {place} and does not move every time strictly on"
+        return [f"{walk}: no feedback is on it, or an egress on it drops again what was added"]
+    of_code = FAULTS.get(reply["code"])
+    return of_code(value) if of_code else []
