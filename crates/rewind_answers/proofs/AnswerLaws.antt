@@ -13,11 +13,13 @@ use Rattle.nd_graph.specs.Fault.{IsUnlessMemory}
 use Rattle.nd_graph.specs.declared.fault.GraphFault.{GraphFault}
 use Rattle.nd_graph.specs.declared.fault.GraphFault.TheVariants.{Shape, Memory}
 use Rattle.rewind_forms.specs.Asked.{asked_of}
-use Rattle.rewind_forms.specs.Replies.{found as found_data, location_fault, line_fault, frontier, reply_data}
+use Rattle.rewind_forms.specs.Replies.{found as found_data, location_fault, line_fault, frontier, not_passed, reply_data}
 use Rattle.nd_delta.specs.Change.{Change, entries}
-use Rattle.nd_view.specs.View.{IsOnFrontier, IsPartWhere}
+use Rattle.nd_delta.specs.Least.{IsLeast}
+use Rattle.nd_paths.specs.declared.point.Pointstamp.{Pointstamp}
+use Rattle.nd_view.specs.View.{IsBlocker, IsOnFrontier, IsPartWhere}
 use Rattle.nd_protocol.specs.State.{ClusterState, view as view_in}
-use Rattle.nd_shown.specs.StateText.{entries_data}
+use Rattle.nd_shown.specs.StateText.{entries_data, point_data}
 use Rattle.nd_cluster.specs.Starting.{IsStartFault, start_number, start_name}
 use Rattle.nd_cluster.specs.declared.start.StartFault.TheVariants as start_fault
 use Rattle.rewind_forms.specs.declared.asked.Asked.{Asked}
@@ -35,7 +37,7 @@ use Rattle.rewind_forms.specs.declared.queries.Query.TheVariants.{Frontier}
 use Rattle.nd_timeline.specs.Moves.{Moves}
 use Rattle.nd_timeline.specs.declared.command.Command.{Command}
 use Rattle.nd_timeline.specs.declared.reply.Reply.{Reply}
-use Rattle.rewind_answers.specs.Answers.{Logged, running, refused, StartReplies, not_strict, graph_of, graph_of_draft, AskedReply, CommandReply, moved, FormReplies, LineReplies, FrontierReply, QueryReply, SearchReply, searched, unanswered, search_fault}
+use Rattle.rewind_answers.specs.Answers.{Logged, running, refused, StartReplies, not_strict, graph_of, graph_of_draft, AskedReply, CommandReply, moved, FormReplies, LineReplies, FrontierReply, PassedReply, QueryReply, SearchReply, searched, unanswered, search_fault}
 
 -- a value that is no draft
 pub graph_of-refused : (d : Data) (e : GraphFault) → IsUnlessMemory (ok_or (draft_of d) Shape) (Err e) → IsUnlessMemory (graph_of d) (Err e)
@@ -87,6 +89,11 @@ fault_replies m n d e (Err x) is told = told
 -- ---- queries about a processor
 
 -- the frontier of the view, by the graph and the view that were read
+pub blocked_replies : (s : ClusterState) (q : ℕ) (t x : Pointstamp) (d : Data) (r : Result Value AllocError) → q < length s.processors → IsLeast (IsBlocker s.graph (view_in s q) t) x
+    → d ≡ point_data s.graph x → IfOk r (λ w. view w ≡ not_passed d) → IfOk r (λ w. PassedReply s q t (view w))
+blocked_replies s q t x d (Ok w) there least shown reply = inr (there, inr (x, least, reply ∙ ap not_passed shown))
+blocked_replies s q t x d (Err e) there least shown reply = reply
+
 pub frontier_replies : (s : ClusterState) (q : ℕ) (g : Dataflow) (v f : Change) (d : Data) (r : Result Value AllocError) → q < length s.processors → g ≡ s.graph → v ≡ view_in s q
     → IsPartWhere (IsOnFrontier g v) v f → d ≡ entries_data s.graph (entries f) → IfOk r (λ w. view w ≡ frontier d) → IfOk r (λ w. FrontierReply s q (view w))
 frontier_replies s q g v f d (Ok w) there graph is part shown reply =

@@ -1,10 +1,7 @@
--- Starts with one graph and one number of processors are one; names with the same bytes are one.
-use Rattle.std.proofs.Common.{◌≡◌, ℕ, Bool, true, false, ◌&&◌, List, [], ◌∷◌, length, nat_eq, refl, sym, ap, ◌∙◌, true≢false, grind, arith}
-use Rattle.std.proofs.lemmas.Bool.Decides.{nat_tests}
-use Rattle.std.specs.Cmp.Lexicographic.{pointwise}
+-- Starts with one graph and one number of processors are one, and lists that are one place by place.
+use Rattle.std.proofs.Common.{◌≡◌, ◌<◌, ℕ, zero, suc, List, [], ◌∷◌, length, get_or, refl, sym, ap, ◌∙◌, arith}
 use Rattle.std.specs.Prelude.{replicate}
 use Rattle.nd_graph.specs.Graph.{Dataflow}
-use Rattle.nd_processor.specs.Start.{start_processor}
 use Rattle.nd_protocol.specs.State.{ClusterState}
 use Rattle.nd_protocol.specs.Start.{start}
 use Rattle.nd_session.specs.Log.{IsStart}
@@ -19,7 +16,7 @@ graph_of_start g n = refl
 
 count_of_start : (g : Dataflow) (n : ℕ) → length (start g n).processors ≡ n
 unfolding start
-count_of_start g n = as_many n (start_processor g)
+count_of_start g n = as_many n _
 
 pub same_start : (s t : ClusterState) → IsStart s → IsStart t → s.graph ≡ t.graph → length s.processors ≡ length t.processors → s ≡ t
 same_start s t a b graphs counts =
@@ -27,22 +24,12 @@ same_start s t a b graphs counts =
     let n : a.count ≡ b.count = sym (ap (λ (u : ClusterState). length u.processors) a.is ∙ count_of_start a.graph a.count) ∙ counts ∙ ap (λ (u : ClusterState). length u.processors) b.is ∙ count_of_start b.graph b.count in
     a.is ∙ (λ i. start (g i) (n i)) ∙ sym b.is
 
-and_left : (a b : Bool) → (a && b) ≡ true → a ≡ true
-and_left true b e = refl
-and_left false b e = e
-
-and_right : (a b : Bool) → (a && b) ≡ true → b ≡ true
-and_right true b e = e
-and_right false b e = absurd (true≢false (sym e))
-
-same_number : (m n : ℕ) → nat_eq m n ≡ true → m ≡ n
-same_number m n e = grind (arith, nat_tests, e)
-
-pub same_bytes : (xs ys : List ℕ) → pointwise nat_eq xs ys ≡ true → xs ≡ ys
-same_bytes [] [] e = refl
-same_bytes [] (y ∷ ys) e = absurd (true≢false (sym e))
-same_bytes (x ∷ xs) [] e = absurd (true≢false (sym e))
-same_bytes (x ∷ xs) (y ∷ ys) e =
-    let first = same_number x y (and_left (nat_eq x y) (pointwise nat_eq xs ys) e) in
-    let rest = same_bytes xs ys (and_right (nat_eq x y) (pointwise nat_eq xs ys) e) in
+-- lists of one length that are one at each place
+pub same_lists : {X : Type 0} (xs ys : List X) → length xs ≡ length ys → ((k : ℕ) (d : X) → k < length xs → get_or xs k d ≡ get_or ys k d) → xs ≡ ys
+same_lists [] [] long each = refl
+same_lists [] (y ∷ ys) long each = absurd (omega (arith, long))
+same_lists (x ∷ xs) [] long each = absurd (omega (arith, long))
+same_lists (x ∷ xs) (y ∷ ys) long each =
+    let first : x ≡ y = each 0 x (omega arith) in
+    let rest : xs ≡ ys = same_lists xs ys (omega (arith, long)) (λ k d lt. each (suc k) d (omega (arith, lt))) in
     λ i. first i ∷ rest i
