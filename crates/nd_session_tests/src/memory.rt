@@ -91,10 +91,9 @@ fn are_equal<A: Allocator + Copy>(
     after: &Snapshot<A>,
 ) -> Option<bool> {
     let text = state_text(json, before.cluster())?;
-    Some(
-        (before.index(), before.at(), before.kept()) == (after.index(), after.at(), after.kept())
-            && is_state(json, after.cluster(), text.as_str()),
-    )
+    let is_there = before.index() == after.index() && before.at() == after.at();
+    let is_kept = before.kept() == after.kept();
+    Some(is_there && is_kept && is_state(json, after.cluster(), text.as_str()))
 }
 
 /// Whether the answer is one that may be given: the one with ample memory, or want of memory in a step that is logged,
