@@ -29,9 +29,9 @@ pub record IsFor (g : Dataflow) (v : Kept) : Type 0 where
   pub each : (q : Pointstamp) → IsKeptAt g v.map q (find point_cmp q v.counts)
 
 -- the points whose kept count is 0, with room for all that are kept
-pub record IsFrontierList (counts : List (Pointstamp × ℕ)) (first : List Pointstamp) (room : ℕ) : Type 0 where
-  pub all : (q : Pointstamp) → find point_cmp q counts ≡ Some 0 → Contains first q
-  pub only : (q : Pointstamp) → Contains first q → find point_cmp q counts ≡ Some 0
+pub record IsFrontierList (counts : List (Pointstamp × ℕ)) (frontier : List Pointstamp) (room : ℕ) : Type 0 where
+  pub all : (q : Pointstamp) → find point_cmp q counts ≡ Some 0 → Contains frontier q
+  pub only : (q : Pointstamp) → Contains frontier q → find point_cmp q counts ≡ Some 0
   pub enough : length counts ≤ room
 
 -- something is kept for the positive points, and for no others
