@@ -141,7 +141,7 @@ impl<A: Allocator + Copy> Outbox<A> {
         self.drop_first_newest(self.len());
     }
 
-    /// Takes the oldest change out of one queue, where there is one.
+    /// Takes the oldest change out of one queue, if there is one.
     pub fn pop(&mut self, to: usize) -> Option<Delta<A>>
         requires { to < length self.old }
         ensures value { result ≡ slice_get (slice_index_or self.old to []) 0 }

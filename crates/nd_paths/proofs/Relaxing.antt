@@ -131,7 +131,7 @@ of_option : (o : Option Summary) (t : Summary) → option_map inner o ≡ Some t
 of_option None t h = absurd (cc)
 of_option (Some k) t h = (k, refl, cc)
 
--- what is held where there is an entry
+-- what is held if there is an entry
 pub of_entry : (row : List (Option Summary)) (b q : ℕ) (t : Summary) → entry row b q ≡ Some t → (k : Summary) × (Some k ≡ held row b q) × (inner k ≡ t)
 of_entry row b q t h = of_option (held row b q) t h
 
@@ -158,7 +158,7 @@ module _ (row : List (Option Summary)) (x : Arc) (r : ℕ) (can : CanRelax row x
       let h = can.alike (inner f) (inner k) here (known_here k e) in
       (h.0 ∙ sym keep_is, sym (length-reverse k.constants) ∙ h.1 ∙ ap (λ s. length s.constants) (sym is) ∙ length-reverse n.constants)
 
-  -- nothing is written where what is known is at most the step
+  -- nothing is written if what is known is at most the step
   pub stays_quiet : (k : Summary) → Some k ≡ held row x.to n.keep → AtMost (inner k) (inner n) → Quiet row row x r
   stays_quiet k e less = (
     refl,
@@ -168,7 +168,7 @@ module _ (row : List (Option Summary)) (x : Arc) (r : ℕ) (can : CanRelax row x
         subst (λ t. Covers (entry row) x.to (step x.action t)) one (inner k, known_here k e, subst (λ t. AtMost (inner k) t) is less),
   )
 
-  -- and it is where the step is at most what is known
+  -- and it is if the step is at most what is known
   pub writes : ((k : Summary) → Some k ≡ held row x.to n.keep → AtMost (inner n) (inner k)) → Written row (set row (x.to * keeps + n.keep) (Some n)) x r
   writes less = (
     inner f,

@@ -33,7 +33,7 @@ pub record CanRelax (row : List (Option Summary)) (x : Arc) (r : ℕ) : Type 0 w
 abbrev pub Quiet : List (Option Summary) → List (Option Summary) → Arc → ℕ → Type 0
 Quiet old new x r = (new ≡ old) × ((s : Summary) → entry old x.from r ≡ Some s → Covers (entry old) x.to (step x.action s))
 
--- the entry at the arc's start, followed by the arc, was put at its end, where that is less than what was there
+-- the entry at the arc's start, followed by the arc, was put at its end, if that is less than what was there
 abbrev pub Written : List (Option Summary) → List (Option Summary) → Arc → ℕ → Type 0
 Written old new x r =
     (s : Summary) × (n : Summary) × (entry old x.from r ≡ Some s) × (inner n ≡ step x.action s)

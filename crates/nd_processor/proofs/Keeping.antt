@@ -80,7 +80,7 @@ module _ {K : Type 0} (R : K → K → Ordering) (o : IsTotalOrder R) (tells : I
   pub kept_within : IsKept R es → (k : K) → at (of_entries {N = naturals} o es) k ≤ max_count
   kept_within kept k = subst (λ n. n ≤ max_count) (at_number R o es k tells) (within_number R o es k kept)
 
--- ---- the entries after an edit, where those before it make the map m
+-- ---- the entries after an edit, if those before it make the map m
 module _ {K : Type 0} (R : K → K → Ordering) (o : IsTotalOrder R) (tells : IsAntisymmetric R) (es : List (K × ℕ)) (m : Counts R naturals) (is_m : of_entries o es ≡ m) (k : K) where
   pub number_at : number R es k ≡ at m k
   number_at = at_number R o es k tells ∙ ap (λ (c : Counts R naturals). at c k) is_m

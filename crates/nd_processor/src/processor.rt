@@ -150,7 +150,7 @@ impl<A: Allocator + Copy> Processor<A> {
         }
     }
 
-    /// The epoch of an input vertex's token, `None` where it has none.
+    /// The epoch of an input vertex's token, `None` if it has none.
     pub fn token(&self, vertex: usize) -> Option<u32>
         ensures { result ≡ fin.get self.now.tokens vertex }
     {

@@ -37,7 +37,7 @@ slice_get-snoc (z ∷ xs) x (suc i) y e =
 module _ {A : Type 0} where
   -- ---- places
 
-  -- an entry keeps its place where the log grows
+  -- an entry keeps its place if the log grows
   pub place_stays : (log rest : List (Receipt A)) (i : ℕ) (e : Receipt A) → i ≤ length log → IsPlaced log i e → IsPlaced (log ++ rest) i e
   place_stays log rest i e within p =
       let same : take i (log ++ rest) ≡ take i log = take-append-le i log rest within in record {

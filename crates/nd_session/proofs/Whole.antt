@@ -103,7 +103,7 @@ module _ {A : Type 0} (log : List (Receipt A)) (placed : ArePlaced log) where
         let same : h.client ≡ p = one_place h.place k h.client p h.at at (h.has.number_is ∙ client) in
         let P : ClientValue A → Type 0 = λ q. slice_get q.receipts e.number ≡ Some e in subst P same h.has.receipt
 
-    -- where all earlier entries are in their places, an entry that a client has is in its own
+    -- if all earlier entries are in their places, an entry that a client has is in its own
     pub in_its_place : (i : ℕ) (e : Receipt A) → slice_get log i ≡ Some e → AreInPlaceBelow log clients i → HasReceipt clients e → HasInPlace clients e
     in_its_place i e at earlier h =
         let p = h.client in

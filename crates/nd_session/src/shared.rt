@@ -43,7 +43,7 @@ fn holds_last<A: Allocator>(log: &[Receipt<A>], receipts: &[Receipt<A>]) -> bool
     }
 }
 
-// The index of the last receipt, or 0 where there is none.
+// The index of the last receipt, or 0 if there is none.
 fn last_index<A: Allocator>(receipts: &[Receipt<A>]) -> u64
     ensures { result ≡ option_map_or (λ r. r.index) (last_of receipts.now) 0 }
 {

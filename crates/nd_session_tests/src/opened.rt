@@ -17,7 +17,7 @@ pub enum Asked {
     Redo,
     Jump(u64),
     Run(u64),
-    /// The breakpoint that holds where the sink of this name has counted the value.
+    /// The breakpoint that holds if the sink of this name has counted the value.
     Sink(&'static str, i64),
     Clear(u64),
 }

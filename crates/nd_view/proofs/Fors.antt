@@ -68,7 +68,7 @@ not_on_frontier g m q n more kept on =
     let one = first_one (entries f) (omega (arith, more, kept.1.2)) in
     on.first one.point (kept.1.1.only one.point (λ z. some-entry f one.point one.value one.found (sym (ap or_zero one.found) ∙ at-entries f one.point ∙ z)))
 
--- a point is on the frontier exactly where its kept count is 0
+-- a point is on the frontier exactly if its kept count is 0
 pub zero_of_frontier : (g : Dataflow) (v : Kept) → IsFor g v → (q : Pointstamp) → IsOnFrontier g v.map q → find point_cmp q v.counts ≡ Some 0
 zero_of_frontier g v h q on = by (find point_cmp q v.counts) (h.each q)
   where

@@ -1,4 +1,4 @@
--- Where nothing on the frontier is before a point, nothing positive is.
+-- If nothing on the frontier is before a point, nothing positive is.
 use Rattle.std.proofs.Common.{◌≡◌, ◌≢◌, ◌<◌, ℕ, zero, suc, pos, Bool, true, false, List, [], ◌∷◌, length, get_or, Option, Some, None, Result, Ok, Err, cond, sym, ap, subst, ◌∙◌, ◌⊎◌, inl, inr, arith, refl}
 use Rattle.std.specs.Prelude.{◌<ℤ◌, Contains, slice_index_or, IfOk, IfSome, OnErr}
 use Rattle.std.proofs.lemmas.List.{get_or-map, length-map}
@@ -62,7 +62,7 @@ through g order true y x t (inr earlier) before = order.strict y x t earlier bef
 through g order false y x t (inl same) before = subst (λ z. CouldResultIn g z t) (sym same) before
 through g order false y x t (inr earlier) before = order.transitive y x t earlier.0 before
 
--- where nothing on the frontier is before t, nothing positive is
+-- if nothing on the frontier is before t, nothing positive is
 pub passed_by_frontier : (g : Dataflow) → IsOrder g → (v : Kept) → IsFor g v → (strictly : Bool) (t : Pointstamp) → ((y : Pointstamp) → IsOnFrontier g v.map y → IsBefore g strictly y t → ⊥)
     → (x : Pointstamp) → IsPositiveBefore g v.map strictly t x → ⊥
 passed_by_frontier g order v h strictly t none x b = by (find point_cmp x v.counts) (h.each x)
@@ -94,7 +94,7 @@ frontier_part g v h m m_is frontier room listed f f_is = record {
     by x some true e = frontier_of_zero g v h x (listed.only x (Contains-from_any (tells_apart point_exact) x frontier e))
     by x some false e = absurd (some (value x ∙ ap (λ b. cond b (at v.map x) (pos 0)) e))
 
--- where something is listed, there is a frontier
+-- if something is listed, there is a frontier
 pub frontier_some : (g : Dataflow) (v : Kept) → IsFor g v → (frontier : List Pointstamp) (room : ℕ) → IsFrontierList v.counts frontier room → frontier ≢ [] → (x : Pointstamp) × IsOnFrontier g v.map x
 frontier_some g v h [] room listed some = absurd (some refl)
 frontier_some g v h (x ∷ rest) room listed some = (x, frontier_of_zero g v h x (listed.only x (0, omega arith, refl)))

@@ -38,7 +38,7 @@ size_grown es fs k i listed put_is = subst (λ z. z ≤ length es + 1) (sym (ap 
     by true = omega arith
     by false = omega arith
 
--- and none more where one is taken out
+-- and none more if one is taken out
 pub size_without : (es fs : List (Pointstamp × ℕ)) (k : Pointstamp) → IsListed point_cmp es → fs ≡ without point_cmp k es → length fs ≤ length es
 size_without es fs k listed e =
     let counted = length_without point_cmp point_total k es listed in
@@ -61,7 +61,7 @@ key_at : (es : List (Pointstamp × ℕ)) (ks : List Pointstamp) (i : ℕ) (d : P
 key_at es ks i d q keys lt = ap (λ l. get_or l i q) (sym keys) ∙ get_or-map (λ e. e.0) es i d q lt
 
 module _ (g : Dataflow) (m : Change) (x : Pointstamp) (up : Bool) where
-  -- the first keys have their counts, the others theirs but for one where they come after x
+  -- the first keys have their counts, the others theirs but for one if they come after x
   pub record IsShifted (ks : List Pointstamp) (i : ℕ) (es : List (Pointstamp × ℕ)) : Type 0 where
     pub keys : keys_of es ≡ ks
     pub listed : IsListed point_cmp es

@@ -18,7 +18,7 @@ pub record Kept : Type 0 where
 abbrev pub kept_code : Coded Kept
 kept_code = code_by (Change × List (Pointstamp × ℕ)) (coded× change_code (coded_list (coded× point_code coded_ℕ))) (λ v. (v.map, v.counts)) (λ p. record { map = p.0; counts = p.1 }) (λ _. refl)
 
--- what is kept for q: the number of its precursors where it is positive, else nothing
+-- what is kept for q: the number of its precursors if it is positive, else nothing
 abbrev pub IsKeptAt : Dataflow → Change → Pointstamp → Option ℕ → Type 0
 IsKeptAt g m q None = pos 0 <ℤ at m q → ⊥
 IsKeptAt g m q (Some n) = (pos 0 <ℤ at m q) × IsCount (IsPrecursor g m q) m n

@@ -1,8 +1,8 @@
 -- Several views of one graph: what one who holds them needs of them.
 --     maps, AreFor              their maps;  the kept counts of each are those of the graph
 --     maps-get, maps-set        the map of one of them, and of one that another takes the place of
---     for_set                   the views stay those of the graph where one is written
---     same_all                  they are equal where their maps are
+--     for_set                   the views stay those of the graph if one is written
+--     same_all                  they are equal if their maps are
 use Rattle.std.proofs.Common.{◌≡◌, ◌<◌, ℕ, zero, suc, List, [], ◌∷◌, length, map, get_or, set, refl, ap, sym, ◌∙◌, arith}
 use Rattle.std.specs.Prelude.{All}
 use Rattle.std.proofs.lemmas.List.{get_or-map}

@@ -1,4 +1,4 @@
-//! What is kept beside a map: made anew, and moved where a pointstamp came or went.
+//! What is kept beside a map: made anew, and moved if a pointstamp came or went.
 
 ghost use Rattle.std.specs.Prelude.{◌≡◌, ◌≤◌, ◌+◌, ◌<◌, ◌^◌, IsTrue, Some, length, vec_capacity};
 ghost use Rattle.std.specs.FinMap.{find};

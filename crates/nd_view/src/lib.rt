@@ -71,7 +71,7 @@ impl<A: Allocator + Copy> View<A> {
         }
     }
 
-    /// The count of a pointstamp, 0 where it has none.
+    /// The count of a pointstamp, 0 if it has none.
     pub fn get(&self, point: &Pointstamp) -> i64
         ensures value { result ≡ at self.now.map point.now }
         ensures within { unsigned_abs result ≤ max_count }
@@ -95,7 +95,7 @@ impl<A: Allocator + Copy> View<A> {
         self.precursor_counts.get(point)
     }
 
-    /// What is kept is settled by the map: two views of one order are equal where their maps are.
+    /// What is kept is settled by the map: two views of one order are equal if their maps are.
     pub fn is_settled(&self)
         ensures { (g : Dataflow) (v : Kept) → IsFor g v → IsFor g self.now → v.map ≡ self.now.map → v ≡ self.now }
     {
@@ -250,7 +250,7 @@ impl<A: Allocator + Copy> View<A> {
         }
     }
 
-    // The same where most of what is positive goes: what is kept for the rest is counted anew.
+    // The same if most of what is positive goes: what is kept for the rest is counted anew.
     fn set_anew<B: Allocator>(&mut self, paths: &Paths<B>, delta: &Delta<A>, to: &Delta<A>)
         requires paths { IsFor paths.now self.old }
         requires room { AllWithinRoom (points_of (listed delta.now)) self.old.map to.now }
@@ -448,7 +448,7 @@ impl<A: Allocator + Copy> View<A> {
         self.least_before(paths, point, true)
     }
 
-    /// The number of positive pointstamps strictly before this one: the kept one where this one is positive.
+    /// The number of positive pointstamps strictly before this one: the kept one if this one is positive.
     pub fn precursors<B: Allocator>(&self, paths: &Paths<B>, point: &Pointstamp) -> u64
         requires { IsFor paths.now self.now }
         ensures { IsCount (IsPrecursor paths.now self.now.map point.now) self.now.map result }
@@ -460,7 +460,7 @@ impl<A: Allocator + Copy> View<A> {
     }
 
     /// The part of the view at its positive pointstamps that have nothing positive strictly before them.
-    /// Where there is none it takes no memory.
+    /// If there is none it takes no memory.
     pub fn frontier<B: Allocator>(
         &self,
         alloc: A,

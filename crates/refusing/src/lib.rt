@@ -96,7 +96,7 @@ unsafe impl<B: Allocator> Allocator for Refusing<B> {
 pub const MANY: u64 = 1000;
 
 /// Whether a call met the request that was refused. `None` for another answer than want of memory
-/// where it did and success where it did not, and where want of memory left its values changed.
+/// if it did and success if it did not, and if want of memory left its values changed.
 pub fn was_refused<E: PartialEq + Drop>(
     refused: bool,
     fault: Option<E>,
@@ -112,7 +112,7 @@ pub fn was_refused<E: PartialEq + Drop>(
 
 /// Makes a call while the request of a number is refused, and says whether it met that one.
 ///
-/// `None` where it answered, or left its values, otherwise than it should.
+/// `None` if it answered, or left its values, otherwise than it should.
 #[macro_export]
 macro_rules! met {
     ($heap:ident, $n:ident: $call:expr; $want:expr, $is_as_before:expr) => {{

@@ -88,7 +88,7 @@ fn answer_value<R: Threads + Sync>(
 
 /// Answers the line of this number; `Err` only for want of memory.
 ///
-/// A blank line has no reply. A faulty line changes nothing, and ends the run where it is the
+/// A blank line has no reply. A faulty line changes nothing, and ends the run if it is the
 /// graph's; so does a graph that is refused. A reply has no float, so that it can be written.
 pub fn answer_line<R: Threads + Sync>(
     rt: &R,

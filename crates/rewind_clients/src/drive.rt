@@ -108,7 +108,7 @@ fn enter_all<R: Wait>(
     Ok(tasks)
 }
 
-// Each client's commands, on a thread of its own where one can be made. All are joined.
+// Each client's commands, on a thread of its own if one can be made. All are joined.
 fn drive_all<R: Threads + Wait + Sync, G: Gate>(
     rt: &R,
     alloc: Global,

@@ -118,7 +118,7 @@ fn add_command(commands: &mut Vec<Vec<Command>>, order: Order) -> Result<(), All
 }
 
 impl Script {
-    // Takes in a line that is not blank; what it says where it is faulty.
+    // Takes in a line that is not blank; what it says if it is faulty.
     fn read_order(
         &mut self,
         alloc: Global,

@@ -45,7 +45,7 @@ pub fn edge_named(graph: &Graph, name: &str) -> Option<usize>
     }
 }
 
-/// The time of these numbers, an epoch and then counters, where it has the depth of the location.
+/// The time of these numbers, an epoch and then counters, if it has the depth of the location.
 #[tactic(auto, unfolding(crate::specs::Places::time_of))]
 pub fn time_of(graph: &Graph, location: usize, numbers: &[u32]) -> Option<Timestamp>
     requires { location < count_of graph.now }

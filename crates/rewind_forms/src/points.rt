@@ -162,7 +162,7 @@ pub fn point_there(alloc: Global, graph: &Graph, value: &Value) -> Result<Points
     placed(graph, location, named.numbers.as_slice())
 }
 
-/// The pointstamps of names and numbers, where each is one of the graph.
+/// The pointstamps of names and numbers, if each is one of the graph.
 pub fn points_named(
     alloc: Global,
     graph: &Graph,
