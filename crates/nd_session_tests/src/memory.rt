@@ -97,7 +97,7 @@ fn are_equal<A: Allocator + Copy>(
     )
 }
 
-/// Whether the answer is one that may be given: the one with ample memory, or want of memory in a step that is logged,
+/// Whether the answer is one that may be given: the one with ample memory, or out of memory in a step that is logged,
 /// with the cursor where the snapshot has it.
 fn may_answer<A: Allocator + Copy>(
     receipt: &Receipt<A>,
@@ -230,7 +230,7 @@ fn copied<A: Allocator + Copy, R: Wait>(
     }
 }
 
-/// A stranger's command with one request refused: whether it met it. It is told the entry, or that memory is wanted.
+/// A stranger's command with one request refused: whether it met it. It is told the entry, or out of memory.
 fn refused<A: Allocator + Copy, R: Wait>(
     rt: &R,
     heap: &Heap,

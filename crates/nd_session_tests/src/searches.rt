@@ -253,7 +253,7 @@ fn is_stopped_in<A: Allocator>(piece: u64, lists: &[Vec<u64, A>], hit: Option<u6
 
 /// A search by two workers with one request refused: whether it met it, and whether a worker did.
 ///
-/// `None` for an answer that is not the one with ample memory and not want of it, and where a block
+/// `None` for an answer that is not the one with ample memory and not out of memory, and if a block
 /// stays.
 fn searched<A: Allocator + Copy + Send + Sync, R: Threads + Sync>(
     rt: &R,

@@ -1,4 +1,4 @@
-//! Each request for memory of a call refused in turn: the call answers want of memory and leaves its
+//! Each request for memory of a call refused in turn: the call answers out of memory and leaves its
 //! values as they were, until it meets none that is refused, and succeeds.
 
 ghost use Rattle.nd_vertex.specs.Edits.{CanEdit};
