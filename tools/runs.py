@@ -13,7 +13,7 @@
         entry.state           of those replies the state after the line, or None
 
 The queries are '{"do":"state"}' alone where no others are given, and change nothing; lines before the graph's, which is the
-one whose reply counts places, are followed by none. They move the lines that follow, so a faulty line's number is put back.
+one whose reply counts locations, are followed by none. They move the lines that follow, so a faulty line's number is put back.
 Where the program does not answer all of that with status 0 (queries are not allowed with several clients, a graph may be
 refused), the script runs alone as well: its replies and status are those given, and entries have answers up to the first
 reply in which the two runs differ.
@@ -88,7 +88,7 @@ def replies_of(output):
 
 
 def graph_of(lines, entries):
-    """The graph's value: that of the line whose reply counts places; where none does, of the first with vertices."""
+    """The graph's value: that of the line whose reply counts locations; where none does, of the first with vertices."""
     read = [it.line for it in entries if "locations" in it.reply and it.line]
     values = [it.value for it in read or lines[:2]]
     return next((it for it in values if isinstance(it, dict) and (read or "vertices" in it)), None)

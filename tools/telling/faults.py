@@ -28,7 +28,7 @@ def told_line(entry, before, teller):
     if "line" in reply:
         return unread(entry.line.text), faulty(reply, line_faults(entry.line.text, reply, teller))
     if "locations" in reply:
-        counts = counted(reply["locations"], "place"), counted(reply["processors"], "processor")
+        counts = counted(reply["locations"], "location"), counted(reply["processors"], "processor")
         return "the graph", [*graph_words(entry.line.value), f"read: {counts[0]}, {counts[1]}"]
     if "error" in reply and teller.graph is None:
         return unread(entry.line.text), faulty(reply, faults_in(entry.line.text, lambda it: graph_faults.graph_faults(it, reply)))

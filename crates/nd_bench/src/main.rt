@@ -1,4 +1,4 @@
-//! Drives machines, states and sessions, so that `bench/sessions` can tell what they take.
+//! Drives machines, `State`s and sessions, so that `bench/sessions` can tell what they take.
 //!
 //! The words are what to drive, by what, how many commands, and how many parts or clients; the graph is read from
 //! standard input. What each part took is printed in microseconds, by the clock and of all processors, and then how

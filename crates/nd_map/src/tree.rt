@@ -1,4 +1,4 @@
-//! Finite maps kept in a tree, the storage of the maps above that may grow large.
+//! Finite maps stored in a tree, the storage of the maps above that may grow large.
 ghost use Rattle.std.specs.Prelude.{◌≡◌, ◌↔◌, ◌<◌, ◌^◌, [], OnOk, OnErr, IfOk, IsTrue, None, length, slice_get};
 ghost use Rattle.std.specs.Option.{option_map};
 ghost use Rattle.std.specs.FinMap.{find, put};

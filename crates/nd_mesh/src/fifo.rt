@@ -49,7 +49,7 @@ impl<A: Allocator + Copy> Queue<A> {
         self.changes.len()
     }
 
-    /// The change at a place, counted from the front.
+    /// The change at a position, counted from the front.
     pub fn get(&self, i: usize) -> Option<&Delta<A>>
         ensures { option_copied result ≡ slice_get self.now i }
     {

@@ -42,7 +42,7 @@ length-states : (n a : ℕ) (s : Summary) (w : List Arc) → length (states n a 
 length-states n a s [] = refl
 length-states n a s (x ∷ w) = ap suc (length-states n x.to (step x.action s) w)
 
--- the part of a walk up to where it comes to a state
+-- the part of a walk up to where it comes to a location and keep
 Found : ℕ → ℕ → Summary → List Arc → ℕ → Type 0
 Found n a s w m = (q z : List Arc) × (w ≡ q ++ z) × (0 < length q) × (m ≡ state n a s q)
 
@@ -96,7 +96,7 @@ one_below (x ∷ xs) n m h k =
       | inr f ↦ one_below xs n m h.1 (rw f.0 at k)
     ]
 
--- a walk of more arcs than there are states goes round
+-- a walk of more arcs than there are locations and keeps goes round
 pub must_go_round : (depths : List ℕ) (arcs w : List Arc) (n a b : ℕ) (s : Summary) → DepthsAgree depths arcs → IsWalkAlong arcs a b w → s.keep < n → n * length depths < length w → Round n a s w
 must_go_round depths arcs w n a b s g h k long =
     elim (goes_round n a s w) [

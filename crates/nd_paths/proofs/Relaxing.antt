@@ -16,7 +16,7 @@ next_keep row x r s n h e q =
     let k = (h.room s (sym e)).0 in
     omega (arith, step-keep x.action s.keep s.add s.constants, ap (λ m. m.keep) q, k, h.within)
 
--- the place of a location and a keep
+-- the position of a location and a keep
 pub held_within : (row : List (Option Summary)) (b r : ℕ) → r < keeps → held row b r ≡ get_or row (b * keeps + r) None
 held_within row b r h = sym (cond_below r keeps (get_or row (b * keeps + r) None) None h)
 
@@ -38,7 +38,7 @@ entry-set_other row b r c q v h apart =
       | inr past ↦ entry_past (set row (b * keeps + r) v) c q past ∙ sym (entry_past row c q past)
     ]
 
--- a place is the one that was written, or another
+-- a position is the one that was written, or another
 pub at_place : (b r c q : ℕ) → ((b ≡ c) × (r ≡ q)) ⊎ ((b ≡ c) × (r ≡ q) → ⊥)
 at_place b r c q =
     elim (cases_eq b c) [

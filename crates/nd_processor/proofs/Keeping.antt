@@ -73,7 +73,7 @@ some None h e = absurd (cc)
 some (Some n) h e = h.some (ap (or_else 0) e)
 
 module _ {K : Type 0} (R : K → K → Ordering) (o : IsTotalOrder R) (tells : IsAntisymmetric R) (es : List (K × ℕ)) where
-  -- the entries that are kept are those of their map
+  -- the entries that are stored are those of their map
   pub kept_entries : IsKept R es → entries (of_entries {N = naturals} o es) ≡ es
   kept_entries kept = entries-of_entries naturals o tells es kept.listed (λ q. some _ (kept.counts q))
 

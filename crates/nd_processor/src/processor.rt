@@ -171,7 +171,7 @@ impl<A: Allocator + Copy> Processor<A> {
         points_of(alloc, self.tokens())
     }
 
-    /// For how many vertices items are kept: all of the graph's.
+    /// For how many vertices items are stored: all of the graph's.
     pub fn vertex_count(&self) -> usize
         ensures { result ≡ length self.now.items }
     {

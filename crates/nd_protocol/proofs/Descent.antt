@@ -2,7 +2,7 @@
 use Rattle.std.proofs.Common.{◌≡◌, ℕ, zero, suc, inl, inr, List, [], ◌∷◌, length, refl, sym, subst, ap, ◌∙◌, arith}
 use Rattle.nd_protocol.proofs.Core.{IsStrictOrder, IsIn}
 
--- a list without one place of x
+-- a list without one position of x
 record Without {P : Type 0} (points : List P) (x : P) : Type 0 where
   rest : List P
   shorter : length points ≡ suc (length rest)

@@ -17,7 +17,7 @@ use Rattle.nd_search.specs.declared.work.Searched.{Searched}
 abbrev pub IsResult : (ℕ → Type 0) → ℕ → ℕ → ℕ → Option ℕ → Type 0
 IsResult Hit lo hi j r = IsLeast Hit (piece_start lo j) (piece_end lo hi j) r
 
--- each result is that of the piece that was claimed at its place
+-- each result is that of the piece that was claimed at its position
 pub record AreFound (Hit : ℕ → Type 0) (lo hi : ℕ) (claimed : List ℕ) (found : List (Option ℕ)) : Type 0 where
   pub within : length found ≤ length claimed
   pub results : (k : ℕ) → k < length found → (j : ℕ) (r : Option ℕ) → slice_get claimed k ≡ Some j → slice_get found k ≡ Some r → IsResult Hit lo hi j r

@@ -19,7 +19,7 @@ name_of LogFull = codes "LogFull"
 name_of TooManyClients = codes "TooManyClients"
 name_of Memory = codes "Memory"
 
--- a state with this log refuses a command so
+-- a `State` with this log refuses a command so
 abbrev pub ApplyFails : {A : Type 0} → List (Receipt A) → SessionFault A → Type 0
 ApplyFails log (NotThisSession index found) = ⊥
 ApplyFails log LogFull = length log ≡ max_log

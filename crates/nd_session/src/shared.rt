@@ -16,7 +16,7 @@ use std::alloc::{AllocError, Allocator, Global};
 /// The most clients over a session's life.
 const MAX_CLIENTS: u64 = 64;
 
-// A state, and how many clients have entered.
+// A `State`, and how many clients have entered.
 #[derive(Drop)]
 pub(crate) struct Shared<A: Allocator + Copy = Global> {
     pub(crate) state: State<A>,

@@ -288,7 +288,7 @@ fn calls_out_of_memory(rt: HostRuntime) {
     assert_eq!(rt; heap.live(), 0);
 }
 
-/// A state's command with one request refused: whether it met it. Then nothing is logged, or the answer is.
+/// A `State`'s command with one request refused: whether it met it. Then nothing is logged, or the answer is.
 fn applied<A: Allocator + Copy>(
     heap: &Heap,
     json: Global,
@@ -322,7 +322,7 @@ fn applied<A: Allocator + Copy>(
     }
 }
 
-/// A state's command with each request refused in turn: how many were.
+/// A `State`'s command with each request refused in turn: how many were.
 fn applied_in_turn<A: Allocator + Copy>(
     heap: &Heap,
     json: Global,

@@ -46,7 +46,7 @@ pub fn command_of<A: Allocator + Copy>(
     }
 }
 
-/// The state of a start.
+/// The `State` of a start.
 pub fn opened<A: Allocator + Copy>(json: Global, alloc: A, text: &str, n: u32) -> Option<State<A>> {
     let graph = graph_of(json, alloc, text)?;
     let Ok(cluster) = Cluster::start(alloc, graph, n) else {

@@ -53,7 +53,7 @@ fn fed<A: Allocator + Copy>(
     Snapshot::of(alloc, &timeline, 0).ok()
 }
 
-/// The break that holds if a place has a count of 1 at least at an epoch.
+/// The break that holds if a location has a count of 1 at least at an epoch.
 fn count<A: Allocator + Copy>(snapshot: &Snapshot<A>, name: &str, epoch: u32) -> Option<Break> {
     Some(Break::Count {
         point: point(snapshot.cluster().graph(), name, &[epoch])?,

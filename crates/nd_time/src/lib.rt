@@ -1,4 +1,4 @@
-//! Timestamps of a timely dataflow: an epoch and the counters of the loops around a place.
+//! Timestamps of a timely dataflow: an epoch and the counters of the loops around a location.
 #![tactic(auto)]
 
 ghost use Rattle.std.specs.Prelude.{◌≡◌, ◌≤◌, ◌<◌, ◌↔◌, IsTrue, IsSome, IfSome, IsOk, IfOk, length};
@@ -18,7 +18,7 @@ pub const MAX_DEPTH: usize = 4;
 #[error("the loop counter is at its limit")]
 pub struct CounterFull;
 
-/// An epoch, and the counters of the loops around a place, outermost first (Naiad, SOSP 2013, section 2.1).
+/// An epoch, and the counters of the loops around a location, outermost first (Naiad, SOSP 2013, section 2.1).
 ///
 /// Timestamps are listed by epoch, and then by counters in lexicographic order.
 #[derive(Debug, PartialEq, Eq, PartialOrd, Ord, Drop)]

@@ -1,4 +1,4 @@
--- Views whose kept counts are those of a graph.
+-- Views whose precursor counts are those of a graph.
 use Rattle.std.proofs.Common.{cond, ◌≡◌, ℕ, ℤ, pos, List, [], Option, Some, None, refl, sym, ap, subst, ◌∙◌, ◌⊎◌, inl, inr, zero, suc, negsuc, arith, Result, Ok, Err, ◌<◌}
 use Rattle.std.specs.Prelude.{◌<ℤ◌, OnOk}
 use Rattle.std.proofs.lemmas.Int.{ints}
@@ -52,7 +52,7 @@ on_ok (Err e) P Q f p = tt
 pub for_fields : (g : Dataflow) (v : Kept) (m : Change) (es : List (Pointstamp × ℕ)) → record { map = m; counts = es } ≡ v → IsFor g v → IsFor g (record { map = m; counts = es })
 for_fields g v m es v_is h = subst (IsFor g) (sym v_is) h
 
--- ---- kept counts of 0
+-- ---- precursor counts of 0
 pub frontier_of_none : (g : Dataflow) (m : Change) (q : Pointstamp) → IsKeptAt g m q (Some 0) → IsOnFrontier g m q
 frontier_of_none g m q kept = record {
   positive = kept.0;
@@ -68,7 +68,7 @@ not_on_frontier g m q n more kept on =
     let one = first_one (entries f) (omega (arith, more, kept.1.2)) in
     on.first one.point (kept.1.1.only one.point (λ z. some-entry f one.point one.value one.found (sym (ap or_zero one.found) ∙ at-entries f one.point ∙ z)))
 
--- a point is on the frontier exactly if its kept count is 0
+-- a point is on the frontier exactly if its precursor count is 0
 pub zero_of_frontier : (g : Dataflow) (v : Kept) → IsFor g v → (q : Pointstamp) → IsOnFrontier g v.map q → find point_cmp q v.counts ≡ Some 0
 zero_of_frontier g v h q on = by (find point_cmp q v.counts) (h.each q)
   where

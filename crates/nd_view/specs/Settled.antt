@@ -1,4 +1,4 @@
--- Kept counts are settled by the map: two views of one graph are equal if their maps are.
+-- Precursor counts are settled by the map: two views of one graph are equal if their maps are.
 use Rattle.std.proofs.Common.{◌≡◌, ◌≢◌, ℕ, zero, suc, ℤ, pos, negsuc, Option, Some, None, refl, sym, ap, subst, ◌∙◌, ◌⊎◌, inl, inr}
 use Rattle.std.specs.FinMap.{find}
 use Rattle.std.specs.FinMap.Entries.{same_entries}

@@ -1,4 +1,4 @@
-//! What is kept beside a map: made anew, and moved if a pointstamp came or went.
+//! What is stored beside a map: made anew, and moved if a pointstamp came or went.
 
 ghost use Rattle.std.specs.Prelude.{◌≡◌, ◌≤◌, ◌+◌, ◌<◌, ◌^◌, IsTrue, Some, length, vec_capacity};
 ghost use Rattle.std.specs.FinMap.{find};
@@ -42,7 +42,7 @@ fn moved_by_one(n: u64, up: bool) -> u64
     if up { n + 1 } else { n - 1 }
 }
 
-/// Moves the kept counts of the positive pointstamps after one that came or went. It takes no memory.
+/// Moves the precursor counts of the positive pointstamps after one that came or went. It takes no memory.
 pub fn shift<A: Allocator, B: Allocator>(
     precursor_counts: &mut SortedMap<Pointstamp, u64, A>,
     counts: &Delta<A>,
@@ -67,7 +67,7 @@ pub fn shift<A: Allocator, B: Allocator>(
     }
 }
 
-/// Lists the pointstamps whose kept count is 0. It takes no memory.
+/// Lists the pointstamps whose precursor count is 0. It takes no memory.
 pub fn list_frontier<A: Allocator>(
     frontier: &mut Vec<Pointstamp, A>,
     precursor_counts: &SortedMap<Pointstamp, u64, A>,
@@ -85,7 +85,7 @@ pub fn list_frontier<A: Allocator>(
     }
 }
 
-/// Gives a change's pointstamps the counts that they have in another one, and takes out what is kept
+/// Gives a change's pointstamps the counts that they have in another one, and takes out what is stored
 /// for those that are not positive then. It goes from the last to the first, so that what is taken
 /// out at the end of a list moves nothing, and takes no memory.
 pub fn set_from_last<A: Allocator>(

@@ -87,7 +87,7 @@ impl<A: Allocator + Copy> View<A> {
         self.counts.entries()
     }
 
-    /// The kept count of a positive pointstamp: the number of positive ones strictly before it, by the
+    /// The precursor count of a positive pointstamp: the number of positive ones strictly before it, by the
     /// paths of the earlier calls.
     pub fn kept(&self, point: &Pointstamp) -> Option<u64>
         ensures { (g : Dataflow) → IsFor g self.now → IsKeptAt g self.now.map point.now result }
@@ -95,7 +95,7 @@ impl<A: Allocator + Copy> View<A> {
         self.precursor_counts.get(point)
     }
 
-    /// What is kept is settled by the map: two views of one order are equal if their maps are.
+    /// What is stored is settled by the map: two views of one order are equal if their maps are.
     pub fn is_settled(&self)
         ensures { (g : Dataflow) (v : Kept) → IsFor g v → IsFor g self.now → v.map ≡ self.now.map → v ≡ self.now }
     {
@@ -250,7 +250,7 @@ impl<A: Allocator + Copy> View<A> {
         }
     }
 
-    // The same if most of what is positive goes: what is kept for the rest is counted anew.
+    // The same if most of what is positive goes: what is stored for the rest is counted anew.
     fn set_anew<B: Allocator>(&mut self, paths: &Paths<B>, delta: &Delta<A>, to: &Delta<A>)
         requires paths { IsFor paths.now self.old }
         requires room { AllWithinRoom (points_of (listed delta.now)) self.old.map to.now }
@@ -448,7 +448,7 @@ impl<A: Allocator + Copy> View<A> {
         self.least_before(paths, point, true)
     }
 
-    /// The number of positive pointstamps strictly before this one: the kept one if this one is positive.
+    /// The number of positive pointstamps strictly before this one: the stored one if this one is positive.
     pub fn precursors<B: Allocator>(&self, paths: &Paths<B>, point: &Pointstamp) -> u64
         requires { IsFor paths.now self.now }
         ensures { IsCount (IsPrecursor paths.now self.now.map point.now) self.now.map result }

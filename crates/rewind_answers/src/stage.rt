@@ -17,7 +17,7 @@ use serde_json::Value;
 use std::alloc::{AllocError, Global};
 use std::thread::Threads;
 
-/// How far a run has come: before its graph, of a number of processors, or with a state.
+/// How far a run has come: before its graph, of a number of processors, or with a `State`.
 #[derive(Drop)]
 pub enum Stage {
     Unstarted(u8),

@@ -37,7 +37,7 @@ fn answer_script<R: Threads + Wait + Sync, T: Sink, G: Gate>(
     ensures kind { IfErr result IsOfAnswering }
     ensures write { T.failed sink.new ≡ is_write_fault result }
 {
-    // This call's clauses say that the state began at a start.
+    // This call's clauses say that the `State` began at a start.
     let _ = script.state.timeline();
     tell_one(alloc, sink, &script.reply)?;
     let driven = drive_session(rt, alloc, script.state, script.commands, gate)?;

@@ -26,7 +26,7 @@ use std::alloc::{AllocError, Global};
 pub struct Script {
     /// The graph's reply.
     pub reply: Shown,
-    /// The state that begins at the graph's start.
+    /// The `State` that begins at the graph's start.
     pub state: State,
     /// Each client's commands, in the order of its lines.
     pub commands: Vec<Vec<Command>>,

@@ -1,4 +1,4 @@
--- The places of a graph, by their names, and times there.
+-- The locations of a graph, by their names, and times there.
 use Rattle.std.specs.Prelude.{ℕ, ◌&&◌, Bool, true, false, List, [], ◌∷◌, length, nat_eq, nat_lt, if◌then◌else◌, slice_get, Option, Some, None, is_some, position, option_map, option_and_then, codes, Result, Ok}
 use Rattle.std.specs.Option.{option_map_or}
 use Rattle.std.specs.Str.{bytes_eq}
