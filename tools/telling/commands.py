@@ -22,7 +22,7 @@ def counted(count, thing):
 
 
 def some_of(items):
-    """The items in a list of words, cut where there are many."""
+    """The items in a list of words, cut if there are many."""
     items = list(map(str, items))
     if len(items) <= MOST:
         return listed(items) if items else "nothing"

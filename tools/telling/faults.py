@@ -9,7 +9,7 @@ LONGEST = 65536
 
 
 def teller_of(told, script):
-    """The one who tells a run's replies; it has no graph where the program has read none.
+    """The one who tells a run's replies; it has no graph if the program has read none.
 
     A faulty line that is answered before the graph is one of several clients' script, whose graph was read."""
     first = told.entries[0] if told.entries else None
@@ -49,7 +49,7 @@ def faulty(reply, faults):
 
 
 def faults_in(text, faults_of):
-    """What is wrong with a line's value; nothing where it has none that Python reads."""
+    """What is wrong with a line's value; nothing if it has none that Python reads."""
     try:
         value = values.value_of(text)
     except (ValueError, RecursionError):
