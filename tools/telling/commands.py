@@ -13,7 +13,7 @@ def time_in(time):
 
 
 def at(place, time):
-    """A place and a time, which a line does not part."""
+    """A location and a time, which a line does not part."""
     return f"{place}{FIRM}{time_in(time)}"
 
 

@@ -86,7 +86,7 @@ fn answer_value<R: Threads + Sync>(
     }
 }
 
-/// Answers the line of this number; `Err` only where memory runs out.
+/// Answers the line of this number; `Err` only if memory runs out.
 ///
 /// A blank line has no reply. A faulty line changes nothing, and ends the run if it is the
 /// graph's; so does a graph that is refused. A reply has no float, so that it can be written.
