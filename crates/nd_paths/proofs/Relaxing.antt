@@ -168,7 +168,7 @@ module _ (row : List (Option Summary)) (x : Arc) (r : ℕ) (can : CanRelax row x
         subst (λ t. Covers (entry row) x.to (step x.action t)) one (inner k, known_here k e, subst (λ t. AtMost (inner k) t) is less),
   )
 
-  -- and it is if the step is at most what is known
+  -- and it is written if the step is at most what is known
   pub writes : ((k : Summary) → Some k ≡ held row x.to n.keep → AtMost (inner n) (inner k)) → Written row (set row (x.to * keeps + n.keep) (Some n)) x r
   writes less = (
     inner f,

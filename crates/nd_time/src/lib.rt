@@ -79,7 +79,7 @@ impl Timestamp {
         Timestamp::new(self.epoch, self.counters()).unwrap()
     }
 
-    /// Whether this timestamp is at or before the other. It is not if their depths differ.
+    /// Whether this timestamp is at or before the other. It is not so if their depths differ.
     ///
     /// Epochs compare as numbers and counters lexicographically (this project's own rule).
     pub fn at_or_before(&self, other: &Timestamp) -> bool

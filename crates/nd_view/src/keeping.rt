@@ -1,4 +1,4 @@
-//! What is stored beside a map: made anew, and moved if a pointstamp came or went.
+//! What is stored beside a map: made anew, and moved when a pointstamp came or went.
 
 ghost use Rattle.std.specs.Prelude.{◌≡◌, ◌≤◌, ◌+◌, ◌<◌, ◌^◌, IsTrue, Some, length, vec_capacity};
 ghost use Rattle.std.specs.FinMap.{find};
