@@ -179,7 +179,13 @@ impl<A: Allocator + Copy> View<A> {
             return;
         };
         self.precursor_counts.remove(point);
-        shift(&mut self.precursor_counts, &self.counts, paths, point, false);
+        shift(
+            &mut self.precursor_counts,
+            &self.counts,
+            paths,
+            point,
+            false,
+        );
         list_frontier(&mut self.frontier, &self.precursor_counts);
     }
 
