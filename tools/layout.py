@@ -3,10 +3,10 @@
     drawn = layout({"a": (60, 30), ..}, [Edge("az", "a", "z", (40, 20)), ..])
     drawn.width, drawn.height      the size of the drawing, from (0, 0)
     drawn.nodes["a"]               the middle of a node
-    drawn.labels["az"]             the middle of an edge's label, where the edge has one
+    drawn.labels["az"]             the middle of an edge's label, if the edge has one
     drawn.paths["az"]              the edge as the points of cubic curves, as SVG's 'M' and 'C' take them
 
-Layers go from left to right, or downwards where 'down' is set. An edge that closes a loop goes against that direction. An
+Layers go from left to right, or downwards if 'down' is set. An edge that closes a loop goes against that direction. An
 edge's label is laid out as a node of its own, in a layer between, so no two labels meet; the edge passes below it."""
 from typing import NamedTuple
 
@@ -170,7 +170,7 @@ def spread(wishes, weights, gaps):
 
 
 def pull(room, node, other):
-    """How strongly an edge is to be straight between two nodes: most where neither is a node of the graph."""
+    """How strongly an edge is to be straight between two nodes: most if neither is a node of the graph."""
     return (1, 3, 9)[(node in room.stops) + (other in room.stops)]
 
 

@@ -2,19 +2,19 @@
 
     from runs import run_script
     told = run_script(open(path, "rb").read(), ["--processors", "3"])
-    told.graph                the graph as the script's line has it, or None where none was met
+    told.graph                the graph as the script's line has it, or None if none was met
     told.status, told.error   the program's exit status, and what it wrote to standard error
     told.entries              an Entry a reply, in the order of the replies, the graph's first:
         entry.line            the Line that it answers: line.number from 1, line.text as bytes without its newline,
-                              line.value as JSON, None where it is none
+                              line.value as JSON, None if it is none
         entry.reply           the reply as the program gives it to the script alone
         entry.client          with several clients whose command it was, else None
-        entry.answers         the replies to the queries that were put in after it; [] where none could be
+        entry.answers         the replies to the queries that were put in after it; [] if none could be
         entry.state           of those replies the state after the line, or None
 
-The queries are '{"do":"state"}' alone where no others are given, and change nothing; lines before the graph's, which is the
-one whose reply counts places, are followed by none. They move the lines that follow, so a faulty line's number is put back.
-Where the program does not answer all of that with status 0 (queries are not allowed with several clients, a graph may be
+The queries are '{"do":"state"}' alone if no others are given, and change nothing; lines before the graph's, which is the
+one whose reply counts locations, are followed by none. They move the lines that follow, so a faulty line's number is put back.
+If the program does not answer all of that with status 0 (queries are not allowed with several clients, a graph may be
 refused), the script runs alone as well: its replies and status are those given, and entries have answers up to the first
 reply in which the two runs differ.
 
@@ -61,7 +61,7 @@ class Run(NamedTuple):
 
 
 def json_of(text):
-    """The JSON value of a text, or None where Python reads none."""
+    """The JSON value of a text, or None if Python reads none."""
     try:
         return json.loads(text.decode())
     except (ValueError, RecursionError):
@@ -82,13 +82,13 @@ def run_bytes(script, words):
 
 
 def replies_of(output):
-    """The replies of an output; none where it is no list of JSON objects, as the help is not."""
+    """The replies of an output; none if it is no list of JSON objects, as the help is not."""
     replies = [json_of(it) for it in output.split(b"\n") if it]
     return replies if all(isinstance(it, dict) for it in replies) else []
 
 
 def graph_of(lines, entries):
-    """The graph's value: that of the line whose reply counts places; where none does, of the first with vertices."""
+    """The graph's value: that of the line whose reply counts locations; if none does, of the first with vertices."""
     read = [it.line for it in entries if "locations" in it.reply and it.line]
     values = [it.value for it in read or lines[:2]]
     return next((it for it in values if isinstance(it, dict) and (read or "vertices" in it)), None)
@@ -118,7 +118,7 @@ def entries_of_log(lines, replies):
 
 
 def with_line(reply, number):
-    """The reply, where it names its line, with the line's number in the script alone."""
+    """The reply, if it names its line, with the line's number in the script alone."""
     return {**reply, "line": number} if "line" in reply and "error" in reply else reply
 
 

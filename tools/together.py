@@ -1,7 +1,7 @@
 """The must-fail edits of a crate, tried together: one check of one copy with all those that change different functions.
 
 A function's proof rests on the contracts of what it calls and on no other body. So of bodies that are turned in different
-functions of one copy each is refused, or not, as it would be alone. An edit counts as refused only where the prover's line of
+functions of one copy each is refused, or not, as it would be alone. An edit counts as refused only if the prover's line of
 each edited function gives a reason of its own, and names a place in that function or in its folder of answers, for its
 meaning: not a name that went, and not another function that is not proved. The check is asked for the edited functions alone, so
 that what stands above them is not read. What was not refused so is tried again with the rest, over what the earlier checks of
@@ -51,7 +51,7 @@ def without_angles(text):
 
 
 def owner(lines, at):
-    """The type, and after it the trait, of the impl around a line; none where there is no impl."""
+    """The type, and after it the trait, of the impl around a line; none if there is no impl."""
     first = next((i for i in range(at, -1, -1) if lines[i].startswith(("impl", "unsafe impl", "}"))), None)
     if first is None or lines[first].startswith("}"):
         return None
@@ -78,7 +78,7 @@ def function_at(file, source, at):
 
 
 def made(edit, folder, texts):
-    """The functions that an edit changes and the texts with it, or nothing where it changes anything else."""
+    """The functions that an edit changes and the texts with it, or nothing if it changes anything else."""
     texts, found = dict(texts), set()
     for path, old, new in pairs(edit):
         if path not in texts:

@@ -31,7 +31,7 @@ def sizes_of(graph):
 
 
 def laid_out(graph, uses_dot=True):
-    """The graph with places for all of it: by graphviz where it is there, else by layers."""
+    """The graph with places for all of it: by graphviz if it is there, else by layers."""
     boxes, labels = sizes_of(graph)
     if uses_dot and shutil.which("dot"):
         drawn = by_dot(graph, boxes, labels)
@@ -54,7 +54,7 @@ def dot_source(graph, boxes, labels):
 
 
 def by_dot(graph, boxes, labels):
-    """The layout that dot makes, or None where it makes none."""
+    """The layout that dot makes, or None if it makes none."""
     ran = subprocess.run(["dot", "-Tjson"], input=dot_source(graph, boxes, labels), text=True, capture_output=True)
     try:
         said = json.loads(ran.stdout)

@@ -19,7 +19,7 @@ def changes(entries):
 
 
 def times(counts):
-    """A count by its times: where there is one time it is named, else how many there are."""
+    """A count by its times: if there is one time it is named, else how many there are."""
     total = sum(counts.values())
     if not total:
         return "", "", []

@@ -45,7 +45,7 @@ TOLD = {
         do("feed", p=0, vertex="a", values=[], next="stay"), do("feed", p=0, vertex="a", values=[], next="close"),
     ], 0, [
         (1, "vertices: a (input), s (sum), z (sink)"), (1, "edges: as from a to s (local), sz from s to z (local)"),
-        (1, "5 places, 1 processor"), (2, "processor 0 feeds 2 and 3 into a and goes on to the next epoch"),
+        (1, "5 locations, 1 processor"), (2, "processor 0 feeds 2 and 3 into a and goes on to the next epoch"),
         (2, "the cursor is at 1 of 1 kept step"), (3, "processor 0 takes 2 off as (0)"),
         (4, "processor 0 broadcasts all that is unsent"), (4, "changes on their way: 1 from 0 to 0"),
         (5, "processor 0 receives the first change on its way from processor 0"), (6, "processor 0 runs the notice of s (0)"),
@@ -146,7 +146,7 @@ TOLD = {
         (4, '"q":-1 is below 0'), (5, '"q":4294967296 is above 4294967295'), (6, '"q":null is no number'),
         (7, '"time":0 is a number; right is a list of the epoch and the loop counters'), (8, '"time":[] is empty'),
         (9, '"to":-1 is below 0; right is a whole number from 0 to 18446744073709551615'), (10, f"is above {TOP}"),
-        (11, 'right is "next", "close" or "stay"'), (12, "right is a list of places and times"), (13, '"limit":"9" is a text'),
+        (11, 'right is "next", "close" or "stay"'), (12, "right is a list of locations and times"), (13, '"limit":"9" is a text'),
     ]),
     "names": ([], [
         json.dumps(ROUND), do("take", p=0, edge="in-smal", time=[0, 0], value=1), do("notice", p=0, vertex="a-in", time=[0]),

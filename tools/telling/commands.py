@@ -13,7 +13,7 @@ def time_in(time):
 
 
 def at(place, time):
-    """A place and a time, which a line does not part."""
+    """A location and a time, which a line does not part."""
     return f"{place}{FIRM}{time_in(time)}"
 
 
@@ -22,7 +22,7 @@ def counted(count, thing):
 
 
 def some_of(items):
-    """The items in a list of words, cut where there are many."""
+    """The items in a list of words, cut if there are many."""
     items = list(map(str, items))
     if len(items) <= MOST:
         return listed(items) if items else "nothing"

@@ -9,7 +9,7 @@ LONGEST = 65536
 
 
 def teller_of(told, script):
-    """The one who tells a run's replies; it has no graph where the program has read none.
+    """The one who tells a run's replies; it has no graph if the program has read none.
 
     A faulty line that is answered before the graph is one of several clients' script, whose graph was read."""
     first = told.entries[0] if told.entries else None
@@ -28,7 +28,7 @@ def told_line(entry, before, teller):
     if "line" in reply:
         return unread(entry.line.text), faulty(reply, line_faults(entry.line.text, reply, teller))
     if "locations" in reply:
-        counts = counted(reply["locations"], "place"), counted(reply["processors"], "processor")
+        counts = counted(reply["locations"], "location"), counted(reply["processors"], "processor")
         return "the graph", [*graph_words(entry.line.value), f"read: {counts[0]}, {counts[1]}"]
     if "error" in reply and teller.graph is None:
         return unread(entry.line.text), faulty(reply, faults_in(entry.line.text, lambda it: graph_faults.graph_faults(it, reply)))
@@ -49,7 +49,7 @@ def faulty(reply, faults):
 
 
 def faults_in(text, faults_of):
-    """What is wrong with a line's value; nothing where it has none that Python reads."""
+    """What is wrong with a line's value; nothing if it has none that Python reads."""
     try:
         value = values.value_of(text)
     except (ValueError, RecursionError):

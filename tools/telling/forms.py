@@ -11,8 +11,8 @@ VERTEX = ("the name of a vertex, a text", values.text)
 EDGE = ("the name of an edge, a text", values.text)
 PLACE = ("the name of a vertex or an edge, a text", values.text)
 TIME = ("a list of the epoch and the loop counters, each from 0 to 4294967295", values.time)
-POINT = ('a place and a time, as ["a",[0]]', values.point)
-POINTS = ('a list of places and times, as [["a",[0]]]', values.list_of(values.point))
+POINT = ('a location and a time, as ["a",[0]]', values.point)
+POINTS = ('a list of locations and times, as [["a",[0]]]', values.list_of(values.point))
 VALUES = ("a list of whole numbers of 64 bits, with their sign", values.list_of(SIGNED[1]))
 NEXT = values.one_of("next", "close", "stay")
 WHEN = ("a breakpoint's form", lambda value: None)
@@ -55,7 +55,7 @@ OPTIONAL = {"part"}
 
 
 def nearest(word, known):
-    """The known word that is most like the word; None where none is like it."""
+    """The known word that is most like the word; None if none is like it."""
     folded = {it.lower(): it for it in reversed(list(known))}
     found = difflib.get_close_matches(word.lower(), folded, 1, 0.5)
     return folded[found[0]] if found else None
@@ -118,7 +118,7 @@ def break_shown(name):
 
 
 def word_faults(value):
-    """What is wrong with the command word of an object; nothing where it is one."""
+    """What is wrong with the command word of an object; nothing if it is one."""
     if "do" not in value:
         near = nearest("do", [key for key in value if key.lower() == "do"])
         if near:
@@ -141,14 +141,14 @@ def do_of(word):
 
 
 def likeliest(value):
-    """The word whose form has most keys in common with the object's, and fewest others; None where it has none."""
+    """The word whose form has most keys in common with the object's, and fewest others; None if it has none."""
     common = lambda word: (len(FORMS[word].keys() & value.keys()), -len(FORMS[word].keys() ^ value.keys()))
     best = max(FORMS, key=common)
     return best if common(best)[0] else None
 
 
 def shape_faults(value, has_clients):
-    """What keeps a value from having the form of a line, each fault in words; where keys are wrong, the right form last."""
+    """What keeps a value from having the form of a line, each fault in words; if keys are wrong, the right form last."""
     if not isinstance(value, dict):
         return [f'{shown(value)} {values.kind_of(value)}; a line is an object that says what to do, as {{"do":"back"}}']
     start = {"client": WHOLE} if has_clients else {}

@@ -59,7 +59,7 @@ def op_hint(op):
 
 
 def form_of_vertex(value):
-    """The form of a vertex of this op; where the op is none, a number k may be there."""
+    """The form of a vertex of this op; if the op is none, a number k may be there."""
     op = value.get("op")
     if op in PLAIN:
         return VERTEX

@@ -38,7 +38,7 @@ class Graph:
 
 
 def slots_of(value):
-    """The names of a line of right shape: each with the kind that is wanted, and the time there where it has one."""
+    """The names of a line of right shape: each with the kind that is wanted, and the time there if it has one."""
     form = forms.FORMS[value["do"]]
     if "when" in form:
         name, inner = next(iter(value["when"].items()))

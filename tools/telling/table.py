@@ -107,7 +107,7 @@ def width_of(lines):
 
 
 def queues_and_sinks(state, before, is_whole=False):
-    """What is on its way, and what the sinks have counted where that differs from before, a sentence each where there is any."""
+    """What is on its way, and what the sinks have counted if that differs from before, a sentence each if there is any."""
     queues = [
         f"{len(changes)} from {p} to {q}" for p, row in enumerate(state["queues"]) for q, changes in enumerate(row) if changes
     ]

@@ -16,7 +16,7 @@ def value_of(text):
 
 
 def shown(value, most=40):
-    """The value as JSON, cut where it is long."""
+    """The value as JSON, cut if it is long."""
     text = raw(value)
     return text if most is None or len(text) <= most else text[: most - 3] + "..."
 

@@ -1,4 +1,4 @@
-//! A machine, a state with its log, and a session, driven by scripts.
+//! A machine, a `State` with its log, and a session, driven by scripts.
 
 use crate::clock::{Begin, Taken};
 use nd_cluster::Cluster;
@@ -54,7 +54,7 @@ pub fn machine<R: Clock + CpuClock>(
     Some(answer)
 }
 
-/// The state of one processor that keeps nothing yet.
+/// The `State` of one processor that keeps nothing yet.
 fn state_of(alloc: Global, graph: Graph) -> Option<State> {
     let Ok(cluster) = Cluster::start(alloc, graph, 1) else {
         return None;
@@ -65,7 +65,7 @@ fn state_of(alloc: Global, graph: Graph) -> Option<State> {
     Some(State::new(alloc, timeline))
 }
 
-/// Gives the scripts to a state.
+/// Gives the scripts to a `State`.
 pub fn state<R: Clock + CpuClock>(
     rt: &R,
     alloc: Global,

@@ -1,4 +1,4 @@
-//! Drives machines, states and sessions, so that `bench/sessions` can tell what they take.
+//! Drives machines, `State`s and sessions, so that `bench/sessions` can tell what they take.
 //!
 //! The words are what to drive, by what, how many commands, and how many parts or clients; the graph is read from
 //! standard input. What each part took is printed in microseconds, by the clock and of all processors, and then how
@@ -31,7 +31,7 @@ struct Task {
     among: u64,
 }
 
-/// The task that the program's words name, where they name one.
+/// The task that the program's words name, if they name one.
 fn task_of<R: Env + AllocGlobal>(rt: &R) -> Option<Task> {
     let mut words = env::args(rt).ok()?.skip(1);
     Some(Task {
@@ -49,7 +49,7 @@ fn graph_of(alloc: Global, text: &str) -> Option<Graph> {
     draft.check(alloc).ok()
 }
 
-/// Does the task on the graph of a text; none where there was no memory, or no such task.
+/// Does the task on the graph of a text; none if there was no memory, or no such task.
 fn perform<R: Clock + CpuClock + Threads + Wait + Sync>(
     rt: &R,
     alloc: Global,

@@ -98,7 +98,7 @@ module _ {A : Type 0} (s : ClusterState) (p : ℕ) (part : Part A) (c : Change) 
 
 -- ---- a receive
 
--- the reason for which nothing is received, of the state and of what is kept of it
+-- the reason for which nothing is received, of the state and of what is stored of it
 pub fails_in : (v w : Change) (q r : List Change) (e f : Refusal) → v ≡ w → q ≡ r → e ≡ f → ReceiveFails w q f → ReceiveFails v r e
 fails_in v w q r e f a b c h = subst (λ x. ReceiveFails x r e) (sym a) (subst (λ x. ReceiveFails w x e) b (subst (ReceiveFails w q) (sym c) h))
 

@@ -178,7 +178,7 @@ module _ (s : ClusterState) (p : ℕ) (k : ValueAt) (target : ℕ) (is : target 
 
 -- ---- a notice
 
--- the kept counts of a view are those of the graph, and its map is the state's view
+-- the precursor counts of a view are those of the graph, and its map is the state's view
 pub seen_view : (g : Dataflow) (ps : List ProcessorState) (vs : List Kept) (queues : List (List (List Change))) (s : ClusterState) (p : ℕ) (v : Kept) → IsSeen g ps vs queues → seen g ps vs queues ≡ s → p < length s.processors → v ≡ get_or vs p v → IsFor g v × (view s p ≡ v.map)
 seen_view g ps vs queues s p v h e lt is =
     let n : length (map (λ (w : Kept). w.map) vs) ≡ length ps = h.state.fits.each_view in

@@ -1,4 +1,4 @@
--- The cluster that is kept, after a record is made and after it is undone.
+-- The stored cluster, after a record is made and after it is undone.
 use Rattle.std.proofs.Common.{◌≡◌, List, All, sym, subst}
 use Rattle.nd_graph.specs.Graph.{Dataflow}
 use Rattle.nd_delta.specs.Change.{Change as Delta}

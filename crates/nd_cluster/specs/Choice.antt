@@ -88,12 +88,12 @@ pub record IsFirst {A : Type 0} (s : ClusterState) (Kind : Step A → Type 0) (x
 abbrev pub HasNone : {A : Type 0} → ClusterState → (Step A → Type 0) → Type 0
 HasNone {A} s Kind = (y : Step A) → IsCandidate y → Kind y → IsEnabled s y → ⊥
 
--- the record of the first of a kind, or none where none is enabled
+-- the record of the first of a kind, or none if none is enabled
 abbrev pub Finds : {A : Type 0} → ClusterState → (Step A → Type 0) → Option (Record A) → Type 0
 Finds s Kind None = HasNone s Kind
 Finds s Kind (Some r) = IsFirst s Kind r.step × IsPlanned r s
 
--- the record of a step, or none where it is refused
+-- the record of a step, or none if it is refused
 abbrev pub Tries : {A : Type 0} → ClusterState → Step A → Option (Record A) → Type 0
 Tries s x None = IsEnabled s x → ⊥
 Tries s x (Some r) = IsEnabled s x × (r.step ≡ x) × IsPlanned r s

@@ -26,7 +26,7 @@ pub record Plans {A : Type 0} (s : ClusterState) (x : Step A) (cs : Changes A) :
   pub makes : Makes s cs (stepped s x)
   pub small : named cs + shared s x ≡ changed s (stepped s x)
 
--- where the step is a notice, and the cluster has the protocol invariant, nothing outstanding is strictly before it
+-- if the step is a notice, and the cluster has the protocol invariant, nothing outstanding is strictly before it
 abbrev pub ComesLast : {A : Type 0} → ClusterState → Step A → Type 0
 ComesLast s (Notice p vertex t) = KeepsProtocol s → (x : Pointstamp) → IsStrictlyBefore s.graph x (point_at vertex t) → at (truth s.processors) x ≡ pos 0
 ComesLast s _ = Unit {0}

@@ -7,7 +7,7 @@ use crate::{Cluster, NoMemory, Part, Record, Refusal, Step};
 use std::alloc::Allocator;
 
 impl<A: Allocator + Copy> Cluster<A> {
-    // The record of a step, or none where the step is refused.
+    // The record of a step, or none if the step is refused.
     fn tried(&self, step: &Step<A>) -> Result<Option<Record<A>>, NoMemory>
         ensures { IfOk result (Tries self.now step.now) }
     {

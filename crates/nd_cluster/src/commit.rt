@@ -12,7 +12,7 @@ use nd_record::Record;
 use std::alloc::Allocator;
 
 impl<A: Allocator + Copy> Cluster<A> {
-    /// Makes the step of a record that was planned in this state. Where the cluster has the protocol
+    /// Makes the step of a record that was planned in this state. If the cluster has the protocol
     /// invariant, what is finished stays finished (FORTE 2013).
     pub fn commit(&mut self, planned: &Record<A>) -> Result<(), NoMemory>
         requires { IsPlanned planned.now self.old }

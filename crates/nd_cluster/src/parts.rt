@@ -311,7 +311,7 @@ fn parts_fit<A: Allocator + Copy>(
 }
 
 impl<A: Allocator + Copy> Cluster<A> {
-    /// The cluster of these parts, `None` where their sizes, keys, counts or depths do not fit.
+    /// The cluster of these parts, `None` if their sizes, keys, counts or depths do not fit.
     pub fn of_parts(
         alloc: A,
         graph: &Graph<A>,

@@ -85,8 +85,8 @@ impl<A: Allocator + Copy> Cluster<A> {
 
     /// The record of a step, or why the step is refused (this project's own rule).
     ///
-    /// Nothing changes. Want of memory may come in place of a refusal numbered 13 or more, but for
-    /// those of nothing to send and nothing to receive. Where the cluster has the protocol
+    /// Nothing changes. Out of memory may come in place of a refusal numbered 13 or more, but for
+    /// those of nothing to send and nothing to receive. If the cluster has the protocol
     /// invariant, nothing outstanding is strictly before a notice that is planned (FORTE 2013).
     pub fn plan(&self, step: &Step<A>) -> Result<Record<A>, Refusal>
         ensures enabled { OnOk result (IsEnabled self.now step.now) }

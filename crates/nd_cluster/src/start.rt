@@ -133,7 +133,7 @@ fn start_views<A: Allocator + Copy>(
     Ok(views)
 }
 
-// What is outstanding where so many processors start.
+// What is outstanding if so many processors start.
 fn start_truth<A: Allocator + Copy>(
     alloc: A,
     graph: &Graph<A>,
@@ -148,7 +148,7 @@ fn start_truth<A: Allocator + Copy>(
 impl<A: Allocator + Copy> Cluster<A> {
     /// The start of a cluster of n processors: each token at epoch 0, each view what is outstanding.
     ///
-    /// The graph is given up where the cluster does not start.
+    /// The graph is given up if the cluster does not start.
     pub fn start(alloc: A, graph: Graph<A>, n: u32) -> Result<Cluster<A>, StartFault>
         ensures ok { IfOk result (λ c. c ≡ started graph n) }
         ensures can { OnOk result (CanStart graph n) }

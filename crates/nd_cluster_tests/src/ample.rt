@@ -1,5 +1,5 @@
 //! Readers of clusters, called while no memory is given, copies, which grow in memory of their own, and clusters at
-//! their far ends, which want no memory where there is enough.
+//! their far ends, which do not run out of memory if there is enough.
 
 use crate::memory::Heap;
 use nd_cluster::{Cluster, Next, Step, Values};

@@ -23,7 +23,7 @@ pub enum Held {
     LastToken,
 }
 
-/// A graph, what a cluster on it holds, a step, and the number of its refusal, 0 where it is made.
+/// A graph, what a cluster on it holds, a step, and the number of its refusal, 0 if it is made.
 pub type Row = (&'static str, Held, Told, u64);
 
 pub static ROWS: [Row; 5] = [
@@ -145,7 +145,7 @@ fn cluster_of<A: Allocator + Copy>(
     unasked!(heap: Cluster::of_parts(alloc, &graph, paths, processors, views, mesh))
 }
 
-/// The number of the refusal of the row's step, 0 where it is made.
+/// The number of the refusal of the row's step, 0 if it is made.
 pub fn number_of<A: Allocator + Copy>(
     heap: &Heap,
     json: Global,

@@ -19,7 +19,7 @@ enum Call {
     PushValue,
 }
 
-/// Whether a call met the request that was refused. `None` where it answered or left what it should not.
+/// Whether a call met the request that was refused. `None` if it answered or left what it should not.
 fn meets<A: Allocator + Copy>(
     heap: &Heap,
     alloc: A,

@@ -45,7 +45,7 @@ module _ (m : Change) where
       let place = place_of q some in
       subst G place.is (h place.index (omega (arith, place.in_range, past)) (q, at m q))
 
-  -- the first entry of the kind P is its least point, where those before it are of a kind that none of P is
+  -- the first entry of the kind P is its least point, if those before it are of a kind that none of P is
   pub least-index : (P G : Pointstamp → Type 0) → ((y : Pointstamp) → P y → at m y ≢ pos 0) → ((y : Pointstamp) → P y → G y → ⊥)
       → (i : ℕ) (x : Pointstamp × ℤ) → i < length (entries m) → x ≡ get_or (entries m) i x → AllUpTo G (entries m) i → P x.0 → IsLeast P x.0
   least-index P G some apart i x lt is before p = record {

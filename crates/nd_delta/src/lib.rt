@@ -90,7 +90,7 @@ impl<A: Allocator> Delta<A> {
         }
     }
 
-    /// The integer of a pointstamp, 0 where it has none.
+    /// The integer of a pointstamp, 0 if it has none.
     pub fn get(&self, point: &Pointstamp) -> i64
         ensures value { result ≡ at self.now point.now }
         ensures within { unsigned_abs result ≤ max_count }
@@ -189,7 +189,7 @@ impl<A: Allocator> Delta<A> {
         false
     }
 
-    // The difference, or the sum, where it fits.
+    // The difference, or the sum, if it fits.
     fn combine(&self, alloc: A, other: &Delta<A>, minus: bool) -> Result<Delta<A>, DeltaFault>
         ensures ok { IfOk result (λ d. d ≡ combined minus self.now other.now) }
         ensures full { (result ≡ Err (DeltaFault.DeltaFull)) ↔ IsTooLarge (combined minus self.now other.now) }
@@ -275,7 +275,7 @@ impl<A: Allocator> Delta<A> {
     }
 
     /// The least pointstamp with a positive integer and nothing negative strictly before it,
-    /// or `None` where the change is upright (this project's own rule).
+    /// or `None` if the change is upright (this project's own rule).
     pub fn unsupported<B: Allocator>(&self, paths: &Paths<B>) -> Option<Pointstamp>
         ensures upright { IsNone result ↔ IsUpright (IsStrictlyBefore paths.now) HoldsNothing (at self.now) }
         ensures least { IfSome result (IsLeast (IsUnsupported (IsStrictlyBefore paths.now) HoldsNothing (at self.now))) }
@@ -284,7 +284,7 @@ impl<A: Allocator> Delta<A> {
     }
 
     /// The least pointstamp with a positive integer and strictly before it neither anything negative
-    /// nor a pointstamp of the list, or `None` where there is none (this project's own rule).
+    /// nor a pointstamp of the list, or `None` if there is none (this project's own rule).
     pub fn unsupported_by<B: Allocator>(
         &self,
         paths: &Paths<B>,

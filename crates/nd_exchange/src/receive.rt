@@ -101,7 +101,7 @@ pub fn received<A: Allocator + Copy>(
     Ok(())
 }
 
-/// Gives back what was received last, out of the view to the front of its queue. Where that is
+/// Gives back what was received last, out of the view to the front of its queue. If that is
 /// refused once the change is in the queue, it is taken out again.
 pub fn give_back<A: Allocator + Copy>(
     alloc: A,

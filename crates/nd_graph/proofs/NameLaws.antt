@@ -1,4 +1,4 @@
--- Names that stand twice, and the places of names.
+-- Names that stand twice, and the positions of names.
 use Rattle.std.proofs.Common.{◌≡◌, ◌∙◌, ◌⊎◌, inl, inr, ℕ, ◌+◌, ◌<◌, ◌≤◌, zero, suc, Bool, true, false, not, ◌||◌, cond, List, [], ◌∷◌, ◌++◌, length, take, drop, get_or, map, refl, sym, ap, arith, append_assoc, Some, None}
 use Rattle.std.proofs.lemmas.List.{take_more, map-append, take-append-drop}
 use Rattle.std.proofs.lemmas.Bool.{le-ltb, lt-ltb}
@@ -70,7 +70,7 @@ pub map-next : {X Y : Type 0} (f : X → Y) (xs : List X) (x : X) (i : ℕ) → 
 map-next f xs x i within at =
     ap (map f) (take_more xs i x within ∙ ap (λ y. take i xs ++ y ∷ []) (sym at)) ∙ map-append f (take i xs) (x ∷ [])
 
--- ---- the places of names
+-- ---- the positions of names
 
 module _ {V K : Type 0} (name : V → K) (test : K → Bool) where
   above : (ks : List K) (i j : ℕ) → position_from test i ks ≡ Some j → i ≤ j
@@ -114,7 +114,7 @@ module _ {V K : Type 0} (name : V → K) (test : K → Bool) where
   whole : (vs : List V) (ks : List K) → take (length vs) ks ≡ map name vs → ks ≡ map name vs ++ drop (length vs) ks
   whole vs ks e = sym (take-append-drop (length vs) ks) ∙ ap (λ front. front ++ drop (length vs) ks) e
 
-  -- the place among the vertices of a name that is found among all names
+  -- the position among the vertices of a name that is found among all names
   pub position-front : (vs : List V) (ks : List K) (j : ℕ) → take (length vs) ks ≡ map name vs → position test ks ≡ Some j → j < length vs
       → position (λ v. test (name v)) vs ≡ Some j
   position-front vs ks j front e h =
@@ -149,7 +149,7 @@ has_double-second name first vs v i ks within at all h =
     ∙ ap has_double (sym (append_assoc first (map name (take i vs)) (name v ∷ map name (drop (suc i) vs))))
     ∙ has_double-again (first ++ map name (take i vs)) (map name (drop (suc i) vs)) (name v) (ap (list_any (bytes_eq (name v))) (sym all) ∙ h)
 
--- ---- the first place that passes a test
+-- ---- the first position that passes a test
 
 pub position_found : {X : Type 0} (p : X → Bool) (xs : List X) (i : ℕ) (d : X) → i < length xs → ((k : ℕ) → k < i → p (get_or xs k d) ≡ false)
     → p (get_or xs i d) ≡ true → position p xs ≡ Some i

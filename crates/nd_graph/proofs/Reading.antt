@@ -42,7 +42,7 @@ every-refused read (c ∷ ds) d zero within at h = rw (sym at, h) refl
 every-refused read (c ∷ ds) d (suc i) within at h =
     rw (every-refused read ds d i (omega arith) at h) (in_front-none (read c))
 
--- the same where the items are seen as others
+-- the same if the items are seen as others
 every-map : {V D X : Type 0} (seen : V → D) (read : D → Option X) (vs : List V) → every read (map seen vs) ≡ every (λ v. read (seen v)) vs
 every-map seen read [] = refl
 every-map seen read (v ∷ vs) = ap (in_front (read (seen v))) (every-map seen read vs)

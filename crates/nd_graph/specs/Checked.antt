@@ -29,14 +29,14 @@ written_names vertices edges = map (λ v. v.name) vertices ++ map (λ e. e.name)
 unfoldable pub end_of : List Vertex → Option (List ℕ) → Option ℕ
 end_of vertices end = option_and_then (λ name. position (λ v. bytes_eq name v.name) vertices) end
 
--- the edge that is written, where its ends are vertices
+-- the edge that is written, if its ends are vertices
 unfoldable pub located : List Vertex → DraftEdge → Option Edge
 located vertices e =
     option_and_then (λ from. option_map
     (λ to. record { name = e.name; from = from; port = e.port; to = to; route = e.route })
     (end_of vertices e.to)) (end_of vertices e.from)
 
--- the edges that are written, where no name stands twice and each end is a vertex
+-- the edges that are written, if no name stands twice and each end is a vertex
 unfoldable pub edges_between : List Vertex → List DraftEdge → Result (List Edge) GraphFault
 edges_between vertices edges =
     if has_double (written_names vertices edges) then Err DoubleName
@@ -109,7 +109,7 @@ fault_of g =
     (if has_depth_mismatch g then Some DepthMismatch else
     (if is_too_large g then Some TooLarge else None))
 
--- the graph, or its fault where it has one
+-- the graph, or its fault if it has one
 unfoldable pub judged : Dataflow → Result Dataflow GraphFault
 judged g = option_map_or (λ e. Err e) (fault_of g) (Ok g)
 

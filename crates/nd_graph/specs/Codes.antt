@@ -9,7 +9,7 @@ use Rattle.nd_graph.specs.declared.op.Route.TheVariants.{Local, Exchange}
 use Rattle.nd_graph.specs.declared.graph.Vertex.{Vertex}
 use Rattle.nd_graph.specs.declared.graph.Edge.{Edge}
 
--- an operator as its place among all, and its number
+-- an operator as its position among all, and its number
 abbrev pub op_parts : Op → ℕ × ℤ
 op_parts Input = (0, pos 0)
 op_parts Ingress = (1, pos 0)

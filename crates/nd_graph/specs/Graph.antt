@@ -79,7 +79,7 @@ pub record ArcAgrees (depths : List ℕ) (arc : Arc) : Type 0 where
   pub to : arc.to < length depths
   pub depth : LeadsTo arc.action (slice_index depths arc.from) (slice_index depths arc.to)
 
--- what holds of a graph that was checked, and of the depths and arcs that are kept with it
+-- what holds of a graph that was checked, and of the depths and arcs that are stored with it
 pub record IsGraph (g : Dataflow) (kept_depths : List ℕ) (kept_arcs : List Arc) : Type 0 where
   pub depths_kept : kept_depths ≡ depths g
   pub arcs_kept : kept_arcs ≡ arcs g

@@ -44,7 +44,7 @@ impl<A: Allocator> Model for GraphDraft<A> {
 }
 
 impl<A: Allocator> GraphDraft<A> {
-    /// The graph that a value is: `Shape` where it does not have a graph's form (this project's own rule), and no other fault
+    /// The graph that a value is: `Shape` if it does not have a graph's form (this project's own rule), and no other fault
     /// but `Memory`.
     #[tactic(auto, unfolding(crate::specs::Draft::draft_of))]
     pub fn from_value(alloc: A, value: &Value) -> Result<GraphDraft<A>, GraphFault>

@@ -7,7 +7,7 @@ use crate::{Action, Name, Op, Route};
 use std::alloc::{AllocError, Allocator, Global};
 use std::marker::Model;
 
-/// A vertex. Its location is its place among the vertices, in order of appearance.
+/// A vertex. Its location is its position among the vertices, in order of appearance.
 #[derive(Debug, Drop)]
 pub struct Vertex {
     pub name: Name,
@@ -29,7 +29,7 @@ impl Vertex {
     }
 }
 
-/// An edge. Its location is the number of vertices plus its place among the edges, in order of appearance.
+/// An edge. Its location is the number of vertices plus its position among the edges, in order of appearance.
 #[derive(Debug, Drop)]
 pub struct Edge {
     pub name: Name,

@@ -49,7 +49,7 @@ fn has_name_form(text: &str) -> bool
 }
 
 impl Name {
-    /// The name of this text, or `None` where it is none.
+    /// The name of this text, or `None` if it is none.
     pub fn new(text: &str) -> Option<Name>
         ensures named { IsSome result ↔ IsTrue (is_name text.now) }
         ensures value { IfSome result (λ n. n ≡ text.now) }

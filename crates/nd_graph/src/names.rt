@@ -99,7 +99,7 @@ fn all_located<A: Allocator>(
     Ok(found)
 }
 
-/// The written edges with their ends as locations: `DoubleName` where a name of the graph stands twice, `UnknownName` where
+/// The written edges with their ends as locations: `DoubleName` if a name of the graph stands twice, `UnknownName` if
 /// an end is no vertex.
 #[tactic(auto, unfolding(crate::specs::Checked::edges_between))]
 pub(crate) fn edges_between<A: Allocator + Copy>(

@@ -30,7 +30,7 @@ less Greater p = absurd p
 pub listed_without : {K X : Type 0} (R : K → K → Ordering) (k : K) (es : List (K × X)) → IsListed R es → IsListed R (without R k es)
 listed_without R k es h = is_sorted-where_key R (λ q. not (eq_by_cmp R k q)) es h
 
--- the keys stay where a value is written over
+-- the keys stay if a value is written over
 pub keys_over : {K X : Type 0} (v : X) (es : List (K × X)) (i : ℕ) (e : K × X) → e ≡ get_or es i e → keys_of (set es i (e.0, v)) ≡ keys_of es
 keys_over v [] i e is = refl
 keys_over v (f ∷ es) zero e is = ap (λ k. k ∷ keys_of es) (ap (λ x. x.0) is)

@@ -139,7 +139,7 @@ impl<K: Key, V: Copy, A: Allocator> SortedMap<K, V, A> {
         self.entries[index].1 = value;
     }
 
-    /// Takes a key and its value out, where it is there.
+    /// Takes a key and its value out, if it is there.
     pub fn remove(&mut self, key: &K)
         ensures value { self.new ≡ without K.cmp key.now self.old }
         ensures listed { IsListed K.cmp self.new }

@@ -1,4 +1,4 @@
-//! Finite maps kept in a tree, the storage of the maps above that may grow large.
+//! Finite maps stored in a tree, the storage of the maps above that may grow large.
 ghost use Rattle.std.specs.Prelude.{◌≡◌, ◌↔◌, ◌<◌, ◌^◌, [], OnOk, OnErr, IfOk, IsTrue, None, length, slice_get};
 ghost use Rattle.std.specs.Option.{option_map};
 ghost use Rattle.std.specs.FinMap.{find, put};
@@ -98,7 +98,7 @@ impl<K: Key, V: Copy, A: Allocator> TreeMap<K, V, A> {
         self.len() == 0
     }
 
-    /// Takes a key and its value out, where it is there.
+    /// Takes a key and its value out, if it is there.
     pub fn remove(&mut self, key: &K)
         ensures value { self.new ≡ without K.cmp key.now self.old }
         ensures listed { IsListed K.cmp self.new }

@@ -49,7 +49,7 @@ impl<A: Allocator + Copy> Queue<A> {
         self.changes.len()
     }
 
-    /// The change at a place, counted from the front.
+    /// The change at a position, counted from the front.
     pub fn get(&self, i: usize) -> Option<&Delta<A>>
         ensures { option_copied result ≡ slice_get self.now i }
     {
@@ -67,14 +67,14 @@ impl<A: Allocator + Copy> Queue<A> {
         Ok(())
     }
 
-    /// Takes the newest change out, where there is one.
+    /// Takes the newest change out, if there is one.
     pub fn drop_newest(&mut self)
         ensures { self.new ≡ without_newest self.old }
     {
         let _newest = self.changes.pop_back();
     }
 
-    /// Takes the oldest change out, where there is one.
+    /// Takes the oldest change out, if there is one.
     pub fn take_oldest(&mut self) -> Option<Delta<A>>
         ensures value { result ≡ slice_get self.old 0 }
         ensures rest { self.new ≡ without_oldest self.old }

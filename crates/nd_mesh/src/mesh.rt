@@ -101,7 +101,7 @@ impl<A: Allocator + Copy> Mesh<A> {
         self.rows[from].queue_len(to)
     }
 
-    /// The change at a place of a queue, counted from the front.
+    /// The change at a position of a queue, counted from the front.
     pub fn get(&self, from: usize, to: usize, i: usize) -> Option<&Delta<A>>
         requires sender { from < length self.now }
         requires receiver { to < length self.now }

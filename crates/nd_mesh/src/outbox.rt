@@ -84,7 +84,7 @@ impl<A: Allocator + Copy> Outbox<A> {
         self.queues[to].len()
     }
 
-    /// The change at a place of one queue, counted from the front.
+    /// The change at a position of one queue, counted from the front.
     pub fn get(&self, to: usize, i: usize) -> Option<&Delta<A>>
         requires { to < length self.now }
         ensures { option_copied result ≡ slice_get (slice_index_or self.now to []) i }
@@ -141,7 +141,7 @@ impl<A: Allocator + Copy> Outbox<A> {
         self.drop_first_newest(self.len());
     }
 
-    /// Takes the oldest change out of one queue, where there is one.
+    /// Takes the oldest change out of one queue, if there is one.
     pub fn pop(&mut self, to: usize) -> Option<Delta<A>>
         requires { to < length self.old }
         ensures value { result ≡ slice_get (slice_index_or self.old to []) 0 }

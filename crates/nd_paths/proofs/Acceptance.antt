@@ -1,4 +1,4 @@
--- A graph is accepted exactly where each closed walk adds to a counter that it keeps, and short walks show it.
+-- A graph is accepted exactly if each closed walk adds to a counter that it keeps, and short walks show it.
 use Rattle.std.proofs.Common.{◌≡◌, inl, inr, ℕ, zero, suc, ◌-◌, ◌*◌, ◌<◌, ◌≤◌, List, [], ◌∷◌, ◌++◌, length, take, drop, replicate, refl, sym, ◌∙◌, ap, subst, arith, length-append, length-drop, length-take}
 use Rattle.std.specs.Prelude.{slice_index}
 use Rattle.std.proofs.lemmas.Bool.{cases_lt}

@@ -39,11 +39,11 @@ take-raised zero a (x ∷ c) h = refl
 take-raised (suc n) a (x ∷ []) h = absurd (omega arith)
 take-raised (suc n) a (x ∷ y ∷ c) h = ap (λ l. x ∷ l) (take-raised n a (y ∷ c) (omega arith))
 
--- what is composed where the other keeps more
+-- what is composed if the other keeps more
 abbrev pub over : Summary → Summary → Summary
 over s t = record { keep = s.keep; add = s.add; constants = applied (record { keep = t.keep - s.keep; add = t.add; constants = t.constants }) s.constants }
 
--- and where it doesn't
+-- and if it doesn't
 abbrev within : Summary → ℕ → Summary
 within t a = record { keep = t.keep; add = a; constants = t.constants }
 

@@ -29,7 +29,7 @@ pub walk_back : (arcs w v : List Arc) (a b : ℕ) → IsWalkAlong arcs a b (w ++
 walk_back arcs [] v a b h = h
 walk_back arcs (x ∷ w) v a b h = walk_back arcs w v x.to b h.2
 
--- a number for the location and the keep after a walk, where keeps are below n
+-- a number for the location and the keep after a walk, if keeps are below n
 abbrev state : ℕ → ℕ → Summary → List Arc → ℕ
 state n a s w = end_of a w * n + (after w s).keep
 
@@ -42,7 +42,7 @@ length-states : (n a : ℕ) (s : Summary) (w : List Arc) → length (states n a 
 length-states n a s [] = refl
 length-states n a s (x ∷ w) = ap suc (length-states n x.to (step x.action s) w)
 
--- the part of a walk up to where it comes to a state
+-- the part of a walk up to where it comes to a location and keep
 Found : ℕ → ℕ → Summary → List Arc → ℕ → Type 0
 Found n a s w m = (q z : List Arc) × (w ≡ q ++ z) × (0 < length q) × (m ≡ state n a s q)
 
@@ -96,7 +96,7 @@ one_below (x ∷ xs) n m h k =
       | inr f ↦ one_below xs n m h.1 (rw f.0 at k)
     ]
 
--- a walk of more arcs than there are states goes round
+-- a walk of more arcs than there are locations and keeps goes round
 pub must_go_round : (depths : List ℕ) (arcs w : List Arc) (n a b : ℕ) (s : Summary) → DepthsAgree depths arcs → IsWalkAlong arcs a b w → s.keep < n → n * length depths < length w → Round n a s w
 must_go_round depths arcs w n a b s g h k long =
     elim (goes_round n a s w) [
@@ -117,7 +117,7 @@ pub record Shorter (arcs : List Arc) (R : Summary → Summary → Type 0) (a b :
   pub short : length walk ≤ limit
   pub gives : R (after walk s) (after w s)
 
--- where going round only makes a summary worse, each walk is as good as a short one
+-- if going round only makes a summary worse, each walk is as good as a short one
 module _ (depths : List ℕ) (arcs : List Arc) (g : DepthsAgree depths arcs) (n d : ℕ) (R : Summary → Summary → Type 0) (R-refl : (s : Summary) → R s s) (R-trans : (s t u : Summary) → R s t → R t u → R s u) (R-after : (w : List Arc) (s t : Summary) → R s t → R (after w s) (after w t)) (R-round : (a : ℕ) (s : Summary) (q : List Arc) → IsFor d (slice_index depths a) s → IsWalkAlong arcs a a q → 0 < length q → s.keep ≡ (after q s).keep → R s (after q s)) where
   without_round : (a b : ℕ) (s : Summary) (w : List Arc) → IsWalkAlong arcs a b w → IsFor d (slice_index depths a) s → s.keep < n → (r : Round n a s w) → IsWalkAlong arcs a b (r.p ++ r.z) × R (after (r.p ++ r.z) s) (after w s)
   without_round a b s w h f k r =

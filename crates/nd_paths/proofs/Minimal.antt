@@ -80,7 +80,7 @@ dec_fits g s =
       | inr past ↦ inr (λ f. omega (arith, (fits_size g s f).0))
     ]
 
--- some row, where there is a location
+-- some row, if there is a location
 some_row : {Z : Type 0} (xs : List (Vec (Option Summary) Z)) → 0 < length xs → Vec (Option Summary) Z
 some_row [] l = absurd (omega arith)
 some_row (v ∷ xs) l = v

@@ -16,7 +16,7 @@ next_keep row x r s n h e q =
     let k = (h.room s (sym e)).0 in
     omega (arith, step-keep x.action s.keep s.add s.constants, ap (λ m. m.keep) q, k, h.within)
 
--- the place of a location and a keep
+-- the position of a location and a keep
 pub held_within : (row : List (Option Summary)) (b r : ℕ) → r < keeps → held row b r ≡ get_or row (b * keeps + r) None
 held_within row b r h = sym (cond_below r keeps (get_or row (b * keeps + r) None) None h)
 
@@ -38,7 +38,7 @@ entry-set_other row b r c q v h apart =
       | inr past ↦ entry_past (set row (b * keeps + r) v) c q past ∙ sym (entry_past row c q past)
     ]
 
--- a place is the one that was written, or another
+-- a position is the one that was written, or another
 pub at_place : (b r c q : ℕ) → ((b ≡ c) × (r ≡ q)) ⊎ ((b ≡ c) × (r ≡ q) → ⊥)
 at_place b r c q =
     elim (cases_eq b c) [
@@ -131,7 +131,7 @@ of_option : (o : Option Summary) (t : Summary) → option_map inner o ≡ Some t
 of_option None t h = absurd (cc)
 of_option (Some k) t h = (k, refl, cc)
 
--- what is held where there is an entry
+-- what is held if there is an entry
 pub of_entry : (row : List (Option Summary)) (b q : ℕ) (t : Summary) → entry row b q ≡ Some t → (k : Summary) × (Some k ≡ held row b q) × (inner k ≡ t)
 of_entry row b q t h = of_option (held row b q) t h
 
@@ -158,7 +158,7 @@ module _ (row : List (Option Summary)) (x : Arc) (r : ℕ) (can : CanRelax row x
       let h = can.alike (inner f) (inner k) here (known_here k e) in
       (h.0 ∙ sym keep_is, sym (length-reverse k.constants) ∙ h.1 ∙ ap (λ s. length s.constants) (sym is) ∙ length-reverse n.constants)
 
-  -- nothing is written where what is known is at most the step
+  -- nothing is written if what is known is at most the step
   pub stays_quiet : (k : Summary) → Some k ≡ held row x.to n.keep → AtMost (inner k) (inner n) → Quiet row row x r
   stays_quiet k e less = (
     refl,
@@ -168,7 +168,7 @@ module _ (row : List (Option Summary)) (x : Arc) (r : ℕ) (can : CanRelax row x
         subst (λ t. Covers (entry row) x.to (step x.action t)) one (inner k, known_here k e, subst (λ t. AtMost (inner k) t) is less),
   )
 
-  -- and it is where the step is at most what is known
+  -- and it is written if the step is at most what is known
   pub writes : ((k : Summary) → Some k ≡ held row x.to n.keep → AtMost (inner n) (inner k)) → Written row (set row (x.to * keeps + n.keep) (Some n)) x r
   writes less = (
     inner f,

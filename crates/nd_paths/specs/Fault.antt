@@ -7,7 +7,7 @@ use Rattle.nd_paths.specs.declared.accept.PathFault.TheVariants.{LoopNotStrict, 
 use Rattle.nd_paths.specs.Order.{FailsAt}
 use Rattle.nd_paths.specs.Inside.{Fails}
 
--- the least location from which a closed walk fails to increase some time, or want of memory
+-- the least location from which a closed walk fails to increase some time, or out of memory
 abbrev pub IsFault : Dataflow → PathFault → Type 0
 IsFault g (LoopNotStrict l) = FailsAt g l × ((k : ℕ) → k < l → FailsAt g k → ⊥)
 IsFault g Memory = Unit {0}

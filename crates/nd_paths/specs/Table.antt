@@ -1,4 +1,4 @@
--- A row of the table: for each location a place for each number of counters that a walk can keep.
+-- A row of the table: for each location a position for each number of counters that a walk can keep.
 use Rattle.std.specs.Prelude.{◌≡◌, ◌⊎◌, ℕ, All, ◌+◌, ◌-◌, ◌*◌, ◌<◌, ◌≤◌, List, length, Option, Some, None, Vec, nat_lt, cond, Contains, slice_index_or, slice_set}
 use Rattle.std.specs.Option.{option_map}
 use Rattle.nd_time.specs.Limits.{max_depth, max_counter}
@@ -9,7 +9,7 @@ use Rattle.nd_paths.specs.declared.summary.Summary.{Summary}
 use Rattle.nd_paths.specs.Summary.{applied}
 use Rattle.nd_paths.specs.Inside.{keeps, Accepted, AtOrBefore, DepthsAgree, IsWalkAlong, inner, apply, step, grows, AtMost, IsWithin, summary_of}
 
--- what stands at the place of a location and a keep
+-- what stands at the position of a location and a keep
 abbrev pub held : List (Option Summary) → ℕ → ℕ → Option Summary
 held row b r = cond (nat_lt r keeps) (slice_index_or row (b * keeps + r) None) None
 
@@ -33,7 +33,7 @@ pub record CanRelax (row : List (Option Summary)) (x : Arc) (r : ℕ) : Type 0 w
 abbrev pub Quiet : List (Option Summary) → List (Option Summary) → Arc → ℕ → Type 0
 Quiet old new x r = (new ≡ old) × ((s : Summary) → entry old x.from r ≡ Some s → Covers (entry old) x.to (step x.action s))
 
--- the entry at the arc's start, followed by the arc, was put at its end, where that is less than what was there
+-- the entry at the arc's start, followed by the arc, was put at its end, if that is less than what was there
 abbrev pub Written : List (Option Summary) → List (Option Summary) → Arc → ℕ → Type 0
 Written old new x r =
     (s : Summary) × (n : Summary) × (entry old x.from r ≡ Some s) × (inner n ≡ step x.action s)
@@ -43,7 +43,7 @@ Written old new x r =
 abbrev pub Relaxed : List (Option Summary) → List (Option Summary) → Arc → ℕ → Type 0
 Relaxed old new x r = Quiet old new x r ⊎ Written old new x r
 
--- each entry is the summary of a walk from a, with the keep of its place
+-- each entry is the summary of a walk from a, with the keep of its position
 abbrev pub HasWalks : List ℕ → List Arc → ℕ → (ℕ → ℕ → Option Summary) → Type 0
 HasWalks depths arcs a row =
     (b r : ℕ) (s : Summary) → row b r ≡ Some s → (w : List Arc) × IsWalkAlong arcs a b w × (s ≡ summary_of depths a w) × (s.keep ≡ r)
@@ -95,7 +95,7 @@ pub record IsTable {A : Type 0} (g : Dataflow) (rows : List (Vec (Option Summary
 abbrev pub AreCopies : {A : Type 0} → List (Vec (Option Summary) A) → List (Vec (Option Summary) A) → Type 0
 AreCopies {A} rows copies = (length copies ≡ length rows) × ((a : ℕ) (d : Vec (Option Summary) A) → a < length rows → (slice_index_or copies a d).items ≡ (slice_index_or rows a d).items)
 
--- each thing held at b stands at the place of its keep
+-- each thing held at b stands at the position of its keep
 abbrev pub KeepsPlaces : List (Option Summary) → ℕ → Type 0
 KeepsPlaces row b = (r : ℕ) (s : Summary) → held row b r ≡ Some s → s.keep ≡ r
 

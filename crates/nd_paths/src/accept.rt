@@ -31,7 +31,7 @@ impl From<AllocError> for PathFault {
     }
 }
 
-/// The row of each location, where no loop fails.
+/// The row of each location, if no loop fails.
 pub fn rows_of<A: Allocator + Copy>(
     alloc: A,
     depths: &[usize],

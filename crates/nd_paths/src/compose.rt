@@ -11,7 +11,7 @@ use nd_time::{MAX_DEPTH, Timestamp};
 impl Summary {
     /// This, and then the other.
     ///
-    /// It is `None` where the other keeps more counters than this leaves, or where the answer would have a number past
+    /// It is `None` if the other keeps more counters than this leaves, or if the answer would have a number past
     /// `u32::MAX` or leave more than `MAX_DEPTH` counters.
     pub fn then(&self, other: &Summary) -> Option<Summary>
         ensures some { IsSome result ↔ (other.now.keep ≤ left_by self.now) × IsInLimits (composed self.now other.now) }
@@ -53,7 +53,7 @@ impl Summary {
 
     /// The time that this makes of a time.
     ///
-    /// It is `None` where this keeps more counters than the time has, or where the answer would have a number past
+    /// It is `None` if this keeps more counters than the time has, or if the answer would have a number past
     /// `u32::MAX` or more than `MAX_DEPTH` counters.
     pub fn apply(&self, time: &Timestamp) -> Option<Timestamp>
         ensures some { IsSome result ↔ (self.now.keep ≤ length time.now.counters) × (left_by self.now ≤ max_depth)

@@ -74,7 +74,7 @@ impl<A: Allocator> Paths<A> {
         Ok(Paths { graph, rows })
     }
 
-    /// Whether s could result in t. It could not where one of them does not fit the graph.
+    /// Whether s could result in t. It could not if one of them does not fit the graph.
     pub fn before(&self, s: &Pointstamp, t: &Pointstamp) -> bool
         ensures { IsTrue result ↔ CouldResultIn self.now s.now t.now }
     {

@@ -20,7 +20,7 @@ pub struct Pointstamp {
 }
 
 impl Pointstamp {
-    /// The pointstamp at a location of the graph, or `None` where the time's depth is not the location's.
+    /// The pointstamp at a location of the graph, or `None` if the time's depth is not the location's.
     pub fn new<A: Allocator>(
         graph: &Graph<A>,
         location: usize,

@@ -39,7 +39,7 @@ impl Constants {
         }
     }
 
-    // The same numbers, or `None` where one is past `u32::MAX`.
+    // The same numbers, or `None` if one is past `u32::MAX`.
     pub(crate) fn narrowed(wide: &[u64]) -> Option<Constants>
         requires { length wide.now ≤ max_depth }
         ensures some { IsSome result ↔ All (λ x. x ≤ max_counter) wide.now }

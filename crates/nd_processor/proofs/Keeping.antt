@@ -73,14 +73,14 @@ some None h e = absurd (cc)
 some (Some n) h e = h.some (ap (or_else 0) e)
 
 module _ {K : Type 0} (R : K → K → Ordering) (o : IsTotalOrder R) (tells : IsAntisymmetric R) (es : List (K × ℕ)) where
-  -- the entries that are kept are those of their map
+  -- the entries that are stored are those of their map
   pub kept_entries : IsKept R es → entries (of_entries {N = naturals} o es) ≡ es
   kept_entries kept = entries-of_entries naturals o tells es kept.listed (λ q. some _ (kept.counts q))
 
   pub kept_within : IsKept R es → (k : K) → at (of_entries {N = naturals} o es) k ≤ max_count
   kept_within kept k = subst (λ n. n ≤ max_count) (at_number R o es k tells) (within_number R o es k kept)
 
--- ---- the entries after an edit, where those before it make the map m
+-- ---- the entries after an edit, if those before it make the map m
 module _ {K : Type 0} (R : K → K → Ordering) (o : IsTotalOrder R) (tells : IsAntisymmetric R) (es : List (K × ℕ)) (m : Counts R naturals) (is_m : of_entries o es ≡ m) (k : K) where
   pub number_at : number R es k ≡ at m k
   number_at = at_number R o es k tells ∙ ap (λ (c : Counts R naturals). at c k) is_m

@@ -108,7 +108,7 @@ unsent-back m x n =
 abbrev pub IsPartOf : Change → Change → Type 0
 IsPartOf part m = (x : Pointstamp) → at part x ≢ pos 0 → at m x ≡ at part x
 
--- where the one has an entry the other has none
+-- if the one has an entry the other has none
 abbrev pub IsApart : Change → Change → Type 0
 IsApart part m = (x : Pointstamp) → at part x ≢ pos 0 → at m x ≡ pos 0
 

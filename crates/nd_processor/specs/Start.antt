@@ -13,6 +13,6 @@ abbrev pub first_tokens : ℕ → List Vertex → fin.FinMap nat_cmp ℕ
 first_tokens l [] = fin.empty
 first_tokens l (v ∷ vertices) = let rest = first_tokens (l + 1) vertices in if is_input v.op then fin.insert rest l 0 else rest
 
--- its tokens alone, and nothing kept for any vertex
+-- its tokens alone, and nothing stored for any vertex
 abbrev pub start_processor : Dataflow → ProcessorState
 start_processor g = record idle { tokens = first_tokens 0 g.vertices; items = replicate (length g.vertices) none }

@@ -150,7 +150,7 @@ impl<A: Allocator + Copy> Processor<A> {
         }
     }
 
-    /// The epoch of an input vertex's token, `None` where it has none.
+    /// The epoch of an input vertex's token, `None` if it has none.
     pub fn token(&self, vertex: usize) -> Option<u32>
         ensures { result ≡ fin.get self.now.tokens vertex }
     {
@@ -171,7 +171,7 @@ impl<A: Allocator + Copy> Processor<A> {
         points_of(alloc, self.tokens())
     }
 
-    /// For how many vertices items are kept: all of the graph's.
+    /// For how many vertices items are stored: all of the graph's.
     pub fn vertex_count(&self) -> usize
         ensures { result ≡ length self.now.items }
     {

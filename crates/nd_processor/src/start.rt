@@ -41,7 +41,7 @@ pub(crate) fn first_tokens<A: Allocator>(
     Ok(tokens)
 }
 
-// Nothing kept for each of so many vertices.
+// Nothing stored for each of so many vertices.
 pub(crate) fn no_items<A: Allocator + Copy>(
     alloc: A,
     n: usize,

@@ -91,7 +91,7 @@ along g o a in_graph t f =
           not_itself t.counters (subst (λ c. IsSmallerAtFirstDifference t.counters c) (sym counters) (o.accepted.strict a.from a [] t.counters round f.depth)),
     )
 
--- the same place at a later epoch
+-- the same location at a later epoch
 pub later_epoch : (g : Dataflow) (l e : ℕ) (c : List ℕ) → Fits g (point_at l (record { epoch = e; counters = c })) → IsStrictlyBefore g (point_at l (record { epoch = e; counters = c })) (point_at l (record { epoch = e + 1; counters = c }))
 later_epoch g l e c f = (
   record { fits_s = f; fits_t = record { depth = f.depth }; walk = []; leads = refl; before = record { depth = refl; epoch = omega arith; counters = inl refl } },

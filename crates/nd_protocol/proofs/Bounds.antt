@@ -1,4 +1,4 @@
--- What is outstanding at a pointstamp is below a bound, where the numbers are within their limits.
+-- What is outstanding at a pointstamp is below a bound, if the numbers are within their limits.
 use Rattle.std.proofs.Common.{◌≡◌, ℕ, zero, suc, ◌+◌, ◌*◌, ◌^◌, ◌<◌, ◌≤◌, ℤ, pos, negsuc, ◌+ℤ◌, ◌≤ℤ◌, ◌<ℤ◌, List, [], ◌∷◌, length, get_or, sym, subst, arith}
 use Rattle.std.proofs.lemmas.Int.{ints}
 use Rattle.std.specs.Prelude.{All, unsigned_abs}

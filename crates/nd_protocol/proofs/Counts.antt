@@ -32,7 +32,7 @@ count-elsewhere qs r x other =
     let more : in_records (added value_at_total q.records r.1 (pos 1)) x ≡ in_records q.records x + one_at r.1.point x = in_records-added q.records r.1 1 x in
     count-set_same qs r.0 (record q { records = added value_at_total q.records r.1 (pos 1) }) x (omega arith)
 
--- where records come to pointstamps of the kind G alone, nothing changes elsewhere
+-- if records come to pointstamps of the kind G alone, nothing changes elsewhere
 pub come_or_same : (G : Pointstamp → Type 0) (rs : List (ℕ × ValueAt)) → AllAt G rs → (x : Pointstamp) → G x ⊎ ((qs : List ProcessorState) → count (with_records qs rs) x ≡ count qs x)
 come_or_same G [] h x = inr (λ qs. refl)
 come_or_same G (r ∷ rs) h x =

@@ -2,7 +2,7 @@
 use Rattle.std.proofs.Common.{◌≡◌, ℕ, zero, suc, inl, inr, List, [], ◌∷◌, length, refl, sym, subst, ap, ◌∙◌, arith}
 use Rattle.nd_protocol.proofs.Core.{IsStrictOrder, IsIn}
 
--- a list without one place of x
+-- a list without one position of x
 record Without {P : Type 0} (points : List P) (x : P) : Type 0 where
   rest : List P
   shorter : length points ≡ suc (length rest)
@@ -34,6 +34,6 @@ descend {R = R} o Q G step (suc n) (p ∷ ps) e x within q =
     descend o Q G step n w.rest (omega (arith, w.shorter)) y
     (λ z r' h'. w.keeps z (within z (o.transitive z y x r' r) h') (λ same. o.irreflexive z (subst (λ v. R z v) same r'))) h)
 
--- the same, where each point at which Q holds is in the list
+-- the same, if each point at which Q holds is in the list
 pub induction : {P : Type 0} {R : P → P → Type 0} → IsStrictOrder R → (Q G : P → Type 0) (points : List P) → ((y : P) → Q y → IsIn points y) → ((x : P) → Q x → ((y : P) → R y x → Q y → G y) → G x) → (x : P) → Q x → G x
 induction o Q G points within step x q = descend o Q G step (length points) points refl x (λ y r h. within y h) q

@@ -1,4 +1,4 @@
--- Changes that are sent and received: a part of what a processor has to send goes to all, where what stays is upright;
+-- Changes that are sent and received: a part of what a processor has to send goes to all, if what stays is upright;
 -- the front of a queue goes into a view.
 use Rattle.std.proofs.Common.{◌≡◌, inl, inr, ℕ, ◌+◌, ◌<◌, ◌≤◌, pos, ◌+ℤ◌, ◌-ℤ◌, List, [], ◌∷◌, ◌++◌, map, length, get_or, set, refl, sym, ap, subst, ◌∙◌, arith, length-append, length-set, get_or-set_same, get_or-set_other}
 use Rattle.std.proofs.lemmas.Int.{ints}

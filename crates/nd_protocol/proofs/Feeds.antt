@@ -1,4 +1,4 @@
--- A feed: the token is the cause of the records and of the token at the next epoch. Where it stays it supports them.
+-- A feed: the token is the cause of the records and of the token at the next epoch. If it stays it supports them.
 use Rattle.std.proofs.Common.{◌≡◌, ◌⊎◌, inl, inr, ℕ, ◌+◌, ◌<◌, ◌≤◌, ℤ, List, [], length, Option, Some, unwrap_or, refl, sym, ap, subst, ◌∙◌, arith}
 use Rattle.std.specs.FinMap as fin
 use Rattle.std.specs.Ordering.{nat_cmp}

@@ -32,7 +32,7 @@ module _ {P C : Type 0} (R : P → P → Type 0) (o : IsStrictOrder R) (at : C �
   balanced r sound q h x = sound.balance q h x
 
   module _ (D : P → Type 0) (down : IsDownward R D) where
-    -- where the view has nothing positive in D, the truth has nothing there
+    -- if the view has nothing positive in D, the truth has nothing there
     pub safe : (r : Reading P C) → IsSound R at r → (q : ℕ) → q < r.n → ((x : P) → D x → at (r.view q) x ≤ℤ pos 0) → (x : P) → D x → r.truth x ≡ 0
     safe r sound q h quiet x dx =
         let f : IsFinite (λ y. at (r.view q) y +ℤ coming r q y) = finite_sum (at (r.view q)) (coming r q) (finite (r.view q)) (coming_finite r q) in

@@ -120,7 +120,7 @@ pub record IsFreeBelow {A : Type 0} (s : ClusterState) (x : Step A) (n : ℕ) : 
 abbrev pub NeedsNoMemory : Refusal → Type 0
 NeedsNoMemory r = (number_of r < 13) ⊎ ((r ≡ NothingToSend) ⊎ (r ≡ QueueEmpty))
 
--- no condition holds that is tested without memory, so that want of it may be answered
+-- no condition holds that is tested without memory, so that out of memory may be answered
 pub record MayWantMemory {A : Type 0} (s : ClusterState) (x : Step A) : Type 0 where
   pub free : (r : Refusal) → NeedsNoMemory r → Fails s x r → ⊥
 

@@ -34,7 +34,7 @@ pub record IsAtEdge (g : Dataflow) (x : Pointstamp) : Type 0 where
 abbrev pub ChangeFits : Dataflow → Change → Type 0
 ChangeFits g c = (x : Pointstamp) → in_change c x ≢ pos 0 → Fits g x
 
--- each key of a processor's maps is at a place of the graph where it may stand, with a time of that place's depth
+-- each key of a processor's maps is at a location of the graph where it may stand, with a time of that location's depth
 pub record ProcessorFits (g : Dataflow) (q : ProcessorState) : Type 0 where
   pub records : (k : ValueAt) → at q.records k ≢ 0 → IsAtEdge g k.point
   pub requests : (x : Pointstamp) → fin.get q.requests x ≡ Some tt → IsAtVertex g x

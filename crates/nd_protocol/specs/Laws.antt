@@ -33,7 +33,7 @@ StartKeepsProtocol = (g : Dataflow) (n : ℕ) → IsOrdered g → KeepsProtocol 
 abbrev pub TruthIsSmall : Type 0
 TruthIsSmall = (s : ClusterState) → IsState s → IsSettled s → (x : Pointstamp) → at (truth s.processors) x <ℤ pos (2 ^ 63)
 
--- ---- steps, for steps whose values are kept by A
+-- ---- steps, for steps whose values are held by A
 
 -- an enabled step leads from a state to a state
 abbrev pub StepLeadsToState : Type 0 → Type 0

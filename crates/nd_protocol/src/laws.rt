@@ -15,7 +15,7 @@ pub fn starts_keep_protocol()
     order_is_transitive();
 }
 
-/// What is outstanding at a pointstamp fits 63 bits, where the cluster is settled and its numbers are within their limits.
+/// What is outstanding at a pointstamp fits 63 bits, if the cluster is settled and its numbers are within their limits.
 pub fn truth_is_small()
     ensures { TruthIsSmall }
 {}

@@ -1,4 +1,4 @@
--- Broadcasts and receives in what is kept of a cluster: where they lead, and where undoing them leads back to.
+-- Broadcasts and receives in what is stored of a cluster: where they lead, and where undoing them leads back to.
 use Rattle.std.proofs.Common.{◌≡◌, ℕ, ◌<◌, ◌≤◌, ◌-◌, ◌-ℤ◌, List, [], length, get_or, set, drop, Result, Ok, Err, OnOk, sym, ap, subst, ◌∙◌, arith, length-set, get_or-set_same}
 use Rattle.std.proofs.lemmas.Int.{ints}
 use Rattle.std.proofs.lemmas.List.{set-set, set-get_or, length-drop, length-map}

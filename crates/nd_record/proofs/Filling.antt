@@ -55,7 +55,7 @@ module _ (P : Place → ℤ → Type 0) (s : ClusterState) where
         by (inl e) = subst (P k) (nothing_more (standing s k) (total_at (edits_of cs) k) (never_added k cs e) ∙ sym (reaches.totals k)) (before k)
         by (inr w) = subst (P k) (sym (reaches.totals k)) w
 
-    -- where it does not hold after a change it does not hold in t
+    -- if it does not hold after a change it does not hold in t
     fails_then : (j : ℕ) (d : Change) → j < length cs → (After (get_or cs j d) → ⊥) → P (place_of (get_or cs j d)) (standing t (place_of (get_or cs j d))) → ⊥
     fails_then j d lt fails h =
         let k = place_of (get_or cs j d) in

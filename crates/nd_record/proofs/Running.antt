@@ -194,7 +194,7 @@ pub all_made : (s : ClusterState) (cs : List Change) (k : ℕ) → length cs ≤
 unfolding state_at
 all_made s cs k past = ap (applied s) (take_all k cs past)
 
--- a change to stand for a place in the list that is not there
+-- a change to stand for a position in the list that is not there
 no_change_at : Change
 no_change_at = Sink 0 0 (pos 0) true
 

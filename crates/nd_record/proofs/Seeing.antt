@@ -1,4 +1,4 @@
--- The cluster that is kept, after a record is made and after it is undone.
+-- The stored cluster, after a record is made and after it is undone.
 use Rattle.std.proofs.Common.{◌≡◌, List, map, sym, ap, ◌∙◌}
 use Rattle.nd_graph.specs.Graph.{Dataflow}
 use Rattle.nd_delta.specs.Change.{Change as Delta}
@@ -12,7 +12,7 @@ use Rattle.nd_record.specs.declared.change.Change.{Change}
 use Rattle.nd_record.proofs.Putting.{SameShape}
 use Rattle.nd_record.proofs.Running.{alone, applied-alone, shape-applied, others_kept}
 
--- the processors are those after the changes, and nothing else is kept otherwise
+-- the processors are those after the changes, and nothing else is stored otherwise
 pub seen_after : (g : Dataflow) (ps qs : List ProcessorState) (vs : List Kept) (m : List (List (List Delta))) (cs : List Change) → only qs ≡ applied (only ps) cs → seen g qs vs m ≡ applied (seen g ps vs m) cs
 seen_after g ps qs vs m cs e =
     let s : ClusterState = seen g ps vs m in

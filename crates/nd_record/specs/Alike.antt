@@ -52,7 +52,7 @@ module _ {K : Type 0} {S : K → K → Ordering} (o : IsTotalOrder S) (tells : I
     | false ↦ λ e. other_place (f a) (f b) (λ is. true≢false (sym (ap is_eq (tied_itself o a)) ∙ ap (eq_by_cmp S a) (apart a b is) ∙ e))
   ] refl
 
--- the key of a place, or d where it has none of the kind
+-- the key of a place, or d if it has none of the kind
 abbrev point_in : Pointstamp → Place → Pointstamp
 point_in d (place_at p (request_at x)) = x
 point_in d (place_at p (unsent_at x)) = x

@@ -1,4 +1,4 @@
--- Broadcasts and receives in the processors, views and queues that are kept of a cluster.
+-- Broadcasts and receives in the processors, views and queues that are stored of a cluster.
 use Rattle.std.specs.Prelude.{◌≡◌, ℕ, List, [], ◌∷◌, drop, Some, unwrap_or, slice_get, slice_index_or, slice_set, refl}
 use Rattle.std.proofs.Common.{set, sym, ap}
 use Rattle.nd_delta.specs.Change.{Change, none, plus}

@@ -1,4 +1,4 @@
--- What stands at a key of a processor's maps, as an integer that is 0 where nothing does, and the processor with another integer there.
+-- What stands at a key of a processor's maps, as an integer that is 0 if nothing does, and the processor with another integer there.
 use Rattle.std.specs.Prelude.{◌≡◌, ◌<◌, ◌⊎◌, ◌≤◌, ℕ, zero, suc, ◌+◌, ℤ, pos, negsuc, ◌≤ℤ◌, cond, length, Option, Some, None, slice_set, unsigned_abs}
 use Rattle.std.specs.Ordering.{nat_cmp}
 use Rattle.std.specs.FinMap as fin

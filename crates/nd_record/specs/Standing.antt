@@ -1,4 +1,4 @@
--- What stands at each place of a cluster's state, as an integer that is 0 where nothing does; and at how many places two states differ.
+-- What stands at each place of a cluster's state, as an integer that is 0 if nothing does; and at how many places two states differ.
 use Rattle.std.specs.Prelude.{◌<◌, ◌≤◌, ℕ, zero, suc, ◌+◌, ℤ, ◌-ℤ◌, cond, List, ◌++◌, map, length, slice_set, unsigned_abs}
 use Rattle.std.specs.List.{flat_map, enumerate_from}
 use Rattle.std.specs.declared.cmp.Ordering.{Ordering}

@@ -9,7 +9,7 @@ use nd_time::Timestamp;
 /// A change at one place of a cluster's state.
 #[derive(Debug, PartialEq, Eq, Drop)]
 pub enum Change {
-    /// So many records come to an edge, or go where negative.
+    /// So many records come to an edge, or go if negative.
     Records {
         p: u32,
         edge: usize,

@@ -17,7 +17,7 @@ use nd_processor::{CountFault, Processor, ValueAt};
 use nd_time::Timestamp;
 use std::alloc::{AllocError, Allocator};
 
-// So many records more of a key, or less where negative. A key that is there takes no memory.
+// So many records more of a key, or less if negative. A key that is there takes no memory.
 fn more_records<A: Allocator + Copy>(
     processor: &mut Processor<A>,
     key: &ValueAt,
@@ -81,7 +81,7 @@ fn vertex_point(vertex: usize, time: &Timestamp) -> Pointstamp
     }
 }
 
-// Makes a change. Where something stands already it takes no memory.
+// Makes a change. If something stands already it takes no memory.
 fn make_in<A: Allocator + Copy>(
     processor: &mut Processor<A>,
     change: &Change,
@@ -178,7 +178,7 @@ pub(crate) fn processor_of<A: Allocator + Copy>(
     &processors[p]
 }
 
-// Makes a change in one of the processors. Where something stands already it takes no memory.
+// Makes a change in one of the processors. If something stands already it takes no memory.
 fn make<A: Allocator + Copy>(
     processors: &mut Vec<Processor<A>, A>,
     change: &Change,
@@ -192,7 +192,7 @@ fn make<A: Allocator + Copy>(
     make_in(processor, change)
 }
 
-// Undoes a change in one of the processors: makes its inverse. Where something stands it takes no memory.
+// Undoes a change in one of the processors: makes its inverse. If something stands it takes no memory.
 fn undo<A: Allocator + Copy>(
     processors: &mut Vec<Processor<A>, A>,
     change: &Change,

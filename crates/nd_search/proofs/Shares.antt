@@ -25,7 +25,7 @@ less workers number p =
       | inr ge ↦ none_left (workers - (number + 1)) (workers - number) p (omega (arith, ge)) (omega (arith, ge))
     ]
 
--- what a seat is seen as: its view, and the slots that it holds
+-- what a seat is seen as: its hand, and the slots that it holds
 abbrev Me : Type 0 → Type 0
 Me X = Hand × List X
 

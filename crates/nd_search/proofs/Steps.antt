@@ -8,7 +8,7 @@ use Rattle.nd_search.specs.Claims.{times, once_below}
 use Rattle.nd_search.specs.Hands.{hand, total, allowance_of, weight_of, times_in, IsClaimed}
 use Rattle.nd_search.proofs.Totals.{times-append, times_none, once_more, total_set, total_snoc, total_at, only_one}
 
--- the view after a draw
+-- the hand after a draw
 abbrev drew : Hand → ℕ → Hand
 drew v n = hand v.each (v.allowance - 1) (v.drawn ++ n ∷ [])
 

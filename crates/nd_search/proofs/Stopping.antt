@@ -48,7 +48,7 @@ find_in x (y ∷ ys) some =
       | inr none ↦ (zero, ap Some (is_here x y (times x ys) (omega (arith, some)) none))
     ]
 
--- at one place, where it is counted once
+-- at one position, if it is counted once
 one_place : (x : ℕ) (ys : List ℕ) (i j : ℕ) → slice_get ys i ≡ Some x → slice_get ys j ≡ Some x → times x ys ≤ 1 → i ≡ j
 one_place x [] i j at there few = absurd cc
 one_place x (y ∷ ys) zero zero at there few = refl
@@ -98,7 +98,7 @@ module _ {A : Type 0} where
       omega (arith, length-append u.ticket.me.0.drawn (all_drawn ws), ap (λ (v : Work A). length v.ticket.me.0.drawn) same)
   drawn_length (u ∷ ws) (suc k) w at = omega (arith, length-append u.ticket.me.0.drawn (all_drawn ws), drawn_length ws k w at)
 
-  -- where none is left for one worker, all pieces were drawn
+  -- if none is left for one worker, all pieces were drawn
   all_gone : (pieces n : ℕ) (works : List (Work A)) → ((x : ℕ) → times x (all_drawn works) ≡ once_below x n) → n ≡ length (all_drawn works)
       → (k : ℕ) (w : Work A) → slice_get works k ≡ Some w → NoneIsLeft pieces w.ticket.me.0.drawn → min n pieces ≡ pieces
   all_gone pieces n works each count k w at none =
@@ -142,7 +142,7 @@ module _ {A : Type 0} where
   is_counted x (u ∷ works) zero s place at there = let same : u ≡ s = cc in omega (arith, ap (λ (v : Searched A). times x v.claimed.items) same, in_one x s.claimed.items place there)
   is_counted x (u ∷ works) (suc who) s place at there = omega (arith, is_counted x works who s place at there)
 
-  -- the first worker's claim is no other's, and stands at one place
+  -- the first worker's claim is no other's, and stands at one position
   no_other : (x : ℕ) (s : Searched A) (works : List (Searched A)) (place : ℕ) → slice_get s.claimed.items place ≡ Some x → times_all x (lists_of (s ∷ works)) ≤ 1
       → (who : ℕ) (t : Searched A) (there : ℕ) → slice_get (s ∷ works) who ≡ Some t → slice_get t.claimed.items there ≡ Some x → (s ≡ t) × (place ≡ there)
   no_other x s works place mine few zero t there at its =
@@ -175,7 +175,7 @@ module _ {A : Type 0} where
           ]
         ]
 
-    -- where all were cut off, the first one's last piece is without a result, so no piece behind all claims is the first gap
+    -- if all were cut off, the first one's last piece is without a result, so no piece behind all claims is the first gap
     not_behind : (works : List (Searched A)) → AreTold works rs → All IsCutOff works → 0 < length works → (count : ℕ) → AreTheNumbersBelow count (lists_of works) → count ≤ j → ⊥
     not_behind [] told cut some count once le = absurd (omega (arith, some))
     not_behind (s ∷ works) told cut some count once le =

@@ -1,4 +1,4 @@
--- Totals over the views, and counts in lists
+-- Totals over the hands, and counts in lists
 use Rattle.std.proofs.Common.{◌≡◌, ℕ, zero, suc, ◌+◌, ◌==◌, ◌≤◌, cond, List, [], ◌∷◌, ◌++◌, length, set, arith, refl, sym, ap}
 use Rattle.std.proofs.lemmas.Bool.Decides.{nat_tests}
 use mathlib.Core.Option.{some, some-injective, some-ne-none}

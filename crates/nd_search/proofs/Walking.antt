@@ -18,6 +18,6 @@ no_hit_more Hit from i none here k le lt hit =
     ]
 
 module _ {A : Type 0} (m : TimelineValue A) (w : Walk A) (i : ℕ) where
-  -- where it does not hold of the walk's cluster, its position is no hit
+  -- if it does not hold of the walk's cluster, its position is no hit
   pub not_here : (b : Break) → IsOn m w → w.at ≡ i → (Holds w.cluster b → ⊥) → HoldsAt m b i → ⊥
   not_here b on is fails hit = fails (subst (λ (s : ClusterState). Holds s b) (sym on.cluster) (subst (HoldsAt m b) (sym is) hit))

@@ -3,11 +3,11 @@ use Rattle.std.specs.Prelude.{◌≡◌, ℕ, ◌+◌, ◌^◌, ◌<◌, List, [
 use Rattle.nd_search.specs.declared.hand.Hand.{Hand}
 use Rattle.nd_search.specs.Claims.{times, once_below}
 
--- a seat's view: what a worker's seat is given, what is left of it, and the numbers that were drawn
+-- a seat's hand: what a worker's seat is given, what is left of it, and the numbers that were drawn
 abbrev pub hand : ℕ → ℕ → List ℕ → Hand
 hand each allowance drawn = record { each = each; allowance = allowance; drawn = drawn }
 
--- the weights of the views, added up
+-- the weights of the hands, added up
 abbrev pub total : (Hand → ℕ) → List Hand → ℕ
 total f [] = 0
 total f (v ∷ vs) = f v + total f vs
@@ -15,14 +15,14 @@ total f (v ∷ vs) = f v + total f vs
 abbrev pub allowance_of : Hand → ℕ
 allowance_of v = v.allowance
 
--- what a view was given, of which it has drawn some
+-- what a hand was given, of which it has drawn some
 abbrev pub weight_of : Hand → ℕ
 weight_of v = v.allowance + length v.drawn
 
 abbrev pub times_in : ℕ → Hand → ℕ
 times_in x v = times x v.drawn
 
--- the views' lists are together the numbers below the word, each once; the word plus the views' allowances is all that
+-- the hands' lists are together the numbers below the word, each once; the word plus the hands' allowances is all that
 -- was given, so the word never wraps
 pub record IsClaimed (all : ℕ) (words : List ℕ) (views : List Hand) : Type 0 where
   pub one_word : words ≡ slice_index words 0 ∷ []

@@ -17,7 +17,7 @@ use Rattle.nd_search.specs.declared.work.Searched.{Searched}
 abbrev pub IsResult : (ℕ → Type 0) → ℕ → ℕ → ℕ → Option ℕ → Type 0
 IsResult Hit lo hi j r = IsLeast Hit (piece_start lo j) (piece_end lo hi j) r
 
--- each result is that of the piece that was claimed at its place
+-- each result is that of the piece that was claimed at its position
 pub record AreFound (Hit : ℕ → Type 0) (lo hi : ℕ) (claimed : List ℕ) (found : List (Option ℕ)) : Type 0 where
   pub within : length found ≤ length claimed
   pub results : (k : ℕ) → k < length found → (j : ℕ) (r : Option ℕ) → slice_get claimed k ≡ Some j → slice_get found k ≡ Some r → IsResult Hit lo hi j r
@@ -79,7 +79,7 @@ pub record HasNoPiece (pieces : ℕ) (drawn : List ℕ) : Type 0 where
 abbrev pub NoneIsLeft : ℕ → List ℕ → Type 0
 NoneIsLeft pieces drawn = HasNoPiece pieces drawn ⊎ (pieces < length drawn)
 
--- a worker stops where it is refused memory in a piece, or tells of all its pieces and none is left
+-- a worker stops if it is refused memory in a piece, or tells of all its pieces and none is left
 abbrev pub HasStopped : {A : Type 0} → ℕ → Work A → Type 0
 HasStopped pieces work = IsCutOff work.searched ⊎ (IsComplete work.searched × NoneIsLeft pieces work.ticket.me.0.drawn)
 
@@ -126,7 +126,7 @@ pub record IsFirstHit (rs : List (Option (Option ℕ))) (i : ℕ) : Type 0 where
   pub hit : slice_get rs piece ≡ Some (Some (Some i))
   pub before : NoneBefore rs piece
 
--- the first hit, or none where all pieces have results
+-- the first hit, or none if all pieces have results
 abbrev pub IsFirst : List (Option (Option ℕ)) → Option ℕ → Type 0
 IsFirst rs None = NoneBefore rs (length rs)
 IsFirst rs (Some i) = IsFirstHit rs i

@@ -21,7 +21,7 @@ fn put<A: Allocator>(searched: &Searched<A>, results: &mut [Option<Option<u64>>]
     }
 }
 
-/// What was found in each piece: none where it has no result.
+/// What was found in each piece: none if it has no result.
 pub(crate) fn results<A: Allocator + Copy>(
     alloc: A,
     works: &[Searched<A>],

@@ -12,7 +12,7 @@ use nd_timeline::{Timeline, Walk};
 use nd_watch::Break;
 use std::alloc::Allocator;
 
-/// The pieces that a worker has claimed, and what it has found in them. Where it was refused
+/// The pieces that a worker has claimed, and what it has found in them. If it was refused
 /// memory, there is nothing of the last.
 #[derive(Drop)]
 pub(crate) struct Searched<A: Allocator> {

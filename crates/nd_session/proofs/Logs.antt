@@ -35,9 +35,9 @@ slice_get-snoc (z ∷ xs) x (suc i) y e =
     elim (slice_get-snoc xs x i y e) [ inl p ↦ inl (omega arith, p.1) | inr p ↦ inr (ap suc p.0, p.1) ]
 
 module _ {A : Type 0} where
-  -- ---- places
+  -- ---- positions
 
-  -- an entry keeps its place where the log grows
+  -- an entry keeps its position if the log grows
   pub place_stays : (log rest : List (Receipt A)) (i : ℕ) (e : Receipt A) → i ≤ length log → IsPlaced log i e → IsPlaced (log ++ rest) i e
   place_stays log rest i e within p =
       let same : take i (log ++ rest) ≡ take i log = take-append-le i log rest within in record {
@@ -98,7 +98,7 @@ module _ {A : Type 0} where
             rw (found, tied, other.0, more, back) (omega (arith, counted q))
       ])
 
-  -- ---- states
+  -- ---- `State`s
 
   -- a timeline that keeps nothing is one that was opened
   fresh : (t : TimelineValue A) → t.kept ≡ [] → IsTimeline t → t ≡ opened A t.base

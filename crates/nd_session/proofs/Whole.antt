@@ -97,13 +97,13 @@ module _ {A : Type 0} (log : List (Receipt A)) (placed : ArePlaced log) where
           ]
         ]
 
-    -- an entry that is in its place is so with the client of its number
+    -- an entry that is at its position is so with the client of its number
     placed_with : (k : ℕ) (p : ClientValue A) (e : Receipt A) → slice_get clients k ≡ Some p → e.client ≡ p.number → HasInPlace clients e → slice_get p.receipts e.number ≡ Some e
     placed_with k p e at client h =
         let same : h.client ≡ p = one_place h.place k h.client p h.at at (h.has.number_is ∙ client) in
         let P : ClientValue A → Type 0 = λ q. slice_get q.receipts e.number ≡ Some e in subst P same h.has.receipt
 
-    -- where all earlier entries are in their places, an entry that a client has is in its own
+    -- if all earlier entries are at their positions, an entry that a client has is at its own
     pub in_its_place : (i : ℕ) (e : Receipt A) → slice_get log i ≡ Some e → AreInPlaceBelow log clients i → HasReceipt clients e → HasInPlace clients e
     in_its_place i e at earlier h =
         let p = h.client in

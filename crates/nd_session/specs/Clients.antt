@@ -36,7 +36,7 @@ last_of rs = slice_get rs (length rs - 1)
 abbrev pub HoldsLast : {A : Type 0} → List (Receipt A) → List (Receipt A) → Type 0
 HoldsLast log rs = MatchOption (last_of rs) (Unit {0}) (λ r. Holds log r)
 
--- a place above the index of the last receipt, if there is one
+-- a position above the index of the last receipt, if there is one
 abbrev pub IsAboveLast : {A : Type 0} → ℕ → List (Receipt A) → Type 0
 IsAboveLast i rs = MatchOption (last_of rs) (Unit {0}) (λ r. r.index < i)
 

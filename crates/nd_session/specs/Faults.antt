@@ -19,7 +19,7 @@ name_of LogFull = codes "LogFull"
 name_of TooManyClients = codes "TooManyClients"
 name_of Memory = codes "Memory"
 
--- a state with this log refuses a command so
+-- a `State` with this log refuses a command so
 abbrev pub ApplyFails : {A : Type 0} → List (Receipt A) → SessionFault A → Type 0
 ApplyFails log (NotThisSession index found) = ⊥
 ApplyFails log LogFull = length log ≡ max_log
@@ -35,7 +35,7 @@ TestFails entered log p LogFull = ⊥
 TestFails entered log p TooManyClients = ⊥
 TestFails entered log p Memory = IsUnknown entered log p
 
--- a client's command fails so; memory is wanted for a stranger's answer, or for a known client's entry
+-- a client's command fails so; memory runs out for a stranger's answer, or for a known client's entry
 abbrev pub CommandFails : {A : Type 0} → ℕ → List (Receipt A) → ClientValue A → SessionFault A → Type 0
 CommandFails entered log p (NotThisSession index found) = IsStranger entered log p index found
 CommandFails entered log p LogFull = IsKnown entered log p × (length log ≡ max_log)

@@ -30,7 +30,7 @@ opening_of {A} m = without_breaks (opened A m.timeline.base)
 abbrev pub count_of : {A : Type 0} → ℕ → List (Receipt A) → ℕ
 count_of client log = count_by (λ e. e.client == client) log
 
--- an entry at this place of a log tells the place, and how many entries of its client stand before it
+-- an entry at this position of a log tells the position, and how many entries of its client stand before it
 pub record IsPlaced {A : Type 0} (log : List (Receipt A)) (i : ℕ) (e : Receipt A) : Type 0 where
   pub index : e.index ≡ i
   pub number : e.number ≡ count_of e.client (take i log)

@@ -1,4 +1,4 @@
--- What callers see of a state: a machine, and the log of what it has answered.
+-- What callers see of a `State`: a machine, and the log of what it has answered.
 use Rattle.std.specs.Prelude.{List, refl}
 use Rattle.std.specs.Coded.{Coded, code_by, coded×, coded_list}
 use Rattle.nd_timeline.specs.Moves.{MachineValue}

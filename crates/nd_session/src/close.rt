@@ -121,7 +121,7 @@ fn first_missing<A: Allocator + Copy>(clients: &[Client<A>], entered: u64) -> Op
     None
 }
 
-// Whether the client has the entry's number, and the entry in its place.
+// Whether the client has the entry's number, and the entry at its position.
 fn has_at<A: Allocator + Copy>(client: &Client<A>, entry: &Receipt<A>) -> bool
     ensures { MatchBool result (HasAt client.now entry.now) (¬ HasAt client.now entry.now) }
 {
@@ -132,7 +132,7 @@ fn has_at<A: Allocator + Copy>(client: &Client<A>, entry: &Receipt<A>) -> bool
         }
 }
 
-// Whether a client has the entry in its place.
+// Whether a client has the entry at its position.
 fn has_in_place<A: Allocator + Copy>(clients: &[Client<A>], entry: &Receipt<A>) -> bool
     ensures { MatchBool result (HasInPlace clients.now entry.now) (¬ HasInPlace clients.now entry.now) }
 {
@@ -144,7 +144,7 @@ fn has_in_place<A: Allocator + Copy>(clients: &[Client<A>], entry: &Receipt<A>) 
     false
 }
 
-// The client and the index of the first entry that no client has in its place.
+// The client and the index of the first entry that no client has at its position.
 fn first_untold<A: Allocator + Copy>(
     log: &[Receipt<A>],
     clients: &[Client<A>],
@@ -183,7 +183,7 @@ fn found_wrong<A: Allocator + Copy>(
 }
 
 impl<A: Allocator + Copy> Shared<A> {
-    // What the state and these clients leave. It takes no memory.
+    // What the `State` and these clients leave. It takes no memory.
     pub(crate) fn close(self, clients: &[Client<A>]) -> Result<Log<A>, CloseFault<A>>
         ensures whole { IfOk result (λ l. IsWhole l.entries.items clients.now l.entered) }
         ensures wrong { IfErr result (λ f. ClosesWith f.log.entries.items clients.now f.log.entered f.why) }

@@ -10,7 +10,7 @@ use std::alloc::{AllocError, Allocator, Global};
 pub enum SessionFault<A: Allocator = Global> {
     /// The client's number was not given out here, or the log does not have its last receipt.
     NotThisSession {
-        /// The index of the client's last receipt, or 0 where it has none.
+        /// The index of the client's last receipt, or 0 if it has none.
         index: u64,
         /// The log's entry there.
         found: Option<Receipt<A>>,

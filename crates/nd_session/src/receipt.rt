@@ -8,7 +8,7 @@ use std::alloc::{AllocError, Allocator, Global};
 /// rule).
 #[derive(Drop)]
 pub struct Receipt<A: Allocator = Global> {
-    /// The entry's place in the log, counted from 0.
+    /// The entry's position in the log, counted from 0.
     pub index: u64,
     /// The number of the client that gave the command.
     pub client: u64,

@@ -1,4 +1,4 @@
-//! A state that many clients drive through one lock.
+//! A `State` that many clients drive through one lock.
 ghost use Rattle.std.specs.Prelude.{◌≡◌, ◌<◌, [], ◌∷◌, ◌++◌, IfOk, IfErr, OnErr};
 ghost use Rattle.nd_time.specs.Limits.{max_clients};
 ghost use Rattle.nd_session.specs.Clients.{IsTold, IsSeen};
@@ -12,7 +12,7 @@ use nd_timeline::Command;
 use std::alloc::{Allocator, Global};
 use std::sync::{Mutex, Wait};
 
-/// A state that many threads drive, each as a client, through one lock (this project's own rule).
+/// A `State` that many threads drive, each as a client, through one lock (this project's own rule).
 #[derive(Drop)]
 pub struct Session<A: Allocator + Copy = Global> {
     lock: Mutex<Shared<A>>,

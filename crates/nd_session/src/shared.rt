@@ -16,7 +16,7 @@ use std::alloc::{AllocError, Allocator, Global};
 /// The most clients over a session's life.
 const MAX_CLIENTS: u64 = 64;
 
-// A state, and how many clients have entered.
+// A `State`, and how many clients have entered.
 #[derive(Drop)]
 pub(crate) struct Shared<A: Allocator + Copy = Global> {
     pub(crate) state: State<A>,
@@ -43,7 +43,7 @@ fn holds_last<A: Allocator>(log: &[Receipt<A>], receipts: &[Receipt<A>]) -> bool
     }
 }
 
-// The index of the last receipt, or 0 where there is none.
+// The index of the last receipt, or 0 if there is none.
 fn last_index<A: Allocator>(receipts: &[Receipt<A>]) -> u64
     ensures { result ≡ option_map_or (λ r. r.index) (last_of receipts.now) 0 }
 {

@@ -54,7 +54,7 @@ impl<A: Allocator + Copy> Drop for State<A> {
 }
 
 impl<A: Allocator + Copy> State<A> {
-    /// The state of a timeline that keeps nothing yet, and begins at a start.
+    /// The `State` of a timeline that keeps nothing yet, and begins at a start.
     pub fn new(alloc: A, timeline: Timeline<A>) -> State<A>
         requires fresh { timeline.kept ≡ [] }
         requires start { IsStart timeline.base }

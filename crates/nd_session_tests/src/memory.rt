@@ -91,13 +91,12 @@ fn are_equal<A: Allocator + Copy>(
     after: &Snapshot<A>,
 ) -> Option<bool> {
     let text = state_text(json, before.cluster())?;
-    Some(
-        (before.index(), before.at(), before.kept()) == (after.index(), after.at(), after.kept())
-            && is_state(json, after.cluster(), text.as_str()),
-    )
+    let is_there = before.index() == after.index() && before.at() == after.at();
+    let is_kept = before.kept() == after.kept();
+    Some(is_there && is_kept && is_state(json, after.cluster(), text.as_str()))
 }
 
-/// Whether the answer is one that may be given: the one with ample memory, or want of memory in a step that is logged,
+/// Whether the answer is one that may be given: the one with ample memory, or out of memory in a step that is logged,
 /// with the cursor where the snapshot has it.
 fn may_answer<A: Allocator + Copy>(
     receipt: &Receipt<A>,
@@ -230,7 +229,7 @@ fn copied<A: Allocator + Copy, R: Wait>(
     }
 }
 
-/// A stranger's command with one request refused: whether it met it. It is told the entry, or that memory is wanted.
+/// A stranger's command with one request refused: whether it met it. It is told the entry, or out of memory.
 fn refused<A: Allocator + Copy, R: Wait>(
     rt: &R,
     heap: &Heap,
@@ -288,7 +287,7 @@ fn calls_out_of_memory(rt: HostRuntime) {
     assert_eq!(rt; heap.live(), 0);
 }
 
-/// A state's command with one request refused: whether it met it. Then nothing is logged, or the answer is.
+/// A `State`'s command with one request refused: whether it met it. Then nothing is logged, or the answer is.
 fn applied<A: Allocator + Copy>(
     heap: &Heap,
     json: Global,
@@ -322,7 +321,7 @@ fn applied<A: Allocator + Copy>(
     }
 }
 
-/// A state's command with each request refused in turn: how many were.
+/// A `State`'s command with each request refused in turn: how many were.
 fn applied_in_turn<A: Allocator + Copy>(
     heap: &Heap,
     json: Global,

@@ -17,7 +17,7 @@ pub enum Asked {
     Redo,
     Jump(u64),
     Run(u64),
-    /// The breakpoint that holds where the sink of this name has counted the value.
+    /// The breakpoint that holds if the sink of this name has counted the value.
     Sink(&'static str, i64),
     Clear(u64),
 }
@@ -46,7 +46,7 @@ pub fn command_of<A: Allocator + Copy>(
     }
 }
 
-/// The state of a start.
+/// The `State` of a start.
 pub fn opened<A: Allocator + Copy>(json: Global, alloc: A, text: &str, n: u32) -> Option<State<A>> {
     let graph = graph_of(json, alloc, text)?;
     let Ok(cluster) = Cluster::start(alloc, graph, n) else {

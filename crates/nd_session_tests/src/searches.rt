@@ -53,7 +53,7 @@ fn fed<A: Allocator + Copy>(
     Snapshot::of(alloc, &timeline, 0).ok()
 }
 
-/// The break that holds where a place has a count of 1 at least at an epoch.
+/// The break that holds if a location has a count of 1 at least at an epoch.
 fn count<A: Allocator + Copy>(snapshot: &Snapshot<A>, name: &str, epoch: u32) -> Option<Break> {
     Some(Break::Count {
         point: point(snapshot.cluster().graph(), name, &[epoch])?,
@@ -61,7 +61,7 @@ fn count<A: Allocator + Copy>(snapshot: &Snapshot<A>, name: &str, epoch: u32) ->
     })
 }
 
-/// The break that holds where the sink has counted a value.
+/// The break that holds if the sink has counted a value.
 fn sink<A: Allocator + Copy>(snapshot: &Snapshot<A>, value: i64) -> Option<Break> {
     Some(Break::Sink {
         vertex: snapshot.cluster().graph().location_of("z")?,
@@ -101,7 +101,7 @@ fn searches(rt: HostRuntime) -> Result<(), Fail> {
     Ok(())
 }
 
-/// Who came to each of two pieces, counted from 1; 0 where nobody did.
+/// Who came to each of two pieces, counted from 1; 0 if nobody did.
 #[derive(Drop)]
 struct Recorded([AtomicU64; 2]);
 
@@ -253,7 +253,7 @@ fn is_stopped_in<A: Allocator>(piece: u64, lists: &[Vec<u64, A>], hit: Option<u6
 
 /// A search by two workers with one request refused: whether it met it, and whether a worker did.
 ///
-/// `None` for an answer that is not the one with ample memory and not want of it, and where a block
+/// `None` for an answer that is not the one with ample memory and not out of memory, and if a block
 /// stays.
 fn searched<A: Allocator + Copy + Send + Sync, R: Threads + Sync>(
     rt: &R,

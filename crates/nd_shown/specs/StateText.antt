@@ -18,7 +18,7 @@ use Rattle.nd_processor.specs.declared.key.SinkKey.{SinkKey}
 
 -- ---- the parts of an entry
 
--- the name of a location; where there is none, nothing
+-- the name of a location; if there is none, nothing
 abbrev pub name_at : Dataflow → ℕ → List ℕ
 name_at g l = slice_index_or (names g) l []
 

@@ -25,7 +25,7 @@ use serde_json::{Value, json};
 use std::alloc::{AllocError, Allocator, Global};
 use std::collections::btree_map::Iter;
 
-// The name of a location; where there is none, nothing.
+// The name of a location; if there is none, nothing.
 fn name_at<A: Allocator>(graph: &Graph<A>, location: usize) -> &str
     ensures { result.now ≡ name_in graph.now location }
 {

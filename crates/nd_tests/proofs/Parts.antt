@@ -6,7 +6,7 @@ use Rattle.nd_paths.specs.declared.point.Pointstamp.{Pointstamp}
 use Rattle.nd_delta.specs.Change.{Change, at, part, minus, has_point, at-part, at-minus}
 use Rattle.nd_processor.specs.Edits.{IsPartOf, IsApart}
 
--- what is kept or cut to nothing is kept where it is something
+-- what is kept or cut to nothing is kept if it is something
 kept : (b : Bool) (x : ℤ) → cond b x (pos 0) ≢ pos 0 → x ≡ cond b x (pos 0)
 kept true x e = refl
 kept false x e = absurd (e refl)

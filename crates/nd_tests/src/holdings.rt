@@ -10,7 +10,7 @@ use nd_time::Timestamp;
 use nd_vertex::VertexState;
 use std::alloc::{AllocError, Allocator};
 
-/// Gives an item a number that is not 0, or `None` where it is.
+/// Gives an item a number that is not 0, or `None` if it is.
 pub fn set<A: Allocator + Copy>(
     state: &mut VertexState<A>,
     time: &Timestamp,
@@ -42,7 +42,7 @@ pub fn item<A: Allocator + Copy>(processor: &Processor<A>) -> Option<i64> {
     processor.vertex_state(1).get(&time(&[0])?, 7)
 }
 
-/// Gives that item another number. `None` where that is 0, or there is no such vertex.
+/// Gives that item another number. `None` if that is 0, or there is no such vertex.
 pub fn set_item<A: Allocator + Copy>(
     processor: &mut Processor<A>,
     new: Option<i64>,

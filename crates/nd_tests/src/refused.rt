@@ -1,4 +1,4 @@
-//! Each request for memory of a call refused in turn: the call answers want of memory and leaves its
+//! Each request for memory of a call refused in turn: the call answers out of memory and leaves its
 //! values as they were, until it meets none that is refused, and succeeds.
 
 ghost use Rattle.nd_vertex.specs.Edits.{CanEdit};
@@ -223,7 +223,7 @@ pub fn many<A: Allocator + Copy>(alloc: A, count: i64) -> Option<VertexState<A>>
     Some(state)
 }
 
-/// The same of the edits of an effect, made or taken back. Where that takes memory there is no item before it.
+/// The same of the edits of an effect, made or taken back. If that takes memory there is no item before it.
 fn edits<A: Allocator + Copy>(
     heap: &Heap,
     alloc: A,
@@ -343,7 +343,7 @@ fn unsent<A: Allocator + Copy>(alloc: A, graph: &Graph<A>) -> Option<Processor<A
     Some(processor)
 }
 
-/// Whether a call met the request that was refused. `None` where it answered or left what it should not.
+/// Whether a call met the request that was refused. `None` if it answered or left what it should not.
 fn meets<A: Allocator + Copy>(
     heap: &Heap,
     alloc: A,

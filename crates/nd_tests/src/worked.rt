@@ -16,7 +16,7 @@ use serde_json::Value;
 use std::alloc::{AllocError, Global};
 use std::test::Fail;
 
-/// The time past a vertex of this action, or `None` where there is no such time.
+/// The time past a vertex of this action, or `None` if there is no such time.
 fn moved(action: Action, time: &Timestamp) -> Option<Timestamp> {
     match action {
         Action::Identity => Some(time.copy()),

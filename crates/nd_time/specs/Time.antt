@@ -6,7 +6,7 @@ pub record Time : Type 0 where
   pub epoch : ℕ
   pub counters : List ℕ
 
--- two lists agree up to a place, where the first has the smaller number
+-- two lists agree up to a position, where the first has the smaller number
 pub record IsSmallerAtFirstDifference (xs ys : List ℕ) : Type 0 where
   pub common : List ℕ
   pub x : ℕ

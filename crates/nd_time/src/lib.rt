@@ -1,4 +1,4 @@
-//! Timestamps of a timely dataflow: an epoch and the counters of the loops around a place.
+//! Timestamps of a timely dataflow: an epoch and the counters of the loops around a location.
 #![tactic(auto)]
 
 ghost use Rattle.std.specs.Prelude.{◌≡◌, ◌≤◌, ◌<◌, ◌↔◌, IsTrue, IsSome, IfSome, IsOk, IfOk, length};
@@ -18,7 +18,7 @@ pub const MAX_DEPTH: usize = 4;
 #[error("the loop counter is at its limit")]
 pub struct CounterFull;
 
-/// An epoch, and the counters of the loops around a place, outermost first (Naiad, SOSP 2013, section 2.1).
+/// An epoch, and the counters of the loops around a location, outermost first (Naiad, SOSP 2013, section 2.1).
 ///
 /// Timestamps are listed by epoch, and then by counters in lexicographic order.
 #[derive(Debug, PartialEq, Eq, PartialOrd, Ord, Drop)]
@@ -79,7 +79,7 @@ impl Timestamp {
         Timestamp::new(self.epoch, self.counters()).unwrap()
     }
 
-    /// Whether this timestamp is at or before the other. It is not where their depths differ.
+    /// Whether this timestamp is at or before the other. It is not so if their depths differ.
     ///
     /// Epochs compare as numbers and counters lexicographically (this project's own rule).
     pub fn at_or_before(&self, other: &Timestamp) -> bool
@@ -90,7 +90,7 @@ impl Timestamp {
             && self.counters.cmp(&other.counters).is_le()
     }
 
-    /// The timestamp past an ingress vertex, or `None` where there is no room for one more counter.
+    /// The timestamp past an ingress vertex, or `None` if there is no room for one more counter.
     pub fn ingress(&self) -> Option<Timestamp>
         ensures room { IsSome result ↔ (length self.now.counters < max_depth) }
         ensures value { IfSome result (λ t. t ≡ record { epoch = self.now.epoch; counters = ingress_of self.now.counters }) }
@@ -103,7 +103,7 @@ impl Timestamp {
         Some(next)
     }
 
-    /// The timestamp past an egress vertex, or `None` where there is no counter to leave.
+    /// The timestamp past an egress vertex, or `None` if there is no counter to leave.
     pub fn egress(&self) -> Option<Timestamp>
         ensures inside { IsSome result ↔ (0 < length self.now.counters) }
         ensures value { IfSome result (λ t. t ≡ record { epoch = self.now.epoch; counters = egress_of self.now.counters }) }

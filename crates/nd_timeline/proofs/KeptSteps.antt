@@ -1,4 +1,4 @@
--- Kept steps: one more at the end, the front of them, and the step at a place.
+-- Kept steps: one more at the end, the front of them, and the step at a position.
 use Rattle.std.proofs.Common.{◌≡◌, ◌<◌, ℕ, zero, suc, ◌+◌, ◌-◌, List, [], ◌∷◌, ◌++◌, length, take, get_or, refl, sym, ap, subst, ◌∙◌, arith, add-one, length-append}
 use Rattle.std.proofs.lemmas.List.{length-map, length-take-le, map-append, take-map, take_all}
 use Rattle.nd_time.specs.Limits.{max_kept}

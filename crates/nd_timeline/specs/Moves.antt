@@ -106,7 +106,7 @@ StopsAt {A} breaks limit m ran (stop.Break id) new = record {
 abbrev pub Tells : {A : Type 0} → TimelineValue A → ℕ → ℕ → Type 0
 Tells new at kept = (at ≡ new.cursor) × (kept ≡ length new.kept)
 
--- want of memory leaves the steps that were made
+-- running out of memory leaves the steps that were made
 abbrev pub RunMoves : {A : Type 0} → TimelineValue A → ℕ → BreakMap → Reply → TimelineValue A → Type 0
 RunMoves m limit breaks (Refused TimelineFull) new = (max_kept < m.cursor + limit) × (new ≡ m)
 RunMoves m limit breaks (Refused (Memory at)) new =

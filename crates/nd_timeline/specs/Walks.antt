@@ -8,7 +8,7 @@ pub record IsOn {A : Type 0} (m : TimelineValue A) (w : Walk A) : Type 0 where
   pub within : w.at ≤ length m.kept
   pub cluster : w.cluster ≡ cluster_of (moved_to m w.at)
 
--- a walk begins at the start or at the cursor, whichever is nearer to a position, and at the start where both are as near
+-- a walk begins at the start or at the cursor, whichever is nearer to a position, and at the start if both are as near
 pub record BeginsNear {A : Type 0} (m : TimelineValue A) (n : ℕ) (w : Walk A) : Type 0 where
   pub start : n + n ≤ m.cursor → w.at ≡ 0
   pub cursor : m.cursor < n + n → w.at ≡ m.cursor

@@ -67,7 +67,7 @@ impl<A: Allocator + Copy> Machine<A> {
         (timeline, breaks)
     }
 
-    // The reply where the cursor has moved, or has not.
+    // The reply when the cursor has moved, or has not.
     fn moved(&self, moved: Result<(), Fault>) -> Reply
         ensures { result ≡ moved_reply moved self.now.timeline }
     {

@@ -1,5 +1,5 @@
 //! Calls of timelines that take no memory, made while none is given, copies, which grow in memory of their own, and
-//! timelines at their far ends, which want no memory where there is enough.
+//! timelines at their far ends, which do not run out of memory if there is enough.
 
 use crate::memory::{ALL, Heap, ONE, kept};
 use nd_cluster::Next;

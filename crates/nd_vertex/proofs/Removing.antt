@@ -160,7 +160,7 @@ not_above z fits = by (int_cmp (pos (2 ^ 63 - 1)) z) (int_ranks (pos (2 ^ 63 - 1
     by Equal h = refl
     by Greater h = refl
 
--- an item of 64 bits is at a timestamp where it is between these
+-- an item of 64 bits is at a timestamp if it is between these
 within : (t : Time) (k : ItemKey) → FitsSigned w64 k.item → range_contains item_cmp (Included (first_at t)) (Included (last_at t)) k ≡ is_at t k
 within t k fits = rw (time_total.antisymm k.time t) (by (time_cmp t k.time))
   where

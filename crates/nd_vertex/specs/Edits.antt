@@ -8,11 +8,11 @@ use Rattle.nd_vertex.specs.Table.{is_zero}
 use Rattle.nd_vertex.specs.declared.key.ItemKey.{ItemKey}
 use Rattle.nd_vertex.specs.declared.effect.ItemEdit.{ItemEdit}
 
--- the number of an item, where it is there
+-- the number of an item, if it is there
 abbrev pub item_of : Items → ItemKey → Option ℤ
 item_of m k = cond (is_zero (at m k)) None (Some (at m k))
 
--- an item's number, 0 where it is not there
+-- an item's number, 0 if it is not there
 abbrev pub number_of : Option ℤ → ℤ
 number_of n = or_else (pos 0) n
 

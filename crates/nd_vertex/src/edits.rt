@@ -6,7 +6,7 @@ use crate::{Effect, ItemEdit, VertexState};
 use std::alloc::{AllocError, Allocator};
 
 impl<A: Allocator + Copy> VertexState<A> {
-    // Makes an edit where it is wanted. Only an item that is not there takes memory.
+    // Makes an edit if it is wanted. Only an item that is not there takes memory.
     fn make(&mut self, wanted: bool, edit: &ItemEdit) -> Result<(), AllocError>
         requires there { IsTrue wanted → item_of self.old edit.now.key ≡ edit.now.old }
         requires some { IsTrue wanted → edit.now.new ≢ Some (pos 0) }
@@ -52,7 +52,7 @@ impl<A: Allocator + Copy> VertexState<A> {
         Ok(())
     }
 
-    /// Makes the item edits of an effect. Where a growth is refused all is as it was.
+    /// Makes the item edits of an effect. If a growth is refused all is as it was.
     pub fn commit<B: Allocator>(&mut self, effect: &Effect<B>) -> Result<(), AllocError>
         requires { CanEdit self.old effect.now.items.items }
         ensures ok { OnOk result (self.new ≡ edited self.old effect.now.items.items) }
@@ -66,7 +66,7 @@ impl<A: Allocator + Copy> VertexState<A> {
         Ok(())
     }
 
-    /// Takes the item edits of an effect back. Where a growth is refused all is as it was.
+    /// Takes the item edits of an effect back. If a growth is refused all is as it was.
     pub fn revert<B: Allocator>(&mut self, effect: &Effect<B>) -> Result<(), AllocError>
         requires { CanEdit self.old (map turned effect.now.items.items) }
         ensures ok { OnOk result (self.new ≡ edited self.old (map turned effect.now.items.items)) }

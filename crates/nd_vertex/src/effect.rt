@@ -15,7 +15,7 @@ pub struct Emission {
     pub value: i64,
 }
 
-/// A change of one item's number, `None` where the item is not there.
+/// A change of one item's number, `None` if the item is not there.
 #[derive(Debug, PartialEq, Eq, Drop)]
 pub struct ItemEdit {
     pub key: ItemKey,

@@ -30,7 +30,7 @@ fn time_past(op: Op, time: &Timestamp) -> Result<Timestamp, CounterFull>
     }
 }
 
-// A number, or none where it is 0.
+// A number, or none if it is 0.
 fn nonzero(n: i64) -> Option<i64>
     ensures number { number_of result ≡ n }
     ensures some { result ≢ Some (pos 0) }
@@ -118,7 +118,7 @@ impl<A: Allocator + Copy> VertexState<A> {
         }
     }
 
-    // The edit that gives an item a number or takes it out, none where it changes nothing.
+    // The edit that gives an item a number or takes it out, none if it changes nothing.
     fn change(&self, time: &Timestamp, item: i64, new: Option<i64>) -> Option<ItemEdit>
         requires { new ≢ Some (pos 0) }
         ensures { LeadsTo self.now (listed result) (with_item self.now (item_key time.now item) new) }
@@ -157,8 +157,8 @@ impl<A: Allocator + Copy> VertexState<A> {
 
     /// What the operator does on a record: what the table says, of the items that are here.
     ///
-    /// The items stay as they are until the effect is committed. CounterFull (11) where a feedback's
-    /// last counter cannot rise, else ValueRange (12) where an emission or an item leaves 64 bits.
+    /// The items stay as they are until the effect is committed. CounterFull (11) if a feedback's
+    /// last counter cannot rise, else ValueRange (12) if an emission or an item leaves 64 bits.
     pub fn on_record(
         &self,
         alloc: A,

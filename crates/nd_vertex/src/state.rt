@@ -48,7 +48,7 @@ impl<A: Allocator + Copy> VertexState<A> {
         }
     }
 
-    /// The number of an item at a timestamp, `None` where it is not there.
+    /// The number of an item at a timestamp, `None` if it is not there.
     pub fn get(&self, time: &Timestamp, item: i64) -> Option<i64>
         ensures value { result ≡ item_of self.now (item_key time.now item) }
         ensures values { AreValues self.now }

@@ -1,4 +1,4 @@
--- Views whose kept counts are those of a graph.
+-- Views whose precursor counts are those of a graph.
 use Rattle.std.proofs.Common.{cond, ◌≡◌, ℕ, ℤ, pos, List, [], Option, Some, None, refl, sym, ap, subst, ◌∙◌, ◌⊎◌, inl, inr, zero, suc, negsuc, arith, Result, Ok, Err, ◌<◌}
 use Rattle.std.specs.Prelude.{◌<ℤ◌, OnOk}
 use Rattle.std.proofs.lemmas.Int.{ints}
@@ -52,9 +52,9 @@ on_ok (Err e) P Q f p = tt
 pub for_fields : (g : Dataflow) (v : Kept) (m : Change) (es : List (Pointstamp × ℕ)) → record { map = m; counts = es } ≡ v → IsFor g v → IsFor g (record { map = m; counts = es })
 for_fields g v m es v_is h = subst (IsFor g) (sym v_is) h
 
--- ---- kept counts of 0
-pub first_of_none : (g : Dataflow) (m : Change) (q : Pointstamp) → IsKeptAt g m q (Some 0) → IsOnFrontier g m q
-first_of_none g m q kept = record {
+-- ---- precursor counts of 0
+pub frontier_of_none : (g : Dataflow) (m : Change) (q : Pointstamp) → IsKeptAt g m q (Some 0) → IsOnFrontier g m q
+frontier_of_none g m q kept = record {
   positive = kept.0;
   first = λ y p.
       let f = kept.1.0 in
@@ -62,23 +62,23 @@ first_of_none g m q kept = record {
       omega (arith, place.in_range, kept.1.2);
 }
 
-pub no_first : (g : Dataflow) (m : Change) (q : Pointstamp) (n : ℕ) → 0 < n → IsKeptAt g m q (Some n) → IsOnFrontier g m q → ⊥
-no_first g m q n more kept on =
+pub not_on_frontier : (g : Dataflow) (m : Change) (q : Pointstamp) (n : ℕ) → 0 < n → IsKeptAt g m q (Some n) → IsOnFrontier g m q → ⊥
+not_on_frontier g m q n more kept on =
     let f = kept.1.0 in
     let one = first_one (entries f) (omega (arith, more, kept.1.2)) in
     on.first one.point (kept.1.1.only one.point (λ z. some-entry f one.point one.value one.found (sym (ap or_zero one.found) ∙ at-entries f one.point ∙ z)))
 
--- a point is on the frontier exactly where its kept count is 0
-pub zero_of_first : (g : Dataflow) (v : Kept) → IsFor g v → (q : Pointstamp) → IsOnFrontier g v.map q → find point_cmp q v.counts ≡ Some 0
-zero_of_first g v h q on = by (find point_cmp q v.counts) (h.each q)
+-- a point is on the frontier exactly if its precursor count is 0
+pub zero_of_frontier : (g : Dataflow) (v : Kept) → IsFor g v → (q : Pointstamp) → IsOnFrontier g v.map q → find point_cmp q v.counts ≡ Some 0
+zero_of_frontier g v h q on = by (find point_cmp q v.counts) (h.each q)
   where
     by : (o : Option ℕ) → IsKeptAt g v.map q o → o ≡ Some 0
     by None never = absurd (never on.positive)
     by (Some zero) kept = refl
-    by (Some (suc n)) kept = absurd (no_first g v.map q (suc n) (omega arith) kept on)
+    by (Some (suc n)) kept = absurd (not_on_frontier g v.map q (suc n) (omega arith) kept on)
 
-pub first_of_zero : (g : Dataflow) (v : Kept) → IsFor g v → (q : Pointstamp) → find point_cmp q v.counts ≡ Some 0 → IsOnFrontier g v.map q
-first_of_zero g v h q e = first_of_none g v.map q (subst (IsKeptAt g v.map q) e (h.each q))
+pub frontier_of_zero : (g : Dataflow) (v : Kept) → IsFor g v → (q : Pointstamp) → find point_cmp q v.counts ≡ Some 0 → IsOnFrontier g v.map q
+frontier_of_zero g v h q e = frontier_of_none g v.map q (subst (IsKeptAt g v.map q) e (h.each q))
 
 -- ---- what is put in and taken out again
 kept_none : (g : Dataflow) (m : Change) (q : Pointstamp) (o : Option ℕ) → IsKeptAt g m q o → (pos 0 <ℤ at m q → ⊥) → o ≡ None

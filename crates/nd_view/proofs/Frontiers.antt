@@ -1,4 +1,4 @@
--- Where nothing on the frontier is before a point, nothing positive is.
+-- If nothing on the frontier is before a point, nothing positive is.
 use Rattle.std.proofs.Common.{◌≡◌, ◌≢◌, ◌<◌, ℕ, zero, suc, pos, Bool, true, false, List, [], ◌∷◌, length, get_or, Option, Some, None, Result, Ok, Err, cond, sym, ap, subst, ◌∙◌, ◌⊎◌, inl, inr, arith, refl}
 use Rattle.std.specs.Prelude.{◌<ℤ◌, Contains, slice_index_or, IfOk, IfSome, OnErr}
 use Rattle.std.proofs.lemmas.List.{get_or-map, length-map}
@@ -14,7 +14,7 @@ use Rattle.nd_view.specs.View.{IsBefore, IsPositiveBefore, IsBlocker, IsPrecurso
 use Rattle.nd_view.specs.Kept.{Kept, IsKeptAt, IsFor, IsFrontierList}
 use Rattle.nd_view.proofs.First.{not_zero}
 use Rattle.nd_view.proofs.Moves.{index_some, itself}
-use Rattle.nd_view.proofs.Fors.{zero_of_first, first_of_zero}
+use Rattle.nd_view.proofs.Fors.{zero_of_frontier, frontier_of_zero}
 use Rattle.std.proofs.lemmas.List.Folds.{list_any_at}
 use Rattle.std.proofs.lemmas.Map.Views.{Contains-from_any, tells_apart}
 
@@ -62,7 +62,7 @@ through g order true y x t (inr earlier) before = order.strict y x t earlier bef
 through g order false y x t (inl same) before = subst (λ z. CouldResultIn g z t) (sym same) before
 through g order false y x t (inr earlier) before = order.transitive y x t earlier.0 before
 
--- where nothing on the frontier is before t, nothing positive is
+-- if nothing on the frontier is before t, nothing positive is
 pub passed_by_frontier : (g : Dataflow) → IsOrder g → (v : Kept) → IsFor g v → (strictly : Bool) (t : Pointstamp) → ((y : Pointstamp) → IsOnFrontier g v.map y → IsBefore g strictly y t → ⊥)
     → (x : Pointstamp) → IsPositiveBefore g v.map strictly t x → ⊥
 passed_by_frontier g order v h strictly t none x b = by (find point_cmp x v.counts) (h.each x)
@@ -74,30 +74,30 @@ passed_by_frontier g order v h strictly t none x b = by (find point_cmp x v.coun
         none least.0 least.1 (through g order strictly least.0 x t least.2 b.before)
 
 -- the list that a view keeps is that of its frontier
-pub frontier_list : (v : Kept) (es : List (Pointstamp × ℕ)) (first ps : List Pointstamp) (room : ℕ) → es ≡ v.counts → ps ≡ first → IsFrontierList es first room → IsFrontierList v.counts ps room
-frontier_list v es first ps room es_is ps_is listed = subst (λ l. IsFrontierList v.counts l room) (sym ps_is) (subst (λ l. IsFrontierList l first room) es_is listed)
+pub frontier_list : (v : Kept) (es : List (Pointstamp × ℕ)) (frontier ps : List Pointstamp) (room : ℕ) → es ≡ v.counts → ps ≡ frontier → IsFrontierList es frontier room → IsFrontierList v.counts ps room
+frontier_list v es frontier ps room es_is ps_is listed = subst (λ l. IsFrontierList v.counts l room) (sym ps_is) (subst (λ l. IsFrontierList l frontier room) es_is listed)
 
 -- the part at the listed points is the part on the frontier
-pub frontier_part : (g : Dataflow) (v : Kept) → IsFor g v → (m : Change) → m ≡ v.map → (first : List Pointstamp) (room : ℕ) → IsFrontierList v.counts first room → (f : Change) → f ≡ part m first → IsPartWhere (IsOnFrontier g v.map) v.map f
-frontier_part g v h m m_is first room listed f f_is = record {
-  all = λ x on. value x ∙ ap (λ b. cond b (at v.map x) (pos 0)) (has x (listed.all x (zero_of_first g v h x on)));
-  only = λ x some. by x some (has_point x first) refl;
+pub frontier_part : (g : Dataflow) (v : Kept) → IsFor g v → (m : Change) → m ≡ v.map → (frontier : List Pointstamp) (room : ℕ) → IsFrontierList v.counts frontier room → (f : Change) → f ≡ part m frontier → IsPartWhere (IsOnFrontier g v.map) v.map f
+frontier_part g v h m m_is frontier room listed f f_is = record {
+  all = λ x on. value x ∙ ap (λ b. cond b (at v.map x) (pos 0)) (has x (listed.all x (zero_of_frontier g v h x on)));
+  only = λ x some. by x some (has_point x frontier) refl;
 }
   where
-    value : (x : Pointstamp) → at f x ≡ cond (has_point x first) (at v.map x) (pos 0)
-    value x = ap (λ c. at c x) (f_is ∙ ap (λ c. part c first) m_is) ∙ at-part v.map first x
+    value : (x : Pointstamp) → at f x ≡ cond (has_point x frontier) (at v.map x) (pos 0)
+    value x = ap (λ c. at c x) (f_is ∙ ap (λ c. part c frontier) m_is) ∙ at-part v.map frontier x
 
-    has : (x : Pointstamp) → Contains first x → has_point x first ≡ true
-    has x among = list_any_at (is_point x) first among.0 x among.1 (ap (is_point x) among.2 ∙ itself x)
+    has : (x : Pointstamp) → Contains frontier x → has_point x frontier ≡ true
+    has x among = list_any_at (is_point x) frontier among.0 x among.1 (ap (is_point x) among.2 ∙ itself x)
 
-    by : (x : Pointstamp) → at f x ≢ pos 0 → (b : Bool) → has_point x first ≡ b → IsOnFrontier g v.map x
-    by x some true e = first_of_zero g v h x (listed.only x (Contains-from_any (tells_apart point_exact) x first e))
+    by : (x : Pointstamp) → at f x ≢ pos 0 → (b : Bool) → has_point x frontier ≡ b → IsOnFrontier g v.map x
+    by x some true e = frontier_of_zero g v h x (listed.only x (Contains-from_any (tells_apart point_exact) x frontier e))
     by x some false e = absurd (some (value x ∙ ap (λ b. cond b (at v.map x) (pos 0)) e))
 
--- where something is listed, there is a frontier
-pub frontier_some : (g : Dataflow) (v : Kept) → IsFor g v → (first : List Pointstamp) (room : ℕ) → IsFrontierList v.counts first room → first ≢ [] → (x : Pointstamp) × IsOnFrontier g v.map x
+-- if something is listed, there is a frontier
+pub frontier_some : (g : Dataflow) (v : Kept) → IsFor g v → (frontier : List Pointstamp) (room : ℕ) → IsFrontierList v.counts frontier room → frontier ≢ [] → (x : Pointstamp) × IsOnFrontier g v.map x
 frontier_some g v h [] room listed some = absurd (some refl)
-frontier_some g v h (x ∷ rest) room listed some = (x, first_of_zero g v h x (listed.only x (0, omega arith, refl)))
+frontier_some g v h (x ∷ rest) room listed some = (x, frontier_of_zero g v h x (listed.only x (0, omega arith, refl)))
 
 pub on_err : {X E P Q : Type 0} (r : Result X E) → (P → Q) → OnErr r P → OnErr r Q
 on_err (Ok x) f h = h

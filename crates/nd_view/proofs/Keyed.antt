@@ -1,4 +1,4 @@
--- What is kept has the right keys: loops that put and count anew.
+-- What is stored has the right keys: loops that put and count anew.
 use Rattle.std.proofs.Common.{◌≡◌, ◌≢◌, ◌<◌, ◌≤◌, ◌+◌, ℕ, ℤ, pos, false, cond, List, length, get_or, Option, Some, None, refl, sym, ap, subst, ◌∙◌, inl, inr, arith}
 use Rattle.std.specs.Prelude.{◌<ℤ◌}
 use Rattle.std.specs.FinMap.{find, put}
@@ -93,7 +93,7 @@ module _ (g : Dataflow) (m : Change) where
   pub counted_none : (es : List (Pointstamp × ℕ)) → IsKeyed m es → IsCountedUpTo 0 es
   counted_none es h = record { keyed = h; done = λ q among. absurd (omega (arith, among.early)) }
 
-  -- what is kept of a point that is not positive
+  -- what is stored of a point that is not positive
   pub nothing_kept : (es : List (Pointstamp × ℕ)) → IsKeyed m es → (q : Pointstamp) → (pos 0 <ℤ at m q → ⊥) → IsKeptAt g m q (find point_cmp q es)
   nothing_kept es h q never = subst (IsKeptAt g m q) (sym (h.none q never)) never
 

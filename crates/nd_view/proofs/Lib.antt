@@ -1,5 +1,5 @@
 mod First
-mod Firsts
+mod FrontierLists
 mod Fors
 mod Frontiers
 mod Keyed

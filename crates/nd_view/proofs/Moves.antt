@@ -192,7 +192,7 @@ module _ (m n : Change) (x : Pointstamp) (v : ℤ) (is : n ≡ set m x v) where
       count_away g q k (λ p. old p.positive) (λ p. new (subst (λ z. pos 0 <ℤ z) here p.positive)) kept.1,
     )
 
-    -- another point, where x is no precursor of it before or after
+    -- another point, if x is no precursor of it before or after
     kept_elsewhere : (q : Pointstamp) → is_point q x ≡ false → (pos 0 <ℤ at n q → IsStrictlyBefore g x q → ⊥) → (o : Option ℕ) → IsKeptAt g m q o → IsKeptAt g n q o
     kept_elsewhere q e never None none = λ p. none (down_at q e p)
     kept_elsewhere q e never (Some k) kept =

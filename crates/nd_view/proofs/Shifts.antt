@@ -1,4 +1,4 @@
--- Kept counts that are moved by one, entry by entry.
+-- Precursor counts that are moved by one, entry by entry.
 use Rattle.std.proofs.Common.{◌≡◌, ◌<◌, ◌≤◌, ◌+◌, ℕ, Bool, true, false, cond, List, length, get_or, Option, Some, None, refl, sym, ap, subst, ◌∙◌, ◌⊎◌, inl, inr, Less, Equal, arith}
 use Rattle.std.specs.FinMap.{find, put}
 use Rattle.std.specs.FinMap.Entries.{find-put, length-put, length_without}
@@ -26,7 +26,7 @@ found_put q k n es same = find-put point_cmp point_total q k n es ∙ ap (λ b. 
 pub found_other : (q k : Pointstamp) (n : ℕ) (es : List (Pointstamp × ℕ)) → is_point q k ≡ false → find point_cmp q (put point_cmp k n es) ≡ find point_cmp q es
 found_other q k n es other = find-put point_cmp point_total q k n es ∙ ap (λ b. cond b (Some n) (find point_cmp q es)) other
 
--- a key that has a value keeps its place
+-- a key that has a value keeps its position
 pub size_put : (es fs : List (Pointstamp × ℕ)) (k : Pointstamp) (n i : ℕ) → IsListed point_cmp es → find point_cmp k es ≡ Some n → fs ≡ put point_cmp k i es → length fs ≡ length es
 size_put es fs k n i listed found put_is = ap length put_is ∙ length-put point_cmp point_total k i es listed ∙ ap (λ o. cond (is_some o) (length es) (length es + 1)) found
 
@@ -38,7 +38,7 @@ size_grown es fs k i listed put_is = subst (λ z. z ≤ length es + 1) (sym (ap 
     by true = omega arith
     by false = omega arith
 
--- and none more where one is taken out
+-- and none more if one is taken out
 pub size_without : (es fs : List (Pointstamp × ℕ)) (k : Pointstamp) → IsListed point_cmp es → fs ≡ without point_cmp k es → length fs ≤ length es
 size_without es fs k listed e =
     let counted = length_without point_cmp point_total k es listed in
@@ -61,7 +61,7 @@ key_at : (es : List (Pointstamp × ℕ)) (ks : List Pointstamp) (i : ℕ) (d : P
 key_at es ks i d q keys lt = ap (λ l. get_or l i q) (sym keys) ∙ get_or-map (λ e. e.0) es i d q lt
 
 module _ (g : Dataflow) (m : Change) (x : Pointstamp) (up : Bool) where
-  -- the first keys have their counts, the others theirs but for one where they come after x
+  -- the first keys have their counts, the others theirs but for one if they come after x
   pub record IsShifted (ks : List Pointstamp) (i : ℕ) (es : List (Pointstamp × ℕ)) : Type 0 where
     pub keys : keys_of es ≡ ks
     pub listed : IsListed point_cmp es
@@ -120,7 +120,7 @@ module _ (g : Dataflow) (m : Change) (x : Pointstamp) (up : Bool) where
           inr (sym early.is ∙ ap (λ k. get_or ks k q) same ∙ get_or_default ks i q e.0 in_keys ∙ here)
     ]
 
-    -- what is kept for it before it is moved
+    -- what is stored for it before it is moved
     waiting : IsReady g m x up e.0 (Some e.1)
     waiting =
         let found : find point_cmp e.0 es ≡ Some e.1 = ap (λ y. find point_cmp y.0 es) is ∙ find-index point_cmp point_total es i e h.listed lt ∙ ap (λ y. Some y.1) (sym is) in

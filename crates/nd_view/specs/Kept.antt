@@ -1,4 +1,4 @@
--- A view with its kept counts, and when they are those of a graph.
+-- A view with its precursor counts, and when they are those of a graph.
 use Rattle.std.specs.Prelude.{◌≡◌, ◌≢◌, ◌≤◌, ◌-◌, ◌+◌, ℕ, pos, ◌<ℤ◌, List, length, Contains, Bool, true, false, Option, Some, None, refl}
 use Rattle.std.specs.Coded.{Coded, code_by, coded×, coded_ℕ, coded_list}
 use Rattle.std.specs.FinMap.{find}
@@ -10,7 +10,7 @@ use Rattle.nd_paths.specs.declared.point.Pointstamp.{Pointstamp}
 use Rattle.nd_delta.specs.Change.{Change, at, change_code}
 use Rattle.nd_view.specs.View.{IsPrecursor, IsCount}
 
--- a finite map, and numbers that are kept beside it
+-- a finite map, and numbers that are stored beside it
 pub record Kept : Type 0 where
   pub map : Change
   pub counts : List (Pointstamp × ℕ)
@@ -18,23 +18,23 @@ pub record Kept : Type 0 where
 abbrev pub kept_code : Coded Kept
 kept_code = code_by (Change × List (Pointstamp × ℕ)) (coded× change_code (coded_list (coded× point_code coded_ℕ))) (λ v. (v.map, v.counts)) (λ p. record { map = p.0; counts = p.1 }) (λ _. refl)
 
--- what is kept for q: the number of its precursors where it is positive, else nothing
+-- what is stored for q: the number of its precursors if it is positive, else nothing
 abbrev pub IsKeptAt : Dataflow → Change → Pointstamp → Option ℕ → Type 0
 IsKeptAt g m q None = pos 0 <ℤ at m q → ⊥
 IsKeptAt g m q (Some n) = (pos 0 <ℤ at m q) × IsCount (IsPrecursor g m q) m n
 
--- the kept counts are those of the graph g
+-- the precursor counts are those of the graph g
 pub record IsFor (g : Dataflow) (v : Kept) : Type 0 where
   pub listed : IsListed point_cmp v.counts
   pub each : (q : Pointstamp) → IsKeptAt g v.map q (find point_cmp q v.counts)
 
--- the points whose kept count is 0, with room for all that are kept
-pub record IsFrontierList (counts : List (Pointstamp × ℕ)) (first : List Pointstamp) (room : ℕ) : Type 0 where
-  pub all : (q : Pointstamp) → find point_cmp q counts ≡ Some 0 → Contains first q
-  pub only : (q : Pointstamp) → Contains first q → find point_cmp q counts ≡ Some 0
+-- the points whose precursor count is 0, with room for all that are stored
+pub record IsFrontierList (counts : List (Pointstamp × ℕ)) (frontier : List Pointstamp) (room : ℕ) : Type 0 where
+  pub all : (q : Pointstamp) → find point_cmp q counts ≡ Some 0 → Contains frontier q
+  pub only : (q : Pointstamp) → Contains frontier q → find point_cmp q counts ≡ Some 0
   pub enough : length counts ≤ room
 
--- something is kept for the positive points, and for no others
+-- something is stored for the positive points, and for no others
 pub record IsKeyed (m : Change) (counts : List (Pointstamp × ℕ)) : Type 0 where
   pub listed : IsListed point_cmp counts
   pub some : (q : Pointstamp) → pos 0 <ℤ at m q → find point_cmp q counts ≢ None

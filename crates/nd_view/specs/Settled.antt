@@ -1,4 +1,4 @@
--- Kept counts are settled by the map: two views of one graph are equal where their maps are.
+-- Precursor counts are settled by the map: two views of one graph are equal if their maps are.
 use Rattle.std.proofs.Common.{◌≡◌, ◌≢◌, ℕ, zero, suc, ℤ, pos, negsuc, Option, Some, None, refl, sym, ap, subst, ◌∙◌, ◌⊎◌, inl, inr}
 use Rattle.std.specs.FinMap.{find}
 use Rattle.std.specs.FinMap.Entries.{same_entries}
@@ -29,7 +29,7 @@ kept_unique g m q None (Some n) h k = absurd (h k.0)
 kept_unique g m q (Some n) None h k = absurd (k h.0)
 kept_unique g m q (Some n) (Some i) h k = ap Some (count_unique (IsPrecursor g m q) m n i h.1 k.1)
 
--- two views of one graph are equal where their maps are
+-- two views of one graph are equal if their maps are
 pub same_views : (g : Dataflow) (v w : Kept) → IsFor g v → IsFor g w → v.map ≡ w.map → v ≡ w
 same_views g v w a b e =
     let counts : v.counts ≡ w.counts = same_entries point_cmp point_total point_exact v.counts w.counts a.listed b.listed (λ q.

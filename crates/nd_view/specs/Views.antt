@@ -1,8 +1,8 @@
 -- Several views of one graph: what one who holds them needs of them.
---     maps, AreFor              their maps;  the kept counts of each are those of the graph
+--     maps, AreFor              their maps;  the precursor counts of each are those of the graph
 --     maps-get, maps-set        the map of one of them, and of one that another takes the place of
---     for_set                   the views stay those of the graph where one is written
---     same_all                  they are equal where their maps are
+--     for_set                   the views stay those of the graph if one is written
+--     same_all                  they are equal if their maps are
 use Rattle.std.proofs.Common.{◌≡◌, ◌<◌, ℕ, zero, suc, List, [], ◌∷◌, length, map, get_or, set, refl, ap, sym, ◌∙◌, arith}
 use Rattle.std.specs.Prelude.{All}
 use Rattle.std.proofs.lemmas.List.{get_or-map}
@@ -11,11 +11,11 @@ use Rattle.nd_delta.specs.Change.{Change}
 use Rattle.nd_view.specs.Kept.{Kept, IsFor}
 use Rattle.nd_view.specs.Settled.{same_views}
 
--- the maps of views, without what is kept beside them
+-- the maps of views, without what is stored beside them
 abbrev pub maps : List Kept → List Change
 maps vs = map (λ v. v.map) vs
 
--- the kept counts of every view are those of the graph
+-- the precursor counts of every view are those of the graph
 abbrev pub AreFor : Dataflow → List Kept → Type 0
 AreFor g vs = All (IsFor g) vs
 

@@ -1,4 +1,4 @@
-//! What is kept beside a map: made anew, and moved where a pointstamp came or went.
+//! What is stored beside a map: made anew, and moved when a pointstamp came or went.
 
 ghost use Rattle.std.specs.Prelude.{◌≡◌, ◌≤◌, ◌+◌, ◌<◌, ◌^◌, IsTrue, Some, length, vec_capacity};
 ghost use Rattle.std.specs.FinMap.{find};
@@ -42,64 +42,64 @@ fn moved_by_one(n: u64, up: bool) -> u64
     if up { n + 1 } else { n - 1 }
 }
 
-/// Moves the kept counts of the positive pointstamps after one that came or went. It takes no memory.
+/// Moves the precursor counts of the positive pointstamps after one that came or went. It takes no memory.
 pub fn shift<A: Allocator, B: Allocator>(
-    ranks: &mut SortedMap<Pointstamp, u64, A>,
+    precursor_counts: &mut SortedMap<Pointstamp, u64, A>,
     counts: &Delta<A>,
     paths: &Paths<B>,
     point: &Pointstamp,
     up: bool,
 )
-    requires listed { IsListed point_cmp ranks.old }
-    requires ready { (q : Pointstamp) → IsReady paths.now counts.now point.now up q (find point_cmp q ranks.old) }
-    ensures listed { IsListed point_cmp ranks.new }
-    ensures kept { (q : Pointstamp) → IsKeptAt paths.now counts.now q (find point_cmp q ranks.new) }
-    ensures size { length ranks.new ≡ length ranks.old }
+    requires listed { IsListed point_cmp precursor_counts.old }
+    requires ready { (q : Pointstamp) → IsReady paths.now counts.now point.now up q (find point_cmp q precursor_counts.old) }
+    ensures listed { IsListed point_cmp precursor_counts.new }
+    ensures kept { (q : Pointstamp) → IsKeptAt paths.now counts.now q (find point_cmp q precursor_counts.new) }
+    ensures size { length precursor_counts.new ≡ length precursor_counts.old }
 {
     // No count is greater than the number of entries, which is a `usize`.
     let _ = counts.len();
-    for i in 0..ranks.len() {
-        let entry = &ranks.entries()[i];
+    for i in 0..precursor_counts.len() {
+        let entry = &precursor_counts.entries()[i];
         if paths.strictly_before(point, &entry.0) {
             let n = moved_by_one(entry.1, up);
-            ranks.put_at(i, n);
+            precursor_counts.put_at(i, n);
         }
     }
 }
 
-/// Lists the pointstamps whose kept count is 0. It takes no memory.
-pub fn list_first<A: Allocator>(
-    first: &mut Vec<Pointstamp, A>,
-    ranks: &SortedMap<Pointstamp, u64, A>,
+/// Lists the pointstamps whose precursor count is 0. It takes no memory.
+pub fn list_frontier<A: Allocator>(
+    frontier: &mut Vec<Pointstamp, A>,
+    precursor_counts: &SortedMap<Pointstamp, u64, A>,
 )
-    requires { length ranks.now ≤ vec_capacity first.old }
-    ensures { IsFrontierList ranks.now first.new.items (vec_capacity first.new) }
+    requires { length precursor_counts.now ≤ vec_capacity frontier.old }
+    ensures { IsFrontierList precursor_counts.now frontier.new.items (vec_capacity frontier.new) }
 {
-    first.clear();
-    for entry in ranks.entries() {
+    frontier.clear();
+    for entry in precursor_counts.entries() {
         if entry.1 == 0 {
-            let Ok(()) = first.push(entry.0.copy()) else {
+            let Ok(()) = frontier.push(entry.0.copy()) else {
                 return;
             };
         }
     }
 }
 
-/// Gives a change's pointstamps the counts that they have in another one, and takes out what is kept
+/// Gives a change's pointstamps the counts that they have in another one, and takes out what is stored
 /// for those that are not positive then. It goes from the last to the first, so that what is taken
 /// out at the end of a list moves nothing, and takes no memory.
 pub fn set_from_last<A: Allocator>(
     counts: &mut Delta<A>,
-    ranks: &mut SortedMap<Pointstamp, u64, A>,
+    precursor_counts: &mut SortedMap<Pointstamp, u64, A>,
     delta: &Delta<A>,
     to: &Delta<A>,
 )
-    requires keyed { IsKeyed counts.old ranks.old }
+    requires keyed { IsKeyed counts.old precursor_counts.old }
     requires room { AllWithinRoom (points_of (listed delta.now)) counts.old to.now }
-    ensures keyed { IsKeyed counts.new ranks.new }
+    ensures keyed { IsKeyed counts.new precursor_counts.new }
     ensures alike { IsAlikeAt (points_of (listed delta.now)) to.now counts.new }
     ensures others { IsAlikeOff (points_of (listed delta.now)) counts.old counts.new }
-    ensures size { length ranks.new ≤ length ranks.old }
+    ensures size { length precursor_counts.new ≤ length precursor_counts.old }
 {
     let entries = delta.entries();
     for i in 0..entries.len() {
@@ -109,25 +109,26 @@ pub fn set_from_last<A: Allocator>(
             return;
         };
         if n <= 0 {
-            ranks.remove(&entry.0);
+            precursor_counts.remove(&entry.0);
         }
     }
 }
 
 /// Counts anew for each positive pointstamp those strictly before it. It takes no memory.
 pub fn recount<A: Allocator, B: Allocator>(
-    ranks: &mut SortedMap<Pointstamp, u64, A>,
+    precursor_counts: &mut SortedMap<Pointstamp, u64, A>,
     counts: &Delta<A>,
     paths: &Paths<B>,
 )
-    requires { IsKeyed counts.now ranks.old }
-    ensures listed { IsListed point_cmp ranks.new }
-    ensures kept { (q : Pointstamp) → IsKeptAt paths.now counts.now q (find point_cmp q ranks.new) }
-    ensures size { length ranks.new ≡ length ranks.old }
+    requires { IsKeyed counts.now precursor_counts.old }
+    ensures listed { IsListed point_cmp precursor_counts.new }
+    ensures kept { (q : Pointstamp) → IsKeptAt paths.now counts.now q (find point_cmp q precursor_counts.new) }
+    ensures size { length precursor_counts.new ≡ length precursor_counts.old }
 {
     for entry in counts.entries() {
         if entry.1 > 0 {
-            let Ok(()) = ranks.put(&entry.0, count_before(counts, paths, &entry.0)) else {
+            let Ok(()) = precursor_counts.put(&entry.0, count_before(counts, paths, &entry.0))
+            else {
                 return;
             };
         }

@@ -17,7 +17,7 @@ ghost use Rattle.nd_view.specs.Kept.{Kept, IsKeptAt, IsFor};
 ghost use Rattle.nd_view.specs.Room.{IsWithinRoom, IsAlikeAt, IsAlikeOff, AllWithinRoom};
 
 use entry_tests::{is_before, is_positive_before, takes_room};
-use keeping::{count_before, list_first, recount, set_from_last, shift};
+use keeping::{count_before, list_frontier, recount, set_from_last, shift};
 use nd_delta::{Delta, DeltaFault};
 use nd_map::SortedMap;
 use nd_paths::{Paths, Pointstamp};
@@ -28,8 +28,8 @@ use std::marker::Model;
 /// Beside it stands for each positive pointstamp the number of positive ones strictly before it.
 pub struct View<A: Allocator + Copy = Global> {
     counts: Delta<A>,
-    ranks: SortedMap<Pointstamp, u64, A>,
-    first: Vec<Pointstamp, A>,
+    precursor_counts: SortedMap<Pointstamp, u64, A>,
+    frontier: Vec<Pointstamp, A>,
     alloc: A,
 }
 
@@ -37,8 +37,8 @@ impl<A: Allocator + Copy> Drop for View<A> {
     fn drop(self) {
         let View {
             counts: _,
-            ranks: _,
-            first: _,
+            precursor_counts: _,
+            frontier: _,
             alloc: _,
         } = self;
     }
@@ -52,9 +52,9 @@ impl<A: Allocator + Copy> Model for View<A> {
 
     ghost coded = { kept_code };
 
-    ghost view = { λ a. record { map = a.counts; counts = a.ranks } };
+    ghost view = { λ a. record { map = a.counts; counts = a.precursor_counts } };
 
-    ghost invariant = { λ a. IsFrontierList a.ranks a.first.items (vec_capacity a.first) };
+    ghost invariant = { λ a. IsFrontierList a.precursor_counts a.frontier.items (vec_capacity a.frontier) };
 }
 
 impl<A: Allocator + Copy> View<A> {
@@ -65,13 +65,13 @@ impl<A: Allocator + Copy> View<A> {
     {
         View {
             counts: Delta::new(alloc),
-            ranks: SortedMap::new(alloc),
-            first: Vec::new(alloc),
+            precursor_counts: SortedMap::new(alloc),
+            frontier: Vec::new(alloc),
             alloc,
         }
     }
 
-    /// The count of a pointstamp, 0 where it has none.
+    /// The count of a pointstamp, 0 if it has none.
     pub fn get(&self, point: &Pointstamp) -> i64
         ensures value { result ≡ at self.now.map point.now }
         ensures within { unsigned_abs result ≤ max_count }
@@ -87,15 +87,15 @@ impl<A: Allocator + Copy> View<A> {
         self.counts.entries()
     }
 
-    /// The kept count of a positive pointstamp: the number of positive ones strictly before it, by the
+    /// The precursor count of a positive pointstamp: the number of positive ones strictly before it, by the
     /// paths of the earlier calls.
     pub fn kept(&self, point: &Pointstamp) -> Option<u64>
         ensures { (g : Dataflow) → IsFor g self.now → IsKeptAt g self.now.map point.now result }
     {
-        self.ranks.get(point)
+        self.precursor_counts.get(point)
     }
 
-    /// What is kept is settled by the map: two views of one order are equal where their maps are.
+    /// What is stored is settled by the map: two views of one order are equal if their maps are.
     pub fn is_settled(&self)
         ensures { (g : Dataflow) (v : Kept) → IsFor g v → IsFor g self.now → v.map ≡ self.now.map → v ≡ self.now }
     {
@@ -107,13 +107,13 @@ impl<A: Allocator + Copy> View<A> {
         ensures { IfOk result (λ v. v ≡ self.now) }
     {
         let counts = self.counts.copy(alloc)?;
-        let ranks = self.ranks.copy(alloc)?;
-        let mut first = Vec::with_capacity(alloc, ranks.len())?;
-        list_first(&mut first, &ranks);
+        let precursor_counts = self.precursor_counts.copy(alloc)?;
+        let mut frontier = Vec::with_capacity(alloc, precursor_counts.len())?;
+        list_frontier(&mut frontier, &precursor_counts);
         Ok(View {
             counts,
-            ranks,
-            first,
+            precursor_counts,
+            frontier,
             alloc,
         })
     }
@@ -152,17 +152,17 @@ impl<A: Allocator + Copy> View<A> {
         ensures paths { OnOk result (IsFor paths.now self.new) }
         ensures err { OnErr result (self.new ≡ self.old) }
     {
-        let kept = self.ranks.entries();
-        let missing = (kept.len() + 1).saturating_sub(self.first.len());
-        self.first.reserve(missing)?;
+        let kept = self.precursor_counts.entries();
+        let missing = (kept.len() + 1).saturating_sub(self.frontier.len());
+        self.frontier.reserve(missing)?;
         let count = count_before(&self.counts, paths, point);
-        self.ranks.put(point, count)?;
+        self.precursor_counts.put(point, count)?;
         let Ok(()) = self.counts.put(point, n) else {
-            self.ranks.remove(point);
+            self.precursor_counts.remove(point);
             return Err(AllocError);
         };
-        shift(&mut self.ranks, &self.counts, paths, point, true);
-        list_first(&mut self.first, &self.ranks);
+        shift(&mut self.precursor_counts, &self.counts, paths, point, true);
+        list_frontier(&mut self.frontier, &self.precursor_counts);
         Ok(())
     }
 
@@ -178,9 +178,15 @@ impl<A: Allocator + Copy> View<A> {
         let Ok(()) = self.counts.put(point, n) else {
             return;
         };
-        self.ranks.remove(point);
-        shift(&mut self.ranks, &self.counts, paths, point, false);
-        list_first(&mut self.first, &self.ranks);
+        self.precursor_counts.remove(point);
+        shift(
+            &mut self.precursor_counts,
+            &self.counts,
+            paths,
+            point,
+            false,
+        );
+        list_frontier(&mut self.frontier, &self.precursor_counts);
     }
 
     // Gives a pointstamp this count.
@@ -250,7 +256,7 @@ impl<A: Allocator + Copy> View<A> {
         }
     }
 
-    // The same where most of what is positive goes: what is kept for the rest is counted anew.
+    // The same if most of what is positive goes: what is stored for the rest is counted anew.
     fn set_anew<B: Allocator>(&mut self, paths: &Paths<B>, delta: &Delta<A>, to: &Delta<A>)
         requires paths { IsFor paths.now self.old }
         requires room { AllWithinRoom (points_of (listed delta.now)) self.old.map to.now }
@@ -258,9 +264,9 @@ impl<A: Allocator + Copy> View<A> {
         ensures alike { IsAlikeAt (points_of (listed delta.now)) to.now self.new.map }
         ensures others { IsAlikeOff (points_of (listed delta.now)) self.old.map self.new.map }
     {
-        set_from_last(&mut self.counts, &mut self.ranks, delta, to);
-        recount(&mut self.ranks, &self.counts, paths);
-        list_first(&mut self.first, &self.ranks);
+        set_from_last(&mut self.counts, &mut self.precursor_counts, delta, to);
+        recount(&mut self.precursor_counts, &self.counts, paths);
+        list_frontier(&mut self.frontier, &self.precursor_counts);
     }
 
     // Whether a change that leaves these counts takes away most of what is positive.
@@ -271,7 +277,7 @@ impl<A: Allocator + Copy> View<A> {
                 gone += 1;
             }
         }
-        gone > self.ranks.len() / 2
+        gone > self.precursor_counts.len() / 2
     }
 
     // Gives a change's pointstamps the counts that they are to have, in the way that costs less.
@@ -388,8 +394,8 @@ impl<A: Allocator + Copy> View<A> {
         ensures { IsTrue result ↔ ((x : Pointstamp) × IsPositiveBefore paths.now self.now.map strictly point.now x) }
     {
         paths.order_is_partial();
-        for first in &self.first {
-            if is_before(first, paths, point, strictly) {
+        for member in &self.frontier {
+            if is_before(member, paths, point, strictly) {
                 return true;
             }
         }
@@ -448,7 +454,7 @@ impl<A: Allocator + Copy> View<A> {
         self.least_before(paths, point, true)
     }
 
-    /// The number of positive pointstamps strictly before this one: the kept one where this one is positive.
+    /// The number of positive pointstamps strictly before this one: the stored one if this one is positive.
     pub fn precursors<B: Allocator>(&self, paths: &Paths<B>, point: &Pointstamp) -> u64
         requires { IsFor paths.now self.now }
         ensures { IsCount (IsPrecursor paths.now self.now.map point.now) self.now.map result }
@@ -460,7 +466,7 @@ impl<A: Allocator + Copy> View<A> {
     }
 
     /// The part of the view at its positive pointstamps that have nothing positive strictly before them.
-    /// Where there is none it takes no memory.
+    /// If there is none it takes no memory.
     pub fn frontier<B: Allocator>(
         &self,
         alloc: A,
@@ -470,6 +476,6 @@ impl<A: Allocator + Copy> View<A> {
         ensures value { IfOk result (IsPartWhere (IsOnFrontier _paths.now self.now.map) self.now.map) }
         ensures some { OnErr result ((x : Pointstamp) × IsOnFrontier _paths.now self.now.map x) }
     {
-        self.counts.part(alloc, &self.first)
+        self.counts.part(alloc, &self.frontier)
     }
 }

@@ -1,4 +1,4 @@
--- Breakpoints in slots, for the view of `Breaks` alone.
+-- Breakpoints in slots, for the Model of `Breaks` alone.
 use Rattle.std.specs.Prelude.{ℕ, suc, Option, Some, None, List, [], ◌∷◌}
 use Rattle.std.specs.FinMap as fin
 use Rattle.nd_watch.specs.Breaks.{BreakMap}

@@ -52,7 +52,7 @@ pub record IsSmall {A : Type 0} (bound : ℕ) (d : Draft A) : Type 0 where
   pub kept : AreSummed d.sums
   pub sums : (k : Place) → unsigned_abs (sum_at d.sums k) ≤ bound
 
--- where the first draft adds some edits, the second adds these, too
+-- if the first draft adds some edits, the second adds these, too
 pub record Follows {A : Type 0} (d : Draft A) (fs : List Edit) (f : Draft A) : Type 0 where
   pub p : f.sums.p ≡ d.sums.p
   pub adds : (s : ClusterState) (es : List Edit) → AddsUp s es d → AddsUp s (es ++ fs) f

@@ -92,7 +92,7 @@ impl<A: Allocator + Copy> Draft<A> {
         Ok(())
     }
 
-    // The changes of a vertex's request, items and count, where there are any.
+    // The changes of a vertex's request, items and count, if there are any.
     pub(crate) fn push_vertex(
         &mut self,
         p: u32,

@@ -98,7 +98,7 @@ fn feed_draft<A: Allocator + Copy, B: Allocator>(
     Ok(draft)
 }
 
-/// What a feed of processor p changes, where it passes all tests but those of the limits.
+/// What a feed of processor p changes, if it passes all tests but those of the limits.
 pub fn feed_changes<A: Allocator + Copy, B: Allocator>(
     alloc: A,
     graph: &Graph<B>,

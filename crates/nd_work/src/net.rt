@@ -43,7 +43,7 @@ fn find_in<K: Key, A: Allocator>(sums: &TreeMap<K, i64, A>, key: &K) -> i64
     }
 }
 
-// An integer more at a key. Where nothing is left the key goes.
+// An integer more at a key. If nothing is left the key goes.
 fn add_in<K: Key, A: Allocator + Copy>(
     sums: &mut TreeMap<K, i64, A>,
     key: &K,

@@ -18,7 +18,7 @@ use nd_record::Change;
 use nd_vertex::Effect;
 use std::alloc::{AllocError, Allocator};
 
-// The request at a pointstamp, where it is new; then it is to be sent.
+// The request at a pointstamp, if it is new; then it is to be sent.
 fn ask<A: Allocator + Copy>(
     draft: &mut Draft<A>,
     point: &Pointstamp,
@@ -95,7 +95,7 @@ fn notice_draft<A: Allocator + Copy, B: Allocator>(
     Ok(draft)
 }
 
-/// What a take on processor p changes, where it passes all tests but those of the limits.
+/// What a take on processor p changes, if it passes all tests but those of the limits.
 pub fn take_changes<A: Allocator + Copy, B: Allocator>(
     alloc: A,
     graph: &Graph<B>,
@@ -113,7 +113,7 @@ pub fn take_changes<A: Allocator + Copy, B: Allocator>(
     take_draft(alloc, graph, n, p, key, target, effect, asks)?.join()
 }
 
-/// What a notice on processor p changes, where it passes all tests but those of the limits.
+/// What a notice on processor p changes, if it passes all tests but those of the limits.
 pub fn notice_changes<A: Allocator + Copy, B: Allocator>(
     alloc: A,
     graph: &Graph<B>,

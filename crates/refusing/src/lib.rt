@@ -8,7 +8,7 @@ use std::sync::atomic::{AtomicU64, Ordering};
 ///
 /// A test lends it to what allocates as `&heap`, and prepares its values. Then it calls
 /// `refuse(n)`, makes the call that is under test, and asks `relent(n)` whether that call
-/// met the request that was to be refused: if it did, the call answered want of memory and
+/// met the request that was to be refused: if it did, the call answered out of memory and
 /// left its values as they were; if not, no call with a greater `n` meets it either.
 /// `live()` tells how many blocks were given and not taken back, so after a test none is. What the
 /// allocator counts is stated by no contract.
@@ -95,8 +95,8 @@ unsafe impl<B: Allocator> Allocator for Refusing<B> {
 /// More than the requests of any call.
 pub const MANY: u64 = 1000;
 
-/// Whether a call met the request that was refused. `None` for another answer than want of memory
-/// where it did and success where it did not, and where want of memory left its values changed.
+/// Whether a call met the request that was refused. `None` for another answer than out of memory
+/// if it did and success if it did not, and if a call that ran out of memory left its values changed.
 pub fn was_refused<E: PartialEq + Drop>(
     refused: bool,
     fault: Option<E>,
@@ -112,7 +112,7 @@ pub fn was_refused<E: PartialEq + Drop>(
 
 /// Makes a call while the request of a number is refused, and says whether it met that one.
 ///
-/// `None` where it answered, or left its values, otherwise than it should.
+/// `None` if it answered, or left its values, otherwise than it should.
 #[macro_export]
 macro_rules! met {
     ($heap:ident, $n:ident: $call:expr; $want:expr, $is_as_before:expr) => {{

@@ -114,13 +114,13 @@ ends-read n limit left input before old new text run g h = record {
     keeps None k = absurd k
     keeps (Some x) k = ap Some k
 
--- what was taken up to the limit, where more was read than that
+-- what was taken up to the limit, if more was read than that
 over-limit : (limit left k : ℕ) (taken chunk : List ℕ) → left + length taken ≡ limit → left < k → k ≤ length chunk → take limit (taken ++ take k chunk) ≡ taken ++ take left chunk
 over-limit limit left k taken chunk count over within =
     let at : limit ≡ length taken + left = omega arith in
     ap (λ m. take m (taken ++ take k chunk)) at ∙ (take-append-add taken (take k chunk) left ∙ ap (λ zs. taken ++ zs) (take-take left k chunk (omega arith)))
 
--- and where no more was
+-- and if no more was
 under-limit : (limit left k : ℕ) (taken chunk : List ℕ) → left + length taken ≡ limit → k ≤ left → k ≤ length chunk → take limit (taken ++ take k chunk) ≡ taken ++ take k chunk
 under-limit limit left k taken chunk count under within =
     take_all limit (taken ++ take k chunk) (omega (arith, length-append taken (take k chunk), length-take k chunk))
@@ -216,7 +216,7 @@ takes-run limit left old mid new n most fault.Read h given took within few = abs
 takes-run limit left old mid new n most fault.TooLong h given took within few = absurd h
 takes-run limit left old mid new n most fault.Close h given took within few = absurd h
 
--- no read failed where a line ended the run
+-- no read failed if a line ended the run
 pub not-read : (e : DebugFault) → IsOfRun e → is_read_fault {A = ℕ} (Err e) ≡ false
 not-read fault.Graph h = refl
 not-read fault.Memory h = refl

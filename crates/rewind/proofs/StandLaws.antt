@@ -151,7 +151,7 @@ take_clip zero xs ys = refl
 take_clip (suc n) [] ys = refl
 take_clip (suc n) (x ∷ xs) ys = ap (λ zs. x ∷ zs) (take_clip n xs ys)
 
--- what stopped a run stops it also where more would have come
+-- what stopped a run stops it also if more would have come
 pub stopped-later : (n : ℕ) (done more all sent : List ℕ) (run : declared.Run) (e : DebugFault) → done ++ more ≡ all → Stopped n (whole_lines_of done) sent run e
     → Stopped n (whole_lines_of all) sent run e
 stopped-later n done more all sent run e same h =

@@ -44,11 +44,11 @@ pub fn debug<R: Threads + Sync, S: Source, T: Sink>(
     ensures run { (input before : List ℕ) → S.remaining source.old ≡ Some input → T.contents sink.old ≡ Some before
         → Ends options.now.processors max_input input (S.remaining source.new) before (T.contents sink.new) result }
 
-    // Whether the source tells its bytes or not, so many are taken, and all are answered only where it ended.
+    // Whether the source tells its bytes or not, so many are taken, and all are answered only if it ended.
     ensures takes { Takes max_input result (S.given source.new - S.given source.old) }
     ensures ended { OnOk result (S.ended source.new ≡ true) }
 
-    // Read and Write are answered exactly where the source or the sink failed.
+    // Read and Write are answered exactly if the source or the sink failed.
     ensures read { S.failed source.new ≡ is_read_fault result }
     ensures write { T.failed sink.new ≡ is_write_fault result }
     ensures one_client { IfErr result (λ e. (e ≢ DebugFault.Script) × (e ≢ DebugFault.Close)) }

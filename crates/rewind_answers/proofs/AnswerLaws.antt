@@ -59,7 +59,7 @@ pub graph_of-draft : (d : Data) (draft : Draft) → ok_or (draft_of d) Shape ≡
 unfolding graph_of
 graph_of-draft d draft is = ap graph_of_draft (found (draft_of d) draft is)
 
--- a fault that is not want of memory is the one that is told
+-- a fault that is not out of memory is the one that is told
 pub told : (d : Data) (e : GraphFault) → IsUnlessMemory (graph_of d) (Err e) → e ≢ Memory → graph_of d ≡ Err e
 told d e (inl is) some = is
 told d e (inr is) some = absurd (some is)

@@ -112,13 +112,13 @@ PassedReply s q t reply =
     × (((IsPassed s.graph (view s q) t × IsFinished s t) × (reply ≡ passed))
     ⊎ ((x : Pointstamp) × IsLeast (IsBlocker s.graph (view s q) t) x × (reply ≡ not_passed (point_data s.graph x)))))
 
--- the reply to a search that has no answer; want of memory outside the workers' walks is none
+-- the reply to a search that has no answer; running out of memory outside the workers' walks is none
 abbrev pub search_fault : SearchFault Global → Option Data
 search_fault search.Memory = None
 search_fault (search.Missing piece claimed) = Some (piece_fault (number_of_search (search.Missing piece claimed)) (name_of_search (search.Missing piece claimed)) piece)
 search_fault e = Some (fault (number_of_search e) (name_of_search e))
 
--- A search is answered by the least position at which the breakpoint holds, or by null where it holds at none; or by the first of the faults
+-- A search is answered by the least position at which the breakpoint holds, or by null if it holds at none; or by the first of the faults
 -- whose condition holds; or by a piece that is missing, before which there is no such position.
 pub data SearchReply (m : TimelineValue Global) (when : Break) (lo hi workers : ℕ) (reply : Data) : Type 0 where
   searched : (least : Option ℕ) → MaySearch (length m.kept) lo hi workers → IsLeastHit (HoldsAt m when) lo hi least → reply ≡ found least
@@ -135,7 +135,7 @@ QueryReply m (Frontier q) reply = FrontierReply (cluster_of m) q reply
 QueryReply m (Passed q x) reply = PassedReply (cluster_of m) q x reply
 QueryReply m (Search when lo hi workers) reply = SearchReply m when lo hi workers reply
 
--- A command is answered by a move of the machine, shown with the names of the graph, and is logged; or, exactly where the log is full, by that; or for want of memory.
+-- A command is answered by a move of the machine, shown with the names of the graph, and is logged; or, exactly if the log is full, by that; or by out of memory.
 pub data CommandReply (m : Logged) (asked : Command Global) (reply : Data) (new : Logged) : Type 0 where
   moved : (answer : Reply) → m.entries ≢ max_log → Moves m.machine asked answer new.machine → new.entries ≡ m.entries + 1
       → reply ≡ reply_data (cluster_of new.machine.timeline).graph answer → CommandReply m asked reply new

@@ -9,7 +9,7 @@ use Rattle.rewind_answers.specs.Answers.{Logged, Phase, unstarted, running, refu
 use Rattle.rewind_answers.specs.declared.stage.Stage.{Stage}
 use Rattle.rewind_answers.specs.declared.stage.Stage.TheVariants.{Unstarted, Running}
 
--- the machine of a state, and the length of its log
+-- the machine of a `State`, and the length of its log
 abbrev pub logged : StateValue Global → Logged
 logged s = record { machine = s.machine; entries = length s.log }
 
@@ -17,7 +17,7 @@ abbrev pub phase_of : Stage → Phase
 phase_of (Unstarted processors) = unstarted processors
 phase_of (Running state) = running (logged state)
 
--- the phase after the graph's line, with a state or none
+-- the phase after the graph's line, with a `State` or none
 abbrev pub phase_of_start : Option (StateValue Global) → Phase
 phase_of_start None = refused
 phase_of_start (Some state) = running (logged state)

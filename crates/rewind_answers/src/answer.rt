@@ -63,7 +63,7 @@ fn start_on(
     }
 }
 
-/// Answers the graph's line, and starts a state where the graph is accepted.
+/// Answers the graph's line, and starts a `State` if the graph is accepted.
 pub fn answer_first(
     alloc: Global,
     processors: u8,

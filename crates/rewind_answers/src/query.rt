@@ -107,7 +107,7 @@ fn answer_passed(
     }
 }
 
-// Replies to a search that has no answer; want of memory outside the workers' walks is none.
+// Replies to a search that has no answer; running out of memory outside the workers' walks is none.
 fn refuse_search(alloc: Global, fault: &SearchFault) -> Result<Value, AllocError>
     ensures reply { IfOk result (λ v. Some (view v) ≡ search_fault fault.now) }
     ensures text { IfOk result (λ v. has_float (view v) ≡ false) }

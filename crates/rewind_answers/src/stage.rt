@@ -17,7 +17,7 @@ use serde_json::Value;
 use std::alloc::{AllocError, Global};
 use std::thread::Threads;
 
-/// How far a run has come: before its graph, of a number of processors, or with a state.
+/// How far a run has come: before its graph, of a number of processors, or with a `State`.
 #[derive(Drop)]
 pub enum Stage {
     Unstarted(u8),
@@ -86,9 +86,9 @@ fn answer_value<R: Threads + Sync>(
     }
 }
 
-/// Answers the line of this number; `Err` only for want of memory.
+/// Answers the line of this number; `Err` only if memory runs out.
 ///
-/// A blank line has no reply. A faulty line changes nothing, and ends the run where it is the
+/// A blank line has no reply. A faulty line changes nothing, and ends the run if it is the
 /// graph's; so does a graph that is refused. A reply has no float, so that it can be written.
 pub fn answer_line<R: Threads + Sync>(
     rt: &R,

@@ -1,6 +1,6 @@
 //! `rewind`: answers a script from standard input, line by line, on standard output.
 //!
-//! It ends with the status 0 where all was answered or help was asked for, 1 where the words were
+//! It ends with the status 0 if all was answered or help was asked for, 1 if the words were
 //! refused, and else with that of the fault, which standard error names.
 #![tactic(auto)]
 

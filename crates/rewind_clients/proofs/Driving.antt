@@ -29,7 +29,7 @@ found-map f xs i y h = from (slice_get xs i) (sym (slice_get-map f xs i) ∙ h) 
     from None e is = absurd (cc e)
     from (Some x) e is = (x, is, cc e)
 
--- a list has an element at each place below its length
+-- a list has an element at each position below its length
 pub at-place : {A : Type 0} (xs : List A) (i : ℕ) → i < length xs → (x : A) × (slice_get xs i ≡ Some x)
 at-place xs i h = from (slice_get_cases xs i).1
   where
@@ -95,7 +95,7 @@ opened-history m start state protocol = record { start = start; state = state; p
 
 -- ---- what the clients made
 
--- the client at a place, its task and its commands
+-- the client at a position, its task and its commands
 pub record Place (commands : Commands) (ts : List Task) (ds : List Done) (k : ℕ) (d : Done) : Type 0 where
   pub task : Task
   pub asked_for : List (Command Global)

@@ -23,7 +23,7 @@ pub record ReadPart (limit : ℕ) (input : List ℕ) (left : Option (List ℕ)) 
   pub told : left ≡ Some rest
   pub within : length taken ≤ limit + 1
 
--- what is written where the lines come to this: a graph's or a faulty line's reply alone, or all
+-- what is written if the lines come to this: a graph's or a faulty line's reply alone, or all
 abbrev pub Replies : Intake → List Data → Type 0
 Replies nothing replies = replies ≡ []
 Replies (refused_graph reply) replies = replies ≡ reply ∷ []

@@ -42,7 +42,7 @@ abbrev pub order_named : ℕ → Dataflow → Option Named → Result Order Orde
 order_named clients g None = Err (Line BadShape)
 order_named clients g (Some named) = among clients named.client (is_query named.rest) (asked_of g named.rest)
 
--- what a line's value asks for, against a graph, where there are so many clients
+-- what a line's value asks for, against a graph, if there are so many clients
 unfoldable pub order_of : ℕ → Dataflow → Data → Result Order OrderFault
 order_of clients g d = order_named clients g (named_of d)
 

@@ -51,7 +51,7 @@ faults_data k (Some e ∷ faults) = client_fault k (number_of e) (name_of e) ∷
 abbrev pub commands_of : ℕ → List (Receipt Global) → List (Command Global)
 commands_of client log = map (λ e. e.command) (filter (λ e. e.client == client) log)
 
--- of a client's commands the first are in the log, and all of them where it ended without a fault
+-- of a client's commands the first are in the log, and all of them if it ended without a fault
 abbrev pub IsServed : List (Command Global) → List (Command Global) → Ended → Type 0
 IsServed commands made None = made ≡ commands
 IsServed commands made (Some e) = (n : ℕ) × (n < length commands) × (made ≡ take n commands)

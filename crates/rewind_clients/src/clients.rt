@@ -37,7 +37,7 @@ fn answer_script<R: Threads + Wait + Sync, T: Sink, G: Gate>(
     ensures kind { IfErr result IsOfAnswering }
     ensures write { T.failed sink.new ≡ is_write_fault result }
 {
-    // This call's clauses say that the state began at a start.
+    // This call's clauses say that the `State` began at a start.
     let _ = script.state.timeline();
     tell_one(alloc, sink, &script.reply)?;
     let driven = drive_session(rt, alloc, script.state, script.commands, gate)?;
@@ -100,11 +100,11 @@ pub fn debug_clients<R: Threads + Wait + Sync, S: Source, T: Sink, G: Gate>(
     ensures run { (input before : List ℕ) → S.remaining source.old ≡ Some input → T.contents sink.old ≡ Some before
         → Ends options.now.processors options.now.clients max_input input (S.remaining source.new) before (T.contents sink.new) result }
 
-    // Whether the source tells its bytes or not, so many are taken, and all where it ended.
+    // Whether the source tells its bytes or not, so many are taken, and all if it ended.
     ensures takes { Takes max_input result (S.given source.new - S.given source.old) }
     ensures ended { OnOk result (S.ended source.new ≡ true) }
 
-    // Read and Write are answered exactly where the source or the sink failed.
+    // Read and Write are answered exactly if the source or the sink failed.
     ensures read { S.failed source.new ≡ is_read_fault result }
     ensures write { T.failed sink.new ≡ is_write_fault result }
 {

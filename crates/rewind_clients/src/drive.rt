@@ -108,7 +108,7 @@ fn enter_all<R: Wait>(
     Ok(tasks)
 }
 
-// Each client's commands, on a thread of its own where one can be made. All are joined.
+// Each client's commands, on a thread of its own if one can be made. All are joined.
 fn drive_all<R: Threads + Wait + Sync, G: Gate>(
     rt: &R,
     alloc: Global,
@@ -160,7 +160,7 @@ fn split(
     Ok((clients, faults))
 }
 
-/// Runs all clients' commands on a session of the state, and closes it. A log that began elsewhere is
+/// Runs all clients' commands on a session of the `State`, and closes it. A log that began elsewhere is
 /// one of a session that does not add up.
 pub fn drive_session<R: Threads + Wait + Sync, G: Gate>(
     rt: &R,

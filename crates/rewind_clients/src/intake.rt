@@ -26,7 +26,7 @@ use std::alloc::{AllocError, Global};
 pub struct Script {
     /// The graph's reply.
     pub reply: Shown,
-    /// The state that begins at the graph's start.
+    /// The `State` that begins at the graph's start.
     pub state: State,
     /// Each client's commands, in the order of its lines.
     pub commands: Vec<Vec<Command>>,
@@ -118,7 +118,7 @@ fn add_command(commands: &mut Vec<Vec<Command>>, order: Order) -> Result<(), All
 }
 
 impl Script {
-    // Takes in a line that is not blank; what it says where it is faulty.
+    // Takes in a line that is not blank; what it says if it is faulty.
     fn read_order(
         &mut self,
         alloc: Global,

@@ -131,7 +131,7 @@ fn order_of(
     }
 }
 
-/// What a line asks for that is not blank, among so many clients; the outer `Err` is want of memory.
+/// What a line asks for that is not blank, among so many clients; the outer `Err` is out of memory.
 pub fn order_in(
     alloc: Global,
     clients: usize,

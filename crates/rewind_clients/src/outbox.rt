@@ -63,7 +63,7 @@ impl Outbox {
         Ok(())
     }
 
-    /// Gathers one more reply, and writes all that wait where they are many.
+    /// Gathers one more reply, and writes all that wait if they are many.
     pub fn put<T: Sink>(&mut self, sink: &mut T, reply: &Value) -> Result<(), DebugFault>
         requires text { has_float (view reply.now) ≡ false }
         requires sound { T.failed sink.old ≡ false }

@@ -1,4 +1,4 @@
--- The place at which a search of a list ends is within the list.
+-- The position at which a search of a list ends is within the list.
 use Rattle.std.proofs.Common.{◌≡◌, ◌∙◌, ℕ, ◌+◌, ◌<◌, Bool, true, false, cond, nat_lt, List, length, map, Some, None, sym, ap, refl, length-append, subst}
 use Rattle.std.specs.Prelude.{IfSome, position}
 use Rattle.std.specs.List.{position_or_len}

@@ -27,7 +27,7 @@ set_of g d =
 unfoldable pub clear_of : Data → Result (Command Global) LineFault
 clear_of d = given BadShape (whole_at (codes "id") d) (λ id. Ok (ClearBreak id))
 
--- the command; nothing where the line has not the form of one
+-- the command; nothing if the line has not the form of one
 unfoldable pub command_of : Dataflow → Data → Result (Option (Command Global)) LineFault
 command_of g d =
     if is_form (codes "back") (codes "do" ∷ []) d then Ok (Some Back)

@@ -7,12 +7,12 @@ use Rattle.rewind_forms.specs.declared.fault.LineFault.{LineFault}
 
 -- ---- what is made of a reading
 
--- what is made of a value where it is there, and else the fault
+-- what is made of a value if it is there, and else the fault
 abbrev pub given : {A B : Type 0} → LineFault → Option A → (A → Result B LineFault) → Result B LineFault
 given fault None made = Err fault
 given fault (Some x) made = made x
 
--- what is made of a value where it was read, and else why it was not
+-- what is made of a value if it was read, and else why it was not
 abbrev pub after : {A B : Type 0} → Result A LineFault → (A → Result B LineFault) → Result B LineFault
 after (Err e) made = Err e
 after (Ok x) made = made x
@@ -22,20 +22,20 @@ abbrev pub among : {A : Type 0} → Result A LineFault → Result (Option A) Lin
 among (Err e) = Err e
 among (Ok x) = Ok (Some x)
 
--- what is made of a reading where it had its form, and else the other
+-- what is made of a reading if it had its form, and else the other
 abbrev pub or_else : {A B : Type 0} → (A → B) → Result (Option A) LineFault → Result B LineFault → Result B LineFault
 or_else made (Err e) other = Err e
 or_else made (Ok None) other = other
 or_else made (Ok (Some x)) other = Ok (made x)
 
--- what is read from a value where it is there, and else the other
+-- what is read from a value if it is there, and else the other
 abbrev pub within : {B : Type 0} → Option Data → (Data → Result B LineFault) → Result B LineFault → Result B LineFault
 within None read other = other
 within (Some d) read other = read d
 
 -- ---- values
 
--- what all items are, where each is something
+-- what all items are, if each is something
 abbrev pub each : {A B : Type 0} → (A → Option B) → List A → Option (List B)
 each f [] = Some []
 each f (x ∷ xs) = option_and_then (λ y. option_map (λ ys. y ∷ ys) (each f xs)) (f x)

@@ -1,4 +1,4 @@
--- The places of a graph, by their names, and times there.
+-- The locations of a graph, by their names, and times there.
 use Rattle.std.specs.Prelude.{ℕ, ◌&&◌, Bool, true, false, List, [], ◌∷◌, length, nat_eq, nat_lt, if◌then◌else◌, slice_get, Option, Some, None, is_some, position, option_map, option_and_then, codes, Result, Ok}
 use Rattle.std.specs.Option.{option_map_or}
 use Rattle.std.specs.Str.{bytes_eq}
@@ -14,15 +14,15 @@ use Rattle.rewind_forms.specs.declared.fault.LineFault.TheVariants.{BadShape, Un
 unfoldable pub location_named : Dataflow → List ℕ → Option ℕ
 location_named g name = position (bytes_eq name) (names g)
 
--- the location of this name, where it is a vertex
+-- the location of this name, if it is a vertex
 unfoldable pub vertex_named : Dataflow → List ℕ → Option ℕ
 vertex_named g name = option_and_then (λ l. if nat_lt l (length g.vertices) then Some l else None) (location_named g name)
 
--- the location of this name, where it is an edge
+-- the location of this name, if it is an edge
 unfoldable pub edge_named : Dataflow → List ℕ → Option ℕ
 edge_named g name = option_and_then (λ l. if nat_lt l (length g.vertices) then None else Some l) (location_named g name)
 
--- the time of an epoch and counters, where there are as many counters as loops around the location
+-- the time of an epoch and counters, if there are as many counters as loops around the location
 unfoldable pub time_of : Dataflow → ℕ → List ℕ → Option Time
 time_of g l [] = None
 time_of g l (epoch ∷ counters) =

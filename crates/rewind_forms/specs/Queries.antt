@@ -47,7 +47,7 @@ search_of g d =
     after (break_of g when) (λ condition.
     Ok (Search condition lo hi workers))))))
 
--- the query; nothing where the line has not the form of one
+-- the query; nothing if the line has not the form of one
 unfoldable pub query_of : Dataflow → Data → Result (Option Query) LineFault
 query_of g d =
     if is_form (codes "state") (codes "do" ∷ []) d then Ok (Some State)

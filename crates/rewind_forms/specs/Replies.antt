@@ -77,7 +77,7 @@ abbrev pub fault_at : ℕ → List ℕ → ℕ → Data
 fault_at code name at = object (member (codes "at") (number (unsigned at))
     (member (codes "code") (number (unsigned code)) (member (codes "error") (string name) no_members)))
 
--- a command that was refused, with the cursor for want of memory alone
+-- a command that was refused, with the cursor for out of memory alone
 abbrev pub refused : Dataflow → Fault → Data
 refused g (Step r) = step_refused g r
 refused g (Memory at) = fault_at (number_of_fault (Memory at)) (name_of_fault (Memory at)) at
@@ -96,7 +96,7 @@ abbrev pub faulty : ℕ → List ℕ → ℕ → Data
 faulty code name n = object (member (codes "code") (number (unsigned code))
     (member (codes "error") (string name) (member (codes "line") (number (unsigned n)) no_members)))
 
--- the reply to a line that is no command; want of memory is none
+-- the reply to a line that is no command; out of memory is none
 abbrev pub line_fault : LineFault → ℕ → Option Data
 line_fault line.Memory n = None
 line_fault e n = Some (faulty (number_of_line e) (name_of_line e) n)

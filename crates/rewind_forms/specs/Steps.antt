@@ -63,7 +63,7 @@ receive_of d =
     given BadShape (small_at (codes "to") d) (λ to.
     Ok (Receive from to)))
 
--- the step; nothing where the line has not the form of one
+-- the step; nothing if the line has not the form of one
 unfoldable pub step_of : Dataflow → Data → Result (Option (Step Global)) LineFault
 step_of g d =
     if is_form (codes "feed") (codes "do" ∷ codes "next" ∷ codes "p" ∷ codes "values" ∷ codes "vertex" ∷ []) d then among (feed_of g d)

@@ -23,7 +23,7 @@ pub enum Asked {
 
 /// What the value asks for, against the graph.
 ///
-/// `Memory` comes only where there was no memory for a list of the line.
+/// `Memory` comes only if there was no memory for a list of the line.
 #[tactic(auto, unfolding(crate::specs::Asked::asked_of))]
 pub fn asked_of(alloc: Global, graph: &Graph, value: &Value) -> Result<Asked, LineFault>
     ensures ok { IfOk result (λ c. asked_in graph.now (view value.now) ≡ Ok c) }

@@ -46,7 +46,7 @@ fn clear_of(value: &Value) -> Result<Command, LineFault>
     Ok(Command::ClearBreak(id))
 }
 
-/// The command other than a step that the value asks for, against the graph; `None` where it has
+/// The command other than a step that the value asks for, against the graph; `None` if it has
 /// not the form of one.
 #[tactic(auto, unfolding(crate::specs::Commands::command_of))]
 pub fn command_of(alloc: Global, graph: &Graph, value: &Value) -> Result<Option<Command>, LineFault>

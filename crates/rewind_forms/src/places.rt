@@ -1,4 +1,4 @@
-//! The places of a graph, by their names, and times there.
+//! The locations of a graph, by their names, and times there.
 ghost use Rattle.std.specs.Prelude.{◌≡◌, ◌<◌, IfSome};
 ghost use Rattle.nd_graph.specs.Graph.{location_count as count_of};
 ghost use Rattle.rewind_forms.specs.Places.{vertex_named as vertex_in, edge_named as edge_in, location_named as location_in, time_of as time_in, placed as placed_in};
@@ -45,7 +45,7 @@ pub fn edge_named(graph: &Graph, name: &str) -> Option<usize>
     }
 }
 
-/// The time of these numbers, an epoch and then counters, where it has the depth of the location.
+/// The time of these numbers, an epoch and then counters, if it has the depth of the location.
 #[tactic(auto, unfolding(crate::specs::Places::time_of))]
 pub fn time_of(graph: &Graph, location: usize, numbers: &[u32]) -> Option<Timestamp>
     requires { location < count_of graph.now }

@@ -1,4 +1,4 @@
-//! Pointstamps among JSON values: by their names and numbers first, and then by their places and times.
+//! Pointstamps among JSON values: by their names and numbers first, and then by their locations and times.
 ghost use Rattle.std.specs.Prelude.{◌≡◌, ◌≢◌, map, option_map, Ok, Err, IfOk, IfErr};
 ghost use Rattle.serde_json.specs.View.{view};
 ghost use Rattle.rewind_forms.specs.Forms.{each, named_time as named_time_in, point_of as point_in, point_at as point_at_in, listed_point as listed_in, points_at as points_in, named_at as named_at_in};
@@ -162,7 +162,7 @@ pub fn point_there(alloc: Global, graph: &Graph, value: &Value) -> Result<Points
     placed(graph, location, named.numbers.as_slice())
 }
 
-/// The pointstamps of names and numbers, where each is one of the graph.
+/// The pointstamps of names and numbers, if each is one of the graph.
 pub fn points_named(
     alloc: Global,
     graph: &Graph,

@@ -115,7 +115,7 @@ fn search_of(alloc: Global, graph: &Graph, value: &Value) -> Result<Query, LineF
     })
 }
 
-/// The query that the value is, against the graph; `None` where it has not the form of one.
+/// The query that the value is, against the graph; `None` if it has not the form of one.
 #[tactic(auto, unfolding(crate::specs::Queries::query_of))]
 pub fn query_of(alloc: Global, graph: &Graph, value: &Value) -> Result<Option<Query>, LineFault>
     ensures ok { IfOk result (λ c. query_in graph.now (view value.now) ≡ Ok c) }

@@ -168,7 +168,7 @@ fn faulty(alloc: Global, number: u64, name: &str, line: u64) -> Result<Value, Al
 
 /// The reply to the line of this number, counted from 1, which is no command.
 ///
-/// Want of memory is no reply: it is given back as the error.
+/// Out of memory is no reply: it is given back as the error.
 pub fn line_fault(alloc: Global, fault: LineFault, line: u64) -> Result<Value, AllocError>
     ensures reply { IfOk result (λ v. Some (view v) ≡ line_fault_data fault line) }
     ensures text { IfOk result (λ v. has_float (view v) ≡ false) }

@@ -118,7 +118,7 @@ fn receive_of(value: &Value) -> Result<Step, LineFault>
     Ok(Step::Receive { from, to })
 }
 
-/// The step that the value asks for, against the graph; `None` where it has not the form of one.
+/// The step that the value asks for, against the graph; `None` if it has not the form of one.
 #[tactic(auto, unfolding(crate::specs::Steps::step_of))]
 pub fn step_of(alloc: Global, graph: &Graph, value: &Value) -> Result<Option<Step>, LineFault>
     ensures ok { IfOk result (λ c. step_in graph.now (view value.now) ≡ Ok c) }

@@ -33,7 +33,7 @@ blank_more line b was e = rw (list_all-append is_blank_byte line (b ∷ []), e) 
     and_true true = refl
     and_true false = refl
 
--- what is kept, part by part
+-- what is held, part by part
 kept : (f g : Front) → f.bytes ≡ g.bytes → f.is_longer ≡ g.is_longer → f.is_blank ≡ g.is_blank → f ≡ g
 kept f g bytes longer is_blank =
     ap (λ (x : List ℕ). made x f.is_longer f.is_blank) bytes ∙ (ap (λ (x : Bool). made g.bytes x f.is_blank) longer ∙ ap (made g.bytes g.is_longer) is_blank)

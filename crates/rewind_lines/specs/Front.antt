@@ -1,4 +1,4 @@
--- What is kept of a line while it is read.
+-- What is held of a line while it is read.
 use Rattle.std.specs.Prelude.{ℕ, Bool, List, length, take, nat_lt}
 use Rattle.std.specs.List.{list_all}
 use Rattle.nd_time.specs.Limits.{max_line}
@@ -10,7 +10,7 @@ pub record Front : Type 0 where
   pub is_longer : Bool
   pub is_blank : Bool
 
--- what is kept of this line
+-- what is held of this line
 abbrev pub front_of : List ℕ → Front
 front_of line = record {
   bytes = take max_line line;

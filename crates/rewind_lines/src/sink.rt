@@ -13,7 +13,7 @@ pub struct Unwritten;
 
 /// A sink of bytes, which is written until it fails, and not again.
 ///
-/// Its `contents` are the bytes that it holds, where it tells them; it has `failed` once a write
+/// Its `contents` are the bytes that it holds, if it tells them; it has `failed` once a write
 /// answered an error, or took none of some bytes.
 pub trait Sink {
     ghost contents: { Self → Option (List ℕ) } = { λ _. None };

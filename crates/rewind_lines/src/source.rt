@@ -14,7 +14,7 @@ pub struct Unread;
 
 /// A source of bytes, which is read until it ends or fails, and not again.
 ///
-/// Its `remaining` are the bytes that it has left, where it tells them. It has `given` so many
+/// Its `remaining` are the bytes that it has left, if it tells them. It has `given` so many
 /// bytes, whether it tells them or not; it has `ended` once a read gave none, and `failed` once a
 /// read answered an error.
 pub trait Source {

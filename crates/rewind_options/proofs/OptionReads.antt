@@ -1,4 +1,4 @@
--- What a caller reads of an option after a parse, where the words give it. The first lemmas are clap's own, which it keeps private.
+-- What a caller reads of an option after a parse, if the words give it. The first lemmas are clap's own, which it keeps private.
 use Rattle.std.proofs.Common.{◌++◌, ◌||◌, ◌≡◌, ◌∙◌, ◌<◌, ◌≤◌, ap, ℕ, Bool, true, false, List, [], ◌∷◌, length, is_some, Option, Some, None, refl, sym, subst, inl, inr, arith, ◌^◌}
 use Rattle.std.specs.List.{All, slice_index_or}
 use Rattle.std.specs.Str.{bytes_eq}
@@ -97,7 +97,7 @@ read_of c f id Q how x e no_groups named reads read found first same_x key_id pa
         → x.reading ≡ how → (t : List ℕ) × (one_text f id ≡ Some (read_as how t)) × Q t
     finish hd is = (hd.0.now, one_text_at_entry f id x how (read_as how hd.0.now) found is hd.1, read hd.0 hd.2)
 
--- what the entry of an id gives, where it is an argument's with a first value
+-- what the entry of an id gives, if it is an argument's with a first value
 entry_read : (c : Command) (f : Found) (id : List ℕ) (Q : List ℕ → Type 0) (how : Reading) → ValuesPass c f → groups_of c ≡ [] → (id ≡ [] → ⊥)
     → is_some (first_value f id) ≡ true → ((r : Reading) → HasReading c id r → r ≡ how)
     → ((v : Bor (List ℕ)) → PassesArg c id v.now → Q v.now)

@@ -28,12 +28,12 @@ command_line = with_rule (with_rule (new_app (codes "rewind")) (number_rule (cod
 abbrev pub given : Text → List Text → Option Text
 given name words = one_of name (matches_of command_line words)
 
--- the number of that text, 1 where the option is absent
+-- the number of that text, 1 if the option is absent
 abbrev pub number_or_one : Option Text → ℕ
 number_or_one None = 1
 number_or_one (Some text) = digits_value 10 (without_leading_plus text)
 
--- the ways in which clap refuses the words; none where it takes them
+-- the ways in which clap refuses the words; none if it takes them
 abbrev pub refusals : List Text → Kinds
 refusals words = fault_of command_line words
 

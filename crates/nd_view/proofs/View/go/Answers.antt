@@ -17,14 +17,14 @@ shift-requires-clause-ready g c = λ q.
     let x = c.args.point.now in
     let m = c.self.inside.counts in
     subst (λ es. IsReady d c.put.new.self x false q (find point_cmp q es)) (sym c.remove.ensures.value)
-    (ready_down m c.put.new.self x c.args.n (rw (to_z-of_z w64 c.args.n c.ranges.n) at c.in-Ok.ensures.ok) d c.self.inside.ranks
+    (ready_down m c.put.new.self x c.args.n (rw (to_z-of_z w64 c.args.n c.ranges.n) at c.in-Ok.ensures.ok) d c.self.inside.precursor_counts
     (subst (λ v. pos 0 <ℤ at v x) (ap (λ v. v.map) (sym c.self.view_is)) c.requires.was) c.requires.is
-    (for_fields d c.args.self.now m c.self.inside.ranks c.self.view_is c.requires.paths).each q)
+    (for_fields d c.args.self.now m c.self.inside.precursor_counts c.self.view_is c.requires.paths).each q)
 
 pub returns-in_default-clause-ok : goal.returns-in_default-clause-ok
 returns-in_default-clause-ok g c = absurd (not_zero (at c.args.self.now.map c.args.point.now) c.requires.was (ap (λ v. at v.map c.args.point.now) (sym c.self.view_is) ∙ c.in_default.ensures.absent))
 
-pub list_first-requires : goal.list_first-requires
-list_first-requires g c =
-    let less = size_without c.self.inside.ranks c.remove.new.self c.args.point.now c.remove.ensures.was_listed c.remove.ensures.value in
+pub list_frontier-requires : goal.list_frontier-requires
+list_frontier-requires g c =
+    let less = size_without c.self.inside.precursor_counts c.remove.new.self c.args.point.now c.remove.ensures.was_listed c.remove.ensures.value in
     omega (arith, less, c.shift.ensures.size, c.self.invariant.enough)

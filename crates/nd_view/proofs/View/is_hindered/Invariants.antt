@@ -4,5 +4,5 @@ use Rattle.nd_view.specs.View.{IsBefore}
 use Rattle.nd_view.proofs.View.is_hindered.Given as goal
 
 -- none of the points so far is before
-abbrev pub invariant-loop-first : goal.invariant-loop-first
-invariant-loop-first g l = (k : ℕ) → k < l.first-index → (d : Pointstamp) → IsBefore l.paths l.strictly (get_or l.first-items k d) l.point → ⊥
+abbrev pub invariant-loop-member : goal.invariant-loop-member
+invariant-loop-member g l = (k : ℕ) → k < l.member-index → (d : Pointstamp) → IsBefore l.paths l.strictly (get_or l.member-items k d) l.point → ⊥

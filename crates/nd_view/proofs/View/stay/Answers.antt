@@ -6,5 +6,5 @@ use Rattle.nd_view.proofs.View.stay.Goals as goal
 pub returns-clause-paths : goal.returns-clause-paths
 returns-clause-paths g c =
     on_ok c.put.result _ _
-    (λ is. for_stay c.args._paths.now c.args.self.now c.self.inside.counts c.put.new.self c.self.inside.ranks c.args.point.now c.args.n c.self.view_is c.requires.paths is c.requires.sign)
+    (λ is. for_stay c.args._paths.now c.args.self.now c.self.inside.counts c.put.new.self c.self.inside.precursor_counts c.args.point.now c.args.n c.self.view_is c.requires.paths is c.requires.sign)
     (rw (to_z-of_z w64 c.args.n c.ranges.n) at c.put.ensures.ok)

@@ -8,13 +8,13 @@ use Rattle.nd_view.proofs.keeping.recount.Goals as goal
 use Rattle.nd_view.proofs.keeping.recount.Goals.{then-entry-gt0+in-Ok, else-entry-gt0}
 
 pub loop-entry-init : goal.loop-entry-init
-loop-entry-init g c = record { items = c.entries-entry-items.ensures.listed; size = refl; counted = counted_none c.args.paths.now c.args.counts.now c.args.ranks.now c.requires }
+loop-entry-init g c = record { items = c.entries-entry-items.ensures.listed; size = refl; counted = counted_none c.args.paths.now c.args.counts.now c.args.precursor_counts.now c.requires }
 
 pub loop-entry-preserved : goal.loop-entry-preserved
 loop-entry-preserved g c =
     let d = c.args.paths.now in
     let m = c.args.counts.now in
-    let es = c.loop-entry.ranks in
+    let es = c.loop-entry.precursor_counts in
     let x = c.entry-item.result in
     let i = c.loop-entry.entry-index in
     let lt : i < length (entries m) = rw c.loop-entry.invariant.items at c.loop-entry-test.true in
@@ -22,16 +22,16 @@ loop-entry-preserved g c =
     elim c.if-entry-gt0.branch [
       | then-entry-gt0+in-Ok w ↦
           let up : pos 0 <ℤ x.1 = omega (arith, ints, w.if-entry-gt0.true) in
-          let put_is = w.ranks-is ∙ w.in-Ok.ensures.ok in
+          let put_is = w.precursor_counts-is ∙ w.in-Ok.ensures.ok in
           record {
             items = c.loop-entry.invariant.items;
-            size = ap length w.ranks-is ∙ size_same m es w.put.new.self x.0 w.count_before.result c.loop-entry.invariant.counted.keyed (subst (λ z. pos 0 <ℤ z) (at-index m i x lt is) up) w.in-Ok.ensures.ok ∙ c.loop-entry.invariant.size;
-            counted = counted_take d m i x lt is es c.if-entry-gt0.ranks w.count_before.result put_is up w.count_before.ensures c.loop-entry.invariant.counted;
+            size = ap length w.precursor_counts-is ∙ size_same m es w.put.new.self x.0 w.count_before.result c.loop-entry.invariant.counted.keyed (subst (λ z. pos 0 <ℤ z) (at-index m i x lt is) up) w.in-Ok.ensures.ok ∙ c.loop-entry.invariant.size;
+            counted = counted_take d m i x lt is es c.if-entry-gt0.precursor_counts w.count_before.result put_is up w.count_before.ensures c.loop-entry.invariant.counted;
           }
       | else-entry-gt0 w ↦ record {
         items = c.loop-entry.invariant.items;
-        size = ap length w.ranks-is ∙ c.loop-entry.invariant.size;
-        counted = subst (IsCountedUpTo d m (i + 1)) (sym w.ranks-is) (counted_skip d m i x lt is es (λ up. absurd (omega (arith, ints, up, w.if-entry-gt0.false))) c.loop-entry.invariant.counted);
+        size = ap length w.precursor_counts-is ∙ c.loop-entry.invariant.size;
+        counted = subst (IsCountedUpTo d m (i + 1)) (sym w.precursor_counts-is) (counted_skip d m i x lt is es (λ up. absurd (omega (arith, ints, up, w.if-entry-gt0.false))) c.loop-entry.invariant.counted);
       }
     ]
 
@@ -46,4 +46,4 @@ returns-in_default-clause-kept g c =
     absurd (c.loop-entry.invariant.counted.keyed.some x.0 (subst (λ z. pos 0 <ℤ z) (at-index m i x lt is) up) c.in_default.ensures.absent)
 
 pub returns-clause-kept : goal.returns-clause-kept
-returns-clause-kept g c = counted_done c.args.paths.now c.args.counts.now c.loop-entry.entry-index c.loop-entry.ranks (rw c.loop-entry.invariant.items at c.loop-entry-test.false) c.loop-entry.invariant.counted
+returns-clause-kept g c = counted_done c.args.paths.now c.args.counts.now c.loop-entry.entry-index c.loop-entry.precursor_counts (rw c.loop-entry.invariant.items at c.loop-entry-test.false) c.loop-entry.invariant.counted

@@ -7,6 +7,6 @@ use Rattle.nd_view.proofs.keeping.recount.Given as goal
 abbrev pub invariant-loop-entry : goal.invariant-loop-entry
 invariant-loop-entry g l = record {
   items : l.entry-items ≡ entries l.counts;
-  size : length l.ranks ≡ length l.initial.ranks;
-  counted : IsCountedUpTo l.paths l.counts l.entry-index l.ranks;
+  size : length l.precursor_counts ≡ length l.initial.precursor_counts;
+  counted : IsCountedUpTo l.paths l.counts l.entry-index l.precursor_counts;
 }

@@ -52,16 +52,16 @@ loop-i-preserved g c =
     let value : c.get-n.result ≡ v = c.get-n.ensures.value in
     elim c.if-n-le0.branch [
       | then-n-le0 w ↦ record {
-        keyed = subst (IsKeyed c.put.new.self) (sym w.ranks-is) (keyed_out s c.put.new.self c.loop-i.ranks x.0 v set_is c.loop-i.invariant.keyed w.remove.new.self w.remove.ensures.value (λ up. absurd (omega (arith, ints, up, value, w.if-n-le0.true))));
+        keyed = subst (IsKeyed c.put.new.self) (sym w.precursor_counts-is) (keyed_out s c.put.new.self c.loop-i.precursor_counts x.0 v set_is c.loop-i.invariant.keyed w.remove.new.self w.remove.ensures.value (λ up. absurd (omega (arith, ints, up, value, w.if-n-le0.true))));
         alike = alike_last d i x lt is to s c.put.new.self c.loop-i.invariant.alike set_is;
         others = off_last d i x lt is v m s c.put.new.self c.loop-i.invariant.others set_is;
-        size = (let less = size_without c.loop-i.ranks w.remove.new.self x.0 w.remove.ensures.was_listed w.remove.ensures.value in let same = ap length w.ranks-is in omega (arith, less, same, c.loop-i.invariant.size));
+        size = (let less = size_without c.loop-i.precursor_counts w.remove.new.self x.0 w.remove.ensures.was_listed w.remove.ensures.value in let same = ap length w.precursor_counts-is in omega (arith, less, same, c.loop-i.invariant.size));
       }
       | else-n-le0 w ↦ record {
-        keyed = subst (IsKeyed c.put.new.self) (sym w.ranks-is) (keyed_stay s c.put.new.self c.loop-i.ranks x.0 v set_is c.loop-i.invariant.keyed (omega (arith, ints, value, w.if-n-le0.false)) within.positive);
+        keyed = subst (IsKeyed c.put.new.self) (sym w.precursor_counts-is) (keyed_stay s c.put.new.self c.loop-i.precursor_counts x.0 v set_is c.loop-i.invariant.keyed (omega (arith, ints, value, w.if-n-le0.false)) within.positive);
         alike = alike_last d i x lt is to s c.put.new.self c.loop-i.invariant.alike set_is;
         others = off_last d i x lt is v m s c.put.new.self c.loop-i.invariant.others set_is;
-        size = (let same = ap length w.ranks-is in omega (arith, same, c.loop-i.invariant.size));
+        size = (let same = ap length w.precursor_counts-is in omega (arith, same, c.loop-i.invariant.size));
       }
     ]
 

@@ -11,10 +11,10 @@ moved_by_one-n-requires-clause-room g c = λ up.
     let d = c.args.paths.now in
     let m = c.args.counts.now in
     let x = c.index-entries-i.result in
-    let end : length c.loop-i.ranks ≡ c.len-i-end.result = c.loop-i.invariant.size ∙ sym c.len-i-end.ensures in
-    let lt : c.loop-i.i < length c.loop-i.ranks = omega (arith, c.loop-i-test.true, end) in
-    let is : x ≡ get_or c.loop-i.ranks c.loop-i.i x = rw c.entries.ensures.value at c.index-entries-i.is in
-    let ready = movable d m c.args.point.now c.args.up (keys_of c.args.ranks.now) c.loop-i.i c.loop-i.ranks c.loop-i.invariant.shifted x lt is (c.if-strictly_before.ensures.0 refl) in
+    let end : length c.loop-i.precursor_counts ≡ c.len-i-end.result = c.loop-i.invariant.size ∙ sym c.len-i-end.ensures in
+    let lt : c.loop-i.i < length c.loop-i.precursor_counts = omega (arith, c.loop-i-test.true, end) in
+    let is : x ≡ get_or c.loop-i.precursor_counts c.loop-i.i x = rw c.entries.ensures.value at c.index-entries-i.is in
+    let ready = movable d m c.args.point.now c.args.up (keys_of c.args.precursor_counts.now) c.loop-i.i c.loop-i.precursor_counts c.loop-i.invariant.shifted x lt is (c.if-strictly_before.ensures.0 refl) in
     let fit = room d m c.args.point.now c.args.up x.0 x.1 ready up in
     omega (arith, fit, c.len.ensures, c.len.type_inv)
 
@@ -23,10 +23,10 @@ moved_by_one-n-requires-clause-some g c =
     let d = c.args.paths.now in
     let m = c.args.counts.now in
     let x = c.index-entries-i.result in
-    let end : length c.loop-i.ranks ≡ c.len-i-end.result = c.loop-i.invariant.size ∙ sym c.len-i-end.ensures in
-    let lt : c.loop-i.i < length c.loop-i.ranks = omega (arith, c.loop-i-test.true, end) in
-    let is : x ≡ get_or c.loop-i.ranks c.loop-i.i x = rw c.entries.ensures.value at c.index-entries-i.is in
-    let ready = movable d m c.args.point.now c.args.up (keys_of c.args.ranks.now) c.loop-i.i c.loop-i.ranks c.loop-i.invariant.shifted x lt is (c.if-strictly_before.ensures.0 refl) in
+    let end : length c.loop-i.precursor_counts ≡ c.len-i-end.result = c.loop-i.invariant.size ∙ sym c.len-i-end.ensures in
+    let lt : c.loop-i.i < length c.loop-i.precursor_counts = omega (arith, c.loop-i-test.true, end) in
+    let is : x ≡ get_or c.loop-i.precursor_counts c.loop-i.i x = rw c.entries.ensures.value at c.index-entries-i.is in
+    let ready = movable d m c.args.point.now c.args.up (keys_of c.args.precursor_counts.now) c.loop-i.i c.loop-i.precursor_counts c.loop-i.invariant.shifted x lt is (c.if-strictly_before.ensures.0 refl) in
     some d m c.args.point.now c.args.up x.0 x.1 ready
 
 pub loop-i-preserved : goal.loop-i-preserved
@@ -34,9 +34,9 @@ loop-i-preserved g c =
     let d = c.args.paths.now in
     let m = c.args.counts.now in
     let p = c.args.point.now in
-    let ks = keys_of c.args.ranks.now in
+    let ks = keys_of c.args.precursor_counts.now in
     let i = c.loop-i.i in
-    let es = c.loop-i.ranks in
+    let es = c.loop-i.precursor_counts in
     let x = c.index-entries-i.result in
     let end : length es ≡ c.len-i-end.result = c.loop-i.invariant.size ∙ sym c.len-i-end.ensures in
     let lt : i < length es = omega (arith, c.loop-i-test.true, end) in
@@ -44,20 +44,20 @@ loop-i-preserved g c =
     let shifted = c.loop-i.invariant.shifted in
     elim c.if-strictly_before.branch [
       | then-strictly_before w ↦ record {
-        size = ap length w.ranks-is ∙ many_keys w.put_at.new.self (keys_of es) w.put_at.ensures.keys ∙ sym (many_keys es (keys_of es) refl) ∙ c.loop-i.invariant.size;
-        shifted = subst (IsShifted d m p c.args.up ks (i + 1)) (sym w.ranks-is)
+        size = ap length w.precursor_counts-is ∙ many_keys w.put_at.new.self (keys_of es) w.put_at.ensures.keys ∙ sym (many_keys es (keys_of es) refl) ∙ c.loop-i.invariant.size;
+        shifted = subst (IsShifted d m p c.args.up ks (i + 1)) (sym w.precursor_counts-is)
             (shifted_take d m p c.args.up ks i es shifted x lt is w.put_at.new.self
             (λ e. w.put_at.ensures.value e ∙ ap (λ n. put point_cmp (get_or es i e).0 n es) w.moved_by_one-n.ensures)
             w.put_at.ensures.keys w.put_at.ensures.listed (movable d m p c.args.up ks i es shifted x lt is (w.if-strictly_before.ensures.0 refl)));
       }
       | else-strictly_before w ↦ record {
-        size = ap length w.ranks-is ∙ c.loop-i.invariant.size;
-        shifted = subst (IsShifted d m p c.args.up ks (i + 1)) (sym w.ranks-is)
+        size = ap length w.precursor_counts-is ∙ c.loop-i.invariant.size;
+        shifted = subst (IsShifted d m p c.args.up ks (i + 1)) (sym w.precursor_counts-is)
             (shifted_skip d m p c.args.up ks i es shifted x lt is (λ before. true≢false (sym (w.if-strictly_before.ensures.1 before))));
       }
     ]
 
 pub returns-clause-kept : goal.returns-clause-kept
 returns-clause-kept g c =
-    let end : length c.loop-i.ranks ≡ c.len-i-end.result = c.loop-i.invariant.size ∙ sym c.len-i-end.ensures in
-    shifted_done c.args.paths.now c.args.counts.now c.args.point.now c.args.up (keys_of c.args.ranks.now) c.loop-i.i c.loop-i.ranks (omega (arith, end, c.loop-i-test.false)) c.loop-i.invariant.shifted
+    let end : length c.loop-i.precursor_counts ≡ c.len-i-end.result = c.loop-i.invariant.size ∙ sym c.len-i-end.ensures in
+    shifted_done c.args.paths.now c.args.counts.now c.args.point.now c.args.up (keys_of c.args.precursor_counts.now) c.loop-i.i c.loop-i.precursor_counts (omega (arith, end, c.loop-i-test.false)) c.loop-i.invariant.shifted

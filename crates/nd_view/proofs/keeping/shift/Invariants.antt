@@ -6,6 +6,6 @@ use Rattle.nd_view.proofs.keeping.shift.Given as goal
 -- the entries so far have their counts
 abbrev pub invariant-loop-i : goal.invariant-loop-i
 invariant-loop-i g l = record {
-  size : length l.ranks ≡ length l.initial.ranks;
-  shifted : IsShifted l.paths l.counts l.point l.up (keys_of l.initial.ranks) l.i l.ranks;
+  size : length l.precursor_counts ≡ length l.initial.precursor_counts;
+  shifted : IsShifted l.paths l.counts l.point l.up (keys_of l.initial.precursor_counts) l.i l.precursor_counts;
 }

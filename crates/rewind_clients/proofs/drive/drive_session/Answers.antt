@@ -17,8 +17,8 @@ returns-then-same_graph-clause-told g c =
     let counts : length c.base-left.result.now.processors ≡ length c.base-begun.result.now.processors = omega (arith, c.if-n-count.true, c.n.ensures.value, c.n-count.ensures.value) in
     let begins : c.in-Ok.log.timeline.base ≡ c.args.state.machine.timeline.base
     = same_start c.in-Ok.log.timeline.base c.args.state.machine.timeline.base c.in-Ok.ensures.settled.start c.timeline.ensures.start
-        (ap (λ (s : ClusterState). s.graph) (sym left) ∙ graphs ∙ ap (λ (s : ClusterState). s.graph) was)
-        (ap (λ (s : ClusterState). length s.processors) (sym left) ∙ counts ∙ ap (λ (s : ClusterState). length s.processors) was) in
+    (ap (λ (s : ClusterState). s.graph) (sym left) ∙ graphs ∙ ap (λ (s : ClusterState). s.graph) was)
+    (ap (λ (s : ClusterState). length s.processors) (sym left) ∙ counts ∙ ap (λ (s : ClusterState). length s.processors) was) in
     driven (lists_of c.args.commands.items) c.in_ok-tasks.tasks.items c.in_ok-done.done.items c.in_ok-clients.clients.items c.in_ok-clients.faults.items c.in-Ok.log.entries.items (machine_of c.in-Ok.log) c.in-Ok.log.entered
     c.in_ok-tasks.ensures.fresh c.in_ok-done.ensures.done (sym clients ∙ (c.in_ok-done.ensures.len ∙ tasks)) c.in_ok-clients.ensures.clients c.in_ok-clients.ensures.faults c.in_ok-clients.ensures.ended c.in-Ok.ensures.whole c.in-Ok.ensures.settled
     c.args.state.machine begins

@@ -1,4 +1,4 @@
--- The list of the points whose kept count is 0, made entry by entry.
+-- The list of the points whose precursor count is 0, made entry by entry.
 use Rattle.std.proofs.Common.{◌≡◌, ◌≢◌, ◌<◌, ◌≤◌, ◌+◌, ℕ, zero, suc, List, [], ◌∷◌, ◌++◌, length, get_or, Some, sym, ap, subst, ◌∙◌, inl, inr, arith, below_more}
 use Rattle.std.specs.Prelude.{Contains}
 use Rattle.std.specs.FinMap.{find}
@@ -12,12 +12,12 @@ use Rattle.nd_view.specs.Kept.{IsFrontierList}
 
 module _ (es : List (Pointstamp × ℕ)) where
   -- the list has no other points, and those of the first entries
-  pub record IsListedUpTo (i : ℕ) (first : List Pointstamp) : Type 0 where
-    pub only : (q : Pointstamp) → Contains first q → find point_cmp q es ≡ Some 0
-    pub all : (k : ℕ) → k < i → (d : Pointstamp × ℕ) → (get_or es k d).1 ≡ 0 → Contains first (get_or es k d).0
+  pub record IsListedUpTo (i : ℕ) (frontier : List Pointstamp) : Type 0 where
+    pub only : (q : Pointstamp) → Contains frontier q → find point_cmp q es ≡ Some 0
+    pub all : (k : ℕ) → k < i → (d : Pointstamp × ℕ) → (get_or es k d).1 ≡ 0 → Contains frontier (get_or es k d).0
 
-  pub listed_none : (first : List Pointstamp) → first ≡ [] → IsListedUpTo 0 first
-  listed_none first e = record {
+  pub listed_none : (frontier : List Pointstamp) → frontier ≡ [] → IsListedUpTo 0 frontier
+  listed_none frontier e = record {
     only = λ q among. absurd (omega (arith, among.1, ap length e));
     all = λ k lt. absurd (omega (arith, lt));
   }
@@ -27,29 +27,29 @@ module _ (es : List (Pointstamp × ℕ)) where
   one x q (suc k, lt, e) = absurd (omega (arith, lt))
 
   module _ (listed : IsListed point_cmp es) (i : ℕ) (x : Pointstamp × ℕ) (lt : i < length es) (is : x ≡ get_or es i x) where
-    pub listed_take : (first more : List Pointstamp) → more ≡ first ++ x.0 ∷ [] → x.1 ≡ 0 → IsListedUpTo i first → IsListedUpTo (i + 1) more
-    listed_take first more more_is none h = record {
-      only = λ q among. elim (Contains-append_cases first (x.0 ∷ []) q (subst (λ l. Contains l q) more_is among)) [
+    pub listed_take : (frontier more : List Pointstamp) → more ≡ frontier ++ x.0 ∷ [] → x.1 ≡ 0 → IsListedUpTo i frontier → IsListedUpTo (i + 1) more
+    listed_take frontier more more_is none h = record {
+      only = λ q among. elim (Contains-append_cases frontier (x.0 ∷ []) q (subst (λ l. Contains l q) more_is among)) [
         | inl before ↦ h.only q before
         | inr here ↦ ap (λ y. find point_cmp y es) (sym (one x.0 q here)) ∙ ap (λ y. find point_cmp y.0 es) is ∙ find-index point_cmp point_total es i x listed lt ∙ ap (λ y. Some y.1) (sym is) ∙ ap Some none
       ];
       all = below_more _ _
-          (λ k less d e. subst (λ l. Contains l (get_or es k d).0) (sym more_is) (Contains-append_left first (x.0 ∷ []) (get_or es k d).0 (h.all k less d e)))
-          (λ d e. subst (λ l. Contains l (get_or es i d).0) (sym more_is) (Contains-append_right first (x.0 ∷ []) (get_or es i d).0 (0, omega arith, ap (λ y. y.0) (is ∙ get_or_default es i x d lt))));
+          (λ k less d e. subst (λ l. Contains l (get_or es k d).0) (sym more_is) (Contains-append_left frontier (x.0 ∷ []) (get_or es k d).0 (h.all k less d e)))
+          (λ d e. subst (λ l. Contains l (get_or es i d).0) (sym more_is) (Contains-append_right frontier (x.0 ∷ []) (get_or es i d).0 (0, omega arith, ap (λ y. y.0) (is ∙ get_or_default es i x d lt))));
     }
 
-    pub listed_skip : (first : List Pointstamp) → x.1 ≢ 0 → IsListedUpTo i first → IsListedUpTo (i + 1) first
-    listed_skip first some h = record {
+    pub listed_skip : (frontier : List Pointstamp) → x.1 ≢ 0 → IsListedUpTo i frontier → IsListedUpTo (i + 1) frontier
+    listed_skip frontier some h = record {
       only = h.only;
       all = below_more _ _ h.all (λ d e. absurd (some (ap (λ y. y.1) (is ∙ get_or_default es i x d lt) ∙ e)));
     }
 
   -- after the last entry
-  pub listed_done : (i room : ℕ) (first : List Pointstamp) → length es ≤ i → length es ≤ room → IsListedUpTo i first → IsFrontierList es first room
-  listed_done i room first past enough h = record {
+  pub listed_done : (i room : ℕ) (frontier : List Pointstamp) → length es ≤ i → length es ≤ room → IsListedUpTo i frontier → IsFrontierList es frontier room
+  listed_done i room frontier past enough h = record {
     all = λ q e.
         let found = found_at point_cmp point_exact es q 0 e in
-        subst (Contains first) (ap (λ y. y.0) found.is) (h.all found.index (omega (arith, found.in_range, past)) (q, 0) (ap (λ y. y.1) found.is));
+        subst (Contains frontier) (ap (λ y. y.0) found.is) (h.all found.index (omega (arith, found.in_range, past)) (q, 0) (ap (λ y. y.1) found.is));
     only = h.only;
     enough = enough;
   }
