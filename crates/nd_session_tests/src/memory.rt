@@ -4,7 +4,7 @@ use crate::opened::{Asked, NOTHING, command_of, opened, session_of};
 use nd_cluster::Next;
 use nd_drawn::{LINE, graph_of};
 use nd_search::Snapshot;
-use nd_session::{Client, Receipt, Session, SessionFault};
+use nd_session::{Client, Receipt, Session, SessionFault, State};
 use nd_timeline::{Fault, Reply, Stop};
 use nd_told::{Told, is_state, state_text};
 use refusing::{MANY, Refusing, in_turn, met};
@@ -67,21 +67,33 @@ static ROWS: [Row; 9] = [
     (&[], Asked::Back, Wanted::AtStart),
 ];
 
-/// Gives commands, each of which is answered.
+/// Gives a command, which is answered.
 fn give<A: Allocator + Copy, R: Wait>(
     rt: &R,
     json: Global,
     alloc: A,
     session: &Session<A>,
     client: &mut Client<A>,
-    list: &[Asked],
+    asked: &Asked,
 ) -> Option<()> {
-    let graph = graph_of(json, alloc, LINE)?;
-    for asked in list {
-        let command = command_of(alloc, &graph, asked)?;
-        session.command(rt, alloc, client, command).ok()?;
-    }
+    let command = command_of(alloc, &graph_of(json, alloc, LINE)?, asked)?;
+    session.command(rt, alloc, client, command).ok()?;
     Some(())
+}
+
+/// A session of the line, and a client of it that has given these commands.
+fn driven<A: Allocator + Copy, R: Wait>(
+    rt: &R,
+    json: Global,
+    alloc: A,
+    list: &[Asked],
+) -> Option<(Session<A>, Client<A>)> {
+    let session = session_of(json, alloc, LINE, 1)?;
+    let mut client = session.enter(rt, alloc).ok()?;
+    for asked in list {
+        give(rt, json, alloc, &session, &mut client, asked)?;
+    }
+    Some((session, client))
 }
 
 /// Whether two snapshots are of one machine after one log.
@@ -127,9 +139,7 @@ fn commanded<A: Allocator + Copy, R: Wait>(
     n: u64,
 ) -> Option<bool> {
     let (list, asked, wanted) = row;
-    let session = session_of(json, alloc, LINE, 1)?;
-    let mut client = session.enter(rt, alloc).ok()?;
-    give(rt, json, alloc, &session, &mut client, list)?;
+    let (session, mut client) = driven(rt, json, alloc, list)?;
     let before = session.copy(rt, alloc, &client).ok()?;
     let command = command_of(alloc, &graph_of(json, alloc, LINE)?, asked)?;
     heap.refuse(n);
@@ -209,9 +219,7 @@ fn copied<A: Allocator + Copy, R: Wait>(
     alloc: A,
     n: u64,
 ) -> Option<bool> {
-    let session = session_of(json, alloc, LINE, 1)?;
-    let mut client = session.enter(rt, alloc).ok()?;
-    give(rt, json, alloc, &session, &mut client, &[FEED])?;
+    let (session, client) = driven(rt, json, alloc, &[FEED])?;
     let before = session.copy(rt, alloc, &client).ok()?;
     heap.refuse(n);
     let answer = session.copy(rt, alloc, &client);
@@ -237,12 +245,8 @@ fn refused<A: Allocator + Copy, R: Wait>(
     alloc: A,
     n: u64,
 ) -> Option<bool> {
-    let other = session_of(json, alloc, LINE, 1)?;
-    let mut stranger = other.enter(rt, alloc).ok()?;
-    give(rt, json, alloc, &other, &mut stranger, &[Asked::Back])?;
-    let session = session_of(json, alloc, LINE, 1)?;
-    let mut client = session.enter(rt, alloc).ok()?;
-    give(rt, json, alloc, &session, &mut client, &[FEED])?;
+    let (_, stranger) = driven(rt, json, alloc, &[Asked::Back])?;
+    let (session, _) = driven(rt, json, alloc, &[FEED])?;
     heap.refuse(n);
     let fault = session.copy(rt, alloc, &stranger).err();
     let met = heap.relent(n);
@@ -287,6 +291,18 @@ fn calls_out_of_memory(rt: HostRuntime) {
     assert_eq!(rt; heap.live(), 0);
 }
 
+/// Gives a `State` a command, which is answered.
+fn tell<A: Allocator + Copy>(
+    json: Global,
+    alloc: A,
+    state: &mut State<A>,
+    asked: &Asked,
+) -> Option<()> {
+    let command = command_of(alloc, &graph_of(json, alloc, LINE)?, asked)?;
+    state.apply(alloc, 0, command).ok()?;
+    Some(())
+}
+
 /// A `State`'s command with one request refused: whether it met it. Then nothing is logged, or the answer is.
 fn applied<A: Allocator + Copy>(
     heap: &Heap,
@@ -296,15 +312,12 @@ fn applied<A: Allocator + Copy>(
     n: u64,
 ) -> Option<bool> {
     let (list, asked, wanted) = row;
-    let graph = graph_of(json, alloc, LINE)?;
     let mut state = opened(json, alloc, LINE, 1)?;
     for before in *list {
-        state
-            .apply(alloc, 0, command_of(alloc, &graph, before)?)
-            .ok()?;
+        tell(json, alloc, &mut state, before)?;
     }
     let before = state.snapshot(alloc).ok()?;
-    let command = command_of(alloc, &graph, asked)?;
+    let command = command_of(alloc, &graph_of(json, alloc, LINE)?, asked)?;
     heap.refuse(n);
     let answer = state.apply(alloc, 0, command);
     let met = heap.relent(n);
