@@ -10,6 +10,7 @@ import collections
 import os
 import re
 import tempfile
+import threading
 
 FUNCTION = re.compile(r"\s*(?:pub(?:\([^)]*\))?\s+)?(?:const\s+)?(?:unsafe\s+)?fn\s+(\w+)")
 # a proof file that names what an edit took away, and what cites a proof that another edit broke
@@ -147,8 +148,8 @@ def refused_together(rt, crate, edits, texts, flags, kept):
     return {it: why[0] for it, why in said.items() if all(why)}, []
 
 
-def must_fail_all(rt, in_turn, crate, edits, flags):
-    """For each edit whether the prover refuses it, and what to say, as the toolchain's trial, which is handed in."""
+def must_fail_all(rt, crate, edits, flags):
+    """For each edit what a try of the crate with it comes to, and what to say, as the toolchain's own trial of one edit."""
     left, refused = [it for it in edits if not rt.read_edit(it, crate.folder)[1]], {}
     with tempfile.TemporaryDirectory(prefix="rt-together-") as kept:
         while left:
@@ -158,8 +159,36 @@ def must_fail_all(rt, in_turn, crate, edits, flags):
                 break
             refused.update(said)
             left = [it for it in left if it not in said and it not in barred]
-    alone = [it for it in edits if it not in refused]
-    given = dict(zip(alone, in_turn(crate, alone, flags)))
-    for edit, why in refused.items():
-        given[edit] = True, f"must-fail {crate.name}/{os.path.basename(edit)}: refused, as it must be: {why[:160]}"
-    return [given[it] for it in edits]
+    label = f"must-fail {crate.name}/"
+    given = {it: (rt.REFUSED, f"{label}{os.path.basename(it)}: refused, as it must be: {why[:160]}") for it, why in refused.items()}
+    return [given[it] if it in given else rt.must_fail(crate, it, flags) for it in edits]
+
+
+def add_edits(rt, tasks, crate, edits, first, waits, is_well, kept, start=None, in_ci=True):
+    """Adds the task that tries a crate's edits, and returns what gives their results, in the edits' order, and what gives those of
+    earlier runs, by the edits' numbers; in place of the toolchain's function of this name, which adds a task for each edit."""
+    key, alone, begun = (crate.name, "edits"), threading.Lock(), {}
+
+    def known():
+        with alone:
+            if not begun:
+                sum = kept.key(crate) if in_ci else rt.stamp_of(crate, {})
+                begun["names"] = [kept.of_edit(it, sum) for it in edits]
+                told = {number: kept.tried(name) for number, name in enumerate(begun["names"])}
+                begun["known"] = {number: it for number, it in told.items() if it}
+        return begun["known"]
+
+    def work(given, jobs):
+        if not is_well(given) or not is_well(given, len(edits) - len(known())):
+            return None
+        left = [number for number in range(len(edits)) if number not in known()]
+        tried = dict(zip(left, must_fail_all(rt, crate, [edits[it] for it in left], ["--jobs", "1"])))
+        read = [crate] if in_ci else [crate, *crate.below()]
+        for number, (kind, text) in tried.items():
+            if kind in rt.SETTLED and all(kept.is_untouched(it) for it in read):
+                kept.keep_tried(begun["names"][number], kind, text)
+        return [known().get(number) or tried[number] for number in range(len(edits))]
+
+    if edits:
+        tasks[key] = (waits, crate.count(rb"\n"), rt.need(crate), work)
+    return lambda given: given[key] if edits else [], known
