@@ -5,7 +5,7 @@ functions of one copy each is refused, or not, as it would be alone. An edit cou
 each edited function gives a reason of its own, and names a place in that function or in its folder of answers, for its
 meaning: not a name that went, and not another function that is not proved. The check is asked for the edited functions alone, so
 that what stands above them is not read. What was not refused so is tried again with the rest, over what the earlier checks of
-this run proved, and at last alone, by the toolchain's own trial."""
+this run proved, and at last alone, by the toolchain's own trial, over these and then from nothing."""
 import collections
 import os
 import re
@@ -51,15 +51,42 @@ def without_angles(text):
     return "".join(kept)
 
 
+def short(path):
+    """The last name of a path, as the prover writes it: without what stands between < and >, the first letter a capital."""
+    name = without_angles(path).strip().rpartition("::")[2]
+    return name[:1].upper() + name[1:]
+
+
+def given_to(path):
+    """What a path's last name is given between < and >."""
+    inside = re.match(r"[^<]*<(.*)>\s*$", path)
+    parts, deep = [""], 0
+    for letter in inside[1] if inside else "":
+        deep += {"<": 1, ">": -1}.get(letter, 0)
+        if letter == "," and not deep:
+            parts.append("")
+        else:
+            parts[-1] += letter
+    return [it.strip() for it in parts if it.strip() and not it.strip().startswith("'")]
+
+
 def owner(lines, at):
-    """The type, and after it the trait, of the impl around a line; none if there is no impl."""
+    """The type around a line, and after it the trait with what it is given, as the prover names an impl; none if there is no impl."""
     first = next((i for i in range(at, -1, -1) if lines[i].startswith(("impl", "unsafe impl", "}"))), None)
     if first is None or lines[first].startswith("}"):
         return None
-    head = " ".join(lines[first : at + 1]).removeprefix("unsafe ").removeprefix("impl")
-    head = without_angles(head.partition("{")[0]).partition(" where ")[0]
-    names = [it.strip().rpartition("::")[2] for it in head.split(" for ")]
-    return names[-1] + "".join(names[:-1])
+    head = " ".join(lines[first : at + 1]).partition("{")[0].removeprefix("unsafe ").removeprefix("impl").strip()
+    if head.startswith("<"):
+        deep = 0
+        for end, letter in enumerate(head):
+            deep += {"<": 1, ">": -1 if head[end - 1] != "-" else 0}.get(letter, 0)
+            if not deep:
+                break
+        head = head[end + 1 :].strip()
+    trait, found, kind = head.partition(" where ")[0].partition(" for ")
+    if not found:
+        return short(trait)
+    return short(kind) + short(trait) + "".join(short(it) for it in given_to(trait))
 
 
 def function_at(file, source, at):
@@ -140,8 +167,10 @@ def refused_together(rt, crate, edits, texts, flags, kept):
     lines = ran.stdout.rstrip("\n").split("\n")
     is_judged = ran.returncode == 1 and lines[-1].startswith("only=") and not rt.rtlib.STALE.search(ran.stdout)
     unread = [it for it in lines if (rt.unread(it, texts) if is_judged else ": error" in it)]
+    nowhere = set(re.findall(r"has no function `([^`]+)`", ran.stdout)) if not is_judged else set()
     if unread or not is_judged:
-        return {}, [it for it, functions in edits.items() if any(is_in(line, at) for line in unread for at in functions)]
+        is_barred = lambda at: at.names in nowhere or any(is_in(line, at) for line in unread)
+        return {}, [it for it, functions in edits.items() if any(map(is_barred, functions))]
     verdicts = dict(it.groups() for it in map(VERDICT.match, lines) if it)
     told = [it for it in whole(lines) if AGAINST.match(it) and not OF_NAMES.match(it)]
     said = {it: [reason(verdicts, told, at) for at in functions] for it, functions in edits.items()}
@@ -159,9 +188,13 @@ def must_fail_all(rt, crate, edits, flags):
                 break
             refused.update(said)
             left = [it for it in left if it not in said and it not in barred]
-    label = f"must-fail {crate.name}/"
-    given = {it: (rt.REFUSED, f"{label}{os.path.basename(it)}: refused, as it must be: {why[:160]}") for it, why in refused.items()}
-    return [given[it] if it in given else rt.must_fail(crate, it, flags) for it in edits]
+        label = f"must-fail {crate.name}/"
+        given = {it: (rt.REFUSED, f"{label}{os.path.basename(it)}: refused, as it must be: {why[:160]}") for it, why in refused.items()}
+        for edit in [it for it in edits if it not in refused]:
+            given[edit] = rt.must_fail(crate, edit, flags, kept)
+            if given[edit][0] not in rt.SETTLED:
+                given[edit] = rt.must_fail(crate, edit, flags)
+    return [given[it] for it in edits]
 
 
 def add_edits(rt, tasks, crate, edits, first, waits, is_well, kept, start=None, in_ci=True):
