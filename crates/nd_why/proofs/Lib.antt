@@ -1,0 +1,6 @@
+mod Nothing
+mod Order
+mod Sums
+mod Taken
+mod Turns
+mod Whole
