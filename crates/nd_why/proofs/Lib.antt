@@ -1,3 +1,4 @@
+mod Left
 mod Nothing
 mod Order
 mod Sums

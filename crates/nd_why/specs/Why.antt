@@ -1,5 +1,5 @@
 -- Why a processor does not consider a pointstamp finished (this project's own rule, on FORTE 2013).
-use Rattle.std.specs.Prelude.{◌≡◌, ◌+ℤ◌, ℕ, zero, suc, ℤ, pos, negsuc, cond, List, [], ◌∷◌, ◌++◌, Contains, length, map, slice_index_or, sum_by}
+use Rattle.std.specs.Prelude.{◌≡◌, ◌<◌, ◌+ℤ◌, ℕ, zero, suc, ℤ, pos, negsuc, cond, List, [], ◌∷◌, ◌++◌, Contains, length, map, slice_index_or, sum_by}
 use Rattle.std.specs.List.{flat_map}
 use Rattle.std.specs.FinMap as fin
 use Rattle.nd_graph.specs.Graph.{Dataflow}
@@ -76,6 +76,14 @@ unheard_from p unsent changes b = unless_zero (at unsent b) (Unsent p (at unsent
 -- all that q has not heard of b, by sender
 abbrev pub unheard_at : List ProcessorState → List (List (List Change)) → ℕ → Pointstamp → List Unheard
 unheard_at processors queues q b = in_turn (length processors) (λ p. unheard_from p (slice_index_or processors p idle).unsent (queue queues p q) b)
+
+-- ---- what is outstanding
+
+-- at or before t the number of some pointstamp is not 0
+pub record HasBefore (g : Dataflow) (t : Pointstamp) (count : Pointstamp → ℕ) : Type 0 where
+  pub point : Pointstamp
+  pub before : CouldResultIn g point t
+  pub some : 0 < count point
 
 -- ---- the reasons
 

@@ -25,7 +25,7 @@ fn push_if<A: Allocator>(
 }
 
 // The pointstamp of an input vertex's token.
-fn token_point(vertex: usize, epoch: u32) -> Pointstamp
+pub(crate) fn token_point(vertex: usize, epoch: u32) -> Pointstamp
     ensures { result ≡ point_of vertex epoch }
 {
     Pointstamp {

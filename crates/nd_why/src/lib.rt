@@ -5,7 +5,9 @@
 mod answer;
 mod holdings;
 mod news;
+mod outstanding;
 mod query;
 
 pub use answer::{Held, Reason, Reasons, Unheard};
+pub use outstanding::finished;
 pub use query::why;
