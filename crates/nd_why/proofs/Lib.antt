@@ -1,0 +1,7 @@
+mod Left
+mod Nothing
+mod Order
+mod Sums
+mod Taken
+mod Turns
+mod Whole

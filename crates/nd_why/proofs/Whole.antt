@@ -1,0 +1,72 @@
+-- What the accounts of the reasons tell.
+use Rattle.std.proofs.Common.{◌≡◌, ◌≢◌, ◌<◌, ℕ, ℤ, pos, List, [], ◌∷◌, map, length, get_or, refl, ap, sym, subst, ◌∙◌, arith}
+use Rattle.std.specs.Prelude.{All, Contains, ◌↔◌}
+use Rattle.std.proofs.lemmas.List.{get_or-map, length-map}
+use Rattle.std.proofs.lemmas.List.Elements.{All-map}
+use Rattle.nd_graph.specs.Graph.{Dataflow}
+use Rattle.nd_paths.specs.declared.point.Pointstamp.{Pointstamp}
+use Rattle.nd_delta.specs.Change.{Change, none, at, entries}
+use Rattle.nd_delta.specs.Least.{place_of}
+use Rattle.nd_view.specs.Kept.{Kept, IsFor}
+use Rattle.nd_view.specs.View.{IsBlocker, IsOnFrontier, IsPartWhere, IsPassed}
+use Rattle.nd_view.specs.Views.{AreFor, maps-get}
+use Rattle.nd_processor.specs.State.{ProcessorState}
+use Rattle.nd_protocol.specs.State.{ClusterState, view}
+use Rattle.nd_protocol.specs.Fitting.{IsState}
+use Rattle.nd_why.specs.Account.{Account}
+use Rattle.nd_why.specs.Why.{state_of, account, account_of, IsReason, IsWhy, HasReasonBefore}
+use Rattle.nd_why.proofs.Order.{IsOrder, index_some, frontier_before}
+use Rattle.nd_why.proofs.Taken.{not_zero}
+
+-- the view of q, as it is stored
+pub seen : (g : Dataflow) (ps : List ProcessorState) (vs : List Kept) (m : List (List (List Change))) → IsState (state_of g ps vs m) → AreFor g vs → (q : ℕ) → q < length ps → (v : Kept) → v ≡ get_or vs q v
+    → (v.map ≡ view (state_of g ps vs m) q) × IsFor g v
+seen g ps vs m state kept q lt v is =
+    let short : q < length vs = omega (arith, lt, state.fits.each_view, length-map vs (λ (k : Kept). k.map)) in
+    (sym (maps-get vs q v none short is), subst (IsFor g) (sym is) (kept q v short))
+
+-- what the parts tell is the account of each reason
+pub whole_of : (s : ClusterState) (q : ℕ) (t : Pointstamp) (known : Change) → known ≡ view s q → (points : Change) → IsPartWhere (IsReason s.graph known t) known points → (accounts : List Account)
+    → accounts ≡ map (λ e. account_of s.processors s.queues q known e.0) (entries points) → IsWhy s q t accounts
+whole_of s q t known is points part accounts told = (
+  points,
+  subst (λ m. IsPartWhere (IsReason s.graph m t) m points) is part,
+  told ∙ ap (λ m. map (λ (e : Pointstamp × ℤ). account_of s.processors s.queues q m e.0) (entries points)) is,
+)
+
+module _ (s : ClusterState) (q : ℕ) (t : Pointstamp) (accounts : List Account) (why : IsWhy s q t accounts) where
+  -- what holds of the account of each reason
+  pub each_account : (P : Account → Type 0) → ((b : Pointstamp) → IsReason s.graph (view s q) t b → P (account s q b)) → All P accounts
+  each_account P holds =
+      subst (All P) (sym why.2) (All-map P (λ e. account s q e.0) (entries why.0) (λ k d lt.
+      let b = (get_or (entries why.0) k d).0 in
+      holds b (why.1.only b (index_some why.0 k d lt))))
+
+  -- each reason has an account
+  pub has_account : (b : Pointstamp) → IsReason s.graph (view s q) t b → Contains accounts (account s q b)
+  has_account b reason =
+      let some : at why.0 b ≢ pos 0 = λ e. not_zero (at (view s q) b) reason.frontier.positive (sym (why.1.all b reason) ∙ e) in
+      let place = place_of why.0 b some in
+      let f : Pointstamp × ℤ → Account = λ e. account s q e.0 in
+      subst (λ xs. Contains xs (account s q b)) (sym why.2) (
+        place.index,
+        omega (arith, place.in_range, length-map (entries why.0) f),
+        get_or-map f (entries why.0) place.index (b, at why.0 b) (account s q b) place.in_range ∙ ap (account s q) place.is,
+      )
+
+  module _ (order : IsOrder s.graph) (v : Kept) (is : v.map ≡ view s q) (kept : IsFor s.graph v) where
+    pub covered : (x : Pointstamp) → IsBlocker s.graph (view s q) t x → HasReasonBefore s.graph accounts x
+    covered x b =
+        let near = frontier_before s.graph order v kept t x (subst (λ m. IsBlocker s.graph m t x) (sym is) b) in
+        let reason : IsReason s.graph (view s q) t near.point = record { frontier = subst (λ m. IsOnFrontier s.graph m near.point) is near.frontier; before = order.transitive near.point x t near.before b.before } in
+        record { reason = account s q near.point; among = has_account near.point reason; before = near.before }
+
+    pub passed_by : (accounts ≡ []) ↔ IsPassed s.graph (view s q) t
+    passed_by = (
+      λ e x b. let found = (covered x b).among in absurd (omega (arith, found.1, ap length e)),
+      λ passed. none_of accounts (each_account (λ a. ⊥) (λ b reason. passed b (record { positive = reason.frontier.positive; before = reason.before }))),
+    )
+      where
+        none_of : (xs : List Account) → All (λ a. ⊥) xs → xs ≡ []
+        none_of [] h = refl
+        none_of (a ∷ rest) h = absurd (h 0 a (omega arith))

@@ -1,0 +1,5 @@
+use Rattle.nd_why.proofs.Left.{NoneUpTo}
+use Rattle.nd_why.proofs.outstanding.finished.Given as goal
+
+abbrev pub invariant-loop-processor : goal.invariant-loop-processor
+invariant-loop-processor g l = NoneUpTo l.paths l.point l.processors l.processor-index

@@ -1,0 +1,137 @@
+-- Why a processor does not consider a pointstamp finished (this project's own rule, on FORTE 2013).
+use Rattle.std.specs.Prelude.{◌≡◌, ◌<◌, ◌+ℤ◌, ℕ, zero, suc, ℤ, pos, negsuc, cond, List, [], ◌∷◌, ◌++◌, Contains, length, map, slice_index_or, sum_by}
+use Rattle.std.specs.List.{flat_map}
+use Rattle.std.specs.FinMap as fin
+use Rattle.nd_graph.specs.Graph.{Dataflow}
+use Rattle.nd_map.specs.Counts.{entries as numbers}
+use Rattle.nd_paths.specs.Order.{CouldResultIn}
+use Rattle.nd_paths.specs.declared.point.Pointstamp.{Pointstamp}
+use Rattle.nd_delta.specs.Change.{Change, none, at, is_point, entries}
+use Rattle.nd_view.specs.Kept.{Kept}
+use Rattle.nd_view.specs.View.{IsOnFrontier, IsPartWhere}
+use Rattle.nd_processor.specs.State.{ProcessorState, idle, token_point}
+use Rattle.nd_mesh.specs.Mesh.{queue}
+use Rattle.nd_protocol.specs.State.{ClusterState, view, truth}
+use Rattle.nd_why.specs.Account.{Account}
+use Rattle.nd_why.specs.declared.answer.Held.{Held}
+use Rattle.nd_why.specs.declared.answer.Held.TheVariants.{Records, Request, Token}
+use Rattle.nd_why.specs.declared.answer.Unheard.{Unheard}
+use Rattle.nd_why.specs.declared.answer.Unheard.TheVariants.{Unsent, Queued}
+
+-- the state of a cluster, from its parts
+abbrev pub state_of : Dataflow → List ProcessorState → List Kept → List (List (List Change)) → ClusterState
+state_of g processors views queues = record { graph = g; processors = processors; views = map (λ v. v.map) views; queues = queues }
+
+-- f 0, then f 1, .. , then f (n - 1)
+abbrev pub in_turn : {X : Type 0} → ℕ → (ℕ → List X) → List X
+in_turn zero f = []
+in_turn (suc n) f = in_turn n f ++ f n
+
+-- ---- what is held at b
+
+-- x, if it is at b
+abbrev pub if_at : {X : Type 0} → Pointstamp → Pointstamp → X → List X
+if_at b point x = cond (is_point b point) (x ∷ []) []
+
+-- the records of processor p at b
+abbrev pub records_at : ℕ → ProcessorState → Pointstamp → List Held
+records_at p r b = flat_map (λ e. if_at b e.0.point (Records p e.0.value e.1)) (numbers r.records)
+
+-- its request there
+abbrev pub requests_at : ℕ → ProcessorState → Pointstamp → List Held
+requests_at p r b = flat_map (λ x. if_at b x (Request p)) (fin.keys r.requests)
+
+-- its token there
+abbrev pub tokens_at : ℕ → ProcessorState → Pointstamp → List Held
+tokens_at p r b = flat_map (λ e. if_at b (token_point e.0 e.1) (Token p)) (fin.entries r.tokens)
+
+-- all that it holds there
+unfoldable pub held_by : ℕ → ProcessorState → Pointstamp → List Held
+held_by p r b = records_at p r b ++ (requests_at p r b ++ tokens_at p r b)
+
+-- all that is held there, by processor
+abbrev pub held_at : List ProcessorState → Pointstamp → List Held
+held_at processors b = in_turn (length processors) (λ p. held_by p (slice_index_or processors p idle) b)
+
+-- ---- what q has not heard of b
+
+-- x, but nothing if n is 0
+abbrev pub unless_zero : {X : Type 0} → ℤ → X → List X
+unless_zero (pos zero) x = []
+unless_zero (pos (suc n)) x = x ∷ []
+unless_zero (negsuc n) x = x ∷ []
+
+-- the update of b in the change behind k others in a queue from processor p, if there is one
+abbrev pub queued_behind : ℕ → List Change → Pointstamp → ℕ → List Unheard
+queued_behind p changes b k = unless_zero (at (slice_index_or changes k none) b) (Queued p k (at (slice_index_or changes k none) b))
+
+-- all of them, from front to back
+abbrev pub queued_at : ℕ → List Change → Pointstamp → List Unheard
+queued_at p changes b = in_turn (length changes) (queued_behind p changes b)
+
+-- what is unsent, and then what is in the queue
+unfoldable pub unheard_from : ℕ → Change → List Change → Pointstamp → List Unheard
+unheard_from p unsent changes b = unless_zero (at unsent b) (Unsent p (at unsent b)) ++ queued_at p changes b
+
+-- all that q has not heard of b, by sender
+abbrev pub unheard_at : List ProcessorState → List (List (List Change)) → ℕ → Pointstamp → List Unheard
+unheard_at processors queues q b = in_turn (length processors) (λ p. unheard_from p (slice_index_or processors p idle).unsent (queue queues p q) b)
+
+-- ---- what is outstanding
+
+-- at or before t the number of some pointstamp is not 0
+pub record HasBefore (g : Dataflow) (t : Pointstamp) (count : Pointstamp → ℕ) : Type 0 where
+  pub point : Pointstamp
+  pub before : CouldResultIn g point t
+  pub some : 0 < count point
+
+-- ---- the reasons
+
+-- what stands behind the reason b of processor q, whose view is this
+abbrev pub account_of : List ProcessorState → List (List (List Change)) → ℕ → Change → Pointstamp → Account
+account_of processors queues q known b = record { point = b; held = held_at processors b; unheard = unheard_at processors queues q b; view = at known b }
+
+-- the same in a cluster
+abbrev pub account : ClusterState → ℕ → Pointstamp → Account
+account s q b = account_of s.processors s.queues q (view s q) b
+
+-- b is on the frontier of the view v, and at or before t
+pub record IsReason (g : Dataflow) (v : Change) (t b : Pointstamp) : Type 0 where
+  pub frontier : IsOnFrontier g v b
+  pub before : CouldResultIn g b t
+
+-- these are the accounts of the reasons for which q does not consider t finished, in the order of listing
+abbrev pub IsWhy : ClusterState → ℕ → Pointstamp → List Account → Type 0
+IsWhy s q t accounts = (reasons : Change) × IsPartWhere (IsReason s.graph (view s q) t) (view s q) reasons × (accounts ≡ map (λ e. account s q e.0) (entries reasons))
+
+-- one of them is of a pointstamp at or before x
+pub record HasReasonBefore (g : Dataflow) (accounts : List Account) (x : Pointstamp) : Type 0 where
+  pub reason : Account
+  pub among : Contains accounts reason
+  pub before : CouldResultIn g reason.point x
+
+-- ---- what the numbers tell
+
+-- how many records, requests and tokens something held is
+abbrev pub amount : Held → ℕ
+amount (Records p value n) = n
+amount (Request p) = 1
+amount (Token p) = 1
+
+-- by how much an update moves its pointstamp's count
+abbrev pub number : Unheard → ℤ
+number (Unsent p n) = n
+number (Queued p behind n) = n
+
+-- the sum of the numbers of updates
+abbrev pub news : List Unheard → ℤ
+news [] = pos 0
+news (u ∷ us) = number u +ℤ news us
+
+-- what is held is all that is outstanding there
+abbrev pub IsCounted : ClusterState → Account → Type 0
+IsCounted s a = at (truth s.processors) a.point ≡ pos (sum_by amount a.held)
+
+-- what the view counts and what was not heard are together what is held
+abbrev pub IsBalanced : Account → Type 0
+IsBalanced a = (a.view +ℤ news a.unheard) ≡ pos (sum_by amount a.held)

@@ -1,0 +1,119 @@
+//! What the processors hold at a pointstamp.
+ghost use Rattle.std.specs.Prelude.{◌≡◌, ◌++◌, IfOk, OnOk};
+ghost use Rattle.nd_processor.specs.State.{token_point as point_of};
+ghost use Rattle.nd_why.specs.Why.{if_at, records_at, requests_at, tokens_at, held_by, held_at as all_held};
+
+use crate::Held;
+use nd_paths::Pointstamp;
+use nd_processor::Processor;
+use nd_time::Timestamp;
+use std::alloc::{AllocError, Allocator};
+
+// Puts what is held at one pointstamp into the list, if that is the other.
+fn push_if<A: Allocator>(
+    held: &mut Vec<Held, A>,
+    point: &Pointstamp,
+    at: &Pointstamp,
+    one: Held,
+) -> Result<(), AllocError>
+    ensures { OnOk result (held.new.items ≡ held.old.items ++ if_at point.now at.now one) }
+{
+    if point.cmp(at).is_eq() {
+        held.push(one)?;
+    }
+    Ok(())
+}
+
+// The pointstamp of an input vertex's token.
+pub(crate) fn token_point(vertex: usize, epoch: u32) -> Pointstamp
+    ensures { result ≡ point_of vertex epoch }
+{
+    Pointstamp {
+        location: vertex,
+        time: Timestamp::new(epoch, &[]).unwrap(),
+    }
+}
+
+// Puts the records of processor p at a pointstamp into the list.
+fn push_records<A: Allocator + Copy>(
+    held: &mut Vec<Held, A>,
+    p: usize,
+    processor: &Processor<A>,
+    point: &Pointstamp,
+) -> Result<(), AllocError>
+    ensures { OnOk result (held.new.items ≡ held.old.items ++ records_at p processor.now point.now) }
+{
+    for (key, count) in processor.records() {
+        let records = Held::Records {
+            p,
+            value: key.value,
+            count: *count,
+        };
+        push_if(held, point, &key.point, records)?;
+    }
+    Ok(())
+}
+
+// Puts the request of processor p at a pointstamp into the list, if there is one.
+fn push_requests<A: Allocator + Copy>(
+    held: &mut Vec<Held, A>,
+    p: usize,
+    processor: &Processor<A>,
+    point: &Pointstamp,
+) -> Result<(), AllocError>
+    ensures { OnOk result (held.new.items ≡ held.old.items ++ requests_at p processor.now point.now) }
+{
+    for (key, _) in processor.requests() {
+        push_if(held, point, key, Held::Request { p })?;
+    }
+    Ok(())
+}
+
+// Puts the token of processor p at a pointstamp into the list, if there is one.
+fn push_tokens<A: Allocator + Copy>(
+    held: &mut Vec<Held, A>,
+    p: usize,
+    processor: &Processor<A>,
+    point: &Pointstamp,
+) -> Result<(), AllocError>
+    ensures { OnOk result (held.new.items ≡ held.old.items ++ tokens_at p processor.now point.now) }
+{
+    for token in processor.tokens() {
+        push_if(
+            held,
+            point,
+            &token_point(token.0, token.1),
+            Held::Token { p },
+        )?;
+    }
+    Ok(())
+}
+
+// Puts all that processor p holds at a pointstamp into the list.
+fn push_held<A: Allocator + Copy>(
+    held: &mut Vec<Held, A>,
+    p: usize,
+    processor: &Processor<A>,
+    point: &Pointstamp,
+) -> Result<(), AllocError>
+    ensures { OnOk result (held.new.items ≡ held.old.items ++ held_by p processor.now point.now) }
+{
+    push_records(held, p, processor, point)?;
+    push_requests(held, p, processor, point)?;
+    push_tokens(held, p, processor, point)
+}
+
+/// All that is outstanding at a pointstamp, processor by processor.
+pub(crate) fn held_at<A: Allocator + Copy>(
+    alloc: A,
+    processors: &[Processor<A>],
+    point: &Pointstamp,
+) -> Result<Vec<Held, A>, AllocError>
+    ensures { IfOk result (λ v. v.items ≡ all_held processors.now point.now) }
+{
+    let mut held = Vec::new(alloc);
+    for p in 0..processors.len() {
+        push_held(&mut held, p, &processors[p], point)?;
+    }
+    Ok(held)
+}

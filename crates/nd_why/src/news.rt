@@ -1,0 +1,64 @@
+//! What a processor has not heard of a pointstamp.
+ghost use Rattle.std.specs.Prelude.{◌≡◌, ◌<◌, ◌++◌, IfOk, OnOk, length};
+ghost use Rattle.nd_mesh.specs.Mesh.{queue};
+ghost use Rattle.nd_why.specs.Why.{unless_zero, queued_at, unheard_at as all_unheard};
+
+use crate::Unheard;
+use nd_mesh::Mesh;
+use nd_paths::Pointstamp;
+use nd_processor::Processor;
+use std::alloc::{AllocError, Allocator};
+
+// Puts an update into the list, if its number is not 0.
+fn push_unless_zero<A: Allocator>(
+    unheard: &mut Vec<Unheard, A>,
+    n: i64,
+    one: Unheard,
+) -> Result<(), AllocError>
+    ensures { OnOk result (unheard.new.items ≡ unheard.old.items ++ unless_zero n one) }
+{
+    if n != 0 {
+        unheard.push(one)?;
+    }
+    Ok(())
+}
+
+// Puts the updates of a pointstamp that are on their way from p to q into the list.
+fn push_queued<A: Allocator + Copy>(
+    unheard: &mut Vec<Unheard, A>,
+    p: usize,
+    q: usize,
+    mesh: &Mesh<A>,
+    point: &Pointstamp,
+) -> Result<(), AllocError>
+    requires sender { p < length mesh.now }
+    requires receiver { q < length mesh.now }
+    ensures { OnOk result (unheard.new.items ≡ unheard.old.items ++ queued_at p (queue mesh.now p q) point.now) }
+{
+    for behind in 0..mesh.len(p, q) {
+        let n = mesh.get(p, q, behind).unwrap().get(point);
+        push_unless_zero(unheard, n, Unheard::Queued { p, behind, n })?;
+    }
+    Ok(())
+}
+
+/// All updates of a pointstamp that processor q has not received, sender by sender.
+pub(crate) fn unheard_at<A: Allocator + Copy>(
+    alloc: A,
+    processors: &[Processor<A>],
+    mesh: &Mesh<A>,
+    q: usize,
+    point: &Pointstamp,
+) -> Result<Vec<Unheard, A>, AllocError>
+    requires mesh { length mesh.now ≡ length processors.now }
+    requires q { q < length mesh.now }
+    ensures { IfOk result (λ v. v.items ≡ all_unheard processors.now mesh.now q point.now) }
+{
+    let mut unheard = Vec::new(alloc);
+    for p in 0..processors.len() {
+        let n = processors[p].unsent().get(point);
+        push_unless_zero(&mut unheard, n, Unheard::Unsent { p, n })?;
+        push_queued(&mut unheard, p, q, mesh, point)?;
+    }
+    Ok(unheard)
+}
