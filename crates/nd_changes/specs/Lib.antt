@@ -1,0 +1,4 @@
+pub mod Changes
+pub mod Told
+pub mod Answers
+pub mod Faults

@@ -1,0 +1,5 @@
+pub mod Naming
+pub mod Values
+pub mod ReadBack
+pub mod Fits
+pub mod Forms

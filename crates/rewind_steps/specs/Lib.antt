@@ -1,0 +1,4 @@
+pub mod Objects
+pub mod Fitting
+pub mod Reading
+pub mod Laws

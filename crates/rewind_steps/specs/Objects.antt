@@ -1,0 +1,59 @@
+-- A step as the object of its command line (this project's own rule).
+use Rattle.std.specs.Prelude.{ℕ, ℤ, List, map, codes}
+use Rattle.std.specs.declared.alloc.Global.{Global}
+use Rattle.serde_json.specs.Data.{Data, string, object, no_members, member}
+use Rattle.nd_time.specs.Time.{Time}
+use Rattle.nd_graph.specs.Graph.{Dataflow}
+use Rattle.nd_paths.specs.declared.point.Pointstamp.{Pointstamp}
+use Rattle.nd_shown.specs.StateText.{row, natural, whole, place, time_data, point_data}
+use Rattle.nd_protocol.specs.declared.step.Step.{Step}
+use Rattle.nd_protocol.specs.declared.step.Step.TheVariants.{Feed, Take, Notice, Broadcast, Receive}
+use Rattle.nd_protocol.specs.declared.part.Part.TheVariants.{All, Points}
+use Rattle.nd_protocol.specs.declared.step.Next.{Next as Afterwards}
+use Rattle.nd_protocol.specs.declared.step.Next.TheVariants as token
+
+-- the word for what becomes of the token after a feed
+abbrev pub next_word : Afterwards → List ℕ
+next_word token.Next = codes "next"
+next_word token.Close = codes "close"
+next_word token.Stay = codes "stay"
+
+-- {"do":"feed","next":word,"p":n,"values":[v,..],"vertex":name}
+abbrev pub feed_object : Dataflow → ℕ → ℕ → List ℤ → Afterwards → Data
+feed_object g p vertex values next = object (member (codes "do") (string (codes "feed"))
+    (member (codes "next") (string (next_word next)) (member (codes "p") (natural p)
+    (member (codes "values") (row (map whole values)) (member (codes "vertex") (place g vertex) no_members)))))
+
+-- {"do":"take","edge":name,"p":n,"time":[epoch,c1,..],"value":v}
+abbrev pub take_object : Dataflow → ℕ → ℕ → Time → ℤ → Data
+take_object g p edge time value = object (member (codes "do") (string (codes "take"))
+    (member (codes "edge") (place g edge) (member (codes "p") (natural p)
+    (member (codes "time") (time_data time) (member (codes "value") (whole value) no_members)))))
+
+-- {"do":"notice","p":n,"time":[epoch,c1,..],"vertex":name}
+abbrev pub notice_object : Dataflow → ℕ → ℕ → Time → Data
+notice_object g p vertex time = object (member (codes "do") (string (codes "notice"))
+    (member (codes "p") (natural p) (member (codes "time") (time_data time) (member (codes "vertex") (place g vertex) no_members))))
+
+-- of all that is unsent: {"do":"broadcast","p":n}
+abbrev pub all_object : ℕ → Data
+all_object p = object (member (codes "do") (string (codes "broadcast")) (member (codes "p") (natural p) no_members))
+
+-- of a part, its pointstamps as they were given: {"do":"broadcast","p":n,"part":[[name,[epoch,c1,..]],..]}
+abbrev pub part_object : Dataflow → ℕ → List Pointstamp → Data
+part_object g p points = object (member (codes "do") (string (codes "broadcast"))
+    (member (codes "p") (natural p) (member (codes "part") (row (map (point_data g) points)) no_members)))
+
+-- {"do":"receive","from":n,"to":n}
+abbrev pub receive_object : ℕ → ℕ → Data
+receive_object from to = object (member (codes "do") (string (codes "receive"))
+    (member (codes "from") (natural from) (member (codes "to") (natural to) no_members)))
+
+-- the object of a step's command line, with the names of the graph's locations
+unfoldable pub object_of : Dataflow → Step Global → Data
+object_of g (Feed p vertex values next) = feed_object g p vertex values next
+object_of g (Take p edge time value) = take_object g p edge time value
+object_of g (Notice p vertex time) = notice_object g p vertex time
+object_of g (Broadcast p All) = all_object p
+object_of g (Broadcast p (Points points)) = part_object g p points
+object_of g (Receive from to) = receive_object from to
