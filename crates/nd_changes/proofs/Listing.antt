@@ -6,7 +6,8 @@ use Rattle.std.proofs.lemmas.Bool.Decides.{Decides-int_eq}
 use Rattle.std.proofs.lemmas.List.{append-nil, map-append, take_all, take-append-le, length-take}
 use Rattle.std.proofs.lemmas.List.Elements.{filter-append}
 use Rattle.nd_changes.specs.Changes.{is_other, positions, changed, changes_between}
-use Rattle.nd_changes.specs.Told.{max_told, IsTold}
+use Rattle.nd_time.specs.Limits.{max_told}
+use Rattle.nd_changes.specs.Told.{IsTold}
 use Rattle.nd_changes.specs.declared.told.Changed.{Changed}
 use Rattle.nd_changes.specs.declared.told.Told.{Told}
 

@@ -1,11 +1,8 @@
 -- What is told of a list of changes (this project's own rule).
 use Rattle.std.specs.Prelude.{◌≡◌, ◌↔◌, ◌<◌, ℕ, List, length, take, IsTrue}
+use Rattle.nd_time.specs.Limits.{max_told}
 use Rattle.nd_changes.specs.declared.told.Changed.{Changed}
 use Rattle.nd_changes.specs.declared.told.Told.{Told}
-
--- the most changes that are told
-abbrev pub max_told : ℕ
-max_told = 1000
 
 -- the first of them, in order, and whether there are more
 pub record IsTold {A : Type 0} (all : List Changed) (told : Told A) : Type 0 where

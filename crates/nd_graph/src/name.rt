@@ -13,6 +13,9 @@ use std::fmt;
 use std::hash::{Hash, Hasher};
 use std::marker::Model;
 
+// The most bytes of a name.
+const MAX_NAME: usize = 32;
+
 /// A name: 1 to 32 bytes, each from `!` to `~`.
 #[derive(Drop)]
 pub struct Name {
@@ -34,7 +37,7 @@ impl Model for Name {
 fn are_plain(bytes: &[u8]) -> bool
     ensures { result ≡ list_all is_plain bytes.now }
 {
-    bytes.iter().all(|byte| 33 <= *byte && *byte <= 126)
+    bytes.iter().all(|byte| b'!' <= *byte && *byte <= b'~')
 }
 
 // Whether the text has a name's form.
@@ -42,7 +45,7 @@ fn has_name_form(text: &str) -> bool
     ensures { result ≡ is_name text.now }
 {
     let size = text.len();
-    if size < 1 || size > 32 {
+    if size < 1 || size > MAX_NAME {
         return false;
     }
     are_plain(text.as_bytes())

@@ -139,9 +139,13 @@ module _ {A : Type 0} where
   placed_last log e index number =
       let whole : take (length log) log ≡ log = take-length log in record { index = index; number = rw whole number }
 
-  -- a growth was refused
-  pub refused : {T : Type 0} (P : SessionFault A → Type 0) (r : Result T (SessionFault A)) → IsErrAnd r (λ f. f ≡ Memory) → P Memory → IfErr r P
-  refused {T} P r h room =
+  -- the fault is another call's
+  pub passed_on : {T : Type 0} (P : SessionFault A → Type 0) (r : Result T (SessionFault A)) (e : SessionFault A) → IsErrAnd r (λ f. f ≡ e) → P e → IfErr r P
+  passed_on {T} P r e h fails =
       let f = err_from_is_err_and r h in
       let Q : Result T (SessionFault A) → Type 0 = λ r. IfErr r P in
-      subst Q (sym f.1) (subst P (sym f.2) room)
+      subst Q (sym f.1) (subst P (sym f.2) fails)
+
+  -- a growth was refused
+  pub refused : {T : Type 0} (P : SessionFault A → Type 0) (r : Result T (SessionFault A)) → IsErrAnd r (λ f. f ≡ Memory) → P Memory → IfErr r P
+  refused P r h room = passed_on P r Memory h room

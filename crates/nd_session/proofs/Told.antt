@@ -16,7 +16,8 @@ use Rattle.nd_session.specs.declared.receipt.Receipt.{Receipt}
 use Rattle.nd_session.specs.declared.fault.SessionFault.{SessionFault}
 use Rattle.nd_session.specs.Log.{IsStart, IsPlaced, IsLegal, opening_of}
 use Rattle.nd_session.specs.Clients.{ClientValue, Holds, last_of, HoldsLast, IsAboveLast, IsOwn, IsHistory, IsKnown, IsUnknown, IsStranger, IsTold, IsSeen}
-use Rattle.nd_session.specs.Faults.{CommandFails, CopyFails, CommandMayFail, CopyMayFail}
+use Rattle.nd_session.specs.declared.fault.SessionFault.TheVariants.{NotThisSession, LogFull, TooManyClients, Memory}
+use Rattle.nd_session.specs.Faults.{ApplyFails, CommandFails, CopyFails, CommandMayFail, CopyMayFail}
 use Rattle.nd_session.proofs.Logs.{slice_get-snoc}
 
 pub slice_get-append : {X : Type 0} (xs ys : List X) (i : ℕ) (y : X) → slice_get xs i ≡ Some y → slice_get (xs ++ ys) i ≡ Some y
@@ -143,6 +144,13 @@ module _ {A : Type 0} where
     pub copy_may_fail : {T : Type 0} (result : Result T (SessionFault A)) → IfErr result (CopyFails entered log p) → IfErr result (CopyMayFail p)
     copy_may_fail (Ok x) fails = tt
     copy_may_fail (Err e) fails = record { log = log; machine = m; entered = entered; history = history; fails = fails }
+
+  -- the command of a client that is known fails as a `State` does
+  pub known_fails : (entered : ℕ) (log : List (Receipt A)) (p : ClientValue A) → IsKnown entered log p → (fault : SessionFault A) → ApplyFails log fault → CommandFails entered log p fault
+  known_fails entered log p known (NotThisSession index found) fails = absurd fails
+  known_fails entered log p known LogFull full = (known, full)
+  known_fails entered log p known TooManyClients fails = absurd fails
+  known_fails entered log p known Memory room = inr (known, room)
 
   -- what a stranger is told
   pub stranger : (entered : ℕ) (log : List (Receipt A)) (p : ClientValue A) (read rs : List (Receipt A)) (index : ℕ) (found : Option (Receipt A))

@@ -89,8 +89,16 @@ pub record IsKnown {A : Type 0} (entered : ℕ) (log : List (Receipt A)) (p : Cl
 abbrev pub IsUnknown : {A : Type 0} → ℕ → List (Receipt A) → ClientValue A → Type 0
 IsUnknown entered log p = (entered ≤ p.number) ⊎ (HoldsLast log p.receipts → ⊥)
 
--- what a client is told that is not known: the index of its last receipt, or 0, and the log's entry there
+-- the index that a client is told that is not known: that of its last receipt, or 0
+abbrev pub told_index : {A : Type 0} → ClientValue A → ℕ
+told_index p = option_map_or (λ r. r.index) (last_of p.receipts) 0
+
+-- the client is not known, and the log has an entry at the index that it is told
+abbrev pub IsToldAnEntry : {A : Type 0} → ℕ → List (Receipt A) → ClientValue A → Type 0
+IsToldAnEntry entered log p = IsUnknown entered log p × (told_index p < length log)
+
+-- what a client is told that is not known: that index, and the log's entry there, if it has one
 pub record IsStranger {A : Type 0} (entered : ℕ) (log : List (Receipt A)) (p : ClientValue A) (index : ℕ) (found : Option (Receipt A)) : Type 0 where
   pub unknown : IsUnknown entered log p
-  pub index_is : index ≡ option_map_or (λ r. r.index) (last_of p.receipts) 0
+  pub index_is : index ≡ told_index p
   pub found_is : found ≡ slice_get log index

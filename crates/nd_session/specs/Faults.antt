@@ -2,7 +2,7 @@
 use Rattle.std.specs.Prelude.{◌≡◌, ℕ, ◌<◌, ◌≤◌, ◌⊎◌, List, length, codes}
 use Rattle.nd_time.specs.Limits.{max_log, max_clients}
 use Rattle.nd_timeline.specs.Moves.{MachineValue}
-use Rattle.nd_session.specs.Clients.{ClientValue, IsHistory, IsKnown, IsUnknown, IsStranger}
+use Rattle.nd_session.specs.Clients.{ClientValue, IsHistory, IsKnown, IsToldAnEntry, IsStranger}
 use Rattle.nd_session.specs.declared.receipt.Receipt.{Receipt}
 use Rattle.nd_session.specs.declared.fault.SessionFault.{SessionFault}
 use Rattle.nd_session.specs.declared.fault.SessionFault.TheVariants.{NotThisSession, LogFull, TooManyClients, Memory}
@@ -33,21 +33,21 @@ abbrev pub TestFails : {A : Type 0} → ℕ → List (Receipt A) → ClientValue
 TestFails entered log p (NotThisSession index found) = IsStranger entered log p index found
 TestFails entered log p LogFull = ⊥
 TestFails entered log p TooManyClients = ⊥
-TestFails entered log p Memory = IsUnknown entered log p
+TestFails entered log p Memory = IsToldAnEntry entered log p
 
--- a client's command fails so; memory runs out for a stranger's answer, or for a known client's entry
+-- a client's command fails so; memory runs out for the entry that a stranger is told, or for a known client's own
 abbrev pub CommandFails : {A : Type 0} → ℕ → List (Receipt A) → ClientValue A → SessionFault A → Type 0
 CommandFails entered log p (NotThisSession index found) = IsStranger entered log p index found
 CommandFails entered log p LogFull = IsKnown entered log p × (length log ≡ max_log)
 CommandFails entered log p TooManyClients = ⊥
-CommandFails entered log p Memory = IsUnknown entered log p ⊎ (length log < max_log)
+CommandFails entered log p Memory = IsToldAnEntry entered log p ⊎ (IsKnown entered log p × (length log < max_log))
 
--- a copy for a client fails so
+-- a copy for a client fails so; memory runs out for the entry that a stranger is told, or for a known client's copy
 abbrev pub CopyFails : {A : Type 0} → ℕ → List (Receipt A) → ClientValue A → SessionFault A → Type 0
 CopyFails entered log p (NotThisSession index found) = IsStranger entered log p index found
 CopyFails entered log p LogFull = ⊥
 CopyFails entered log p TooManyClients = ⊥
-CopyFails entered log p Memory = Unit {0}
+CopyFails entered log p Memory = IsToldAnEntry entered log p ⊎ IsKnown entered log p
 
 -- entering fails so
 abbrev pub EnterFails : {A : Type 0} → ℕ → SessionFault A → Type 0

@@ -59,7 +59,8 @@ fn copied_entry<A: Allocator + Copy>(
     log: &[Receipt<A>],
     index: u64,
 ) -> Result<Option<Receipt<A>>, AllocError>
-    ensures { IfOk result (λ found. found ≡ slice_get log.now index) }
+    ensures found { IfOk result (λ found. found ≡ slice_get log.now index) }
+    ensures refused { OnErr result (index < length log.now) }
 {
     match log.get(index as usize) {
         Some(entry) => Ok(Some(entry.copy(alloc)?)),

@@ -12,7 +12,7 @@ use nd_delta::Delta;
 use nd_drawn::{EMPTY, LINE, LONG, LOOP, change, graph_of, paths_of, point, time};
 use nd_graph::{Graph, Op};
 use nd_mesh::Mesh;
-use nd_paths::{Paths, Pointstamp};
+use nd_paths::Paths;
 use nd_processor::{Processor, ValueAt};
 use nd_vertex::VertexState;
 use nd_view::View;
@@ -153,13 +153,11 @@ fn queues<A: Allocator + Copy>(
 }
 
 /// Adds a record, a request, a sink's count and an unsent entry at a point.
-fn add_at<A: Allocator + Copy>(processor: &mut Processor<A>, point: Pointstamp) -> Option<()> {
-    processor.add_request(&point).ok()?;
-    processor.add_unsent(&point, 1).ok()?;
-    processor
-        .add_sink(2, i64::from(point.time.epoch()), 1)
-        .ok()?;
-    processor.add_records(&ValueAt { point, value: 7 }, 1).ok()
+fn add_at<A: Allocator + Copy>(processor: &mut Processor<A>, key: &ValueAt) -> Option<()> {
+    processor.add_records(key, 1).ok()?;
+    processor.add_request(&key.point).ok()?;
+    processor.add_sink(2, key.value, 1).ok()?;
+    processor.add_unsent(&key.point, 1).ok()
 }
 
 /// Gives a vertex a token.
@@ -175,7 +173,9 @@ fn fill<A: Allocator + Copy>(
     count: u32,
 ) -> Option<()> {
     for epoch in 0..count {
-        add_at(processor, point(graph, "m", &[epoch, count - epoch])?)?;
+        let point = point(graph, "m", &[epoch, count - epoch])?;
+        let value = i64::from(epoch);
+        add_at(processor, &ValueAt { point, value })?;
         add_token(processor, epoch as usize)?;
     }
     Some(())

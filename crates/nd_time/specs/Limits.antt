@@ -9,6 +9,16 @@ max_depth = 4
 abbrev pub max_locations : ℕ
 max_locations = 64
 
+-- the most bytes of a name, and the least and the greatest that it may have, '!' and '~'
+abbrev pub max_name : ℕ
+max_name = 32
+
+abbrev pub least_of_name : ℕ
+least_of_name = 33
+
+abbrev pub greatest_of_name : ℕ
+greatest_of_name = 126
+
 -- the most processors of a cluster
 abbrev pub max_processors : ℕ
 max_processors = 8
@@ -60,3 +70,7 @@ max_line = 65536
 -- the most bytes of a script
 abbrev pub max_input : ℕ
 max_input = 268435456
+
+-- the most changes that are told of a view
+abbrev pub max_told : ℕ
+max_told = 1000

@@ -1,20 +1,27 @@
 use Rattle.std.proofs.Common.{rules, inr}
 use Rattle.nd_session.specs.declared.receipt.Receipt.{Receipt}
-use Rattle.nd_session.specs.Clients.{HoldsLast}
+use Rattle.nd_session.specs.Clients.{HoldsLast, IsKnown}
 use Rattle.nd_session.specs.Faults.{CommandFails}
-use Rattle.nd_session.proofs.Logs.{refused}
-use Rattle.nd_session.proofs.Told.{own_grows}
+use Rattle.nd_session.proofs.Logs.{refused, passed_on}
+use Rattle.nd_session.proofs.Told.{own_grows, known_fails}
 use Rattle.nd_session.proofs.shared.Shared.command.Goals as goal
 
 pub returns-in_err-reserve-clause-fails : goal.returns-in_err-reserve-clause-fails
 returns-in_err-reserve-clause-fails g c =
     refused (CommandFails c.args.self.now.entered c.args.self.now.state.log c.args.client.now)
-    c.from_residual-in_err-reserve.result c.from_residual-in_err-reserve.ensures.1 (inr (search rules))
+    c.from_residual-in_err-reserve.result c.from_residual-in_err-reserve.ensures.1 (inr (search rules, search rules))
 
 pub returns-in_err-asked-clause-fails : goal.returns-in_err-asked-clause-fails
 returns-in_err-asked-clause-fails g c =
     refused (CommandFails c.args.self.now.entered c.args.self.now.state.log c.args.client.now)
-    c.from_residual-in_err-asked.result c.from_residual-in_err-asked.ensures.1 (inr (search rules))
+    c.from_residual-in_err-asked.result c.from_residual-in_err-asked.ensures.1 (inr (search rules, search rules))
+
+pub returns-in_err-receipt-clause-fails : goal.returns-in_err-receipt-clause-fails
+returns-in_err-receipt-clause-fails g c =
+    let known : IsKnown c.args.self.now.entered c.args.self.now.state.log c.args.client.now = search rules in
+    passed_on (CommandFails c.args.self.now.entered c.args.self.now.state.log c.args.client.now)
+    c.from_residual-in_err-receipt.result c.in_err-receipt.field-0.0 c.from_residual-in_err-receipt.ensures.1
+    (known_fails c.args.self.now.entered c.args.self.now.state.log c.args.client.now known c.in_err-receipt.field-0.0 c.in_err-receipt.ensures.fails)
 
 pub invariant_of-client-2 : goal.invariant_of-client-2
 invariant_of-client-2 g c =

@@ -1,12 +1,7 @@
 //! Tests of clusters: worked examples by their names, the changes that a record lists, each request for memory
 //! refused in turn, readers that take none, copies, and calls with ample memory.
-#![tactic(auto)]
 
-#[cfg(test)]
 mod ample;
-#[cfg(test)]
 mod limits;
-#[cfg(test)]
 mod memory;
-#[cfg(test)]
 mod worked;

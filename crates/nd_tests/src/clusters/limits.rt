@@ -2,7 +2,7 @@
 ghost use Rattle.std.specs.Prelude.{◌≡◌, All, IfSome};
 ghost use Rattle.nd_view.specs.Kept.{IsFor};
 
-use crate::memory::Heap;
+use crate::clusters::memory::Heap;
 use nd_cluster::{Cluster, Next};
 use nd_drawn::{LINE, LOOP, graph_of, point};
 use nd_graph::Graph;

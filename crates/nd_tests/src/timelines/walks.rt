@@ -1,6 +1,6 @@
 //! Walks over a timeline's kept steps, each request for memory refused in turn.
 
-use crate::memory::{ALL, Heap, TEN, is_after, kept};
+use crate::timelines::memory::{ALL, Heap, TEN, is_after, kept};
 use nd_timeline::Fault;
 use nd_told::{SUM_NOTIFIED, Script};
 use refusing::{Refusing, in_turn, met};

@@ -1,7 +1,7 @@
 use Rattle.std.proofs.Common.{◌≡◌, ◌<◌, ℕ, zero, suc, List, [], ◌∷◌, length, slice_index_or, sym, subst, ◌∙◌, ap, arith}
 use Rattle.nd_graph.specs.Graph.{Dataflow}
 use Rattle.nd_view.specs.Kept.{Kept, IsFor}
-use Rattle.nd_cluster_tests.proofs.limits.one.Goals as goal
+use Rattle.nd_tests.proofs.clusters.limits.one.Goals as goal
 
 alone : (g : Dataflow) (v : Kept) → IsFor g v → (k : ℕ) (d : Kept) → k < length (v ∷ []) → IsFor g (slice_index_or (v ∷ []) k d)
 alone g v h zero d lt = h

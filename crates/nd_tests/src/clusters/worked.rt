@@ -1,6 +1,6 @@
 //! The worked examples, by their names, and the changes that a record lists.
 
-use crate::limits::{ROWS, closes, number_of};
+use crate::clusters::limits::{ROWS, closes, number_of};
 use nd_cluster::{Change, Changes, Cluster, Next, StartFault};
 use nd_drawn::{LINE, LOOP, graph_of};
 use nd_told::{Told, start, step_of};

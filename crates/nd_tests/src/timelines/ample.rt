@@ -1,7 +1,7 @@
 //! Calls of timelines that take no memory, made while none is given, copies, which grow in memory of their own, and
 //! timelines at their far ends, which do not run out of memory if there is enough.
 
-use crate::memory::{ALL, Heap, ONE, kept};
+use crate::timelines::memory::{ALL, Heap, ONE, kept};
 use nd_cluster::Next;
 use nd_drawn::{EMPTY, LINE, point};
 use nd_timeline::{Ran, Stop, Timeline};

@@ -1,7 +1,7 @@
 //! Readers of clusters, called while no memory is given, copies, which grow in memory of their own, and clusters at
 //! their far ends, which do not run out of memory if there is enough.
 
-use crate::memory::Heap;
+use crate::clusters::memory::Heap;
 use nd_cluster::{Cluster, Next, Step, Values};
 use nd_drawn::{EMPTY, LINE, LONG, point};
 use nd_told::{SUM_NOTIFIED, Told, make, reach, start, step_of};
