@@ -1,4 +1,5 @@
 mod Counts
 mod Ends
+mod Freedom
 mod Parts
 mod Tokens

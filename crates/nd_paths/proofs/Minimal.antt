@@ -21,7 +21,7 @@ use Rattle.nd_paths.proofs.Decisions.{held_fit_points, could_from_leads, leads_f
 use Rattle.nd_paths.proofs.Accepting.{accepted_inside}
 use Rattle.nd_paths.proofs.PointOrder.{could_refl, could_antisym, strictly_trans}
 
-abbrev Decided : Type 0 → Type 0
+abbrev pub Decided : Type 0 → Type 0
 Decided P = P ⊎ (P → ⊥)
 
 dec_lexical : (a b : List ℕ) → length a ≡ length b → Decided (IsLexicallyAtMost a b)
@@ -116,7 +116,7 @@ module _ {Z : Type 0} (g : Dataflow) (rows : List (Vec (Option Summary) Z)) (h :
         | inr none ↦ inr (λ k. none k.fits_s)
       ]
 
-  dec_strictly : (s t : Pointstamp) → Decided (IsStrictlyBefore g s t)
+  pub dec_strictly : (s t : Pointstamp) → Decided (IsStrictlyBefore g s t)
   dec_strictly s t =
       elim (dec_could s t) [
         | inl p ↦ elim (dec_could t s) [

@@ -1,5 +1,5 @@
 //! The order of pointstamps.
-ghost use Rattle.std.specs.Prelude.{◌≡◌, ◌<◌, ◌↔◌, IsTrue, IfOk, IfErr, List, ◌∷◌};
+ghost use Rattle.std.specs.Prelude.{◌≡◌, ◌<◌, ◌↔◌, ◌⊎◌, IsTrue, IfOk, IfErr, List, ◌∷◌};
 ghost use Rattle.nd_paths.specs.declared.point.Pointstamp.{Pointstamp};
 ghost use Rattle.nd_paths.specs.Order.{CouldResultIn, Fits, IsAccepted, IsStrictlyBefore};
 ghost use Rattle.nd_paths.specs.Laws.{IsMinimalAmong};
@@ -109,6 +109,13 @@ impl<A: Allocator> Paths<A> {
             → IsStrictlyBefore self.now s u }
         ensures minimal { (p : Pointstamp) (ps : List Pointstamp)
             → (m : Pointstamp) × IsMinimalAmong self.now (p ∷ ps) m }
+    {
+        let _ = &self.rows;
+    }
+
+    /// Of two pointstamps the first is strictly before the second, or it is not.
+    pub fn order_is_decided(&self)
+        ensures { (s t : Pointstamp) → IsStrictlyBefore self.now s t ⊎ (IsStrictlyBefore self.now s t → ⊥) }
     {
         let _ = &self.rows;
     }
