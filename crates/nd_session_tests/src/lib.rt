@@ -1,4 +1,5 @@
-//! Tests of searches and of sessions: workers and clients in threads, and each request for memory refused in turn.
+//! Tests of timelines, of searches and of sessions: workers and clients in threads, and each request for memory refused
+//! in turn.
 #![tactic(auto)]
 
 #[cfg(test)]
@@ -9,3 +10,5 @@ mod opened;
 mod searches;
 #[cfg(test)]
 mod sessions;
+#[cfg(test)]
+mod timelines;

@@ -1,4 +1,4 @@
-//! Tests that cross the crates from timestamps to timelines: worked examples by their names, a view's counts
+//! Tests that cross the crates from timestamps to clusters: worked examples by their names, a view's counts
 //! against counts over all points, each request for memory refused in turn, calls that take none, and calls
 //! with ample memory, on nothing and on hundreds. One crate, since each crate of tests reads all that it stands on.
 #![tactic(auto)]
@@ -17,8 +17,6 @@ mod kinds;
 mod queues;
 #[cfg(test)]
 mod refused;
-#[cfg(test)]
-mod timelines;
 #[cfg(test)]
 mod unasked;
 #[cfg(test)]
