@@ -4,16 +4,15 @@ use crate::queues::{len, pop, push, unpop, unpush};
 use crate::views::view;
 use nd_delta::{Delta, DeltaFault};
 use nd_drawn::{
-    CYCLE, EMPTY, LINE, NESTED_LOOP, TWO_WAYS, UNGUARDED_LOOP, are_entries, change, graph_of,
-    graph_text, paths_of, point, time,
+    CYCLE, LINE, NESTED_LOOP, TWO_WAYS, UNGUARDED_LOOP, are_entries, change, graph_of, paths_of,
+    point, time,
 };
-use nd_graph::{Action, GraphDraft, GraphFault, Op};
+use nd_graph::{Action, Op};
 use nd_mesh::{LIMIT, Mesh, PushFault};
 use nd_paths::{Constants, PathFault, Paths, Summary};
 use nd_time::{CounterFull, Timestamp};
 use nd_vertex::{Effect, VertexFault, VertexState};
-use serde_json::Value;
-use std::alloc::{AllocError, Global};
+use std::alloc::Global;
 use std::test::Fail;
 
 /// The time past a vertex of this action, or `None` if there is no such time.
@@ -64,71 +63,6 @@ fn time_order(rt: HostRuntime) -> Result<(), Fail> {
         let s = time(s).ok_or("no time")?;
         let t = time(t).ok_or("no time")?;
         assert_eq!(rt; s.at_or_before(&t), is_before, "from {s:?} to {t:?}");
-    }
-    Ok(())
-}
-
-/// The fault of the graph of a JSON text.
-fn fault_of(alloc: Global, text: &str) -> Option<GraphFault> {
-    let value = Value::from_str(alloc, text).ok()?;
-    match GraphDraft::from_value(alloc, &value) {
-        Ok(draft) => draft.check(alloc).err(),
-        Err(fault) => Some(fault),
-    }
-}
-
-/// The JSON text of a graph of so many vertices and no edge.
-fn vertices_alone(alloc: Global, count: usize) -> Result<String, AllocError> {
-    let mut text = String::new(alloc);
-    text.push_str("{\"vertices\":[")?;
-    for number in 0..count {
-        let comma = if number == 0 { "" } else { "," };
-        let vertex = format!(in alloc;
-            "{comma}{{\"name\":\"v{number}\",\"op\":\"sink\",\"depth\":0}}"
-        )?;
-        text.push_str(vertex.as_str())?;
-    }
-    text.push_str("],\"edges\":[]}")?;
-    Ok(text)
-}
-
-/// Graphs, each with its fault.
-static FAULTS: [(&str, Option<GraphFault>); 7] = [
-    (
-        r#"{"vertices":[{"name":"a","op":"input","depth":0},{"name":"z","op":"sink","depth":0}]}"#,
-        Some(GraphFault::Shape),
-    ),
-    (
-        graph_text!(a input 0, z sink 0; z: a 0 -> z local),
-        Some(GraphFault::DoubleName),
-    ),
-    (
-        graph_text!(a input 0, z sink 0; az: a 0 -> q local),
-        Some(GraphFault::UnknownName),
-    ),
-    (
-        graph_text!(a input 0, z sink 0; az: a 1 -> z local),
-        Some(GraphFault::BadPort),
-    ),
-    (
-        graph_text!(a input 0, z sink 0; az: z 0 -> a local),
-        Some(GraphFault::BadPort),
-    ),
-    (
-        graph_text!(a input 0, z sink 1; az: a 0 -> z local),
-        Some(GraphFault::DepthMismatch),
-    ),
-    (EMPTY, None),
-];
-
-#[test]
-fn graph_faults(rt: HostRuntime) -> Result<(), Fail> {
-    for (text, fault) in FAULTS {
-        assert_eq!(rt; fault_of(rt.alloc(), text), fault, "at {text}");
-    }
-    for (count, fault) in [(64, None), (65, Some(GraphFault::TooLarge))] {
-        let text = vertices_alone(rt.alloc(), count)?;
-        assert_eq!(rt; fault_of(rt.alloc(), text.as_str()), fault, "at {count}");
     }
     Ok(())
 }
