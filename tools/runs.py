@@ -3,6 +3,7 @@
     from runs import run_script
     told = run_script(open(path, "rb").read(), ["--processors", "3"])
     told.graph                the graph as the script's line has it, or None if none was met
+    told.version              the version that the script's first line tells, else 1
     told.status, told.error   the program's exit status, and what it wrote to standard error
     told.entries              an Entry a reply, in the order of the replies, the graph's first:
         entry.line            the Line that it answers: line.number from 1, line.text as bytes without its newline,
@@ -12,8 +13,9 @@
         entry.answers         the replies to the queries that were put in after it; [] if none could be
         entry.state           of those replies the state after the line, or None
 
-The queries are '{"do":"state"}' alone if no others are given, and change nothing; lines before the graph's, which is the
-one whose reply counts locations, are followed by none. They move the lines that follow, so a faulty line's number is put back.
+The queries are '{"do":"state"}' alone if no others are given, and change nothing; lines before the graph's, a version line or
+others whose reply counts no locations, are followed by none. A callable gives the queries after each line, by its number from
+0 among those that are not blank. They move the lines that follow, so a faulty line's number is put back.
 If the program does not answer all of that with status 0 (queries are not allowed with several clients, a graph may be
 refused), the script runs alone as well: its replies and status are those given, and entries have answers up to the first
 reply in which the two runs differ.
@@ -53,6 +55,7 @@ class Entry(NamedTuple):
 
 class Run(NamedTuple):
     words: list
+    version: int
     graph: dict | None
     entries: list
     status: int
@@ -72,6 +75,18 @@ def lines_of(script):
     """The lines that get a reply: all that are not blank, with their numbers."""
     lines = (Line(number, text) for number, text in enumerate(script.split(b"\n"), 1))
     return [it for it in lines if it.text.strip(b" \t\r")]
+
+
+def version_of(lines):
+    """The version that a script's first line tells; 1 if it tells none."""
+    value = lines[0].value if lines else None
+    number = value.get("version") if isinstance(value, dict) and len(value) == 1 else None
+    return number if type(number) is int and number in (2, 3) else 1
+
+
+def opening_of(lines):
+    """The lines up to the graph's: a version line, if there is one, and the graph."""
+    return lines[: 1 if version_of(lines) == 1 else 2]
 
 
 def run_bytes(script, words):
@@ -100,16 +115,18 @@ def entries_alone(lines, replies):
         return entries_of_log(lines, replies)
     if len(replies) == 1 and "line" in replies[0]:
         lines = [it for it in lines if it.number == replies[0]["line"]]
+    elif len(replies) == 1 and "error" in replies[0]:
+        lines = opening_of(lines)[-1:]
     return [Entry(line, reply) for line, reply in zip(lines, replies)]
 
 
 def entries_of_log(lines, replies):
     """The entries of a log of several clients, each with the line that it answers."""
-    asked = {}
-    for line in lines[1:]:
+    asked, opening = {}, opening_of(lines)
+    for line in lines[len(opening) :]:
         asked.setdefault(line.value["client"], []).append(line)
-    entries = [Entry(lines[0], replies[0])]
-    for it in replies[1:]:
+    entries = [Entry(line, reply) for line, reply in zip(opening, replies)]
+    for it in replies[len(opening) :]:
         if "number" in it:
             entries.append(Entry(asked[it["client"]][it["number"]], it["reply"], it["client"]))
         else:
@@ -126,7 +143,7 @@ def entries_asked(lines, queries, before, words):
     """The entries of a run with the queries after each line but so many before the graph's, and how the program ended."""
     given, widths = [], []
     for at, line in enumerate(lines):
-        put_in = [] if at < before else [it.encode() for it in queries]
+        put_in = [] if at < before else [it.encode() for it in (queries(at) if callable(queries) else queries)]
         given += [line.text, *put_in]
         widths.append(1 + len(put_in))
     status, output, error = run_bytes(b"".join(it + b"\n" for it in given), words)
@@ -143,19 +160,20 @@ def entries_asked(lines, queries, before, words):
 def run_script(script, words=(), queries=(STATE,)):
     """The run of a script, with the answers to the queries after each line from the graph's on."""
     words, lines = list(words), lines_of(script)
-    asked, status, output, error = entries_asked(lines, queries, 0, words)
+    version, opening = version_of(lines), opening_of(lines)
+    asked, status, output, error = entries_asked(lines, queries, len(opening) - 1, words)
     if status == 0 and len(asked) == len(lines) > 0:
-        return Run(words, graph_of(lines, asked), asked, status, error, output)
+        return Run(words, version, graph_of(lines, asked), asked, status, error, output)
     status, output, error = run_bytes(script, words)
     alone = entries_alone(lines, replies_of(output))
     before = next((at for at, it in enumerate(alone) if "locations" in it.reply), 0)
-    if before:
+    if before > len(opening) - 1:
         asked = entries_asked(lines, queries, before, words)[0]
     for at, (it, other) in enumerate(zip(alone, asked)):
         if (it.line, it.reply) != (other.line, other.reply) or it.client is not None:
             break
         alone[at] = other
-    return Run(words, graph_of(lines, alone), alone, status, error, output)
+    return Run(words, version, graph_of(lines, alone), alone, status, error, output)
 
 
 def answers_after(script, number, texts, words=()):

@@ -15,6 +15,8 @@ import threading
 FUNCTION = re.compile(r"\s*(?:pub(?:\([^)]*\))?\s+)?(?:const\s+)?(?:unsafe\s+)?fn\s+(\w+)")
 # a proof file that names what an edit took away, and what cites a proof that another edit broke
 OF_NAMES = re.compile(r"(\./)?proofs/.*(has no field|is not in scope|has no `|was not admitted|was not checked)")
+# whether the prover's name of an impl has what its trait is given, and the type's first letter as a capital
+names_are_whole = True
 # an error, or a goal that is left open
 AGAINST = re.compile(r"(?:\./)?\S+?:\d+:\d+: error|note: (?:\./)?\S+?:\d+:\d+: it is not proved that ")
 PLACE = re.compile(r"(?:note: )?(?:\./)?(\S+?):(\d+):\d+: ")
@@ -52,13 +54,15 @@ def without_angles(text):
 
 
 def short(path):
-    """The last name of a path, as the prover writes it: without what stands between < and >, the first letter a capital."""
+    """The last name of a path, as the prover writes it: without what stands between < and >."""
     name = without_angles(path).strip().rpartition("::")[2]
-    return name[:1].upper() + name[1:]
+    return name[:1].upper() + name[1:] if names_are_whole else name
 
 
 def given_to(path):
-    """What a path's last name is given between < and >."""
+    """What a path's last name is given between < and >, if the prover names it."""
+    if not names_are_whole:
+        return []
     inside = re.match(r"[^<]*<(.*)>\s*$", path)
     parts, deep = [""], 0
     for letter in inside[1] if inside else "":
@@ -177,8 +181,9 @@ def refused_together(rt, crate, edits, texts, flags, kept):
     return {it: why[0] for it, why in said.items() if all(why)}, []
 
 
-def must_fail_all(rt, crate, edits, flags):
-    """For each edit what a try of the crate with it comes to, and what to say, as the toolchain's own trial of one edit."""
+def must_fail_all(rt, crate, edits, flags, is_settled, refusal):
+    """For each edit what a try of the crate with it comes to, and what to say, as the toolchain's own trial of one edit; that
+    trial's word for a refusal is handed in, and whether a word of its ends the matter."""
     left, refused = [it for it in edits if not rt.read_edit(it, crate.folder)[1]], {}
     with tempfile.TemporaryDirectory(prefix="rt-together-") as kept:
         while left:
@@ -189,10 +194,10 @@ def must_fail_all(rt, crate, edits, flags):
             refused.update(said)
             left = [it for it in left if it not in said and it not in barred]
         label = f"must-fail {crate.name}/"
-        given = {it: (rt.REFUSED, f"{label}{os.path.basename(it)}: refused, as it must be: {why[:160]}") for it, why in refused.items()}
+        given = {it: (refusal, f"{label}{os.path.basename(it)}: refused, as it must be: {why[:160]}") for it, why in refused.items()}
         for edit in [it for it in edits if it not in refused]:
             given[edit] = rt.must_fail(crate, edit, flags, kept)
-            if given[edit][0] not in rt.SETTLED:
+            if not is_settled(given[edit][0]):
                 given[edit] = rt.must_fail(crate, edit, flags)
     return [given[it] for it in edits]
 
@@ -215,7 +220,8 @@ def add_edits(rt, tasks, crate, edits, first, waits, is_well, kept, start=None, 
         if not is_well(given) or not is_well(given, len(edits) - len(known())):
             return None
         left = [number for number in range(len(edits)) if number not in known()]
-        tried = dict(zip(left, must_fail_all(rt, crate, [edits[it] for it in left], ["--jobs", "1"])))
+        chosen = [edits[it] for it in left]
+        tried = dict(zip(left, must_fail_all(rt, crate, chosen, ["--jobs", "1"], rt.SETTLED.__contains__, rt.REFUSED)))
         read = [crate] if in_ci else [crate, *crate.below()]
         for number, (kind, text) in tried.items():
             if kind in rt.SETTLED and all(kept.is_untouched(it) for it in read):

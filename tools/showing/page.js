@@ -7,6 +7,7 @@ const MOST_STEPS = 120;
 const MANY = 5;
 const by = (id) => document.getElementById(id);
 let position = 0;
+const chosen = { q: 0, at: run.named.length ? run.named[run.named.length - 1] : null };
 
 function made(kind, text, className) {
   const it = document.createElement(kind);
@@ -88,7 +89,9 @@ function pointRow(row, old, hasBefore) {
   const was = (kind, p) => (!hasBefore ? undefined : old ? stood(kind, p) : nothing(kind));
   it.append(made("td", row.at), cell(row.truth, was("truth", null), ["edged"]));
   row.view.forEach((text, p) => {
-    it.append(cell(text, was("view", p), [p === 0 && "edged", text !== row.truth && "apart", row.front[p] && "front"]));
+    const view = cell(text, was("view", p), [p === 0 && "edged", text !== row.truth && "apart", row.front[p] && "front", "asks"]);
+    view.addEventListener("click", () => choose(p, row.at));
+    it.append(view);
   });
   row.unsent.forEach((text, p) => it.append(cell(text, was("unsent", p), [p === 0 && "edged"])));
   return it;
@@ -151,6 +154,41 @@ function showProcessors(now, before) {
   by("processors").replaceChildren(made("h2", "What each processor holds"), ...parts);
 }
 
+function choose(q, at) {
+  chosen.q = q;
+  chosen.at = at;
+  show(position);
+}
+
+function choices(id, texts, now, pick) {
+  const it = made("select");
+  it.id = id;
+  texts.forEach((text, number) => {
+    const option = made("option", text);
+    option.selected = number === now;
+    it.append(option);
+  });
+  it.addEventListener("change", () => pick(it.selectedIndex));
+  return it;
+}
+
+// Why the chosen processor does not consider the chosen point finished, by the program's own answers at this position.
+function showWhy(now) {
+  const why = now.why, known = why ? Math.max(0, why.at.indexOf(chosen.at)) : 0;
+  by("why").hidden = !why || !why.at.length;
+  if (by("why").hidden) return;
+  const q = Math.min(chosen.q, why.told.length - 1);
+  const asked = made("p");
+  const processors = choices("why-q", why.told.map((_, p) => `processor ${p}`), q, (p) => choose(p, why.at[known]));
+  asked.append("Why does ", processors, " not consider ", choices("why-at", why.at, known, (it) => choose(q, why.at[it])), " finished?");
+  const [finished, ...reasons] = why.told[q][known];
+  const truth = finished ? "it is finished" : "it is not finished";
+  const lines = reasons.length ? [...reasons.map((it) => why.texts[it]), truth] : [`it does: ${truth}`];
+  const list = made("ul");
+  list.append(...lines.map((text) => made("li", text)));
+  by("why").replaceChildren(made("h2", "Why not finished"), asked, list);
+}
+
 function showBreaks(it) {
   const rows = it.breaks.map((one) => {
     const row = made("div", undefined, "row");
@@ -170,10 +208,11 @@ function show(at) {
   showKept(it);
   showBreaks(it);
   showPlaces(now, before, it.mark);
-  for (const id of ["points", "queues", "processors"]) by(id).hidden = !now;
+  for (const id of ["points", "why", "queues", "processors"]) by(id).hidden = !now;
   document.querySelector("main").classList.toggle("many", !now || run.processors >= MANY);
   if (!now) return;
   showPoints(now, before);
+  showWhy(now);
   showQueues(now, before);
   showProcessors(now, before);
 }
@@ -195,7 +234,7 @@ const KEYS = {
   End: () => run.positions.length - 1,
 };
 document.addEventListener("keydown", (event) => {
-  if (!(event.key in KEYS) || event.altKey || event.ctrlKey || event.metaKey) return;
+  if (!(event.key in KEYS) || event.altKey || event.ctrlKey || event.metaKey || event.target.tagName === "SELECT") return;
   event.preventDefault();
   move(KEYS[event.key]());
 });

@@ -5,8 +5,9 @@ from html import escape
 
 from runs import run_script
 from showing.graphs import graph_svg, laid_out
-from showing.states import QUERIES, shown_positions
-from telling.commands import counted
+from showing.reasons import named_points
+from showing.states import queries_of, shown_positions
+from telling.commands import at, counted
 
 FOLDER = os.path.dirname(os.path.abspath(__file__))
 
@@ -29,12 +30,13 @@ def embedded(value):
 
 def replayed(told, words):
     """The run of several clients' log by one client, who is given the same replies: with the states after them."""
-    asked = [it for it in told.entries[1:] if it.line]
+    head = [it for it in told.entries if it.client is None]
+    asked = [it for it in told.entries if it.client is not None and it.line]
     values = [{key: value for key, value in it.line.value.items() if key != "client"} for it in asked]
-    script = b"\n".join([told.entries[0].line.text, *(dumped(it).encode() for it in values)])
+    script = b"\n".join([*(it.line.text for it in head), *(dumped(it).encode() for it in values)])
     others = [it for at, it in enumerate(words) if "--clients" not in (it.split("=")[0], words[at - 1] if at else "")]
-    alone = run_script(script, others, QUERIES).entries
-    if [it.reply for it in alone] != [it.reply for it in [told.entries[0], *asked]]:
+    alone = run_script(script, others, queries_of(words)).entries
+    if [it.reply for it in alone] != [it.reply for it in [*head, *asked]]:
         return told
     states = {number: it.answers for number, it in enumerate(alone)}
     numbers = iter(range(len(alone)))
@@ -43,7 +45,7 @@ def replayed(told, words):
 
 def page_of(name, script, words, uses_dot=True):
     """The page of a script's run, and the run."""
-    told = run_script(script, words, QUERIES)
+    told = run_script(script, words, queries_of(words))
     if any(it.client is not None for it in told.entries):
         told = replayed(told, words)
     positions, states = shown_positions(told, script, dumped)
@@ -52,6 +54,7 @@ def page_of(name, script, words, uses_dot=True):
     graph = graph_svg(told.graph, laid_out(told.graph, uses_dot)) if has_form else "<p>The program has read no graph.</p>"
     title = f"{name}, {counted(start['processors'], 'processor')}" if start else name
     run = {"positions": positions, "states": states, "processors": start["processors"] if start else 0}
+    run["named"] = [at(*it) for it in named_points(told)]
     filled = {
         "title": escape(title),
         "command": escape(" ".join(["rewind", *words, "<", name])),

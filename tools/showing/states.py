@@ -1,11 +1,18 @@
 """What a page shows of each reply: its line and answer in words, and the state after it, all of it as text."""
 from telling import faults
 from telling.commands import at, counted, time_in
+from showing.reasons import reasons_by_state
 from telling.table import Points
 
-FRONTIERS = [f'{{"do":"frontier","q":{q}}}' for q in range(8)]
-QUERIES = ('{"do":"state"}', *FRONTIERS)
 LONGEST = 2000
+
+
+def queries_of(words):
+    """The queries for a page's states: the state, and the frontier of each processor that the words of the command line ask for."""
+    given = [it.partition("=") for it in words]
+    counts = [after if sign else next(iter(words[place + 1 :]), "") for place, (name, sign, after) in enumerate(given) if name == "--processors"]
+    count = int(counts[-1]) if counts and counts[-1].isdecimal() else 1
+    return ['{"do":"state"}', *(f'{{"do":"frontier","q":{q}}}' for q in range(min(count, 16)))]
 
 
 def number(count, has_sign=False):
@@ -131,13 +138,15 @@ def shown_positions(told, script, dumped):
     teller = faults.teller_of(told, script)
     positions, states, place_of = [], [], {}
     here, before = {"at": 0, "kept": 0}, None
+    has_states = any(it.state is not None for it in told.entries)
+    reasons = reasons_by_state(told, order_of(told.graph), lambda it: dumped(it.answers)) if has_states else {}
     for entry in told.entries:
         asked, answer = faults.told_line(entry, before, teller)
         here = {key: entry.reply.get(key, here[key]) for key in here}
         before, key = entry.state, dumped(entry.answers)
         if before is not None and key not in place_of:
             place_of[key] = len(states)
-            states.append(shown_state(before, order_of(told.graph), entry.answers))
+            states.append({**shown_state(before, order_of(told.graph), entry.answers), "why": reasons.get(key)})
         told_here = {"asked": asked, "answer": answer, "state": place_of[key] if before is not None else None}
         positions.append({**shown_line(entry, dumped), **told_here, **here, "breaks": breaks_of(teller, entry.reply)})
     return positions, states

@@ -1,13 +1,16 @@
 """The program's replies in words, with what a script's earlier replies told: the cursor, the kept steps, the breakpoints."""
-from telling.commands import at, condition, counted, some_of, time_in
+from telling.commands import at, command_words, condition, counted, some_of, time_in
 from telling.forms import listed
+from telling.reasons import why_words
+
+MOST_STEPS = 40
 
 
 class Teller:
     """Tells one reply after the other, and keeps what they tell of the timeline."""
 
-    def __init__(self, graph, processors, has_clients):
-        self.graph, self.processors, self.has_clients = graph, processors, has_clients
+    def __init__(self, graph, processors, has_clients, version=1):
+        self.graph, self.processors, self.has_clients, self.version = graph, processors, has_clients, version
         self.kept, self.breaks = 0, {}
 
     def told(self, value, reply, before):
@@ -67,6 +70,8 @@ class Teller:
         return f"there is no breakpoint {value['id']}; set: {some_of(sorted(self.breaks))}"
 
     def no_such_point(self, value, reply, before):
+        if value["do"] == "step" and value["to"] == 0:
+            return f"no step leads to position 0, where the script begins; {self.kept_positions()}"
         return f"position {value.get('hi', value.get('to'))} is past the last kept step; {self.kept_positions()}"
 
 
@@ -168,6 +173,21 @@ def passed(teller, value, reply):
     return ["yes" if reply["passed"] else f"no: its view has {at(*reply['point'])} at or before it"]
 
 
+def changed(teller, value, reply):
+    """At which positions a view changed, each with the entry there."""
+    told = [f"at position {position} to {entry}" for position, entry in reply["changes"]]
+    more = ", and there are more" if reply.get("more") else ""
+    return [some_of(told) + more if told else "at none"]
+
+
+def exported(teller, value, reply):
+    """The kept steps, a sentence each if they are few, and which of them are made."""
+    steps = reply["steps"]
+    told = [f"{position}. {command_words(it)}" for position, it in enumerate(steps, 1)]
+    rest = [f".. ({len(steps)} in all)"] if len(told) > MOST_STEPS else []
+    return [f"{counted(len(steps), 'kept step')}, and the cursor is at {reply['at']}", *told[:MOST_STEPS], *rest]
+
+
 ANSWERS = {
     **{word: Teller.moved for word in ("feed", "take", "notice", "broadcast", "receive", "back", "redo", "jump")},
     "run": Teller.ran,
@@ -180,4 +200,8 @@ ANSWERS = {
     "frontier": lambda teller, value, reply: [points(reply["frontier"])],
     "passed": passed,
     "search": lambda teller, value, reply: ["at none" if reply["found"] is None else f"at position {reply['found']}"],
+    "export": exported,
+    "why": lambda teller, value, reply: why_words(value["q"], value["at"], value["time"], reply),
+    "changes": changed,
+    "step": lambda teller, value, reply: [command_words(reply["step"])],
 }

@@ -33,6 +33,18 @@ LOOP = [json.dumps(ROUND), FEED, do("run", limit=3), do("broadcast", p=0), do("r
 SUMS = [SUM, do("feed", p=0, vertex="a", values=[2, 3], next="next"), do("take", p=0, edge="as", time=[0], value=2)]
 SUMS += [do("take", p=0, edge="as", time=[0], value=3), do("run", limit=2)]
 TOP = 2**63 - 1
+V2, V3 = '{"version":2}', '{"version":3}'
+
+
+def nest(depth):
+    """A chain that enters so many loops, one within another."""
+    names = [f"i{it}" for it in range(depth)]
+    vertices = [A, *(vertex(name, "ingress", it) for it, name in enumerate(names)), vertex("z", "sink", depth)]
+    ends = [it["name"] for it in vertices]
+    return json.dumps(graph(vertices, [edge(f"{start}-{end}", start, end) for start, end in zip(ends, ends[1:])]))
+
+
+DEEP, DEEPER = nest(5), nest(7)
 CLIENTS = [LINE, '{"client":0,"do":"feed","p":0,"vertex":"a","values":[5],"next":"close"}', '{"client":0,"do":"back"}']
 
 TOLD = {
@@ -170,6 +182,58 @@ TOLD = {
         (4, "faulty, 33 LineTooLong: the line has 65539 bytes; at most 65536 may be"),
     ]),
     "no graph": ([], ['{"vertices":'], 2, [(1, "faulty, 30 BadLine: it breaks as JSON at column 13")]),
+    # versions 2 and 3
+    "export": ([], [V2, LINE, FEED, do("broadcast", p=0, part=[["az", [0]], ["a", [0]]]), do("back"), do("export"), do("step", to=1)], 0, [
+        (1, "this is a script of version 2"), (2, "the graph"), (6, "what are the kept steps? 2 kept steps, and the cursor is at 1"),
+        (6, "1. processor 0 feeds 5 into a and gives up its token"), (6, "2. processor 0 broadcasts what is unsent at az (0) and a (0)"),
+        (7, 'BadShape: "step" came with version 3, and the script is of version 2; its first line is to be {"version":3}'),
+    ]),
+    "why": (["--processors", "3"], [
+        V3, EXCHANGE, FEED, do("why", q=1, at="z", time=[0]), do("take", p=2, edge="az", time=[0], value=5), do("broadcast", p=2),
+        do("receive", **{"from": 2, "to": 1}), do("broadcast", p=0), do("why", q=1, at="z", time=[0]), do("why", q=3, at="z", time=[0]),
+        do("changes", q=1, at="az", time=[0], lo=0, hi=5), do("changes", q=1, at="a", time=[0], lo=0, hi=5),
+        do("changes", q=1, at="a", time=[0], lo=2, hi=1), do("changes", q=1, at="a", time=[0], lo=2, hi=6),
+        do("step", to=4), do("step", to=0), do("step", to=6), do("why", q=1, at="y", time=[0]), do("why", q=1, at="z"),
+    ], 0, [
+        (4, "why does processor 1 not consider z (0) finished? processor 1 does not know that z (0) is finished: it still counts 3 at"),
+        (4, "held there: the tokens of processors 1 and 2; not heard: -1 of processor 0, which has not sent it it is not finished"),
+        (9, "it still counts 3 at a (0); held there: the tokens of processors 1 and 2; not heard: -1 of processor 0, first on its way"),
+        (10, "refused, 1 NoProcessor: there is no processor 3; there are the processors 0 to 2"),
+        (11, "when did processor 1's view of az (0) change, from position 0 to 5? at position 4 to -1"), (12, "at none"),
+        (13, "refused, 50 BadRange: lo, 2, is above hi, 1"), (14, "22 NoSuchPoint: position 6 is past the last kept step"),
+        (15, "which step leads to position 4? processor 1 receives the first change on its way from processor 2"),
+        (16, "22 NoSuchPoint: no step leads to position 0"), (17, "22 NoSuchPoint: position 6 is past the last kept step"),
+        (18, '"y" is no name of the graph'), (19, 'right is {"do":"why","q":0,"at":"a","time":[0]}'),
+    ]),
+    "reasons": ([], [
+        V3, SUM, do("feed", p=0, vertex="a", values=[2, 3, 3], next="close"), do("take", p=0, edge="as", time=[0], value=2),
+        do("broadcast", p=0), do("receive", **{"from": 0, "to": 0}), do("why", q=0, at="z", time=[0]),
+        do("take", p=0, edge="as", time=[0], value=3), do("broadcast", p=0), do("take", p=0, edge="as", time=[0], value=3),
+        do("broadcast", p=0), do("why", q=0, at="z", time=[0]), do("run", limit=2), do("why", q=0, at="z", time=[0]),
+        do("run", limit=9), do("why", q=0, at="z", time=[0]),
+    ], 0, [
+        (7, "it still counts 2 at as (0); held there: 2 records 3 of processor 0 it is not finished"),
+        (12, "nothing is held there; not heard: -1 of processor 0, first on its way and -1 of processor 0, behind 1 change on its way"),
+        (14, "it still counts 1 at s (0); held there: the request of processor 0 it is not finished"),
+        (16, "processor 0 knows that z (0) is finished"),
+    ]),
+    "a later query": ([], [LINE, do("why", q=0, at="z", time=[0]), do("export"), do("whi", q=0), '{"version":3}'], 0, [
+        (2, '"why" came with version 3, and the script is of version 1; its first line is to be {"version":3}'),
+        (3, '"export" came with version 2'), (4, '"whi" is no command or query; the words are'), (5, "before the graph alone"),
+    ]),
+    "another version": ([], ['{"version":4}', LINE], 2, [(1, 'faulty, 40 Shape: a version line is {"version":2} or {"version":3} alone')]),
+    "a version twice": ([], [V2, V2, LINE], 2, [(1, "of version 2"), (2, "faulty, 40 Shape: a version line is")]),
+    "a version alone": ([], [V3], 0, [(1, "this is a script of version 3")]),
+    "a deep time": ([], [V2, DEEP, do("count", at="z", time=[0])], 0, [(3, 'at "z", at depth 5, a time has 6 numbers')]),
+    "a deep graph": ([], [DEEP], 2, [(1, '"z" is at depth 5; at most 4 may be; in versions 2 and 3 at most 6')]),
+    "nine processors": (["--processors", "9"], [LINE], 2, [(1, "48 BadCount: a script of version 1 has at most 8 processors")]),
+    "clients of a version": (["--clients", "2"], [V2, *CLIENTS], 0, [
+        (1, "this is a script of version 2"), (2, "the graph"), (3, "line 3, client 0: processor 0 feeds 5 into a"), (4, "back over"),
+    ]),
+    "clients' export": (["--clients", "2"], [V2, *CLIENTS, '{"client":1,"do":"export"}'], 2, [(5, '36 OneClientOnly: "export"')]),
+    "clients' refused graph": (["--clients", "2"], [V2, DEEPER, '{"client":1,"do":"back"}'], 2, [
+        (2, '45 TooLarge: the ingress "i6" is at depth 6, the greatest'), (2, '"z" is at depth 7; at most 6 may be'),
+    ]),
     # several clients
     "clients": (["--clients", "2"], CLIENTS, 0, [
         (2, "line 2, client 0: processor 0 feeds 5 into a"), (3, "back over the last step"), (3, "the cursor is at 0 of 1 kept step"),

@@ -75,6 +75,10 @@ WORDS = {
     "frontier": lambda it: f"what is the frontier of processor {it['q']}'s view?",
     "passed": lambda it: f"has processor {it['q']} passed {at(it['at'], it['time'])}?",
     "search": search,
+    "export": lambda it: "what are the kept steps?",
+    "why": lambda it: f"why does processor {it['q']} not consider {at(it['at'], it['time'])} finished?",
+    "changes": lambda it: f"when did processor {it['q']}'s view of {at(it['at'], it['time'])} change, from position {it['lo']} to {it['hi']}?",
+    "step": lambda it: f"which step leads to position {it['to']}?",
 }
 
 

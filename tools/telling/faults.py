@@ -1,5 +1,5 @@
 """A line and its answer in words, where the line may be faulty: what was wrong with it, and what would be right."""
-from runs import lines_of
+from runs import lines_of, opening_of
 from telling import forms, graph_faults, names, texts, values
 from telling.answers import Teller
 from telling.commands import command_words, counted, graph_words, unread
@@ -13,11 +13,12 @@ def teller_of(told, script):
 
     A faulty line that is answered before the graph is one of several clients' script, whose graph was read."""
     first = told.entries[0] if told.entries else None
-    has_fault_alone = first is not None and first.line.number != lines_of(script)[0].number
+    opening = [it.number for it in opening_of(lines_of(script))]
+    has_fault_alone = first is not None and first.line.number not in opening
     started = next((it.reply for it in told.entries if "locations" in it.reply), {})
-    graph = names.Graph(told.graph) if started or has_fault_alone else None
+    graph = names.Graph(told.graph, told.version) if started or has_fault_alone else None
     has_clients = has_fault_alone or any(it.client is not None for it in told.entries)
-    return Teller(graph, started.get("processors"), has_clients)
+    return Teller(graph, started.get("processors"), has_clients, told.version)
 
 
 def told_line(entry, before, teller):
@@ -30,8 +31,11 @@ def told_line(entry, before, teller):
     if "locations" in reply:
         counts = counted(reply["locations"], "location"), counted(reply["processors"], "processor")
         return "the graph", [*graph_words(entry.line.value), f"read: {counts[0]}, {counts[1]}"]
+    if "version" in reply:
+        return "the script's version", [f"this is a script of version {reply['version']}"]
     if "error" in reply and teller.graph is None:
-        return unread(entry.line.text), faulty(reply, faults_in(entry.line.text, lambda it: graph_faults.graph_faults(it, reply)))
+        wrong = faults_in(entry.line.text, lambda it: graph_faults.graph_faults(it, reply, teller.version))
+        return unread(entry.line.text), faulty(reply, wrong)
     if not is_known(entry.line.value):
         return unread(entry.line.text), [shown(reply, None)]
     return command_words(entry.line.value), teller.told(entry.line.value, reply, before)
@@ -69,7 +73,7 @@ def line_faults(text, reply, teller):
 
 
 FAULTS = {
-    "BadShape": lambda value, teller: forms.shape_faults(value, teller.has_clients),
+    "BadShape": lambda value, teller: forms.shape_faults(value, teller.has_clients, teller.version),
     "UnknownName": lambda value, teller: names.unknown_names(teller.graph, value),
     "BadTime": lambda value, teller: names.wrong_times(teller.graph, value),
     "BadClient": lambda value, teller: [f"\"client\" is {value['client']}, and is to be below the number of clients"],

@@ -43,8 +43,14 @@ QUERIES = {
     "frontier": {"q": SMALL},
     "passed": {"q": SMALL, "at": PLACE, "time": TIME},
     "search": {"when": WHEN, "lo": WHOLE, "hi": WHOLE, "workers": WHOLE},
+    "export": {},
+    "why": {"q": SMALL, "at": PLACE, "time": TIME},
+    "changes": {"q": SMALL, "at": PLACE, "time": TIME, "lo": WHOLE, "hi": WHOLE},
+    "step": {"to": WHOLE},
 }
 FORMS = {**COMMANDS, **QUERIES}
+# The version of the script with which a word came, if it is not the first, and the last version that there is.
+SINCE, LAST = {"export": 2, "why": 3, "changes": 3, "step": 3}, 3
 BREAKS = {
     "passed": {"q": SMALL, "at": PLACE, "time": TIME},
     "count": {"at": PLACE, "at_least": WHOLE, "time": TIME},
@@ -52,6 +58,11 @@ BREAKS = {
     "sink": {"at_least": WHOLE, "value": SIGNED, "vertex": VERTEX},
 }
 OPTIONAL = {"part"}
+
+
+def words_of(version):
+    """The words of a script's version."""
+    return [it for it in FORMS if SINCE.get(it, 1) <= version]
 
 
 def nearest(word, known):
@@ -117,22 +128,28 @@ def break_shown(name):
     return f"{{{shown(name)}:{form_shown([], BREAKS[name])}}}"
 
 
-def word_faults(value):
-    """What is wrong with the command word of an object; nothing if it is one."""
+def word_faults(value, version):
+    """What is wrong with the command word of an object; nothing if it is one of the script's version."""
+    known = words_of(version)
     if "do" not in value:
         near = nearest("do", [key for key in value if key.lower() == "do"])
         if near:
             return [f'the key {shown(near)} is to be "do"']
-        form = likeliest(value)
+        if value.keys() == {"version"}:
+            return ["a version line stands before the graph alone"]
+        form = likeliest(value, known)
         hint = f"; the nearest form is {form_shown([do_of(form)], FORMS[form])}" if form else ""
         return [f'the key "do" is missing, which says what to do{hint}']
     word = value["do"]
     if values.text(word):
-        return [f'"do":{shown(word)} {values.text(word)}; right is one of the words {listed(FORMS)}']
-    if word in FORMS:
+        return [f'"do":{shown(word)} {values.text(word)}; right is one of the words {listed(known)}']
+    if word in known:
         return []
-    near = nearest(word, FORMS)
-    hint = f"; the nearest is {shown(near)}" if near else f"; the words are {listed(FORMS)}"
+    if word in FORMS:
+        since = SINCE[word]
+        return [f'{shown(word)} came with version {since}, and the script is of version {version}; its first line is to be {{"version":{since}}}']
+    near = nearest(word, known)
+    hint = f"; the nearest is {shown(near)}" if near else f"; the words are {listed(known)}"
     return [f"{shown(word)} is no command or query{hint}"]
 
 
@@ -140,19 +157,19 @@ def do_of(word):
     return f'"do":{shown(word)}'
 
 
-def likeliest(value):
-    """The word whose form has most keys in common with the object's, and fewest others; None if it has none."""
+def likeliest(value, known):
+    """The known word whose form has most keys in common with the object's, and fewest others; None if it has none."""
     common = lambda word: (len(FORMS[word].keys() & value.keys()), -len(FORMS[word].keys() ^ value.keys()))
-    best = max(FORMS, key=common)
+    best = max(known, key=common)
     return best if common(best)[0] else None
 
 
-def shape_faults(value, has_clients):
+def shape_faults(value, has_clients, version=LAST):
     """What keeps a value from having the form of a line, each fault in words; if keys are wrong, the right form last."""
     if not isinstance(value, dict):
         return [f'{shown(value)} {values.kind_of(value)}; a line is an object that says what to do, as {{"do":"back"}}']
     start = {"client": WHOLE} if has_clients else {}
-    wrong = word_faults(value)
+    wrong = word_faults(value, version)
     if wrong:
         given = {key: value[key] for key in start if key in value}
         return wrong + keys_faults(given, start) + value_faults(given, start)

@@ -6,7 +6,7 @@ from telling.values import shown
 
 PLAIN = ("input", "ingress", "egress", "feedback", "sum", "distinct", "sink")
 NUMBERED = ("add", "mul", "below", "split")
-MOST, DEEPEST = 64, 4
+MOST = 64
 BEYOND = {"ingress": 1, "egress": -1}
 
 
@@ -29,8 +29,15 @@ ANY_LIST = values.list_of(lambda it: None)
 GRAPH = {"vertices": ("a list of vertices", ANY_LIST), "edges": ("a list of edges", ANY_LIST)}
 
 
+def deepest(version):
+    """The greatest depth in a script of a version."""
+    return 4 if version == 1 else 6
+
+
 def shape_faults(graph):
     """What keeps a value from having a graph's form: the faults of its keys, or those of its first wrong vertex or edge."""
+    if isinstance(graph, dict) and any(key.lower() == "version" for key in graph):
+        return ['a version line is {"version":2} or {"version":3} alone, as the first line, and the graph is the next']
     if not isinstance(graph, dict):
         return [f'{shown(graph)} {values.kind_of(graph)}; a graph is an object with the keys "vertices" and "edges"']
     faults = keys_faults(graph, GRAPH) + value_faults(graph, GRAPH)
@@ -133,21 +140,28 @@ def wrong_depths(graph):
     return faults
 
 
-def too_large(graph):
-    """What passes the limits."""
+def too_large(graph, version):
+    """What passes the limits of a version."""
     count = len(graph["vertices"]) + len(graph["edges"])
     faults = [f"there are {count} vertices and edges; at most {MOST} may be"] if count > MOST else []
+    most, later = deepest(version), "; in versions 2 and 3 at most 6" if version == 1 else ""
     for it in graph["vertices"]:
-        if it["depth"] > DEEPEST:
-            faults.append(f"{shown(it['name'])} is at depth {it['depth']}; at most {DEEPEST} may be")
+        if it["depth"] > most:
+            faults.append(f"{shown(it['name'])} is at depth {it['depth']}; at most {most} may be{later}")
+        elif it["depth"] == most and it["op"] == "ingress":
+            faults.append(f"the ingress {shown(it['name'])} is at depth {most}, the greatest, and enters a loop{later}")
     return faults
 
 
-FAULTS = {40: shape_faults, 41: double_names, 42: unknown_names, 43: bad_ports, 44: wrong_depths, 45: too_large}
+FAULTS = {40: shape_faults, 41: double_names, 42: unknown_names, 43: bad_ports, 44: wrong_depths}
 
 
-def graph_faults(value, reply):
-    """What is wrong with a graph that was refused by this reply, each fault in words."""
+def graph_faults(value, reply, version=1):
+    """What is wrong with a graph that was refused by this reply in a script of a version, each fault in words."""
+    if reply["code"] == 45:
+        return too_large(value, version)
+    if reply["code"] == 48:
+        return ['a script of version 1 has at most 8 processors; with the first line {"version":2} or {"version":3} there may be 16']
     if "location" in reply:
         place = shown(reply["location"])
         walk = f"a walk from {place} comes back to {place} and does not move every time strictly on"

@@ -4,6 +4,7 @@ import json
 from runs import answers_after
 from telling import forms
 from telling.commands import vertex_words
+from telling.graph_faults import deepest
 from telling.forms import EDGE, PLACE, POINT, POINTS, TIME, VERTEX, listed, nearest
 from telling.values import shown
 
@@ -14,8 +15,8 @@ WANTED = {id(VERTEX): "vertex", id(EDGE): "edge", id(PLACE): "place"}
 class Graph:
     """The names of a graph that the program has read."""
 
-    def __init__(self, value):
-        self.value = value
+    def __init__(self, value, version=1):
+        self.value, self.version = value, version
         self.vertices = {it["name"]: it for it in value["vertices"]}
         self.edges = {it["name"]: it for it in value["edges"]}
         self.order = {name: at for at, name in enumerate([*self.vertices, *self.edges])}
@@ -97,8 +98,9 @@ def wrong_times(graph, value):
 
 def depth_at(graph, name):
     """The depth of a place, asked of the program: of counts at times of each length one alone has no wrong time."""
-    asked = [json.dumps({"do": "count", "at": name, "time": [0] * (depth + 1)}) for depth in range(5)]
-    replies = answers_after(json.dumps(graph.value).encode(), 1, asked)
+    asked = [json.dumps({"do": "count", "at": name, "time": [0] * (depth + 1)}) for depth in range(deepest(graph.version) + 1)]
+    opening = [{"version": graph.version}] * (graph.version > 1) + [graph.value]
+    replies = answers_after("\n".join(map(json.dumps, opening)).encode(), len(opening), asked)
     return next((depth for depth, it in enumerate(replies) if "count" in it), None)
 
 

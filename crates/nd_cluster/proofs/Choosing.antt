@@ -126,6 +126,25 @@ module _ (A : Type 0) (s : ClusterState) where
   no_receive p none (Notice _ vertex t) candidate kind e = absurd (omega (arith, kind.1))
   no_receive p none (Broadcast _ part) candidate kind e = absurd (omega (arith, kind.1))
 
+  first_receive_of : (p from : ℕ) → ((k : ℕ) → k < from → NoReceive p k) → (y : Step A) → IsCandidate y → IsOfRank p 0 y → ComesFirst y (Receive from p) → IsEnabled s y → ⊥
+  first_receive_of p from none (Receive k to) candidate kind before e =
+      elim before [
+        | inl lower ↦ absurd (omega (arith, lower))
+        | inr same ↦ none k same.1 (subst (λ q. IsEnabled {A = A} s (Receive k q)) kind.0 e)
+      ]
+  first_receive_of p from none (Feed _ vertex values _) candidate kind before e = candidate
+  first_receive_of p from none (Take _ edge t value) candidate kind before e = absurd (omega (arith, kind.1))
+  first_receive_of p from none (Notice _ vertex t) candidate kind before e = absurd (omega (arith, kind.1))
+  first_receive_of p from none (Broadcast _ part) candidate kind before e = absurd (omega (arith, kind.1))
+
+  pub first_receive : (p from : ℕ) → ((k : ℕ) → k < from → NoReceive p k) → IsEnabled {A = A} s (Receive from p) → IsFirst {A = A} s (IsOfRank p 0) (Receive from p)
+  first_receive p from none e = record {
+    candidate = tt;
+    kind = (refl, refl);
+    enabled = e;
+    first = first_receive_of p from none;
+  }
+
   -- ---- the takes on a processor
   abbrev pub Taking : ℕ → ValueAt → Step A
   Taking p k = Take p k.point.location k.point.time k.value

@@ -4,6 +4,7 @@ use Rattle.nd_time.specs.Time.{Time}
 use Rattle.nd_protocol.specs.State.{ClusterState}
 use Rattle.nd_protocol.specs.Steps.{stepped}
 use Rattle.nd_protocol.specs.Enabled.{HasLargeCount, HasLargeEntry, FeedFails, TakeFails, NoticeFails, Fails, IsAdmissible, IsEnabled, IsFreeBelow, IsRefused}
+use Rattle.nd_protocol.specs.Ranges.{NumbersFit}
 use Rattle.nd_protocol.specs.Refusals.{number_of}
 use Rattle.nd_protocol.specs.declared.step.Step.{Step}
 use Rattle.nd_protocol.specs.declared.step.Step.TheVariants.{Feed, Take, Notice, Broadcast, Receive}
@@ -96,8 +97,8 @@ module _ {A : Type 0} (s : ClusterState) where
           by r lt h = free.free r (omega (arith, lt)) h
 
       -- no condition at all holds
-      pub enabled : (HasLargeEntry (stepped s x) → ⊥) → IsEnabled s x
-      enabled entries = record { free = by; admissible = admissible x works }
+      pub enabled : (HasLargeEntry (stepped s x) → ⊥) → NumbersFit x → IsEnabled s x
+      enabled entries numbers = record { free = by; admissible = admissible x works; numbers = numbers }
         where
           by : (r : Refusal) → Fails s x r → ⊥
           by CountFull h = counts (large_count x works h)

@@ -14,6 +14,7 @@ use Rattle.nd_protocol.specs.Exchange.{IsPart, sent, received, received_from}
 use Rattle.nd_protocol.specs.Steps.{chosen, stepped}
 use Rattle.nd_protocol.specs.Fitting.{IsState}
 use Rattle.nd_protocol.specs.Laws.{NoticeComesLast}
+use Rattle.nd_protocol.specs.Ranges.{NumbersFit}
 use Rattle.nd_protocol.specs.Enabled.{HasLargeEntry, of_unsent, of_view, Fails, IsEnabled, NeedsNoMemory, MayWantMemory, IsRefused}
 use Rattle.nd_protocol.specs.Refusals.{number_of}
 use Rattle.nd_protocol.specs.declared.part.Part.{Part}
@@ -72,12 +73,12 @@ comes_last law s (Receive from to) state may = tt
 -- ---- a broadcast
 
 module _ {A : Type 0} (s : ClusterState) (p : ℕ) (part : Part A) (c : Change) (state : IsState s) (here : p < length s.processors) (is : c ≡ chosen part (processor s p).unsent) where
-  module _ (some : c ≢ none) (upright : LeavesUpright s.graph (processor s p) c) (room : HasQueue IsFull (row s.queues p) → ⊥) where
+  module _ (some : c ≢ none) (upright : LeavesUpright s.graph (processor s p) c) (room : HasQueue IsFull (row s.queues p) → ⊥) (numbers : NumbersFit {A = A} (Broadcast p part)) where
     stays : LeavesUpright s.graph (processor s p) (chosen part (processor s p).unsent)
     stays = subst (LeavesUpright s.graph (processor s p)) is upright
 
     enabled : IsEnabled {A = A} s (Broadcast p part)
-    enabled = record { free = by; admissible = stays }
+    enabled = record { free = by; admissible = stays; numbers = numbers }
       where
         by : (r : Refusal) → Fails {A = A} s (Broadcast p part) r → ⊥
         by NoProcessor h = omega (arith, here, h)
@@ -155,13 +156,13 @@ module _ (A : Type 0) (s : ClusterState) (from to : ℕ) (state : IsState s) (he
       | inr other ↦ small_entries s state (of_view q x (subst (λ d. max_count < unsigned_abs (at d x)) (views_beside q other) large))
     ]
 
-    pub receive_plans : ReceivedChanges → (IsTooLarge (plus (view s to) c) → ⊥) → Plans {A = A} s (Receive from to) (Received from to c)
+    pub receive_plans : ReceivedChanges → (IsTooLarge (plus (view s to) c) → ⊥) → NumbersFit {A = A} (Receive from to) → Plans {A = A} s (Receive from to) (Received from to c)
     unfolding stepped
-    receive_plans law room =
+    receive_plans law room numbers =
         let many : changed s (received s from to) ≡ size c + 1 = law s from to c state.fits here there front in
         let count : size c + 1 + 0 ≡ changed s (received s from to) = omega (arith, many) in
         record {
-          enabled = record { free = by; admissible = tt };
+          enabled = record { free = by; admissible = tt; numbers = numbers };
           makes = record { from_there = here; to_there = there; front = front; room = room; arrives = refl };
           small = count;
         }

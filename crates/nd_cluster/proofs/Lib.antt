@@ -8,3 +8,4 @@ pub mod Choosing
 pub mod Sinking
 pub mod Parting
 pub mod Seeing
+pub mod Reasoned

@@ -10,7 +10,6 @@ use Rattle.nd_graph.specs.Graph.{Dataflow, op_at}
 use Rattle.nd_graph.specs.declared.op.Op.TheVariants as op
 use Rattle.nd_map.specs.Counts.{Counts, Number, nil, at, entries, at-entries, entries_listed, or_else, at-none, none as no_counts, integers}
 use Rattle.nd_map.specs.Entries.{all_found, found_all}
-use Rattle.nd_paths.specs.Order.{Fits}
 use Rattle.nd_paths.specs.Point.{point_cmp, point_total, point_exact}
 use Rattle.nd_paths.specs.declared.point.Pointstamp.{Pointstamp}
 use Rattle.nd_delta.specs.Change.{Change, or_zero, entries as listed, at-entries as change-entries, sorted-entries, some-entry}
@@ -23,9 +22,9 @@ use Rattle.nd_processor.specs.declared.key.SinkKey.{SinkKey}
 use Rattle.nd_time.specs.Limits.{max_processors}
 use Rattle.nd_view.specs.Kept.{Kept}
 use Rattle.nd_mesh.specs.Mesh.{IsMesh, queue}
-use Rattle.nd_protocol.specs.Fitting.{ChangeFits, ChangeIsWithin, IsAtVertex, IsAtEdge, ProcessorFits, ProcessorIsWithin, IsOrdered, IsState}
+use Rattle.nd_protocol.specs.Fitting.{ChangeFits, ChangeIsWithin, IsAtVertex, IsAtLocation, ProcessorFits, ProcessorIsWithin, IsOrdered, IsState}
 use Rattle.nd_record.specs.Seen.{seen}
-use Rattle.nd_cluster.specs.Parts.{IsSinkKey, ItemsFit, RowFits, RowIsWithin}
+use Rattle.nd_cluster.specs.Parts.{IsRecordKey, IsItem, IsSinkKey, ItemsFit, RowFits, RowIsWithin}
 use Rattle.nd_cluster.proofs.Choosing.{split}
 
 -- ---- the entries that are left
@@ -66,22 +65,25 @@ integer_of None h = absurd (h refl)
 integer_of (Some v) h = record { value = v; is = refl }
 
 -- what holds of each entry of a change holds where it is not 0
-pub change_from : (g : Dataflow) (c : Change) → All (λ e. Fits g e.0) (listed c) → ChangeFits g c
+pub change_from : (g : Dataflow) (c : Change) → All (λ e. IsAtLocation g e.0) (listed c) → ChangeFits g c
 change_from g c all x some =
     let v = integer_of (find point_cmp x (listed c)) (λ z. some (sym (change-entries c x) ∙ z)) in
-    found_all point_cmp point_exact (λ k _. Fits g k) (listed c) all x v.value v.is
+    found_all point_cmp point_exact (λ k _. IsAtLocation g k) (listed c) all x v.value v.is
 
-pub change_to : (g : Dataflow) (c : Change) → ChangeFits g c → All (λ e. Fits g e.0) (listed c)
-change_to g c fits = all_found point_cmp point_total (λ k _. Fits g k) (listed c) (sorted-entries c) (λ k v is. fits k (λ z. some-entry c k v is (sym (ap or_zero is) ∙ change-entries c k ∙ z)))
+pub change_to : (g : Dataflow) (c : Change) → ChangeFits g c → All (λ e. IsAtLocation g e.0) (listed c)
+change_to g c fits = all_found point_cmp point_total (λ k _. IsAtLocation g k) (listed c) (sorted-entries c) (λ k v is. fits k (λ z. some-entry c k v is (sym (ap or_zero is) ∙ change-entries c k ∙ z)))
 
-module _ {K X : Type 0} {R : K → K → Ordering} {N : Number X} (o : IsTotalOrder R) (tells : IsAntisymmetric R) (m : Counts R N) (Q : K → Type 0) where
-  pub counts_to : ((k : K) → at m k ≢ nil N → Q k) → All (λ (e : K × X). e.1 ≢ nil N → Q e.0) (entries m)
-  counts_to h = all_found R o (λ k v. v ≢ nil N → Q k) (entries m) (entries_listed m) (λ k v is some. h k (λ z. some (sym (at-entries m k ∙ ap (or_else (nil N)) is) ∙ z)))
+module _ {K X : Type 0} {R : K → K → Ordering} {N : Number X} (o : IsTotalOrder R) (tells : IsAntisymmetric R) (m : Counts R N) (Q : K → X → Type 0) where
+  pub counts_to : ((k : K) → at m k ≢ nil N → Q k (at m k)) → All (λ (e : K × X). e.1 ≢ nil N → Q e.0 e.1) (entries m)
+  counts_to h = all_found R o (λ k v. v ≢ nil N → Q k v) (entries m) (entries_listed m) (λ k v is some.
+      let e : at m k ≡ v = at-entries m k ∙ ap (or_else (nil N)) is in
+      subst (Q k) e (h k (λ z. some (sym e ∙ z))))
 
-  pub counts_from : All (λ (e : K × X). e.1 ≢ nil N → Q e.0) (entries m) → (k : K) → at m k ≢ nil N → Q k
+  pub counts_from : All (λ (e : K × X). e.1 ≢ nil N → Q e.0 e.1) (entries m) → (k : K) → at m k ≢ nil N → Q k (at m k)
   counts_from all k some =
       let v = some_of (nil N) (find R k (entries m)) (λ z. some (at-entries m k ∙ z)) in
-      found_all R tells (λ k v. v ≢ nil N → Q k) (entries m) all k v.value v.is (λ z. some (at-entries m k ∙ ap (or_else (nil N)) v.is ∙ z))
+      let e : at m k ≡ v.value = at-entries m k ∙ ap (or_else (nil N)) v.is in
+      subst (Q k) (sym e) (found_all R tells (λ k v. v ≢ nil N → Q k v) (entries m) all k v.value v.is (λ z. some (e ∙ z)))
 
 module _ {K X : Type 0} {R : K → K → Ordering} (o : IsTotalOrder R) (tells : IsAntisymmetric R) (m : fin.FinMap R X) (Q : K → X → Type 0) where
   pub map_to : ((k : K) (v : X) → fin.get m k ≡ Some v → Q k v) → All (λ (e : K × X). Q e.0 e.1) (fin.entries m)
@@ -94,7 +96,7 @@ module _ {K X : Type 0} {R : K → K → Ordering} (o : IsTotalOrder R) (tells :
 
 module _ (g : Dataflow) (q : ProcessorState) where
   abbrev pub RecordsFit : Type 0
-  RecordsFit = All (λ (e : ValueAt × ℕ). e.1 ≢ 0 → IsAtEdge g e.0.point) (entries q.records)
+  RecordsFit = All (λ (e : ValueAt × ℕ). e.1 ≢ 0 → IsRecordKey g e.0) (entries q.records)
 
   abbrev pub RequestsFit : Type 0
   RequestsFit = All (λ (e : Pointstamp × Unit {0}). IsAtVertex g e.0) (fin.entries q.requests)
@@ -109,7 +111,7 @@ module _ (g : Dataflow) (q : ProcessorState) where
   SinksFit = All (λ (e : SinkKey × ℕ). e.1 ≢ 0 → IsSinkKey g e.0) (entries q.sinks)
 
   pub records_to : ProcessorFits g q → RecordsFit
-  records_to h = counts_to value_at_total value_at_exact q.records (λ k. IsAtEdge g k.point) h.records
+  records_to h = counts_to value_at_total value_at_exact q.records (λ k _. IsRecordKey g k) h.records
 
   pub requests_to : ProcessorFits g q → RequestsFit
   requests_to h = map_to point_total point_exact q.requests (λ x _. IsAtVertex g x) (λ x v is. h.requests x is)
@@ -118,28 +120,28 @@ module _ (g : Dataflow) (q : ProcessorState) where
   tokens_to h = map_to nat_cmp_total fin.nat_cmp-IsAntisymmetric q.tokens (λ v e. (op_at g v ≡ op.Input) × IsAtVertex g (token_point v e)) h.tokens
 
   pub items_to : ProcessorFits g q → AllItemsFit
-  items_to h v lt = counts_to item_total item_exact (items_at q v) (λ k. IsAtVertex g (record { location = v; time = k.time })) (h.items v)
+  items_to h v lt = counts_to item_total item_exact (items_at q v) (IsItem g v) (h.items v)
 
   pub sinks_to : ProcessorFits g q → SinksFit
-  sinks_to h = counts_to sink_total sink_exact q.sinks (IsSinkKey g) h.sinks
+  sinks_to h = counts_to sink_total sink_exact q.sinks (λ k _. IsSinkKey g k) h.sinks
 
   side : (a b : ℕ) → (a < b) ⊎ (b ≤ a)
   side a b = grind arith
 
-  items_from : AllItemsFit → (v : ℕ) (k : ItemKey) → at (items_at q v) k ≢ pos 0 → IsAtVertex g (record { location = v; time = k.time })
+  items_from : AllItemsFit → (v : ℕ) (k : ItemKey) → at (items_at q v) k ≢ pos 0 → IsItem g v k (at (items_at q v) k)
   items_from all v k some = elim (side v (length q.items)) [
-    | inl lt ↦ counts_from item_total item_exact (items_at q v) (λ k. IsAtVertex g (record { location = v; time = k.time })) (all v lt) k some
+    | inl lt ↦ counts_from item_total item_exact (items_at q v) (IsItem g v) (all v lt) k some
     | inr past ↦ absurd (some (ap (λ m. at m k) (get_or_past q.items v no_counts past) ∙ at-none item_cmp integers k))
   ]
 
   pub processor_from : length q.items ≡ length g.vertices → RecordsFit → RequestsFit → TokensFit → AllItemsFit → SinksFit → ChangeFits g q.unsent → ProcessorFits g q
   processor_from vertices records requests tokens items sinks unsent = record {
-    records = counts_from value_at_total value_at_exact q.records (λ k. IsAtEdge g k.point) records;
+    records = counts_from value_at_total value_at_exact q.records (λ k _. IsRecordKey g k) records;
     requests = λ x is. map_from point_total point_exact q.requests (λ x _. IsAtVertex g x) requests x tt is;
     tokens = map_from nat_cmp_total fin.nat_cmp-IsAntisymmetric q.tokens (λ v e. (op_at g v ≡ op.Input) × IsAtVertex g (token_point v e)) tokens;
     vertices = vertices;
     items = items_from items;
-    sinks = counts_from sink_total sink_exact q.sinks (IsSinkKey g) sinks;
+    sinks = counts_from sink_total sink_exact q.sinks (λ k _. IsSinkKey g k) sinks;
     unsent = unsent;
   }
 

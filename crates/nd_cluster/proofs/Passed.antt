@@ -1,9 +1,10 @@
 -- What a step that passes its tests has.
-use Rattle.std.proofs.Common.{◌≡◌, ◌<◌, ◌≤◌, ℕ, ℤ, List, length, Some, inl, inr, subst, arith}
+use Rattle.std.proofs.Common.{◌≡◌, ◌<◌, ◌≤◌, ℕ, ℤ, List, length, Option, Some, unwrap_or, inl, inr, ap, arith}
 use Rattle.std.proofs.lemmas.Bool.{cases_lt}
 use Rattle.std.specs.FinMap as fin
 use Rattle.nd_time.specs.Limits.{max_counter, max_values}
 use Rattle.nd_protocol.specs.State.{ClusterState, processor}
+use Rattle.nd_protocol.specs.Steps.{epoch_of}
 use Rattle.nd_protocol.specs.Enabled.{IsFreeBelow}
 use Rattle.nd_protocol.specs.declared.step.Step.TheVariants.{Feed, Take, Notice}
 use Rattle.nd_protocol.specs.declared.refusal.Refusal.TheVariants.{NoProcessor, TooManyValues, EpochFull}
@@ -16,12 +17,12 @@ module _ (s : ClusterState) (p vertex : ℕ) (values : List ℤ) (next : Afterwa
   pub few_values : length values ≤ max_values
   few_values = elim (cases_lt max_values (length values)) [ inl more ↦ absurd (passes.free s TooManyValues (omega arith) more) | inr le ↦ le ]
 
-  pub epoch_goes : (epoch : ℕ) → fin.get (processor s p).tokens vertex ≡ Some epoch → epoch ≤ max_counter → next ≡ token.Next → epoch < max_counter
-  epoch_goes epoch held most goes = elim (cases_lt epoch max_counter) [
+  pub epoch_goes : (epoch : ℕ) → fin.get (processor s p).tokens vertex ≡ Some epoch → next ≡ token.Next → epoch < max_counter
+  epoch_goes epoch held goes = elim (cases_lt epoch max_counter) [
     | inl lt ↦ lt
     | inr le ↦
-        let full : epoch ≡ max_counter = omega (arith, le, most) in
-        absurd (passes.free s EpochFull (omega arith) (goes, subst (λ e. fin.get (processor s p).tokens vertex ≡ Some e) full held))
+        let is : epoch_of s p vertex ≡ epoch = ap (λ (o : Option ℕ). unwrap_or o 0) held in
+        absurd (passes.free s EpochFull (omega arith) (goes, omega (arith, is, le)))
   ]
 
 pub takes_there : (s : ClusterState) (p edge : ℕ) (t : Time) (value : ℤ) → TakePasses s p edge t value 13 → p < length s.processors

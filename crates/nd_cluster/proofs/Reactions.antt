@@ -27,6 +27,7 @@ use Rattle.nd_view.specs.Views.{maps-get}
 use Rattle.nd_vertex.specs.Items.{Items}
 use Rattle.nd_vertex.specs.Table.{Outcome, on_record}
 use Rattle.nd_vertex.specs.Effects.{IsCounterFull, IsInRange, MayActAt}
+use Rattle.std.specs.FinMap as fin
 use Rattle.nd_processor.specs.State.{ProcessorState, idle, items_at}
 use Rattle.nd_processor.specs.declared.key.ValueAt.{ValueAt}
 use Rattle.nd_protocol.specs.State.{ClusterState, processor, view}
@@ -63,11 +64,11 @@ may Ingress d e f = grind (arith, nat_tests, f)
 may Egress d e f = grind (arith, nat_tests, e)
 may Feedback d e f = grind (arith, nat_tests, e)
 
-may_at : (vs : List Vertex) (l : ℕ) → list_any is_misplaced vs ≡ false → list_any is_too_deep vs ≡ false → MayActAt (action_of (option_map_or (λ v. v.op) (slice_get vs l) op.Sink)) (vertex_depth vs l)
+may_at : (vs : List Vertex) (l : ℕ) → list_any is_misplaced vs ≡ false → list_any (is_too_deep max_depth) vs ≡ false → MayActAt (action_of (option_map_or (λ v. v.op) (slice_get vs l) op.Sink)) (vertex_depth vs l)
 may_at [] l e f = tt
 may_at (v ∷ vs) zero e f =
-    may (action_of v.op) v.depth (right_false (is_input v.op && nat_lt 0 v.depth) (stands_in_loop (action_of v.op) && v.depth == 0) (left_false (is_misplaced v) (list_any is_misplaced vs) e)) (left_false (is_too_deep v) (list_any is_too_deep vs) f)
-may_at (v ∷ vs) (suc l) e f = may_at vs l (right_false (is_misplaced v) (list_any is_misplaced vs) e) (right_false (is_too_deep v) (list_any is_too_deep vs) f)
+    may (action_of v.op) v.depth (right_false (is_input v.op && nat_lt 0 v.depth) (stands_in_loop (action_of v.op) && v.depth == 0) (left_false (is_misplaced v) (list_any is_misplaced vs) e)) (left_false (is_too_deep max_depth v) (list_any (is_too_deep max_depth) vs) f)
+may_at (v ∷ vs) (suc l) e f = may_at vs l (right_false (is_misplaced v) (list_any is_misplaced vs) e) (right_false (is_too_deep max_depth v) (list_any (is_too_deep max_depth) vs) f)
 
 -- the depth of an edge stands among those of the edges
 among_edges : (ws : List Vertex) (ds : List ℕ) (l d : ℕ) → length ws ≤ l → slice_get (map (λ (v : Vertex). v.depth) ws ++ ds) l ≡ Some d → slice_get ds (l - length ws) ≡ Some d
@@ -92,10 +93,10 @@ target_depth vs (e ∷ es) (suc i) d right has = target_depth vs es i d (right_f
 may_target : (g : Dataflow) (edge d : ℕ) → IsFaultless g → length g.vertices ≤ edge → slice_get (map (λ (v : Vertex). v.depth) g.vertices ++ map (λ (e : Edge). depth_past_vertex g.vertices e.from) g.edges) edge ≡ Some d → MayActAt (action_of (op_at g (target_of g edge))) d
 unfolding fault_of has_depth_mismatch is_too_large
 may_target g edge d sound low has =
-    let (agree, small) = second_none (list_any (has_bad_port g.vertices) g.edges) (has_depth_mismatch g) (is_too_large g) sound.faultless in
+    let (agree, small) = second_none (list_any (has_bad_port g.vertices) g.edges) (has_depth_mismatch g) (is_too_large max_depth g) sound.faultless in
     let placed = left_false (list_any is_misplaced g.vertices) (list_any (misses_depth g.vertices) g.edges) agree in
     let right = right_false (list_any is_misplaced g.vertices) (list_any (misses_depth g.vertices) g.edges) agree in
-    let shallow = left_false (list_any is_too_deep g.vertices) (list_any (leads_too_deep g.vertices) g.edges) (right_false (nat_lt 64 (location_count g)) (list_any is_too_deep g.vertices || list_any (leads_too_deep g.vertices) g.edges) small) in
+    let shallow = left_false (list_any (is_too_deep max_depth) g.vertices) (list_any (leads_too_deep max_depth g.vertices) g.edges) (right_false (nat_lt 64 (location_count g)) (list_any (is_too_deep max_depth) g.vertices || list_any (leads_too_deep max_depth g.vertices) g.edges) small) in
     let is : vertex_depth g.vertices (target_of g edge) ≡ d
     = target_depth g.vertices g.edges (edge - length g.vertices) d right (among_edges g.vertices (map (λ (e : Edge). depth_past_vertex g.vertices e.from) g.edges) edge d low has) in
     subst (λ n. MayActAt (action_of (op_at g (target_of g edge))) n) is (may_at g.vertices (target_of g edge) placed shallow)
@@ -117,7 +118,7 @@ take_stands s p k target state sound is on =
     let low : length s.graph.vertices ≤ k.point.location = at_least k.point.location (length s.graph.vertices) (λ lt. on.free s NoEdge (omega arith) (inl lt)) in
     let high : k.point.location < location_count s.graph = lt_of_not-le (λ le. on.free s NoEdge (omega arith) (inr le)) in
     let fits : ProcessorFits s.graph (processor s p) = state.fits.processors p idle here in
-    let at_edge : IsAtEdge s.graph k.point = fits.records k (on.free s NoRecord (omega arith)) in
+    let at_edge : IsAtEdge s.graph k.point = (fits.records k (on.free s NoRecord (omega arith))).0 in
     let there : target_of s.graph k.point.location < length s.graph.vertices = target_there s.graph k.point.location sound.joined low high in
     record {
       here = here;
@@ -130,9 +131,9 @@ module _ (s : ClusterState) (p : ℕ) (k : ValueAt) (target : ℕ) (is : target 
   abbrev target_op : Op
   target_op = op_at s.graph (target_of s.graph k.point.location)
 
-  not_full : (IsCounterFull (op_at s.graph target) k.point.time → ⊥) → (target_op ≡ op.Feedback) × (last_of k.point.time.counters ≡ max_counter) → ⊥
+  not_full : (IsCounterFull (op_at s.graph target) k.point.time → ⊥) → (target_op ≡ op.Feedback) × (max_counter ≤ last_of k.point.time.counters) → ⊥
   not_full h f =
-      h (subst (λ t. IsCounterFull (op_at s.graph t) k.point.time) (sym is) (record { feedback = ap action_of f.0; full = (let e : last_of k.point.time.counters ≡ max_counter = f.1 in omega arith) }))
+      h (subst (λ t. IsCounterFull (op_at s.graph t) k.point.time) (sym is) (record { feedback = ap action_of f.0; full = f.1 }))
 
   past_full : (IsCounterFull (op_at s.graph target) k.point.time → ⊥) → TakePasses s p k.point.location k.point.time k.value 12
   past_full h = record { free = passes }
@@ -177,6 +178,20 @@ module _ (s : ClusterState) (p : ℕ) (k : ValueAt) (target : ℕ) (is : target 
     read_free h near = take_free (λ f. h (subst (λ x. IsCounterFull x k.point.time) (sym o_is) f)) (λ far. near (λ r. far (to_outcome r)))
 
 -- ---- a notice
+
+-- a processor of the state has a view among those stored
+pub view_there : (g : Dataflow) (ps : List ProcessorState) (vs : List Kept) (queues : List (List (List Change))) (s : ClusterState) (p : ℕ) → IsSeen g ps vs queues → seen g ps vs queues ≡ s → p < length s.processors → p < length vs
+view_there g ps vs queues s p h e lt =
+    let n : length (map (λ (w : Kept). w.map) vs) ≡ length ps = h.state.fits.each_view in
+    let m : length (map (λ (w : Kept). w.map) vs) ≡ length vs = length-map vs (λ w. w.map) in
+    let k : length s.processors ≡ length ps = ap (λ (t : ClusterState). length t.processors) (sym e) in
+    omega (arith, n, m, k, lt)
+
+-- a request is of a vertex, which has items
+pub requested_there : (s : ClusterState) (p : ℕ) (x : Pointstamp) → IsState s → p < length s.processors → fin.get (processor s p).requests x ≡ Some tt → x.location < length (processor s p).items
+requested_there s p x state here asked =
+    let fits : ProcessorFits s.graph (processor s p) = state.fits.processors p idle here in
+    omega (arith, (fits.requests x asked).place, fits.vertices)
 
 -- the precursor counts of a view are those of the graph, and its map is the state's view
 pub seen_view : (g : Dataflow) (ps : List ProcessorState) (vs : List Kept) (queues : List (List (List Change))) (s : ClusterState) (p : ℕ) (v : Kept) → IsSeen g ps vs queues → seen g ps vs queues ≡ s → p < length s.processors → v ≡ get_or vs p v → IsFor g v × (view s p ≡ v.map)

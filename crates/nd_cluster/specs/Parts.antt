@@ -5,18 +5,28 @@ use Rattle.nd_graph.specs.Graph.{Dataflow, op_at}
 use Rattle.nd_graph.specs.declared.op.Op.TheVariants as op
 use Rattle.nd_vertex.specs.Items.{Items}
 use Rattle.nd_vertex.specs.declared.key.ItemKey.{ItemKey}
+use Rattle.nd_processor.specs.declared.key.ValueAt.{ValueAt}
 use Rattle.nd_processor.specs.declared.key.SinkKey.{SinkKey}
 use Rattle.nd_delta.specs.Change.{Change}
 use Rattle.nd_mesh.specs.Mesh.{queue}
-use Rattle.nd_protocol.specs.Fitting.{IsAtVertex, ChangeFits, ChangeIsWithin}
+use Rattle.nd_protocol.specs.Ranges.{IsValue}
+use Rattle.nd_protocol.specs.Fitting.{IsAtVertex, IsAtEdge, ChangeFits, ChangeIsWithin}
 
--- the key's vertex is a sink
+-- a record may be at the key's pointstamp, with the key's value
+abbrev pub IsRecordKey : Dataflow → ValueAt → Type 0
+IsRecordKey g k = IsAtEdge g k.point × IsValue k.value
+
+-- the key's vertex is a sink, which may have counted its value
 abbrev pub IsSinkKey : Dataflow → SinkKey → Type 0
-IsSinkKey g k = (op_at g k.vertex ≡ op.Sink) × (k.vertex < length g.vertices)
+IsSinkKey g k = (op_at g k.vertex ≡ op.Sink) × (k.vertex < length g.vertices) × IsValue k.value
+
+-- a vertex may keep the item, with this number
+abbrev pub IsItem : Dataflow → ℕ → ItemKey → ℤ → Type 0
+IsItem g vertex k n = IsAtVertex g (record { location = vertex; time = k.time }) × IsValue k.item × IsValue n
 
 -- a vertex keeps items at its own times
 abbrev pub ItemsFit : Dataflow → ℕ → Items → Type 0
-ItemsFit g vertex m = All (λ (e : ItemKey × ℤ). e.1 ≢ pos 0 → IsAtVertex g (record { location = vertex; time = e.0.time })) (entries m)
+ItemsFit g vertex m = All (λ (e : ItemKey × ℤ). e.1 ≢ pos 0 → IsItem g vertex e.0 e.1) (entries m)
 
 -- the changes from a processor have entries at pointstamps of the graph alone, and within the limit
 abbrev pub RowFits : Dataflow → List (List (List Change)) → ℕ → Type 0

@@ -51,7 +51,7 @@ impl<A: Allocator + Copy> Model for Cluster<A> {
 }
 
 impl<A: Allocator + Copy> Cluster<A> {
-    /// How many processors it has: 1 to 8. What a cluster is, its keys, its counts and its depths, is
+    /// How many processors it has: 1 to 16. What a cluster is, its keys, its counts and its depths, is
     /// within the limits, whoever made it.
     pub fn n(&self) -> usize
         ensures value { result ≡ length self.now.processors }

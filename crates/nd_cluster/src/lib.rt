@@ -8,6 +8,7 @@ mod commit;
 mod parts;
 mod plan;
 mod readers;
+mod reasons;
 mod refuse;
 mod sinks;
 mod start;
@@ -16,5 +17,6 @@ mod work;
 
 pub use cluster::Cluster;
 pub use nd_protocol::{Next, NoMemory, Part, Points, Refusal, Step, Values};
-pub use nd_record::{Change, Changes, Record};
+pub use nd_record::{Change, Changes, Entries, Entry, Record};
+pub use nd_why::{Held, Reason, Reasons, Unheard};
 pub use start::StartFault;

@@ -4,13 +4,13 @@ ghost use Rattle.std.specs.FinMap as fin;
 ghost use Rattle.nd_graph.specs.Graph.{op_at as operator_at};
 ghost use Rattle.nd_graph.specs.declared.op.Op.TheVariants as operator;
 ghost use Rattle.nd_map.specs.Counts.{entries as counts_of};
-ghost use Rattle.nd_paths.specs.Order.{Fits};
 ghost use Rattle.nd_processor.specs.State.{items_at, token_point as point_of_token};
-ghost use Rattle.nd_cluster.specs.Parts.{IsSinkKey, ItemsFit, RowFits, RowIsWithin};
+ghost use Rattle.nd_cluster.specs.Parts.{IsRecordKey, IsItem, IsSinkKey, ItemsFit, RowFits, RowIsWithin};
 ghost use Rattle.nd_record.specs.Seen.{seen};
 ghost use Rattle.nd_mesh.specs.Mesh.{queue};
 ghost use Rattle.nd_view.specs.Kept.{Kept, IsFor};
-ghost use Rattle.nd_protocol.specs.Fitting.{IsAtVertex, IsAtEdge, ChangeFits, ChangeIsWithin, ProcessorFits, ProcessorIsWithin, IsState};
+ghost use Rattle.nd_protocol.specs.Ranges.{IsValue};
+ghost use Rattle.nd_protocol.specs.Fitting.{IsAtVertex, IsAtEdge, IsAtLocation, ChangeFits, ChangeIsWithin, ProcessorFits, ProcessorIsWithin, IsState};
 
 use crate::Cluster;
 use crate::refuse::op_at;
@@ -20,6 +20,7 @@ use nd_graph::{Graph, Op};
 use nd_mesh::Mesh;
 use nd_paths::{Paths, Pointstamp};
 use nd_processor::{Processor, SinkKey, ValueAt};
+use nd_protocol::times_are_small;
 use nd_vertex::{ItemKey, VertexState};
 use nd_view::View;
 use std::alloc::Allocator;
@@ -28,6 +29,7 @@ use std::alloc::Allocator;
 fn is_at_vertex<A: Allocator>(graph: &Graph<A>, point: &Pointstamp) -> bool
     ensures { IsTrue result ↔ IsAtVertex graph.now point.now }
 {
+    times_are_small(&point.time);
     point.location < graph.vertices().len() && point.fits(graph)
 }
 
@@ -35,7 +37,23 @@ fn is_at_vertex<A: Allocator>(graph: &Graph<A>, point: &Pointstamp) -> bool
 fn is_at_edge<A: Allocator>(graph: &Graph<A>, point: &Pointstamp) -> bool
     ensures { IsTrue result ↔ IsAtEdge graph.now point.now }
 {
+    times_are_small(&point.time);
     point.location >= graph.vertices().len() && point.fits(graph)
+}
+
+// Whether a pointstamp is one of the graph.
+fn is_at_location<A: Allocator>(graph: &Graph<A>, point: &Pointstamp) -> bool
+    ensures { IsTrue result ↔ IsAtLocation graph.now point.now }
+{
+    times_are_small(&point.time);
+    point.fits(graph)
+}
+
+// The type of a value keeps it in its range.
+fn is_value(value: i64)
+    ensures { IsValue value }
+{
+    let _value = value;
 }
 
 // Whether an input vertex may have a token at an epoch.
@@ -54,8 +72,9 @@ fn is_sink<A: Allocator>(graph: &Graph<A>, vertex: usize) -> bool
 
 // Whether a record may have a count: any may have none.
 fn record_fits<A: Allocator>(graph: &Graph<A>, key: &ValueAt, count: &u64) -> bool
-    ensures { IsTrue result ↔ (count.now ≢ 0 → IsAtEdge graph.now key.now.point) }
+    ensures { IsTrue result ↔ (count.now ≢ 0 → IsRecordKey graph.now key.now) }
 {
+    is_value(key.value);
     *count == 0 || is_at_edge(graph, &key.point)
 }
 
@@ -63,13 +82,16 @@ fn record_fits<A: Allocator>(graph: &Graph<A>, key: &ValueAt, count: &u64) -> bo
 fn sink_fits<A: Allocator>(graph: &Graph<A>, key: &SinkKey, count: &u64) -> bool
     ensures { IsTrue result ↔ (count.now ≢ 0 → IsSinkKey graph.now key.now) }
 {
+    is_value(key.value);
     *count == 0 || is_sink(graph, key.vertex)
 }
 
 // Whether a vertex may keep a number at a time: any may keep none.
 fn item_fits<A: Allocator>(graph: &Graph<A>, vertex: usize, key: &ItemKey, number: &i64) -> bool
-    ensures { IsTrue result ↔ (number.now ≢ pos 0 → IsAtVertex graph.now (record { location = vertex; time = key.now.time })) }
+    ensures { IsTrue result ↔ (number.now ≢ pos 0 → IsItem graph.now vertex key.now number.now) }
 {
+    is_value(key.item);
+    is_value(*number);
     let point = Pointstamp {
         location: vertex,
         time: key.time.copy(),
@@ -79,7 +101,7 @@ fn item_fits<A: Allocator>(graph: &Graph<A>, vertex: usize, key: &ItemKey, numbe
 
 // Whether the records of a processor are on edges.
 fn records_fit<A: Allocator + Copy>(graph: &Graph<A>, processor: &Processor<A>) -> bool
-    ensures { IsTrue result ↔ All (λ e. e.1 ≢ 0 → IsAtEdge graph.now e.0.point) (counts_of processor.now.records) }
+    ensures { IsTrue result ↔ All (λ e. e.1 ≢ 0 → IsRecordKey graph.now e.0) (counts_of processor.now.records) }
 {
     for (key, count) in processor.records() {
         if !record_fits(graph, key, count) {
@@ -151,10 +173,10 @@ fn items_fit<A: Allocator + Copy>(graph: &Graph<A>, processor: &Processor<A>) ->
 
 // Whether pointstamps fit the graph.
 fn entries_fit<A: Allocator>(graph: &Graph<A>, entries: &[(Pointstamp, i64)]) -> bool
-    ensures { IsTrue result ↔ All (λ e. Fits graph.now e.0) entries.now }
+    ensures { IsTrue result ↔ All (λ e. IsAtLocation graph.now e.0) entries.now }
 {
     for entry in entries {
-        if !entry.0.fits(graph) {
+        if !is_at_location(graph, &entry.0) {
             return false;
         }
     }

@@ -1,6 +1,7 @@
 //! Plans: the record of a step, or why the step is refused.
 ghost use Rattle.std.specs.Prelude.{◌≡◌, ◌≢◌, ◌+◌, Err, IfOk, IfErr, OnOk, length};
 ghost use Rattle.nd_protocol.specs.Steps.{stepped};
+ghost use Rattle.nd_protocol.specs.Ranges.{NumbersFit};
 ghost use Rattle.nd_protocol.specs.Enabled.{IsEnabled, IsRefused, MayWantMemory};
 ghost use Rattle.nd_work.specs.Edits.{Works};
 ghost use Rattle.nd_record.specs.Standing.{changed};
@@ -28,6 +29,7 @@ impl<A: Allocator + Copy> Cluster<A> {
 
     // What a broadcast changes, or why it is refused.
     fn broadcast_changes(&self, p: u32, part: &Part<A>) -> Result<Changes<A>, Refusal>
+        requires { NumbersFit {A = A} (Sending p part.now) }
         ensures ok { IfOk result (Plans {A = A} self.now (Sending p part.now)) }
         ensures refused { IfErr result (λ r. r ≢ Memory → IsRefused self.now (Sending p part.now) r) }
         ensures memory { result ≡ Err Memory → MayWantMemory self.now (Sending p part.now) }
@@ -47,6 +49,7 @@ impl<A: Allocator + Copy> Cluster<A> {
 
     // What a receive changes, or why it is refused.
     fn receive_changes(&self, from: u32, to: u32) -> Result<Changes<A>, Refusal>
+        requires { NumbersFit {A = A} (Receiving from to) }
         ensures ok { IfOk result (Plans {A = A} self.now (Receiving from to)) }
         ensures refused { IfErr result (λ r. r ≢ Memory → IsRefused {A = A} self.now (Receiving from to) r) }
         ensures memory { result ≡ Err Memory → MayWantMemory {A = A} self.now (Receiving from to) }
@@ -72,6 +75,7 @@ impl<A: Allocator + Copy> Cluster<A> {
         ensures memory { result ≡ Err Memory → MayWantMemory self.now step.now }
     {
         let _ = self.processor_count();
+        step.numbers_fit();
         let changes = match step {
             Step::Broadcast { p, part } => self.broadcast_changes(*p, part)?,
             Step::Receive { from, to } => self.receive_changes(*from, *to)?,

@@ -23,12 +23,12 @@ use std::alloc::{AllocError, Allocator};
 use thiserror::Error;
 
 // The most processors of a cluster.
-pub(crate) const MAX_PROCESSORS: u32 = 8;
+pub(crate) const MAX_PROCESSORS: u32 = 16;
 
 /// Why a cluster does not start.
 #[derive(Clone, Copy, Debug, PartialEq, Eq, Drop, Error)]
 pub enum StartFault {
-    #[error("a cluster has 1 to 8 processors")]
+    #[error("a cluster has 1 to 16 processors")]
     BadCount,
     #[error("a loop through location {location} does not increase every time")]
     LoopNotStrict { location: usize },

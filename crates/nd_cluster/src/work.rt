@@ -132,6 +132,7 @@ impl<A: Allocator + Copy> Cluster<A> {
         ensures memory { result ≡ Err Memory → MayWantMemory self.now step.now }
     {
         let _ = self.processor_count();
+        step.numbers_fit();
         let all = self.parts(step)?;
         if let Some(refusal) = limit_refusal(&self.processors, &all) {
             return Err(refusal);

@@ -55,6 +55,12 @@ pub const NESTED_LOOP: &str = graph_text!(
     eg: e 0 -> g local, gm: g 0 -> m local
 );
 
+pub const DEEP: &str = graph_text!(
+    a input 0, b ingress 0, c ingress 1, d ingress 2, e ingress 3, f ingress 4, z sink 5;
+    ab: a 0 -> b local, bc: b 0 -> c local, cd: c 0 -> d local, de: d 0 -> e local, ef: e 0 -> f local,
+    fz: f 0 -> z local
+);
+
 pub const TWO_WAYS: &str = graph_text!(
     a input 0, i ingress 0, x add 1 k 0, e egress 1, j ingress 0, f feedback 1, z sink 1;
     ai: a 0 -> i local, ix: i 0 -> x local, xz: x 0 -> z local, xe: x 0 -> e local, ej: e 0 -> j local,

@@ -14,6 +14,7 @@ use Rattle.nd_delta.specs.Upright.{IsSupported, IsUpright, IsUnsupported}
 use Rattle.nd_processor.specs.Edits.{token_points}
 use Rattle.nd_protocol.specs.State.{ClusterState, processor}
 use Rattle.nd_protocol.specs.Steps.{chosen}
+use Rattle.nd_protocol.specs.Ranges.{NumbersFit}
 use Rattle.nd_protocol.specs.Enabled.{Fails, IsEnabled}
 use Rattle.nd_protocol.specs.declared.step.Step.{Step}
 use Rattle.nd_protocol.specs.declared.step.Step.TheVariants.{Feed, Take, Notice, Broadcast, Receive}
@@ -103,12 +104,12 @@ module _ (R : Pointstamp → Pointstamp → Type 0) (decided : (y x : Pointstamp
             (fine free x (length (entries m)) (omega arith)) x (λ e. absurd (omega (arith, ints, e, positive))) (record { positive = positive; alone = never }))
       ]
 
-pub enabled : {A : Type 0} (g : Dataflow) → ((s t : Pointstamp) → Decided (IsStrictlyBefore g s t)) → (s : ClusterState) (x : Step A) → s.graph ≡ g → ((r : Refusal) → Fails s x r → ⊥) → IsEnabled s x
-enabled g decided s (Feed p vertex values next) is free = record { free = free; admissible = tt }
-enabled g decided s (Take p edge t value) is free = record { free = free; admissible = tt }
-enabled g decided s (Notice p vertex t) is free = record { free = free; admissible = tt }
-enabled g decided s (Receive from to) is free = record { free = free; admissible = tt }
-enabled g decided s (Broadcast p part) is free =
+pub enabled : {A : Type 0} (g : Dataflow) → ((s t : Pointstamp) → Decided (IsStrictlyBefore g s t)) → (s : ClusterState) (x : Step A) → s.graph ≡ g → NumbersFit x → ((r : Refusal) → Fails s x r → ⊥) → IsEnabled s x
+enabled g decided s (Feed p vertex values next) is numbers free = record { free = free; admissible = tt; numbers = numbers }
+enabled g decided s (Take p edge t value) is numbers free = record { free = free; admissible = tt; numbers = numbers }
+enabled g decided s (Notice p vertex t) is numbers free = record { free = free; admissible = tt; numbers = numbers }
+enabled g decided s (Receive from to) is numbers free = record { free = free; admissible = tt; numbers = numbers }
+enabled g decided s (Broadcast p part) is numbers free =
     let q = processor s p in
     let c = chosen part q.unsent in
     let order : (y x : Pointstamp) → Decided (IsStrictlyBefore s.graph y x) = subst (λ h. (y x : Pointstamp) → Decided (IsStrictlyBefore h y x)) (sym is) decided in
@@ -117,4 +118,5 @@ enabled g decided s (Broadcast p part) is free =
       admissible = leaves_upright s.graph q c (minus q.unsent c) (token_points q) refl refl
           (upright (IsStrictlyBefore s.graph) order (minus q.unsent c) (token_points q)
           (λ x l. free (NotAdmissible x) (leaves_alone s.graph q c (minus q.unsent c) (token_points q) refl refl (Some x) l)));
+      numbers = numbers;
     }

@@ -63,7 +63,9 @@ fn left_alone<A: Allocator + Copy>(
     let Ok(stays) = processor.unsent().minus(alloc, change) else {
         return Err(AllocError);
     };
-    let tokens = processor.token_points(alloc)?;
+    let Ok(tokens) = processor.token_points(alloc) else {
+        return Err(AllocError);
+    };
     Ok(stays.unsupported_by(paths, &tokens))
 }
 

@@ -1,8 +1,9 @@
 -- A graph without a fault has depths that agree along its arcs.
-use Rattle.std.proofs.Common.{◌≡◌, ◌∙◌, ℕ, ◌+◌, ◌<◌, ◌≤◌, zero, suc, Bool, true, false, not, ◌||◌, eqb, ltb, List, [], ◌∷◌, ◌++◌, length, get_or, map, refl, sym, ap, subst, arith, if◌then◌else◌, append_assoc, Some, None}
+use Rattle.std.proofs.Common.{◌≡◌, ◌∙◌, ℕ, ◌+◌, ◌<◌, ◌≤◌, zero, suc, Bool, true, false, not, ◌&&◌, ◌||◌, ◌==◌, eqb, ltb, nat_lt, List, [], ◌∷◌, ◌++◌, length, get_or, map, refl, sym, ap, subst, arith, if◌then◌else◌, append_assoc, Some, None}
 use Rattle.std.proofs.lemmas.List.{length-map, length-append}
 use Rattle.std.proofs.lemmas.List.Elements.{All-nil, All-cons, All-head, All-tail, All-append, All-map, All-weaker}
 use Rattle.std.proofs.lemmas.Bool.{eqb-true, ltb-false}
+use Rattle.std.proofs.lemmas.Bool.Decides.{nat_tests}
 use Rattle.std.specs.List.{All, list_any}
 use Rattle.nd_time.specs.Limits.{max_depth, max_locations}
 use Rattle.nd_graph.specs.declared.op.Op.{Op}
@@ -12,6 +13,7 @@ use Rattle.nd_graph.specs.declared.graph.Vertex.{Vertex}
 use Rattle.nd_graph.specs.declared.graph.Edge.{Edge}
 use Rattle.nd_graph.specs.declared.graph.Arc.{Arc}
 use Rattle.nd_graph.specs.declared.fault.GraphFault.TheVariants.{BadPort, DepthMismatch, TooLarge}
+use Rattle.nd_graph.specs.Operators.{leads_in}
 use Rattle.nd_graph.specs.Graph.{Dataflow, action_of, action_at, depth_past, depth_past_vertex, depths, arcs, arcs_from, location_count, LeadsTo, ArcAgrees, IsGraph}
 use Rattle.nd_graph.specs.Checked.{has_bad_port, is_misplaced, is_misplaced_at, misses_depth, vertex_depth, has_depth_mismatch, is_too_deep, leads_too_deep, is_too_large, fault_of, JoinsVertices, IsFaultless}
 use Rattle.nd_graph.proofs.NameLaws.{or_false, not_false}
@@ -41,6 +43,9 @@ none_of test (x ∷ xs) h =
     let both = or_false (test x) (list_any test xs) h in
     All-cons (λ y. test y ≡ false) x xs both.0 (none_of test xs both.1)
 
+neither : (a b : Bool) → a ≡ false → b ≡ false → (a || b) ≡ false
+neither a b e f = rw (e, f) refl
+
 all_pass : {X : Type 0} (a b c : Bool) (x y z : X) → (if a then Some x else (if b then Some y else (if c then Some z else None))) ≡ None
     → (a ≡ false) × (b ≡ false) × (c ≡ false)
 all_pass true b c x y z h = cc
@@ -48,10 +53,46 @@ all_pass false true c x y z h = cc
 all_pass false false true x y z h = cc
 all_pass false false false x y z h = (refl, refl, refl)
 
-tests : (g : Dataflow) → fault_of g ≡ None
-    → (list_any (has_bad_port g.vertices) g.edges ≡ false) × (has_depth_mismatch g ≡ false) × (is_too_large g ≡ false)
+tests : (most : ℕ) (g : Dataflow) → fault_of most g ≡ None
+    → (list_any (has_bad_port g.vertices) g.edges ≡ false) × (has_depth_mismatch g ≡ false) × (is_too_large most g ≡ false)
 unfolding fault_of
-tests g h = all_pass (list_any (has_bad_port g.vertices) g.edges) (has_depth_mismatch g) (is_too_large g) BadPort DepthMismatch TooLarge h
+tests most g h = all_pass (list_any (has_bad_port g.vertices) g.edges) (has_depth_mismatch g) (is_too_large most g) BadPort DepthMismatch TooLarge h
+
+-- ---- a lower limit of depths
+
+none_more : {X : Type 0} (test more : X → Bool) → ((x : X) → test x ≡ false → more x ≡ false) → (xs : List X) → list_any test xs ≡ false → list_any more xs ≡ false
+none_more test more weaker [] h = refl
+none_more test more weaker (x ∷ xs) h =
+    let both = or_false (test x) (list_any test xs) h in
+    neither (more x) (list_any more xs) (weaker x both.0) (none_more test more weaker xs both.1)
+
+less_deep : (most least d : ℕ) (leads : Bool) → most ≤ least → (nat_lt most d || (leads && d == most)) ≡ false → (nat_lt least d || (leads && d == least)) ≡ false
+less_deep most least d true h e = grind (arith, nat_tests, h, e)
+less_deep most least d false h e = grind (arith, nat_tests, h, e)
+
+lower : (most least d : ℕ) → most ≤ least → nat_lt most d ≡ false → nat_lt least d ≡ false
+lower most least d h e = grind (arith, nat_tests, h, e)
+
+no_fault : (a b c d : Bool) → (if a then Some BadPort else (if b then Some DepthMismatch else (if c then Some TooLarge else None))) ≡ None
+    → (c ≡ false → d ≡ false) → (if a then Some BadPort else (if b then Some DepthMismatch else (if d then Some TooLarge else None))) ≡ None
+no_fault a b c d h weaker =
+    let passed = all_pass a b c BadPort DepthMismatch TooLarge h in
+    rw (passed.0, passed.1, weaker passed.2) refl
+
+smaller : (most least : ℕ) (g : Dataflow) → most ≤ least → is_too_large most g ≡ false → is_too_large least g ≡ false
+unfolding is_too_large leads_too_deep
+smaller most least g h e =
+    let few = or_false (nat_lt max_locations (location_count g)) (list_any (is_too_deep most) g.vertices || list_any (leads_too_deep most g.vertices) g.edges) e in
+    let flat = or_false (list_any (is_too_deep most) g.vertices) (list_any (leads_too_deep most g.vertices) g.edges) few.1 in
+    neither (nat_lt max_locations (location_count g)) (list_any (is_too_deep least) g.vertices || list_any (leads_too_deep least g.vertices) g.edges) few.0
+    (neither (list_any (is_too_deep least) g.vertices) (list_any (leads_too_deep least g.vertices) g.edges)
+    (none_more (is_too_deep most) (is_too_deep least) (λ v. less_deep most least v.depth (leads_in (action_of v.op)) h) g.vertices flat.0)
+    (none_more (leads_too_deep most g.vertices) (leads_too_deep least g.vertices) (λ x. lower most least (depth_past_vertex g.vertices x.from) h) g.edges flat.1))
+
+-- a graph without a fault has none by a higher limit
+pub fewer_faults : (most least : ℕ) (g : Dataflow) → most ≤ least → fault_of most g ≡ None → fault_of least g ≡ None
+unfolding fault_of
+fewer_faults most least g h e = no_fault (list_any (has_bad_port g.vertices) g.edges) (has_depth_mismatch g) (is_too_large most g) (is_too_large least g) e (smaller most least g h)
 
 -- ---- depths
 
@@ -141,17 +182,17 @@ agree vertices ds l (e ∷ edges) long at from_here joined placed met =
 -- no input lies in a loop, and no egress and no feedback lies outside one
 pub placed : (g : Dataflow) → IsFaultless g → All (λ v. is_misplaced v ≡ false) g.vertices
 unfolding has_depth_mismatch
-placed g h = none_of is_misplaced g.vertices (or_false (list_any is_misplaced g.vertices) (list_any (misses_depth g.vertices) g.edges) (tests g h.faultless).1).0
+placed g h = none_of is_misplaced g.vertices (or_false (list_any is_misplaced g.vertices) (list_any (misses_depth g.vertices) g.edges) (tests max_depth g h.faultless).1).0
 
 -- ---- the whole
 
 pub is_graph : (g : Dataflow) → IsFaultless g → IsGraph g (depths g) (arcs g)
 unfolding has_depth_mismatch is_too_large leads_too_deep
 is_graph g h =
-    let passed = tests g h.faultless in
+    let passed = tests max_depth g h.faultless in
     let placed = or_false (list_any is_misplaced g.vertices) (list_any (misses_depth g.vertices) g.edges) passed.1 in
-    let small = or_false (ltb max_locations (location_count g)) (list_any is_too_deep g.vertices || list_any (leads_too_deep g.vertices) g.edges) passed.2 in
-    let flat = or_false (list_any is_too_deep g.vertices) (list_any (leads_too_deep g.vertices) g.edges) small.1 in
+    let small = or_false (ltb max_locations (location_count g)) (list_any (is_too_deep max_depth) g.vertices || list_any (leads_too_deep max_depth g.vertices) g.edges) passed.2 in
+    let flat = or_false (list_any (is_too_deep max_depth) g.vertices) (list_any (leads_too_deep max_depth g.vertices) g.edges) small.1 in
     let front = map (λ v. v.depth) g.vertices in
     let back = map (λ e. depth_past_vertex g.vertices e.from) g.edges in
     record {
@@ -164,10 +205,10 @@ is_graph g h =
           h.joined placed.0 placed.1;
       shallow = All-append (λ d. d ≤ max_depth) front back
           (All-map (λ d. d ≤ max_depth) (λ v. v.depth) g.vertices
-          (All-weaker (λ v. is_too_deep v ≡ false) (λ v. v.depth ≤ max_depth)
-          (λ v p. ltb-false max_depth v.depth (or_false (ltb max_depth v.depth) _ p).0) g.vertices (none_of is_too_deep g.vertices flat.0)))
+          (All-weaker (λ v. is_too_deep max_depth v ≡ false) (λ v. v.depth ≤ max_depth)
+          (λ v p. ltb-false max_depth v.depth (or_false (ltb max_depth v.depth) _ p).0) g.vertices (none_of (is_too_deep max_depth) g.vertices flat.0)))
           (All-map (λ d. d ≤ max_depth) (λ e. depth_past_vertex g.vertices e.from) g.edges
-          (All-weaker (λ e. leads_too_deep g.vertices e ≡ false) (λ e. depth_past_vertex g.vertices e.from ≤ max_depth)
-          (λ e p. ltb-false max_depth (depth_past_vertex g.vertices e.from) p) g.edges (none_of (leads_too_deep g.vertices) g.edges flat.1)));
+          (All-weaker (λ e. leads_too_deep max_depth g.vertices e ≡ false) (λ e. depth_past_vertex g.vertices e.from ≤ max_depth)
+          (λ e p. ltb-false max_depth (depth_past_vertex g.vertices e.from) p) g.edges (none_of (leads_too_deep max_depth g.vertices) g.edges flat.1)));
       few = ltb-false max_locations (location_count g) small.0;
     }

@@ -1,17 +1,19 @@
 -- What the check of a graph finds, phase by phase.
-use Rattle.std.proofs.Common.{◌≡◌, ◌∙◌, ℕ, ◌<◌, Bool, true, false, List, [], ◌∷◌, ◌++◌, length, map, refl, sym, ap, Option, Some, None, option_map, option_and_then, Ok, Err, ok_or, if◌then◌else◌}
+use Rattle.std.proofs.Common.{◌≡◌, ◌∙◌, ℕ, ◌<◌, ◌≤◌, Bool, true, false, List, [], ◌∷◌, ◌++◌, length, map, refl, sym, ap, Option, Some, None, option_map, option_and_then, Ok, Err, ok_or, if◌then◌else◌}
 use Rattle.std.proofs.lemmas.List.Elements.{All-nil, All-cons}
 use Rattle.std.proofs.lemmas.List.Quantifiers.{position-Some}
 use Rattle.std.specs.List.{All}
 use Rattle.std.specs.Option.{option_map_or}
 use Rattle.std.specs.Str.{bytes_eq}
+use Rattle.nd_time.specs.Limits.{max_depth}
 use Rattle.nd_graph.specs.declared.graph.Vertex.{Vertex}
 use Rattle.nd_graph.specs.declared.graph.Edge.{Edge}
 use Rattle.nd_graph.specs.declared.draft.DraftEdge.{DraftEdge}
 use Rattle.nd_graph.specs.declared.fault.GraphFault.{GraphFault}
 use Rattle.nd_graph.specs.declared.fault.GraphFault.TheVariants.{DoubleName, UnknownName}
 use Rattle.nd_graph.specs.Draft.{Draft, every}
-use Rattle.nd_graph.specs.Checked.{has_double, written_names, end_of, located, edges_between, fault_of, judged, judged_with, checked, JoinsVertices, IsFaultless}
+use Rattle.nd_graph.specs.Checked.{has_double, written_names, end_of, located, edges_between, fault_of, judged, judged_with, checked_within, JoinsVertices, IsFaultless}
+use Rattle.nd_graph.proofs.Agreement.{fewer_faults}
 
 -- ---- edges whose ends are found
 
@@ -80,26 +82,26 @@ both_found true o x h = cc
 both_found false None x h = cc
 both_found false (Some y) x h = (refl, cc)
 
-pub faultless : (vertices : List Vertex) (written : List DraftEdge) (edges : List Edge) → edges_between vertices written ≡ Ok edges
-    → fault_of (record { vertices = vertices; edges = edges }) ≡ None → IsFaultless (record { vertices = vertices; edges = edges })
+pub faultless : (most : ℕ) (vertices : List Vertex) (written : List DraftEdge) (edges : List Edge) → most ≤ max_depth → edges_between vertices written ≡ Ok edges
+    → fault_of most (record { vertices = vertices; edges = edges }) ≡ None → IsFaultless (record { vertices = vertices; edges = edges })
 unfolding edges_between
-faultless vertices written edges h none =
+faultless most vertices written edges low h none =
     let found = both_found (has_double (written_names vertices written)) (every (located vertices) written) edges h in
     let joined = all_join vertices written edges found.1 in
     record {
       once = ap (λ more. has_double (map (λ v. v.name) vertices ++ more)) joined.1 ∙ found.0;
       joined = joined.0;
-      faultless = none;
+      faultless = fewer_faults most max_depth (record { vertices = vertices; edges = edges }) low none;
     }
 
-pub checked-fault : (d : Draft) (edges : List Edge) (e : GraphFault) → edges_between d.vertices d.edges ≡ Ok edges
-    → fault_of (record { vertices = d.vertices; edges = edges }) ≡ Some e → checked d ≡ Err e
-unfolding checked judged
-checked-fault d edges e h fault =
-    ap (judged_with d.vertices) h ∙ ap (λ o. option_map_or (λ x. Err x) o (Ok (record { vertices = d.vertices; edges = edges }))) fault
+pub checked-fault : (most : ℕ) (d : Draft) (edges : List Edge) (e : GraphFault) → edges_between d.vertices d.edges ≡ Ok edges
+    → fault_of most (record { vertices = d.vertices; edges = edges }) ≡ Some e → checked_within most d ≡ Err e
+unfolding checked_within judged
+checked-fault most d edges e h fault =
+    ap (judged_with most d.vertices) h ∙ ap (λ o. option_map_or (λ x. Err x) o (Ok (record { vertices = d.vertices; edges = edges }))) fault
 
-pub checked-faultless : (d : Draft) (edges : List Edge) → edges_between d.vertices d.edges ≡ Ok edges
-    → fault_of (record { vertices = d.vertices; edges = edges }) ≡ None → checked d ≡ Ok (record { vertices = d.vertices; edges = edges })
-unfolding checked judged
-checked-faultless d edges h none =
-    ap (judged_with d.vertices) h ∙ ap (λ o. option_map_or (λ x. Err x) o (Ok (record { vertices = d.vertices; edges = edges }))) none
+pub checked-faultless : (most : ℕ) (d : Draft) (edges : List Edge) → edges_between d.vertices d.edges ≡ Ok edges
+    → fault_of most (record { vertices = d.vertices; edges = edges }) ≡ None → checked_within most d ≡ Ok (record { vertices = d.vertices; edges = edges })
+unfolding checked_within judged
+checked-faultless most d edges h none =
+    ap (judged_with most d.vertices) h ∙ ap (λ o. option_map_or (λ x. Err x) o (Ok (record { vertices = d.vertices; edges = edges }))) none

@@ -3,7 +3,7 @@ use Rattle.std.specs.Prelude.{◌≡◌, ℕ, ◌<◌, All, Bool, true, false, n
 use Rattle.std.specs.Option.{option_map_or}
 use Rattle.std.specs.List.{list_any, position}
 use Rattle.std.specs.Str.{bytes_eq}
-use Rattle.nd_time.specs.Limits.{max_depth, max_locations}
+use Rattle.nd_time.specs.Limits.{max_depth, max_depth_v1, max_locations}
 use Rattle.nd_graph.specs.declared.op.Op.{Op}
 use Rattle.nd_graph.specs.declared.graph.Vertex.{Vertex}
 use Rattle.nd_graph.specs.declared.graph.Edge.{Edge}
@@ -86,41 +86,48 @@ has_depth_mismatch g = list_any is_misplaced g.vertices || list_any (misses_dept
 
 -- ---- sizes
 
--- a vertex past the depth limit, or an ingress at it
-abbrev pub is_too_deep : Vertex → Bool
-is_too_deep v = nat_lt max_depth v.depth || (leads_in (action_of v.op) && v.depth == max_depth)
+-- a vertex past a depth, or an ingress at it
+abbrev pub is_too_deep : ℕ → Vertex → Bool
+is_too_deep most v = nat_lt most v.depth || (leads_in (action_of v.op) && v.depth == most)
 
--- an edge past the depth limit
-unfoldable pub leads_too_deep : List Vertex → Edge → Bool
-leads_too_deep vertices e = nat_lt max_depth (depth_past_vertex vertices e.from)
+-- an edge past a depth
+unfoldable pub leads_too_deep : ℕ → List Vertex → Edge → Bool
+leads_too_deep most vertices e = nat_lt most (depth_past_vertex vertices e.from)
 
 -- too many locations, or a location too deep
-unfoldable pub is_too_large : Dataflow → Bool
-is_too_large g =
+unfoldable pub is_too_large : ℕ → Dataflow → Bool
+is_too_large most g =
     nat_lt max_locations (location_count g)
-    || (list_any is_too_deep g.vertices || list_any (leads_too_deep g.vertices) g.edges)
+    || (list_any (is_too_deep most) g.vertices || list_any (leads_too_deep most g.vertices) g.edges)
 
 -- ---- all
 
--- the first fault of a graph whose names are found
-unfoldable pub fault_of : Dataflow → Option GraphFault
-fault_of g =
+-- the first fault of a graph whose names are found, and whose depths may be at most this
+unfoldable pub fault_of : ℕ → Dataflow → Option GraphFault
+fault_of most g =
     if list_any (has_bad_port g.vertices) g.edges then Some BadPort else
     (if has_depth_mismatch g then Some DepthMismatch else
-    (if is_too_large g then Some TooLarge else None))
+    (if is_too_large most g then Some TooLarge else None))
 
 -- the graph, or its fault if it has one
-unfoldable pub judged : Dataflow → Result Dataflow GraphFault
-judged g = option_map_or (λ e. Err e) (fault_of g) (Ok g)
+unfoldable pub judged : ℕ → Dataflow → Result Dataflow GraphFault
+judged most g = option_map_or (λ e. Err e) (fault_of most g) (Ok g)
 
 -- the judgement of the edges that were found
-abbrev pub judged_with : List Vertex → Result (List Edge) GraphFault → Result Dataflow GraphFault
-judged_with vertices (Ok edges) = judged (record { vertices = vertices; edges = edges })
-judged_with vertices (Err e) = Err e
+abbrev pub judged_with : ℕ → List Vertex → Result (List Edge) GraphFault → Result Dataflow GraphFault
+judged_with most vertices (Ok edges) = judged most (record { vertices = vertices; edges = edges })
+judged_with most vertices (Err e) = Err e
 
--- the graph that is written, or the fault of least number
-unfoldable pub checked : Draft → Result Dataflow GraphFault
-checked d = judged_with d.vertices (edges_between d.vertices d.edges)
+-- the graph that is written, or the fault of least number, if depths may be at most this
+unfoldable pub checked_within : ℕ → Draft → Result Dataflow GraphFault
+checked_within most d = judged_with most d.vertices (edges_between d.vertices d.edges)
+
+-- the same by the depth that a graph may have, and that a graph of version 1 may have
+abbrev pub checked : Draft → Result Dataflow GraphFault
+checked = checked_within max_depth
+
+abbrev pub checked_v1 : Draft → Result Dataflow GraphFault
+checked_v1 = checked_within max_depth_v1
 
 -- ---- what holds of a graph that was checked
 
@@ -133,4 +140,4 @@ pub record JoinsVertices (vertices : List Vertex) (e : Edge) : Type 0 where
 pub record IsFaultless (g : Dataflow) : Type 0 where
   pub once : has_double (names g) ≡ false
   pub joined : All (JoinsVertices g.vertices) g.edges
-  pub faultless : fault_of g ≡ None
+  pub faultless : fault_of max_depth g ≡ None

@@ -6,7 +6,6 @@ ghost use Rattle.nd_graph.specs.Graph.{depth_past as past_depth, action_of, dept
 ghost use Rattle.nd_graph.specs.Checked as rule;
 
 use crate::{Action, Edge, GraphFault, Vertex};
-use nd_time::MAX_DEPTH;
 
 /// The most locations of a graph (this project's own rule).
 const MAX_LOCATIONS: usize = 64;
@@ -68,22 +67,22 @@ fn misses_depth(vertices: &[Vertex], edge: &Edge) -> bool
     edge_depth(vertices, edge) != target_depth
 }
 
-fn is_too_deep(vertex: &Vertex) -> bool
-    ensures { result ≡ rule.is_too_deep vertex.now }
+fn is_too_deep(most: usize, vertex: &Vertex) -> bool
+    ensures { result ≡ rule.is_too_deep most vertex.now }
 {
     let depth = vertex.depth as usize;
     let leads_in = match vertex.op.action() {
         Action::Ingress => true,
         Action::Identity | Action::Egress | Action::Feedback => false,
     };
-    MAX_DEPTH < depth || (leads_in && depth == MAX_DEPTH)
+    most < depth || (leads_in && depth == most)
 }
 
 #[tactic(auto, unfolding(crate::specs::Checked::leads_too_deep))]
-fn leads_too_deep(vertices: &[Vertex], edge: &Edge) -> bool
-    ensures { result ≡ rule.leads_too_deep vertices.now edge.now }
+fn leads_too_deep(most: usize, vertices: &[Vertex], edge: &Edge) -> bool
+    ensures { result ≡ rule.leads_too_deep most vertices.now edge.now }
 {
-    MAX_DEPTH < edge_depth(vertices, edge)
+    most < edge_depth(vertices, edge)
 }
 
 fn some_has_bad_port(vertices: &[Vertex], edges: &[Edge]) -> bool
@@ -104,16 +103,18 @@ fn some_misses_depth(vertices: &[Vertex], edges: &[Edge]) -> bool
     edges.iter().any(|edge| misses_depth(vertices, edge))
 }
 
-fn some_is_too_deep(vertices: &[Vertex]) -> bool
-    ensures { result ≡ list_any rule.is_too_deep vertices.now }
+fn some_is_too_deep(most: usize, vertices: &[Vertex]) -> bool
+    ensures { result ≡ list_any (rule.is_too_deep most) vertices.now }
 {
-    vertices.iter().any(|vertex| is_too_deep(vertex))
+    vertices.iter().any(|vertex| is_too_deep(most, vertex))
 }
 
-fn some_leads_too_deep(vertices: &[Vertex], edges: &[Edge]) -> bool
-    ensures { result ≡ list_any (rule.leads_too_deep vertices.now) edges.now }
+fn some_leads_too_deep(most: usize, vertices: &[Vertex], edges: &[Edge]) -> bool
+    ensures { result ≡ list_any (rule.leads_too_deep most vertices.now) edges.now }
 {
-    edges.iter().any(|edge| leads_too_deep(vertices, edge))
+    edges
+        .iter()
+        .any(|edge| leads_too_deep(most, vertices, edge))
 }
 
 #[tactic(auto, unfolding(crate::specs::Checked::has_depth_mismatch))]
@@ -130,24 +131,24 @@ fn are_too_many(vertices: usize, edges: usize) -> bool
 }
 
 #[tactic(auto, unfolding(crate::specs::Checked::is_too_large))]
-fn is_too_large(vertices: &[Vertex], edges: &[Edge]) -> bool
-    ensures { result ≡ rule.is_too_large (record { vertices = vertices.now; edges = edges.now }) }
+fn is_too_large(most: usize, vertices: &[Vertex], edges: &[Edge]) -> bool
+    ensures { result ≡ rule.is_too_large most (record { vertices = vertices.now; edges = edges.now }) }
 {
     are_too_many(vertices.len(), edges.len())
-        || some_is_too_deep(vertices)
-        || some_leads_too_deep(vertices, edges)
+        || some_is_too_deep(most, vertices)
+        || some_leads_too_deep(most, vertices, edges)
 }
 
-/// The first fault of a graph whose names are found.
+/// The first fault of a graph whose names are found, and whose depths may be at most this.
 #[tactic(auto, unfolding(crate::specs::Checked::fault_of))]
-pub(crate) fn fault_of(vertices: &[Vertex], edges: &[Edge]) -> Option<GraphFault>
-    ensures { result ≡ rule.fault_of (record { vertices = vertices.now; edges = edges.now }) }
+pub(crate) fn fault_of(most: usize, vertices: &[Vertex], edges: &[Edge]) -> Option<GraphFault>
+    ensures { result ≡ rule.fault_of most (record { vertices = vertices.now; edges = edges.now }) }
 {
     if some_has_bad_port(vertices, edges) {
         Some(GraphFault::BadPort)
     } else if has_depth_mismatch(vertices, edges) {
         Some(GraphFault::DepthMismatch)
-    } else if is_too_large(vertices, edges) {
+    } else if is_too_large(most, vertices, edges) {
         Some(GraphFault::TooLarge)
     } else {
         None

@@ -1,8 +1,9 @@
 //! A graph as it is written, before its names are looked up.
-ghost use Rattle.std.specs.Prelude.{◌≡◌, ◌⊎◌, IfOk, IfErr, Some, None, codes, ok_or};
+ghost use Rattle.std.specs.Prelude.{◌≡◌, ◌≤◌, ◌⊎◌, IfOk, IfErr, Some, None, codes, ok_or};
 ghost use Rattle.serde_json.specs.View.{view};
 ghost use Rattle.nd_graph.specs.Draft as form;
-ghost use Rattle.nd_graph.specs.Checked.{checked};
+ghost use Rattle.nd_time.specs.Limits.{max_depth};
+ghost use Rattle.nd_graph.specs.Checked.{checked, checked_v1, checked_within};
 ghost use Rattle.nd_graph.specs.Fault.{IsUnlessMemory};
 ghost use Rattle.nd_graph.specs.declared.fault.GraphFault.TheVariants.{Shape, Memory};
 
@@ -11,9 +12,13 @@ use crate::check::fault_of;
 use crate::names::edges_between;
 use crate::{Graph, GraphFault, Name, Op, Route, Vertex};
 use nd_json::{has_keys, integer_at, list_at, small_at, text_at};
+use nd_time::MAX_DEPTH;
 use serde_json::Value;
 use std::alloc::{Allocator, Global};
 use std::marker::Model;
+
+/// The most loops that may lie within one another in a graph of version 1.
+const MAX_DEPTH_V1: usize = 4;
 
 /// An edge as it is written.
 #[derive(Debug, Drop)]
@@ -61,19 +66,38 @@ impl<A: Allocator> GraphDraft<A> {
     }
 
     /// The graph that is written, with its edges' ends as locations. Of several faults the one of least number is answered,
-    /// and never `Shape`.
-    #[tactic(auto, unfolding(crate::specs::Checked::checked))]
+    /// and never `Shape`. A location may lie within 6 loops.
     pub fn check(self, alloc: A) -> Result<Graph<A>, GraphFault>
     where
         A: Copy,
         ensures { IsUnlessMemory (checked self) result }
+    {
+        self.check_within(alloc, MAX_DEPTH)
+    }
+
+    /// The same for a graph of version 1: a location may lie within 4 loops.
+    pub fn check_v1(self, alloc: A) -> Result<Graph<A>, GraphFault>
+    where
+        A: Copy,
+        ensures { IsUnlessMemory (checked_v1 self) result }
+    {
+        self.check_within(alloc, MAX_DEPTH_V1)
+    }
+
+    // The graph that is written, if a location may lie within so many loops.
+    #[tactic(auto, unfolding(crate::specs::Checked::checked_within))]
+    fn check_within(self, alloc: A, most: usize) -> Result<Graph<A>, GraphFault>
+    where
+        A: Copy,
+        requires { most ≤ max_depth }
+        ensures { IsUnlessMemory (checked_within most self) result }
     {
         let GraphDraft {
             vertices,
             edges: written,
         } = self;
         let edges = edges_between(alloc, &vertices, &written)?;
-        if let Some(fault) = fault_of(&vertices, &edges) {
+        if let Some(fault) = fault_of(most, &vertices, &edges) {
             return Err(fault);
         }
         Ok(built(alloc, vertices, edges)?)

@@ -1,6 +1,7 @@
 //! Path summaries.
 ghost use Rattle.std.specs.Prelude.{◌≡◌, ◌+◌, ◌-◌, ◌<◌, ◌≤◌, ◌↔◌, [], ◌∷◌, ◌++◌, length, All, IfSome, IsTrue, IsSome, MatchBool};
 ghost use Rattle.std.specs.Option.{option_to_list};
+ghost use Rattle.nd_paths.specs.Summary.{raised as raised_by};
 ghost use Rattle.nd_time.specs.Limits.{max_depth, max_counter};
 ghost use Rattle.nd_time.specs.Time.{IsLexicallyAtMost};
 
@@ -190,13 +191,7 @@ impl Summary {
         requires deep { self.now.keep + length self.now.constants ≤ max_depth }
         ensures { result.items ≡ applied self.now counters.now }
     {
-        let mut all = ArrayVec::new();
-        if let [outer @ .., last] = &counters[..self.keep] {
-            for counter in outer {
-                all.push(u64::from(*counter));
-            }
-            all.push(u64::from(*last) + u64::from(self.add));
-        }
+        let mut all = raised(&counters[..self.keep], self.add);
         for constant in self.constants.as_slice() {
             all.push(u64::from(*constant));
         }
@@ -212,6 +207,22 @@ impl Summary {
     {
         self.reached(from).cmp(&widened(to)).is_le()
     }
+}
+
+// These counters, the last of them with so much added.
+fn raised(counters: &[u32], add: u32) -> ArrayVec<u64, MAX_DEPTH>
+    requires { length counters.now ≤ max_depth }
+    ensures value { result.items ≡ raised_by add counters.now }
+    ensures size { length result.items ≡ length counters.now }
+{
+    let mut all = ArrayVec::new();
+    if let [outer @ .., last] = counters {
+        for counter in outer {
+            all.push(u64::from(*counter));
+        }
+        all.push(u64::from(*last) + u64::from(add));
+    }
+    all
 }
 
 // The same numbers.

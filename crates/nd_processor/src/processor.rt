@@ -24,7 +24,7 @@ use nd_delta::{Delta, DeltaFault};
 use nd_graph::Graph;
 use nd_map::{SortedMap, TreeMap};
 use nd_paths::Pointstamp;
-use nd_time::Timestamp;
+use nd_time::{NoMemory, Timestamp};
 use nd_vertex::VertexState;
 use std::alloc::{AllocError, Allocator, Global};
 use std::collections::btree_map::Iter;
@@ -165,10 +165,13 @@ impl<A: Allocator + Copy> Processor<A> {
     }
 
     /// The pointstamps of the tokens, in order.
-    pub fn token_points(&self, alloc: A) -> Result<Vec<Pointstamp, A>, AllocError>
+    pub fn token_points(&self, alloc: A) -> Result<Vec<Pointstamp, A>, NoMemory>
         ensures { IfOk result (λ v. v.items ≡ points_of_tokens self.now) }
     {
-        points_of(alloc, self.tokens())
+        let Ok(points) = points_of(alloc, self.tokens()) else {
+            return Err(NoMemory);
+        };
+        Ok(points)
     }
 
     /// For how many vertices items are stored: all of the graph's.

@@ -4,29 +4,27 @@ use Rattle.std.proofs.lemmas.Bool.{cases_lt}
 use Rattle.std.proofs.lemmas.List.{get_or_default}
 use Rattle.std.specs.Prelude.{All}
 use Rattle.std.specs.FinMap as fin
-use Rattle.nd_time.specs.Limits.{max_count, max_processors, max_queue}
+use Rattle.nd_time.specs.Limits.{max_count, max_counter, max_processors, max_queue}
 use Rattle.nd_processor.specs.State.{idle}
 use Rattle.nd_delta.specs.Change.{Change, at, part, at-part, has_point}
 use Rattle.nd_protocol.specs.State.{ClusterState, processor, queue}
 use Rattle.nd_protocol.specs.Exchange.{IsPart}
 use Rattle.nd_protocol.specs.declared.part.Part.{Part}
 use Rattle.nd_protocol.specs.declared.part.Part.TheVariants.{All as Whole, Points}
-use Rattle.nd_protocol.specs.Steps.{chosen, stepped}
+use Rattle.nd_protocol.specs.Steps.{chosen, epoch_of, take_outcome, stepped}
 use Rattle.nd_protocol.specs.Fitting.{ProcessorIsWithin, IsWithinLimits, IsState}
 use Rattle.nd_protocol.specs.Enabled.{HasLargeCount, of_record, of_sink, HasLargeEntry, of_unsent, of_view, IsEnabled}
 use Rattle.nd_protocol.specs.declared.step.Step.{Step}
 use Rattle.nd_protocol.specs.declared.step.Step.TheVariants.{Feed, Take, Notice, Broadcast, Receive}
 use Rattle.nd_protocol.specs.declared.step.Next.{Next as Afterwards}
-use Rattle.nd_time.specs.Time.{Time}
-use Rattle.nd_protocol.specs.declared.refusal.Refusal.TheVariants.{NoProcessor, InputClosed, NoRecord, NoRequest, CountFull, DeltaFull, QueueFull}
+use Rattle.nd_time.specs.Time.{Time, last_of}
+use Rattle.nd_protocol.specs.declared.refusal.Refusal.TheVariants.{NoProcessor, InputClosed, EpochFull, NoRecord, NoRequest, CounterFull, ValueRange, CountFull, DeltaFull, QueueFull}
 use Rattle.nd_protocol.proofs.Arcs.{IsTransitive}
 use Rattle.nd_protocol.proofs.Shape.{Work, feeding, taking, noticing, IsPossible, done}
 use Rattle.nd_protocol.proofs.Performing.{many_stepped}
+use Rattle.nd_protocol.proofs.Ranges.{below_unless, in_range_unless}
 use Rattle.nd_protocol.proofs.Fitness.{keys_fit}
 use Rattle.nd_protocol.proofs.Exchanges.{sent_state, received_state}
-
-below_unless : (p n : ℕ) → (n ≤ p → ⊥) → p < n
-below_unless p n h = elim (cases_lt p n) [ inl lt ↦ lt | inr le ↦ absurd (h le) ]
 
 at_most_unless : (a n : ℕ) → (a < n → ⊥) → n ≤ a
 at_most_unless a n h = elim (cases_lt a n) [ inl lt ↦ absurd (h lt) | inr le ↦ le ]
@@ -49,6 +47,7 @@ module _ {A : Type 0} (s : ClusterState) where
     feed_possible = record {
       performer_is = below_unless p (length s.processors) (enabled.free NoProcessor);
       finds = some_unless (fin.get (processor s p).tokens vertex) (enabled.free InputClosed);
+      numbers = (enabled.numbers.1, λ goes. below_unless (epoch_of s p vertex) max_counter (λ full. enabled.free EpochFull (goes, full)));
     }
 
   module _ (p edge : ℕ) (t : Time) (value : ℤ) (enabled : IsEnabled {A = A} s (Take p edge t value)) where
@@ -56,6 +55,10 @@ module _ {A : Type 0} (s : ClusterState) where
     take_possible = record {
       performer_is = below_unless p (length s.processors) (enabled.free NoProcessor);
       finds = more_unless _ (enabled.free NoRecord);
+      numbers = (
+        λ is. below_unless (last_of t.counters) max_counter (λ full. enabled.free CounterFull (is, full)),
+        in_range_unless (take_outcome s p edge t value) (enabled.free ValueRange),
+      );
     }
 
   module _ (p vertex : ℕ) (t : Time) (enabled : IsEnabled {A = A} s (Notice p vertex t)) where
@@ -63,6 +66,7 @@ module _ {A : Type 0} (s : ClusterState) where
     notice_possible = record {
       performer_is = below_unless p (length s.processors) (enabled.free NoProcessor);
       finds = here_unless _ (enabled.free NoRequest);
+      numbers = tt;
     }
 
   module _ (p : ℕ) (part : Part A) (enabled : IsEnabled {A = A} s (Broadcast p part)) where

@@ -1,5 +1,5 @@
 -- A feed: the token is the cause of the records and of the token at the next epoch. If it stays it supports them.
-use Rattle.std.proofs.Common.{◌≡◌, ◌⊎◌, inl, inr, ℕ, ◌+◌, ◌<◌, ◌≤◌, ℤ, List, [], length, Option, Some, unwrap_or, refl, sym, ap, subst, ◌∙◌, arith}
+use Rattle.std.proofs.Common.{◌≡◌, ◌⊎◌, inl, inr, ℕ, ◌+◌, ◌<◌, ◌≤◌, ℤ, List, [], length, get_or, Option, Some, unwrap_or, refl, sym, ap, subst, ◌∙◌, arith}
 use Rattle.std.specs.FinMap as fin
 use Rattle.std.specs.Ordering.{nat_cmp}
 use Rattle.nd_graph.specs.Graph.{Dataflow}
@@ -11,7 +11,11 @@ use Rattle.nd_protocol.specs.Steps.{emitted, epoch_of, moved_token, flat}
 use Rattle.nd_protocol.specs.declared.step.Next.{Next as Afterwards}
 use Rattle.nd_protocol.specs.declared.step.Next.TheVariants.{Next, Close, Stay}
 use Rattle.nd_protocol.specs.Fitting.{IsOrdered, ProcessorFits}
-use Rattle.nd_protocol.proofs.Shape.{feeding, HasCause}
+use Rattle.nd_protocol.specs.Ranges.{TimeIsSmall}
+use Rattle.nd_protocol.proofs.Ranges.{AllKeys-flat, emitted_small, input_past}
+use Rattle.nd_protocol.proofs.Shape.{feeding, FitsTypes, IsSmallKey, HasCause}
+use Rattle.nd_graph.specs.Graph.{op_at}
+use Rattle.nd_vertex.specs.Table.{time_past}
 use Rattle.nd_processor.specs.Held.{point_cases, one_at_itself, token_at, in_tokens-insert, in_tokens-remove}
 use Rattle.nd_protocol.proofs.Arcs.{later_epoch}
 use Rattle.nd_protocol.proofs.Counts.{AllAt-flat}
@@ -62,21 +66,26 @@ token_moves g m vertex epoch found fits Stay =
       others = λ z h. inl h;
     }
 
-pub feed_cause : (s : ClusterState) → IsOrdered s.graph → (p vertex epoch : ℕ) (values : List ℤ) (next : Afterwards) → fin.get (processor s p).tokens vertex ≡ Some epoch → ProcessorFits s.graph (processor s p) → HasCause s (feeding p vertex values next)
-feed_cause s o p vertex e values next found fit =
-    let fits : Fits s.graph (token_point vertex e) = (fit.tokens vertex e found).1.fits in
+pub feed_cause : (s : ClusterState) → IsOrdered s.graph → (p vertex epoch : ℕ) (values : List ℤ) (next : Afterwards) → fin.get (processor s p).tokens vertex ≡ Some epoch → FitsTypes s (feeding p vertex values next) → ProcessorFits s.graph (processor s p) → HasCause s (feeding p vertex values next)
+feed_cause s o p vertex e values next found numbers fit =
+    let held = fit.tokens vertex e found in
+    let fits : Fits s.graph (token_point vertex e) = held.1.fits in
     let g : Dataflow = s.graph in
     let q : ProcessorState = processor s p in
     let epoch : ℕ = epoch_of s p vertex in
     let same : epoch ≡ e = ap (λ (v : Option ℕ). unwrap_or v 0) found in
     let found_here : fin.get q.tokens vertex ≡ Some epoch = found ∙ ap Some (sym same) in
     let fits_here : Fits g (token_point vertex epoch) = subst (λ n. Fits g (token_point vertex n)) (sym same) fits in
+    let small : TimeIsSmall (flat epoch) = subst (λ n. TimeIsSmall (flat n)) (sym same) held.1.small in
+    let past : TimeIsSmall (time_past (op_at g vertex) (flat epoch)) = input_past (op_at g vertex) (flat epoch) held.0 small in
     let y : Pointstamp = token_point vertex epoch in
     let r : ProcessorState = record q { tokens = moved_token q.tokens vertex epoch next } in
     let moved : IsMoved g next q.tokens (moved_token q.tokens vertex epoch next) y = token_moves g q.tokens vertex epoch found_here fits_here next in
     record {
-      fits = fed_fits g q vertex epoch found_here next fit;
+      fits = fed_fits g q vertex epoch found_here next numbers.1 fit;
       edges = AllAt-flat (λ z. length g.vertices ≤ z.location) (λ v. emitted g (length s.processors) p vertex (flat epoch) (0, v)) (λ v. emitted_on_edges g (length s.processors) p vertex (flat epoch) (0, v)) values;
+      small = AllKeys-flat IsSmallKey (λ v. emitted g (length s.processors) p vertex (flat epoch) (0, v)) values
+          (λ k d lt. emitted_small g (length s.processors) p vertex (flat epoch) (0, get_or values k d) past (numbers.0 k d lt));
       cause = y;
       later = AllAt-flat (IsStrictlyBefore g y) (λ v. emitted g (length s.processors) p vertex (flat epoch) (0, v)) (λ v. emitted_later g o (length s.processors) p vertex (flat epoch) fits_here (0, v)) values;
       grows = λ z. elim (moved.grows z) [ inl later ↦ inl later | inr le ↦ inr (omega arith) ];

@@ -13,7 +13,7 @@ use Rattle.nd_map.specs.Counts.{added, natural, or_else, entries, at as count_at
 use Rattle.nd_map.specs.Entries.{find-index}
 use Rattle.nd_map.specs.Listed.{IsListed}
 use Rattle.nd_map.specs.Weights.{weight}
-use Rattle.nd_paths.specs.Order.{Fits, IsStrictlyBefore}
+use Rattle.nd_paths.specs.Order.{IsStrictlyBefore}
 use Rattle.nd_paths.specs.Point.{point_total, point_exact}
 use Rattle.nd_paths.specs.declared.point.Pointstamp.{Pointstamp}
 use Rattle.nd_delta.specs.Change.{Change, at, plus, at-plus, is_point}
@@ -22,13 +22,14 @@ use Rattle.nd_processor.specs.State.{ProcessorState, idle, token_point, one_at, 
 use Rattle.nd_processor.specs.declared.key.ValueAt.{ValueAt}
 use Rattle.nd_protocol.specs.State.{ClusterState}
 use Rattle.nd_protocol.specs.Steps.{gain, with_gain, with_record, with_records}
-use Rattle.nd_protocol.specs.Fitting.{IsOrdered, IsAtEdge, ChangeFits, ProcessorFits, KeysFit}
+use Rattle.nd_protocol.specs.Ranges.{IsValue}
+use Rattle.nd_protocol.specs.Fitting.{IsOrdered, IsAtVertex, IsAtEdge, IsAtLocation, ChangeFits, ProcessorFits, KeysFit}
 use Rattle.nd_protocol.proofs.Arcs.{IsTransitive}
-use Rattle.nd_protocol.proofs.Shape.{Work, performer, performed, done, AllAt, IsPossible, written, come, performed-writes, HasCause}
+use Rattle.nd_protocol.proofs.Shape.{Work, performer, performed, done, AllAt, AllKeys, IsSmallKey, IsPossible, written, come, performed-writes, HasCause}
 use Rattle.nd_protocol.proofs.Kept.{same_or_not}
 use Rattle.nd_protocol.proofs.Counts.{count, gain-count}
 use Rattle.nd_protocol.proofs.UprightSums.{zero_or_not}
-use Rattle.nd_protocol.proofs.Emissions.{AllAt-wider, AllAt-both}
+use Rattle.nd_protocol.proofs.Emissions.{AllAt-both}
 use Rattle.nd_protocol.proofs.Requests.{as_weight}
 use Rattle.nd_protocol.proofs.Keys.{set_cases}
 use Rattle.nd_protocol.proofs.Performing.{cause_of, many_stepped}
@@ -45,10 +46,10 @@ all-set P xs i y all new k d lt =
 
 -- ---- records come
 
-more_fits : (g : Dataflow) (q : ProcessorState) (k : ValueAt) → IsAtEdge g k.point → ProcessorFits g q → ProcessorFits g (record q { records = added value_at_total q.records k (pos 1) })
+more_fits : (g : Dataflow) (q : ProcessorState) (k : ValueAt) → IsAtEdge g k.point × IsValue k.value → ProcessorFits g q → ProcessorFits g (record q { records = added value_at_total q.records k (pos 1) })
 more_fits g q k place fit = record {
   records = λ j some. elim (set_cases value_at_total value_at_exact q.records k (natural (pos (count_at q.records k) +ℤ pos 1)) j) [
-    | inl same ↦ subst (λ (i : ValueAt). IsAtEdge g i.point) (sym same) place
+    | inl same ↦ subst (λ (i : ValueAt). IsAtEdge g i.point × IsValue i.value) (sym same) place
     | inr same ↦ fit.records j (λ e. some (same ∙ e))
   ];
   requests = fit.requests;
@@ -59,7 +60,7 @@ more_fits g q k place fit = record {
   unsent = fit.unsent;
 }
 
-records_fit : (g : Dataflow) (qs : List ProcessorState) (rs : List (ℕ × ValueAt)) → AllAt (IsAtEdge g) rs → All (ProcessorFits g) qs → All (ProcessorFits g) (with_records qs rs)
+records_fit : (g : Dataflow) (qs : List ProcessorState) (rs : List (ℕ × ValueAt)) → AllKeys (λ k. IsAtEdge g k.point × IsValue k.value) rs → All (ProcessorFits g) qs → All (ProcessorFits g) (with_records qs rs)
 records_fit g qs [] places fits = fits
 records_fit g qs (r ∷ rs) places fits =
     let q : ProcessorState = slice_index_or qs r.0 idle in
@@ -93,26 +94,29 @@ at_it : (b : Bool) (n : ℕ) → 0 < cond b n 0 → (b ≡ true) × (0 < n)
 at_it true n h = (refl, h)
 at_it false n h = absurd (omega arith)
 
-record_at : (g : Dataflow) (q : ProcessorState) (x : Pointstamp) → ProcessorFits g q → 0 < in_records q.records x → Fits g x
+record_at : (g : Dataflow) (q : ProcessorState) (x : Pointstamp) → ProcessorFits g q → 0 < in_records q.records x → IsAtLocation g x
 record_at g q x fit some =
     let (k, n, found, part) = found_part value_at_total (λ (k : ValueAt) n. cond (is_point x k.point) n 0) (entries q.records) (entries_listed q.records) (record { point = x; value = pos 0 }) 0 some in
     let (here, more) = at_it (is_point x k.point) n part in
     let is : count_at q.records k ≡ n = at-entries q.records k ∙ ap (or_else 0) found in
-    subst (Fits g) (sym (tells_apart point_exact x k.point here)) (fit.records k (λ none. omega arith)).fits
+    let place : IsAtEdge g k.point = (fit.records k (λ none. omega arith)).0 in
+    subst (IsAtLocation g) (sym (tells_apart point_exact x k.point here)) (record { fits = place.fits; small = place.small })
 
-request_at : (g : Dataflow) (q : ProcessorState) (x : Pointstamp) → ProcessorFits g q → 0 < in_requests q.requests x → Fits g x
+request_at : (g : Dataflow) (q : ProcessorState) (x : Pointstamp) → ProcessorFits g q → 0 < in_requests q.requests x → IsAtLocation g x
 request_at g q x fit some =
     let (k, u, found, part) = found_part point_total (λ (k : Pointstamp) (u : Unit {0}). one_at k x) (fin.entries q.requests) (fin.entries_sorted q.requests) x tt (subst (λ n. 0 < n) (as_weight q.requests x) some) in
     let (here, more) = at_it (is_point x k) 1 part in
-    subst (Fits g) (sym (tells_apart point_exact x k here)) (fit.requests k (fin.get-entries q.requests k ∙ found)).fits
+    let place : IsAtVertex g k = fit.requests k (fin.get-entries q.requests k ∙ found) in
+    subst (IsAtLocation g) (sym (tells_apart point_exact x k here)) (record { fits = place.fits; small = place.small })
 
-token_at : (g : Dataflow) (q : ProcessorState) (x : Pointstamp) → ProcessorFits g q → 0 < in_tokens q.tokens x → Fits g x
+token_at : (g : Dataflow) (q : ProcessorState) (x : Pointstamp) → ProcessorFits g q → 0 < in_tokens q.tokens x → IsAtLocation g x
 token_at g q x fit some =
     let (v, e, found, part) = found_part nat_cmp_total (λ (v e : ℕ). one_at (token_point v e) x) (fin.entries q.tokens) (fin.entries_sorted q.tokens) 0 0 some in
     let (here, more) = at_it (is_point x (token_point v e)) 1 part in
-    subst (Fits g) (sym (tells_apart point_exact x (token_point v e) here)) (fit.tokens v e (fin.get-entries q.tokens v ∙ found)).1.fits
+    let place : IsAtVertex g (token_point v e) = (fit.tokens v e (fin.get-entries q.tokens v ∙ found)).1 in
+    subst (IsAtLocation g) (sym (tells_apart point_exact x (token_point v e) here)) (record { fits = place.fits; small = place.small })
 
-held_at : (g : Dataflow) (q : ProcessorState) (x : Pointstamp) → ProcessorFits g q → 0 < held q x → Fits g x
+held_at : (g : Dataflow) (q : ProcessorState) (x : Pointstamp) → ProcessorFits g q → 0 < held q x → IsAtLocation g x
 held_at g q x fit some =
     elim (zero_or_some (in_records q.records x)) [
       | inr more ↦ record_at g q x fit more
@@ -122,7 +126,7 @@ held_at g q x fit some =
       ]
     ]
 
-pub outstanding_fits : (g : Dataflow) (qs : List ProcessorState) (x : Pointstamp) → All (ProcessorFits g) qs → 0 < count qs x → Fits g x
+pub outstanding_fits : (g : Dataflow) (qs : List ProcessorState) (x : Pointstamp) → All (ProcessorFits g) qs → 0 < count qs x → IsAtLocation g x
 outstanding_fits g qs x fits some =
     let (i, lt, part) = some_part (λ q. held q x) qs some in
     held_at g (get_or qs i idle) x (fits i idle lt) (part idle)
@@ -163,14 +167,18 @@ gained_fits g old p new then now =
       unsent = plus_fits g q.unsent (gain old new) fit.unsent (gain_fits g old new then now);
     })
 
+-- what comes later than a pointstamp stands at a location
+come_fits : (g : Dataflow) (x : Pointstamp) (rs : List (ℕ × ValueAt)) → AllAt (λ z. IsStrictlyBefore g x z × (length g.vertices ≤ z.location)) rs → AllKeys IsSmallKey rs → AllKeys (λ k. IsAtEdge g k.point × IsValue k.value) rs
+come_fits g x [] h small = tt
+come_fits g x (r ∷ rs) h small = ((record { place = h.0.1; fits = h.0.0.0.fits_t; small = small.0.0 }, small.0.1), come_fits g x rs h.1 small.1)
+
 pub keys_fit : IsTransitive → (s : ClusterState) (x : Work) → IsOrdered s.graph → KeysFit s → IsPossible s x → KeysFit (done s x)
 unfolding done
 keys_fit trans s x o fits possible =
     let g : Dataflow = s.graph in
     let c : HasCause s x = cause_of trans s x o fits possible in
-    let places : AllAt (IsAtEdge g) (come s x) =
-    AllAt-wider (λ z. IsStrictlyBefore g c.cause z × (length g.vertices ≤ z.location)) (IsAtEdge g) (λ z h. record { place = h.1; fits = h.0.0.fits_t }) (come s x)
-    (AllAt-both (IsStrictlyBefore g c.cause) (λ z. length g.vertices ≤ z.location) (come s x) c.later c.edges) in
+    let places : AllKeys (λ k. IsAtEdge g k.point × IsValue k.value) (come s x) =
+    come_fits g c.cause (come s x) (AllAt-both (IsStrictlyBefore g c.cause) (λ z. length g.vertices ≤ z.location) (come s x) c.later c.edges) c.small in
     let performers : All (ProcessorFits g) (set s.processors (performer x) (written s x)) = all-set (ProcessorFits g) s.processors (performer x) (written s x) fits.processors (λ lt. c.fits) in
     let new : All (ProcessorFits g) (performed s x) = subst (All (ProcessorFits g)) (sym (performed-writes s x)) (records_fit g (set s.processors (performer x) (written s x)) (come s x) places performers) in
     let many : length (done s x).processors ≡ length s.processors = many_stepped s x in

@@ -12,7 +12,7 @@ use Rattle.nd_graph.specs.Graph.{Dataflow, depth_past_vertex}
 use Rattle.nd_graph.specs.Checked.{has_bad_port, is_misplaced, is_misplaced_at, misses_depth, has_depth_mismatch, is_too_large, is_too_deep, leads_too_deep, fault_of, IsFaultless}
 use Rattle.nd_graph.specs.Graph.{op_at, location_count}
 use Rattle.nd_paths.specs.Order.{HasDepth}
-use Rattle.nd_time.specs.Limits.{max_locations}
+use Rattle.nd_time.specs.Limits.{max_depth, max_locations}
 
 left_false : (a b : Bool) → (a || b) ≡ false → a ≡ false
 left_false true b e = e
@@ -48,7 +48,7 @@ flat_at (v ∷ vs) rest (suc l) right is = flat_at vs rest l (right_false (is_mi
 pub inputs_flat : (g : Dataflow) → IsFaultless g → AreInputsFlat g
 unfolding fault_of has_depth_mismatch
 inputs_flat g sound l is =
-    let agree : has_depth_mismatch g ≡ false = second_none (list_any (has_bad_port g.vertices) g.edges) (has_depth_mismatch g) (is_too_large g) sound.faultless in
+    let agree : has_depth_mismatch g ≡ false = second_none (list_any (has_bad_port g.vertices) g.edges) (has_depth_mismatch g) (is_too_large max_depth g) sound.faultless in
     flat_at g.vertices (map (λ e. depth_past_vertex g.vertices e.from) g.edges) l (left_false (list_any is_misplaced g.vertices) (list_any (misses_depth g.vertices) g.edges) agree) is
 
 not_more : (m n : ℕ) → nat_lt m n ≡ false → n ≤ m
@@ -58,5 +58,5 @@ not_more m n e = grind (arith, nat_tests, e)
 pub few_locations : (g : Dataflow) → IsFaultless g → location_count g ≤ max_locations
 unfolding fault_of is_too_large
 few_locations g sound =
-    let small : is_too_large g ≡ false = third_none (list_any (has_bad_port g.vertices) g.edges) (has_depth_mismatch g) (is_too_large g) sound.faultless in
-    not_more max_locations (location_count g) (left_false (nat_lt max_locations (location_count g)) (list_any is_too_deep g.vertices || list_any (leads_too_deep g.vertices) g.edges) small)
+    let small : is_too_large max_depth g ≡ false = third_none (list_any (has_bad_port g.vertices) g.edges) (has_depth_mismatch g) (is_too_large max_depth g) sound.faultless in
+    not_more max_locations (location_count g) (left_false (nat_lt max_locations (location_count g)) (list_any (is_too_deep max_depth) g.vertices || list_any (leads_too_deep max_depth g.vertices) g.edges) small)

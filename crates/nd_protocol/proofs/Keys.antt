@@ -32,6 +32,9 @@ use Rattle.nd_vertex.specs.declared.key.ItemKey.{ItemKey}
 use Rattle.nd_vertex.specs.Table.{Outcome, on_record, on_notice, is_zero}
 use Rattle.nd_protocol.specs.declared.step.Next.{Next as Afterwards}
 use Rattle.nd_protocol.specs.declared.step.Next.TheVariants.{Next, Close, Stay}
+use Rattle.nd_protocol.specs.Ranges.{IsSmall, IsValue}
+use Rattle.nd_time.specs.Limits.{max_counter}
+use Rattle.std.proofs.lemmas.List.Elements.{All-nil, All-cons}
 use Rattle.nd_protocol.specs.Fitting.{IsOrdered, IsAtVertex, IsAtEdge, ProcessorFits}
 
 -- ---- an edit of a map leaves every other key as it was
@@ -49,6 +52,21 @@ module _ {K X : Type 0} {R : K → K → Ordering} (o : IsTotalOrder R) (tells :
       elim (eq_by_cmp R q k) as (λ b. eq_by_cmp R q k ≡ b → (q ≡ k) ⊎ (fin.get (fin.remove m k) q ≡ fin.get m q)) [
         | true ↦ λ t. inl (tells_apart tells q k t)
         | false ↦ λ t. inr (fin.get-remove o m k q ∙ ap (λ b. cond b None (fin.get m q)) t)
+      ] refl
+
+  -- with what is found there
+  pub inserted_is : (m : fin.FinMap R X) (k : K) (v : X) (q : K) (w : X) → fin.get (fin.insert m k v) q ≡ Some w → ((q ≡ k) × (w ≡ v)) ⊎ (fin.get m q ≡ Some w)
+  inserted_is m k v q w found =
+      elim (eq_by_cmp R q k) as (λ b. eq_by_cmp R q k ≡ b → ((q ≡ k) × (w ≡ v)) ⊎ (fin.get m q ≡ Some w)) [
+        | true ↦ λ t. (let is : Some v ≡ Some w = sym (fin.get-insert o m k v q ∙ ap (λ b. cond b (Some v) (fin.get m q)) t) ∙ found in inl (tells_apart tells q k t, (let e : w ≡ v = cc in e)))
+        | false ↦ λ t. inr (sym (fin.get-insert o m k v q ∙ ap (λ b. cond b (Some v) (fin.get m q)) t) ∙ found)
+      ] refl
+
+  pub removed_is : (m : fin.FinMap R X) (k q : K) (w : X) → fin.get (fin.remove m k) q ≡ Some w → fin.get m q ≡ Some w
+  removed_is m k q w found =
+      elim (eq_by_cmp R q k) as (λ b. eq_by_cmp R q k ≡ b → fin.get m q ≡ Some w) [
+        | true ↦ λ t. (let is : None ≡ Some w = sym (fin.get-remove o m k q ∙ ap (λ b. cond b None (fin.get m q)) t) ∙ found in absurd (cc))
+        | false ↦ λ t. sym (fin.get-remove o m k q ∙ ap (λ b. cond b None (fin.get m q)) t) ∙ found
       ] refl
 
 module _ {K X : Type 0} {R : K → K → Ordering} {N : Number X} (o : IsTotalOrder R) (tells : fin.IsAntisymmetric R) where
@@ -131,43 +149,50 @@ target_below g o edge d place has =
     let any : Edge = record { name = []; from = 0; port = 0; to = 0; route = Local } in
     subst (λ v. option_map_or (λ (e : Edge). e.to) v 0 < length g.vertices) (sym (slice_get-get_or g.edges i any lt)) (o.joined i any lt).to
 
+-- each item that is there, and its number, fit their types
+abbrev pub AreValues : Items → Type 0
+AreValues items = (k : ItemKey) → at items k ≢ pos 0 → IsValue k.item × IsValue (at items k)
+
 -- the items of a vertex after another's are written
-items_written : (g : Dataflow) (q : ProcessorState) (vertex : ℕ) (t : Time) (items : Items) → ((k : ItemKey) → at items k ≢ pos 0 → (k.time ≡ t) ⊎ (at (items_at q vertex) k ≢ pos 0))
+items_written : (g : Dataflow) (q : ProcessorState) (vertex : ℕ) (t : Time) (items : Items) → ((k : ItemKey) → at items k ≢ pos 0 → (k.time ≡ t) ⊎ (at (items_at q vertex) k ≢ pos 0)) → AreValues items
     → IsAtVertex g (point_at vertex t) → ProcessorFits g q
-    → (v : ℕ) (k : ItemKey) → at (get_or (set q.items vertex items) v none) k ≢ pos 0 → IsAtVertex g (point_at v k.time)
-items_written g q vertex t items items_are there fit v k some =
+    → (v : ℕ) (k : ItemKey) → at (get_or (set q.items vertex items) v none) k ≢ pos 0 → IsAtVertex g (point_at v k.time) × IsValue k.item × IsValue (at (get_or (set q.items vertex items) v none) k)
+items_written g q vertex t items items_are values there fit v k some =
     let inside : vertex < length q.items = subst (λ n. vertex < n) (sym fit.vertices) there.place in
     elim (same_or_not v vertex) [
       | inl here ↦
           let is : get_or (set q.items vertex items) v none ≡ items = ap (λ w. get_or (set q.items vertex items) w none) here ∙ get_or-set_same q.items vertex items none inside in
-          elim (items_are k (λ e. some (ap (λ m. at m k) is ∙ e))) [
+          let some_here : at items k ≢ pos 0 = λ e. some (ap (λ m. at m k) is ∙ e) in
+          let place : IsAtVertex g (point_at v k.time) = elim (items_are k some_here) [
             | inl same ↦ subst₂ (λ w u. IsAtVertex g (point_at w u)) (sym here) (sym same) there
-            | inr old ↦ subst (λ w. IsAtVertex g (point_at w k.time)) (sym here) (fit.items vertex k old)
-          ]
+            | inr old ↦ subst (λ w. IsAtVertex g (point_at w k.time)) (sym here) (fit.items vertex k old).0
+          ] in
+          (place, (values k some_here).0, subst (λ m. IsValue (at m k)) (sym is) (values k some_here).1)
       | inr other ↦
           let is : get_or (set q.items vertex items) v none ≡ items_at q v = get_or-set_other q.items vertex v items none other in
-          fit.items v k (λ e. some (ap (λ m. at m k) is ∙ e))
+          let old = fit.items v k (λ e. some (ap (λ m. at m k) is ∙ e)) in
+          (old.0, old.1, subst (λ m. IsValue (at m k)) (sym is) old.2)
     ]
 
 pub taken_fits : (g : Dataflow) → IsOrdered g → (q : ProcessorState) (edge : ℕ) (t : Time) (value : ℤ) (outcome : Outcome) (op : Op)
-    → ((k : ItemKey) → at outcome.items k ≢ pos 0 → (k.time ≡ t) ⊎ (at (items_at q (target_of g edge)) k ≢ pos 0))
+    → ((k : ItemKey) → at outcome.items k ≢ pos 0 → (k.time ≡ t) ⊎ (at (items_at q (target_of g edge)) k ≢ pos 0)) → AreValues outcome.items
     → (outcome.counts ≡ true → op ≡ Sink) → op ≡ op_at g (target_of g edge)
-    → IsAtEdge g (point_at edge t) → Fits g (point_at (target_of g edge) t) → ProcessorFits g q
+    → IsAtEdge g (point_at edge t) → IsValue value → Fits g (point_at (target_of g edge) t) → ProcessorFits g q
     → ProcessorFits g (record q {
       records = added value_at_total q.records (record_key edge t value) (negsuc 0);
       requests = cond outcome.asks (fin.insert q.requests (point_at (target_of g edge) t) tt) q.requests;
       items = set q.items (target_of g edge) outcome.items;
       sinks = cond outcome.counts (added sink_total q.sinks (record { vertex = target_of g edge; value = value }) (pos 1)) q.sinks;
     })
-taken_fits g o q edge t value outcome op items_are counts op_is place target_fits fit =
+taken_fits g o q edge t value outcome op items_are values counts op_is place fine target_fits fit =
     let target : ℕ = target_of g edge in
     let m : Pointstamp = point_at target t in
     let sink : SinkKey = record { vertex = target; value = value } in
     let below : target < length g.vertices = target_below g o edge (length t.counters) place.place place.fits.depth in
-    let there : IsAtVertex g m = record { place = below; fits = target_fits } in
+    let there : IsAtVertex g m = record { place = below; fits = target_fits; small = place.small } in
     record {
       records = λ k some. elim (set_cases value_at_total value_at_exact q.records (record_key edge t value) (natural (pos (at q.records (record_key edge t value)) +ℤ negsuc 0)) k) [
-        | inl same ↦ subst (λ (j : ValueAt). IsAtEdge g j.point) (sym same) place
+        | inl same ↦ subst (λ (j : ValueAt). IsAtEdge g j.point × IsValue j.value) (sym same) (place, fine)
         | inr same ↦ fit.records k (λ e. some (same ∙ e))
       ];
       requests = λ x found. elim outcome.asks as (λ b. fin.get (cond b (fin.insert q.requests m tt) q.requests) x ≡ Some tt → IsAtVertex g x) [
@@ -179,10 +204,10 @@ taken_fits g o q edge t value outcome op items_are counts op_is place target_fit
       ] found;
       tokens = fit.tokens;
       vertices = length-set q.items target outcome.items ∙ fit.vertices;
-      items = items_written g q target t outcome.items items_are there fit;
-      sinks = λ k some. elim outcome.counts as (λ b. (b ≡ true → op ≡ Sink) → at (cond b (added sink_total q.sinks sink (pos 1)) q.sinks) k ≢ 0 → (op_at g k.vertex ≡ Sink) × (k.vertex < length g.vertices)) [
+      items = items_written g q target t outcome.items items_are values there fit;
+      sinks = λ k some. elim outcome.counts as (λ b. (b ≡ true → op ≡ Sink) → at (cond b (added sink_total q.sinks sink (pos 1)) q.sinks) k ≢ 0 → (op_at g k.vertex ≡ Sink) × (k.vertex < length g.vertices) × IsValue k.value) [
         | true ↦ λ is_sink h. elim (set_cases sink_total sink_exact q.sinks sink (natural (pos (at q.sinks sink) +ℤ pos 1)) k) [
-          | inl same ↦ subst (λ (j : SinkKey). (op_at g j.vertex ≡ Sink) × (j.vertex < length g.vertices)) (sym same) (sym op_is ∙ is_sink refl, below)
+          | inl same ↦ subst (λ (j : SinkKey). (op_at g j.vertex ≡ Sink) × (j.vertex < length g.vertices) × IsValue j.value) (sym same) (sym op_is ∙ is_sink refl, below, fine)
           | inr same ↦ fit.sinks k (λ e. h (same ∙ e))
         ]
         | false ↦ λ is_sink h. fit.sinks k h
@@ -191,43 +216,40 @@ taken_fits g o q edge t value outcome op items_are counts op_is place target_fit
     }
 
 pub noticed_fits : (g : Dataflow) (q : ProcessorState) (vertex : ℕ) (t : Time) (outcome : Outcome)
-    → ((k : ItemKey) → at outcome.items k ≢ pos 0 → (k.time ≡ t) ⊎ (at (items_at q vertex) k ≢ pos 0))
+    → ((k : ItemKey) → at outcome.items k ≢ pos 0 → (k.time ≡ t) ⊎ (at (items_at q vertex) k ≢ pos 0)) → AreValues outcome.items
     → IsAtVertex g (point_at vertex t) → ProcessorFits g q → ProcessorFits g (record q { requests = fin.remove q.requests (point_at vertex t); items = set q.items vertex outcome.items })
-noticed_fits g q vertex t outcome items_are place fit = record {
+noticed_fits g q vertex t outcome items_are values place fit = record {
   records = fit.records;
   requests = λ z found. elim (removed point_total point_exact q.requests (point_at vertex t) z) [ inl same ↦ subst (IsAtVertex g) (sym same) place | inr same ↦ fit.requests z (sym same ∙ found) ];
   tokens = fit.tokens;
   vertices = length-set q.items vertex outcome.items ∙ fit.vertices;
-  items = items_written g q vertex t outcome.items items_are place fit;
+  items = items_written g q vertex t outcome.items items_are values place fit;
   sinks = fit.sinks;
   unsent = fit.unsent;
 }
 
 -- an input's place does not hang on the epoch
-other_epoch : (g : Dataflow) (vertex e f : ℕ) → IsAtVertex g (token_point vertex e) → IsAtVertex g (token_point vertex f)
-other_epoch g vertex e f h = record { place = h.place; fits = record { depth = h.fits.depth } }
+other_epoch : (g : Dataflow) (vertex e f : ℕ) → IsSmall f → IsAtVertex g (token_point vertex e) → IsAtVertex g (token_point vertex f)
+other_epoch g vertex e f small h = record { place = h.place; fits = record { depth = h.fits.depth }; small = All-cons IsSmall f [] small (All-nil IsSmall) }
 
-moved_fits : (g : Dataflow) (q : ProcessorState) (vertex epoch : ℕ) → fin.get q.tokens vertex ≡ Some epoch → (next : Afterwards) → ProcessorFits g q
+moved_fits : (g : Dataflow) (q : ProcessorState) (vertex epoch : ℕ) → fin.get q.tokens vertex ≡ Some epoch → (next : Afterwards) → (next ≡ Next → epoch < max_counter) → ProcessorFits g q
     → (v e : ℕ) → fin.get (moved_token q.tokens vertex epoch next) v ≡ Some e → (op_at g v ≡ Input) × IsAtVertex g (token_point v e)
-moved_fits g q vertex epoch here Next fit v e found =
+moved_fits g q vertex epoch here Next room fit v e found =
     let old = fit.tokens vertex epoch here in
-    elim (inserted nat_cmp_total fin.nat_cmp-IsAntisymmetric q.tokens vertex (epoch + 1) v) [
-      | inl same ↦ subst (λ w. (op_at g w ≡ Input) × IsAtVertex g (token_point w e)) (sym same) (old.0, other_epoch g vertex epoch e old.1)
-      | inr same ↦ fit.tokens v e (sym same ∙ found)
+    elim (inserted_is nat_cmp_total fin.nat_cmp-IsAntisymmetric q.tokens vertex (epoch + 1) v e found) [
+      | inl (same, is) ↦
+          let more : epoch < max_counter = room refl in
+          subst (λ w. (op_at g w ≡ Input) × IsAtVertex g (token_point w e)) (sym same) (old.0, other_epoch g vertex epoch e (omega arith) old.1)
+      | inr there ↦ fit.tokens v e there
     ]
-moved_fits g q vertex epoch here Close fit v e found =
-    let old = fit.tokens vertex epoch here in
-    elim (removed nat_cmp_total fin.nat_cmp-IsAntisymmetric q.tokens vertex v) [
-      | inl same ↦ subst (λ w. (op_at g w ≡ Input) × IsAtVertex g (token_point w e)) (sym same) (old.0, other_epoch g vertex epoch e old.1)
-      | inr same ↦ fit.tokens v e (sym same ∙ found)
-    ]
-moved_fits g q vertex epoch here Stay fit v e found = fit.tokens v e found
+moved_fits g q vertex epoch here Close room fit v e found = fit.tokens v e (removed_is nat_cmp_total fin.nat_cmp-IsAntisymmetric q.tokens vertex v e found)
+moved_fits g q vertex epoch here Stay room fit v e found = fit.tokens v e found
 
-pub fed_fits : (g : Dataflow) (q : ProcessorState) (vertex epoch : ℕ) → fin.get q.tokens vertex ≡ Some epoch → (next : Afterwards) → ProcessorFits g q → ProcessorFits g (record q { tokens = moved_token q.tokens vertex epoch next })
-fed_fits g q vertex epoch here next fit = record {
+pub fed_fits : (g : Dataflow) (q : ProcessorState) (vertex epoch : ℕ) → fin.get q.tokens vertex ≡ Some epoch → (next : Afterwards) → (next ≡ Next → epoch < max_counter) → ProcessorFits g q → ProcessorFits g (record q { tokens = moved_token q.tokens vertex epoch next })
+fed_fits g q vertex epoch here next room fit = record {
   records = fit.records;
   requests = fit.requests;
-  tokens = moved_fits g q vertex epoch here next fit;
+  tokens = moved_fits g q vertex epoch here next room fit;
   vertices = fit.vertices;
   items = fit.items;
   sinks = fit.sinks;

@@ -10,6 +10,7 @@ pub mod Emissions
 pub mod Causes
 pub mod Requests
 pub mod Keys
+pub mod Ranges
 pub mod Takes
 pub mod Feeds
 pub mod Reading

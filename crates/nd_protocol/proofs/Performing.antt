@@ -90,10 +90,10 @@ pub cause_of : IsTransitive → (s : ClusterState) (x : Work) → IsOrdered s.gr
 cause_of trans s (feeding p vertex values next) o fits possible =
     let here : ProcessorFits s.graph (processor s p) = fits.processors p idle possible.performer_is in
     let (epoch, found) = possible.finds in
-    feed_cause s o p vertex epoch values next found here
+    feed_cause s o p vertex epoch values next found possible.numbers here
 cause_of trans s (taking p edge t value) o fits possible =
     let here : ProcessorFits s.graph (processor s p) = fits.processors p idle possible.performer_is in
-    take_cause trans s o p edge t value possible.finds here
+    take_cause trans s o p edge t value possible.finds possible.numbers here
 cause_of trans s (noticing p vertex t) o fits possible =
     let here : ProcessorFits s.graph (processor s p) = fits.processors p idle possible.performer_is in
     notice_cause s o p vertex t possible.finds here

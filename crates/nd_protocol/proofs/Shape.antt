@@ -1,8 +1,11 @@
 -- What feeds, takes and notices have in common: their performer is written, records come, and all that comes stands strictly
 -- after one pointstamp, the cause.
-use Rattle.std.specs.Prelude.{◌≡◌, ◌⊎◌, ◌<◌, ◌≤◌, ℕ, ℤ, pos, negsuc, cond, List, [], ◌∷◌, slice_set, length, Some, refl}
+use Rattle.std.specs.Prelude.{◌≡◌, ◌⊎◌, ◌<◌, ◌≤◌, ℕ, ℤ, pos, negsuc, cond, List, [], ◌∷◌, slice_set, length, All, Some, refl}
 use Rattle.std.specs.List.{flat_map}
 use Rattle.std.specs.FinMap as fin
+use Rattle.nd_time.specs.Limits.{max_counter}
+use Rattle.nd_graph.specs.Graph.{op_at}
+use Rattle.nd_graph.specs.declared.op.Op.TheVariants as op
 use Rattle.nd_map.specs.Counts.{at, added}
 use Rattle.nd_processor.specs.Keys.{value_at_total, sink_total}
 use Rattle.nd_paths.specs.declared.point.Pointstamp.{Pointstamp}
@@ -12,7 +15,9 @@ use Rattle.nd_processor.specs.declared.key.ValueAt.{ValueAt}
 use Rattle.nd_protocol.specs.State.{ClusterState, processor}
 use Rattle.nd_protocol.specs.Steps.{record_key, point_at, flat, epoch_of, moved_token, target_of, emitted, take_outcome, notice_outcome, fed, taken, noticed, with_records, worked}
 use Rattle.nd_protocol.specs.Fitting.{ProcessorFits}
-use Rattle.nd_time.specs.Time.{Time}
+use Rattle.nd_protocol.specs.Ranges.{TimeIsSmall, IsValue}
+use Rattle.nd_protocol.specs.Enabled.{IsInRange}
+use Rattle.nd_time.specs.Time.{Time, last_of}
 use Rattle.nd_protocol.specs.declared.step.Next.{Next as Afterwards}
 use Rattle.nd_protocol.specs.declared.step.Next.TheVariants as token
 
@@ -50,14 +55,30 @@ Finds s (feeding p vertex values _) = (epoch : ℕ) × (fin.get (processor s p).
 Finds s (taking p edge t value) = 0 < at (processor s p).records (record_key edge t value)
 Finds s (noticing p vertex t) = fin.get (processor s p).requests (point_at vertex t) ≡ Some tt
 
+-- the numbers that it makes fit their types
+abbrev pub FitsTypes : ClusterState → Work → Type 0
+FitsTypes s (feeding p vertex values next) = All IsValue values × (next ≡ token.Next → epoch_of s p vertex < max_counter)
+FitsTypes s (taking p edge t value) = (op_at s.graph (target_of s.graph edge) ≡ op.Feedback → last_of t.counters < max_counter) × IsInRange (take_outcome s p edge t value)
+FitsTypes s (noticing p vertex t) = Unit {0}
+
 -- what a step needs, of all that makes it enabled
 pub record IsPossible (s : ClusterState) (x : Work) : Type 0 where
   pub performer_is : performer x < length s.processors
   pub finds : Finds s x
+  pub numbers : FitsTypes s x
 
 -- the processor holds a token before a step and after it
 abbrev pub KeepsToken : ProcessorState → ProcessorState → Pointstamp → Type 0
 KeepsToken q r x = (0 < in_tokens q.tokens x) × (0 < in_tokens r.tokens x)
+
+-- each record that comes is of the kind K
+abbrev pub AllKeys : (ValueAt → Type 0) → List (ℕ × ValueAt) → Type 0
+AllKeys K [] = Unit {0}
+AllKeys K (r ∷ rs) = K r.1 × AllKeys K rs
+
+-- its epoch, its counters and its value fit their types
+abbrev pub IsSmallKey : ValueAt → Type 0
+IsSmallKey k = TimeIsSmall k.point.time × IsValue k.value
 
 -- each record stands at a pointstamp of the kind G
 abbrev pub AllAt : (Pointstamp → Type 0) → List (ℕ × ValueAt) → Type 0
@@ -101,6 +122,7 @@ unsent-written s (noticing p vertex t) = refl
 pub record HasCause (s : ClusterState) (x : Work) : Type 0 where
   pub fits : ProcessorFits s.graph (written s x)
   pub edges : AllAt (λ z. length s.graph.vertices ≤ z.location) (come s x)
+  pub small : AllKeys IsSmallKey (come s x)
   pub cause : Pointstamp
   pub later : AllAt (IsStrictlyBefore s.graph cause) (come s x)
   pub grows : (z : Pointstamp) → IsStrictlyBefore s.graph cause z ⊎ (held (written s x) z ≤ held (processor s (performer x)) z)

@@ -31,7 +31,8 @@ use Rattle.nd_protocol.proofs.Reading.{reading}
 use Rattle.nd_protocol.proofs.Inputs.{AreInputsFlat, inputs_flat, few_locations}
 use Rattle.nd_protocol.proofs.Arcs.{IsTransitive}
 use Rattle.nd_protocol.proofs.Counts.{count, truth-count}
-use Rattle.nd_protocol.proofs.Keys.{inserted}
+use Rattle.nd_protocol.proofs.Keys.{inserted_is}
+use Rattle.nd_protocol.proofs.Ranges.{flat_small}
 use Rattle.nd_protocol.proofs.Readings.{counted, keeps_of}
 use Rattle.nd_protocol.proofs.Fitness.{outstanding_fits, zero_or_some}
 use Rattle.nd_protocol.proofs.Kept.{start_sound}
@@ -96,16 +97,16 @@ nothing_found : {K X : Type 0} (R : K → K → Ordering) (q : K) (v : X) → fi
 nothing_found R q v e = absurd (cc (fin.get-empty R q, e))
 
 -- a token is that of an input, of which there are as many before it as l
-first_input : (l : ℕ) (vs : List Vertex) (v e : ℕ) → fin.get (first_tokens l vs) v ≡ Some e → (i : ℕ) × (v ≡ l + i) × (i < length vs) × (option_map_or (λ w. w.op) (slice_get vs i) Sink ≡ Input)
+first_input : (l : ℕ) (vs : List Vertex) (v e : ℕ) → fin.get (first_tokens l vs) v ≡ Some e → (i : ℕ) × (v ≡ l + i) × (i < length vs) × (option_map_or (λ w. w.op) (slice_get vs i) Sink ≡ Input) × (e ≡ 0)
 first_input l [] v e found = absurd (nothing_found nat_cmp v e found)
 first_input l (w ∷ vs) v e found =
-    let later : fin.get (first_tokens (l + 1) vs) v ≡ Some e → (i : ℕ) × (v ≡ l + i) × (i < length (w ∷ vs)) × (option_map_or (λ w. w.op) (slice_get (w ∷ vs) i) Sink ≡ Input)
-    = λ h. (let (i, is, lt, op_is) = first_input (l + 1) vs v e h in (suc i, omega (arith, is), omega (arith, lt), op_is)) in
-    elim (is_input w.op) as (λ b. is_input w.op ≡ b → fin.get (cond b (fin.insert (first_tokens (l + 1) vs) l 0) (first_tokens (l + 1) vs)) v ≡ Some e
-    → (i : ℕ) × (v ≡ l + i) × (i < length (w ∷ vs)) × (option_map_or (λ w. w.op) (slice_get (w ∷ vs) i) Sink ≡ Input)) [
-      | true ↦ λ t h. elim (inserted nat_cmp_total fin.nat_cmp-IsAntisymmetric (first_tokens (l + 1) vs) l 0 v) [
-        | inl same ↦ (0, omega (arith, same), omega arith, input_op w.op t)
-        | inr same ↦ later (sym same ∙ h)
+    let F : Type 0 = (i : ℕ) × (v ≡ l + i) × (i < length (w ∷ vs)) × (option_map_or (λ w. w.op) (slice_get (w ∷ vs) i) Sink ≡ Input) × (e ≡ 0) in
+    let later : fin.get (first_tokens (l + 1) vs) v ≡ Some e → F
+    = λ h. (let (i, is, lt, op_is, first) = first_input (l + 1) vs v e h in (suc i, omega (arith, is), omega (arith, lt), op_is, first)) in
+    elim (is_input w.op) as (λ b. is_input w.op ≡ b → fin.get (cond b (fin.insert (first_tokens (l + 1) vs) l 0) (first_tokens (l + 1) vs)) v ≡ Some e → F) [
+      | true ↦ λ t h. elim (inserted_is nat_cmp_total fin.nat_cmp-IsAntisymmetric (first_tokens (l + 1) vs) l 0 v e h) [
+        | inl (same, first) ↦ (0, omega (arith, same), omega arith, input_op w.op t, first)
+        | inr there ↦ later there
       ]
       | false ↦ λ t h. later h
     ] refl found
@@ -118,10 +119,10 @@ tokens_fit g inputs_are_flat = record {
   records = λ k some. absurd (some (no_number value_at_cmp naturals k));
   requests = λ x found. absurd (nothing_found point_cmp x tt found);
   tokens = λ vertex e found.
-      let (i, is, lt, op_is) = first_input 0 g.vertices vertex e found in
+      let (i, is, lt, op_is, first) = first_input 0 g.vertices vertex e found in
       let same : i ≡ vertex = omega (arith, is) in
       let input : op_at g vertex ≡ Input = subst (λ w. op_at g w ≡ Input) same op_is in
-      (input, record { place = omega (arith, lt, is); fits = record { depth = inputs_are_flat vertex input } });
+      (input, record { place = omega (arith, lt, is); fits = record { depth = inputs_are_flat vertex input }; small = flat_small e (omega (arith, first)) });
   vertices = many-replicate (length g.vertices) no_counts;
   items = λ vertex k some. absurd (some (ap (λ (m : Items). count_at m k) (same-replicate (length g.vertices) no_counts vertex) ∙ no_number item_cmp integers k));
   sinks = λ k some. absurd (some (no_number sink_cmp naturals k));

@@ -1,5 +1,5 @@
 -- A take: the record on the edge is the cause of what its target emits and of the request.
-use Rattle.std.proofs.Common.{◌≡◌, inl, inr, ℕ, ◌+◌, ◌<◌, ◌≤◌, ℤ, pos, negsuc, cond, length, Some, refl, sym, subst, arith}
+use Rattle.std.proofs.Common.{◌≡◌, inl, inr, ℕ, ◌+◌, ◌<◌, ◌≤◌, ℤ, pos, negsuc, cond, length, get_or, Some, refl, sym, ap, subst, ◌∙◌, arith}
 use Rattle.std.specs.FinMap as fin
 use Rattle.nd_time.specs.Time.{Time}
 use Rattle.nd_graph.specs.declared.op.Action.TheVariants.{Identity}
@@ -14,21 +14,24 @@ use Rattle.nd_processor.specs.declared.key.ValueAt.{ValueAt}
 use Rattle.nd_vertex.specs.Table.{Outcome}
 use Rattle.nd_protocol.specs.Steps.{take_outcome, notice_outcome}
 use Rattle.nd_protocol.specs.Fitting.{IsOrdered, IsAtEdge, IsAtVertex, ProcessorFits}
-use Rattle.nd_protocol.proofs.Shape.{taking, noticing, HasCause}
+use Rattle.nd_protocol.specs.Ranges.{IsValue}
+use Rattle.nd_protocol.proofs.Ranges.{AllKeys-flat, past_small, emitted_small, recorded_value, noticed_number, IsFine, notice_fine}
+use Rattle.nd_protocol.proofs.Shape.{taking, noticing, FitsTypes, IsSmallKey, HasCause}
 use Rattle.nd_graph.specs.Graph.{op_at}
 use Rattle.nd_map.specs.Counts.{at, added}
 use Rattle.nd_processor.specs.Held.{point_cases, one_at_itself, in_records-taken, in_requests-remove}
 use Rattle.nd_processor.specs.Keys.{value_at_total, sink_total}
-use Rattle.std.specs.Prelude.{slice_set}
+use Rattle.std.specs.Prelude.{All, slice_set}
 use Rattle.nd_protocol.proofs.Arcs.{IsTransitive, irreflexive, along, arc_of_edge}
 use Rattle.nd_protocol.proofs.Counts.{AllAt-flat}
 use Rattle.nd_protocol.proofs.Emissions.{AllAt-wider, emitted_later, emitted_on_edges}
-use Rattle.nd_protocol.proofs.Keys.{taken_fits, noticed_fits, items_recorded, items_noticed, counts_sink}
+use Rattle.nd_protocol.proofs.Keys.{AreValues, taken_fits, noticed_fits, items_recorded, items_noticed, counts_sink}
 use Rattle.nd_protocol.proofs.Requests.{in_requests-asked}
 
-pub take_cause : IsTransitive → (s : ClusterState) → IsOrdered s.graph → (p edge : ℕ) (t : Time) (value : ℤ) → 0 < at (processor s p).records (record_key edge t value) → ProcessorFits s.graph (processor s p) → HasCause s (taking p edge t value)
-take_cause trans s o p edge t value some fit =
-    let place : IsAtEdge s.graph (point_at edge t) = fit.records (record_key edge t value) (λ e. omega arith) in
+pub take_cause : IsTransitive → (s : ClusterState) → IsOrdered s.graph → (p edge : ℕ) (t : Time) (value : ℤ) → 0 < at (processor s p).records (record_key edge t value) → FitsTypes s (taking p edge t value) → ProcessorFits s.graph (processor s p) → HasCause s (taking p edge t value)
+take_cause trans s o p edge t value some numbers fit =
+    let there = fit.records (record_key edge t value) (λ e. omega arith) in
+    let place : IsAtEdge s.graph (point_at edge t) = there.0 in
     let g : Dataflow = s.graph in
     let q : ProcessorState = processor s p in
     let k : ValueAt = record_key edge t value in
@@ -52,8 +55,12 @@ take_cause trans s o p edge t value some fit =
       | inr apart ↦ omega (arith, less y, asked y, one_at_itself y)
     ] in
     record {
-      fits = taken_fits g o q edge t value outcome (op_at g target) (items_recorded (op_at g target) (items_at q target) t value) (counts_sink (op_at g target) (items_at q target) t value) refl place on.0.fits_t fit;
+      fits = taken_fits g o q edge t value outcome (op_at g target) (items_recorded (op_at g target) (items_at q target) t value)
+          (λ k is_there. (recorded_value (op_at g target) (items_at q target) t value k there.1 (λ old. (fit.items target k old).1) is_there, numbers.1.items k))
+          (counts_sink (op_at g target) (items_at q target) t value) refl place there.1 on.0.fits_t fit;
       edges = AllAt-flat (λ z. length g.vertices ≤ z.location) (emitted g (length s.processors) p target t) (emitted_on_edges g (length s.processors) p target t) outcome.emissions;
+      small = AllKeys-flat IsSmallKey (emitted g (length s.processors) p target t) outcome.emissions
+          (λ k d lt. emitted_small g (length s.processors) p target t (get_or outcome.emissions k d) (past_small (op_at g target) t numbers.0 place.small) (numbers.1.emissions k d lt));
       cause = y;
       later = AllAt-flat (IsStrictlyBefore g y) (emitted g (length s.processors) p target t)
           (λ e. AllAt-wider (IsStrictlyBefore g m) (IsStrictlyBefore g y) (λ z h. trans g y m z o.accepted on h) (emitted g (length s.processors) p target t e)
@@ -74,10 +81,17 @@ notice_cause s o p vertex t found fit =
     let outcome : Outcome = notice_outcome s p vertex t in
     let y : Pointstamp = point_at vertex t in
     let r : ProcessorState = record q { requests = fin.remove q.requests y; items = slice_set q.items vertex outcome.items } in
+    let fine : All (IsFine (op_at g vertex) t) outcome.emissions = notice_fine (op_at g vertex) (items_at q vertex) t place.small (λ j some. (fit.items vertex j some).2) in
+    let values : AreValues outcome.items = λ k some. elim (noticed_number (op_at g vertex) (items_at q vertex) t k) [
+      | inl none_there ↦ absurd (some none_there)
+      | inr same ↦ let old = fit.items vertex k (λ e. some (same ∙ e)) in (old.1, subst IsValue (sym same) old.2)
+    ] in
     let less : (z : Pointstamp) → in_requests (fin.remove q.requests y) z + one_at y z ≡ in_requests q.requests z = λ z. in_requests-remove q.requests y z found in
     record {
-      fits = noticed_fits g q vertex t outcome (items_noticed (op_at g vertex) (items_at q vertex) t) place fit;
+      fits = noticed_fits g q vertex t outcome (items_noticed (op_at g vertex) (items_at q vertex) t) values place fit;
       edges = AllAt-flat (λ z. length g.vertices ≤ z.location) (emitted g (length s.processors) p vertex t) (emitted_on_edges g (length s.processors) p vertex t) outcome.emissions;
+      small = AllKeys-flat IsSmallKey (emitted g (length s.processors) p vertex t) outcome.emissions
+          (λ k d lt. emitted_small g (length s.processors) p vertex t (get_or outcome.emissions k d) (fine k d lt).0 (fine k d lt).1);
       cause = y;
       later = AllAt-flat (IsStrictlyBefore g y) (emitted g (length s.processors) p vertex t) (emitted_later g o (length s.processors) p vertex t place.fits) outcome.emissions;
       grows = λ z. inr (omega (arith, less z));

@@ -1,5 +1,5 @@
 -- When a step is enabled, and else why it is refused: by the condition of least number (this project's own rule).
-use Rattle.std.specs.Prelude.{◌≡◌, ◌≢◌, ℕ, ◌<◌, ◌≤◌, ◌⊎◌, ℤ, List, [], ◌∷◌, length, All, Some, None, unsigned_abs, FitsSigned}
+use Rattle.std.specs.Prelude.{◌≡◌, ◌≢◌, ℕ, ◌<◌, ◌≤◌, ◌⊎◌, ℤ, List, [], ◌∷◌, length, All, None, unsigned_abs, FitsSigned}
 use Rattle.std.specs.Int.{w64}
 use Rattle.std.specs.FinMap as fin
 use Rattle.nd_time.specs.Limits.{max_count, max_counter, max_values, max_queue}
@@ -20,8 +20,9 @@ use Rattle.nd_processor.specs.declared.key.SinkKey.{SinkKey}
 use Rattle.nd_protocol.specs.State.{ClusterState, processor, view, queue}
 use Rattle.nd_protocol.specs.Invariant.{HoldsToken}
 use Rattle.nd_protocol.specs.Exchange.{StaysUpright}
-use Rattle.nd_protocol.specs.Steps.{record_key, target_of, point_at, take_outcome, chosen, stepped}
+use Rattle.nd_protocol.specs.Steps.{record_key, target_of, point_at, epoch_of, take_outcome, chosen, stepped}
 use Rattle.nd_protocol.specs.Refusals.{number_of}
+use Rattle.nd_protocol.specs.Ranges.{NumbersFit}
 use Rattle.nd_protocol.specs.declared.step.Step.{Step}
 use Rattle.nd_protocol.specs.declared.step.Step.TheVariants.{Feed, Take, Notice, Broadcast, Receive}
 use Rattle.nd_protocol.specs.declared.step.Next.{Next as Afterwards}
@@ -52,7 +53,7 @@ FeedFails s p vertex values _ new NoVertex = length s.graph.vertices ≤ vertex
 FeedFails s p vertex values _ new NotInput = op_at s.graph vertex ≢ op.Input
 FeedFails s p vertex values _ new InputClosed = fin.get (processor s p).tokens vertex ≡ None
 FeedFails s p vertex values _ new TooManyValues = max_values < length values
-FeedFails s p vertex values next new EpochFull = (next ≡ token.Next) × (fin.get (processor s p).tokens vertex ≡ Some max_counter)
+FeedFails s p vertex values next new EpochFull = (next ≡ token.Next) × (max_counter ≤ epoch_of s p vertex)
 FeedFails s p vertex values _ new CountFull = HasLargeCount new
 FeedFails s p vertex values _ new DeltaFull = HasLargeEntry new
 FeedFails s p vertex values _ new _ = ⊥
@@ -61,7 +62,7 @@ abbrev pub TakeFails : ClusterState → ℕ → ℕ → Time → ℤ → Cluster
 TakeFails s p edge t value new NoProcessor = length s.processors ≤ p
 TakeFails s p edge t value new NoEdge = (edge < length s.graph.vertices) ⊎ (location_count s.graph ≤ edge)
 TakeFails s p edge t value new NoRecord = at (processor s p).records (record_key edge t value) ≡ 0
-TakeFails s p edge t value new CounterFull = (op_at s.graph (target_of s.graph edge) ≡ op.Feedback) × (last_of t.counters ≡ max_counter)
+TakeFails s p edge t value new CounterFull = (op_at s.graph (target_of s.graph edge) ≡ op.Feedback) × (max_counter ≤ last_of t.counters)
 TakeFails s p edge t value new ValueRange = IsInRange (take_outcome s p edge t value) → ⊥
 TakeFails s p edge t value new CountFull = HasLargeCount new
 TakeFails s p edge t value new DeltaFull = HasLargeEntry new
@@ -107,10 +108,12 @@ abbrev pub IsAdmissible : {A : Type 0} → ClusterState → Step A → Type 0
 IsAdmissible s (Broadcast p part) = StaysUpright s p (chosen part (processor s p).unsent)
 IsAdmissible s _ = Unit {0}
 
--- no condition holds; that of refusal 16 does not since each entry that stays has its support
+-- no condition holds; that of refusal 16 does not since each entry that stays has its support;
+-- and the numbers of the step fit their types, as those of each step that a program holds do
 pub record IsEnabled {A : Type 0} (s : ClusterState) (x : Step A) : Type 0 where
   pub free : (r : Refusal) → Fails s x r → ⊥
   pub admissible : IsAdmissible s x
+  pub numbers : NumbersFit x
 
 -- no condition holds whose number is below this one
 pub record IsFreeBelow {A : Type 0} (s : ClusterState) (x : Step A) (n : ℕ) : Type 0 where

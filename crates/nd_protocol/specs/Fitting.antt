@@ -14,6 +14,7 @@ use Rattle.nd_processor.specs.State.{ProcessorState, token_point, items_at}
 use Rattle.nd_processor.specs.declared.key.ValueAt.{ValueAt}
 use Rattle.nd_processor.specs.declared.key.SinkKey.{SinkKey}
 use Rattle.nd_protocol.specs.State.{ClusterState}
+use Rattle.nd_protocol.specs.Ranges.{TimeIsSmall, IsValue}
 
 -- edges join vertices, depths agree along the arcs, and every closed walk strictly increases every timestamp
 pub record IsOrdered (g : Dataflow) : Type 0 where
@@ -21,27 +22,35 @@ pub record IsOrdered (g : Dataflow) : Type 0 where
   pub agree : All (ArcAgrees (depths g)) (arcs g)
   pub accepted : IsAccepted g
 
--- the pointstamp of a vertex, or of an edge, at its depth
+-- the pointstamp of a vertex, or of an edge, at its depth, with an epoch and counters that fit their types
 pub record IsAtVertex (g : Dataflow) (x : Pointstamp) : Type 0 where
   pub place : x.location < length g.vertices
   pub fits : Fits g x
+  pub small : TimeIsSmall x.time
 
 pub record IsAtEdge (g : Dataflow) (x : Pointstamp) : Type 0 where
   pub place : length g.vertices ≤ x.location
   pub fits : Fits g x
+  pub small : TimeIsSmall x.time
 
--- each pointstamp of a change fits
+-- of either
+pub record IsAtLocation (g : Dataflow) (x : Pointstamp) : Type 0 where
+  pub fits : Fits g x
+  pub small : TimeIsSmall x.time
+
+-- each pointstamp of a change is one of the graph
 abbrev pub ChangeFits : Dataflow → Change → Type 0
-ChangeFits g c = (x : Pointstamp) → in_change c x ≢ pos 0 → Fits g x
+ChangeFits g c = (x : Pointstamp) → in_change c x ≢ pos 0 → IsAtLocation g x
 
--- each key of a processor's maps is at a location of the graph where it may stand, with a time of that location's depth
+-- each key of a processor's maps is at a location of the graph where it may stand, with a time of that location's depth;
+-- its numbers, and those of items, fit their types
 pub record ProcessorFits (g : Dataflow) (q : ProcessorState) : Type 0 where
-  pub records : (k : ValueAt) → at q.records k ≢ 0 → IsAtEdge g k.point
+  pub records : (k : ValueAt) → at q.records k ≢ 0 → IsAtEdge g k.point × IsValue k.value
   pub requests : (x : Pointstamp) → fin.get q.requests x ≡ Some tt → IsAtVertex g x
   pub tokens : (vertex epoch : ℕ) → fin.get q.tokens vertex ≡ Some epoch → (op_at g vertex ≡ op.Input) × IsAtVertex g (token_point vertex epoch)
   pub vertices : length q.items ≡ length g.vertices
-  pub items : (vertex : ℕ) (k : ItemKey) → at (items_at q vertex) k ≢ pos 0 → IsAtVertex g (record { location = vertex; time = k.time })
-  pub sinks : (k : SinkKey) → at q.sinks k ≢ 0 → (op_at g k.vertex ≡ op.Sink) × (k.vertex < length g.vertices)
+  pub items : (vertex : ℕ) (k : ItemKey) → at (items_at q vertex) k ≢ pos 0 → IsAtVertex g (record { location = vertex; time = k.time }) × IsValue k.item × IsValue (at (items_at q vertex) k)
+  pub sinks : (k : SinkKey) → at q.sinks k ≢ 0 → (op_at g k.vertex ≡ op.Sink) × (k.vertex < length g.vertices) × IsValue k.value
   pub unsent : ChangeFits g q.unsent
 
 -- so is each key of a cluster; each processor has a view, and a queue to each

@@ -1,6 +1,7 @@
 pub mod State
 pub mod Steps
 pub mod Truth
+pub mod Ranges
 pub mod Fitting
 pub mod Refusals
 pub mod Enabled

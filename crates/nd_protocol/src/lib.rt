@@ -2,11 +2,14 @@
 #![tactic(auto)]
 
 mod laws;
+mod numbers;
 mod part;
 mod refusal;
 mod step;
 
 pub use laws::{protocol_is_safe, starts_keep_protocol, steps_keep_protocol, truth_is_small};
+pub use nd_time::NoMemory;
+pub use numbers::times_are_small;
 pub use part::{Part, Points};
-pub use refusal::{NoMemory, Refusal};
+pub use refusal::Refusal;
 pub use step::{Next, Step, Values};

@@ -48,11 +48,6 @@ pub enum Refusal {
     Memory,
 }
 
-/// A growth was refused.
-#[derive(Clone, Copy, Debug, PartialEq, Eq, Drop, Error)]
-#[error("out of memory")]
-pub struct NoMemory;
-
 impl Refusal {
     /// An equal refusal.
     pub fn copy(&self) -> Refusal

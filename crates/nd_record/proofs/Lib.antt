@@ -9,3 +9,4 @@ pub mod Filling
 pub mod Differences
 pub mod Differing
 pub mod Reaching
+pub mod Naming

@@ -12,3 +12,4 @@ pub mod Records
 pub mod Limits
 pub mod Turns
 pub mod Counted
+pub mod Listed

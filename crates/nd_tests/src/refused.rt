@@ -12,6 +12,7 @@ use nd_graph::{Graph, GraphDraft, GraphFault, Op};
 use nd_mesh::{Mesh, PushFault};
 use nd_paths::{PathFault, Paths};
 use nd_processor::{CountFault, Processor, ValueAt};
+use nd_time::NoMemory;
 use nd_vertex::{Effect, VertexFault, VertexState};
 use refusing::{Refusing, in_turn, met};
 use serde_json::Value;
@@ -289,7 +290,7 @@ fn processors<A: Allocator + Copy>(
     match call {
         Call::StartProcessor => met!(heap, n: Processor::start(alloc, graph); AllocError, true),
         Call::CopyProcessor => met!(heap, n: processor.copy(alloc); AllocError, true),
-        Call::ListTokens => met!(heap, n: processor.token_points(alloc); AllocError, true),
+        Call::ListTokens => met!(heap, n: processor.token_points(alloc); NoMemory, true),
         Call::ReturnToken => {
             move_token(&mut processor, None).ok()?;
             met!(heap, n: move_token(&mut processor, Some(0)); AllocError, true)

@@ -4,14 +4,15 @@ use crate::queues::{len, pop, push, unpop, unpush};
 use crate::views::view;
 use nd_delta::{Delta, DeltaFault};
 use nd_drawn::{
-    CYCLE, LINE, NESTED_LOOP, TWO_WAYS, UNGUARDED_LOOP, are_entries, change, graph_of, paths_of,
-    point, time,
+    CYCLE, DEEP, LINE, NESTED_LOOP, TWO_WAYS, UNGUARDED_LOOP, are_entries, change, graph_of,
+    paths_of, point, time,
 };
-use nd_graph::{Action, Op};
+use nd_graph::{Action, GraphDraft, GraphFault, Op};
 use nd_mesh::{LIMIT, Mesh, PushFault};
 use nd_paths::{Constants, PathFault, Paths, Summary};
 use nd_time::{CounterFull, Timestamp};
 use nd_vertex::{Effect, VertexFault, VertexState};
+use serde_json::Value;
 use std::alloc::Global;
 use std::test::Fail;
 
@@ -32,9 +33,10 @@ fn moved(action: Action, time: &Timestamp) -> Option<Timestamp> {
 
 #[test]
 fn time_limits(rt: HostRuntime) -> Result<(), Fail> {
-    assert_eq!(rt; Timestamp::new(0, &[1, 2, 3, 4, 5]), None);
-    let moves: [(Action, &[u32], Option<&[u32]>); 6] = [
-        (Action::Ingress, &[0, 1, 2, 3, 4], None),
+    assert_eq!(rt; Timestamp::new(0, &[1, 2, 3, 4, 5, 6, 7]), None);
+    let moves: [(Action, &[u32], Option<&[u32]>); 7] = [
+        (Action::Ingress, &[0, 1, 2, 3, 4], Some(&[0, 1, 2, 3, 4, 0])),
+        (Action::Ingress, &[0, 1, 2, 3, 4, 5, 6], None),
         (Action::Ingress, &[7], Some(&[7, 0])),
         (Action::Egress, &[0], None),
         (Action::Egress, &[0, 3], Some(&[0])),
@@ -65,6 +67,26 @@ fn time_order(rt: HostRuntime) -> Result<(), Fail> {
         assert_eq!(rt; s.at_or_before(&t), is_before, "from {s:?} to {t:?}");
     }
     Ok(())
+}
+
+/// How many locations a graph has as one of version 1, and as a later one, or its fault.
+fn locations(alloc: Global, text: &str) -> Option<[Result<usize, GraphFault>; 2]> {
+    let value = Value::from_str(alloc, text).ok()?;
+    let (first, later) = (
+        GraphDraft::from_value(alloc, &value).ok()?,
+        GraphDraft::from_value(alloc, &value).ok()?,
+    );
+    Some([
+        first.check_v1(alloc).map(|graph| graph.location_count()),
+        later.check(alloc).map(|graph| graph.location_count()),
+    ])
+}
+
+#[test]
+fn deep_graph(rt: HostRuntime) {
+    let too_large = Err(GraphFault::TooLarge);
+    assert_eq!(rt; locations(rt.alloc(), DEEP), Some([too_large, Ok(13)]));
+    assert_eq!(rt; locations(rt.alloc(), LINE), Some([Ok(3), Ok(3)]));
 }
 
 #[test]

@@ -1,9 +1,12 @@
 -- The limits of the program, which stand here alone (this project's own rule).
 use Rattle.std.specs.Prelude.{ℕ}
 
--- the most loops that may lie within one another
+-- the most loops that may lie within one another, and in a graph of version 1
 abbrev pub max_depth : ℕ
-max_depth = 4
+max_depth = 6
+
+abbrev pub max_depth_v1 : ℕ
+max_depth_v1 = 4
 
 -- the most locations of a graph
 abbrev pub max_locations : ℕ
@@ -19,9 +22,12 @@ least_of_name = 33
 abbrev pub greatest_of_name : ℕ
 greatest_of_name = 126
 
--- the most processors of a cluster
+-- the most processors of a cluster, and in a script of version 1
 abbrev pub max_processors : ℕ
-max_processors = 8
+max_processors = 16
+
+abbrev pub max_processors_v1 : ℕ
+max_processors_v1 = 8
 
 -- the greatest count of a record or of a sink, and the greatest absolute value of a change's or a view's entry
 abbrev pub max_count : ℕ

@@ -5,7 +5,7 @@ use Rattle.std.proofs.Math.Seq.{drop-append_seam, take-append-add}
 use Rattle.std.specs.Io.KnownBytes.{Consumes, IsAtEnd, Keeps}
 use Rattle.rewind_lines.specs.Cuts.{whole_lines-at, whole_lines-newline}
 use Rattle.rewind_lines.specs.Lines.{lines_of, whole_lines_of}
-use Rattle.rewind_answers.specs.Answers.{unstarted}
+use Rattle.rewind_answers.specs.Answers.{unopened}
 use Rattle.rewind_faults.specs.Faults.{is_read_fault}
 use Rattle.rewind.specs.Faults.{IsOfRun}
 use Rattle.rewind.specs.Script.{AreRead, Ends, RepliedTo, Run, Takes, ended, last}
@@ -91,7 +91,7 @@ ends-first n limit input before left after told had = (
   record { taken = []; rest = input; lines = []; split = refl; told = told; within = omega arith; are_read = ended 0 refl },
   record {
     replies = [];
-    phase = unstarted n;
+    phase = unopened n;
     run = (refl, refl);
     goes_on = λ e. cc;
     written = had ∙ ap Some (sym (append-nil before));

@@ -8,7 +8,7 @@ use Rattle.rewind_lines.specs.Cuts.{lines-byte, lines-empty, lines-newline, whol
 use Rattle.rewind_lines.specs.Front.{front_of}
 use Rattle.rewind_lines.specs.Lines.{lines_of, reading_of, whole_lines_of}
 use Rattle.rewind_lines.specs.Texts.{reply_text, text_of}
-use Rattle.rewind_answers.specs.Answers.{Phase, unstarted, refused, Answers}
+use Rattle.rewind_answers.specs.Answers.{Phase, unopened, refused, Answers}
 use Rattle.rewind.specs.Script.{Run, Replies}
 use Rattle.rewind_answers.specs.Stages.{phase_of}
 use Rattle.rewind.specs.States.{AnswersText, Stands, Stopped}
@@ -16,13 +16,14 @@ use Rattle.rewind_faults.specs.declared.fault.DebugFault.{DebugFault}
 use Rattle.rewind_faults.specs.declared.fault.DebugFault.TheVariants as fault
 use Rattle.rewind.specs.declared.run.Run as declared
 use Rattle.rewind_answers.specs.declared.stage.Stage.{Stage}
-use Rattle.rewind_answers.specs.declared.stage.Stage.TheVariants.{Unstarted, Running}
+use Rattle.rewind_answers.specs.declared.stage.Stage.TheVariants.{Unopened, Unstarted, Running}
 use Rattle.rewind.proofs.RunLaws.{Run-push}
 
 -- a stage is no refused graph's
 pub phase_of-goes_on : (stage : Stage) → phase_of stage ≡ refused → ⊥
-phase_of-goes_on (Unstarted processors) e = cc
-phase_of-goes_on (Running machine) e = cc
+phase_of-goes_on (Unopened processors) e = cc
+phase_of-goes_on (Unstarted version processors) e = cc
+phase_of-goes_on (Running version machine) e = cc
 
 text_of-append : (xs ys : List Data) → text_of (xs ++ ys) ≡ text_of xs ++ text_of ys
 text_of-append xs ys = flat_map-append reply_text xs ys
@@ -31,7 +32,7 @@ text_of-append xs ys = flat_map-append reply_text xs ys
 all-ran : (n : ℕ) (done sent : List ℕ) (run : declared.Run) (s : Stands n done sent run) (replies : List Data) (new : Phase)
     → Answers (phase_of run.stage) run.number (reading_of s.part) replies new → Replies n (lines_of done) (s.replies ++ replies) new
 all-ran n done sent run s replies new a =
-    rw s.split (Run-push (unstarted n) (phase_of run.stage) new 1 run.number s.lines s.part s.replies replies (s.number ∙ omega arith) s.ran a)
+    rw s.split (Run-push (unopened n) (phase_of run.stage) new 1 run.number s.lines s.part s.replies replies (s.number ∙ omega arith) s.ran a)
 
 -- its reply is gathered
 all-gathered : (n : ℕ) (done sent : List ℕ) (run next : declared.Run) (text : List ℕ) (count : ℕ) (new : Phase) (s : Stands n done sent run)
@@ -43,7 +44,7 @@ all-gathered n done sent run next text count new s a waits =
     ∙ (append_assoc sent run.waiting.items (text_of a.replies)
     ∙ ap (λ t. sent ++ t) (ap (λ t. run.waiting.items ++ t) (sym a.is_text) ∙ sym waits)))
 
-pub stands-new : (n : ℕ) (run : declared.Run) → phase_of run.stage ≡ unstarted n → run.line ≡ front_of [] → run.waiting.items ≡ [] → run.number ≡ 1 → run.replied ≡ 0
+pub stands-new : (n : ℕ) (run : declared.Run) → phase_of run.stage ≡ unopened n → run.line ≡ front_of [] → run.waiting.items ≡ [] → run.number ≡ 1 → run.replied ≡ 0
     → Stands n [] [] run
 unfolding Run
 stands-new n run stage held none number replied = record {

@@ -3,7 +3,7 @@ use Rattle.std.specs.Prelude.{◌≡◌, ◌≢◌, ℕ, ◌+◌, ◌<◌, ◌�
 use Rattle.serde_json.specs.Data.{Data}
 use Rattle.rewind_lines.specs.Lines.{reading_of, lines_of, whole_lines_of}
 use Rattle.rewind_lines.specs.Texts.{text_of}
-use Rattle.rewind_answers.specs.Answers.{Answers, Phase, refused, unstarted}
+use Rattle.rewind_answers.specs.Answers.{Answers, Phase, refused, unopened}
 use Rattle.rewind_faults.specs.declared.fault.DebugFault.{DebugFault}
 use Rattle.rewind_faults.specs.declared.fault.DebugFault.TheVariants as fault
 
@@ -16,7 +16,7 @@ Run old number (line ∷ lines) replies new =
 
 -- a whole run of so many processors, from the first line
 abbrev pub Replies : ℕ → List (List ℕ) → List Data → Phase → Type 0
-Replies processors lines replies new = Run (unstarted processors) 1 lines replies new
+Replies processors lines replies new = Run (unopened processors) 1 lines replies new
 
 -- The writer held `before` and holds `after`: the replies to these lines were written, and the run could go on.
 pub record RepliedTo (processors : ℕ) (lines : List (List ℕ)) (before : List ℕ) (after : Option (List ℕ)) : Type 0 where

@@ -72,7 +72,7 @@ impl Run {
     {
         Run {
             alloc,
-            stage: Stage::Unstarted(processors),
+            stage: Stage::Unopened(processors),
             line: Line::new(alloc),
             number: 1,
             replied: 0,

@@ -1,6 +1,6 @@
 -- How a graph's value and a command's value are answered.
 use Rattle.std.proofs.Common.{◌≡◌, ◌≢◌, ℕ, ◌+◌, List, [], ◌∷◌, Option, Some, None, Result, Ok, Err, IfOk, refl, sym, ap, subst, ◌∙◌, inl, inr}
-use Rattle.std.specs.Prelude.{◌<◌, length, slice_get}
+use Rattle.std.specs.Prelude.{◌<◌, ◌≤◌, length, slice_get}
 use Rattle.std.specs.Option.{ok_or, option_to_list}
 use Rattle.std.specs.declared.alloc.AllocError.{AllocError}
 use Rattle.serde_json.specs.Data.{Data}
@@ -8,7 +8,6 @@ use Rattle.serde_json.specs.View.{view}
 use Rattle.serde_json.specs.declared.value.Value.{Value}
 use Rattle.nd_graph.specs.Graph.{Dataflow, names}
 use Rattle.nd_graph.specs.Draft.{Draft, draft_of}
-use Rattle.nd_graph.specs.Checked.{checked}
 use Rattle.nd_graph.specs.Fault.{IsUnlessMemory}
 use Rattle.nd_graph.specs.declared.fault.GraphFault.{GraphFault}
 use Rattle.nd_graph.specs.declared.fault.GraphFault.TheVariants.{Shape, Memory}
@@ -22,6 +21,7 @@ use Rattle.nd_protocol.specs.State.{ClusterState, view as view_in}
 use Rattle.nd_shown.specs.StateText.{entries_data, point_data}
 use Rattle.nd_cluster.specs.Starting.{IsStartFault, start_number, start_name}
 use Rattle.nd_cluster.specs.declared.start.StartFault.TheVariants as start_fault
+use Rattle.rewind_forms.specs.declared.version.Version.{Version}
 use Rattle.rewind_forms.specs.declared.asked.Asked.{Asked}
 use Rattle.rewind_forms.specs.declared.fault.LineFault.{LineFault}
 use Rattle.rewind_forms.specs.declared.fault.LineFault.TheVariants as line
@@ -37,14 +37,14 @@ use Rattle.rewind_forms.specs.declared.queries.Query.TheVariants.{Frontier}
 use Rattle.nd_timeline.specs.Moves.{Moves}
 use Rattle.nd_timeline.specs.declared.command.Command.{Command}
 use Rattle.nd_timeline.specs.declared.reply.Reply.{Reply}
-use Rattle.rewind_answers.specs.Answers.{Logged, running, refused, StartReplies, not_strict, graph_of, graph_of_draft, AskedReply, CommandReply, moved, FormReplies, LineReplies, FrontierReply, PassedReply, QueryReply, SearchReply, searched, unanswered, search_fault}
+use Rattle.rewind_answers.specs.Answers.{Logged, running, refused, most_processors, StartReplies, not_strict, checked_in, graph_of, graph_of_draft, AskedReply, CommandReply, moved, FormReplies, LineReplies, FrontierReply, PassedReply, QueryReply, SearchReply, searched, unanswered, search_fault}
 
 -- a value that is no draft
-pub graph_of-refused : (d : Data) (e : GraphFault) → IsUnlessMemory (ok_or (draft_of d) Shape) (Err e) → IsUnlessMemory (graph_of d) (Err e)
+pub graph_of-refused : (v : Version) (d : Data) (e : GraphFault) → IsUnlessMemory (ok_or (draft_of d) Shape) (Err e) → IsUnlessMemory (graph_of v d) (Err e)
 unfolding graph_of
-graph_of-refused d e h = passes (draft_of d) e h
+graph_of-refused v d e h = passes (draft_of d) e h
   where
-    passes : (o : Option Draft) (e : GraphFault) → IsUnlessMemory (ok_or o Shape) (Err e) → IsUnlessMemory (graph_of_draft o) (Err e)
+    passes : (o : Option Draft) (e : GraphFault) → IsUnlessMemory (ok_or o Shape) (Err e) → IsUnlessMemory (graph_of_draft v o) (Err e)
     passes None e (inl is) = inl (let same : Shape ≡ e = cc in ap Err same)
     passes None e (inr is) = inr is
     passes (Some draft) e (inl is) = absurd (cc)
@@ -55,21 +55,21 @@ found None draft is = absurd (cc)
 found (Some other) draft is = cc
 
 -- the graph of a value that is a draft
-pub graph_of-draft : (d : Data) (draft : Draft) → ok_or (draft_of d) Shape ≡ Ok draft → graph_of d ≡ checked draft
+pub graph_of-draft : (v : Version) (d : Data) (draft : Draft) → ok_or (draft_of d) Shape ≡ Ok draft → graph_of v d ≡ checked_in v draft
 unfolding graph_of
-graph_of-draft d draft is = ap graph_of_draft (found (draft_of d) draft is)
+graph_of-draft v d draft is = ap (graph_of_draft v) (found (draft_of d) draft is)
 
 -- a fault that is not out of memory is the one that is told
-pub told : (d : Data) (e : GraphFault) → IsUnlessMemory (graph_of d) (Err e) → e ≢ Memory → graph_of d ≡ Err e
-told d e (inl is) some = is
-told d e (inr is) some = absurd (some is)
+pub told : (v : Version) (d : Data) (e : GraphFault) → IsUnlessMemory (graph_of v d) (Err e) → e ≢ Memory → graph_of v d ≡ Err e
+told v d e (inl is) some = is
+told v d e (inr is) some = absurd (some is)
 
 -- ---- commands
 
-pub asked_replies : (m : Logged) (n : ℕ) (d : Data) (asked : Asked) (r : Result Value AllocError) (new : Logged) → asked_of (cluster_of m.machine.timeline).graph d ≡ Ok asked
-    → IfOk r (λ v. AskedReply m asked (view v) new) → IfOk r (λ v. LineReplies m n d (view v ∷ []) (running new))
-asked_replies m n d asked (Ok v) new is h = subst (λ (o : Result Asked LineFault). FormReplies m n o (view v ∷ []) (running new)) (sym is) (view v, new, h, refl, refl)
-asked_replies m n d asked (Err e) new is h = h
+pub asked_replies : (script : Version) (m : Logged) (n : ℕ) (d : Data) (asked : Asked) (r : Result Value AllocError) (new : Logged) → asked_of script (cluster_of m.machine.timeline).graph d ≡ Ok asked
+    → IfOk r (λ v. AskedReply m asked (view v) new) → IfOk r (λ v. LineReplies script m n d (view v ∷ []) (running script new))
+asked_replies script m n d asked (Ok v) new is h = subst (λ (o : Result Asked LineFault). FormReplies script m n o (view v ∷ []) (running script new)) (sym is) (view v, new, h, refl, refl)
+asked_replies script m n d asked (Err e) new is h = h
 
 -- a command that the machine was moved by
 pub moved_replies : (m new : Logged) (asked : Command Global) (answer : Reply) (g : Dataflow) (r : Result Value AllocError) → m.entries ≢ max_log → Moves m.machine asked answer new.machine
@@ -80,11 +80,11 @@ moved_replies m new asked answer g (Err x) room move count same told = told
 no_memory : (e : LineFault) (n : ℕ) (x : Data) → Some x ≡ line_fault e n → e ≢ line.Memory
 no_memory e n x told memory = absurd (cc (ap (λ f. line_fault f n) memory))
 
-pub fault_replies : (m : Logged) (n : ℕ) (d : Data) (e : LineFault) (r : Result Value AllocError) → (e ≢ line.Memory → asked_of (cluster_of m.machine.timeline).graph d ≡ Err e) → IfOk r (λ v. Some (view v) ≡ line_fault e n)
-    → IfOk r (λ v. LineReplies m n d (view v ∷ []) (running m))
-fault_replies m n d e (Ok v) is told =
-    subst (λ (o : Result Asked LineFault). FormReplies m n o (view v ∷ []) (running m)) (sym (is (no_memory e n (view v) told))) (ap option_to_list told, refl)
-fault_replies m n d e (Err x) is told = told
+pub fault_replies : (script : Version) (m : Logged) (n : ℕ) (d : Data) (e : LineFault) (r : Result Value AllocError) → (e ≢ line.Memory → asked_of script (cluster_of m.machine.timeline).graph d ≡ Err e) → IfOk r (λ v. Some (view v) ≡ line_fault e n)
+    → IfOk r (λ v. LineReplies script m n d (view v ∷ []) (running script m))
+fault_replies script m n d e (Ok v) is told =
+    subst (λ (o : Result Asked LineFault). FormReplies script m n o (view v ∷ []) (running script m)) (sym (is (no_memory e n (view v) told))) (ap option_to_list told, refl)
+fault_replies script m n d e (Err x) is told = told
 
 -- ---- queries about a processor
 
@@ -125,7 +125,7 @@ failed_replies m t when lo hi workers e (Err x) same why told = told
 -- ---- starts
 
 -- a graph whose loops are not strict
-pub not_strict_replies : (processors l : ℕ) (g other : Dataflow) (name : List ℕ) (v : Data) → IsStartFault g processors (start_fault.LoopNotStrict l) → other ≡ g → slice_get (names other) l ≡ Some name
-    → v ≡ location_fault (start_number (start_fault.LoopNotStrict l)) (start_name (start_fault.LoopNotStrict l)) name → StartReplies processors (Ok g) (v ∷ []) refused
-not_strict_replies processors l g other name v fails same named reply =
-    inl (v, not_strict l name fails (ap (λ h. slice_get (names h) l) (sym same) ∙ named) reply, refl, refl)
+pub not_strict_replies : (script : Version) (processors l : ℕ) (g other : Dataflow) (name : List ℕ) (v : Data) → processors ≤ most_processors script → IsStartFault g processors (start_fault.LoopNotStrict l) → other ≡ g
+    → slice_get (names other) l ≡ Some name → v ≡ location_fault (start_number (start_fault.LoopNotStrict l)) (start_name (start_fault.LoopNotStrict l)) name → StartReplies script processors (Ok g) (v ∷ []) refused
+not_strict_replies script processors l g other name v few fails same named reply =
+    inl (v, not_strict l name few fails (ap (λ h. slice_get (names h) l) (sym same) ∙ named) reply, refl, refl)

@@ -4,10 +4,10 @@ use Rattle.std.specs.Option.{option_to_list}
 use Rattle.std.specs.declared.alloc.Global.{Global}
 use Rattle.serde_json.specs.Data.{Data}
 use Rattle.rewind_lines.specs.Lines.{Reading, blank, too_long, no_json, json}
-use Rattle.nd_time.specs.Limits.{max_log}
+use Rattle.nd_time.specs.Limits.{max_log, max_processors, max_processors_v1}
 use Rattle.nd_graph.specs.Graph.{Dataflow, location_count, names}
 use Rattle.nd_graph.specs.Draft.{Draft, draft_of}
-use Rattle.nd_graph.specs.Checked.{checked}
+use Rattle.nd_graph.specs.Checked.{checked, checked_v1}
 use Rattle.nd_graph.specs.Fault.{number_of, name_of}
 use Rattle.nd_graph.specs.declared.fault.GraphFault.{GraphFault}
 use Rattle.nd_graph.specs.declared.fault.GraphFault.TheVariants.{Shape}
@@ -36,50 +36,80 @@ use Rattle.nd_session.specs.Faults.{number_of as number_of_session, name_of as n
 use Rattle.nd_session.specs.declared.fault.SessionFault.{SessionFault}
 use Rattle.nd_session.specs.declared.fault.SessionFault.TheVariants.{LogFull, Memory}
 use Rattle.rewind_forms.specs.Asked.{asked_of}
-use Rattle.rewind_forms.specs.Replies.{fault, location_fault, piece_fault, graph, reply_data, faulty, line_fault, count, before, state, known, frontier, passed, not_passed, no_processor, found}
+use Rattle.rewind_forms.specs.Versions.{number_of as number_of_version, version_of}
+use Rattle.rewind_forms.specs.Replies.{version, fault, location_fault, piece_fault, graph, reply_data, faulty, line_fault, count, before, state, known, frontier, passed, not_passed, no_processor, found}
 use Rattle.rewind_forms.specs.LineFaults.{number_of as number_of_line, name_of as name_of_line}
+use Rattle.rewind_forms.specs.declared.version.Version.{Version}
+use Rattle.rewind_forms.specs.declared.version.Version.TheVariants.{First, Second, Third}
 use Rattle.rewind_forms.specs.declared.fault.LineFault.{LineFault}
 use Rattle.rewind_forms.specs.declared.fault.LineFault.TheVariants.{LineTooLong, BadLine}
 use Rattle.rewind_forms.specs.declared.asked.Asked.{Asked}
 use Rattle.rewind_forms.specs.declared.asked.Asked.TheVariants.{Do, Tell}
 use Rattle.rewind_forms.specs.declared.queries.Query.{Query}
-use Rattle.rewind_forms.specs.declared.queries.Query.TheVariants.{State, Count, Before, View, Frontier, Passed, Search}
+use Rattle.rewind_forms.specs.declared.queries.Query.TheVariants.{State, Count, Before, View, Frontier, Passed, Search, Export, Why, Changes, Step}
+use Rattle.rewind_answers.specs.Explained.{WhyReply, ChangesReply, ExportReply, StepReply}
 
 -- a machine, and how many commands it has answered that were logged
 pub record Logged : Type 0 where
   pub machine : MachineValue Global
   pub entries : ℕ
 
--- before the graph's line, of a number of processors; with the machine; after a graph's line that was refused
+-- before any line, of a number of processors; before the graph's line, in a script of a version; with the machine; after a first line
+-- or a graph's line that was refused
 pub data Phase : Type 0 where
-  unstarted : ℕ → Phase
-  running : Logged → Phase
+  unopened : ℕ → Phase
+  unstarted : Version → ℕ → Phase
+  running : Version → Logged → Phase
   refused : Phase
 
 -- ---- the graph's line
 
+-- what a draft is judged by in a script of a version: the first has fewer loops within one another
+abbrev pub checked_in : Version → Draft → Result Dataflow GraphFault
+checked_in First draft = checked_v1 draft
+checked_in Second draft = checked draft
+checked_in Third draft = checked draft
+
 -- the graph of a draft, or the reply to one that is refused
-abbrev pub graph_of_draft : Option Draft → Result Dataflow GraphFault
-graph_of_draft None = Err Shape
-graph_of_draft (Some draft) = checked draft
+abbrev pub graph_of_draft : Version → Option Draft → Result Dataflow GraphFault
+graph_of_draft v None = Err Shape
+graph_of_draft v (Some draft) = checked_in v draft
 
 -- the graph that a value is, or its fault
-unfoldable pub graph_of : Data → Result Dataflow GraphFault
-graph_of d = graph_of_draft (draft_of d)
+unfoldable pub graph_of : Version → Data → Result Dataflow GraphFault
+graph_of v d = graph_of_draft v (draft_of d)
 
--- why no cluster starts on a graph, and the reply
-pub data RefusedReply (processors : ℕ) (g : Dataflow) (reply : Data) : Type 0 where
-  bad_count : IsStartFault g processors start_fault.BadCount → reply ≡ fault (start_number start_fault.BadCount) (start_name start_fault.BadCount)
-      → RefusedReply processors g reply
-  not_strict : (l : ℕ) (name : List ℕ) → IsStartFault g processors (start_fault.LoopNotStrict l) → slice_get (names g) l ≡ Some name
-      → reply ≡ location_fault (start_number (start_fault.LoopNotStrict l)) (start_name (start_fault.LoopNotStrict l)) name → RefusedReply processors g reply
+-- the most processors of a cluster in a script of a version
+abbrev pub most_processors : Version → ℕ
+most_processors First = max_processors_v1
+most_processors Second = max_processors
+most_processors Third = max_processors
 
--- the reply to the graph's line, and the phase after it
-abbrev pub StartReplies : ℕ → Result Dataflow GraphFault → List Data → Phase → Type 0
-StartReplies processors (Err e) replies new = (replies ≡ fault (number_of e) (name_of e) ∷ []) × (new ≡ refused)
-StartReplies processors (Ok g) replies new =
-    ((reply : Data) × RefusedReply processors g reply × (replies ≡ reply ∷ []) × (new ≡ refused))
-    ⊎ (CanStart g processors × (replies ≡ graph (location_count g) processors ∷ []) × (new ≡ running (record { machine = without_breaks (opened Global (start g processors)); entries = 0 })))
+-- why no cluster starts on a graph, and the reply: there are more processors than the version has, or the cluster refuses
+pub data RefusedReply (v : Version) (processors : ℕ) (g : Dataflow) (reply : Data) : Type 0 where
+  bad_count : (processors ≤ most_processors v → IsStartFault g processors start_fault.BadCount)
+      → reply ≡ fault (start_number start_fault.BadCount) (start_name start_fault.BadCount) → RefusedReply v processors g reply
+  not_strict : (l : ℕ) (name : List ℕ) → processors ≤ most_processors v → IsStartFault g processors (start_fault.LoopNotStrict l) → slice_get (names g) l ≡ Some name
+      → reply ≡ location_fault (start_number (start_fault.LoopNotStrict l)) (start_name (start_fault.LoopNotStrict l)) name → RefusedReply v processors g reply
+
+-- a machine at its start
+abbrev pub started : Dataflow → ℕ → Logged
+started g processors = record { machine = without_breaks (opened Global (start g processors)); entries = 0 }
+
+-- the reply to the graph's line in a script of a version, and the phase after it
+abbrev pub StartReplies : Version → ℕ → Result Dataflow GraphFault → List Data → Phase → Type 0
+StartReplies v processors (Err e) replies new = (replies ≡ fault (number_of e) (name_of e) ∷ []) × (new ≡ refused)
+StartReplies v processors (Ok g) replies new =
+    ((reply : Data) × RefusedReply v processors g reply × (replies ≡ reply ∷ []) × (new ≡ refused))
+    ⊎ ((processors ≤ most_processors v) × CanStart g processors × (replies ≡ graph (location_count g) processors ∷ []) × (new ≡ running v (started g processors)))
+
+-- ---- the first line
+
+-- the reply to the line that tells the script's version; a script whose first line tells none is of the first version, and that line
+-- is its graph's
+abbrev pub OpeningReplies : Option Version → ℕ → Data → List Data → Phase → Type 0
+OpeningReplies (Some v) processors d replies new = (replies ≡ version (number_of_version v) ∷ []) × (new ≡ unstarted v processors)
+OpeningReplies None processors d replies new = StartReplies First processors (graph_of First d) replies new
 
 -- ---- the lines after it
 
@@ -134,6 +164,10 @@ QueryReply m (View q) reply = ViewReply (cluster_of m) q reply
 QueryReply m (Frontier q) reply = FrontierReply (cluster_of m) q reply
 QueryReply m (Passed q x) reply = PassedReply (cluster_of m) q x reply
 QueryReply m (Search when lo hi workers) reply = SearchReply m when lo hi workers reply
+QueryReply m Export reply = ExportReply m reply
+QueryReply m (Why q x) reply = WhyReply (cluster_of m) q x reply
+QueryReply m (Changes q x lo hi) reply = ChangesReply m q x lo hi reply
+QueryReply m (Step to) reply = StepReply m to reply
 
 -- A command is answered by a move of the machine, shown with the names of the graph, and is logged; or, exactly if the log is full, by that; or by out of memory.
 pub data CommandReply (m : Logged) (asked : Command Global) (reply : Data) (new : Logged) : Type 0 where
@@ -147,20 +181,21 @@ abbrev pub AskedReply : Logged → Asked → Data → Logged → Type 0
 AskedReply m (Do command) reply new = CommandReply m command reply new
 AskedReply m (Tell query) reply new = QueryReply m.machine.timeline query reply × (new ≡ m)
 
--- the reply to a line that is, or is not, a command or a query
-abbrev pub FormReplies : Logged → ℕ → Result Asked LineFault → List Data → Phase → Type 0
-FormReplies m line (Ok asked) replies new = (reply : Data) × (next : Logged) × AskedReply m asked reply next × (replies ≡ reply ∷ []) × (new ≡ running next)
-FormReplies m line (Err e) replies new = (replies ≡ option_to_list (line_fault e line)) × (new ≡ running m)
+-- the reply to a line that is, or is not, a command or a query in a script of a version
+abbrev pub FormReplies : Version → Logged → ℕ → Result Asked LineFault → List Data → Phase → Type 0
+FormReplies v m line (Ok asked) replies new = (reply : Data) × (next : Logged) × AskedReply m asked reply next × (replies ≡ reply ∷ []) × (new ≡ running v next)
+FormReplies v m line (Err e) replies new = (replies ≡ option_to_list (line_fault e line)) × (new ≡ running v m)
 
-abbrev pub LineReplies : Logged → ℕ → Data → List Data → Phase → Type 0
-LineReplies m line d replies new = FormReplies m line (asked_of (cluster_of m.machine.timeline).graph d) replies new
+abbrev pub LineReplies : Version → Logged → ℕ → Data → List Data → Phase → Type 0
+LineReplies v m line d replies new = FormReplies v m line (asked_of v (cluster_of m.machine.timeline).graph d) replies new
 
 -- ---- all lines
 
--- a line that is no JSON value ends the run as the graph's, and changes nothing as a later one
+-- a line that is no JSON value ends the run as the first or the graph's, and changes nothing as a later one
 abbrev pub after_fault : Phase → Phase
-after_fault (unstarted processors) = refused
-after_fault (running machine) = running machine
+after_fault (unopened processors) = refused
+after_fault (unstarted v processors) = refused
+after_fault (running v machine) = running v machine
 after_fault refused = refused
 
 -- the replies to one line, none or one, and the phase after it; after a refused graph no line is answered
@@ -169,5 +204,6 @@ Answers refused line reading replies new = ⊥
 Answers old line blank replies new = (replies ≡ []) × (new ≡ old)
 Answers old line too_long replies new = (replies ≡ faulty (number_of_line LineTooLong) (name_of_line LineTooLong) line ∷ []) × (new ≡ after_fault old)
 Answers old line no_json replies new = (replies ≡ faulty (number_of_line BadLine) (name_of_line BadLine) line ∷ []) × (new ≡ after_fault old)
-Answers (unstarted processors) line (json d) replies new = StartReplies processors (graph_of d) replies new
-Answers (running m) line (json d) replies new = LineReplies m line d replies new
+Answers (unopened processors) line (json d) replies new = OpeningReplies (version_of d) processors d replies new
+Answers (unstarted v processors) line (json d) replies new = StartReplies v processors (graph_of v d) replies new
+Answers (running v m) line (json d) replies new = LineReplies v m line d replies new

@@ -3,7 +3,7 @@ ghost use Rattle.std.specs.Prelude.{◌≡◌, ◌∷◌, [], false, Ok, IfOk};
 ghost use Rattle.nd_graph.specs.Fault.{IsUnlessMemory};
 ghost use Rattle.serde_json.specs.View.{view};
 ghost use Rattle.serde_json.specs.Written.{has_float};
-ghost use Rattle.rewind_answers.specs.Answers.{running, graph_of as graph_in, StartReplies, LineReplies, AskedReply, CommandReply};
+ghost use Rattle.rewind_answers.specs.Answers.{running, checked_in, graph_of as graph_in, most_processors as most_in, StartReplies, LineReplies, AskedReply, CommandReply};
 ghost use Rattle.rewind_answers.specs.Stages.{logged, phase_of_start};
 ghost use Rattle.nd_protocol.specs.Invariant.{KeepsProtocol};
 ghost use Rattle.nd_timeline.specs.Timeline.{cluster_of};
@@ -13,7 +13,7 @@ use nd_cluster::{Cluster, StartFault};
 use nd_graph::{Graph, GraphDraft, GraphFault};
 use nd_session::State;
 use nd_timeline::{Command, Timeline};
-use rewind_forms::{Asked, asked_of, replies};
+use rewind_forms::{Asked, Version, asked_of, replies};
 use serde_json::Value;
 use std::alloc::{AllocError, Global};
 use std::thread::Threads;
@@ -21,26 +21,51 @@ use std::thread::Threads;
 /// The number of the client whose script it is.
 const ONLY_CLIENT: u64 = 0;
 
-/// The graph that the value is.
-fn graph_of(alloc: Global, value: &Value) -> Result<Graph, GraphFault>
-    ensures { IsUnlessMemory (graph_in (view value.now)) result }
+// The graph that is written, judged as in a script of the version.
+fn judged(alloc: Global, version: Version, draft: GraphDraft) -> Result<Graph, GraphFault>
+    ensures { IsUnlessMemory (checked_in version draft) result }
+{
+    match version {
+        Version::First => draft.check_v1(alloc),
+        Version::Second | Version::Third => draft.check(alloc),
+    }
+}
+
+/// The graph that the value is, in a script of the version.
+fn graph_of(alloc: Global, version: Version, value: &Value) -> Result<Graph, GraphFault>
+    ensures { IsUnlessMemory (graph_in version (view value.now)) result }
 {
     let draft = match GraphDraft::from_value(alloc, value) {
         Ok(draft) => draft,
         Err(fault) => return Err(fault),
     };
-    draft.check(alloc)
+    judged(alloc, version, draft)
+}
+
+// The most processors in a script of the version.
+fn most_processors(version: Version) -> u8
+    ensures { result ≡ most_in version }
+{
+    match version {
+        Version::First => 8,
+        Version::Second | Version::Third => 16,
+    }
 }
 
 /// Starts a cluster on a graph.
 fn start_on(
     alloc: Global,
+    version: Version,
     processors: u8,
     graph: Graph,
 ) -> Result<(Value, Option<State>), AllocError>
-    ensures replies { IfOk result (λ r. StartReplies processors (Ok graph) (view r.0 ∷ []) (phase_of_start r.1)) }
+    ensures replies { IfOk result (λ r. StartReplies version processors (Ok graph) (view r.0 ∷ []) (phase_of_start version r.1)) }
     ensures text { IfOk result (λ r. has_float (view r.0) ≡ false) }
 {
+    if processors > most_processors(version) {
+        let fault = StartFault::BadCount;
+        return Ok((replies::fault(alloc, fault.number(), fault.name())?, None));
+    }
     let names = graph.copy(alloc)?;
     match Cluster::start(alloc, graph, u32::from(processors)) {
         Ok(cluster) => {
@@ -63,22 +88,23 @@ fn start_on(
     }
 }
 
-/// Answers the graph's line, and starts a `State` if the graph is accepted.
+/// Answers the graph's line in a script of the version, and starts a `State` if the graph is accepted.
 pub fn answer_first(
     alloc: Global,
+    version: Version,
     processors: u8,
     value: &Value,
 ) -> Result<(Value, Option<State>), AllocError>
     ensures replies { IfOk result (λ r.
-        StartReplies processors (graph_in (view value.now)) (view r.0 ∷ []) (phase_of_start r.1)) }
+        StartReplies version processors (graph_in version (view value.now)) (view r.0 ∷ []) (phase_of_start version r.1)) }
     ensures text { IfOk result (λ r. has_float (view r.0) ≡ false) }
 {
-    let graph = match graph_of(alloc, value) {
+    let graph = match graph_of(alloc, version, value) {
         Ok(graph) => graph,
         Err(GraphFault::Memory) => return Err(AllocError),
         Err(fault) => return Ok((replies::fault(alloc, fault.number(), fault.name())?, None)),
     };
-    start_on(alloc, processors, graph)
+    start_on(alloc, version, processors, graph)
 }
 
 /// The cluster at the cursor.
@@ -116,19 +142,20 @@ fn answer_asked<R: Threads + Sync>(
     }
 }
 
-/// Answers a later line.
+/// Answers a later line of a script of the version.
 pub fn answer_later<R: Threads + Sync>(
     rt: &R,
     alloc: Global,
+    version: Version,
     state: &mut State,
     value: &Value,
     line: u64,
 ) -> Result<Value, AllocError>
     ensures replies { IfOk result (λ v.
-        LineReplies (logged state.old) line (view value.now) (view v ∷ []) (running (logged state.new))) }
+        LineReplies version (logged state.old) line (view value.now) (view v ∷ []) (running version (logged state.new))) }
     ensures text { IfOk result (λ v. has_float (view v) ≡ false) }
 {
-    let asked = match asked_of(alloc, cluster(state).graph(), value) {
+    let asked = match asked_of(alloc, version, cluster(state).graph(), value) {
         Ok(asked) => asked,
         Err(fault) => return replies::line_fault(alloc, fault, line),
     };

@@ -3,8 +3,10 @@
 #![tactic(auto)]
 
 mod answer;
+mod kept;
 mod query;
 mod stage;
+mod why;
 
 pub use answer::answer_first;
 pub use stage::{Answer, Stage, answer_line};

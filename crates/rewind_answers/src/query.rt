@@ -9,6 +9,8 @@ ghost use Rattle.rewind_forms.specs.Replies.{count as count_data, before as befo
 ghost use Rattle.rewind_answers.specs.Answers.{QueryReply, ViewReply, FrontierReply, PassedReply, SearchReply, search_fault, true_count};
 
 use crate::answer::cluster;
+use crate::kept::{answer_export, answer_step};
+use crate::why::{answer_changes, answer_why};
 use nd_cluster::Cluster;
 use nd_paths::Pointstamp;
 use nd_search::{OpenGate, SearchFault, search};
@@ -165,5 +167,11 @@ pub fn answer_query<R: Threads + Sync>(
             hi,
             workers,
         } => answer_search(rt, alloc, state, when, *lo, *hi, *workers),
+        Query::Export => answer_export(alloc, state.timeline()),
+        Query::Why(q, point) => answer_why(alloc, cluster, *q, point),
+        Query::Changes { q, point, lo, hi } => {
+            answer_changes(alloc, state.timeline(), *q, point, *lo, *hi)
+        }
+        Query::Step(to) => answer_step(alloc, state.timeline(), *to),
     }
 }

@@ -6,22 +6,25 @@ ghost use Rattle.serde_json.specs.Written.{has_float};
 ghost use Rattle.rewind_lines.specs.Lines.{json};
 ghost use Rattle.rewind_lines.specs.Readings.{reading_view};
 ghost use Rattle.rewind_forms.specs.Replies.{line_fault};
-ghost use Rattle.rewind_answers.specs.Answers.{Answers, after_fault};
+ghost use Rattle.rewind_answers.specs.Answers.{graph_of, StartReplies, OpeningReplies, Answers, after_fault};
+ghost use Rattle.rewind_forms.specs.Versions.{version_of as version_in};
 ghost use Rattle.rewind_answers.specs.Stages.{phase_of, phase_after, replies_of};
 
 use crate::answer::{answer_first, answer_later};
 use nd_session::State;
-use rewind_forms::{LineFault, replies};
+use rewind_forms::{LineFault, Version, replies, version_of};
 use rewind_lines::Reading;
 use serde_json::Value;
 use std::alloc::{AllocError, Global};
 use std::thread::Threads;
 
-/// How far a run has come: before its graph, of a number of processors, or with a `State`.
+/// How far a run has come: before any line, of a number of processors; before the graph's line, in a script of a version; or with
+/// a `State`.
 #[derive(Drop)]
 pub enum Stage {
-    Unstarted(u8),
-    Running(State),
+    Unopened(u8),
+    Unstarted(Version, u8),
+    Running(Version, State),
 }
 
 /// What a line is answered, and whether the run ends there.
@@ -40,7 +43,7 @@ fn goes_on(reply: Value) -> Answer
     }
 }
 
-// Answers a line that is no JSON value; as the graph's line it ends the run.
+// Answers a line that is no JSON value; as the first line or the graph's it ends the run.
 fn answer_fault(
     alloc: Global,
     stage: &Stage,
@@ -54,11 +57,53 @@ fn answer_fault(
     let reply = replies::line_fault(alloc, fault, line)?;
     Ok(Answer {
         reply: Some(reply),
-        is_last: matches!(stage, Stage::Unstarted(_)),
+        is_last: matches!(stage, Stage::Unopened(_) | Stage::Unstarted(_, _)),
     })
 }
 
-// Answers the graph's line or a later one.
+// Answers the graph's line in a script of the version.
+fn answer_graph(
+    alloc: Global,
+    stage: &mut Stage,
+    version: Version,
+    processors: u8,
+    value: &Value,
+) -> Result<Answer, AllocError>
+    ensures answers { IfOk result (λ a. StartReplies version processors (graph_of version (view value.now))
+        (replies_of a.reply) (phase_after a.is_last stage.new)) }
+    ensures text { IfOk result (λ a. IfSome a.reply (λ v. has_float (view v) ≡ false)) }
+{
+    let (reply, started) = answer_first(alloc, version, processors, value)?;
+    let is_last = started.is_none();
+    if let Some(state) = started {
+        *stage = Stage::Running(version, state);
+    }
+    Ok(Answer {
+        reply: Some(reply),
+        is_last,
+    })
+}
+
+// Answers the first line: it tells the script's version, or is the graph's.
+fn answer_opening(
+    alloc: Global,
+    stage: &mut Stage,
+    processors: u8,
+    value: &Value,
+) -> Result<Answer, AllocError>
+    ensures answers { IfOk result (λ a. OpeningReplies (version_in (view value.now)) processors (view value.now)
+        (replies_of a.reply) (phase_after a.is_last stage.new)) }
+    ensures text { IfOk result (λ a. IfSome a.reply (λ v. has_float (view v) ≡ false)) }
+{
+    let Some(version) = version_of(value) else {
+        return answer_graph(alloc, stage, Version::First, processors, value);
+    };
+    let reply = replies::version(alloc, version.number())?;
+    *stage = Stage::Unstarted(version, processors);
+    Ok(goes_on(reply))
+}
+
+// Answers the first line, the graph's or a later one.
 fn answer_value<R: Threads + Sync>(
     rt: &R,
     alloc: Global,
@@ -71,25 +116,25 @@ fn answer_value<R: Threads + Sync>(
     ensures text { IfOk result (λ a. IfSome a.reply (λ v. has_float (view v) ≡ false)) }
 {
     match stage {
-        Stage::Unstarted(processors) => {
-            let (reply, started) = answer_first(alloc, *processors, value)?;
-            let is_last = started.is_none();
-            if let Some(state) = started {
-                *stage = Stage::Running(state);
-            }
-            Ok(Answer {
-                reply: Some(reply),
-                is_last,
-            })
+        Stage::Unopened(processors) => {
+            let processors = *processors;
+            answer_opening(alloc, stage, processors, value)
         }
-        Stage::Running(state) => Ok(goes_on(answer_later(rt, alloc, state, value, line)?)),
+        Stage::Unstarted(version, processors) => {
+            let (version, processors) = (*version, *processors);
+            answer_graph(alloc, stage, version, processors, value)
+        }
+        Stage::Running(version, state) => {
+            let reply = answer_later(rt, alloc, *version, state, value, line)?;
+            Ok(goes_on(reply))
+        }
     }
 }
 
 /// Answers the line of this number; `Err` only if memory runs out.
 ///
-/// A blank line has no reply. A faulty line changes nothing, and ends the run if it is the
-/// graph's; so does a graph that is refused. A reply has no float, so that it can be written.
+/// A blank line has no reply. A faulty line changes nothing, and ends the run if it is the first or
+/// the graph's; so does a graph that is refused. A reply has no float, so that it can be written.
 pub fn answer_line<R: Threads + Sync>(
     rt: &R,
     alloc: Global,

@@ -5,7 +5,7 @@ use Rattle.rewind_lines.specs.Lines.{lines_of}
 use Rattle.rewind_lines.specs.Texts.{text_of}
 use Rattle.rewind_faults.specs.declared.fault.DebugFault.{DebugFault}
 use Rattle.rewind_faults.specs.declared.fault.DebugFault.TheVariants as fault
-use Rattle.rewind_clients.specs.Intake.{Intake, Reads, nothing, refused_graph, faulty_line, script}
+use Rattle.rewind_clients.specs.Intake.{Intake, Reads, nothing, opened, refused_graph, faulty_line, script}
 use Rattle.rewind_clients.specs.Told.{Tells}
 use Rattle.rewind_clients.specs.Written.{WroteFront, WroteLines}
 
@@ -23,31 +23,35 @@ pub record ReadPart (limit : ℕ) (input : List ℕ) (left : Option (List ℕ)) 
   pub told : left ≡ Some rest
   pub within : length taken ≤ limit + 1
 
--- what is written if the lines come to this: a graph's or a faulty line's reply alone, or all
+-- what is written if the lines come to this: the reply alone to a version line, to a refused graph or to a faulty line, or all
 abbrev pub Replies : Intake → List Data → Type 0
 Replies nothing replies = replies ≡ []
+Replies (opened version reply) replies = replies ≡ reply ∷ []
 Replies (refused_graph reply) replies = replies ≡ reply ∷ []
 Replies (faulty_line reply) replies = replies ≡ reply ∷ []
-Replies (script reply machine commands) replies = (lines : List Data) × Tells machine.machine commands lines × (replies ≡ reply ∷ lines)
+Replies (script version opening machine commands) replies = (lines : List Data) × Tells machine.machine commands lines × (replies ≡ opening ++ lines)
 
 -- which of them end a run well, with Graph, and with Script
 abbrev pub EndsWell : Intake → Type 0
 EndsWell nothing = Unit {0}
+EndsWell (opened version reply) = Unit {0}
 EndsWell (refused_graph reply) = ⊥
 EndsWell (faulty_line reply) = ⊥
-EndsWell (script reply machine commands) = Unit {0}
+EndsWell (script version opening machine commands) = Unit {0}
 
 abbrev pub IsRefused : Intake → Type 0
 IsRefused nothing = ⊥
+IsRefused (opened version reply) = ⊥
 IsRefused (refused_graph reply) = Unit {0}
 IsRefused (faulty_line reply) = ⊥
-IsRefused (script reply machine commands) = ⊥
+IsRefused (script version opening machine commands) = ⊥
 
 abbrev pub IsFaulty : Intake → Type 0
 IsFaulty nothing = ⊥
+IsFaulty (opened version reply) = ⊥
 IsFaulty (refused_graph reply) = ⊥
 IsFaulty (faulty_line reply) = Unit {0}
-IsFaulty (script reply machine commands) = ⊥
+IsFaulty (script version opening machine commands) = ⊥
 
 -- how reading fails before all was read
 abbrev pub ReadFails : ℕ → List ℕ → Option (List ℕ) → DebugFault → Type 0

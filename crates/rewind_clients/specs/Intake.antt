@@ -5,7 +5,8 @@ use Rattle.serde_json.specs.Data.{Data}
 use Rattle.nd_timeline.specs.Timeline.{cluster_of}
 use Rattle.nd_timeline.specs.declared.command.Command.{Command}
 use Rattle.rewind_lines.specs.Lines.{Reading, blank, reading_of}
-use Rattle.rewind_answers.specs.Answers.{Answers, Logged, Phase, unstarted, running, refused}
+use Rattle.rewind_forms.specs.declared.version.Version.{Version}
+use Rattle.rewind_answers.specs.Answers.{Answers, Logged, Phase, unopened, unstarted, running, refused}
 use Rattle.rewind_clients.specs.Orders.{order_in, order_fault}
 use Rattle.rewind_clients.specs.declared.order.Order.{Order}
 use Rattle.rewind_clients.specs.declared.order.OrderFault.{OrderFault}
@@ -14,13 +15,15 @@ use Rattle.rewind_clients.specs.declared.order.OrderFault.{OrderFault}
 abbrev pub Commands : Type 0
 Commands = List (List (Command Global))
 
--- none but blank lines; a graph's line that is refused, or a faulty line behind it, and its reply;
--- or the graph's reply, the machine that begins there, and each client's commands
+-- none but blank lines; a version line, with its reply, and no graph yet; a graph's line that is refused, or a faulty line behind it,
+-- and its reply; or the version, the opening replies (that to the version line, if there was one, and the graph's), the machine that
+-- begins there, and each client's commands
 pub data Intake : Type 0 where
   nothing : Intake
+  opened : Version → Data → Intake
   refused_graph : Data → Intake
   faulty_line : Data → Intake
-  script : Data → Logged → Commands → Intake
+  script : Version → List Data → Logged → Commands → Intake
 
 -- the command stands behind those of its client
 abbrev pub with_command : Order → Commands → Commands
@@ -30,33 +33,36 @@ with_command o commands = slice_set commands o.client (slice_index_or commands o
 abbrev pub no_commands : ℕ → Commands
 no_commands clients = replicate clients []
 
--- what a line comes to before the graph's, or that line, by its replies and the phase after it
-abbrev pub IsBegun : ℕ → List Data → Phase → Intake → Type 0
-IsBegun clients [] (unstarted processors) new = new ≡ nothing
-IsBegun clients (reply ∷ []) refused new = new ≡ refused_graph reply
-IsBegun clients (reply ∷ []) (running machine) new = new ≡ script reply machine (no_commands clients)
+-- what the lines up to the graph's come to, by the phase after them and all replies to them: a refused graph's is the last
+abbrev pub IsBegun : ℕ → Phase → List Data → Intake → Type 0
+IsBegun clients (unopened processors) [] new = new ≡ nothing
+IsBegun clients (unstarted version processors) (reply ∷ []) new = new ≡ opened version reply
+IsBegun clients (running version machine) replies new = new ≡ script version replies machine (no_commands clients)
+IsBegun clients refused (reply ∷ []) new = new ≡ refused_graph reply
+IsBegun clients refused (opening ∷ reply ∷ []) new = new ≡ refused_graph reply
 IsBegun clients _ _ new = ⊥
 
--- the first line that is not blank
-pub record Begins (processors clients n : ℕ) (reading : Reading) (new : Intake) : Type 0 where
+-- a line before the graph's, or that line, behind lines with these replies
+pub record Begins (clients : ℕ) (old : Phase) (opening : List Data) (n : ℕ) (reading : Reading) (new : Intake) : Type 0 where
   pub replies : List Data
   pub phase : Phase
-  pub answers : Answers (unstarted processors) n reading replies phase
-  pub begun : IsBegun clients replies phase new
+  pub answers : Answers old n reading replies phase
+  pub begun : IsBegun clients phase (opening ++ replies) new
 
 -- a line behind the graph's
-abbrev pub ordered : Data → Logged → Commands → ℕ → Result Order OrderFault → Intake
-ordered reply machine commands n (Ok order) = script reply machine (with_command order commands)
-ordered reply machine commands n (Err fault) = faulty_line (order_fault fault n)
+abbrev pub ordered : Version → List Data → Logged → Commands → ℕ → Result Order OrderFault → Intake
+ordered version opening machine commands n (Ok order) = script version opening machine (with_command order commands)
+ordered version opening machine commands n (Err fault) = faulty_line (order_fault fault n)
 
 -- A line is read; behind the first that is refused none is looked at.
 abbrev pub ReadsLine : ℕ → ℕ → Intake → ℕ → Reading → Intake → Type 0
-ReadsLine processors clients nothing n reading new = Begins processors clients n reading new
+ReadsLine processors clients nothing n reading new = Begins clients (unopened processors) [] n reading new
+ReadsLine processors clients (opened version reply) n reading new = Begins clients (unstarted version processors) (reply ∷ []) n reading new
 ReadsLine processors clients (refused_graph reply) n reading new = new ≡ refused_graph reply
 ReadsLine processors clients (faulty_line reply) n reading new = new ≡ faulty_line reply
-ReadsLine processors clients (script reply machine commands) n blank new = new ≡ script reply machine commands
-ReadsLine processors clients (script reply machine commands) n reading new =
-    new ≡ ordered reply machine commands n (order_in (length commands) (cluster_of machine.machine.timeline).graph reading)
+ReadsLine processors clients (script version opening machine commands) n blank new = new ≡ script version opening machine commands
+ReadsLine processors clients (script version opening machine commands) n reading new =
+    new ≡ ordered version opening machine commands n (order_in version (length commands) (cluster_of machine.machine.timeline).graph reading)
 
 -- these lines are read, the first of them of this number
 unfoldable pub Reads : ℕ → ℕ → Intake → ℕ → List (List ℕ) → Intake → Type 0

@@ -1,26 +1,60 @@
 -- What a value of the code's intake stands for. For the clauses of private functions.
-use Rattle.std.specs.Prelude.{List, map, Option, Some, None, Vec}
+use Rattle.std.specs.Prelude.{ℕ, List, [], ◌∷◌, ◌++◌, map, unwrap_or, Option, Some, None, Vec}
 use Rattle.std.specs.declared.alloc.Global.{Global}
+use Rattle.serde_json.specs.Data.{Data}
 use Rattle.serde_json.specs.View.{view}
 use Rattle.nd_timeline.specs.declared.command.Command.{Command}
+use Rattle.rewind_forms.specs.Replies.{version as version_reply}
+use Rattle.rewind_forms.specs.Versions.{number_of}
+use Rattle.rewind_forms.specs.declared.version.Version.{Version}
+use Rattle.rewind_forms.specs.declared.version.Version.TheVariants.{First}
+use Rattle.rewind_answers.specs.Answers.{Phase, StartReplies, graph_of}
 use Rattle.rewind_answers.specs.Stages.{logged}
-use Rattle.rewind_clients.specs.Intake.{Commands, nothing, refused_graph, faulty_line, script}
+use Rattle.rewind_clients.specs.Intake.{Commands, IsBegun, nothing, opened, refused_graph, faulty_line, script}
 use Rattle.rewind_clients.specs.Intake as read
 use Rattle.rewind_clients.specs.declared.intake.Intake.{Intake}
 use Rattle.rewind_clients.specs.declared.intake.Script.{Script}
 use Rattle.rewind_clients.specs.declared.shown.Shown.{Shown}
-use Rattle.rewind_clients.specs.declared.intake.Intake.TheVariants.{Nothing, Refused, Faulty, Whole}
+use Rattle.rewind_clients.specs.declared.intake.Intake.TheVariants.{Unstarted, Refused, Faulty, Whole}
 
 abbrev pub lists_of : List (Vec (Command Global) Global) → Commands
 lists_of vs = map (λ v. v.items) vs
 
+-- the reply to the version line, if there was one
+abbrev pub version_replies : Option Version → List Data
+version_replies None = []
+version_replies (Some version) = version_reply (number_of version) ∷ []
+
+-- before the graph's line, behind a version line or none
+abbrev pub unstarted_view : Option Version → read.Intake
+unstarted_view None = nothing
+unstarted_view (Some version) = opened version (version_reply (number_of version))
+
+-- the version of a script
+abbrev pub version_of : Script → Version
+version_of s = unwrap_or s.opened First
+
+-- the replies to its version line, if there was one, and to its graph
+abbrev pub opening_replies : Script → List Data
+opening_replies s = version_replies s.opened ++ view s.reply ∷ []
+
+abbrev pub script_view : Script → read.Intake
+script_view s = script (version_of s) (opening_replies s) (logged s.state) (lists_of s.commands.items)
+
 abbrev pub intake_view : Intake → read.Intake
-intake_view Nothing = nothing
+intake_view (Unstarted version) = unstarted_view version
 intake_view (Refused reply) = refused_graph (view reply)
 intake_view (Faulty reply) = faulty_line (view reply)
-intake_view (Whole s) = script (view s.reply) (logged s.state) (lists_of s.commands.items)
+intake_view (Whole s) = script_view s
 
 -- a script, or the reply to a line of it that is faulty
 abbrev pub or_faulty : Option Shown → Script → read.Intake
-or_faulty None s = intake_view (Whole s)
+or_faulty None s = script_view s
 or_faulty (Some reply) s = faulty_line (view reply)
+
+-- what the graph's line comes to, by its value, behind a version line or none
+pub record Starts (processors clients : ℕ) (version : Option Version) (d : Data) (new : read.Intake) : Type 0 where
+  pub reply : Data
+  pub phase : Phase
+  pub answers : StartReplies (unwrap_or version First) processors (graph_of (unwrap_or version First) d) (reply ∷ []) phase
+  pub begun : IsBegun clients phase (version_replies version ++ reply ∷ []) new

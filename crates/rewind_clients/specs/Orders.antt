@@ -7,6 +7,7 @@ use Rattle.rewind_lines.specs.Lines.{Reading, blank, too_long, no_json, json}
 use Rattle.rewind_forms.specs.Asked.{asked_of}
 use Rattle.rewind_forms.specs.LineFaults.{number_of as number_of_line, name_of as name_of_line}
 use Rattle.rewind_forms.specs.Replies.{faulty}
+use Rattle.rewind_forms.specs.declared.version.Version.{Version}
 use Rattle.rewind_forms.specs.declared.asked.Asked.{Asked}
 use Rattle.rewind_forms.specs.declared.asked.Asked.TheVariants.{Do, Tell}
 use Rattle.rewind_forms.specs.declared.fault.LineFault.{LineFault}
@@ -20,11 +21,20 @@ use Rattle.rewind_clients.specs.declared.order.OrderFault.TheVariants.{Line, Bad
 abbrev pub asks : List ℕ → Data → Bool
 asks name d = has_text (codes "do") name d
 
--- the line asks to be told something, and for no command
-unfoldable pub is_query : Data → Bool
-is_query d =
+-- the line asks to be told what a script of any version may ask
+unfoldable pub is_first_query : Data → Bool
+is_first_query d =
     asks (codes "state") d || (asks (codes "view") d || (asks (codes "frontier") d || (asks (codes "passed") d
     || (asks (codes "count") d || (asks (codes "before") d || asks (codes "search") d)))))
+
+-- or what one of a later version may
+unfoldable pub is_later_query : Data → Bool
+is_later_query d =
+    asks (codes "export") d || (asks (codes "why") d || (asks (codes "changes") d || asks (codes "step") d))
+
+-- the line asks to be told something, and for no command
+abbrev pub is_query : Data → Bool
+is_query d = is_first_query d || is_later_query d
 
 -- a line of a client that is there: queries belong to scripts of one client
 abbrev pub of_client : ℕ → Bool → Result Asked LineFault → Result Order OrderFault
@@ -38,20 +48,20 @@ abbrev pub among : ℕ → ℕ → Bool → Result Asked LineFault → Result Or
 among clients client query (Err BadShape) = Err (Line BadShape)
 among clients client query asked = if nat_lt client clients then of_client client query asked else Err BadClient
 
-abbrev pub order_named : ℕ → Dataflow → Option Named → Result Order OrderFault
-order_named clients g None = Err (Line BadShape)
-order_named clients g (Some named) = among clients named.client (is_query named.rest) (asked_of g named.rest)
+abbrev pub order_named : Version → ℕ → Dataflow → Option Named → Result Order OrderFault
+order_named version clients g None = Err (Line BadShape)
+order_named version clients g (Some named) = among clients named.client (is_query named.rest) (asked_of version g named.rest)
 
--- what a line's value asks for, against a graph, if there are so many clients
-unfoldable pub order_of : ℕ → Dataflow → Data → Result Order OrderFault
-order_of clients g d = order_named clients g (named_of d)
+-- what a line's value asks for in a script of this version, against a graph, if there are so many clients
+unfoldable pub order_of : Version → ℕ → Dataflow → Data → Result Order OrderFault
+order_of version clients g d = order_named version clients g (named_of d)
 
 -- what a line asks for that is not blank
-abbrev pub order_in : ℕ → Dataflow → Reading → Result Order OrderFault
-order_in clients g blank = Err (Line BadShape)
-order_in clients g too_long = Err (Line LineTooLong)
-order_in clients g no_json = Err (Line BadLine)
-order_in clients g (json d) = order_of clients g d
+abbrev pub order_in : Version → ℕ → Dataflow → Reading → Result Order OrderFault
+order_in version clients g blank = Err (Line BadShape)
+order_in version clients g too_long = Err (Line LineTooLong)
+order_in version clients g no_json = Err (Line BadLine)
+order_in version clients g (json d) = order_of version clients g d
 
 -- the number and the name under which a line is answered
 abbrev pub number_of : OrderFault → ℕ

@@ -75,7 +75,7 @@ machine_of l = record { timeline = l.timeline; breaks = l.breaks }
 abbrev pub lines_data : Dataflow → List (Receipt Global) → List Ended → List Data
 lines_data g log faults = map (entry_data g) log ++ faults_data 0 faults
 
--- the lines behind the graph's reply, of a machine that began as this one
+-- the lines behind the opening replies, of a machine that began as this one
 pub record Tells (opening : MachineValue Global) (commands : Commands) (lines : List Data) : Type 0 where
   pub log : List (Receipt Global)
   pub machine : MachineValue Global

@@ -1,18 +1,15 @@
 //! A script of several clients from a source of bytes, its replies to a sink of bytes.
 ghost use Rattle.std.specs.Prelude.{◌≡◌, ◌+◌, ◌-◌, ◌<◌, ◌^◌, ℕ, List, Some, false, true, IfErr, OnOk};
 ghost use Rattle.nd_time.specs.Limits.{max_input};
-ghost use Rattle.serde_json.specs.View.{view};
-ghost use Rattle.rewind_answers.specs.Stages.{logged};
 ghost use Rattle.rewind_faults.specs.Faults.{is_write_fault, is_read_fault};
 ghost use Rattle.rewind_clients.specs.Clients.{Ends, Takes, Writes};
-ghost use Rattle.rewind_clients.specs.Intake.{script as script_in};
 ghost use Rattle.rewind_clients.specs.Served.{IsOfAnswering};
-ghost use Rattle.rewind_clients.specs.Intakes.{intake_view, lists_of};
+ghost use Rattle.rewind_clients.specs.Intakes.{intake_view, script_view};
 
 use crate::drive::drive_session;
 use crate::intake::{Intake, Script};
 use crate::reader::read_script;
-use crate::tell::{tell_log, tell_one};
+use crate::tell::{tell_log, tell_one, tell_opening, tell_version};
 use nd_search::Gate;
 use rewind_faults::{DebugFault, Options};
 use rewind_lines::{Sink, Source};
@@ -23,7 +20,8 @@ use std::thread::Threads;
 /// The most bytes of a script.
 const INPUT_LIMIT: usize = 268_435_456;
 
-// Answers a script that was read whole: the graph's line, then what the clients were answered.
+// Answers a script that was read whole: the version line, if there was one, and the graph's, then what the clients were
+// answered.
 fn answer_script<R: Threads + Wait + Sync, T: Sink, G: Gate>(
     rt: &R,
     alloc: Global,
@@ -33,13 +31,13 @@ fn answer_script<R: Threads + Wait + Sync, T: Sink, G: Gate>(
 ) -> Result<(), DebugFault>
     requires sound { T.failed sink.old ≡ false }
     ensures run { (before : List ℕ) → T.contents sink.old ≡ Some before
-        → Writes (script_in (view script.reply) (logged script.state) (lists_of script.commands.items)) before (T.contents sink.new) result }
+        → Writes (script_view script) before (T.contents sink.new) result }
     ensures kind { IfErr result IsOfAnswering }
     ensures write { T.failed sink.new ≡ is_write_fault result }
 {
     // This call's clauses say that the `State` began at a start.
     let _ = script.state.timeline();
-    tell_one(alloc, sink, &script.reply)?;
+    tell_opening(alloc, sink, script.opened, &script.reply)?;
     let driven = drive_session(rt, alloc, script.state, script.commands, gate)?;
     tell_log(
         alloc,
@@ -65,13 +63,13 @@ fn answer<R: Threads + Wait + Sync, T: Sink, G: Gate>(
     ensures write { T.failed sink.new ≡ is_write_fault result }
 {
     match intake {
-        Intake::Nothing => Ok(()),
+        Intake::Unstarted(opened) => tell_version(alloc, sink, opened),
         Intake::Refused(reply) => {
             tell_one(alloc, sink, &reply)?;
             Err(DebugFault::Graph)
         }
-        Intake::Faulty(reply) => {
-            tell_one(alloc, sink, &reply)?;
+        Intake::Faulty(fault) => {
+            tell_one(alloc, sink, &fault)?;
             Err(DebugFault::Script)
         }
         Intake::Whole(script) => answer_script(rt, alloc, sink, script, gate),
@@ -81,10 +79,11 @@ fn answer<R: Threads + Wait + Sync, T: Sink, G: Gate>(
 /// Runs the script of several clients, each client's commands on a thread of its own.
 ///
 /// All of the script is read first, at most `INPUT_LIMIT` bytes; after a fault of reading nothing
-/// is written. The first faulty line is answered alone, and no command is run. Else the graph's
-/// reply is written, and then, once all clients have stopped, the entries of the log and a line for
-/// each client whose command was answered with a fault of the session. The gate is called with a
-/// client's number and that of its command before each.
+/// is written. The first faulty line is answered alone, without the reply to a version line, and no
+/// command is run. Else the reply to the version line, if there is one, and the graph's are written,
+/// and then, once all clients have stopped, the entries of the log and a line for each client whose
+/// command was answered with a fault of the session. The gate is called with a client's number and
+/// that of its command before each.
 pub fn debug_clients<R: Threads + Wait + Sync, S: Source, T: Sink, G: Gate>(
     rt: &R,
     alloc: Global,

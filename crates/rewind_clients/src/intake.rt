@@ -8,15 +8,15 @@ ghost use Rattle.rewind_lines.specs.Readings.{reading_view};
 ghost use Rattle.rewind_forms.specs.Replies.{line_fault};
 ghost use Rattle.rewind_answers.specs.Stages.{logged};
 ghost use Rattle.rewind_clients.specs.Orders.{order_in as order_line};
-ghost use Rattle.rewind_clients.specs.Intake.{Begins, refused_graph, ReadsLine, no_commands as no_commands_in, ordered, with_command};
-ghost use Rattle.rewind_clients.specs.Intakes.{intake_view, lists_of, or_faulty};
+ghost use Rattle.rewind_clients.specs.Intake.{refused_graph, ReadsLine, no_commands as no_commands_in, ordered, with_command};
+ghost use Rattle.rewind_clients.specs.Intakes.{intake_view, lists_of, opening_replies, or_faulty, unstarted_view, version_of as version_in, Starts};
 
 use crate::order::{Order, order_fault, order_in};
 use crate::shown::Shown;
 use nd_session::State;
 use nd_timeline::Command;
 use rewind_answers::answer_first;
-use rewind_forms::{LineFault, replies};
+use rewind_forms::{LineFault, Version, replies, version_of};
 use rewind_lines::Reading;
 use serde_json::Value;
 use std::alloc::{AllocError, Global};
@@ -24,6 +24,8 @@ use std::alloc::{AllocError, Global};
 /// A script that was read whole.
 #[derive(Drop)]
 pub struct Script {
+    /// The version that the version line tells, if there was one.
+    pub opened: Option<Version>,
     /// The graph's reply.
     pub reply: Shown,
     /// The `State` that begins at the graph's start.
@@ -35,8 +37,8 @@ pub struct Script {
 /// What the lines read so far come to.
 #[derive(Drop)]
 pub enum Intake {
-    /// All were blank.
-    Nothing,
+    /// No graph yet; the version that the version line tells, if there was one. All others were blank.
+    Unstarted(Option<Version>),
     /// The graph's line was refused, and this is its reply.
     Refused(Shown),
     /// A line behind the graph's is faulty, and this is its reply.
@@ -69,17 +71,19 @@ fn start(
     alloc: Global,
     processors: u8,
     clients: u8,
+    opened: Option<Version>,
     value: &Value,
-    line: u64,
 ) -> Result<Intake, AllocError>
     ensures { IfOk result (λ new.
-        Begins processors clients line (json (view value.now)) (intake_view new)) }
+        Starts processors clients opened (view value.now) (intake_view new)) }
 {
-    let (value, started) = answer_first(alloc, processors, value)?;
+    let version = opened.unwrap_or(Version::First);
+    let (value, started) = answer_first(alloc, version, processors, value)?;
     let reply = Shown::new(value);
     match started {
         None => Ok(Intake::Refused(reply)),
         Some(state) => Ok(Intake::Whole(Script {
+            opened,
             reply,
             state,
             commands: no_commands(alloc, clients)?,
@@ -87,22 +91,44 @@ fn start(
     }
 }
 
-// What the graph's line, or a blank one before it, comes to.
+// What the version line or the graph's comes to, by its value: a second version line is none.
+fn read_value(
+    alloc: Global,
+    processors: u8,
+    clients: u8,
+    opened: Option<Version>,
+    value: &Value,
+    line: u64,
+) -> Result<Intake, AllocError>
+    ensures { IfOk result (λ new.
+        ReadsLine processors clients (unstarted_view opened) line (json (view value.now)) (intake_view new)) }
+{
+    match opened {
+        None => match version_of(value) {
+            None => start(alloc, processors, clients, None, value),
+            Some(version) => Ok(Intake::Unstarted(Some(version))),
+        },
+        Some(version) => start(alloc, processors, clients, Some(version), value),
+    }
+}
+
+// What the graph's line, or one before it, comes to.
 fn begin(
     alloc: Global,
     processors: u8,
     clients: u8,
+    opened: Option<Version>,
     reading: &Reading,
     line: u64,
 ) -> Result<Intake, AllocError>
     ensures { IfOk result (λ new.
-        Begins processors clients line (reading_view reading.now) (intake_view new)) }
+        ReadsLine processors clients (unstarted_view opened) line (reading_view reading.now) (intake_view new)) }
 {
     match reading {
-        Reading::Blank => Ok(Intake::Nothing),
+        Reading::Blank => Ok(Intake::Unstarted(opened)),
         Reading::TooLong => refuse(alloc, LineFault::LineTooLong, line),
         Reading::NoJson => refuse(alloc, LineFault::BadLine, line),
-        Reading::Json(value) => start(alloc, processors, clients, value, line),
+        Reading::Json(value) => read_value(alloc, processors, clients, opened, value, line),
     }
 }
 
@@ -125,13 +151,14 @@ impl Script {
         reading: Reading,
         line: u64,
     ) -> Result<Option<Shown>, AllocError>
-        ensures { IfOk result (λ r. or_faulty r self.new ≡ ordered (view self.old.reply)
+        ensures { IfOk result (λ r. or_faulty r self.new ≡ ordered (version_in self.old) (opening_replies self.old)
             (logged self.old.state) (lists_of self.old.commands.items) line
-            (order_line (length self.old.commands.items)
+            (order_line (version_in self.old) (length self.old.commands.items)
             (cluster_of self.old.state.machine.timeline).graph (reading_view reading))) }
     {
+        let version = self.opened.unwrap_or(Version::First);
         let graph = self.state.timeline().cluster().graph();
-        match order_in(alloc, self.commands.len(), graph, reading)? {
+        match order_in(alloc, version, self.commands.len(), graph, reading)? {
             Ok(order) => {
                 add_command(&mut self.commands, order)?;
                 Ok(None)
@@ -155,7 +182,9 @@ impl Intake {
             (reading_view reading) (intake_view self.new)) }
     {
         match self {
-            Intake::Nothing => *self = begin(alloc, processors, clients, &reading, line)?,
+            Intake::Unstarted(opened) => {
+                *self = begin(alloc, processors, clients, *opened, &reading, line)?;
+            }
             Intake::Refused(_) | Intake::Faulty(_) => (),
             Intake::Whole(script) => {
                 if matches!(reading, Reading::Blank) {

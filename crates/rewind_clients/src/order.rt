@@ -3,13 +3,13 @@ ghost use Rattle.std.specs.Prelude.{◌≡◌, ◌<◌, false, IfOk};
 ghost use Rattle.serde_json.specs.View.{view};
 ghost use Rattle.serde_json.specs.Written.{has_float};
 ghost use Rattle.rewind_lines.specs.Readings.{reading_view};
-ghost use Rattle.rewind_clients.specs.Orders.{among, asks as asks_in, is_query as is_query_in, order_of as order_in_value, order_in as order_in_line, order_fault as order_fault_data, number_of, name_of};
+ghost use Rattle.rewind_clients.specs.Orders.{among, asks as asks_in, is_first_query as is_first_query_in, is_later_query as is_later_query_in, is_query as is_query_in, order_of as order_in_value, order_in as order_in_line, order_fault as order_fault_data, number_of, name_of};
 
 use crate::numbers::without;
 use nd_graph::Graph;
 use nd_json::{has_text, whole_at};
 use nd_timeline::Command;
-use rewind_forms::{Asked, LineFault, asked_of};
+use rewind_forms::{Asked, LineFault, Version, asked_of};
 use rewind_lines::Reading;
 use serde_json::{Value, json};
 use std::alloc::{AllocError, Global};
@@ -71,10 +71,10 @@ fn asks(value: &Value, name: &str) -> bool
     has_text(value, "do", name)
 }
 
-// Whether the line asks to be told something, and for no command.
-#[tactic(auto, unfolding(crate::specs::Orders::is_query))]
-fn is_query(value: &Value) -> bool
-    ensures { result ≡ is_query_in (view value.now) }
+// Whether the line asks to be told what a script of any version may ask.
+#[tactic(auto, unfolding(crate::specs::Orders::is_first_query))]
+fn is_first_query(value: &Value) -> bool
+    ensures { result ≡ is_first_query_in (view value.now) }
 {
     asks(value, "state")
         || asks(value, "view")
@@ -83,6 +83,21 @@ fn is_query(value: &Value) -> bool
         || asks(value, "count")
         || asks(value, "before")
         || asks(value, "search")
+}
+
+// Whether the line asks to be told what a script of a later version may ask.
+#[tactic(auto, unfolding(crate::specs::Orders::is_later_query))]
+fn is_later_query(value: &Value) -> bool
+    ensures { result ≡ is_later_query_in (view value.now) }
+{
+    asks(value, "export") || asks(value, "why") || asks(value, "changes") || asks(value, "step")
+}
+
+// Whether the line asks to be told something, and for no command.
+fn is_query(value: &Value) -> bool
+    ensures { result ≡ is_query_in (view value.now) }
+{
+    is_first_query(value) || is_later_query(value)
 }
 
 // The order of a line that has a form, among so many clients.
@@ -112,11 +127,12 @@ fn settle(
 #[tactic(auto, unfolding(crate::specs::Orders::order_of))]
 fn order_of(
     alloc: Global,
+    version: Version,
     clients: usize,
     graph: &Graph,
     value: Value,
 ) -> Result<Result<Order, OrderFault>, AllocError>
-    ensures value { IfOk result (λ r. r ≡ order_in_value clients graph.now (view value)) }
+    ensures value { IfOk result (λ r. r ≡ order_in_value version clients graph.now (view value)) }
     ensures within { IfOk result (λ r. IfOk r (λ o. o.client < clients)) }
 {
     let Some(client) = whole_at(&value, "client") else {
@@ -124,27 +140,29 @@ fn order_of(
     };
     let rest = without(value, "client");
     let query = is_query(&rest);
-    match asked_of(alloc, graph, &rest) {
+    match asked_of(alloc, version, graph, &rest) {
         Ok(asked) => Ok(settle(clients, client, query, Ok(asked))),
         Err(LineFault::Memory) => Err(AllocError),
         Err(fault) => Ok(settle(clients, client, query, Err(fault))),
     }
 }
 
-/// What a line asks for that is not blank, among so many clients; the outer `Err` is out of memory.
+/// What a line that is not blank asks for in a script of this version, among so many clients; the outer
+/// `Err` is out of memory.
 pub fn order_in(
     alloc: Global,
+    version: Version,
     clients: usize,
     graph: &Graph,
     reading: Reading,
 ) -> Result<Result<Order, OrderFault>, AllocError>
-    ensures value { IfOk result (λ r. r ≡ order_in_line clients graph.now (reading_view reading)) }
+    ensures value { IfOk result (λ r. r ≡ order_in_line version clients graph.now (reading_view reading)) }
     ensures within { IfOk result (λ r. IfOk r (λ o. o.client < clients)) }
 {
     match reading {
         Reading::Blank => Ok(Err(OrderFault::Line(LineFault::BadShape))),
         Reading::TooLong => Ok(Err(OrderFault::Line(LineFault::LineTooLong))),
         Reading::NoJson => Ok(Err(OrderFault::Line(LineFault::BadLine))),
-        Reading::Json(value) => order_of(alloc, clients, graph, value),
+        Reading::Json(value) => order_of(alloc, version, clients, graph, value),
     }
 }

@@ -37,7 +37,7 @@ impl Reader {
             options: *options,
             line: Line::new(alloc),
             number: 1,
-            intake: Intake::Nothing,
+            intake: Intake::Unstarted(None),
         }
     }
 

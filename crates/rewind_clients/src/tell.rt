@@ -6,6 +6,7 @@ ghost use Rattle.serde_json.specs.Written.{has_float};
 ghost use Rattle.nd_session.specs.Faults.{number_of, name_of};
 ghost use Rattle.rewind_lines.specs.Texts.{text_of};
 ghost use Rattle.rewind_faults.specs.Faults.{is_write_fault};
+ghost use Rattle.rewind_clients.specs.Intakes.{version_replies};
 ghost use Rattle.rewind_clients.specs.Outbox.{Gathered, IsOfWriting, StopsIn};
 ghost use Rattle.rewind_clients.specs.Told.{client_fault, entry_data, faults_data, lines_data};
 
@@ -14,7 +15,7 @@ use crate::shown::Shown;
 use nd_graph::Graph;
 use nd_session::{Receipt, SessionFault};
 use rewind_faults::DebugFault;
-use rewind_forms::replies;
+use rewind_forms::{Version, replies};
 use rewind_lines::Sink;
 use serde_json::{Value, json};
 use std::alloc::{AllocError, Global};
@@ -122,6 +123,73 @@ pub fn tell_one<T: Sink>(alloc: Global, sink: &mut T, reply: &Shown) -> Result<(
 {
     let mut outbox = Outbox::new(alloc);
     outbox.put(sink, reply.value())?;
+    outbox.flush(sink)?;
+    Ok(())
+}
+
+// Gathers the reply to the version line, if there was one.
+fn put_version<T: Sink>(
+    alloc: Global,
+    outbox: &mut Outbox,
+    sink: &mut T,
+    opened: Option<Version>,
+) -> Result<(), DebugFault>
+    requires sound { T.failed sink.old ≡ false }
+    ensures ok { OnOk result ((replies : List Data) (before : List ℕ)
+        → Gathered replies outbox.old.waiting.items before (T.contents sink.old)
+        → Gathered (replies ++ version_replies opened) outbox.new.waiting.items before (T.contents sink.new)) }
+    ensures err { IfErr result (λ e. (replies : List Data) (before : List ℕ)
+        → Gathered replies outbox.old.waiting.items before (T.contents sink.old)
+        → StopsIn (replies ++ version_replies opened) before (T.contents sink.new) e) }
+    ensures kind { IfErr result IsOfWriting }
+    ensures failed { T.failed sink.new ≡ is_write_fault result }
+{
+    let Some(version) = opened else {
+        return Ok(());
+    };
+    let reply = replies::version(alloc, version.number())?;
+    outbox.put(sink, &reply)?;
+    Ok(())
+}
+
+/// Writes the reply to the version line, if there was one.
+pub fn tell_version<T: Sink>(
+    alloc: Global,
+    sink: &mut T,
+    opened: Option<Version>,
+) -> Result<(), DebugFault>
+    requires sound { T.failed sink.old ≡ false }
+    ensures ok { OnOk result ((before : List ℕ) → T.contents sink.old ≡ Some before
+        → T.contents sink.new ≡ Some (before ++ text_of (version_replies opened))) }
+    ensures err { IfErr result (λ e. (before : List ℕ) → T.contents sink.old ≡ Some before
+        → StopsIn (version_replies opened) before (T.contents sink.new) e) }
+    ensures kind { IfErr result IsOfWriting }
+    ensures failed { T.failed sink.new ≡ is_write_fault result }
+{
+    let mut outbox = Outbox::new(alloc);
+    put_version(alloc, &mut outbox, sink, opened)?;
+    outbox.flush(sink)?;
+    Ok(())
+}
+
+/// Writes the reply to the version line, if there was one, and the graph's.
+pub fn tell_opening<T: Sink>(
+    alloc: Global,
+    sink: &mut T,
+    opened: Option<Version>,
+    graph: &Shown,
+) -> Result<(), DebugFault>
+    requires sound { T.failed sink.old ≡ false }
+    ensures ok { OnOk result ((before : List ℕ) → T.contents sink.old ≡ Some before
+        → T.contents sink.new ≡ Some (before ++ text_of (version_replies opened ++ view graph.now ∷ []))) }
+    ensures err { IfErr result (λ e. (before : List ℕ) → T.contents sink.old ≡ Some before
+        → StopsIn (version_replies opened ++ view graph.now ∷ []) before (T.contents sink.new) e) }
+    ensures kind { IfErr result IsOfWriting }
+    ensures failed { T.failed sink.new ≡ is_write_fault result }
+{
+    let mut outbox = Outbox::new(alloc);
+    put_version(alloc, &mut outbox, sink, opened)?;
+    outbox.put(sink, graph.value())?;
     outbox.flush(sink)?;
     Ok(())
 }

@@ -1,5 +1,6 @@
 pub mod Forms
 pub mod Places
+pub mod Versions
 pub mod Steps
 pub mod Breaks
 pub mod Commands

@@ -140,3 +140,26 @@ position (Some n) = number (unsigned n)
 -- {"found":n or null,"ok":true}
 abbrev pub found : Option ℕ → Data
 found least = object (member (codes "found") (position least) (member (codes "ok") (boolean true) no_members))
+
+-- {"ok":true,"version":n}
+abbrev pub version : ℕ → Data
+version n = object (member (codes "ok") (boolean true) (member (codes "version") (number (unsigned n)) no_members))
+
+-- {"at":n,"ok":true,"steps":shown}
+abbrev pub exported : ℕ → Data → Data
+exported at shown = object (member (codes "at") (number (unsigned at))
+    (member (codes "ok") (boolean true) (member (codes "steps") shown no_members)))
+
+-- {"ok":true,"step":shown}
+abbrev pub kept_step : Data → Data
+kept_step shown = object (member (codes "ok") (boolean true) (member (codes "step") shown no_members))
+
+-- {"changes":shown,"ok":true}, and "more":true among the keys if there are more
+abbrev pub changed : Data → Bool → Data
+changed shown false = object (member (codes "changes") shown (member (codes "ok") (boolean true) no_members))
+changed shown true = object (member (codes "changes") shown (member (codes "more") (boolean true) (member (codes "ok") (boolean true) no_members)))
+
+-- {"finished":f,"ok":true,"passed":p,"reasons":shown}
+abbrev pub why : Bool → Bool → Data → Data
+why finished passed shown = object (member (codes "finished") (boolean finished)
+    (member (codes "ok") (boolean true) (member (codes "passed") (boolean passed) (member (codes "reasons") shown no_members))))

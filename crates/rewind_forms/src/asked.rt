@@ -6,7 +6,7 @@ ghost use Rattle.rewind_forms.specs.Asked.{asked_of as asked_in};
 use crate::commands::command_of;
 use crate::queries::query_of;
 use crate::steps::step_of;
-use crate::{LineFault, Query};
+use crate::{LineFault, Query, Version};
 use nd_graph::Graph;
 use nd_timeline::Command;
 use serde_json::Value;
@@ -21,13 +21,18 @@ pub enum Asked {
     Tell(Query),
 }
 
-/// What the value asks for, against the graph.
+/// What the value asks for in a script of this version, against the graph.
 ///
 /// `Memory` comes only if there was no memory for a list of the line.
 #[tactic(auto, unfolding(crate::specs::Asked::asked_of))]
-pub fn asked_of(alloc: Global, graph: &Graph, value: &Value) -> Result<Asked, LineFault>
-    ensures ok { IfOk result (λ c. asked_in graph.now (view value.now) ≡ Ok c) }
-    ensures err { IfErr result (λ e. e ≢ LineFault.Memory → asked_in graph.now (view value.now) ≡ Err e) }
+pub fn asked_of(
+    alloc: Global,
+    version: Version,
+    graph: &Graph,
+    value: &Value,
+) -> Result<Asked, LineFault>
+    ensures ok { IfOk result (λ c. asked_in version graph.now (view value.now) ≡ Ok c) }
+    ensures err { IfErr result (λ e. e ≢ LineFault.Memory → asked_in version graph.now (view value.now) ≡ Err e) }
 {
     if let Some(step) = step_of(alloc, graph, value)? {
         return Ok(Asked::Do(Command::Forward(step)));
@@ -35,7 +40,7 @@ pub fn asked_of(alloc: Global, graph: &Graph, value: &Value) -> Result<Asked, Li
     if let Some(command) = command_of(alloc, graph, value)? {
         return Ok(Asked::Do(command));
     }
-    match query_of(alloc, graph, value)? {
+    match query_of(alloc, version, graph, value)? {
         Some(query) => Ok(Asked::Tell(query)),
         None => Err(LineFault::BadShape),
     }

@@ -12,7 +12,9 @@ mod points;
 mod queries;
 pub mod replies;
 mod steps;
+mod version;
 
 pub use asked::{Asked, asked_of};
 pub use fault::LineFault;
 pub use queries::Query;
+pub use version::{Version, version_of};

@@ -2,12 +2,14 @@
 ghost use Rattle.std.specs.Prelude.{◌≡◌, ◌≢◌, Ok, Err, IfOk, IfErr};
 ghost use Rattle.serde_json.specs.View.{view};
 ghost use Rattle.rewind_forms.specs.Queries.{count_of as count_in, before_of as before_in, view_of as view_in, frontier_of as frontier_in, passed_of as passed_in, search_of as search_in, query_of as query_in};
+ghost use Rattle.rewind_forms.specs.Queries.{why_of as why_in, changes_of as changes_in, kept_step_of as kept_step_in, explained_of as explained_in, later_of as later_in};
 
-use crate::LineFault;
 use crate::breaks::break_of;
 use crate::forms::is_form;
 use crate::places::{location_named, time_of};
 use crate::points::{point_at, point_there};
+use crate::version::{may_ask_why, may_export};
+use crate::{LineFault, Version};
 use nd_graph::Graph;
 use nd_json::{small_at, whole_at};
 use nd_paths::Pointstamp;
@@ -37,6 +39,19 @@ pub enum Query {
         hi: u64,
         workers: u64,
     },
+    /// All kept steps.
+    Export,
+    /// The reasons why a processor's view has not passed a pointstamp.
+    Why(u32, Pointstamp),
+    /// The kept positions after one, up to another, at which a processor's view of a pointstamp changed.
+    Changes {
+        q: u32,
+        point: Pointstamp,
+        lo: u64,
+        hi: u64,
+    },
+    /// The kept step that leads to a position.
+    Step(u64),
 }
 
 #[tactic(auto, unfolding(crate::specs::Queries::count_of))]
@@ -115,11 +130,88 @@ fn search_of(alloc: Global, graph: &Graph, value: &Value) -> Result<Query, LineF
     })
 }
 
-/// The query that the value is, against the graph; `None` if it has not the form of one.
+#[tactic(auto, unfolding(crate::specs::Queries::why_of))]
+fn why_of(alloc: Global, graph: &Graph, value: &Value) -> Result<Query, LineFault>
+    ensures ok { IfOk result (λ c. why_in graph.now (view value.now) ≡ Ok c) }
+    ensures err { IfErr result (λ e. e ≢ LineFault.Memory → why_in graph.now (view value.now) ≡ Err e) }
+{
+    let processor = small_at(value, "q").ok_or(LineFault::BadShape)?;
+    let point = point_there(alloc, graph, value)?;
+    Ok(Query::Why(processor, point))
+}
+
+#[tactic(auto, unfolding(crate::specs::Queries::changes_of))]
+fn changes_of(alloc: Global, graph: &Graph, value: &Value) -> Result<Query, LineFault>
+    ensures ok { IfOk result (λ c. changes_in graph.now (view value.now) ≡ Ok c) }
+    ensures err { IfErr result (λ e. e ≢ LineFault.Memory → changes_in graph.now (view value.now) ≡ Err e) }
+{
+    let q = small_at(value, "q").ok_or(LineFault::BadShape)?;
+    let from = whole_at(value, "lo").ok_or(LineFault::BadShape)?;
+    let to = whole_at(value, "hi").ok_or(LineFault::BadShape)?;
+    let point = point_there(alloc, graph, value)?;
+    Ok(Query::Changes {
+        q,
+        point,
+        lo: from,
+        hi: to,
+    })
+}
+
+#[tactic(auto, unfolding(crate::specs::Queries::kept_step_of))]
+fn kept_step_of(value: &Value) -> Result<Query, LineFault>
+    ensures { result ≡ kept_step_in (view value.now) }
+{
+    let to = whole_at(value, "to").ok_or(LineFault::BadShape)?;
+    Ok(Query::Step(to))
+}
+
+// The query for reasons, for changes of a view, or for one kept step.
+#[tactic(auto, unfolding(crate::specs::Queries::explained_of))]
+fn explained_of(alloc: Global, graph: &Graph, value: &Value) -> Result<Option<Query>, LineFault>
+    ensures ok { IfOk result (λ c. explained_in graph.now (view value.now) ≡ Ok c) }
+    ensures err { IfErr result (λ e. e ≢ LineFault.Memory → explained_in graph.now (view value.now) ≡ Err e) }
+{
+    if is_form(value, "why", &["at", "do", "q", "time"]) {
+        Ok(Some(why_of(alloc, graph, value)?))
+    } else if is_form(value, "changes", &["at", "do", "hi", "lo", "q", "time"]) {
+        Ok(Some(changes_of(alloc, graph, value)?))
+    } else if is_form(value, "step", &["do", "to"]) {
+        Ok(Some(kept_step_of(value)?))
+    } else {
+        Ok(None)
+    }
+}
+
+// The query that a version later than the first has.
+#[tactic(auto, unfolding(crate::specs::Queries::later_of))]
+fn later_of(
+    alloc: Global,
+    version: Version,
+    graph: &Graph,
+    value: &Value,
+) -> Result<Option<Query>, LineFault>
+    ensures ok { IfOk result (λ c. later_in version graph.now (view value.now) ≡ Ok c) }
+    ensures err { IfErr result (λ e. e ≢ LineFault.Memory → later_in version graph.now (view value.now) ≡ Err e) }
+{
+    if may_export(version) && is_form(value, "export", &["do"]) {
+        Ok(Some(Query::Export))
+    } else if may_ask_why(version) {
+        explained_of(alloc, graph, value)
+    } else {
+        Ok(None)
+    }
+}
+
+/// The query that the value is in a script of this version, against the graph; `None` if it has not the form of one.
 #[tactic(auto, unfolding(crate::specs::Queries::query_of))]
-pub fn query_of(alloc: Global, graph: &Graph, value: &Value) -> Result<Option<Query>, LineFault>
-    ensures ok { IfOk result (λ c. query_in graph.now (view value.now) ≡ Ok c) }
-    ensures err { IfErr result (λ e. e ≢ LineFault.Memory → query_in graph.now (view value.now) ≡ Err e) }
+pub fn query_of(
+    alloc: Global,
+    version: Version,
+    graph: &Graph,
+    value: &Value,
+) -> Result<Option<Query>, LineFault>
+    ensures ok { IfOk result (λ c. query_in version graph.now (view value.now) ≡ Ok c) }
+    ensures err { IfErr result (λ e. e ≢ LineFault.Memory → query_in version graph.now (view value.now) ≡ Err e) }
 {
     if is_form(value, "state", &["do"]) {
         Ok(Some(Query::State))
@@ -136,6 +228,6 @@ pub fn query_of(alloc: Global, graph: &Graph, value: &Value) -> Result<Option<Qu
     } else if is_form(value, "search", &["do", "hi", "lo", "when", "workers"]) {
         Ok(Some(search_of(alloc, graph, value)?))
     } else {
-        Ok(None)
+        later_of(alloc, version, graph, value)
     }
 }

@@ -5,6 +5,7 @@ ghost use Rattle.serde_json.specs.Written.{has_float};
 ghost use Rattle.rewind_forms.specs.Replies.{fault as fault_data, location_fault as location_fault_data, graph as graph_data, moved as moved_data, ran as ran_data, stop as stop_data, reply_data};
 ghost use Rattle.rewind_forms.specs.Replies.{point_fault as point_fault_data, fault_at as fault_at_data, step_refused as step_refused_data, refused as refused_data, before as before_data, faulty as faulty_data, line_fault as line_fault_data, count as count_data, state as state_data};
 ghost use Rattle.rewind_forms.specs.Replies.{known as known_data, frontier as frontier_data, passed as passed_data, not_passed as not_passed_data, no_processor as no_processor_data, piece_fault as piece_fault_data, found as found_data};
+ghost use Rattle.rewind_forms.specs.Replies.{version as version_data, exported as exported_data, kept_step as kept_step_data, changed as changed_data, why as why_data};
 
 use crate::LineFault;
 use nd_graph::Graph;
@@ -254,4 +255,53 @@ pub fn found(alloc: Global, least: Option<u64>) -> Result<Value, AllocError>
     ensures text { IfOk result (λ v. has_float (view v) ≡ false) }
 {
     json!(in alloc; {"found": least, "ok": true})
+}
+
+/// The reply to the line that tells the script's version.
+pub fn version(alloc: Global, number: u64) -> Result<Value, AllocError>
+    ensures reply { IfOk result (λ v. view v ≡ version_data number) }
+    ensures text { IfOk result (λ v. has_float (view v) ≡ false) }
+{
+    json!(in alloc; {"ok": true, "version": number})
+}
+
+/// The reply to a query for all kept steps, which the value shows: they, and the cursor.
+pub fn exported(alloc: Global, at: u64, shown: Value) -> Result<Value, AllocError>
+    requires { has_float (view shown) ≡ false }
+    ensures reply { IfOk result (λ v. view v ≡ exported_data at (view shown)) }
+    ensures text { IfOk result (λ v. has_float (view v) ≡ false) }
+{
+    json!(in alloc; {"at": at, "ok": true, "steps": shown})
+}
+
+/// The reply to a query for one kept step, which the value shows.
+pub fn kept_step(alloc: Global, shown: Value) -> Result<Value, AllocError>
+    requires { has_float (view shown) ≡ false }
+    ensures reply { IfOk result (λ v. view v ≡ kept_step_data (view shown)) }
+    ensures text { IfOk result (λ v. has_float (view v) ≡ false) }
+{
+    json!(in alloc; {"ok": true, "step": shown})
+}
+
+/// The reply to a query for the changes of a view, which the value shows, and whether there are more than it shows.
+pub fn changed(alloc: Global, shown: Value, more: bool) -> Result<Value, AllocError>
+    requires { has_float (view shown) ≡ false }
+    ensures reply { IfOk result (λ v. view v ≡ changed_data (view shown) more) }
+    ensures text { IfOk result (λ v. has_float (view v) ≡ false) }
+{
+    if more {
+        json!(in alloc; {"changes": shown, "more": true, "ok": true})
+    } else {
+        json!(in alloc; {"changes": shown, "ok": true})
+    }
+}
+
+/// The reply to a query why a pointstamp has not passed: whether it is finished, whether it has passed, and the reasons,
+/// which the value shows.
+pub fn why(alloc: Global, finished: bool, passed: bool, shown: Value) -> Result<Value, AllocError>
+    requires { has_float (view shown) ≡ false }
+    ensures reply { IfOk result (λ v. view v ≡ why_data finished passed (view shown)) }
+    ensures text { IfOk result (λ v. has_float (view v) ≡ false) }
+{
+    json!(in alloc; {"finished": finished, "ok": true, "passed": passed, "reasons": shown})
 }

@@ -24,7 +24,9 @@ const ABOUT: &str =
 
 /// A script, as the help shows it.
 const EXAMPLE: &str = concat!(
-    "The script is read from standard input: a graph, then a command or a query a line.\n\n",
+    "The script is read from standard input: a graph, then a command or a query a line.\n",
+    "A first line {\"version\":2} or {\"version\":3} chooses its version, which is 1 without it;\n",
+    "more than 8 processors belong to versions 2 and 3.\n\n",
     "Example:\n",
     "  {\"vertices\":[{\"name\":\"a\",\"op\":\"input\",\"depth\":0}],\"edges\":[]}\n",
     "  {\"do\":\"feed\",\"p\":0,\"vertex\":\"a\",\"values\":[],\"next\":\"next\"}\n",
@@ -53,8 +55,8 @@ fn processors_argument(alloc: Global) -> Arg<'static>
     Arg::new(alloc, "processors")
         .long("processors")
         .action(ArgAction::Set)
-        .value_parser(value_parser!(u8).range(1..=8))
-        .help("How many processors the modelled cluster has, from 1 to 8, and 1 if not given")
+        .value_parser(value_parser!(u8).range(1..=16))
+        .help("How many processors the modelled cluster has, from 1 to 16, and 1 if not given")
 }
 
 fn clients_argument(alloc: Global) -> Arg<'static>

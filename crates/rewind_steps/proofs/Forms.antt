@@ -10,6 +10,7 @@ use Rattle.rewind_forms.specs.Steps.{step_of}
 use Rattle.rewind_forms.specs.Commands.{command_of}
 use Rattle.rewind_forms.specs.Queries.{query_of}
 use Rattle.rewind_forms.specs.Asked.{asked_of}
+use Rattle.rewind_forms.specs.declared.version.Version.{Version}
 use Rattle.rewind_forms.specs.declared.asked.Asked.{Asked}
 use Rattle.rewind_forms.specs.declared.asked.Asked.TheVariants.{Do, Tell}
 use Rattle.rewind_forms.specs.declared.fault.LineFault.{LineFault}
@@ -48,20 +49,20 @@ asked_other (Err d) others a h k = cc
 asked_other (Ok None) others a h k = cc
 asked_other (Ok (Some y)) others a h k = record { step = y; is = cc }
 
--- ---- the same of a value
+-- ---- the same of a value, in a script of any version
 
 pub read_formless : (g : Dataflow) (d : Data) → has_form (step_of g d) ≡ false → read_of g d ≡ Err BadShape
 read_formless g d h = formless (step_of g d) h
 
-pub read_asked : (g : Dataflow) (d : Data) (x : Step Global) → has_form (step_of g d) ≡ true → asked_of g d ≡ Ok (Do (Forward x)) → read_of g d ≡ Ok x
+pub read_asked : (v : Version) (g : Dataflow) (d : Data) (x : Step Global) → has_form (step_of g d) ≡ true → asked_of v g d ≡ Ok (Do (Forward x)) → read_of g d ≡ Ok x
 unfolding asked_of
-read_asked g d x h k = asked_step (step_of g d) (or_else Do (command_of g d) (or_else Tell (query_of g d) (Err BadShape))) x h k
+read_asked v g d x h k = asked_step (step_of g d) (or_else Do (command_of g d) (or_else Tell (query_of v g d) (Err BadShape))) x h k
 
-pub read_fault : (g : Dataflow) (d : Data) (e : LineFault) → has_form (step_of g d) ≡ true → asked_of g d ≡ Err e → read_of g d ≡ Err e
+pub read_fault : (v : Version) (g : Dataflow) (d : Data) (e : LineFault) → has_form (step_of g d) ≡ true → asked_of v g d ≡ Err e → read_of g d ≡ Err e
 unfolding asked_of
-read_fault g d e h k = asked_fault (step_of g d) (or_else Do (command_of g d) (or_else Tell (query_of g d) (Err BadShape))) e h k
+read_fault v g d e h k = asked_fault (step_of g d) (or_else Do (command_of g d) (or_else Tell (query_of v g d) (Err BadShape))) e h k
 
 -- nothing but a step is asked for
-pub asks_step : (g : Dataflow) (d : Data) (a : Asked) → has_form (step_of g d) ≡ true → asked_of g d ≡ Ok a → record { step : Step Global; is : a ≡ Do (Forward step) }
+pub asks_step : (v : Version) (g : Dataflow) (d : Data) (a : Asked) → has_form (step_of g d) ≡ true → asked_of v g d ≡ Ok a → record { step : Step Global; is : a ≡ Do (Forward step) }
 unfolding asked_of
-asks_step g d a h k = asked_other (step_of g d) (or_else Do (command_of g d) (or_else Tell (query_of g d) (Err BadShape))) a h k
+asks_step v g d a h k = asked_other (step_of g d) (or_else Do (command_of g d) (or_else Tell (query_of v g d) (Err BadShape))) a h k

@@ -1,5 +1,5 @@
 -- Numbers, lists of numbers and pointstamps as JSON values are read back.
-use Rattle.std.proofs.Common.{◌≡◌, ℕ, ◌^◌, ℤ, pos, negsuc, List, [], ◌∷◌, map, refl, ap, Option, Some, FitsSigned, w64}
+use Rattle.std.proofs.Common.{◌≡◌, ℕ, ◌≤◌, ◌^◌, ℤ, pos, negsuc, List, [], ◌∷◌, map, refl, ap, Option, Some, FitsSigned, w64, arith}
 use Rattle.std.specs.Prelude.{All}
 use Rattle.std.proofs.lemmas.Bool.{lt-ltb}
 use Rattle.std.proofs.lemmas.List.Elements.{All-head, All-tail}
@@ -11,7 +11,7 @@ use Rattle.nd_graph.specs.Graph.{Dataflow}
 use Rattle.nd_paths.specs.declared.point.Pointstamp.{Pointstamp}
 use Rattle.nd_shown.specs.StateText.{row, natural, whole, name_at, place, time_data, point_data}
 use Rattle.rewind_forms.specs.Forms.{each, numbers_of, point_of, listed_point, named_time}
-use Rattle.rewind_steps.specs.Fitting.{IsSmall, TimeIsSmall}
+use Rattle.nd_protocol.specs.Ranges.{IsSmall, TimeIsSmall}
 
 -- ---- lists
 
@@ -42,7 +42,7 @@ list-row ds = ap Some (listed-items_of ds)
 
 pub small-natural : (n : ℕ) → IsSmall n → small (natural n) ≡ Some n
 unfolding small whole_of
-small-natural n h = rw (lt-ltb n (2 ^ 32) h) refl
+small-natural n h = rw (lt-ltb n (2 ^ 32) (let le : n ≤ 4294967295 = h in omega arith)) refl
 
 pub integer-whole : (z : ℤ) → FitsSigned w64 z → integer (whole z) ≡ Some z
 unfolding integer

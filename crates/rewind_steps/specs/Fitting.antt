@@ -1,15 +1,12 @@
--- Steps whose numbers name what a graph has, and are in the range of their types.
-use Rattle.std.specs.Prelude.{◌≡◌, ℕ, ◌<◌, ◌≤◌, ◌^◌, ⊤, All as Each, FitsSigned, Some, ◌∷◌, length, slice_get}
+-- Steps whose numbers name what a graph has.
+use Rattle.std.specs.Prelude.{◌≡◌, ℕ, ◌<◌, ◌≤◌, ⊤, All as Each, Some, length, slice_get}
 use Rattle.std.specs.declared.alloc.Global.{Global}
-use mir.Syntax.{w64}
 use Rattle.nd_time.specs.Time.{Time}
 use Rattle.nd_graph.specs.Graph.{Dataflow, depths}
 use Rattle.nd_protocol.specs.declared.step.Step.{Step}
 use Rattle.nd_protocol.specs.declared.step.Step.TheVariants.{Feed, Take, Notice, Broadcast, Receive}
 use Rattle.nd_protocol.specs.declared.part.Part.{Part}
 use Rattle.nd_protocol.specs.declared.part.Part.TheVariants.{All, Points}
-
--- ---- what a graph has
 
 -- there is a location of this number, and the time has its depth
 abbrev pub HasDepth : Dataflow → ℕ → Time → Type 0
@@ -26,24 +23,3 @@ NamesFit g (Take p edge time value) = (length g.vertices ≤ edge) × HasDepth g
 NamesFit g (Notice p vertex time) = (vertex < length g.vertices) × HasDepth g vertex time
 NamesFit g (Broadcast p part) = PartFits g part
 NamesFit g (Receive from to) = ⊤
-
--- ---- the range of numbers
-
--- a number of 32 bits
-abbrev pub IsSmall : ℕ → Type 0
-IsSmall n = n < 2 ^ 32
-
-abbrev pub TimeIsSmall : Time → Type 0
-TimeIsSmall t = Each IsSmall (t.epoch ∷ t.counters)
-
-abbrev pub PartIsSmall : Part Global → Type 0
-PartIsSmall All = ⊤
-PartIsSmall (Points points) = Each (λ point. TimeIsSmall point.time) points
-
--- processors, epochs and counters have 32 bits, values 64 bits, as their types say
-abbrev pub NumbersFit : Step Global → Type 0
-NumbersFit (Feed p vertex values then) = IsSmall p × Each (FitsSigned w64) values
-NumbersFit (Take p edge time value) = IsSmall p × TimeIsSmall time × FitsSigned w64 value
-NumbersFit (Notice p vertex time) = IsSmall p × TimeIsSmall time
-NumbersFit (Broadcast p part) = IsSmall p × PartIsSmall part
-NumbersFit (Receive from to) = IsSmall from × IsSmall to

@@ -7,7 +7,8 @@ use Rattle.nd_graph.specs.Checked.{IsFaultless}
 use Rattle.nd_protocol.specs.declared.step.Step.{Step}
 use Rattle.rewind_forms.specs.Steps.{step_of}
 use Rattle.rewind_steps.specs.Objects.{object_of}
-use Rattle.rewind_steps.specs.Fitting.{NamesFit, NumbersFit}
+use Rattle.nd_protocol.specs.Ranges.{NumbersFit}
+use Rattle.rewind_steps.specs.Fitting.{NamesFit}
 
 -- reading a step's object against a checked graph that has what the step names gives the step
 abbrev pub ObjectsAreReadBack : Type 0

@@ -8,7 +8,7 @@ use crate::form::has_step_form;
 use nd_graph::Graph;
 use nd_protocol::Step;
 use nd_timeline::Command;
-use rewind_forms::{Asked, LineFault, asked_of};
+use rewind_forms::{Asked, LineFault, Version, asked_of};
 use serde_json::Value;
 use std::alloc::Global;
 
@@ -24,7 +24,7 @@ pub fn read_step(alloc: Global, graph: &Graph, value: &Value) -> Result<Step, Li
     if !has_step_form(value) {
         return Err(LineFault::BadShape);
     }
-    let Asked::Do(command) = asked_of(alloc, graph, value)? else {
+    let Asked::Do(command) = asked_of(alloc, Version::First, graph, value)? else {
         return Err(LineFault::BadShape);
     };
     let Command::Forward(step) = command else {

@@ -6,7 +6,9 @@ use nd_sign::Sign;
 use rewind::{DebugFault, Gate, OpenGate, Options, debug_clients, debug_clients_within};
 use std::alloc::{AllocError, Global};
 use std::rt::Clock;
+use std::sync::Wait;
 use std::test::Fail;
+use std::thread::Threads;
 
 static TWO: Options = Options {
     processors: 1,
@@ -173,6 +175,81 @@ fn clients_stop_at_their_limit(rt: HostRuntime) -> Result<(), Fail> {
         );
         assert_eq!(rt; ended, want);
         assert_eq!(rt; sink.bytes.is_empty(), want.is_err());
+    }
+    Ok(())
+}
+
+/// The replies to a script of two clients, and how it ends.
+fn run_of<R: AllocGlobal + Threads + Wait + Sync>(
+    rt: &R,
+    parts: &[&str],
+) -> Result<(Vec<u8>, Result<(), DebugFault>), AllocError> {
+    let mut script = Vec::new(rt.alloc());
+    for part in parts {
+        script.extend_from_slice(part.as_bytes())?;
+    }
+    let mut source = pieces_of(script.as_slice(), 1000, NEVER);
+    let mut sink = empty_sink(rt.alloc(), 1000, NEVER, false);
+    let ended = debug_clients(rt, rt.alloc(), &mut source, &mut sink, &TWO, &OpenGate);
+    Ok((sink.bytes, ended))
+}
+
+const SECOND: &str = "{\"version\":2}\n";
+
+const SECOND_REPLY: &str = "{\"ok\":true,\"version\":2}\n";
+
+const THIRD: &str = "{\"version\":3}\n";
+
+#[test]
+fn clients_of_a_later_version(rt: HostRuntime) -> Result<(), Fail> {
+    let (wrote, ended) = run_of(&rt, &[" \n", SECOND, "\n"])?;
+    assert_eq!(rt; ended, Ok(()));
+    assert!(rt; wrote.as_slice() == SECOND_REPLY.as_bytes());
+    let (wrote, ended) = run_of(&rt, &[SECOND, LINE, "\n\n", FEED])?;
+    let want = format!(in rt.alloc(); "{SECOND_REPLY}{LINE_REPLY}{FEED_REPLY}")?;
+    assert_eq!(rt; ended, Ok(()));
+    assert!(rt; wrote.as_slice() == want.as_bytes());
+    Ok(())
+}
+
+/// What follows a version line or none, up to its graph, and the fault that it is answered with alone.
+static FAULTS: [(&str, &str, &str); 4] = [
+    (
+        "",
+        r#"{"client":0,"do":"export"}"#,
+        "{\"code\":31,\"error\":\"BadShape\",\"line\":2}\n",
+    ),
+    (
+        SECOND,
+        r#"{"client":0,"do":"export"}"#,
+        "{\"code\":36,\"error\":\"OneClientOnly\",\"line\":3}\n",
+    ),
+    (
+        SECOND,
+        r#"{"at":"none","client":0,"do":"why","q":0,"time":[0]}"#,
+        "{\"code\":31,\"error\":\"BadShape\",\"line\":3}\n",
+    ),
+    (
+        THIRD,
+        r#"{"at":"none","client":0,"do":"why","q":0,"time":[0]}"#,
+        "{\"code\":36,\"error\":\"OneClientOnly\",\"line\":3}\n",
+    ),
+];
+
+#[test]
+fn faults_behind_a_version_line(rt: HostRuntime) -> Result<(), Fail> {
+    for (first, line, fault) in FAULTS {
+        let (wrote, ended) = run_of(&rt, &[first, LINE, "\n", line])?;
+        assert_eq!(rt; ended, Err(DebugFault::Script));
+        assert!(rt; wrote.as_slice() == fault.as_bytes(), "{line}");
+    }
+    for (line, fault) in [
+        ("{", "{\"code\":30,\"error\":\"BadLine\",\"line\":2}\n"),
+        (SECOND, "{\"code\":40,\"error\":\"Shape\"}\n"),
+    ] {
+        let (wrote, ended) = run_of(&rt, &[SECOND, line])?;
+        assert_eq!(rt; ended, Err(DebugFault::Graph));
+        assert!(rt; wrote.as_slice() == fault.as_bytes(), "{line}");
     }
     Ok(())
 }

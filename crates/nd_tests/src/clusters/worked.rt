@@ -1,9 +1,10 @@
 //! The worked examples, by their names, and the changes that a record lists.
 
 use crate::clusters::limits::{ROWS, closes, number_of};
-use nd_cluster::{Change, Changes, Cluster, Next, StartFault};
-use nd_drawn::{LINE, LOOP, graph_of};
-use nd_told::{Told, start, step_of};
+use nd_cluster::{Change, Changes, Cluster, Entry, Next, StartFault};
+use nd_drawn::{LINE, LOOP, graph_of, time};
+use nd_paths::Pointstamp;
+use nd_told::{Told, reach, start, step_of};
 use refusing::Refusing;
 use std::alloc::Global;
 
@@ -20,10 +21,10 @@ fn is_idle(alloc: Global, text: &str, n: u32) -> Option<bool> {
 
 #[test]
 fn processor_counts(rt: HostRuntime) {
-    for n in [0, 9] {
+    for n in [0, 17] {
         assert_eq!(rt; fault_of(rt.alloc(), n), Some(StartFault::BadCount));
     }
-    for (text, n) in [(LINE, 1), (LINE, 8), (LOOP, 3)] {
+    for (text, n) in [(LINE, 1), (LINE, 16), (LOOP, 3)] {
         assert_eq!(rt; is_idle(rt.alloc(), text, n), Some(true));
     }
 }
@@ -71,4 +72,75 @@ fn lists_changes(alloc: Global) -> Option<bool> {
 #[test]
 fn changes_of_a_feed(rt: HostRuntime) {
     assert_eq!(rt; lists_changes(rt.alloc()), Some(true));
+}
+
+/// What a step changes on *line*, once others were made.
+fn entries_of(alloc: Global, made: &[Told], told: &Told) -> Option<Vec<Entry>> {
+    let cluster = reach(alloc, alloc, LINE, 1, made)?;
+    let record = cluster.plan(&step_of(alloc, cluster.graph(), told)?).ok()?;
+    record.changes.iter().collect(alloc).ok()
+}
+
+/// The pointstamp of a location in the first epoch.
+fn at(location: usize) -> Option<Pointstamp> {
+    Some(Pointstamp {
+        location,
+        time: time(&[0])?,
+    })
+}
+
+/// Whether the changes of a feed on *line* are told in order: the record before what is unsent.
+fn tells_feed(alloc: Global) -> Option<bool> {
+    let told = entries_of(alloc, &[], &Told::Feed(0, "a", &[7], Next::Stay))?;
+    let record = Entry::Key(Change::Records {
+        p: 0,
+        edge: 2,
+        time: time(&[0])?,
+        value: 7,
+        n: 1,
+    });
+    let unsent = Entry::Key(Change::Unsent {
+        p: 0,
+        point: at(2)?,
+        n: 1,
+    });
+    Some(told.as_slice() == [record, unsent].as_slice())
+}
+
+/// Whether those of a broadcast of what it leaves are, and those of the receive.
+fn tells_exchange(alloc: Global) -> Option<bool> {
+    let feed = Told::Feed(0, "a", &[7], Next::Close);
+    let sent = entries_of(alloc, &[feed], &Told::All(0))?;
+    let feed = Told::Feed(0, "a", &[7], Next::Close);
+    let received = entries_of(alloc, &[feed, Told::All(0)], &Told::Receive(0, 0))?;
+    let goes = Entry::Key(Change::Unsent {
+        p: 0,
+        point: at(0)?,
+        n: 1,
+    });
+    let comes = Entry::Key(Change::Unsent {
+        p: 0,
+        point: at(2)?,
+        n: -1,
+    });
+    let less = Entry::View {
+        q: 0,
+        point: at(0)?,
+        n: -1,
+    };
+    let more = Entry::View {
+        q: 0,
+        point: at(2)?,
+        n: 1,
+    };
+    let is_sent = sent.as_slice() == [goes, comes, Entry::Back { p: 0 }].as_slice();
+    let is_received = received.as_slice()
+        == [less, more, Entry::Front { from: 0, to: 0 }].as_slice();
+    Some(is_sent && is_received)
+}
+
+#[test]
+fn entries_of_records(rt: HostRuntime) {
+    assert_eq!(rt; tells_feed(rt.alloc()), Some(true));
+    assert_eq!(rt; tells_exchange(rt.alloc()), Some(true));
 }

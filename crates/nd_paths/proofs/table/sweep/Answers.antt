@@ -4,6 +4,7 @@ use Rattle.std.proofs.lemmas.List.{take_all}
 use Rattle.std.proofs.lemmas.List.Elements.{All-weaker, All-more, Contains-get_or}
 use Rattle.nd_graph.specs.declared.op.Action.TheVariants.{Identity}
 use Rattle.nd_graph.specs.declared.graph.Arc.{Arc}
+use Rattle.nd_time.specs.Limits.{max_depth}
 use Rattle.nd_paths.specs.Inside.{keeps}
 use Rattle.nd_paths.proofs.Sweeps.{Followed, Closed, closed_all, quiet_here, quiet_others, both_false, at_false, swept_start, swept_as, can_relax, relaxed_swept, relaxed_followed, relaxed_here, round_over, round_done, budget}
 use Rattle.nd_paths.proofs.table.sweep.Goals as goal
@@ -64,7 +65,7 @@ rounds-preserved c =
     let m : ℕ = (c.rounds._round * length c.args.arcs.now + c.arcs.arc-index) * keeps in
     let e : m ≡ (c.rounds._round + 1) * length c.args.arcs.now * keeps = round_done c.rounds._round (length c.args.arcs.now) c.arcs.arc-index c.arcs-test.false c.arcs.auto.arc-index-end in
     let all : take c.arcs.arc-index c.args.arcs.now ≡ c.args.arcs.now = take_all c.arcs.arc-index c.args.arcs.now c.arcs-test.false in
-    let low : get_or c.args.depths.now c.args.from 0 ≤ 4 = c.requires.deep c.args.from 0 c.requires.from in
+    let low : get_or c.args.depths.now c.args.from 0 ≤ max_depth = c.requires.deep c.args.from 0 c.requires.from in
     let done = subst (λ xs. All (λ y. Followed c.args.depths.now c.args.arcs.now c.args.from c.arcs.row c.rounds._round keeps y) xs) all c.arcs.invariant.done in
     swept_as c.args.depths.now c.args.arcs.now c.args.from c.arcs.row (c.rounds._round + 1) m ((c.rounds._round + 1) * length c.args.arcs.now * keeps) e
     (round_over c.args.depths.now c.args.arcs.now c.requires.agree c.requires.deep c.args.from c.arcs.row c.rounds._round m low c.arcs.invariant.swept done)

@@ -3,13 +3,14 @@ use Rattle.rewind_lines.specs.Lines.{blank}
 use Rattle.rewind_answers.specs.Answers.{Answers}
 use Rattle.rewind_answers.specs.Stages.{phase_of}
 use Rattle.rewind_answers.specs.declared.stage.Stage.{Stage}
-use Rattle.rewind_answers.specs.declared.stage.Stage.TheVariants.{Unstarted, Running}
+use Rattle.rewind_answers.specs.declared.stage.Stage.TheVariants.{Unopened, Unstarted, Running}
 use Rattle.rewind_answers.proofs.stage.answer_line.Goals as goal
 
 -- a blank line has no reply, and changes nothing
 skipped : (s : Stage) (line : ℕ) → Answers (phase_of s) line blank [] (phase_of s)
-skipped (Unstarted processors) line = (refl, refl)
-skipped (Running state) line = (refl, refl)
+skipped (Unopened processors) line = (refl, refl)
+skipped (Unstarted v processors) line = (refl, refl)
+skipped (Running v state) line = (refl, refl)
 
 pub returns-in-Blank-clause-answers : goal.returns-in-Blank-clause-answers
 returns-in-Blank-clause-answers g c = rw c.in-Blank.is (skipped c.args.stage.now c.args.line)

@@ -1,22 +1,20 @@
 use Rattle.std.proofs.Common.{◌∙◌, refl, ap}
 use Rattle.std.proofs.lemmas.Result.{err_from_is_err_and}
-use Rattle.serde_json.specs.View.{view}
 use Rattle.nd_session.specs.Log.{opening_of}
 use Rattle.rewind_answers.specs.Stages.{logged}
-use Rattle.rewind_clients.specs.Intake.{script}
-use Rattle.rewind_clients.specs.Intakes.{lists_of}
+use Rattle.rewind_clients.specs.Intakes.{lists_of, opening_replies, script_view, version_of}
 use Rattle.rewind_clients.specs.Told.{Tells, lines_data, machine_of}
 use Rattle.rewind_clients.proofs.Driving.{opened-history, some-lines}
-use Rattle.rewind_clients.proofs.Ending.{script-ends, stops-driving, stops-first}
+use Rattle.rewind_clients.proofs.Ending.{script-ends, stops-driving, stops-in}
 use Rattle.rewind_clients.proofs.clients.answer_script.Goals as goal
 
-pub returns-in_err-tell_one-clause-run : goal.returns-in_err-tell_one-clause-run
-returns-in_err-tell_one-clause-run g c =
+pub returns-in_err-tell_opening-clause-run : goal.returns-in_err-tell_opening-clause-run
+returns-in_err-tell_opening-clause-run g c =
     let p = err_from_is_err_and c.from_residual.result c.from_residual.ensures.1 in
     let s = c.args.script in
     let t = some-lines s.state.machine (lists_of s.commands.items) (opening_of s.state.machine) refl (opened-history s.state.machine c.timeline.ensures.start c.timeline.ensures.state c.timeline.ensures.protocol) in
     rw (p.1, p.2) (λ before told.
-    stops-first (script (view s.reply) (logged s.state) (lists_of s.commands.items)) (view s.reply) t.0 before _ _ (t.0, t.1, refl) (c.in_err-tell_one.ensures.err before told))
+    stops-in (script_view s) (opening_replies s) t.0 before _ _ (t.0, t.1, refl) (c.in_err-tell_opening.ensures.err before told))
 
 pub returns-in_err-driven-clause-run : goal.returns-in_err-driven-clause-run
 returns-in_err-driven-clause-run g c =
@@ -24,7 +22,7 @@ returns-in_err-driven-clause-run g c =
     let s = c.args.script in
     let t = some-lines s.state.machine (lists_of s.commands.items) (opening_of s.state.machine) refl (opened-history s.state.machine c.timeline.ensures.start c.timeline.ensures.state c.timeline.ensures.protocol) in
     rw (p.1, p.2) (λ before told.
-    stops-driving (view s.reply) (logged s.state) (lists_of s.commands.items) t.0 before _ _ t.1 c.in_err-driven.ensures.kind (c.in_ok-tell_one.ensures.ok before told))
+    stops-driving (version_of s) (opening_replies s) (logged s.state) (lists_of s.commands.items) t.0 before _ _ t.1 c.in_err-driven.ensures.kind (c.in_ok-tell_opening.ensures.ok before told))
 
 pub returns-clause-run : goal.returns-clause-run
 returns-clause-run g c =
@@ -40,4 +38,4 @@ returns-clause-run g c =
       shown = λ i. lines_data (graph i) (c.as_slice.ensures.value i) (c.as_slice-2.ensures.value i);
     } in
     λ before told.
-    script-ends (view s.reply) (logged s.state) (lists_of s.commands.items) lines before _ _ c.tell_log.result t (c.in_ok-tell_one.ensures.ok before told) c.tell_log.ensures.ok c.tell_log.ensures.err
+    script-ends (version_of s) (opening_replies s) (logged s.state) (lists_of s.commands.items) lines before _ _ c.tell_log.result t (c.in_ok-tell_opening.ensures.ok before told) c.tell_log.ensures.ok c.tell_log.ensures.err

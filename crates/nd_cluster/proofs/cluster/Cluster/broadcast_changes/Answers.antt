@@ -19,4 +19,5 @@ returns-clause-ok g c =
     c.in_ok-change.ensures.some
     (subst (λ (r : ProcessorState). LeavesUpright s.graph r d) q (subst (λ (k : Dataflow). LeavesUpright k c.processor.result.now d) (ap (λ (t : ClusterState). t.graph) c.self.view_is) c.in_ok-change.ensures.upright))
     (λ h. absurd (cc (c.if-is_full.ensures.full.1 (subst (λ m. HasQueue IsFull (row m c.args.p)) (sym (ap (λ (t : ClusterState). t.queues) c.self.view_is)) h))))
+    c.requires
     c.changes_are_counted.ensures.sent (subst (λ (r : ProcessorState). IsPartOf d r.unsent) q c.in_ok-change.ensures.there)

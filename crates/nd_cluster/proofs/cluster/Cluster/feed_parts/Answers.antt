@@ -6,7 +6,7 @@ pub feed_changes-requires-clause-few : goal.feed_changes-requires-clause-few
 feed_changes-requires-clause-few g c = few_values c.args.self.now c.args.p c.args.vertex c.args.values.now c.args.next c.in_ok-epoch.ensures.free
 
 pub feed_changes-requires-clause-goes : goal.feed_changes-requires-clause-goes
-feed_changes-requires-clause-goes g c = epoch_goes c.args.self.now c.args.p c.args.vertex c.args.values.now c.args.next c.in_ok-epoch.ensures.free c.in_ok-epoch.epoch c.in_ok-epoch.ensures.epoch (omega arith)
+feed_changes-requires-clause-goes g c = epoch_goes c.args.self.now c.args.p c.args.vertex c.args.values.now c.args.next c.in_ok-epoch.ensures.free c.in_ok-epoch.epoch c.in_ok-epoch.ensures.epoch
 
 pub returns-clause-reaches : goal.returns-clause-reaches
 returns-clause-reaches g c =

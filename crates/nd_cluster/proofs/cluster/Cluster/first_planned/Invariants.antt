@@ -1,4 +1,5 @@
 use Rattle.std.proofs.Common.{◌≡◌, ◌<◌, ◌≤◌, ◌%◌, length}
+use Rattle.nd_time.specs.Limits.{max_processors}
 use Rattle.nd_cluster.proofs.Choosing.{NoneWaits}
 use Rattle.nd_cluster.proofs.cluster.Cluster.first_planned.Given as goal
 
@@ -6,7 +7,7 @@ abbrev pub invariant-loop-i : goal.invariant-loop-i
 invariant-loop-i g l = record {
   count : l.n ≡ length l.self.processors;
   some : 0 < l.n;
-  few : l.n ≤ 8;
+  few : l.n ≤ max_processors;
   first : l.first ≡ l.turn % l.n;
   none : NoneWaits g.row.A.Denot l.self l.turn l.i;
 }

@@ -44,4 +44,4 @@ returns-clause-ok g c =
     let known = (seen_view a.paths a.processors.items a.views.items a.mesh s c.args.to c.index-view.result.now c.self.invariant c.self.view_is to c.index-view.ensures).1 in
     receive_plans _ s c.args.from c.args.to c.processor_count.ensures.state from to d
     (ap (λ (t : ClusterState). slice_get (queue t c.args.from c.args.to) 0) (sym c.self.view_is) ∙ c.in_ok-change.ensures.front)
-    c.changes_are_counted.ensures.received (subst (λ m. IsTooLarge (plus m d) → ⊥) (sym known) c.in_ok-change.ensures.room)
+    c.changes_are_counted.ensures.received (subst (λ m. IsTooLarge (plus m d) → ⊥) (sym known) c.in_ok-change.ensures.room) c.requires

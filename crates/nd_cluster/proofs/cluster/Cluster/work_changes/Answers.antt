@@ -39,7 +39,7 @@ returns-clause-enabled g c =
     let made : ReachesIn c.deref.result.now s t c.deref-2.result.now = (ap (λ (u : ClusterState). u.processors) (sym c.self.view_is) ∙ sym c.deref.ensures.value, subst (Reaches s t) (sym c.deref-2.ensures.value) c.in_ok-all.ensures.reaches) in
     enabled s c.args.step.now c.requires c.in_ok-all.ensures.free
     (c.in_default.ensures.no_count (λ e. absurd (cc)) s t made)
-    (c.in_default.ensures.none refl s t made)
+    (c.in_default.ensures.none refl s t made) c.numbers_fit.ensures
 
 pub returns-clause-leads : goal.returns-clause-leads
 returns-clause-leads g c =

@@ -1,0 +1,32 @@
+-- Numbers in the ranges of their types: epochs, counters and the numbers of processors, and values (this project's own rule).
+use Rattle.std.specs.Prelude.{ℕ, ℤ, ◌≤◌, ⊤, All as Each, FitsSigned, ◌∷◌}
+use Rattle.std.specs.Int.{w64}
+use Rattle.nd_time.specs.Limits.{max_counter}
+use Rattle.nd_time.specs.Time.{Time}
+use Rattle.nd_protocol.specs.declared.step.Step.{Step}
+use Rattle.nd_protocol.specs.declared.step.Step.TheVariants.{Feed, Take, Notice, Broadcast, Receive}
+use Rattle.nd_protocol.specs.declared.part.Part.{Part}
+use Rattle.nd_protocol.specs.declared.part.Part.TheVariants.{All, Points}
+
+-- a number of 32 bits
+abbrev pub IsSmall : ℕ → Type 0
+IsSmall n = n ≤ max_counter
+
+abbrev pub TimeIsSmall : Time → Type 0
+TimeIsSmall t = Each IsSmall (t.epoch ∷ t.counters)
+
+-- a value, or an item or its number: a number of 64 bits
+abbrev pub IsValue : ℤ → Type 0
+IsValue v = FitsSigned w64 v
+
+abbrev pub PartIsSmall : {A : Type 0} → Part A → Type 0
+PartIsSmall All = ⊤
+PartIsSmall (Points points) = Each (λ point. TimeIsSmall point.time) points
+
+-- processors, epochs and counters have 32 bits, values 64 bits, as their types say
+abbrev pub NumbersFit : {A : Type 0} → Step A → Type 0
+NumbersFit (Feed p vertex values next) = IsSmall p × Each IsValue values
+NumbersFit (Take p edge time value) = IsSmall p × TimeIsSmall time × IsValue value
+NumbersFit (Notice p vertex time) = IsSmall p × TimeIsSmall time
+NumbersFit (Broadcast p part) = IsSmall p × PartIsSmall part
+NumbersFit (Receive from to) = IsSmall from × IsSmall to

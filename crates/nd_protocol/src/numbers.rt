@@ -1,0 +1,84 @@
+//! The types of a step keep its numbers in their ranges.
+ghost use Rattle.std.specs.Prelude.{All};
+ghost use Rattle.nd_protocol.specs.Ranges.{IsSmall, TimeIsSmall, IsValue, NumbersFit};
+
+use crate::{Part, Step};
+use nd_paths::Pointstamp;
+use nd_time::Timestamp;
+use std::alloc::Allocator;
+
+// Numbers of 32 bits.
+fn numbers_are_small(numbers: &[u32])
+    ensures { All IsSmall numbers.now }
+{
+    let _len = numbers.len();
+}
+
+// A number of 64 bits.
+fn is_value(value: i64)
+    ensures { IsValue value }
+{
+    let _value = value;
+}
+
+// Such numbers.
+fn are_values(values: &[i64])
+    ensures { All IsValue values.now }
+{
+    for value in values {
+        is_value(*value);
+    }
+}
+
+/// The epoch and the counters of a time fit their types. It does nothing, and is to be called where its clause is needed.
+pub fn times_are_small(time: &Timestamp)
+    ensures { TimeIsSmall time.now }
+{
+    let _epoch = time.epoch();
+    numbers_are_small(time.counters());
+}
+
+// So do those of each pointstamp.
+fn points_are_small(points: &[Pointstamp])
+    ensures { All (λ x. TimeIsSmall x.time) points.now }
+{
+    for point in points {
+        times_are_small(&point.time);
+    }
+}
+
+impl<A: Allocator> Step<A> {
+    /// The numbers of a step fit their types. It does nothing, and is to be called where its clause is needed.
+    pub fn numbers_fit(&self)
+        ensures { NumbersFit self.now }
+    {
+        match self {
+            Step::Feed { p, values, .. } => {
+                let _p = *p;
+                are_values(values.as_slice());
+            }
+            Step::Take { p, time, value, .. } => {
+                let _p = *p;
+                let _value = *value;
+                times_are_small(time);
+            }
+            Step::Notice { p, time, .. } => {
+                let _p = *p;
+                times_are_small(time);
+            }
+            Step::Broadcast { p, part: Part::All } => {
+                let _p = *p;
+            }
+            Step::Broadcast {
+                p,
+                part: Part::Points(points),
+            } => {
+                let _p = *p;
+                points_are_small(points.as_slice());
+            }
+            Step::Receive { from, to } => {
+                let _numbers = (*from, *to);
+            }
+        }
+    }
+}

@@ -1,0 +1,74 @@
+-- What may be answered when all kept steps are asked for, or one of them, or why a processor does not consider a pointstamp finished, or
+-- when its view changed (this project's own rule).
+use Rattle.std.specs.Prelude.{◌≡◌, ◌-◌, ◌↔◌, IsTrue, Bool, ℕ, ◌<◌, ◌≤◌, ◌⊎◌, List, map, length, Option, Some, None, slice_get}
+use Rattle.std.specs.declared.alloc.Global.{Global}
+use Rattle.serde_json.specs.Data.{Data}
+use Rattle.nd_graph.specs.Graph.{Dataflow}
+use Rattle.nd_paths.specs.declared.point.Pointstamp.{Pointstamp}
+use Rattle.nd_view.specs.View.{IsPassed}
+use Rattle.nd_protocol.specs.State.{ClusterState, view}
+use Rattle.nd_protocol.specs.Invariant.{IsFinished}
+use Rattle.nd_protocol.specs.declared.step.Step.{Step}
+use Rattle.nd_shown.specs.StateText.{row}
+use Rattle.nd_timeline.specs.Timeline.{TimelineValue, cluster_of}
+use Rattle.nd_timeline.specs.Faults.{number_of, name_of}
+use Rattle.nd_timeline.specs.declared.fault.Fault.TheVariants.{NoSuchPoint}
+use Rattle.nd_why.specs.Account.{Account}
+use Rattle.nd_why.specs.Why.{IsWhy}
+use Rattle.nd_changes.specs.Told.{IsTold}
+use Rattle.nd_changes.specs.Answers.{changes_of, MayTell, CannotTell}
+use Rattle.nd_changes.specs.Faults.{number_of as number_of_changes, name_of as name_of_changes}
+use Rattle.nd_changes.specs.declared.told.Told.{Told}
+use Rattle.nd_changes.specs.declared.fault.ChangesFault.{ChangesFault}
+use Rattle.nd_changes.specs.declared.fault.ChangesFault.TheVariants as changes
+use Rattle.rewind_forms.specs.Replies.{fault, no_processor, exported, kept_step, changed, why}
+use Rattle.rewind_steps.specs.Objects.{object_of}
+use Rattle.rewind_reasons.specs.Reasons.{reasons_data}
+use Rattle.rewind_reasons.specs.Changes.{changes_data}
+
+-- ---- kept steps
+
+-- each step as the object of its command line, in order
+abbrev pub steps_data : Dataflow → List (Step Global) → Data
+steps_data g steps = row (map (object_of g) steps)
+
+-- all kept steps, those after the cursor too, and the cursor
+abbrev pub ExportReply : TimelineValue Global → Data → Type 0
+ExportReply m reply = reply ≡ exported m.cursor (steps_data (cluster_of m).graph m.kept)
+
+-- the kept step that leads to a position; none leads to the first, and none beyond the last
+abbrev pub StepReply : TimelineValue Global → ℕ → Data → Type 0
+StepReply m to reply =
+    (((to ≡ 0) ⊎ (length m.kept < to)) × (reply ≡ fault (number_of NoSuchPoint) (name_of NoSuchPoint)))
+    ⊎ ((0 < to) × ((x : Step Global) × (slice_get m.kept (to - 1) ≡ Some x) × (reply ≡ kept_step (object_of (cluster_of m).graph x))))
+
+-- ---- why
+
+-- the reasons for which q does not consider t finished; whether its view has passed t; and whether t is finished
+pub record TellsWhy (s : ClusterState) (q : ℕ) (t : Pointstamp) (reply : Data) : Type 0 where
+  pub accounts : List Account
+  pub whole : IsWhy s q t accounts
+  pub passed : Bool
+  pub has_passed : IsTrue passed ↔ IsPassed s.graph (view s q) t
+  pub finished : Bool
+  pub is_finished : IsTrue finished ↔ IsFinished s t
+  pub told : reply ≡ why finished passed (reasons_data s.graph accounts)
+
+abbrev pub WhyReply : ClusterState → ℕ → Pointstamp → Data → Type 0
+WhyReply s q t reply =
+    ((length s.processors ≤ q) × (reply ≡ no_processor))
+    ⊎ ((q < length s.processors) × TellsWhy s q t reply)
+
+-- ---- changes
+
+-- the reply to a question for changes that has no answer; running out of memory is none
+abbrev pub changes_fault : ChangesFault → Option Data
+changes_fault changes.Memory = None
+changes_fault e = Some (fault (number_of_changes e) (name_of_changes e))
+
+-- The changes of processor q's view at a pointstamp are told, the first of them and whether there are more; or the first of the faults
+-- whose condition holds.
+pub data ChangesReply (m : TimelineValue Global) (q : ℕ) (x : Pointstamp) (lo hi : ℕ) (reply : Data) : Type 0 where
+  told : (telling : Told Global) → MayTell m q lo hi → IsTold (changes_of m q x lo hi) telling → reply ≡ changed (changes_data telling.changes) telling.more
+      → ChangesReply m q x lo hi reply
+  untold : (e : ChangesFault) → CannotTell m q lo hi e → Some reply ≡ changes_fault e → ChangesReply m q x lo hi reply

@@ -1,0 +1,5 @@
+use Rattle.rewind_clients.proofs.Beginning.{reads-version}
+use Rattle.rewind_clients.proofs.intake.read_value.Goals as goal
+
+pub returns-in-Some-version_of : goal.returns-in-Some-version_of
+returns-in-Some-version_of c = rw c.in-None.is (reads-version c.args.processors c.args.clients c.args.line _ c.in-Some-version_of.version c.in-Some-version_of.ensures)
