@@ -5,7 +5,7 @@ ghost use Rattle.nd_changes.specs.Faults.{number_of, name_of};
 use std::alloc::AllocError;
 
 /// Why no changes are told (this project's own rule).
-#[derive(Clone, Copy, Drop)]
+#[derive(Clone, Copy, Debug, Drop, PartialEq, Eq)]
 pub enum ChangesFault {
     /// The cluster has no such processor.
     NoProcessor,

@@ -25,8 +25,8 @@ PartIsSmall (Points points) = Each (λ point. TimeIsSmall point.time) points
 
 -- processors, epochs and counters have 32 bits, values 64 bits, as their types say
 abbrev pub NumbersFit : {A : Type 0} → Step A → Type 0
-NumbersFit (Feed p vertex values next) = IsSmall p × Each IsValue values
-NumbersFit (Take p edge time value) = IsSmall p × TimeIsSmall time × IsValue value
-NumbersFit (Notice p vertex time) = IsSmall p × TimeIsSmall time
+NumbersFit (Feed p vertex values _) = IsSmall p × Each IsValue values
+NumbersFit (Take p _ time value) = IsSmall p × TimeIsSmall time × IsValue value
+NumbersFit (Notice p _ time) = IsSmall p × TimeIsSmall time
 NumbersFit (Broadcast p part) = IsSmall p × PartIsSmall part
 NumbersFit (Receive from to) = IsSmall from × IsSmall to

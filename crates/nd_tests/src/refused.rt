@@ -26,6 +26,7 @@ pub type Heap = Refusing<Global>;
 enum Call {
     ReadDraft,
     CheckDraft,
+    CheckDraftV1,
     CopyGraph,
     MakePaths,
     CopyPaths,
@@ -64,9 +65,10 @@ enum Call {
 }
 
 /// Each call, and whether it asks for memory.
-static CALLS: [(Call, bool); 37] = [
+static CALLS: [(Call, bool); 38] = [
     (Call::ReadDraft, true),
     (Call::CheckDraft, true),
+    (Call::CheckDraftV1, true),
     (Call::CopyGraph, true),
     (Call::MakePaths, true),
     (Call::CopyPaths, true),
@@ -118,7 +120,8 @@ fn graphs<A: Allocator + Copy>(
         Call::ReadDraft => {
             met!(heap, n: GraphDraft::from_value(alloc, &value); GraphFault::Memory, true)
         }
-        _ => met!(heap, n: draft.check(alloc); GraphFault::Memory, true),
+        Call::CheckDraft => met!(heap, n: draft.check(alloc); GraphFault::Memory, true),
+        _ => met!(heap, n: draft.check_v1(alloc); GraphFault::Memory, true),
     }
 }
 
@@ -353,7 +356,9 @@ fn meets<A: Allocator + Copy>(
     n: u64,
 ) -> Option<bool> {
     match call {
-        Call::ReadDraft | Call::CheckDraft => graphs(heap, alloc, json, call, n),
+        Call::ReadDraft | Call::CheckDraft | Call::CheckDraftV1 => {
+            graphs(heap, alloc, json, call, n)
+        }
         Call::CopyGraph | Call::MakePaths | Call::CopyPaths => paths(heap, alloc, json, call, n),
         Call::AddAtNew
         | Call::AddAtOld

@@ -1,6 +1,8 @@
-//! Walks over a timeline's kept steps, each request for memory refused in turn.
+//! Walks over a timeline's kept steps, and what is told of them, each request for memory refused in turn.
 
 use crate::timelines::memory::{ALL, Heap, TEN, is_after, kept};
+use nd_changes::{ChangesFault, changes};
+use nd_drawn::point;
 use nd_timeline::Fault;
 use nd_told::{SUM_NOTIFIED, Script};
 use refusing::{Refusing, in_turn, met};
@@ -67,5 +69,33 @@ fn walk_out_of_memory(rt: HostRuntime) {
             assert!(rt; count.is_some(), "in row {row}");
         }
     }
+    assert_eq!(rt; heap.live(), 0);
+}
+
+/// Whether what is told of processor 0's view of the edge met the request that was refused: then all is where it was.
+fn meets_changes<A: Allocator + Copy>(heap: &Heap, json: Global, alloc: A, n: u64) -> Option<bool> {
+    let timeline = kept(json, alloc, &ALL)?;
+    let az = point(timeline.cluster().graph(), "az", &[0])?;
+    let (at, kept) = (timeline.at(), timeline.kept());
+    let met =
+        met!(heap, n: changes(alloc, &timeline, 0, &az, 0, kept); ChangesFault::Memory, true)?;
+    let is_there = (timeline.at(), timeline.kept()) == (at, kept);
+    if is_there && is_after(json, timeline.cluster(), &ALL, at)? {
+        Some(met)
+    } else {
+        None
+    }
+}
+
+/// How many requests of it were refused before it met none.
+fn tellings<A: Allocator + Copy>(heap: &Heap, json: Global, alloc: A) -> Option<u64> {
+    in_turn(|n| meets_changes(heap, json, alloc, n))
+}
+
+#[test]
+fn changes_out_of_memory(rt: HostRuntime) {
+    let heap = Refusing::new(rt.alloc());
+    let count = tellings(&heap, rt.alloc(), &heap);
+    assert!(rt; matches!(count, Some(n) if n > 0));
     assert_eq!(rt; heap.live(), 0);
 }

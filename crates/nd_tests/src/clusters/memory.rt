@@ -1,7 +1,7 @@
 //! Each request for memory of a call refused in turn.
 
 use nd_cluster::{Cluster, Next, NoMemory, Refusal, StartFault, Step};
-use nd_drawn::{LINE, LOOP, SUM};
+use nd_drawn::{LINE, LOOP, SUM, point};
 use nd_told::{SUM_NOTIFIED, Script, Told, is_state, make, reach, state_text, step_of, values_of};
 use refusing::{Refusing, in_turn, met};
 use std::alloc::{AllocError, Allocator, Global};
@@ -17,6 +17,7 @@ enum Call {
     CopyStep,
     CopyRecord,
     PushValue,
+    TellWhy,
 }
 
 /// Whether a call met the request that was refused. `None` if it answered or left what it should not.
@@ -45,7 +46,20 @@ fn meets<A: Allocator + Copy>(
             let mut values = values_of(alloc, &[1, 2])?.copy(alloc).ok()?;
             met!(heap, n: values.push(3); AllocError, values.as_slice() == [1, 2].as_slice())
         }
+        Call::TellWhy => why(heap, alloc, json, n),
     }
+}
+
+/// The same of the reasons of processor 1, from which a record and a change on its way are hidden.
+fn why<A: Allocator + Copy>(heap: &Heap, alloc: A, json: Global, n: u64) -> Option<bool> {
+    let steps = [Told::Feed(0, "a", &[5], Next::Next), Told::All(0)];
+    let cluster = reach(json, alloc, LINE, 2, &steps)?;
+    let z = point(cluster.graph(), "z", &[0])?;
+    if cluster.n() != 2 {
+        return None;
+    }
+    let before = state_text(json, &cluster)?;
+    met!(heap, n: cluster.why(alloc, 1, &z); NoMemory, is_state(json, &cluster, before.as_str()))
 }
 
 /// How many requests of a call were refused before it met none.
@@ -62,6 +76,7 @@ fn starts_and_copies(rt: HostRuntime) {
         Call::CopyStep,
         Call::CopyRecord,
         Call::PushValue,
+        Call::TellWhy,
     ] {
         let count = refused(&heap, &heap, rt.alloc(), call);
         assert_eq!(rt; count.map(|count| count > 0), Some(true), "of {call:?}");
