@@ -105,7 +105,7 @@ module _ (R : Pointstamp → Pointstamp → Type 0) (decided : (y x : Pointstamp
       ]
 
 pub enabled : {A : Type 0} (g : Dataflow) → ((s t : Pointstamp) → Decided (IsStrictlyBefore g s t)) → (s : ClusterState) (x : Step A) → s.graph ≡ g → NumbersFit x → ((r : Refusal) → Fails s x r → ⊥) → IsEnabled s x
-enabled g decided s (Feed p vertex values next) is numbers free = record { free = free; admissible = tt; numbers = numbers }
+enabled g decided s (Feed p vertex values _) is numbers free = record { free = free; admissible = tt; numbers = numbers }
 enabled g decided s (Take p edge t value) is numbers free = record { free = free; admissible = tt; numbers = numbers }
 enabled g decided s (Notice p vertex t) is numbers free = record { free = free; admissible = tt; numbers = numbers }
 enabled g decided s (Receive from to) is numbers free = record { free = free; admissible = tt; numbers = numbers }

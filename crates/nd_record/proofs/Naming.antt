@@ -39,12 +39,6 @@ dropped [] i x is = absurd (cc)
 dropped (y ∷ ys) zero x is = (let e : y ≡ x = cc in ap (λ z. z ∷ ys) e)
 dropped (y ∷ ys) (suc i) x is = dropped ys i x is ∙ ap (λ n. x ∷ drop n (y ∷ ys)) (let e : suc (i + 1) ≡ suc i + 1 = omega arith in e)
 
-pub all_dropped : {A : Type 0} (xs : List A) (i : ℕ) → length xs ≤ i → drop i xs ≡ []
-all_dropped [] zero le = refl
-all_dropped [] (suc i) le = refl
-all_dropped (y ∷ ys) zero le = absurd (omega arith)
-all_dropped (y ∷ ys) (suc i) le = all_dropped ys i (omega arith)
-
 missing : {A : Type 0} (xs : List A) (i : ℕ) → slice_get xs i ≡ None → length xs ≤ i
 missing [] i e = omega arith
 missing (y ∷ ys) zero e = absurd (cc)

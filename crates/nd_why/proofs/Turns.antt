@@ -1,7 +1,7 @@
 -- What a loop has put into a list, turn by turn.
 use Rattle.std.proofs.Common.{◌≡◌, ◌<◌, ◌+◌, ℕ, List, [], ◌∷◌, ◌++◌, ℤ, length, take, get_or, map, ap, sym, ◌∙◌, append_assoc, add-one, arith, ◌≤◌, w64, to_z, of_z, unsigned_abs}
 use Rattle.std.proofs.lemmas.Int.{to_z-of_z, fits_signed_from_abs}
-use Rattle.std.proofs.lemmas.List.{take_more, flat_map_more, map-append}
+use Rattle.std.proofs.lemmas.List.{take_more, map-append}
 use Rattle.std.specs.List.{flat_map}
 use Rattle.nd_time.specs.Limits.{max_count}
 use Rattle.nd_paths.specs.declared.point.Pointstamp.{Pointstamp}
@@ -22,12 +22,6 @@ module _ {Y : Type 0} (old before new : List Y) where
   turn_more one n f is more here = more ∙ (λ i. is i ++ here i) ∙ append_assoc old (in_turn n f) (f n) ∙ ap (λ k. old ++ in_turn k f) (sym (add-one n))
 
   module _ {X : Type 0} (f : X → List Y) (xs : List X) where
-    -- the turn of the item at an index
-    pub item_more : (i : ℕ) (x : X) → i < length xs → x ≡ get_or xs i x → before ≡ old ++ flat_map f (take i xs) → new ≡ before ++ f x → new ≡ old ++ flat_map f (take (i + 1) xs)
-    item_more i x lt at is more =
-        more ∙ ap (λ ys. ys ++ f x) is ∙ flat_map_more f old (take i xs) x
-        ∙ ap (λ ys. old ++ flat_map f ys) (ap (λ y. take i xs ++ y ∷ []) at ∙ sym (take_more xs i x lt))
-
     -- the turn of the first item that an iterator has left
     pub left_more : (all : List Y) (x : X) (rest : List X) → xs ≡ x ∷ rest → before ++ flat_map f xs ≡ all → new ≡ before ++ f x → new ++ flat_map f rest ≡ all
     left_more all x rest step is more =

@@ -1,5 +1,5 @@
 -- Lists of values that are made one after another.
-use Rattle.std.proofs.Common.{◌≡◌, ◌∙◌, ℕ, ◌+◌, ◌<◌, ◌≤◌, List, [], ◌∷◌, ◌++◌, length, take, get_or, map, false, refl, ap}
+use Rattle.std.proofs.Common.{◌≡◌, ◌∙◌, ℕ, ◌+◌, ◌<◌, ◌≤◌, List, [], ◌∷◌, ◌++◌, length, take, get_or, map, false, ap}
 use Rattle.std.proofs.lemmas.List.{take_all, map-append, get_or_default}
 use Rattle.serde_json.specs.Data.{Data}
 use Rattle.serde_json.specs.declared.value.Value.{Value}
@@ -13,10 +13,6 @@ pub record Shows {T : Type 0} (f : T → Data) (xs : List T) (i : ℕ) (values :
   pub no_float : items_have_float (items_of (map view values)) ≡ false
 
 module _ {T : Type 0} (f : T → Data) (xs : List T) where
-  -- nothing yet
-  pub shows_none : Shows f xs 0 []
-  shows_none = record { made = refl; no_float = refl }
-
   -- one more: the next of them
   pub shows_next : (i : ℕ) (values : List Value) (x : T) (v : Value) → Shows f xs i values → i < length xs → x ≡ get_or xs i x → view v ≡ f x → has_float (view v) ≡ false
       → Shows f xs (i + 1) (values ++ v ∷ [])

@@ -26,11 +26,6 @@ form_or false rest r others e = e
 
 -- ---- a reading, by what is asked and by whether it has the form of a step
 
-formless : (r : Result (Option (Step Global)) LineFault) → has_form r ≡ false → or_else (λ step. step) r (Err BadShape) ≡ Err BadShape
-formless (Err e) h = cc
-formless (Ok None) h = refl
-formless (Ok (Some x)) h = cc
-
 asked_step : (r : Result (Option (Step Global)) LineFault) (others : Result Asked LineFault) (x : Step Global) → has_form r ≡ true
     → or_else (λ step. Do (Forward step)) r others ≡ Ok (Do (Forward x)) → or_else (λ step. step) r (Err BadShape) ≡ Ok x
 asked_step (Err e) others x h k = cc
@@ -50,9 +45,6 @@ asked_other (Ok None) others a h k = cc
 asked_other (Ok (Some y)) others a h k = record { step = y; is = cc }
 
 -- ---- the same of a value, in a script of any version
-
-pub read_formless : (g : Dataflow) (d : Data) → has_form (step_of g d) ≡ false → read_of g d ≡ Err BadShape
-read_formless g d h = formless (step_of g d) h
 
 pub read_asked : (v : Version) (g : Dataflow) (d : Data) (x : Step Global) → has_form (step_of g d) ≡ true → asked_of v g d ≡ Ok (Do (Forward x)) → read_of g d ≡ Ok x
 unfolding asked_of
