@@ -5,9 +5,8 @@ use Rattle.std.proofs.lemmas.Int.{ints}
 use Rattle.std.proofs.lemmas.List.{get_or_past}
 use Rattle.std.specs.Prelude.{slice_get, unsigned_abs}
 use Rattle.nd_time.specs.Limits.{max_count}
-use Rattle.nd_delta.specs.Change.{Change, none, at, at-none, plus, size, IsTooLarge}
+use Rattle.nd_delta.specs.Change.{Change, none, at, at-none, plus, size, IsTooLarge, IsPartOf}
 use Rattle.nd_processor.specs.State.{ProcessorState, idle}
-use Rattle.nd_processor.specs.Edits.{IsPartOf}
 use Rattle.nd_mesh.specs.Mesh.{row, HasQueue, IsFull}
 use Rattle.nd_protocol.specs.State.{ClusterState, processor, view, queue}
 use Rattle.nd_protocol.specs.Exchange.{IsPart, sent, received, received_from}

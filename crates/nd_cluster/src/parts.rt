@@ -191,13 +191,25 @@ fn change_fits<A: Allocator>(graph: &Graph<A>, change: &Delta<A>) -> bool
     entries_fit(graph, change.entries())
 }
 
+// Whether what a processor has not sent is at pointstamps of the graph alone.
+fn unsent_fits<A: Allocator + Copy>(graph: &Graph<A>, processor: &Processor<A>) -> bool
+    ensures { IsTrue result ↔ ChangeFits graph.now processor.now.unsent }
+{
+    for (key, _) in processor.unsent().iter() {
+        if !is_at_location(graph, key) {
+            return false;
+        }
+    }
+    true
+}
+
 // The types keep the counts of a processor within their limits.
 fn is_within<A: Allocator + Copy>(processor: &Processor<A>)
     ensures { ProcessorIsWithin processor.now }
 {
     let _ = processor.records();
     let _ = processor.sinks();
-    let _ = processor.unsent().entries();
+    let _ = processor.unsent().iter();
 }
 
 // Whether each key of a processor is one of the graph.
@@ -222,7 +234,7 @@ fn processor_fits<A: Allocator + Copy>(graph: &Graph<A>, processor: &Processor<A
     if !sinks_fit(graph, processor) {
         return false;
     }
-    change_fits(graph, processor.unsent())
+    unsent_fits(graph, processor)
 }
 
 // Whether each key of some processors is one of the graph.

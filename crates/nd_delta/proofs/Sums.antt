@@ -1,9 +1,10 @@
 -- A change that is made point by point, and the sum and the difference made so.
-use Rattle.std.proofs.Common.{◌≡◌, ◌≤◌, ◌<◌, ◌+◌, ◌*◌, ◌||◌, ℕ, ℤ, pos, ◌+ℤ◌, ◌-ℤ◌, Bool, true, false, cond, List, [], ◌∷◌, ◌++◌, take, length, get_or, Option, Some, None, w64, to_z, of_z, unsigned_abs, refl, sym, ap, subst, ◌∙◌, arith, below_more}
+use Rattle.std.proofs.Common.{◌≡◌, ◌≢◌, ◌≤◌, ◌<◌, ◌+◌, ◌*◌, ◌||◌, ◌⊎◌, ℕ, zero, suc, ℤ, pos, negsuc, append_assoc, length-append, ◌+ℤ◌, ◌-ℤ◌, Bool, true, false, cond, List, [], ◌∷◌, ◌++◌, take, drop, length, get_or, Option, Some, None, w64, to_z, of_z, FitsSigned, unsigned_abs, refl, sym, ap, subst, ◌∙◌, arith, below_more}
 use Rattle.std.proofs.lemmas.Int.{ints, to_z-of_z, fits_signed_from_abs}
 use Rattle.std.proofs.Common.{inl, inr}
 use Rattle.std.proofs.lemmas.Bool.{cases_lt}
-use Rattle.std.proofs.lemmas.List.{take_more, take_all, map-append, get_or_default}
+use Rattle.std.proofs.lemmas.List.{take_more, take_all, map-append, get_or_default, append-nil, take-append-drop}
+use Rattle.std.proofs.Math.Seq.{get_or-append_seam}
 use Rattle.std.proofs.lemmas.List.Folds.{list_any-append}
 use Rattle.std.specs.FinMap.{find}
 use Rattle.std.proofs.lemmas.Map.Views.{tells_apart}
@@ -11,7 +12,8 @@ use Rattle.nd_time.specs.Limits.{max_count}
 use Rattle.nd_map.specs.Entries.{found_all}
 use Rattle.nd_paths.specs.Point.{point_cmp, point_exact}
 use Rattle.nd_paths.specs.declared.point.Pointstamp.{Pointstamp}
-use Rattle.nd_delta.specs.Change.{Change, at, set, plus, minus, combined, entries, points_of, has_point, same, or_zero, is_point, at-set, at-plus, at-minus, at-part, at-entries, at-absent, part, IsTooLarge, IsWithin}
+use Rattle.nd_delta.specs.Change.{Change, at, set, plus, minus, combined, entries, points_of, has_point, same, or_zero, is_point, at-set, at-plus, at-minus, at-part, at-entries, at-absent, at-present, at-none, none, part, IsTooLarge, IsWithin, IsPartOf, IsApart}
+use Rattle.nd_delta.specs.Least.{at-index}
 
 -- ---- point by point
 added : (b c : Bool) (x y z w : ℤ) → (b ≡ true → x ≡ y) → w ≡ cond c y z → cond b x w ≡ cond (c || b) y z
@@ -63,6 +65,11 @@ lessened m n q x y x_is y_is x_within y_within =
     rw (kept x (omega (arith, x_within)), kept y (omega (arith, y_within)))
     (to_z-of_z w64 (x -ℤ y) (fits_signed_from_abs w64 (x -ℤ y) (omega (arith, ints, x_within, y_within))) ∙ (λ i. x_is i -ℤ y_is i) ∙ sym (at-minus m n q))
 
+pub lessens : (x y : ℤ) → unsigned_abs x ≤ max_count → unsigned_abs y ≤ max_count → FitsSigned w64 (to_z w64 (of_z w64 x) -ℤ to_z w64 (of_z w64 y))
+lessens x y x_within y_within =
+    rw (kept x (omega (arith, x_within)), kept y (omega (arith, y_within)))
+    (fits_signed_from_abs w64 (x -ℤ y) (omega (arith, ints, x_within, y_within)))
+
 -- where the second has nothing
 pub combined_alone : (b : Bool) (m n : Change) (q : Pointstamp) → at n q ≡ pos 0 → at (combined b m n) q ≡ at m q
 combined_alone true m n q e = let d = at-minus m n q in omega (arith, ints, d, e)
@@ -107,3 +114,102 @@ not_too_large b m n i past within h large = by (find point_cmp large.0 (entries 
         let small : unsigned_abs (at (combined b m n) large.0) ≤ max_count
         = found_all point_cmp point_exact (λ k _. unsigned_abs (at (combined b m n) k) ≤ max_count) (entries n) (λ k d lt. h k (omega (arith, lt, past)) d) large.0 v e in
         omega (arith, small, large.1)
+
+-- ---- a change that is made from the entries of another, one by one
+-- s has the integers of n at the entries of m that came, and nothing elsewhere; rest are the entries to come
+pub record IsMade (m n : Change) (rest : List (Pointstamp × ℤ)) (s : Change) : Type 0 where
+  pub came : List (Pointstamp × ℤ)
+  pub all : came ++ rest ≡ entries m
+  pub made : (q : Pointstamp) → at s q ≡ cond (has_point q (points_of came)) (at n q) (pos 0)
+
+module _ (m n : Change) where
+  pub made_first : (rest : List (Pointstamp × ℤ)) (s : Change) → rest ≡ entries m → s ≡ none → IsMade m n rest s
+  made_first rest s is nothing = record { came = []; all = is; made = λ q. ap (λ c. at c q) nothing ∙ at-none q }
+
+  pub made_more : (rest es : List (Pointstamp × ℤ)) (e : Pointstamp × ℤ) (s t : Change) → rest ≡ e ∷ es → IsMade m n rest s → t ≡ set s e.0 (at n e.0) → IsMade m n es t
+  made_more rest es e s t step h is = record {
+    came = h.came ++ e ∷ [];
+    all = append_assoc h.came (e ∷ []) es ∙ ap (λ fs. h.came ++ fs) (sym step) ∙ h.all;
+    made = λ q. one_more (points_of h.came) e.0 (at n) (λ _. pos 0) s t h.made is q ∙ ap (λ ks. cond (has_point q ks) (at n q) (pos 0)) (sym (map-append (λ y. y.0) h.came (e ∷ [])));
+  }
+
+  -- the entry that is next has its point's integer
+  pub made_next : (rest es : List (Pointstamp × ℤ)) (e : Pointstamp × ℤ) (s : Change) → rest ≡ e ∷ es → IsMade m n rest s → e.1 ≡ at m e.0
+  made_next rest es e s step h =
+      let all : h.came ++ e ∷ es ≡ entries m = ap (λ fs. h.came ++ fs) (sym step) ∙ h.all in
+      let lt : length h.came < length (entries m) = subst (λ fs. length h.came < length fs) all (rw (length-append h.came (e ∷ es)) (omega arith)) in
+      at-index m (length h.came) e lt (sym (get_or-append_seam h.came e es e) ∙ ap (λ fs. get_or fs (length h.came) e) all)
+
+  -- after the last entry, where n has nothing beside the entries of m
+  pub made_last : (rest : List (Pointstamp × ℤ)) (s : Change) → rest ≡ [] → ((q : Pointstamp) → at m q ≡ pos 0 → at n q ≡ pos 0) → IsMade m n rest s → s ≡ n
+  made_last rest s end nothing h =
+      let all : h.came ≡ entries m = sym (append-nil h.came) ∙ ap (λ fs. h.came ++ fs) (sym end) ∙ h.all in
+      same s n (λ q.
+      h.made q ∙ ap (λ es. cond (has_point q (points_of es)) (at n q) (pos 0)) all
+      ∙ by (has_point q (points_of (entries m))) _ (λ e. nothing q (at-absent m q e)))
+    where
+      by : (b : Bool) (x : ℤ) → (b ≡ false → x ≡ pos 0) → cond b x (pos 0) ≡ x
+      by true x e = refl
+      by false x e = sym (e refl)
+
+-- ---- what stays without a part
+stays_of : (x y : ℤ) → (y ≢ pos 0 → x ≡ y) → (x -ℤ y ≡ x) ⊎ (x -ℤ y ≡ pos 0)
+stays_of x (pos zero) h = inl (omega (arith, ints))
+stays_of x (pos (suc k)) h = let e : x ≡ pos (suc k) = h (λ z. absurd (cc)) in inr (omega (arith, ints))
+stays_of x (negsuc k) h = let e : x ≡ negsuc k = h (λ z. absurd (cc)) in inr (omega (arith, ints))
+
+module _ (m piece : Change) (h : IsPartOf piece m) where
+  -- an entry stays whole, or goes
+  stays : (q : Pointstamp) → (at (minus m piece) q ≡ at m q) ⊎ (at (minus m piece) q ≡ pos 0)
+  stays q = rw at-minus (stays_of (at m q) (at piece q) (h q))
+
+  pub stays_absent : (q : Pointstamp) → at m q ≡ pos 0 → at (minus m piece) q ≡ pos 0
+  stays_absent q e = elim (stays q) [ inl s ↦ s ∙ e | inr s ↦ s ]
+
+  pub stays_within : (q : Pointstamp) → unsigned_abs (at m q) ≤ max_count → unsigned_abs (at (minus m piece) q) ≤ max_count
+  stays_within q within = elim (stays q) [ inl s ↦ rw s within | inr s ↦ rw s (omega arith) ]
+
+-- ---- a part that goes or comes
+pub entry_within : (m : Change) (i : ℕ) (x : Pointstamp × ℤ) → IsWithin m → i < length (entries m) → x ≡ get_or (entries m) i x → unsigned_abs x.1 ≤ max_count
+entry_within m i x within lt is = rw (at-index m i x lt is) (within x.0)
+
+chosen : (b : Bool) (x y z : ℤ) → (b ≡ true → x ≡ z) → (b ≡ false → y ≡ z) → cond b x y ≡ z
+chosen true x y z f g = f refl
+chosen false x y z f g = g refl
+
+module _ (old piece : Change) where
+  -- nothing at its pointstamps
+  pub part_gone : IsPartOf piece old → (s : Change) → ((q : Pointstamp) → at s q ≡ cond (has_point q (points_of (entries piece))) (pos 0) (at old q)) → s ≡ minus old piece
+  part_gone h s is =
+      same s (minus old piece) (λ q.
+      let d = at-minus old piece q in
+      is q ∙ chosen (has_point q (points_of (entries piece))) (pos 0) (at old q) (at (minus old piece) q)
+      (λ t. let e = h q (at-present piece q t) in omega (arith, ints))
+      (λ f. let e = at-absent piece q f in omega (arith, ints)))
+
+  module _ (h : IsApart piece old) where
+    -- its integers at all of its pointstamps
+    pub part_here : (i : ℕ) (s : Change) → length (entries piece) ≤ i → ((q : Pointstamp) → at s q ≡ cond (has_point q (points_of (take i (entries piece)))) (at piece q) (at old q)) → s ≡ plus old piece
+    part_here i s past is =
+        same s (plus old piece) (λ q.
+        let d = at-plus old piece q in
+        is q ∙ ap (λ es. cond (has_point q (points_of es)) (at piece q) (at old q)) (take_all i (entries piece) past)
+        ∙ chosen (has_point q (points_of (entries piece))) (at piece q) (at old q) (at (plus old piece) q)
+        (λ t. let e = h q (at-present piece q t) in omega (arith, ints))
+        (λ f. let e = at-absent piece q f in omega (arith, ints)))
+
+    among : (es : List (Pointstamp × ℤ)) (i : ℕ) (q : Pointstamp) → has_point q (points_of (take i es)) ≡ true → has_point q (points_of es) ≡ true
+    among es i q t =
+        ap (λ fs. has_point q (points_of fs)) (sym (take-append-drop i es))
+        ∙ ap (has_point q) (map-append (λ y. y.0) (take i es) (drop i es))
+        ∙ list_any-append (is_point q) (points_of (take i es)) (points_of (drop i es))
+        ∙ ap (λ b. b || has_point q (points_of (drop i es))) t
+
+    -- those that came go again
+    pub part_back : (i : ℕ) (s t : Change) → ((q : Pointstamp) → at s q ≡ cond (has_point q (points_of (take i (entries piece)))) (at piece q) (at old q))
+        → ((q : Pointstamp) → at t q ≡ cond (has_point q (points_of (take i (entries piece)))) (pos 0) (at s q)) → t ≡ old
+    part_back i s t is gone =
+        same t old (λ q.
+        gone q ∙ chosen (has_point q (points_of (take i (entries piece)))) (pos 0) (at s q) (at old q)
+        (λ has. sym (h q (at-present piece q (among (entries piece) i q has))))
+        (λ not. is q ∙ ap (λ b. cond b (at piece q) (at old q)) not))

@@ -2,6 +2,7 @@
 --     none, at, set             no pointstamp; the integer of a pointstamp; the change with another integer at one pointstamp
 --     plus, minus, part         pointwise, and cut to the pointstamps of a list
 --     entries, size             the pointstamps that have one, with it, in the order of listing; how many
+--     IsPartOf, IsApart         the entries of the one are entries of the other, or are at none of its pointstamps
 --     same                      changes that answer alike are equal
 use Rattle.std.specs.Prelude.{◌≡◌, ◌≢◌, ℕ, zero, suc, ℤ, pos, negsuc, ◌+ℤ◌, ◌-ℤ◌, Bool, true, false, cond, ◌||◌, List, [], ◌∷◌, ◌++◌, map, length, Option, Some, None, is_some, refl, unsigned_abs, ◌+◌, ◌<◌, ◌≤◌}
 use Rattle.std.proofs.Common.{T, sym, ap, ◌∙◌, arith}
@@ -143,6 +144,15 @@ at-absent m q e = at_none (get m.map q) (contains_key-keys m.map q ∙ e)
     at_none None e = refl
     at_none (Some z) e = absurd (cc)
 
+-- what has an entry has an integer
+pub at-present : (m : Change) (q : Pointstamp) → has_point q (points_of (entries m)) ≡ true → at m q ≢ pos 0
+unfolding at entries
+at-present m q e = at_some (get m.map q) (contains_key-keys m.map q ∙ e) (m.nonzero q)
+  where
+    at_some : (x : Option ℤ) → is_some x ≡ true → x ≢ Some (pos 0) → or_zero x ≢ pos 0
+    at_some None e n z = absurd (cc)
+    at_some (Some v) e n z = n (ap Some z)
+
 -- pointwise sum
 pub plus : Change → Change → Change
 plus m n = on_points (points_of (entries m) ++ points_of (entries n)) (λ q. at m q +ℤ at n q)
@@ -191,6 +201,14 @@ at-part m ks q = at-on_points ks (at m) q
 -- some integer is past the limit of the program
 abbrev pub IsTooLarge : Change → Type 0
 IsTooLarge m = (q : Pointstamp) × (max_count < unsigned_abs (at m q))
+
+-- the entries of the one are entries of the other
+abbrev pub IsPartOf : Change → Change → Type 0
+IsPartOf piece m = (x : Pointstamp) → at piece x ≢ pos 0 → at m x ≡ at piece x
+
+-- if the one has an entry the other has none
+abbrev pub IsApart : Change → Change → Type 0
+IsApart piece m = (x : Pointstamp) → at piece x ≢ pos 0 → at m x ≡ pos 0
 
 -- ---- the change that a list of entries gives
 pub of_entries : List (Pointstamp × ℤ) → Change

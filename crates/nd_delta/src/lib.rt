@@ -1,4 +1,4 @@
-//! Changes: finite maps from pointstamps to integers other than 0 (Naiad, SOSP 2013, section 3.3).
+//! Changes: finite maps from pointstamps to integers other than 0 (Naiad, SOSP 2013, section 3.3), stored in sorted lists and in trees.
 #![tactic(auto)]
 
 ghost use Rattle.std.specs.Prelude.{◌≡◌, ◌≢◌, [], ◌↔◌, ◌<◌, ◌≤◌, ◌+ℤ◌, ◌<ℤ◌, ◌*◌, pos, unsigned_abs, OnOk, OnErr, IfOk, IfSome, IsNone, IsTrue, Err, Contains};
@@ -9,6 +9,9 @@ ghost use Rattle.nd_delta.specs.Upright.{IsSupported, IsUnsupported, IsUpright, 
 ghost use Rattle.nd_delta.specs.Least.{IsLeast};
 ghost use Rattle.nd_delta.specs.Change.{none, at, set, size, plus, minus, part, combined, IsTooLarge, IsWithin, entries as listed};
 
+mod large;
+
+pub use large::LargeDelta;
 use nd_map::SortedMap;
 use nd_paths::{Paths, Pointstamp};
 use std::alloc::{AllocError, Allocator, Global};

@@ -1,13 +1,14 @@
 -- The pointstamps of a processor's tokens are those at which it holds one, and support the same entries.
-use Rattle.std.proofs.Common.{◌≡◌, ◌<◌, ℕ, zero, suc, ℤ, List, [], ◌∷◌, length, map, get_or, Option, Some, None, inl, inr, sym, ap, subst, ◌∙◌, arith}
+use Rattle.std.proofs.Common.{◌≡◌, ◌<◌, ℕ, zero, suc, ℤ, pos, List, [], ◌∷◌, length, map, get_or, Option, Some, None, inl, inr, sym, ap, subst, ◌∙◌, arith}
 use Rattle.std.specs.Prelude.{Contains, IfSome}
+use Rattle.std.proofs.lemmas.Int.{ints}
 use Rattle.std.proofs.lemmas.List.Sums.{sum_by-cons}
 use Rattle.std.specs.FinMap as fin
 use Rattle.nd_graph.specs.Graph.{Dataflow}
 use Rattle.nd_map.specs.Weights.{weight}
 use Rattle.nd_paths.specs.Order.{IsStrictlyBefore}
 use Rattle.nd_paths.specs.declared.point.Pointstamp.{Pointstamp}
-use Rattle.nd_delta.specs.Change.{Change, at, minus}
+use Rattle.nd_delta.specs.Change.{Change, none, at, minus, at-none}
 use Rattle.nd_delta.specs.Least.{IsLeast}
 use Rattle.nd_delta.specs.Upright.{IsSupported, IsUpright, IsUnsupported}
 use Rattle.nd_processor.specs.State.{ProcessorState, token_point, one_at}
@@ -58,6 +59,10 @@ module _ (R : Pointstamp → Pointstamp → Type 0) (H K : Pointstamp → Type 0
     is_one = record { positive = l.is_one.positive; alone = λ s. l.is_one.alone (supported R K H f of x s) };
     first = λ y p. l.first y (record { positive = p.positive; alone = λ s. p.alone (supported R H K f to y s) });
   }
+
+-- where nothing stays nothing is alone
+pub nothing_alone : (g : Dataflow) (q : ProcessorState) (c : Change) → minus q.unsent c ≡ none → LeavesUpright g q c
+nothing_alone g q c e x positive = absurd (let z : at (minus q.unsent c) x ≡ pos 0 = ap (λ m. at m x) e ∙ at-none x in omega (arith, ints, positive, z))
 
 module _ (g : Dataflow) (q : ProcessorState) (c stays : Change) (held : List Pointstamp) (stays_is : stays ≡ minus q.unsent c) (held_is : held ≡ token_points q) where
   to_held : (x : Pointstamp) → Contains held x → HoldsToken q x

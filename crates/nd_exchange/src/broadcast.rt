@@ -1,12 +1,11 @@
 //! Broadcasts: a part of what is unsent goes to the back of the queues from a processor.
 ghost use Rattle.std.specs.Prelude.{◌≡◌, ◌≢◌, ◌↔◌, ◌<◌, length, IfErr, IfOk, IfSome, IsNone, IsTrue, OnErr, OnOk};
-ghost use Rattle.nd_delta.specs.Change.{none, plus, minus, part as part_at};
-ghost use Rattle.nd_processor.specs.Edits.{IsPartOf, IsApart};
+ghost use Rattle.nd_delta.specs.Change.{none, plus, minus, part as part_at, IsPartOf, IsApart};
 ghost use Rattle.nd_mesh.specs.Mesh.{row, pushed, unpushed, HasQueue, IsFull, IsMesh};
 ghost use Rattle.nd_protocol.specs.Steps.{chosen};
 ghost use Rattle.nd_exchange.specs.Exchanges.{LeavesUpright, LeavesAlone, SendFails, IsNewest};
 
-use nd_delta::Delta;
+use nd_delta::{Delta, LargeDelta};
 use nd_mesh::Mesh;
 use nd_paths::{Paths, Pointstamp};
 use nd_processor::Processor;
@@ -14,7 +13,7 @@ use nd_protocol::{Part, Refusal};
 use std::alloc::{AllocError, Allocator};
 
 // Whether a change has no entry at any of the pointstamps.
-fn lacks_all<A: Allocator>(change: &Delta<A>, points: &[Pointstamp]) -> bool
+fn lacks_all<A: Allocator>(change: &LargeDelta<A>, points: &[Pointstamp]) -> bool
     ensures { IsTrue result ↔ (part_at change.now points.now ≡ none) }
 {
     for point in points {
@@ -26,7 +25,7 @@ fn lacks_all<A: Allocator>(change: &Delta<A>, points: &[Pointstamp]) -> bool
 }
 
 // Whether a part of a change has no entry. It takes no memory.
-fn is_nothing<A: Allocator>(change: &Delta<A>, part: &Part<A>) -> bool
+fn is_nothing<A: Allocator>(change: &LargeDelta<A>, part: &Part<A>) -> bool
     ensures { IsTrue result ↔ (chosen part.now change.now ≡ none) }
 {
     match part {
@@ -38,29 +37,34 @@ fn is_nothing<A: Allocator>(change: &Delta<A>, part: &Part<A>) -> bool
 // The part of a change.
 fn part_of<A: Allocator>(
     alloc: A,
-    change: &Delta<A>,
+    change: &LargeDelta<A>,
     part: &Part<A>,
 ) -> Result<Delta<A>, AllocError>
     ensures { IfOk result (λ c. c ≡ chosen part.now change.now) }
 {
     match part {
-        Part::All => change.copy(alloc),
+        Part::All => change.whole(alloc),
         Part::Points(points) => change.part(alloc, points.as_slice()),
     }
 }
 
-// The least pointstamp whose entry would stay without its support, once a change is sent.
+// The least pointstamp whose entry would stay without its support, once a part is sent.
 fn left_alone<A: Allocator + Copy>(
     alloc: A,
     paths: &Paths<A>,
     processor: &Processor<A>,
     change: &Delta<A>,
 ) -> Result<Option<Pointstamp>, AllocError>
+    requires { IsPartOf change.now processor.now.unsent }
     ensures upright { IfOk result (λ x. IsNone x → LeavesUpright paths.now processor.now change.now) }
     ensures least { IfOk result (λ x. IfSome x (LeavesAlone paths.now processor.now change.now)) }
 {
-    // What stays of a change without a part of it is within the limit.
-    let Ok(stays) = processor.unsent().minus(alloc, change) else {
+    let unsent = processor.unsent();
+    // Where all is sent nothing stays.
+    if change.len() == unsent.len() {
+        return Ok(None);
+    }
+    let Ok(stays) = unsent.without(alloc, change) else {
         return Err(AllocError);
     };
     let Ok(tokens) = processor.token_points(alloc) else {

@@ -1,4 +1,3 @@
 mod Keeping
-mod Parts
 mod Seen
 mod Started

@@ -104,14 +104,6 @@ unsent-back m x n =
     ∙ (λ i. cond (is_point q x) (back i) (at-set m x (at m x +ℤ n) q i))
     ∙ over (is_point q x) (at m x) (at m x +ℤ n) (at m q) (λ e. ap (at m) (sym (tells_apart point_exact q x e))))
 
--- the entries of the one are entries of the other
-abbrev pub IsPartOf : Change → Change → Type 0
-IsPartOf part m = (x : Pointstamp) → at part x ≢ pos 0 → at m x ≡ at part x
-
--- if the one has an entry the other has none
-abbrev pub IsApart : Change → Change → Type 0
-IsApart part m = (x : Pointstamp) → at part x ≢ pos 0 → at m x ≡ pos 0
-
 -- a part that is taken out is put back, and the other way round
 pub part-back : (m part : Change) → plus (minus m part) part ≡ m
 part-back m part =

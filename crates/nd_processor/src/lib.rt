@@ -2,7 +2,6 @@
 #![tactic(auto)]
 
 mod key;
-mod part;
 mod processor;
 mod start;
 mod tally;

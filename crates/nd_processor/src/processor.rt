@@ -6,21 +6,20 @@ ghost use Rattle.std.specs.Map.Iter.{ShowsInOrder, deref_pair};
 ghost use Rattle.nd_time.specs.Limits.{max_count};
 ghost use Rattle.nd_map.specs.Counts.{at, added, entries as counts_of};
 ghost use Rattle.nd_paths.specs.declared.point.Pointstamp.{Pointstamp as Point};
-ghost use Rattle.nd_delta.specs.Change.{IsWithin, plus, minus, at as unsent_at};
+ghost use Rattle.nd_delta.specs.Change.{IsWithin, plus, minus, at as unsent_at, IsPartOf, IsApart};
 ghost use Rattle.nd_vertex.specs.Items.{item_key};
 ghost use Rattle.nd_vertex.specs.Edits.{item_of};
 ghost use Rattle.nd_processor.specs.Keys.{value_at_total, sink_total};
 ghost use Rattle.nd_processor.specs.State.{items_at};
 ghost use Rattle.nd_processor.specs.Start.{start_processor};
-ghost use Rattle.nd_processor.specs.Edits.{with_value, with_vertex_item, more_unsent, IsPartOf, IsApart, token_points as points_of_tokens};
+ghost use Rattle.nd_processor.specs.Edits.{with_value, with_vertex_item, more_unsent, token_points as points_of_tokens};
 ghost use Rattle.nd_processor.specs.declared.key.ValueAt.{ValueAt as Value};
 ghost use Rattle.nd_processor.specs.declared.key.SinkKey.{SinkKey as Counted};
 
-use crate::part::{put_in, take_out};
 use crate::start::{copied_items, first_tokens, no_items, points_of};
 use crate::tally::{CountFault, Tally};
 use crate::{SinkKey, ValueAt};
-use nd_delta::{Delta, DeltaFault};
+use nd_delta::{Delta, DeltaFault, LargeDelta};
 use nd_graph::Graph;
 use nd_map::{SortedMap, TreeMap};
 use nd_paths::Pointstamp;
@@ -37,8 +36,7 @@ pub struct Processor<A: Allocator + Copy = Global> {
     tokens: SortedMap<usize, u32, A>,
     items: Vec<VertexState<A>, A>,
     sinks: Tally<SinkKey, A>,
-    unsent: Delta<A>,
-    alloc: A,
+    unsent: LargeDelta<A>,
 }
 
 impl<A: Allocator + Copy> Drop for Processor<A> {
@@ -50,7 +48,6 @@ impl<A: Allocator + Copy> Drop for Processor<A> {
             items: _,
             sinks: _,
             unsent: _,
-            alloc: _,
         } = self;
     }
 }
@@ -77,8 +74,7 @@ impl<A: Allocator + Copy> Processor<A> {
             tokens: first_tokens(alloc, graph)?,
             items: no_items(alloc, graph.vertices().len())?,
             sinks: Tally::new(alloc),
-            unsent: Delta::new(alloc),
-            alloc,
+            unsent: LargeDelta::new(alloc),
         })
     }
 
@@ -93,7 +89,6 @@ impl<A: Allocator + Copy> Processor<A> {
             items: copied_items(alloc, &self.items)?,
             sinks: self.sinks.copy(alloc)?,
             unsent: self.unsent.copy(alloc)?,
-            alloc,
         })
     }
 
@@ -208,7 +203,7 @@ impl<A: Allocator + Copy> Processor<A> {
     }
 
     /// The progress updates that were not sent yet.
-    pub fn unsent(&self) -> &Delta<A>
+    pub fn unsent(&self) -> &LargeDelta<A>
         ensures { result.now ≡ self.now.unsent }
     {
         &self.unsent
@@ -342,7 +337,7 @@ impl<A: Allocator + Copy> Processor<A> {
         ensures taken { self.new ≡ record self.old { unsent = minus self.old.unsent part.now } }
         ensures undone { record self.new { unsent = plus self.new.unsent part.now } ≡ self.old }
     {
-        take_out(&mut self.unsent, part);
+        self.unsent.take_part(part);
     }
 
     /// These entries come into what is unsent, which has none at their pointstamps.
@@ -352,8 +347,7 @@ impl<A: Allocator + Copy> Processor<A> {
         ensures undone { OnOk result (record self.new { unsent = minus self.new.unsent part.now } ≡ self.old) }
         ensures err { OnErr result (self.new ≡ self.old) }
     {
-        let whole = put_in(self.alloc, &self.unsent, part)?;
-        self.unsent = whole;
+        self.unsent.put_part(part)?;
         Ok(())
     }
 }

@@ -5,11 +5,10 @@ use Rattle.std.proofs.lemmas.List.{set-set, set-get_or, length-drop, length-map}
 use Rattle.std.specs.Prelude.{unsigned_abs}
 use Rattle.nd_time.specs.Limits.{max_count, max_queue}
 use Rattle.nd_graph.specs.Graph.{Dataflow}
-use Rattle.nd_delta.specs.Change.{Change, none, at, plus, minus, at-minus, IsTooLarge, minus-plus, plus-minus}
+use Rattle.nd_delta.specs.Change.{Change, none, at, plus, minus, at-minus, IsTooLarge, minus-plus, plus-minus, IsApart}
 use Rattle.nd_view.specs.Kept.{Kept}
 use Rattle.nd_view.specs.Views.{maps}
 use Rattle.nd_processor.specs.State.{ProcessorState, idle}
-use Rattle.nd_processor.specs.Edits.{IsApart}
 use Rattle.nd_mesh.specs.Mesh.{row, pushed, unpushed, popped, unpopped, IsFull, queue as queue_in}
 use Rattle.nd_mesh.specs.Laws.{queue-with_queue, unpushed-pushed, unpopped-popped}
 use Rattle.nd_protocol.specs.State.{ClusterState, processor, view, queue}

@@ -1,7 +1,6 @@
 -- What the record of a step names, and what it makes of a cluster's state.
 use Rattle.std.specs.Prelude.{◌≡◌, ◌<◌, ℕ, ◌+◌, Some, slice_get, length}
-use Rattle.nd_delta.specs.Change.{Change as Delta, plus, size, IsTooLarge}
-use Rattle.nd_processor.specs.Edits.{IsPartOf}
+use Rattle.nd_delta.specs.Change.{Change as Delta, plus, size, IsTooLarge, IsPartOf}
 use Rattle.nd_mesh.specs.Mesh.{row, HasQueue, IsFull}
 use Rattle.nd_protocol.specs.State.{ClusterState, processor, view, queue}
 use Rattle.nd_protocol.specs.Exchange.{sent, received}

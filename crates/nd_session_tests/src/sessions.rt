@@ -154,15 +154,14 @@ fn of_copies(alloc: Global, cluster: &Cluster) -> Option<Cluster> {
 fn copies_of_maps(alloc: Global, cluster: &Cluster) -> Option<bool> {
     let _ = cluster.n();
     let unsent = cluster.processor(0).unsent();
-    let change = unsent.copy(alloc).ok()?;
+    let copy = unsent.copy(alloc).ok()?.whole(alloc).ok()?;
+    let whole = unsent.whole(alloc).ok()?;
     let mut state = VertexState::new(alloc);
     let zero = time(&[0])?;
     let old = state.get(&zero, 7);
     state.set(&zero, 7, old, Some(2)).ok()?;
     let copied = state.copy(alloc).ok()?;
-    Some(
-        unsent.len() > 0 && change.entries() == unsent.entries() && copied.get(&zero, 7) == Some(2),
-    )
+    Some(copy.len() > 0 && copy.entries() == whole.entries() && copied.get(&zero, 7) == Some(2))
 }
 
 /// Whether what a session leaves is copied as it is: its cluster and the parts of that, a kept step, a planned record

@@ -236,7 +236,7 @@ fn processor_value<A: Allocator + Copy>(
     let requests = entries_value(alloc, graph, &collected(alloc, processor.requests())?)?;
     let sinks = entries_value(alloc, graph, &collected(alloc, processor.sinks())?)?;
     let tokens = entries_value(alloc, graph, processor.tokens())?;
-    let unsent = entries_value(alloc, graph, processor.unsent().entries())?;
+    let unsent = entries_value(alloc, graph, &collected(alloc, processor.unsent().iter())?)?;
     let known = entries_value(alloc, graph, known.entries())?;
     processor_object(
         alloc, items, records, requests, sinks, tokens, unsent, known,

@@ -3,7 +3,7 @@
 
 ghost use Rattle.nd_view.specs.Kept.{IsFor};
 
-use crate::holdings::{set, take_first};
+use crate::holdings::{set, take_all};
 use crate::kinds::{KINDS, Kind};
 use crate::queues::{len, pop, push, unpop};
 use crate::refused::{Heap, many};
@@ -181,9 +181,9 @@ fn fill<A: Allocator + Copy>(
     Some(())
 }
 
-/// Takes an unsent entry out and puts it back.
+/// Takes all that is unsent out and puts it back.
 fn put_part_back<A: Allocator + Copy>(processor: &mut Processor<A>, alloc: A) -> Option<()> {
-    let part = take_first(processor, alloc)?;
+    let part = take_all(processor, alloc)?;
     processor.put_part(&part).ok()
 }
 

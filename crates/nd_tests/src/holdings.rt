@@ -1,7 +1,7 @@
 //! What processors hold: items of a vertex, the token of another, and parts of what is unsent.
 
 ghost use Rattle.std.specs.Prelude.{IfSome};
-ghost use Rattle.nd_processor.specs.Edits.{IsApart};
+ghost use Rattle.nd_delta.specs.Change.{IsApart};
 
 use nd_delta::Delta;
 use nd_drawn::time;
@@ -55,13 +55,12 @@ pub fn set_item<A: Allocator + Copy>(
     Some(processor.set_item(1, &time, 7, old, new))
 }
 
-/// Takes the first of the unsent entries out.
-#[tactic(auto, using(crate::proofs::Parts::is_part, crate::proofs::Parts::is_apart))]
-pub fn take_first<A: Allocator + Copy>(processor: &mut Processor<A>, alloc: A) -> Option<Delta<A>>
+/// Takes all that is unsent out.
+#[tactic(auto, using(crate::proofs::Parts::is_all, crate::proofs::Parts::all_apart))]
+pub fn take_all<A: Allocator + Copy>(processor: &mut Processor<A>, alloc: A) -> Option<Delta<A>>
     ensures { IfSome result (λ d. IsApart d processor.new.unsent) }
 {
-    let point = processor.unsent().entries().first()?.0.copy();
-    let part = processor.unsent().part(alloc, &[point]).ok()?;
+    let part = processor.unsent().whole(alloc).ok()?;
     processor.take_part(&part);
     Some(part)
 }

@@ -3,7 +3,7 @@
 
 ghost use Rattle.nd_vertex.specs.Edits.{CanEdit};
 
-use crate::holdings::{move_token, set, set_item, take_first};
+use crate::holdings::{move_token, set, set_item, take_all};
 use crate::queues::{len, push, unpop};
 use crate::views::view;
 use nd_delta::{Delta, DeltaFault};
@@ -328,22 +328,24 @@ fn additions<A: Allocator + Copy>(
     }
 }
 
-/// The same of a part that was taken out and is put back.
+/// The same of all that is unsent, taken out and put back.
 fn parts<A: Allocator + Copy>(
     heap: &Heap,
     alloc: A,
     processor: &mut Processor<A>,
     n: u64,
 ) -> Option<bool> {
-    let part = take_first(processor, alloc)?;
+    let part = take_all(processor, alloc)?;
     let mut left = processor.copy(alloc).ok()?;
     met!(heap, n: left.put_part(&part); AllocError, left.unsent().len() == 0)
 }
 
-/// A processor with an unsent entry.
+/// A processor with so many unsent entries that they do not fit one node of a tree.
 fn unsent<A: Allocator + Copy>(alloc: A, graph: &Graph<A>) -> Option<Processor<A>> {
     let mut processor = Processor::start(alloc, graph).ok()?;
-    processor.add_unsent(&point(graph, "z", &[0])?, 2).ok()?;
+    for epoch in 0..40 {
+        processor.add_unsent(&point(graph, "z", &[epoch])?, 2).ok()?;
+    }
     Some(processor)
 }
 

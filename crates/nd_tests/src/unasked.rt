@@ -1,6 +1,6 @@
 //! Calls that take no memory, made while none is given.
 
-ghost use Rattle.nd_processor.specs.Edits.{IsPartOf};
+ghost use Rattle.nd_delta.specs.Change.{IsPartOf};
 ghost use Rattle.nd_view.specs.Kept.{IsFor};
 
 use crate::holdings::{item, move_token, set, set_item};

@@ -11,12 +11,12 @@ returns-clause-reply g c =
     (λ v h.
     h
     ∙ (λ i. processor_members (c.in_ok-items.ensures.reply i) (c.in_ok-records.ensures.reply i) (c.in_ok-requests.ensures.reply i) (c.in_ok-sinks.ensures.reply i) (c.in_ok-tokens.ensures.reply i) (c.in_ok-unsent.ensures.reply i) (c.in_ok-known.ensures.reply i))
-    ∙ processor_shown c.args.graph.now c.args.processor.now c.args.known.now.map c.deref.result.now c.deref-2.result.now c.deref-3.result.now c.deref-4.result.now c.tokens.result.now c.entries.result.now c.entries-2.result.now
+    ∙ processor_shown c.args.graph.now c.args.processor.now c.args.known.now.map c.deref.result.now c.deref-2.result.now c.deref-3.result.now c.deref-4.result.now c.tokens.result.now c.deref-5.result.now c.entries.result.now
     (c.deref.ensures.value ∙ c.in_ok-all_items.ensures)
     (c.deref-2.ensures.value ∙ c.in_ok-collected.ensures ∙ c.records.ensures.rest)
     (c.deref-3.ensures.value ∙ c.in_ok-collected-2.ensures ∙ c.requests.ensures.rest)
     (c.deref-4.ensures.value ∙ c.in_ok-collected-3.ensures ∙ c.sinks.ensures.rest)
     c.tokens.ensures
-    (c.entries.ensures.listed ∙ ap entries c.unsent.ensures)
-    c.entries-2.ensures.listed)
+    (c.deref-5.ensures.value ∙ c.in_ok-collected-4.ensures ∙ c.iter.ensures.rest ∙ ap entries c.unsent.ensures)
+    c.entries.ensures.listed)
     c.processor_object.ensures.reply

@@ -1,5 +1,4 @@
-use Rattle.std.proofs.Common.{◌≡◌, length, refl, sym, ap, subst, arith}
-use Rattle.nd_protocol.specs.Fitting.{ChangeFits}
+use Rattle.std.proofs.Common.{◌≡◌, length, refl, ap, arith}
 use Rattle.nd_cluster.proofs.Parting.{records_to, requests_to, tokens_to, items_to, sinks_to, processor_from}
 use Rattle.nd_cluster.proofs.parts.processor_fits.Goals as goal
 
@@ -24,6 +23,6 @@ returns g c =
     let q = c.args.processor.now in
     let vertices : length q.items ≡ length gr.vertices = omega (arith, c.if-vertex_count-vertices.false, c.vertex_count.ensures, ap length c.vertices.ensures.vertices) in (
       λ t. processor_from gr q vertices (c.if-not-records_fit.ensures.0 refl) (c.if-not-requests_fit.ensures.0 refl) (c.if-not-tokens_fit.ensures.0 refl)
-          (c.if-not-items_fit.ensures.0 refl) (c.if-not-sinks_fit.ensures.0 refl) (subst (ChangeFits gr) c.unsent.ensures (c.change_fits.ensures.fits.0 t)),
-      λ fits. c.change_fits.ensures.fits.1 (subst (ChangeFits gr) (sym c.unsent.ensures) fits.unsent),
+          (c.if-not-items_fit.ensures.0 refl) (c.if-not-sinks_fit.ensures.0 refl) (c.unsent_fits.ensures.0 t),
+      λ fits. c.unsent_fits.ensures.1 fits.unsent,
     )

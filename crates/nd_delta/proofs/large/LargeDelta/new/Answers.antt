@@ -1,0 +1,6 @@
+use Rattle.std.proofs.Common.{ap, ◌∙◌}
+use Rattle.nd_delta.specs.Change.{of_entries, of_entries-nil}
+use Rattle.nd_delta.proofs.large.LargeDelta.new.Goals as goal
+
+pub returns : goal.returns
+returns g c = ap of_entries c.new.ensures ∙ of_entries-nil

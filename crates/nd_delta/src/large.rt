@@ -1,0 +1,213 @@
+//! Changes stored in trees.
+ghost use Rattle.std.specs.Prelude.{◌≡◌, ◌≢◌, [], ◌↔◌, ◌<◌, ◌≤◌, ◌^◌, ◌+ℤ◌, ℤ, pos, unsigned_abs, cond, length, OnOk, OnErr, IfOk, Err};
+ghost use Rattle.std.specs.Map.Iter.{ShowsInOrder, deref_pair};
+ghost use Rattle.nd_time.specs.Limits.{max_count};
+ghost use Rattle.nd_paths.specs.declared.point.Pointstamp.{Pointstamp as Point};
+ghost use Rattle.nd_delta.specs.Change.{none, at, set, size, plus, minus, part, has_point, points_of, IsWithin, IsPartOf, IsApart, entries as listed};
+
+use crate::{Delta, DeltaFault, passes_limit};
+use nd_map::TreeMap;
+use nd_paths::Pointstamp;
+use std::alloc::{AllocError, Allocator, Global};
+use std::collections::btree_map::Iter;
+use std::marker::Model;
+
+/// The same as a [`Delta`], stored in a tree, for a change that may have many entries.
+///
+/// A look-up and an edit each take a logarithm of the number of entries, where a `Delta` moves those after an entry
+/// that comes or goes.
+pub struct LargeDelta<A: Allocator = Global> {
+    map: TreeMap<Pointstamp, i64, A>,
+}
+
+impl<A: Allocator> Drop for LargeDelta<A> {
+    fn drop(self) {
+        let LargeDelta { map: _ } = self;
+    }
+}
+
+impl<A: Allocator> Model for LargeDelta<A> {
+    ghost use Rattle.nd_delta.specs.Change.{Change, change_code, of_entries};
+    ghost use Rattle.nd_delta.specs.Kept.{IsKept};
+
+    ghost Value = { Change };
+
+    ghost coded = { change_code };
+
+    ghost view = { λ a. of_entries a.map };
+
+    ghost invariant = { λ a. IsKept a.map };
+}
+
+impl<A: Allocator> LargeDelta<A> {
+    /// The change with no entry. It takes no memory.
+    pub fn new(alloc: A) -> LargeDelta<A>
+        ensures { result ≡ none }
+    {
+        LargeDelta {
+            map: TreeMap::new(alloc),
+        }
+    }
+
+    /// The integer of a pointstamp, 0 if it has none.
+    pub fn get(&self, point: &Pointstamp) -> i64
+        ensures value { result ≡ at self.now point.now }
+        ensures within { unsigned_abs result ≤ max_count }
+    {
+        match self.map.get(point) {
+            Some(n) => n,
+            None => 0,
+        }
+    }
+
+    /// The entries in the order of listing, one by one.
+    pub fn iter(&self) -> Iter<'_, Pointstamp, i64>
+        ensures rest { result ≡ listed self.now }
+        ensures runs { ShowsInOrder (deref_pair {K = Point} {X = ℤ}) }
+        ensures fits { length (listed self.now) < 2 ^ 63 }
+        ensures within { IsWithin self.now }
+    {
+        self.map.iter()
+    }
+
+    // No integer any longer at a pointstamp.
+    fn remove(&mut self, point: &Pointstamp)
+        ensures { self.new ≡ set self.old point.now (pos 0) }
+    {
+        self.map.remove(point);
+    }
+
+    // No integers any longer at the pointstamps of some entries.
+    fn clear(&mut self, entries: &[(Pointstamp, i64)])
+        ensures { (q : Point) → at self.new q ≡ cond (has_point q (points_of entries.now)) (pos 0) (at self.old q) }
+    {
+        for entry in entries {
+            self.remove(&entry.0);
+        }
+    }
+
+    /// The entries of a part go. It takes no memory.
+    pub fn take_part(&mut self, part: &Delta<A>)
+        requires { IsPartOf part.now self.old }
+        ensures { self.new ≡ minus self.old part.now }
+    {
+        self.clear(part.entries());
+    }
+
+    /// The number of entries.
+    pub fn len(&self) -> usize
+        ensures { result ≡ size self.now }
+    {
+        self.map.len()
+    }
+
+    /// An equal change as a `Delta`.
+    pub fn whole(&self, alloc: A) -> Result<Delta<A>, AllocError>
+        ensures equal { IfOk result (λ d. d ≡ self.now) }
+        ensures within { IsWithin self.now }
+    {
+        let mut made = Delta::new(alloc);
+        for (point, n) in self.iter() {
+            made.put(point, *n)?;
+        }
+        Ok(made)
+    }
+
+    /// The entries at these pointstamps. A repeated one counts once, and one without an entry adds nothing.
+    /// No pointstamps take no memory.
+    pub fn part(&self, alloc: A, points: &[Pointstamp]) -> Result<Delta<A>, AllocError>
+        ensures ok { IfOk result (λ d. d ≡ part self.now points.now) }
+        ensures within { IsWithin self.now }
+        ensures some { OnErr result (points.now ≢ []) }
+    {
+        let _ = &self.map;
+        let mut kept = Delta::new(alloc);
+        for point in points {
+            let Ok(()) = kept.put(point, self.get(point)) else {
+                return Err(AllocError);
+            };
+        }
+        Ok(kept)
+    }
+
+    /// What stays without a part of it.
+    pub fn without(&self, alloc: A, part: &Delta<A>) -> Result<Delta<A>, AllocError>
+        requires { IsPartOf part.now self.now }
+        ensures ok { IfOk result (λ d. d ≡ minus self.now part.now) }
+        ensures within { IsWithin self.now }
+    {
+        let mut made = Delta::new(alloc);
+        for (point, n) in self.iter() {
+            made.put(point, *n - part.get(point))?;
+        }
+        Ok(made)
+    }
+}
+
+impl<A: Allocator + Copy> LargeDelta<A> {
+    /// Gives a pointstamp this integer. Only a pointstamp that has none takes memory.
+    pub fn put(&mut self, point: &Pointstamp, n: i64) -> Result<(), AllocError>
+        requires { unsigned_abs n ≤ max_count }
+        ensures ok { OnOk result (self.new ≡ set self.old point.now n) }
+        ensures err { OnErr result (self.new ≡ self.old) }
+        ensures absent { OnErr result (at self.old point.now ≡ pos 0) }
+        ensures some { OnErr result (n ≢ pos 0) }
+    {
+        if n == 0 {
+            self.remove(point);
+            return Ok(());
+        }
+        let Ok(()) = self.map.put(point, n) else {
+            return Err(AllocError);
+        };
+        Ok(())
+    }
+
+    /// Adds `n` to the integer of a pointstamp. A pointstamp that has one takes no memory, nor does adding 0.
+    pub fn add(&mut self, point: &Pointstamp, n: i64) -> Result<(), DeltaFault>
+        ensures ok { OnOk result (self.new ≡ set self.old point.now (at self.old point.now +ℤ n)) }
+        ensures err { OnErr result (self.new ≡ self.old) }
+        ensures full { (result ≡ Err (DeltaFault.DeltaFull)) ↔ (max_count < unsigned_abs (at self.old point.now +ℤ n)) }
+        ensures no_growth { at self.old point.now ≢ pos 0 → result ≢ Err (DeltaFault.Memory) }
+        ensures nothing { n ≡ pos 0 → result ≢ Err (DeltaFault.Memory) }
+        ensures within { unsigned_abs (at self.old point.now) ≤ max_count }
+    {
+        let Some(sum) = self.get(point).checked_add(n) else {
+            return Err(DeltaFault::DeltaFull);
+        };
+        if passes_limit(sum) {
+            return Err(DeltaFault::DeltaFull);
+        }
+        let Ok(()) = self.put(point, sum) else {
+            return Err(DeltaFault::Memory);
+        };
+        Ok(())
+    }
+
+    /// The entries of another change come, at whose pointstamps there are none: all of them or, if memory is refused, none.
+    pub fn put_part(&mut self, part: &Delta<A>) -> Result<(), AllocError>
+        requires { IsApart part.now self.old }
+        ensures ok { OnOk result (self.new ≡ plus self.old part.now) }
+        ensures err { OnErr result (self.new ≡ self.old) }
+    {
+        let entries = part.entries();
+        for i in 0..entries.len() {
+            let entry = &entries[i];
+            let Ok(()) = self.put(&entry.0, entry.1) else {
+                self.clear(&entries[..i]);
+                return Err(AllocError);
+            };
+        }
+        Ok(())
+    }
+
+    /// An equal change.
+    pub fn copy(&self, alloc: A) -> Result<LargeDelta<A>, AllocError>
+        ensures equal { IfOk result (λ d. d ≡ self.now) }
+        ensures within { IsWithin self.now }
+    {
+        Ok(LargeDelta {
+            map: self.map.copy(alloc)?,
+        })
+    }
+}
