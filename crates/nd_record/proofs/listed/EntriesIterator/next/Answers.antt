@@ -1,4 +1,5 @@
 use Rattle.std.proofs.Common.{◌<◌, ◌+◌, drop, List, length, arith, subst}
+use Rattle.std.proofs.lemmas.Grind.{common_steps}
 use Rattle.std.specs.Iterator.{YieldsFirst}
 use Rattle.nd_record.specs.Listed.{listed}
 use Rattle.nd_record.specs.declared.listed.Entry.{Entry}
@@ -12,3 +13,6 @@ returns-clause-steps g c =
     let lt : next < length all = omega (arith, c.if-self-entries.false, c.entries.ensures, listed-named c.self.inside.changes.now) in
     subst (λ (s : List Entry). YieldsFirst (λ (t : List Entry). t) s c.entry-entry.result (drop (next + 1) all)) c.self.view_is
     (yields all next c.entry-entry.result c.entry-entry.ensures lt)
+
+pub returns-then-self-entries-clause-steps : goal.returns-then-self-entries-clause-steps
+returns-then-self-entries-clause-steps g c = grind (arith, common_steps)

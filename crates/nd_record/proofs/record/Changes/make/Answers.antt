@@ -1,4 +1,4 @@
-use Rattle.std.proofs.Common.{List, sym, ap, subst, ◌∙◌}
+use Rattle.std.proofs.Common.{List, sym, ap, subst, ◌∙◌, rules}
 use Rattle.std.proofs.lemmas.Result.{IfOk-weaker}
 use Rattle.nd_record.specs.Changes.{IsRunnable, applied}
 use Rattle.nd_record.specs.Seen.{seen}
@@ -44,3 +44,9 @@ returns-in-Received-clause-ok g c =
     on_both c.make_received.result _ _ _ c.make_received.ensures.views c.make_received.ensures.mesh (λ e f t makes.
     received_leads c.args.paths.now c.args.processors.now.items c.args.views.now.items c.make_received.new.views.items c.args.mesh.now c.make_received.new.mesh c.in-Received.from c.in-Received.to c.in-Received.change t
     (subst (λ k. Makes s k t) c.in-Received.is makes) e f)
+
+pub returns-in-Each-clause-paths : goal.returns-in-Each-clause-paths
+returns-in-Each-clause-paths g c = c.requires.paths
+
+pub returns-in-Each-clause-views : goal.returns-in-Each-clause-views
+returns-in-Each-clause-views g c = search rules
