@@ -9,6 +9,7 @@ ghost use Rattle.rewind.specs.Faults.{IsOfLine, IsOfRun};
 ghost use Rattle.rewind_answers.specs.Stages.{phase_of, phase_after};
 ghost use Rattle.rewind.specs.States.{Answered, AnswersText, EndsEarly, Stands, Stopped};
 
+use json::Scratch;
 use rewind_answers::{Stage, answer_line};
 use rewind_faults::DebugFault;
 use rewind_lines::{Line, Sink, Source, Unread, send, text_of};
@@ -21,13 +22,14 @@ fn reply_of<R: Threads + Sync>(
     alloc: Global,
     stage: &mut Stage,
     line: &Line,
+    scratch: &mut Scratch,
     number: u64,
 ) -> Result<(Vec<u8>, u64, bool), AllocError>
     ensures answers { IfOk result (λ r. (text : List ℕ) → line.now ≡ front_of text
         → AnswersText (phase_of stage.old) number (reading_of text) r.0.items r.1 (phase_after r.2 stage.new)) }
     ensures one { IfOk result (λ r. r.1 ≤ 1) }
 {
-    let reading = line.reading(alloc)?;
+    let reading = line.reading(alloc, scratch)?;
     let answer = answer_line(rt, alloc, stage, &reading, number)?;
     match &answer.reply {
         None => Ok((Vec::new(alloc), 0, answer.is_last)),
@@ -47,6 +49,8 @@ pub struct Run {
     number: u64,
     replied: u64,
     waiting: Vec<u8>,
+    /// The room that each line is read in.
+    scratch: Scratch,
 }
 
 /// Writes the replies that wait.
@@ -77,6 +81,7 @@ impl Run {
             number: 1,
             replied: 0,
             waiting: Vec::new(alloc),
+            scratch: Scratch::new(alloc),
         }
     }
 
@@ -129,6 +134,7 @@ impl Run {
             self.alloc,
             &mut self.stage,
             &self.line,
+            &mut self.scratch,
             self.number,
         )?;
         self.waiting.extend_from_slice(text.as_slice())?;

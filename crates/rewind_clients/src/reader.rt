@@ -9,6 +9,7 @@ ghost use Rattle.rewind_clients.specs.Intakes.{intake_view};
 ghost use Rattle.rewind_clients.specs.Readers.{IsOfReading, StandsAt};
 
 use crate::intake::Intake;
+use json::Scratch;
 use rewind_faults::{DebugFault, Options};
 use rewind_lines::{Line, Source, Unread};
 use std::alloc::{AllocError, Global};
@@ -24,6 +25,8 @@ struct Reader {
     line: Line,
     number: u64,
     intake: Intake,
+    // The room that each line is read in.
+    scratch: Scratch,
 }
 
 impl Reader {
@@ -38,6 +41,7 @@ impl Reader {
             line: Line::new(alloc),
             number: 1,
             intake: Intake::Unstarted(None),
+            scratch: Scratch::new(alloc),
         }
     }
 
@@ -48,7 +52,7 @@ impl Reader {
             → StandsAt options done self.old → StandsAt options (done ++ 10 ∷ []) self.new) }
         ensures number { OnOk result (self.new.number ≡ self.old.number + 1) }
     {
-        let reading = self.line.reading(self.alloc)?;
+        let reading = self.line.reading(self.alloc, &mut self.scratch)?;
         self.intake.read_line(
             self.alloc,
             self.options.processors,

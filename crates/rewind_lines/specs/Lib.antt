@@ -4,4 +4,5 @@ pub mod Lines
 pub mod Readings
 pub mod Reads
 pub mod Texts
+pub mod Values
 pub mod Writes

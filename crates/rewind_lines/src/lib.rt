@@ -3,10 +3,12 @@
 #![tactic(auto)]
 
 mod line;
+mod number;
 mod reading;
 mod sink;
 mod source;
 mod text;
+mod value;
 
 pub use line::{LINE_LIMIT, Line};
 pub use reading::{Reading, parse};
