@@ -10,8 +10,8 @@ use Rattle.rewind_answers.specs.Answers.{Phase}
 use Rattle.rewind.specs.Script.{Replies, WroteFront}
 use Rattle.rewind_answers.specs.Stages.{phase_of}
 use Rattle.rewind.specs.States.{Answered, EndsEarly, Faulted, Stands, Stopped}
-use Rattle.rewind_faults.specs.declared.fault.DebugFault.{DebugFault}
-use Rattle.rewind_faults.specs.declared.fault.DebugFault.TheVariants as fault
+use Rattle.rewind_lines.specs.declared.fault.DebugFault.{DebugFault}
+use Rattle.rewind_lines.specs.declared.fault.DebugFault.TheVariants as fault
 use Rattle.rewind.specs.declared.run.Run as declared
 use Rattle.rewind.proofs.StandLaws.{whole_lines-front}
 

@@ -1,6 +1,6 @@
 -- Which faults a run of one client ends with, on its way.
-use Rattle.rewind_faults.specs.declared.fault.DebugFault.{DebugFault}
-use Rattle.rewind_faults.specs.declared.fault.DebugFault.TheVariants.{Graph, Script, Read, Write, TooLong, Memory, Close}
+use Rattle.rewind_lines.specs.declared.fault.DebugFault.{DebugFault}
+use Rattle.rewind_lines.specs.declared.fault.DebugFault.TheVariants.{Graph, Script, Read, Write, TooLong, Memory, Close}
 
 -- the faults that a line may end a run with
 abbrev pub IsOfLine : DebugFault → Type 0

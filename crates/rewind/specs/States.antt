@@ -7,8 +7,8 @@ use Rattle.rewind_lines.specs.Texts.{text_of}
 use Rattle.rewind_answers.specs.Answers.{Answers, Phase, refused}
 use Rattle.rewind.specs.Script.{RefusedAt, RepliedTo, Replies, WroteFront}
 use Rattle.rewind_answers.specs.Stages.{phase_of}
-use Rattle.rewind_faults.specs.declared.fault.DebugFault.{DebugFault}
-use Rattle.rewind_faults.specs.declared.fault.DebugFault.TheVariants as fault
+use Rattle.rewind_lines.specs.declared.fault.DebugFault.{DebugFault}
+use Rattle.rewind_lines.specs.declared.fault.DebugFault.TheVariants as fault
 use Rattle.rewind.specs.declared.run.Run.{Run}
 
 -- a line's replies, as text and by their number

@@ -1,12 +1,11 @@
 //! A script from a source of bytes, its replies to a sink of bytes.
 ghost use Rattle.std.specs.Prelude.{◌≡◌, ◌≢◌, ◌+◌, ◌-◌, ◌<◌, ◌≤◌, ◌^◌, ℕ, List, Some, false, true, length, take, IfErr, OnOk};
 ghost use Rattle.nd_time.specs.Limits.{max_input};
-ghost use Rattle.rewind_faults.specs.Faults.{is_read_fault, is_write_fault};
+ghost use Rattle.rewind_lines.specs.Faults.{is_read_fault, is_write_fault};
 ghost use Rattle.rewind.specs.Script.{Ends, Takes};
 
 use crate::run::Run;
-use rewind_faults::{DebugFault, Options};
-use rewind_lines::{Sink, Source};
+use rewind_lines::{DebugFault, Options, Sink, Source};
 use std::alloc::Global;
 use std::thread::Threads;
 

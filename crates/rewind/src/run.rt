@@ -4,15 +4,14 @@ ghost use Rattle.std.specs.Io.KnownBytes.{Appends, Consumes, IsAtEnd, Keeps};
 ghost use Rattle.rewind_lines.specs.Front.{front_of};
 ghost use Rattle.rewind_lines.specs.Lines.{lines_of, reading_of, whole_lines_of};
 ghost use Rattle.rewind_lines.specs.Reads.{given_by, is_end};
-ghost use Rattle.rewind_faults.specs.Faults.{is_write_fault};
+ghost use Rattle.rewind_lines.specs.Faults.{is_write_fault};
 ghost use Rattle.rewind.specs.Faults.{IsOfLine, IsOfRun};
 ghost use Rattle.rewind_answers.specs.Stages.{phase_of, phase_after};
 ghost use Rattle.rewind.specs.States.{Answered, AnswersText, EndsEarly, Stands, Stopped};
 
 use json::Scratch;
 use rewind_answers::{Stage, answer_line};
-use rewind_faults::DebugFault;
-use rewind_lines::{Line, Sink, Source, Unread, send, text_of};
+use rewind_lines::{DebugFault, Line, Sink, Source, Unread, send, text_of};
 use std::alloc::{AllocError, Global};
 use std::thread::Threads;
 

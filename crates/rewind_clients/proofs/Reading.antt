@@ -7,7 +7,7 @@ use Rattle.std.specs.Io.KnownBytes.{Consumes, IsAtEnd, Keeps}
 use Rattle.rewind_lines.specs.Cuts.{lines-byte, lines-empty, lines-newline, whole_lines-at, whole_lines-newline}
 use Rattle.rewind_lines.specs.Front.{front_of}
 use Rattle.rewind_lines.specs.Lines.{Reading, lines_of, reading_of}
-use Rattle.rewind_faults.specs.declared.options.Options.{Options}
+use Rattle.rewind_lines.specs.declared.options.Options.{Options}
 use Rattle.rewind_clients.specs.Intake.{Intake, Reads, ReadsLine, nothing}
 use Rattle.rewind_clients.specs.Intakes.{intake_view}
 use Rattle.rewind_clients.specs.Clients.{ReadPart, ReadWhole}

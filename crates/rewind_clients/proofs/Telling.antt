@@ -5,8 +5,8 @@ use Rattle.std.proofs.Math.Seq.{take-append_seam}
 use Rattle.serde_json.specs.Data.{Data}
 use Rattle.rewind_lines.specs.Texts.{text_of}
 use Rattle.nd_session.specs.Faults.{number_of, name_of}
-use Rattle.rewind_faults.specs.declared.fault.DebugFault.{DebugFault}
-use Rattle.rewind_faults.specs.declared.fault.DebugFault.TheVariants as fault
+use Rattle.rewind_lines.specs.declared.fault.DebugFault.{DebugFault}
+use Rattle.rewind_lines.specs.declared.fault.DebugFault.TheVariants as fault
 use Rattle.rewind_clients.specs.Outbox.{Gathered, GatherFails, StopsIn}
 use Rattle.rewind_clients.specs.Written.{WroteFront, WroteLines}
 use Rattle.rewind_clients.specs.Told.{Ended, client_fault, faults_data}

@@ -3,8 +3,8 @@ use Rattle.std.specs.Prelude.{◌≡◌, ℕ, List, [], ◌∷◌, ◌++◌, Opt
 use Rattle.serde_json.specs.Data.{Data}
 use Rattle.rewind_lines.specs.Texts.{text_of}
 use Rattle.rewind_clients.specs.Written.{WroteFront, WroteLines}
-use Rattle.rewind_faults.specs.declared.fault.DebugFault.{DebugFault}
-use Rattle.rewind_faults.specs.declared.fault.DebugFault.TheVariants as fault
+use Rattle.rewind_lines.specs.declared.fault.DebugFault.{DebugFault}
+use Rattle.rewind_lines.specs.declared.fault.DebugFault.TheVariants as fault
 
 -- The writer held `before` and holds `after`: the first of these replies were written, and the text of the others waits.
 pub record Gathered (replies : List Data) (waiting before : List ℕ) (after : Option (List ℕ)) : Type 0 where

@@ -2,9 +2,9 @@
 use Rattle.std.specs.Prelude.{◌≡◌, ℕ, ◌+◌, List, ◌∷◌, [], ◌++◌, length, Option, Some}
 use Rattle.rewind_lines.specs.Front.{front_of}
 use Rattle.rewind_lines.specs.Lines.{lines_of}
-use Rattle.rewind_faults.specs.declared.fault.DebugFault.{DebugFault}
-use Rattle.rewind_faults.specs.declared.fault.DebugFault.TheVariants as fault
-use Rattle.rewind_faults.specs.declared.options.Options.{Options}
+use Rattle.rewind_lines.specs.declared.fault.DebugFault.{DebugFault}
+use Rattle.rewind_lines.specs.declared.fault.DebugFault.TheVariants as fault
+use Rattle.rewind_lines.specs.declared.options.Options.{Options}
 use Rattle.rewind_clients.specs.Intake.{Reads, nothing}
 use Rattle.rewind_clients.specs.Intakes.{intake_view}
 use Rattle.rewind_clients.specs.declared.reader.Reader.{Reader}

@@ -8,7 +8,7 @@ use crate::same::same_graph;
 use nd_search::Gate;
 use nd_session::{Client, Log, Session, SessionFault, State};
 use nd_timeline::Command;
-use rewind_faults::DebugFault;
+use rewind_lines::DebugFault;
 use std::alloc::{AllocError, Global};
 use std::sync::Wait;
 use std::thread;

@@ -5,12 +5,11 @@ ghost use Rattle.serde_json.specs.Data.{Data};
 ghost use Rattle.serde_json.specs.View.{view};
 ghost use Rattle.serde_json.specs.Written.{has_float};
 ghost use Rattle.rewind_lines.specs.Texts.{reply_text};
-ghost use Rattle.rewind_faults.specs.Faults.{is_write_fault};
+ghost use Rattle.rewind_lines.specs.Faults.{is_write_fault};
 ghost use Rattle.rewind_clients.specs.Outbox.{Gathered, GatherFails, IsOfWriting};
 ghost use Rattle.rewind_clients.specs.Written.{WroteFront};
 
-use rewind_faults::DebugFault;
-use rewind_lines::{Sink, Unwritten, send, text_of};
+use rewind_lines::{DebugFault, Sink, Unwritten, send, text_of};
 use serde_json::Value;
 use std::alloc::{AllocError, Global};
 

@@ -2,16 +2,15 @@
 ghost use Rattle.std.specs.Prelude.{◌≡◌, ◌+◌, ◌-◌, ◌<◌, ◌≤◌, ◌^◌, ◌∷◌, ◌++◌, [], ℕ, List, Some, false, true, length, take, is_err, IfOk, IfErr, OnOk, OnErr};
 ghost use Rattle.std.specs.Io.KnownBytes.{Consumes, IsAtEnd, Keeps};
 ghost use Rattle.rewind_lines.specs.Reads.{given_by, is_end};
-ghost use Rattle.rewind_faults.specs.Faults.{is_read_fault};
-ghost use Rattle.rewind_faults.specs.declared.options.Options.{Options as TheOptions};
+ghost use Rattle.rewind_lines.specs.Faults.{is_read_fault};
+ghost use Rattle.rewind_lines.specs.declared.options.Options.{Options as TheOptions};
 ghost use Rattle.rewind_clients.specs.Clients.{ReadFails, ReadWhole, Takes};
 ghost use Rattle.rewind_clients.specs.Intakes.{intake_view};
 ghost use Rattle.rewind_clients.specs.Readers.{IsOfReading, StandsAt};
 
 use crate::intake::Intake;
 use json::Scratch;
-use rewind_faults::{DebugFault, Options};
-use rewind_lines::{Line, Source, Unread};
+use rewind_lines::{DebugFault, Line, Options, Source, Unread};
 use std::alloc::{AllocError, Global};
 
 /// The most bytes that are read at a time.

@@ -1,4 +1,5 @@
 pub mod Cuts
+pub mod Faults
 pub mod Front
 pub mod Lines
 pub mod Readings

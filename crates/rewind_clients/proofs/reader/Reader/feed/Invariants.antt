@@ -1,5 +1,5 @@
 use Rattle.std.proofs.Common.{ℕ, ◌+◌, ◌≤◌, List, ◌++◌, take}
-use Rattle.rewind_faults.specs.declared.options.Options.{Options}
+use Rattle.rewind_lines.specs.declared.options.Options.{Options}
 use Rattle.rewind_clients.specs.Readers.{StandsAt}
 use Rattle.rewind_clients.proofs.reader.Reader.feed.Given as goal
 

@@ -1,9 +1,10 @@
 //! Why a run of a script ended before its input did.
 
 ghost use Rattle.std.specs.Prelude.{◌≡◌};
-ghost use Rattle.rewind_faults.specs.Faults.{status_of};
+ghost use Rattle.rewind_lines.specs.Faults.{status_of};
 
-use rewind_lines::{Unread, Unwritten};
+use crate::sink::Unwritten;
+use crate::source::Unread;
 use std::alloc::{AllocError, AllocFailed};
 use thiserror::Error;
 
@@ -48,7 +49,7 @@ impl DebugFault {
 }
 
 impl From<AllocError> for DebugFault {
-    ghost use Rattle.rewind_faults.specs.declared.fault.DebugFault.TheVariants.{Memory};
+    ghost use Rattle.rewind_lines.specs.declared.fault.DebugFault.TheVariants.{Memory};
 
     ghost from_gives = { λ _ e. e ≡ Memory };
 
@@ -58,7 +59,7 @@ impl From<AllocError> for DebugFault {
 }
 
 impl<T: Drop> From<AllocFailed<T>> for DebugFault {
-    ghost use Rattle.rewind_faults.specs.declared.fault.DebugFault.TheVariants.{Memory};
+    ghost use Rattle.rewind_lines.specs.declared.fault.DebugFault.TheVariants.{Memory};
 
     ghost from_gives = { λ _ e. e ≡ Memory };
 
@@ -68,7 +69,7 @@ impl<T: Drop> From<AllocFailed<T>> for DebugFault {
 }
 
 impl From<Unread> for DebugFault {
-    ghost use Rattle.rewind_faults.specs.declared.fault.DebugFault.TheVariants.{Read};
+    ghost use Rattle.rewind_lines.specs.declared.fault.DebugFault.TheVariants.{Read};
 
     ghost from_gives = { λ _ e. e ≡ Read };
 
@@ -78,7 +79,7 @@ impl From<Unread> for DebugFault {
 }
 
 impl From<Unwritten> for DebugFault {
-    ghost use Rattle.rewind_faults.specs.declared.fault.DebugFault.TheVariants.{Write};
+    ghost use Rattle.rewind_lines.specs.declared.fault.DebugFault.TheVariants.{Write};
 
     ghost from_gives = { λ _ e. e ≡ Write };
 

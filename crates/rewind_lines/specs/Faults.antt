@@ -1,7 +1,7 @@
 -- Which faults a run ends with.
 use Rattle.std.specs.Prelude.{ℕ, Bool, true, false, Result, Ok, Err}
-use Rattle.rewind_faults.specs.declared.fault.DebugFault.{DebugFault}
-use Rattle.rewind_faults.specs.declared.fault.DebugFault.TheVariants.{Graph, Script, Read, Write, TooLong, Memory, Close}
+use Rattle.rewind_lines.specs.declared.fault.DebugFault.{DebugFault}
+use Rattle.rewind_lines.specs.declared.fault.DebugFault.TheVariants.{Graph, Script, Read, Write, TooLong, Memory, Close}
 
 -- it ended since a read failed
 abbrev pub is_read_fault : {A : Type 0} → Result A DebugFault → Bool
