@@ -1,4 +1,4 @@
-use Rattle.std.proofs.Common.{◌∙◌, ◌+◌, ◌≤◌, length, take, sym, ap, arith}
+use Rattle.std.proofs.Common.{◌∙◌, ◌==◌, ◌+◌, ◌≤◌, length, take, sym, ap, arith}
 use Rattle.std.proofs.lemmas.Bool.{ne_eqb}
 use Rattle.std.proofs.lemmas.List.{length-take}
 use Rattle.std.proofs.lemmas.Result.{err_from_is_err_and}
@@ -41,6 +41,9 @@ pub returns-then-n-eq0-clause-run : goal.returns-then-n-eq0-clause-run
 returns-then-n-eq0-clause-run g c = λ input before told had. rw c.replied.ensures
     (ends-ok _ _ _ input before _ _ _ _ c.reads.run _ _ (c.reads.invariant.going input before told had) c.in_ok-n.ensures.bytes (ap (λ k. take k c.read.new.chunk) c.if-n-eq0.true)
     (c.in_ok-n.ensures.end c.if-n-eq0.true) (λ done a. c.in_ok-finish.ensures.ok _ done before a))
+
+pub returns-then-n-eq0-clause-ended : goal.returns-then-n-eq0-clause-ended
+returns-then-n-eq0-clause-ended g c = c.in_ok-n.ensures.ended ∙ ap (λ k. k == 0) c.if-n-eq0.true
 
 pub returns-in_err-feed-clause-run : goal.returns-in_err-feed-clause-run
 returns-in_err-feed-clause-run g c =
