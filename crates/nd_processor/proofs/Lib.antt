@@ -1,3 +1,4 @@
 mod Keeping
+mod Recorded
 mod Seen
 mod Started

@@ -1,5 +1,6 @@
 -- What a processor keeps, as lists of entries, and the state that it is seen as.
-use Rattle.std.specs.Prelude.{◌≢◌, ◌≤◌, ℕ, cond, List, IfSome, nat_eq}
+use Rattle.std.specs.Prelude.{◌≢◌, ◌≤◌, ℕ, cond, FitsSigned, List, IfSome, nat_eq}
+use mir.Syntax.{w64}
 use Rattle.std.specs.declared.cmp.Ordering.{Ordering}
 use Rattle.std.specs.FinMap.{find, put, from_entries}
 use Rattle.nd_time.specs.Limits.{max_count}
@@ -8,7 +9,7 @@ use Rattle.nd_map.specs.Counts.{or_else, of_entries}
 use Rattle.nd_paths.specs.declared.point.Pointstamp.{Pointstamp}
 use Rattle.nd_delta.specs.Change.{Change}
 use Rattle.nd_vertex.specs.Items.{Items}
-use Rattle.nd_processor.specs.Keys.{value_at_total, sink_total}
+use Rattle.nd_processor.specs.Keys.{value_at_cmp, value_at_total, sink_total}
 use Rattle.nd_processor.specs.State.{ProcessorState}
 use Rattle.nd_processor.specs.declared.key.ValueAt.{ValueAt}
 use Rattle.nd_processor.specs.declared.key.SinkKey.{SinkKey}
@@ -22,6 +23,10 @@ pub record IsCount (n : ℕ) : Type 0 where
 pub record IsKept {K : Type 0} (R : K → K → Ordering) (es : List (K × ℕ)) : Type 0 where
   pub listed : IsListed R es
   pub counts : (q : K) → IfSome (find R q es) IsCount
+
+-- records, each of a value of 64 bits
+pub record AreRecords (es : List (ValueAt × ℕ)) : Type 0 where
+  pub values : (q : ValueAt) → IfSome (find value_at_cmp q es) (λ _. FitsSigned w64 q.value)
 
 -- the count that is found at a key
 abbrev pub number : {K : Type 0} → (K → K → Ordering) → List (K × ℕ) → K → ℕ

@@ -10,7 +10,7 @@ ghost use Rattle.nd_delta.specs.Change.{IsWithin, plus, minus, at as unsent_at, 
 ghost use Rattle.nd_vertex.specs.Items.{item_key};
 ghost use Rattle.nd_vertex.specs.Edits.{item_of};
 ghost use Rattle.nd_processor.specs.Keys.{value_at_total, sink_total};
-ghost use Rattle.nd_processor.specs.State.{items_at};
+ghost use Rattle.nd_processor.specs.State.{in_records, items_at};
 ghost use Rattle.nd_processor.specs.Start.{start_processor};
 ghost use Rattle.nd_processor.specs.Edits.{with_value, with_vertex_item, more_unsent, token_points as points_of_tokens};
 ghost use Rattle.nd_processor.specs.declared.key.ValueAt.{ValueAt as Value};
@@ -54,13 +54,15 @@ impl<A: Allocator + Copy> Drop for Processor<A> {
 
 impl<A: Allocator + Copy> Model for Processor<A> {
     ghost use Rattle.nd_processor.specs.State.{ProcessorState, processor_code};
-    ghost use Rattle.nd_processor.specs.Kept.{seen};
+    ghost use Rattle.nd_processor.specs.Kept.{AreRecords, seen};
 
     ghost Value = { ProcessorState };
 
     ghost coded = { processor_code };
 
     ghost view = { λ a. seen a.records a.requests a.tokens a.items.items a.sinks a.unsent };
+
+    ghost invariant = { λ a. AreRecords a.records };
 }
 
 impl<A: Allocator + Copy> Processor<A> {
@@ -100,6 +102,26 @@ impl<A: Allocator + Copy> Processor<A> {
         ensures within { result ≤ max_count }
     {
         self.records.count_of(key)
+    }
+
+    /// How many records there are at a pointstamp, over all values. It looks at these alone.
+    pub fn records_at(&self, point: &Pointstamp) -> u128
+        ensures value { result ≡ in_records self.now.records point.now }
+        ensures fits { result < 2 ^ 120 }
+    {
+        let first = ValueAt {
+            point: point.copy(),
+            value: i64::MIN,
+        };
+        let last = ValueAt {
+            point: point.copy(),
+            value: i64::MAX,
+        };
+        let mut total = 0;
+        for (_, count) in self.records.between(&first, &last) {
+            total += u128::from(*count);
+        }
+        total
     }
 
     /// The records with their counts, by pointstamp and then by value.
@@ -219,6 +241,8 @@ impl<A: Allocator + Copy> Processor<A> {
         ensures full { (result ≡ Err (CountFault.CountFull)) ↔ (max_count < at self.old.records key.now + n) }
         ensures memory { result ≡ Err (CountFault.Memory) → at self.old.records key.now ≡ 0 }
     {
+        // (its type keeps a value that is read in its range)
+        let _value = key.value;
         self.records.add(key, n)
     }
 

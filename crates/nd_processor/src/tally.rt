@@ -3,12 +3,14 @@ ghost use Rattle.std.specs.Prelude.{ℕ, ◌≡◌, ◌≢◌, ◌↔◌, ◌≤
 ghost use Rattle.std.specs.Option.{option_map};
 ghost use Rattle.std.specs.FinMap.{find};
 ghost use Rattle.std.specs.Map.Iter.{ShowsInOrder, deref_pair};
+ghost use Rattle.std.specs.BTreeMap.Range.{IsLeBy, entries_between};
+ghost use Rattle.std.specs.declared.ops.Bound.TheVariants.{Included};
 ghost use Rattle.nd_time.specs.Limits.{max_count};
 ghost use Rattle.nd_processor.specs.Kept.{IsKept, number, put_count};
 
 use nd_map::{Key, TreeMap};
 use std::alloc::{AllocError, Allocator, Global};
-use std::collections::btree_map::Iter;
+use std::collections::btree_map::{Iter, Range};
 use std::marker::Model;
 use thiserror::Error;
 
@@ -77,6 +79,17 @@ impl<K: Key, A: Allocator> Tally<K, A> {
         ensures kept { IsKept K.cmp self.now }
     {
         self.map.iter()
+    }
+
+    // The keys from one to another, both included, with their counts, in order.
+    pub(crate) fn between(&self, first: &K, last: &K) -> Range<'_, K, u64>
+        requires { IsLeBy K.cmp first.now last.now }
+        ensures rest { result ≡ entries_between K.cmp (Included first.now) (Included last.now) self.now }
+        ensures runs { ShowsInOrder (deref_pair {K = K} {X = ℕ}) }
+        ensures fits { length result < 2 ^ 63 }
+        ensures kept { IsKept K.cmp self.now }
+    {
+        self.map.between(first, last)
     }
 
     // The least key with its count.
