@@ -1,40 +1,16 @@
--- How many records, requests and tokens of one processor are at a pointstamp, by look-ups.
-use Rattle.std.proofs.Common.{◌≡◌, ◌<◌, ◌≤◌, ◌+◌, ◌*◌, ◌^◌, ℕ, Bool, true, false, cond, List, [], ◌∷◌, length, get_or, Option, Some, None, refl, sym, ap, ◌∙◌, arith}
+-- How many requests and tokens of one processor are at a pointstamp, by look-ups.
+use Rattle.std.proofs.Common.{◌≡◌, ◌+◌, ℕ, Bool, true, false, cond, List, [], ◌∷◌, Option, Some, None, refl, sym, ap, ◌∙◌, arith}
 use Rattle.std.proofs.lemmas.Cmp.{tied_itself, nat_cmp_total}
-use Rattle.std.proofs.lemmas.List.Sums.{sum_by-cons, sum_by-le}
+use Rattle.std.proofs.lemmas.List.Sums.{sum_by-cons}
 use Rattle.std.proofs.lemmas.Map.Views.{tells_apart}
 use Rattle.std.specs.Ordering.{nat_cmp, is_eq}
 use Rattle.std.specs.FinMap as fin
-use Rattle.nd_time.specs.Limits.{max_count}
 use Rattle.nd_paths.specs.Point.{point_cmp, point_total, point_exact}
 use Rattle.nd_paths.specs.declared.point.Pointstamp.{Pointstamp}
-use Rattle.nd_map.specs.Counts.{Counts, naturals, at, entries, at-entries, or_else, entries_listed}
-use Rattle.nd_map.specs.Entries.{find-index}
 use Rattle.nd_map.specs.Weights.{weight}
 use Rattle.nd_delta.specs.Change.{is_point}
-use Rattle.nd_processor.specs.Keys.{value_at_cmp, value_at_total}
 use Rattle.nd_processor.specs.State.{Requests, token_point, one_at, in_requests, in_tokens}
 use Rattle.nd_processor.specs.Held.{sum_by-map, one_at_itself, token_at, in_requests-remove, in_tokens-remove}
-use Rattle.nd_processor.specs.declared.key.ValueAt.{ValueAt}
-
--- how many of these records are at a pointstamp
-abbrev pub records_at : Pointstamp → List (ValueAt × ℕ) → ℕ
-records_at x es = weight (λ (k : ValueAt) n. cond (is_point x k.point) n 0) es
-
-at_most : (b : Bool) (n k : ℕ) → n ≤ k → cond b n 0 ≤ k
-at_most true n k h = h
-at_most false n k h = omega arith
-
--- so many entries, each within the limit, are few
-pub few_records : (m : Counts value_at_cmp naturals) (x : Pointstamp) → length (entries m) < 2 ^ 63 → ((k : ValueAt) → at m k ≤ max_count) → records_at x (entries m) < 2 ^ 120
-few_records m x short within =
-    let bound : records_at x (entries m) ≤ length (entries m) * 2 ^ 40 = sum_by-le (λ (e : ValueAt × ℕ). cond (is_point x e.0.point) e.1 0) (2 ^ 40) (entries m) (λ k d lt.
-    let e : ValueAt × ℕ = get_or (entries m) k d in
-    let found : at m e.0 ≡ e.1 =
-    at-entries m e.0 ∙ ap (λ (v : Option ℕ). or_else 0 v) (find-index value_at_cmp value_at_total (entries m) k d (entries_listed m) lt) in
-    at_most (is_point x e.0.point) e.1 (2 ^ 40) (omega (arith, found, within e.0))) in
-    let many : length (entries m) * 2 ^ 40 ≤ 2 ^ 63 * 2 ^ 40 = omega arith in
-    omega arith
 
 -- ---- requests
 

@@ -2,7 +2,7 @@
 ghost use Rattle.std.specs.Prelude.{◌≡◌, ◌<◌, ◌≤◌, ◌^◌, pos, IfOk, sum_by, length};
 ghost use Rattle.nd_time.specs.Limits.{max_processors};
 ghost use Rattle.nd_delta.specs.Change.{at};
-ghost use Rattle.nd_processor.specs.State.{held, in_records, in_requests, in_tokens};
+ghost use Rattle.nd_processor.specs.State.{held, in_requests, in_tokens};
 ghost use Rattle.nd_protocol.specs.State.{truth};
 ghost use Rattle.nd_protocol.specs.Invariant.{IsSettled};
 
@@ -13,20 +13,6 @@ use nd_processor::Processor;
 use nd_protocol::truth_is_small;
 use nd_view::View;
 use std::alloc::{AllocError, Allocator};
-
-// How many records a processor has at a pointstamp.
-fn count_records<A: Allocator + Copy>(processor: &Processor<A>, point: &Pointstamp) -> u128
-    ensures value { result ≡ in_records processor.now.records point.now }
-    ensures fits { result < 2 ^ 120 }
-{
-    let mut total = 0;
-    for (key, count) in processor.records() {
-        if point.cmp(&key.point).is_eq() {
-            total += u128::from(*count);
-        }
-    }
-    total
-}
 
 // How many requests a processor has at a pointstamp: one or none.
 fn count_requests<A: Allocator + Copy>(processor: &Processor<A>, point: &Pointstamp) -> u128
@@ -53,9 +39,7 @@ fn count_held<A: Allocator + Copy>(processor: &Processor<A>, point: &Pointstamp)
     ensures value { result ≡ held processor.now point.now }
     ensures fits { result < 2 ^ 121 }
 {
-    count_records(processor, point)
-        + count_requests(processor, point)
-        + count_tokens(processor, point)
+    processor.records_at(point) + count_requests(processor, point) + count_tokens(processor, point)
 }
 
 // How much processors have outstanding at a pointstamp.
