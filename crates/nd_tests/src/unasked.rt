@@ -137,6 +137,7 @@ fn processor_tells<A: Allocator + Copy>(processor: &Processor<A>, key: &ValueAt)
         processor.vertex_count(),
     );
     counts == (1, 1, 1, 1, 2, 3)
+        && processor.records_at(&key.point) == 2
         && processor.has_request(&key.point)
         && processor.first_record().is_some()
         && processor.first_request().is_some()
