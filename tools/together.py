@@ -4,11 +4,15 @@ A function's proof rests on the contracts of what it calls and on no other body.
 functions of one copy each is refused, or not, as it would be alone. An edit counts as refused only if the prover's line of
 each edited function gives a reason of its own, and names a place in that function or in its folder of answers, for its
 meaning: not a name that went, and not another function that is not proved. The check is asked for the edited functions alone, so
-that what stands above them is not read. What was not refused so is tried again with the rest, over what the earlier checks of
-this run proved, and at last alone, by the toolchain's own trial, over these and then from nothing."""
+that what stands above them is not read; and the other functions of the copy have an empty proof, so that what stands below them
+is not proved once more. What was not refused so is tried again with the rest, and at last alone, by the toolchain's own trial,
+over what the earlier checks of this run proved and then from nothing."""
 import collections
+import copy
+import glob
 import os
 import re
+import shutil
 import tempfile
 import threading
 
@@ -162,12 +166,73 @@ def reason(verdicts, told, function):
     return next((it for it in told if PLACE.match(it)[1].startswith(answers) or is_in(it, function)), None)
 
 
+def functions_of(folder):
+    """The functions of a crate that have a proof of their own, each with its folder: not those that call one another, nor those that
+    take a value apart."""
+    for path in glob.glob(f"{folder}/src/**/*.rt", recursive=True):
+        file = os.path.relpath(path, folder)
+        with open(path, encoding="utf-8") as it:
+            source = it.read()
+        module = re.sub(r"(^|/)(lib|main|mod)$", "", file.removeprefix("src/").removesuffix(".rt"))
+        place = 0
+        for line in source.split("\n"):
+            at = function_at(file, source, place) if FUNCTION.match(line) else None
+            if at and not at.names.endswith("Drop::drop") and "#[cycle" not in "\n".join(source.split("\n")[at.first - 1 : at.last]):
+                owner, _, name = at.names.rpartition("::")
+                yield at, "/".join(filter(None, ["proofs", module, owner if line.startswith(" ") else "", name]))
+            place += len(line) + 1
+
+
+def without_body(lines, function):
+    """The lines with a body that calls nothing in place of the function's, on as many lines; as they are where the body cannot be told."""
+    indent = re.match(" *", lines[function.last - 1])[0]
+    head = next(it for it in range(function.first - 1, function.last) if FUNCTION.match(lines[it]))
+    begins = [it for it in range(head, function.last) if lines[it] == indent + "{"]
+    begins = begins or [it for it in range(head, function.last) if lines[it].startswith((indent + "fn ", indent + "pub", indent + ")")) and lines[it].endswith(" {")]
+    first, last = (begins or [function.last])[0] + 1, function.last - 1
+    if "const fn" in lines[head] or first >= last:
+        return lines
+    return [*lines[:first], indent + "    unreachable!()", *[""] * (last - first - 1), *lines[last:]]
+
+
+def of_trait(lines, function):
+    """Whether the function is of an impl of a trait."""
+    around = next((it for it in reversed(lines[: function.first]) if it.startswith(("impl", "unsafe impl", "}"))), "")
+    return lines[function.last - 1].startswith(" ") and " for " in around
+
+
+def alone(crate, edited, texts, room):
+    """A copy of the crate in the room with these texts, where each function that is not edited has an empty proof and calls nothing,
+    and the texts that it has then."""
+    for part in ("src", "specs", "proofs"):
+        if os.path.isdir(f"{crate.folder}/{part}"):
+            shutil.copytree(f"{crate.folder}/{part}", f"{room}/{part}")
+    edited, files = {(it.file, it.names) for it in edited}, {}
+    for at, proof in functions_of(crate.folder):
+        if (at.file, at.names) in edited:
+            continue
+        os.makedirs(f"{room}/{proof}", exist_ok=True)
+        for file in glob.glob(f"{glob.escape(f'{room}/{proof}')}/*.antt"):
+            os.remove(file)
+        open(f"{room}/{proof}/Proof.antt", "w", encoding="utf-8").close()
+        if at.file not in files:
+            with open(f"{crate.folder}/{at.file}", encoding="utf-8") as it:
+                files[at.file] = texts.get(at.file, it.read()).split("\n")
+        if not of_trait(files[at.file], at):
+            files[at.file] = without_body(files[at.file], at)
+    copied = copy.copy(crate)
+    copied.folder = room
+    return copied, {**texts, **{file: "\n".join(lines) for file, lines in files.items()}}
+
+
 def refused_together(rt, crate, edits, texts, flags, kept):
     """What one check with all these edits says against each that it refuses, and the edits that keep it from judging.
 
-    The check is asked for the edited functions alone, and reads what they call and no more."""
+    The check is asked for the edited functions alone, and proves none that they call."""
     only = [word for functions in edits.values() for it in functions for word in ("--only", it.names)]
-    ran = rt.checked(crate, texts, [*flags, *only], kept)
+    with tempfile.TemporaryDirectory(prefix="rt-together-") as room:
+        copied, texts = alone(crate, [it for functions in edits.values() for it in functions], texts, room)
+        ran = rt.checked(copied, texts, [*flags, *only], kept)
     lines = ran.stdout.rstrip("\n").split("\n")
     is_judged = ran.returncode == 1 and lines[-1].startswith("only=") and not rt.rtlib.STALE.search(ran.stdout)
     unread = [it for it in lines if (rt.unread(it, texts) if is_judged else ": error" in it)]
