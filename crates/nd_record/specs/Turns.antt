@@ -1,5 +1,5 @@
 -- The turns of changes in their processors, as the kinds of a plan number them.
-use Rattle.std.specs.Prelude.{ℕ, ◌+ℤ◌, List, nat_eq}
+use Rattle.std.specs.Prelude.{◌≡◌, ℕ, ◌+ℤ◌, List, map, nat_eq}
 use Rattle.std.specs.List.{filter}
 use Rattle.nd_vertex.specs.Table.{is_zero}
 use Rattle.nd_processor.specs.State.{ProcessorState}
@@ -26,3 +26,7 @@ kind_of processors c = kind_in (own processors c) c
 -- the changes of a kind
 abbrev pub of_turn : List ProcessorState → ℕ → List Change → List Change
 of_turn processors k cs = filter (λ c. nat_eq (kind_of processors c) k) cs
+
+-- these are the turns of the changes, one for each
+abbrev pub AreTurnsIn : List ProcessorState → List Change → List Turn → Type 0
+AreTurnsIn processors cs turns = map number_of turns ≡ map (kind_of processors) cs

@@ -1,12 +1,13 @@
 //! The order of a record's changes: something is put in first, then altered, then taken out.
-ghost use Rattle.std.specs.Prelude.{◌≡◌, ◌<◌, ◌≤◌, ◌+ℤ◌, ◌++◌, not, length, nat_eq, unsigned_abs, IfOk, OnOk};
+ghost use Rattle.std.specs.Prelude.{◌≡◌, ◌<◌, ◌≤◌, ◌+ℤ◌, ◌++◌, List, not, length, nat_eq, unsigned_abs, IfOk, OnOk};
 ghost use Rattle.nd_time.specs.Limits.{max_count};
 ghost use Rattle.nd_protocol.specs.State.{ClusterState};
+ghost use Rattle.nd_processor.specs.State.{ProcessorState};
 ghost use Rattle.nd_protocol.specs.Fitting.{IsWithinLimits};
 ghost use Rattle.nd_vertex.specs.Table.{is_zero};
 ghost use Rattle.nd_record.specs.Changes.{NamesNumbers, owner_of, own, FindsIn};
 ghost use Rattle.nd_record.specs.Plans.{Each, ReachesIn, LeadsTo, kind_by};
-ghost use Rattle.nd_record.specs.Turns.{number_of, kind_in, kind_of, of_turn};
+ghost use Rattle.nd_record.specs.Turns.{number_of, kind_in, kind_of, of_turn, AreTurnsIn};
 
 use crate::Change;
 use crate::making::processor_of;
@@ -132,20 +133,35 @@ fn turn_of<A: Allocator + Copy>(processors: &[Processor<A>], change: &Change) ->
     turn_in(processor_of(processors, change.owner()), change)
 }
 
+// The turns of changes in the processors that they are of.
+fn turns_of<A: Allocator + Copy>(
+    alloc: A,
+    processors: &[Processor<A>],
+    all: &[Change],
+) -> Result<Vec<Turn, A>, AllocError>
+    requires there { Each (λ c. owner_of c < length processors.now) all.now }
+    requires old { Each (λ c. FindsIn (own processors.now c) c) all.now }
+    requires numbers { Each NamesNumbers all.now }
+    ensures { IfOk result (λ v. AreTurnsIn processors.now all.now v.items) }
+{
+    let mut turns = Vec::with_capacity(alloc, all.len())?;
+    for change in all {
+        turns.push(turn_of(processors, change))?;
+    }
+    Ok(turns)
+}
+
 // The changes of a turn, after those that are there.
 fn gather<A: Allocator + Copy>(
-    processors: &[Processor<A>],
+    turns: &[Turn],
     turn: Turn,
     from: &[Change],
     to: &mut Vec<Change, A>,
 ) -> Result<(), AllocError>
-    requires there { Each (λ c. owner_of c < length processors.now) from.now }
-    requires old { Each (λ c. FindsIn (own processors.now c) c) from.now }
-    requires numbers { Each NamesNumbers from.now }
-    ensures { OnOk result (to.new.items ≡ to.old.items ++ of_turn processors.now (number_of turn) from.now) }
+    ensures { OnOk result ((processors : List ProcessorState) → AreTurnsIn processors from.now turns.now → to.new.items ≡ to.old.items ++ of_turn processors (number_of turn) from.now) }
 {
-    for change in from {
-        if turn_of(processors, change).is(turn) {
+    for (change, its_turn) in from.iter().zip(turns) {
+        if its_turn.is(turn) {
             to.push(change.copy())?;
         }
     }
@@ -161,9 +177,10 @@ pub fn in_order<A: Allocator + Copy>(
     requires { (s : ClusterState) × (t : ClusterState) × ReachesIn processors.now s t all.now }
     ensures { IfOk result (λ v. (s t : ClusterState) → ReachesIn processors.now s t all.now → IsWithinLimits t → LeadsTo s t v.items) }
 {
-    let mut changes = Vec::new(alloc);
-    gather(processors, Turn::Comes, all, &mut changes)?;
-    gather(processors, Turn::Alters, all, &mut changes)?;
-    gather(processors, Turn::Goes, all, &mut changes)?;
+    let turns = turns_of(alloc, processors, all)?;
+    let mut changes = Vec::with_capacity(alloc, all.len())?;
+    gather(&turns, Turn::Comes, all, &mut changes)?;
+    gather(&turns, Turn::Alters, all, &mut changes)?;
+    gather(&turns, Turn::Goes, all, &mut changes)?;
     Ok(changes)
 }
