@@ -18,3 +18,4 @@ pub mod PointOrder
 pub mod Minimal
 pub mod Algebra
 pub mod Unique
+pub mod Held
