@@ -19,3 +19,4 @@ pub mod Minimal
 pub mod Algebra
 pub mod Unique
 pub mod Held
+pub mod Comparing
