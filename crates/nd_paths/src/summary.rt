@@ -218,7 +218,6 @@ impl Summary {
     // Whether this makes of the one time's counters some at or before the other's.
     pub(crate) fn leads(&self, from: &[u32], to: &[u32]) -> bool
         requires keep { self.now.keep ≤ length from.now }
-        requires deep { self.now.keep + length self.now.constants ≤ max_depth }
         requires to { length to.now ≡ self.now.keep + length self.now.constants }
         ensures { IsTrue result ↔ IsLexicallyAtMost (applied self.now from.now) to.now }
     {

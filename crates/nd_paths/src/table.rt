@@ -143,7 +143,6 @@ fn closes(row: &[Option<Summary>], arc: Arc) -> bool
 /// Whether something held for a location makes of the one time's counters some at or before the other's.
 pub fn leads_among(row: &[Option<Summary>], location: usize, from: &[u32], to: &[u32]) -> bool
     requires long { location * keeps + keeps ≤ length row.now }
-    requires deep { length to.now ≤ max_depth }
     requires places { KeepsPlaces row.now location }
     requires fit { HeldFit row.now location (length from.now) (length to.now) }
     ensures { IsTrue result ↔ SomeLeads row.now location from.now to.now }
