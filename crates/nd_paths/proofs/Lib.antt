@@ -18,3 +18,5 @@ pub mod PointOrder
 pub mod Minimal
 pub mod Algebra
 pub mod Unique
+pub mod Held
+pub mod Comparing

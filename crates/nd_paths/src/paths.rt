@@ -131,10 +131,10 @@ fn could_result_in<A: Allocator>(
     requires { IsTable graph.now rows.now }
     ensures { IsTrue result ↔ CouldResultIn graph.now s.now t.now }
 {
-    if !s.fits(graph) || !t.fits(graph) {
+    if t.time.epoch() < s.time.epoch() {
         return false;
     }
-    if t.time.epoch() < s.time.epoch() {
+    if !s.fits(graph) || !t.fits(graph) {
         return false;
     }
     leads_among(

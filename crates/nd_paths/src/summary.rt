@@ -1,5 +1,5 @@
 //! Path summaries.
-ghost use Rattle.std.specs.Prelude.{◌≡◌, ◌+◌, ◌-◌, ◌<◌, ◌≤◌, ◌↔◌, [], ◌∷◌, ◌++◌, length, All, IfSome, IsTrue, IsSome, MatchBool};
+ghost use Rattle.std.specs.Prelude.{◌≡◌, ◌+◌, ◌-◌, ◌<◌, ◌≤◌, ◌↔◌, [], ◌∷◌, ◌++◌, length, All, IfSome, IsTrue, IsSome, MatchBool, slice_index};
 ghost use Rattle.std.specs.Option.{option_to_list};
 ghost use Rattle.nd_paths.specs.Summary.{raised as raised_by};
 ghost use Rattle.nd_time.specs.Limits.{max_depth, max_counter};
@@ -198,14 +198,37 @@ impl Summary {
         all
     }
 
+    // The number at a place of what this makes of these counters, wide enough for the sum.
+    fn number(&self, counters: &[u32], place: usize) -> u64
+        requires keep { self.now.keep ≤ length counters.now }
+        requires place { place < self.now.keep + length self.now.constants }
+        ensures { result ≡ slice_index (applied self.now counters.now) place }
+    {
+        if self.keep <= place {
+            return u64::from(self.constants.as_slice()[place - self.keep]);
+        }
+        let counter = u64::from(counters[place]);
+        if place + 1 == self.keep {
+            counter + u64::from(self.add)
+        } else {
+            counter
+        }
+    }
+
     // Whether this makes of the one time's counters some at or before the other's.
     pub(crate) fn leads(&self, from: &[u32], to: &[u32]) -> bool
         requires keep { self.now.keep ≤ length from.now }
-        requires deep { self.now.keep + length self.now.constants ≤ max_depth }
         requires to { length to.now ≡ self.now.keep + length self.now.constants }
         ensures { IsTrue result ↔ IsLexicallyAtMost (applied self.now from.now) to.now }
     {
-        self.reached(from).cmp(&widened(to)).is_le()
+        for place in 0..to.len() {
+            let reached = self.number(from, place);
+            let wanted = u64::from(to[place]);
+            if reached != wanted {
+                return reached < wanted;
+            }
+        }
+        true
     }
 }
 
@@ -221,18 +244,6 @@ fn raised(counters: &[u32], add: u32) -> ArrayVec<u64, MAX_DEPTH>
             all.push(u64::from(*counter));
         }
         all.push(u64::from(*last) + u64::from(add));
-    }
-    all
-}
-
-// The same numbers.
-fn widened(numbers: &[u32]) -> ArrayVec<u64, MAX_DEPTH>
-    requires { length numbers.now ≤ max_depth }
-    ensures { result.items ≡ numbers.now }
-{
-    let mut all = ArrayVec::new();
-    for number in numbers {
-        all.push(u64::from(*number));
     }
     all
 }

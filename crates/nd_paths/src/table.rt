@@ -143,11 +143,16 @@ fn closes(row: &[Option<Summary>], arc: Arc) -> bool
 /// Whether something held for a location makes of the one time's counters some at or before the other's.
 pub fn leads_among(row: &[Option<Summary>], location: usize, from: &[u32], to: &[u32]) -> bool
     requires long { location * keeps + keeps ≤ length row.now }
-    requires deep { length to.now ≤ max_depth }
+    requires places { KeepsPlaces row.now location }
     requires fit { HeldFit row.now location (length from.now) (length to.now) }
     ensures { IsTrue result ↔ SomeLeads row.now location from.now to.now }
 {
-    for keep in 0..KEEPS {
+    if to.is_empty() {
+        // what leaves no counters keeps none, and leads there
+        return look(row, location, 0).is_some();
+    }
+    // nothing keeps more counters than either time has
+    for keep in 0..=from.len().min(to.len()) {
         if let Some(summary) = look(row, location, keep) {
             if summary.leads(from, to) {
                 return true;

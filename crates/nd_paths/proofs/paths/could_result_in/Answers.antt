@@ -3,7 +3,15 @@ use Rattle.nd_paths.specs.Order.{Fits}
 use Rattle.nd_paths.specs.Table.{SomeLeads}
 use Rattle.nd_paths.proofs.Graphs.{fits_size}
 use Rattle.nd_paths.proofs.Decisions.{row_least, held_fit_points, could_from_leads, leads_from_could}
+use Rattle.nd_paths.proofs.Unique.{keeps_places}
 use Rattle.nd_paths.proofs.paths.could_result_in.Goals as goal
+
+pub leads_among-requires-clause-places : goal.leads_among-requires-clause-places
+leads_among-requires-clause-places g c =
+    let f : Fits c.args.graph.now c.args.s.now = c.if-not-fits.ensures.0 refl in
+    let inside = (fits_size c.args.graph.now c.args.s.now f).0 in
+    let least = row_least c.args.graph.now c.args.rows.now c.requires c.args.s.now.location c.index-rows-s.result c.deref.result.now inside c.index-rows-s.is c.deref.ensures.value in
+    keeps_places c.args.graph.now c.requires.agree c.args.s.now.location c.args.t.now.location c.deref.result.now inside least.1
 
 pub leads_among-requires-clause-fit : goal.leads_among-requires-clause-fit
 leads_among-requires-clause-fit g c =
