@@ -4,9 +4,9 @@ A function's proof rests on the contracts of what it calls and on no other body.
 functions of one copy each is refused, or not, as it would be alone. An edit counts as refused only if the prover's line of
 each edited function gives a reason of its own, and names a place in that function or in its folder of answers, for its
 meaning: not a name that went, and not another function that is not proved. The check is asked for the edited functions alone, so
-that what stands above them is not read; and the other functions of the copy have an empty proof, so that what stands below them
-is not proved once more. What was not refused so is tried again with the rest, and at last alone, by the toolchain's own trial,
-over what the earlier checks of this run proved and then from nothing."""
+that what stands above them is not read; and each other function of the copy has an empty proof and, unless a trait asks for it,
+a body that calls nothing, so that what stands below is not proved once more. What was not refused so is tried again with the
+rest, and at last alone, by the toolchain's own trial, over what the earlier checks of this run proved and then from nothing."""
 import collections
 import copy
 import glob
