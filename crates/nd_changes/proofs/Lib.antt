@@ -1,2 +1,2 @@
-pub mod Listing
-pub mod Walking
+pub mod ToldLemmas
+pub mod WalkLemmas

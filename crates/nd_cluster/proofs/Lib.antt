@@ -2,10 +2,10 @@ pub mod Exchanged
 pub mod Reactions
 pub mod Started
 pub mod Counted
-pub mod Enabling
+pub mod TestedLemmas
 pub mod Passed
-pub mod Choosing
-pub mod Sinking
-pub mod Parting
-pub mod Seeing
+pub mod ChoiceLemmas
+pub mod SinksLemmas
+pub mod PartsLemmas
+pub mod SeenLemmas
 pub mod Reasoned

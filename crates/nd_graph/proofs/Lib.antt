@@ -1,4 +1,4 @@
-pub mod Reading
+pub mod DraftLemmas
 pub mod NameLaws
 pub mod Agreement
-pub mod Judging
+pub mod CheckedLemmas

@@ -13,7 +13,7 @@ use Rattle.nd_paths.specs.Table.{entry, IsLeast, SaysReaches, SomeLeads, HeldFit
 use Rattle.nd_paths.proofs.Summaries.{IsFor}
 use Rattle.nd_paths.proofs.Walks.{IsFor-walk}
 use Rattle.nd_paths.proofs.Tables.{says_sound, says_complete}
-use Rattle.nd_paths.proofs.Relaxing.{of_entry}
+use Rattle.nd_paths.proofs.RowLemmas.{of_entry}
 use Rattle.nd_paths.proofs.Reversed.{reverse-applied, lexical_from_before, before_from_lexical}
 use Rattle.nd_paths.proofs.Stored.{length-applied}
 use Rattle.nd_paths.proofs.Graphs.{fits_size, could_from_reaches, reaches_from_could}

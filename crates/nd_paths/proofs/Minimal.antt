@@ -18,7 +18,7 @@ use Rattle.nd_paths.proofs.Reversed.{lexical_from_before, before_from_lexical}
 use Rattle.nd_paths.proofs.Stored.{length-applied}
 use Rattle.nd_paths.proofs.Graphs.{fits_size, has_depth}
 use Rattle.nd_paths.proofs.Decisions.{held_fit_points, could_from_leads, leads_from_could}
-use Rattle.nd_paths.proofs.Accepting.{accepted_inside}
+use Rattle.nd_paths.proofs.TableLemmas.{accepted_inside}
 use Rattle.nd_paths.proofs.PointOrder.{could_refl, could_antisym, strictly_trans}
 
 abbrev pub Decided : Type 0 → Type 0

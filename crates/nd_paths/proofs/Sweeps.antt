@@ -21,7 +21,7 @@ use Rattle.nd_paths.proofs.Walks.{IsFor-walk, walks_joined, arc_leads}
 use Rattle.nd_paths.proofs.Tables.{Covers-less, covered}
 use Rattle.nd_paths.proofs.Cuts.{end_of, walk_front, walk_back}
 use Rattle.nd_paths.proofs.Acceptance.{last_arc}
-use Rattle.nd_paths.proofs.Relaxing.{entry_within, entry_past, entry-set_same, entry-set_other, at_place, Relaxed-keeps, Relaxed-covers, Relaxed-from, Relaxed-length}
+use Rattle.nd_paths.proofs.RowLemmas.{entry_within, entry_past, entry-set_same, entry-set_other, at_place, Relaxed-keeps, Relaxed-covers, Relaxed-from, Relaxed-length}
 
 -- real walks from a, with numbers of at most m, and each walk of at most n arcs covered
 pub record Swept (depths : List ℕ) (arcs : List Arc) (a : ℕ) (row : List (Option Summary)) (n m : ℕ) : Type 0 where

@@ -14,7 +14,7 @@ use Rattle.nd_paths.specs.Inside.{DepthsAgree, IsWalkAlong, effect_of, inner, pl
 use Rattle.nd_paths.specs.Table.{held, entry, IsLeast, IsListed, KeepsPlaces}
 use Rattle.nd_paths.proofs.Summaries.{IsFor}
 use Rattle.nd_paths.proofs.Walks.{IsFor-walk, apply-walk}
-use Rattle.nd_paths.proofs.Relaxing.{of_entry}
+use Rattle.nd_paths.proofs.RowLemmas.{of_entry}
 use Rattle.nd_paths.proofs.Reversed.{reverse-applied, reverse-effect, walk_along, along_walk, lexical_from_before}
 use Rattle.nd_paths.proofs.Stored.{length-applied}
 use Rattle.nd_paths.proofs.Graphs.{depth_within, has_depth, length-effect}

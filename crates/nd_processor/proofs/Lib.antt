@@ -1,4 +1,4 @@
-mod Keeping
+mod KeptLemmas
 mod Recorded
 mod Seen
 mod Started

@@ -24,7 +24,7 @@ use Rattle.nd_processor.specs.Kept.{IsKept, number, put_count, seen}
 use Rattle.nd_processor.specs.Edits.{with_value, value-back, with_vertex_item, vertex_item-back}
 use Rattle.nd_processor.specs.declared.key.ValueAt.{ValueAt}
 use Rattle.nd_processor.specs.declared.key.SinkKey.{SinkKey}
-use Rattle.nd_processor.proofs.Keeping.{at_number, kept_entries, kept_within, more, more_undone, less, less_undone}
+use Rattle.nd_processor.proofs.KeptLemmas.{at_number, kept_entries, kept_within, more, more_undone, less, less_undone}
 
 -- ---- answers that are Results
 

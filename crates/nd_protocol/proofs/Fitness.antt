@@ -32,7 +32,7 @@ use Rattle.nd_protocol.proofs.UprightSums.{zero_or_not}
 use Rattle.nd_protocol.proofs.Emissions.{AllAt-both}
 use Rattle.nd_protocol.proofs.Requests.{as_weight}
 use Rattle.nd_protocol.proofs.Keys.{set_cases}
-use Rattle.nd_protocol.proofs.Performing.{cause_of, many_stepped}
+use Rattle.nd_protocol.proofs.StepsLemmas.{cause_of, many_stepped}
 
 -- ---- all of a list in which one is written
 

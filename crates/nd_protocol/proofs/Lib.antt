@@ -15,12 +15,12 @@ pub mod Takes
 pub mod Feeds
 pub mod Reading
 pub mod Readings
-pub mod Performing
+pub mod StepsLemmas
 pub mod Fitness
-pub mod Enabling
+pub mod EnabledLemmas
 pub mod Inputs
 pub mod Starts
-pub mod Passing
+pub mod InvariantLemmas
 pub mod Notices
 pub mod Runs
 pub mod Bounds

@@ -21,8 +21,8 @@ use Rattle.nd_protocol.proofs.Core.{IsStrictOrder, IsFinite}
 use Rattle.nd_protocol.proofs.Descent.{induction}
 use Rattle.nd_protocol.proofs.Arcs.{IsTransitive}
 use Rattle.nd_protocol.proofs.Readings.{change_finite}
-use Rattle.nd_protocol.proofs.Enabling.{notice_possible}
-use Rattle.nd_protocol.proofs.Passing.{last}
+use Rattle.nd_protocol.proofs.EnabledLemmas.{notice_possible}
+use Rattle.nd_protocol.proofs.InvariantLemmas.{last}
 
 -- one pointstamp is listed before another
 abbrev IsListedBefore : Pointstamp → Pointstamp → Type 0

@@ -18,10 +18,10 @@ use Rattle.nd_protocol.proofs.Kept.{sent_balanced, taken_balanced, step_kept as 
 use Rattle.nd_protocol.proofs.Reading.{reading}
 use Rattle.nd_protocol.proofs.Readings.{change_finite, balanced_of, settled_of, sound_of, keeps_of}
 use Rattle.nd_protocol.proofs.Shape.{Work, feeding, taking, noticing, performer, performed, IsPossible, done}
-use Rattle.nd_protocol.proofs.Performing.{performs_of, settled_kept}
+use Rattle.nd_protocol.proofs.StepsLemmas.{performs_of, settled_kept}
 use Rattle.nd_protocol.proofs.Exchanges.{broadcasts, receives}
-use Rattle.nd_protocol.proofs.Enabling.{feed_possible, take_possible, notice_possible, sender_below, from_below, to_below, state_kept}
-use Rattle.nd_protocol.proofs.Passing.{stays_finished}
+use Rattle.nd_protocol.proofs.EnabledLemmas.{feed_possible, take_possible, notice_possible, sender_below, from_below, to_below, state_kept}
+use Rattle.nd_protocol.proofs.InvariantLemmas.{stays_finished}
 
 -- ---- one step
 

@@ -20,7 +20,7 @@ use Rattle.nd_protocol.specs.State.{ClusterState}
 use Rattle.nd_record.specs.Places.{Place, parts, place_cmp, place_total, place_exact}
 use Rattle.nd_record.specs.Standing.{standing, difference, change_cmp, queue_cmp, sum_below}
 use Rattle.nd_record.specs.Edits.{Edit}
-use Rattle.nd_record.proofs.Listing.{at-difference}
+use Rattle.nd_record.proofs.StandingLemmas.{at-difference}
 use Rattle.nd_record.specs.Alike.{same_key, is_place, same_place, other_place, place_itself}
 
 -- ---- keys

@@ -1,11 +1,11 @@
-pub mod Answering
-pub mod Drawing
+pub mod AnswersLemmas
+pub mod HandsLemmas
 pub mod Elements
 pub mod Found
 pub mod Joined
 pub mod Lists
 pub mod Shares
 pub mod Steps
-pub mod Stopping
+pub mod WorksLemmas
 pub mod Totals
-pub mod Walking
+pub mod WalkLemmas

@@ -1,6 +1,6 @@
-mod Starting
+mod StartLemmas
 mod Logs
 mod Told
 mod Filters
 mod Whole
-mod Telling
+mod LogLemmas

@@ -1,6 +1,6 @@
-pub mod Choosing
-pub mod Copying
-pub mod Keeping
+pub mod ChosenLemmas
+pub mod CopiesLemmas
+pub mod MovesLemmas
 pub mod KeptSteps
-pub mod Running
-pub mod Telling
+pub mod RunLemmas
+pub mod RepliesLemmas

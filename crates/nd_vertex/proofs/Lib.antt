@@ -1,4 +1,4 @@
-pub mod Editing
-pub mod Keeping
-pub mod Reacting
-pub mod Removing
+pub mod EditsLemmas
+pub mod KeptLemmas
+pub mod EffectsLemmas
+pub mod RemovalLemmas

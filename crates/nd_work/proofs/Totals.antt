@@ -13,7 +13,7 @@ use Rattle.nd_work.specs.Edits.{come_edits}
 use Rattle.nd_work.specs.Sums.{record_at_cmp, record_at_exact, IsAdded, found, IsMore, AddsAll, sum_at}
 use Rattle.nd_work.specs.declared.key.RecordAt.{RecordAt}
 use Rattle.nd_work.specs.declared.net.Sums.{Sums}
-use Rattle.nd_work.proofs.Summing.{more_found}
+use Rattle.nd_work.proofs.SumsLemmas.{more_found}
 
 pub plus_nothing : (x : ℤ) → x +ℤ pos 0 ≡ x
 plus_nothing x = omega (arith, ints)

@@ -1,8 +1,8 @@
-pub mod Beginning
-pub mod Driving
-pub mod Ending
-pub mod Gathering
+pub mod OpeningLemmas
+pub mod ServedLemmas
+pub mod WrittenLemmas
+pub mod OutboxLemmas
 pub mod Members
-pub mod Reading
-pub mod Telling
+pub mod ReadersLemmas
+pub mod ToldLemmas
 pub mod Starts

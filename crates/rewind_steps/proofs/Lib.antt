@@ -1,4 +1,4 @@
-pub mod Naming
+pub mod NamesLemmas
 pub mod Values
 pub mod ReadBack
 pub mod Fits

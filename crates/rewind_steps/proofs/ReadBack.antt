@@ -20,7 +20,7 @@ use Rattle.rewind_forms.specs.Steps.{next_at, feed_of, take_of, notice_of, broad
 use Rattle.rewind_steps.specs.Objects.{feed_object, take_object, notice_object, all_object, part_object, receive_object, object_of}
 use Rattle.nd_protocol.specs.Ranges.{NumbersFit, IsSmall, TimeIsSmall}
 use Rattle.rewind_steps.specs.Fitting.{HasDepth, NamesFit}
-use Rattle.rewind_steps.proofs.Naming.{vertex-name_at, edge-name_at, time-numbers, known, point-name_at}
+use Rattle.rewind_steps.proofs.NamesLemmas.{vertex-name_at, edge-name_at, time-numbers, known, point-name_at}
 use Rattle.rewind_steps.proofs.Values.{each_as, each_back, list-row, small-natural, integer-whole, integers-whole, numbers-natural, named, point-data}
 
 -- ---- one kind of step after the other

@@ -1,5 +1,5 @@
 use Rattle.std.proofs.Common.{sym, arith}
-use Rattle.nd_changes.proofs.Walking.{no_entry}
+use Rattle.nd_changes.proofs.WalkLemmas.{no_entry}
 use Rattle.nd_changes.proofs.telling.entry.Goals as goal
 
 pub returns-then-q-n : goal.returns-then-q-n

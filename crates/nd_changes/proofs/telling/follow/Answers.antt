@@ -2,8 +2,8 @@ use Rattle.std.proofs.Common.{◌≡◌, ◌≢◌, ◌+◌, ℕ, ℤ, FitsSigne
 use Rattle.std.proofs.lemmas.Int.{to_z-of_z}
 use Rattle.nd_changes.specs.Answers.{entry_after, changes_of}
 use Rattle.nd_changes.specs.Told.{IsTold}
-use Rattle.nd_changes.proofs.Listing.{told_none, told_other, told_same, told_enough}
-use Rattle.nd_changes.proofs.Walking.{entry_on}
+use Rattle.nd_changes.proofs.ToldLemmas.{told_none, told_other, told_same, told_enough}
+use Rattle.nd_changes.proofs.WalkLemmas.{entry_on}
 use Rattle.nd_changes.proofs.telling.follow.Goals as goal
 use Rattle.nd_changes.proofs.telling.follow.Goals.{then-after-before+in_ok-add+else-told, else-after-before}
 

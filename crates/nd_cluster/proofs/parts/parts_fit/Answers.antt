@@ -7,7 +7,7 @@ use Rattle.nd_view.specs.Kept.{Kept}
 use Rattle.nd_protocol.specs.Fitting.{IsOrdered, ProcessorFits, ChangeFits}
 use Rattle.nd_cluster.specs.Parts.{RowFits}
 use Rattle.nd_cluster.proofs.Started.{ordered}
-use Rattle.nd_cluster.proofs.Parting.{views_to, mesh_to, state_from}
+use Rattle.nd_cluster.proofs.PartsLemmas.{views_to, mesh_to, state_from}
 use Rattle.nd_cluster.proofs.parts.parts_fit.Goals as goal
 
 pub returns-then-not-processors_fit : goal.returns-then-not-processors_fit

@@ -1,5 +1,5 @@
 use Rattle.std.proofs.Common.{◌≡◌, length, refl, ap, arith}
-use Rattle.nd_cluster.proofs.Parting.{records_to, requests_to, tokens_to, items_to, sinks_to, processor_from}
+use Rattle.nd_cluster.proofs.PartsLemmas.{records_to, requests_to, tokens_to, items_to, sinks_to, processor_from}
 use Rattle.nd_cluster.proofs.parts.processor_fits.Goals as goal
 
 pub returns-then-not-records_fit : goal.returns-then-not-records_fit

@@ -1,6 +1,6 @@
 use Rattle.std.proofs.Common.{refl, arith}
 use Rattle.nd_protocol.specs.Fitting.{ProcessorFits, ProcessorIsWithin}
-use Rattle.nd_cluster.proofs.Parting.{all_more}
+use Rattle.nd_cluster.proofs.PartsLemmas.{all_more}
 use Rattle.nd_cluster.proofs.parts.processors_fit.Goals as goal
 
 pub loop-processor-preserved : goal.loop-processor-preserved

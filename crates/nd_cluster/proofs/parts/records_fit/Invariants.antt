@@ -2,7 +2,7 @@ use Rattle.std.proofs.Common.{◌≢◌, ℕ}
 use Rattle.nd_map.specs.Counts.{entries}
 use Rattle.nd_cluster.specs.Parts.{IsRecordKey}
 use Rattle.nd_processor.specs.declared.key.ValueAt.{ValueAt}
-use Rattle.nd_cluster.proofs.Parting.{IsRest}
+use Rattle.nd_cluster.proofs.PartsLemmas.{IsRest}
 use Rattle.nd_cluster.proofs.parts.records_fit.Given as goal
 
 abbrev pub invariant-loop-key : goal.invariant-loop-key

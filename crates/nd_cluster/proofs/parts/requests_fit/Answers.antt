@@ -5,7 +5,7 @@ use Rattle.std.proofs.lemmas.Map.Iter.{rest_more}
 use Rattle.std.specs.FinMap as fin
 use Rattle.nd_protocol.specs.Fitting.{IsAtVertex}
 use Rattle.nd_paths.specs.declared.point.Pointstamp.{Pointstamp}
-use Rattle.nd_cluster.proofs.Parting.{rest_first, rest_next, rest_fails, rest_done}
+use Rattle.nd_cluster.proofs.PartsLemmas.{rest_first, rest_next, rest_fails, rest_done}
 use Rattle.nd_cluster.proofs.parts.requests_fit.Goals as goal
 
 pub loop-key-init : goal.loop-key-init

@@ -1,7 +1,7 @@
 use Rattle.std.specs.FinMap as fin
 use Rattle.nd_protocol.specs.Fitting.{IsAtVertex}
 use Rattle.nd_paths.specs.declared.point.Pointstamp.{Pointstamp}
-use Rattle.nd_cluster.proofs.Parting.{IsRest}
+use Rattle.nd_cluster.proofs.PartsLemmas.{IsRest}
 use Rattle.nd_cluster.proofs.parts.requests_fit.Given as goal
 
 abbrev pub invariant-loop-key : goal.invariant-loop-key

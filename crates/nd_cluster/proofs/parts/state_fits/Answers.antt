@@ -5,7 +5,7 @@ use Rattle.std.proofs.lemmas.Map.Iter.{rest_more}
 use Rattle.nd_map.specs.Counts.{entries}
 use Rattle.nd_cluster.specs.Parts.{IsItem}
 use Rattle.nd_vertex.specs.declared.key.ItemKey.{ItemKey}
-use Rattle.nd_cluster.proofs.Parting.{rest_first, rest_next, rest_fails, rest_done}
+use Rattle.nd_cluster.proofs.PartsLemmas.{rest_first, rest_next, rest_fails, rest_done}
 use Rattle.nd_cluster.proofs.parts.state_fits.Goals as goal
 
 pub loop-key-init : goal.loop-key-init

@@ -2,7 +2,7 @@ use Rattle.std.proofs.Common.{◌≢◌, ℤ, pos}
 use Rattle.nd_map.specs.Counts.{entries}
 use Rattle.nd_cluster.specs.Parts.{IsItem}
 use Rattle.nd_vertex.specs.declared.key.ItemKey.{ItemKey}
-use Rattle.nd_cluster.proofs.Parting.{IsRest}
+use Rattle.nd_cluster.proofs.PartsLemmas.{IsRest}
 use Rattle.nd_cluster.proofs.parts.state_fits.Given as goal
 
 abbrev pub invariant-loop-key : goal.invariant-loop-key

@@ -5,7 +5,7 @@ use Rattle.std.proofs.lemmas.Map.Iter.{rest_more}
 use Rattle.nd_delta.specs.Change.{entries}
 use Rattle.nd_protocol.specs.Fitting.{IsAtLocation}
 use Rattle.nd_paths.specs.declared.point.Pointstamp.{Pointstamp}
-use Rattle.nd_cluster.proofs.Parting.{rest_first, rest_next, rest_fails, rest_done, change_from, change_to}
+use Rattle.nd_cluster.proofs.PartsLemmas.{rest_first, rest_next, rest_fails, rest_done, change_from, change_to}
 use Rattle.nd_cluster.proofs.parts.unsent_fits.Goals as goal
 
 pub loop-key-init : goal.loop-key-init

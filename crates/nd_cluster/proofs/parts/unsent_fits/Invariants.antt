@@ -2,7 +2,7 @@ use Rattle.std.proofs.Common.{ℤ}
 use Rattle.nd_delta.specs.Change.{entries}
 use Rattle.nd_protocol.specs.Fitting.{IsAtLocation}
 use Rattle.nd_paths.specs.declared.point.Pointstamp.{Pointstamp}
-use Rattle.nd_cluster.proofs.Parting.{IsRest}
+use Rattle.nd_cluster.proofs.PartsLemmas.{IsRest}
 use Rattle.nd_cluster.proofs.parts.unsent_fits.Given as goal
 
 abbrev pub invariant-loop-key : goal.invariant-loop-key

@@ -2,7 +2,7 @@ use Rattle.std.proofs.Common.{ℤ, sym, subst}
 use Rattle.std.specs.Prelude.{All}
 use Rattle.nd_protocol.specs.Fitting.{IsAtLocation}
 use Rattle.nd_paths.specs.declared.point.Pointstamp.{Pointstamp}
-use Rattle.nd_cluster.proofs.Parting.{change_from, change_to}
+use Rattle.nd_cluster.proofs.PartsLemmas.{change_from, change_to}
 use Rattle.nd_cluster.proofs.parts.view_fits.Goals as goal
 
 pub returns-clause-fits : goal.returns-clause-fits

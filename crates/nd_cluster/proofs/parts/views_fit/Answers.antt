@@ -1,7 +1,7 @@
 use Rattle.std.proofs.Common.{refl, arith}
 use Rattle.nd_view.specs.Kept.{Kept}
 use Rattle.nd_protocol.specs.Fitting.{ChangeFits, ChangeIsWithin}
-use Rattle.nd_cluster.proofs.Parting.{all_more}
+use Rattle.nd_cluster.proofs.PartsLemmas.{all_more}
 use Rattle.nd_cluster.proofs.parts.views_fit.Goals as goal
 
 pub loop-view-preserved : goal.loop-view-preserved

@@ -1,7 +1,7 @@
 use Rattle.std.proofs.Common.{◌≡◌, FitsSigned, w64, subst, take, rules}
 use Rattle.std.proofs.lemmas.Int.{to_z-of_z}
 use Rattle.nd_cluster.specs.Sinks.{sunk}
-use Rattle.nd_cluster.proofs.Sinking.{sunk_all}
+use Rattle.nd_cluster.proofs.SinksLemmas.{sunk_all}
 use Rattle.nd_cluster.proofs.sinks.count_sinks.Goals as goal
 
 pub returns : goal.returns

@@ -1,6 +1,6 @@
 use Rattle.std.proofs.Common.{pos, ap, ◌∙◌, arith}
 use Rattle.nd_delta.specs.Change.{at, at-none}
-use Rattle.nd_delta.proofs.Keeping.{all_within}
+use Rattle.nd_delta.proofs.KeptLemmas.{all_within}
 use Rattle.nd_delta.proofs.Sums.{kept, next_point, part_done}
 use Rattle.nd_delta.proofs.Delta.part.Goals as goal
 

@@ -2,7 +2,7 @@ use Rattle.std.proofs.Common.{arith, ◌≡◌, pos, ap, sym, ◌∙◌, w64}
 use Rattle.std.proofs.lemmas.Int.{ints, to_z-of_z}
 use Rattle.nd_delta.specs.Change.{set, or_zero, of_entries}
 use Rattle.nd_delta.specs.Kept.{IsCount}
-use Rattle.nd_delta.proofs.Keeping.{kept_put, kept_without, of_put, of_without, at_found}
+use Rattle.nd_delta.proofs.KeptLemmas.{kept_put, kept_without, of_put, of_without, at_found}
 use Rattle.nd_delta.proofs.Delta.put.Goals as goal
 
 pub invariant_of-self : goal.invariant_of-self

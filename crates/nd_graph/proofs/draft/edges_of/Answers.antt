@@ -3,7 +3,7 @@ use Rattle.std.proofs.lemmas.Result.{err_from_is_err_and}
 use Rattle.serde_json.specs.View.{view}
 use Rattle.nd_graph.specs.declared.fault.GraphFault.TheVariants.{Shape}
 use Rattle.nd_graph.specs.Draft.{every, edge_of}
-use Rattle.nd_graph.proofs.Reading.{every_seen-next, every_seen-refused}
+use Rattle.nd_graph.proofs.DraftLemmas.{every_seen-next, every_seen-refused}
 use Rattle.nd_graph.proofs.draft.edges_of.Goals as goal
 
 pub returns-in_err-edge-clause-err : goal.returns-in_err-edge-clause-err

@@ -2,7 +2,7 @@ use Rattle.std.proofs.Common.{◌≡◌, ◌∙◌, inr, refl, sym, ap, None, Er
 use Rattle.std.proofs.lemmas.Result.{err_from_is_err_and}
 use Rattle.nd_graph.specs.declared.fault.GraphFault.TheVariants.{UnknownName}
 use Rattle.nd_graph.specs.Checked.{located}
-use Rattle.nd_graph.proofs.Reading.{every-refused, every-next}
+use Rattle.nd_graph.proofs.DraftLemmas.{every-refused, every-next}
 use Rattle.nd_graph.proofs.names.all_located.Goals as goal
 
 pub returns-in_err-edge-clause-err : goal.returns-in_err-edge-clause-err

@@ -1,6 +1,6 @@
 use Rattle.std.proofs.Common.{◌≡◌, inl, inr, subst, arith, rules}
 use Rattle.nd_paths.specs.Inside.{inner, AtMost}
-use Rattle.nd_paths.proofs.Relaxing.{past_can, past_keep, known_alike, stays_quiet, writes}
+use Rattle.nd_paths.proofs.RowLemmas.{past_can, past_keep, known_alike, stays_quiet, writes}
 use Rattle.nd_paths.proofs.table.relax.Goals as goal
 use Rattle.nd_paths.proofs.table.relax.Goals.{in-Some-look+else-is_at_most, in_default}
 

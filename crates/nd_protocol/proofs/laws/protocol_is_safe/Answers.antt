@@ -1,4 +1,4 @@
-use Rattle.nd_protocol.proofs.Passing.{passed, last}
+use Rattle.nd_protocol.proofs.InvariantLemmas.{passed, last}
 use Rattle.nd_protocol.proofs.Notices.{comes_last}
 use Rattle.nd_protocol.proofs.Runs.{run_finished}
 use Rattle.nd_protocol.proofs.laws.protocol_is_safe.Goals as goal

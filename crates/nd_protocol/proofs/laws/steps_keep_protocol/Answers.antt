@@ -1,4 +1,4 @@
-use Rattle.nd_protocol.proofs.Enabling.{state_kept}
+use Rattle.nd_protocol.proofs.EnabledLemmas.{state_kept}
 use Rattle.nd_protocol.proofs.Runs.{step_settled, step_kept, run_kept}
 use Rattle.nd_protocol.proofs.laws.steps_keep_protocol.Goals as goal
 

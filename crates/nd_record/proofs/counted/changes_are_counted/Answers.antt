@@ -1,4 +1,4 @@
-use Rattle.nd_record.proofs.Differing.{sent_changed, received_changed}
+use Rattle.nd_record.proofs.CountedLemmas.{sent_changed, received_changed}
 use Rattle.nd_record.proofs.counted.changes_are_counted.Goals as goal
 
 pub returns-clause-sent : goal.returns-clause-sent

@@ -3,7 +3,7 @@ use Rattle.std.proofs.lemmas.Bool.{cases_lt}
 use Rattle.std.proofs.lemmas.List.{get_or_default}
 use Rattle.nd_record.specs.Limits.{EntryStaysOf}
 use Rattle.nd_record.specs.declared.change.Change.{Change}
-use Rattle.nd_record.proofs.Planning.{each_from}
+use Rattle.nd_record.proofs.EachLemmas.{each_from}
 use Rattle.nd_record.proofs.limits.entries_stay.Goals as goal
 
 pub loop-change-preserved : goal.loop-change-preserved

@@ -1,8 +1,8 @@
 use Rattle.std.proofs.Common.{IsTrue, false, refl}
 use Rattle.nd_record.specs.Limits.{CountStaysOf, EntryStaysOf}
 use Rattle.nd_record.specs.Plans.{Each}
-use Rattle.nd_record.proofs.Filling.{both_stay, counts_pass, entries_pass, counts_fit, entries_fit, within_then}
-use Rattle.nd_record.proofs.Reaching.{owners_there, in_state, in_list}
+use Rattle.nd_record.proofs.LimitsLemmas.{both_stay, counts_pass, entries_pass, counts_fit, entries_fit, within_then}
+use Rattle.nd_record.proofs.ReachesLemmas.{owners_there, in_state, in_list}
 use Rattle.nd_record.proofs.limits.limit_refusal.Goals as goal
 
 refused : IsTrue false → ⊥

@@ -2,7 +2,7 @@ use Rattle.std.proofs.Common.{◌≡◌, ◌<◌, ℤ, neg_ℤ, length, Some, w6
 use Rattle.nd_paths.specs.declared.point.Pointstamp.{Pointstamp}
 use Rattle.nd_record.specs.Listed.{arrives}
 use Rattle.nd_record.specs.declared.listed.Entry.TheVariants.{View, Front}
-use Rattle.nd_record.proofs.Naming.{number_is, entry_here, entry_last, entry_past}
+use Rattle.nd_record.proofs.ListedLemmas.{number_is, entry_here, entry_last, entry_past}
 use Rattle.nd_record.proofs.listed.of_received.Goals as goal
 
 pub returns-then-i-entries : goal.returns-then-i-entries

@@ -4,7 +4,7 @@ use Rattle.nd_record.specs.Listed.{leaves}
 use Rattle.nd_record.specs.declared.change.Change.{Change}
 use Rattle.nd_record.specs.declared.change.Change.TheVariants.{Unsent}
 use Rattle.nd_record.specs.declared.listed.Entry.TheVariants.{Key, Back}
-use Rattle.nd_record.proofs.Naming.{can_turn, number_is, entry_here, entry_last, entry_past}
+use Rattle.nd_record.proofs.ListedLemmas.{can_turn, number_is, entry_here, entry_last, entry_past}
 use Rattle.nd_record.proofs.listed.of_sent.Goals as goal
 
 pub inverse-requires : goal.inverse-requires

@@ -2,7 +2,7 @@ use Rattle.std.proofs.Common.{◌≡◌, ◌<◌, ◌≤◌, ◌+◌, ◌-◌, l
 use Rattle.nd_protocol.specs.State.{ClusterState}
 use Rattle.nd_record.specs.Undone.{only}
 use Rattle.nd_record.proofs.Edited.{processors_of}
-use Rattle.nd_record.proofs.Running.{state_none, all_made, next_here, turns_here, fits_here, back_here}
+use Rattle.nd_record.proofs.RunsLemmas.{state_none, all_made, next_here, turns_here, fits_here, back_here}
 use Rattle.nd_record.proofs.making.make_all.Goals as goal
 
 pub loop-i-init : goal.loop-i-init

@@ -3,7 +3,7 @@ use Rattle.nd_processor.specs.State.{ProcessorState}
 use Rattle.nd_record.specs.Turns.{number_of, of_turn, AreTurnsIn}
 use Rattle.nd_record.specs.declared.change.Change.{Change}
 use Rattle.nd_record.specs.declared.order.Turn.{Turn}
-use Rattle.nd_record.proofs.Reaching.{owners_there, all_find, leads_in}
+use Rattle.nd_record.proofs.ReachesLemmas.{owners_there, all_find, leads_in}
 use Rattle.nd_record.proofs.order.in_order.Goals as goal
 
 -- the turns in another list that is equal

@@ -1,6 +1,6 @@
 use Rattle.std.proofs.Common.{◌≡◌, ap, true, false, arith}
 use Rattle.nd_search.specs.Least.{HoldsAt}
-use Rattle.nd_search.proofs.Walking.{no_hit_more, not_here}
+use Rattle.nd_search.proofs.WalkLemmas.{no_hit_more, not_here}
 use Rattle.nd_search.proofs.piece.first_hit.Goals as goal
 
 pub loop-i-preserved : goal.loop-i-preserved

@@ -2,7 +2,7 @@ use Rattle.std.proofs.Common.{◌≡◌, ◌≤◌, ◌∙◌, ℕ, List, Option
 use Rattle.nd_search.specs.declared.work.Searched.{Searched}
 use Rattle.nd_search.specs.Least.{HoldsAt}
 use Rattle.nd_search.specs.Pieces.{piece_count}
-use Rattle.nd_search.proofs.Answering.{is_least, gap_within, gap_before, searched_there, told_there, all_in_there, stopped_there, counted_there, claimed_there}
+use Rattle.nd_search.proofs.AnswersLemmas.{is_least, gap_within, gap_before, searched_there, told_there, all_in_there, stopped_there, counted_there, claimed_there}
 use Rattle.nd_search.proofs.searching.search.Goals as goal
 
 pub returns-in-Ok-clause-found : goal.returns-in-Ok-clause-found

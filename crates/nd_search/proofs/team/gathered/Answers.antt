@@ -5,7 +5,7 @@ use Rattle.nd_search.specs.declared.work.Work.{Work}
 use Rattle.nd_search.specs.declared.work.Searched.{Searched}
 use Rattle.nd_search.specs.Claims.{times, times_all}
 use Rattle.nd_search.specs.Works.{HasDrawn}
-use Rattle.nd_search.proofs.Stopping.{drawn_more}
+use Rattle.nd_search.proofs.WorksLemmas.{drawn_more}
 use Rattle.nd_search.proofs.Lists.{times_all-more, more_lists, times_under, map-more}
 use Rattle.nd_search.proofs.team.gathered.Goals as goal
 

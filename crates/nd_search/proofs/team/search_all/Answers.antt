@@ -7,7 +7,7 @@ use Rattle.nd_search.specs.Claims.{times}
 use Rattle.nd_search.specs.Works.{IsReady, IsSearched, HaveStopped}
 use Rattle.nd_search.proofs.Elements.{all_mapped, length_twice}
 use Rattle.nd_search.proofs.Joined.{all_done}
-use Rattle.nd_search.proofs.Stopping.{have_stopped}
+use Rattle.nd_search.proofs.WorksLemmas.{have_stopped}
 use Rattle.nd_search.proofs.Lists.{below_min}
 use Rattle.nd_search.proofs.team.search_all.Goals as goal
 

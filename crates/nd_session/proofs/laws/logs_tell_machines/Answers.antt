@@ -1,4 +1,4 @@
-use Rattle.nd_session.proofs.Telling.{logs_tell}
+use Rattle.nd_session.proofs.LogLemmas.{logs_tell}
 use Rattle.nd_session.proofs.laws.logs_tell_machines.Goals as goal
 
 pub returns : goal.returns

@@ -1,4 +1,4 @@
-use Rattle.nd_timeline.proofs.Keeping.{keeps_base, keeps_timelines}
+use Rattle.nd_timeline.proofs.MovesLemmas.{keeps_base, keeps_timelines}
 use Rattle.nd_timeline.proofs.laws.moves_keep_timelines.Goals as goal
 
 pub returns-clause-base : goal.returns-clause-base

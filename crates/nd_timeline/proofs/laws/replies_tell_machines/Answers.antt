@@ -1,5 +1,5 @@
-use Rattle.nd_timeline.proofs.Choosing.{one_choice}
-use Rattle.nd_timeline.proofs.Telling.{replies_tell}
+use Rattle.nd_timeline.proofs.ChosenLemmas.{one_choice}
+use Rattle.nd_timeline.proofs.RepliesLemmas.{replies_tell}
 use Rattle.nd_timeline.proofs.laws.replies_tell_machines.Goals as goal
 
 pub returns-clause-choice : goal.returns-clause-choice

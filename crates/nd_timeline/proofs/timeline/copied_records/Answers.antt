@@ -1,7 +1,7 @@
 use Rattle.std.proofs.Common.{ℕ, ◌+◌, List, ◌∷◌, [], ◌++◌, get_or, take, sym, subst, add-one}
 use Rattle.nd_record.specs.declared.record.Record.{Record}
 use Rattle.nd_timeline.specs.Reached.{IsCopy, AreCopies}
-use Rattle.nd_timeline.proofs.Copying.{copied_next}
+use Rattle.nd_timeline.proofs.CopiesLemmas.{copied_next}
 use Rattle.nd_timeline.proofs.timeline.copied_records.Goals as goal
 
 pub loop-kept-preserved : goal.loop-kept-preserved

@@ -1,5 +1,5 @@
 use Rattle.std.proofs.Common.{sym, ◌∙◌}
-use Rattle.nd_vertex.proofs.Reacting.{asks_is}
+use Rattle.nd_vertex.proofs.EffectsLemmas.{asks_is}
 use Rattle.nd_vertex.proofs.react.asks_for_notices.Goals as goal
 
 pub returns : goal.returns

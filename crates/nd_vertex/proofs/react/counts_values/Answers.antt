@@ -1,5 +1,5 @@
 use Rattle.std.proofs.Common.{sym, ◌∙◌}
-use Rattle.nd_vertex.proofs.Reacting.{counts_is}
+use Rattle.nd_vertex.proofs.EffectsLemmas.{counts_is}
 use Rattle.nd_vertex.proofs.react.counts_values.Goals as goal
 
 pub returns : goal.returns

@@ -5,7 +5,7 @@ use Rattle.nd_protocol.specs.declared.step.Step.{Step}
 use Rattle.nd_protocol.specs.declared.step.Step.TheVariants.{Feed}
 use Rattle.nd_record.specs.Plans.{Reaches}
 use Rattle.nd_record.specs.declared.change.Change.{Change}
-use Rattle.nd_work.proofs.Assembling.{reaches}
+use Rattle.nd_work.proofs.ReachedLemmas.{reaches}
 use Rattle.nd_work.proofs.feed.feed_changes.Goals as goal
 
 pub returns : goal.returns

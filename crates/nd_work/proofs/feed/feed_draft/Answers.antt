@@ -4,7 +4,7 @@ use Rattle.nd_protocol.specs.Steps.{made_on, flat}
 use Rattle.nd_protocol.specs.declared.step.Step.TheVariants.{Feed}
 use Rattle.nd_work.specs.Edits.{token_edits, come, come_edits}
 use Rattle.nd_work.specs.Drafts.{AddsUp}
-use Rattle.nd_work.proofs.Feeding.{fed_come, fed_adds}
+use Rattle.nd_work.proofs.FedLemmas.{fed_come, fed_adds}
 use Rattle.nd_work.proofs.feed.feed_draft.Goals as goal
 
 pub returns : goal.returns

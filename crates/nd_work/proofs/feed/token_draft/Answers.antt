@@ -1,8 +1,8 @@
 use Rattle.std.proofs.Common.{subst, sym, arith}
 use Rattle.nd_work.specs.Edits.{token_edits}
 use Rattle.nd_work.specs.Drafts.{AddsUp}
-use Rattle.nd_work.proofs.Drafting.{small_as}
-use Rattle.nd_work.proofs.Feeding.{closed_adds, next_adds}
+use Rattle.nd_work.proofs.DraftsLemmas.{small_as}
+use Rattle.nd_work.proofs.FedLemmas.{closed_adds, next_adds}
 use Rattle.nd_work.proofs.feed.token_draft.Goals as goal
 
 pub add_unsent-requires-clause-small : goal.add_unsent-requires-clause-small

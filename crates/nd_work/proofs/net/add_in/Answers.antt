@@ -1,7 +1,7 @@
 use Rattle.std.proofs.Common.{◌≡◌, ◌≤◌, ◌+ℤ◌, pos, w64, to_z, of_z, unsigned_abs, ap, sym, subst, ◌∙◌}
 use Rattle.nd_time.specs.Limits.{max_count}
 use Rattle.nd_work.specs.Sums.{IsSum, found}
-use Rattle.nd_work.proofs.Summing.{added_put, added_without, sums_put, sums_without, parts, summed}
+use Rattle.nd_work.proofs.SumsLemmas.{added_put, added_without, sums_put, sums_without, parts, summed}
 use Rattle.nd_work.proofs.net.add_in.Goals as goal
 
 pub returns-then-sum-eq0-clause-ok : goal.returns-then-sum-eq0-clause-ok

@@ -5,7 +5,7 @@ use Rattle.nd_protocol.specs.declared.step.Step.{Step}
 use Rattle.nd_protocol.specs.declared.step.Step.TheVariants.{Notice}
 use Rattle.nd_record.specs.Plans.{Reaches}
 use Rattle.nd_record.specs.declared.change.Change.{Change}
-use Rattle.nd_work.proofs.Assembling.{reaches}
+use Rattle.nd_work.proofs.ReachedLemmas.{reaches}
 use Rattle.nd_work.proofs.react.notice_changes.Goals as goal
 
 pub returns : goal.returns

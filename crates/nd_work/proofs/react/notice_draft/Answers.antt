@@ -4,8 +4,8 @@ use Rattle.nd_protocol.specs.Steps.{made_on}
 use Rattle.nd_protocol.specs.declared.step.Step.TheVariants.{Notice}
 use Rattle.nd_vertex.specs.declared.effect.Emission.{Emission}
 use Rattle.nd_work.specs.Edits.{come}
-use Rattle.nd_work.proofs.Drafting.{small_as}
-use Rattle.nd_work.proofs.Reacting.{notice_adds, notice_come}
+use Rattle.nd_work.proofs.DraftsLemmas.{small_as}
+use Rattle.nd_work.proofs.ReactionLemmas.{notice_adds, notice_come}
 use Rattle.nd_work.proofs.react.notice_draft.Goals as goal
 
 pub add_come-requires-clause-small : goal.add_come-requires-clause-small

@@ -5,7 +5,7 @@ use Rattle.nd_protocol.specs.declared.step.Step.{Step}
 use Rattle.nd_protocol.specs.declared.step.Step.TheVariants.{Take}
 use Rattle.nd_record.specs.Plans.{Reaches}
 use Rattle.nd_record.specs.declared.change.Change.{Change}
-use Rattle.nd_work.proofs.Assembling.{reaches}
+use Rattle.nd_work.proofs.ReachedLemmas.{reaches}
 use Rattle.nd_work.proofs.react.take_changes.Goals as goal
 
 pub returns : goal.returns

@@ -4,8 +4,8 @@ use Rattle.nd_protocol.specs.Steps.{made_on, point_at}
 use Rattle.nd_protocol.specs.declared.step.Step.TheVariants.{Take}
 use Rattle.nd_vertex.specs.declared.effect.Emission.{Emission}
 use Rattle.nd_work.specs.Edits.{come}
-use Rattle.nd_work.proofs.Drafting.{small_as}
-use Rattle.nd_work.proofs.Reacting.{take_adds, take_come}
+use Rattle.nd_work.proofs.DraftsLemmas.{small_as}
+use Rattle.nd_work.proofs.ReactionLemmas.{take_adds, take_come}
 use Rattle.nd_work.proofs.react.take_draft.Goals as goal
 
 pub add_unsent-requires-clause-small : goal.add_unsent-requires-clause-small

@@ -1,5 +1,5 @@
 use Rattle.serde_json.specs.View.{view}
-use Rattle.rewind_clients.proofs.Ending.{faulty-told, refused-told, version-ends}
+use Rattle.rewind_clients.proofs.WrittenLemmas.{faulty-told, refused-told, version-ends}
 use Rattle.rewind_clients.proofs.clients.answer.Goals as goal
 
 pub returns-in_ok-tell_one-in-Refused-clause-run : goal.returns-in_ok-tell_one-in-Refused-clause-run

@@ -4,8 +4,8 @@ use Rattle.nd_session.specs.Log.{opening_of}
 use Rattle.rewind_answers.specs.Stages.{logged}
 use Rattle.rewind_clients.specs.Intakes.{lists_of, opening_replies, script_view, version_of}
 use Rattle.rewind_clients.specs.Told.{Tells, lines_data, machine_of}
-use Rattle.rewind_clients.proofs.Driving.{opened-history, some-lines}
-use Rattle.rewind_clients.proofs.Ending.{script-ends, stops-driving, stops-in}
+use Rattle.rewind_clients.proofs.ServedLemmas.{opened-history, some-lines}
+use Rattle.rewind_clients.proofs.WrittenLemmas.{script-ends, stops-driving, stops-in}
 use Rattle.rewind_clients.proofs.clients.answer_script.Goals as goal
 
 pub returns-in_err-tell_opening-clause-run : goal.returns-in_err-tell_opening-clause-run

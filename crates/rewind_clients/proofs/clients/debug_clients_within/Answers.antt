@@ -2,7 +2,7 @@ use Rattle.std.proofs.Common.{◌∙◌, refl, sym}
 use Rattle.std.proofs.lemmas.Result.{err_from_is_err_and}
 use Rattle.rewind_clients.specs.Clients.{answered, unread}
 use Rattle.rewind_clients.specs.Intakes.{intake_view}
-use Rattle.rewind_clients.proofs.Ending.{not-write}
+use Rattle.rewind_clients.proofs.WrittenLemmas.{not-write}
 use Rattle.rewind_clients.proofs.clients.debug_clients_within.Goals as goal
 
 pub returns-in_err-intake-clause-run : goal.returns-in_err-intake-clause-run

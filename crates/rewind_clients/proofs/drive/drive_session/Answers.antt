@@ -3,7 +3,7 @@ use Rattle.nd_protocol.specs.State.{ClusterState}
 use Rattle.nd_graph.specs.Graph.{Dataflow}
 use Rattle.rewind_clients.specs.Intakes.{lists_of}
 use Rattle.rewind_clients.specs.Told.{machine_of}
-use Rattle.rewind_clients.proofs.Driving.{driven}
+use Rattle.rewind_clients.proofs.ServedLemmas.{driven}
 use Rattle.rewind_clients.proofs.Starts.{same_start}
 use Rattle.rewind_clients.proofs.drive.drive_session.Goals as goal
 

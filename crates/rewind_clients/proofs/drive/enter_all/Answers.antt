@@ -1,7 +1,7 @@
 use Rattle.std.proofs.Common.{◌≡◌, ◌∙◌, length, refl, rules}
 use Rattle.rewind_clients.specs.Intakes.{lists_of}
 use Rattle.rewind_clients.specs.declared.drive.Task.{Task}
-use Rattle.rewind_clients.proofs.Driving.{fresh-more, lists-one}
+use Rattle.rewind_clients.proofs.ServedLemmas.{fresh-more, lists-one}
 use Rattle.rewind_clients.proofs.drive.enter_all.Goals as goal
 
 pub loop-list-preserved : goal.loop-list-preserved

@@ -1,7 +1,7 @@
 use Rattle.std.proofs.Common.{◌∙◌, ◌++◌, ◌∷◌, [], ap, sym}
 use Rattle.std.proofs.lemmas.List.{map-append}
 use Rattle.rewind_clients.specs.declared.drive.Done.{Done}
-use Rattle.rewind_clients.proofs.Driving.{ended-more}
+use Rattle.rewind_clients.proofs.ServedLemmas.{ended-more}
 use Rattle.rewind_clients.proofs.drive.split.Goals as goal
 
 pub loop-one-preserved : goal.loop-one-preserved

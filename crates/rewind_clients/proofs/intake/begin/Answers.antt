@@ -1,4 +1,4 @@
-use Rattle.rewind_clients.proofs.Beginning.{reads-bad, reads-blank, reads-long}
+use Rattle.rewind_clients.proofs.OpeningLemmas.{reads-bad, reads-blank, reads-long}
 use Rattle.rewind_clients.proofs.intake.begin.Goals as goal
 
 pub returns-in-Blank : goal.returns-in-Blank

@@ -1,4 +1,4 @@
-use Rattle.rewind_clients.proofs.Beginning.{reads-version}
+use Rattle.rewind_clients.proofs.OpeningLemmas.{reads-version}
 use Rattle.rewind_clients.proofs.intake.read_value.Goals as goal
 
 pub returns-in-Some-version_of : goal.returns-in-Some-version_of

@@ -2,7 +2,7 @@ use Rattle.std.proofs.Common.{◌∙◌, ◌+◌, ◌≤◌, length, ap, arith}
 use Rattle.std.proofs.lemmas.Bool.{ne_eqb}
 use Rattle.std.proofs.lemmas.List.{length-take}
 use Rattle.std.proofs.lemmas.Result.{err_from_is_err_and}
-use Rattle.rewind_clients.proofs.Reading.{fails-long, fails-piece, fails-read, going-on, read-whole}
+use Rattle.rewind_clients.proofs.ReadersLemmas.{fails-long, fails-piece, fails-read, going-on, read-whole}
 use Rattle.rewind_clients.proofs.reader.read_script.Goals as goal
 
 pub returns-in_err-n-clause-err : goal.returns-in_err-n-clause-err

@@ -4,7 +4,7 @@ use Rattle.std.proofs.lemmas.Result.{err_from_is_err_and}
 use Rattle.serde_json.specs.Data.{Data}
 use Rattle.serde_json.specs.View.{view}
 use Rattle.rewind_clients.specs.Told.{faults_data}
-use Rattle.rewind_clients.proofs.Telling.{lines-of, stops-put}
+use Rattle.rewind_clients.proofs.ToldLemmas.{lines-of, stops-put}
 use Rattle.rewind_clients.proofs.tell.put_fault.Goals as goal
 
 pub returns-in_err-value-clause-err : goal.returns-in_err-value-clause-err

@@ -4,8 +4,8 @@ use Rattle.std.proofs.lemmas.Result.{err_from_is_err_and}
 use Rattle.serde_json.specs.Data.{Data}
 use Rattle.rewind_clients.specs.Outbox.{Gathered, StopsIn}
 use Rattle.rewind_clients.specs.Told.{faults_data}
-use Rattle.rewind_clients.proofs.Ending.{stops-more}
-use Rattle.rewind_clients.proofs.Telling.{faults-one, faults-step}
+use Rattle.rewind_clients.proofs.WrittenLemmas.{stops-more}
+use Rattle.rewind_clients.proofs.ToldLemmas.{faults-one, faults-step}
 use Rattle.rewind_clients.proofs.tell.put_faults.Goals as goal
 
 pub returns-in_err-put_fault-clause-err : goal.returns-in_err-put_fault-clause-err

@@ -5,7 +5,7 @@ use Rattle.serde_json.specs.Data.{Data}
 use Rattle.serde_json.specs.View.{view}
 use Rattle.rewind_clients.specs.Outbox.{Gathered}
 use Rattle.rewind_clients.specs.Told.{entry_data}
-use Rattle.rewind_clients.proofs.Telling.{lines-of, map-one, map-rest, stops-put}
+use Rattle.rewind_clients.proofs.ToldLemmas.{lines-of, map-one, map-rest, stops-put}
 use Rattle.rewind_clients.proofs.tell.put_log.Goals as goal
 
 pub returns-in_err-value-clause-err : goal.returns-in_err-value-clause-err

@@ -5,7 +5,7 @@ use Rattle.serde_json.specs.Data.{Data}
 use Rattle.serde_json.specs.View.{view}
 use Rattle.rewind_forms.specs.Replies.{version}
 use Rattle.rewind_clients.specs.Intakes.{version_replies}
-use Rattle.rewind_clients.proofs.Telling.{lines-of, stops-put}
+use Rattle.rewind_clients.proofs.ToldLemmas.{lines-of, stops-put}
 use Rattle.rewind_clients.proofs.tell.put_version.Goals as goal
 
 pub returns-in_err-reply-clause-err : goal.returns-in_err-reply-clause-err

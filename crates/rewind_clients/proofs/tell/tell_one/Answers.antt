@@ -1,8 +1,8 @@
 use Rattle.std.proofs.Common.{[], refl}
 use Rattle.std.proofs.lemmas.Result.{err_from_is_err_and}
 use Rattle.serde_json.specs.View.{view}
-use Rattle.rewind_clients.proofs.Ending.{all-written, none-gathered}
-use Rattle.rewind_clients.proofs.Telling.{stops-put}
+use Rattle.rewind_clients.proofs.WrittenLemmas.{all-written, none-gathered}
+use Rattle.rewind_clients.proofs.ToldLemmas.{stops-put}
 use Rattle.rewind_clients.proofs.tell.tell_one.Goals as goal
 
 pub returns-in_err-put-clause-err : goal.returns-in_err-put-clause-err

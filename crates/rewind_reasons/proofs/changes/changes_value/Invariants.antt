@@ -1,5 +1,5 @@
 use Rattle.rewind_reasons.specs.Changes.{changed_data}
-use Rattle.rewind_reasons.proofs.Listing.{Shows}
+use Rattle.rewind_reasons.proofs.ReasonsLemmas.{Shows}
 use Rattle.rewind_reasons.proofs.changes.changes_value.Given as goal
 
 abbrev pub invariant-loop-changed : goal.invariant-loop-changed

@@ -3,7 +3,7 @@ use Rattle.serde_json.specs.Data.{array}
 use Rattle.serde_json.specs.View.{items_of}
 use Rattle.serde_json.proofs.Views.{view-Array}
 use Rattle.rewind_reasons.specs.Reasons.{held_data}
-use Rattle.rewind_reasons.proofs.Listing.{shows_read, shows_all}
+use Rattle.rewind_reasons.proofs.ReasonsLemmas.{shows_read, shows_all}
 use Rattle.rewind_reasons.proofs.held.held_value.Goals as goal
 
 pub loop-one-preserved : goal.loop-one-preserved

@@ -1,5 +1,5 @@
 use Rattle.rewind_reasons.specs.Reasons.{held_data}
-use Rattle.rewind_reasons.proofs.Listing.{Shows}
+use Rattle.rewind_reasons.proofs.ReasonsLemmas.{Shows}
 use Rattle.rewind_reasons.proofs.held.held_value.Given as goal
 
 abbrev pub invariant-loop-one : goal.invariant-loop-one

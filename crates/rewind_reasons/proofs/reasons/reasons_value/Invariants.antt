@@ -1,5 +1,5 @@
 use Rattle.rewind_reasons.specs.Reasons.{reason_data}
-use Rattle.rewind_reasons.proofs.Listing.{Shows}
+use Rattle.rewind_reasons.proofs.ReasonsLemmas.{Shows}
 use Rattle.rewind_reasons.proofs.reasons.reasons_value.Given as goal
 
 abbrev pub invariant-loop-reason : goal.invariant-loop-reason

@@ -1,5 +1,5 @@
 use Rattle.rewind_reasons.specs.Reasons.{unheard_data}
-use Rattle.rewind_reasons.proofs.Listing.{Shows}
+use Rattle.rewind_reasons.proofs.ReasonsLemmas.{Shows}
 use Rattle.rewind_reasons.proofs.unheard.unheard_value.Given as goal
 
 abbrev pub invariant-loop-one : goal.invariant-loop-one

@@ -1,5 +1,5 @@
 use Rattle.std.proofs.Common.{arith, refl, ap, length}
-use Rattle.nd_changes.proofs.Listing.{with_room, without_room}
+use Rattle.nd_changes.proofs.ToldLemmas.{with_room, without_room}
 use Rattle.nd_changes.proofs.told.Told.add.Goals as goal
 
 pub returns-then-as_slice-ge-MAX_TOLD : goal.returns-then-as_slice-ge-MAX_TOLD

@@ -1,6 +1,6 @@
 use Rattle.std.proofs.Common.{sym, subst, ◌∙◌}
 use Rattle.nd_record.specs.Records.{Makes}
-use Rattle.nd_cluster.proofs.Seeing.{is_seen}
+use Rattle.nd_cluster.proofs.SeenLemmas.{is_seen}
 use Rattle.nd_cluster.proofs.cluster.Cluster.back.Goals as goal
 
 pub undo-requires-clause-made : goal.undo-requires-clause-made

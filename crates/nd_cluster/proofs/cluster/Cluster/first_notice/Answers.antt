@@ -11,7 +11,7 @@ use Rattle.nd_protocol.specs.Enabled.{IsEnabled}
 use Rattle.nd_protocol.specs.declared.step.Step.{Step}
 use Rattle.nd_protocol.specs.declared.step.Step.TheVariants.{Notice}
 use Rattle.nd_cluster.specs.Choice.{IsFirst, IsOfRank, Tries}
-use Rattle.nd_cluster.proofs.Choosing.{HasNotices, CanNotice, Noticing, notices_listed, notices_next, no_notice, first_notice}
+use Rattle.nd_cluster.proofs.ChoiceLemmas.{HasNotices, CanNotice, Noticing, notices_listed, notices_next, no_notice, first_notice}
 use Rattle.nd_cluster.proofs.cluster.Cluster.first_notice.Goals as goal
 
 pub loop-point-init : goal.loop-point-init

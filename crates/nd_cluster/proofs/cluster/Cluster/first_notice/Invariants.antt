@@ -1,6 +1,6 @@
 use Rattle.nd_map.specs.Listed.{IsListed}
 use Rattle.nd_paths.specs.Point.{point_cmp}
-use Rattle.nd_cluster.proofs.Choosing.{HasNotices}
+use Rattle.nd_cluster.proofs.ChoiceLemmas.{HasNotices}
 use Rattle.nd_cluster.proofs.cluster.Cluster.first_notice.Given as goal
 
 abbrev pub invariant-loop-point : goal.invariant-loop-point

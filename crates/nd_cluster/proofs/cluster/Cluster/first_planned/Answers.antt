@@ -1,6 +1,6 @@
 use Rattle.std.proofs.Common.{Some, ◌≡◌, ◌<◌, ◌+◌, ◌%◌, ℕ, length, subst, ◌∙◌, arith}
 use Rattle.nd_cluster.specs.Choice.{Finds, IsFirst, HasNone, IsOf}
-use Rattle.nd_cluster.proofs.Choosing.{chosen_of, none_waits_more}
+use Rattle.nd_cluster.proofs.ChoiceLemmas.{chosen_of, none_waits_more}
 use Rattle.nd_cluster.proofs.cluster.Cluster.first_planned.Goals as goal
 
 pub returns-in-Some-clause-chosen : goal.returns-in-Some-clause-chosen

@@ -1,6 +1,6 @@
 use Rattle.std.proofs.Common.{◌≡◌, ◌<◌, ◌≤◌, ◌%◌, length}
 use Rattle.nd_time.specs.Limits.{max_processors}
-use Rattle.nd_cluster.proofs.Choosing.{NoneWaits}
+use Rattle.nd_cluster.proofs.ChoiceLemmas.{NoneWaits}
 use Rattle.nd_cluster.proofs.cluster.Cluster.first_planned.Given as goal
 
 abbrev pub invariant-loop-i : goal.invariant-loop-i

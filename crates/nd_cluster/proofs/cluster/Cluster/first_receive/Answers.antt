@@ -1,7 +1,7 @@
 use Rattle.std.proofs.Common.{Some, arith, sym, subst, rules}
 use Rattle.nd_protocol.specs.declared.step.Step.TheVariants.{Receive}
 use Rattle.nd_cluster.specs.Choice.{IsFirst, IsOfRank, Tries}
-use Rattle.nd_cluster.proofs.Choosing.{NoReceive, more_refused, no_receive, first_receive}
+use Rattle.nd_cluster.proofs.ChoiceLemmas.{NoReceive, more_refused, no_receive, first_receive}
 use Rattle.nd_cluster.proofs.cluster.Cluster.first_receive.Goals as goal
 
 pub returns-in-Some : goal.returns-in-Some

@@ -1,5 +1,5 @@
 use Rattle.std.proofs.Common.{ℕ, ◌<◌, ◌≡◌, length}
-use Rattle.nd_cluster.proofs.Choosing.{NoReceive}
+use Rattle.nd_cluster.proofs.ChoiceLemmas.{NoReceive}
 use Rattle.nd_cluster.proofs.cluster.Cluster.first_receive.Given as goal
 
 abbrev pub invariant-loop-from : goal.invariant-loop-from

@@ -12,7 +12,7 @@ use Rattle.nd_protocol.specs.Enabled.{IsEnabled}
 use Rattle.nd_protocol.specs.declared.step.Step.{Step}
 use Rattle.nd_protocol.specs.declared.step.Step.TheVariants.{Take}
 use Rattle.nd_cluster.specs.Choice.{IsFirst, IsOfRank, Tries}
-use Rattle.nd_cluster.proofs.Choosing.{HasTakes, CanTake, Taking, takes_listed, takes_next, no_take, first_take}
+use Rattle.nd_cluster.proofs.ChoiceLemmas.{HasTakes, CanTake, Taking, takes_listed, takes_next, no_take, first_take}
 use Rattle.nd_cluster.proofs.cluster.Cluster.first_take.Goals as goal
 
 pub loop-key-init : goal.loop-key-init

@@ -1,6 +1,6 @@
 use Rattle.nd_map.specs.Listed.{IsListed}
 use Rattle.nd_processor.specs.Keys.{value_at_cmp}
-use Rattle.nd_cluster.proofs.Choosing.{HasTakes}
+use Rattle.nd_cluster.proofs.ChoiceLemmas.{HasTakes}
 use Rattle.nd_cluster.proofs.cluster.Cluster.first_take.Given as goal
 
 abbrev pub invariant-loop-key : goal.invariant-loop-key

@@ -2,7 +2,7 @@ use Rattle.std.proofs.Common.{◌≡◌, FitsSigned, w64, ap, subst, ◌∙◌, 
 use Rattle.std.proofs.lemmas.Int.{to_z-of_z}
 use Rattle.nd_protocol.specs.State.{ClusterState}
 use Rattle.nd_cluster.specs.Sinks.{sunk}
-use Rattle.nd_cluster.proofs.Sinking.{sunk_of}
+use Rattle.nd_cluster.proofs.SinksLemmas.{sunk_of}
 use Rattle.nd_cluster.proofs.cluster.Cluster.sink_count.Goals as goal
 
 pub returns : goal.returns

@@ -4,7 +4,7 @@ use Rattle.nd_protocol.specs.Steps.{stepped}
 use Rattle.nd_protocol.specs.Enabled.{IsRefused}
 use Rattle.nd_protocol.specs.declared.refusal.Refusal.{Refusal}
 use Rattle.nd_record.specs.Plans.{Reaches, ReachesIn}
-use Rattle.nd_cluster.proofs.Enabling.{enabled, count_refused, entry_refused}
+use Rattle.nd_cluster.proofs.TestedLemmas.{enabled, count_refused, entry_refused}
 use Rattle.nd_cluster.proofs.cluster.Cluster.work_changes.Goals as goal
 
 pub limit_refusal-requires : goal.limit_refusal-requires

@@ -1,4 +1,4 @@
-use Rattle.nd_delta.proofs.Keeping.{all_within}
+use Rattle.nd_delta.proofs.KeptLemmas.{all_within}
 use Rattle.nd_delta.proofs.large.LargeDelta.copy.Goals as goal
 
 pub returns-in_err-copy-clause-within : goal.returns-in_err-copy-clause-within

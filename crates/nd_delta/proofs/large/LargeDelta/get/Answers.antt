@@ -1,6 +1,6 @@
 use Rattle.std.proofs.Common.{◌∙◌, ap}
 use Rattle.nd_delta.specs.Change.{or_zero}
-use Rattle.nd_delta.proofs.Keeping.{got, at_found}
+use Rattle.nd_delta.proofs.KeptLemmas.{got, at_found}
 use Rattle.nd_delta.proofs.large.LargeDelta.get.Goals as goal
 
 pub returns-in-Some : goal.returns-in-Some

@@ -1,5 +1,5 @@
 use Rattle.std.proofs.Common.{length, ap, arith}
-use Rattle.nd_delta.proofs.Keeping.{listed, all_within}
+use Rattle.nd_delta.proofs.KeptLemmas.{listed, all_within}
 use Rattle.nd_delta.proofs.large.LargeDelta.iter.Goals as goal
 
 pub returns-clause-rest : goal.returns-clause-rest

@@ -1,5 +1,5 @@
 use Rattle.std.proofs.Common.{length, ap, ◌∙◌}
-use Rattle.nd_delta.proofs.Keeping.{listed}
+use Rattle.nd_delta.proofs.KeptLemmas.{listed}
 use Rattle.nd_delta.proofs.large.LargeDelta.len.Goals as goal
 
 pub returns : goal.returns

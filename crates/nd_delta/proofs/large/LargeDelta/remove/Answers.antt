@@ -1,6 +1,6 @@
 use Rattle.std.proofs.Common.{◌≡◌, pos, ap, ◌∙◌}
 use Rattle.nd_delta.specs.Change.{set, of_entries}
-use Rattle.nd_delta.proofs.Keeping.{kept_without, of_without}
+use Rattle.nd_delta.proofs.KeptLemmas.{kept_without, of_without}
 use Rattle.nd_delta.proofs.large.LargeDelta.remove.Goals as goal
 
 pub invariant_of-self : goal.invariant_of-self

@@ -1,6 +1,6 @@
 use Rattle.std.proofs.Common.{◌≡◌, ◌∙◌, inl, ap, sym, Ok, Some, None}
 use Rattle.nd_graph.specs.Checked.{checked_within, edges_between, fault_of}
-use Rattle.nd_graph.proofs.Judging.{faultless, checked-fault, checked-faultless}
+use Rattle.nd_graph.proofs.CheckedLemmas.{faultless, checked-fault, checked-faultless}
 use Rattle.nd_graph.proofs.draft.GraphDraft.check_within.Goals as goal
 
 pub returns-in-Some : goal.returns-in-Some

@@ -1,6 +1,6 @@
 use Rattle.std.proofs.Common.{subst}
 use Rattle.nd_paths.specs.Table.{AreCopies}
-use Rattle.nd_paths.proofs.Accepting.{table_copied}
+use Rattle.nd_paths.proofs.TableLemmas.{table_copied}
 use Rattle.nd_paths.proofs.paths.Paths.copy.Goals as goal
 
 pub invariant_of-result : goal.invariant_of-result

@@ -1,6 +1,6 @@
 use Rattle.std.proofs.Common.{subst}
 use Rattle.nd_paths.specs.Order.{IsAccepted}
-use Rattle.nd_paths.proofs.Accepting.{accepted_inside}
+use Rattle.nd_paths.proofs.TableLemmas.{accepted_inside}
 use Rattle.nd_paths.proofs.paths.Paths.graph.Goals as goal
 
 pub returns-clause-accepted : goal.returns-clause-accepted

@@ -1,5 +1,5 @@
 use Rattle.std.proofs.lemmas.Result.{err_from_is_err_and}
-use Rattle.nd_paths.proofs.Accepting.{few_arcs, read_accepted, read_fault, read_table, table_as}
+use Rattle.nd_paths.proofs.TableLemmas.{few_arcs, read_accepted, read_fault, read_table, table_as}
 use Rattle.nd_paths.proofs.Graphs.{is_accepted}
 use Rattle.nd_paths.proofs.paths.Paths.of.Goals as goal
 

@@ -1,5 +1,5 @@
 use Rattle.std.proofs.Common.{sym}
-use Rattle.nd_paths.proofs.Accepting.{table_as}
+use Rattle.nd_paths.proofs.TableLemmas.{table_as}
 use Rattle.nd_paths.proofs.Minimal.{dec_strictly}
 use Rattle.nd_paths.proofs.paths.Paths.order_is_decided.Goals as goal
 

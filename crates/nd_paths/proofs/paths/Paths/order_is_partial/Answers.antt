@@ -1,5 +1,5 @@
 use Rattle.std.proofs.Common.{sym}
-use Rattle.nd_paths.proofs.Accepting.{accepted_inside, table_as}
+use Rattle.nd_paths.proofs.TableLemmas.{accepted_inside, table_as}
 use Rattle.nd_paths.proofs.PointOrder.{could_trans, could_antisym, strictly_trans}
 use Rattle.nd_paths.proofs.Minimal.{minimal_point}
 use Rattle.nd_paths.proofs.paths.Paths.order_is_partial.Goals as goal

@@ -2,7 +2,7 @@ use Rattle.std.proofs.Common.{◌≡◌, ◌∙◌, sym, ap, get_or, length, nat
 use Rattle.std.specs.Ordering.{is_le}
 use Rattle.nd_paths.specs.Summary.{applied}
 use Rattle.nd_paths.proofs.Stored.{lexical_decided, length-applied}
-use Rattle.nd_paths.proofs.Comparing.{same_at, differ_at, same_past}
+use Rattle.nd_paths.proofs.SummaryLemmas.{same_at, differ_at, same_past}
 use Rattle.nd_paths.proofs.summary.Summary.leads.Goals as goal
 
 pub returns-then-reached-wanted : goal.returns-then-reached-wanted

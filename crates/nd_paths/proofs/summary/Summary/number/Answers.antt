@@ -1,5 +1,5 @@
 use Rattle.std.proofs.Common.{◌∙◌, sym, arith}
-use Rattle.nd_paths.proofs.Comparing.{at_constant, at_last, at_outer}
+use Rattle.nd_paths.proofs.SummaryLemmas.{at_constant, at_last, at_outer}
 use Rattle.nd_paths.proofs.summary.Summary.number.Goals as goal
 
 pub returns-then-self-place : goal.returns-then-self-place

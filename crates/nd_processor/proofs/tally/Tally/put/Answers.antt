@@ -1,6 +1,6 @@
 use Rattle.std.proofs.Common.{arith}
 use Rattle.nd_processor.specs.Kept.{IsCount}
-use Rattle.nd_processor.proofs.Keeping.{kept_put, kept_without}
+use Rattle.nd_processor.proofs.KeptLemmas.{kept_put, kept_without}
 use Rattle.nd_processor.proofs.tally.Tally.put.Goals as goal
 
 pub invariant_of-self : goal.invariant_of-self

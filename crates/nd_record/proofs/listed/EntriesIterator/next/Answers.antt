@@ -3,7 +3,7 @@ use Rattle.std.proofs.lemmas.Grind.{common_steps}
 use Rattle.std.specs.Iterator.{YieldsFirst}
 use Rattle.nd_record.specs.Listed.{listed}
 use Rattle.nd_record.specs.declared.listed.Entry.{Entry}
-use Rattle.nd_record.proofs.Naming.{listed-named, yields}
+use Rattle.nd_record.proofs.ListedLemmas.{listed-named, yields}
 use Rattle.nd_record.proofs.listed.EntriesIterator.next.Goals as goal
 
 pub returns-clause-steps : goal.returns-clause-steps

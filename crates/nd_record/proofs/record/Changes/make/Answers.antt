@@ -4,9 +4,9 @@ use Rattle.nd_record.specs.Changes.{IsRunnable, applied}
 use Rattle.nd_record.specs.Seen.{seen}
 use Rattle.nd_record.specs.Records.{Makes}
 use Rattle.nd_record.specs.declared.change.Change.{Change}
-use Rattle.nd_record.proofs.Running.{alone, runs_only}
-use Rattle.nd_record.proofs.Seeing.{seen_after}
-use Rattle.nd_record.proofs.Exchanging.{on_both, sent_leads, received_leads}
+use Rattle.nd_record.proofs.RunsLemmas.{alone, runs_only}
+use Rattle.nd_record.proofs.SeenLemmas.{seen_after}
+use Rattle.nd_record.proofs.ExchangesLemmas.{on_both, sent_leads, received_leads}
 use Rattle.nd_record.proofs.record.Changes.make.Goals as goal
 
 pub make_all-requires-clause-runs : goal.make_all-requires-clause-runs

@@ -6,9 +6,9 @@ use Rattle.nd_record.specs.Undone.{Runs}
 use Rattle.nd_record.specs.Seen.{seen}
 use Rattle.nd_record.specs.Records.{Makes}
 use Rattle.nd_record.specs.declared.change.Change.{Change}
-use Rattle.nd_record.proofs.Running.{alone, runs_only}
-use Rattle.nd_record.proofs.Seeing.{seen_before}
-use Rattle.nd_record.proofs.Exchanging.{on_both, sender_there, row_there, is_apart, is_newest, sent_back, view_is_there, from_row, to_row, has_room, not_large, received_back}
+use Rattle.nd_record.proofs.RunsLemmas.{alone, runs_only}
+use Rattle.nd_record.proofs.SeenLemmas.{seen_before}
+use Rattle.nd_record.proofs.ExchangesLemmas.{on_both, sender_there, row_there, is_apart, is_newest, sent_back, view_is_there, from_row, to_row, has_room, not_large, received_back}
 use Rattle.nd_record.proofs.record.Changes.undo.Goals as goal
 
 -- the changes have led here from a state that leads here

@@ -8,8 +8,8 @@ use Rattle.nd_search.specs.declared.work.Searched.{Searched}
 use Rattle.nd_search.proofs.Shares.{undrawn, drew}
 use Rattle.nd_search.proofs.Elements.{all_none, all_more}
 use Rattle.nd_search.proofs.Found.{starts, begins, ends}
-use Rattle.nd_search.proofs.Stopping.{just_drawn}
-use Rattle.nd_search.proofs.Drawing.{pieces_drawn, one_over}
+use Rattle.nd_search.proofs.WorksLemmas.{just_drawn}
+use Rattle.nd_search.proofs.HandsLemmas.{pieces_drawn, one_over}
 use Rattle.nd_search.proofs.work.Job.work.Goals as goal
 use Rattle.nd_search.proofs.work.Job.work.Goals.{else-loop-test, then-loop-test+then-piece-pieces, then-loop-test+else-piece-pieces+in_default}
 

@@ -2,7 +2,7 @@ use Rattle.std.proofs.Common.{◌≡◌, ◌∙◌, All, ap, subst}
 use Rattle.nd_graph.specs.Graph.{Dataflow, ArcAgrees, arcs, depths}
 use Rattle.nd_graph.specs.Checked.{IsFaultless}
 use Rattle.nd_session.proofs.Logs.{kept_new}
-use Rattle.nd_session.proofs.Starting.{is_state, keeps_protocol}
+use Rattle.nd_session.proofs.StartLemmas.{is_state, keeps_protocol}
 use Rattle.nd_session.proofs.state.State.new.Goals as goal
 
 pub invariant_of-result : goal.invariant_of-result

@@ -1,7 +1,7 @@
 use Rattle.std.proofs.Common.{List, subst}
 use Rattle.nd_record.specs.declared.record.Record.{Record}
 use Rattle.nd_timeline.specs.Reached.{AreCopies}
-use Rattle.nd_timeline.proofs.Copying.{reached_copy, same_value}
+use Rattle.nd_timeline.proofs.CopiesLemmas.{reached_copy, same_value}
 use Rattle.nd_timeline.proofs.timeline.Timeline.copy.Goals as goal
 
 pub invariant_of-result : goal.invariant_of-result

@@ -1,7 +1,7 @@
 use Rattle.std.proofs.Common.{rules, ◌≡◌, ◌≢◌, w64}
 use Rattle.std.proofs.lemmas.Int.{to_z-of_z}
 use Rattle.nd_vertex.specs.Items.{item_key}
-use Rattle.nd_vertex.proofs.Reacting.{leads_one, leads_same}
+use Rattle.nd_vertex.proofs.EffectsLemmas.{leads_one, leads_same}
 use Rattle.nd_vertex.proofs.state.VertexState.change.Goals as goal
 
 pub returns-then-eq : goal.returns-then-eq

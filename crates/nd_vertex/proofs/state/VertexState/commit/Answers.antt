@@ -1,6 +1,6 @@
 use Rattle.std.proofs.Common.{map, ap, sym, subst, ◌∙◌}
 use Rattle.nd_vertex.specs.Edits.{CanEdit, edited, turned}
-use Rattle.nd_vertex.proofs.Editing.{straight, can_turn, undone}
+use Rattle.nd_vertex.proofs.EditsLemmas.{straight, can_turn, undone}
 use Rattle.nd_vertex.proofs.state.VertexState.commit.Goals as goal
 
 pub make_all-requires : goal.make_all-requires

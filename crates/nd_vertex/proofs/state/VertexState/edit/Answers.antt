@@ -6,8 +6,8 @@ use Rattle.nd_vertex.specs.Items.{item_key, item_total}
 use Rattle.nd_vertex.specs.Effects.{AreValues, IsInRange}
 use Rattle.nd_vertex.specs.Table.{on_record, is_zero}
 use Rattle.nd_graph.specs.declared.op.Op.TheVariants.{Sum}
-use Rattle.nd_vertex.proofs.Keeping.{values}
-use Rattle.nd_vertex.proofs.Reacting.{leads_none, values_set, unchanged, total, at_here, is_there, is_absent}
+use Rattle.nd_vertex.proofs.KeptLemmas.{values}
+use Rattle.nd_vertex.proofs.EffectsLemmas.{leads_none, values_set, unchanged, total, at_here, is_there, is_absent}
 use Rattle.nd_vertex.proofs.state.VertexState.edit.Goals as goal
 
 pub returns-in-Some-clause-fits : goal.returns-in-Some-clause-fits

@@ -1,5 +1,5 @@
 use Rattle.std.proofs.Common.{◌<◌, ◌^◌, length, subst, ◌∙◌}
-use Rattle.nd_vertex.proofs.Keeping.{listed}
+use Rattle.nd_vertex.proofs.KeptLemmas.{listed}
 use Rattle.nd_vertex.proofs.state.VertexState.entries.Goals as goal
 
 pub returns : goal.returns

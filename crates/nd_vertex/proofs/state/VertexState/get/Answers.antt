@@ -1,7 +1,7 @@
 use Rattle.std.proofs.Common.{◌∙◌, w64}
 use Rattle.std.proofs.lemmas.Int.{to_z-of_z}
 use Rattle.nd_vertex.specs.Items.{item_key}
-use Rattle.nd_vertex.proofs.Keeping.{found, values}
+use Rattle.nd_vertex.proofs.KeptLemmas.{found, values}
 use Rattle.nd_vertex.proofs.state.VertexState.get.Goals as goal
 
 pub returns : goal.returns

@@ -2,7 +2,7 @@ use Rattle.std.proofs.Common.{◌≡◌, ◌<◌, ◌≤◌, ◌+◌, ◌-◌, t
 use Rattle.std.specs.List.{filter}
 use Rattle.std.proofs.lemmas.List.{take_all, length-map}
 use Rattle.nd_vertex.specs.Edits.{item_of, with_item, edited, directed}
-use Rattle.nd_vertex.proofs.Editing.{adds, others, present, absent, other, still, still_other, new_some, next, stands, taken_back, directed_at, reordered}
+use Rattle.nd_vertex.proofs.EditsLemmas.{adds, others, present, absent, other, still, still_other, new_some, next, stands, taken_back, directed_at, reordered}
 use Rattle.nd_vertex.proofs.state.VertexState.make_all.Goals as goal
 
 pub make-requires-clause-there : goal.make-requires-clause-there

@@ -1,7 +1,7 @@
 use Rattle.std.proofs.Common.{◌≡◌, ◌≤◌, take, length}
 use Rattle.std.specs.List.{filter}
 use Rattle.nd_vertex.specs.Edits.{edited, directed}
-use Rattle.nd_vertex.proofs.Editing.{adds, others}
+use Rattle.nd_vertex.proofs.EditsLemmas.{adds, others}
 use Rattle.nd_vertex.proofs.state.VertexState.make_all.Given as goal
 
 -- the edits so far that add an item are made

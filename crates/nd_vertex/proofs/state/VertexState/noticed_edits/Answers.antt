@@ -1,7 +1,7 @@
 use Rattle.std.proofs.Common.{sym, subst}
 use Rattle.nd_vertex.specs.Edits.{LeadsTo}
 use Rattle.nd_vertex.specs.Table.{on_notice}
-use Rattle.nd_vertex.proofs.Reacting.{leads_none, left_alone}
+use Rattle.nd_vertex.proofs.EffectsLemmas.{leads_none, left_alone}
 use Rattle.nd_vertex.proofs.state.VertexState.noticed_edits.Goals as goal
 
 pub returns-in_default : goal.returns-in_default

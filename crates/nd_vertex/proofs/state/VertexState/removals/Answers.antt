@@ -10,8 +10,8 @@ use Rattle.nd_vertex.specs.declared.key.ItemKey.{ItemKey}
 use Rattle.nd_time.specs.Listing.{time_cmp}
 use Rattle.std.specs.Ordering.{eq_by_cmp}
 use Rattle.nd_vertex.specs.Edits.{LeadsTo}
-use Rattle.nd_vertex.proofs.Keeping.{listed, found}
-use Rattle.nd_vertex.proofs.Removing.{forward, removed, removed_between, gone, leads_removed}
+use Rattle.nd_vertex.proofs.KeptLemmas.{listed, found}
+use Rattle.nd_vertex.proofs.RemovalLemmas.{forward, removed, removed_between, gone, leads_removed}
 use Rattle.nd_vertex.proofs.state.VertexState.removals.Goals as goal
 
 pub between-key-items-requires : goal.between-key-items-requires

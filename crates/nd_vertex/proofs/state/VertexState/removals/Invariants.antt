@@ -1,6 +1,6 @@
 use Rattle.std.proofs.Common.{◌≡◌, ◌++◌, map}
 use Rattle.nd_map.specs.Counts.{entries}
-use Rattle.nd_vertex.proofs.Removing.{gone, removed}
+use Rattle.nd_vertex.proofs.RemovalLemmas.{gone, removed}
 use Rattle.nd_vertex.proofs.state.VertexState.removals.Given as goal
 
 -- the edits so far and those of the entries that are left

@@ -5,7 +5,7 @@ use Rattle.std.specs.FinMap.{find, put}
 use Rattle.nd_vertex.specs.Items.{item_key, item_total, item_cmp}
 use Rattle.nd_vertex.specs.Edits.{number_of}
 use Rattle.nd_vertex.specs.Kept.{IsNumber}
-use Rattle.nd_vertex.proofs.Keeping.{found, kept_put, kept_without, of_put, of_without}
+use Rattle.nd_vertex.proofs.KeptLemmas.{found, kept_put, kept_without, of_put, of_without}
 use Rattle.nd_vertex.proofs.state.VertexState.set.Given.{Over}
 use Rattle.nd_vertex.proofs.state.VertexState.set.Goals as goal
 

@@ -1,5 +1,5 @@
 use Rattle.nd_work.specs.Edits.{come_edits}
-use Rattle.nd_work.proofs.Drafting.{follows_all}
+use Rattle.nd_work.proofs.DraftsLemmas.{follows_all}
 use Rattle.nd_work.proofs.draft.Draft.add_come.Goals as goal
 
 pub returns : goal.returns

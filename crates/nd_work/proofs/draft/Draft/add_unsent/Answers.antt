@@ -3,7 +3,7 @@ use Rattle.std.proofs.lemmas.Int.{to_z-of_z}
 use Rattle.nd_time.specs.Limits.{max_count}
 use Rattle.nd_record.specs.Places.{place_at, unsent_at}
 use Rattle.nd_work.specs.Sums.{IsMore, sum_at}
-use Rattle.nd_work.proofs.Drafting.{follows_one, small_more, fits_more}
+use Rattle.nd_work.proofs.DraftsLemmas.{follows_one, small_more, fits_more}
 use Rattle.nd_work.proofs.draft.Draft.add_unsent.Goals as goal
 
 pub add_unsent-requires-clause-fits : goal.add_unsent-requires-clause-fits

@@ -1,5 +1,5 @@
 use Rattle.std.proofs.lemmas.Result.{err_from_is_err_and}
-use Rattle.rewind_clients.proofs.Gathering.{flushed, front-written}
+use Rattle.rewind_clients.proofs.OutboxLemmas.{flushed, front-written}
 use Rattle.rewind_clients.proofs.outbox.Outbox.flush.Goals as goal
 
 pub returns-in_err-send-clause-err : goal.returns-in_err-send-clause-err

@@ -1,5 +1,5 @@
 use Rattle.std.proofs.Common.{refl}
-use Rattle.rewind_clients.proofs.Reading.{stands-next}
+use Rattle.rewind_clients.proofs.ReadersLemmas.{stands-next}
 use Rattle.rewind_clients.proofs.reader.Reader.end_line.Goals as goal
 
 pub returns-clause-ok : goal.returns-clause-ok

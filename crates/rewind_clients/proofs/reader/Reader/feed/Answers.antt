@@ -1,7 +1,7 @@
 use Rattle.std.proofs.Common.{ℕ, List, ◌++◌, take, refl, arith, subst}
 use Rattle.std.proofs.lemmas.List.{take_all}
 use Rattle.rewind_clients.specs.Readers.{StandsAt}
-use Rattle.rewind_clients.proofs.Reading.{one_more}
+use Rattle.rewind_clients.proofs.ReadersLemmas.{one_more}
 use Rattle.rewind_clients.proofs.reader.Reader.feed.Goals as goal
 
 pub loop-byte-preserved : goal.loop-byte-preserved

@@ -1,5 +1,5 @@
 use Rattle.std.proofs.Common.{refl}
-use Rattle.rewind_clients.proofs.Reading.{stands-new}
+use Rattle.rewind_clients.proofs.ReadersLemmas.{stands-new}
 use Rattle.rewind_clients.proofs.reader.Reader.new.Goals as goal
 
 pub returns-clause-stands : goal.returns-clause-stands

@@ -1,5 +1,5 @@
 use Rattle.std.proofs.Common.{refl}
-use Rattle.rewind_clients.proofs.Reading.{stands-byte}
+use Rattle.rewind_clients.proofs.ReadersLemmas.{stands-byte}
 use Rattle.rewind_clients.proofs.reader.Reader.push.Goals as goal
 
 pub returns-then-byte-eq10-clause-ok : goal.returns-then-byte-eq10-clause-ok

@@ -18,8 +18,8 @@ use Rattle.nd_record.specs.Limits.{CountStaysOf, EntryStaysOf, StaysWithin}
 use Rattle.nd_record.specs.declared.change.Change.{Change}
 use Rattle.nd_record.specs.declared.change.Change.TheVariants.{Sink}
 use Rattle.nd_record.specs.Alike.{is_place, same_place}
-use Rattle.nd_record.proofs.Planning.{never_added, gain_alone}
-use Rattle.nd_record.proofs.Running.{limits_of}
+use Rattle.nd_record.proofs.EachLemmas.{never_added, gain_alone}
+use Rattle.nd_record.proofs.RunsLemmas.{limits_of}
 
 -- ---- a property of what stands at a place, in a state that changes reach
 

@@ -12,7 +12,7 @@ use Rattle.nd_timeline.specs.declared.reply.Stop.{Stop}
 use Rattle.nd_timeline.specs.declared.reply.Stop.TheVariants as stop
 use Rattle.nd_timeline.specs.declared.reply.Reply.{Reply}
 use Rattle.nd_timeline.specs.declared.reply.Reply.TheVariants as reply
-use Rattle.nd_timeline.proofs.Choosing.{one_choice}
+use Rattle.nd_timeline.proofs.ChosenLemmas.{one_choice}
 
 module _ {A : Type 0} where
   -- ---- the timeline, but for a run

@@ -20,7 +20,7 @@ use Rattle.nd_record.specs.Changes.{place_of, from_add, gain_of, inverse, made, 
 use Rattle.nd_record.specs.Undone.{CanTurn, Limits, Runs, only}
 use Rattle.nd_record.specs.declared.change.Change.{Change}
 use Rattle.nd_record.specs.declared.change.Change.TheVariants.{Records, Request, Token, State, Sink, Unsent}
-use Rattle.nd_record.proofs.Putting.{SameShape, shape-itself, shape-turned, shape-through, shape-put, there_alike, same_state, standing-put, standing-put_at, may_stand}
+use Rattle.nd_record.proofs.PlacesLemmas.{SameShape, shape-itself, shape-turned, shape-through, shape-put, there_alike, same_state, standing-put, standing-put_at, may_stand}
 
 -- ---- one change, made and undone
 

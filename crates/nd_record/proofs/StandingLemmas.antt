@@ -20,7 +20,7 @@ use Rattle.nd_protocol.specs.State.{ClusterState, processor, view}
 use Rattle.nd_record.specs.Places.{Slot, Place, place_at, records_at, request_at, token_at, item_at, sink_at, unsent_at, view_of, place_cmp, place_total, place_exact}
 use Rattle.nd_record.specs.Standing.{standing, IsThere, places_of_processor, places_of, difference}
 use Rattle.nd_record.specs.Slots.{from_request, from_epoch, stands}
-use Rattle.nd_record.proofs.Putting.{there_where, slot_there}
+use Rattle.nd_record.proofs.PlacesLemmas.{there_where, slot_there}
 use Rattle.nd_record.specs.Alike.{same_key}
 
 -- ---- tests of lists

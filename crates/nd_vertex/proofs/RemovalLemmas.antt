@@ -22,7 +22,7 @@ use Rattle.nd_vertex.specs.Kept.{IsKept}
 use Rattle.nd_vertex.specs.Edits.{LeadsTo, item_of, with_item, edited, keys}
 use Rattle.nd_vertex.specs.declared.key.ItemKey.{ItemKey}
 use Rattle.nd_vertex.specs.declared.effect.ItemEdit.{ItemEdit}
-use Rattle.nd_vertex.proofs.Editing.{is_key, has, at_with}
+use Rattle.nd_vertex.proofs.EditsLemmas.{is_key, has, at_with}
 
 -- whether an item is at a timestamp
 abbrev pub is_at : Time → ItemKey → Bool

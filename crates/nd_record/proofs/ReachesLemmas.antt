@@ -8,7 +8,8 @@ use Rattle.nd_record.specs.Changes.{owner_of, place_of, own, FindsIn}
 use Rattle.nd_record.specs.Plans.{Each, ReachesIn, of_kind, ordered, LeadsTo}
 use Rattle.nd_record.specs.Turns.{kind_of, of_turn}
 use Rattle.nd_record.specs.declared.change.Change.{Change}
-use Rattle.nd_record.proofs.Planning.{each_through, each_there, planned}
+use Rattle.nd_record.proofs.EachLemmas.{each_through}
+use Rattle.nd_record.proofs.PlansLemmas.{each_there, planned}
 
 turns : (s : ClusterState) (k : ℕ) (cs : List Change) → of_turn s.processors k cs ≡ of_kind s k cs
 unfolding kind_of

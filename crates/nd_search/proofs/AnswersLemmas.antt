@@ -11,7 +11,7 @@ use Rattle.nd_search.specs.Pieces.{piece_count, piece_start}
 use Rattle.nd_search.specs.Works.{IsResult, IsSearched, AreTold, AreIn, HaveStopped, NoneBefore, IsFirst, IsFirstGap}
 use Rattle.nd_search.specs.declared.work.Searched.{Searched}
 use Rattle.nd_search.proofs.Elements.{get_below, all_at, length_of}
-use Rattle.nd_search.proofs.Stopping.{last_claim}
+use Rattle.nd_search.proofs.WorksLemmas.{last_claim}
 
 within : (lo hi j : ℕ) → lo ≤ hi → j < piece_count lo hi → piece_start lo j ≤ hi
 within lo hi j le lt = omega (arith, le, lt)

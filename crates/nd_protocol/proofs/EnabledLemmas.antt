@@ -21,7 +21,7 @@ use Rattle.nd_time.specs.Time.{Time, last_of}
 use Rattle.nd_protocol.specs.declared.refusal.Refusal.TheVariants.{NoProcessor, InputClosed, EpochFull, NoRecord, NoRequest, CounterFull, ValueRange, CountFull, DeltaFull, QueueFull}
 use Rattle.nd_protocol.proofs.Arcs.{IsTransitive}
 use Rattle.nd_protocol.proofs.Shape.{Work, feeding, taking, noticing, IsPossible, done}
-use Rattle.nd_protocol.proofs.Performing.{many_stepped}
+use Rattle.nd_protocol.proofs.StepsLemmas.{many_stepped}
 use Rattle.nd_protocol.proofs.Ranges.{below_unless, in_range_unless}
 use Rattle.nd_protocol.proofs.Fitness.{keys_fit}
 use Rattle.nd_protocol.proofs.Exchanges.{sent_state, received_state}

@@ -15,7 +15,7 @@ use Rattle.nd_vertex.specs.Table.{on_record, on_notice, is_zero}
 use Rattle.nd_vertex.specs.Edits.{LeadsTo, item_of, number_of, with_item}
 use Rattle.nd_vertex.specs.Effects.{AreValues}
 use Rattle.nd_vertex.specs.declared.key.ItemKey.{ItemKey}
-use Rattle.nd_vertex.proofs.Editing.{put_same, number_at, itself}
+use Rattle.nd_vertex.proofs.EditsLemmas.{put_same, number_at, itself}
 
 one : {X : Type 0} (P : X → Type 0) (x : X) → P x → All P (x ∷ [])
 one P x p zero d lt = p

@@ -9,8 +9,8 @@ use Rattle.nd_record.specs.Changes.{applied}
 use Rattle.nd_record.specs.Undone.{only}
 use Rattle.nd_record.specs.Seen.{seen}
 use Rattle.nd_record.specs.declared.change.Change.{Change}
-use Rattle.nd_record.proofs.Putting.{SameShape}
-use Rattle.nd_record.proofs.Running.{alone, applied-alone, shape-applied, others_kept}
+use Rattle.nd_record.proofs.PlacesLemmas.{SameShape}
+use Rattle.nd_record.proofs.RunsLemmas.{alone, applied-alone, shape-applied, others_kept}
 
 -- the processors are those after the changes, and nothing else is stored otherwise
 pub seen_after : (g : Dataflow) (ps qs : List ProcessorState) (vs : List Kept) (m : List (List (List Delta))) (cs : List Change) → only qs ≡ applied (only ps) cs → seen g qs vs m ≡ applied (seen g ps vs m) cs

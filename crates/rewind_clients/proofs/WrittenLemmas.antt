@@ -17,8 +17,8 @@ use Rattle.rewind_clients.specs.Readers.{IsOfReading}
 use Rattle.rewind_clients.specs.Served.{IsOfDriving}
 use Rattle.rewind_clients.specs.Told.{Tells}
 use Rattle.rewind_clients.specs.Written.{WroteFront, WroteLines}
-use Rattle.rewind_clients.proofs.Gathering.{Known, text_of-append}
-use Rattle.rewind_clients.proofs.Telling.{front-of}
+use Rattle.rewind_clients.proofs.OutboxLemmas.{Known, text_of-append}
+use Rattle.rewind_clients.proofs.ToldLemmas.{front-of}
 
 -- ---- an outbox at its beginning and its end
 

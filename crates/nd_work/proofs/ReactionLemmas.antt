@@ -30,8 +30,8 @@ use Rattle.nd_work.specs.declared.draft.Draft.{Draft}
 use Rattle.nd_work.specs.declared.net.Sums.{Sums}
 use Rattle.nd_record.specs.Alike.{is_place}
 use Rattle.nd_work.proofs.Totals.{total-append}
-use Rattle.nd_work.proofs.Drafting.{often_append, each_then, pushed, listed_anew}
-use Rattle.nd_work.proofs.Itemizing.{items_once, items_total, items_sound}
+use Rattle.nd_work.proofs.DraftsLemmas.{often_append, each_then, pushed, listed_anew}
+use Rattle.nd_work.proofs.ItemsLemmas.{items_once, items_total, items_sound}
 
 -- ---- no place twice
 

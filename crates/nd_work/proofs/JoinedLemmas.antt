@@ -28,7 +28,7 @@ use Rattle.nd_work.specs.declared.key.RecordAt.{RecordAt}
 use Rattle.nd_record.specs.Alike.{is_place, other_place, unsent-test, same_key, other_key}
 use Rattle.nd_work.proofs.Arrivals.{decided}
 use Rattle.nd_work.proofs.Totals.{total-append}
-use Rattle.nd_work.proofs.Drafting.{often_append, each_then}
+use Rattle.nd_work.proofs.DraftsLemmas.{often_append, each_then}
 
 -- how often a place stands there, and what is added to it
 pub record Adds (k : Place) (n : ℤ) (cs : List Change) : Type 0 where

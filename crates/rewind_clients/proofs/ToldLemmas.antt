@@ -10,7 +10,7 @@ use Rattle.rewind_lines.specs.declared.fault.DebugFault.TheVariants as fault
 use Rattle.rewind_clients.specs.Outbox.{Gathered, GatherFails, StopsIn}
 use Rattle.rewind_clients.specs.Written.{WroteFront, WroteLines}
 use Rattle.rewind_clients.specs.Told.{Ended, client_fault, faults_data}
-use Rattle.rewind_clients.proofs.Gathering.{Known, text_of-append}
+use Rattle.rewind_clients.proofs.OutboxLemmas.{Known, text_of-append}
 
 -- a front of a front is a front
 take_clip : (n : ℕ) (xs ys : List ℕ) → take (length (take n xs)) (xs ++ ys) ≡ take n xs

@@ -25,7 +25,7 @@ use Rattle.nd_mesh.specs.Mesh.{IsMesh, queue}
 use Rattle.nd_protocol.specs.Fitting.{ChangeFits, ChangeIsWithin, IsAtVertex, IsAtLocation, ProcessorFits, ProcessorIsWithin, IsOrdered, IsState}
 use Rattle.nd_record.specs.Seen.{seen}
 use Rattle.nd_cluster.specs.Parts.{IsRecordKey, IsItem, IsSinkKey, ItemsFit, RowFits, RowIsWithin}
-use Rattle.nd_cluster.proofs.Choosing.{split}
+use Rattle.nd_cluster.proofs.ChoiceLemmas.{split}
 
 -- ---- the entries that are left
 

@@ -25,7 +25,7 @@ use Rattle.nd_record.specs.declared.change.Change.TheVariants.{Token}
 use Rattle.nd_work.specs.declared.draft.Draft.{Draft}
 use Rattle.nd_work.specs.declared.net.Sums.{Sums}
 use Rattle.nd_paths.specs.declared.point.Pointstamp.{Pointstamp}
-use Rattle.nd_work.proofs.Drafting.{pushed}
+use Rattle.nd_work.proofs.DraftsLemmas.{pushed}
 
 one_once : (c : Change) → Once (c ∷ [])
 one_once c k = by (eq_by_cmp place_cmp k (place_of c))

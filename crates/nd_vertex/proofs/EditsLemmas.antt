@@ -13,7 +13,7 @@ use Rattle.nd_vertex.specs.Table.{is_zero}
 use Rattle.nd_vertex.specs.Edits.{item_of, number_of, with_item, edited, keys, turned, directed, CanEdit}
 use Rattle.nd_vertex.specs.declared.key.ItemKey.{ItemKey}
 use Rattle.nd_vertex.specs.declared.effect.ItemEdit.{ItemEdit}
-use Rattle.nd_vertex.proofs.Keeping.{there_at}
+use Rattle.nd_vertex.proofs.KeptLemmas.{there_at}
 
 abbrev pub is_key : ItemKey → ItemKey → Bool
 is_key = eq_by_cmp item_cmp

@@ -12,7 +12,7 @@ use Rattle.nd_work.specs.Drafts.{AddsUp, joined}
 use Rattle.nd_work.specs.declared.draft.Draft.{Draft}
 use Rattle.nd_work.proofs.StepMoves.{StepMoves}
 use Rattle.nd_work.proofs.Exact.{moves, standing-stepped, graph-stepped, views-stepped, queues-stepped, processors-stepped, items-stepped}
-use Rattle.nd_work.proofs.Joining.{joined_total, joined_once, joined_some, joined_small, joined_old, joined_numbers}
+use Rattle.nd_work.proofs.JoinedLemmas.{joined_total, joined_once, joined_some, joined_small, joined_old, joined_numbers}
 
 module _ {A B : Type 0} (s : ClusterState) (x : Step A) (works : Works x) (state : IsState s) (free : IsFreeBelow s x 13) (d : Draft B) (adds : AddsUp s (edits s x) d) where
   m : StepMoves s x
