@@ -1,7 +1,7 @@
 -- The first enabled step, kind by kind, processor by processor.
-use Rattle.std.proofs.Common.{◌≡◌, ◌≢◌, ◌<◌, ◌≤◌, ◌+◌, ◌-◌, ◌%◌, ◌⊎◌, inl, inr, ℕ, Bool, true, false, cond, ◌&&◌, T, List, [], ◌∷◌, length, Option, Some, None, refl, sym, ap, subst, ◌∙◌, arith, Ordering, Less, Equal, Greater}
+use Rattle.std.proofs.Common.{◌≡◌, ◌≢◌, ◌<◌, ◌≤◌, ◌+◌, ◌-◌, ◌%◌, ◌⊎◌, inl, inr, ℕ, true, false, cond, T, List, [], ◌∷◌, length, Option, Some, None, refl, sym, ap, subst, ◌∙◌, arith, Ordering, Less}
 use Rattle.std.proofs.Math.Nat.{mod-eq_of_lt, add-mod_right, mod-lt}
-use Rattle.std.specs.Ordering.{eq_by_cmp, is_eq, is_lt}
+use Rattle.std.specs.Ordering.{eq_by_cmp, is_eq}
 use Rattle.std.specs.Cmp.{IsTotalOrder}
 use Rattle.std.specs.FinMap.{IsAntisymmetric, find}
 use Rattle.std.specs.FinMap as fin
@@ -20,21 +20,10 @@ use Rattle.nd_protocol.specs.declared.refusal.Refusal.TheVariants.{NoProcessor, 
 use Rattle.nd_protocol.specs.declared.step.Step.{Step}
 use Rattle.nd_protocol.specs.declared.step.Step.TheVariants.{Feed, Take, Notice, Broadcast, Receive}
 use Rattle.nd_cluster.specs.Choice.{IsCandidate, performer, wait, ComesFirst, IsChosen, IsFirst, HasNone, IsOf, IsOfRank}
+use Rattle.nd_map.specs.Cases.{first, second, less}
+use Rattle.std.proofs.lemmas.Bool.{cases_lt}
 
 -- ---- a list in order, from which what was tried and refused is gone
-
-first : (a b : Bool) → T (a && b) → T a
-first true b p = tt
-first false b p = p
-
-second : (a b : Bool) → T (a && b) → T b
-second true b p = p
-second false b p = absurd p
-
-less : (r : Ordering) → T (is_lt r) → r ≡ Less
-less Less p = refl
-less Equal p = absurd p
-less Greater p = absurd p
 
 module _ {K X : Type 0} (R : K → K → Ordering) (o : IsTotalOrder R) (tells : IsAntisymmetric R) (Holds : K → Type 0) where
   -- every key of the kind is in the list
@@ -69,12 +58,9 @@ split q r lt = grind arith
 
 -- ---- the turns
 
-lt_or_le : (a b : ℕ) → (a < b) ⊎ (b ≤ a)
-lt_or_le a b = grind arith
-
 module _ (n turn : ℕ) (some : 0 < n) where
   near : (r i : ℕ) → r < n → i < n → (r + i < n) ⊎ ((n ≤ r + i) × (r + i - n < n))
-  near r i within lt = elim (lt_or_le (r + i) n) [ inl h ↦ inl h | inr h ↦ inr (h, omega (arith, within, lt, h)) ]
+  near r i within lt = elim (cases_lt (r + i) n) [ inl h ↦ inl h | inr h ↦ inr (h, omega (arith, within, lt, h)) ]
 
   pub wait_of : (i : ℕ) → i < n → wait n turn ((turn % n + i) % n) ≡ i
   wait_of i lt = by (turn % n) (mod-lt turn some)
@@ -91,7 +77,7 @@ module _ (n turn : ℕ) (some : 0 < n) where
   whose_wait q lt = by (turn % n) (mod-lt turn some)
     where
       by : (r : ℕ) → r < n → (r + (q + n - r) % n) % n ≡ q
-      by r within = elim (lt_or_le q r) [
+      by r within = elim (cases_lt q r) [
         | inr h ↦
             let e : (q + n - r) % n ≡ q - r = ap (λ k. k % n) (let e : q + n - r ≡ q - r + n = omega (arith, h) in e) ∙ add-mod_right (q - r) n ∙ mod-eq_of_lt (let l : q - r < n = omega (arith, lt) in l) in
             ap (λ k. (r + k) % n) e ∙ ap (λ k. k % n) (let e : r + (q - r) ≡ q = omega (arith, h) in e) ∙ mod-eq_of_lt lt

@@ -1,6 +1,6 @@
 -- Why a broadcast and a receive are enabled or refused, and how much they change.
-use Rattle.std.proofs.Common.{◌≡◌, ◌≢◌, ◌⊎◌, inl, inr, ℕ, zero, suc, ◌+◌, ◌-◌, ◌<◌, ◌≤◌, ℤ, pos, negsuc, List, [], length, Vec, Result, Ok, Err, Some, None, refl, sym, ap, subst, ◌∙◌, arith, get_or-set_same, get_or-set_other}
-use Rattle.std.proofs.lemmas.Bool.{cases_lt}
+use Rattle.std.proofs.Common.{◌≡◌, ◌≢◌, ◌⊎◌, inl, inr, ℕ, ◌+◌, ◌-◌, ◌<◌, ◌≤◌, ℤ, pos, List, [], length, Vec, Result, Ok, Err, Some, None, refl, sym, ap, subst, ◌∙◌, arith, get_or-set_same, get_or-set_other}
+use Rattle.std.proofs.lemmas.Bool.{cases_lt, cases_eq}
 use Rattle.std.proofs.lemmas.Int.{ints}
 use Rattle.std.proofs.lemmas.List.{get_or_past}
 use Rattle.std.specs.Prelude.{slice_get, unsigned_abs}
@@ -30,17 +30,7 @@ use Rattle.nd_record.specs.Plans.{LeadsTo}
 use Rattle.nd_record.specs.declared.change.Change.{Change as Single}
 use Rattle.nd_cluster.specs.Records.{shared, Plans, ComesLast}
 use Rattle.nd_record.specs.declared.record.Changes.TheVariants.{Each, Sent, Received}
-
-zero_or_not : (z : ℤ) → (z ≡ pos 0) ⊎ (z ≢ pos 0)
-zero_or_not (pos zero) = inl refl
-zero_or_not (pos (suc n)) = inr (λ e. absurd (cc))
-zero_or_not (negsuc n) = inr (λ e. absurd (cc))
-
-same_or_not : (a b : ℕ) → (a ≡ b) ⊎ (a ≢ b)
-same_or_not a b = elim (cases_lt a b) [
-  | inl lt ↦ inr (λ e. absurd (omega (arith, lt, e)))
-  | inr ge ↦ elim (cases_lt b a) [ inl lt ↦ inr (λ e. absurd (omega (arith, lt, e))) | inr le ↦ inl (omega (arith, ge, le)) ]
-]
+use Rattle.nd_map.specs.Cases.{zero_or_not}
 
 is_part : (c d : Change) → IsPartOf c d → IsPart c d
 is_part c d h x = elim (zero_or_not (at c x)) [ inl e ↦ inl e | inr some ↦ inr (sym (h x some)) ]
@@ -150,7 +140,7 @@ module _ (A : Type 0) (s : ClusterState) (from to : ℕ) (state : IsState s) (he
 
     no_large : (IsTooLarge (plus (view s to) c) → ⊥) → HasLargeEntry (stepped {A = A} s (Receive from to)) → ⊥
     no_large room (of_unsent p x large) = small_entries s state (of_unsent p x (subst (λ d. max_count < unsigned_abs (at d x)) (unsent_now p) large))
-    no_large room (of_view q x large) = elim (same_or_not q to) [
+    no_large room (of_view q x large) = elim (cases_eq q to) [
       | inl e ↦ room (x, subst (λ d. max_count < unsigned_abs (at d x)) (ap (view (stepped {A = A} s (Receive from to))) e ∙ view_now) large)
       | inr other ↦ small_entries s state (of_view q x (subst (λ d. max_count < unsigned_abs (at d x)) (views_beside q other) large))
     ]

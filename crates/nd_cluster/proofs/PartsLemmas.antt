@@ -1,5 +1,5 @@
 -- A property of all entries of a list, tested one by one; and of all keys of a map.
-use Rattle.std.proofs.Common.{◌≡◌, ◌≢◌, ◌<◌, ◌≤◌, ◌+◌, ◌⊎◌, inl, inr, ℕ, zero, suc, ℤ, pos, List, [], ◌∷◌, map, length, get_or, Option, Some, None, refl, sym, ap, subst, ◌∙◌, arith, Ordering}
+use Rattle.std.proofs.Common.{◌≡◌, ◌≢◌, ◌<◌, ◌≤◌, ◌+◌, inl, inr, ℕ, zero, suc, ℤ, pos, List, [], ◌∷◌, map, length, get_or, Option, Some, None, refl, sym, ap, subst, ◌∙◌, arith, Ordering}
 use Rattle.std.specs.Prelude.{All}
 use Rattle.std.specs.Cmp.{IsTotalOrder}
 use Rattle.std.proofs.lemmas.Cmp.{nat_cmp_total}
@@ -26,6 +26,7 @@ use Rattle.nd_protocol.specs.Fitting.{ChangeFits, ChangeIsWithin, IsAtVertex, Is
 use Rattle.nd_record.specs.Seen.{seen}
 use Rattle.nd_cluster.specs.Parts.{IsRecordKey, IsItem, IsSinkKey, ItemsFit, RowFits, RowIsWithin}
 use Rattle.nd_cluster.proofs.ChoiceLemmas.{split}
+use Rattle.std.proofs.lemmas.Bool.{cases_lt}
 
 -- ---- the entries that are left
 
@@ -125,11 +126,8 @@ module _ (g : Dataflow) (q : ProcessorState) where
   pub sinks_to : ProcessorFits g q → SinksFit
   sinks_to h = counts_to sink_total sink_exact q.sinks (λ k _. IsSinkKey g k) h.sinks
 
-  side : (a b : ℕ) → (a < b) ⊎ (b ≤ a)
-  side a b = grind arith
-
   items_from : AllItemsFit → (v : ℕ) (k : ItemKey) → at (items_at q v) k ≢ pos 0 → IsItem g v k (at (items_at q v) k)
-  items_from all v k some = elim (side v (length q.items)) [
+  items_from all v k some = elim (cases_lt v (length q.items)) [
     | inl lt ↦ counts_from item_total item_exact (items_at q v) (IsItem g v) (all v lt) k some
     | inr past ↦ absurd (some (ap (λ m. at m k) (get_or_past q.items v no_counts past) ∙ at-none item_cmp integers k))
   ]

@@ -40,16 +40,10 @@ use Rattle.nd_protocol.specs.declared.refusal.Refusal.TheVariants.{NoProcessor, 
 use Rattle.nd_record.specs.Seen.{seen, IsSeen}
 use Rattle.nd_cluster.specs.Tested.{TakePasses, TakeRefused, NoticePasses, NoticeRefused}
 use Rattle.nd_work.specs.Targets.{target_there}
+use Rattle.std.proofs.lemmas.Bool.{or_parts}
+use Rattle.nd_map.specs.Cases.{at_least}
 
 -- ---- the depths of a graph without faults
-
-left_false : (a b : Bool) → (a || b) ≡ false → a ≡ false
-left_false true b e = e
-left_false false b e = refl
-
-right_false : (a b : Bool) → (a || b) ≡ false → b ≡ false
-right_false true b e = absurd (cc)
-right_false false b e = e
 
 second_none : (a b c : Bool) → ◌≡◌ {A = Option GraphFault} (cond a (Some BadPort) (cond b (Some DepthMismatch) (cond c (Some TooLarge) None))) None → (b ≡ false) × (c ≡ false)
 second_none true b c e = absurd (cc)
@@ -67,8 +61,8 @@ may Feedback d e f = grind (arith, nat_tests, e)
 may_at : (vs : List Vertex) (l : ℕ) → list_any is_misplaced vs ≡ false → list_any (is_too_deep max_depth) vs ≡ false → MayActAt (action_of (option_map_or (λ v. v.op) (slice_get vs l) op.Sink)) (vertex_depth vs l)
 may_at [] l e f = tt
 may_at (v ∷ vs) zero e f =
-    may (action_of v.op) v.depth (right_false (is_input v.op && nat_lt 0 v.depth) (stands_in_loop (action_of v.op) && v.depth == 0) (left_false (is_misplaced v) (list_any is_misplaced vs) e)) (left_false (is_too_deep max_depth v) (list_any (is_too_deep max_depth) vs) f)
-may_at (v ∷ vs) (suc l) e f = may_at vs l (right_false (is_misplaced v) (list_any is_misplaced vs) e) (right_false (is_too_deep max_depth v) (list_any (is_too_deep max_depth) vs) f)
+    may (action_of v.op) v.depth (or_parts (is_input v.op && nat_lt 0 v.depth) (stands_in_loop (action_of v.op) && v.depth == 0) (or_parts (is_misplaced v) (list_any is_misplaced vs) e).0).1 (or_parts (is_too_deep max_depth v) (list_any (is_too_deep max_depth) vs) f).0
+may_at (v ∷ vs) (suc l) e f = may_at vs l (or_parts (is_misplaced v) (list_any is_misplaced vs) e).1 (or_parts (is_too_deep max_depth v) (list_any (is_too_deep max_depth) vs) f).1
 
 -- the depth of an edge stands among those of the edges
 among_edges : (ws : List Vertex) (ds : List ℕ) (l d : ℕ) → length ws ≤ l → slice_get (map (λ (v : Vertex). v.depth) ws ++ ds) l ≡ Some d → slice_get ds (l - length ws) ≡ Some d
@@ -86,25 +80,22 @@ unfolding misses_depth
 target_depth vs [] i d right has = absurd (cc)
 target_depth vs (e ∷ es) zero d right has =
     let one : depth_past_vertex vs e.from ≡ d = cc in
-    same_depth (depth_past_vertex vs e.from) (vertex_depth vs e.to) (left_false (misses_depth vs e) (list_any (misses_depth vs) es) right) ∙ one
-target_depth vs (e ∷ es) (suc i) d right has = target_depth vs es i d (right_false (misses_depth vs e) (list_any (misses_depth vs) es) right) has
+    same_depth (depth_past_vertex vs e.from) (vertex_depth vs e.to) (or_parts (misses_depth vs e) (list_any (misses_depth vs) es) right).0 ∙ one
+target_depth vs (e ∷ es) (suc i) d right has = target_depth vs es i d (or_parts (misses_depth vs e) (list_any (misses_depth vs) es) right).1 has
 
 -- the target of an edge may act at the edge's depth
 may_target : (g : Dataflow) (edge d : ℕ) → IsFaultless g → length g.vertices ≤ edge → slice_get (map (λ (v : Vertex). v.depth) g.vertices ++ map (λ (e : Edge). depth_past_vertex g.vertices e.from) g.edges) edge ≡ Some d → MayActAt (action_of (op_at g (target_of g edge))) d
 unfolding fault_of has_depth_mismatch is_too_large
 may_target g edge d sound low has =
     let (agree, small) = second_none (list_any (has_bad_port g.vertices) g.edges) (has_depth_mismatch g) (is_too_large max_depth g) sound.faultless in
-    let placed = left_false (list_any is_misplaced g.vertices) (list_any (misses_depth g.vertices) g.edges) agree in
-    let right = right_false (list_any is_misplaced g.vertices) (list_any (misses_depth g.vertices) g.edges) agree in
-    let shallow = left_false (list_any (is_too_deep max_depth) g.vertices) (list_any (leads_too_deep max_depth g.vertices) g.edges) (right_false (nat_lt 64 (location_count g)) (list_any (is_too_deep max_depth) g.vertices || list_any (leads_too_deep max_depth g.vertices) g.edges) small) in
+    let placed = (or_parts (list_any is_misplaced g.vertices) (list_any (misses_depth g.vertices) g.edges) agree).0 in
+    let right = (or_parts (list_any is_misplaced g.vertices) (list_any (misses_depth g.vertices) g.edges) agree).1 in
+    let shallow = (or_parts (list_any (is_too_deep max_depth) g.vertices) (list_any (leads_too_deep max_depth g.vertices) g.edges) (or_parts (nat_lt 64 (location_count g)) (list_any (is_too_deep max_depth) g.vertices || list_any (leads_too_deep max_depth g.vertices) g.edges) small).1).0 in
     let is : vertex_depth g.vertices (target_of g edge) ≡ d
     = target_depth g.vertices g.edges (edge - length g.vertices) d right (among_edges g.vertices (map (λ (e : Edge). depth_past_vertex g.vertices e.from) g.edges) edge d low has) in
     subst (λ n. MayActAt (action_of (op_at g (target_of g edge))) n) is (may_at g.vertices (target_of g edge) placed shallow)
 
 -- ---- a take
-
-at_least : (a b : ℕ) → (a < b → ⊥) → b ≤ a
-at_least a b h = let l : b < suc a = lt_of_not-le h in omega arith
 
 -- what the tests of a take have shown
 pub record TakeStands (s : ClusterState) (p : ℕ) (k : ValueAt) (target : ℕ) : Type 0 where

@@ -1,5 +1,5 @@
 -- Edits of a delta's entries: what they keep, and the change that they make.
-use Rattle.std.proofs.Common.{◌≡◌, ◌≢◌, ◌≤◌, ℤ, pos, unsigned_abs, Bool, true, false, cond, List, Option, Some, None, IfSome, w64, to_z, of_z, refl, sym, ap, subst, ◌∙◌, arith}
+use Rattle.std.proofs.Common.{◌≡◌, ◌≢◌, ◌≤◌, ℤ, pos, unsigned_abs, Bool, true, false, cond, List, Option, Some, None, IfSome, w64, to_z, of_z, sym, ap, subst, ◌∙◌, arith}
 use Rattle.std.proofs.lemmas.Int.{to_z-of_z, fits_signed_from_abs}
 use Rattle.std.specs.FinMap.{find, put}
 use Rattle.std.specs.FinMap.Entries.{find-put}
@@ -8,16 +8,12 @@ use Rattle.nd_map.specs.Listed.{without}
 use Rattle.nd_map.specs.Maps.{find-without, listed-put, listed-without}
 use Rattle.nd_paths.specs.Point.{point_cmp, point_total}
 use Rattle.nd_paths.specs.declared.point.Pointstamp.{Pointstamp}
-use Rattle.nd_delta.specs.Change.{Change, at, set, or_zero, is_point, of_entries, at-of_entries, at-set, same, entries, entries-of_entries, IsWithin}
+use Rattle.nd_delta.specs.Change.{Change, at, set, or_zero, is_point, of_entries, at-of_entries, at-set, same, entries, entries-of_entries, IsWithin, or_zero-cond}
 use Rattle.nd_delta.specs.Kept.{IsCount, IsKept}
 
 one_of : (b : Bool) (w x : Option ℤ) → IfSome w IsCount → IfSome x IsCount → IfSome (cond b w x) IsCount
 one_of true w x g h = g
 one_of false w x g h = h
-
-or_zero-cond : (b : Bool) (x y : Option ℤ) → or_zero (cond b x y) ≡ cond b (or_zero x) (or_zero y)
-or_zero-cond true x y = refl
-or_zero-cond false x y = refl
 
 module _ (es : List (Pointstamp × ℤ)) (p : Pointstamp) where
   pub kept_put : (v : ℤ) → IsCount v → IsKept es → IsKept (put point_cmp p v es)

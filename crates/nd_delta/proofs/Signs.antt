@@ -5,6 +5,3 @@ use Rattle.std.proofs.lemmas.Int.{ints}
 
 pub not_zero_below : (z : ℤ) → z <ℤ pos 0 → z ≢ pos 0
 not_zero_below z h e = absurd (omega (arith, ints, h, e))
-
-pub not_zero_above : (z : ℤ) → pos 0 <ℤ z → z ≢ pos 0
-not_zero_above z h e = absurd (omega (arith, ints, h, e))

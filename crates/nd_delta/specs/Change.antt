@@ -86,7 +86,7 @@ set m k (pos zero) = without m k
 set m k (pos (suc n)) = put m k (pos (suc n)) (λ e. absurd (cc))
 set m k (negsuc n) = put m k (negsuc n) (λ e. absurd (cc))
 
-or_zero-cond : (b : Bool) (x y : Option ℤ) → or_zero (cond b x y) ≡ cond b (or_zero x) (or_zero y)
+pub or_zero-cond : (b : Bool) (x y : Option ℤ) → or_zero (cond b x y) ≡ cond b (or_zero x) (or_zero y)
 or_zero-cond true x y = refl
 or_zero-cond false x y = refl
 

@@ -2,7 +2,7 @@
 use Rattle.std.proofs.Common.{◌≡◌, ◌∙◌, ℕ, ◌+◌, ◌<◌, ◌≤◌, zero, suc, Bool, true, false, not, ◌&&◌, ◌||◌, ◌==◌, eqb, ltb, nat_lt, List, [], ◌∷◌, ◌++◌, length, get_or, map, refl, sym, ap, subst, arith, if◌then◌else◌, append_assoc, Some, None}
 use Rattle.std.proofs.lemmas.List.{length-map, length-append}
 use Rattle.std.proofs.lemmas.List.Elements.{All-nil, All-cons, All-head, All-tail, All-append, All-map, All-weaker}
-use Rattle.std.proofs.lemmas.Bool.{eqb-true, ltb-false}
+use Rattle.std.proofs.lemmas.Bool.{eqb-true, ltb-false, or_from, or_parts, not-false}
 use Rattle.std.proofs.lemmas.Bool.Decides.{nat_tests}
 use Rattle.std.specs.List.{All, list_any}
 use Rattle.nd_time.specs.Limits.{max_depth, max_locations}
@@ -16,7 +16,6 @@ use Rattle.nd_graph.specs.declared.fault.GraphFault.TheVariants.{BadPort, DepthM
 use Rattle.nd_graph.specs.Operators.{leads_in}
 use Rattle.nd_graph.specs.Graph.{Dataflow, action_of, action_at, depth_past, depth_past_vertex, depths, arcs, arcs_from, location_count, LeadsTo, ArcAgrees, IsGraph}
 use Rattle.nd_graph.specs.Checked.{has_bad_port, is_misplaced, is_misplaced_at, misses_depth, vertex_depth, has_depth_mismatch, is_too_deep, leads_too_deep, is_too_large, fault_of, JoinsVertices, IsFaultless}
-use Rattle.nd_graph.proofs.NameLaws.{or_false, not_false}
 
 -- ---- arcs, edge by edge
 
@@ -40,11 +39,8 @@ arcs_from-push vertices l (x ∷ edges) e here at =
 none_of : {X : Type 0} (test : X → Bool) (xs : List X) → list_any test xs ≡ false → All (λ x. test x ≡ false) xs
 none_of test [] h = All-nil (λ x. test x ≡ false)
 none_of test (x ∷ xs) h =
-    let both = or_false (test x) (list_any test xs) h in
+    let both = or_parts (test x) (list_any test xs) h in
     All-cons (λ y. test y ≡ false) x xs both.0 (none_of test xs both.1)
-
-neither : (a b : Bool) → a ≡ false → b ≡ false → (a || b) ≡ false
-neither a b e f = rw (e, f) refl
 
 all_pass : {X : Type 0} (a b c : Bool) (x y z : X) → (if a then Some x else (if b then Some y else (if c then Some z else None))) ≡ None
     → (a ≡ false) × (b ≡ false) × (c ≡ false)
@@ -63,8 +59,8 @@ tests most g h = all_pass (list_any (has_bad_port g.vertices) g.edges) (has_dept
 none_more : {X : Type 0} (test more : X → Bool) → ((x : X) → test x ≡ false → more x ≡ false) → (xs : List X) → list_any test xs ≡ false → list_any more xs ≡ false
 none_more test more weaker [] h = refl
 none_more test more weaker (x ∷ xs) h =
-    let both = or_false (test x) (list_any test xs) h in
-    neither (more x) (list_any more xs) (weaker x both.0) (none_more test more weaker xs both.1)
+    let both = or_parts (test x) (list_any test xs) h in
+    or_from (more x) (list_any more xs) (weaker x both.0) (none_more test more weaker xs both.1)
 
 less_deep : (most least d : ℕ) (leads : Bool) → most ≤ least → (nat_lt most d || (leads && d == most)) ≡ false → (nat_lt least d || (leads && d == least)) ≡ false
 less_deep most least d true h e = grind (arith, nat_tests, h, e)
@@ -82,10 +78,10 @@ no_fault a b c d h weaker =
 smaller : (most least : ℕ) (g : Dataflow) → most ≤ least → is_too_large most g ≡ false → is_too_large least g ≡ false
 unfolding is_too_large leads_too_deep
 smaller most least g h e =
-    let few = or_false (nat_lt max_locations (location_count g)) (list_any (is_too_deep most) g.vertices || list_any (leads_too_deep most g.vertices) g.edges) e in
-    let flat = or_false (list_any (is_too_deep most) g.vertices) (list_any (leads_too_deep most g.vertices) g.edges) few.1 in
-    neither (nat_lt max_locations (location_count g)) (list_any (is_too_deep least) g.vertices || list_any (leads_too_deep least g.vertices) g.edges) few.0
-    (neither (list_any (is_too_deep least) g.vertices) (list_any (leads_too_deep least g.vertices) g.edges)
+    let few = or_parts (nat_lt max_locations (location_count g)) (list_any (is_too_deep most) g.vertices || list_any (leads_too_deep most g.vertices) g.edges) e in
+    let flat = or_parts (list_any (is_too_deep most) g.vertices) (list_any (leads_too_deep most g.vertices) g.edges) few.1 in
+    or_from (nat_lt max_locations (location_count g)) (list_any (is_too_deep least) g.vertices || list_any (leads_too_deep least g.vertices) g.edges) few.0
+    (or_from (list_any (is_too_deep least) g.vertices) (list_any (leads_too_deep least g.vertices) g.edges)
     (none_more (is_too_deep most) (is_too_deep least) (λ v. less_deep most least v.depth (leads_in (action_of v.op)) h) g.vertices flat.0)
     (none_more (leads_too_deep most g.vertices) (leads_too_deep least g.vertices) (λ x. lower most least (depth_past_vertex g.vertices x.from) h) g.edges flat.1))
 
@@ -115,9 +111,9 @@ leads op.Sink depth h = refl
 source_leads : (vertices : List Vertex) (l : ℕ) → l < length vertices → list_any is_misplaced vertices ≡ false
     → LeadsTo (action_at vertices l) (vertex_depth vertices l) (depth_past_vertex vertices l)
 source_leads [] l within h = absurd (omega arith)
-source_leads (v ∷ vertices) zero within h = leads v.op v.depth (or_false (is_misplaced v) (list_any is_misplaced vertices) h).0
+source_leads (v ∷ vertices) zero within h = leads v.op v.depth (or_parts (is_misplaced v) (list_any is_misplaced vertices) h).0
 source_leads (v ∷ vertices) (suc l) within h =
-    source_leads vertices l (omega arith) (or_false (is_misplaced v) (list_any is_misplaced vertices) h).1
+    source_leads vertices l (omega arith) (or_parts (is_misplaced v) (list_any is_misplaced vertices) h).1
 
 vertex_at : (vertices : List Vertex) (rest : List ℕ) (l : ℕ) → l < length vertices
     → get_or (map (λ v. v.depth) vertices ++ rest) l 0 ≡ vertex_depth vertices l
@@ -148,7 +144,7 @@ edges_at vertices front l (e ∷ edges) at =
     )
 
 not_missed : (a b : ℕ) → not (eqb a b) ≡ false → a ≡ b
-not_missed a b h = eqb-true a b (not_false (eqb a b) h)
+not_missed a b h = eqb-true a b (not-false (eqb a b) h)
 
 agree : (vertices : List Vertex) (ds : List ℕ) (l : ℕ) (edges : List Edge) → length vertices ≤ length ds
     → ((i : ℕ) → i < length vertices → get_or ds i 0 ≡ vertex_depth vertices i) → EdgesAt vertices ds l edges
@@ -158,7 +154,7 @@ unfolding misses_depth
 agree vertices ds l [] long at from_here joined placed met = All-nil (ArcAgrees ds)
 agree vertices ds l (e ∷ edges) long at from_here joined placed met =
     let ends = All-head (JoinsVertices vertices) e edges joined in
-    let both = or_false (misses_depth vertices e) (list_any (misses_depth vertices) edges) met in
+    let both = or_parts (misses_depth vertices e) (list_any (misses_depth vertices) edges) met in
     let into : Arc = record { from = e.from; action = action_at vertices e.from; to = l } in
     let out : Arc = record { from = l; action = Identity; to = e.to } in
     let more = arcs_from vertices (l + 1) edges in
@@ -182,7 +178,7 @@ agree vertices ds l (e ∷ edges) long at from_here joined placed met =
 -- no input lies in a loop, and no egress and no feedback lies outside one
 pub placed : (g : Dataflow) → IsFaultless g → All (λ v. is_misplaced v ≡ false) g.vertices
 unfolding has_depth_mismatch
-placed g h = none_of is_misplaced g.vertices (or_false (list_any is_misplaced g.vertices) (list_any (misses_depth g.vertices) g.edges) (tests max_depth g h.faultless).1).0
+placed g h = none_of is_misplaced g.vertices (or_parts (list_any is_misplaced g.vertices) (list_any (misses_depth g.vertices) g.edges) (tests max_depth g h.faultless).1).0
 
 -- ---- the whole
 
@@ -190,9 +186,9 @@ pub is_graph : (g : Dataflow) → IsFaultless g → IsGraph g (depths g) (arcs g
 unfolding has_depth_mismatch is_too_large leads_too_deep
 is_graph g h =
     let passed = tests max_depth g h.faultless in
-    let placed = or_false (list_any is_misplaced g.vertices) (list_any (misses_depth g.vertices) g.edges) passed.1 in
-    let small = or_false (ltb max_locations (location_count g)) (list_any (is_too_deep max_depth) g.vertices || list_any (leads_too_deep max_depth g.vertices) g.edges) passed.2 in
-    let flat = or_false (list_any (is_too_deep max_depth) g.vertices) (list_any (leads_too_deep max_depth g.vertices) g.edges) small.1 in
+    let placed = or_parts (list_any is_misplaced g.vertices) (list_any (misses_depth g.vertices) g.edges) passed.1 in
+    let small = or_parts (ltb max_locations (location_count g)) (list_any (is_too_deep max_depth) g.vertices || list_any (leads_too_deep max_depth g.vertices) g.edges) passed.2 in
+    let flat = or_parts (list_any (is_too_deep max_depth) g.vertices) (list_any (leads_too_deep max_depth g.vertices) g.edges) small.1 in
     let front = map (λ v. v.depth) g.vertices in
     let back = map (λ e. depth_past_vertex g.vertices e.from) g.edges in
     record {
@@ -206,7 +202,7 @@ is_graph g h =
       shallow = All-append (λ d. d ≤ max_depth) front back
           (All-map (λ d. d ≤ max_depth) (λ v. v.depth) g.vertices
           (All-weaker (λ v. is_too_deep max_depth v ≡ false) (λ v. v.depth ≤ max_depth)
-          (λ v p. ltb-false max_depth v.depth (or_false (ltb max_depth v.depth) _ p).0) g.vertices (none_of (is_too_deep max_depth) g.vertices flat.0)))
+          (λ v p. ltb-false max_depth v.depth (or_parts (ltb max_depth v.depth) _ p).0) g.vertices (none_of (is_too_deep max_depth) g.vertices flat.0)))
           (All-map (λ d. d ≤ max_depth) (λ e. depth_past_vertex g.vertices e.from) g.edges
           (All-weaker (λ e. leads_too_deep max_depth g.vertices e ≡ false) (λ e. depth_past_vertex g.vertices e.from ≤ max_depth)
           (λ e p. ltb-false max_depth (depth_past_vertex g.vertices e.from) p) g.edges (none_of (leads_too_deep max_depth g.vertices) g.edges flat.1)));

@@ -1,7 +1,7 @@
 -- Names that stand twice, and the positions of names.
-use Rattle.std.proofs.Common.{◌≡◌, ◌∙◌, ◌⊎◌, inl, inr, ℕ, ◌+◌, ◌<◌, ◌≤◌, zero, suc, Bool, true, false, not, ◌||◌, cond, List, [], ◌∷◌, ◌++◌, length, take, drop, get_or, map, refl, sym, ap, arith, append_assoc, Some, None}
+use Rattle.std.proofs.Common.{◌≡◌, ◌∙◌, inl, inr, ℕ, ◌+◌, ◌<◌, ◌≤◌, zero, suc, Bool, true, false, cond, List, [], ◌∷◌, ◌++◌, length, take, drop, get_or, map, refl, sym, ap, arith, append_assoc, Some, None}
 use Rattle.std.proofs.lemmas.List.{take_more, map-append, take-append-drop}
-use Rattle.std.proofs.lemmas.Bool.{le-ltb, lt-ltb}
+use Rattle.std.proofs.lemmas.Bool.{le-ltb, lt-ltb, or_cases, or_left, or_right, or_parts, or_from}
 use Rattle.std.proofs.lemmas.List.Sums.{position_or_len_is}
 use Rattle.std.proofs.lemmas.List.Folds.{list_any-append}
 use Rattle.std.proofs.lemmas.Iterator.Adapters.{position_from-zero}
@@ -11,30 +11,6 @@ use Rattle.std.specs.Cmp.Lexicographic.{nat_list_eq_equiv}
 use Rattle.nd_graph.specs.Checked.{has_double}
 
 -- ---- tests
-
-pub not_false : (b : Bool) → not b ≡ false → b ≡ true
-not_false true e = refl
-not_false false e = cc
-
-pub or_cases : (a b : Bool) → (a || b) ≡ true → (a ≡ true) ⊎ (b ≡ true)
-or_cases true b e = inl refl
-or_cases false b e = inr e
-
-pub or_left : (a b : Bool) → a ≡ true → (a || b) ≡ true
-or_left true b e = refl
-or_left false b e = cc
-
-pub or_right : (a b : Bool) → b ≡ true → (a || b) ≡ true
-or_right true b e = refl
-or_right false b e = e
-
-pub or_false : (a b : Bool) → (a || b) ≡ false → (a ≡ false) × (b ≡ false)
-or_false true b e = cc
-or_false false b e = (refl, e)
-
-pub or_none : (a b : Bool) → a ≡ false → b ≡ false → (a || b) ≡ false
-or_none true b e h = cc
-or_none false b e h = h
 
 -- ---- names that stand twice
 
@@ -51,9 +27,9 @@ has_double-again (x ∷ ks) rest k e =
 pub has_double-new : (ks : List (List ℕ)) (k : List ℕ) → has_double ks ≡ false → list_any (bytes_eq k) ks ≡ false → has_double (ks ++ k ∷ []) ≡ false
 has_double-new [] k h e = refl
 has_double-new (x ∷ ks) k h e =
-    let before = or_false (list_any (bytes_eq x) ks) (has_double ks) h in
-    let here = or_false (bytes_eq k x) (list_any (bytes_eq k) ks) e in
-    or_none _ _ (list_any-append (bytes_eq x) ks (k ∷ []) ∙ or_none _ _ before.0 (or_none _ _ (nat_list_eq_equiv.symm x k ∙ here.0) refl))
+    let before = or_parts (list_any (bytes_eq x) ks) (has_double ks) h in
+    let here = or_parts (bytes_eq k x) (list_any (bytes_eq k) ks) e in
+    or_from _ _ (list_any-append (bytes_eq x) ks (k ∷ []) ∙ or_from _ _ before.0 (or_from _ _ (nat_list_eq_equiv.symm x k ∙ here.0) refl))
     (has_double-new ks k before.1 here.1)
 
 -- ---- lists that are gone through

@@ -1,9 +1,8 @@
 -- A sorted list of entries under a search and the edits of a vector.
-use Rattle.std.proofs.Common.{◌≡◌, ◌≤◌, ◌<◌, ℕ, zero, suc, Bool, true, false, cond, not, ◌&&◌, T, List, [], ◌∷◌, length, get_or, set, Some, None, Ordering, Less, Equal, Greater, refl, sym, ap, ◌∙◌, arith}
-use Rattle.std.proofs.Common.{inl, inr}
+use Rattle.std.proofs.Common.{◌≡◌, ◌≤◌, ◌<◌, ℕ, zero, suc, cond, not, T, List, [], ◌∷◌, length, get_or, set, Some, None, Ordering, Less, Equal, Greater, refl, sym, ap, ◌∙◌, arith, inl, inr}
 use Rattle.std.proofs.lemmas.Bool.{cases_lt}
 use Rattle.std.specs.List.{insert, remove}
-use Rattle.std.specs.Ordering.{eq_by_cmp, is_lt, is_eq, ordering_index, ordering_reverse}
+use Rattle.std.specs.Ordering.{eq_by_cmp, is_eq, ordering_index, ordering_reverse}
 use Rattle.std.specs.Cmp.{IsTotalOrder}
 use Rattle.std.proofs.lemmas.Cmp.{alike_right, tied_back, tied_itself}
 use Rattle.std.specs.FinMap.{find, put, is_sorted}
@@ -12,19 +11,7 @@ use Rattle.nd_map.specs.Entries.{below_at, rises}
 use Rattle.nd_map.specs.Counts.{keys_of}
 use Rattle.nd_map.specs.Listed.{IsListed, without}
 use Rattle.nd_map.specs.Place.{IsAt, IsGap}
-
-pub first : (a b : Bool) → T (a && b) → T a
-first true b p = tt
-first false b p = p
-
-pub second : (a b : Bool) → T (a && b) → T b
-second true b p = p
-second false b p = absurd p
-
-pub less : (r : Ordering) → T (is_lt r) → r ≡ Less
-less Less p = refl
-less Equal p = absurd p
-less Greater p = absurd p
+use Rattle.nd_map.specs.Cases.{first, second, less}
 
 -- what is left when a key is taken out is in order
 pub listed_without : {K X : Type 0} (R : K → K → Ordering) (k : K) (es : List (K × X)) → IsListed R es → IsListed R (without R k es)

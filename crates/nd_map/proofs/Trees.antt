@@ -1,18 +1,14 @@
 -- The words of std's tree are those of lists in the order of their keys.
 use Rattle.std.proofs.Common.{◌≡◌, Bool, true, false, cond, not, T, List, [], ◌∷◌, ◌++◌, Some, Ordering, Less, Equal, Greater, refl, sym, ap, ◌∙◌}
-use Rattle.std.specs.Ordering.{eq_by_cmp, is_eq, is_lt, match_ordering, ordering_reverse}
+use Rattle.std.specs.Ordering.{eq_by_cmp, is_lt, match_ordering, ordering_reverse}
 use Rattle.std.specs.Cmp.{IsTotalOrder}
 use Rattle.std.specs.Map.{lookup, remove_entry}
 use Rattle.std.specs.BTreeMap.{is_at, insert_entry}
 use Rattle.std.specs.FinMap.{find, put}
 use Rattle.std.specs.FinMap.Entries.{below_all, by_order}
 use Rattle.nd_map.specs.Listed.{IsListed, without}
-use Rattle.nd_map.proofs.Places.{first, second, less, keeps}
-
-equal : (r : Ordering) → is_eq r ≡ true → r ≡ Equal
-equal Less e = absurd (cc)
-equal Equal e = refl
-equal Greater e = absurd (cc)
+use Rattle.nd_map.proofs.Places.{keeps}
+use Rattle.nd_map.specs.Cases.{first, second, less, equal}
 
 placed : {A : Type 0} (r : Ordering) (a b x y : A) → x ≡ y → match_ordering r a b x ≡ by_order r a b y
 placed Less a b x y e = refl

@@ -62,7 +62,7 @@ or_else_exact z None (Some x) p q e = absurd (q (ap Some (sym e)))
 or_else_exact z (Some x) None p q e = absurd (p (ap Some e))
 or_else_exact z (Some x) (Some y) p q e = ap Some e
 
-or_else-cond : {X : Type 0} (z : X) (b : Bool) (x y : Option X) → or_else z (cond b x y) ≡ cond b (or_else z x) (or_else z y)
+pub or_else-cond : {X : Type 0} (z : X) (b : Bool) (x y : Option X) → or_else z (cond b x y) ≡ cond b (or_else z x) (or_else z y)
 or_else-cond z true x y = refl
 or_else-cond z false x y = refl
 

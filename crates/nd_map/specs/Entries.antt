@@ -3,33 +3,16 @@
 --     find-head, absent_in_tail     an entry's key finds it, and not in the entries after it
 --     rises                         a later entry has a greater key
 --     find-index, all_found, found_all      each entry is found at its key, and each that is found is an entry
-use Rattle.std.specs.Prelude.{◌≡◌, ◌<◌, ℕ, Bool, true, false, cond, ◌&&◌, T, List, [], ◌∷◌, All, Some, None, length, refl}
-use Rattle.std.proofs.Common.{zero, suc, drop, get_or, sym, ap, subst, ◌∙◌, arith, drop-cons, Ordering, Less, Equal, Greater}
+use Rattle.std.specs.Prelude.{◌≡◌, ◌<◌, ℕ, true, false, cond, T, List, [], ◌∷◌, All, Some, None, length, refl}
+use Rattle.std.proofs.Common.{zero, suc, drop, get_or, sym, ap, subst, ◌∙◌, arith, drop-cons, Ordering, Less, Greater}
 use Rattle.std.specs.Option.{unwrap_or}
-use Rattle.std.specs.Ordering.{eq_by_cmp, is_eq, is_lt, ordering_reverse}
+use Rattle.std.specs.Ordering.{eq_by_cmp, is_eq, ordering_reverse}
 use Rattle.std.specs.Cmp.{IsTotalOrder}
 use Rattle.std.proofs.lemmas.Cmp.{tied_itself}
 use Rattle.std.specs.FinMap.{IsAntisymmetric, find}
 use Rattle.std.specs.FinMap.Entries.{below_all}
 use Rattle.nd_map.specs.Listed.{IsListed}
-
-first : (a b : Bool) → T (a && b) → T a
-first true b p = tt
-first false b p = p
-
-second : (a b : Bool) → T (a && b) → T b
-second true b p = p
-second false b p = absurd p
-
-less : (r : Ordering) → T (is_lt r) → r ≡ Less
-less Less p = refl
-less Equal p = absurd p
-less Greater p = absurd p
-
-equal : (r : Ordering) → is_eq r ≡ true → r ≡ Equal
-equal Less e = absurd (cc)
-equal Equal e = refl
-equal Greater e = absurd (cc)
+use Rattle.nd_map.specs.Cases.{first, second, less, equal}
 
 greater : {K : Type 0} (R : K → K → Ordering) → IsTotalOrder R → (x y : K) → R x y ≡ Less → R y x ≡ Greater
 greater R o x y h = o.antisymm y x ∙ ap ordering_reverse h

@@ -1,5 +1,5 @@
 -- The sum over the entries of a finite map of what each weighs, and how an edit at one key moves it.
-use Rattle.std.specs.Prelude.{◌≡◌, ◌≢◌, ℕ, ◌+◌, Bool, true, false, cond, not, ◌&&◌, T, List, [], ◌∷◌, Option, Some, None, sum_by, refl}
+use Rattle.std.specs.Prelude.{◌≡◌, ◌≢◌, ℕ, ◌+◌, true, false, cond, not, T, List, [], ◌∷◌, Option, Some, None, sum_by, refl}
 use Rattle.std.proofs.Common.{sym, ap, ◌∙◌, arith, Ordering, Less, Equal, Greater, true≢false}
 use Rattle.std.specs.Ordering.{eq_by_cmp, is_eq, is_lt}
 use Rattle.std.specs.Cmp.{IsTotalOrder}
@@ -8,24 +8,7 @@ use Rattle.std.proofs.lemmas.List.Sums.{sum_by-cons}
 use Rattle.std.specs.FinMap.{FinMap, IsAntisymmetric, entries, entries_sorted, get, insert, remove, find, put, is_sorted, entries-insert, get-entries, get-insert, get-remove, same_map}
 use Rattle.std.specs.FinMap.Entries.{below_all, by_order, find_tied}
 use Rattle.nd_map.specs.Listed.{IsListed, without}
-
-first : (a b : Bool) → T (a && b) → T a
-first true b h = tt
-first false b h = h
-
-second : (a b : Bool) → T (a && b) → T b
-second true b h = h
-second false b h = absurd h
-
-tied : (r : Ordering) → is_eq r ≡ true → r ≡ Equal
-tied Less e = absurd (cc)
-tied Equal e = refl
-tied Greater e = absurd (cc)
-
-less : (o : Ordering) → T (is_lt o) → o ≡ Less
-less Less h = refl
-less Equal h = absurd h
-less Greater h = absurd h
+use Rattle.nd_map.specs.Cases.{first, second, less, equal}
 
 -- what the entries weigh together
 abbrev pub weight : {K X : Type 0} → (K → X → ℕ) → List (K × X) → ℕ
@@ -81,7 +64,7 @@ module _ {K X : Type 0} (R : K → K → Ordering) (o : IsTotalOrder R) (tells :
       let S : (x : K × X) (xs : List (K × X)) → weight f (x ∷ xs) ≡ f x.0 x.1 + weight f xs = sum_by-cons (λ e. f e.0 e.1) in
       elim (eq_by_cmp R k e.0) as (λ b. eq_by_cmp R k e.0 ≡ b → weight f (cond (not b) (e ∷ without R k es) (without R k es)) + weight_at f k (cond b (Some e.1) (find R k es)) ≡ weight f (e ∷ es)) [
         | true ↦ λ t.
-            let tie : R k e.0 ≡ Equal = tied (R k e.0) t in
+            let tie : R k e.0 ≡ Equal = equal (R k e.0) t in
             let b : f k e.1 ≡ f e.0 e.1 = ap (λ x. f x e.1) (tells k e.0 tie) in
             let n : weight_at f k (find R k es) ≡ 0 = ap (weight_at f k) (absent_tied k e.0 es tie below) in
             omega (arith, S e es)
@@ -102,7 +85,7 @@ module _ {K X : Type 0} (R : K → K → Ordering) (o : IsTotalOrder R) (tells :
   whole m k None e =
       let same : remove m k ≡ m = same_map o tells (remove m k) m (λ q.
       get-remove o m k q ∙ elim (eq_by_cmp R q k) as (λ b. eq_by_cmp R q k ≡ b → cond b None (get m q) ≡ get m q) [
-        | true ↦ λ t. sym (ap (get m) (tells q k (tied (R q k) t)) ∙ e)
+        | true ↦ λ t. sym (ap (get m) (tells q k (equal (R q k) t)) ∙ e)
         | false ↦ λ t. refl
       ] refl) in
       rw same (omega arith)
@@ -110,7 +93,7 @@ module _ {K X : Type 0} (R : K → K → Ordering) (o : IsTotalOrder R) (tells :
       let same : insert (remove m k) k v ≡ m = same_map o tells (insert (remove m k) k v) m (λ q.
       get-insert o (remove m k) k v q ∙ ap (cond (eq_by_cmp R q k) (Some v)) (get-remove o m k q)
       ∙ elim (eq_by_cmp R q k) as (λ b. eq_by_cmp R q k ≡ b → cond b (Some v) (cond b None (get m q)) ≡ get m q) [
-        | true ↦ λ t. sym (ap (get m) (tells q k (tied (R q k) t)) ∙ e)
+        | true ↦ λ t. sym (ap (get m) (tells q k (equal (R q k) t)) ∙ e)
         | false ↦ λ t. refl
       ] refl) in
       let w : weight f (entries (insert (remove m k) k v)) + weight_at f k (get (remove m k) k) ≡ weight f (entries (remove m k)) + f k v

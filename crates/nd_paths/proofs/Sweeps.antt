@@ -1,7 +1,7 @@
 -- What holds of a row while rounds are made: it has real walks, and covers those of few arcs.
 use Rattle.std.proofs.Common.{Bool, true, false, ◌≡◌, inl, inr, ℕ, ◌+◌, ◌-◌, ◌*◌, ◌<◌, ◌≤◌, Option, Some, None, List, [], ◌∷◌, ◌++◌, length, set, replicate, refl, sym, ◌∙◌, ap, subst, arith, length-append}
 use Rattle.std.specs.Bool.{OnFalse}
-use Rattle.std.specs.Prelude.{◌||◌, All, Contains, slice_index}
+use Rattle.std.specs.Prelude.{All, Contains, slice_index}
 use Rattle.std.proofs.lemmas.Bool.{cases_lt, cases_eq}
 use Rattle.std.proofs.lemmas.List.{length-set, length-replicate, get_or-replicate, get_or_past}
 use Rattle.std.proofs.lemmas.List.Elements.{All-contains, All-cons, All-head, All-tail, All-nil, All-weaker}
@@ -10,11 +10,10 @@ use Rattle.nd_graph.specs.declared.op.Action.{Action}
 use Rattle.nd_graph.specs.declared.op.Action.TheVariants.{Identity, Ingress, Egress, Feedback}
 use Rattle.nd_graph.specs.declared.graph.Arc.{Arc}
 use Rattle.nd_paths.specs.declared.summary.Summary.{Summary}
-use Rattle.nd_paths.specs.Inside.{IsWalkAlong, DepthsAgree}
+use Rattle.nd_paths.specs.Inside.{IsWalkAlong, DepthsAgree, keeps, inner, summary_of, identity, then_act, step, after, grows, IsWithin}
 use Rattle.nd_graph.specs.Graph.{LeadsTo, ArcAgrees}
 use Rattle.std.specs.Option.{option_map}
 use Rattle.nd_time.specs.Limits.{max_depth, max_locations, max_counter}
-use Rattle.nd_paths.specs.Inside.{keeps, inner, summary_of, identity, then_act, step, after, grows, IsWithin}
 use Rattle.nd_paths.specs.Table.{entry, Covers, CanRelax, Relaxed, Quiet, CoversShort}
 use Rattle.nd_paths.proofs.Summaries.{IsFor, IsFor-step, after-append, AtMost-step, AtMost-refl}
 use Rattle.nd_paths.proofs.Walks.{IsFor-walk, walks_joined, arc_leads}
@@ -254,10 +253,6 @@ quiet_here old new x r q f =
 
 pub quiet_others : (old new : List (Option Summary)) (x : Arc) (r : ℕ) (xs : List Arc) → Quiet old new x r → All (Closed old keeps) xs → All (Closed new keeps) xs
 quiet_others old new x r xs q f = subst (λ row. All (Closed row keeps) xs) (sym q.0) f
-
-pub both_false : (a b : Bool) → (a || b) ≡ false → (a ≡ false) × (b ≡ false)
-both_false true b e = absurd (cc)
-both_false false b e = (refl, e)
 
 pub at_false : {P : Type 0} (b : Bool) → b ≡ false → OnFalse b P → P
 at_false true e h = absurd (cc)

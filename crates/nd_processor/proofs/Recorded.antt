@@ -1,6 +1,5 @@
 -- Records have values of 64 bits, so those at a pointstamp are those between its least and its greatest value.
-use Rattle.std.proofs.Common.{◌≡◌, ◌≢◌, ◌≤◌, ◌<◌, ◌+◌, ◌*◌, ◌-◌, ◌^◌, ℕ, suc, ℤ, pos, negsuc, ◌<ℤ◌, FitsSigned, w64, Ordering, Less, Equal, Greater, Bool, true, false, cond, not, ◌&&◌, List, [], ◌∷◌, length, Option, Some, None, IfSome, nat_eq, refl, sym, ap, subst, ◌∙◌, arith}
-use Rattle.std.proofs.lemmas.Int.{ints}
+use Rattle.std.proofs.Common.{◌≡◌, ◌≢◌, ◌≤◌, ◌<◌, ◌+◌, ◌*◌, ◌-◌, ◌^◌, ℕ, suc, pos, negsuc, FitsSigned, w64, Ordering, Less, Equal, Greater, Bool, true, false, cond, not, ◌&&◌, List, [], ◌∷◌, length, Option, Some, None, IfSome, nat_eq, refl, sym, ap, subst, ◌∙◌, arith}
 use Rattle.std.proofs.lemmas.Bool.Decides.{nat_tests}
 use Rattle.std.proofs.lemmas.Cmp.{tied_itself}
 use Rattle.std.proofs.lemmas.List.Elements.{All-filter}
@@ -10,8 +9,7 @@ use Rattle.std.specs.Prelude.{All, OnErr, OnOk, Result, Err, Ok, sum_by}
 use Rattle.std.specs.List.{filter}
 use Rattle.std.specs.declared.ops.Bound.TheVariants.{Included}
 use Rattle.std.specs.BTreeMap.Range.{IsLeBy, range_contains, entries_between}
-use Rattle.std.specs.Cmp.{int_ranks}
-use Rattle.std.specs.Ordering.{MatchOrdering, eq_by_cmp, int_cmp, is_eq, is_gt, is_le, is_lt, ordering_then}
+use Rattle.std.specs.Ordering.{eq_by_cmp, int_cmp, is_eq, is_gt, is_le, is_lt, ordering_then}
 use Rattle.std.specs.FinMap.{find, put}
 use Rattle.std.specs.FinMap.Entries.{find-put}
 use Rattle.nd_time.specs.Limits.{max_count}
@@ -26,6 +24,7 @@ use Rattle.nd_delta.specs.Change.{is_point}
 use Rattle.nd_processor.specs.Keys.{value_at_cmp, value_at_total, value_at_exact}
 use Rattle.nd_processor.specs.Kept.{AreRecords, IsCount, IsKept, number, put_count}
 use Rattle.nd_processor.specs.declared.key.ValueAt.{ValueAt}
+use Rattle.nd_map.specs.Ends.{not_below, not_above}
 
 -- ---- an edit leaves records
 
@@ -79,22 +78,6 @@ last_at x = record { point = x; value = pos (2 ^ 63 - 1) }
 
 pub forward : (x : Pointstamp) → IsLeBy value_at_cmp (first_at x) (last_at x)
 forward x = ap (λ r. is_gt (ordering_then r (int_cmp (negsuc (2 ^ 63 - 1)) (pos (2 ^ 63 - 1))))) (tied_itself point_total x)
-
-not_below : (z : ℤ) → FitsSigned w64 z → is_le (int_cmp (negsuc (2 ^ 63 - 1)) z) ≡ true
-not_below z fits = by (int_cmp (negsuc (2 ^ 63 - 1)) z) (int_ranks (negsuc (2 ^ 63 - 1)) z)
-  where
-    by : (r : Ordering) → MatchOrdering r (negsuc (2 ^ 63 - 1) <ℤ z) (negsuc (2 ^ 63 - 1) ≡ z) (z <ℤ negsuc (2 ^ 63 - 1)) → is_le r ≡ true
-    by Less h = refl
-    by Equal h = refl
-    by Greater h = absurd (let f = fits.sfits in omega (arith, ints, h, f))
-
-not_above : (z : ℤ) → FitsSigned w64 z → is_lt (int_cmp (pos (2 ^ 63 - 1)) z) ≡ false
-not_above z fits = by (int_cmp (pos (2 ^ 63 - 1)) z) (int_ranks (pos (2 ^ 63 - 1)) z)
-  where
-    by : (r : Ordering) → MatchOrdering r (pos (2 ^ 63 - 1) <ℤ z) (pos (2 ^ 63 - 1) ≡ z) (z <ℤ pos (2 ^ 63 - 1)) → is_lt r ≡ false
-    by Less h = absurd (let f = fits.sfits in omega (arith, ints, h, f))
-    by Equal h = refl
-    by Greater h = refl
 
 -- a record is at a pointstamp if it is between these
 within : (x : Pointstamp) (k : ValueAt) → FitsSigned w64 k.value → range_contains value_at_cmp (Included (first_at x)) (Included (last_at x)) k ≡ is_point x k.point

@@ -92,7 +92,7 @@ pub sum_by-map : {A B : Type 0} (f : B → ℕ) (g : A → B) (xs : List A) → 
 sum_by-map f g [] = refl
 sum_by-map f g (x ∷ xs) = sum_by-cons f (g x) (map g xs) ∙ ap (λ n. f (g x) + n) (sum_by-map f g xs) ∙ sym (sum_by-cons (λ y. f (g y)) x xs)
 
-in_requests-weight : (s : Requests) (x : Pointstamp) → in_requests s x ≡ weight (λ k (u : Unit {0}). one_at k x) (fin.entries s)
+pub in_requests-weight : (s : Requests) (x : Pointstamp) → in_requests s x ≡ weight (λ k (u : Unit {0}). one_at k x) (fin.entries s)
 in_requests-weight s x = sum_by-map (λ k. one_at k x) (λ (e : Pointstamp × Unit {0}). e.0) (fin.entries s)
 
 requested : (s : Requests) (k x : Pointstamp) → in_requests (fin.insert s k tt) x + weight_at (λ j (u : Unit {0}). one_at j x) k (fin.get s k) ≡ in_requests s x + one_at k x

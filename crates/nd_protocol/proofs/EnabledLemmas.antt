@@ -1,6 +1,5 @@
 -- What an enabled step finds, and that it leads from a state to a state.
 use Rattle.std.proofs.Common.{◌≡◌, ◌⊎◌, inl, inr, ℕ, ℤ, pos, List, zero, suc, ◌<◌, ◌≤◌, length, Bool, true, false, cond, Option, Some, None, refl, sym, subst, arith}
-use Rattle.std.proofs.lemmas.Bool.{cases_lt}
 use Rattle.std.proofs.lemmas.List.{get_or_default}
 use Rattle.std.specs.Prelude.{All}
 use Rattle.std.specs.FinMap as fin
@@ -25,9 +24,7 @@ use Rattle.nd_protocol.proofs.StepsLemmas.{many_stepped}
 use Rattle.nd_protocol.proofs.Ranges.{below_unless, in_range_unless}
 use Rattle.nd_protocol.proofs.Fitness.{keys_fit}
 use Rattle.nd_protocol.proofs.Exchanges.{sent_state, received_state}
-
-at_most_unless : (a n : ℕ) → (a < n → ⊥) → n ≤ a
-at_most_unless a n h = elim (cases_lt a n) [ inl lt ↦ absurd (h lt) | inr le ↦ le ]
+use Rattle.nd_map.specs.Cases.{at_least}
 
 some_unless : {X : Type 0} (v : Option X) → (v ≡ None → ⊥) → (x : X) × (v ≡ Some x)
 some_unless None h = absurd (h refl)
@@ -94,9 +91,9 @@ chosen_is_part (Points points) c x = subst (λ z. (z ≡ pos 0) ⊎ (z ≡ at c 
 
 all_within : (s : ClusterState) → (HasLargeCount s → ⊥) → (HasLargeEntry s → ⊥) → All ProcessorIsWithin s.processors
 all_within s count entry p d lt = subst ProcessorIsWithin (get_or_default s.processors p idle d lt) (record {
-  records = λ k. at_most_unless max_count _ (λ large. count (of_record p k large));
-  sinks = λ k. at_most_unless max_count _ (λ large. count (of_sink p k large));
-  unsent = λ x. at_most_unless max_count _ (λ large. entry (of_unsent p x large));
+  records = λ k. at_least max_count _ (λ large. count (of_record p k large));
+  sinks = λ k. at_least max_count _ (λ large. count (of_sink p k large));
+  unsent = λ x. at_least max_count _ (λ large. entry (of_unsent p x large));
 })
 
 within_work : (s : ClusterState) (x : Work) → (HasLargeCount (done s x) → ⊥) → (HasLargeEntry (done s x) → ⊥) → IsWithinLimits s → IsWithinLimits (done s x)
@@ -131,4 +128,4 @@ state_kept trans s (Notice p vertex t) state enabled =
 state_kept trans s (Broadcast p part) state enabled =
     sent_state s p (chosen part (processor s p).unsent) state (sender_below s p part enabled) (chosen_is_part part (processor s p).unsent) (room s p part enabled)
 state_kept trans s (Receive from to) state enabled =
-    received_state s from to state (from_below s from to enabled) (to_below s from to enabled) (λ x. at_most_unless max_count _ (λ large. enabled.free DeltaFull (of_view to x large)))
+    received_state s from to state (from_below s from to enabled) (to_below s from to enabled) (λ x. at_least max_count _ (λ large. enabled.free DeltaFull (of_view to x large)))

@@ -1,6 +1,6 @@
 -- Changes that are sent and received: a part of what a processor has to send goes to all, if what stays is upright;
 -- the front of a queue goes into a view.
-use Rattle.std.proofs.Common.{◌≡◌, inl, inr, ℕ, ◌+◌, ◌<◌, ◌≤◌, pos, ◌+ℤ◌, ◌-ℤ◌, List, [], ◌∷◌, ◌++◌, map, length, get_or, set, refl, sym, ap, subst, ◌∙◌, arith, length-append, length-set, get_or-set_same, get_or-set_other}
+use Rattle.std.proofs.Common.{◌≡◌, inl, inr, ℕ, ◌+◌, ◌<◌, ◌≤◌, pos, ◌-ℤ◌, List, [], ◌∷◌, ◌++◌, map, length, get_or, set, refl, sym, ap, subst, ◌∙◌, arith, length-append, length-set, get_or-set_same, get_or-set_other}
 use Rattle.std.proofs.lemmas.Int.{ints}
 use Rattle.std.proofs.lemmas.List.{get_or_default, length-map}
 use Rattle.std.proofs.lemmas.List.Elements.{All-map, All-push, All-set, All-head, All-tail}
@@ -19,8 +19,8 @@ use Rattle.nd_protocol.specs.Invariant.{HoldsToken}
 use Rattle.nd_protocol.proofs.Core.{Broadcasts, Receives}
 use Rattle.nd_protocol.proofs.Reading.{reading}
 use Rattle.nd_protocol.proofs.Counts.{count-set_same, kept-set}
-use Rattle.nd_protocol.proofs.UprightSums.{zero_or_not}
-use Rattle.nd_protocol.proofs.Kept.{same_or_not}
+use Rattle.std.proofs.lemmas.Bool.{cases_eq}
+use Rattle.nd_protocol.proofs.Fitness.{plus_fits}
 
 -- a list of all queues, in which the one from p to q is read
 abbrev row : List (List (List Change)) → ℕ → List (List Change)
@@ -72,7 +72,7 @@ module _ (s : ClusterState) (p : ℕ) (here : p < length s.processors) (fits : K
 
     queue_others : (k l : ℕ) → (k ≡ p → l ≡ q → ⊥) → queue (received_from s p q (c ∷ rest)) k l ≡ queue s k l
     queue_others k l apart =
-        elim (same_or_not k p) [
+        elim (cases_eq k p) [
           | inl is ↦
               ap (λ n. queue (received_from s p q (c ∷ rest)) n l) is
               ∙ ap (λ (r : List (List Change)). get_or r l []) (get_or-set_same s.queues p (set (row s.queues p) q rest) [] sender)
@@ -170,14 +170,6 @@ sent_state s p c state here part room =
         queues = All-set (λ row. All QueueIsWithin row) s.queues p (map push r) within_row state.within.queues;
       };
     }
-
-plus_fits : (g : Dataflow) (c d : Change) → ChangeFits g c → ChangeFits g d → ChangeFits g (plus c d)
-plus_fits g c d h k x some =
-    let sum : at (plus c d) x ≡ at c x +ℤ at d x = at-plus c d x in
-    elim (zero_or_not (at c x)) [
-      | inr ne ↦ h x ne
-      | inl a ↦ elim (zero_or_not (at d x)) [ inr ne ↦ k x ne | inl b ↦ absurd (some (omega (arith, ints))) ]
-    ]
 
 front_state : (s : ClusterState) (p q : ℕ) (c : Change) (rest : List Change) → IsState s → p < length s.processors → q < length s.processors → queue s p q ≡ c ∷ rest → ChangeIsWithin (plus (view s q) c) → IsState (received_from s p q (c ∷ rest))
 front_state s p q c rest state here there front small =

@@ -26,20 +26,20 @@ use Rattle.nd_protocol.specs.Ranges.{IsValue}
 use Rattle.nd_protocol.specs.Fitting.{IsOrdered, IsAtVertex, IsAtEdge, IsAtLocation, ChangeFits, ProcessorFits, KeysFit}
 use Rattle.nd_protocol.proofs.Arcs.{IsTransitive}
 use Rattle.nd_protocol.proofs.Shape.{Work, performer, performed, done, AllAt, AllKeys, IsSmallKey, IsPossible, written, come, performed-writes, HasCause}
-use Rattle.nd_protocol.proofs.Kept.{same_or_not}
 use Rattle.nd_protocol.proofs.Counts.{count, gain-count}
-use Rattle.nd_protocol.proofs.UprightSums.{zero_or_not}
 use Rattle.nd_protocol.proofs.Emissions.{AllAt-both}
-use Rattle.nd_protocol.proofs.Requests.{as_weight}
 use Rattle.nd_protocol.proofs.Keys.{set_cases}
 use Rattle.nd_protocol.proofs.StepsLemmas.{cause_of, many_stepped}
+use Rattle.nd_map.specs.Cases.{zero_or_not}
+use Rattle.std.proofs.lemmas.Bool.{cases_eq}
+use Rattle.nd_processor.specs.Held.{in_requests-weight}
 
 -- ---- all of a list in which one is written
 
 pub all-set : {X : Type 0} (P : X → Type 0) (xs : List X) (i : ℕ) (y : X) → All P xs → (i < length xs → P y) → All P (set xs i y)
 all-set P xs i y all new k d lt =
     let many : length (set xs i y) ≡ length xs = length-set xs i y in
-    elim (same_or_not k i) [
+    elim (cases_eq k i) [
       | inl e ↦ subst P (sym (ap (λ j. get_or (set xs i y) j d) e ∙ get_or-set_same xs i y d (omega arith))) (new (omega arith))
       | inr ne ↦ subst P (sym (get_or-set_other xs i k y d ne)) (all k d (omega arith))
     ]
@@ -104,7 +104,7 @@ record_at g q x fit some =
 
 request_at : (g : Dataflow) (q : ProcessorState) (x : Pointstamp) → ProcessorFits g q → 0 < in_requests q.requests x → IsAtLocation g x
 request_at g q x fit some =
-    let (k, u, found, part) = found_part point_total (λ (k : Pointstamp) (u : Unit {0}). one_at k x) (fin.entries q.requests) (fin.entries_sorted q.requests) x tt (subst (λ n. 0 < n) (as_weight q.requests x) some) in
+    let (k, u, found, part) = found_part point_total (λ (k : Pointstamp) (u : Unit {0}). one_at k x) (fin.entries q.requests) (fin.entries_sorted q.requests) x tt (subst (λ n. 0 < n) (in_requests-weight q.requests x) some) in
     let (here, more) = at_it (is_point x k) 1 part in
     let place : IsAtVertex g k = fit.requests k (fin.get-entries q.requests k ∙ found) in
     subst (IsAtLocation g) (sym (tells_apart point_exact x k here)) (record { fits = place.fits; small = place.small })
@@ -142,7 +142,7 @@ gain_fits g old new then now x some =
       ]
     ]
 
-plus_fits : (g : Dataflow) (c d : Change) → ChangeFits g c → ChangeFits g d → ChangeFits g (plus c d)
+pub plus_fits : (g : Dataflow) (c d : Change) → ChangeFits g c → ChangeFits g d → ChangeFits g (plus c d)
 plus_fits g c d h k x some =
     let sum : at (plus c d) x ≡ at c x +ℤ at d x = at-plus c d x in
     elim (zero_or_not (at c x)) [

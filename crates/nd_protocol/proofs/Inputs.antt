@@ -8,19 +8,11 @@ use Rattle.nd_graph.specs.declared.op.Op.TheVariants.{Input, Sink}
 use Rattle.nd_graph.specs.declared.fault.GraphFault.{GraphFault}
 use Rattle.nd_graph.specs.declared.fault.GraphFault.TheVariants.{BadPort, DepthMismatch, TooLarge}
 use Rattle.nd_graph.specs.declared.graph.Vertex.{Vertex}
-use Rattle.nd_graph.specs.Graph.{Dataflow, depth_past_vertex}
+use Rattle.nd_graph.specs.Graph.{Dataflow, depth_past_vertex, op_at, location_count}
 use Rattle.nd_graph.specs.Checked.{has_bad_port, is_misplaced, is_misplaced_at, misses_depth, has_depth_mismatch, is_too_large, is_too_deep, leads_too_deep, fault_of, IsFaultless}
-use Rattle.nd_graph.specs.Graph.{op_at, location_count}
 use Rattle.nd_paths.specs.Order.{HasDepth}
 use Rattle.nd_time.specs.Limits.{max_depth, max_locations}
-
-left_false : (a b : Bool) → (a || b) ≡ false → a ≡ false
-left_false true b e = e
-left_false false b e = refl
-
-right_false : (a b : Bool) → (a || b) ≡ false → b ≡ false
-right_false true b e = absurd (cc)
-right_false false b e = e
+use Rattle.std.proofs.lemmas.Bool.{or_parts}
 
 -- inputs stand outside all loops
 abbrev pub AreInputsFlat : Dataflow → Type 0
@@ -42,14 +34,14 @@ not_deep d e = grind (arith, nat_tests, e)
 
 flat_at : (vs : List Vertex) (rest : List ℕ) (l : ℕ) → list_any is_misplaced vs ≡ false → option_map_or (λ v. v.op) (slice_get vs l) Sink ≡ Input → slice_get (map (λ v. v.depth) vs ++ rest) l ≡ Some 0
 flat_at [] rest l right is = absurd (cc)
-flat_at (v ∷ vs) rest zero right is = ap Some (not_deep v.depth (left_false (nat_lt 0 v.depth) false (subst (λ o. is_misplaced_at o v.depth ≡ false) is (left_false (is_misplaced v) (list_any is_misplaced vs) right))))
-flat_at (v ∷ vs) rest (suc l) right is = flat_at vs rest l (right_false (is_misplaced v) (list_any is_misplaced vs) right) is
+flat_at (v ∷ vs) rest zero right is = ap Some (not_deep v.depth (or_parts (nat_lt 0 v.depth) false (subst (λ o. is_misplaced_at o v.depth ≡ false) is (or_parts (is_misplaced v) (list_any is_misplaced vs) right).0)).0)
+flat_at (v ∷ vs) rest (suc l) right is = flat_at vs rest l (or_parts (is_misplaced v) (list_any is_misplaced vs) right).1 is
 
 pub inputs_flat : (g : Dataflow) → IsFaultless g → AreInputsFlat g
 unfolding fault_of has_depth_mismatch
 inputs_flat g sound l is =
     let agree : has_depth_mismatch g ≡ false = second_none (list_any (has_bad_port g.vertices) g.edges) (has_depth_mismatch g) (is_too_large max_depth g) sound.faultless in
-    flat_at g.vertices (map (λ e. depth_past_vertex g.vertices e.from) g.edges) l (left_false (list_any is_misplaced g.vertices) (list_any (misses_depth g.vertices) g.edges) agree) is
+    flat_at g.vertices (map (λ e. depth_past_vertex g.vertices e.from) g.edges) l (or_parts (list_any is_misplaced g.vertices) (list_any (misses_depth g.vertices) g.edges) agree).0 is
 
 not_more : (m n : ℕ) → nat_lt m n ≡ false → n ≤ m
 not_more m n e = grind (arith, nat_tests, e)
@@ -59,4 +51,4 @@ pub few_locations : (g : Dataflow) → IsFaultless g → location_count g ≤ ma
 unfolding fault_of is_too_large
 few_locations g sound =
     let small : is_too_large max_depth g ≡ false = third_none (list_any (has_bad_port g.vertices) g.edges) (has_depth_mismatch g) (is_too_large max_depth g) sound.faultless in
-    not_more max_locations (location_count g) (left_false (nat_lt max_locations (location_count g)) (list_any (is_too_deep max_depth) g.vertices || list_any (leads_too_deep max_depth g.vertices) g.edges) small)
+    not_more max_locations (location_count g) (or_parts (nat_lt max_locations (location_count g)) (list_any (is_too_deep max_depth) g.vertices || list_any (leads_too_deep max_depth g.vertices) g.edges) small).0

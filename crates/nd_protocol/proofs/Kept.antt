@@ -4,19 +4,14 @@ use Rattle.std.proofs.lemmas.Int.{ints}
 use Rattle.nd_protocol.proofs.Core.{IsStrictOrder, IsFinite, IsHeld, sum_at, Reading, pending, IsBalanced, IsSound, Adds, Performs, Broadcasts, Receives, Steps, IsStart}
 use Rattle.nd_delta.specs.Upright.{IsUpright}
 use Rattle.nd_protocol.specs.Invariant.{total}
-use Rattle.nd_protocol.proofs.UprightSums.{in_left, in_right, zero_or_not, finite_zero, finite_sum, upright_same, upright_wider, upright_sum}
-
--- a number is another or is not
-pub same_or_not : (a b : ℕ) → (a ≡ b) ⊎ (a ≢ b)
-same_or_not zero zero = inl refl
-same_or_not zero (suc b) = inr (λ e. omega arith)
-same_or_not (suc a) zero = inr (λ e. omega arith)
-same_or_not (suc a) (suc b) = elim (same_or_not a b) [ inl e ↦ inl (ap suc e) | inr ne ↦ inr (λ e. ne (omega arith)) ]
+use Rattle.nd_protocol.proofs.UprightSums.{in_left, in_right, finite_zero, finite_sum, upright_same, upright_wider, upright_sum}
+use Rattle.nd_map.specs.Cases.{zero_or_not}
+use Rattle.std.proofs.lemmas.Bool.{cases_eq}
 
 pub both_or_not : (a b c d : ℕ) → ((a ≡ b) × (c ≡ d)) ⊎ (a ≡ b → c ≡ d → ⊥)
 both_or_not a b c d =
-    elim (same_or_not a b) [
-      | inl e ↦ elim (same_or_not c d) [ inl f ↦ inl (e, f) | inr ne ↦ inr (λ _ f. ne f) ]
+    elim (cases_eq a b) [
+      | inl e ↦ elim (cases_eq c d) [ inl f ↦ inl (e, f) | inr ne ↦ inr (λ _ f. ne f) ]
       | inr ne ↦ inr (λ e _. ne e)
     ]
 
@@ -36,7 +31,7 @@ total_same (suc n) f g same =
 pub total_more : (n p : ℕ) (f g : ℕ → ℤ) (a : ℤ) → p < n → g p ≡ (f p +ℤ a) → ((k : ℕ) → k ≢ p → g k ≡ f k) → total n g ≡ (total n f +ℤ a)
 total_more zero p f g a h here others = absurd (omega arith)
 total_more (suc n) p f g a h here others =
-    elim (same_or_not n p) [
+    elim (cases_eq n p) [
       | inl e ↦
           let l : g n ≡ (f n +ℤ a) = subst (λ k. g k ≡ (f k +ℤ a)) (sym e) here in
           let m : total n g ≡ total n f = total_same n f g (λ k lt. others k (λ e'. omega arith)) in
@@ -140,7 +135,7 @@ module _ {P C : Type 0} (R : P → P → Type 0) (o : IsStrictOrder R) (at : C �
 
     performed_upright : IsSound R at r → (j q k : ℕ) → j < r.n → q < r.n → k ≤ length (r.queue j q) → IsUpright R (IsHeld s j) (pending R at s j q k)
     performed_upright sound j q k l h le =
-        elim (same_or_not j p) [
+        elim (cases_eq j p) [
           | inl e ↦ rw e (upright_same R (IsHeld s p) (λ x. pending R at r p q k x +ℤ d x) (pending R at s p q k) (performed_here R at p d r s step.adds q k)
               (upright_sum R o (IsHeld r p) (IsHeld s p) (pending R at r p q k) d step.moved (finite_pending r p q k) gain_finite
               (sound.upright p q k step.adds.here h (subst (λ v. k ≤ length (r.queue v q)) e le)) step.justified))
@@ -184,7 +179,7 @@ module _ {P C : Type 0} (R : P → P → Type 0) (o : IsStrictOrder R) (at : C �
         let v : at (s.view q) x ≡ at (r.view q) x = ap (λ c. at c x) (step.view q) in
         let m : total r.n (λ j. pending R at s j q 0 x) ≡ total r.n (λ j. pending R at r j q 0 x)
         = total_same r.n (λ j. pending R at r j q 0 x) (λ j. pending R at s j q 0 x)
-        (λ j l. elim (same_or_not j p) [
+        (λ j l. elim (cases_eq j p) [
           | inl e ↦ rw e (sent_here q 0 h (omega arith) x)
           | inr ne ↦ sent_there j ne q 0 x
         ]) in
@@ -195,7 +190,7 @@ module _ {P C : Type 0} (R : P → P → Type 0) (o : IsStrictOrder R) (at : C �
 
     sent_upright : IsSound R at r → (j q k : ℕ) → j < r.n → q < r.n → k ≤ length (s.queue j q) → IsUpright R (IsHeld s j) (pending R at s j q k)
     sent_upright sound j q k l h le =
-        elim (same_or_not j p) [
+        elim (cases_eq j p) [
           | inl e ↦ rw e (elim (le_or_more k (length (r.queue p q))) [
             | inl le' ↦ upright_same R (IsHeld s p) (pending R at r p q k) (pending R at s p q k) (sent_here q k h le')
                 (upright_wider R (IsHeld r p) (IsHeld s p) (pending R at r p q k) (sent_same_held p) (sound.upright p q k step.here h le'))
@@ -232,7 +227,7 @@ module _ {P C : Type 0} (R : P → P → Type 0) (o : IsStrictOrder R) (at : C �
     taken_balance balance l h x =
         let b : pos (r.truth x) ≡ (at (r.view l) x +ℤ total r.n (λ j. pending R at r j l 0 x)) = balance l h x in
         let t : s.truth x ≡ r.truth x = step.truth x in
-        elim (same_or_not l q) [
+        elim (cases_eq l q) [
           | inl e ↦
               let v : at (s.view l) x ≡ (at (r.view l) x +ℤ at c x) = rw e (step.view x) in
               let m : total r.n (λ j. pending R at r j l 0 x) ≡ (total r.n (λ j. pending R at s j l 0 x) +ℤ at c x)

@@ -13,15 +13,13 @@ use Rattle.nd_graph.specs.declared.op.Op.{Op}
 use Rattle.nd_graph.specs.declared.op.Op.TheVariants.{Input, Ingress, Egress, Feedback, Add, Mul, Below, Split, Sum, Distinct, Sink}
 use Rattle.nd_graph.specs.declared.op.Route.TheVariants.{Local}
 use Rattle.nd_graph.specs.declared.graph.Edge.{Edge}
-use Rattle.nd_graph.specs.Graph.{Dataflow, depths, depth_past_vertex}
+use Rattle.nd_graph.specs.Graph.{Dataflow, depths, depth_past_vertex, op_at}
 use Rattle.nd_paths.specs.Order.{Fits, HasDepth}
 use Rattle.nd_paths.specs.Point.{point_total, point_exact}
 use Rattle.nd_paths.specs.declared.point.Pointstamp.{Pointstamp}
 use Rattle.nd_protocol.proofs.Arcs.{depth_within}
-use Rattle.nd_protocol.proofs.Kept.{same_or_not}
 use Rattle.nd_processor.specs.Keys.{value_at_total, value_at_exact, sink_total, sink_exact}
 use Rattle.nd_processor.specs.State.{ProcessorState, items_at, token_point}
-use Rattle.nd_graph.specs.Graph.{op_at}
 use Rattle.nd_map.specs.Counts.{Counts, Number, natural, none, at, set as with_number, added, at-set, at-only}
 use Rattle.nd_time.specs.Listing.{time_cmp}
 use Rattle.nd_protocol.specs.Steps.{target_of, record_key, moved_token, point_at}
@@ -36,6 +34,7 @@ use Rattle.nd_protocol.specs.Ranges.{IsSmall, IsValue}
 use Rattle.nd_time.specs.Limits.{max_counter}
 use Rattle.std.proofs.lemmas.List.Elements.{All-nil, All-cons}
 use Rattle.nd_protocol.specs.Fitting.{IsOrdered, IsAtVertex, IsAtEdge, ProcessorFits}
+use Rattle.std.proofs.lemmas.Bool.{cases_eq}
 
 -- ---- an edit of a map leaves every other key as it was
 
@@ -159,7 +158,7 @@ items_written : (g : Dataflow) (q : ProcessorState) (vertex : ℕ) (t : Time) (i
     → (v : ℕ) (k : ItemKey) → at (get_or (set q.items vertex items) v none) k ≢ pos 0 → IsAtVertex g (point_at v k.time) × IsValue k.item × IsValue (at (get_or (set q.items vertex items) v none) k)
 items_written g q vertex t items items_are values there fit v k some =
     let inside : vertex < length q.items = subst (λ n. vertex < n) (sym fit.vertices) there.place in
-    elim (same_or_not v vertex) [
+    elim (cases_eq v vertex) [
       | inl here ↦
           let is : get_or (set q.items vertex items) v none ≡ items = ap (λ w. get_or (set q.items vertex items) w none) here ∙ get_or-set_same q.items vertex items none inside in
           let some_here : at items k ≢ pos 0 = λ e. some (ap (λ m. at m k) is ∙ e) in

@@ -1,6 +1,5 @@
 -- A notice that is enabled has no precursor: of finitely many one would be the least.
-use Rattle.std.proofs.Common.{◌≡◌, ◌≢◌, ℕ, ℤ, pos, ◌<ℤ◌, Less, Greater, ap, ◌∙◌, arith}
-use Rattle.std.proofs.lemmas.Int.{ints}
+use Rattle.std.proofs.Common.{◌≡◌, ◌≢◌, ℕ, pos, Less, Greater, ap, ◌∙◌}
 use Rattle.std.proofs.lemmas.Cmp.{tied_itself}
 use Rattle.std.specs.Ordering.{ordering_reverse}
 use Rattle.nd_time.specs.Time.{Time}
@@ -23,6 +22,7 @@ use Rattle.nd_protocol.proofs.Arcs.{IsTransitive}
 use Rattle.nd_protocol.proofs.Readings.{change_finite}
 use Rattle.nd_protocol.proofs.EnabledLemmas.{notice_possible}
 use Rattle.nd_protocol.proofs.InvariantLemmas.{last}
+use Rattle.nd_map.specs.Cases.{not_zero}
 
 -- one pointstamp is listed before another
 abbrev IsListedBefore : Pointstamp → Pointstamp → Type 0
@@ -36,9 +36,6 @@ listed_order = record {
 
 turned : (x y : Pointstamp) → point_cmp x y ≡ Greater → point_cmp y x ≡ Less
 turned x y greater = point_total.antisymm y x ∙ ap ordering_reverse greater
-
-not_zero : (z : ℤ) → pos 0 <ℤ z → z ≢ pos 0
-not_zero z more e = absurd (omega (arith, ints))
 
 -- a kind of the points of a change that has no least point has none
 none_without_least : (c : Change) (P : Pointstamp → Type 0) → ((x : Pointstamp) → P x → at c x ≢ pos 0) → ((x : Pointstamp) → IsLeast P x → ⊥) → (x : Pointstamp) → P x → ⊥

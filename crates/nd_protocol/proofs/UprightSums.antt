@@ -1,10 +1,11 @@
 -- Sums of upright changes are upright.
-use Rattle.std.proofs.Common.{◌≡◌, ◌≢◌, ℕ, zero, suc, ◌<◌, ◌⊎◌, inl, inr, List, [], ◌∷◌, ◌++◌, refl, sym, subst, arith, ℤ, pos, ◌+ℤ◌, ◌<ℤ◌}
+use Rattle.std.proofs.Common.{◌≡◌, ℕ, zero, suc, ◌<◌, ◌⊎◌, inl, inr, List, [], ◌∷◌, ◌++◌, refl, sym, subst, arith, ℤ, pos, ◌+ℤ◌, ◌<ℤ◌}
 use Rattle.std.proofs.lemmas.Int.{ints, by_lt_z}
 use Rattle.nd_protocol.proofs.Core.{IsStrictOrder, IsIn, IsFinite}
 use Rattle.nd_protocol.specs.Invariant.{total}
 use Rattle.nd_delta.specs.Upright.{IsSupported, IsUpright}
 use Rattle.nd_protocol.proofs.Descent.{induction}
+use Rattle.nd_map.specs.Cases.{zero_or_not}
 
 pub in_left : {P : Type 0} (xs ys : List P) (x : P) → IsIn xs x → IsIn (xs ++ ys) x
 in_left [] ys x h = absurd h
@@ -14,11 +15,6 @@ in_left (z ∷ zs) ys x (inr h) = inr (in_left zs ys x h)
 pub in_right : {P : Type 0} (xs ys : List P) (x : P) → IsIn ys x → IsIn (xs ++ ys) x
 in_right [] ys x h = h
 in_right (z ∷ zs) ys x h = inr (in_right zs ys x h)
-
--- an integer is 0 or not
-pub zero_or_not : (a : ℤ) → (a ≡ pos 0) ⊎ (a ≢ pos 0)
-zero_or_not a = by_lt_z a (pos 0) (λ h. inr (λ e. omega (arith, ints)))
-    (λ h. by_lt_z (pos 0) a (λ g. inr (λ e. omega (arith, ints))) (λ g. inl (omega (arith, ints))))
 
 pub finite_zero : {P : Type 0} → IsFinite {P = P} (λ x. pos 0)
 finite_zero = ([], λ x h. h refl)

@@ -21,9 +21,10 @@ use Rattle.nd_record.specs.declared.change.Change.TheVariants.{Sink}
 use Rattle.nd_record.proofs.PlacesLemmas.{SameShape, shape-turned, shape-through, there_alike, there_where, same_state, may_stand}
 use Rattle.nd_record.specs.Alike.{same_key}
 use Rattle.nd_record.proofs.CountedLemmas.{queues_same}
-use Rattle.nd_record.proofs.StandingLemmas.{at-difference, zero_or_not}
+use Rattle.nd_record.proofs.StandingLemmas.{at-difference}
 use Rattle.nd_record.proofs.RunsLemmas.{shape-applied, landed, moved_by, state_none, state_more, all_made, limits_of}
 use Rattle.nd_record.proofs.EachLemmas.{total, often-append, total-append, often-picked, total-picked, each_at, each_take, each_append, each_picked, each_from, each_through, not_there, rest_none, never_added, often_before, gain_alone, untouched, fits_moved}
+use Rattle.nd_map.specs.Cases.{zero_or_not}
 
 -- changes that reach a state keep the shape
 shape_of : (s t : ClusterState) (cs : List Change) → Reaches s t cs → SameShape s t

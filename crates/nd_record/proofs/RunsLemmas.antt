@@ -21,6 +21,7 @@ use Rattle.nd_record.specs.Undone.{CanTurn, Limits, Runs, only}
 use Rattle.nd_record.specs.declared.change.Change.{Change}
 use Rattle.nd_record.specs.declared.change.Change.TheVariants.{Records, Request, Token, State, Sink, Unsent}
 use Rattle.nd_record.proofs.PlacesLemmas.{SameShape, shape-itself, shape-turned, shape-through, shape-put, there_alike, same_state, standing-put, standing-put_at, may_stand}
+use Rattle.nd_map.specs.Cases.{again}
 
 -- ---- one change, made and undone
 
@@ -105,10 +106,6 @@ module _ (s : ClusterState) (c : Change) (fits : Fits s c) where
       within = subst (IsWithinAt (place_of (inverse c))) (sym back_stands) (subst (λ k. IsWithinAt k (standing s (place_of c))) (sym (place-inverse c)) (limits (place_of c)));
     };
   }
-
-  again : {X : Type 0} (b : Bool) (v w x : X) → (b ≡ true → w ≡ x) → cond b w (cond b v x) ≡ x
-  again true v w x e = e refl
-  again false v w x e = refl
 
   pub made_back : made (made s c) (inverse c) ≡ s
   made_back =

@@ -1,5 +1,5 @@
 -- What stands is listed, so the difference of two states tells by how much they differ at each place.
-use Rattle.std.proofs.Common.{◌≡◌, ◌≢◌, ◌<◌, ◌+◌, ◌⊎◌, ℕ, zero, suc, ℤ, pos, negsuc, ◌-ℤ◌, Bool, true, false, cond, ◌||◌, List, [], ◌∷◌, ◌++◌, Option, Some, None, is_some, map, length, get_or, refl, sym, ap, ◌∙◌, arith, inl, inr, true≢false}
+use Rattle.std.proofs.Common.{◌≡◌, ◌≢◌, ◌<◌, ◌+◌, ℕ, zero, suc, ℤ, pos, ◌-ℤ◌, Bool, true, false, cond, ◌||◌, List, [], ◌∷◌, ◌++◌, Option, Some, None, is_some, map, length, get_or, refl, sym, ap, ◌∙◌, arith, inl, inr, true≢false}
 use Rattle.std.proofs.lemmas.List.Folds.{list_any-append}
 use Rattle.std.proofs.lemmas.Map.Lookups.{exact_unsigned}
 use Rattle.std.proofs.lemmas.Map.Views.{tells_apart}
@@ -22,16 +22,10 @@ use Rattle.nd_record.specs.Standing.{standing, IsThere, places_of_processor, pla
 use Rattle.nd_record.specs.Slots.{from_request, from_epoch, stands}
 use Rattle.nd_record.proofs.PlacesLemmas.{there_where, slot_there}
 use Rattle.nd_record.specs.Alike.{same_key}
+use Rattle.nd_map.specs.Cases.{zero_or_not}
+use Rattle.std.proofs.lemmas.Bool.{or_left, or_right}
 
 -- ---- tests of lists
-
-or_left : (a b : Bool) → a ≡ true → (a || b) ≡ true
-or_left true b e = refl
-or_left false b e = absurd (true≢false (sym e))
-
-or_right : (a b : Bool) → b ≡ true → (a || b) ≡ true
-or_right true b e = refl
-or_right false b e = e
 
 module _ {Y : Type 0} (p : Y → Bool) where
   pub on_left : (xs ys : List Y) → list_any p xs ≡ true → list_any p (xs ++ ys) ≡ true
@@ -148,11 +142,6 @@ listed_where s (view_of q x) some there =
 
 pub in_places : (s : ClusterState) (k : Place) → standing s k ≢ pos 0 → has_key place_cmp k (places_of s) ≡ true
 in_places s k some = listed_where s k some (there_where s k some)
-
-pub zero_or_not : (z : ℤ) → (z ≡ pos 0) ⊎ (z ≢ pos 0)
-zero_or_not (pos zero) = inl refl
-zero_or_not (pos (suc n)) = inr (λ e. cc)
-zero_or_not (negsuc n) = inr (λ e. cc)
 
 unlisted : (s : ClusterState) (k : Place) → has_key place_cmp k (places_of s) ≡ false → standing s k ≡ pos 0
 unlisted s k e = elim (zero_or_not (standing s k)) [

@@ -16,18 +16,16 @@ use Rattle.nd_protocol.specs.declared.step.Step.{Step}
 use Rattle.nd_protocol.specs.declared.step.Step.TheVariants.{Feed, Take, Notice, Broadcast, Receive}
 use Rattle.nd_protocol.specs.declared.part.Part.TheVariants.{All, Points}
 use Rattle.nd_cluster.specs.Choice.{IsCandidate, performer, wait, rank, IsListedBefore, ComesFirst, IsChosen}
+use Rattle.std.proofs.lemmas.Bool.{cases_lt}
 
 -- ---- processors that have their turn at once are one
-
-lt_or_le : (a b : ℕ) → (a < b) ⊎ (b ≤ a)
-lt_or_le a b = grind arith
 
 module _ (n turn : ℕ) where
   whose_wait : (q : ℕ) → q < n → (turn % n + wait n turn q) % n ≡ q
   whose_wait q lt = by (turn % n) (mod-lt turn (let some : 0 < n = omega (arith, lt) in some))
     where
       by : (r : ℕ) → r < n → (r + (q + n - r) % n) % n ≡ q
-      by r within = elim (lt_or_le q r) [
+      by r within = elim (cases_lt q r) [
         | inr h ↦
             let e : (q + n - r) % n ≡ q - r = ap (λ k. k % n) (let e : q + n - r ≡ q - r + n = omega (arith, h) in e) ∙ add-mod_right (q - r) n ∙ mod-eq_of_lt (let l : q - r < n = omega (arith, lt) in l) in
             ap (λ k. (r + k) % n) e ∙ ap (λ k. k % n) (let e : r + (q - r) ≡ q = omega (arith, h) in e) ∙ mod-eq_of_lt lt

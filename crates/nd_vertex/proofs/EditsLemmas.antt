@@ -1,5 +1,5 @@
 -- Edits one after another: what they leave, in which order they may come, and the way back.
-use Rattle.std.proofs.Common.{◌≡◌, ◌≢◌, ◌<◌, ◌+◌, ℕ, zero, suc, ℤ, pos, negsuc, Bool, true, false, cond, not, ◌||◌, List, [], ◌∷◌, ◌++◌, length, take, get_or, map, Option, Some, None, refl, sym, ap, subst, ◌∙◌, arith}
+use Rattle.std.proofs.Common.{◌≡◌, ◌≢◌, ◌<◌, ◌+◌, ℕ, zero, suc, ℤ, pos, negsuc, Bool, true, false, cond, not, List, [], ◌∷◌, ◌++◌, length, take, get_or, map, Option, Some, None, refl, sym, ap, subst, ◌∙◌, arith}
 use Rattle.std.specs.Prelude.{is_none, is_some, All}
 use Rattle.std.specs.List.{IsDistinct, AllByRecursion, filter}
 use Rattle.std.proofs.lemmas.List.{take_more, get_or-map, length-map}
@@ -14,6 +14,8 @@ use Rattle.nd_vertex.specs.Edits.{item_of, number_of, with_item, edited, keys, t
 use Rattle.nd_vertex.specs.declared.key.ItemKey.{ItemKey}
 use Rattle.nd_vertex.specs.declared.effect.ItemEdit.{ItemEdit}
 use Rattle.nd_vertex.proofs.KeptLemmas.{there_at}
+use Rattle.std.proofs.lemmas.Bool.{or_parts, or_from}
+use Rattle.nd_map.specs.Cases.{again}
 
 abbrev pub is_key : ItemKey → ItemKey → Bool
 is_key = eq_by_cmp item_cmp
@@ -41,10 +43,6 @@ number : (z : ℤ) → number_of (cond (is_zero z) None (Some z)) ≡ z
 number (pos zero) = refl
 number (pos (suc n)) = refl
 number (negsuc n) = refl
-
-again : {X : Type 0} (b : Bool) (v w x : X) → (b ≡ true → w ≡ x) → cond b w (cond b v x) ≡ x
-again true v w x e = e refl
-again false v w x e = refl
 
 kept : {X : Type 0} (b : Bool) (w x : X) → (b ≡ true → w ≡ x) → cond b w x ≡ x
 kept true w x e = e refl
@@ -91,25 +89,18 @@ pub edited-append : (m : Items) (xs ys : List ItemEdit) → edited m (xs ++ ys) 
 edited-append m [] ys = refl
 edited-append m (x ∷ xs) ys = edited-append (with_item m x.key x.new) xs ys
 
-neither : (a b : Bool) → (a || b) ≡ false → (a ≡ false) × (b ≡ false)
-neither true b e = absurd (cc)
-neither false b e = (refl, e)
-
-none : (a b : Bool) → a ≡ false → b ≡ false → (a || b) ≡ false
-none a b e f = rw e f
-
 -- an item that is not edited
 pub untouched : (m : Items) (es : List ItemEdit) (q : ItemKey) → has q es ≡ false → at (edited m es) q ≡ at m q
 untouched m [] q h = refl
 untouched m (e ∷ es) q h =
-    let both = neither (is_key q e.key) (has q es) h in
+    let both = or_parts (is_key q e.key) (has q es) h in
     untouched (with_item m e.key e.new) es q both.1 ∙ at_with m e.key e.new q ∙ ap (λ b. cond b (number_of e.new) (at m q)) both.0
 
 -- an edit before others of other items is as one after them
 pub later : (m : Items) (k : ItemKey) (n : Option ℤ) (es : List ItemEdit) → has k es ≡ false → edited (with_item m k n) es ≡ with_item (edited m es) k n
 later m k n [] h = refl
 later m k n (e ∷ es) h =
-    let both = neither (is_key k e.key) (has k es) h in
+    let both = or_parts (is_key k e.key) (has k es) h in
     ap (λ s. edited s es) (swap m k e.key n e.new both.0) ∙ later (with_item m e.key e.new) k n es both.1
 
 -- ---- no item twice
@@ -141,7 +132,7 @@ fewer false q e es h g = g
 pub not_among : (p : ItemEdit → Bool) (es : List ItemEdit) (q : ItemKey) → has q es ≡ false → has q (filter p es) ≡ false
 not_among p [] q h = refl
 not_among p (e ∷ es) q h =
-    let both = neither (is_key q e.key) (has q es) h in
+    let both = or_parts (is_key q e.key) (has q es) h in
     fewer (p e) q e (filter p es) both.0 (not_among p es q both.1)
 
 -- nor in one of another kind

@@ -1,12 +1,10 @@
 -- The edits that take out all items at a timestamp, and the items that they leave.
-use Rattle.std.proofs.Common.{◌≡◌, ◌≢◌, ◌-◌, ◌^◌, suc, ℤ, pos, negsuc, ◌<ℤ◌, FitsSigned, w64, IfSome, Ordering, Less, Equal, Greater, Bool, true, false, cond, not, ◌&&◌, ◌||◌, List, [], ◌∷◌, map, get_or, Some, None, refl, sym, ap, subst, ◌∙◌, arith}
-use Rattle.std.proofs.lemmas.Int.{ints}
+use Rattle.std.proofs.Common.{◌≡◌, ◌≢◌, ◌-◌, ◌^◌, suc, ℤ, pos, negsuc, FitsSigned, w64, IfSome, Ordering, Less, Equal, Greater, Bool, true, false, cond, not, ◌&&◌, ◌||◌, List, [], ◌∷◌, map, get_or, Some, None, refl, sym, ap, subst, ◌∙◌, arith}
 use Rattle.std.specs.Prelude.{All, is_some}
 use Rattle.std.specs.List.{IsDistinct, AllByRecursion, filter}
 use Rattle.std.specs.declared.ops.Bound.TheVariants.{Included}
 use Rattle.std.specs.BTreeMap.Range.{IsLeBy, range_contains, entries_between}
-use Rattle.std.specs.Cmp.{int_ranks}
-use Rattle.std.specs.Ordering.{MatchOrdering, eq_by_cmp, int_cmp, is_eq, is_gt, is_le, is_lt, ordering_reverse, ordering_then}
+use Rattle.std.specs.Ordering.{eq_by_cmp, int_cmp, is_eq, is_gt, is_le, is_lt, ordering_reverse, ordering_then}
 use Rattle.std.specs.FinMap.{find}
 use Rattle.std.specs.FinMap.Entries.{is_some-find}
 use Rattle.std.proofs.lemmas.List.Elements.{All-filter, All-map}
@@ -23,6 +21,8 @@ use Rattle.nd_vertex.specs.Edits.{LeadsTo, item_of, with_item, edited, keys}
 use Rattle.nd_vertex.specs.declared.key.ItemKey.{ItemKey}
 use Rattle.nd_vertex.specs.declared.effect.ItemEdit.{ItemEdit}
 use Rattle.nd_vertex.proofs.EditsLemmas.{is_key, has, at_with}
+use Rattle.std.proofs.lemmas.Bool.{or_parts}
+use Rattle.nd_map.specs.Ends.{not_below, not_above}
 
 -- whether an item is at a timestamp
 abbrev pub is_at : Time → ItemKey → Bool
@@ -95,11 +95,7 @@ leaves t m =
 
 all_apart : (k : ItemKey) (es : List ItemEdit) → has k es ≡ false → AllByRecursion (λ y. is_key k y ≡ false) (keys es)
 all_apart k [] h = tt
-all_apart k (e ∷ es) h = let both = neither (is_key k e.key) (has k es) h in (both.0, all_apart k es both.1)
-  where
-    neither : (a b : Bool) → (a || b) ≡ false → (a ≡ false) × (b ≡ false)
-    neither true b e = absurd (cc)
-    neither false b e = (refl, e)
+all_apart k (e ∷ es) h = let both = or_parts (is_key k e.key) (has k es) h in (both.0, all_apart k es both.1)
 
 no_more : (a h : Bool) → h ≡ false → (a && h) ≡ false
 no_more true h e = e
@@ -143,22 +139,6 @@ last_at t = item_key t (pos (2 ^ 63 - 1))
 
 pub forward : (t : Time) → IsLeBy item_cmp (first_at t) (last_at t)
 forward t = ap (λ r. is_gt (ordering_then r (int_cmp (negsuc (2 ^ 63 - 1)) (pos (2 ^ 63 - 1))))) (tied_itself time_total t)
-
-not_below : (z : ℤ) → FitsSigned w64 z → is_le (int_cmp (negsuc (2 ^ 63 - 1)) z) ≡ true
-not_below z fits = by (int_cmp (negsuc (2 ^ 63 - 1)) z) (int_ranks (negsuc (2 ^ 63 - 1)) z)
-  where
-    by : (r : Ordering) → MatchOrdering r (negsuc (2 ^ 63 - 1) <ℤ z) (negsuc (2 ^ 63 - 1) ≡ z) (z <ℤ negsuc (2 ^ 63 - 1)) → is_le r ≡ true
-    by Less h = refl
-    by Equal h = refl
-    by Greater h = absurd (let f = fits.sfits in omega (arith, ints, h, f))
-
-not_above : (z : ℤ) → FitsSigned w64 z → is_lt (int_cmp (pos (2 ^ 63 - 1)) z) ≡ false
-not_above z fits = by (int_cmp (pos (2 ^ 63 - 1)) z) (int_ranks (pos (2 ^ 63 - 1)) z)
-  where
-    by : (r : Ordering) → MatchOrdering r (pos (2 ^ 63 - 1) <ℤ z) (pos (2 ^ 63 - 1) ≡ z) (z <ℤ pos (2 ^ 63 - 1)) → is_lt r ≡ false
-    by Less h = absurd (let f = fits.sfits in omega (arith, ints, h, f))
-    by Equal h = refl
-    by Greater h = refl
 
 -- an item of 64 bits is at a timestamp if it is between these
 within : (t : Time) (k : ItemKey) → FitsSigned w64 k.item → range_contains item_cmp (Included (first_at t)) (Included (last_at t)) k ≡ is_at t k

@@ -13,7 +13,7 @@ use Rattle.nd_delta.specs.Change.{Change, at, entries, points_of, or_zero, at-en
 use Rattle.nd_delta.specs.Least.{place_of}
 use Rattle.nd_view.specs.Kept.{Kept, IsKeptAt, IsFor}
 use Rattle.nd_view.specs.View.{IsBlocker, IsCount, IsOnFrontier, IsPrecursor}
-use Rattle.nd_why.proofs.Taken.{not_zero}
+use Rattle.nd_map.specs.Cases.{not_zero}
 
 -- what the order of an accepted graph is, as the paths tell it
 pub record IsOrder (g : Dataflow) : Type 0 where

@@ -1,7 +1,5 @@
 -- Which pointstamps of a view's frontier a loop has taken.
 use Rattle.std.proofs.Common.{◌≡◌, ◌≢◌, ◌<◌, ◌≤◌, ◌+◌, ℕ, ℤ, pos, true, false, cond, length, get_or, refl, ap, sym, subst, ◌∙◌, arith, unsigned_abs}
-use Rattle.std.specs.Prelude.{◌<ℤ◌}
-use Rattle.std.proofs.lemmas.Int.{ints}
 use Rattle.std.proofs.lemmas.Map.Views.{tells_apart}
 use Rattle.nd_time.specs.Limits.{max_count}
 use Rattle.nd_graph.specs.Graph.{Dataflow}
@@ -12,9 +10,7 @@ use Rattle.nd_delta.specs.Change.{Change, none, at, set, entries, is_point, IsWi
 use Rattle.nd_delta.specs.Least.{AllUpTo, all-more, all-points, at-index}
 use Rattle.nd_view.specs.View.{IsOnFrontier, IsPartWhere}
 use Rattle.nd_why.specs.Why.{IsReason}
-
-pub not_zero : (z : ℤ) → pos 0 <ℤ z → z ≢ pos 0
-not_zero z h e = absurd (omega (arith, ints, h, e))
+use Rattle.nd_map.specs.Cases.{not_zero}
 
 -- an entry's number is within the limit
 pub within_limit : (m : Change) (i : ℕ) (x : Pointstamp × ℤ) → IsWithin m → i < length (entries m) → x ≡ get_or (entries m) i x → unsigned_abs x.1 ≤ max_count

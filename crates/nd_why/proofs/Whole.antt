@@ -16,7 +16,7 @@ use Rattle.nd_protocol.specs.Fitting.{IsState}
 use Rattle.nd_why.specs.Account.{Account}
 use Rattle.nd_why.specs.Why.{state_of, account, account_of, IsReason, IsWhy, HasReasonBefore}
 use Rattle.nd_why.proofs.Order.{IsOrder, index_some, frontier_before}
-use Rattle.nd_why.proofs.Taken.{not_zero}
+use Rattle.nd_map.specs.Cases.{not_zero}
 
 -- the view of q, as it is stored
 pub seen : (g : Dataflow) (ps : List ProcessorState) (vs : List Kept) (m : List (List (List Change))) → IsState (state_of g ps vs m) → AreFor g vs → (q : ℕ) → q < length ps → (v : Kept) → v ≡ get_or vs q v

@@ -14,7 +14,8 @@ use Rattle.nd_work.specs.Drafts.{IsSound, AddsUp, IsSmall, Follows}
 use Rattle.nd_record.specs.declared.change.Change.{Change}
 use Rattle.nd_work.specs.declared.draft.Draft.{Draft}
 use Rattle.nd_work.specs.declared.net.Sums.{Sums}
-use Rattle.nd_work.proofs.Totals.{total-append, total-one}
+use Rattle.nd_work.proofs.Totals.{total-one}
+use Rattle.nd_work.proofs.Sums.{total_at-append}
 
 pub often_append : (k : Place) (cs ds : List Change) → often k (cs ++ ds) ≡ often k cs + often k ds
 often_append k [] ds = omega arith
@@ -37,10 +38,10 @@ module _ {A : Type 0} (s : ClusterState) (es : List Edit) (d : Draft A) (adds : 
       totals k =
           let edit = λ (x : Change). let e : Edit = (place_of x, gain_of x) in e in
           let a : total_at (edits_of f.singles.items) k ≡ total_at (edits_of d.singles.items) k +ℤ total_at (edits_of cs) k
-          = ap (λ xs. total_at (edits_of xs) k) singles ∙ ap (λ x. total_at x k) (map-append edit d.singles.items cs) ∙ total-append (edits_of d.singles.items) (edits_of cs) k in
+          = ap (λ xs. total_at (edits_of xs) k) singles ∙ ap (λ x. total_at x k) (map-append edit d.singles.items cs) ∙ total_at-append (edits_of d.singles.items) (edits_of cs) k in
           let b : sum_at f.sums k ≡ sum_at d.sums k = ap (λ x. sum_at x k) sums in
           let t = adds.totals k in
-          let e : total_at (es ++ edits_of cs) k ≡ total_at es k +ℤ total_at (edits_of cs) k = total-append es (edits_of cs) k in
+          let e : total_at (es ++ edits_of cs) k ≡ total_at es k +ℤ total_at (edits_of cs) k = total_at-append es (edits_of cs) k in
           omega (arith, ints, a, b, t, e)
 
   pub summed_up : (fs : List Edit) → AddsAll d.sums fs f.sums → AreSummed f.sums → f.singles.items ≡ d.singles.items → AddsUp s (es ++ fs) f
@@ -50,7 +51,7 @@ module _ {A : Type 0} (s : ClusterState) (es : List Edit) (d : Draft A) (adds : 
         let a = all.sums k in
         let b : total_at (edits_of f.singles.items) k ≡ total_at (edits_of d.singles.items) k = ap (λ cs. total_at (edits_of cs) k) singles in
         let t = adds.totals k in
-        let e = total-append es fs k in
+        let e = total_at-append es fs k in
         omega (arith, ints, a, b, t, e);
     once = subst Once (sym singles) adds.once;
     sound = subst (Each (IsSound s)) (sym singles) adds.sound;

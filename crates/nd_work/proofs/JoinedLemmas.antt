@@ -27,8 +27,8 @@ use Rattle.nd_work.specs.declared.draft.Draft.{Draft}
 use Rattle.nd_work.specs.declared.key.RecordAt.{RecordAt}
 use Rattle.nd_record.specs.Alike.{is_place, other_place, unsent-test, same_key, other_key}
 use Rattle.nd_work.proofs.Arrivals.{decided}
-use Rattle.nd_work.proofs.Totals.{total-append}
 use Rattle.nd_work.proofs.DraftsLemmas.{often_append, each_then}
+use Rattle.nd_work.proofs.Sums.{total_at-append}
 
 -- how often a place stands there, and what is added to it
 pub record Adds (k : Place) (n : ℤ) (cs : List Change) : Type 0 where
@@ -186,7 +186,7 @@ module _ {A : Type 0} (s : ClusterState) (es : List Edit) (d : Draft A) (adds : 
   at_all (view_of q x) = neither (view_of q x) refl (no_records (view_of q x) (λ e. refl)) (no_unsent (view_of q x) (λ e. refl))
 
   edits_append : (cs ds : List Change) (k : Place) → total_at (edits_of (cs ++ ds)) k ≡ total_at (edits_of cs) k +ℤ total_at (edits_of ds) k
-  edits_append cs ds k = ap (λ x. total_at x k) (map-append (λ (c : Change). let e : Edit = (place_of c, gain_of c) in e) cs ds) ∙ total-append (edits_of cs) (edits_of ds) k
+  edits_append cs ds k = ap (λ x. total_at x k) (map-append (λ (c : Change). let e : Edit = (place_of c, gain_of c) in e) cs ds) ∙ total_at-append (edits_of cs) (edits_of ds) k
 
   pub joined_total : (k : Place) → total_at (edits_of (joined d)) k ≡ total_at es k
   joined_total k =

@@ -29,9 +29,9 @@ use Rattle.nd_record.specs.declared.change.Change.{Change}
 use Rattle.nd_work.specs.declared.draft.Draft.{Draft}
 use Rattle.nd_work.specs.declared.net.Sums.{Sums}
 use Rattle.nd_record.specs.Alike.{is_place}
-use Rattle.nd_work.proofs.Totals.{total-append}
 use Rattle.nd_work.proofs.DraftsLemmas.{often_append, each_then, pushed, listed_anew}
 use Rattle.nd_work.proofs.ItemsLemmas.{items_once, items_total, items_sound}
+use Rattle.nd_work.proofs.Sums.{total_at-append}
 
 -- ---- no place twice
 
@@ -106,7 +106,7 @@ vertex_sound s p vertex t request items counted n leads =
 -- ---- what they add
 
 edits_append : (cs ds : List Change) (k : Place) → total_at (edits_of (cs ++ ds)) k ≡ total_at (edits_of cs) k +ℤ total_at (edits_of ds) k
-edits_append cs ds k = ap (λ x. total_at x k) (map-append (λ (c : Change). let e : Edit = (place_of c, gain_of c) in e) cs ds) ∙ total-append (edits_of cs) (edits_of ds) k
+edits_append cs ds k = ap (λ x. total_at x k) (map-append (λ (c : Change). let e : Edit = (place_of c, gain_of c) in e) cs ds) ∙ total_at-append (edits_of cs) (edits_of ds) k
 
 pub vertex_total : (p vertex : ℕ) (t : Time) (request : Option Bool) (items : List ItemEdit) (counted : Option ℤ) (m n : Items) → LeadsTo m items n → (k : Place)
     → total_at (edits_of (vertex_changes p vertex t request items counted)) k
@@ -170,18 +170,18 @@ module _ {A : Type 0} (s : ClusterState) (p : ℕ) (effect : Effect A) where
       let first : List Edit = (place_at p (records_at k), negsuc 0) ∷ (place_at p (unsent_at k.point), negsuc 0) ∷ [] in
       let sent : List Edit = sent_if asks p (point_at target t) in
       let vertex : List Edit = edits_of (vertex_changes p target t (request_if asks) effect.items.items (counted_if effect.sink k.value)) in
-      let a = total-append ((first ++ sent) ++ vertex) (come_edits p rs) q in
-      let b = total-append (first ++ sent) vertex q in
-      let c = total-append first sent q in
+      let a = total_at-append ((first ++ sent) ++ vertex) (come_edits p rs) q in
+      let b = total_at-append (first ++ sent) vertex q in
+      let c = total_at-append first sent q in
       let d = vertex_total p target t (request_if asks) effect.items.items (counted_if effect.sink k.value) m o.items so.does.items q in
       let e = asked_total p target t asks q in
       let f = counted_total p target k.value effect.sink q in
       let asked : List Edit = cond asks ((place_at p (request_at (point_at target t)), pos 1) ∷ (place_at p (unsent_at (point_at target t)), pos 1) ∷ []) [] in
       let sunk : List Edit = sink_edits p target k.value effect.sink in
-      let u = total-append first (asked ++ (item_edits p target m o.items ++ (sunk ++ come_edits p rs))) q in
-      let v = total-append asked (item_edits p target m o.items ++ (sunk ++ come_edits p rs)) q in
-      let w = total-append (item_edits p target m o.items) (sunk ++ come_edits p rs) q in
-      let x = total-append sunk (come_edits p rs) q in
+      let u = total_at-append first (asked ++ (item_edits p target m o.items ++ (sunk ++ come_edits p rs))) q in
+      let v = total_at-append asked (item_edits p target m o.items ++ (sunk ++ come_edits p rs)) q in
+      let w = total_at-append (item_edits p target m o.items) (sunk ++ come_edits p rs) q in
+      let x = total_at-append sunk (come_edits p rs) q in
       let same : total_at (take_drafted target k asks rs) q ≡ total_at (first ++ (asked ++ (item_edits p target m o.items ++ (sunk ++ come_edits p rs)))) q = omega (arith, ints, a, b, c, d, e, f, u, v, w, x) in
       same ∙ ap (λ es. total_at es q) (whole target k asks so rs is)
     where
@@ -216,12 +216,12 @@ module _ {A : Type 0} (s : ClusterState) (p : ℕ) (effect : Effect A) where
       let m : Items = items_at (processor s p) x.location in
       let first : List Edit = (place_at p (unsent_at x), negsuc 0) ∷ [] in
       let vertex : List Edit = edits_of (vertex_changes p x.location x.time (Some false) effect.items.items None) in
-      let a = total-append (first ++ vertex) (come_edits p rs) q in
-      let b = total-append first vertex q in
+      let a = total_at-append (first ++ vertex) (come_edits p rs) q in
+      let b = total_at-append first vertex q in
       let d = vertex_total p x.location x.time (Some false) effect.items.items None m o.items so.does.items q in
       let both : List Edit = (place_at p (request_at x), negsuc 0) ∷ (place_at p (unsent_at x), negsuc 0) ∷ [] in
-      let u = total-append both (item_edits p x.location m o.items ++ come_edits p rs) q in
-      let v = total-append (item_edits p x.location m o.items) (come_edits p rs) q in
+      let u = total_at-append both (item_edits p x.location m o.items ++ come_edits p rs) q in
+      let v = total_at-append (item_edits p x.location m o.items) (come_edits p rs) q in
       let same : total_at (notice_drafted x rs) q ≡ total_at (both ++ (item_edits p x.location m o.items ++ come_edits p rs)) q = omega (arith, ints, a, b, d, u, v) in
       same ∙ ap (λ ys. total_at (both ++ (item_edits p x.location m o.items ++ come_edits p ys)) q) is
 

@@ -7,14 +7,10 @@ use Rattle.std.specs.FinMap.{IsAntisymmetric, find, put}
 use Rattle.std.specs.FinMap.Entries.{find-put}
 use Rattle.std.proofs.lemmas.Map.Views.{tells_apart}
 use Rattle.nd_time.specs.Limits.{max_count}
-use Rattle.nd_map.specs.Counts.{or_else}
+use Rattle.nd_map.specs.Counts.{or_else, or_else-cond}
 use Rattle.nd_map.specs.Listed.{without}
 use Rattle.nd_map.specs.Maps.{find-without, listed-put, listed-without}
 use Rattle.nd_work.specs.Sums.{IsSum, AreSums, IsAdded, found}
-
-or_else-cond : {X : Type 0} (z : X) (b : Bool) (x y : Option X) → or_else z (cond b x y) ≡ cond b (or_else z x) (or_else z y)
-or_else-cond z true x y = refl
-or_else-cond z false x y = refl
 
 one_of : (b : Bool) (w x : Option ℤ) → IfSome w IsSum → IfSome x IsSum → IfSome (cond b w x) IsSum
 one_of true w x g h = g

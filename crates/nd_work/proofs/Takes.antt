@@ -32,6 +32,7 @@ use Rattle.nd_work.proofs.Written.{IsMove}
 use Rattle.nd_work.proofs.StepMoves.{StepMoves}
 use Rattle.nd_work.proofs.Feeds.{one_less, nothing_more}
 use Rattle.nd_work.proofs.Effects.{asked, items-move, items-apart, items-own, record-goes, sinks-move, sinks-apart, sinks-own, requests-move, requests-held, asked-apart, asked-own}
+use Rattle.nd_map.specs.Cases.{at_least}
 
 -- ---- the performer: a record of key k goes, a request at y may come, a vertex keeps other items, a sink may count a value
 
@@ -124,9 +125,6 @@ module _ (p : ℕ) (q : ProcessorState) (k : ValueAt) (y : Pointstamp) (vertex :
       record_rest key = let e = record_part key in omega (arith, ints)
 
 -- ---- the step
-
-at_least : (a b : ℕ) → (a < b → ⊥) → b ≤ a
-at_least a b h = let l : b < suc a = lt_of_not-le h in omega arith
 
 some_there : (n : ℕ) → (n ≡ 0 → ⊥) → 1 ≤ n
 some_there zero h = absurd (h refl)

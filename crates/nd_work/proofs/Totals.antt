@@ -14,15 +14,12 @@ use Rattle.nd_work.specs.Sums.{record_at_cmp, record_at_exact, IsAdded, found, I
 use Rattle.nd_work.specs.declared.key.RecordAt.{RecordAt}
 use Rattle.nd_work.specs.declared.net.Sums.{Sums}
 use Rattle.nd_work.proofs.SumsLemmas.{more_found}
+use Rattle.nd_work.proofs.Sums.{total_at-append}
 
 pub plus_nothing : (x : ℤ) → x +ℤ pos 0 ≡ x
 plus_nothing x = omega (arith, ints)
 
 -- ---- totals of lists
-
-pub total-append : (es fs : List Edit) (k : Place) → total_at (es ++ fs) k ≡ total_at es k +ℤ total_at fs k
-total-append [] fs k = omega (arith, ints)
-total-append (e ∷ es) fs k = let ih = total-append es fs k in omega (arith, ints, ih)
 
 -- so much at a place and elsewhere nothing
 abbrev pub here : Place → Place → ℤ → ℤ
@@ -37,12 +34,12 @@ pub come_more : (p : ℕ) (rs : List (ℕ × ValueAt)) (r : ℕ × ValueAt) (k :
 come_more p rs r k =
     let made = λ (x : ℕ × ValueAt). let e : Edit = (place_at x.0 (records_at x.1), pos 1) in e in
     let sent = λ (x : ℕ × ValueAt). let e : Edit = (place_at p (unsent_at x.1.point), pos 1) in e in
-    let a : total_at (come_edits p (rs ++ r ∷ [])) k ≡ total_at (map made (rs ++ r ∷ [])) k +ℤ total_at (map sent (rs ++ r ∷ [])) k = total-append (map made (rs ++ r ∷ [])) (map sent (rs ++ r ∷ [])) k in
-    let b : total_at (come_edits p rs) k ≡ total_at (map made rs) k +ℤ total_at (map sent rs) k = total-append (map made rs) (map sent rs) k in
+    let a : total_at (come_edits p (rs ++ r ∷ [])) k ≡ total_at (map made (rs ++ r ∷ [])) k +ℤ total_at (map sent (rs ++ r ∷ [])) k = total_at-append (map made (rs ++ r ∷ [])) (map sent (rs ++ r ∷ [])) k in
+    let b : total_at (come_edits p rs) k ≡ total_at (map made rs) k +ℤ total_at (map sent rs) k = total_at-append (map made rs) (map sent rs) k in
     let m : total_at (map made (rs ++ r ∷ [])) k ≡ total_at (map made rs) k +ℤ (here k (place_at r.0 (records_at r.1)) (pos 1) +ℤ pos 0)
-    = ap (λ es. total_at es k) (map-append made rs (r ∷ [])) ∙ total-append (map made rs) (made r ∷ []) k in
+    = ap (λ es. total_at es k) (map-append made rs (r ∷ [])) ∙ total_at-append (map made rs) (made r ∷ []) k in
     let s : total_at (map sent (rs ++ r ∷ [])) k ≡ total_at (map sent rs) k +ℤ (here k (place_at p (unsent_at r.1.point)) (pos 1) +ℤ pos 0)
-    = ap (λ es. total_at es k) (map-append sent rs (r ∷ [])) ∙ total-append (map sent rs) (sent r ∷ []) k in
+    = ap (λ es. total_at es k) (map-append sent rs (r ∷ [])) ∙ total_at-append (map sent rs) (sent r ∷ []) k in
     omega (arith, ints, a, b, m, s)
 
 -- edits of 1 add a natural number, at most as great as there are edits
@@ -63,7 +60,7 @@ pub come_few : (p : ℕ) (rs : List (ℕ × ValueAt)) (k : Place) → IsFew (2 *
 come_few p rs k =
     let a = ones_few (λ (r : ℕ × ValueAt). place_at r.0 (records_at r.1)) rs k in
     let b = ones_few (λ (r : ℕ × ValueAt). place_at p (unsent_at r.1.point)) rs k in
-    let e = total-append (map (λ (r : ℕ × ValueAt). let e : Edit = (place_at r.0 (records_at r.1), pos 1) in e) rs) (map (λ (r : ℕ × ValueAt). let e : Edit = (place_at p (unsent_at r.1.point), pos 1) in e) rs) k in
+    let e = total_at-append (map (λ (r : ℕ × ValueAt). let e : Edit = (place_at r.0 (records_at r.1), pos 1) in e) rs) (map (λ (r : ℕ × ValueAt). let e : Edit = (place_at p (unsent_at r.1.point), pos 1) in e) rs) k in
     record { count = a.count + b.count; is = (let x = a.is in let y = b.is in omega (arith, ints, e, x, y)); few = omega (arith, a.few, b.few) }
 
 -- ---- one edit of the sums

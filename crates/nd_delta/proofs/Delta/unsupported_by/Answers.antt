@@ -4,9 +4,9 @@ use Rattle.nd_paths.specs.Order.{IsStrictlyBefore}
 use Rattle.nd_delta.specs.Change.{at, entries}
 use Rattle.nd_delta.specs.Least.{IsLeast, all-more, all-points, at-index, least-index}
 use Rattle.nd_delta.specs.Upright.{IsSupported, IsUnsupported}
-use Rattle.nd_delta.proofs.Signs.{not_zero_above}
 use Rattle.nd_delta.proofs.Delta.unsupported_by.Given.{Over}
 use Rattle.nd_delta.proofs.Delta.unsupported_by.Goals as goal
+use Rattle.nd_map.specs.Cases.{not_zero}
 
 pub loop-entry-init : goal.loop-entry-init
 loop-entry-init g c = record { items = c.entries-entry-items.ensures.listed; others = λ k lt. absurd (omega (arith, lt)) }
@@ -46,10 +46,10 @@ returns-then-leaves_alone-clause-least g c =
     let m = c.args.self.now in
     let P = IsUnsupported (IsStrictlyBefore c.args.paths.now) (Contains c.args.held.now) (at m) in
     subst (IsLeast P) (sym c.copy.ensures)
-    (least-index m P (λ y. pos 0 <ℤ at m y → IsSupported (IsStrictlyBefore c.args.paths.now) (Contains c.args.held.now) (at m) y) (λ y p. not_zero_above (at m y) p.positive) (λ y p h. p.alone (h p.positive)) c.loop-entry.entry-index c.entry-item.result
+    (least-index m P (λ y. pos 0 <ℤ at m y → IsSupported (IsStrictlyBefore c.args.paths.now) (Contains c.args.held.now) (at m) y) (λ y p. not_zero (at m y) p.positive) (λ y p h. p.alone (h p.positive)) c.loop-entry.entry-index c.entry-item.result
     (rw c.loop-entry.invariant.items at c.loop-entry-test.true) (rw c.loop-entry.invariant.items at c.entry-item.is) c.loop-entry.invariant.others (found g c))
 
 pub returns-clause-upright : goal.returns-clause-upright
 returns-clause-upright g c =
     let m = c.args.self.now in
-    (λ _ x positive. all-points m (λ y. pos 0 <ℤ at m y → IsSupported (IsStrictlyBefore c.args.paths.now) (Contains c.args.held.now) (at m) y) c.loop-entry.entry-index (rw c.loop-entry.invariant.items at c.loop-entry-test.false) c.loop-entry.invariant.others x (not_zero_above (at m x) positive) positive, λ _. refl)
+    (λ _ x positive. all-points m (λ y. pos 0 <ℤ at m y → IsSupported (IsStrictlyBefore c.args.paths.now) (Contains c.args.held.now) (at m) y) c.loop-entry.entry-index (rw c.loop-entry.invariant.items at c.loop-entry-test.false) c.loop-entry.invariant.others x (not_zero (at m x) positive) positive, λ _. refl)

@@ -6,8 +6,9 @@ use Rattle.nd_graph.specs.declared.op.Action.TheVariants.{Identity}
 use Rattle.nd_graph.specs.declared.graph.Arc.{Arc}
 use Rattle.nd_time.specs.Limits.{max_depth}
 use Rattle.nd_paths.specs.Inside.{keeps}
-use Rattle.nd_paths.proofs.Sweeps.{Followed, Closed, closed_all, quiet_here, quiet_others, both_false, at_false, swept_start, swept_as, can_relax, relaxed_swept, relaxed_followed, relaxed_here, round_over, round_done, budget}
+use Rattle.nd_paths.proofs.Sweeps.{Followed, Closed, closed_all, quiet_here, quiet_others, at_false, swept_start, swept_as, can_relax, relaxed_swept, relaxed_followed, relaxed_here, round_over, round_done, budget}
 use Rattle.nd_paths.proofs.table.sweep.Goals as goal
+use Rattle.std.proofs.lemmas.Bool.{or_parts}
 
 pub rounds-init : goal.rounds-init
 rounds-init c =
@@ -39,7 +40,7 @@ keeps-preserved c =
           (take c.arcs.arc-index c.args.arcs.now) c.keeps.invariant.done;
       here = relaxed_here c.args.depths.now c.args.arcs.now c.requires.agree c.requires.deep c.args.from c.keeps.row c.relax-changed.new.row c.rounds._round m x c.keeps.keep c.keeps.invariant.swept in' c.keeps-test.true top c.relax-changed.ensures.relaxed c.keeps.invariant.here;
       quiet = λ q.
-          let both = both_false c.keeps.changed c.relax-changed.result q in
+          let both = or_parts c.keeps.changed c.relax-changed.result q in
           let still = at_false c.relax-changed.result both.1 c.relax-changed.ensures.quiet in
           let before = c.keeps.invariant.quiet both.0 in (
             quiet_others c.keeps.row c.relax-changed.new.row x c.keeps.keep (take c.arcs.arc-index c.args.arcs.now) still before.0,
