@@ -5,6 +5,8 @@ ghost use Rattle.std.specs.Prelude.{◌≡◌, ◌≤◌, ◌<◌, ◌↔◌, Is
 ghost use Rattle.nd_time.specs.Time.{Time, IsAtOrBefore, ingress_of, egress_of, feedback_of, last_of};
 ghost use Rattle.nd_time.specs.Limits.{max_depth, max_counter};
 ghost use Rattle.nd_time.specs.Listing.{time_cmp};
+ghost use Rattle.std.specs.Ordering.{nat_cmp};
+ghost use Rattle.std.specs.Cmp.Lexicographic.{slice_cmp};
 
 use std::cmp::Ordering;
 use std::marker::Model;
@@ -22,6 +24,18 @@ pub struct CounterFull;
 #[derive(Clone, Copy, Debug, PartialEq, Eq, Drop, Error)]
 #[error("out of memory")]
 pub struct NoMemory;
+
+// The order of two lists of counters: the first that differ decide, and else their lengths.
+fn counters_cmp(own: &[u32], other: &[u32]) -> Ordering
+    ensures { result ≡ slice_cmp nat_cmp own.now other.now }
+{
+    for i in 0..own.len().min(other.len()) {
+        if own[i] != other[i] {
+            return own[i].cmp(&other[i]);
+        }
+    }
+    own.len().cmp(&other.len())
+}
 
 /// An epoch, and the counters of the loops around a location, outermost first (Naiad, SOSP 2013, section 2.1).
 ///
@@ -214,7 +228,7 @@ impl Ord for Timestamp {
         if by_epoch != Ordering::Equal || (self.depth == 0 && other.depth == 0) {
             return by_epoch;
         }
-        self.counters().cmp(other.counters())
+        counters_cmp(self.counters(), other.counters())
     }
 }
 
