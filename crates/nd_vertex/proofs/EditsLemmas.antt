@@ -110,7 +110,7 @@ Once es = IsDistinct is_key (keys es)
 
 apart : (k : ItemKey) (es : List ItemEdit) → AllByRecursion (λ y. is_key k y ≡ false) (keys es) → has k es ≡ false
 apart k [] h = refl
-apart k (e ∷ es) h = none (is_key k e.key) (has k es) h.0 (apart k es h.1)
+apart k (e ∷ es) h = or_from (is_key k e.key) (has k es) h.0 (apart k es h.1)
 
 at_place : (k : ItemKey) (es : List ItemEdit) (i : ℕ) (d : ItemEdit) → AllByRecursion (λ y. is_key k y ≡ false) (keys es) → i < length es → is_key k (get_or es i d).key ≡ false
 at_place k [] i d h lt = absurd (omega arith)
@@ -123,10 +123,10 @@ unfolding IsDistinct
 before [] i d once lt = absurd (omega arith)
 before (e ∷ es) zero d once lt = refl
 before (e ∷ es) (suc i) d once lt =
-    none (is_key (get_or es i d).key e.key) (has (get_or es i d).key (take i es)) (turn (get_or es i d).key e.key ∙ at_place e.key es i d once.0 (omega arith)) (before es i d once.1 (omega arith))
+    or_from (is_key (get_or es i d).key e.key) (has (get_or es i d).key (take i es)) (turn (get_or es i d).key e.key ∙ at_place e.key es i d once.0 (omega arith)) (before es i d once.1 (omega arith))
 
 fewer : (b : Bool) (q : ItemKey) (e : ItemEdit) (es : List ItemEdit) → is_key q e.key ≡ false → has q es ≡ false → has q (cond b (e ∷ es) es) ≡ false
-fewer true q e es h g = none (is_key q e.key) (has q es) h g
+fewer true q e es h g = or_from (is_key q e.key) (has q es) h g
 fewer false q e es h g = g
 
 pub not_among : (p : ItemEdit → Bool) (es : List ItemEdit) (q : ItemKey) → has q es ≡ false → has q (filter p es) ≡ false
