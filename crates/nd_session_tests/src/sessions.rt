@@ -315,13 +315,11 @@ fn answers_backs(alloc: Global, times: u64) -> Option<bool> {
             return Some(false);
         }
     }
-    let is_full = matches!(
-        state.answer(0, Command::Back),
-        Err(SessionFault::LogFull)
-    ) && matches!(
-        state.apply(alloc, 0, Command::Back),
-        Err(SessionFault::LogFull)
-    );
+    let is_full = matches!(state.answer(0, Command::Back), Err(SessionFault::LogFull))
+        && matches!(
+            state.apply(alloc, 0, Command::Back),
+            Err(SessionFault::LogFull)
+        );
     Some(is_full && state.log().len() as u64 == times)
 }
 
