@@ -2,11 +2,9 @@
 use Rattle.std.proofs.Common.{◌≡◌, ◌<◌, ◌≤◌, ℕ, zero, suc, ◌+◌, List, All, Option, Some, None, Vec, map, min, length, slice_get, inl, inr, arith, subst, sym, ap, ◌∙◌}
 use Rattle.std.proofs.lemmas.Bool.{cases_lt}
 use Rattle.nd_time.specs.Limits.{max_workers}
-use Rattle.nd_watch.specs.declared.watch.Break.{Break}
-use Rattle.nd_timeline.specs.Timeline.{TimelineValue}
 use Rattle.nd_search.specs.Answers.{AreClaims, IsLastClaim}
 use Rattle.nd_search.proofs.Lists.{map_twice}
-use Rattle.nd_search.specs.Least.{HoldsAt, NoHit, IsLeast}
+use Rattle.nd_search.specs.Least.{NoHit, IsLeast}
 use Rattle.nd_search.specs.Pieces.{piece_count, piece_start}
 use Rattle.nd_search.specs.Works.{IsResult, IsSearched, AreTold, AreIn, HaveStopped, NoneBefore, IsFirst, IsFirstGap}
 use Rattle.nd_search.specs.declared.work.Searched.{Searched}
@@ -25,11 +23,9 @@ pub counted_there : (lo lo' hi hi' : ℕ) → lo ≡ lo' → hi ≡ hi' → piec
 counted_there lo lo' hi hi' first last = ap (λ (n : ℕ). piece_count n hi) first ∙ ap (λ (n : ℕ). piece_count lo' n) last
 
 module _ {A : Type 0} where
-  pub searched_there : (b : Break) (t m : TimelineValue A) (lo lo' hi hi' : ℕ) (works : List (Searched A)) → t ≡ m → lo ≡ lo' → hi ≡ hi' → All (IsSearched (HoldsAt t b) lo hi) works → All (IsSearched (HoldsAt m b) lo' hi') works
-  searched_there b t m lo lo' hi hi' works same first last all =
-      subst (λ (t : TimelineValue A). All (IsSearched (HoldsAt t b) lo' hi') works) same
-      (subst (λ (n : ℕ). All (IsSearched (HoldsAt t b) lo' n) works) last
-      (subst (λ (n : ℕ). All (IsSearched (HoldsAt t b) n hi) works) first all))
+  pub searched_there : (Hit : ℕ → Type 0) (lo lo' hi hi' : ℕ) (works : List (Searched A)) → lo ≡ lo' → hi ≡ hi' → All (IsSearched Hit lo hi) works → All (IsSearched Hit lo' hi') works
+  searched_there Hit lo lo' hi hi' works first last all =
+      subst (λ (n : ℕ). All (IsSearched Hit lo' n) works) last (subst (λ (n : ℕ). All (IsSearched Hit n hi) works) first all)
 
   pub told_there : (lent works : List (Searched A)) (items rs : List (Option (Option ℕ))) → lent ≡ works → rs ≡ items → AreTold lent items → AreTold works rs
   told_there lent works items rs same read told =

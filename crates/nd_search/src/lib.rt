@@ -1,4 +1,4 @@
-//! Snapshots of a timeline, and the search of one by many workers.
+//! Snapshots of a timeline, and the search of its kept steps by many workers.
 #![tactic(auto)]
 
 mod board;
@@ -14,5 +14,5 @@ mod work;
 
 pub use fault::SearchFault;
 pub use gate::{Gate, OpenGate};
-pub use searching::search;
+pub use searching::{search, search_in};
 pub use snapshot::Snapshot;

@@ -1,6 +1,5 @@
 //! A snapshot: a timeline of one's own, and the number of log entries that led to it.
-ghost use Rattle.std.specs.Prelude.{◌≡◌, ◌<◌, ◌≤◌, ◌↔◌, length, IfOk, IsTrue};
-ghost use Rattle.nd_time.specs.Limits.{max_kept};
+ghost use Rattle.std.specs.Prelude.{◌≡◌, ◌<◌, ◌↔◌, length, IfOk, IsTrue};
 ghost use Rattle.nd_view.specs.View.{IsPassed};
 ghost use Rattle.nd_protocol.specs.State.{view};
 ghost use Rattle.nd_protocol.specs.Invariant.{KeepsProtocol, IsFinished};
@@ -57,13 +56,6 @@ impl<A: Allocator + Copy> Snapshot<A> {
         ensures { result ≡ self.now.index }
     {
         self.index
-    }
-
-    /// A snapshot keeps few steps: to be called where that has to be known.
-    pub(crate) fn keeps_few(&self)
-        ensures { length self.now.timeline.kept ≤ max_kept }
-    {
-        self.at();
     }
 
     /// Its timeline.

@@ -1,5 +1,5 @@
 -- The log of a session: which logs are legal (this project's own rule).
-use Rattle.std.specs.Prelude.{◌≡◌, ℕ, ◌<◌, ◌≤◌, ◌==◌, List, [], ◌∷◌, take, count_by, slice_get, Some}
+use Rattle.std.specs.Prelude.{◌≡◌, ℕ, ◌<◌, ◌≤◌, ◌==◌, List, [], ◌∷◌, length, take, count_by, slice_get, Some}
 use Rattle.nd_time.specs.Limits.{max_processors}
 use Rattle.nd_graph.specs.Graph.{Dataflow}
 use Rattle.nd_paths.specs.Order.{IsAccepted}
@@ -7,6 +7,8 @@ use Rattle.nd_protocol.specs.State.{ClusterState}
 use Rattle.nd_protocol.specs.Start.{start}
 use Rattle.nd_timeline.specs.Timeline.{opened}
 use Rattle.nd_timeline.specs.Moves.{MachineValue, Moves, without_breaks}
+use Rattle.nd_timeline.specs.declared.command.Command.{Command}
+use Rattle.nd_timeline.specs.declared.reply.Reply.{Reply}
 use Rattle.nd_session.specs.declared.receipt.Receipt.{Receipt}
 
 -- ---- where a log begins
@@ -29,6 +31,10 @@ opening_of {A} m = without_breaks (opened A m.timeline.base)
 -- how many entries are a client's
 abbrev pub count_of : {A : Type 0} → ℕ → List (Receipt A) → ℕ
 count_of client log = count_by (λ e. e.client == client) log
+
+-- the entry of a client's command that is answered so behind a log
+abbrev pub entry_of : {A : Type 0} → List (Receipt A) → ℕ → Command A → Reply → Receipt A
+entry_of log client command reply = record { index = length log; client = client; number = count_of client log; command = command; reply = reply }
 
 -- an entry at this position of a log tells the position, and how many entries of its client stand before it
 pub record IsPlaced {A : Type 0} (log : List (Receipt A)) (i : ℕ) (e : Receipt A) : Type 0 where

@@ -5,7 +5,7 @@ ghost use Rattle.nd_protocol.specs.Fitting.{IsState};
 ghost use Rattle.nd_protocol.specs.Invariant.{KeepsProtocol};
 ghost use Rattle.nd_search.specs.Snapshot.{snapshot_of};
 ghost use Rattle.nd_timeline.specs.Moves.{Moves, without_breaks};
-ghost use Rattle.nd_session.specs.Log.{IsStart, IsPlaced, IsLegal, count_of, opening_of};
+ghost use Rattle.nd_session.specs.Log.{IsStart, IsPlaced, IsLegal, count_of, entry_of, opening_of};
 ghost use Rattle.nd_session.specs.State.{StateValue};
 ghost use Rattle.nd_session.specs.Clients.{IsHistory};
 ghost use Rattle.nd_session.specs.Faults.{ApplyFails};
@@ -14,7 +14,7 @@ use crate::{Receipt, SessionFault};
 use nd_map::TreeMap;
 use nd_protocol::starts_keep_protocol;
 use nd_search::Snapshot;
-use nd_timeline::{Command, Machine, Timeline, moves_keep_timelines};
+use nd_timeline::{Command, Machine, Reply, Timeline, moves_keep_timelines};
 use nd_watch::Breaks;
 use std::alloc::{AllocError, Allocator, Global};
 use std::marker::Model;
@@ -122,7 +122,37 @@ impl<A: Allocator + Copy> State<A> {
         self.counts.get(&(client as usize)).unwrap_or(0)
     }
 
-    /// Answers a client's command, and logs it.
+    /// Answers a client's command, and logs it. The command is not copied.
+    pub fn answer(&mut self, client: u64, command: Command<A>) -> Result<Reply, SessionFault<A>>
+        ensures entry { IfOk result (λ r. self.new.log ≡ self.old.log ++ entry_of self.old.log client command r ∷ []) }
+        ensures moved { IfOk result (λ r. Moves self.old.machine command r self.new.machine) }
+        ensures legal { IsLegal (opening_of self.old.machine) self.new.log self.new.machine }
+        ensures base { self.new.machine.timeline.base ≡ self.old.machine.timeline.base }
+        ensures same { OnErr result (self.new ≡ self.old) }
+        ensures full { (result ≡ Err SessionFault.LogFull) ↔ (length self.old.log ≡ max_log) }
+        ensures fails { IfErr result (ApplyFails self.old.log) }
+    {
+        if self.is_full() {
+            return Err(SessionFault::LogFull);
+        }
+        moves_keep_timelines::<A>();
+        let index = self.log.len() as u64;
+        let number = self.count(client);
+        self.log.reserve(1)?;
+        self.counts.put(&(client as usize), number + 1)?;
+        let reply = self.machine.apply(&command);
+        let told = reply.copy();
+        self.log.push_reserved(Receipt {
+            index,
+            client,
+            number,
+            command,
+            reply,
+        });
+        Ok(told)
+    }
+
+    /// Answers a client's command, and logs it. The entry is told, with a copy of the command.
     pub fn apply(
         &mut self,
         alloc: A,
@@ -140,31 +170,20 @@ impl<A: Allocator + Copy> State<A> {
         ensures full { (result ≡ Err SessionFault.LogFull) ↔ (length self.old.log ≡ max_log) }
         ensures fails { IfErr result (ApplyFails self.old.log) }
     {
+        let index = self.log().len() as u64;
         if self.is_full() {
             return Err(SessionFault::LogFull);
         }
-        moves_keep_timelines::<A>();
-        let index = self.log.len() as u64;
         let number = self.count(client);
         let asked = command.copy(alloc)?;
-        self.log.reserve(1)?;
-        self.counts.put(&(client as usize), number + 1)?;
-        let reply = self.machine.apply(&command);
-        let receipt = Receipt {
+        let reply = self.answer(client, command)?;
+        Ok(Receipt {
             index,
             client,
             number,
             command: asked,
-            reply: reply.copy(),
-        };
-        self.log.push_reserved(Receipt {
-            index,
-            client,
-            number,
-            command,
             reply,
-        });
-        Ok(receipt)
+        })
     }
 
     /// A copy of the timeline, under the length of the log.

@@ -1,8 +1,8 @@
-//! Searches of snapshots: the worked ones, how the pieces are claimed, and each request for memory refused in turn.
+//! Searches of timelines and of snapshots: the worked ones, how the pieces are claimed, and each request for memory refused in turn.
 
 use nd_cluster::Next;
 use nd_drawn::{LINE, point};
-use nd_search::{Gate, OpenGate, SearchFault, Snapshot, search};
+use nd_search::{Gate, OpenGate, SearchFault, Snapshot, search, search_in};
 use nd_sign::Sign;
 use nd_timeline::Timeline;
 use nd_told::{Told, start, step_of};
@@ -34,15 +34,15 @@ fn forward<A: Allocator + Copy>(
     Some(())
 }
 
-/// A snapshot of a line, its cursor at the end of what is kept: so many feeds of nothing, a feed of
+/// The timeline of a line, its cursor at the end of what is kept: so many feeds of nothing, a feed of
 /// the value, its take, and again so many feeds of nothing.
-fn fed<A: Allocator + Copy>(
+fn kept<A: Allocator + Copy>(
     json: Global,
     alloc: A,
     before: u64,
     taken: Option<(Told, Told)>,
     behind: u64,
-) -> Option<Snapshot<A>> {
+) -> Option<Timeline<A>> {
     let mut timeline = Timeline::new(alloc, start(json, alloc, LINE, 1)?).ok()?;
     forward(alloc, &mut timeline, &NOTHING, before)?;
     if let Some((feed, take)) = taken {
@@ -50,6 +50,18 @@ fn fed<A: Allocator + Copy>(
         forward(alloc, &mut timeline, &take, 1)?;
     }
     forward(alloc, &mut timeline, &NOTHING, behind)?;
+    Some(timeline)
+}
+
+/// A snapshot of such a timeline.
+fn fed<A: Allocator + Copy>(
+    json: Global,
+    alloc: A,
+    before: u64,
+    taken: Option<(Told, Told)>,
+    behind: u64,
+) -> Option<Snapshot<A>> {
+    let timeline = kept(json, alloc, before, taken, behind)?;
     Snapshot::of(alloc, &timeline, 0).ok()
 }
 
@@ -77,7 +89,8 @@ fn searches(rt: HostRuntime) -> Result<(), Fail> {
         Told::Feed(0, "a", &[5], Next::Close),
         Told::Take(0, "az", &[0], 5),
     );
-    let snapshot = fed(alloc, alloc, 0, Some(steps), 0).ok_or("no snapshot")?;
+    let timeline = kept(alloc, alloc, 0, Some(steps), 0).ok_or("no timeline")?;
+    let snapshot = Snapshot::of(alloc, &timeline, 0)?;
     let five = sink(&snapshot, 5).ok_or("no sink")?;
     let rows = [
         (sink(&snapshot, 5), Some(2)),
@@ -91,6 +104,11 @@ fn searches(rt: HostRuntime) -> Result<(), Fail> {
         assert!(rt;
             matches!(answer, Ok(found) if found == wanted),
             "in row {row}"
+        );
+        let answer = search_in(&rt, alloc, &timeline, &b, 0, 2, 8, &OpenGate);
+        assert!(rt;
+            matches!(answer, Ok(found) if found == wanted),
+            "in row {row} without a copy"
         );
     }
     for (lo, hi, workers, number) in [(2, 1, 8, 50), (0, 2, 0, 51), (0, 3, 8, 22)] {

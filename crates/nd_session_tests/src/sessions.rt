@@ -310,15 +310,16 @@ const MOST: u64 = 1_000_000;
 fn answers_backs(alloc: Global, times: u64) -> Option<bool> {
     let mut state = opened(alloc, alloc, LINE, 1)?;
     for _ in 0..times {
-        let receipt = state.apply(alloc, 0, Command::Back).ok()?;
-        if receipt.reply != Reply::Refused(Fault::AtStart) {
+        let reply = state.answer(0, Command::Back).ok()?;
+        if reply != Reply::Refused(Fault::AtStart) {
             return Some(false);
         }
     }
-    let is_full = matches!(
-        state.apply(alloc, 0, Command::Back),
-        Err(SessionFault::LogFull)
-    );
+    let is_full = matches!(state.answer(0, Command::Back), Err(SessionFault::LogFull))
+        && matches!(
+            state.apply(alloc, 0, Command::Back),
+            Err(SessionFault::LogFull)
+        );
     Some(is_full && state.log().len() as u64 == times)
 }
 

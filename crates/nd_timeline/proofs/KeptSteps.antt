@@ -1,5 +1,5 @@
 -- Kept steps: one more at the end, the front of them, and the step at a position.
-use Rattle.std.proofs.Common.{◌≡◌, ◌<◌, ℕ, zero, suc, ◌+◌, ◌-◌, List, [], ◌∷◌, ◌++◌, length, take, get_or, refl, sym, ap, subst, ◌∙◌, arith, add-one, length-append}
+use Rattle.std.proofs.Common.{◌≡◌, ◌<◌, ℕ, zero, suc, ◌+◌, List, [], ◌∷◌, ◌++◌, length, take, get_or, refl, sym, ap, subst, ◌∙◌, arith, add-one, length-append}
 use Rattle.std.proofs.lemmas.List.{length-map, length-take-le, map-append, take-map, take_all}
 use Rattle.nd_time.specs.Limits.{max_kept}
 use Rattle.nd_protocol.specs.State.{ClusterState}
@@ -12,6 +12,9 @@ use Rattle.nd_cluster.specs.Records.{IsPlanned, Leads}
 use Rattle.nd_record.specs.declared.record.Record.{Record}
 use Rattle.nd_timeline.specs.Timeline.{TimelineValue, cluster_of, moved_to, IsTimeline}
 use Rattle.nd_timeline.specs.Reached.{steps_of, ArePlanned, IsReached}
+use Rattle.nd_timeline.specs.Walks.{timeline_at, IsOn}
+use Rattle.nd_timeline.specs.declared.walk.Kept.{Kept}
+use Rattle.nd_timeline.specs.declared.walk.Walk.{Walk}
 
 module _ {A : Type 0} where
   pub after-push : (s : ClusterState) (xs : List (Step A)) (x : Step A) → after s (xs ++ x ∷ []) ≡ stepped (after s xs) x
@@ -92,48 +95,28 @@ module _ {A : Type 0} where
         planned = planned-push base front r (planned-take base n rs was.planned) (subst (λ (s : ClusterState). IsPlanned r s) at_cursor planned);
       }
 
-  -- the record before the cursor has led to the cluster
-  pub led : (base cluster : ClusterState) (rs : List (Record A)) (n : ℕ) (d : Record A) → IsReached base cluster rs n → 0 < n → Leads (get_or rs (n - 1) d) (after base (take (n - 1) (steps_of rs))) cluster
-  led base cluster rs zero d was some = absurd (omega arith)
-  led base cluster rs (suc n) d was some =
-      let less : (suc n) - 1 ≡ n = omega arith in
-      let lt : n < length rs = omega (arith, was.within) in
-      rw less (record { planned = planned-at base rs n d lt was.planned; after = was.reached ∙ after-take base rs n d lt })
-
-  pub returned : (base cluster : ClusterState) (rs : List (Record A)) (n : ℕ) → IsReached base cluster rs n → IsReached base (after base (take (n - 1) (steps_of rs))) rs (n - 1)
-  returned base cluster rs n was = record { within = omega (arith, was.within); few = was.few; reached = refl; planned = was.planned }
-
-  -- the record behind the cursor was planned in the cluster
-  pub planned-next : (base cluster : ClusterState) (rs : List (Record A)) (n : ℕ) (d : Record A) → IsReached base cluster rs n → n < length rs → IsPlanned (get_or rs n d) cluster
-  planned-next base cluster rs n d was lt = subst (λ (s : ClusterState). IsPlanned (get_or rs n d) s) (sym was.reached) (planned-at base rs n d lt was.planned)
-
-  pub remade : (base cluster next : ClusterState) (rs : List (Record A)) (n : ℕ) (d : Record A) → IsReached base cluster rs n → n < length rs → next ≡ stepped cluster (get_or rs n d).step → IsReached base next rs (n + 1)
-  remade base cluster next rs n d was lt leads =
-      record {
-        within = omega (arith, lt);
-        few = was.few;
-        reached = leads ∙ ap (λ s. stepped s (get_or rs n d).step) was.reached ∙ sym (after-take base rs n d lt) ∙ ap (λ k. after base (take k (steps_of rs))) (sym (add-one n));
-        planned = was.planned;
-      }
-
   -- the cluster is the one that the timeline is seen to have
   pub seen : (base cluster : ClusterState) (rs : List (Record A)) (n : ℕ) (m : TimelineValue A) → IsReached base cluster rs n → record { base = base; kept = steps_of rs; cursor = n } ≡ m → cluster ≡ cluster_of m
   seen base cluster rs n m was is = was.reached ∙ ap cluster_of is
 
-  -- a record stands behind the cursor
-  pub behind : (base : ClusterState) (rs : List (Record A)) (n : ℕ) (m : TimelineValue A) → record { base = base; kept = steps_of rs; cursor = n } ≡ m → m.cursor < length m.kept → n < length rs
-  behind base rs n m is lt =
-      let here : n < length (steps_of rs) = subst (λ (m : TimelineValue A). m.cursor < length m.kept) (sym is) lt in
-      omega (arith, here, length-map rs (λ r. r.step))
-
   -- a kept step leads from where those before it have led
-  pub kept_at : (base cluster : ClusterState) (rs : List (Record A)) (n : ℕ) (m : TimelineValue A) (i : ℕ) (d : Record A) → IsReached base cluster rs n → record { base = base; kept = steps_of rs; cursor = n } ≡ m → i < length m.kept
-      → Leads (get_or rs i d) (cluster_of (moved_to m i)) (cluster_of (moved_to m (i + 1)))
-  kept_at base cluster rs n m i d was is lt =
-      let here : i < length (steps_of rs) = subst (λ (m : TimelineValue A). i < length m.kept) (sym is) lt in
-      let within : i < length rs = omega (arith, here, length-map rs (λ r. r.step)) in
-      subst (λ (m : TimelineValue A). Leads (get_or rs i d) (cluster_of (moved_to m i)) (cluster_of (moved_to m (i + 1)))) is
-      (record { planned = planned-at base rs i d within was.planned; after = ap (λ k. after base (take k (steps_of rs))) (add-one i) ∙ after-take base rs i d within })
+  pub kept_at : (base : ClusterState) (rs : List (Record A)) (i : ℕ) (d : Record A) → i < length rs → ArePlanned base rs
+      → Leads (get_or rs i d) (after base (take i (steps_of rs))) (after base (take (i + 1) (steps_of rs)))
+  kept_at base rs i d lt planned =
+      record { planned = planned-at base rs i d lt planned; after = ap (λ k. after base (take k (steps_of rs))) (add-one i) ∙ after-take base rs i d lt }
+
+  -- ---- walks
+
+  -- a walk on a timeline stands where what the timeline keeps leads
+  pub walk_reached : (k : Kept A) (cluster : ClusterState) (n : ℕ) (m : TimelineValue A) (w : Walk A) → IsReached k.base cluster k.records.items n → timeline_at k n ≡ m → IsOn m w
+      → IsReached k.base w.cluster k.records.items w.at
+  walk_reached k cluster n m w was is on =
+      let here : IsOn (timeline_at k n) w = subst (λ (m : TimelineValue A). IsOn m w) (sym is) on in
+      record { within = omega (arith, here.within, length-map k.records.items (λ r. r.step)); few = was.few; reached = here.cluster; planned = was.planned }
+
+  pub walk_is_on : (k : Kept A) (n : ℕ) (m : TimelineValue A) (w : Walk A) → timeline_at k n ≡ m → IsReached k.base w.cluster k.records.items w.at → IsOn m w
+  walk_is_on k n m w is was =
+      subst (λ (m : TimelineValue A). IsOn m w) is (record { within = omega (arith, was.within, length-map k.records.items (λ r. r.step)); cluster = was.reached })
 
   -- no kept step has been made at the start
   pub at_start : (m : TimelineValue A) → cluster_of (moved_to m 0) ≡ m.base

@@ -4,12 +4,13 @@ ghost use Rattle.nd_time.specs.Limits.{max_kept};
 ghost use Rattle.nd_view.specs.View.{IsPassed};
 ghost use Rattle.nd_protocol.specs.State.{view};
 ghost use Rattle.nd_protocol.specs.Invariant.{KeepsProtocol, IsFinished};
-ghost use Rattle.nd_cluster.specs.Records.{IsPlanned, Leads};
+ghost use Rattle.nd_cluster.specs.Records.{IsPlanned};
 ghost use Rattle.nd_timeline.specs.Timeline.{opened, cluster_of, extended, moved_to, IsTimeline};
 ghost use Rattle.nd_timeline.specs.Reached.{AreCopies};
 ghost use Rattle.nd_timeline.specs.Moves.{moved_reply, StepFails, ForwardMoves, BackMoves, RedoMoves, JumpMoves};
 
-use crate::Fault;
+use crate::walk::Kept;
+use crate::{Fault, Walk};
 use nd_cluster::{Cluster, Record};
 use nd_paths::Pointstamp;
 use nd_protocol::{NoMemory, Refusal, Step, steps_keep_protocol};
@@ -21,10 +22,9 @@ pub(crate) const MAX_KEPT: usize = 1_000_000;
 
 /// A cluster that was reached from a base by kept steps, up to a cursor.
 pub struct Timeline<A: Allocator + Copy = Global> {
-    base: Cluster<A>,
-    cluster: Cluster<A>,
-    records: Vec<Record<A>, A>,
-    cursor: usize,
+    pub(crate) kept: Kept<A>,
+    // Its position is the cursor.
+    walk: Walk<A>,
 }
 
 impl<A: Allocator + Copy> Model for Timeline<A> {
@@ -35,19 +35,14 @@ impl<A: Allocator + Copy> Model for Timeline<A> {
 
     ghost coded = { timeline_code A };
 
-    ghost view = { λ a. record { base = a.base; kept = steps_of a.records.items; cursor = a.cursor } };
+    ghost view = { λ a. record { base = a.kept.base; kept = steps_of a.kept.records.items; cursor = a.walk.at } };
 
-    ghost invariant = { λ a. IsReached a.base a.cluster a.records.items a.cursor };
+    ghost invariant = { λ a. IsReached a.kept.base a.walk.cluster a.kept.records.items a.walk.at };
 }
 
 impl<A: Allocator + Copy> Drop for Timeline<A> {
     fn drop(self) {
-        let Timeline {
-            base: _,
-            cluster: _,
-            records: _,
-            cursor: _,
-        } = self;
+        let Timeline { kept: _, walk: _ } = self;
     }
 }
 
@@ -71,11 +66,10 @@ impl<A: Allocator + Copy> Timeline<A> {
         ensures { IfOk result (λ m. m ≡ opened A cluster) }
     {
         let base = cluster.copy(alloc)?;
+        let records = Vec::new(alloc);
         Ok(Timeline {
-            base,
-            cluster,
-            records: Vec::new(alloc),
-            cursor: 0,
+            kept: Kept { base, records },
+            walk: Walk { at: 0, cluster },
         })
     }
 
@@ -84,10 +78,14 @@ impl<A: Allocator + Copy> Timeline<A> {
         ensures { IfOk result (λ m. m ≡ self.now) }
     {
         Ok(Timeline {
-            base: self.base.copy(alloc)?,
-            cluster: self.cluster.copy(alloc)?,
-            records: copied_records(alloc, &self.records)?,
-            cursor: self.cursor,
+            kept: Kept {
+                base: self.kept.base.copy(alloc)?,
+                records: copied_records(alloc, &self.kept.records)?,
+            },
+            walk: Walk {
+                at: self.walk.at,
+                cluster: self.walk.cluster.copy(alloc)?,
+            },
         })
     }
 
@@ -95,7 +93,7 @@ impl<A: Allocator + Copy> Timeline<A> {
     pub fn base(&self) -> &Cluster<A>
         ensures { result.now ≡ self.now.base }
     {
-        &self.base
+        &self.kept.base
     }
 
     /// The cluster at the cursor.
@@ -104,7 +102,7 @@ impl<A: Allocator + Copy> Timeline<A> {
         ensures protocol { KeepsProtocol self.now.base → KeepsProtocol result.now }
     {
         steps_keep_protocol::<A>();
-        &self.cluster
+        &self.walk.cluster
     }
 
     /// Whether processor q's view at the cursor holds nothing positive at or before a pointstamp
@@ -122,14 +120,14 @@ impl<A: Allocator + Copy> Timeline<A> {
         ensures value { result ≡ self.now.cursor }
         ensures timeline { IsTimeline self.now }
     {
-        self.cursor as u64
+        self.walk.at
     }
 
     /// How many steps are kept.
     pub fn kept(&self) -> u64
         ensures { result ≡ length self.now.kept }
     {
-        self.records.len() as u64
+        self.kept.records.len() as u64
     }
 
     /// A kept step.
@@ -140,15 +138,7 @@ impl<A: Allocator + Copy> Timeline<A> {
         if i >= self.kept() {
             return None;
         }
-        Some(&self.records[i as usize].step)
-    }
-
-    /// The record of a kept step.
-    pub(crate) fn record(&self, i: u64) -> &Record<A>
-        requires { i < length self.now.kept }
-        ensures { Leads result.now (cluster_of (moved_to self.now i)) (cluster_of (moved_to self.now (i + 1))) }
-    {
-        &self.records[i as usize]
+        Some(&self.kept.records[i as usize].step)
     }
 
     // The record of a step, or why there is none.
@@ -173,17 +163,15 @@ impl<A: Allocator + Copy> Timeline<A> {
         ensures ok { OnOk result (self.new ≡ extended self.old planned.step) }
         ensures err { OnErr result (self.new ≡ self.old) }
     {
-        let Ok(()) = self.records.reserve(1) else {
+        let Ok(()) = self.kept.records.reserve(1) else {
             return Err(NoMemory);
         };
-        let Ok(()) = self.cluster.commit(&planned) else {
+        let Ok(()) = self.walk.cluster.commit(&planned) else {
             return Err(NoMemory);
         };
-        self.records.truncate(self.cursor);
-        let Ok(()) = self.records.push(planned) else {
-            unreachable!()
-        };
-        self.cursor += 1;
+        self.kept.records.truncate(self.walk.at as usize);
+        self.kept.records.push_reserved(planned);
+        self.walk.at += 1;
         Ok(())
     }
 
@@ -202,33 +190,6 @@ impl<A: Allocator + Copy> Timeline<A> {
         }
     }
 
-    // Undoes the step before the cursor.
-    fn undo(&mut self) -> Result<(), NoMemory>
-        requires { 0 < self.old.cursor }
-        ensures ok { OnOk result (self.new ≡ moved_to self.old (self.old.cursor - 1)) }
-        ensures err { OnErr result (self.new ≡ self.old) }
-    {
-        let last = self.cursor - 1;
-        let Ok(()) = self.cluster.back(&self.records[last]) else {
-            return Err(NoMemory);
-        };
-        self.cursor = last;
-        Ok(())
-    }
-
-    // Makes the step behind the cursor again.
-    fn make_again(&mut self) -> Result<(), NoMemory>
-        requires { self.old.cursor < length self.old.kept }
-        ensures ok { OnOk result (self.new ≡ moved_to self.old (self.old.cursor + 1)) }
-        ensures err { OnErr result (self.new ≡ self.old) }
-    {
-        let Ok(()) = self.cluster.commit(&self.records[self.cursor]) else {
-            return Err(NoMemory);
-        };
-        self.cursor += 1;
-        Ok(())
-    }
-
     /// Undoes the step before the cursor, and keeps it.
     pub fn back(&mut self) -> Result<(), Fault>
         ensures { BackMoves self.old (moved_reply result self.new) self.new }
@@ -237,7 +198,7 @@ impl<A: Allocator + Copy> Timeline<A> {
         if at == 0 {
             return Err(Fault::AtStart);
         }
-        match self.undo() {
+        match self.kept.walk_back(&mut self.walk) {
             Ok(()) => Ok(()),
             Err(NoMemory) => Err(Fault::Memory { at }),
         }
@@ -251,52 +212,16 @@ impl<A: Allocator + Copy> Timeline<A> {
         if at >= self.kept() {
             return Err(Fault::AtEnd);
         }
-        match self.make_again() {
+        match self.kept.walk_on(&mut self.walk) {
             Ok(()) => Ok(()),
             Err(NoMemory) => Err(Fault::Memory { at }),
         }
-    }
-
-    // Goes on to a position, step by step.
-    fn go_on(&mut self, n: u64) -> Result<(), Fault>
-        requires ahead { self.old.cursor ≤ n }
-        requires kept { n ≤ length self.old.kept }
-        ensures { JumpMoves self.old n (moved_reply result self.new) self.new }
-    {
-        for at in self.at()..n {
-            if let Err(NoMemory) = self.make_again() {
-                return Err(Fault::Memory { at });
-            }
-        }
-        Ok(())
-    }
-
-    // Goes back to a position, step by step.
-    fn go_back(&mut self, n: u64) -> Result<(), Fault>
-        requires behind { n ≤ self.old.cursor }
-        requires kept { n ≤ length self.old.kept }
-        ensures { JumpMoves self.old n (moved_reply result self.new) self.new }
-    {
-        let from = self.at();
-        for undone in 0..from - n {
-            if let Err(NoMemory) = self.undo() {
-                return Err(Fault::Memory { at: from - undone });
-            }
-        }
-        Ok(())
     }
 
     /// Goes to a position, step by step.
     pub fn jump(&mut self, n: u64) -> Result<(), Fault>
         ensures { JumpMoves self.old n (moved_reply result self.new) self.new }
     {
-        if n > self.kept() {
-            return Err(Fault::NoSuchPoint);
-        }
-        if self.at() <= n {
-            self.go_on(n)
-        } else {
-            self.go_back(n)
-        }
+        self.kept.walk_to(&mut self.walk, n)
     }
 }

@@ -1,11 +1,14 @@
-//! Walks: clusters of one's own that go over the kept steps of a timeline.
-ghost use Rattle.std.specs.Prelude.{◌≡◌, ◌+◌, ◌-◌, ◌<◌, ◌≤◌, length, IfOk, OnOk, OnErr};
+//! What a timeline keeps, and walks over it: the timeline's own, and those of others.
+ghost use Rattle.std.specs.Prelude.{◌≡◌, ◌+◌, ◌-◌, ◌<◌, take, length, IfOk, OnOk, OnErr};
+ghost use Rattle.nd_protocol.specs.Steps.{after};
+ghost use Rattle.nd_cluster.specs.Records.{Leads};
 ghost use Rattle.nd_timeline.specs.Timeline.{moved_to};
+ghost use Rattle.nd_timeline.specs.Reached.{steps_of, ArePlanned, IsReached};
 ghost use Rattle.nd_timeline.specs.Moves.{moved_reply, JumpMoves};
-ghost use Rattle.nd_timeline.specs.Walks.{BeginsNear, IsOn};
+ghost use Rattle.nd_timeline.specs.Walks.{BeginsNear, IsOn, timeline_at};
 
 use crate::{Fault, Timeline};
-use nd_cluster::Cluster;
+use nd_cluster::{Cluster, Record};
 use nd_protocol::NoMemory;
 use std::alloc::{AllocError, Allocator, Global};
 
@@ -16,6 +19,81 @@ pub struct Walk<A: Allocator + Copy = Global> {
     /// How many of the kept steps the cluster has made.
     pub at: u64,
     pub cluster: Cluster<A>,
+}
+
+/// The kept steps of a timeline, and the cluster where it began.
+#[derive(Drop)]
+pub(crate) struct Kept<A: Allocator + Copy> {
+    pub(crate) base: Cluster<A>,
+    pub(crate) records: Vec<Record<A>, A>,
+}
+
+impl<A: Allocator + Copy> Kept<A> {
+    // The record of a kept step.
+    fn record(&self, i: u64) -> &Record<A>
+        requires planned { ArePlanned self.now.base self.now.records.items }
+        requires there { i < length self.now.records.items }
+        ensures { Leads result.now (after self.now.base (take i (steps_of self.now.records.items))) (after self.now.base (take (i + 1) (steps_of self.now.records.items))) }
+    {
+        &self.records[i as usize]
+    }
+
+    // Makes the kept step behind a walk.
+    pub(crate) fn walk_on(&self, walk: &mut Walk<A>) -> Result<(), NoMemory>
+        requires on { IsReached self.now.base walk.old.cluster self.now.records.items walk.old.at }
+        requires behind { walk.old.at < length self.now.records.items }
+        ensures on { IsReached self.now.base walk.new.cluster self.now.records.items walk.new.at }
+        ensures ok { OnOk result (walk.new.at ≡ walk.old.at + 1) }
+        ensures err { OnErr result (walk.new.at ≡ walk.old.at) }
+    {
+        let Ok(()) = walk.cluster.commit(self.record(walk.at)) else {
+            return Err(NoMemory);
+        };
+        walk.at += 1;
+        Ok(())
+    }
+
+    // Undoes the kept step before a walk.
+    pub(crate) fn walk_back(&self, walk: &mut Walk<A>) -> Result<(), NoMemory>
+        requires on { IsReached self.now.base walk.old.cluster self.now.records.items walk.old.at }
+        requires before { 0 < walk.old.at }
+        ensures on { IsReached self.now.base walk.new.cluster self.now.records.items walk.new.at }
+        ensures ok { OnOk result (walk.new.at ≡ walk.old.at - 1) }
+        ensures err { OnErr result (walk.new.at ≡ walk.old.at) }
+    {
+        let last = walk.at - 1;
+        let Ok(()) = walk.cluster.back(self.record(last)) else {
+            return Err(NoMemory);
+        };
+        walk.at = last;
+        Ok(())
+    }
+
+    // Goes to a position on a walk, step by step.
+    pub(crate) fn walk_to(&self, walk: &mut Walk<A>, n: u64) -> Result<(), Fault>
+        requires { IsReached self.now.base walk.old.cluster self.now.records.items walk.old.at }
+        ensures on { IsReached self.now.base walk.new.cluster self.now.records.items walk.new.at }
+        ensures jump { JumpMoves (timeline_at self.now walk.old.at) n (moved_reply result (timeline_at self.now walk.new.at)) (timeline_at self.now walk.new.at) }
+    {
+        if n > self.records.len() as u64 {
+            return Err(Fault::NoSuchPoint);
+        }
+        let from = walk.at;
+        if from <= n {
+            for at in from..n {
+                if let Err(NoMemory) = self.walk_on(walk) {
+                    return Err(Fault::Memory { at });
+                }
+            }
+        } else {
+            for undone in 0..from - n {
+                if let Err(NoMemory) = self.walk_back(walk) {
+                    return Err(Fault::Memory { at: from - undone });
+                }
+            }
+        }
+        Ok(())
+    }
 }
 
 impl<A: Allocator + Copy> Timeline<A> {
@@ -37,62 +115,12 @@ impl<A: Allocator + Copy> Timeline<A> {
         }
     }
 
-    // Makes the kept step behind a walk.
-    fn walk_on(&self, walk: &mut Walk<A>) -> Result<(), NoMemory>
-        requires on { IsOn self.now walk.old }
-        requires behind { walk.old.at < length self.now.kept }
-        ensures on { IsOn self.now walk.new }
-        ensures ok { OnOk result (walk.new.at ≡ walk.old.at + 1) }
-        ensures err { OnErr result (walk.new.at ≡ walk.old.at) }
-    {
-        // This call's clause says that few steps are kept.
-        let _ = self.at();
-        let Ok(()) = walk.cluster.commit(self.record(walk.at)) else {
-            return Err(NoMemory);
-        };
-        walk.at += 1;
-        Ok(())
-    }
-
-    // Undoes the kept step before a walk.
-    fn walk_back(&self, walk: &mut Walk<A>) -> Result<(), NoMemory>
-        requires on { IsOn self.now walk.old }
-        requires before { 0 < walk.old.at }
-        ensures on { IsOn self.now walk.new }
-        ensures ok { OnOk result (walk.new.at ≡ walk.old.at - 1) }
-        ensures err { OnErr result (walk.new.at ≡ walk.old.at) }
-    {
-        let last = walk.at - 1;
-        let Ok(()) = walk.cluster.back(self.record(last)) else {
-            return Err(NoMemory);
-        };
-        walk.at = last;
-        Ok(())
-    }
-
     /// Goes to a position on a walk, step by step: what a jump would do, but the timeline stays as it is.
     pub fn walk_to(&self, walk: &mut Walk<A>, n: u64) -> Result<(), Fault>
         requires { IsOn self.now walk.old }
         ensures on { IsOn self.now walk.new }
         ensures jump { JumpMoves (moved_to self.now walk.old.at) n (moved_reply result (moved_to self.now walk.new.at)) (moved_to self.now walk.new.at) }
     {
-        if n > self.kept() {
-            return Err(Fault::NoSuchPoint);
-        }
-        let from = walk.at;
-        if from <= n {
-            for at in from..n {
-                if let Err(NoMemory) = self.walk_on(walk) {
-                    return Err(Fault::Memory { at });
-                }
-            }
-        } else {
-            for undone in 0..from - n {
-                if let Err(NoMemory) = self.walk_back(walk) {
-                    return Err(Fault::Memory { at: from - undone });
-                }
-            }
-        }
-        Ok(())
+        self.kept.walk_to(walk, n)
     }
 }

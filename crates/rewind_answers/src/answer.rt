@@ -120,8 +120,8 @@ fn answer_do(alloc: Global, state: &mut State, command: Command) -> Result<Value
     ensures reply { IfOk result (λ v. CommandReply (logged state.old) command (view v) (logged state.new)) }
     ensures text { IfOk result (λ v. has_float (view v) ≡ false) }
 {
-    match state.apply(alloc, ONLY_CLIENT, command) {
-        Ok(receipt) => replies::command_reply(alloc, cluster(state).graph(), &receipt.reply),
+    match state.answer(ONLY_CLIENT, command) {
+        Ok(answer) => replies::command_reply(alloc, cluster(state).graph(), &answer),
         Err(fault) => replies::fault(alloc, fault.number(), fault.name()),
     }
 }

@@ -13,7 +13,7 @@ use crate::kept::{answer_export, answer_step};
 use crate::why::{answer_changes, answer_why};
 use nd_cluster::Cluster;
 use nd_paths::Pointstamp;
-use nd_search::{OpenGate, SearchFault, search};
+use nd_search::{OpenGate, SearchFault, search_in};
 use nd_session::State;
 use nd_shown::{counts_value, point_value};
 use nd_watch::Break;
@@ -123,7 +123,7 @@ fn refuse_search(alloc: Global, fault: &SearchFault) -> Result<Value, AllocError
     }
 }
 
-// Replies with the least position at which a breakpoint holds.
+// Replies with the least position at which a breakpoint holds. No kept step is copied for it.
 fn answer_search<R: Threads + Sync>(
     rt: &R,
     alloc: Global,
@@ -136,8 +136,8 @@ fn answer_search<R: Threads + Sync>(
     ensures reply { IfOk result (λ v. SearchReply state.now.machine.timeline when.now lo hi workers (view v)) }
     ensures text { IfOk result (λ v. has_float (view v) ≡ false) }
 {
-    let snapshot = state.snapshot(alloc)?;
-    match search(rt, alloc, &snapshot, when, lo, hi, workers, &OpenGate) {
+    let timeline = state.timeline();
+    match search_in(rt, alloc, timeline, when, lo, hi, workers, &OpenGate) {
         Ok(least) => replies::found(alloc, least),
         Err(fault) => refuse_search(alloc, &fault),
     }

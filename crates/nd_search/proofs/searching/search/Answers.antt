@@ -1,43 +1,17 @@
-use Rattle.std.proofs.Common.{◌≡◌, ◌≤◌, ◌∙◌, ℕ, List, Option, length}
-use Rattle.nd_search.specs.declared.work.Searched.{Searched}
-use Rattle.nd_search.specs.Least.{HoldsAt}
-use Rattle.nd_search.specs.Pieces.{piece_count}
-use Rattle.nd_search.proofs.AnswersLemmas.{is_least, gap_within, gap_before, searched_there, told_there, all_in_there, stopped_there, counted_there, claimed_there}
+use Rattle.std.proofs.Common.{length, IfOk, IfErr, OnOk, subst}
+use Rattle.nd_timeline.specs.Timeline.{TimelineValue}
+use Rattle.nd_search.specs.Least.{HoldsAt, IsLeast}
+use Rattle.nd_search.specs.Answers.{MaySearch, SearchFails}
 use Rattle.nd_search.proofs.searching.search.Goals as goal
 
-pub returns-in-Ok-clause-found : goal.returns-in-Ok-clause-found
-returns-in-Ok-clause-found g c =
-    let Hit : ℕ → Type 0 = HoldsAt c.args.snapshot.now.timeline c.args.b.now in
-    let lo : ℕ = c.args.lo in
-    let hi : ℕ = c.args.hi in
-    let works : List (Searched g.row.A.Denot) = c.in_ok-works.works.items in
-    let rs : List (Option (Option ℕ)) = c.as_slice-2.result.now in
-    let at = c.in_ok-positions.ensures.positions in
-    let searched = searched_there c.args.b.now c.timeline.result.now c.args.snapshot.now.timeline c.in_ok-positions.positions.lo lo c.in_ok-positions.positions.hi hi works c.timeline.ensures at.0 at.1 c.in_ok-works.ensures.found in
-    let told = told_there c.as_slice.result.now works c.in_ok-results.results.items rs c.as_slice.ensures.value c.as_slice-2.ensures.value c.in_ok-results.ensures.told in
-    let len : length rs ≡ piece_count lo hi = c.as_slice-2.ensures.len ∙ (c.in_ok-results.ensures.len ∙ (c.pieces.ensures ∙ counted_there c.in_ok-positions.positions.lo lo c.in_ok-positions.positions.hi hi at.0 at.1)) in
-    is_least Hit lo hi works rs searched told c.in_ok-positions.ensures.may.range len c.in-Ok.found c.in-Ok.ensures
+pub returns-clause-found : goal.returns-clause-found
+returns-clause-found g c =
+    subst (λ (m : TimelineValue g.row.A.Denot). IfOk c.search_in.result (IsLeast (HoldsAt m c.args.b.now) c.args.lo c.args.hi)) c.timeline.ensures c.search_in.ensures.found
 
-pub returns-in_ok-claims-in-Err-clause-fails : goal.returns-in_ok-claims-in-Err-clause-fails
-returns-in_ok-claims-in-Err-clause-fails g c =
-    let Hit : ℕ → Type 0 = HoldsAt c.args.snapshot.now.timeline c.args.b.now in
-    let lo : ℕ = c.args.lo in
-    let hi : ℕ = c.args.hi in
-    let works : List (Searched g.row.A.Denot) = c.in_ok-works.works.items in
-    let rs : List (Option (Option ℕ)) = c.as_slice-2.result.now in
-    let at = c.in_ok-positions.ensures.positions in
-    let le : lo ≤ hi = c.in_ok-positions.ensures.may.range in
-    let searched = searched_there c.args.b.now c.timeline.result.now c.args.snapshot.now.timeline c.in_ok-positions.positions.lo lo c.in_ok-positions.positions.hi hi works c.timeline.ensures at.0 at.1 c.in_ok-works.ensures.found in
-    let told = told_there c.as_slice.result.now works c.in_ok-results.results.items rs c.as_slice.ensures.value c.as_slice-2.ensures.value c.in_ok-results.ensures.told in
-    let all_in = all_in_there c.as_slice.result.now works c.in_ok-results.results.items rs c.as_slice.ensures.value c.as_slice-2.ensures.value c.in_ok-results.ensures.all_in in
-    let counted : piece_count c.in_ok-positions.positions.lo c.in_ok-positions.positions.hi ≡ piece_count lo hi = counted_there c.in_ok-positions.positions.lo lo c.in_ok-positions.positions.hi hi at.0 at.1 in
-    let len : length rs ≡ piece_count lo hi = c.as_slice-2.ensures.len ∙ (c.in_ok-results.ensures.len ∙ (c.pieces.ensures ∙ counted)) in (
-      c.in_ok-positions.ensures.may,
-      record {
-        one_of_them = gap_within Hit lo hi works rs searched told len c.in-Err.piece c.in-Err.ensures;
-        before = gap_before Hit lo hi works rs searched told le len c.in-Err.piece c.in-Err.ensures;
-        claims = claimed_there _ _ c.args.workers works c.in_ok-claims-in-Err.field-0.items counted c.in_ok-claims-in-Err.ensures c.in_ok-works.ensures.claims;
-        stopped = stopped_there _ _ c.args.workers c.in-Err.piece works c.in_ok-claims-in-Err.field-0.items rs counted c.in_ok-claims-in-Err.ensures told all_in c.in_ok-works.ensures.stopped c.in_ok-works.ensures.claims c.in_ok-positions.ensures.may.some c.in-Err.ensures
-            (gap_within Hit lo hi works rs searched told len c.in-Err.piece c.in-Err.ensures);
-      },
-    )
+pub returns-clause-may : goal.returns-clause-may
+returns-clause-may g c =
+    subst (λ (m : TimelineValue g.row.A.Denot). OnOk c.search_in.result (MaySearch (length m.kept) c.args.lo c.args.hi c.args.workers)) c.timeline.ensures c.search_in.ensures.may
+
+pub returns-clause-fails : goal.returns-clause-fails
+returns-clause-fails g c =
+    subst (λ (m : TimelineValue g.row.A.Denot). IfErr c.search_in.result (SearchFails m c.args.b.now c.args.lo c.args.hi c.args.workers)) c.timeline.ensures c.search_in.ensures.fails

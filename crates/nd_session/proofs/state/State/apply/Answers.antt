@@ -1,35 +1,22 @@
-use Rattle.std.proofs.Common.{rules, length, ap}
+use Rattle.std.proofs.Common.{rules, arith, refl, subst, Result, IfErr}
+use Rattle.nd_session.specs.declared.fault.SessionFault.{SessionFault}
 use Rattle.nd_session.specs.declared.receipt.Receipt.{Receipt}
-use Rattle.nd_session.specs.Log.{IsPlaced}
 use Rattle.nd_session.specs.Faults.{ApplyFails}
-use Rattle.nd_session.specs.State.{StateValue}
-use Rattle.nd_session.proofs.Logs.{refused, kept_grows, legal_grows, placed_last}
+use Rattle.nd_session.proofs.Logs.{passed_on, same_entry}
 use Rattle.nd_session.proofs.state.State.apply.Goals as goal
 
-pub returns-in_err-reserve-clause-fails : goal.returns-in_err-reserve-clause-fails
-returns-in_err-reserve-clause-fails g c = refused (ApplyFails c.args.self.now.log) c.from_residual-in_err-reserve.result c.from_residual-in_err-reserve.ensures.1 (search rules)
+pub returns-in_err-reply-clause-fails : goal.returns-in_err-reply-clause-fails
+returns-in_err-reply-clause-fails g c =
+    passed_on (ApplyFails (c.args.self.now).log) c.from_residual-in_err-reply.result c.in_err-reply.field-0.0 c.from_residual-in_err-reply.ensures.1 c.in_err-reply.ensures.fails
 
-pub returns-in_err-put-clause-fails : goal.returns-in_err-put-clause-fails
-returns-in_err-put-clause-fails g c = refused (ApplyFails c.args.self.now.log) c.from_residual-in_err-put.result c.from_residual-in_err-put.ensures.1 (search rules)
+-- it is LogFull only if the log was full
+pub returns-in_err-reply-clause-full : goal.returns-in_err-reply-clause-full
+returns-in_err-reply-clause-full g c = (
+  (λ is. subst (λ (r : Result (Receipt g.row.A.Denot) (SessionFault g.row.A.Denot)). IfErr r (ApplyFails (c.args.self.now).log)) is (returns-in_err-reply-clause-fails g c)),
+  (λ full. absurd (omega (arith, full))),
+)
 
-abbrev entry : (g : _) → goal.After-push_reserved g → Receipt g.row.A.Denot
-entry g c = record { index = c.len-index.result; client = c.args.client; number = c.count-number.result; command = c.args.command; reply = c.apply-reply.result }
-
-placed : (g : _) (c : goal.After-push_reserved g) → IsPlaced c.self.inside.log.items (length c.self.inside.log.items) (entry g c)
-placed g c = placed_last c.self.inside.log.items (entry g c) (search rules) (search rules)
-
-pub invariant_of-self-2 : goal.invariant_of-self-2
-invariant_of-self-2 g c =
-    rw (c.push_reserved.ensures.items, c.reserve.ensures.items)
-    (kept_grows c.self.inside.machine c.apply-reply.new.self c.self.inside.log.items c.self.inside.counts c.put.new.self (entry g c)
-    c.self.invariant
-    (search rules)
-    (search rules)
-    (search rules)
-    (placed g c)
-    (search rules))
-
-pub returns-clause-legal : goal.returns-clause-legal
-returns-clause-legal g c =
-    rw (c.push_reserved.ensures.items, c.reserve.ensures.items, ← ap (λ (v : StateValue g.row.A.Denot). v.machine) c.self.view_is)
-    (legal_grows _ c.self.inside.machine c.apply-reply.new.self c.self.inside.log.items (entry g c) c.self.invariant.legal (placed g c) (search rules))
+pub returns-clause-entry : goal.returns-clause-entry
+returns-clause-entry g c =
+    let told : Receipt g.row.A.Denot = record { index = c.len-index.result; client = c.args.client; number = c.count-number.result; command = c.in_ok-asked.asked; reply = c.in_ok-reply.reply } in
+    rw (same_entry (c.args.self.now).log c.args.client c.args.command c.in_ok-reply.reply told (search rules) refl (search rules) (search rules) refl) at c.in_ok-reply.ensures.entry

@@ -6,16 +6,16 @@ use Rattle.nd_timeline.proofs.KeptSteps.{extends, seen, steps_of-push, steps_of-
 use Rattle.nd_timeline.proofs.timeline.Timeline.make.Goals as goal
 
 pub commit-requires : goal.commit-requires
-commit-requires g c = subst (IsPlanned c.args.planned) (sym (seen c.self.inside.base c.self.inside.cluster c.self.inside.records.items c.self.inside.cursor _ c.self.invariant c.self.view_is)) c.requires.planned
+commit-requires g c = subst (IsPlanned c.args.planned) (sym (seen c.self.inside.kept.base c.self.inside.walk.cluster c.self.inside.kept.records.items c.self.inside.walk.at _ c.self.invariant c.self.view_is)) c.requires.planned
 
 pub invariant_of-self-2 : goal.invariant_of-self-2
 invariant_of-self-2 g c =
-    let room : c.self.inside.cursor < max_kept = subst (λ (m : TimelineValue g.row.A.Denot). m.cursor < max_kept) (sym c.self.view_is) c.requires.room in
-    let planned : IsPlanned c.args.planned c.self.inside.cluster = subst (IsPlanned c.args.planned) (sym (seen c.self.inside.base c.self.inside.cluster c.self.inside.records.items c.self.inside.cursor _ c.self.invariant c.self.view_is)) c.requires.planned in
-    rw (c.in-Ok-push.ensures.items, c.truncate.ensures.items, c.reserve.ensures.items)
-    (extends c.self.inside.base c.self.inside.cluster c.commit.new.self c.self.inside.records.items c.self.inside.cursor c.args.planned c.self.invariant room planned c.in-Ok-commit.ensures.step)
+    let room : c.self.inside.walk.at < max_kept = subst (λ (m : TimelineValue g.row.A.Denot). m.cursor < max_kept) (sym c.self.view_is) c.requires.room in
+    let planned : IsPlanned c.args.planned c.self.inside.walk.cluster = subst (IsPlanned c.args.planned) (sym (seen c.self.inside.kept.base c.self.inside.walk.cluster c.self.inside.kept.records.items c.self.inside.walk.at _ c.self.invariant c.self.view_is)) c.requires.planned in
+    rw (c.push_reserved.ensures.items, c.truncate.ensures.items, c.reserve.ensures.items)
+    (extends c.self.inside.kept.base c.self.inside.walk.cluster c.commit.new.self c.self.inside.kept.records.items c.self.inside.walk.at c.args.planned c.self.invariant room planned c.in-Ok-commit.ensures.step)
 
 pub returns-clause-ok : goal.returns-clause-ok
 returns-clause-ok g c =
-    rw (c.in-Ok-push.ensures.items, c.truncate.ensures.items, c.reserve.ensures.items, ← c.self.view_is)
-    (rw (steps_of-push (take c.self.inside.cursor c.self.inside.records.items) c.args.planned, steps_of-take c.self.inside.cursor c.self.inside.records.items) refl)
+    rw (c.push_reserved.ensures.items, c.truncate.ensures.items, c.reserve.ensures.items, ← c.self.view_is)
+    (rw (steps_of-push (take c.self.inside.walk.at c.self.inside.kept.records.items) c.args.planned, steps_of-take c.self.inside.walk.at c.self.inside.kept.records.items) refl)
