@@ -6,7 +6,7 @@ use Rattle.nd_time.specs.Limits.{max_count}
 use Rattle.nd_paths.specs.declared.point.Pointstamp.{Pointstamp}
 use Rattle.nd_delta.specs.Change.{Change, at, size, combined, entries, at-plus, at-minus, IsWithin, IsTooLarge}
 use Rattle.nd_delta.specs.Least.{at-index, place_of}
-use Rattle.nd_view.specs.Room.{AreSteps, step_at}
+use Rattle.nd_view.specs.Room.{step_at}
 use Rattle.nd_view.proofs.Moves.{decided}
 
 -- an entry's integer added to what its point has, or taken from it

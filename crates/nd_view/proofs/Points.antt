@@ -1,5 +1,5 @@
 -- Loops over the points of a change.
-use Rattle.std.proofs.Common.{◌≡◌, ◌≢◌, ◌≤◌, ◌<◌, ◌+◌, ◌*◌, ℕ, zero, suc, ℤ, pos, negsuc, Bool, true, false, cond, List, length, get_or, refl, sym, ap, subst, ◌∙◌, ◌⊎◌, inl, inr, Less, Equal, arith, w64, to_z, of_z, FitsSigned, unsigned_abs}
+use Rattle.std.proofs.Common.{◌≡◌, ◌≢◌, ◌≤◌, ◌<◌, ◌+◌, ◌*◌, ℕ, zero, suc, ℤ, pos, negsuc, Bool, true, false, cond, List, get_or, refl, sym, ap, subst, ◌∙◌, ◌⊎◌, inl, inr, Less, Equal, arith, w64, to_z, of_z, FitsSigned, unsigned_abs}
 use Rattle.std.specs.Prelude.{◌<ℤ◌}
 use Rattle.std.proofs.lemmas.Bool.{cases_lt}
 use Rattle.std.proofs.lemmas.Cmp.{tied_itself}

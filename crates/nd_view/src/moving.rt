@@ -301,15 +301,7 @@ fn grow<A: Allocator, B: Allocator>(
         let was = end_of(steps, i, true);
         let n = first_of(steps, i);
         let entry = &entries[i];
-        let Ok(()) = enter(
-            counts,
-            precursor_counts,
-            frontier,
-            paths,
-            &entry.0,
-            was,
-            n,
-        ) else {
+        let Ok(()) = enter(counts, precursor_counts, frontier, paths, &entry.0, was, n) else {
             set_back(counts, precursor_counts, paths, delta, steps, true, i);
             return Err(AllocError);
         };

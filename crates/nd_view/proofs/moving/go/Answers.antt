@@ -1,4 +1,4 @@
-use Rattle.std.proofs.Common.{sym, subst, ◌∙◌, w64, false, arith}
+use Rattle.std.proofs.Common.{sym, subst, w64, false, arith}
 use Rattle.std.proofs.lemmas.Int.{to_z-of_z}
 use Rattle.std.specs.FinMap.{find}
 use Rattle.nd_paths.specs.Point.{point_cmp}
