@@ -13,6 +13,7 @@ use Rattle.nd_delta.specs.Change.{Change, none, at, set, is_point, at-none, entr
 use Rattle.nd_delta.specs.Least.{place_of}
 use Rattle.nd_view.specs.View.{IsOnFrontier}
 use Rattle.nd_view.specs.Kept.{Kept, IsKeptAt, IsFor}
+use Rattle.nd_view.specs.Room.{kept_of}
 use Rattle.nd_view.proofs.First.{not_zero}
 use Rattle.nd_view.proofs.Moves.{kept_positive, kept_other, first_one, alike, itself}
 
@@ -21,7 +22,7 @@ signed (pos zero) = inr (λ p. absurd (omega (arith, ints, p)))
 signed (pos (suc n)) = inl (omega (arith, ints))
 signed (negsuc n) = inr (λ p. absurd (omega (arith, ints, p)))
 
-pub for_none : (g : Dataflow) (m : Change) (es : List (Pointstamp × ℕ)) → m ≡ none → es ≡ [] → IsFor g (record { map = m; counts = es })
+pub for_none : (g : Dataflow) (m : Change) (es : List (Pointstamp × ℕ)) → m ≡ none → es ≡ [] → IsFor g (kept_of m es)
 for_none g m es m_is es_is = record {
   listed = subst (IsListed point_cmp) (sym es_is) tt;
   each = λ q. subst (IsKeptAt g m q) (sym (ap (find point_cmp q) es_is)) (λ p. not_zero (at m q) p (ap (λ c. at c q) m_is ∙ at-none q));
@@ -31,26 +32,19 @@ pub for_kept : (g : Dataflow) (v : Kept) (q : Pointstamp) (o : Option ℕ) (es :
 for_kept g v q o es o_is es_is h = subst (IsKeptAt g v.map q) (sym (o_is ∙ ap (find point_cmp q) es_is)) (h.each q)
 
 -- a count of the same sign
-pub for_stay : (g : Dataflow) (v : Kept) (m n : Change) (es : List (Pointstamp × ℕ)) (x : Pointstamp) (z : ℤ) → record { map = m; counts = es } ≡ v → IsFor g v → n ≡ set m x z
-    → ((pos 0 <ℤ z → pos 0 <ℤ at v.map x) × (pos 0 <ℤ at v.map x → pos 0 <ℤ z)) → IsFor g (record { map = n; counts = es })
-for_stay g v m n es x z v_is h is sign =
-    let here : IsFor g (record { map = m; counts = es }) = subst (IsFor g) (sym v_is) h in
-    let same : at v.map x ≡ at m x = ap (λ (k : Kept). at k.map x) (sym v_is) in
-    record {
-      listed = here.listed;
-      each = λ q. elim (signed z) [
-        | inl p ↦ kept_positive m n x z is g (subst (λ y. pos 0 <ℤ y) same (sign.0 p)) p q (find point_cmp q es) (here.each q)
-        | inr never ↦ kept_other m n x z is g (λ p. never (sign.1 (subst (λ y. pos 0 <ℤ y) (sym same) p))) never q (find point_cmp q es) (here.each q)
-      ];
-    }
+pub for_stay : (g : Dataflow) (m n : Change) (es : List (Pointstamp × ℕ)) (x : Pointstamp) (z : ℤ) → IsFor g (kept_of m es) → n ≡ set m x z
+    → ((pos 0 <ℤ z → pos 0 <ℤ at m x) × (pos 0 <ℤ at m x → pos 0 <ℤ z)) → IsFor g (kept_of n es)
+for_stay g m n es x z h is sign = record {
+  listed = h.listed;
+  each = λ q. elim (signed z) [
+    | inl p ↦ kept_positive m n x z is g (sign.0 p) p q (find point_cmp q es) (h.each q)
+    | inr never ↦ kept_other m n x z is g (λ p. never (sign.1 p)) never q (find point_cmp q es) (h.each q)
+  ];
+}
 
 pub on_ok : {E : Type 0} (r : Result (Unit {0}) E) (P Q : Type 0) → (P → Q) → OnOk r P → OnOk r Q
 on_ok (Ok x) P Q f p = f p
 on_ok (Err e) P Q f p = tt
-
--- what holds of a view's fields
-pub for_fields : (g : Dataflow) (v : Kept) (m : Change) (es : List (Pointstamp × ℕ)) → record { map = m; counts = es } ≡ v → IsFor g v → IsFor g (record { map = m; counts = es })
-for_fields g v m es v_is h = subst (IsFor g) (sym v_is) h
 
 -- ---- precursor counts of 0
 pub frontier_of_none : (g : Dataflow) (m : Change) (q : Pointstamp) → IsKeptAt g m q (Some 0) → IsOnFrontier g m q
@@ -97,9 +91,3 @@ taken_out g v x c h never =
           ap (λ b. cond b None (find point_cmp q (put point_cmp x c v.counts))) other
           ∙ find-put point_cmp point_total q x c v.counts ∙ ap (λ b. cond b (Some c) (find point_cmp q v.counts)) other
     ])
-
-abbrev pub kept_of : Change → List (Pointstamp × ℕ) → Kept
-kept_of m es = record { map = m; counts = es }
-
-pub as_before : (v now : Kept) (m : Change) (es : List (Pointstamp × ℕ)) → m ≡ v.map → es ≡ v.counts → v ≡ now → kept_of m es ≡ now
-as_before v now m es m_is es_is same = (λ i. kept_of (m_is i) (es_is i)) ∙ same

@@ -41,16 +41,16 @@ module _ (m n : Change) (es : List (Pointstamp × ℕ)) (x : Pointstamp) (v : �
   there : (q : Pointstamp) → is_point q x ≡ false → at n q ≡ at m q
   there q e = ap (λ c. at c q) is ∙ at-elsewhere m x v q e
 
-  -- a point that stays positive
-  pub keyed_stay : pos 0 <ℤ v → (pos 0 <ℤ v → pos 0 <ℤ at m x) → IsKeyed n es
-  keyed_stay up was = record {
+  -- an integer of the same sign
+  pub keyed_stay : ((pos 0 <ℤ v → pos 0 <ℤ at m x) × (pos 0 <ℤ at m x → pos 0 <ℤ v)) → IsKeyed n es
+  keyed_stay sign = record {
     listed = h.listed;
     some = λ q p. elim (alike q x) [
-      | inl same ↦ subst (λ y. find point_cmp y es ≢ None) (sym same) (h.some x (was up))
+      | inl same ↦ subst (λ y. find point_cmp y es ≢ None) (sym same) (h.some x (sign.0 (subst (λ z. pos 0 <ℤ z) here (subst (λ y. pos 0 <ℤ at n y) same p))))
       | inr other ↦ h.some q (subst (λ z. pos 0 <ℤ z) (there q other) p)
     ];
     none = λ q never. elim (alike q x) [
-      | inl same ↦ absurd (never (subst (λ y. pos 0 <ℤ at n y) (sym same) (subst (λ z. pos 0 <ℤ z) (sym here) up)))
+      | inl same ↦ subst (λ y. find point_cmp y es ≡ None) (sym same) (h.none x (λ p. never (subst (λ y. pos 0 <ℤ at n y) (sym same) (subst (λ z. pos 0 <ℤ z) (sym here) (sign.1 p)))))
       | inr other ↦ h.none q (λ p. never (subst (λ z. pos 0 <ℤ z) (sym (there q other)) p))
     ];
   }

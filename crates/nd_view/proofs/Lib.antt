@@ -5,5 +5,6 @@ mod Frontiers
 mod Keyed
 mod Moves
 mod Parts
+mod Plans
 mod Points
 mod Shifts

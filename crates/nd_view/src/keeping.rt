@@ -6,9 +6,7 @@ ghost use Rattle.nd_map.specs.Listed.{IsListed};
 ghost use Rattle.nd_paths.specs.declared.point.Pointstamp.{Pointstamp};
 ghost use Rattle.nd_paths.specs.Point.{point_cmp};
 ghost use Rattle.nd_view.specs.View.{IsPrecursor, IsCount};
-ghost use Rattle.nd_delta.specs.Change.{points_of, entries as listed};
 ghost use Rattle.nd_view.specs.Kept.{IsKeptAt, IsKeyed, IsReady, IsFrontierList, moved};
-ghost use Rattle.nd_view.specs.Room.{IsAlikeAt, IsAlikeOff, AllWithinRoom};
 
 use crate::entry_tests::is_positive_before;
 use nd_delta::Delta;
@@ -81,35 +79,6 @@ pub fn list_frontier<A: Allocator>(
             let Ok(()) = frontier.push(entry.0.copy()) else {
                 return;
             };
-        }
-    }
-}
-
-/// Gives a change's pointstamps the counts that they have in another one, and takes out what is stored
-/// for those that are not positive then. It goes from the last to the first, so that what is taken
-/// out at the end of a list moves nothing, and takes no memory.
-pub fn set_from_last<A: Allocator>(
-    counts: &mut Delta<A>,
-    precursor_counts: &mut SortedMap<Pointstamp, u64, A>,
-    delta: &Delta<A>,
-    to: &Delta<A>,
-)
-    requires keyed { IsKeyed counts.old precursor_counts.old }
-    requires room { AllWithinRoom (points_of (listed delta.now)) counts.old to.now }
-    ensures keyed { IsKeyed counts.new precursor_counts.new }
-    ensures alike { IsAlikeAt (points_of (listed delta.now)) to.now counts.new }
-    ensures others { IsAlikeOff (points_of (listed delta.now)) counts.old counts.new }
-    ensures size { length precursor_counts.new ≤ length precursor_counts.old }
-{
-    let entries = delta.entries();
-    for i in 0..entries.len() {
-        let entry = &entries[entries.len() - 1 - i];
-        let n = to.get(&entry.0);
-        let Ok(()) = counts.put(&entry.0, n) else {
-            return;
-        };
-        if n <= 0 {
-            precursor_counts.remove(&entry.0);
         }
     }
 }

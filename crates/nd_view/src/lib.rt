@@ -4,6 +4,8 @@
 
 mod entry_tests;
 mod keeping;
+mod moving;
+mod steps;
 
 ghost use Rattle.std.specs.Prelude.{◌≡◌, ◌≢◌, ◌↔◌, ◌≤◌, ◌<ℤ◌, pos, unsigned_abs, OnOk, OnErr, IfOk, IfSome, IsNone, IsTrue, Err};
 ghost use Rattle.nd_time.specs.Limits.{max_count};
@@ -14,15 +16,16 @@ ghost use Rattle.nd_delta.specs.Change.{none, at, set, plus, minus, combined, po
 ghost use Rattle.nd_delta.specs.Least.{IsLeast};
 ghost use Rattle.nd_view.specs.View.{IsPassed, IsBlocker, IsPrecursor, IsOnFrontier, IsCount, IsPartWhere, IsPositiveBefore};
 ghost use Rattle.nd_view.specs.Kept.{Kept, IsKeptAt, IsFor};
-ghost use Rattle.nd_view.specs.Room.{IsWithinRoom, IsAlikeAt, IsAlikeOff, AllWithinRoom};
 
-use entry_tests::{is_before, is_positive_before, takes_room};
-use keeping::{count_before, list_frontier, recount, set_from_last, shift};
+use entry_tests::{is_before, is_positive_before};
+use keeping::{count_before, list_frontier};
+use moving::take_steps;
 use nd_delta::{Delta, DeltaFault};
 use nd_map::SortedMap;
 use nd_paths::{Paths, Pointstamp};
 use std::alloc::{AllocError, Allocator, Global};
 use std::marker::Model;
+use steps::planned;
 
 /// A finite map from pointstamps to counts other than 0, which may be negative for a while.
 /// Beside it stands for each positive pointstamp the number of positive ones strictly before it.
@@ -118,211 +121,7 @@ impl<A: Allocator + Copy> View<A> {
         })
     }
 
-    // Gives a pointstamp a count of the same sign.
-    fn stay<B: Allocator>(
-        &mut self,
-        _paths: &Paths<B>,
-        point: &Pointstamp,
-        n: i64,
-    ) -> Result<(), AllocError>
-        requires paths { IsFor _paths.now self.old }
-        requires within { unsigned_abs n ≤ max_count }
-        requires sign { (pos 0 <ℤ n) ↔ (pos 0 <ℤ at self.old.map point.now) }
-        ensures ok { OnOk result (self.new.map ≡ set self.old.map point.now n) }
-        ensures paths { OnOk result (IsFor _paths.now self.new) }
-        ensures err { OnErr result (self.new ≡ self.old) }
-        ensures absent { OnErr result (at self.old.map point.now ≡ pos 0) }
-        ensures some { OnErr result (n ≢ pos 0) }
-    {
-        self.counts.put(point, n)
-    }
-
-    // Gives a pointstamp that is not positive a positive count.
-    fn come<B: Allocator>(
-        &mut self,
-        paths: &Paths<B>,
-        point: &Pointstamp,
-        n: i64,
-    ) -> Result<(), AllocError>
-        requires paths { IsFor paths.now self.old }
-        requires within { unsigned_abs n ≤ max_count }
-        requires was { pos 0 <ℤ at self.old.map point.now → ⊥ }
-        requires is { pos 0 <ℤ n }
-        ensures ok { OnOk result (self.new.map ≡ set self.old.map point.now n) }
-        ensures paths { OnOk result (IsFor paths.now self.new) }
-        ensures err { OnErr result (self.new ≡ self.old) }
-    {
-        let kept = self.precursor_counts.entries();
-        let missing = (kept.len() + 1).saturating_sub(self.frontier.len());
-        self.frontier.reserve(missing)?;
-        let count = count_before(&self.counts, paths, point);
-        self.precursor_counts.put(point, count)?;
-        let Ok(()) = self.counts.put(point, n) else {
-            self.precursor_counts.remove(point);
-            return Err(AllocError);
-        };
-        shift(&mut self.precursor_counts, &self.counts, paths, point, true);
-        list_frontier(&mut self.frontier, &self.precursor_counts);
-        Ok(())
-    }
-
-    // Gives a positive pointstamp a count that is not. It takes no memory.
-    fn go<B: Allocator>(&mut self, paths: &Paths<B>, point: &Pointstamp, n: i64)
-        requires paths { IsFor paths.now self.old }
-        requires within { unsigned_abs n ≤ max_count }
-        requires was { pos 0 <ℤ at self.old.map point.now }
-        requires is { pos 0 <ℤ n → ⊥ }
-        ensures ok { self.new.map ≡ set self.old.map point.now n }
-        ensures paths { IsFor paths.now self.new }
-    {
-        let Ok(()) = self.counts.put(point, n) else {
-            return;
-        };
-        self.precursor_counts.remove(point);
-        shift(
-            &mut self.precursor_counts,
-            &self.counts,
-            paths,
-            point,
-            false,
-        );
-        list_frontier(&mut self.frontier, &self.precursor_counts);
-    }
-
-    // Gives a pointstamp this count.
-    fn put<B: Allocator>(
-        &mut self,
-        paths: &Paths<B>,
-        point: &Pointstamp,
-        n: i64,
-    ) -> Result<(), AllocError>
-        requires paths { IsFor paths.now self.old }
-        requires within { unsigned_abs n ≤ max_count }
-        ensures ok { OnOk result (self.new.map ≡ set self.old.map point.now n) }
-        ensures paths { OnOk result (IsFor paths.now self.new) }
-        ensures err { OnErr result (self.new ≡ self.old) }
-        ensures room { OnErr result (IsWithinRoom (at self.old.map point.now) n → ⊥) }
-    {
-        let was_positive = self.get(point) > 0;
-        if n > 0 {
-            if was_positive {
-                self.stay(paths, point, n)
-            } else {
-                self.come(paths, point, n)
-            }
-        } else if was_positive {
-            self.go(paths, point, n);
-            Ok(())
-        } else {
-            self.stay(paths, point, n)
-        }
-    }
-
-    // The counts of a change's pointstamps.
-    fn before(&self, delta: &Delta<A>) -> Result<Delta<A>, AllocError>
-        ensures { IfOk result (IsAlikeAt (points_of (listed delta.now)) self.now.map) }
-    {
-        let mut made = Delta::new(self.alloc);
-        for entry in delta.entries() {
-            made.put(&entry.0, self.get(&entry.0))?;
-        }
-        Ok(made)
-    }
-
-    // The counts of a change's pointstamps once it is added, or taken back.
-    fn after(&self, delta: &Delta<A>, minus: bool) -> Result<Delta<A>, AllocError>
-        requires { IsWithin (combined minus self.now.map delta.now) }
-        ensures { IfOk result (IsAlikeAt (points_of (listed delta.now)) (combined minus self.now.map delta.now)) }
-    {
-        let mut made = Delta::new(self.alloc);
-        for entry in delta.entries() {
-            made.put(&entry.0, self.counts.combined_at(delta, minus, &entry.0))?;
-        }
-        Ok(made)
-    }
-
-    // Gives a change's pointstamps the counts that they have in another one. It takes no memory.
-    fn set_all<B: Allocator>(&mut self, paths: &Paths<B>, delta: &Delta<A>, to: &Delta<A>)
-        requires paths { IsFor paths.now self.old }
-        requires room { AllWithinRoom (points_of (listed delta.now)) self.old.map to.now }
-        ensures paths { IsFor paths.now self.new }
-        ensures alike { IsAlikeAt (points_of (listed delta.now)) to.now self.new.map }
-        ensures others { IsAlikeOff (points_of (listed delta.now)) self.old.map self.new.map }
-    {
-        for entry in delta.entries() {
-            let Ok(()) = self.put(paths, &entry.0, to.get(&entry.0)) else {
-                return;
-            };
-        }
-    }
-
-    // The same if most of what is positive goes: what is stored for the rest is counted anew.
-    fn set_anew<B: Allocator>(&mut self, paths: &Paths<B>, delta: &Delta<A>, to: &Delta<A>)
-        requires paths { IsFor paths.now self.old }
-        requires room { AllWithinRoom (points_of (listed delta.now)) self.old.map to.now }
-        ensures paths { IsFor paths.now self.new }
-        ensures alike { IsAlikeAt (points_of (listed delta.now)) to.now self.new.map }
-        ensures others { IsAlikeOff (points_of (listed delta.now)) self.old.map self.new.map }
-    {
-        set_from_last(&mut self.counts, &mut self.precursor_counts, delta, to);
-        recount(&mut self.precursor_counts, &self.counts, paths);
-        list_frontier(&mut self.frontier, &self.precursor_counts);
-    }
-
-    // Whether a change that leaves these counts takes away most of what is positive.
-    fn goes(&self, delta: &Delta<A>, after: &Delta<A>) -> bool {
-        let mut gone = 0;
-        for entry in delta.entries() {
-            if self.counts.get(&entry.0) > 0 && after.get(&entry.0) <= 0 {
-                gone += 1;
-            }
-        }
-        gone > self.precursor_counts.len() / 2
-    }
-
-    // Gives a change's pointstamps the counts that they are to have, in the way that costs less.
-    fn settle<B: Allocator>(&mut self, paths: &Paths<B>, delta: &Delta<A>, to: &Delta<A>)
-        requires paths { IsFor paths.now self.old }
-        requires room { AllWithinRoom (points_of (listed delta.now)) self.old.map to.now }
-        ensures paths { IsFor paths.now self.new }
-        ensures alike { IsAlikeAt (points_of (listed delta.now)) to.now self.new.map }
-        ensures others { IsAlikeOff (points_of (listed delta.now)) self.old.map self.new.map }
-    {
-        if self.goes(delta, to) {
-            self.set_anew(paths, delta, to);
-        } else {
-            self.set_all(paths, delta, to);
-        }
-    }
-
-    // Gives those of a change's pointstamps that take memory the counts that they are to have.
-    fn grow<B: Allocator>(
-        &mut self,
-        paths: &Paths<B>,
-        delta: &Delta<A>,
-        before: &Delta<A>,
-        after: &Delta<A>,
-    ) -> Result<(), AllocError>
-        requires paths { IsFor paths.now self.old }
-        requires before { IsAlikeAt (points_of (listed delta.now)) self.old.map before.now }
-        ensures paths { OnOk result (IsFor paths.now self.new) }
-        ensures room { OnOk result (AllWithinRoom (points_of (listed delta.now)) self.new.map after.now) }
-        ensures others { OnOk result (IsAlikeOff (points_of (listed delta.now)) self.old.map self.new.map) }
-        ensures err { OnErr result (self.new ≡ self.old) }
-    {
-        for entry in delta.entries() {
-            let new = after.get(&entry.0);
-            if takes_room(before.get(&entry.0), new) {
-                let Ok(()) = self.put(paths, &entry.0, new) else {
-                    self.set_all(paths, delta, before);
-                    return Err(AllocError);
-                };
-            }
-        }
-        Ok(())
-    }
-
-    // Adds a change, or takes it back: first what takes memory, then the rest.
+    // Adds a change, or takes it back.
     fn change<B: Allocator>(
         &mut self,
         paths: &Paths<B>,
@@ -335,19 +134,19 @@ impl<A: Allocator + Copy> View<A> {
         ensures err { OnErr result (self.new ≡ self.old) }
         ensures full { (result ≡ Err (DeltaFault.DeltaFull)) ↔ IsTooLarge (combined minus self.old.map delta.now) }
     {
-        if self.counts.is_overfull(delta, minus) {
-            return Err(DeltaFault::DeltaFull);
-        }
-        let Ok(before) = self.before(delta) else {
+        let steps = planned(self.alloc, &self.counts, delta, minus)?;
+        let taken = take_steps(
+            &mut self.counts,
+            &mut self.precursor_counts,
+            &mut self.frontier,
+            paths,
+            delta,
+            &steps,
+        );
+        list_frontier(&mut self.frontier, &self.precursor_counts);
+        let Ok(()) = taken else {
             return Err(DeltaFault::Memory);
         };
-        let Ok(after) = self.after(delta, minus) else {
-            return Err(DeltaFault::Memory);
-        };
-        let Ok(()) = self.grow(paths, delta, &before, &after) else {
-            return Err(DeltaFault::Memory);
-        };
-        self.settle(paths, delta, &after);
         Ok(())
     }
 
