@@ -14,8 +14,8 @@ use Rattle.nd_delta.specs.Least.{place_of}
 use Rattle.nd_view.specs.View.{IsOnFrontier}
 use Rattle.nd_view.specs.Kept.{Kept, IsKeptAt, IsFor}
 use Rattle.nd_view.specs.Room.{kept_of}
-use Rattle.nd_view.proofs.First.{not_zero}
 use Rattle.nd_view.proofs.Moves.{kept_positive, kept_other, first_one, alike, itself}
+use Rattle.nd_map.specs.Cases.{not_zero}
 
 pub signed : (z : ℤ) → (pos 0 <ℤ z) ⊎ (pos 0 <ℤ z → ⊥)
 signed (pos zero) = inr (λ p. absurd (omega (arith, ints, p)))

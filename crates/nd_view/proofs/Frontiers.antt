@@ -12,11 +12,11 @@ use Rattle.nd_delta.specs.Change.{Change, at, entries, points_of, part, has_poin
 use Rattle.nd_delta.specs.Least.{IsLeast, place_of}
 use Rattle.nd_view.specs.View.{IsBefore, IsPositiveBefore, IsBlocker, IsPrecursor, IsOnFrontier, IsPartWhere, IsCount}
 use Rattle.nd_view.specs.Kept.{Kept, IsKeptAt, IsFor, IsFrontierList}
-use Rattle.nd_view.proofs.First.{not_zero}
 use Rattle.nd_view.proofs.Moves.{index_some, itself}
 use Rattle.nd_view.proofs.Fors.{zero_of_frontier, frontier_of_zero}
 use Rattle.std.proofs.lemmas.List.Folds.{list_any_at}
 use Rattle.std.proofs.lemmas.Map.Views.{Contains-from_any, tells_apart}
+use Rattle.nd_map.specs.Cases.{not_zero}
 
 -- what the order of an accepted graph is, as the paths tell it
 pub record IsOrder (g : Dataflow) : Type 0 where

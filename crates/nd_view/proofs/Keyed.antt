@@ -12,11 +12,11 @@ use Rattle.nd_delta.specs.Change.{Change, at, set, entries, is_point, at-set_sam
 use Rattle.nd_delta.specs.Least.{at-index, place_of}
 use Rattle.nd_view.specs.View.{IsPrecursor, IsCount}
 use Rattle.nd_view.specs.Kept.{IsKeptAt, IsFor, IsKeyed}
-use Rattle.nd_view.proofs.First.{not_zero}
 use Rattle.nd_view.proofs.Fors.{signed}
 use Rattle.nd_view.proofs.Moves.{alike, apart, itself, at-elsewhere}
 use Rattle.nd_view.proofs.Parts.{IsAmong, split}
 use Rattle.nd_view.proofs.Shifts.{found_put, found_other, size_put}
+use Rattle.nd_map.specs.Cases.{not_zero}
 
 -- a view of a graph has the right keys
 pub keyed_for : (g : Dataflow) (m : Change) (es : List (Pointstamp × ℕ)) → IsFor g (record { map = m; counts = es }) → IsKeyed m es

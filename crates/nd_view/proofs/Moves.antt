@@ -1,5 +1,5 @@
 -- One point of a map gets another integer: what becomes of the numbers of precursors.
-use Rattle.std.proofs.Common.{◌≡◌, ◌≢◌, ◌<◌, ◌≤◌, ◌+◌, ◌-◌, ℕ, zero, suc, ℤ, pos, negsuc, Bool, true, false, cond, List, [], ◌∷◌, length, get_or, Option, Some, None, refl, sym, ap, subst, ◌∙◌, ◌⊎◌, inl, inr, arith, true≢false}
+use Rattle.std.proofs.Common.{◌≡◌, ◌≢◌, ◌<◌, ◌≤◌, ◌+◌, ◌-◌, ℕ, zero, suc, ℤ, pos, Bool, true, false, cond, List, [], ◌∷◌, length, get_or, Option, Some, None, refl, sym, ap, subst, ◌∙◌, ◌⊎◌, inl, inr, arith, true≢false}
 use Rattle.std.specs.Prelude.{◌<ℤ◌}
 use Rattle.std.specs.Ordering.{is_eq}
 use Rattle.std.proofs.lemmas.Cmp.{tied_itself}
@@ -16,12 +16,7 @@ use Rattle.nd_paths.specs.declared.point.Pointstamp.{Pointstamp}
 use Rattle.nd_delta.specs.Change.{Change, at, set, size, entries, is_point, or_zero, at-set, at-set_same, set-set, set-at, size-set, at-entries, sorted-entries, some-entry}
 use Rattle.nd_view.specs.View.{IsPrecursor, IsPartWhere, IsCount}
 use Rattle.nd_view.specs.Kept.{IsKeptAt, IsMovable, IsReady}
-use Rattle.nd_view.proofs.First.{not_zero}
-
-pub decided : (z : ℤ) → (z ≡ pos 0) ⊎ (z ≢ pos 0)
-decided (pos zero) = inl refl
-decided (pos (suc n)) = inr (λ e. absurd (cc))
-decided (negsuc n) = inr (λ e. absurd (cc))
+use Rattle.nd_map.specs.Cases.{not_zero, zero_or_not}
 
 -- two points are one, or apart
 pub alike : (q x : Pointstamp) → (q ≡ x) ⊎ (is_point q x ≡ false)
@@ -120,7 +115,7 @@ module _ (m n : Change) (x : Pointstamp) (v : ℤ) (is : n ≡ set m x v) where
     pub count_come : (k : ℕ) → (IsPrecursor g m t x → ⊥) → IsPrecursor g n t x → IsCount (IsPrecursor g m t) m k → IsCount (IsPrecursor g n t) n (k + 1)
     count_come k none p counted =
         let f = counted.0 in
-        let fresh : at f x ≡ pos 0 = elim (decided (at f x)) [ inl e ↦ e | inr some ↦ absurd (none (counted.1.only x some)) ] in (
+        let fresh : at f x ≡ pos 0 = elim (zero_or_not (at f x)) [ inl e ↦ e | inr some ↦ absurd (none (counted.1.only x some)) ] in (
           set f x v,
           part_moved (IsPrecursor g m t) (IsPrecursor g n t) f v to from (λ _. refl) (λ _. p) counted.1,
           size-set f x v (not_zero v (subst (λ z. pos 0 <ℤ z) here p.positive)) fresh ∙ ap (λ i. i + 1) counted.2,
@@ -145,7 +140,7 @@ module _ (m n : Change) (x : Pointstamp) (v : ℤ) (is : n ≡ set m x v) where
     pub count_stay : (k : ℕ) → pos 0 <ℤ at m x → pos 0 <ℤ v → IsCount (IsPrecursor g m t) m k → IsCount (IsPrecursor g n t) n k
     count_stay k old new counted =
         let f = counted.0 in
-        elim (decided (at f x)) [
+        elim (zero_or_not (at f x)) [
           | inl e ↦
               let none : IsPrecursor g m t x → ⊥ = λ p. not_zero (at m x) old (sym (counted.1.all x p) ∙ e) in
               count_away k none (λ p. none (record { positive = old; before = p.before })) counted

@@ -1,5 +1,5 @@
 -- The part of a change at the points of a kind, made entry by entry.
-use Rattle.std.proofs.Common.{◌≡◌, ◌≢◌, ◌<◌, ◌≤◌, ◌+◌, ℕ, zero, suc, ℤ, pos, negsuc, Bool, true, false, cond, length, get_or, refl, sym, ap, subst, ◌∙◌, ◌⊎◌, inl, inr, Less, Equal, arith, true≢false}
+use Rattle.std.proofs.Common.{◌≡◌, ◌≢◌, ◌<◌, ◌≤◌, ◌+◌, ℕ, ℤ, pos, Bool, true, false, cond, length, get_or, refl, sym, ap, subst, ◌∙◌, ◌⊎◌, inl, inr, Less, Equal, arith, true≢false}
 use Rattle.std.specs.Ordering.{is_eq}
 use Rattle.std.proofs.lemmas.Bool.{cases_lt}
 use Rattle.std.proofs.lemmas.List.{get_or_default}
@@ -11,11 +11,7 @@ use Rattle.nd_paths.specs.declared.point.Pointstamp.{Pointstamp}
 use Rattle.nd_delta.specs.Change.{Change, none, at, set, size, entries, is_point, at-none, at-set, size-set, size-none, sorted-entries}
 use Rattle.nd_delta.specs.Least.{place_of, at-index}
 use Rattle.nd_view.specs.View.{IsPartWhere, IsCount}
-
-pub decided : (z : ℤ) → (z ≡ pos 0) ⊎ (z ≢ pos 0)
-decided (pos zero) = inl refl
-decided (pos (suc n)) = inr (λ e. absurd (cc))
-decided (negsuc n) = inr (λ e. absurd (cc))
+use Rattle.nd_map.specs.Cases.{zero_or_not}
 
 -- the point of one of the first entries
 pub record IsAmong (m : Change) (i : ℕ) (q : Pointstamp) : Type 0 where
@@ -69,7 +65,7 @@ module _ (m : Change) (P : Pointstamp → Type 0) where
 
     -- the new entry's point has nothing yet
     pub part_fresh : (f : Change) → IsPartUpTo m P i f → at f x.0 ≡ pos 0
-    part_fresh f part = elim (decided (at f x.0)) [ inl e ↦ e | inr some ↦ absurd (fresh (part.early x.0 some)) ]
+    part_fresh f part = elim (zero_or_not (at f x.0)) [ inl e ↦ e | inr some ↦ absurd (fresh (part.early x.0 some)) ]
 
     -- an entry that is not of the kind
     pub part_skip : (f : Change) → (P x.0 → ⊥) → IsPartUpTo m P i f → IsPartUpTo m P (i + 1) f

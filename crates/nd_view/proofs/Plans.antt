@@ -7,7 +7,7 @@ use Rattle.nd_paths.specs.declared.point.Pointstamp.{Pointstamp}
 use Rattle.nd_delta.specs.Change.{Change, at, size, combined, entries, at-plus, at-minus, IsWithin, IsTooLarge}
 use Rattle.nd_delta.specs.Least.{at-index, place_of}
 use Rattle.nd_view.specs.Room.{step_at}
-use Rattle.nd_view.proofs.Moves.{decided}
+use Rattle.nd_map.specs.Cases.{zero_or_not}
 
 -- an entry's integer added to what its point has, or taken from it
 pub counted_at : (minus : Bool) (m d : Change) (i : ℕ) (x : Pointstamp × ℤ) → i < size d → x ≡ get_or (entries d) i x → (old by new : ℤ) → old ≡ at m x.0 → by ≡ x.1 → new ≡ cond minus (old -ℤ by) (old +ℤ by) → new ≡ at (combined minus m d) x.0
@@ -70,7 +70,7 @@ module _ (d m n : Change) where
 
     -- where there is no step, the two have the same
     pub planned_fits : IsWithin m → ((q : Pointstamp) → at d q ≡ pos 0 → at n q ≡ at m q) → IsTooLarge n → ⊥
-    planned_fits within elsewhere large = elim (decided (at d large.0)) [
+    planned_fits within elsewhere large = elim (zero_or_not (at d large.0)) [
       | inl none ↦
           let fits : unsigned_abs (at n large.0) ≤ max_count = subst (λ v. unsigned_abs v ≤ max_count) (sym (elsewhere large.0 none)) (within large.0) in
           omega (arith, fits, large.1)

@@ -13,7 +13,8 @@ use Rattle.nd_delta.specs.Change.{Change, at, set, size, combined, entries, is_p
 use Rattle.nd_delta.specs.Least.{place_of}
 use Rattle.nd_view.specs.Room.{IsWithinRoom, AreAt, AreSteps, IsPartway, grown, step_at, end_at, grown_at}
 use Rattle.nd_view.proofs.Fors.{signed}
-use Rattle.nd_view.proofs.Moves.{decided, alike, at-elsewhere, index_some}
+use Rattle.nd_view.proofs.Moves.{alike, at-elsewhere, index_some}
+use Rattle.nd_map.specs.Cases.{zero_or_not}
 
 -- ---- what stands in a place once all memory is taken
 -- an integer in its own place
@@ -22,7 +23,7 @@ stays v = record { absent = λ e. e; positive = λ p. p }
 
 -- what takes memory in a place gives it back
 turned : (old new : ℤ) → (IsWithinRoom old new → ⊥) → IsWithinRoom new old
-turned old new never = by (decided new) (decided old)
+turned old new never = by (zero_or_not new) (zero_or_not old)
   where
     by : (new ≡ pos 0) ⊎ (new ≢ pos 0) → (old ≡ pos 0) ⊎ (old ≢ pos 0) → IsWithinRoom new old
     by (inl e) o = absurd (never (record { absent = λ _. e; positive = λ p. absurd (omega (arith, ints, p, e)) }))
@@ -33,7 +34,7 @@ turned old new never = by (decided new) (decided old)
     }
 
 decided_room : (old new : ℤ) → IsWithinRoom old new ⊎ (IsWithinRoom old new → ⊥)
-decided_room old new = by (decided old) (decided new) (signed old) (signed new)
+decided_room old new = by (zero_or_not old) (zero_or_not new) (signed old) (signed new)
   where
     by : (old ≡ pos 0) ⊎ (old ≢ pos 0) → (new ≡ pos 0) ⊎ (new ≢ pos 0) → (pos 0 <ℤ old) ⊎ (pos 0 <ℤ old → ⊥) → (pos 0 <ℤ new) ⊎ (pos 0 <ℤ new → ⊥) → IsWithinRoom old new ⊎ (IsWithinRoom old new → ⊥)
     by o (inl e) p r = inl (record { absent = λ _. e; positive = λ up. absurd (omega (arith, ints, up, e)) })
@@ -188,7 +189,7 @@ module _ (d : Change) where
 
   -- all of them back: that is a change which has the same at all points
   pub way_end : (m : Change) (a b : ℕ → ℤ) (t u : Change) → IsPartway d m a b 0 t → AreAt d b u → ((q : Pointstamp) → at d q ≡ pos 0 → at u q ≡ at m q) → t ≡ u
-  way_end m a b t u h there elsewhere = same t u (λ q. elim (decided (at d q)) [
+  way_end m a b t u h there elsewhere = same t u (λ q. elim (zero_or_not (at d q)) [
     | inl none ↦ h.others q none ∙ sym (elsewhere q none)
     | inr some ↦
         let place = place_of d q some in

@@ -16,9 +16,9 @@ use Rattle.nd_paths.specs.declared.point.Pointstamp.{Pointstamp}
 use Rattle.nd_delta.specs.Change.{Change, at, size, is_point}
 use Rattle.nd_view.specs.View.{IsPrecursor}
 use Rattle.nd_view.specs.Kept.{IsKeptAt, IsMovable, IsReady, moved}
-use Rattle.nd_view.proofs.First.{not_zero}
 use Rattle.nd_view.proofs.Fors.{signed}
 use Rattle.nd_view.proofs.Moves.{alike, apart, itself, count_small}
+use Rattle.nd_map.specs.Cases.{not_zero}
 
 pub found_put : (q k : Pointstamp) (n : ℕ) (es : List (Pointstamp × ℕ)) → q ≡ k → find point_cmp q (put point_cmp k n es) ≡ Some n
 found_put q k n es same = find-put point_cmp point_total q k n es ∙ ap (λ b. cond b (Some n) (find point_cmp q es)) (ap (λ z. is_point z k) same ∙ itself k)

@@ -1,5 +1,5 @@
 -- Precursor counts are settled by the map: two views of one graph are equal if their maps are.
-use Rattle.std.proofs.Common.{◌≡◌, ◌≢◌, ℕ, zero, suc, ℤ, pos, negsuc, Option, Some, None, refl, sym, ap, subst, ◌∙◌, ◌⊎◌, inl, inr}
+use Rattle.std.proofs.Common.{◌≡◌, ℕ, Option, Some, None, refl, sym, ap, subst, ◌∙◌, inl, inr}
 use Rattle.std.specs.FinMap.{find}
 use Rattle.std.specs.FinMap.Entries.{same_entries}
 use Rattle.nd_graph.specs.Graph.{Dataflow}
@@ -8,15 +8,11 @@ use Rattle.nd_paths.specs.declared.point.Pointstamp.{Pointstamp}
 use Rattle.nd_delta.specs.Change.{Change, at, size, same}
 use Rattle.nd_view.specs.View.{IsPrecursor, IsPartWhere, IsCount}
 use Rattle.nd_view.specs.Kept.{Kept, IsKeptAt, IsFor}
-
-decided : (z : ℤ) → (z ≡ pos 0) ⊎ (z ≢ pos 0)
-decided (pos zero) = inl refl
-decided (pos (suc n)) = inr (λ e. absurd (cc))
-decided (negsuc n) = inr (λ e. absurd (cc))
+use Rattle.nd_map.specs.Cases.{zero_or_not}
 
 part_unique : (P : Pointstamp → Type 0) (m f h : Change) → IsPartWhere P m f → IsPartWhere P m h → f ≡ h
-part_unique P m f h a b = same f h (λ q. elim (decided (at f q)) [
-  | inl e ↦ elim (decided (at h q)) [ inl z ↦ e ∙ sym z | inr some ↦ (let p = b.only q some in a.all q p ∙ sym (b.all q p)) ]
+part_unique P m f h a b = same f h (λ q. elim (zero_or_not (at f q)) [
+  | inl e ↦ elim (zero_or_not (at h q)) [ inl z ↦ e ∙ sym z | inr some ↦ (let p = b.only q some in a.all q p ∙ sym (b.all q p)) ]
   | inr some ↦ (let p = a.only q some in a.all q p ∙ sym (b.all q p))
 ])
 

@@ -3,10 +3,10 @@ use Rattle.std.specs.Prelude.{◌<ℤ◌}
 use Rattle.nd_delta.specs.Change.{entries}
 use Rattle.nd_delta.specs.Least.{at-index}
 use Rattle.nd_view.specs.View.{IsPrecursor}
-use Rattle.nd_view.proofs.First.{not_zero}
 use Rattle.nd_view.proofs.Parts.{IsCountUpTo, count_none, count_skip, count_take, count_done}
 use Rattle.nd_view.proofs.keeping.count_before.Goals as goal
 use Rattle.nd_view.proofs.keeping.count_before.Goals.{then-is_positive_before, else-is_positive_before}
+use Rattle.nd_map.specs.Cases.{not_zero}
 
 pub loop-entry-init : goal.loop-entry-init
 loop-entry-init g c = record { items = c.entries-entry-items.ensures.listed; few = omega arith; counted = count_none c.args.counts.now (IsPrecursor c.args.paths.now c.args.counts.now c.args.point.now) }

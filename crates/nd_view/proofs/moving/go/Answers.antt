@@ -4,10 +4,10 @@ use Rattle.std.specs.FinMap.{find}
 use Rattle.nd_paths.specs.Point.{point_cmp}
 use Rattle.nd_delta.specs.Change.{at}
 use Rattle.nd_view.specs.Kept.{IsReady}
-use Rattle.nd_view.proofs.First.{not_zero}
 use Rattle.nd_view.proofs.Moves.{ready_down}
 use Rattle.nd_view.proofs.Shifts.{size_without}
 use Rattle.nd_view.proofs.moving.go.Goals as goal
+use Rattle.nd_map.specs.Cases.{not_zero}
 
 pub shift-requires-clause-ready : goal.shift-requires-clause-ready
 shift-requires-clause-ready g c = λ q.
