@@ -121,7 +121,7 @@ fn answer_do(alloc: Global, state: &mut State, command: Command) -> Result<Value
     ensures text { IfOk result (λ v. has_float (view v) ≡ false) }
 {
     match state.answer(ONLY_CLIENT, command) {
-        Ok(answer) => replies::command_reply(alloc, cluster(state).graph(), &answer),
+        Ok(reply) => replies::command_reply(alloc, cluster(state).graph(), &reply),
         Err(fault) => replies::fault(alloc, fault.number(), fault.name()),
     }
 }

@@ -7,7 +7,7 @@ use Rattle.nd_session.proofs.Logs.{refused, kept_grows, legal_grows, placed_last
 use Rattle.nd_session.proofs.state.State.answer.Goals as goal
 
 pub returns-in_err-reserve-clause-fails : goal.returns-in_err-reserve-clause-fails
-returns-in_err-reserve-clause-fails g c = refused (ApplyFails c.args.self.now.log) c.from_residual-in_err-reserve.result c.from_residual-in_err-reserve.ensures.1 (search rules)
+returns-in_err-reserve-clause-fails g c = refused (ApplyFails c.args.self.now.log) c.from_residual.result c.from_residual.ensures.1 (search rules)
 
 pub returns-in_err-put-clause-fails : goal.returns-in_err-put-clause-fails
 returns-in_err-put-clause-fails g c = refused (ApplyFails c.args.self.now.log) c.from_residual-in_err-put.result c.from_residual-in_err-put.ensures.1 (search rules)

@@ -1,8 +1,9 @@
-use Rattle.std.proofs.Common.{rules, arith, refl, subst, Result, IfErr}
+use Rattle.std.proofs.Common.{◌<◌, rules, arith, subst, length, Result, IfErr}
+use Rattle.nd_time.specs.Limits.{max_log}
 use Rattle.nd_session.specs.declared.fault.SessionFault.{SessionFault}
 use Rattle.nd_session.specs.declared.receipt.Receipt.{Receipt}
 use Rattle.nd_session.specs.Faults.{ApplyFails}
-use Rattle.nd_session.proofs.Logs.{passed_on, same_entry}
+use Rattle.nd_session.proofs.Logs.{passed_on}
 use Rattle.nd_session.proofs.state.State.apply.Goals as goal
 
 pub returns-in_err-reply-clause-fails : goal.returns-in_err-reply-clause-fails
@@ -11,12 +12,8 @@ returns-in_err-reply-clause-fails g c =
 
 -- it is LogFull only if the log was full
 pub returns-in_err-reply-clause-full : goal.returns-in_err-reply-clause-full
-returns-in_err-reply-clause-full g c = (
-  (λ is. subst (λ (r : Result (Receipt g.row.A.Denot) (SessionFault g.row.A.Denot)). IfErr r (ApplyFails (c.args.self.now).log)) is (returns-in_err-reply-clause-fails g c)),
-  (λ full. absurd (omega (arith, full))),
-)
-
-pub returns-clause-entry : goal.returns-clause-entry
-returns-clause-entry g c =
-    let told : Receipt g.row.A.Denot = record { index = c.len-index.result; client = c.args.client; number = c.count-number.result; command = c.in_ok-asked.asked; reply = c.in_ok-reply.reply } in
-    rw (same_entry (c.args.self.now).log c.args.client c.args.command c.in_ok-reply.reply told (search rules) refl (search rules) (search rules) refl) at c.in_ok-reply.ensures.entry
+returns-in_err-reply-clause-full g c =
+    let room : length (c.args.self.now).log < max_log = search rules in (
+      (λ is. subst (λ (r : Result (Receipt g.row.A.Denot) (SessionFault g.row.A.Denot)). IfErr r (ApplyFails (c.args.self.now).log)) is (returns-in_err-reply-clause-fails g c)),
+      (λ full. absurd (omega (arith, full, room))),
+    )
