@@ -1,6 +1,6 @@
 //! What is stored beside a map: made anew, and moved when a pointstamp came or went.
 
-ghost use Rattle.std.specs.Prelude.{◌≡◌, ◌≤◌, ◌+◌, ◌<◌, ◌^◌, IsTrue, Some, length, vec_capacity};
+ghost use Rattle.std.specs.Prelude.{◌≡◌, ◌≤◌, ◌+◌, ◌<◌, ◌^◌, IsTrue, length, vec_capacity};
 ghost use Rattle.std.specs.FinMap.{find};
 ghost use Rattle.nd_map.specs.Listed.{IsListed};
 ghost use Rattle.nd_paths.specs.declared.point.Pointstamp.{Pointstamp};

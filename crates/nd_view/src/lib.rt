@@ -7,12 +7,12 @@ mod keeping;
 mod moving;
 mod steps;
 
-ghost use Rattle.std.specs.Prelude.{◌≡◌, ◌≢◌, ◌↔◌, ◌≤◌, ◌<ℤ◌, pos, unsigned_abs, OnOk, OnErr, IfOk, IfSome, IsNone, IsTrue, Err};
+ghost use Rattle.std.specs.Prelude.{◌≡◌, ◌↔◌, ◌≤◌, unsigned_abs, OnOk, OnErr, IfOk, IfSome, IsNone, IsTrue, Err};
 ghost use Rattle.nd_time.specs.Limits.{max_count};
 ghost use Rattle.nd_graph.specs.Graph.{Dataflow};
 ghost use Rattle.nd_paths.specs.declared.point.Pointstamp.{Pointstamp};
 ghost use Rattle.nd_delta.specs.declared.DeltaFault.{DeltaFault};
-ghost use Rattle.nd_delta.specs.Change.{none, at, set, plus, minus, combined, points_of, IsTooLarge, IsWithin, entries as listed};
+ghost use Rattle.nd_delta.specs.Change.{none, at, plus, minus, combined, IsTooLarge, IsWithin, entries as listed};
 ghost use Rattle.nd_delta.specs.Least.{IsLeast};
 ghost use Rattle.nd_view.specs.View.{IsPassed, IsBlocker, IsPrecursor, IsOnFrontier, IsCount, IsPartWhere, IsPositiveBefore};
 ghost use Rattle.nd_view.specs.Kept.{Kept, IsKeptAt, IsFor};
