@@ -9,4 +9,5 @@ pub mod Filling
 pub mod Differences
 pub mod Differing
 pub mod Reaching
+pub mod Turning
 pub mod Naming
