@@ -1,6 +1,6 @@
 -- Changes that are sorted by their turns: one more is read, and what is known once all are.
 use Rattle.std.proofs.Common.{◌≡◌, ◌<◌, ℕ, Bool, true, false, cond, List, [], ◌∷◌, ◌++◌, length, nat_eq, refl, sym, ap, ◌∙◌, append_assoc, append-nil}
-use Rattle.std.specs.Prelude.{◌↔◌, IsTrue}
+use Rattle.std.specs.Prelude.{◌↔◌, ◌&&◌, IsTrue}
 use Rattle.nd_processor.specs.State.{ProcessorState}
 use Rattle.nd_record.specs.Changes.{owner_of, own, FindsIn, NamesNumbers}
 use Rattle.nd_record.specs.Plans.{Each, IsSmallGain}
@@ -39,7 +39,7 @@ module _ {A : Type 0} (ps : List ProcessorState) (all left : List Change) (c : C
   }
 
 -- both tests hold if the first does and what the second tests
-pub both_true : (a b : Bool) (P : Type 0) → (IsTrue b ↔ P) → IsTrue (cond a b false) ↔ (IsTrue a × P)
+pub both_true : (a b : Bool) (P : Type 0) → (IsTrue b ↔ P) → IsTrue (a && b) ↔ (IsTrue a × P)
 both_true true b P h = (λ t. (refl, h.0 t), λ t. h.1 t.1)
 both_true false b P h = (λ t. absurd (cc (t)), λ t. absurd (cc (t.0)))
 

@@ -17,18 +17,18 @@ by_turn-requires g c =
 pub returns-in_default-clause-refused : goal.returns-in_default-clause-refused
 returns-in_default-clause-refused g c = λ s t h. tt
 
-pub returns-then-not-counts_stay-clause-refused : goal.returns-then-not-counts_stay-clause-refused
-returns-then-not-counts_stay-clause-refused g c = λ s t h.
+pub returns-then-not-sorted-clause-refused : goal.returns-then-not-sorted-clause-refused
+returns-then-not-sorted-clause-refused g c = λ s t h.
     let ps = c.args.processors.now in
     let all = c.args.all.items in
-    counts_pass s all (λ each. counts_missed ps all c.in-Ok.sorted c.in-Ok.ensures c.if-not-counts_stay.true (in_list ps s t all h CountStaysOf each)) t h.1
+    counts_pass s all (λ each. counts_missed ps all c.in-Ok.sorted c.in-Ok.ensures c.if-not-sorted.true (in_list ps s t all h CountStaysOf each)) t h.1
 
-pub returns-then-not-entries_stay-clause-refused : goal.returns-then-not-entries_stay-clause-refused
-returns-then-not-entries_stay-clause-refused g c = λ s t h.
+pub returns-then-not-sorted-2-clause-refused : goal.returns-then-not-sorted-2-clause-refused
+returns-then-not-sorted-2-clause-refused g c = λ s t h.
     let ps = c.args.processors.now in
     let all = c.args.all.items in (
-      counts_fit s all (in_state ps s t all h CountStaysOf (counts_held ps all c.in-Ok.sorted c.in-Ok.ensures c.if-not-counts_stay.false)) t h.1,
-      entries_pass s all (λ each. entries_missed ps all c.in-Ok.sorted c.in-Ok.ensures c.if-not-entries_stay.true (in_list ps s t all h EntryStaysOf each)) t h.1,
+      counts_fit s all (in_state ps s t all h CountStaysOf (counts_held ps all c.in-Ok.sorted c.in-Ok.ensures c.if-not-sorted.false)) t h.1,
+      entries_pass s all (λ each. entries_missed ps all c.in-Ok.sorted c.in-Ok.ensures c.if-not-sorted-2.true (in_list ps s t all h EntryStaysOf each)) t h.1,
     )
 
 pub returns-in_default-join-clause-refused : goal.returns-in_default-join-clause-refused
@@ -38,19 +38,19 @@ pub returns-clause-counts : goal.returns-clause-counts
 returns-clause-counts g c = λ s t h.
     let ps = c.args.processors.now in
     let all = c.args.all.items in
-    counts_fit s all (in_state ps s t all h CountStaysOf (counts_held ps all c.in-Ok.sorted c.in-Ok.ensures c.if-not-counts_stay.false)) t h.1
+    counts_fit s all (in_state ps s t all h CountStaysOf (counts_held ps all c.in-Ok.sorted c.in-Ok.ensures c.if-not-sorted.false)) t h.1
 
 pub returns-clause-entries : goal.returns-clause-entries
 returns-clause-entries g c = λ s t h.
     let ps = c.args.processors.now in
     let all = c.args.all.items in
-    entries_fit s all (in_state ps s t all h EntryStaysOf (entries_held ps all c.in-Ok.sorted c.in-Ok.ensures c.if-not-entries_stay.false)) t h.1
+    entries_fit s all (in_state ps s t all h EntryStaysOf (entries_held ps all c.in-Ok.sorted c.in-Ok.ensures c.if-not-sorted-2.false)) t h.1
 
 pub returns-clause-leads : goal.returns-clause-leads
 returns-clause-leads g c = λ s t h.
     let ps = c.args.processors.now in
     let all = c.args.all.items in
-    let counts = in_state ps s t all h CountStaysOf (counts_held ps all c.in-Ok.sorted c.in-Ok.ensures c.if-not-counts_stay.false) in
-    let entries = in_state ps s t all h EntryStaysOf (entries_held ps all c.in-Ok.sorted c.in-Ok.ensures c.if-not-entries_stay.false) in
+    let counts = in_state ps s t all h CountStaysOf (counts_held ps all c.in-Ok.sorted c.in-Ok.ensures c.if-not-sorted.false) in
+    let entries = in_state ps s t all h EntryStaysOf (entries_held ps all c.in-Ok.sorted c.in-Ok.ensures c.if-not-sorted-2.false) in
     leads_in ps s t all h c.in-Ok-join.changes.items (in_turn ps all c.in-Ok.sorted c.in-Ok.ensures c.in-Ok-join.changes.items c.in-Ok-join.ensures)
     (within_then s all (both_stay s all counts entries) t h.1)
