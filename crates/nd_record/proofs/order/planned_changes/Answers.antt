@@ -1,4 +1,3 @@
-use Rattle.std.proofs.Common.{refl}
 use Rattle.nd_record.specs.Limits.{CountStaysOf, EntryStaysOf}
 use Rattle.nd_record.proofs.Filling.{both_stay, counts_pass, entries_pass, counts_fit, entries_fit, within_then}
 use Rattle.nd_record.proofs.Reaching.{owners_there, all_find, in_state, in_list, leads_in}

@@ -1,5 +1,4 @@
-use Rattle.std.proofs.Common.{◌≡◌, List, sym, ap, ◌∙◌}
-use Rattle.nd_processor.specs.State.{ProcessorState}
+use Rattle.std.proofs.Common.{sym, ap, ◌∙◌}
 use Rattle.nd_protocol.specs.State.{ClusterState}
 use Rattle.nd_protocol.specs.Steps.{stepped}
 use Rattle.nd_record.specs.Plans.{ReachesIn}
