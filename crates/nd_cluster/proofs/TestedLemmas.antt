@@ -1,5 +1,5 @@
 -- What the tests of a plan say together: that a step is enabled, or for which limit it is refused.
-use Rattle.std.proofs.Common.{◌<◌, ℕ, ℤ, List, arith}
+use Rattle.std.proofs.Common.{◌≢◌, ◌<◌, ℕ, ℤ, List, refl, arith}
 use Rattle.nd_time.specs.Time.{Time}
 use Rattle.nd_protocol.specs.State.{ClusterState}
 use Rattle.nd_protocol.specs.Steps.{stepped}
@@ -12,6 +12,7 @@ use Rattle.nd_protocol.specs.declared.step.Next.{Next as Afterwards}
 use Rattle.nd_protocol.specs.declared.refusal.Refusal.{Refusal}
 use Rattle.nd_protocol.specs.declared.refusal.Refusal.TheVariants.{CountFull, DeltaFull, NothingToSend, NotAdmissible, QueueEmpty, QueueFull, Memory}
 use Rattle.nd_work.specs.Edits.{Works}
+use Rattle.nd_record.specs.Limits.{LimitFails}
 
 module _ (s : ClusterState) where
   -- a feed, a take or a notice is refused for nothing that a broadcast or a receive is
@@ -84,7 +85,7 @@ module _ {A : Type 0} (s : ClusterState) where
 
   module _ (x : Step A) (works : Works x) (free : IsFreeBelow s x 13) where
     -- a refusal for the limit of counts is the one of least number
-    pub count_refused : HasLargeCount (stepped s x) → IsRefused s x CountFull
+    count_refused : HasLargeCount (stepped s x) → IsRefused s x CountFull
     count_refused large = record { fails = count_fails x works large; least = free }
 
     module _ (counts : HasLargeCount (stepped s x) → ⊥) where
@@ -110,5 +111,12 @@ module _ {A : Type 0} (s : ClusterState) where
           by Memory h = never x works Memory (omega arith) h
           by r h = free.free r (omega arith) h
 
-      pub entry_refused : HasLargeEntry (stepped s x) → IsRefused s x DeltaFull
+      entry_refused : HasLargeEntry (stepped s x) → IsRefused s x DeltaFull
       entry_refused large = record { fails = entry_fails x works large; least = free_below_entries }
+
+    -- a refusal for a limit is the one of least number
+    pub limit_refused : (r : Refusal) → LimitFails (stepped s x) r → r ≢ Memory → IsRefused s x r
+    limit_refused CountFull h some = count_refused h
+    limit_refused DeltaFull h some = entry_refused h.0 h.1
+    limit_refused Memory h some = absurd (some refl)
+    limit_refused _ h some = absurd h

@@ -8,10 +8,10 @@ use std::alloc::Allocator;
 
 impl<A: Allocator + Copy> Cluster<A> {
     // The record of a step, or none if the step is refused.
-    fn tried(&self, step: &Step<A>) -> Result<Option<Record<A>>, NoMemory>
-        ensures { IfOk result (Tries self.now step.now) }
+    fn tried(&self, step: Step<A>) -> Result<Option<Record<A>>, NoMemory>
+        ensures { IfOk result (Tries self.now step) }
     {
-        match self.plan(step) {
+        match self.plan_of(step) {
             Ok(record) => Ok(Some(record)),
             Err(Refusal::Memory) => Err(NoMemory),
             Err(_) => Ok(None),
@@ -24,7 +24,7 @@ impl<A: Allocator + Copy> Cluster<A> {
     {
         for from in 0..self.processor_count() {
             let step = Step::Receive { from, to: p };
-            if let Some(record) = self.tried(&step)? {
+            if let Some(record) = self.tried(step)? {
                 return Ok(Some(record));
             }
         }
@@ -43,7 +43,7 @@ impl<A: Allocator + Copy> Cluster<A> {
                 time: key.point.time.copy(),
                 value: key.value,
             };
-            if let Some(record) = self.tried(&step)? {
+            if let Some(record) = self.tried(step)? {
                 return Ok(Some(record));
             }
         }
@@ -61,7 +61,7 @@ impl<A: Allocator + Copy> Cluster<A> {
                 vertex: point.location,
                 time: point.time.copy(),
             };
-            if let Some(record) = self.tried(&step)? {
+            if let Some(record) = self.tried(step)? {
                 return Ok(Some(record));
             }
         }
@@ -72,7 +72,7 @@ impl<A: Allocator + Copy> Cluster<A> {
     fn whole_broadcast(&self, p: u32) -> Result<Option<Record<A>>, NoMemory>
         ensures { IfOk result (Finds {A = A} self.now (IsOfRank p 3)) }
     {
-        self.tried(&Step::Broadcast { p, part: Part::All })
+        self.tried(Step::Broadcast { p, part: Part::All })
     }
 
     // The first enabled step of a processor that may be chosen.

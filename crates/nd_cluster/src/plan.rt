@@ -65,25 +65,29 @@ impl<A: Allocator + Copy> Cluster<A> {
         Ok(Changes::Received { from, to, change })
     }
 
-    // The record of a step, or why the step is refused.
-    fn planned(&self, step: &Step<A>) -> Result<Record<A>, Refusal>
-        ensures enabled { OnOk result (IsEnabled self.now step.now) }
-        ensures step { IfOk result (λ r. r.step ≡ step.now) }
-        ensures planned { IfOk result (λ r. IsPlanned r self.now) }
-        ensures small { IfOk result (λ r. named r.changes + shared self.now step.now ≡ changed self.now (stepped self.now step.now)) }
+    // What a step changes, or why it is refused.
+    fn changes_of(&self, step: &Step<A>) -> Result<Changes<A>, Refusal>
+        ensures ok { IfOk result (Plans self.now step.now) }
         ensures refused { IfErr result (λ r. r ≢ Memory → IsRefused self.now step.now r) }
         ensures memory { result ≡ Err Memory → MayWantMemory self.now step.now }
     {
-        let _ = self.processor_count();
         step.numbers_fit();
-        let changes = match step {
-            Step::Broadcast { p, part } => self.broadcast_changes(*p, part)?,
-            Step::Receive { from, to } => self.receive_changes(*from, *to)?,
-            Step::Feed { .. } | Step::Take { .. } | Step::Notice { .. } => self.work_plan(step)?,
-        };
-        let Ok(step) = step.copy(self.alloc) else {
-            return Err(Refusal::Memory);
-        };
+        match step {
+            Step::Broadcast { p, part } => self.broadcast_changes(*p, part),
+            Step::Receive { from, to } => self.receive_changes(*from, *to),
+            Step::Feed { .. } | Step::Take { .. } | Step::Notice { .. } => self.work_plan(step),
+        }
+    }
+
+    // The record of a step, which it keeps, or why the step is refused.
+    pub(crate) fn plan_of(&self, step: Step<A>) -> Result<Record<A>, Refusal>
+        ensures enabled { OnOk result (IsEnabled self.now step) }
+        ensures step { IfOk result (λ r. r.step ≡ step) }
+        ensures planned { IfOk result (λ r. IsPlanned r self.now) }
+        ensures refused { IfErr result (λ r. r ≢ Memory → IsRefused self.now step r) }
+    {
+        let _ = self.processor_count();
+        let changes = self.changes_of(&step)?;
         Ok(Record { step, changes })
     }
 
@@ -103,6 +107,10 @@ impl<A: Allocator + Copy> Cluster<A> {
     {
         protocol_is_safe::<A>();
         let _ = self.processor_count();
-        self.planned(step)
+        let changes = self.changes_of(step)?;
+        let Ok(step) = step.copy(self.alloc) else {
+            return Err(Refusal::Memory);
+        };
+        Ok(Record { step, changes })
     }
 }

@@ -12,7 +12,7 @@ ghost use Rattle.nd_protocol.specs.declared.refusal.Refusal.TheVariants.{Memory}
 use crate::{Change, Cluster, Next, Refusal, Step};
 use nd_paths::Pointstamp;
 use nd_processor::ValueAt;
-use nd_record::{in_order, limit_refusal};
+use nd_record::planned_changes;
 use nd_work::{feed_changes, notice_changes, take_changes};
 use std::alloc::Allocator;
 
@@ -134,12 +134,7 @@ impl<A: Allocator + Copy> Cluster<A> {
         let _ = self.processor_count();
         step.numbers_fit();
         let all = self.parts(step)?;
-        if let Some(refusal) = limit_refusal(&self.processors, &all) {
-            return Err(refusal);
-        }
-        let Ok(changes) = in_order(self.alloc, &self.processors, &all) else {
-            return Err(Refusal::Memory);
-        };
+        let changes = planned_changes(self.alloc, &self.processors, all)?;
         Ok(changes)
     }
 }

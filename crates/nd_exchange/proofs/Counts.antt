@@ -1,11 +1,11 @@
 -- The counts of a view, were a change added.
-use Rattle.std.proofs.Common.{◌≡◌, ◌≢◌, ◌≤◌, ◌<◌, ◌*◌, ℕ, zero, suc, ℤ, pos, negsuc, ◌+ℤ◌, length, w64, to_z, of_z, unsigned_abs, refl, sym, ap, ◌∙◌, ◌⊎◌, inl, inr, arith}
+use Rattle.std.proofs.Common.{◌≡◌, ◌≢◌, ◌≤◌, ◌<◌, ◌*◌, ℕ, zero, suc, ℤ, pos, negsuc, ◌+ℤ◌, length, get_or, w64, to_z, of_z, unsigned_abs, refl, sym, ap, subst, ◌∙◌, ◌⊎◌, inl, inr, arith}
 use Rattle.std.proofs.lemmas.Bool.{cases_lt}
 use Rattle.std.proofs.lemmas.Int.{ints, to_z-of_z, fits_signed_from_abs}
 use Rattle.nd_time.specs.Limits.{max_count}
 use Rattle.nd_paths.specs.declared.point.Pointstamp.{Pointstamp}
 use Rattle.nd_delta.specs.Change.{Change, at, plus, at-plus, entries, IsTooLarge, IsWithin}
-use Rattle.nd_delta.specs.Least.{AllUpTo, all-points}
+use Rattle.nd_delta.specs.Least.{AllUpTo, at-index, all-points}
 
 -- an integer as the code keeps it
 pub kept : (x : ℤ) → unsigned_abs x ≤ 2 * max_count → to_z w64 (of_z w64 x) ≡ x
@@ -15,11 +15,18 @@ kept x within = to_z-of_z w64 x (fits_signed_from_abs w64 x (omega (arith, withi
 pub kept_zero : (x : ℤ) → unsigned_abs x ≤ max_count → of_z w64 x ≡ 0 → x ≡ pos 0
 kept_zero x within e = sym (kept x (omega (arith, within))) ∙ ap (to_z w64) e
 
-pub summed : (m n : Change) (q : Pointstamp) (x y : ℤ) → x ≡ at m q → y ≡ at n q → unsigned_abs x ≤ max_count → unsigned_abs y ≤ max_count
-    → to_z w64 (of_z w64 (to_z w64 (of_z w64 x) +ℤ to_z w64 (of_z w64 y))) ≡ at (plus m n) q
-summed m n q x y x_is y_is x_within y_within =
+pub summed : (x y : ℤ) → unsigned_abs x ≤ max_count → unsigned_abs y ≤ max_count → to_z w64 (of_z w64 (to_z w64 (of_z w64 x) +ℤ to_z w64 (of_z w64 y))) ≡ x +ℤ y
+summed x y x_within y_within =
     rw (kept x (omega (arith, x_within)), kept y (omega (arith, y_within)))
-    (to_z-of_z w64 (x +ℤ y) (fits_signed_from_abs w64 (x +ℤ y) (omega (arith, ints, x_within, y_within))) ∙ (λ i. x_is i +ℤ y_is i) ∙ sym (at-plus m n q))
+    (to_z-of_z w64 (x +ℤ y) (fits_signed_from_abs w64 (x +ℤ y) (omega (arith, ints, x_within, y_within))))
+
+-- an entry adds to the count of its point what the change does, and no more than an entry may have
+module _ (n : Change) (i : ℕ) (x : Pointstamp × ℤ) (lt : i < length (entries n)) (is : x ≡ get_or (entries n) i x) where
+  pub added : (m : Change) → at m x.0 +ℤ x.1 ≡ at (plus m n) x.0
+  added m = ap (λ y. at m x.0 +ℤ y) (at-index n i x lt is) ∙ sym (at-plus m n x.0)
+
+  pub entry_within : IsWithin n → unsigned_abs x.1 ≤ max_count
+  entry_within within = subst (λ y. unsigned_abs y ≤ max_count) (sym (at-index n i x lt is)) (within x.0)
 
 -- the counts at the points of a change's entries are within the limit
 abbrev pub IsFitting : Change → Change → Pointstamp → Type 0

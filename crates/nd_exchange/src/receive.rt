@@ -1,5 +1,5 @@
 //! Receives: the front of a queue goes into the receiver's view.
-ghost use Rattle.std.specs.Prelude.{◌≡◌, ◌↔◌, ◌<◌, ◌≤◌, ◌*◌, unsigned_abs, length, slice_get, Some, IfErr, IfOk, IsTrue, OnErr, OnOk};
+ghost use Rattle.std.specs.Prelude.{◌≡◌, ◌↔◌, ◌<◌, ◌≤◌, ◌*◌, ◌+ℤ◌, unsigned_abs, length, slice_get, Some, IfErr, IfOk, IsTrue, OnErr, OnOk};
 ghost use Rattle.nd_time.specs.Limits.{max_count};
 ghost use Rattle.nd_delta.specs.Change.{at, plus, minus, IsTooLarge};
 ghost use Rattle.nd_view.specs.Kept.{Kept, IsFor};
@@ -20,12 +20,13 @@ fn passes_limit(n: i64) -> bool
     n > LIMIT || n < -LIMIT
 }
 
-// The count of a pointstamp, were a change added to a view.
-fn count_after<A: Allocator + Copy>(view: &View<A>, change: &Delta<A>, point: &Pointstamp) -> i64
-    ensures value { result ≡ at (plus view.now.map change.now) point.now }
+// The count of an entry's pointstamp, were the entry added to a view.
+fn count_after<A: Allocator + Copy>(view: &View<A>, entry: &(Pointstamp, i64)) -> i64
+    requires { unsigned_abs entry.now.1 ≤ max_count }
+    ensures value { result ≡ at view.now.map entry.now.0 +ℤ entry.now.1 }
     ensures fits { unsigned_abs result ≤ 2 * max_count }
 {
-    view.get(point) + change.get(point)
+    view.get(&entry.0) + entry.1
 }
 
 // Whether some count would pass its limit, were a change added to a view. It takes no memory.
@@ -35,7 +36,7 @@ fn is_overfull<A: Allocator + Copy>(view: &View<A>, change: &Delta<A>) -> bool
     // The counts as they are do not pass it.
     let _counts = view.entries();
     for entry in change.entries() {
-        if passes_limit(count_after(view, change, &entry.0)) {
+        if passes_limit(count_after(view, entry)) {
             return true;
         }
     }

@@ -10,4 +10,5 @@ pub mod LimitsLemmas
 pub mod Differences
 pub mod CountedLemmas
 pub mod ReachesLemmas
+pub mod TurnsLemmas
 pub mod ListedLemmas

@@ -14,7 +14,6 @@ use Rattle.nd_record.specs.Listed.{leaves, arrives, listed}
 use Rattle.nd_record.specs.Records.{named}
 use Rattle.nd_record.specs.declared.record.Changes.{Changes}
 use Rattle.nd_record.specs.declared.record.Changes.TheVariants.{Each, Sent, Received}
-use Rattle.nd_record.specs.declared.listed.Entry.{Entry}
 use Rattle.nd_record.specs.declared.listed.Entry.TheVariants.{Key, Back, Front}
 
 pub mapped : {A B : Type 0} (f : A → B) (xs : List A) (i : ℕ) (x : A) → slice_get xs i ≡ Some x → slice_get (map f xs) i ≡ Some (f x)

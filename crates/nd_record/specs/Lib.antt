@@ -11,5 +11,6 @@ pub mod Exchanges
 pub mod Records
 pub mod Limits
 pub mod Turns
+pub mod Sorting
 pub mod Counted
 pub mod Listed

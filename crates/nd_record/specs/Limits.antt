@@ -2,6 +2,9 @@
 use Rattle.std.specs.Prelude.{◌+ℤ◌, List}
 use Rattle.nd_processor.specs.State.{ProcessorState}
 use Rattle.nd_protocol.specs.State.{ClusterState}
+use Rattle.nd_protocol.specs.Enabled.{HasLargeCount, HasLargeEntry}
+use Rattle.nd_protocol.specs.declared.refusal.Refusal.{Refusal}
+use Rattle.nd_protocol.specs.declared.refusal.Refusal.TheVariants.{CountFull, DeltaFull, Memory}
 use Rattle.nd_record.specs.Slots.{stands, CountWithin, EntryWithin}
 use Rattle.nd_record.specs.Standing.{standing, IsWithinAt}
 use Rattle.nd_record.specs.Changes.{slot_of, place_of, gain_of, own}
@@ -24,3 +27,10 @@ EntryStaysOf processors c = EntryStaysIn (own processors c) c
 -- either, in a cluster
 abbrev pub StaysWithin : ClusterState → Change → Type 0
 StaysWithin s c = IsWithinAt (place_of c) (standing s (place_of c) +ℤ gain_of c)
+
+-- the limit that t passes, for which changes that lead there are refused: that of counts before that of entries
+abbrev pub LimitFails : ClusterState → Refusal → Type 0
+LimitFails t CountFull = HasLargeCount t
+LimitFails t DeltaFull = (HasLargeCount t → ⊥) × HasLargeEntry t
+LimitFails t Memory = Unit {0}
+LimitFails t _ = ⊥

@@ -1,14 +1,14 @@
 -- The turns of changes in their processors, as the kinds of a plan number them.
-use Rattle.std.specs.Prelude.{◌≡◌, ℕ, ◌+ℤ◌, List, map, nat_eq}
+use Rattle.std.specs.Prelude.{◌<◌, ℕ, ◌+ℤ◌, List, [], ◌∷◌, ◌++◌, cond, length, nat_eq}
 use Rattle.std.specs.List.{filter}
 use Rattle.nd_vertex.specs.Table.{is_zero}
 use Rattle.nd_processor.specs.State.{ProcessorState}
 use Rattle.nd_record.specs.Slots.{stands}
-use Rattle.nd_record.specs.Changes.{slot_of, gain_of, own}
-use Rattle.nd_record.specs.Plans.{kind_by}
+use Rattle.nd_record.specs.Changes.{owner_of, slot_of, gain_of, own, FindsIn, NamesNumbers}
+use Rattle.nd_record.specs.Plans.{IsSmallGain, kind_by}
 use Rattle.nd_record.specs.declared.change.Change.{Change}
-use Rattle.nd_record.specs.declared.order.Turn.{Turn}
-use Rattle.nd_record.specs.declared.order.Turn.TheVariants.{Comes, Alters, Goes}
+use Rattle.nd_record.specs.declared.reading.Turn.{Turn}
+use Rattle.nd_record.specs.declared.reading.Turn.TheVariants.{Comes, Alters, Goes}
 
 abbrev pub number_of : Turn → ℕ
 number_of Comes = 0
@@ -27,6 +27,13 @@ kind_of processors c = kind_in (own processors c) c
 abbrev pub of_turn : List ProcessorState → ℕ → List Change → List Change
 of_turn processors k cs = filter (λ c. nat_eq (kind_of processors c) k) cs
 
--- these are the turns of the changes, one for each
-abbrev pub AreTurnsIn : List ProcessorState → List Change → List Turn → Type 0
-AreTurnsIn processors cs turns = map number_of turns ≡ map (kind_of processors) cs
+-- the changes of a kind with one more, if it is of that kind
+abbrev pub with_more : List ProcessorState → ℕ → Change → List Change → List Change
+with_more processors k c cs = cond (nat_eq (kind_of processors c) k) (cs ++ c ∷ []) cs
+
+-- a change whose processor is there, and which finds there what it names
+pub record IsReadable (processors : List ProcessorState) (c : Change) : Type 0 where
+  pub there : owner_of c < length processors
+  pub old : FindsIn (own processors c) c
+  pub numbers : NamesNumbers c
+  pub small : IsSmallGain c

@@ -4,15 +4,14 @@
 mod change;
 mod counted;
 mod exchange;
-mod limits;
 mod listed;
 mod making;
 mod order;
+mod reading;
 mod record;
 
 pub use change::Change;
 pub use counted::changes_are_counted;
-pub use limits::limit_refusal;
 pub use listed::{Entries, Entry};
-pub use order::in_order;
+pub use order::planned_changes;
 pub use record::{Changes, Record};

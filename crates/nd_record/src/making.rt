@@ -72,7 +72,7 @@ pub(crate) fn value_at(edge: usize, time: &Timestamp, value: i64) -> ValueAt
 }
 
 // The pointstamp of a vertex.
-fn vertex_point(vertex: usize, time: &Timestamp) -> Pointstamp
+pub(crate) fn vertex_point(vertex: usize, time: &Timestamp) -> Pointstamp
     ensures { result ≡ point_at vertex time.now }
 {
     Pointstamp {

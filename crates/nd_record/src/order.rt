@@ -1,186 +1,126 @@
 //! The order of a record's changes: something is put in first, then altered, then taken out.
-ghost use Rattle.std.specs.Prelude.{◌≡◌, ◌<◌, ◌≤◌, ◌+ℤ◌, ◌++◌, List, not, length, nat_eq, unsigned_abs, IfOk, OnOk};
-ghost use Rattle.nd_time.specs.Limits.{max_count};
-ghost use Rattle.nd_protocol.specs.State.{ClusterState};
+ghost use Rattle.std.specs.Prelude.{◌≡◌, ◌↔◌, ◌++◌, [], List, IfErr, IfOk, IsTrue, OnOk};
 ghost use Rattle.nd_processor.specs.State.{ProcessorState};
-ghost use Rattle.nd_protocol.specs.Fitting.{IsWithinLimits};
-ghost use Rattle.nd_vertex.specs.Table.{is_zero};
-ghost use Rattle.nd_record.specs.Changes.{NamesNumbers, owner_of, own, FindsIn};
-ghost use Rattle.nd_record.specs.Plans.{Each, ReachesIn, LeadsTo, kind_by};
-ghost use Rattle.nd_record.specs.Turns.{number_of, kind_in, kind_of, of_turn, AreTurnsIn};
+ghost use Rattle.nd_protocol.specs.State.{ClusterState};
+ghost use Rattle.nd_protocol.specs.Enabled.{HasLargeCount, HasLargeEntry};
+ghost use Rattle.nd_record.specs.Plans.{Each, ReachesIn, LeadsTo};
+ghost use Rattle.nd_record.specs.Limits.{CountStaysOf, EntryStaysOf, LimitFails};
+ghost use Rattle.nd_record.specs.Turns.{IsReadable, with_more};
+ghost use Rattle.nd_record.specs.Sorting.{IsSorting};
+ghost use Rattle.nd_record.specs.declared.change.Change.{Change as Single};
 
 use crate::Change;
-use crate::making::processor_of;
-use nd_paths::Pointstamp;
-use nd_processor::{Processor, ValueAt};
+use crate::reading::{Turn, reading_of};
+use nd_processor::Processor;
+use nd_protocol::Refusal;
 use std::alloc::{AllocError, Allocator};
 
-// When a change has its turn.
-#[derive(Clone, Copy, PartialEq, Eq, Drop)]
-enum Turn {
-    // Nothing stands at its place before it.
-    Comes,
-    // Something stands at its place before it and after it.
-    Alters,
-    // It leaves nothing at its place.
-    Goes,
+// Changes by their turns, and what is read of them all.
+#[derive(Drop)]
+struct Sorted<A: Allocator> {
+    comes: Vec<Change, A>,
+    alters: Vec<Change, A>,
+    goes: Vec<Change, A>,
+    // Whether all counts are within their limit afterwards.
+    counts_stay: bool,
+    // Whether all entries are.
+    entries_stay: bool,
 }
 
-impl Turn {
-    // By whether something stands there before, and whether something does after.
-    fn by_presence(before: bool, after: bool) -> Turn
-        ensures { number_of result ≡ kind_by (not before) (not after) }
+impl<A: Allocator + Copy> Sorted<A> {
+    // No change yet.
+    fn new(alloc: A, count: usize) -> Result<Sorted<A>, AllocError>
+        ensures { IfOk result (λ s. (processors : List ProcessorState) (all : List Single) → IsSorting processors all all s) }
     {
-        if !before {
-            return Turn::Comes;
-        }
-        if after { Turn::Alters } else { Turn::Goes }
+        let comes = Vec::with_capacity(alloc, count)?;
+        let alters = Vec::new(alloc);
+        let goes = Vec::new(alloc);
+        Ok(Sorted {
+            comes,
+            alters,
+            goes,
+            counts_stay: true,
+            entries_stay: true,
+        })
     }
 
-    // Whether it is this one.
-    fn is(self, other: Turn) -> bool
-        ensures { result ≡ nat_eq (number_of self) (number_of other) }
+    // One more change, after those of its turn. Its place is looked up once.
+    fn add(&mut self, processors: &[Processor<A>], change: Change) -> Result<(), AllocError>
+        requires { IsReadable processors.now change }
+        ensures comes { OnOk result (self.new.comes.items ≡ with_more processors.now 0 change self.old.comes.items) }
+        ensures alters { OnOk result (self.new.alters.items ≡ with_more processors.now 1 change self.old.alters.items) }
+        ensures goes { OnOk result (self.new.goes.items ≡ with_more processors.now 2 change self.old.goes.items) }
+        ensures counts { OnOk result (IsTrue self.new.counts_stay ↔ (IsTrue self.old.counts_stay × CountStaysOf processors.now change)) }
+        ensures entries { OnOk result (IsTrue self.new.entries_stay ↔ (IsTrue self.old.entries_stay × EntryStaysOf processors.now change)) }
     {
-        self == other
+        let reading = reading_of(processors, &change);
+        self.counts_stay &= reading.count_stays;
+        self.entries_stay &= reading.entry_stays;
+        match reading.turn {
+            Turn::Comes => self.comes.push(change)?,
+            Turn::Alters => self.alters.push(change)?,
+            Turn::Goes => self.goes.push(change)?,
+        }
+        Ok(())
     }
 
-    // By what stands there before, and how much more stands there after.
-    fn by_gain(before: i64, gain: i64) -> Turn
-        requires { unsigned_abs before ≤ max_count }
-        ensures { number_of result ≡ kind_by (is_zero before) (is_zero (before +ℤ gain)) }
+    // The changes, one turn after the other.
+    fn join(self) -> Result<Vec<Change, A>, AllocError>
+        ensures { IfOk result (λ v. v.items ≡ (self.comes.items ++ self.alters.items) ++ self.goes.items) }
     {
-        if before == 0 {
-            return Turn::Comes;
-        }
-        if gain == -before {
-            Turn::Goes
-        } else {
-            Turn::Alters
-        }
+        let Sorted {
+            mut comes,
+            mut alters,
+            mut goes,
+            counts_stay: _,
+            entries_stay: _,
+        } = self;
+        comes.append(&mut alters)?;
+        comes.append(&mut goes)?;
+        Ok(comes)
     }
 }
 
-// The turn of a change in a processor.
-fn turn_in<A: Allocator + Copy>(processor: &Processor<A>, change: &Change) -> Turn
-    requires old { FindsIn processor.now change.now }
-    requires numbers { NamesNumbers change.now }
-    ensures { number_of result ≡ kind_in processor.now change.now }
-{
-    match change {
-        Change::Records {
-            p: _,
-            edge,
-            time,
-            value,
-            n,
-        } => {
-            let key = ValueAt {
-                point: Pointstamp {
-                    location: *edge,
-                    time: time.copy(),
-                },
-                value: *value,
-            };
-            Turn::by_gain(processor.count_of(&key) as i64, *n)
-        }
-        Change::Request {
-            p: _,
-            vertex,
-            time,
-            add,
-        } => {
-            let point = Pointstamp {
-                location: *vertex,
-                time: time.copy(),
-            };
-            Turn::by_presence(processor.has_request(&point), *add)
-        }
-        Change::Token {
-            p: _,
-            vertex: _,
-            old,
-            new,
-        } => Turn::by_presence(old.is_some(), new.is_some()),
-        Change::State {
-            p: _,
-            vertex: _,
-            time: _,
-            item: _,
-            old,
-            new,
-        } => Turn::by_presence(old.is_some(), new.is_some()),
-        Change::Sink {
-            p: _,
-            vertex,
-            value,
-            add,
-        } => {
-            let gain = if *add { 1 } else { -1 };
-            Turn::by_gain(processor.sink_count(*vertex, *value) as i64, gain)
-        }
-        Change::Unsent { p: _, point, n } => Turn::by_gain(processor.unsent().get(point), *n),
-    }
-}
-
-// The turn of a change in the processor that it is of.
-#[tactic(auto, unfolding(crate::specs::Turns::kind_of))]
-fn turn_of<A: Allocator + Copy>(processors: &[Processor<A>], change: &Change) -> Turn
-    requires there { owner_of change.now < length processors.now }
-    requires old { FindsIn (own processors.now change.now) change.now }
-    requires numbers { NamesNumbers change.now }
-    ensures { number_of result ≡ kind_of processors.now change.now }
-{
-    turn_in(processor_of(processors, change.owner()), change)
-}
-
-// The turns of changes in the processors that they are of.
-fn turns_of<A: Allocator + Copy>(
+// All changes by their turns.
+fn by_turn<A: Allocator + Copy>(
     alloc: A,
     processors: &[Processor<A>],
-    all: &[Change],
-) -> Result<Vec<Turn, A>, AllocError>
-    requires there { Each (λ c. owner_of c < length processors.now) all.now }
-    requires old { Each (λ c. FindsIn (own processors.now c) c) all.now }
-    requires numbers { Each NamesNumbers all.now }
-    ensures { IfOk result (λ v. AreTurnsIn processors.now all.now v.items) }
+    all: Vec<Change, A>,
+) -> Result<Sorted<A>, AllocError>
+    requires { Each (IsReadable processors.now) all.items }
+    ensures { IfOk result (IsSorting processors.now all.items []) }
 {
-    let mut turns = Vec::with_capacity(alloc, all.len())?;
+    let mut sorted = Sorted::new(alloc, all.len())?;
     for change in all {
-        turns.push(turn_of(processors, change))?;
+        sorted.add(processors, change)?;
     }
-    Ok(turns)
+    Ok(sorted)
 }
 
-// The changes of a turn, after those that are there.
-fn gather<A: Allocator + Copy>(
-    turns: &[Turn],
-    turn: Turn,
-    from: &[Change],
-    to: &mut Vec<Change, A>,
-) -> Result<(), AllocError>
-    ensures { OnOk result ((processors : List ProcessorState) → AreTurnsIn processors from.now turns.now → to.new.items ≡ to.old.items ++ of_turn processors (number_of turn) from.now) }
-{
-    for (change, its_turn) in from.iter().zip(turns) {
-        if its_turn.is(turn) {
-            to.push(change.copy())?;
-        }
-    }
-    Ok(())
-}
-
-/// The changes in the order in which they are made: nothing is taken out before the last is put in.
-pub fn in_order<A: Allocator + Copy>(
+/// The changes in the order in which they are made, so that nothing is taken out before the last is put in, or the
+/// limit for which they are refused: that of counts before that of entries (this project's own rule).
+pub fn planned_changes<A: Allocator + Copy>(
     alloc: A,
     processors: &[Processor<A>],
-    all: &[Change],
-) -> Result<Vec<Change, A>, AllocError>
-    requires { (s : ClusterState) × (t : ClusterState) × ReachesIn processors.now s t all.now }
-    ensures { IfOk result (λ v. (s t : ClusterState) → ReachesIn processors.now s t all.now → IsWithinLimits t → LeadsTo s t v.items) }
+    all: Vec<Change, A>,
+) -> Result<Vec<Change, A>, Refusal>
+    requires { (s : ClusterState) × (t : ClusterState) × ReachesIn processors.now s t all.items }
+    ensures leads { IfOk result (λ v. (s t : ClusterState) → ReachesIn processors.now s t all.items → LeadsTo s t v.items) }
+    ensures counts { OnOk result ((s t : ClusterState) → ReachesIn processors.now s t all.items → HasLargeCount t → ⊥) }
+    ensures entries { OnOk result ((s t : ClusterState) → ReachesIn processors.now s t all.items → HasLargeEntry t → ⊥) }
+    ensures refused { IfErr result (λ r. (s t : ClusterState) → ReachesIn processors.now s t all.items → LimitFails t r) }
 {
-    let turns = turns_of(alloc, processors, all)?;
-    let mut changes = Vec::with_capacity(alloc, all.len())?;
-    gather(&turns, Turn::Comes, all, &mut changes)?;
-    gather(&turns, Turn::Alters, all, &mut changes)?;
-    gather(&turns, Turn::Goes, all, &mut changes)?;
+    let Ok(sorted) = by_turn(alloc, processors, all) else {
+        return Err(Refusal::Memory);
+    };
+    if !sorted.counts_stay {
+        return Err(Refusal::CountFull);
+    }
+    if !sorted.entries_stay {
+        return Err(Refusal::DeltaFull);
+    }
+    let Ok(changes) = sorted.join() else {
+        return Err(Refusal::Memory);
+    };
     Ok(changes)
 }

@@ -28,8 +28,8 @@ impl<A: Allocator> Drop for Draft<A> {
 }
 
 impl<A: Allocator + Copy> Draft<A> {
-    // Nothing yet, of a step that processor p makes.
-    pub(crate) fn new(alloc: A, p: u32) -> Draft<A>
+    // Nothing yet, of a step that processor p makes and by which so many records come.
+    pub(crate) fn new(alloc: A, p: u32, count: usize) -> Draft<A>
         ensures adds { (s : ClusterState) → AddsUp s [] result }
         ensures small { IsSmall 0 result }
         ensures p { result.sums.p ≡ p }
@@ -37,7 +37,7 @@ impl<A: Allocator + Copy> Draft<A> {
     {
         Draft {
             singles: Vec::new(alloc),
-            sums: Sums::new(alloc, p),
+            sums: Sums::new(alloc, p, count),
         }
     }
 
@@ -152,8 +152,7 @@ impl<A: Allocator + Copy> Draft<A> {
             singles: mut changes,
             sums,
         } = self;
-        sums.list_records(&mut changes)?;
-        sums.list_unsent(&mut changes)?;
+        sums.list(&mut changes)?;
         Ok(changes)
     }
 }

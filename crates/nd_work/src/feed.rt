@@ -34,9 +34,10 @@ fn token_point(vertex: usize, epoch: u32) -> Pointstamp
     }
 }
 
-// What the move of processor p's token adds.
+// What the move of processor p's token adds, at a feed by which so many records come.
 fn token_draft<A: Allocator + Copy>(
     alloc: A,
+    count: usize,
     p: u32,
     vertex: usize,
     epoch: u32,
@@ -47,7 +48,7 @@ fn token_draft<A: Allocator + Copy>(
     ensures small { IfOk result (λ d. IsSmall 2 d) }
     ensures p { IfOk result (λ d. d.sums.p ≡ p) }
 {
-    let mut draft = Draft::new(alloc, p);
+    let mut draft = Draft::new(alloc, p, count);
     match next {
         Next::Stay => Ok(draft),
         Next::Close => {
@@ -93,7 +94,7 @@ fn feed_draft<A: Allocator + Copy, B: Allocator>(
 {
     let time = Timestamp::new(epoch, &[]).unwrap();
     let come = fed_records(alloc, graph, n, p, vertex, &time, values)?;
-    let mut draft = token_draft(alloc, p, vertex, epoch, next)?;
+    let mut draft = token_draft(alloc, come.len(), p, vertex, epoch, next)?;
     draft.add_come(&come)?;
     Ok(draft)
 }

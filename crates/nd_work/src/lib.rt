@@ -7,6 +7,7 @@ mod feed;
 mod key;
 mod net;
 mod react;
+mod store;
 
 pub use feed::feed_changes;
 pub(crate) use key::RecordAt;

@@ -8,7 +8,8 @@ ghost use Rattle.nd_work.specs.Drafts.{record_change as change_of_records, unsen
 ghost use Rattle.nd_work.specs.Sums.{AreSums, IsAdded, found, AreSummed, IsMore, AddsAll, sum_at};
 
 use crate::RecordAt;
-use nd_map::{Key, TreeMap};
+use crate::store::Store;
+use nd_map::Key;
 use nd_paths::Pointstamp;
 use nd_processor::ValueAt;
 use nd_record::Change;
@@ -17,8 +18,8 @@ use std::alloc::{AllocError, Allocator};
 // By how much the processor p of a step changes the records of all, and its own unsent entries.
 pub(crate) struct Sums<A: Allocator> {
     pub(crate) p: u32,
-    pub(crate) records: TreeMap<RecordAt, i64, A>,
-    pub(crate) unsent: TreeMap<Pointstamp, i64, A>,
+    pub(crate) records: Store<RecordAt, A>,
+    pub(crate) unsent: Store<Pointstamp, A>,
 }
 
 impl<A: Allocator> Drop for Sums<A> {
@@ -32,7 +33,7 @@ impl<A: Allocator> Drop for Sums<A> {
 }
 
 // The sum at a key.
-fn find_in<K: Key, A: Allocator>(sums: &TreeMap<K, i64, A>, key: &K) -> i64
+fn find_in<K: Key, A: Allocator + Copy>(sums: &Store<K, A>, key: &K) -> i64
     requires { AreSums K.cmp sums.now }
     ensures value { result ≡ found K.cmp sums.now key.now }
     ensures within { unsigned_abs result ≤ max_count }
@@ -45,7 +46,7 @@ fn find_in<K: Key, A: Allocator>(sums: &TreeMap<K, i64, A>, key: &K) -> i64
 
 // An integer more at a key. If nothing is left the key goes.
 fn add_in<K: Key, A: Allocator + Copy>(
-    sums: &mut TreeMap<K, i64, A>,
+    sums: &mut Store<K, A>,
     key: &K,
     n: i64,
 ) -> Result<(), AllocError>
@@ -65,41 +66,17 @@ fn add_in<K: Key, A: Allocator + Copy>(
     Ok(())
 }
 
-// The change that adds so many records.
-fn record_change(at: &RecordAt, n: &i64) -> Change
-    ensures { result ≡ change_of_records (at.now, n.now) }
-{
-    Change::Records {
-        p: at.p,
-        edge: at.key.point.location,
-        time: at.key.point.time.copy(),
-        value: at.key.value,
-        n: *n,
-    }
-}
-
-// The change that adds so much to what processor p is to send.
-fn unsent_change(p: u32, point: &Pointstamp, n: &i64) -> Change
-    ensures { result ≡ change_of_unsent p (point.now, n.now) }
-{
-    Change::Unsent {
-        p,
-        point: point.copy(),
-        n: *n,
-    }
-}
-
 impl<A: Allocator + Copy> Sums<A> {
-    // No change yet.
-    pub(crate) fn new(alloc: A, p: u32) -> Sums<A>
+    // No change yet, of a step by which so many records come.
+    pub(crate) fn new(alloc: A, p: u32, count: usize) -> Sums<A>
         ensures kept { AreSummed result }
         ensures p { result.p ≡ p }
         ensures nothing { (k : Place) → sum_at result k ≡ pos 0 }
     {
         Sums {
             p,
-            records: TreeMap::new(alloc),
-            unsent: TreeMap::new(alloc),
+            records: Store::new(alloc, count),
+            unsent: Store::new(alloc, count),
         }
     }
 
@@ -145,23 +122,12 @@ impl<A: Allocator + Copy> Sums<A> {
         Ok(())
     }
 
-    // The changes of records, after those that are there.
-    pub(crate) fn list_records(&self, to: &mut Vec<Change, A>) -> Result<(), AllocError>
-        ensures { OnOk result (to.new.items ≡ to.old.items ++ map change_of_records self.now.records) }
+    // The changes of records and of unsent entries, after those that are there.
+    pub(crate) fn list(&self, to: &mut Vec<Change, A>) -> Result<(), AllocError>
+        ensures { OnOk result (to.new.items ≡ (to.old.items ++ map change_of_records self.now.records) ++ map (change_of_unsent self.now.p) self.now.unsent) }
     {
-        for (at, n) in self.records.iter() {
-            to.push(record_change(at, n))?;
-        }
-        Ok(())
-    }
-
-    // The changes of unsent entries, after those that are there.
-    pub(crate) fn list_unsent(&self, to: &mut Vec<Change, A>) -> Result<(), AllocError>
-        ensures { OnOk result (to.new.items ≡ to.old.items ++ map (change_of_unsent self.now.p) self.now.unsent) }
-    {
-        for (point, n) in self.unsent.iter() {
-            to.push(unsent_change(self.p, point, n))?;
-        }
+        self.records.list(self.p, to)?;
+        self.unsent.list(self.p, to)?;
         Ok(())
     }
 }

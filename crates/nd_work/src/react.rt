@@ -64,7 +64,7 @@ fn take_draft<A: Allocator + Copy, B: Allocator>(
         location: target,
         time: key.point.time.copy(),
     };
-    let mut draft = Draft::new(alloc, p);
+    let mut draft = Draft::new(alloc, p, come.len());
     draft.add_record(p, key, -1)?;
     draft.add_unsent(&key.point, -1)?;
     let request = ask(&mut draft, &point, asks)?;
@@ -88,7 +88,7 @@ fn notice_draft<A: Allocator + Copy, B: Allocator>(
     ensures { IfOk result (λ d. (s : ClusterState) → Has graph.now n s → NoticesSo s p point.now effect.now → AddsUp s (noticed_edits s p point.now.location point.now.time) d) }
 {
     let come = emitted_records(alloc, graph, n, p, point.location, &effect.emits)?;
-    let mut draft = Draft::new(alloc, p);
+    let mut draft = Draft::new(alloc, p, come.len());
     draft.add_unsent(point, -1)?;
     draft.push_vertex(p, point, Some(false), &effect.items, None)?;
     draft.add_come(&come)?;

@@ -1,4 +1,4 @@
-use Rattle.std.proofs.Common.{◌≡◌, ◌<◌, ℤ, neg_ℤ, length, Some, w64, to_z, of_z, sym, ap, ◌∙◌, arith}
+use Rattle.std.proofs.Common.{◌≡◌, ◌<◌, ℤ, length, Some, w64, to_z, of_z, sym, ◌∙◌, arith}
 use Rattle.nd_paths.specs.declared.point.Pointstamp.{Pointstamp}
 use Rattle.nd_record.specs.Listed.{arrives}
 use Rattle.nd_record.specs.declared.listed.Entry.TheVariants.{View, Front}

@@ -1,8 +1,0 @@
-use Rattle.std.proofs.Common.{ℕ, ◌<◌, get_or}
-use Rattle.nd_record.specs.Limits.{CountStaysOf}
-use Rattle.nd_record.specs.declared.change.Change.{Change}
-use Rattle.nd_record.proofs.limits.counts_stay.Given as goal
-
--- the changes so far stay within the limit
-abbrev pub invariant-loop-change : goal.invariant-loop-change
-invariant-loop-change g l = (k : ℕ) (d : Change) → k < l.change-index → CountStaysOf l.processors (get_or l.changes k d)
