@@ -19,12 +19,10 @@ use Rattle.nd_protocol.specs.Fitting.{IsState}
 use Rattle.nd_protocol.specs.Invariant.{KeepsProtocol}
 use Rattle.nd_timeline.specs.Timeline.{TimelineValue, IsTimeline, opened}
 use Rattle.nd_timeline.specs.Moves.{MachineValue, Moves, without_breaks}
-use Rattle.nd_timeline.specs.declared.command.Command.{Command}
-use Rattle.nd_timeline.specs.declared.reply.Reply.{Reply}
 use Rattle.nd_session.specs.declared.receipt.Receipt.{Receipt}
 use Rattle.nd_session.specs.declared.fault.SessionFault.{SessionFault}
 use Rattle.nd_session.specs.declared.fault.SessionFault.TheVariants.{Memory}
-use Rattle.nd_session.specs.Log.{IsStart, count_of, entry_of, IsPlaced, ArePlaced, Leads, IsLegal, opening_of}
+use Rattle.nd_session.specs.Log.{IsStart, count_of, IsPlaced, ArePlaced, Leads, IsLegal, opening_of}
 use Rattle.nd_session.specs.Kept.{AreCounts, IsKept}
 
 -- an element of a longer list is one of the list or the last
@@ -140,11 +138,6 @@ module _ {A : Type 0} where
   pub placed_last : (log : List (Receipt A)) (e : Receipt A) → e.index ≡ length log → e.number ≡ count_of e.client log → IsPlaced log (length log) e
   placed_last log e index number =
       let whole : take (length log) log ≡ log = take-length log in record { index = index; number = rw whole number }
-
-  pub same_entry : (log : List (Receipt A)) (client : ℕ) (command : Command A) (reply : Reply) (e : Receipt A)
-      → e.index ≡ length log → e.client ≡ client → e.number ≡ count_of client log → e.command ≡ command → e.reply ≡ reply → entry_of log client command reply ≡ e
-  same_entry log client command reply e index who number asked told =
-      λ i. record { index = sym index i; client = sym who i; number = sym number i; command = sym asked i; reply = sym told i }
 
   -- the fault is another call's
   pub passed_on : {T : Type 0} (P : SessionFault A → Type 0) (r : Result T (SessionFault A)) (e : SessionFault A) → IsErrAnd r (λ f. f ≡ e) → P e → IfErr r P
