@@ -1,9 +1,10 @@
 -- How a run of a script ends.
-use Rattle.std.proofs.Common.{◌≡◌, ◌≢◌, ◌∙◌, ℕ, ◌+◌, ◌-◌, ◌<◌, ◌≤◌, false, List, [], ◌∷◌, ◌++◌, length, take, drop, refl, Option, Some, None, sym, ap, subst, arith, append_assoc, length-append, Ok, Err}
+use Rattle.std.proofs.Common.{◌≡◌, ◌≢◌, ◌∙◌, ℕ, ◌+◌, ◌-◌, ◌<◌, ◌≤◌, false, List, [], ◌∷◌, ◌++◌, length, take, drop, refl, Some, sym, ap, arith, length-append, Ok, Err}
 use Rattle.std.proofs.lemmas.List.{append-nil, take-append-le, take-take, take_all, length-take}
 use Rattle.std.proofs.Math.Seq.{drop-append_seam, take-append-add}
 use Rattle.std.specs.Io.KnownBytes.{Consumes, IsAtEnd, Keeps}
-use Rattle.rewind_lines.specs.Cuts.{whole_lines-at, whole_lines-newline}
+use Rattle.rewind_lines.specs.Cuts.{whole_lines-newline}
+use Rattle.rewind_lines.specs.Known.{Known, read-failed, read-none, read-on}
 use Rattle.rewind_lines.specs.Lines.{lines_of, whole_lines_of}
 use Rattle.rewind_answers.specs.Answers.{unopened}
 use Rattle.rewind_lines.specs.Faults.{is_read_fault}
@@ -16,33 +17,8 @@ use Rattle.rewind_lines.specs.declared.fault.DebugFault.TheVariants as fault
 use Rattle.rewind.specs.declared.run.Run as declared
 use Rattle.rewind.proofs.StandLaws.{phase_of-goes_on}
 
-abbrev Known : Type 0
-Known = Option (List ℕ)
-
-Consumes-some : (b : Known) (x bs : List ℕ) → Consumes (Some x) b bs → (ys : List ℕ) × (b ≡ Some ys) × (x ≡ bs ++ ys)
-Consumes-some None x bs h = absurd h
-Consumes-some (Some y) x bs h = (y, refl, h)
-
--- what a read left and gave
-read-on : (input taken rest piece : List ℕ) (old new : Known) → input ≡ taken ++ rest → old ≡ Some rest → Consumes old new piece
-    → (more : List ℕ) × (new ≡ Some more) × (input ≡ (taken ++ piece) ++ more)
-read-on input taken rest piece old new whole told h =
-    let c = Consumes-some new rest piece (subst (λ (o : Known). Consumes o new piece) told h) in
-    (c.0, c.1, whole ∙ (ap (λ zs. taken ++ zs) c.2 ∙ sym (append_assoc taken piece c.0)))
-
-at-end : (more : List ℕ) (new : Known) → new ≡ Some more → IsAtEnd new → more ≡ []
-at-end more new e h = subst IsAtEnd e h
-
--- a read that gave none
-read-none : (input taken rest piece : List ℕ) (old new : Known) → input ≡ taken ++ rest → old ≡ Some rest → Consumes old new piece → piece ≡ [] → IsAtEnd new
-    → (new ≡ Some []) × (input ≡ taken)
-read-none input taken rest piece old new whole told h none end =
-    let r = read-on input taken rest piece old new whole told h in
-    let more : r.0 ≡ [] = at-end r.0 new r.1 end in
-    (r.1 ∙ ap Some more, r.2 ∙ (ap (λ zs. (taken ++ piece) ++ zs) more ∙ (append-nil (taken ++ piece) ∙ (ap (λ zs. taken ++ zs) none ∙ append-nil taken))))
-
 -- the lines before the one that is being read are replied to
-abbrev replied-to : (n : ℕ) (done before : List ℕ) (after : Known) (run : declared.Run) (lines : List (List ℕ)) (a : Answered n done before after run) → a.stands.lines ≡ lines
+abbrev replied-to : (n : ℕ) (done before : List ℕ) (after : Known) (run : declared.Run) (lines : List (List ℕ)) (a : Answered n done before after run) → whole_lines_of done ≡ lines
     → RepliedTo n lines before after
 replied-to n done before after run lines a same = record {
   replies = a.stands.replies;
@@ -59,7 +35,7 @@ pub ends-ok : (n limit left : ℕ) (input before : List ℕ) (old new old_text n
 ends-ok n limit left input before old new old_text new_text run next piece g h none end go =
     let r = read-none input g.taken g.rest piece old new g.whole g.told h none end in
     let a = go g.taken g.answered in
-    let ls : a.stands.lines ≡ lines_of input = sym (whole_lines-at (g.taken ++ 10 ∷ []) a.stands.lines a.stands.part a.stands.split) ∙ whole_lines-newline g.taken ∙ ap lines_of (sym r.1) in
+    let ls : whole_lines_of (g.taken ++ 10 ∷ []) ≡ lines_of input = whole_lines-newline g.taken ∙ ap lines_of (sym r.1) in
     let count : left + length g.taken ≡ limit = g.count in
     let size : length input ≡ length g.taken = ap length r.1 in
     record {
@@ -105,14 +81,10 @@ ends-read n limit left input before old new text run g h = record {
   taken = g.taken;
   rest = g.rest;
   whole = g.whole;
-  told = keeps new (subst (λ (o : Known). Keeps o new) g.told h);
+  told = read-failed g.rest old new g.told h;
   within = let count : left + length g.taken ≡ limit = g.count in omega arith;
-  replied = replied-to n g.taken before text run _ g.answered (sym (whole_lines-at g.taken g.answered.stands.lines g.answered.stands.part g.answered.stands.split));
+  replied = replied-to n g.taken before text run (whole_lines_of g.taken) g.answered refl;
 }
-  where
-    keeps : (o : Known) → Keeps (Some g.rest) o → o ≡ Some g.rest
-    keeps None k = absurd k
-    keeps (Some x) k = ap Some k
 
 -- what was taken up to the limit, if more was read than that
 over-limit : (limit left k : ℕ) (taken chunk : List ℕ) → left + length taken ≡ limit → left < k → k ≤ length chunk → take limit (taken ++ take k chunk) ≡ taken ++ take left chunk
@@ -146,7 +118,7 @@ ends-long n limit left input before old new old_text new_text run next chunk k g
       longer = longer;
       told = r.1 ∙ ap Some (sym rest);
       replied = replied-to n (g.taken ++ take left chunk) before new_text next (whole_lines_of (take limit input)) a
-          (sym (ap whole_lines_of front ∙ whole_lines-at (g.taken ++ take left chunk) a.stands.lines a.stands.part a.stands.split));
+          (sym (ap whole_lines_of front));
     }
 
 -- more was read

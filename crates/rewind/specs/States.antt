@@ -1,8 +1,8 @@
 -- How a run under way stands to what was read and written. For the clauses of private functions.
-use Rattle.std.specs.Prelude.{◌≡◌, ◌≢◌, ℕ, ◌+◌, List, [], ◌∷◌, ◌++◌, length, take, Option, Some}
+use Rattle.std.specs.Prelude.{◌≡◌, ◌≢◌, ℕ, ◌+◌, List, [], ◌++◌, length, take, Option, Some}
 use Rattle.serde_json.specs.Data.{Data}
-use Rattle.rewind_lines.specs.Front.{front_of}
-use Rattle.rewind_lines.specs.Lines.{Reading, lines_of}
+use Rattle.rewind_lines.specs.Front.{held_of}
+use Rattle.rewind_lines.specs.Lines.{Reading, whole_lines_of}
 use Rattle.rewind_lines.specs.Texts.{text_of}
 use Rattle.rewind_answers.specs.Answers.{Answers, Phase, refused}
 use Rattle.rewind.specs.Script.{RefusedAt, RepliedTo, Replies, WroteFront}
@@ -11,23 +11,19 @@ use Rattle.rewind_lines.specs.declared.fault.DebugFault.{DebugFault}
 use Rattle.rewind_lines.specs.declared.fault.DebugFault.TheVariants as fault
 use Rattle.rewind.specs.declared.run.Run.{Run}
 
--- a line's replies, as text and by their number
-pub record AnswersText (old : Phase) (number : ℕ) (reading : Reading) (text : List ℕ) (count : ℕ) (new : Phase) : Type 0 where
+-- a line's replies, put behind what waited, and their number
+pub record Gathers (old : Phase) (number : ℕ) (reading : Reading) (waited waits : List ℕ) (count : ℕ) (new : Phase) : Type 0 where
   pub replies : List Data
   pub answers : Answers old number reading replies new
-  pub is_text : text ≡ text_of replies
+  pub gathered : waits ≡ waited ++ text_of replies
   pub is_count : count ≡ length replies
 
 -- `done` was read, and the replies to its whole lines are `sent`, and then those that wait
 pub record Stands (processors : ℕ) (done sent : List ℕ) (run : Run) : Type 0 where
-  pub lines : List (List ℕ)
-  pub part : List ℕ
   pub replies : List Data
-  pub split : lines_of done ≡ lines ++ part ∷ []
-  pub held : run.line ≡ front_of part
-  pub ran : Replies processors lines replies (phase_of run.stage)
-  pub text : text_of replies ≡ sent ++ run.waiting.items
-  pub number : run.number ≡ length lines + 1
+  pub held : run.lines ≡ held_of done
+  pub ran : Replies processors (whole_lines_of done) replies (phase_of run.stage)
+  pub text : text_of replies ≡ sent ++ run.outbox
   pub replied : run.replied ≡ length replies
 
 -- a run whose graph was refused, or for which memory ran out
@@ -47,14 +43,14 @@ pub record Stopped (processors : ℕ) (lines : List (List ℕ)) (sent : List ℕ
   pub phase : Phase
   pub ran : Replies processors (take count lines) replies phase
   pub stops : StopsIn e phase
-  pub text : text_of replies ≡ sent ++ run.waiting.items
+  pub text : text_of replies ≡ sent ++ run.outbox
 
 -- `done` was read, no reply waits, and the writer held `before` and holds `after`
 pub record Answered (processors : ℕ) (done before : List ℕ) (after : Option (List ℕ)) (run : Run) : Type 0 where
   pub sent : List ℕ
   pub stands : Stands processors done sent run
   pub written : after ≡ Some (before ++ sent)
-  pub none_waits : run.waiting.items ≡ []
+  pub none_waits : run.outbox ≡ []
 
 -- a run of these lines ended with a fault
 unfoldable pub Faulted : ℕ → List (List ℕ) → List ℕ → Option (List ℕ) → DebugFault → Type 0

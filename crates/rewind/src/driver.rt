@@ -1,11 +1,11 @@
 //! A script from a source of bytes, its replies to a sink of bytes.
-ghost use Rattle.std.specs.Prelude.{◌≡◌, ◌≢◌, ◌+◌, ◌-◌, ◌<◌, ◌≤◌, ◌^◌, ℕ, List, Some, false, true, length, take, IfErr, OnOk};
+ghost use Rattle.std.specs.Prelude.{◌≡◌, ◌≢◌, ◌+◌, ◌-◌, ◌<◌, ◌≤◌, ◌^◌, ℕ, List, Some, false, true, IfErr, OnOk};
 ghost use Rattle.nd_time.specs.Limits.{max_input};
 ghost use Rattle.rewind_lines.specs.Faults.{is_read_fault, is_write_fault};
 ghost use Rattle.rewind.specs.Script.{Ends, Takes};
 
 use crate::run::Run;
-use rewind_lines::{DebugFault, Options, Sink, Source};
+use rewind_lines::{DebugFault, Options, Sink, Source, front, read_into};
 use std::alloc::Global;
 use std::thread::Threads;
 
@@ -14,13 +14,6 @@ pub const INPUT_LIMIT: usize = 268_435_456;
 
 /// The most bytes that are read at a time: a line of any length that is read as JSON, and its newline.
 const CHUNK: usize = 65_537;
-
-fn front(bytes: &[u8], n: usize) -> &[u8]
-    requires { n ≤ length bytes.now }
-    ensures { result.now ≡ take n bytes.now }
-{
-    &bytes[..n]
-}
 
 /// Runs the script of one client, and answers the number of lines replied to.
 ///
@@ -84,7 +77,7 @@ pub fn debug_within<R: Threads + Sync, S: Source, T: Sink>(
     'reads: loop {
         // The byte past the limit tells that the input goes on.
         let most = CHUNK.min(left + 1);
-        let n = run.read(source, chunk, most)?;
+        let n = read_into(source, chunk, most)?;
         if n == 0 {
             run.finish(rt, sink)?;
             return Ok(run.replied());

@@ -1,22 +1,17 @@
 -- The lines of a log and of faults, gathered one after another.
-use Rattle.std.proofs.Common.{◌≡◌, ◌∙◌, ℕ, zero, suc, ◌+◌, ◌<◌, List, [], ◌∷◌, ◌++◌, length, take, drop, get_or, map, Some, None, refl, sym, ap, arith, append_assoc}
+use Rattle.std.proofs.Common.{◌≡◌, ◌∙◌, ℕ, ◌+◌, ◌<◌, List, [], ◌∷◌, ◌++◌, length, take, drop, get_or, map, Some, None, refl, sym, ap, arith, append_assoc}
 use Rattle.std.proofs.lemmas.List.{length-take, map-append, take-append-drop, take_more}
 use Rattle.std.proofs.Math.Seq.{take-append_seam}
 use Rattle.serde_json.specs.Data.{Data}
+use Rattle.rewind_lines.specs.Cuts.{take-clip}
+use Rattle.rewind_lines.specs.Known.{Known, text_of-append}
 use Rattle.rewind_lines.specs.Texts.{text_of}
 use Rattle.nd_session.specs.Faults.{number_of, name_of}
 use Rattle.rewind_lines.specs.declared.fault.DebugFault.{DebugFault}
 use Rattle.rewind_lines.specs.declared.fault.DebugFault.TheVariants as fault
-use Rattle.rewind_clients.specs.Outbox.{Gathered, GatherFails, StopsIn}
+use Rattle.rewind_clients.specs.Gathered.{Gathered, GatherFails, StopsIn}
 use Rattle.rewind_clients.specs.Written.{WroteFront, WroteLines}
 use Rattle.rewind_clients.specs.Told.{Ended, client_fault, faults_data}
-use Rattle.rewind_clients.proofs.OutboxLemmas.{Known, text_of-append}
-
--- a front of a front is a front
-take_clip : (n : ℕ) (xs ys : List ℕ) → take (length (take n xs)) (xs ++ ys) ≡ take n xs
-take_clip zero xs ys = refl
-take_clip (suc n) [] ys = refl
-take_clip (suc n) (x ∷ xs) ys = ap (λ zs. x ∷ zs) (take_clip n xs ys)
 
 -- what was gathered of some replies was written in whole lines
 pub lines-of : (xs ys all : List Data) (waiting before : List ℕ) (after : Known) → Gathered xs waiting before after → xs ++ ys ≡ all → WroteLines all before after
@@ -34,7 +29,7 @@ front-of xs ys all before after h same = record {
   written = h.written
       ∙ ap (λ (t : List ℕ). Some (before ++ t))
       (sym (ap (λ (rs : List Data). take (length (take h.count (text_of xs))) (text_of rs)) (sym same)
-      ∙ (ap (take (length (take h.count (text_of xs)))) (text_of-append xs ys) ∙ take_clip h.count (text_of xs) (text_of ys))));
+      ∙ (ap (take (length (take h.count (text_of xs)))) (text_of-append xs ys) ∙ take-clip h.count (text_of xs) (text_of ys))));
 }
 
 -- the gathering of one reply failed

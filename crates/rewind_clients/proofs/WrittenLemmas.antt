@@ -1,8 +1,10 @@
 -- What is written of a script, by how far its run came.
-use Rattle.std.proofs.Common.{◌≡◌, ◌∙◌, ℕ, zero, suc, ◌+◌, List, [], ◌∷◌, ◌++◌, length, take, Option, Some, None, Result, Err, Ok, OnOk, IfErr, false, refl, sym, ap, append_assoc}
+use Rattle.std.proofs.Common.{◌≡◌, ◌∙◌, ℕ, ◌+◌, List, [], ◌∷◌, ◌++◌, length, take, Option, Some, None, Result, Err, Ok, OnOk, IfErr, false, refl, sym, ap, append_assoc}
 use Rattle.std.proofs.lemmas.List.{append-nil}
 use Rattle.std.proofs.Math.Seq.{take-append-add, take-append_seam}
 use Rattle.serde_json.specs.Data.{Data}
+use Rattle.rewind_lines.specs.Cuts.{take-clip}
+use Rattle.rewind_lines.specs.Known.{Known, text_of-append}
 use Rattle.rewind_lines.specs.Texts.{text_of}
 use Rattle.rewind_forms.specs.declared.version.Version.{Version}
 use Rattle.rewind_answers.specs.Answers.{Logged}
@@ -12,12 +14,11 @@ use Rattle.rewind_lines.specs.declared.fault.DebugFault.TheVariants as fault
 use Rattle.rewind_clients.specs.Clients.{Replies, Writes}
 use Rattle.rewind_clients.specs.Intake.{Commands, Intake, nothing, refused_graph, faulty_line, script}
 use Rattle.rewind_clients.specs.Intakes.{unstarted_view, version_replies}
-use Rattle.rewind_clients.specs.Outbox.{Gathered, StopsIn}
+use Rattle.rewind_clients.specs.Gathered.{Gathered, StopsIn}
 use Rattle.rewind_clients.specs.Readers.{IsOfReading}
 use Rattle.rewind_clients.specs.Served.{IsOfDriving}
 use Rattle.rewind_clients.specs.Told.{Tells}
 use Rattle.rewind_clients.specs.Written.{WroteFront, WroteLines}
-use Rattle.rewind_clients.proofs.OutboxLemmas.{Known, text_of-append}
 use Rattle.rewind_clients.proofs.ToldLemmas.{front-of}
 
 -- ---- an outbox at its beginning and its end
@@ -33,15 +34,10 @@ all-written replies waiting before after h none =
 
 -- ---- a part of the replies, and all of them
 
-clip : (n : ℕ) (xs ys : List Data) → take (length (take n xs)) (xs ++ ys) ≡ take n xs
-clip zero xs ys = refl
-clip (suc n) [] ys = refl
-clip (suc n) (x ∷ xs) ys = ap (λ zs. x ∷ zs) (clip n xs ys)
-
 lines-before : (xs ys : List Data) (before : List ℕ) (after : Known) → WroteLines xs before after → WroteLines (xs ++ ys) before after
 lines-before xs ys before after h = record {
   count = length (take h.count xs);
-  written = h.written ∙ ap (λ (rs : List Data). Some (before ++ text_of rs)) (sym (clip h.count xs ys));
+  written = h.written ∙ ap (λ (rs : List Data). Some (before ++ text_of rs)) (sym (take-clip h.count xs ys));
 }
 
 -- it stops in some replies, and in more

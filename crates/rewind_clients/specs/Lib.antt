@@ -1,9 +1,9 @@
 pub mod Clients
+pub mod Gathered
 pub mod Intake
 pub mod Intakes
 pub mod Numbers
 pub mod Orders
-pub mod Outbox
 pub mod Readers
 pub mod Served
 pub mod Told

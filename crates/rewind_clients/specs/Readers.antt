@@ -1,7 +1,7 @@
 -- How a script that is being read stands. For the clauses of private functions.
-use Rattle.std.specs.Prelude.{◌≡◌, ℕ, ◌+◌, List, ◌∷◌, [], ◌++◌, length, Option, Some}
-use Rattle.rewind_lines.specs.Front.{front_of}
-use Rattle.rewind_lines.specs.Lines.{lines_of}
+use Rattle.std.specs.Prelude.{◌≡◌, ℕ, ◌+◌, List, ◌++◌, length, Option, Some}
+use Rattle.rewind_lines.specs.Front.{held_of}
+use Rattle.rewind_lines.specs.Lines.{whole_lines_of}
 use Rattle.rewind_lines.specs.declared.fault.DebugFault.{DebugFault}
 use Rattle.rewind_lines.specs.declared.fault.DebugFault.TheVariants as fault
 use Rattle.rewind_lines.specs.declared.options.Options.{Options}
@@ -11,12 +11,8 @@ use Rattle.rewind_clients.specs.declared.reader.Reader.{Reader}
 
 -- `done` was read, and its whole lines were taken in
 pub record StandsAt (options : Options) (done : List ℕ) (reader : Reader) : Type 0 where
-  pub lines : List (List ℕ)
-  pub part : List ℕ
-  pub split : lines_of done ≡ lines ++ part ∷ []
-  pub held : reader.line ≡ front_of part
-  pub reads : Reads options.processors options.clients nothing 1 lines (intake_view reader.intake)
-  pub number : reader.number ≡ length lines + 1
+  pub held : reader.lines ≡ held_of done
+  pub reads : Reads options.processors options.clients nothing 1 (whole_lines_of done) (intake_view reader.intake)
   pub same : reader.options ≡ options
 
 -- `taken` of the input was read, and so many bytes more may be read

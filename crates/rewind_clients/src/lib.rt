@@ -3,10 +3,10 @@
 
 mod clients;
 mod drive;
+mod gather;
 mod intake;
 mod numbers;
 mod order;
-mod outbox;
 mod reader;
 mod same;
 mod shown;

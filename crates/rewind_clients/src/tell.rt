@@ -7,15 +7,15 @@ ghost use Rattle.nd_session.specs.Faults.{number_of, name_of};
 ghost use Rattle.rewind_lines.specs.Texts.{text_of};
 ghost use Rattle.rewind_lines.specs.Faults.{is_write_fault};
 ghost use Rattle.rewind_clients.specs.Intakes.{version_replies};
-ghost use Rattle.rewind_clients.specs.Outbox.{Gathered, IsOfWriting, StopsIn};
+ghost use Rattle.rewind_clients.specs.Gathered.{Gathered, IsOfWriting, StopsIn};
 ghost use Rattle.rewind_clients.specs.Told.{client_fault, entry_data, faults_data, lines_data};
 
-use crate::outbox::Outbox;
+use crate::gather::{flush, put};
 use crate::shown::Shown;
 use nd_graph::Graph;
 use nd_session::{Receipt, SessionFault};
 use rewind_forms::{Version, replies};
-use rewind_lines::{DebugFault, Sink};
+use rewind_lines::{DebugFault, Outbox, Sink};
 use serde_json::{Value, json};
 use std::alloc::{AllocError, Global};
 
@@ -46,17 +46,17 @@ pub fn put_log<T: Sink>(
 ) -> Result<(), DebugFault>
     requires sound { T.failed sink.old ≡ false }
     ensures ok { OnOk result ((replies : List Data) (before : List ℕ)
-        → Gathered replies outbox.old.waiting.items before (T.contents sink.old)
-        → Gathered (replies ++ map (entry_data graph.now) log.now) outbox.new.waiting.items before (T.contents sink.new)) }
+        → Gathered replies outbox.old before (T.contents sink.old)
+        → Gathered (replies ++ map (entry_data graph.now) log.now) outbox.new before (T.contents sink.new)) }
     ensures err { IfErr result (λ e. (replies : List Data) (before : List ℕ)
-        → Gathered replies outbox.old.waiting.items before (T.contents sink.old)
+        → Gathered replies outbox.old before (T.contents sink.old)
         → StopsIn (replies ++ map (entry_data graph.now) log.now) before (T.contents sink.new) e) }
     ensures kind { IfErr result IsOfWriting }
     ensures failed { T.failed sink.new ≡ is_write_fault result }
 {
     for entry in log {
         let value = entry_value(alloc, graph, entry)?;
-        outbox.put(sink, &value)?;
+        put(outbox, sink, &value)?;
     }
     Ok(())
 }
@@ -71,10 +71,10 @@ fn put_fault<T: Sink>(
 ) -> Result<(), DebugFault>
     requires sound { T.failed sink.old ≡ false }
     ensures ok { OnOk result ((replies : List Data) (before : List ℕ)
-        → Gathered replies outbox.old.waiting.items before (T.contents sink.old)
-        → Gathered (replies ++ faults_data client (fault.now ∷ [])) outbox.new.waiting.items before (T.contents sink.new)) }
+        → Gathered replies outbox.old before (T.contents sink.old)
+        → Gathered (replies ++ faults_data client (fault.now ∷ [])) outbox.new before (T.contents sink.new)) }
     ensures err { IfErr result (λ e. (replies : List Data) (before : List ℕ)
-        → Gathered replies outbox.old.waiting.items before (T.contents sink.old)
+        → Gathered replies outbox.old before (T.contents sink.old)
         → StopsIn (replies ++ faults_data client (fault.now ∷ [])) before (T.contents sink.new) e) }
     ensures kind { IfErr result IsOfWriting }
     ensures failed { T.failed sink.new ≡ is_write_fault result }
@@ -83,7 +83,7 @@ fn put_fault<T: Sink>(
         return Ok(());
     };
     let value = fault_value(alloc, client, fault)?;
-    outbox.put(sink, &value)?;
+    put(outbox, sink, &value)?;
     Ok(())
 }
 
@@ -96,10 +96,10 @@ pub fn put_faults<T: Sink>(
 ) -> Result<(), DebugFault>
     requires sound { T.failed sink.old ≡ false }
     ensures ok { OnOk result ((replies : List Data) (before : List ℕ)
-        → Gathered replies outbox.old.waiting.items before (T.contents sink.old)
-        → Gathered (replies ++ faults_data 0 faults.now) outbox.new.waiting.items before (T.contents sink.new)) }
+        → Gathered replies outbox.old before (T.contents sink.old)
+        → Gathered (replies ++ faults_data 0 faults.now) outbox.new before (T.contents sink.new)) }
     ensures err { IfErr result (λ e. (replies : List Data) (before : List ℕ)
-        → Gathered replies outbox.old.waiting.items before (T.contents sink.old)
+        → Gathered replies outbox.old before (T.contents sink.old)
         → StopsIn (replies ++ faults_data 0 faults.now) before (T.contents sink.new) e) }
     ensures kind { IfErr result IsOfWriting }
     ensures failed { T.failed sink.new ≡ is_write_fault result }
@@ -121,8 +121,8 @@ pub fn tell_one<T: Sink>(alloc: Global, sink: &mut T, reply: &Shown) -> Result<(
     ensures failed { T.failed sink.new ≡ is_write_fault result }
 {
     let mut outbox = Outbox::new(alloc);
-    outbox.put(sink, reply.value())?;
-    outbox.flush(sink)?;
+    put(&mut outbox, sink, reply.value())?;
+    flush(&mut outbox, sink)?;
     Ok(())
 }
 
@@ -135,10 +135,10 @@ fn put_version<T: Sink>(
 ) -> Result<(), DebugFault>
     requires sound { T.failed sink.old ≡ false }
     ensures ok { OnOk result ((replies : List Data) (before : List ℕ)
-        → Gathered replies outbox.old.waiting.items before (T.contents sink.old)
-        → Gathered (replies ++ version_replies opened) outbox.new.waiting.items before (T.contents sink.new)) }
+        → Gathered replies outbox.old before (T.contents sink.old)
+        → Gathered (replies ++ version_replies opened) outbox.new before (T.contents sink.new)) }
     ensures err { IfErr result (λ e. (replies : List Data) (before : List ℕ)
-        → Gathered replies outbox.old.waiting.items before (T.contents sink.old)
+        → Gathered replies outbox.old before (T.contents sink.old)
         → StopsIn (replies ++ version_replies opened) before (T.contents sink.new) e) }
     ensures kind { IfErr result IsOfWriting }
     ensures failed { T.failed sink.new ≡ is_write_fault result }
@@ -147,7 +147,7 @@ fn put_version<T: Sink>(
         return Ok(());
     };
     let reply = replies::version(alloc, version.number())?;
-    outbox.put(sink, &reply)?;
+    put(outbox, sink, &reply)?;
     Ok(())
 }
 
@@ -167,7 +167,7 @@ pub fn tell_version<T: Sink>(
 {
     let mut outbox = Outbox::new(alloc);
     put_version(alloc, &mut outbox, sink, opened)?;
-    outbox.flush(sink)?;
+    flush(&mut outbox, sink)?;
     Ok(())
 }
 
@@ -188,8 +188,8 @@ pub fn tell_opening<T: Sink>(
 {
     let mut outbox = Outbox::new(alloc);
     put_version(alloc, &mut outbox, sink, opened)?;
-    outbox.put(sink, graph.value())?;
-    outbox.flush(sink)?;
+    put(&mut outbox, sink, graph.value())?;
+    flush(&mut outbox, sink)?;
     Ok(())
 }
 
@@ -212,6 +212,6 @@ pub fn tell_log<T: Sink>(
     let mut outbox = Outbox::new(alloc);
     put_log(alloc, &mut outbox, sink, graph, log)?;
     put_faults(alloc, &mut outbox, sink, faults)?;
-    outbox.flush(sink)?;
+    flush(&mut outbox, sink)?;
     Ok(())
 }

@@ -1,3 +1,4 @@
-pub mod Known
 pub mod LineLaws
+pub mod ReaderLaws
+pub mod Refuses
 pub mod Turns

@@ -1,8 +1,10 @@
 -- The line that is being read.
-use Rattle.std.proofs.Common.{◌≡◌, ◌∙◌, ℕ, ◌<◌, ◌≤◌, ◌&&◌, Bool, true, false, cond, List, [], ◌∷◌, ◌++◌, length, take, Option, None, refl, sym, ap, arith, length-append}
-use Rattle.std.proofs.lemmas.List.{length-take, take_all, take-append-le}
+use Rattle.std.proofs.Common.{◌≡◌, ◌∙◌, ◌⊎◌, inl, inr, ℕ, ◌+◌, ◌-◌, ◌<◌, ◌≤◌, min, ◌&&◌, ◌||◌, Bool, true, false, cond, List, ◌++◌, length, take, Option, None, refl, sym, ap, arith, length-append}
+use Rattle.std.proofs.lemmas.List.{append-nil, length-take, take_all, take_min, take-append-le}
 use Rattle.std.proofs.lemmas.List.Folds.{list_all-append}
-use Rattle.std.proofs.lemmas.Bool.{lt-ltb, le-ltb, ltb-false}
+use Rattle.std.proofs.lemmas.Bool.{cases_lt, ltb-false}
+use Rattle.std.proofs.lemmas.Bool.Decides.{nat_tests}
+use Rattle.std.proofs.Math.Seq.{take-append-add}
 use Rattle.std.proofs.lemmas.Str.{is_utf8-from_IsUtf8, IsUtf8-from_is_utf8}
 use Rattle.std.specs.List.{list_all}
 use Rattle.std.specs.Prelude.{nat_lt}
@@ -25,13 +27,20 @@ json_of-none bs h = go (is_utf8 bs) refl
     go true e = absurd (h (IsUtf8-from_is_utf8 bs e))
     go false e = rw e refl
 
--- one more byte of a line that was blank, or wasn't
-blank_more : (line : List ℕ) (b : ℕ) (was : Bool) → was ≡ list_all is_blank_byte line → (was && is_blank_byte b) ≡ list_all is_blank_byte (line ++ b ∷ [])
-blank_more line b was e = rw (list_all-append is_blank_byte line (b ∷ []), e) (ap (λ c. list_all is_blank_byte line && c) (sym (and_true (is_blank_byte b))))
+-- the front of a list, and of what follows it
+take-both : (n : ℕ) (xs ys : List ℕ) → take n (xs ++ ys) ≡ take n xs ++ take (n - length xs) ys
+take-both n xs ys = either (cases_lt n (length xs))
   where
-    and_true : (c : Bool) → (c && true) ≡ c
-    and_true true = refl
-    and_true false = refl
+    either : ((n < length xs) ⊎ (length xs ≤ n)) → take n (xs ++ ys) ≡ take n xs ++ take (n - length xs) ys
+    either (inl below) =
+        let none : n - length xs ≡ 0 = omega arith in
+        take-append-le n xs ys (omega arith) ∙ sym (ap (λ m. take n xs ++ take m ys) none ∙ append-nil (take n xs))
+    either (inr above) =
+        let at : n ≡ length xs + (n - length xs) = omega arith in
+        ap (λ m. take m (xs ++ ys)) at ∙ (take-append-add xs ys (n - length xs) ∙ ap (λ zs. zs ++ take (n - length xs) ys) (sym (take_all n xs above)))
+
+longer-more : (m a b : ℕ) → (nat_lt m a || nat_lt (min (m - a) b) b) ≡ nat_lt m (a + b)
+longer-more m a b = grind (arith, nat_tests)
 
 -- what is held, part by part
 kept : (f g : Front) → f.bytes ≡ g.bytes → f.is_longer ≡ g.is_longer → f.is_blank ≡ g.is_blank → f ≡ g
@@ -41,32 +50,24 @@ kept f g bytes longer is_blank =
     made : List ℕ → Bool → Bool → Front
     made b x y = record { bytes = b; is_longer = x; is_blank = y }
 
--- a byte goes to the front, which has room
-pub holds-front : (held new : Front) (line : List ℕ) (b : ℕ) → held ≡ front_of line → length held.bytes < max_line
-    → new.bytes ≡ held.bytes ++ b ∷ [] → new.is_longer ≡ held.is_longer → new.is_blank ≡ (held.is_blank && is_blank_byte b)
-    → new ≡ front_of (line ++ b ∷ [])
-holds-front held new line b h room front longer is_blank =
+-- the bytes that still fit go to the front
+pub holds-more : (held new : Front) (line bytes : List ℕ) (k : ℕ) → held ≡ front_of line → k ≡ min (max_line - length held.bytes) (length bytes)
+    → new.bytes ≡ held.bytes ++ take k bytes → new.is_longer ≡ (held.is_longer || nat_lt k (length bytes)) → new.is_blank ≡ (held.is_blank && list_all is_blank_byte bytes)
+    → new ≡ front_of (line ++ bytes)
+holds-more held new line bytes k h fits front longer is_blank =
     let n : length held.bytes ≡ length (take max_line line) = ap (λ f. length f.bytes) h in
-    let short : length line < max_line = omega (arith, length-take max_line line) in
-    let all : held.bytes ≡ line = ap (λ f. f.bytes) h ∙ take_all max_line line (omega arith) in
-    let fits : length (line ++ b ∷ []) ≤ max_line = omega (arith, length-append line (b ∷ [])) in
-    kept new (front_of (line ++ b ∷ []))
-    (front ∙ (ap (λ xs. xs ++ b ∷ []) all ∙ sym (take_all max_line (line ++ b ∷ []) fits)))
-    (longer ∙ (ap (λ f. f.is_longer) h ∙ (le-ltb max_line (length line) (omega arith) ∙ sym (le-ltb max_line (length (line ++ b ∷ [])) fits))))
-    (is_blank ∙ blank_more line b held.is_blank (ap (λ f. f.is_blank) h))
-
--- a byte past the front
-pub holds-longer : (held new : Front) (line : List ℕ) (b : ℕ) → held ≡ front_of line → max_line ≤ length held.bytes
-    → new.bytes ≡ held.bytes → new.is_longer ≡ true → new.is_blank ≡ (held.is_blank && is_blank_byte b)
-    → new ≡ front_of (line ++ b ∷ [])
-holds-longer held new line b h full front longer is_blank =
-    let n : length held.bytes ≡ length (take max_line line) = ap (λ f. length f.bytes) h in
-    let long : max_line ≤ length line = omega (arith, length-take max_line line) in
-    let over : max_line < length (line ++ b ∷ []) = omega (arith, length-append line (b ∷ [])) in
-    kept new (front_of (line ++ b ∷ []))
-    (front ∙ (ap (λ f. f.bytes) h ∙ sym (take-append-le max_line line (b ∷ []) long)))
-    (longer ∙ sym (lt-ltb max_line (length (line ++ b ∷ [])) over))
-    (is_blank ∙ blank_more line b held.is_blank (ap (λ f. f.is_blank) h))
+    let room : max_line - length held.bytes ≡ max_line - length line = omega (arith, length-take max_line line) in
+    let at : k ≡ min (max_line - length line) (length bytes) = fits ∙ ap (λ m. min m (length bytes)) room in
+    kept new (front_of (line ++ bytes))
+    (front
+    ∙ (ap (λ f. f.bytes ++ take k bytes) h
+    ∙ (ap (λ m. take max_line line ++ take m bytes) at
+    ∙ (ap (λ zs. take max_line line ++ zs) (take_min (max_line - length line) bytes) ∙ sym (take-both max_line line bytes)))))
+    (longer
+    ∙ (ap (λ f. f.is_longer || nat_lt k (length bytes)) h
+    ∙ (ap (λ m. nat_lt max_line (length line) || nat_lt m (length bytes)) at
+    ∙ (longer-more max_line (length line) (length bytes) ∙ ap (nat_lt max_line) (sym (length-append line bytes))))))
+    (is_blank ∙ (ap (λ f. f.is_blank && list_all is_blank_byte bytes) h ∙ sym (list_all-append is_blank_byte line bytes)))
 
 pub reading-blank : (held : Front) (line : List ℕ) → held ≡ front_of line → held.is_blank ≡ true → blank ≡ reading_of line
 unfolding reading_of

@@ -1,8 +1,10 @@
 -- Laws of an input that is cut into lines. The last part is the line that is being read; those before it are whole.
-use Rattle.std.proofs.Common.{◌≡◌, ◌∙◌, ℕ, ◌+◌, ◌-◌, Bool, true, false, cond, List, [], ◌∷◌, ◌++◌, length, take, refl, sym, ap, arith, append_assoc, length-append}
+use Rattle.std.proofs.Common.{◌≡◌, ◌∙◌, ℕ, zero, suc, ◌+◌, ◌-◌, ◌||◌, Bool, true, false, cond, List, [], ◌∷◌, ◌++◌, length, take, drop, refl, sym, ap, arith, append_assoc, length-append, take-add}
+use Rattle.std.proofs.lemmas.Bool.{false≢true}
+use Rattle.std.proofs.lemmas.List.{get_or_at, take-append-drop}
 use Rattle.std.proofs.Math.Seq.{take-append_seam}
 use Rattle.std.specs.List.{slice_split, onto_first}
-use Rattle.rewind_lines.specs.Lines.{is_newline, lines_of, whole_lines_of}
+use Rattle.rewind_lines.specs.Lines.{has_newline, is_newline, last_line_of, lines_of, whole_lines_of}
 
 abbrev Parts : Type 0
 Parts = List (List ℕ)
@@ -45,20 +47,76 @@ cut-append (b ∷ xs) ys = rw (cut-append xs ys) (either (is_newline b) (some-pa
     either true s t = rw s.2 refl
     either false s t = rw (s.2, t.2) (onto s.0 s.1 t.0 t.1)
 
-pub lines-empty : lines_of [] ≡ [] ∷ []
+-- bytes with no newline are one part
+cut-none : (bytes : List ℕ) → has_newline bytes ≡ false → cut bytes ≡ bytes ∷ []
+cut-none [] none = refl
+cut-none (b ∷ bytes) none = either (is_newline b) (has_newline bytes) none (cut-none bytes)
+  where
+    either : (ends later : Bool) → (ends || later) ≡ false → (later ≡ false → cut bytes ≡ bytes ∷ []) → cond ends ([] ∷ cut bytes) (onto_first b (cut bytes)) ≡ (b ∷ bytes) ∷ []
+    either true later none alone = absurd (false≢true (sym none))
+    either false later none alone = ap (onto_first b) (alone none)
+
+-- a list that has an element has a last one
+last-of : (first : List ℕ) (more : Parts) → (lines : Parts) × (part : List ℕ) × (first ∷ more ≡ lines ++ part ∷ [])
+last-of first [] = ([], first, refl)
+last-of first (next ∷ more) = let l = last-of next more in (first ∷ l.0, l.1, ap (λ ps. first ∷ ps) l.2)
+
+-- ---- the whole lines, and the last one
+
+whole_lines-at : (done : List ℕ) (lines : Parts) (part : List ℕ) → lines_of done ≡ lines ++ part ∷ [] → whole_lines_of done ≡ lines
+unfolding whole_lines_of
+whole_lines-at done lines part e =
+    let n : length (lines ++ part ∷ []) ≡ length lines + 1 = length-append lines (part ∷ []) in
+    let m : length (lines ++ part ∷ []) - 1 ≡ length lines = omega arith in
+    rw (e, m) (take-append_seam lines (part ∷ []))
+
+last_line-at : (done : List ℕ) (lines : Parts) (part : List ℕ) → lines_of done ≡ lines ++ part ∷ [] → last_line_of done ≡ part
+unfolding last_line_of
+last_line-at done lines part e =
+    let n : length (lines ++ part ∷ []) ≡ length lines + 1 = length-append lines (part ∷ []) in
+    let m : length lines ≡ length (lines ++ part ∷ []) - 1 = omega arith in
+    rw e (get_or_at lines part [] [] (length (lines ++ part ∷ []) - 1) m)
+
+pub lines-split : (done : List ℕ) → lines_of done ≡ whole_lines_of done ++ last_line_of done ∷ []
+unfolding lines_of
+lines-split done =
+    let s = some-part done in
+    let l = last-of s.0 s.1 in
+    let same : cut done ≡ l.0 ++ l.1 ∷ [] = s.2 ∙ l.2 in
+    rw (whole_lines-at done l.0 l.1 same, last_line-at done l.0 l.1 same) same
+
+pub lines-count : (done : List ℕ) → length (lines_of done) ≡ 1 + length (whole_lines_of done)
+lines-count done =
+    let n : length (lines_of done) ≡ length (whole_lines_of done ++ last_line_of done ∷ []) = ap length (lines-split done) in
+    omega (arith, length-append (whole_lines_of done) (last_line_of done ∷ []))
+
+-- nothing was read
+lines-empty : lines_of [] ≡ [] ∷ []
 unfolding lines_of
 lines-empty = refl
 
--- one more byte of a line
-pub lines-byte : (done : List ℕ) (b : ℕ) (ls : List (List ℕ)) (part : List ℕ) → lines_of done ≡ ls ++ part ∷ [] → is_newline b ≡ false
-    → lines_of (done ++ b ∷ []) ≡ ls ++ (part ++ b ∷ []) ∷ []
-unfolding lines_of
-lines-byte done b ls part e other =
-    let one : cut (b ∷ []) ≡ (b ∷ []) ∷ [] = rw other refl in
-    cut-append done (b ∷ []) ∙ rw (e, one) (joined-at ls part (b ∷ []) [])
+pub whole_lines-empty : whole_lines_of [] ≡ []
+whole_lines-empty = whole_lines-at [] [] [] lines-empty
 
--- a newline, and more after it
-pub lines-newline : (done more : List ℕ) → lines_of (done ++ 10 ∷ more) ≡ lines_of done ++ lines_of more
+pub last_line-empty : last_line_of [] ≡ []
+last_line-empty = last_line-at [] [] [] lines-empty
+
+-- bytes with no newline go to the last line
+lines-on : (done bytes : List ℕ) → has_newline bytes ≡ false → lines_of (done ++ bytes) ≡ whole_lines_of done ++ (last_line_of done ++ bytes) ∷ []
+unfolding lines_of
+lines-on done bytes none =
+    cut-append done bytes
+    ∙ (ap (λ ps. joined ps (cut bytes)) (lines-split done)
+    ∙ (ap (joined (whole_lines_of done ++ last_line_of done ∷ [])) (cut-none bytes none) ∙ joined-at (whole_lines_of done) (last_line_of done) bytes []))
+
+pub whole_lines-on : (done bytes : List ℕ) → has_newline bytes ≡ false → whole_lines_of (done ++ bytes) ≡ whole_lines_of done
+whole_lines-on done bytes none = whole_lines-at (done ++ bytes) (whole_lines_of done) (last_line_of done ++ bytes) (lines-on done bytes none)
+
+pub last_line-on : (done bytes : List ℕ) → has_newline bytes ≡ false → last_line_of (done ++ bytes) ≡ last_line_of done ++ bytes
+last_line-on done bytes none = last_line-at (done ++ bytes) (whole_lines_of done) (last_line_of done ++ bytes) (lines-on done bytes none)
+
+-- a newline ends the last line, and begins one
+lines-newline : (done more : List ℕ) → lines_of (done ++ 10 ∷ more) ≡ lines_of done ++ lines_of more
 unfolding lines_of
 lines-newline [] more = refl
 lines-newline (b ∷ done) more = rw (lines-newline done more) (either (is_newline b) (some-part done))
@@ -68,42 +126,50 @@ lines-newline (b ∷ done) more = rw (lines-newline done more) (either (is_newli
     either true s = refl
     either false s = rw s.2 refl
 
--- whole lines stay, whatever follows
-pub lines-front : (done more : List ℕ) (ls : List (List ℕ)) (part : List ℕ) → lines_of done ≡ ls ++ part ∷ [] → take (length ls) (lines_of (done ++ more)) ≡ ls
-unfolding lines_of
-lines-front done more ls part e =
-    let s = some-part more in
-    rw (cut-append done more, e, s.2, joined-at ls part s.0 s.1) (take-append_seam ls _)
+lines-ended : (done : List ℕ) → lines_of (done ++ 10 ∷ []) ≡ lines_of done ++ [] ∷ []
+lines-ended done = lines-newline done [] ∙ ap (λ ls. lines_of done ++ ls) lines-empty
 
--- the whole lines are all but the last part
-pub whole_lines-at : (done : List ℕ) (ls : List (List ℕ)) (part : List ℕ) → lines_of done ≡ ls ++ part ∷ [] → whole_lines_of done ≡ ls
-unfolding whole_lines_of
-whole_lines-at done ls part e =
-    let n : length (ls ++ part ∷ []) ≡ length ls + 1 = length-append ls (part ∷ []) in
-    let m : length (ls ++ part ∷ []) - 1 ≡ length ls = omega arith in
-    rw (e, m) (take-append_seam ls (part ∷ []))
-
--- up to a newline all lines are whole
 pub whole_lines-newline : (done : List ℕ) → whole_lines_of (done ++ 10 ∷ []) ≡ lines_of done
-whole_lines-newline done = whole_lines-at (done ++ 10 ∷ []) (lines_of done) [] (lines-newline done [] ∙ ap (λ ls. lines_of done ++ ls) lines-empty)
+whole_lines-newline done = whole_lines-at (done ++ 10 ∷ []) (lines_of done) [] (lines-ended done)
 
--- a list that has an element has a last one
-last-of : (first : List ℕ) (more : Parts) → (lines : Parts) × (part : List ℕ) × (first ∷ more ≡ lines ++ part ∷ [])
-last-of first [] = ([], first, refl)
-last-of first (next ∷ more) = let l = last-of next more in (first ∷ l.0, l.1, ap (λ ps. first ∷ ps) l.2)
-
-whole_lines-cut : (input : List ℕ) (lines : Parts) (part : List ℕ) → cut input ≡ lines ++ part ∷ [] → whole_lines_of input ≡ lines
-unfolding lines_of
-whole_lines-cut input lines part e = whole_lines-at input lines part e
+pub last_line-newline : (done : List ℕ) → last_line_of (done ++ 10 ∷ []) ≡ []
+last_line-newline done = last_line-at (done ++ 10 ∷ []) (lines_of done) [] (lines-ended done)
 
 -- whole lines stay whole, whatever follows
 pub whole_lines-more : (done more : List ℕ) → (rest : List (List ℕ)) × (whole_lines_of (done ++ more) ≡ whole_lines_of done ++ rest)
+unfolding lines_of
 whole_lines-more done more =
-    let s = some-part done in
-    let l = last-of s.0 s.1 in
     let m = some-part more in
-    let n = last-of (l.1 ++ m.0) m.1 in
-    let old : cut done ≡ l.0 ++ l.1 ∷ [] = s.2 ∙ l.2 in
-    let new : cut (done ++ more) ≡ (l.0 ++ n.0) ++ n.1 ∷ [] =
-    cut-append done more ∙ rw (old, m.2, joined-at l.0 l.1 m.0 m.1) (ap (λ ps. l.0 ++ ps) n.2 ∙ sym (append_assoc l.0 n.0 (n.1 ∷ []))) in
-    (n.0, whole_lines-cut (done ++ more) (l.0 ++ n.0) n.1 new ∙ ap (λ ps. ps ++ n.0) (sym (whole_lines-cut done l.0 l.1 old)))
+    let n = last-of (last_line_of done ++ m.0) m.1 in
+    let w = whole_lines_of done in
+    let same : cut (done ++ more) ≡ (w ++ n.0) ++ n.1 ∷ [] =
+    cut-append done more
+    ∙ (ap (λ ps. joined ps (cut more)) (lines-split done)
+    ∙ (ap (joined (w ++ last_line_of done ∷ [])) m.2
+    ∙ (joined-at w (last_line_of done) m.0 m.1 ∙ (ap (λ ps. w ++ ps) n.2 ∙ sym (append_assoc w n.0 (n.1 ∷ [])))))) in
+    (n.0, whole_lines-at (done ++ more) (w ++ n.0) n.1 same)
+
+pub whole_lines-front : (done more : List ℕ) → take (length (whole_lines_of done)) (whole_lines_of (done ++ more)) ≡ whole_lines_of done
+whole_lines-front done more =
+    let w = whole_lines-more done more in
+    ap (take (length (whole_lines_of done))) w.1 ∙ take-append_seam (whole_lines_of done) w.0
+
+-- ---- the bytes of a slice
+
+-- those up to one of them, and those from it on
+pub up_to : (done bytes : List ℕ) (from : ℕ) → (done ++ take from bytes) ++ drop from bytes ≡ done ++ bytes
+up_to done bytes from = append_assoc done (take from bytes) (drop from bytes) ∙ ap (λ zs. done ++ zs) (take-append-drop from bytes)
+
+pub up_to-more : (done bytes : List ℕ) (from m : ℕ) → (done ++ take from bytes) ++ take m (drop from bytes) ≡ done ++ take (from + m) bytes
+up_to-more done bytes from m = append_assoc done (take from bytes) (take m (drop from bytes)) ∙ ap (λ zs. done ++ zs) (sym (take-add from m bytes))
+
+-- up to the end of a line
+pub up_to-newline : (done bytes rest : List ℕ) (from n : ℕ) → take n (drop from bytes) ≡ rest ++ 10 ∷ [] → ((done ++ take from bytes) ++ rest) ++ 10 ∷ [] ≡ done ++ take (from + n) bytes
+up_to-newline done bytes rest from n split =
+    append_assoc (done ++ take from bytes) rest (10 ∷ []) ∙ (ap (λ zs. (done ++ take from bytes) ++ zs) (sym split) ∙ up_to-more done bytes from n)
+
+-- a front of a front is a front
+pub take-clip : {A : Type 0} (n : ℕ) (xs ys : List A) → take (length (take n xs)) (xs ++ ys) ≡ take n xs
+take-clip zero xs ys = refl
+take-clip (suc n) [] ys = refl
+take-clip (suc n) (x ∷ xs) ys = ap (λ zs. x ∷ zs) (take-clip n xs ys)

@@ -1,8 +1,8 @@
--- What is held of a line while it is read.
+-- What is held of a script while it is read.
 use Rattle.std.specs.Prelude.{ℕ, Bool, List, length, take, nat_lt}
 use Rattle.std.specs.List.{list_all}
 use Rattle.nd_time.specs.Limits.{max_line}
-use Rattle.rewind_lines.specs.Lines.{is_blank_byte}
+use Rattle.rewind_lines.specs.Lines.{is_blank_byte, last_line_of, lines_of}
 
 -- the first bytes of a line, whether it has more, and whether all of it is blank
 pub record Front : Type 0 where
@@ -17,3 +17,12 @@ front_of line = record {
   is_longer = nat_lt max_line (length line);
   is_blank = list_all is_blank_byte line;
 }
+
+-- what is held of the line that is being read, and its number
+pub record Held : Type 0 where
+  pub line : Front
+  pub number : ℕ
+
+-- what is held once these bytes were read
+abbrev pub held_of : List ℕ → Held
+held_of done = record { line = front_of (last_line_of done); number = length (lines_of done) }

@@ -1,6 +1,7 @@
 pub mod Cuts
 pub mod Faults
 pub mod Front
+pub mod Known
 pub mod Lines
 pub mod Readings
 pub mod Reads

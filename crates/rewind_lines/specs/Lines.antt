@@ -1,6 +1,6 @@
 -- The lines of a script.
-use Rattle.std.specs.Prelude.{ℕ, ◌-◌, ◌==◌, ◌||◌, Bool, List, length, take, if◌then◌else◌, nat_lt, Option, Some, None}
-use Rattle.std.specs.List.{slice_split, list_all}
+use Rattle.std.specs.Prelude.{◌≡◌, ℕ, ◌-◌, ◌<◌, ◌≤◌, ◌==◌, ◌||◌, Bool, false, List, [], ◌∷◌, ◌++◌, length, take, if◌then◌else◌, nat_lt, slice_index_or, Option, Some, None}
+use Rattle.std.specs.List.{slice_split, list_all, list_any}
 use Rattle.std.specs.Str.{is_utf8}
 use Rattle.serde_json.specs.Data.{Data}
 use Rattle.serde_json.specs.Read.{read}
@@ -9,6 +9,17 @@ use Rattle.nd_time.specs.Limits.{max_line}
 abbrev pub is_newline : ℕ → Bool
 is_newline b = b == 10
 
+-- a newline stands among these bytes
+abbrev pub has_newline : List ℕ → Bool
+has_newline bytes = list_any is_newline bytes
+
+-- the first n of these bytes are the rest of a line and its newline
+pub record EndsLine (bytes : List ℕ) (n : ℕ) (rest : List ℕ) : Type 0 where
+  pub some : 0 < n
+  pub within : n ≤ length bytes
+  pub split : take n bytes ≡ rest ++ 10 ∷ []
+  pub one_line : has_newline rest ≡ false
+
 -- the input cut at its newlines: the last part is what stands after the last newline
 unfoldable pub lines_of : List ℕ → List (List ℕ)
 lines_of input = slice_split is_newline input
@@ -16,6 +27,10 @@ lines_of input = slice_split is_newline input
 -- the lines that end in a newline
 unfoldable pub whole_lines_of : List ℕ → List (List ℕ)
 whole_lines_of input = take (length (lines_of input) - 1) (lines_of input)
+
+-- the line after the last newline
+unfoldable pub last_line_of : List ℕ → List ℕ
+last_line_of input = slice_index_or (lines_of input) (length (lines_of input) - 1) []
 
 -- a space, a tab or a carriage return
 abbrev pub is_blank_byte : ℕ → Bool

@@ -1,17 +1,19 @@
 //! The line that is being read.
-ghost use Rattle.std.specs.Prelude.{◌≡◌, ◌≤◌, ◌&&◌, ◌||◌, ◌∷◌, ◌++◌, [], ℕ, List, length, IfOk, IsOk, IsTrue, OnOk, OnErr};
+ghost use Rattle.std.specs.Prelude.{◌≡◌, ◌≤◌, ◌&&◌, ◌||◌, ◌++◌, [], ℕ, List, length, nat_lt, IfOk, IsOk, IsTrue, OnOk, OnErr};
+ghost use Rattle.std.specs.List.{list_all};
 ghost use Rattle.nd_time.specs.Limits.{max_line};
 ghost use Rattle.rewind_lines.specs.Lines.{is_blank_byte, reading_of};
 ghost use Rattle.rewind_lines.specs.Front.{front_of};
 ghost use Rattle.rewind_lines.specs.Readings.{reading_view};
 
 use crate::reading::{Reading, parse};
+use crate::source::front;
 use json::Scratch;
 use std::alloc::{AllocError, Allocator, Global};
 use std::marker::Model;
 
 /// The most bytes of a line, its newline left out.
-pub const LINE_LIMIT: usize = 65_536;
+const LINE_LIMIT: usize = 65_536;
 
 /// The line that is being read, of any length. It holds the line's front, whether the line is
 /// longer than that, and whether it is blank so far.
@@ -42,23 +44,20 @@ impl<A: Allocator> Line<A> {
         }
     }
 
-    /// Reads one more byte of the line.
-    pub fn push(&mut self, byte: u8) -> Result<(), AllocError>
+    /// Reads more bytes of the line.
+    pub fn extend(&mut self, bytes: &[u8]) -> Result<(), AllocError>
         ensures ok { OnOk result ((line : List ℕ) → self.old ≡ front_of line
-            → self.new ≡ front_of (line ++ byte ∷ [])) }
+            → self.new ≡ front_of (line ++ bytes.now)) }
         ensures err { OnErr result (self.new ≡ self.old) }
 
         // Past the limit no memory is taken.
         ensures long { max_line ≤ length self.old.bytes → IsOk result }
     {
-        let is_blank = still_blank(self.is_blank, byte);
-        if self.front.len() >= LINE_LIMIT {
-            self.is_longer = true;
-            self.is_blank = is_blank;
-            return Ok(());
-        }
-        self.front.push(byte)?;
-        self.is_blank = is_blank;
+        let room = LINE_LIMIT.saturating_sub(self.front.len());
+        let fits = room.min(bytes.len());
+        self.front.extend_from_slice(front(bytes, fits))?;
+        self.is_longer = now_longer(self.is_longer, fits, bytes.len());
+        self.is_blank = still_blank(self.is_blank, bytes);
         Ok(())
     }
 
@@ -92,8 +91,22 @@ impl<A: Allocator> Line<A> {
     }
 }
 
-fn still_blank(was_blank: bool, byte: u8) -> bool
-    ensures { result ≡ (was_blank && is_blank_byte byte) }
+fn now_longer(was_longer: bool, fits: usize, len: usize) -> bool
+    ensures { result ≡ (was_longer || nat_lt fits len) }
 {
-    was_blank && (byte == b' ' || byte == b'\t' || byte == b'\r')
+    was_longer || fits < len
+}
+
+fn still_blank(was_blank: bool, bytes: &[u8]) -> bool
+    ensures { result ≡ (was_blank && list_all is_blank_byte bytes.now) }
+{
+    was_blank && are_blank(bytes)
+}
+
+fn are_blank(bytes: &[u8]) -> bool
+    ensures { result ≡ list_all is_blank_byte bytes.now }
+{
+    bytes
+        .iter()
+        .all(|byte| *byte == b' ' || *byte == b'\t' || *byte == b'\r')
 }

@@ -1,7 +1,7 @@
 //! A source of bytes, which tells how many it has given, what it has left, and whether it has ended
 //! or failed.
-ghost use Rattle.std.specs.Prelude.{◌≡◌, ◌+◌, ◌<◌, ◌≤◌, ◌^◌, ℕ, List, None, Option, Bool, false, length, is_err, IfOk};
-ghost use Rattle.std.specs.Io.KnownBytes.{ReadConsumes};
+ghost use Rattle.std.specs.Prelude.{◌≡◌, ◌+◌, ◌<◌, ◌≤◌, ◌^◌, ℕ, List, None, Option, Bool, false, length, take, is_err, IfOk, OnErr};
+ghost use Rattle.std.specs.Io.KnownBytes.{Consumes, IsAtEnd, Keeps, ReadConsumes};
 ghost use Rattle.rewind_lines.specs.Reads.{given_by, is_end};
 
 use std::io::Read;
@@ -89,4 +89,31 @@ impl<R: Read> Source for ReadSource<R> {
             }
         }
     }
+}
+
+/// One read of at most so many bytes, into the front of the chunk.
+pub fn read_into<S: Source>(source: &mut S, chunk: &mut [u8], most: usize) -> Result<usize, Unread>
+    requires some { 0 < most }
+    requires room { most ≤ length chunk.old }
+    requires goes_on { S.ended source.old ≡ false }
+    requires sound { S.failed source.old ≡ false }
+    requires few { S.given source.old + most < 2 ^ 64 }
+    ensures within { IfOk result (λ n. n ≤ most) }
+    ensures bytes { IfOk result (λ n.
+        Consumes (S.remaining source.old) (S.remaining source.new) (take n chunk.new)) }
+    ensures end { IfOk result (λ n. n ≡ 0 → IsAtEnd (S.remaining source.new)) }
+    ensures err { OnErr result (Keeps (S.remaining source.old) (S.remaining source.new)) }
+    ensures given { S.given source.new ≡ S.given source.old + given_by result }
+    ensures ended { S.ended source.new ≡ is_end result }
+    ensures failed { S.failed source.new ≡ is_err result }
+{
+    source.read(&mut chunk[..most])
+}
+
+/// The first n of the bytes.
+pub fn front(bytes: &[u8], n: usize) -> &[u8]
+    requires { n ≤ length bytes.now }
+    ensures { result.now ≡ take n bytes.now }
+{
+    &bytes[..n]
 }

@@ -4,7 +4,7 @@ use Rattle.rewind_clients.proofs.reader.read_script.Given as goal
 
 abbrev pub invariant-reads : goal.invariant-reads
 invariant-reads g l = record {
-  number : l.reader.number + l.left ≤ 1 + l.limit;
+  number : l.reader.lines.number + l.left ≤ 1 + l.limit;
   chunk : length l.chunk ≡ 65537;
   going : (input : List ℕ) → g.S.Source.remaining l.fn.source ≡ Some input → Going l.options l.limit l.left input (g.S.Source.remaining l.source) l.reader;
   given : g.S.Source.given l.source + l.left ≡ g.S.Source.given l.fn.source + l.limit;

@@ -2,7 +2,7 @@ use Rattle.std.proofs.Common.{◌+◌, List, drop, subst}
 use Rattle.std.proofs.lemmas.List.{take_all}
 use Rattle.std.proofs.lemmas.Result.{err_from_is_err_and}
 use Rattle.serde_json.specs.Data.{Data}
-use Rattle.rewind_clients.specs.Outbox.{Gathered, StopsIn}
+use Rattle.rewind_clients.specs.Gathered.{Gathered, StopsIn}
 use Rattle.rewind_clients.specs.Told.{faults_data}
 use Rattle.rewind_clients.proofs.WrittenLemmas.{stops-more}
 use Rattle.rewind_clients.proofs.ToldLemmas.{faults-one, faults-step}
@@ -19,7 +19,7 @@ returns-in_err-put_fault-clause-err g c =
 pub loop-client-preserved : goal.loop-client-preserved
 loop-client-preserved g c = record {
   gathered = λ replies before h.
-      subst (λ (ds : List Data). Gathered ds c.put_fault.new.outbox.waiting.items before (g.T.Sink.contents c.put_fault.new.sink))
+      subst (λ (ds : List Data). Gathered ds c.put_fault.new.outbox before (g.T.Sink.contents c.put_fault.new.sink))
       (faults-one replies c.args.faults.now c.loop-client.client _ c.loop-client-test.true c.index-faults-client.is)
       (c.in_ok-put_fault.ensures.ok _ before (c.loop-client.invariant.gathered replies before h));
   sound = c.in_ok-put_fault.ensures.failed;

@@ -3,7 +3,7 @@ use Rattle.std.proofs.lemmas.List.{take_all}
 use Rattle.std.proofs.lemmas.Result.{err_from_is_err_and}
 use Rattle.serde_json.specs.Data.{Data}
 use Rattle.serde_json.specs.View.{view}
-use Rattle.rewind_clients.specs.Outbox.{Gathered}
+use Rattle.rewind_clients.specs.Gathered.{Gathered}
 use Rattle.rewind_clients.specs.Told.{entry_data}
 use Rattle.rewind_clients.proofs.ToldLemmas.{lines-of, map-one, map-rest, stops-put}
 use Rattle.rewind_clients.proofs.tell.put_log.Goals as goal
@@ -32,7 +32,7 @@ loop-entry-preserved g c =
     let i = c.loop-entry.entry-index in
     record {
       gathered = λ replies before h.
-          subst (λ (rs : List Data). Gathered rs c.put.new.self.waiting.items before (g.T.Sink.contents c.put.new.sink))
+          subst (λ (rs : List Data). Gathered rs c.put.new.outbox before (g.T.Sink.contents c.put.new.sink))
           (map-one f replies c.args.log.now i _ (view c.in_ok-value.value) c.loop-entry-test.true c.entry-item.is c.in_ok-value.ensures.reply)
           (c.in_ok-put.ensures.ok _ before (c.loop-entry.invariant.gathered replies before h));
       sound = c.in_ok-put.ensures.failed;

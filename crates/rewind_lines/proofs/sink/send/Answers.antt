@@ -1,6 +1,7 @@
 use Rattle.std.proofs.Common.{◌∙◌, ◌≤◌, length, drop, arith, length-drop, take-add}
 use Rattle.std.proofs.lemmas.List.{take_rest}
-use Rattle.rewind_lines.proofs.Known.{Appends-append, refuses-none}
+use Rattle.rewind_lines.specs.Known.{Appends-append}
+use Rattle.rewind_lines.proofs.Refuses.{refuses-none}
 use Rattle.rewind_lines.proofs.sink.send.Goals as goal
 
 pub parts-preserved : goal.parts-preserved

@@ -4,7 +4,8 @@ use Rattle.std.proofs.lemmas.Result.{IfErr-weaker, IfOk-weaker, err_from_is_err_
 use Rattle.rewind_lines.specs.Lines.{whole_lines_of}
 use Rattle.rewind.specs.States.{Answered, EndsEarly}
 use Rattle.rewind.specs.declared.run.Run.{Run}
-use Rattle.rewind.proofs.AnsweredLaws.{answered-flush, ends-stopped, feeds-write, up_to, up_to-more}
+use Rattle.rewind_lines.specs.Cuts.{up_to, up_to-more}
+use Rattle.rewind.proofs.AnsweredLaws.{answered-flush, ends-stopped, feeds-write}
 use Rattle.rewind.proofs.run.Run.feed.Goals as goal
 
 pub returns-in_err-flush-clause-err : goal.returns-in_err-flush-clause-err
@@ -15,12 +16,12 @@ returns-in_err-flush-clause-err g c =
     let from = c.parts.from in
     let ok = rw (take_rest bytes from) at c.gather-gathered.ensures.ok in
     let err = rw (take_rest bytes from) at c.gather-gathered.ensures.err in
-    rw (p.1, p.2, w.0) (λ n done before s.
+    rw (p.1, p.2) (λ n done before s.
     let a = c.parts.invariant.answered n done before s in
-    feeds-write n w.1.0 from done bytes before a.sent _ _ c.gather-gathered.new.self c.gather-gathered.result
+    feeds-write n w.0 from done bytes before a.sent _ _ c.gather-gathered.new.self c.gather-gathered.result
     (IfOk-weaker c.gather-gathered.result _ _ (λ _ h. h n (done ++ take from bytes) a.sent a.stands) ok)
     (IfErr-weaker c.gather-gathered.result _ _ (λ _ h. h n (done ++ take from bytes) a.sent a.stands) err)
-    a.written w.1.1)
+    a.written w.1)
 
 pub returns-in_err-from-clause-err : goal.returns-in_err-from-clause-err
 returns-in_err-from-clause-err g c =
@@ -47,10 +48,10 @@ parts-preserved g c =
       within = omega (arith, length-drop from bytes);
       answered = λ n done before s.
           let a = c.parts.invariant.answered n done before s in
-          let next : Run = record c.gather-gathered.new.self { waiting = c.flush.new.waiting } in
+          let next : Run = record c.gather-gathered.new.self { outbox = c.flush.new.self } in
           subst (λ (xs : List ℕ). Answered n xs before (g.T.Sink.contents c.flush.new.sink) next) (up_to-more done bytes from m)
           (answered-flush n ((done ++ take from bytes) ++ take m (drop from bytes)) before a.sent (g.T.Sink.contents c.parts.sink) (g.T.Sink.contents c.flush.new.sink) c.gather-gathered.new.self next
-          (ok n (done ++ take from bytes) a.sent a.stands) a.written c.in_ok-flush.ensures.ok c.in_ok-flush.ensures.none refl refl refl refl);
+          (ok n (done ++ take from bytes) a.sent a.stands) a.written c.in_ok-flush.ensures.ok c.in_ok-flush.ensures.none refl refl refl);
       none_waits = c.in_ok-flush.ensures.none;
       number = let x = i.0 in let y = j.number in omega arith;
       replied = let x = i.1 in let y = j.replied in omega arith;

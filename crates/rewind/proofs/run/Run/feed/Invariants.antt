@@ -7,8 +7,8 @@ invariant-parts g l = record {
   within : l.from ≤ length l.bytes;
   answered : (n : ℕ) (done before : List ℕ) → Answered n done before (g.T.Sink.contents l.fn.sink) l.fn.self
       → Answered n (done ++ take l.from l.bytes) before (g.T.Sink.contents l.sink) l.self;
-  none_waits : l.self.waiting.items ≡ [];
-  number : l.self.number ≤ l.fn.self.number + l.from;
+  none_waits : l.self.outbox ≡ [];
+  number : l.self.lines.number ≤ l.fn.self.lines.number + l.from;
   replied : l.self.replied ≤ l.fn.self.replied + l.from;
   sound : g.T.Sink.failed l.sink ≡ false;
 }

@@ -1,38 +1,69 @@
-use Rattle.std.proofs.Common.{◌≡◌, ◌∙◌, ℕ, suc, ◌+◌, ◌<◌, List, [], ◌∷◌, ◌++◌, length, drop, take, get_or, sym, ap, arith, subst, append_assoc, drop-cons}
-use Rattle.std.proofs.lemmas.List.{take-append-drop, take_more}
+use Rattle.std.proofs.Common.{◌≡◌, ◌∙◌, ℕ, ◌+◌, ◌≤◌, List, ◌++◌, length, drop, take, None, refl, sym, ap, arith, subst, length-drop}
+use Rattle.std.proofs.lemmas.List.{take_all, take_rest}
 use Rattle.std.proofs.lemmas.Result.{err_from_is_err_and}
+use Rattle.rewind_lines.specs.Cuts.{up_to, up_to-newline}
 use Rattle.rewind.specs.States.{Stands}
-use Rattle.rewind.proofs.StandLaws.{stopped-later}
+use Rattle.rewind.specs.declared.run.Run.{Run}
+use Rattle.rewind.proofs.StandLaws.{stands-on, stopped-memory, stopped-newline}
 use Rattle.rewind.proofs.run.Run.gather.Goals as goal
 
--- the bytes up to one of them, and those behind it
-at_element : (done bytes : List ℕ) (i : ℕ) → i < length bytes
-    → ((done ++ take i bytes) ++ get_or bytes i 0 ∷ []) ++ drop (suc i) bytes ≡ done ++ bytes
-at_element done bytes i h =
-    append_assoc (done ++ take i bytes) (get_or bytes i 0 ∷ []) (drop (suc i) bytes)
-    ∙ (append_assoc done (take i bytes) (get_or bytes i 0 ∷ drop (suc i) bytes)
-    ∙ ap (λ zs. done ++ zs) (ap (λ zs. take i bytes ++ zs) (sym (drop-cons bytes i 0 h)) ∙ take-append-drop i bytes))
-
-one_more : (done bytes : List ℕ) (i : ℕ) → i < length bytes → (done ++ take i bytes) ++ get_or bytes i 0 ∷ [] ≡ done ++ take (i + 1) bytes
-one_more done bytes i h = append_assoc done (take i bytes) (get_or bytes i 0 ∷ []) ∙ ap (λ zs. done ++ zs) (sym (take_more bytes i 0 h))
-
-pub returns-in_err-push-clause-err : goal.returns-in_err-push-clause-err
-returns-in_err-push-clause-err g c =
+pub returns-in_err-n-clause-err : goal.returns-in_err-n-clause-err
+returns-in_err-n-clause-err g c =
     let p = err_from_is_err_and c.from_residual.result c.from_residual.ensures.1 in
+    let bytes = c.args.bytes.now in
+    let from = c.lines.from in
     rw (p.1, p.2) (λ n done sent s.
-    stopped-later n _ (drop (suc c.loop-i.i) c.args.bytes.now) (done ++ c.args.bytes.now) sent _ _ (at_element done c.args.bytes.now c.loop-i.i c.loop-i-test.true)
-    (c.in_err-push.ensures.err n (done ++ take c.loop-i.i c.args.bytes.now) sent (c.loop-i.invariant.stands n done sent s)))
+    stopped-memory n (done ++ take from bytes) (drop from bytes) (done ++ bytes) sent c.lines.self _ (up_to done bytes from) (c.lines.invariant.stands n done sent s) refl)
 
-pub returns-then-len-ge-WAITING-clause-ok : goal.returns-then-len-ge-WAITING-clause-ok
-returns-then-len-ge-WAITING-clause-ok g c = λ n done sent s.
-    subst (λ (xs : List ℕ). Stands n xs sent c.push.new.self) (one_more done c.args.bytes.now c.loop-i.i c.loop-i-test.true)
-    (c.in_ok-push.ensures.ok n (done ++ take c.loop-i.i c.args.bytes.now) sent (c.loop-i.invariant.stands n done sent s))
+pub returns-in_err-end_line-clause-err : goal.returns-in_err-end_line-clause-err
+returns-in_err-end_line-clause-err g c =
+    let p = err_from_is_err_and c.from_residual-in_err-end_line.result c.from_residual-in_err-end_line.ensures.1 in
+    let bytes = c.args.bytes.now in
+    let from = c.lines.from in
+    let n = c.in-Some.n in
+    let w = rw (c.in-Some.is, take_rest bytes from) at c.in_ok-n.ensures.whole in
+    rw (p.1, p.2) (λ k done sent s.
+    let begun = done ++ take from bytes in
+    stopped-newline k (begun ++ w.0) (drop (from + n) bytes) (done ++ bytes) sent _ _
+    (ap (λ xs. xs ++ drop (from + n) bytes) (up_to-newline done bytes w.0 from n w.1.split) ∙ up_to done bytes (from + n))
+    (c.in_err-end_line.ensures.err k (begun ++ w.0) sent (stands-on k begun w.0 sent c.lines.self _ w.1.one_line (c.lines.invariant.stands k done sent s) w.2 refl refl refl)))
 
-pub loop-i-preserved : goal.loop-i-preserved
-loop-i-preserved g c = record {
-  stands = λ n done sent s.
-      subst (λ (xs : List ℕ). Stands n xs sent c.push.new.self) (one_more done c.args.bytes.now c.loop-i.i c.loop-i-test.true)
-      (c.in_ok-push.ensures.ok n (done ++ take c.loop-i.i c.args.bytes.now) sent (c.loop-i.invariant.stands n done sent s));
-  number = let n = c.in_ok-push.ensures.counts.0 in let m = c.loop-i.invariant.number in omega arith;
-  replied = let n = c.in_ok-push.ensures.counts.1 in let m = c.loop-i.invariant.replied in omega arith;
-}
+pub returns-then-is_full-clause-ok : goal.returns-then-is_full-clause-ok
+returns-then-is_full-clause-ok g c = λ k done sent s.
+    let bytes = c.args.bytes.now in
+    let from = c.lines.from in
+    let w = rw (c.in-Some.is, take_rest bytes from) at c.in_ok-n.ensures.whole in
+    let begun = done ++ take from bytes in
+    subst (λ (xs : List ℕ). Stands k xs sent c.end_line.new.self) (up_to-newline done bytes w.0 from c.in-Some.n w.1.split)
+    (c.in_ok-end_line.ensures.ok k (begun ++ w.0) sent (stands-on k begun w.0 sent c.lines.self _ w.1.one_line (c.lines.invariant.stands k done sent s) w.2 refl refl refl))
+
+pub lines-preserved : goal.lines-preserved
+lines-preserved g c =
+    let bytes = c.args.bytes.now in
+    let from = c.lines.from in
+    let n = c.in-Some.n in
+    let w = rw (c.in-Some.is, take_rest bytes from) at c.in_ok-n.ensures.whole in
+    let i = c.lines.invariant in
+    let fits : n ≤ length (drop from bytes) = w.1.within in
+    let counts = c.in_ok-end_line.ensures.counts in
+    let same = c.take.ensures.number in
+    let some = w.1.some in
+    record {
+      within = omega (arith, length-drop from bytes);
+      stands = λ k done sent s.
+          let begun = done ++ take from bytes in
+          subst (λ (xs : List ℕ). Stands k xs sent c.end_line.new.self) (up_to-newline done bytes w.0 from n w.1.split)
+          (c.in_ok-end_line.ensures.ok k (begun ++ w.0) sent (stands-on k begun w.0 sent c.lines.self _ w.1.one_line (i.stands k done sent s) w.2 refl refl refl));
+      number = let x = i.number in let y = counts.0 in omega arith;
+      replied = let x = i.replied in let y = counts.1 in omega arith;
+    }
+
+pub returns-clause-ok : goal.returns-clause-ok
+returns-clause-ok g c = λ k done sent s.
+    let bytes = c.args.bytes.now in
+    let from = c.lines.from in
+    let none : c.in_ok-n.field-0 ≡ None = grind arith in
+    let p = rw (none, take_rest bytes from) at c.in_ok-n.ensures.part in
+    let all : (done ++ take from bytes) ++ drop from bytes ≡ done ++ take (length bytes) bytes = up_to done bytes from ∙ ap (λ xs. done ++ xs) (sym (take_all (length bytes) bytes (omega arith))) in
+    let next : Run = record c.lines.self { lines = c.take.new.self } in
+    subst (λ (xs : List ℕ). Stands k xs sent next) all (stands-on k (done ++ take from bytes) (drop from bytes) sent c.lines.self next p.0 (c.lines.invariant.stands k done sent s) p.1 refl refl refl)

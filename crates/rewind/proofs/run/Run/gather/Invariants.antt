@@ -1,10 +1,14 @@
-use Rattle.std.proofs.Common.{ℕ, ◌+◌, ◌≤◌, List, ◌++◌, take}
+use Rattle.std.proofs.Common.{ℕ, ◌+◌, ◌-◌, ◌≤◌, List, ◌++◌, length, take}
 use Rattle.rewind.specs.States.{Stands}
 use Rattle.rewind.proofs.run.Run.gather.Given as goal
 
-abbrev pub invariant-loop-i : goal.invariant-loop-i
-invariant-loop-i g l = record {
-  stands : (n : ℕ) (done sent : List ℕ) → Stands n done sent l.fn.self → Stands n (done ++ take l.i l.bytes) sent l.self;
-  number : l.self.number ≤ l.fn.self.number + l.i;
-  replied : l.self.replied ≤ l.fn.self.replied + l.i;
+abbrev pub invariant-lines : goal.invariant-lines
+invariant-lines g l = record {
+  within : l.from ≤ length l.bytes;
+  stands : (n : ℕ) (done sent : List ℕ) → Stands n done sent l.fn.self → Stands n (done ++ take l.from l.bytes) sent l.self;
+  number : l.self.lines.number ≤ l.fn.self.lines.number + l.from;
+  replied : l.self.replied ≤ l.fn.self.replied + l.from;
 }
+
+abbrev pub decreases-lines : goal.decreases-lines
+decreases-lines g l = length l.bytes - l.from

@@ -3,4 +3,4 @@ use Rattle.rewind.proofs.StandLaws.{stands-new}
 use Rattle.rewind.proofs.run.Run.new.Goals as goal
 
 pub returns-clause-stands : goal.returns-clause-stands
-returns-clause-stands c = stands-new c.args.processors _ refl c.new.ensures c.new-2.ensures.items refl refl
+returns-clause-stands c = stands-new c.args.processors _ refl c.new.ensures.first c.new-2.ensures refl

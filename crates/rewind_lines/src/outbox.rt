@@ -1,0 +1,77 @@
+//! Replies that are gathered, and written together.
+ghost use Rattle.std.specs.Prelude.{◌≡◌, ◌++◌, [], ℕ, false, length, nat_le, take, is_err, OnOk, OnErr};
+ghost use Rattle.std.specs.Io.KnownBytes.{Appends};
+ghost use Rattle.serde_json.specs.View.{view};
+ghost use Rattle.serde_json.specs.Written.{has_float};
+ghost use Rattle.rewind_lines.specs.Texts.{reply_text};
+
+use crate::sink::{Sink, Unwritten, send};
+use serde_json::Value;
+use std::alloc::{AllocError, Global};
+use std::marker::Model;
+
+/// So many bytes of replies do not wait for more.
+const WAITING: usize = 65_536;
+
+/// The text of the replies that wait to be written.
+#[derive(Drop)]
+pub struct Outbox {
+    alloc: Global,
+    waiting: Vec<u8>,
+}
+
+impl Model for Outbox {
+    ghost use Rattle.std.specs.Prelude.{ℕ, List};
+
+    ghost Value = { List ℕ };
+
+    ghost view = { λ o. o.waiting.items };
+}
+
+impl Outbox {
+    /// No reply waits.
+    pub fn new(alloc: Global) -> Outbox
+        ensures { result ≡ [] }
+    {
+        Outbox {
+            alloc,
+            waiting: Vec::new(alloc),
+        }
+    }
+
+    /// Puts a reply's line behind those that wait: its compact JSON text and a newline. No reply
+    /// holds a float.
+    #[tactic(auto, unfolding(crate::specs::Texts::reply_text))]
+    pub fn add(&mut self, reply: &Value) -> Result<(), AllocError>
+        requires { has_float (view reply.now) ≡ false }
+        ensures ok { OnOk result (self.new ≡ self.old ++ reply_text (view reply.now)) }
+        ensures err { OnErr result (self.new ≡ self.old) }
+    {
+        let text = reply.to_vec(self.alloc)?;
+        self.waiting.reserve(text.len() + 1)?;
+        self.waiting.extend_from_slice(text.as_slice())?;
+        self.waiting.push(b'\n')?;
+        Ok(())
+    }
+
+    /// Whether so much waits that it is to be written.
+    pub fn is_full(&self) -> bool
+        ensures { result ≡ nat_le 65536 (length self.now) }
+    {
+        self.waiting.len() >= WAITING
+    }
+
+    /// Writes what waits, or the front of it.
+    pub fn flush<T: Sink>(&mut self, sink: &mut T) -> Result<(), Unwritten>
+        requires { T.failed sink.old ≡ false }
+        ensures ok { OnOk result (Appends (T.contents sink.old) (T.contents sink.new) self.old) }
+        ensures none { OnOk result (self.new ≡ []) }
+        ensures err { OnErr result ((n : ℕ)
+            × Appends (T.contents sink.old) (T.contents sink.new) (take n self.old)) }
+        ensures failed { T.failed sink.new ≡ is_err result }
+    {
+        send(sink, self.waiting.as_slice())?;
+        self.waiting.clear();
+        Ok(())
+    }
+}

@@ -1,0 +1,100 @@
+//! The lines of a script, read in pieces.
+ghost use Rattle.std.specs.Prelude.{◌≡◌, ◌+◌, ◌<◌, ◌≤◌, ◌^◌, ◌||◌, ◌∷◌, ◌++◌, [], ℕ, List, false, length, IfNone, IfOk, IfSome, IsOk, IsTrue, OnErr};
+ghost use Rattle.nd_time.specs.Limits.{max_line};
+ghost use Rattle.rewind_lines.specs.Front.{held_of};
+ghost use Rattle.rewind_lines.specs.Lines.{EndsLine, has_newline, last_line_of, reading_of};
+ghost use Rattle.rewind_lines.specs.Readings.{reading_view};
+
+use crate::line::Line;
+use crate::reading::Reading;
+use crate::source::front;
+use json::Scratch;
+use memchr::memchr;
+use std::alloc::{AllocError, Global};
+use std::marker::Model;
+
+/// The line of a script that is being read, its number, and the room that each line is read in.
+#[derive(Drop)]
+pub struct LineReader {
+    alloc: Global,
+    line: Line,
+    number: u64,
+    scratch: Scratch,
+}
+
+impl Model for LineReader {
+    ghost use Rattle.rewind_lines.specs.Front.{Held};
+
+    ghost Value = { Held };
+
+    ghost view = { λ r. record { line = r.line; number = r.number } };
+}
+
+impl LineReader {
+    /// The first line, of which nothing was read.
+    pub fn new(alloc: Global) -> LineReader
+        ensures first { result ≡ held_of [] }
+        ensures number { result.number ≡ 1 }
+    {
+        LineReader {
+            alloc,
+            line: Line::new(alloc),
+            number: 1,
+            scratch: Scratch::new(alloc),
+        }
+    }
+
+    /// The number of the line.
+    pub fn number(&self) -> u64
+        ensures { result ≡ self.now.number }
+    {
+        self.number
+    }
+
+    /// Reads on to the next newline, and says how many bytes that is, the newline with them: the
+    /// line is whole then. `None` if no newline is among them: all of them were read.
+    pub fn take(&mut self, bytes: &[u8]) -> Result<Option<usize>, AllocError>
+        ensures part { IfOk result (λ o. IfNone o ((has_newline bytes.now ≡ false)
+            × ((done : List ℕ) → self.old ≡ held_of done → self.new ≡ held_of (done ++ bytes.now)))) }
+        ensures whole { IfOk result (λ o. IfSome o (λ n. (rest : List ℕ) × EndsLine bytes.now n rest
+            × ((done : List ℕ) → self.old ≡ held_of done → self.new ≡ held_of (done ++ rest)))) }
+        ensures number { self.new.number ≡ self.old.number }
+        ensures err { OnErr result (self.new ≡ self.old) }
+
+        // Past a line's limit no memory is taken.
+        ensures long { max_line ≤ length self.old.line.bytes → IsOk result }
+    {
+        match memchr(b'\n', bytes) {
+            None => {
+                self.line.extend(bytes)?;
+                Ok(None)
+            }
+            Some(i) => {
+                self.line.extend(front(bytes, i))?;
+                Ok(Some(i + 1))
+            }
+        }
+    }
+
+    /// What the line is read as, once it is whole.
+    pub fn reading(&mut self) -> Result<Reading, AllocError>
+        ensures reading { IfOk result (λ r. (done : List ℕ) → self.old ≡ held_of done
+            → reading_view r ≡ reading_of (last_line_of done)) }
+        ensures same { self.new ≡ self.old }
+
+        // A blank or too long line takes no memory.
+        ensures short { IsTrue (self.old.line.is_blank || self.old.line.is_longer) → IsOk result }
+    {
+        self.line.reading(self.alloc, &mut self.scratch)
+    }
+
+    /// Begins the next line, behind a newline.
+    pub fn begin_next(&mut self)
+        requires { self.old.number + 1 < 2 ^ 64 }
+        ensures next { (done : List ℕ) → self.old ≡ held_of done → self.new ≡ held_of (done ++ 10 ∷ []) }
+        ensures number { self.new.number ≡ self.old.number + 1 }
+    {
+        self.line.clear();
+        self.number += 1;
+    }
+}
