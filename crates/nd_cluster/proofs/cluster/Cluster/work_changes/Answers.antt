@@ -1,7 +1,9 @@
-use Rattle.std.proofs.Common.{sym, ap, ◌∙◌}
+use Rattle.std.proofs.Common.{sym, ap, subst, ◌∙◌}
+use Rattle.std.proofs.lemmas.Result.{err_from_is_err_and}
 use Rattle.nd_protocol.specs.State.{ClusterState}
 use Rattle.nd_protocol.specs.Steps.{stepped}
 use Rattle.nd_record.specs.Plans.{ReachesIn}
+use Rattle.nd_record.specs.Limits.{LimitFails}
 use Rattle.nd_cluster.proofs.TestedLemmas.{enabled, limit_refused}
 use Rattle.nd_cluster.proofs.cluster.Cluster.work_changes.Goals as goal
 
@@ -15,7 +17,8 @@ returns-in_err-changes-clause-refused g c =
     let s = c.args.self.now in
     let t = stepped s c.args.step.now in
     let made : ReachesIn c.deref.result.now s t c.in_ok-all.all.items = (ap (λ (u : ClusterState). u.processors) (sym c.self.view_is) ∙ sym c.deref.ensures.value, c.in_ok-all.ensures.reaches) in
-    λ some. limit_refused s c.args.step.now c.requires c.in_ok-all.ensures.free _ (c.in_err-changes.ensures.refused s t made) some
+    let p = err_from_is_err_and c.from_residual-in_err-changes.result c.from_residual-in_err-changes.ensures.1 in
+    rw (p.1) (λ some. limit_refused s c.args.step.now c.requires c.in_ok-all.ensures.free p.0 (subst (LimitFails t) (sym p.2) (c.in_err-changes.ensures.refused s t made)) some)
 
 -- the step has no condition against it
 pub returns-clause-enabled : goal.returns-clause-enabled
