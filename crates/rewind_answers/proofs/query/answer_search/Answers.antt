@@ -6,7 +6,7 @@ returns-in-Ok-clause-reply g c =
     found_replies (c.args.state.now).machine.timeline c.timeline-timeline.result.now c.args.when.now c.args.lo c.args.hi c.args.workers c.in-Ok.least c.found.result
     c.timeline-timeline.ensures.value c.in-Ok.ensures.may c.in-Ok.ensures.found c.found.ensures.reply
 
-pub returns-clause-reply : goal.returns-clause-reply
-returns-clause-reply g c =
+pub returns-in-Err-clause-reply : goal.returns-in-Err-clause-reply
+returns-in-Err-clause-reply g c =
     failed_replies (c.args.state.now).machine.timeline c.timeline-timeline.result.now c.args.when.now c.args.lo c.args.hi c.args.workers c.in-Err.fault c.refuse_search.result
     c.timeline-timeline.ensures.value c.in-Err.ensures.fails c.refuse_search.ensures.reply
