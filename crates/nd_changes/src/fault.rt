@@ -1,7 +1,10 @@
 //! Why no changes are told.
 ghost use Rattle.std.specs.Prelude.{◌≡◌};
-ghost use Rattle.nd_changes.specs.Faults.{number_of, name_of};
+ghost use Rattle.nd_changes.specs.Faults.{code_of};
 
+use nd_protocol::Refusal;
+use nd_time::Code;
+use nd_timeline::Fault;
 use std::alloc::AllocError;
 
 /// Why no changes are told (this project's own rule).
@@ -29,27 +32,15 @@ impl From<AllocError> for ChangesFault {
 }
 
 impl ChangesFault {
-    /// The fault's number.
-    pub fn number(&self) -> u64
-        ensures { result ≡ number_of self.now }
+    /// The number and the name under which the fault is answered.
+    pub fn code(&self) -> Code
+        ensures { result ≡ code_of self.now }
     {
         match self {
-            ChangesFault::NoProcessor => 1,
-            ChangesFault::BadRange => 50,
-            ChangesFault::NoSuchPoint => 22,
-            ChangesFault::Memory => 19,
-        }
-    }
-
-    /// The fault's name.
-    pub fn name(&self) -> &'static str
-        ensures { result.now ≡ name_of self.now }
-    {
-        match self {
-            ChangesFault::NoProcessor => "NoProcessor",
-            ChangesFault::BadRange => "BadRange",
-            ChangesFault::NoSuchPoint => "NoSuchPoint",
-            ChangesFault::Memory => "Memory",
+            ChangesFault::NoProcessor => Refusal::NoProcessor.code(),
+            ChangesFault::BadRange => Code::new(50, "BadRange"),
+            ChangesFault::NoSuchPoint => Fault::NoSuchPoint.code(),
+            ChangesFault::Memory => Refusal::Memory.code(),
         }
     }
 }

@@ -9,3 +9,4 @@ pub mod SinksLemmas
 pub mod PartsLemmas
 pub mod SeenLemmas
 pub mod Reasoned
+pub mod ToldLemmas

@@ -1,4 +1,5 @@
 pub mod Records
+pub mod Made
 pub mod Tested
 pub mod Starting
 pub mod Choice

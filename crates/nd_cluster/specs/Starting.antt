@@ -1,8 +1,11 @@
 -- Why a cluster does not start, and the number and the name under which it is answered (this project's own rule).
 use Rattle.std.specs.Prelude.{ℕ, ◌<◌, ◌≤◌, List, codes}
+use Rattle.nd_time.specs.Code.{Code, coded}
 use Rattle.nd_time.specs.Limits.{max_processors}
 use Rattle.nd_map.specs.Weights.{weight}
+use Rattle.nd_graph.specs.Fault.{code_of}
 use Rattle.nd_graph.specs.Graph.{Dataflow}
+use Rattle.nd_graph.specs.declared.fault.GraphFault.TheVariants as graph
 use Rattle.nd_paths.specs.Order.{FailsAt, IsAccepted}
 use Rattle.nd_paths.specs.declared.accept.PathFault.{PathFault}
 use Rattle.nd_paths.specs.declared.accept.PathFault.TheVariants as path
@@ -11,15 +14,10 @@ use Rattle.nd_processor.specs.State.{one_at, token_point}
 use Rattle.nd_cluster.specs.declared.start.StartFault.{StartFault}
 use Rattle.nd_cluster.specs.declared.start.StartFault.TheVariants.{BadCount, LoopNotStrict, Memory}
 
-abbrev pub start_number : StartFault → ℕ
-start_number BadCount = 48
-start_number (LoopNotStrict l) = 46
-start_number Memory = 47
-
-abbrev pub start_name : StartFault → List ℕ
-start_name BadCount = codes "BadCount"
-start_name (LoopNotStrict l) = codes "LoopNotStrict"
-start_name Memory = codes "Memory"
+abbrev pub start_code : StartFault → Code
+start_code BadCount = coded 48 (codes "BadCount")
+start_code (LoopNotStrict l) = coded 46 (codes "LoopNotStrict")
+start_code Memory = code_of graph.Memory
 
 -- from one processor to the most
 pub record IsProcessorCount (n : ℕ) : Type 0 where

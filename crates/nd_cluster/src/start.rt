@@ -8,16 +8,16 @@ ghost use Rattle.nd_processor.specs.Start.{start_processor};
 ghost use Rattle.nd_protocol.specs.State.{truth};
 ghost use Rattle.nd_protocol.specs.Start.{start as started};
 ghost use Rattle.nd_protocol.specs.Invariant.{KeepsProtocol};
-ghost use Rattle.nd_cluster.specs.Starting.{start_number, start_name, fault_of, tokens_weigh, IsStartFault, CanStart};
+ghost use Rattle.nd_cluster.specs.Starting.{start_code, fault_of, tokens_weigh, IsStartFault, CanStart};
 
 use crate::Cluster;
 use nd_delta::Delta;
-use nd_graph::Graph;
+use nd_graph::{Graph, GraphFault};
 use nd_mesh::Mesh;
 use nd_paths::{PathFault, Paths, Pointstamp};
 use nd_processor::Processor;
 use nd_protocol::starts_keep_protocol;
-use nd_time::Timestamp;
+use nd_time::{Code, Timestamp};
 use nd_view::View;
 use std::alloc::{AllocError, Allocator};
 use thiserror::Error;
@@ -37,25 +37,14 @@ pub enum StartFault {
 }
 
 impl StartFault {
-    /// The fault's number.
-    pub fn number(self) -> u64
-        ensures { result ≡ start_number self }
+    /// The number and the name under which the fault is answered.
+    pub fn code(self) -> Code
+        ensures { result ≡ start_code self }
     {
         match self {
-            StartFault::BadCount => 48,
-            StartFault::LoopNotStrict { location: _ } => 46,
-            StartFault::Memory => 47,
-        }
-    }
-
-    /// The fault's name.
-    pub fn name(self) -> &'static str
-        ensures { result.now ≡ start_name self }
-    {
-        match self {
-            StartFault::BadCount => "BadCount",
-            StartFault::LoopNotStrict { location: _ } => "LoopNotStrict",
-            StartFault::Memory => "Memory",
+            StartFault::BadCount => Code::new(48, "BadCount"),
+            StartFault::LoopNotStrict { location: _ } => Code::new(46, "LoopNotStrict"),
+            StartFault::Memory => GraphFault::Memory.code(),
         }
     }
 }

@@ -1,22 +1,19 @@
 //! The state as a JSON value.
-ghost use Rattle.std.specs.Prelude.{◌≡◌, false, IfOk};
-ghost use Rattle.serde_json.specs.View.{view};
-ghost use Rattle.serde_json.specs.Written.{has_float};
+ghost use Rattle.std.specs.Prelude.{◌≡◌, IfOk};
 ghost use Rattle.nd_shown.specs.StateText.{state_data};
 
 use crate::Cluster;
 use nd_protocol::NoMemory;
+use nd_reply::Json;
 use nd_shown::state_value;
-use serde_json::Value;
 use std::alloc::{AllocError, Allocator, Global};
 
 // The state, of which a growth may be refused at any place.
 fn cluster_value<A: Allocator + Copy>(
     alloc: Global,
     cluster: &Cluster<A>,
-) -> Result<Value, AllocError>
-    ensures reply { IfOk result (λ v. view v ≡ state_data cluster.now) }
-    ensures text { IfOk result (λ v. has_float (view v) ≡ false) }
+) -> Result<Json, AllocError>
+    ensures reply { IfOk result (λ j. j ≡ state_data cluster.now) }
 {
     let graph = cluster.graph();
     state_value(
@@ -30,9 +27,8 @@ fn cluster_value<A: Allocator + Copy>(
 
 impl<A: Allocator + Copy> Cluster<A> {
     /// The state as a JSON value, with the names of locations: each list in the order of listing.
-    pub fn state_value(&self, alloc: Global) -> Result<Value, NoMemory>
-        ensures state { IfOk result (λ v. view v ≡ state_data self.now) }
-        ensures text { IfOk result (λ v. has_float (view v) ≡ false) }
+    pub fn state_value(&self, alloc: Global) -> Result<Json, NoMemory>
+        ensures state { IfOk result (λ j. j ≡ state_data self.now) }
     {
         let Ok(value) = cluster_value(alloc, self) else {
             return Err(NoMemory);

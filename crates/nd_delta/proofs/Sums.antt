@@ -86,8 +86,22 @@ combined_done b m n s i past h =
     by true x y e = refl
     by false x y e = sym (e refl)
 
-pub part_done : (m s : Change) (ps : List Pointstamp) (i : ℕ) → length ps ≤ i → ((q : Pointstamp) → at s q ≡ cond (has_point q (take i ps)) (at m q) (pos 0)) → s ≡ part m ps
-part_done m s ps i past h = same s (part m ps) (λ q. h q ∙ ap (λ ks. cond (has_point q ks) (at m q) (pos 0)) (take_all i ps past) ∙ sym (at-part m ps q))
+-- ---- a part that is taken point by point
+-- s has the integers of m at the first points, and nothing elsewhere
+abbrev pub IsTaken : Change → List Pointstamp → ℕ → Change → Type 0
+IsTaken m ps i s = (q : Pointstamp) → at s q ≡ cond (has_point q (take i ps)) (at m q) (pos 0)
+
+module _ (m : Change) (ps : List Pointstamp) where
+  pub taken_first : (s : Change) → s ≡ none → IsTaken m ps 0 s
+  taken_first s is q = ap (λ c. at c q) is ∙ at-none q
+
+  -- one point more, with its integer as the code keeps it
+  pub taken_more : (i : ℕ) (x : Pointstamp) (r : ℤ) (s t : Change) → i < length ps → x ≡ get_or ps i x → r ≡ at m x → unsigned_abs r ≤ max_count
+      → IsTaken m ps i s → t ≡ set s x (to_z w64 (of_z w64 r)) → IsTaken m ps (i + 1) t
+  taken_more i x r s t lt is here within h set_is = next_point ps i x lt is (at m) (λ _. pos 0) s t h (set_is ∙ ap (set s x) (kept r (omega (arith, within)) ∙ here))
+
+  pub taken_all : (i : ℕ) (s : Change) → length ps ≤ i → IsTaken m ps i s → s ≡ part m ps
+  taken_all i s past h = same s (part m ps) (λ q. h q ∙ ap (λ ks. cond (has_point q ks) (at m q) (pos 0)) (take_all i ps past) ∙ sym (at-part m ps q))
 
 -- ---- whether it fits
 pub not_past : (x : ℤ) → (max_count < unsigned_abs x → ⊥) → unsigned_abs x ≤ max_count

@@ -1,8 +1,7 @@
 -- What holds of the entries that a delta keeps.
-use Rattle.std.specs.Prelude.{◌≢◌, ◌≤◌, ℤ, pos, unsigned_abs, List, IfSome}
-use Rattle.std.specs.FinMap.{find}
+use Rattle.std.specs.Prelude.{◌≢◌, ◌≤◌, ℤ, pos, unsigned_abs, List}
 use Rattle.nd_time.specs.Limits.{max_count}
-use Rattle.nd_map.specs.Listed.{IsListed}
+use Rattle.nd_map.specs.Kept as stored
 use Rattle.nd_paths.specs.Point.{point_cmp}
 use Rattle.nd_paths.specs.declared.point.Pointstamp.{Pointstamp}
 
@@ -12,6 +11,5 @@ pub record IsCount (z : ℤ) : Type 0 where
   pub within : unsigned_abs z ≤ max_count
 
 -- entries in the order of listing, each with a count
-pub record IsKept (es : List (Pointstamp × ℤ)) : Type 0 where
-  pub listed : IsListed point_cmp es
-  pub counts : (q : Pointstamp) → IfSome (find point_cmp q es) IsCount
+abbrev pub IsKept : List (Pointstamp × ℤ) → Type 0
+IsKept es = stored.IsKept point_cmp (λ _. IsCount) es

@@ -1,25 +1,17 @@
 -- The faults of a graph, as replies tell them (this project's own rule).
-use Rattle.std.specs.Prelude.{◌≡◌, ◌⊎◌, ℕ, List, codes, Result, Ok, Err}
+use Rattle.std.specs.Prelude.{◌≡◌, ◌⊎◌, codes, Result, Ok, Err}
+use Rattle.nd_time.specs.Code.{Code, coded}
 use Rattle.nd_graph.specs.declared.fault.GraphFault.{GraphFault}
 use Rattle.nd_graph.specs.declared.fault.GraphFault.TheVariants.{Shape, DoubleName, UnknownName, BadPort, DepthMismatch, TooLarge, Memory}
 
-abbrev pub number_of : GraphFault → ℕ
-number_of Shape = 40
-number_of DoubleName = 41
-number_of UnknownName = 42
-number_of BadPort = 43
-number_of DepthMismatch = 44
-number_of TooLarge = 45
-number_of Memory = 47
-
-abbrev pub name_of : GraphFault → List ℕ
-name_of Shape = codes "Shape"
-name_of DoubleName = codes "DoubleName"
-name_of UnknownName = codes "UnknownName"
-name_of BadPort = codes "BadPort"
-name_of DepthMismatch = codes "DepthMismatch"
-name_of TooLarge = codes "TooLarge"
-name_of Memory = codes "Memory"
+abbrev pub code_of : GraphFault → Code
+code_of Shape = coded 40 (codes "Shape")
+code_of DoubleName = coded 41 (codes "DoubleName")
+code_of UnknownName = coded 42 (codes "UnknownName")
+code_of BadPort = coded 43 (codes "BadPort")
+code_of DepthMismatch = coded 44 (codes "DepthMismatch")
+code_of TooLarge = coded 45 (codes "TooLarge")
+code_of Memory = coded 47 (codes "Memory")
 
 -- a call answers what it is to answer, unless it found no memory
 abbrev pub IsUnlessMemory : {X : Type 0} → Result X GraphFault → Result X GraphFault → Type 0

@@ -1,7 +1,8 @@
 //! Why a graph is refused.
 ghost use Rattle.std.specs.Prelude.{◌≡◌};
-ghost use Rattle.nd_graph.specs.Fault.{number_of, name_of};
+ghost use Rattle.nd_graph.specs.Fault.{code_of};
 
+use nd_time::Code;
 use std::alloc::{AllocError, AllocFailed};
 use thiserror::Error;
 
@@ -25,33 +26,18 @@ pub enum GraphFault {
 }
 
 impl GraphFault {
-    /// The fault's number, by which a reply tells it.
-    pub fn number(self) -> u64
-        ensures { result ≡ number_of self }
+    /// The number and the name under which the fault is answered.
+    pub fn code(self) -> Code
+        ensures { result ≡ code_of self }
     {
         match self {
-            GraphFault::Shape => 40,
-            GraphFault::DoubleName => 41,
-            GraphFault::UnknownName => 42,
-            GraphFault::BadPort => 43,
-            GraphFault::DepthMismatch => 44,
-            GraphFault::TooLarge => 45,
-            GraphFault::Memory => 47,
-        }
-    }
-
-    /// The fault's name, by which a reply tells it.
-    pub fn name(self) -> &'static str
-        ensures { result.now ≡ name_of self }
-    {
-        match self {
-            GraphFault::Shape => "Shape",
-            GraphFault::DoubleName => "DoubleName",
-            GraphFault::UnknownName => "UnknownName",
-            GraphFault::BadPort => "BadPort",
-            GraphFault::DepthMismatch => "DepthMismatch",
-            GraphFault::TooLarge => "TooLarge",
-            GraphFault::Memory => "Memory",
+            GraphFault::Shape => Code::new(40, "Shape"),
+            GraphFault::DoubleName => Code::new(41, "DoubleName"),
+            GraphFault::UnknownName => Code::new(42, "UnknownName"),
+            GraphFault::BadPort => Code::new(43, "BadPort"),
+            GraphFault::DepthMismatch => Code::new(44, "DepthMismatch"),
+            GraphFault::TooLarge => Code::new(45, "TooLarge"),
+            GraphFault::Memory => Code::new(47, "Memory"),
         }
     }
 }

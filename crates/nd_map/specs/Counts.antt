@@ -3,10 +3,12 @@
 --     none, at, set             no key; the number of a key; the map with another number at one key
 --     added                     an integer more at one key
 --     only                      the map cut to the keys of a kind
+--     merged                    two maps as one, number by number
 --     entries, size             the keys that have a number, with it, in the order of listing; how many
 --     same                      maps that answer alike are equal
 --     changed                   at how many keys two maps differ
 --     set-back, added-back      a number that is set back, or taken away again, leaves the map as it was
+--     size-set                  a key more is an entry more
 --     weight-differs, -set      what the entries weigh moves with one number
 use Rattle.std.specs.Prelude.{◌≡◌, ◌≢◌, ℕ, zero, suc, ◌+◌, ℤ, pos, negsuc, ◌+ℤ◌, ◌-ℤ◌, neg_ℤ, Bool, true, false, cond, ◌||◌, List, [], ◌∷◌, ◌++◌, map, length, Option, Some, None, is_some, refl}
 use Rattle.std.proofs.Common.{T, sym, ap, ◌∙◌, arith}
@@ -135,6 +137,20 @@ module _ {K X : Type 0} {R : K → K → Ordering} {N : Number X} where
       nothing None e = refl
       nothing (Some z) e = absurd (cc)
 
+  -- what has an entry has a number
+  pub at-present : (m : Counts R N) (q : K) → has_key R q (keys_of (entries m)) ≡ true → at m q ≢ nil N
+  unfolding at entries
+  at-present m q e = some (get m.map q) (contains_key-keys m.map q ∙ e) (m.nonzero q)
+    where
+      some : (x : Option X) → is_some x ≡ true → x ≢ Some (nil N) → or_else (nil N) x ≢ nil N
+      some None e n z = absurd (cc)
+      some (Some v) e n z = n (ap Some z)
+
+  -- an entry's number is not nil
+  pub some-entry : (m : Counts R N) (q : K) (v : X) → find R q (entries m) ≡ Some v → v ≢ nil N
+  unfolding entries
+  some-entry m q v e z = m.nonzero q (get-entries m.map q ∙ e ∙ ap Some z)
+
 module _ {K X : Type 0} {R : K → K → Ordering} {N : Number X} (o : IsTotalOrder R) (tells : IsAntisymmetric R) where
   -- maps that have the same number at each key are equal
   pub same : (m n : Counts R N) → ((q : K) → at m q ≡ at n q) → m ≡ n
@@ -237,15 +253,26 @@ module _ {K X : Type 0} {R : K → K → Ordering} {N : Number X} (o : IsTotalOr
       at-on_keys N o tells (keys_of (entries m)) (λ k. cond (p k) (at m k) (nil N)) q
       ∙ cut (nil N) (has_key R q (keys_of (entries m))) (p q) (at m q) (at-absent m q)
 
-less_list : (b c : Bool) (x y : ℤ) → (b ≡ false → x ≡ pos 0) → (c ≡ false → y ≡ pos 0) → cond (b || c) (y -ℤ x) (pos 0) ≡ y -ℤ x
-less_list true c x y p q = refl
-less_list false true x y p q = refl
-less_list false false x y p q = rw (p refl, q refl) refl
+merged_list : (f : ℤ → ℤ → ℤ) (b c : Bool) (x y : ℤ) → f (pos 0) (pos 0) ≡ pos 0 → (b ≡ false → x ≡ pos 0) → (c ≡ false → y ≡ pos 0) → cond (b || c) (f x y) (pos 0) ≡ f x y
+merged_list f true c x y e p q = refl
+merged_list f false true x y e p q = refl
+merged_list f false false x y e p q = rw (p refl, q refl, e) refl
 
 module _ {K X : Type 0} {R : K → K → Ordering} {N : Number X} (o : IsTotalOrder R) where
+  -- what f makes of the numbers of two maps at each key, as their sum or their difference
+  pub merged : (ℤ → ℤ → ℤ) → Counts R N → Counts R N → Counts R integers
+  merged f m n = on_keys o (keys_of (entries m) ++ keys_of (entries n)) (λ q. f (int_at m q) (int_at n q))
+
+  pub at-merged : IsAntisymmetric R → (f : ℤ → ℤ → ℤ) → f (pos 0) (pos 0) ≡ pos 0 → (m n : Counts R N) (q : K) → at (merged f m n) q ≡ f (int_at m q) (int_at n q)
+  unfolding merged
+  at-merged tells f e m n q =
+      at-on_keys integers o tells (keys_of (entries m) ++ keys_of (entries n)) (λ p. f (int_at m p) (int_at n p)) q
+      ∙ ap (λ b. cond b (f (int_at m q) (int_at n q)) (pos 0)) (list_any-append (eq_by_cmp R q) (keys_of (entries m)) (keys_of (entries n)))
+      ∙ merged_list f _ _ (int_at m q) (int_at n q) e (λ t. ap N.int (at-absent m q t) ∙ N.kept_zero) (λ t. ap N.int (at-absent n q t) ∙ N.kept_zero)
+
   -- by how much the second map has more, at the keys at which the two differ
   pub difference : Counts R N → Counts R N → Counts R integers
-  difference m n = on_keys o (keys_of (entries m) ++ keys_of (entries n)) (λ q. int_at n q -ℤ int_at m q)
+  difference = merged (λ x y. y -ℤ x)
 
   -- at how many keys two maps differ
   abbrev pub changed : Counts R N → Counts R N → ℕ
@@ -253,27 +280,36 @@ module _ {K X : Type 0} {R : K → K → Ordering} {N : Number X} (o : IsTotalOr
 
   pub at-difference : IsAntisymmetric R → (m n : Counts R N) (q : K) → at (difference m n) q ≡ int_at n q -ℤ int_at m q
   unfolding difference
-  at-difference tells m n q =
-      at-on_keys integers o tells (keys_of (entries m) ++ keys_of (entries n)) (λ p. int_at n p -ℤ int_at m p) q
-      ∙ ap (λ b. cond b (int_at n q -ℤ int_at m q) (pos 0)) (list_any-append (eq_by_cmp R q) (keys_of (entries m)) (keys_of (entries n)))
-      ∙ less_list _ _ (int_at m q) (int_at n q) (λ e. ap N.int (at-absent m q e) ∙ N.kept_zero) (λ e. ap N.int (at-absent n q e) ∙ N.kept_zero)
+  at-difference tells m n q = at-merged tells (λ x y. y -ℤ x) refl m n q
 
 -- ---- there and back
 
-overwritten : {X : Type 0} (b : Bool) (x y z : X) → (b ≡ true → x ≡ z) → cond b x (cond b y z) ≡ z
-overwritten true x y z e = e refl
-overwritten false x y z e = refl
+twice : {X : Type 0} (b : Bool) (v w x : X) → cond b w (cond b v x) ≡ cond b w x
+twice true v w x = refl
+twice false v w x = refl
+
+itself : {X : Type 0} (b : Bool) (x y : X) → (b ≡ true → y ≡ x) → cond b x y ≡ y
+itself true x y e = sym (e refl)
+itself false x y e = refl
 
 module _ {K X : Type 0} {R : K → K → Ordering} {N : Number X} (o : IsTotalOrder R) (tells : IsAntisymmetric R) where
   pub at-set_here : (m : Counts R N) (k : K) (v : X) → at (set o m k v) k ≡ v
   at-set_here m k v = at-set o m k v k ∙ ap (λ r. cond (is_eq r) v (at m k)) (tied_itself o k)
 
-  -- the old number is set again
-  pub set-back : (m : Counts R N) (k : K) (v w : X) → w ≡ at m k → set o (set o m k v) k w ≡ m
-  set-back m k v w is =
+  -- the last number that is set stays
+  pub set-set : (m : Counts R N) (k : K) (v w : X) → set o (set o m k v) k w ≡ set o m k w
+  set-set m k v w =
       same o tells _ _ (λ q.
       at-set o (set o m k v) k w q ∙ ap (cond (eq_by_cmp R q k) w) (at-set o m k v q)
-      ∙ overwritten (eq_by_cmp R q k) w v (at m q) (λ e. is ∙ ap (at m) (sym (tells_apart tells q k e))))
+      ∙ twice (eq_by_cmp R q k) v w (at m q) ∙ sym (at-set o m k w q))
+
+  -- the number that is there is set
+  pub set-at : (m : Counts R N) (k : K) → set o m k (at m k) ≡ m
+  set-at m k = same o tells _ _ (λ q. at-set o m k (at m k) q ∙ itself (eq_by_cmp R q k) (at m k) (at m q) (λ e. ap (at m) (tells_apart tells q k e)))
+
+  -- the old number is set again
+  pub set-back : (m : Counts R N) (k : K) (v w : X) → w ≡ at m k → set o (set o m k v) k w ≡ m
+  set-back m k v w is = set-set m k v w ∙ ap (set o m k) is ∙ set-at m k
 
   -- what was added is taken away
   pub added-back : (m : Counts R N) (k : K) (n : ℤ) → N.int (N.of_int (int_at m k +ℤ n)) ≡ int_at m k +ℤ n → added o (added o m k n) k (neg_ℤ n) ≡ m
@@ -281,6 +317,37 @@ module _ {K X : Type 0} {R : K → K → Ordering} {N : Number X} (o : IsTotalOr
       set-back m k (N.of_int (int_at m k +ℤ n)) (N.of_int (int_at (added o m k n) k +ℤ neg_ℤ n))
       (ap (λ x. N.of_int (N.int x +ℤ neg_ℤ n)) (at-set_here m k (N.of_int (int_at m k +ℤ n)))
       ∙ ap (λ z. N.of_int (z +ℤ neg_ℤ n)) fits ∙ ap N.of_int (let e : int_at m k +ℤ n +ℤ neg_ℤ n ≡ int_at m k = omega (arith, ints) in e) ∙ N.kept (at m k))
+
+-- ---- one entry more
+
+no_entry : {X : Type 0} (z : X) (x : Option X) → x ≢ Some z → or_else z x ≡ z → is_some x ≡ false
+no_entry z None n e = refl
+no_entry z (Some v) n e = absurd (n (ap Some e))
+
+grown : (b : Bool) (n : ℕ) → b ≡ false → cond b n (n + 1) ≡ n + 1
+grown true n e = absurd (cc)
+grown false n e = refl
+
+pub size-none : {K X : Type 0} (R : K → K → Ordering) (N : Number X) → size (none {R = R} {N = N}) ≡ 0
+unfolding none entries
+size-none {K} {X} R N = sym (fin.len-entries (fin.empty {X = X} {R = R})) ∙ fin.len-empty R X
+
+module _ {K X : Type 0} {R : K → K → Ordering} {N : Number X} (o : IsTotalOrder R) where
+  larger : (m : Counts R N) (k : K) (v : X) → at m k ≡ nil N → length (fin.entries (insert m.map k v)) ≡ length (fin.entries m.map) + 1
+  unfolding at
+  larger m k v absent =
+      sym (fin.len-entries (insert m.map k v)) ∙ fin.len-insert o m.map k v
+      ∙ grown _ _ (no_entry (nil N) (get m.map k) (m.nonzero k) absent) ∙ ap (λ n. n + 1) (fin.len-entries m.map)
+
+  size-set_by : (m : Counts R N) (k : K) (v : X) (z : ℤ) (e : N.int v ≡ z) → v ≢ nil N → at m k ≡ nil N → size (set_by o m k v z e) ≡ size m + 1
+  unfolding at entries put_in set_by
+  size-set_by m k v (pos zero) e some absent = absurd (some (sym (N.kept v) ∙ ap N.of_int e))
+  size-set_by m k v (pos (suc n)) e some absent = larger m k v absent
+  size-set_by m k v (negsuc n) e some absent = larger m k v absent
+
+  pub size-set : (m : Counts R N) (k : K) (v : X) → v ≢ nil N → at m k ≡ nil N → size (set o m k v) ≡ size m + 1
+  unfolding set
+  size-set m k v some absent = size-set_by m k v (N.int v) refl some absent
 
 -- ---- what the entries weigh
 

@@ -3,18 +3,19 @@ use Rattle.std.proofs.Common.{◌≡◌, ℕ, ◌*◌, ◌<◌, ◌≤◌, Optio
 use Rattle.std.specs.Prelude.{slice_index, Vec}
 use Rattle.std.specs.Option.{option_map}
 use Rattle.std.proofs.lemmas.List.{length-reverse}
+use Rattle.nd_graph.specs.declared.graph.Arc.{Arc}
 use Rattle.nd_graph.specs.Graph.{Dataflow, arcs, depths}
 use Rattle.nd_paths.specs.declared.point.Pointstamp.{Pointstamp}
 use Rattle.nd_paths.specs.declared.summary.Summary.{Summary}
-use Rattle.nd_paths.specs.Order.{Fits, CouldResultIn}
+use Rattle.nd_paths.specs.Order.{Fits, CouldResultIn, IsWalk}
 use Rattle.nd_paths.specs.Summary.{applied}
-use Rattle.nd_paths.specs.Inside.{keeps, AtOrBefore, inner, apply}
-use Rattle.nd_paths.specs.Table.{entry, IsLeast, SaysReaches, SomeLeads, HeldFit, IsTable}
+use Rattle.nd_paths.specs.Inside.{keeps, AtOrBefore, inner, apply, summary_of}
+use Rattle.nd_paths.specs.Table.{entry, IsLeast, SaysReaches, SomeLeads, HeldFit, HoldsAny, IsTable}
 use Rattle.nd_paths.proofs.Summaries.{IsFor}
 use Rattle.nd_paths.proofs.Walks.{IsFor-walk}
 use Rattle.nd_paths.proofs.Tables.{says_sound, says_complete}
 use Rattle.nd_paths.proofs.RowLemmas.{of_entry}
-use Rattle.nd_paths.proofs.Reversed.{reverse-applied, lexical_from_before, before_from_lexical}
+use Rattle.nd_paths.proofs.Reversed.{reverse-applied, lexical_from_before, before_from_lexical, along_walk, walk_along}
 use Rattle.nd_paths.proofs.Stored.{length-applied}
 use Rattle.nd_paths.proofs.Graphs.{fits_size, could_from_reaches, reaches_from_could}
 
@@ -62,3 +63,16 @@ module _ {Z : Type 0} (g : Dataflow) (rows : List (Vec (Option Summary) Z)) (h :
   leads_from_could s t row least could =
       let says = says_complete (depths g) (arcs g) (entry row) s.location t.location (reverse s.time.counters) (reverse t.time.counters) h.agree (length-reverse s.time.counters ∙ (fits_size g s could.fits_s).1) least (reaches_from_could g s t could) in
       leads_from_says row t.location s.time.counters t.time.counters (held_fit_points s t row could.fits_s could.fits_t least) says
+
+-- something is held at a location exactly if a walk leads there
+pub walk_from_held : (g : Dataflow) (a b : ℕ) (row : List (Option Summary)) → IsLeast (depths g) (arcs g) a (entry row) → HoldsAny row b → (w : List Arc) × IsWalk g a w b
+walk_from_held g a b row least (r, u, e) =
+    let (w, walk, _, _) = least.walks b r (inner u) (ap (option_map inner) e) in
+    (w, along_walk g w a b walk)
+
+pub held_from_walk : (g : Dataflow) (a b : ℕ) (row : List (Option Summary)) → IsLeast (depths g) (arcs g) a (entry row) → (w : List Arc) × IsWalk g a w b → HoldsAny row b
+held_from_walk g a b row least (w, walk) =
+    let (t, found, _) = least.covers w b (walk_along g w a b walk) in
+    let keep : ℕ = (summary_of (depths g) a w).keep in
+    let (u, is, _) = of_entry row b keep t found in
+    (keep, u, sym is)

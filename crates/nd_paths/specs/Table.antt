@@ -74,6 +74,10 @@ SaysReaches row b c d = (r : ℕ) × (u : Summary) × (row b r ≡ Some u) × At
 abbrev pub HeldFit : List (Option Summary) → ℕ → ℕ → ℕ → Type 0
 HeldFit row b d e = (r : ℕ) (s : Summary) → held row b r ≡ Some s → (s.keep ≤ d) × (s.keep + length s.constants ≡ e)
 
+-- something is held at b
+abbrev pub HoldsAny : List (Option Summary) → ℕ → Type 0
+HoldsAny row b = (r : ℕ) × (u : Summary) × (held row b r ≡ Some u)
+
 -- something held at b turns counters c, outermost first, into some that are at most d
 abbrev pub SomeLeads : List (Option Summary) → ℕ → List ℕ → List ℕ → Type 0
 SomeLeads row b c d = (r : ℕ) × (u : Summary) × (held row b r ≡ Some u) × IsLexicallyAtMost (applied u c) d

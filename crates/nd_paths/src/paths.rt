@@ -1,15 +1,16 @@
 //! The order of pointstamps.
 ghost use Rattle.std.specs.Prelude.{◌≡◌, ◌<◌, ◌↔◌, ◌⊎◌, IsTrue, IfOk, IfErr, List, ◌∷◌};
 ghost use Rattle.nd_paths.specs.declared.point.Pointstamp.{Pointstamp};
-ghost use Rattle.nd_paths.specs.Order.{CouldResultIn, Fits, IsAccepted, IsStrictlyBefore};
+ghost use Rattle.nd_paths.specs.Order.{CouldResultIn, Fits, IsAccepted, IsStrictlyBefore, IsWalk};
 ghost use Rattle.nd_paths.specs.Laws.{IsMinimalAmong};
+ghost use Rattle.nd_graph.specs.declared.graph.Arc.{Arc};
 ghost use Rattle.nd_graph.specs.Graph.{location_count};
 ghost use Rattle.nd_paths.specs.Summary.{AreLeastSummaries};
 ghost use Rattle.nd_paths.specs.Fault.{IsFault};
 ghost use Rattle.nd_paths.specs.Table.{IsTable};
 
 use crate::accept::{PathFault, rows_of};
-use crate::table::{KEEPS, copied_rows, leads_among, listed};
+use crate::table::{KEEPS, copied_rows, holds_any, leads_among, listed};
 use crate::{Pointstamp, Summary};
 use arrayvec::ArrayVec;
 use nd_graph::Graph;
@@ -96,6 +97,15 @@ impl<A: Allocator> Paths<A> {
         ensures { AreLeastSummaries self.now from to result.items }
     {
         listed(&self.rows[from], to)
+    }
+
+    /// Whether some walk leads from one location to another.
+    pub fn leads(&self, from: usize, to: usize) -> bool
+        requires from { from < location_count self.now }
+        requires to { to < location_count self.now }
+        ensures { IsTrue result ↔ ((walk : List Arc) × IsWalk self.now from walk to) }
+    {
+        holds_any(&self.rows[from], to)
     }
 
     /// The order is a partial order, and of finitely many pointstamps one has no other before it.

@@ -4,7 +4,7 @@ ghost use Rattle.std.specs.Bool.{OnFalse};
 ghost use Rattle.std.specs.Option.{option_copied};
 ghost use Rattle.nd_time.specs.Limits.{max_depth, max_locations};
 ghost use Rattle.nd_paths.specs.Inside.{keeps, DepthsAgree, identity};
-ghost use Rattle.nd_paths.specs.Table.{held, entry, CanRelax, Relaxed, Quiet, HasWalks, CoversShort, ShowsFail, Closes, SomeLeads, HeldFit, AreCopies, KeepsPlaces, IsListed};
+ghost use Rattle.nd_paths.specs.Table.{held, entry, CanRelax, Relaxed, Quiet, HasWalks, CoversShort, ShowsFail, Closes, SomeLeads, HeldFit, HoldsAny, AreCopies, KeepsPlaces, IsListed};
 
 use crate::Summary;
 use arrayvec::ArrayVec;
@@ -157,6 +157,19 @@ pub fn leads_among(row: &[Option<Summary>], location: usize, from: &[u32], to: &
             if summary.leads(from, to) {
                 return true;
             }
+        }
+    }
+    false
+}
+
+/// Whether something is held for a location.
+pub fn holds_any(row: &[Option<Summary>], location: usize) -> bool
+    requires { location * keeps + keeps ≤ length row.now }
+    ensures { IsTrue result ↔ HoldsAny row.now location }
+{
+    for keep in 0..KEEPS {
+        if look(row, location, keep).is_some() {
+            return true;
         }
     }
     false

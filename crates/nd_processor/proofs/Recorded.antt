@@ -9,14 +9,13 @@ use Rattle.std.specs.Prelude.{All, OnErr, OnOk, Result, Err, Ok, sum_by}
 use Rattle.std.specs.List.{filter}
 use Rattle.std.specs.declared.ops.Bound.TheVariants.{Included}
 use Rattle.std.specs.BTreeMap.Range.{IsLeBy, range_contains, entries_between}
-use Rattle.std.specs.Ordering.{eq_by_cmp, int_cmp, is_eq, is_gt, is_le, is_lt, ordering_then}
+use Rattle.std.specs.Ordering.{int_cmp, is_eq, is_gt, is_le, is_lt, ordering_then}
 use Rattle.std.specs.FinMap.{find, put}
-use Rattle.std.specs.FinMap.Entries.{find-put}
 use Rattle.nd_time.specs.Limits.{max_count}
 use Rattle.nd_map.specs.Counts.{or_else}
 use Rattle.nd_map.specs.Entries.{all_found}
 use Rattle.nd_map.specs.Listed.{without}
-use Rattle.nd_map.specs.Maps.{find-without}
+use Rattle.nd_map.specs.Kept as stored
 use Rattle.nd_map.specs.Weights.{weight}
 use Rattle.nd_paths.specs.Point.{point_cmp, point_total}
 use Rattle.nd_paths.specs.declared.point.Pointstamp.{Pointstamp}
@@ -28,23 +27,15 @@ use Rattle.nd_map.specs.Ends.{not_below, not_above}
 
 -- ---- an edit leaves records
 
-one_of : (P : Type 0) (b : Bool) (w x : Option ℕ) → (b ≡ true → IfSome w (λ _. P)) → IfSome x (λ _. P) → IfSome (cond b w x) (λ _. P)
-one_of P true w x g h = g refl
-one_of P false w x g h = h
-
 module _ (es : List (ValueAt × ℕ)) (k : ValueAt) (kept : AreRecords es) where
   put_records : (n : ℕ) → FitsSigned w64 k.value → AreRecords (put value_at_cmp k n es)
   put_records n fits = record {
-    values = λ q. subst (λ x. IfSome x (λ _. FitsSigned w64 q.value)) (sym (find-put value_at_cmp value_at_total q k n es))
-        (one_of (FitsSigned w64 q.value) (eq_by_cmp value_at_cmp q k) (Some n) (find value_at_cmp q es)
-        (λ t. subst (λ (x : ValueAt). FitsSigned w64 x.value) (sym (tells_apart value_at_exact q k t)) fits) (kept.values q));
+    values = stored.each_put value_at_cmp value_at_total es k (λ k _. FitsSigned w64 k.value) n
+        (λ q t. subst (λ (x : ValueAt). FitsSigned w64 x.value) (sym (tells_apart value_at_exact q k t)) fits) kept.values;
   }
 
   without_records : AreRecords (without value_at_cmp k es)
-  without_records = record {
-    values = λ q. subst (λ x. IfSome x (λ _. FitsSigned w64 q.value)) (sym (find-without value_at_cmp value_at_total q k es))
-        (one_of (FitsSigned w64 q.value) (eq_by_cmp value_at_cmp q k) None (find value_at_cmp q es) (λ _. tt) (kept.values q));
-  }
+  without_records = record { values = stored.each_without value_at_cmp value_at_total es k (λ k _. FitsSigned w64 k.value) kept.values }
 
   -- of a value of 64 bits there is another count, if it is not 0
   counted : (n : ℕ) → (n ≢ 0 → FitsSigned w64 k.value) → AreRecords (put_count value_at_cmp k n es)
@@ -117,7 +108,7 @@ module _ (x : Pointstamp) (es : List (ValueAt × ℕ)) (kept : IsKept value_at_c
       let those = entries_between value_at_cmp (Included (first_at x)) (Included (last_at x)) es in
       let limited : All (λ (e : ValueAt × ℕ). e.1 ≤ max_count) those
       = All-filter (λ e. range_contains value_at_cmp (Included (first_at x)) (Included (last_at x)) e.0) (λ e. e.1 ≤ max_count) es
-      (all_found value_at_cmp value_at_total (λ _ n. n ≤ max_count) es kept.listed (λ k n is. let c : IsCount n = subst (λ v. IfSome v IsCount) is (kept.counts k) in c.within)) in
+      (all_found value_at_cmp value_at_total (λ _ n. n ≤ max_count) es kept.listed (λ k n is. let c : IsCount n = subst (λ v. IfSome v IsCount) is (kept.numbers k) in c.within)) in
       let bound : sum_by (λ (e : ValueAt × ℕ). e.1) those ≤ length those * max_count = sum_by-le (λ (e : ValueAt × ℕ). e.1) max_count those limited in
       let many : length those * max_count ≤ 2 ^ 63 * max_count = omega arith in
       omega arith

@@ -1,5 +1,5 @@
 -- What a processor keeps, as the state that it is seen as: look-ups and edits.
-use Rattle.std.proofs.Common.{◌≡◌, ◌≤◌, ◌<◌, ℕ, ◌+◌, ◌-◌, ℤ, pos, ◌+ℤ◌, neg_ℤ, List, length, map, Option, Some, None, sym, ap, subst, ◌∙◌}
+use Rattle.std.proofs.Common.{◌≡◌, ◌≤◌, ◌<◌, ℕ, ◌+◌, ◌-◌, ℤ, pos, neg_ℤ, List, length, map, Option, Some, None, sym, ap, subst, ◌∙◌}
 use Rattle.std.specs.Option.{option_map}
 use Rattle.std.specs.Prelude.{slice_get, slice_set, slice_index_or, OnOk, Result, Ok, Err, ◌↔◌, IsTrue, is_some, Bool}
 use Rattle.std.proofs.lemmas.List.{get_or_default}
@@ -11,7 +11,7 @@ use Rattle.std.specs.FinMap.{find, put}
 use Rattle.nd_time.specs.Limits.{max_count}
 use Rattle.nd_map.specs.Listed.{IsListed, without}
 use Rattle.nd_map.specs.Maps.{from_entries-put, from_entries-without, entries-from_entries}
-use Rattle.nd_map.specs.Counts.{naturals, natural, none as no_items, or_else, at, set, added, of_entries, entries as counts_of}
+use Rattle.nd_map.specs.Counts.{none as no_items, or_else, at, added, of_entries, entries as counts_of}
 use Rattle.nd_paths.specs.Point.{point_cmp, point_total, point_exact}
 use Rattle.nd_paths.specs.declared.point.Pointstamp.{Pointstamp}
 use Rattle.nd_delta.specs.Change.{Change}
@@ -24,7 +24,7 @@ use Rattle.nd_processor.specs.Kept.{IsKept, number, put_count, seen}
 use Rattle.nd_processor.specs.Edits.{with_value, value-back, with_vertex_item, vertex_item-back}
 use Rattle.nd_processor.specs.declared.key.ValueAt.{ValueAt}
 use Rattle.nd_processor.specs.declared.key.SinkKey.{SinkKey}
-use Rattle.nd_processor.proofs.KeptLemmas.{at_number, kept_entries, kept_within, more, more_undone, less, less_undone}
+use Rattle.nd_processor.proofs.KeptLemmas.{number_at, kept_entries, kept_within, more, more_undone, less, less_undone}
 
 -- ---- answers that are Results
 
@@ -39,33 +39,36 @@ asked (Some u) y b e same = ((λ t. sym same), λ s. e)
 -- ---- look-ups and edits of the state
 
 module _ (records : List (ValueAt × ℕ)) (requests : List (Pointstamp × Unit {0})) (tokens : List (ℕ × ℕ)) (items : List Items) (sinks : List (SinkKey × ℕ)) (unsent : Change) (state : ProcessorState) (view : seen records requests tokens items sinks unsent ≡ state) where
+  records_is : of_entries value_at_total records ≡ state.records
+  records_is = ap (λ (q : ProcessorState). q.records) view
+
   pub records_at : (k : ValueAt) → number value_at_cmp records k ≡ at state.records k
-  records_at k = at_number value_at_cmp value_at_total records k value_at_exact ∙ ap (λ (q : ProcessorState). at q.records k) view
+  records_at k = number_at value_at_cmp value_at_total value_at_exact records state.records records_is k
 
   pub records_entries : IsKept value_at_cmp records → records ≡ counts_of state.records
-  records_entries kept = sym (kept_entries value_at_cmp value_at_total value_at_exact records kept) ∙ ap (λ (q : ProcessorState). counts_of q.records) view
+  records_entries kept = kept_entries value_at_cmp value_at_total value_at_exact records state.records records_is kept
 
   pub records_within : IsKept value_at_cmp records → (k : ValueAt) → at state.records k ≤ max_count
-  records_within kept k = subst (λ (q : ProcessorState). at q.records k ≤ max_count) view (kept_within value_at_cmp value_at_total value_at_exact records kept k)
+  records_within kept k = kept_within value_at_cmp value_at_total value_at_exact records state.records records_is kept k
 
   pub records_added : (k : ValueAt) (n : ℕ) (fs : List (ValueAt × ℕ)) → fs ≡ put_count value_at_cmp k (number value_at_cmp records k + n) records
       → seen fs requests tokens items sinks unsent ≡ record state { records = added value_at_total state.records k (pos n) }
-  records_added k n fs is = λ i. record (view i) { records = more value_at_cmp value_at_total value_at_exact records state.records (ap (λ (q : ProcessorState). q.records) view) k n fs is i }
+  records_added k n fs is = λ i. record (view i) { records = more value_at_cmp value_at_total value_at_exact records state.records records_is k n fs is i }
 
   pub records_more_undone : (k : ValueAt) (n : ℕ) (fs : List (ValueAt × ℕ)) → fs ≡ put_count value_at_cmp k (number value_at_cmp records k + n) records
       → record (seen fs requests tokens items sinks unsent) { records = added value_at_total (of_entries value_at_total fs) k (neg_ℤ (pos n)) } ≡ state
-  records_more_undone k n fs is = λ i. record (view i) { records = more_undone value_at_cmp value_at_total value_at_exact records state.records (ap (λ (q : ProcessorState). q.records) view) k n fs is i }
+  records_more_undone k n fs is = λ i. record (view i) { records = more_undone value_at_cmp value_at_total value_at_exact records state.records records_is k n fs is i }
 
   pub records_there : (k : ValueAt) (n : ℕ) → n ≤ at state.records k → n ≤ number value_at_cmp records k
   records_there k n h = subst (λ m. n ≤ m) (sym (records_at k)) h
 
   pub records_taken : (k : ValueAt) (n : ℕ) (fs : List (ValueAt × ℕ)) → n ≤ at state.records k → fs ≡ put_count value_at_cmp k (number value_at_cmp records k - n) records
       → seen fs requests tokens items sinks unsent ≡ record state { records = added value_at_total state.records k (neg_ℤ (pos n)) }
-  records_taken k n fs h is = λ i. record (view i) { records = less value_at_cmp value_at_total value_at_exact records state.records (ap (λ (q : ProcessorState). q.records) view) k n fs h is i }
+  records_taken k n fs h is = λ i. record (view i) { records = less value_at_cmp value_at_total value_at_exact records state.records records_is k n fs h is i }
 
   pub records_less_undone : (k : ValueAt) (n : ℕ) (fs : List (ValueAt × ℕ)) → n ≤ at state.records k → fs ≡ put_count value_at_cmp k (number value_at_cmp records k - n) records
       → record (seen fs requests tokens items sinks unsent) { records = added value_at_total (of_entries value_at_total fs) k (pos n) } ≡ state
-  records_less_undone k n fs h is = λ i. record (view i) { records = less_undone value_at_cmp value_at_total value_at_exact records state.records (ap (λ (q : ProcessorState). q.records) view) k n fs h is i }
+  records_less_undone k n fs h is = λ i. record (view i) { records = less_undone value_at_cmp value_at_total value_at_exact records state.records records_is k n fs h is i }
 
   pub records_absent : (k : ValueAt) → find value_at_cmp k records ≡ None → at state.records k ≡ 0
   records_absent k none = sym (records_at k) ∙ ap (or_else 0) none
@@ -73,33 +76,36 @@ module _ (records : List (ValueAt × ℕ)) (requests : List (Pointstamp × Unit 
   pub records_full : (k : ValueAt) (n : ℕ) {P : Type 0} → P ↔ (max_count < number value_at_cmp records k + n) → P ↔ (max_count < at state.records k + n)
   records_full k n {P} h = subst (λ m. P ↔ (max_count < m + n)) (records_at k) h
 
+  sinks_is : of_entries sink_total sinks ≡ state.sinks
+  sinks_is = ap (λ (q : ProcessorState). q.sinks) view
+
   pub sinks_at : (k : SinkKey) → number sink_cmp sinks k ≡ at state.sinks k
-  sinks_at k = at_number sink_cmp sink_total sinks k sink_exact ∙ ap (λ (q : ProcessorState). at q.sinks k) view
+  sinks_at k = number_at sink_cmp sink_total sink_exact sinks state.sinks sinks_is k
 
   pub sinks_entries : IsKept sink_cmp sinks → sinks ≡ counts_of state.sinks
-  sinks_entries kept = sym (kept_entries sink_cmp sink_total sink_exact sinks kept) ∙ ap (λ (q : ProcessorState). counts_of q.sinks) view
+  sinks_entries kept = kept_entries sink_cmp sink_total sink_exact sinks state.sinks sinks_is kept
 
   pub sinks_within : IsKept sink_cmp sinks → (k : SinkKey) → at state.sinks k ≤ max_count
-  sinks_within kept k = subst (λ (q : ProcessorState). at q.sinks k ≤ max_count) view (kept_within sink_cmp sink_total sink_exact sinks kept k)
+  sinks_within kept k = kept_within sink_cmp sink_total sink_exact sinks state.sinks sinks_is kept k
 
   pub sinks_added : (k : SinkKey) (n : ℕ) (fs : List (SinkKey × ℕ)) → fs ≡ put_count sink_cmp k (number sink_cmp sinks k + n) sinks
       → seen records requests tokens items fs unsent ≡ record state { sinks = added sink_total state.sinks k (pos n) }
-  sinks_added k n fs is = λ i. record (view i) { sinks = more sink_cmp sink_total sink_exact sinks state.sinks (ap (λ (q : ProcessorState). q.sinks) view) k n fs is i }
+  sinks_added k n fs is = λ i. record (view i) { sinks = more sink_cmp sink_total sink_exact sinks state.sinks sinks_is k n fs is i }
 
   pub sinks_more_undone : (k : SinkKey) (n : ℕ) (fs : List (SinkKey × ℕ)) → fs ≡ put_count sink_cmp k (number sink_cmp sinks k + n) sinks
       → record (seen records requests tokens items fs unsent) { sinks = added sink_total (of_entries sink_total fs) k (neg_ℤ (pos n)) } ≡ state
-  sinks_more_undone k n fs is = λ i. record (view i) { sinks = more_undone sink_cmp sink_total sink_exact sinks state.sinks (ap (λ (q : ProcessorState). q.sinks) view) k n fs is i }
+  sinks_more_undone k n fs is = λ i. record (view i) { sinks = more_undone sink_cmp sink_total sink_exact sinks state.sinks sinks_is k n fs is i }
 
   pub sinks_there : (k : SinkKey) (n : ℕ) → n ≤ at state.sinks k → n ≤ number sink_cmp sinks k
   sinks_there k n h = subst (λ m. n ≤ m) (sym (sinks_at k)) h
 
   pub sinks_taken : (k : SinkKey) (n : ℕ) (fs : List (SinkKey × ℕ)) → n ≤ at state.sinks k → fs ≡ put_count sink_cmp k (number sink_cmp sinks k - n) sinks
       → seen records requests tokens items fs unsent ≡ record state { sinks = added sink_total state.sinks k (neg_ℤ (pos n)) }
-  sinks_taken k n fs h is = λ i. record (view i) { sinks = less sink_cmp sink_total sink_exact sinks state.sinks (ap (λ (q : ProcessorState). q.sinks) view) k n fs h is i }
+  sinks_taken k n fs h is = λ i. record (view i) { sinks = less sink_cmp sink_total sink_exact sinks state.sinks sinks_is k n fs h is i }
 
   pub sinks_less_undone : (k : SinkKey) (n : ℕ) (fs : List (SinkKey × ℕ)) → n ≤ at state.sinks k → fs ≡ put_count sink_cmp k (number sink_cmp sinks k - n) sinks
       → record (seen records requests tokens items fs unsent) { sinks = added sink_total (of_entries sink_total fs) k (pos n) } ≡ state
-  sinks_less_undone k n fs h is = λ i. record (view i) { sinks = less_undone sink_cmp sink_total sink_exact sinks state.sinks (ap (λ (q : ProcessorState). q.sinks) view) k n fs h is i }
+  sinks_less_undone k n fs h is = λ i. record (view i) { sinks = less_undone sink_cmp sink_total sink_exact sinks state.sinks sinks_is k n fs h is i }
 
   pub sinks_absent : (k : SinkKey) → find sink_cmp k sinks ≡ None → at state.sinks k ≡ 0
   sinks_absent k none = sym (sinks_at k) ∙ ap (or_else 0) none

@@ -1,5 +1,5 @@
 -- Edits of a processor's maps, and that each is undone by its inverse.
-use Rattle.std.specs.Prelude.{◌≡◌, ◌≢◌, ◌≤◌, ◌<◌, ℕ, zero, suc, ◌-◌, ℤ, pos, negsuc, ◌+ℤ◌, ◌-ℤ◌, neg_ℤ, Bool, true, false, cond, List, [], ◌∷◌, length, map, Option, Some, None, slice_index_or, slice_set, refl}
+use Rattle.std.specs.Prelude.{◌≡◌, ◌≤◌, ◌<◌, ℕ, zero, suc, ◌-◌, ℤ, pos, negsuc, ◌+ℤ◌, neg_ℤ, Bool, true, false, cond, List, [], ◌∷◌, length, map, Option, Some, None, slice_index_or, slice_set, refl}
 use Rattle.std.proofs.Common.{Ordering, sym, ap, ◌∙◌, arith}
 use Rattle.std.proofs.lemmas.Int.{ints}
 use Rattle.std.proofs.lemmas.List.{set-get_or, get_or-set_same}
@@ -7,10 +7,9 @@ use Rattle.std.proofs.lemmas.Map.Views.{tells_apart}
 use Rattle.std.specs.Ordering.{eq_by_cmp}
 use Rattle.std.specs.Cmp.{IsTotalOrder}
 use Rattle.std.specs.FinMap as fin
-use Rattle.nd_paths.specs.Point.{point_exact}
 use Rattle.nd_paths.specs.declared.point.Pointstamp.{Pointstamp}
 use Rattle.nd_map.specs.Counts.{Counts, naturals, natural, none as no_items, at as count_at, added, added-back}
-use Rattle.nd_delta.specs.Change.{Change, at, set, same, plus, minus, is_point, at-set, at-set_same, at-plus, at-minus}
+use Rattle.nd_delta.specs.Change.{Change, at, set, at-set_same, set-set, set-at}
 use Rattle.nd_vertex.specs.Items.{Items, item_total, item_exact}
 use Rattle.nd_vertex.specs.Edits.{item_of, with_item, number_of}
 use Rattle.nd_vertex.specs.Table.{is_zero}
@@ -99,16 +98,4 @@ more_unsent m x n = set m x (at m x +ℤ n)
 pub unsent-back : (m : Change) (x : Pointstamp) (n : ℤ) → more_unsent (more_unsent m x n) x (neg_ℤ n) ≡ m
 unsent-back m x n =
     let back : at (more_unsent m x n) x +ℤ neg_ℤ n ≡ at m x = ap (λ z. z +ℤ neg_ℤ n) (at-set_same m x (at m x +ℤ n)) ∙ (let e : at m x +ℤ n +ℤ neg_ℤ n ≡ at m x = omega (arith, ints) in e) in
-    same _ _ (λ q.
-    at-set (more_unsent m x n) x (at (more_unsent m x n) x +ℤ neg_ℤ n) q
-    ∙ (λ i. cond (is_point q x) (back i) (at-set m x (at m x +ℤ n) q i))
-    ∙ over (is_point q x) (at m x) (at m x +ℤ n) (at m q) (λ e. ap (at m) (sym (tells_apart point_exact q x e))))
-
--- a part that is taken out is put back, and the other way round
-pub part-back : (m part : Change) → plus (minus m part) part ≡ m
-part-back m part =
-    same _ _ (λ q. at-plus (minus m part) part q ∙ ap (λ z. z +ℤ at part q) (at-minus m part q) ∙ (let e : at m q -ℤ at part q +ℤ at part q ≡ at m q = omega (arith, ints) in e))
-
-pub part-out : (m part : Change) → minus (plus m part) part ≡ m
-part-out m part =
-    same _ _ (λ q. at-minus (plus m part) part q ∙ ap (λ z. z -ℤ at part q) (at-plus m part q) ∙ (let e : at m q +ℤ at part q -ℤ at part q ≡ at m q = omega (arith, ints) in e))
+    ap (set (more_unsent m x n) x) back ∙ set-set m x (at m x +ℤ n) (at m x) ∙ set-at m x

@@ -1,10 +1,11 @@
 -- What a processor keeps, as lists of entries, and the state that it is seen as.
-use Rattle.std.specs.Prelude.{◌≢◌, ◌≤◌, ℕ, cond, FitsSigned, List, IfSome, nat_eq}
+use Rattle.std.specs.Prelude.{◌≢◌, ◌≤◌, ℕ, cond, FitsSigned, List, nat_eq}
 use mir.Syntax.{w64}
 use Rattle.std.specs.declared.cmp.Ordering.{Ordering}
 use Rattle.std.specs.FinMap.{find, put, from_entries}
 use Rattle.nd_time.specs.Limits.{max_count}
-use Rattle.nd_map.specs.Listed.{IsListed, without}
+use Rattle.nd_map.specs.Listed.{without}
+use Rattle.nd_map.specs.Kept as stored
 use Rattle.nd_map.specs.Counts.{or_else, of_entries}
 use Rattle.nd_paths.specs.declared.point.Pointstamp.{Pointstamp}
 use Rattle.nd_delta.specs.Change.{Change}
@@ -20,13 +21,12 @@ pub record IsCount (n : ℕ) : Type 0 where
   pub within : n ≤ max_count
 
 -- entries in the order of listing, each with a count
-pub record IsKept {K : Type 0} (R : K → K → Ordering) (es : List (K × ℕ)) : Type 0 where
-  pub listed : IsListed R es
-  pub counts : (q : K) → IfSome (find R q es) IsCount
+abbrev pub IsKept : {K : Type 0} → (K → K → Ordering) → List (K × ℕ) → Type 0
+IsKept R es = stored.IsKept R (λ _. IsCount) es
 
 -- records, each of a value of 64 bits
 pub record AreRecords (es : List (ValueAt × ℕ)) : Type 0 where
-  pub values : (q : ValueAt) → IfSome (find value_at_cmp q es) (λ _. FitsSigned w64 q.value)
+  pub values : stored.EachIs value_at_cmp (λ k _. FitsSigned w64 k.value) es
 
 -- the count that is found at a key
 abbrev pub number : {K : Type 0} → (K → K → Ordering) → List (K × ℕ) → K → ℕ

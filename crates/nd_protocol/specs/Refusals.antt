@@ -1,46 +1,30 @@
 -- The number and the name under which each refusal is answered (this project's own rule).
-use Rattle.std.specs.Prelude.{ℕ, List, codes}
+use Rattle.std.specs.Prelude.{ℕ, codes}
+use Rattle.nd_time.specs.Code.{Code, coded}
 use Rattle.nd_protocol.specs.declared.refusal.Refusal.{Refusal}
 use Rattle.nd_protocol.specs.declared.refusal.Refusal.TheVariants.{NoProcessor, NoVertex, NoEdge, NotInput, InputClosed, TooManyValues, EpochFull, NoRecord, NoRequest, NotYet, CounterFull, ValueRange, CountFull, DeltaFull, NothingToSend, NotAdmissible, QueueEmpty, QueueFull, Memory}
 
-abbrev pub number_of : Refusal → ℕ
-number_of NoProcessor = 1
-number_of NoVertex = 2
-number_of NoEdge = 3
-number_of NotInput = 4
-number_of InputClosed = 5
-number_of TooManyValues = 6
-number_of EpochFull = 7
-number_of NoRecord = 8
-number_of NoRequest = 9
-number_of (NotYet blocker) = 10
-number_of CounterFull = 11
-number_of ValueRange = 12
-number_of CountFull = 13
-number_of DeltaFull = 14
-number_of NothingToSend = 15
-number_of (NotAdmissible point) = 16
-number_of QueueEmpty = 17
-number_of QueueFull = 18
-number_of Memory = 19
+abbrev pub code_of : Refusal → Code
+code_of NoProcessor = coded 1 (codes "NoProcessor")
+code_of NoVertex = coded 2 (codes "NoVertex")
+code_of NoEdge = coded 3 (codes "NoEdge")
+code_of NotInput = coded 4 (codes "NotInput")
+code_of InputClosed = coded 5 (codes "InputClosed")
+code_of TooManyValues = coded 6 (codes "TooManyValues")
+code_of EpochFull = coded 7 (codes "EpochFull")
+code_of NoRecord = coded 8 (codes "NoRecord")
+code_of NoRequest = coded 9 (codes "NoRequest")
+code_of (NotYet blocker) = coded 10 (codes "NotYet")
+code_of CounterFull = coded 11 (codes "CounterFull")
+code_of ValueRange = coded 12 (codes "ValueRange")
+code_of CountFull = coded 13 (codes "CountFull")
+code_of DeltaFull = coded 14 (codes "DeltaFull")
+code_of NothingToSend = coded 15 (codes "NothingToSend")
+code_of (NotAdmissible point) = coded 16 (codes "NotAdmissible")
+code_of QueueEmpty = coded 17 (codes "QueueEmpty")
+code_of QueueFull = coded 18 (codes "QueueFull")
+code_of Memory = coded 19 (codes "Memory")
 
-abbrev pub name_of : Refusal → List ℕ
-name_of NoProcessor = codes "NoProcessor"
-name_of NoVertex = codes "NoVertex"
-name_of NoEdge = codes "NoEdge"
-name_of NotInput = codes "NotInput"
-name_of InputClosed = codes "InputClosed"
-name_of TooManyValues = codes "TooManyValues"
-name_of EpochFull = codes "EpochFull"
-name_of NoRecord = codes "NoRecord"
-name_of NoRequest = codes "NoRequest"
-name_of (NotYet blocker) = codes "NotYet"
-name_of CounterFull = codes "CounterFull"
-name_of ValueRange = codes "ValueRange"
-name_of CountFull = codes "CountFull"
-name_of DeltaFull = codes "DeltaFull"
-name_of NothingToSend = codes "NothingToSend"
-name_of (NotAdmissible point) = codes "NotAdmissible"
-name_of QueueEmpty = codes "QueueEmpty"
-name_of QueueFull = codes "QueueFull"
-name_of Memory = codes "Memory"
+-- refusals are tested in the order of their numbers
+abbrev pub number_of : Refusal → ℕ
+number_of r = (code_of r).number

@@ -1,8 +1,9 @@
 //! Why a step is refused.
 ghost use Rattle.std.specs.Prelude.{◌≡◌};
-ghost use Rattle.nd_protocol.specs.Refusals.{number_of, name_of};
+ghost use Rattle.nd_protocol.specs.Refusals.{code_of};
 
 use nd_paths::Pointstamp;
+use nd_time::Code;
 use thiserror::Error;
 
 /// Why a step is refused, tested in the order of the numbers (this project's own rule).
@@ -80,57 +81,30 @@ impl Refusal {
         }
     }
 
-    /// The refusal's number.
-    pub fn number(&self) -> u64
-        ensures { result ≡ number_of self.now }
+    /// The number and the name under which the refusal is answered.
+    pub fn code(&self) -> Code
+        ensures { result ≡ code_of self.now }
     {
         match self {
-            Refusal::NoProcessor => 1,
-            Refusal::NoVertex => 2,
-            Refusal::NoEdge => 3,
-            Refusal::NotInput => 4,
-            Refusal::InputClosed => 5,
-            Refusal::TooManyValues => 6,
-            Refusal::EpochFull => 7,
-            Refusal::NoRecord => 8,
-            Refusal::NoRequest => 9,
-            Refusal::NotYet { blocker: _ } => 10,
-            Refusal::CounterFull => 11,
-            Refusal::ValueRange => 12,
-            Refusal::CountFull => 13,
-            Refusal::DeltaFull => 14,
-            Refusal::NothingToSend => 15,
-            Refusal::NotAdmissible { point: _ } => 16,
-            Refusal::QueueEmpty => 17,
-            Refusal::QueueFull => 18,
-            Refusal::Memory => 19,
-        }
-    }
-
-    /// The refusal's name.
-    pub fn name(&self) -> &'static str
-        ensures { result.now ≡ name_of self.now }
-    {
-        match self {
-            Refusal::NoProcessor => "NoProcessor",
-            Refusal::NoVertex => "NoVertex",
-            Refusal::NoEdge => "NoEdge",
-            Refusal::NotInput => "NotInput",
-            Refusal::InputClosed => "InputClosed",
-            Refusal::TooManyValues => "TooManyValues",
-            Refusal::EpochFull => "EpochFull",
-            Refusal::NoRecord => "NoRecord",
-            Refusal::NoRequest => "NoRequest",
-            Refusal::NotYet { blocker: _ } => "NotYet",
-            Refusal::CounterFull => "CounterFull",
-            Refusal::ValueRange => "ValueRange",
-            Refusal::CountFull => "CountFull",
-            Refusal::DeltaFull => "DeltaFull",
-            Refusal::NothingToSend => "NothingToSend",
-            Refusal::NotAdmissible { point: _ } => "NotAdmissible",
-            Refusal::QueueEmpty => "QueueEmpty",
-            Refusal::QueueFull => "QueueFull",
-            Refusal::Memory => "Memory",
+            Refusal::NoProcessor => Code::new(1, "NoProcessor"),
+            Refusal::NoVertex => Code::new(2, "NoVertex"),
+            Refusal::NoEdge => Code::new(3, "NoEdge"),
+            Refusal::NotInput => Code::new(4, "NotInput"),
+            Refusal::InputClosed => Code::new(5, "InputClosed"),
+            Refusal::TooManyValues => Code::new(6, "TooManyValues"),
+            Refusal::EpochFull => Code::new(7, "EpochFull"),
+            Refusal::NoRecord => Code::new(8, "NoRecord"),
+            Refusal::NoRequest => Code::new(9, "NoRequest"),
+            Refusal::NotYet { blocker: _ } => Code::new(10, "NotYet"),
+            Refusal::CounterFull => Code::new(11, "CounterFull"),
+            Refusal::ValueRange => Code::new(12, "ValueRange"),
+            Refusal::CountFull => Code::new(13, "CountFull"),
+            Refusal::DeltaFull => Code::new(14, "DeltaFull"),
+            Refusal::NothingToSend => Code::new(15, "NothingToSend"),
+            Refusal::NotAdmissible { point: _ } => Code::new(16, "NotAdmissible"),
+            Refusal::QueueEmpty => Code::new(17, "QueueEmpty"),
+            Refusal::QueueFull => Code::new(18, "QueueFull"),
+            Refusal::Memory => Code::new(19, "Memory"),
         }
     }
 }

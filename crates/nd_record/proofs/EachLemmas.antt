@@ -1,16 +1,16 @@
 -- Lists of changes: what they add at a place, what holds of each of them, and a place that stands in one of them.
-use Rattle.std.proofs.Common.{◌≡◌, ◌≢◌, ◌<◌, ◌≤◌, ◌+◌, ◌-◌, ℕ, zero, suc, ℤ, pos, ◌+ℤ◌, Bool, true, false, cond, List, [], ◌∷◌, ◌++◌, take, drop, length, get_or, nat_eq, refl, sym, ap, subst, ◌∙◌, arith, drop-cons, true≢false}
+use Rattle.std.proofs.Common.{◌≡◌, ◌≢◌, ◌<◌, ◌≤◌, ◌+◌, ◌-◌, ℕ, zero, suc, ℤ, pos, ◌+ℤ◌, Bool, true, false, cond, List, [], ◌∷◌, take, drop, length, get_or, nat_eq, refl, sym, ap, subst, ◌∙◌, arith, drop-cons, true≢false}
 use Rattle.std.proofs.lemmas.Int.{ints}
 use Rattle.std.proofs.lemmas.List.{take-append-drop}
 use Rattle.std.specs.List.{filter}
 use Rattle.std.specs.Ordering.{eq_by_cmp}
-use Rattle.nd_map.specs.Counts.{same}
 use Rattle.nd_protocol.specs.State.{ClusterState}
 use Rattle.nd_record.specs.Places.{Place, place_cmp, place_total}
 use Rattle.nd_record.specs.Standing.{standing, IsThere, MayStand, IsWithinAt}
 use Rattle.nd_record.specs.Changes.{place_of, gain_of, made, FindsOld, Fits, applied}
 use Rattle.nd_record.specs.Edits.{total_at, edits_of}
 use Rattle.nd_record.specs.Plans.{often, Once, Each, kind}
+use Rattle.nd_record.specs.Appended.{often-append, total-append}
 use Rattle.nd_record.specs.declared.change.Change.{Change}
 use Rattle.nd_record.specs.declared.change.Change.TheVariants.{Records, Request, Token, State, Sink, Unsent}
 use Rattle.nd_record.proofs.PlacesLemmas.{SameShape, shape-turned, there_alike, standing-put_other}
@@ -21,14 +21,6 @@ use Rattle.nd_record.proofs.RunsLemmas.{shape-made}
 
 abbrev pub total : Place → List Change → ℤ
 total k cs = total_at (edits_of cs) k
-
-pub often-append : (k : Place) (cs ds : List Change) → often k (cs ++ ds) ≡ often k cs + often k ds
-often-append k [] ds = omega arith
-often-append k (c ∷ cs) ds = let e = often-append k cs ds in omega (arith, e)
-
-pub total-append : (k : Place) (cs ds : List Change) → total k (cs ++ ds) ≡ total k cs +ℤ total k ds
-total-append k [] ds = omega (arith, ints)
-total-append k (c ∷ cs) ds = let e = total-append k cs ds in omega (arith, ints, e)
 
 -- changes by kind are the same changes
 module _ (f : Change → ℕ) (low : (c : Change) → f c ≤ 2) where
@@ -82,10 +74,6 @@ pub each_take : (P : Change → Type 0) (cs : List Change) (k : ℕ) → Each P 
 each_take P cs zero h = tt
 each_take P [] (suc k) h = tt
 each_take P (c ∷ cs) (suc k) h = (h.0, each_take P cs k h.1)
-
-pub each_append : (P : Change → Type 0) (cs ds : List Change) → Each P cs → Each P ds → Each P (cs ++ ds)
-each_append P [] ds h i = i
-each_append P (c ∷ cs) ds h i = (h.0, each_append P cs ds h.1 i)
 
 pub each_picked : (P Q : Change → Type 0) (p : Change → Bool) → ((c : Change) → p c ≡ true → P c → Q c) → (cs : List Change) → Each P cs → Each Q (filter p cs)
 each_picked P Q p imp [] h = tt

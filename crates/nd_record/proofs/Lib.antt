@@ -10,5 +10,8 @@ pub mod LimitsLemmas
 pub mod Differences
 pub mod CountedLemmas
 pub mod ReachesLemmas
+pub mod InversesLemmas
+pub mod RestingLemmas
 pub mod TurnsLemmas
 pub mod ListedLemmas
+pub mod InPlaceLemmas

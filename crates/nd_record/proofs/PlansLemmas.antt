@@ -23,7 +23,8 @@ use Rattle.nd_record.specs.Alike.{same_key}
 use Rattle.nd_record.proofs.CountedLemmas.{queues_same}
 use Rattle.nd_record.proofs.StandingLemmas.{at-difference}
 use Rattle.nd_record.proofs.RunsLemmas.{shape-applied, landed, moved_by, state_none, state_more, all_made, limits_of}
-use Rattle.nd_record.proofs.EachLemmas.{total, often-append, total-append, often-picked, total-picked, each_at, each_take, each_append, each_picked, each_from, each_through, not_there, rest_none, never_added, often_before, gain_alone, untouched, fits_moved}
+use Rattle.nd_record.specs.Appended.{often-append, total-append, each-append}
+use Rattle.nd_record.proofs.EachLemmas.{total, often-picked, total-picked, each_at, each_take, each_picked, each_from, each_through, not_there, rest_none, never_added, often_before, gain_alone, untouched, fits_moved}
 use Rattle.nd_map.specs.Cases.{zero_or_not}
 
 -- changes that reach a state keep the shape
@@ -281,8 +282,8 @@ module _ (s t : ClusterState) (all : List Change) (joined : Reaches s t all) whe
 
   ordered_each : (P : Change → Type 0) → Each P all → Each P (ordered s all)
   ordered_each P h =
-      each_append P (of_kind s 0 all ++ of_kind s 1 all) (of_kind s 2 all)
-      (each_append P (of_kind s 0 all) (of_kind s 1 all) (each_picked P P (λ c. nat_eq (kind s c) 0) (λ c t h. h) all h) (each_picked P P (λ c. nat_eq (kind s c) 1) (λ c t h. h) all h))
+      each-append P (of_kind s 0 all ++ of_kind s 1 all) (of_kind s 2 all)
+      (each-append P (of_kind s 0 all) (of_kind s 1 all) (each_picked P P (λ c. nat_eq (kind s c) 0) (λ c t h. h) all h) (each_picked P P (λ c. nat_eq (kind s c) 1) (λ c t h. h) all h))
       (each_picked P P (λ c. nat_eq (kind s c) 2) (λ c t h. h) all h)
 
   ordered_often : (k : Place) → often k (ordered s all) ≡ often k all
@@ -325,7 +326,7 @@ module _ (s t : ClusterState) (all : List Change) (joined : Reaches s t all) whe
   ordered_runs within =
       runnable s (of_kind s 0 all ++ of_kind s 1 all) (of_kind s 2 all) ordered_joined.once
       (each_from (Fits s) (ordered s all) (λ k d lt. joined_fits s t (ordered s all) ordered_joined k d lt within))
-      (each_append (λ c. after_of s c ≢ pos 0) (of_kind s 0 all) (of_kind s 1 all) (leave_first s all joined.some) (leave_second s all joined.some))
+      (each-append (λ c. after_of s c ≢ pos 0) (of_kind s 0 all) (of_kind s 1 all) (leave_first s all joined.some) (leave_second s all joined.some))
       (find_third s all joined.some)
 
   -- the changes in the order of their kinds can be run, lead to t, and are as many as the places and queues at which it differs

@@ -38,7 +38,7 @@ pub moved_by : (s : ClusterState) (c : Change) (k : Place) → Fits s c → stan
 moved_by s c k fits = standing-put_at s (place_of c) (standing s (place_of c) +ℤ gain_of c) k (fits_there s c fits) fits.inside.may
 
 -- an inverse is made at the same place, and adds the negative
-place-inverse : (c : Change) → place_of (inverse c) ≡ place_of c
+pub place-inverse : (c : Change) → place_of (inverse c) ≡ place_of c
 place-inverse (Records p edge time value n) = refl
 place-inverse (Request p vertex time add) = refl
 place-inverse (Token p vertex old new) = refl
@@ -53,7 +53,7 @@ add-turned : (add : Bool) → from_add (not add) ≡ neg_ℤ (from_add add)
 add-turned true = refl
 add-turned false = refl
 
-gain-inverse : (c : Change) → gain_of (inverse c) ≡ neg_ℤ (gain_of c)
+pub gain-inverse : (c : Change) → gain_of (inverse c) ≡ neg_ℤ (gain_of c)
 gain-inverse (Records p edge time value n) = refl
 gain-inverse (Request p vertex time add) = add-turned add
 gain-inverse (Token p vertex old new) = turned (from_epoch old) (from_epoch new)
@@ -68,7 +68,7 @@ taken_again x y g e = omega (arith, ints, e)
 pub stood : (s : ClusterState) (c : Change) → Fits s c → standing (made s c) (place_of c) +ℤ neg_ℤ (gain_of c) ≡ standing s (place_of c)
 stood s c fits = taken_again (standing s (place_of c)) (standing (made s c) (place_of c)) (gain_of c) (landed s c fits)
 
-new_is : (x y a b : ℤ) → y ≡ x +ℤ (b -ℤ a) → x ≡ a → y ≡ b
+pub new_is : (x y a b : ℤ) → y ≡ x +ℤ (b -ℤ a) → x ≡ a → y ≡ b
 new_is x y a b e f = omega (arith, ints, e, f)
 
 finds_new : (s : ClusterState) (c : Change) → standing (made s c) (place_of c) ≡ standing s (place_of c) +ℤ gain_of c → FindsOld s c → FindsOld (made s c) (inverse c)
@@ -79,7 +79,7 @@ finds_new s (Request p vertex t add) e old_is = tt
 finds_new s (Sink p vertex value add) e old_is = tt
 finds_new s (Unsent p point n) e old_is = tt
 
-numbers-inverse : (c : Change) → NamesNumbers c → NamesNumbers (inverse c)
+pub numbers-inverse : (c : Change) → NamesNumbers c → NamesNumbers (inverse c)
 numbers-inverse (State p vertex t item old new) h = (h.1, h.0)
 numbers-inverse (Token p vertex old new) h = tt
 numbers-inverse (Records p edge t value n) h = tt

@@ -9,8 +9,10 @@ pub mod Plans
 pub mod Seen
 pub mod Exchanges
 pub mod Records
+pub mod Resting
 pub mod Limits
 pub mod Turns
 pub mod Sorting
 pub mod Counted
 pub mod Listed
+pub mod Appended

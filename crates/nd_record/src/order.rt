@@ -1,19 +1,23 @@
 //! The order of a record's changes: something is put in first, then altered, then taken out.
-ghost use Rattle.std.specs.Prelude.{◌≡◌, ◌↔◌, ◌++◌, [], List, IfErr, IfOk, IsTrue, OnOk};
+ghost use Rattle.std.specs.Prelude.{◌≡◌, ◌↔◌, [], List, IfErr, IfOk, IsTrue, OnOk};
 ghost use Rattle.nd_processor.specs.State.{ProcessorState};
 ghost use Rattle.nd_protocol.specs.State.{ClusterState};
 ghost use Rattle.nd_protocol.specs.Enabled.{HasLargeCount, HasLargeEntry};
 ghost use Rattle.nd_record.specs.Plans.{Each, ReachesIn, LeadsTo};
 ghost use Rattle.nd_record.specs.Limits.{CountStaysOf, EntryStaysOf, LimitFails};
 ghost use Rattle.nd_record.specs.Turns.{IsReadable, with_more};
-ghost use Rattle.nd_record.specs.Sorting.{IsSorting};
+ghost use Rattle.nd_record.specs.Sorting.{IsOrdered, IsSorting};
 ghost use Rattle.nd_record.specs.declared.change.Change.{Change as Single};
 
 use crate::Change;
+use crate::in_place::{Ordered, in_place};
 use crate::reading::{Turn, reading_of};
 use nd_processor::Processor;
 use nd_protocol::Refusal;
 use std::alloc::{AllocError, Allocator};
+
+// So many changes are put in order where they stand, since a move shifts those between.
+const FEW: usize = 64;
 
 // Changes by their turns, and what is read of them all.
 #[derive(Drop)]
@@ -65,19 +69,23 @@ impl<A: Allocator + Copy> Sorted<A> {
     }
 
     // The changes, one turn after the other.
-    fn join(self) -> Result<Vec<Change, A>, AllocError>
-        ensures { IfOk result (λ v. v.items ≡ (self.comes.items ++ self.alters.items) ++ self.goes.items) }
+    fn join(self) -> Result<Ordered<A>, AllocError>
+        ensures { IfOk result (λ o. (processors : List ProcessorState) (all : List Single) → IsSorting processors all [] self → IsOrdered processors all o) }
     {
         let Sorted {
             mut comes,
             mut alters,
             mut goes,
-            counts_stay: _,
-            entries_stay: _,
+            counts_stay,
+            entries_stay,
         } = self;
         comes.append(&mut alters)?;
         comes.append(&mut goes)?;
-        Ok(comes)
+        Ok(Ordered {
+            changes: comes,
+            counts_stay,
+            entries_stay,
+        })
     }
 }
 
@@ -97,6 +105,21 @@ fn by_turn<A: Allocator + Copy>(
     Ok(sorted)
 }
 
+// All changes in the order of their turns.
+fn in_order<A: Allocator + Copy>(
+    alloc: A,
+    processors: &[Processor<A>],
+    all: Vec<Change, A>,
+) -> Result<Ordered<A>, AllocError>
+    requires { Each (IsReadable processors.now) all.items }
+    ensures { IfOk result (IsOrdered processors.now all.items) }
+{
+    if all.len() <= FEW {
+        return Ok(in_place(processors, all));
+    }
+    by_turn(alloc, processors, all)?.join()
+}
+
 /// The changes in the order in which they are made, so that nothing is taken out before the last is put in, or the
 /// limit for which they are refused: that of counts before that of entries (this project's own rule).
 pub fn planned_changes<A: Allocator + Copy>(
@@ -110,17 +133,19 @@ pub fn planned_changes<A: Allocator + Copy>(
     ensures entries { OnOk result ((s t : ClusterState) → ReachesIn processors.now s t all.items → HasLargeEntry t → ⊥) }
     ensures refused { IfErr result (λ r. (s t : ClusterState) → ReachesIn processors.now s t all.items → LimitFails t r) }
 {
-    let Ok(sorted) = by_turn(alloc, processors, all) else {
+    let Ok(ordered) = in_order(alloc, processors, all) else {
         return Err(Refusal::Memory);
     };
-    if !sorted.counts_stay {
+    if !ordered.counts_stay {
         return Err(Refusal::CountFull);
     }
-    if !sorted.entries_stay {
+    if !ordered.entries_stay {
         return Err(Refusal::DeltaFull);
     }
-    let Ok(changes) = sorted.join() else {
-        return Err(Refusal::Memory);
-    };
+    let Ordered {
+        changes,
+        counts_stay: _,
+        entries_stay: _,
+    } = ordered;
     Ok(changes)
 }

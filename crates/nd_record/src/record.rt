@@ -173,6 +173,15 @@ impl<A: Allocator + Copy> Record<A> {
         step
     }
 
+    /// The step, and what it changes.
+    pub fn into_parts(self) -> (Step<A>, Changes<A>)
+        ensures step { result.0 ≡ self.step }
+        ensures changes { result.1 ≡ self.changes }
+    {
+        let Record { step, changes } = self;
+        (step, changes)
+    }
+
     /// An equal record.
     pub fn copy(&self, alloc: A) -> Result<Record<A>, AllocError>
         ensures step { IfOk result (λ r. r.step ≡ self.now.step) }

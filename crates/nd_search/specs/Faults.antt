@@ -1,18 +1,16 @@
 -- The number and the name under which each fault of a search is answered (this project's own rule).
-use Rattle.std.specs.Prelude.{ℕ, List, codes}
+use Rattle.std.specs.Prelude.{codes}
+use Rattle.nd_time.specs.Code.{Code, coded}
+use Rattle.nd_protocol.specs.Refusals as refusals
+use Rattle.nd_protocol.specs.declared.refusal.Refusal.TheVariants as refusal
+use Rattle.nd_timeline.specs.Faults as faults
+use Rattle.nd_timeline.specs.declared.fault.Fault.TheVariants as fault
 use Rattle.nd_search.specs.declared.fault.SearchFault.{SearchFault}
 use Rattle.nd_search.specs.declared.fault.SearchFault.TheVariants.{BadRange, NoWorkers, NoSuchPoint, Memory, Missing}
 
-abbrev pub number_of : {A : Type 0} → SearchFault A → ℕ
-number_of BadRange = 50
-number_of NoWorkers = 51
-number_of NoSuchPoint = 22
-number_of Memory = 19
-number_of (Missing piece claimed) = 52
-
-abbrev pub name_of : {A : Type 0} → SearchFault A → List ℕ
-name_of BadRange = codes "BadRange"
-name_of NoWorkers = codes "NoWorkers"
-name_of NoSuchPoint = codes "NoSuchPoint"
-name_of Memory = codes "Memory"
-name_of (Missing piece claimed) = codes "Missing"
+abbrev pub code_of : {A : Type 0} → SearchFault A → Code
+code_of BadRange = coded 50 (codes "BadRange")
+code_of NoWorkers = coded 51 (codes "NoWorkers")
+code_of NoSuchPoint = faults.code_of fault.NoSuchPoint
+code_of Memory = refusals.code_of refusal.Memory
+code_of (Missing piece claimed) = coded 52 (codes "Missing")

@@ -1,7 +1,10 @@
 //! Why a search answers nothing.
 ghost use Rattle.std.specs.Prelude.{◌≡◌};
-ghost use Rattle.nd_search.specs.Faults.{number_of, name_of};
+ghost use Rattle.nd_search.specs.Faults.{code_of};
 
+use nd_protocol::Refusal;
+use nd_time::Code;
+use nd_timeline::Fault;
 use std::alloc::{AllocError, Allocator, Global};
 
 /// Why a search answers nothing (this project's own rule).
@@ -35,35 +38,19 @@ impl<A: Allocator> From<AllocError> for SearchFault<A> {
 }
 
 impl<A: Allocator> SearchFault<A> {
-    /// The fault's number.
-    pub fn number(&self) -> u64
-        ensures { result ≡ number_of self.now }
+    /// The number and the name under which the fault is answered.
+    pub fn code(&self) -> Code
+        ensures { result ≡ code_of self.now }
     {
         match self {
-            SearchFault::BadRange => 50,
-            SearchFault::NoWorkers => 51,
-            SearchFault::NoSuchPoint => 22,
-            SearchFault::Memory => 19,
+            SearchFault::BadRange => Code::new(50, "BadRange"),
+            SearchFault::NoWorkers => Code::new(51, "NoWorkers"),
+            SearchFault::NoSuchPoint => Fault::NoSuchPoint.code(),
+            SearchFault::Memory => Refusal::Memory.code(),
             SearchFault::Missing {
                 piece: _,
                 claimed: _,
-            } => 52,
-        }
-    }
-
-    /// The fault's name.
-    pub fn name(&self) -> &'static str
-        ensures { result.now ≡ name_of self.now }
-    {
-        match self {
-            SearchFault::BadRange => "BadRange",
-            SearchFault::NoWorkers => "NoWorkers",
-            SearchFault::NoSuchPoint => "NoSuchPoint",
-            SearchFault::Memory => "Memory",
-            SearchFault::Missing {
-                piece: _,
-                claimed: _,
-            } => "Missing",
+            } => Code::new(52, "Missing"),
         }
     }
 }

@@ -6,9 +6,9 @@ ghost use Rattle.nd_search.specs.Least.{HoldsAt, IsLeast};
 ghost use Rattle.nd_search.specs.Pieces.{piece_count, piece_start, piece_end};
 ghost use Rattle.nd_search.specs.Works.{IsResult};
 
-use nd_timeline::{Fault, Timeline, Walk};
+use nd_timeline::{Timeline, Walk};
 use nd_watch::Break;
-use std::alloc::Allocator;
+use std::alloc::{AllocError, Allocator};
 
 /// How many positions a piece has.
 const PIECE_LENGTH: u64 = 16;
@@ -38,7 +38,7 @@ impl Positions {
         walk: &mut Walk<A>,
         b: &Break,
         piece: u64,
-    ) -> Result<Option<u64>, Fault>
+    ) -> Result<Option<u64>, AllocError>
         requires range { (self.lo ≤ self.hi) × (self.hi ≤ max_kept) }
         requires piece { piece < piece_count self.lo self.hi }
         requires on { IsOn timeline.now walk.old }
@@ -63,14 +63,16 @@ fn first_hit<A: Allocator + Copy>(
     b: &Break,
     from: u64,
     to: u64,
-) -> Result<Option<u64>, Fault>
+) -> Result<Option<u64>, AllocError>
     requires few { to ≤ max_kept }
     requires on { IsOn timeline.now walk.old }
     ensures found { IfOk result (IsLeast (HoldsAt timeline.now b.now) from to) }
     ensures on { IsOn timeline.now walk.new }
 {
     for i in from..to + 1 {
-        timeline.walk_to(walk, i)?;
+        let Ok(()) = timeline.walk_to(walk, i) else {
+            return Err(AllocError);
+        };
         if b.holds(&walk.cluster) {
             return Ok(Some(i));
         }

@@ -1,8 +1,9 @@
 //! Why a session refuses a call.
 ghost use Rattle.std.specs.Prelude.{◌≡◌};
-ghost use Rattle.nd_session.specs.Faults.{number_of, name_of};
+ghost use Rattle.nd_session.specs.Faults.{code_of};
 
 use crate::Receipt;
+use nd_time::Code;
 use std::alloc::{AllocError, Allocator, Global};
 
 /// Why a session refuses a call (this project's own rule).
@@ -24,27 +25,15 @@ pub enum SessionFault<A: Allocator = Global> {
 }
 
 impl<A: Allocator> SessionFault<A> {
-    /// The fault's number.
-    pub fn number(&self) -> u64
-        ensures { result ≡ number_of self.now }
+    /// The number and the name under which the fault is answered.
+    pub fn code(&self) -> Code
+        ensures { result ≡ code_of self.now }
     {
         match self {
-            SessionFault::NotThisSession { index: _, found: _ } => 26,
-            SessionFault::LogFull => 27,
-            SessionFault::TooManyClients => 28,
-            SessionFault::Memory => 29,
-        }
-    }
-
-    /// The fault's name.
-    pub fn name(&self) -> &'static str
-        ensures { result.now ≡ name_of self.now }
-    {
-        match self {
-            SessionFault::NotThisSession { index: _, found: _ } => "NotThisSession",
-            SessionFault::LogFull => "LogFull",
-            SessionFault::TooManyClients => "TooManyClients",
-            SessionFault::Memory => "Memory",
+            SessionFault::NotThisSession { index: _, found: _ } => Code::new(26, "NotThisSession"),
+            SessionFault::LogFull => Code::new(27, "LogFull"),
+            SessionFault::TooManyClients => Code::new(28, "TooManyClients"),
+            SessionFault::Memory => Code::new(29, "Memory"),
         }
     }
 }

@@ -251,7 +251,7 @@ fn refused<A: Allocator + Copy, R: Wait>(
     let fault = session.copy(rt, alloc, &stranger).err();
     let met = heap.relent(n);
     let number = if met { 29 } else { 26 };
-    if fault?.number() == number {
+    if fault?.code().number() == number {
         Some(met)
     } else {
         None

@@ -114,7 +114,7 @@ fn searches(rt: HostRuntime) -> Result<(), Fail> {
     for (lo, hi, workers, number) in [(2, 1, 8, 50), (0, 2, 0, 51), (0, 3, 8, 22)] {
         let answer = search(&rt, alloc, &snapshot, &five, lo, hi, workers, &OpenGate);
         let fault = answer.err().ok_or("an answer")?;
-        assert_eq!(rt; fault.number(), number);
+        assert_eq!(rt; fault.code().number(), number);
     }
     Ok(())
 }

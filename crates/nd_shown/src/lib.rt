@@ -1,27 +1,24 @@
 //! The state of a cluster as a JSON value, by the names of locations.
 #![tactic(auto)]
 
-ghost use Rattle.std.specs.Prelude.{◌≡◌, ◌<◌, ◌++◌, [], false, length, map, IfOk, OnOk};
+ghost use Rattle.std.specs.Prelude.{◌≡◌, ◌<◌, ◌++◌, [], length, map, IfOk, OnOk};
 ghost use Rattle.std.specs.List.{flat_map, enumerate_from, zip};
 ghost use Rattle.serde_json.specs.Data.{Data};
-ghost use Rattle.serde_json.specs.View.{view};
-ghost use Rattle.serde_json.specs.Written.{has_float};
 ghost use Rattle.nd_graph.specs.Graph.{Dataflow};
 ghost use Rattle.nd_map.specs.Counts.{entries as numbers};
 ghost use Rattle.nd_mesh.specs.Mesh.{queue, row as queues_from};
 ghost use Rattle.nd_view.specs.Kept.{Kept};
-ghost use Rattle.nd_shown.specs.StateText.{name_at as name_in, row, time_data, point_data, item_data, record_data, sink_data, token_data, entry_data, queue_data, queues_data, entries_data, processor_data, processor_members, whole_members, state_data};
+ghost use Rattle.nd_shown.specs.StateText.{name_at as name_in, place, row, time_data, point_data, item_data, record_data, sink_data, token_data, entry_data, queue_data, queues_data, entries_data, processor_data, processor_members, whole_members, state_data};
 
 use nd_graph::Graph;
-use nd_json::list_of;
 use nd_map::Key;
 use nd_mesh::Mesh;
 use nd_paths::Pointstamp;
 use nd_processor::{Processor, SinkKey, ValueAt};
+use nd_reply::{Json, JsonList, list_of, reply};
 use nd_time::Timestamp;
 use nd_vertex::ItemKey;
 use nd_view::View;
-use serde_json::{Value, json};
 use std::alloc::{AllocError, Allocator, Global};
 use std::collections::btree_map::Iter;
 
@@ -36,10 +33,20 @@ fn name_at<A: Allocator>(graph: &Graph<A>, location: usize) -> &str
     }
 }
 
-// A time: its epoch, and then its counters.
-fn time_value(alloc: Global, time: &Timestamp) -> Result<Value, AllocError>
-    ensures reply { IfOk result (λ v. view v ≡ time_data time.now) }
-    ensures text { IfOk result (λ v. has_float (view v) ≡ false) }
+/// The name of a location, in memory of its own; if there is none, nothing.
+pub fn name_value<A: Allocator>(
+    alloc: Global,
+    graph: &Graph<A>,
+    location: usize,
+) -> Result<Json, AllocError>
+    ensures reply { IfOk result (λ j. j ≡ place graph.now location) }
+{
+    Json::text(alloc, name_at(graph, location))
+}
+
+/// A time: its epoch, and then its counters.
+pub fn time_value(alloc: Global, time: &Timestamp) -> Result<Json, AllocError>
+    ensures reply { IfOk result (λ j. j ≡ time_data time.now) }
 {
     let mut numbers = Vec::new(alloc);
     numbers.push(time.epoch())?;
@@ -52,12 +59,12 @@ pub fn point_value<A: Allocator>(
     alloc: Global,
     graph: &Graph<A>,
     point: &Pointstamp,
-) -> Result<Value, AllocError>
-    ensures reply { IfOk result (λ v. view v ≡ point_data graph.now point.now) }
-    ensures text { IfOk result (λ v. has_float (view v) ≡ false) }
+) -> Result<Json, AllocError>
+    ensures reply { IfOk result (λ j. j ≡ point_data graph.now point.now) }
 {
     let time = time_value(alloc, &point.time)?;
-    json!(in alloc; [name_at(graph, point.location), time])
+    let place = name_value(alloc, graph, point.location)?;
+    reply!(in alloc; [place, time])
 }
 
 /// What the state lists, which the names of a graph's locations show.
@@ -65,15 +72,14 @@ trait Listed {
     ghost listed: { Dataflow → Self → Data };
 
     /// The JSON value of one.
-    fn shown<A: Allocator>(&self, alloc: Global, graph: &Graph<A>) -> Result<Value, AllocError>
-        ensures reply { IfOk result (λ v. view v ≡ listed graph.now self.now) }
-        ensures text { IfOk result (λ v. has_float (view v) ≡ false) };
+    fn shown<A: Allocator>(&self, alloc: Global, graph: &Graph<A>) -> Result<Json, AllocError>
+        ensures reply { IfOk result (λ j. j ≡ listed graph.now self.now) };
 }
 
 impl Listed for (Pointstamp, ()) {
     ghost listed = { λ g e. point_data g e.0 };
 
-    fn shown<A: Allocator>(&self, alloc: Global, graph: &Graph<A>) -> Result<Value, AllocError> {
+    fn shown<A: Allocator>(&self, alloc: Global, graph: &Graph<A>) -> Result<Json, AllocError> {
         point_value(alloc, graph, &self.0)
     }
 }
@@ -81,48 +87,53 @@ impl Listed for (Pointstamp, ()) {
 impl Listed for (ValueAt, u64) {
     ghost listed = { record_data };
 
-    fn shown<A: Allocator>(&self, alloc: Global, graph: &Graph<A>) -> Result<Value, AllocError> {
+    fn shown<A: Allocator>(&self, alloc: Global, graph: &Graph<A>) -> Result<Json, AllocError> {
         let (key, count) = self;
         let time = time_value(alloc, &key.point.time)?;
-        json!(in alloc; [name_at(graph, key.point.location), time, key.value, *count])
+        let name = name_value(alloc, graph, key.point.location)?;
+        reply!(in alloc; [name, time, key.value, *count])
     }
 }
 
 impl Listed for (SinkKey, u64) {
     ghost listed = { sink_data };
 
-    fn shown<A: Allocator>(&self, alloc: Global, graph: &Graph<A>) -> Result<Value, AllocError> {
+    fn shown<A: Allocator>(&self, alloc: Global, graph: &Graph<A>) -> Result<Json, AllocError> {
         let (key, count) = self;
-        json!(in alloc; [name_at(graph, key.vertex), key.value, *count])
+        let name = name_value(alloc, graph, key.vertex)?;
+        reply!(in alloc; [name, key.value, *count])
     }
 }
 
 impl Listed for (usize, u32) {
     ghost listed = { token_data };
 
-    fn shown<A: Allocator>(&self, alloc: Global, graph: &Graph<A>) -> Result<Value, AllocError> {
+    fn shown<A: Allocator>(&self, alloc: Global, graph: &Graph<A>) -> Result<Json, AllocError> {
         let (vertex, epoch) = self;
-        json!(in alloc; [name_at(graph, *vertex), *epoch])
+        let name = name_value(alloc, graph, *vertex)?;
+        reply!(in alloc; [name, *epoch])
     }
 }
 
 impl Listed for (Pointstamp, i64) {
     ghost listed = { entry_data };
 
-    fn shown<A: Allocator>(&self, alloc: Global, graph: &Graph<A>) -> Result<Value, AllocError> {
+    fn shown<A: Allocator>(&self, alloc: Global, graph: &Graph<A>) -> Result<Json, AllocError> {
         let (point, number) = self;
         let time = time_value(alloc, &point.time)?;
-        json!(in alloc; [name_at(graph, point.location), time, *number])
+        let name = name_value(alloc, graph, point.location)?;
+        reply!(in alloc; [name, time, *number])
     }
 }
 
 impl Listed for (usize, ItemKey, i64) {
     ghost listed = { λ g e. item_data g e.0 (e.1, e.2) };
 
-    fn shown<A: Allocator>(&self, alloc: Global, graph: &Graph<A>) -> Result<Value, AllocError> {
+    fn shown<A: Allocator>(&self, alloc: Global, graph: &Graph<A>) -> Result<Json, AllocError> {
         let (vertex, key, number) = self;
         let time = time_value(alloc, &key.time)?;
-        json!(in alloc; [name_at(graph, *vertex), time, key.item, *number])
+        let name = name_value(alloc, graph, *vertex)?;
+        reply!(in alloc; [name, time, key.item, *number])
     }
 }
 
@@ -131,15 +142,14 @@ fn entries_value<T: Listed, A: Allocator>(
     alloc: Global,
     graph: &Graph<A>,
     entries: &[T],
-) -> Result<Value, AllocError>
-    ensures reply { IfOk result (λ v. view v ≡ row (map (T.listed graph.now) entries.now)) }
-    ensures text { IfOk result (λ v. has_float (view v) ≡ false) }
+) -> Result<Json, AllocError>
+    ensures reply { IfOk result (λ j. j ≡ row (map (T.listed graph.now) entries.now)) }
 {
-    let mut list = Vec::new(alloc);
+    let mut list = JsonList::new(alloc);
     for entry in entries {
         list.push(entry.shown(alloc, graph)?)?;
     }
-    Ok(Value::Array(list))
+    Ok(list.into_json())
 }
 
 /// Counts of pointstamps, in the order in which they are given: each a location's name, a time and the count.
@@ -147,9 +157,8 @@ pub fn counts_value<A: Allocator>(
     alloc: Global,
     graph: &Graph<A>,
     entries: &[(Pointstamp, i64)],
-) -> Result<Value, AllocError>
-    ensures reply { IfOk result (λ v. view v ≡ entries_data graph.now entries.now) }
-    ensures text { IfOk result (λ v. has_float (view v) ≡ false) }
+) -> Result<Json, AllocError>
+    ensures reply { IfOk result (λ j. j ≡ entries_data graph.now entries.now) }
 {
     entries_value(alloc, graph, entries)
 }
@@ -200,25 +209,17 @@ fn all_items<A: Allocator + Copy>(
 // A processor with these lists.
 fn processor_object(
     alloc: Global,
-    items: Value,
-    records: Value,
-    requests: Value,
-    sinks: Value,
-    tokens: Value,
-    unsent: Value,
-    known: Value,
-) -> Result<Value, AllocError>
-    ensures reply { IfOk result (λ v. view v ≡ processor_members (view items) (view records) (view requests) (view sinks) (view tokens) (view unsent) (view known)) }
+    items: Json,
+    records: Json,
+    requests: Json,
+    sinks: Json,
+    tokens: Json,
+    unsent: Json,
+    known: Json,
+) -> Result<Json, AllocError>
+    ensures reply { IfOk result (λ j. j ≡ processor_members items records requests sinks tokens unsent known) }
 {
-    json!(in alloc; {
-        "items": items,
-        "records": records,
-        "requests": requests,
-        "sinks": sinks,
-        "tokens": tokens,
-        "unsent": unsent,
-        "view": known,
-    })
+    reply!(in alloc; {"items": items, "records": records, "requests": requests, "sinks": sinks, "tokens": tokens, "unsent": unsent, "view": known})
 }
 
 // A processor, and its view.
@@ -227,9 +228,8 @@ fn processor_value<A: Allocator + Copy>(
     graph: &Graph<A>,
     processor: &Processor<A>,
     known: &View<A>,
-) -> Result<Value, AllocError>
-    ensures reply { IfOk result (λ v. view v ≡ processor_data graph.now processor.now known.now.map) }
-    ensures text { IfOk result (λ v. has_float (view v) ≡ false) }
+) -> Result<Json, AllocError>
+    ensures reply { IfOk result (λ j. j ≡ processor_data graph.now processor.now known.now.map) }
 {
     let items = entries_value(alloc, graph, &all_items(alloc, processor)?)?;
     let records = entries_value(alloc, graph, &collected(alloc, processor.records())?)?;
@@ -249,16 +249,15 @@ fn processors_value<A: Allocator + Copy>(
     graph: &Graph<A>,
     processors: &[Processor<A>],
     views: &[View<A>],
-) -> Result<Value, AllocError>
+) -> Result<Json, AllocError>
     requires { length views.now ≡ length processors.now }
-    ensures reply { IfOk result (λ v. view v ≡ row (map (λ e. processor_data graph.now e.0 e.1.map) (zip processors.now views.now))) }
-    ensures text { IfOk result (λ v. has_float (view v) ≡ false) }
+    ensures reply { IfOk result (λ j. j ≡ row (map (λ e. processor_data graph.now e.0 e.1.map) (zip processors.now views.now))) }
 {
-    let mut list = Vec::new(alloc);
+    let mut list = JsonList::new(alloc);
     for p in 0..processors.len() {
         list.push(processor_value(alloc, graph, &processors[p], &views[p])?)?;
     }
-    Ok(Value::Array(list))
+    Ok(list.into_json())
 }
 
 // The changes on their way from a sender to a receiver, from front to back.
@@ -268,18 +267,17 @@ fn queue_value<A: Allocator + Copy>(
     mesh: &Mesh<A>,
     from: usize,
     to: usize,
-) -> Result<Value, AllocError>
+) -> Result<Json, AllocError>
     requires sender { from < length mesh.now }
     requires receiver { to < length mesh.now }
-    ensures reply { IfOk result (λ v. view v ≡ queue_data graph.now (queue mesh.now from to)) }
-    ensures text { IfOk result (λ v. has_float (view v) ≡ false) }
+    ensures reply { IfOk result (λ j. j ≡ queue_data graph.now (queue mesh.now from to)) }
 {
-    let mut list = Vec::new(alloc);
+    let mut list = JsonList::new(alloc);
     for i in 0..mesh.len(from, to) {
         let change = mesh.get(from, to, i).unwrap();
         list.push(entries_value(alloc, graph, change.entries())?)?;
     }
-    Ok(Value::Array(list))
+    Ok(list.into_json())
 }
 
 // The queues of one sender, one to each receiver.
@@ -288,16 +286,15 @@ fn sender_value<A: Allocator + Copy>(
     graph: &Graph<A>,
     mesh: &Mesh<A>,
     from: usize,
-) -> Result<Value, AllocError>
+) -> Result<Json, AllocError>
     requires { from < length mesh.now }
-    ensures reply { IfOk result (λ v. view v ≡ queues_data graph.now (queues_from mesh.now from)) }
-    ensures text { IfOk result (λ v. has_float (view v) ≡ false) }
+    ensures reply { IfOk result (λ j. j ≡ queues_data graph.now (queues_from mesh.now from)) }
 {
-    let mut list = Vec::new(alloc);
+    let mut list = JsonList::new(alloc);
     for to in 0..mesh.n() {
         list.push(queue_value(alloc, graph, mesh, from, to)?)?;
     }
-    Ok(Value::Array(list))
+    Ok(list.into_json())
 }
 
 // The queues of all senders.
@@ -305,22 +302,21 @@ fn queues_value<A: Allocator + Copy>(
     alloc: Global,
     graph: &Graph<A>,
     mesh: &Mesh<A>,
-) -> Result<Value, AllocError>
-    ensures reply { IfOk result (λ v. view v ≡ row (map (queues_data graph.now) mesh.now)) }
-    ensures text { IfOk result (λ v. has_float (view v) ≡ false) }
+) -> Result<Json, AllocError>
+    ensures reply { IfOk result (λ j. j ≡ row (map (queues_data graph.now) mesh.now)) }
 {
-    let mut list = Vec::new(alloc);
+    let mut list = JsonList::new(alloc);
     for from in 0..mesh.n() {
         list.push(sender_value(alloc, graph, mesh, from)?)?;
     }
-    Ok(Value::Array(list))
+    Ok(list.into_json())
 }
 
 // A cluster with these lists.
-fn whole_object(alloc: Global, processors: Value, queues: Value) -> Result<Value, AllocError>
-    ensures reply { IfOk result (λ v. view v ≡ whole_members (view processors) (view queues)) }
+fn whole_object(alloc: Global, processors: Json, queues: Json) -> Result<Json, AllocError>
+    ensures reply { IfOk result (λ j. j ≡ whole_members processors queues) }
 {
-    json!(in alloc; {"processors": processors, "queues": queues})
+    reply!(in alloc; {"processors": processors, "queues": queues})
 }
 
 /// The state of a cluster, from its processors, each with its view, and its queues: each list in the order of listing.
@@ -330,10 +326,9 @@ pub fn state_value<A: Allocator + Copy>(
     processors: &[Processor<A>],
     views: &[View<A>],
     mesh: &Mesh<A>,
-) -> Result<Value, AllocError>
+) -> Result<Json, AllocError>
     requires { length views.now ≡ length processors.now }
-    ensures reply { IfOk result (λ v. view v ≡ state_data (record { graph = graph.now; processors = processors.now; views = map (λ (k : Kept). k.map) views.now; queues = mesh.now })) }
-    ensures text { IfOk result (λ v. has_float (view v) ≡ false) }
+    ensures reply { IfOk result (λ j. j ≡ state_data (record { graph = graph.now; processors = processors.now; views = map (λ (k : Kept). k.map) views.now; queues = mesh.now })) }
 {
     let processors = processors_value(alloc, graph, processors, views)?;
     let queues = queues_value(alloc, graph, mesh)?;

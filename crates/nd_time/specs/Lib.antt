@@ -2,3 +2,4 @@ pub mod Limits
 pub mod Time
 pub mod Lexical
 pub mod Listing
+pub mod Code

@@ -8,6 +8,9 @@ ghost use Rattle.nd_time.specs.Listing.{time_cmp};
 ghost use Rattle.std.specs.Ordering.{nat_cmp};
 ghost use Rattle.std.specs.Cmp.Lexicographic.{slice_cmp};
 
+mod faults;
+
+pub use faults::Code;
 use std::cmp::Ordering;
 use std::marker::Model;
 use thiserror::Error;

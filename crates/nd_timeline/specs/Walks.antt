@@ -7,7 +7,7 @@ use Rattle.nd_timeline.specs.declared.walk.Walk.{Walk}
 
 -- what is kept, with the cursor at a position
 abbrev pub timeline_at : {A : Type 0} → Kept A → ℕ → TimelineValue A
-timeline_at k n = record { base = k.base; kept = steps_of k.records.items; cursor = n }
+timeline_at k n = record { base = k.base; kept = steps_of k.steps.items; cursor = n }
 
 -- the walk stands at a position of the timeline, with the cluster that the kept steps up to there make
 pub record IsOn {A : Type 0} (m : TimelineValue A) (w : Walk A) : Type 0 where

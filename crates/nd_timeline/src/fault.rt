@@ -1,8 +1,9 @@
 //! Why a command is refused.
 ghost use Rattle.std.specs.Prelude.{◌≡◌, ◌≢◌, MatchBool};
-ghost use Rattle.nd_timeline.specs.Faults.{number_of, name_of};
+ghost use Rattle.nd_timeline.specs.Faults.{code_of};
 
 use nd_protocol::Refusal;
+use nd_time::Code;
 
 /// Why a command is refused (this project's own rule).
 #[derive(Debug, Drop, PartialEq, Eq)]
@@ -49,35 +50,19 @@ impl Fault {
         *self == *other
     }
 
-    /// The fault's number.
-    pub fn number(&self) -> u64
-        ensures { result ≡ number_of self.now }
+    /// The number and the name under which the fault is answered.
+    pub fn code(&self) -> Code
+        ensures { result ≡ code_of self.now }
     {
         match self {
-            Fault::Step(refusal) => refusal.number(),
-            Fault::Memory { at: _ } => 19,
-            Fault::AtStart => 20,
-            Fault::AtEnd => 21,
-            Fault::NoSuchPoint => 22,
-            Fault::TimelineFull => 23,
-            Fault::TooManyBreaks => 24,
-            Fault::NoBreak => 25,
-        }
-    }
-
-    /// The fault's name.
-    pub fn name(&self) -> &'static str
-        ensures { result.now ≡ name_of self.now }
-    {
-        match self {
-            Fault::Step(refusal) => refusal.name(),
-            Fault::Memory { at: _ } => "Memory",
-            Fault::AtStart => "AtStart",
-            Fault::AtEnd => "AtEnd",
-            Fault::NoSuchPoint => "NoSuchPoint",
-            Fault::TimelineFull => "TimelineFull",
-            Fault::TooManyBreaks => "TooManyBreaks",
-            Fault::NoBreak => "NoBreak",
+            Fault::Step(refusal) => refusal.code(),
+            Fault::Memory { at: _ } => Refusal::Memory.code(),
+            Fault::AtStart => Code::new(20, "AtStart"),
+            Fault::AtEnd => Code::new(21, "AtEnd"),
+            Fault::NoSuchPoint => Code::new(22, "NoSuchPoint"),
+            Fault::TimelineFull => Code::new(23, "TimelineFull"),
+            Fault::TooManyBreaks => Code::new(24, "TooManyBreaks"),
+            Fault::NoBreak => Code::new(25, "NoBreak"),
         }
     }
 }

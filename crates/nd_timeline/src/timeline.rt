@@ -11,7 +11,7 @@ ghost use Rattle.nd_timeline.specs.Moves.{moved_reply, StepFails, ForwardMoves, 
 
 use crate::walk::Kept;
 use crate::{Fault, Walk};
-use nd_cluster::{Cluster, Record};
+use nd_cluster::{Cluster, Made, Record};
 use nd_paths::Pointstamp;
 use nd_protocol::{NoMemory, Refusal, Step, steps_keep_protocol};
 use std::alloc::{AllocError, Allocator, Global};
@@ -35,9 +35,9 @@ impl<A: Allocator + Copy> Model for Timeline<A> {
 
     ghost coded = { timeline_code A };
 
-    ghost view = { λ a. record { base = a.kept.base; kept = steps_of a.kept.records.items; cursor = a.walk.at } };
+    ghost view = { λ a. record { base = a.kept.base; kept = steps_of a.kept.steps.items; cursor = a.walk.at } };
 
-    ghost invariant = { λ a. IsReached a.kept.base a.walk.cluster a.kept.records.items a.walk.at };
+    ghost invariant = { λ a. IsReached a.kept.base a.walk.cluster a.kept.steps.items a.walk.at };
 }
 
 impl<A: Allocator + Copy> Drop for Timeline<A> {
@@ -46,15 +46,15 @@ impl<A: Allocator + Copy> Drop for Timeline<A> {
     }
 }
 
-// Equal records.
-fn copied_records<A: Allocator + Copy>(
+// Equal steps, of which the same is kept.
+fn copied_steps<A: Allocator + Copy>(
     alloc: A,
-    records: &[Record<A>],
-) -> Result<Vec<Record<A>, A>, AllocError>
-    ensures { IfOk result (λ v. AreCopies records.now v.items) }
+    steps: &[Made<A>],
+) -> Result<Vec<Made<A>, A>, AllocError>
+    ensures { IfOk result (λ v. AreCopies steps.now v.items) }
 {
-    let mut list = Vec::with_capacity(alloc, records.len())?;
-    for kept in records {
+    let mut list = Vec::with_capacity(alloc, steps.len())?;
+    for kept in steps {
         list.push(kept.copy(alloc)?)?;
     }
     Ok(list)
@@ -66,9 +66,9 @@ impl<A: Allocator + Copy> Timeline<A> {
         ensures { IfOk result (λ m. m ≡ opened A cluster) }
     {
         let base = cluster.copy(alloc)?;
-        let records = Vec::new(alloc);
+        let steps = Vec::new(alloc);
         Ok(Timeline {
-            kept: Kept { base, records },
+            kept: Kept { base, steps },
             walk: Walk { at: 0, cluster },
         })
     }
@@ -80,7 +80,7 @@ impl<A: Allocator + Copy> Timeline<A> {
         Ok(Timeline {
             kept: Kept {
                 base: self.kept.base.copy(alloc)?,
-                records: copied_records(alloc, &self.kept.records)?,
+                steps: copied_steps(alloc, &self.kept.steps)?,
             },
             walk: Walk {
                 at: self.walk.at,
@@ -127,7 +127,7 @@ impl<A: Allocator + Copy> Timeline<A> {
     pub fn kept(&self) -> u64
         ensures { result ≡ length self.now.kept }
     {
-        self.kept.records.len() as u64
+        self.kept.steps.len() as u64
     }
 
     /// A kept step.
@@ -138,7 +138,7 @@ impl<A: Allocator + Copy> Timeline<A> {
         if i >= self.kept() {
             return None;
         }
-        Some(&self.kept.records[i as usize].step)
+        Some(&self.kept.steps[i as usize].step)
     }
 
     // The record of a step, or why there is none.
@@ -163,14 +163,14 @@ impl<A: Allocator + Copy> Timeline<A> {
         ensures ok { OnOk result (self.new ≡ extended self.old planned.step) }
         ensures err { OnErr result (self.new ≡ self.old) }
     {
-        let Ok(()) = self.kept.records.reserve(1) else {
+        let Ok(()) = self.kept.steps.reserve(1) else {
             return Err(NoMemory);
         };
-        let Ok(()) = self.walk.cluster.commit(&planned) else {
+        let Ok(made) = self.walk.cluster.keep(planned) else {
             return Err(NoMemory);
         };
-        self.kept.records.truncate(self.walk.at as usize);
-        self.kept.records.push_reserved(planned);
+        self.kept.steps.truncate(self.walk.at as usize);
+        self.kept.steps.push_reserved(made);
         self.walk.at += 1;
         Ok(())
     }

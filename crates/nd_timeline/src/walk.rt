@@ -1,14 +1,14 @@
 //! What a timeline keeps, and walks over it: the timeline's own, and those of others.
 ghost use Rattle.std.specs.Prelude.{◌≡◌, ◌+◌, ◌-◌, ◌<◌, take, length, IfOk, OnOk, OnErr};
 ghost use Rattle.nd_protocol.specs.Steps.{after};
-ghost use Rattle.nd_cluster.specs.Records.{Leads};
+ghost use Rattle.nd_cluster.specs.Made.{Joins};
 ghost use Rattle.nd_timeline.specs.Timeline.{moved_to};
-ghost use Rattle.nd_timeline.specs.Reached.{steps_of, ArePlanned, IsReached};
+ghost use Rattle.nd_timeline.specs.Reached.{steps_of, AreMade, IsReached};
 ghost use Rattle.nd_timeline.specs.Moves.{moved_reply, JumpMoves};
 ghost use Rattle.nd_timeline.specs.Walks.{BeginsNear, IsOn, timeline_at};
 
 use crate::{Fault, Timeline};
-use nd_cluster::{Cluster, Record};
+use nd_cluster::{Cluster, Made};
 use nd_protocol::NoMemory;
 use std::alloc::{AllocError, Allocator, Global};
 
@@ -25,28 +25,28 @@ pub struct Walk<A: Allocator + Copy = Global> {
 #[derive(Drop)]
 pub(crate) struct Kept<A: Allocator + Copy> {
     pub(crate) base: Cluster<A>,
-    pub(crate) records: Vec<Record<A>, A>,
+    pub(crate) steps: Vec<Made<A>, A>,
 }
 
 impl<A: Allocator + Copy> Kept<A> {
-    // The record of a kept step.
-    fn record(&self, i: u64) -> &Record<A>
-        requires planned { ArePlanned self.now.base self.now.records.items }
-        requires there { i < length self.now.records.items }
-        ensures { Leads result.now (after self.now.base (take i (steps_of self.now.records.items))) (after self.now.base (take (i + 1) (steps_of self.now.records.items))) }
+    // A kept step.
+    fn made(&self, i: u64) -> &Made<A>
+        requires made { AreMade self.now.base self.now.steps.items }
+        requires there { i < length self.now.steps.items }
+        ensures { Joins result.now (after self.now.base (take i (steps_of self.now.steps.items))) (after self.now.base (take (i + 1) (steps_of self.now.steps.items))) }
     {
-        &self.records[i as usize]
+        &self.steps[i as usize]
     }
 
     // Makes the kept step behind a walk.
     pub(crate) fn walk_on(&self, walk: &mut Walk<A>) -> Result<(), NoMemory>
-        requires on { IsReached self.now.base walk.old.cluster self.now.records.items walk.old.at }
-        requires behind { walk.old.at < length self.now.records.items }
-        ensures on { IsReached self.now.base walk.new.cluster self.now.records.items walk.new.at }
+        requires on { IsReached self.now.base walk.old.cluster self.now.steps.items walk.old.at }
+        requires behind { walk.old.at < length self.now.steps.items }
+        ensures on { IsReached self.now.base walk.new.cluster self.now.steps.items walk.new.at }
         ensures ok { OnOk result (walk.new.at ≡ walk.old.at + 1) }
         ensures err { OnErr result (walk.new.at ≡ walk.old.at) }
     {
-        let Ok(()) = walk.cluster.commit(self.record(walk.at)) else {
+        let Ok(()) = walk.cluster.make_again(self.made(walk.at)) else {
             return Err(NoMemory);
         };
         walk.at += 1;
@@ -55,14 +55,14 @@ impl<A: Allocator + Copy> Kept<A> {
 
     // Undoes the kept step before a walk.
     pub(crate) fn walk_back(&self, walk: &mut Walk<A>) -> Result<(), NoMemory>
-        requires on { IsReached self.now.base walk.old.cluster self.now.records.items walk.old.at }
+        requires on { IsReached self.now.base walk.old.cluster self.now.steps.items walk.old.at }
         requires before { 0 < walk.old.at }
-        ensures on { IsReached self.now.base walk.new.cluster self.now.records.items walk.new.at }
+        ensures on { IsReached self.now.base walk.new.cluster self.now.steps.items walk.new.at }
         ensures ok { OnOk result (walk.new.at ≡ walk.old.at - 1) }
         ensures err { OnErr result (walk.new.at ≡ walk.old.at) }
     {
         let last = walk.at - 1;
-        let Ok(()) = walk.cluster.back(self.record(last)) else {
+        let Ok(()) = walk.cluster.take_back(self.made(last)) else {
             return Err(NoMemory);
         };
         walk.at = last;
@@ -71,11 +71,11 @@ impl<A: Allocator + Copy> Kept<A> {
 
     // Goes to a position on a walk, step by step.
     pub(crate) fn walk_to(&self, walk: &mut Walk<A>, n: u64) -> Result<(), Fault>
-        requires { IsReached self.now.base walk.old.cluster self.now.records.items walk.old.at }
-        ensures on { IsReached self.now.base walk.new.cluster self.now.records.items walk.new.at }
+        requires { IsReached self.now.base walk.old.cluster self.now.steps.items walk.old.at }
+        ensures on { IsReached self.now.base walk.new.cluster self.now.steps.items walk.new.at }
         ensures jump { JumpMoves (timeline_at self.now walk.old.at) n (moved_reply result (timeline_at self.now walk.new.at)) (timeline_at self.now walk.new.at) }
     {
-        if n > self.records.len() as u64 {
+        if n > self.steps.len() as u64 {
             return Err(Fault::NoSuchPoint);
         }
         let from = walk.at;

@@ -134,7 +134,8 @@ pub fn reach<A: Allocator + Copy>(
 
 /// The text of the state.
 pub fn state_text<A: Allocator + Copy>(json: Global, cluster: &Cluster<A>) -> Option<String> {
-    cluster.state_value(json).ok()?.to_string(json).ok()
+    let text = cluster.state_value(json).ok()?.to_bytes(json).ok()?;
+    String::from_utf8(text).ok()
 }
 
 /// Whether the state has this text.

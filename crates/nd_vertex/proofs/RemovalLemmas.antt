@@ -16,7 +16,7 @@ use Rattle.nd_map.specs.Entries.{all_found, find-index, absent_in_tail, listed-t
 use Rattle.nd_time.specs.Time.{Time}
 use Rattle.nd_time.specs.Listing.{time_cmp, time_total}
 use Rattle.nd_vertex.specs.Items.{Items, item_cmp, item_key, item_total, item_exact}
-use Rattle.nd_vertex.specs.Kept.{IsKept}
+use Rattle.nd_vertex.specs.Kept.{IsNumber, IsKept}
 use Rattle.nd_vertex.specs.Edits.{LeadsTo, item_of, with_item, edited, keys}
 use Rattle.nd_vertex.specs.declared.key.ItemKey.{ItemKey}
 use Rattle.nd_vertex.specs.declared.effect.ItemEdit.{ItemEdit}
@@ -161,4 +161,4 @@ removed_between t es kept =
     ap (map gone)
     (same_kept (λ e. range_contains item_cmp (Included (first_at t)) (Included (last_at t)) e.0) (λ e. is_at t e.0) es
     (all_found item_cmp item_total (λ k _. range_contains item_cmp (Included (first_at t)) (Included (last_at t)) k ≡ is_at t k) es kept.listed
-    (λ k v is. within t k (subst (λ x. IfSome x (λ _. FitsSigned w64 k.item)) is (kept.items k)))))
+    (λ k v is. let number : IsNumber k v = subst (λ x. IfSome x (IsNumber k)) is (kept.numbers k) in within t k number.item)))

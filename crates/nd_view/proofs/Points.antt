@@ -1,5 +1,5 @@
 -- Loops over the points of a change.
-use Rattle.std.proofs.Common.{◌≡◌, ◌≢◌, ◌≤◌, ◌<◌, ◌+◌, ◌*◌, ℕ, zero, suc, ℤ, pos, negsuc, Bool, true, false, cond, List, get_or, refl, sym, ap, subst, ◌∙◌, ◌⊎◌, inl, inr, Less, Equal, arith, w64, to_z, of_z, FitsSigned, unsigned_abs}
+use Rattle.std.proofs.Common.{◌≡◌, ◌≢◌, ◌≤◌, ◌<◌, ◌+◌, ◌-◌, ◌*◌, ℕ, zero, suc, ℤ, pos, negsuc, Bool, true, false, cond, List, get_or, refl, sym, ap, subst, ◌∙◌, ◌⊎◌, inl, inr, Less, Equal, arith, w64, to_z, of_z, FitsSigned, unsigned_abs}
 use Rattle.std.specs.Prelude.{◌<ℤ◌}
 use Rattle.std.proofs.lemmas.Bool.{cases_lt}
 use Rattle.std.proofs.lemmas.Cmp.{tied_itself}
@@ -174,6 +174,42 @@ module _ (d : Change) (i : ℕ) (x : Pointstamp × ℤ) (lt : i < size d) (is : 
       ];
       others = λ q none. off (b i) s t set_is q none ∙ h.others q none;
     }
+
+-- ---- one of the first steps is taken, from the last of them to the first
+pub record IsLast (d m : Change) (steps : List (ℤ × ℤ)) (back : Bool) (upto i : ℕ) (x : Pointstamp × ℤ) (was n : ℤ) (s : Change) : Type 0 where
+  pub was_kept : to_z w64 (of_z w64 was) ≡ was
+  pub n_kept : to_z w64 (of_z w64 n) ≡ n
+  pub within : unsigned_abs n ≤ max_count
+  pub stands : was ≡ at s x.0
+  pub room : IsWithinRoom was n
+  pub next : (t : Change) → t ≡ set s x.0 n → IsPartway d m (grown_at steps) (end_at back steps) (upto - (i + 1)) t
+
+pub last_of : (d m : Change) (steps : List (ℤ × ℤ)) (back : Bool) (upto i : ℕ) (x : Pointstamp × ℤ) (was n : ℤ) (s : Change)
+    → AreSteps d steps → upto ≤ size d → i < upto → x ≡ get_or (entries d) (upto - 1 - i) x → was ≡ grown_at steps (upto - 1 - i) → n ≡ end_at back steps (upto - 1 - i)
+    → IsPartway d m (grown_at steps) (end_at back steps) (upto - i) s → IsLast d m steps back upto i x was n s
+last_of d m steps back upto i x was n s h within more is was_is n_is way =
+    let k = upto - 1 - i in
+    let a = grown_at steps in
+    let b = end_at back steps in
+    let lt : k < size d = omega (arith, more, within) in
+    let one : upto - i ≡ k + 1 = omega (arith, more) in
+    let less : k ≡ upto - (i + 1) = omega arith in
+    let here = subst (λ j. IsPartway d m a b j s) one way in
+    record {
+      was_kept = first_kept d steps h k lt was was_is;
+      n_kept = end_kept d steps h k lt back n n_is;
+      within = end_small d steps h k lt back n n_is;
+      stands = was_is ∙ sym (way_last d k x lt is m a b s here);
+      room = subst (λ v. IsWithinRoom v n) (sym was_is) (subst (IsWithinRoom (grown_at steps k)) (sym n_is) (grown_within back (step_at steps k).0 (step_at steps k).1));
+      next = λ t set_is. subst (λ j. IsPartway d m a b j t) less (way_back d k x lt is m a b s t (set_is ∙ ap (set s x.0) n_is) here);
+    }
+
+-- none of them is taken yet, or all are
+pub way_all : (d m : Change) (a b : ℕ → ℤ) (upto : ℕ) (s : Change) → IsPartway d m a b upto s → IsPartway d m a b (upto - 0) s
+way_all d m a b upto s = let all : upto ≡ upto - 0 = omega arith in subst (λ j. IsPartway d m a b j s) all
+
+pub way_over : (d m : Change) (a b : ℕ → ℤ) (upto i : ℕ) (s : Change) → upto ≤ i → IsPartway d m a b (upto - i) s → IsPartway d m a b 0 s
+way_over d m a b upto i s past = let over : upto - i ≡ 0 = omega (arith, past) in subst (λ j. IsPartway d m a b j s) over
 
 module _ (d : Change) where
   pub way_first : (m : Change) (a b : ℕ → ℤ) → AreAt d b m → IsPartway d m a b 0 m

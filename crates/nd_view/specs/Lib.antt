@@ -1,4 +1,5 @@
 pub mod Kept
+pub mod Links
 pub mod Room
 pub mod Settled
 pub mod View

@@ -4,6 +4,7 @@
 
 mod entry_tests;
 mod keeping;
+mod links;
 mod moving;
 mod steps;
 

@@ -1,14 +1,13 @@
 -- What one more change, or one more sum, makes of a draft.
 use Rattle.std.proofs.Common.{◌≡◌, ◌≤◌, ◌+◌, ℕ, ℤ, pos, ◌+ℤ◌, unsigned_abs, Bool, true, false, cond, List, [], ◌∷◌, ◌++◌, refl, sym, ap, subst, ◌∙◌, arith}
 use Rattle.std.proofs.lemmas.Int.{ints}
-use Rattle.std.proofs.lemmas.List.{map-append}
 use Rattle.std.specs.Ordering.{eq_by_cmp}
 use Rattle.nd_time.specs.Limits.{max_count}
 use Rattle.nd_protocol.specs.State.{ClusterState}
 use Rattle.nd_record.specs.Places.{Place, place_cmp}
-use Rattle.nd_record.specs.Changes.{place_of, gain_of}
 use Rattle.nd_record.specs.Edits.{Edit, total_at, edits_of}
-use Rattle.nd_record.specs.Plans.{often, Once, Each}
+use Rattle.nd_record.specs.Plans.{Once, Each}
+use Rattle.nd_record.specs.Appended.{total-append, each-append}
 use Rattle.nd_work.specs.Sums.{AreSummed, IsMore, AddsAll, sum_at}
 use Rattle.nd_work.specs.Drafts.{IsSound, AddsUp, IsSmall, Follows}
 use Rattle.nd_record.specs.declared.change.Change.{Change}
@@ -17,28 +16,19 @@ use Rattle.nd_work.specs.declared.net.Sums.{Sums}
 use Rattle.nd_work.proofs.Totals.{total-one}
 use Rattle.nd_work.proofs.Sums.{total_at-append}
 
-pub often_append : (k : Place) (cs ds : List Change) → often k (cs ++ ds) ≡ often k cs + often k ds
-often_append k [] ds = omega arith
-often_append k (c ∷ cs) ds = let e = often_append k cs ds in omega (arith, e)
-
-pub each_then : (P : Change → Type 0) (cs ds : List Change) → Each P cs → Each P ds → Each P (cs ++ ds)
-each_then P [] ds h i = i
-each_then P (c ∷ cs) ds h i = (h.0, each_then P cs ds h.1 i)
-
 module _ {A : Type 0} (s : ClusterState) (es : List Edit) (d : Draft A) (adds : AddsUp s es d) (f : Draft A) where
   pub pushed : (cs : List Change) → Each (IsSound s) cs → Once (d.singles.items ++ cs) → f.singles.items ≡ d.singles.items ++ cs → f.sums ≡ d.sums → AddsUp s (es ++ edits_of cs) f
   pushed cs sound alone singles sums = record {
     kept = subst AreSummed (sym sums) adds.kept;
     totals = totals;
     once = subst Once (sym singles) alone;
-    sound = subst (Each (IsSound s)) (sym singles) (each_then (IsSound s) d.singles.items cs adds.sound sound);
+    sound = subst (Each (IsSound s)) (sym singles) (each-append (IsSound s) d.singles.items cs adds.sound sound);
   }
     where
       totals : (k : Place) → (total_at (edits_of f.singles.items) k +ℤ sum_at f.sums k) ≡ total_at (es ++ edits_of cs) k
       totals k =
-          let edit = λ (x : Change). let e : Edit = (place_of x, gain_of x) in e in
           let a : total_at (edits_of f.singles.items) k ≡ total_at (edits_of d.singles.items) k +ℤ total_at (edits_of cs) k
-          = ap (λ xs. total_at (edits_of xs) k) singles ∙ ap (λ x. total_at x k) (map-append edit d.singles.items cs) ∙ total_at-append (edits_of d.singles.items) (edits_of cs) k in
+          = ap (λ xs. total_at (edits_of xs) k) singles ∙ total-append k d.singles.items cs in
           let b : sum_at f.sums k ≡ sum_at d.sums k = ap (λ x. sum_at x k) sums in
           let t = adds.totals k in
           let e : total_at (es ++ edits_of cs) k ≡ total_at es k +ℤ total_at (edits_of cs) k = total_at-append es (edits_of cs) k in

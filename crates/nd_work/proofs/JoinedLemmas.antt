@@ -1,7 +1,6 @@
 -- The list of all changes of a draft adds what the draft adds, and names no place twice.
 use Rattle.std.proofs.Common.{◌≡◌, ◌≢◌, ◌≤◌, ◌+◌, ℕ, suc, ℤ, pos, ◌+ℤ◌, All, unsigned_abs, Bool, true, false, cond, List, [], ◌∷◌, ◌++◌, map, Option, Some, None, IfSome, ◌⊎◌, inl, inr, refl, sym, ap, subst, ◌∙◌, arith, Ordering}
 use Rattle.std.proofs.lemmas.Int.{ints}
-use Rattle.std.proofs.lemmas.List.{map-append}
 use Rattle.std.proofs.lemmas.Map.Views.{tells_apart}
 use Rattle.std.proofs.lemmas.Map.Lookups.{exact_unsigned}
 use Rattle.std.proofs.lemmas.Cmp.{nat_cmp_total}
@@ -27,8 +26,7 @@ use Rattle.nd_work.specs.declared.draft.Draft.{Draft}
 use Rattle.nd_work.specs.declared.key.RecordAt.{RecordAt}
 use Rattle.nd_record.specs.Alike.{is_place, other_place, unsent-test, same_key, other_key}
 use Rattle.nd_work.proofs.Arrivals.{decided}
-use Rattle.nd_work.proofs.DraftsLemmas.{often_append, each_then}
-use Rattle.nd_work.proofs.Sums.{total_at-append}
+use Rattle.nd_record.specs.Appended.{often-append, total-append, each-append}
 
 -- how often a place stands there, and what is added to it
 pub record Adds (k : Place) (n : ℤ) (cs : List Change) : Type 0 where
@@ -185,21 +183,18 @@ module _ {A : Type 0} (s : ClusterState) (es : List Edit) (d : Draft A) (adds : 
   at_all (place_at q (unsent_at x)) = at_unsent q x
   at_all (view_of q x) = neither (view_of q x) refl (no_records (view_of q x) (λ e. refl)) (no_unsent (view_of q x) (λ e. refl))
 
-  edits_append : (cs ds : List Change) (k : Place) → total_at (edits_of (cs ++ ds)) k ≡ total_at (edits_of cs) k +ℤ total_at (edits_of ds) k
-  edits_append cs ds k = ap (λ x. total_at x k) (map-append (λ (c : Change). let e : Edit = (place_of c, gain_of c) in e) cs ds) ∙ total_at-append (edits_of cs) (edits_of ds) k
-
   pub joined_total : (k : Place) → total_at (edits_of (joined d)) k ≡ total_at es k
   joined_total k =
-      let a = edits_append (d.singles.items ++ rs) us k in
-      let b = edits_append d.singles.items rs k in
+      let a = total-append k (d.singles.items ++ rs) us in
+      let b = total-append k d.singles.items rs in
       let c = (at_all k).sum in
       let t = adds.totals k in
       omega (arith, ints, a, b, c, t)
 
   pub joined_once : Once (joined d)
   joined_once k =
-      let a = often_append k (d.singles.items ++ rs) us in
-      let b = often_append k d.singles.items rs in
+      let a = often-append k (d.singles.items ++ rs) us in
+      let b = often-append k d.singles.items rs in
       let c = (at_all k).once in
       omega (arith, a, b, c)
 
@@ -215,8 +210,8 @@ module _ {A : Type 0} (s : ClusterState) (es : List Edit) (d : Draft A) (adds : 
 
   each_joined : (P : Change → Type 0) → ((c : Change) → IsSound s c → P c) → All (λ e. P (record_change e)) d.sums.records → All (λ e. P (unsent_change d.sums.p e)) d.sums.unsent → Each P (joined d)
   each_joined P f r u =
-      each_then P (d.singles.items ++ rs) us
-      (each_then P d.singles.items rs (each_sound P f d.singles.items adds.sound) (each_map P record_change d.sums.records r))
+      each-append P (d.singles.items ++ rs) us
+      (each-append P d.singles.items rs (each_sound P f d.singles.items adds.sound) (each_map P record_change d.sums.records r))
       (each_map P (unsent_change d.sums.p) d.sums.unsent u)
 
   is_some : (x : Option ℤ) (v : ℤ) → x ≡ Some v → IfSome x IsSum → v ≢ pos 0

@@ -1,7 +1,6 @@
 -- What a take and a notice draft is what they add.
 use Rattle.std.proofs.Common.{◌≡◌, ◌≤◌, ◌+◌, ℕ, ℤ, pos, negsuc, ◌+ℤ◌, Bool, true, false, cond, ◌&&◌, List, [], ◌∷◌, ◌++◌, map, length, Option, Some, None, is_none, refl, sym, ap, subst, ◌∙◌, arith}
 use Rattle.std.proofs.lemmas.Int.{ints}
-use Rattle.std.proofs.lemmas.List.{map-append}
 use Rattle.std.specs.List.{flat_map}
 use Rattle.std.specs.FinMap as fin
 use Rattle.nd_time.specs.Time.{Time}
@@ -20,7 +19,6 @@ use Rattle.nd_protocol.specs.State.{ClusterState, processor}
 use Rattle.nd_protocol.specs.Steps.{made_on, emitted, take_outcome, notice_outcome, point_at}
 use Rattle.nd_protocol.specs.declared.step.Step.TheVariants.{Take, Notice}
 use Rattle.nd_record.specs.Places.{Place, place_at, records_at, request_at, token_at, item_at, sink_at, unsent_at, view_of}
-use Rattle.nd_record.specs.Changes.{place_of, gain_of}
 use Rattle.nd_record.specs.Edits.{Edit, total_at, edits_of}
 use Rattle.nd_work.specs.Edits.{ask_edits, item_edits, sink_edits, come, come_edits}
 use Rattle.nd_record.specs.Plans.{often, Once, Each}
@@ -29,7 +27,8 @@ use Rattle.nd_record.specs.declared.change.Change.{Change}
 use Rattle.nd_work.specs.declared.draft.Draft.{Draft}
 use Rattle.nd_work.specs.declared.net.Sums.{Sums}
 use Rattle.nd_record.specs.Alike.{is_place}
-use Rattle.nd_work.proofs.DraftsLemmas.{often_append, each_then, pushed, listed_anew}
+use Rattle.nd_record.specs.Appended.{often-append, total-append, each-append}
+use Rattle.nd_work.proofs.DraftsLemmas.{pushed, listed_anew}
 use Rattle.nd_work.proofs.ItemsLemmas.{items_once, items_total, items_sound}
 use Rattle.nd_work.proofs.Sums.{total_at-append}
 
@@ -66,8 +65,8 @@ module _ (p vertex : ℕ) (t : Time) where
 
     split : (k : Place) → often k (vertex_changes p vertex t request items counted) ≡ often k (request_changes p vertex t request) + (often k states + often k (sink_changes p vertex counted))
     split k =
-        let a = often_append k (request_changes p vertex t request) (states ++ sink_changes p vertex counted) in
-        let b = often_append k states (sink_changes p vertex counted) in
+        let a = often-append k (request_changes p vertex t request) (states ++ sink_changes p vertex counted) in
+        let b = often-append k states (sink_changes p vertex counted) in
         omega (arith, a, b)
 
     neither : (k : Place) → is_place k (place_at p (request_at (point_at vertex t))) ≡ false → ((value : ℤ) → is_place k (place_at p (sink_at (record { vertex = vertex; value = value }))) ≡ false) → often k (vertex_changes p vertex t request items counted) ≤ 1
@@ -100,20 +99,17 @@ sink_sound s p vertex (Some value) = (record { single = tt; some = λ e. cc; old
 pub vertex_sound : (s : ClusterState) (p vertex : ℕ) (t : Time) (request : Option Bool) (items : List ItemEdit) (counted : Option ℤ) (n : Items) → LeadsTo (items_at (processor s p) vertex) items n
     → Each (IsSound s) (vertex_changes p vertex t request items counted)
 vertex_sound s p vertex t request items counted n leads =
-    each_then (IsSound s) (request_changes p vertex t request) (map (state_change p vertex) items ++ sink_changes p vertex counted) (request_sound s p vertex t request)
-    (each_then (IsSound s) (map (state_change p vertex) items) (sink_changes p vertex counted) (items_sound s p vertex n items leads) (sink_sound s p vertex counted))
+    each-append (IsSound s) (request_changes p vertex t request) (map (state_change p vertex) items ++ sink_changes p vertex counted) (request_sound s p vertex t request)
+    (each-append (IsSound s) (map (state_change p vertex) items) (sink_changes p vertex counted) (items_sound s p vertex n items leads) (sink_sound s p vertex counted))
 
 -- ---- what they add
-
-edits_append : (cs ds : List Change) (k : Place) → total_at (edits_of (cs ++ ds)) k ≡ total_at (edits_of cs) k +ℤ total_at (edits_of ds) k
-edits_append cs ds k = ap (λ x. total_at x k) (map-append (λ (c : Change). let e : Edit = (place_of c, gain_of c) in e) cs ds) ∙ total_at-append (edits_of cs) (edits_of ds) k
 
 pub vertex_total : (p vertex : ℕ) (t : Time) (request : Option Bool) (items : List ItemEdit) (counted : Option ℤ) (m n : Items) → LeadsTo m items n → (k : Place)
     → total_at (edits_of (vertex_changes p vertex t request items counted)) k
     ≡ total_at (edits_of (request_changes p vertex t request)) k +ℤ (total_at (item_edits p vertex m n) k +ℤ total_at (edits_of (sink_changes p vertex counted)) k)
 vertex_total p vertex t request items counted m n leads k =
-    let a = edits_append (request_changes p vertex t request) (map (state_change p vertex) items ++ sink_changes p vertex counted) k in
-    let b = edits_append (map (state_change p vertex) items) (sink_changes p vertex counted) k in
+    let a = total-append k (request_changes p vertex t request) (map (state_change p vertex) items ++ sink_changes p vertex counted) in
+    let b = total-append k (map (state_change p vertex) items) (sink_changes p vertex counted) in
     let e = items_total p vertex m n items leads k in
     omega (arith, ints, a, b, e)
 

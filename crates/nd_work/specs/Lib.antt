@@ -1,4 +1,5 @@
 pub mod Edits
+pub mod Pairs
 pub mod Stores
 pub mod Sums
 pub mod Drafts

@@ -6,6 +6,7 @@ mod emit;
 mod feed;
 mod key;
 mod net;
+mod pair;
 mod react;
 mod store;
 

@@ -122,10 +122,12 @@ impl<A: Allocator + Copy> Sums<A> {
         Ok(())
     }
 
-    // The changes of records and of unsent entries, after those that are there.
+    // The changes of records and of unsent entries, after those that are there; no more room is made than they take.
     pub(crate) fn list(&self, to: &mut Vec<Change, A>) -> Result<(), AllocError>
         ensures { OnOk result (to.new.items ≡ (to.old.items ++ map change_of_records self.now.records) ++ map (change_of_unsent self.now.p) self.now.unsent) }
     {
+        let count = self.records.len().saturating_add(self.unsent.len());
+        to.reserve_exact(count)?;
         self.records.list(self.p, to)?;
         self.unsent.list(self.p, to)?;
         Ok(())

@@ -1,9 +1,11 @@
-//! Sums at the keys of a step: in a sorted list if they are few, in a tree if they may be many.
-ghost use Rattle.std.specs.Prelude.{◌≡◌, ◌++◌, [], None, map, OnErr, OnOk};
+//! Sums at the keys of a step: at most two as they are, in a sorted list if they are few, in a tree if they may be many.
+ghost use Rattle.std.specs.Prelude.{◌≡◌, ◌++◌, ◌∷◌, [], map, length, IfOk, OnErr, OnOk};
 ghost use Rattle.std.specs.FinMap.{find, put};
 ghost use Rattle.nd_map.specs.Listed.{IsListed, without};
+ghost use Rattle.nd_work.specs.Pairs.{entries_of};
 
 use crate::key::Summed;
+use crate::pair::Pair;
 use nd_map::{Key, SortedMap, TreeMap};
 use nd_record::Change;
 use std::alloc::{AllocError, Allocator};
@@ -12,9 +14,10 @@ use std::marker::Model;
 // So many sums are held in a list, in which an edit moves those after it.
 const FEW: usize = 64;
 
-// The sums in either.
+// The sums in one of the three.
 #[derive(Drop)]
 pub(crate) enum Held<K: Key, A: Allocator> {
+    Least(Pair<K>),
     Few(SortedMap<K, i64, A>),
     Many(TreeMap<K, i64, A>),
 }
@@ -22,6 +25,7 @@ pub(crate) enum Held<K: Key, A: Allocator> {
 // A finite map of sums, seen as the list of its entries in the order of their keys.
 #[derive(Drop)]
 pub(crate) struct Store<K: Key, A: Allocator> {
+    alloc: A,
     held: Held<K, A>,
 }
 
@@ -34,18 +38,44 @@ impl<K: Key, A: Allocator> Model for Store<K, A> {
     ghost view = { λ a. held_in a.held };
 }
 
+// Two sums and one more, in a list.
+fn third<K: Key, A: Allocator>(
+    sums: &Pair<K>,
+    alloc: A,
+    key: &K,
+    sum: i64,
+) -> Result<SortedMap<K, i64, A>, AllocError>
+    requires { IsListed K.cmp (entries_of sums.now) }
+    ensures { IfOk result (λ m. m ≡ put K.cmp key.now sum (entries_of sums.now)) }
+{
+    let mut more = sums.to_map(alloc)?;
+    more.put(key, sum)?;
+    Ok(more)
+}
+
 impl<K: Key, A: Allocator + Copy> Store<K, A> {
     // No sum yet, of about so many. It takes no memory.
     pub(crate) fn new(alloc: A, count: usize) -> Store<K, A>
         ensures { result ≡ [] }
     {
-        if count <= FEW {
-            return Store {
-                held: Held::Few(SortedMap::new(alloc)),
-            };
-        }
-        Store {
-            held: Held::Many(TreeMap::new(alloc)),
+        let held = if count <= 1 {
+            Held::Least(Pair::Nothing)
+        } else if count <= FEW {
+            Held::Few(SortedMap::new(alloc))
+        } else {
+            Held::Many(TreeMap::new(alloc))
+        };
+        Store { alloc, held }
+    }
+
+    // The number of sums.
+    pub(crate) fn len(&self) -> usize
+        ensures { result ≡ length self.now }
+    {
+        match &self.held {
+            Held::Least(sums) => sums.len(),
+            Held::Few(sums) => sums.len(),
+            Held::Many(sums) => sums.len(),
         }
     }
 
@@ -54,6 +84,7 @@ impl<K: Key, A: Allocator + Copy> Store<K, A> {
         ensures value { result ≡ find K.cmp key.now self.now }
     {
         match &self.held {
+            Held::Least(sums) => sums.get(key),
             Held::Few(sums) => sums.get(key),
             Held::Many(sums) => sums.get(key),
         }
@@ -61,10 +92,19 @@ impl<K: Key, A: Allocator + Copy> Store<K, A> {
 
     // Gives a key a sum.
     pub(crate) fn put(&mut self, key: &K, sum: i64) -> Result<(), AllocError>
+        requires { IsListed K.cmp self.old }
         ensures ok { OnOk result (self.new ≡ put K.cmp key.now sum self.old) }
         ensures err { OnErr result (self.new ≡ self.old) }
     {
         match &mut self.held {
+            Held::Least(sums) => {
+                if sums.put(key, sum) {
+                    return Ok(());
+                }
+                let more = third(sums, self.alloc, key, sum)?;
+                self.held = Held::Few(more);
+                Ok(())
+            }
             Held::Few(sums) => sums.put(key, sum),
             Held::Many(sums) => sums.put(key, sum),
         }
@@ -75,8 +115,39 @@ impl<K: Key, A: Allocator + Copy> Store<K, A> {
         ensures value { self.new ≡ without K.cmp key.now self.old }
     {
         match &mut self.held {
+            Held::Least(sums) => sums.remove(key),
             Held::Few(sums) => sums.remove(key),
             Held::Many(sums) => sums.remove(key),
+        }
+    }
+}
+
+// The change of a sum, after those that are there.
+fn list_one<K: Summed, A: Allocator>(
+    sum: &(K, i64),
+    p: u32,
+    to: &mut Vec<Change, A>,
+) -> Result<(), AllocError>
+    ensures { OnOk result (to.new.items ≡ to.old.items ++ K.change_of p sum.now ∷ []) }
+{
+    to.push(sum.0.change(p, &sum.1))?;
+    Ok(())
+}
+
+// The changes of at most two sums.
+fn list_least<K: Summed, A: Allocator>(
+    sums: &Pair<K>,
+    p: u32,
+    to: &mut Vec<Change, A>,
+) -> Result<(), AllocError>
+    ensures { OnOk result (to.new.items ≡ to.old.items ++ map (K.change_of p) (entries_of sums.now)) }
+{
+    match sums {
+        Pair::Nothing => Ok(()),
+        Pair::One(sum) => list_one(sum, p, to),
+        Pair::Two(first, second) => {
+            list_one(first, p, to)?;
+            list_one(second, p, to)
         }
     }
 }
@@ -115,6 +186,7 @@ impl<K: Summed, A: Allocator + Copy> Store<K, A> {
         ensures { OnOk result (to.new.items ≡ to.old.items ++ map (K.change_of p) self.now) }
     {
         match &self.held {
+            Held::Least(sums) => list_least(sums, p, to),
             Held::Few(sums) => list_few(sums.entries(), p, to),
             Held::Many(sums) => list_many(sums, p, to),
         }

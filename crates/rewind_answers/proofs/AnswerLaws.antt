@@ -4,8 +4,6 @@ use Rattle.std.specs.Prelude.{◌<◌, ◌≤◌, length, slice_get}
 use Rattle.std.specs.Option.{ok_or, option_to_list}
 use Rattle.std.specs.declared.alloc.AllocError.{AllocError}
 use Rattle.serde_json.specs.Data.{Data}
-use Rattle.serde_json.specs.View.{view}
-use Rattle.serde_json.specs.declared.value.Value.{Value}
 use Rattle.nd_graph.specs.Graph.{Dataflow, names}
 use Rattle.nd_graph.specs.Draft.{Draft, draft_of}
 use Rattle.nd_graph.specs.Fault.{IsUnlessMemory}
@@ -19,7 +17,7 @@ use Rattle.nd_paths.specs.declared.point.Pointstamp.{Pointstamp}
 use Rattle.nd_view.specs.View.{IsBlocker, IsOnFrontier, IsPartWhere}
 use Rattle.nd_protocol.specs.State.{ClusterState, view as view_in}
 use Rattle.nd_shown.specs.StateText.{entries_data, point_data}
-use Rattle.nd_cluster.specs.Starting.{IsStartFault, start_number, start_name}
+use Rattle.nd_cluster.specs.Starting.{IsStartFault, start_code}
 use Rattle.nd_cluster.specs.declared.start.StartFault.TheVariants as start_fault
 use Rattle.rewind_forms.specs.declared.version.Version.{Version}
 use Rattle.rewind_forms.specs.declared.asked.Asked.{Asked}
@@ -66,59 +64,59 @@ told v d e (inr is) some = absurd (some is)
 
 -- ---- commands
 
-pub asked_replies : (script : Version) (m : Logged) (n : ℕ) (d : Data) (asked : Asked) (r : Result Value AllocError) (new : Logged) → asked_of script (cluster_of m.machine.timeline).graph d ≡ Ok asked
-    → IfOk r (λ v. AskedReply m asked (view v) new) → IfOk r (λ v. LineReplies script m n d (view v ∷ []) (running script new))
-asked_replies script m n d asked (Ok v) new is h = subst (λ (o : Result Asked LineFault). FormReplies script m n o (view v ∷ []) (running script new)) (sym is) (view v, new, h, refl, refl)
+pub asked_replies : (script : Version) (m : Logged) (n : ℕ) (d : Data) (asked : Asked) (r : Result Data AllocError) (new : Logged) → asked_of script (cluster_of m.machine.timeline).graph d ≡ Ok asked
+    → IfOk r (λ v. AskedReply m asked v new) → IfOk r (λ v. LineReplies script m n d (v ∷ []) (running script new))
+asked_replies script m n d asked (Ok v) new is h = subst (λ (o : Result Asked LineFault). FormReplies script m n o (v ∷ []) (running script new)) (sym is) (v, new, h, refl, refl)
 asked_replies script m n d asked (Err e) new is h = h
 
 -- a command that the machine was moved by
-pub moved_replies : (m new : Logged) (asked : Command Global) (answer : Reply) (g : Dataflow) (r : Result Value AllocError) → m.entries ≢ max_log → Moves m.machine asked answer new.machine
-    → new.entries ≡ m.entries + 1 → g ≡ (cluster_of new.machine.timeline).graph → IfOk r (λ v. view v ≡ reply_data g answer) → IfOk r (λ v. CommandReply m asked (view v) new)
+pub moved_replies : (m new : Logged) (asked : Command Global) (answer : Reply) (g : Dataflow) (r : Result Data AllocError) → m.entries ≢ max_log → Moves m.machine asked answer new.machine
+    → new.entries ≡ m.entries + 1 → g ≡ (cluster_of new.machine.timeline).graph → IfOk r (λ v. v ≡ reply_data g answer) → IfOk r (λ v. CommandReply m asked v new)
 moved_replies m new asked answer g (Ok v) room move count same told = moved answer room move count (told ∙ ap (λ h. reply_data h answer) same)
 moved_replies m new asked answer g (Err x) room move count same told = told
 
 no_memory : (e : LineFault) (n : ℕ) (x : Data) → Some x ≡ line_fault e n → e ≢ line.Memory
 no_memory e n x told memory = absurd (cc (ap (λ f. line_fault f n) memory))
 
-pub fault_replies : (script : Version) (m : Logged) (n : ℕ) (d : Data) (e : LineFault) (r : Result Value AllocError) → (e ≢ line.Memory → asked_of script (cluster_of m.machine.timeline).graph d ≡ Err e) → IfOk r (λ v. Some (view v) ≡ line_fault e n)
-    → IfOk r (λ v. LineReplies script m n d (view v ∷ []) (running script m))
+pub fault_replies : (script : Version) (m : Logged) (n : ℕ) (d : Data) (e : LineFault) (r : Result Data AllocError) → (e ≢ line.Memory → asked_of script (cluster_of m.machine.timeline).graph d ≡ Err e) → IfOk r (λ v. Some v ≡ line_fault e n)
+    → IfOk r (λ v. LineReplies script m n d (v ∷ []) (running script m))
 fault_replies script m n d e (Ok v) is told =
-    subst (λ (o : Result Asked LineFault). FormReplies script m n o (view v ∷ []) (running script m)) (sym (is (no_memory e n (view v) told))) (ap option_to_list told, refl)
+    subst (λ (o : Result Asked LineFault). FormReplies script m n o (v ∷ []) (running script m)) (sym (is (no_memory e n v told))) (ap option_to_list told, refl)
 fault_replies script m n d e (Err x) is told = told
 
 -- ---- queries about a processor
 
 -- the frontier of the view, by the graph and the view that were read
-pub blocked_replies : (s : ClusterState) (q : ℕ) (t x : Pointstamp) (d : Data) (r : Result Value AllocError) → q < length s.processors → IsLeast (IsBlocker s.graph (view_in s q) t) x
-    → d ≡ point_data s.graph x → IfOk r (λ w. view w ≡ not_passed d) → IfOk r (λ w. PassedReply s q t (view w))
+pub blocked_replies : (s : ClusterState) (q : ℕ) (t x : Pointstamp) (d : Data) (r : Result Data AllocError) → q < length s.processors → IsLeast (IsBlocker s.graph (view_in s q) t) x
+    → d ≡ point_data s.graph x → IfOk r (λ w. w ≡ not_passed d) → IfOk r (λ w. PassedReply s q t w)
 blocked_replies s q t x d (Ok w) there least shown reply = inr (there, inr (x, least, reply ∙ ap not_passed shown))
 blocked_replies s q t x d (Err e) there least shown reply = reply
 
-pub frontier_replies : (s : ClusterState) (q : ℕ) (g : Dataflow) (v f : Change) (d : Data) (r : Result Value AllocError) → q < length s.processors → g ≡ s.graph → v ≡ view_in s q
-    → IsPartWhere (IsOnFrontier g v) v f → d ≡ entries_data s.graph (entries f) → IfOk r (λ w. view w ≡ frontier d) → IfOk r (λ w. FrontierReply s q (view w))
+pub frontier_replies : (s : ClusterState) (q : ℕ) (g : Dataflow) (v f : Change) (d : Data) (r : Result Data AllocError) → q < length s.processors → g ≡ s.graph → v ≡ view_in s q
+    → IsPartWhere (IsOnFrontier g v) v f → d ≡ entries_data s.graph (entries f) → IfOk r (λ w. w ≡ frontier d) → IfOk r (λ w. FrontierReply s q w)
 frontier_replies s q g v f d (Ok w) there graph is part shown reply =
     let same : IsPartWhere (IsOnFrontier g (view_in s q)) (view_in s q) f = subst (λ (u : Change). IsPartWhere (IsOnFrontier g u) u f) is part in
     inr (there, (f, subst (λ (h : Dataflow). IsPartWhere (IsOnFrontier h (view_in s q)) (view_in s q) f) graph same, reply ∙ ap frontier shown))
 frontier_replies s q g v f d (Err e) there graph is part shown reply = reply
 
 -- the frontier of the cluster at the cursor
-pub frontier_query : (m : TimelineValue Global) (s : ClusterState) (q : ℕ) (query : Query) (r : Result Value AllocError) → s ≡ cluster_of m → query ≡ Frontier q
-    → IfOk r (λ v. FrontierReply s q (view v)) → IfOk r (λ v. QueryReply m query (view v))
+pub frontier_query : (m : TimelineValue Global) (s : ClusterState) (q : ℕ) (query : Query) (r : Result Data AllocError) → s ≡ cluster_of m → query ≡ Frontier q
+    → IfOk r (λ v. FrontierReply s q v) → IfOk r (λ v. QueryReply m query v)
 frontier_query m s q query (Ok v) same is reply =
-    subst (λ (x : Query). QueryReply m x (view v)) (sym is) (subst (λ (u : ClusterState). FrontierReply u q (view v)) same reply)
+    subst (λ (x : Query). QueryReply m x v) (sym is) (subst (λ (u : ClusterState). FrontierReply u q v) same reply)
 frontier_query m s q query (Err x) same is reply = reply
 
 -- ---- searches, of the timeline of a snapshot
 
-pub found_replies : (m t : TimelineValue Global) (when : Break) (lo hi workers : ℕ) (least : Option ℕ) (r : Result Value AllocError) → t ≡ m → MaySearch (length t.kept) lo hi workers
-    → IsLeastHit (HoldsAt t when) lo hi least → IfOk r (λ v. view v ≡ found_data least) → IfOk r (λ v. SearchReply m when lo hi workers (view v))
+pub found_replies : (m t : TimelineValue Global) (when : Break) (lo hi workers : ℕ) (least : Option ℕ) (r : Result Data AllocError) → t ≡ m → MaySearch (length t.kept) lo hi workers
+    → IsLeastHit (HoldsAt t when) lo hi least → IfOk r (λ v. v ≡ found_data least) → IfOk r (λ v. SearchReply m when lo hi workers v)
 found_replies m t when lo hi workers least (Ok v) same may hit told =
     searched least (subst (λ (u : TimelineValue Global). MaySearch (length u.kept) lo hi workers) same may)
     (subst (λ (u : TimelineValue Global). IsLeastHit (HoldsAt u when) lo hi least) same hit) told
 found_replies m t when lo hi workers least (Err x) same may hit told = told
 
-pub failed_replies : (m t : TimelineValue Global) (when : Break) (lo hi workers : ℕ) (e : SearchFault Global) (r : Result Value AllocError) → t ≡ m
-    → SearchFails t when lo hi workers e → IfOk r (λ v. Some (view v) ≡ search_fault e) → IfOk r (λ v. SearchReply m when lo hi workers (view v))
+pub failed_replies : (m t : TimelineValue Global) (when : Break) (lo hi workers : ℕ) (e : SearchFault Global) (r : Result Data AllocError) → t ≡ m
+    → SearchFails t when lo hi workers e → IfOk r (λ v. Some v ≡ search_fault e) → IfOk r (λ v. SearchReply m when lo hi workers v)
 failed_replies m t when lo hi workers e (Ok v) same why told = unanswered e (subst (λ (u : TimelineValue Global). SearchFails u when lo hi workers e) same why) told
 failed_replies m t when lo hi workers e (Err x) same why told = told
 
@@ -126,6 +124,6 @@ failed_replies m t when lo hi workers e (Err x) same why told = told
 
 -- a graph whose loops are not strict
 pub not_strict_replies : (script : Version) (processors l : ℕ) (g other : Dataflow) (name : List ℕ) (v : Data) → processors ≤ most_processors script → IsStartFault g processors (start_fault.LoopNotStrict l) → other ≡ g
-    → slice_get (names other) l ≡ Some name → v ≡ location_fault (start_number (start_fault.LoopNotStrict l)) (start_name (start_fault.LoopNotStrict l)) name → StartReplies script processors (Ok g) (v ∷ []) refused
+    → slice_get (names other) l ≡ Some name → v ≡ location_fault (start_code (start_fault.LoopNotStrict l)) name → StartReplies script processors (Ok g) (v ∷ []) refused
 not_strict_replies script processors l g other name v few fails same named reply =
     inl (v, not_strict l name few fails (ap (λ h. slice_get (names h) l) (sym same) ∙ named) reply, refl, refl)

@@ -4,8 +4,6 @@ use Rattle.std.specs.Prelude.{◌↔◌, IsTrue, slice_get}
 use Rattle.std.specs.declared.alloc.AllocError.{AllocError}
 use Rattle.std.specs.declared.alloc.Global.{Global}
 use Rattle.serde_json.specs.Data.{Data}
-use Rattle.serde_json.specs.View.{view}
-use Rattle.serde_json.specs.declared.value.Value.{Value}
 use Rattle.nd_graph.specs.Graph.{Dataflow}
 use Rattle.nd_paths.specs.declared.point.Pointstamp.{Pointstamp}
 use Rattle.nd_view.specs.View.{IsPassed}
@@ -27,20 +25,20 @@ use Rattle.rewind_answers.specs.Explained.{steps_data, ExportReply, StepReply, T
 
 -- ---- kept steps, by the graph that was read
 
-pub export_replies : (m : TimelineValue Global) (g : Dataflow) (at : ℕ) (d : Data) (r : Result Value AllocError) → g ≡ (cluster_of m).graph → at ≡ m.cursor → d ≡ steps_data g m.kept
-    → IfOk r (λ v. view v ≡ exported at d) → IfOk r (λ v. ExportReply m (view v))
+pub export_replies : (m : TimelineValue Global) (g : Dataflow) (at : ℕ) (d : Data) (r : Result Data AllocError) → g ≡ (cluster_of m).graph → at ≡ m.cursor → d ≡ steps_data g m.kept
+    → IfOk r (λ v. v ≡ exported at d) → IfOk r (λ v. ExportReply m v)
 export_replies m g at d (Ok v) same cursor shown reply = reply ∙ (λ i. exported (cursor i) ((shown ∙ ap (λ h. steps_data h m.kept) same) i))
 export_replies m g at d (Err e) same cursor shown reply = reply
 
-pub step_replies : (m : TimelineValue Global) (g : Dataflow) (to : ℕ) (x : Step Global) (d : Data) (r : Result Value AllocError) → g ≡ (cluster_of m).graph → 0 < to → slice_get m.kept (to - 1) ≡ Some x
-    → d ≡ object_of g x → IfOk r (λ v. view v ≡ kept_step d) → IfOk r (λ v. StepReply m to (view v))
+pub step_replies : (m : TimelineValue Global) (g : Dataflow) (to : ℕ) (x : Step Global) (d : Data) (r : Result Data AllocError) → g ≡ (cluster_of m).graph → 0 < to → slice_get m.kept (to - 1) ≡ Some x
+    → d ≡ object_of g x → IfOk r (λ v. v ≡ kept_step d) → IfOk r (λ v. StepReply m to v)
 step_replies m g to x d (Ok v) same some there shown reply = inr (some, (x, there, reply ∙ ap kept_step (shown ∙ ap (λ h. object_of h x) same)))
 step_replies m g to x d (Err e) same some there shown reply = reply
 
 -- ---- reasons
 
-pub why_replies : (s : ClusterState) (q : ℕ) (t : Pointstamp) (g : Dataflow) (accounts : List Account) (p f : Bool) (d : Data) (r : Result Value AllocError) → q < length s.processors → g ≡ s.graph → IsWhy s q t accounts
-    → (IsTrue p ↔ IsPassed s.graph (view_in s q) t) → (IsTrue f ↔ IsFinished s t) → d ≡ reasons_data g accounts → IfOk r (λ v. view v ≡ why f p d) → IfOk r (λ v. WhyReply s q t (view v))
+pub why_replies : (s : ClusterState) (q : ℕ) (t : Pointstamp) (g : Dataflow) (accounts : List Account) (p f : Bool) (d : Data) (r : Result Data AllocError) → q < length s.processors → g ≡ s.graph → IsWhy s q t accounts
+    → (IsTrue p ↔ IsPassed s.graph (view_in s q) t) → (IsTrue f ↔ IsFinished s t) → d ≡ reasons_data g accounts → IfOk r (λ v. v ≡ why f p d) → IfOk r (λ v. WhyReply s q t v)
 why_replies s q t g accounts p f d (Ok v) there same whole has_passed is_finished shown reply = inr (
   there,
   record {
@@ -57,12 +55,12 @@ why_replies s q t g accounts p f d (Err e) there same whole has_passed is_finish
 
 -- ---- changes
 
-pub told_replies : (m : TimelineValue Global) (q : ℕ) (x : Pointstamp) (lo hi : ℕ) (telling : Told Global) (d : Data) (r : Result Value AllocError) → MayTell m q lo hi → IsTold (changes_of m q x lo hi) telling
-    → d ≡ changes_data telling.changes → IfOk r (λ v. view v ≡ changed d telling.more) → IfOk r (λ v. ChangesReply m q x lo hi (view v))
+pub told_replies : (m : TimelineValue Global) (q : ℕ) (x : Pointstamp) (lo hi : ℕ) (telling : Told Global) (d : Data) (r : Result Data AllocError) → MayTell m q lo hi → IsTold (changes_of m q x lo hi) telling
+    → d ≡ changes_data telling.changes → IfOk r (λ v. v ≡ changed d telling.more) → IfOk r (λ v. ChangesReply m q x lo hi v)
 told_replies m q x lo hi telling d (Ok v) may is shown reply = told telling may is (reply ∙ ap (λ e. changed e telling.more) shown)
 told_replies m q x lo hi telling d (Err e) may is shown reply = reply
 
-pub untold_replies : (m : TimelineValue Global) (q : ℕ) (x : Pointstamp) (lo hi : ℕ) (e : ChangesFault) (r : Result Value AllocError) → CannotTell m q lo hi e → IfOk r (λ v. Some (view v) ≡ changes_fault e)
-    → IfOk r (λ v. ChangesReply m q x lo hi (view v))
+pub untold_replies : (m : TimelineValue Global) (q : ℕ) (x : Pointstamp) (lo hi : ℕ) (e : ChangesFault) (r : Result Data AllocError) → CannotTell m q lo hi e → IfOk r (λ v. Some v ≡ changes_fault e)
+    → IfOk r (λ v. ChangesReply m q x lo hi v)
 untold_replies m q x lo hi e (Ok v) cannot reply = untold e cannot reply
 untold_replies m q x lo hi e (Err y) cannot reply = reply

@@ -8,7 +8,7 @@ use Rattle.nd_time.specs.Limits.{max_log, max_processors, max_processors_v1}
 use Rattle.nd_graph.specs.Graph.{Dataflow, location_count, names}
 use Rattle.nd_graph.specs.Draft.{Draft, draft_of}
 use Rattle.nd_graph.specs.Checked.{checked, checked_v1}
-use Rattle.nd_graph.specs.Fault.{number_of, name_of}
+use Rattle.nd_graph.specs.Fault.{code_of}
 use Rattle.nd_graph.specs.declared.fault.GraphFault.{GraphFault}
 use Rattle.nd_graph.specs.declared.fault.GraphFault.TheVariants.{Shape}
 use Rattle.nd_paths.specs.Order.{CouldResultIn}
@@ -20,7 +20,7 @@ use Rattle.nd_protocol.specs.State.{ClusterState, truth, view}
 use Rattle.nd_protocol.specs.Invariant.{IsFinished}
 use Rattle.nd_shown.specs.StateText.{state_data, entries_data, point_data}
 use Rattle.nd_protocol.specs.Start.{start}
-use Rattle.nd_cluster.specs.Starting.{IsStartFault, CanStart, start_number, start_name}
+use Rattle.nd_cluster.specs.Starting.{IsStartFault, CanStart, start_code}
 use Rattle.nd_cluster.specs.declared.start.StartFault.TheVariants as start_fault
 use Rattle.nd_watch.specs.declared.watch.Break.{Break}
 use Rattle.nd_timeline.specs.Timeline.{TimelineValue, cluster_of, opened}
@@ -29,16 +29,16 @@ use Rattle.nd_timeline.specs.declared.command.Command.{Command}
 use Rattle.nd_timeline.specs.declared.reply.Reply.{Reply}
 use Rattle.nd_search.specs.Least.{HoldsAt, IsLeast as IsLeastHit}
 use Rattle.nd_search.specs.Answers.{MaySearch, SearchFails}
-use Rattle.nd_search.specs.Faults.{number_of as number_of_search, name_of as name_of_search}
+use Rattle.nd_search.specs.Faults.{code_of as code_of_search}
 use Rattle.nd_search.specs.declared.fault.SearchFault.{SearchFault}
 use Rattle.nd_search.specs.declared.fault.SearchFault.TheVariants as search
-use Rattle.nd_session.specs.Faults.{number_of as number_of_session, name_of as name_of_session}
+use Rattle.nd_session.specs.Faults.{code_of as code_of_session}
 use Rattle.nd_session.specs.declared.fault.SessionFault.{SessionFault}
 use Rattle.nd_session.specs.declared.fault.SessionFault.TheVariants.{LogFull, Memory}
 use Rattle.rewind_forms.specs.Asked.{asked_of}
 use Rattle.rewind_forms.specs.Versions.{number_of as number_of_version, version_of}
 use Rattle.rewind_forms.specs.Replies.{version, fault, location_fault, piece_fault, graph, reply_data, faulty, line_fault, count, before, state, known, frontier, passed, not_passed, no_processor, found}
-use Rattle.rewind_forms.specs.LineFaults.{number_of as number_of_line, name_of as name_of_line}
+use Rattle.rewind_forms.specs.LineFaults.{code_of as code_of_line}
 use Rattle.rewind_forms.specs.declared.version.Version.{Version}
 use Rattle.rewind_forms.specs.declared.version.Version.TheVariants.{First, Second, Third}
 use Rattle.rewind_forms.specs.declared.fault.LineFault.{LineFault}
@@ -88,9 +88,9 @@ most_processors Third = max_processors
 -- why no cluster starts on a graph, and the reply: there are more processors than the version has, or the cluster refuses
 pub data RefusedReply (v : Version) (processors : ℕ) (g : Dataflow) (reply : Data) : Type 0 where
   bad_count : (processors ≤ most_processors v → IsStartFault g processors start_fault.BadCount)
-      → reply ≡ fault (start_number start_fault.BadCount) (start_name start_fault.BadCount) → RefusedReply v processors g reply
+      → reply ≡ fault (start_code start_fault.BadCount) → RefusedReply v processors g reply
   not_strict : (l : ℕ) (name : List ℕ) → processors ≤ most_processors v → IsStartFault g processors (start_fault.LoopNotStrict l) → slice_get (names g) l ≡ Some name
-      → reply ≡ location_fault (start_number (start_fault.LoopNotStrict l)) (start_name (start_fault.LoopNotStrict l)) name → RefusedReply v processors g reply
+      → reply ≡ location_fault (start_code (start_fault.LoopNotStrict l)) name → RefusedReply v processors g reply
 
 -- a machine at its start
 abbrev pub started : Dataflow → ℕ → Logged
@@ -98,7 +98,7 @@ started g processors = record { machine = without_breaks (opened Global (start g
 
 -- the reply to the graph's line in a script of a version, and the phase after it
 abbrev pub StartReplies : Version → ℕ → Result Dataflow GraphFault → List Data → Phase → Type 0
-StartReplies v processors (Err e) replies new = (replies ≡ fault (number_of e) (name_of e) ∷ []) × (new ≡ refused)
+StartReplies v processors (Err e) replies new = (replies ≡ fault (code_of e) ∷ []) × (new ≡ refused)
 StartReplies v processors (Ok g) replies new =
     ((reply : Data) × RefusedReply v processors g reply × (replies ≡ reply ∷ []) × (new ≡ refused))
     ⊎ ((processors ≤ most_processors v) × CanStart g processors × (replies ≡ graph (location_count g) processors ∷ []) × (new ≡ running v (started g processors)))
@@ -115,7 +115,7 @@ OpeningReplies None processors d replies new = StartReplies First processors (gr
 
 -- what a session that answers no command replies
 abbrev pub session_fault : SessionFault Global → Data
-session_fault e = fault (number_of_session e) (name_of_session e)
+session_fault e = fault (code_of_session e)
 
 -- the true count of a pointstamp
 abbrev pub true_count : ClusterState → Pointstamp → ℕ
@@ -145,8 +145,8 @@ PassedReply s q t reply =
 -- the reply to a search that has no answer; running out of memory outside the workers' walks is none
 abbrev pub search_fault : SearchFault Global → Option Data
 search_fault search.Memory = None
-search_fault (search.Missing piece claimed) = Some (piece_fault (number_of_search (search.Missing piece claimed)) (name_of_search (search.Missing piece claimed)) piece)
-search_fault e = Some (fault (number_of_search e) (name_of_search e))
+search_fault (search.Missing piece claimed) = Some (piece_fault (code_of_search (search.Missing piece claimed)) piece)
+search_fault e = Some (fault (code_of_search e))
 
 -- A search is answered by the least position at which the breakpoint holds, or by null if it holds at none; or by the first of the faults
 -- whose condition holds; or by a piece that is missing, before which there is no such position.
@@ -202,8 +202,8 @@ after_fault refused = refused
 abbrev pub Answers : Phase → ℕ → Reading → List Data → Phase → Type 0
 Answers refused line reading replies new = ⊥
 Answers old line blank replies new = (replies ≡ []) × (new ≡ old)
-Answers old line too_long replies new = (replies ≡ faulty (number_of_line LineTooLong) (name_of_line LineTooLong) line ∷ []) × (new ≡ after_fault old)
-Answers old line no_json replies new = (replies ≡ faulty (number_of_line BadLine) (name_of_line BadLine) line ∷ []) × (new ≡ after_fault old)
+Answers old line too_long replies new = (replies ≡ faulty (code_of_line LineTooLong) line ∷ []) × (new ≡ after_fault old)
+Answers old line no_json replies new = (replies ≡ faulty (code_of_line BadLine) line ∷ []) × (new ≡ after_fault old)
 Answers (unopened processors) line (json d) replies new = OpeningReplies (version_of d) processors d replies new
 Answers (unstarted v processors) line (json d) replies new = StartReplies v processors (graph_of v d) replies new
 Answers (running v m) line (json d) replies new = LineReplies v m line d replies new

@@ -11,13 +11,13 @@ use Rattle.nd_protocol.specs.Invariant.{IsFinished}
 use Rattle.nd_protocol.specs.declared.step.Step.{Step}
 use Rattle.nd_shown.specs.StateText.{row}
 use Rattle.nd_timeline.specs.Timeline.{TimelineValue, cluster_of}
-use Rattle.nd_timeline.specs.Faults.{number_of, name_of}
+use Rattle.nd_timeline.specs.Faults.{code_of}
 use Rattle.nd_timeline.specs.declared.fault.Fault.TheVariants.{NoSuchPoint}
 use Rattle.nd_why.specs.Account.{Account}
 use Rattle.nd_why.specs.Why.{IsWhy}
 use Rattle.nd_changes.specs.Told.{IsTold}
 use Rattle.nd_changes.specs.Answers.{changes_of, MayTell, CannotTell}
-use Rattle.nd_changes.specs.Faults.{number_of as number_of_changes, name_of as name_of_changes}
+use Rattle.nd_changes.specs.Faults.{code_of as code_of_changes}
 use Rattle.nd_changes.specs.declared.told.Told.{Told}
 use Rattle.nd_changes.specs.declared.fault.ChangesFault.{ChangesFault}
 use Rattle.nd_changes.specs.declared.fault.ChangesFault.TheVariants as changes
@@ -39,7 +39,7 @@ ExportReply m reply = reply ≡ exported m.cursor (steps_data (cluster_of m).gra
 -- the kept step that leads to a position; none leads to the first, and none beyond the last
 abbrev pub StepReply : TimelineValue Global → ℕ → Data → Type 0
 StepReply m to reply =
-    (((to ≡ 0) ⊎ (length m.kept < to)) × (reply ≡ fault (number_of NoSuchPoint) (name_of NoSuchPoint)))
+    (((to ≡ 0) ⊎ (length m.kept < to)) × (reply ≡ fault (code_of NoSuchPoint)))
     ⊎ ((0 < to) × ((x : Step Global) × (slice_get m.kept (to - 1) ≡ Some x) × (reply ≡ kept_step (object_of (cluster_of m).graph x))))
 
 -- ---- why
@@ -64,7 +64,7 @@ WhyReply s q t reply =
 -- the reply to a question for changes that has no answer; running out of memory is none
 abbrev pub changes_fault : ChangesFault → Option Data
 changes_fault changes.Memory = None
-changes_fault e = Some (fault (number_of_changes e) (name_of_changes e))
+changes_fault e = Some (fault (code_of_changes e))
 
 -- The changes of processor q's view at a pointstamp are told, the first of them and whether there are more; or the first of the faults
 -- whose condition holds.

@@ -1,8 +1,6 @@
 -- The phases that a run's values stand for.
 use Rattle.std.specs.Prelude.{Bool, true, false, List, [], ◌∷◌, length, Option, Some, None}
 use Rattle.serde_json.specs.Data.{Data}
-use Rattle.serde_json.specs.View.{view}
-use Rattle.serde_json.specs.declared.value.Value.{Value}
 use Rattle.std.specs.declared.alloc.Global.{Global}
 use Rattle.nd_session.specs.State.{StateValue}
 use Rattle.rewind_forms.specs.declared.version.Version.{Version}
@@ -29,6 +27,6 @@ abbrev pub phase_after : Bool → Stage → Phase
 phase_after true stage = refused
 phase_after false stage = phase_of stage
 
-abbrev pub replies_of : Option Value → List Data
+abbrev pub replies_of : Option Data → List Data
 replies_of None = []
-replies_of (Some reply) = view reply ∷ []
+replies_of (Some reply) = reply ∷ []

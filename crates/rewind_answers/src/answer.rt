@@ -1,8 +1,7 @@
 //! The replies to the graph's line and to a later line.
-ghost use Rattle.std.specs.Prelude.{◌≡◌, ◌∷◌, [], false, Ok, IfOk};
+ghost use Rattle.std.specs.Prelude.{◌≡◌, ◌∷◌, [], Ok, IfOk};
 ghost use Rattle.nd_graph.specs.Fault.{IsUnlessMemory};
 ghost use Rattle.serde_json.specs.View.{view};
-ghost use Rattle.serde_json.specs.Written.{has_float};
 ghost use Rattle.rewind_answers.specs.Answers.{running, checked_in, graph_of as graph_in, most_processors as most_in, StartReplies, LineReplies, AskedReply, CommandReply};
 ghost use Rattle.rewind_answers.specs.Stages.{logged, phase_of_start};
 ghost use Rattle.nd_protocol.specs.Invariant.{KeepsProtocol};
@@ -11,6 +10,7 @@ ghost use Rattle.nd_timeline.specs.Timeline.{cluster_of};
 use crate::query::answer_query;
 use nd_cluster::{Cluster, StartFault};
 use nd_graph::{Graph, GraphDraft, GraphFault};
+use nd_reply::Json;
 use nd_session::State;
 use nd_timeline::{Command, Timeline};
 use rewind_forms::{Asked, Version, asked_of, replies};
@@ -58,13 +58,11 @@ fn start_on(
     version: Version,
     processors: u8,
     graph: Graph,
-) -> Result<(Value, Option<State>), AllocError>
-    ensures replies { IfOk result (λ r. StartReplies version processors (Ok graph) (view r.0 ∷ []) (phase_of_start version r.1)) }
-    ensures text { IfOk result (λ r. has_float (view r.0) ≡ false) }
+) -> Result<(Json, Option<State>), AllocError>
+    ensures replies { IfOk result (λ r. StartReplies version processors (Ok graph) (r.0 ∷ []) (phase_of_start version r.1)) }
 {
     if processors > most_processors(version) {
-        let fault = StartFault::BadCount;
-        return Ok((replies::fault(alloc, fault.number(), fault.name())?, None));
+        return Ok((replies::fault(alloc, StartFault::BadCount.code())?, None));
     }
     let names = graph.copy(alloc)?;
     match Cluster::start(alloc, graph, u32::from(processors)) {
@@ -75,13 +73,12 @@ fn start_on(
             Ok((reply, Some(State::new(alloc, timeline))))
         }
         Err(StartFault::BadCount) => {
-            let fault = StartFault::BadCount;
-            Ok((replies::fault(alloc, fault.number(), fault.name())?, None))
+            Ok((replies::fault(alloc, StartFault::BadCount.code())?, None))
         }
         Err(StartFault::LoopNotStrict { location }) => {
             let fault = StartFault::LoopNotStrict { location };
             let name = names.location_name(location);
-            let reply = replies::location_fault(alloc, fault.number(), fault.name(), name)?;
+            let reply = replies::location_fault(alloc, fault.code(), name)?;
             Ok((reply, None))
         }
         Err(StartFault::Memory) => Err(AllocError),
@@ -94,15 +91,14 @@ pub fn answer_first(
     version: Version,
     processors: u8,
     value: &Value,
-) -> Result<(Value, Option<State>), AllocError>
+) -> Result<(Json, Option<State>), AllocError>
     ensures replies { IfOk result (λ r.
-        StartReplies version processors (graph_in version (view value.now)) (view r.0 ∷ []) (phase_of_start version r.1)) }
-    ensures text { IfOk result (λ r. has_float (view r.0) ≡ false) }
+        StartReplies version processors (graph_in version (view value.now)) (r.0 ∷ []) (phase_of_start version r.1)) }
 {
     let graph = match graph_of(alloc, version, value) {
         Ok(graph) => graph,
         Err(GraphFault::Memory) => return Err(AllocError),
-        Err(fault) => return Ok((replies::fault(alloc, fault.number(), fault.name())?, None)),
+        Err(fault) => return Ok((replies::fault(alloc, fault.code())?, None)),
     };
     start_on(alloc, version, processors, graph)
 }
@@ -116,13 +112,12 @@ pub fn cluster(state: &State) -> &Cluster
 }
 
 // Has a command answered and logged, and replies.
-fn answer_do(alloc: Global, state: &mut State, command: Command) -> Result<Value, AllocError>
-    ensures reply { IfOk result (λ v. CommandReply (logged state.old) command (view v) (logged state.new)) }
-    ensures text { IfOk result (λ v. has_float (view v) ≡ false) }
+fn answer_do(alloc: Global, state: &mut State, command: Command) -> Result<Json, AllocError>
+    ensures reply { IfOk result (λ v. CommandReply (logged state.old) command v (logged state.new)) }
 {
     match state.answer(ONLY_CLIENT, command) {
         Ok(reply) => replies::command_reply(alloc, cluster(state).graph(), &reply),
-        Err(fault) => replies::fault(alloc, fault.number(), fault.name()),
+        Err(fault) => replies::fault(alloc, fault.code()),
     }
 }
 
@@ -132,9 +127,8 @@ fn answer_asked<R: Threads + Sync>(
     alloc: Global,
     state: &mut State,
     asked: Asked,
-) -> Result<Value, AllocError>
-    ensures reply { IfOk result (λ v. AskedReply (logged state.old) asked (view v) (logged state.new)) }
-    ensures text { IfOk result (λ v. has_float (view v) ≡ false) }
+) -> Result<Json, AllocError>
+    ensures reply { IfOk result (λ v. AskedReply (logged state.old) asked v (logged state.new)) }
 {
     match asked {
         Asked::Do(command) => answer_do(alloc, state, command),
@@ -150,10 +144,9 @@ pub fn answer_later<R: Threads + Sync>(
     state: &mut State,
     value: &Value,
     line: u64,
-) -> Result<Value, AllocError>
+) -> Result<Json, AllocError>
     ensures replies { IfOk result (λ v.
-        LineReplies version (logged state.old) line (view value.now) (view v ∷ []) (running version (logged state.new))) }
-    ensures text { IfOk result (λ v. has_float (view v) ≡ false) }
+        LineReplies version (logged state.old) line (view value.now) (v ∷ []) (running version (logged state.new))) }
 {
     let asked = match asked_of(alloc, version, cluster(state).graph(), value) {
         Ok(asked) => asked,

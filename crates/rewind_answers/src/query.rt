@@ -1,10 +1,8 @@
 //! The replies to queries.
-ghost use Rattle.std.specs.Prelude.{◌≡◌, ◌↔◌, Bool, false, Some, IfOk, IsTrue};
+ghost use Rattle.std.specs.Prelude.{◌≡◌, ◌↔◌, Bool, Some, IfOk, IsTrue};
 ghost use Rattle.nd_paths.specs.Order.{CouldResultIn};
 ghost use Rattle.nd_protocol.specs.Invariant.{IsSettled, KeepsProtocol};
 ghost use Rattle.nd_shown.specs.StateText.{state_data};
-ghost use Rattle.serde_json.specs.View.{view};
-ghost use Rattle.serde_json.specs.Written.{has_float};
 ghost use Rattle.rewind_forms.specs.Replies.{count as count_data, before as before_data, state};
 ghost use Rattle.rewind_answers.specs.Answers.{QueryReply, ViewReply, FrontierReply, PassedReply, SearchReply, search_fault, true_count};
 
@@ -13,19 +11,18 @@ use crate::kept::{answer_export, answer_step};
 use crate::why::{answer_changes, answer_why};
 use nd_cluster::Cluster;
 use nd_paths::Pointstamp;
+use nd_reply::Json;
 use nd_search::{OpenGate, SearchFault, search_in};
 use nd_session::State;
 use nd_shown::{counts_value, point_value};
 use nd_watch::Break;
 use rewind_forms::{Query, replies};
-use serde_json::Value;
 use std::alloc::{AllocError, Global};
 use std::thread::Threads;
 
 // Replies with the state.
-fn answer_state(alloc: Global, cluster: &Cluster) -> Result<Value, AllocError>
-    ensures reply { IfOk result (λ v. view v ≡ state (state_data cluster.now)) }
-    ensures text { IfOk result (λ v. has_float (view v) ≡ false) }
+fn answer_state(alloc: Global, cluster: &Cluster) -> Result<Json, AllocError>
+    ensures reply { IfOk result (λ j. j ≡ state (state_data cluster.now)) }
 {
     let Ok(shown) = cluster.state_value(alloc) else {
         return Err(AllocError);
@@ -34,10 +31,9 @@ fn answer_state(alloc: Global, cluster: &Cluster) -> Result<Value, AllocError>
 }
 
 // Replies with the true count of a pointstamp.
-fn answer_count(alloc: Global, cluster: &Cluster, point: &Pointstamp) -> Result<Value, AllocError>
+fn answer_count(alloc: Global, cluster: &Cluster, point: &Pointstamp) -> Result<Json, AllocError>
     requires { IsSettled cluster.now }
-    ensures reply { IfOk result (λ v. view v ≡ count_data (true_count cluster.now point.now)) }
-    ensures text { IfOk result (λ v. has_float (view v) ≡ false) }
+    ensures reply { IfOk result (λ j. j ≡ count_data (true_count cluster.now point.now)) }
 {
     let Ok(count) = u64::try_from(cluster.count(point)) else {
         unreachable!()
@@ -51,17 +47,15 @@ fn answer_before(
     cluster: &Cluster,
     from: &Pointstamp,
     to: &Pointstamp,
-) -> Result<Value, AllocError>
-    ensures reply { IfOk result (λ v. (b : Bool) × (IsTrue b ↔ CouldResultIn cluster.now.graph from.now to.now) × (view v ≡ before_data b)) }
-    ensures text { IfOk result (λ v. has_float (view v) ≡ false) }
+) -> Result<Json, AllocError>
+    ensures reply { IfOk result (λ v. (b : Bool) × (IsTrue b ↔ CouldResultIn cluster.now.graph from.now to.now) × (v ≡ before_data b)) }
 {
     replies::before(alloc, cluster.paths().before(from, to))
 }
 
 // Replies with the view of a processor.
-fn answer_view(alloc: Global, cluster: &Cluster, q: u32) -> Result<Value, AllocError>
-    ensures reply { IfOk result (λ v. ViewReply cluster.now q (view v)) }
-    ensures text { IfOk result (λ v. has_float (view v) ≡ false) }
+fn answer_view(alloc: Global, cluster: &Cluster, q: u32) -> Result<Json, AllocError>
+    ensures reply { IfOk result (λ v. ViewReply cluster.now q v) }
 {
     let q = q as usize;
     if q >= cluster.n() {
@@ -72,9 +66,8 @@ fn answer_view(alloc: Global, cluster: &Cluster, q: u32) -> Result<Value, AllocE
 }
 
 // Replies with the frontier of a processor's view.
-fn answer_frontier(alloc: Global, cluster: &Cluster, q: u32) -> Result<Value, AllocError>
-    ensures reply { IfOk result (λ v. FrontierReply cluster.now q (view v)) }
-    ensures text { IfOk result (λ v. has_float (view v) ≡ false) }
+fn answer_frontier(alloc: Global, cluster: &Cluster, q: u32) -> Result<Json, AllocError>
+    ensures reply { IfOk result (λ v. FrontierReply cluster.now q v) }
 {
     let q = q as usize;
     if q >= cluster.n() {
@@ -91,10 +84,9 @@ fn answer_passed(
     cluster: &Cluster,
     q: u32,
     point: &Pointstamp,
-) -> Result<Value, AllocError>
+) -> Result<Json, AllocError>
     requires { KeepsProtocol cluster.now }
-    ensures reply { IfOk result (λ v. PassedReply cluster.now q point.now (view v)) }
-    ensures text { IfOk result (λ v. has_float (view v) ≡ false) }
+    ensures reply { IfOk result (λ v. PassedReply cluster.now q point.now v) }
 {
     let q = q as usize;
     if q >= cluster.n() {
@@ -110,16 +102,15 @@ fn answer_passed(
 }
 
 // Replies to a search that has no answer; running out of memory outside the workers' walks is none.
-fn refuse_search(alloc: Global, fault: &SearchFault) -> Result<Value, AllocError>
-    ensures reply { IfOk result (λ v. Some (view v) ≡ search_fault fault.now) }
-    ensures text { IfOk result (λ v. has_float (view v) ≡ false) }
+fn refuse_search(alloc: Global, fault: &SearchFault) -> Result<Json, AllocError>
+    ensures reply { IfOk result (λ j. Some j ≡ search_fault fault.now) }
 {
     match fault {
         SearchFault::Memory => Err(AllocError),
         SearchFault::Missing { piece, claimed: _ } => {
-            replies::piece_fault(alloc, fault.number(), fault.name(), *piece)
+            replies::piece_fault(alloc, fault.code(), *piece)
         }
-        other => replies::fault(alloc, other.number(), other.name()),
+        other => replies::fault(alloc, other.code()),
     }
 }
 
@@ -132,9 +123,8 @@ fn answer_search<R: Threads + Sync>(
     lo: u64,
     hi: u64,
     workers: u64,
-) -> Result<Value, AllocError>
-    ensures reply { IfOk result (λ v. SearchReply state.now.machine.timeline when.now lo hi workers (view v)) }
-    ensures text { IfOk result (λ v. has_float (view v) ≡ false) }
+) -> Result<Json, AllocError>
+    ensures reply { IfOk result (λ v. SearchReply state.now.machine.timeline when.now lo hi workers v) }
 {
     let timeline = state.timeline();
     match search_in(rt, alloc, timeline, when, lo, hi, workers, &OpenGate) {
@@ -149,9 +139,8 @@ pub fn answer_query<R: Threads + Sync>(
     alloc: Global,
     state: &State,
     query: &Query,
-) -> Result<Value, AllocError>
-    ensures reply { IfOk result (λ v. QueryReply state.now.machine.timeline query.now (view v)) }
-    ensures text { IfOk result (λ v. has_float (view v) ≡ false) }
+) -> Result<Json, AllocError>
+    ensures reply { IfOk result (λ v. QueryReply state.now.machine.timeline query.now v) }
 {
     let cluster = cluster(state);
     match query {

@@ -1,8 +1,7 @@
 //! How far a run has come, and what each line is answered there.
-ghost use Rattle.std.specs.Prelude.{◌≡◌, Some, false, IfOk, IfSome};
+ghost use Rattle.std.specs.Prelude.{◌≡◌, Some, false, IfOk};
 ghost use Rattle.std.specs.Option.{option_to_list};
 ghost use Rattle.serde_json.specs.View.{view};
-ghost use Rattle.serde_json.specs.Written.{has_float};
 ghost use Rattle.rewind_lines.specs.Lines.{json};
 ghost use Rattle.rewind_lines.specs.Readings.{reading_view};
 ghost use Rattle.rewind_forms.specs.Replies.{line_fault};
@@ -11,6 +10,7 @@ ghost use Rattle.rewind_forms.specs.Versions.{version_of as version_in};
 ghost use Rattle.rewind_answers.specs.Stages.{phase_of, phase_after, replies_of};
 
 use crate::answer::{answer_first, answer_later};
+use nd_reply::Json;
 use nd_session::State;
 use rewind_forms::{LineFault, Version, replies, version_of};
 use rewind_lines::Reading;
@@ -30,11 +30,11 @@ pub enum Stage {
 /// What a line is answered, and whether the run ends there.
 #[derive(Drop)]
 pub struct Answer {
-    pub reply: Option<Value>,
+    pub reply: Option<Json>,
     pub is_last: bool,
 }
 
-fn goes_on(reply: Value) -> Answer
+fn goes_on(reply: Json) -> Answer
     ensures { (result.reply ≡ Some reply) × (result.is_last ≡ false) }
 {
     Answer {
@@ -52,7 +52,6 @@ fn answer_fault(
 ) -> Result<Answer, AllocError>
     ensures reply { IfOk result (λ a. replies_of a.reply ≡ option_to_list (line_fault fault line)) }
     ensures after { IfOk result (λ a. phase_after a.is_last stage.now ≡ after_fault (phase_of stage.now)) }
-    ensures text { IfOk result (λ a. IfSome a.reply (λ v. has_float (view v) ≡ false)) }
 {
     let reply = replies::line_fault(alloc, fault, line)?;
     Ok(Answer {
@@ -71,7 +70,6 @@ fn answer_graph(
 ) -> Result<Answer, AllocError>
     ensures answers { IfOk result (λ a. StartReplies version processors (graph_of version (view value.now))
         (replies_of a.reply) (phase_after a.is_last stage.new)) }
-    ensures text { IfOk result (λ a. IfSome a.reply (λ v. has_float (view v) ≡ false)) }
 {
     let (reply, started) = answer_first(alloc, version, processors, value)?;
     let is_last = started.is_none();
@@ -93,7 +91,6 @@ fn answer_opening(
 ) -> Result<Answer, AllocError>
     ensures answers { IfOk result (λ a. OpeningReplies (version_in (view value.now)) processors (view value.now)
         (replies_of a.reply) (phase_after a.is_last stage.new)) }
-    ensures text { IfOk result (λ a. IfSome a.reply (λ v. has_float (view v) ≡ false)) }
 {
     let Some(version) = version_of(value) else {
         return answer_graph(alloc, stage, Version::First, processors, value);
@@ -113,7 +110,6 @@ fn answer_value<R: Threads + Sync>(
 ) -> Result<Answer, AllocError>
     ensures answers { IfOk result (λ a. Answers (phase_of stage.old) line (json (view value.now))
         (replies_of a.reply) (phase_after a.is_last stage.new)) }
-    ensures text { IfOk result (λ a. IfSome a.reply (λ v. has_float (view v) ≡ false)) }
 {
     match stage {
         Stage::Unopened(processors) => {
@@ -134,7 +130,7 @@ fn answer_value<R: Threads + Sync>(
 /// Answers the line of this number; `Err` only if memory runs out.
 ///
 /// A blank line has no reply. A faulty line changes nothing, and ends the run if it is the first or
-/// the graph's; so does a graph that is refused. A reply has no float, so that it can be written.
+/// the graph's; so does a graph that is refused.
 pub fn answer_line<R: Threads + Sync>(
     rt: &R,
     alloc: Global,
@@ -144,7 +140,6 @@ pub fn answer_line<R: Threads + Sync>(
 ) -> Result<Answer, AllocError>
     ensures answers { IfOk result (λ a. Answers (phase_of stage.old) line (reading_view reading.now)
         (replies_of a.reply) (phase_after a.is_last stage.new)) }
-    ensures text { IfOk result (λ a. IfSome a.reply (λ v. has_float (view v) ≡ false)) }
 {
     match reading {
         Reading::Blank => Ok(Answer {

@@ -1,16 +1,14 @@
 //! The replies that tell why a processor does not consider a pointstamp finished, and when its view changed.
-ghost use Rattle.std.specs.Prelude.{◌≡◌, false, Some, IfOk};
-ghost use Rattle.serde_json.specs.View.{view};
-ghost use Rattle.serde_json.specs.Written.{has_float};
+ghost use Rattle.std.specs.Prelude.{◌≡◌, Some, IfOk};
 ghost use Rattle.rewind_answers.specs.Explained.{WhyReply, ChangesReply, changes_fault};
 
 use nd_changes::{ChangesFault, changes};
 use nd_cluster::Cluster;
 use nd_paths::Pointstamp;
+use nd_reply::Json;
 use nd_timeline::Timeline;
 use rewind_forms::replies;
 use rewind_reasons::{changes_value, reasons_value};
-use serde_json::Value;
 use std::alloc::{AllocError, Global};
 
 /// Replies with the reasons for which a processor does not consider a pointstamp finished, and whether it is.
@@ -19,9 +17,8 @@ pub(crate) fn answer_why(
     cluster: &Cluster,
     q: u32,
     point: &Pointstamp,
-) -> Result<Value, AllocError>
-    ensures reply { IfOk result (λ v. WhyReply cluster.now q point.now (view v)) }
-    ensures text { IfOk result (λ v. has_float (view v) ≡ false) }
+) -> Result<Json, AllocError>
+    ensures reply { IfOk result (λ v. WhyReply cluster.now q point.now v) }
 {
     let q = q as usize;
     if q >= cluster.n() {
@@ -37,13 +34,12 @@ pub(crate) fn answer_why(
 }
 
 // Replies to a question for changes that has no answer; running out of memory is none.
-fn refuse_changes(alloc: Global, fault: ChangesFault) -> Result<Value, AllocError>
-    ensures reply { IfOk result (λ v. Some (view v) ≡ changes_fault fault) }
-    ensures text { IfOk result (λ v. has_float (view v) ≡ false) }
+fn refuse_changes(alloc: Global, fault: ChangesFault) -> Result<Json, AllocError>
+    ensures reply { IfOk result (λ j. Some j ≡ changes_fault fault) }
 {
     match fault {
         ChangesFault::Memory => Err(AllocError),
-        other => replies::fault(alloc, other.number(), other.name()),
+        other => replies::fault(alloc, other.code()),
     }
 }
 
@@ -55,9 +51,8 @@ pub(crate) fn answer_changes(
     point: &Pointstamp,
     lo: u64,
     hi: u64,
-) -> Result<Value, AllocError>
-    ensures reply { IfOk result (λ v. ChangesReply timeline.now q point.now lo hi (view v)) }
-    ensures text { IfOk result (λ v. has_float (view v) ≡ false) }
+) -> Result<Json, AllocError>
+    ensures reply { IfOk result (λ v. ChangesReply timeline.now q point.now lo hi v) }
 {
     match changes(alloc, timeline, q as usize, point, lo, hi) {
         Ok(told) => {

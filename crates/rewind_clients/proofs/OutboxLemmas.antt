@@ -1,17 +1,28 @@
 -- Replies that are gathered, and then written.
-use Rattle.std.proofs.Common.{◌≡◌, ◌∙◌, ℕ, ◌+◌, List, [], ◌++◌, length, take, Some, Result, Ok, Err, OnOk, refl, sym, ap}
+use Rattle.std.proofs.Common.{◌≡◌, ◌∙◌, ℕ, ◌+◌, List, [], ◌∷◌, ◌++◌, length, take, Some, Result, Ok, Err, OnOk, refl, sym, ap, append_assoc}
 use Rattle.std.proofs.lemmas.List.{append-nil}
 use Rattle.std.proofs.Math.Seq.{take-append-add}
 use Rattle.std.specs.Io.KnownBytes.{Appends}
 use Rattle.serde_json.specs.Data.{Data}
 use Rattle.rewind_lines.specs.Known.{Known, text_of-append, written-on}
-use Rattle.rewind_lines.specs.Texts.{text_of}
+use Rattle.rewind_lines.specs.Texts.{reply_text, text_of}
 use Rattle.rewind_clients.specs.Gathered.{Gathered}
 use Rattle.rewind_clients.specs.Written.{WroteFront}
 
 -- the text of all is that of the first and that which waits
 whole : (replies : List Data) (waiting before : List ℕ) (after : Known) (h : Gathered replies waiting before after) → text_of replies ≡ text_of h.sent ++ waiting
 whole replies waiting before after h = ap text_of h.split ∙ (text_of-append h.sent h.kept ∙ ap (λ t. text_of h.sent ++ t) (sym h.waits))
+
+-- one more reply waits
+pub added : (replies : List Data) (reply : Data) (waiting waits before : List ℕ) (after : Known) → waits ≡ waiting ++ reply_text reply → Gathered replies waiting before after
+    → Gathered (replies ++ reply ∷ []) waits before after
+added replies reply waiting waits before after more h = record {
+  sent = h.sent;
+  kept = h.kept ++ reply ∷ [];
+  split = ap (λ rs. rs ++ reply ∷ []) h.split ∙ append_assoc h.sent h.kept (reply ∷ []);
+  waits = more ∙ (ap (λ t. t ++ reply_text reply) h.waits ∙ sym (text_of-append h.kept (reply ∷ []) ∙ ap (λ t. text_of h.kept ++ t) (append-nil (reply_text reply))));
+  written = h.written;
+}
 
 -- all that waited was written
 flushed : (replies : List Data) (waiting before : List ℕ) (old new : Known) → Gathered replies waiting before old → Appends old new waiting → Gathered replies [] before new

@@ -6,7 +6,7 @@ use Rattle.serde_json.specs.Data.{Data}
 use Rattle.rewind_lines.specs.Cuts.{take-clip}
 use Rattle.rewind_lines.specs.Known.{Known, text_of-append}
 use Rattle.rewind_lines.specs.Texts.{text_of}
-use Rattle.nd_session.specs.Faults.{number_of, name_of}
+use Rattle.nd_session.specs.Faults.{code_of}
 use Rattle.rewind_lines.specs.declared.fault.DebugFault.{DebugFault}
 use Rattle.rewind_lines.specs.declared.fault.DebugFault.TheVariants as fault
 use Rattle.rewind_clients.specs.Gathered.{Gathered, GatherFails, StopsIn}
@@ -62,7 +62,7 @@ faults-append : (k : ℕ) (xs ys : List Ended) → faults_data k (xs ++ ys) ≡ 
 faults-append k [] ys = ap (λ j. faults_data j ys) (omega arith)
 faults-append k (None ∷ xs) ys = faults-append (k + 1) xs ys ∙ ap (λ j. faults_data (k + 1) xs ++ faults_data j ys) (omega arith)
 faults-append k (Some e ∷ xs) ys =
-    ap (λ ds. client_fault k (number_of e) (name_of e) ∷ ds) (faults-append (k + 1) xs ys ∙ ap (λ j. faults_data (k + 1) xs ++ faults_data j ys) (omega arith))
+    ap (λ ds. client_fault k (code_of e) ∷ ds) (faults-append (k + 1) xs ys ∙ ap (λ j. faults_data (k + 1) xs ++ faults_data j ys) (omega arith))
 
 pub faults-one : (xs : List Data) (fs : List Ended) (i : ℕ) (f : Ended) → i < length fs → f ≡ get_or fs i f → (xs ++ faults_data 0 (take i fs)) ++ faults_data i (f ∷ []) ≡ xs ++ faults_data 0 (take (i + 1) fs)
 faults-one xs fs i f h at =

@@ -2,7 +2,6 @@
 use Rattle.std.specs.Prelude.{ℕ, List, [], ◌∷◌, ◌++◌, map, unwrap_or, Option, Some, None, Vec}
 use Rattle.std.specs.declared.alloc.Global.{Global}
 use Rattle.serde_json.specs.Data.{Data}
-use Rattle.serde_json.specs.View.{view}
 use Rattle.nd_timeline.specs.declared.command.Command.{Command}
 use Rattle.rewind_forms.specs.Replies.{version as version_reply}
 use Rattle.rewind_forms.specs.Versions.{number_of}
@@ -14,7 +13,6 @@ use Rattle.rewind_clients.specs.Intake.{Commands, IsBegun, nothing, opened, refu
 use Rattle.rewind_clients.specs.Intake as read
 use Rattle.rewind_clients.specs.declared.intake.Intake.{Intake}
 use Rattle.rewind_clients.specs.declared.intake.Script.{Script}
-use Rattle.rewind_clients.specs.declared.shown.Shown.{Shown}
 use Rattle.rewind_clients.specs.declared.intake.Intake.TheVariants.{Unstarted, Refused, Faulty, Whole}
 
 abbrev pub lists_of : List (Vec (Command Global) Global) → Commands
@@ -36,21 +34,21 @@ version_of s = unwrap_or s.opened First
 
 -- the replies to its version line, if there was one, and to its graph
 abbrev pub opening_replies : Script → List Data
-opening_replies s = version_replies s.opened ++ view s.reply ∷ []
+opening_replies s = version_replies s.opened ++ s.reply ∷ []
 
 abbrev pub script_view : Script → read.Intake
 script_view s = script (version_of s) (opening_replies s) (logged s.state) (lists_of s.commands.items)
 
 abbrev pub intake_view : Intake → read.Intake
 intake_view (Unstarted version) = unstarted_view version
-intake_view (Refused reply) = refused_graph (view reply)
-intake_view (Faulty reply) = faulty_line (view reply)
+intake_view (Refused reply) = refused_graph reply
+intake_view (Faulty reply) = faulty_line reply
 intake_view (Whole s) = script_view s
 
 -- a script, or the reply to a line of it that is faulty
-abbrev pub or_faulty : Option Shown → Script → read.Intake
+abbrev pub or_faulty : Option Data → Script → read.Intake
 or_faulty None s = script_view s
-or_faulty (Some reply) s = faulty_line (view reply)
+or_faulty (Some reply) s = faulty_line reply
 
 -- what the graph's line comes to, by its value, behind a version line or none
 pub record Starts (processors clients : ℕ) (version : Option Version) (d : Data) (new : read.Intake) : Type 0 where

@@ -2,10 +2,11 @@
 use Rattle.std.specs.Prelude.{ℕ, ◌||◌, Bool, true, false, List, codes, nat_lt, if◌then◌else◌, Option, Some, None, Result, Ok, Err}
 use Rattle.serde_json.specs.Data.{Data}
 use Rattle.nd_json.specs.Forms.{has_text}
+use Rattle.nd_time.specs.Code.{Code, coded}
 use Rattle.nd_graph.specs.Graph.{Dataflow}
 use Rattle.rewind_lines.specs.Lines.{Reading, blank, too_long, no_json, json}
 use Rattle.rewind_forms.specs.Asked.{asked_of}
-use Rattle.rewind_forms.specs.LineFaults.{number_of as number_of_line, name_of as name_of_line}
+use Rattle.rewind_forms.specs.LineFaults.{code_of as code_of_line}
 use Rattle.rewind_forms.specs.Replies.{faulty}
 use Rattle.rewind_forms.specs.declared.version.Version.{Version}
 use Rattle.rewind_forms.specs.declared.asked.Asked.{Asked}
@@ -64,16 +65,11 @@ order_in version clients g no_json = Err (Line BadLine)
 order_in version clients g (json d) = order_of version clients g d
 
 -- the number and the name under which a line is answered
-abbrev pub number_of : OrderFault → ℕ
-number_of (Line e) = number_of_line e
-number_of BadClient = 35
-number_of OneClientOnly = 36
-
-abbrev pub name_of : OrderFault → List ℕ
-name_of (Line e) = name_of_line e
-name_of BadClient = codes "BadClient"
-name_of OneClientOnly = codes "OneClientOnly"
+abbrev pub code_of : OrderFault → Code
+code_of (Line e) = code_of_line e
+code_of BadClient = coded 35 (codes "BadClient")
+code_of OneClientOnly = coded 36 (codes "OneClientOnly")
 
 -- the reply to a faulty line of this number
 abbrev pub order_fault : OrderFault → ℕ → Data
-order_fault e line = faulty (number_of e) (name_of e) line
+order_fault e line = faulty (code_of e) line

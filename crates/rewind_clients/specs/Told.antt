@@ -2,12 +2,13 @@
 use Rattle.std.specs.Prelude.{◌≡◌, ◌==◌, ℕ, ◌+◌, ◌<◌, List, [], ◌∷◌, ◌++◌, length, take, map, filter, slice_get, codes, All, Option, Some, None}
 use Rattle.std.specs.declared.alloc.Global.{Global}
 use Rattle.serde_json.specs.Data.{Data, number, string, object, unsigned, no_members, member}
+use Rattle.nd_time.specs.Code.{Code}
 use Rattle.nd_graph.specs.Graph.{Dataflow}
 use Rattle.nd_timeline.specs.Timeline.{cluster_of}
 use Rattle.nd_timeline.specs.Moves.{MachineValue}
 use Rattle.nd_timeline.specs.declared.command.Command.{Command}
 use Rattle.nd_session.specs.Clients.{IsHistory}
-use Rattle.nd_session.specs.Faults.{number_of, name_of}
+use Rattle.nd_session.specs.Faults.{code_of}
 use Rattle.nd_session.specs.declared.close.Log.{Log}
 use Rattle.nd_session.specs.declared.receipt.Receipt.{Receipt}
 use Rattle.nd_session.specs.declared.fault.SessionFault.{SessionFault}
@@ -25,9 +26,9 @@ abbrev pub entry_data : Dataflow → Receipt Global → Data
 entry_data g e = entry e.client e.number (reply_data g e.reply)
 
 -- {"client":c,"code":n,"error":name}
-abbrev pub client_fault : ℕ → ℕ → List ℕ → Data
-client_fault client code name = object (member (codes "client") (number (unsigned client))
-    (member (codes "code") (number (unsigned code)) (member (codes "error") (string name) no_members)))
+abbrev pub client_fault : ℕ → Code → Data
+client_fault client code = object (member (codes "client") (number (unsigned client))
+    (member (codes "code") (number (unsigned code.number)) (member (codes "error") (string code.name) no_members)))
 
 -- a client's fault, or none
 abbrev pub Ended : Type 0
@@ -45,7 +46,7 @@ MayEnd (Some (NotThisSession index found)) = ⊥
 abbrev pub faults_data : ℕ → List Ended → List Data
 faults_data k [] = []
 faults_data k (None ∷ faults) = faults_data (k + 1) faults
-faults_data k (Some e ∷ faults) = client_fault k (number_of e) (name_of e) ∷ faults_data (k + 1) faults
+faults_data k (Some e ∷ faults) = client_fault k (code_of e) ∷ faults_data (k + 1) faults
 
 -- a client's commands, as a log has them
 abbrev pub commands_of : ℕ → List (Receipt Global) → List (Command Global)

@@ -1,14 +1,12 @@
 //! Replies that are gathered one after another, and written once they are many.
 ghost use Rattle.std.specs.Prelude.{◌≡◌, ◌++◌, ◌∷◌, [], ℕ, List, false, is_err, IfErr, OnOk, OnErr};
 ghost use Rattle.serde_json.specs.Data.{Data};
-ghost use Rattle.serde_json.specs.View.{view};
-ghost use Rattle.serde_json.specs.Written.{has_float};
 ghost use Rattle.rewind_lines.specs.Faults.{is_write_fault};
 ghost use Rattle.rewind_clients.specs.Gathered.{Gathered, GatherFails, IsOfWriting};
 ghost use Rattle.rewind_clients.specs.Written.{WroteFront};
 
+use nd_reply::Json;
 use rewind_lines::{DebugFault, Outbox, Sink, Unwritten};
-use serde_json::Value;
 
 /// Writes the replies that wait.
 pub fn flush<T: Sink>(outbox: &mut Outbox, sink: &mut T) -> Result<(), Unwritten>
@@ -26,15 +24,14 @@ pub fn flush<T: Sink>(outbox: &mut Outbox, sink: &mut T) -> Result<(), Unwritten
 }
 
 /// Gathers one more reply, and writes all that wait if they are many.
-pub fn put<T: Sink>(outbox: &mut Outbox, sink: &mut T, reply: &Value) -> Result<(), DebugFault>
-    requires text { has_float (view reply.now) ≡ false }
+pub fn put<T: Sink>(outbox: &mut Outbox, sink: &mut T, reply: &Json) -> Result<(), DebugFault>
     requires sound { T.failed sink.old ≡ false }
     ensures ok { OnOk result ((replies : List Data) (before : List ℕ)
         → Gathered replies outbox.old before (T.contents sink.old)
-        → Gathered (replies ++ view reply.now ∷ []) outbox.new before (T.contents sink.new)) }
+        → Gathered (replies ++ reply.now ∷ []) outbox.new before (T.contents sink.new)) }
     ensures err { IfErr result (λ e. (replies : List Data) (before : List ℕ)
         → Gathered replies outbox.old before (T.contents sink.old)
-        → GatherFails replies (view reply.now) outbox.new before (T.contents sink.new) e) }
+        → GatherFails replies reply.now outbox.new before (T.contents sink.new) e) }
     ensures kind { IfErr result IsOfWriting }
     ensures failed { T.failed sink.new ≡ is_write_fault result }
 {

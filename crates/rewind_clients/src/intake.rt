@@ -12,7 +12,7 @@ ghost use Rattle.rewind_clients.specs.Intake.{refused_graph, ReadsLine, no_comma
 ghost use Rattle.rewind_clients.specs.Intakes.{intake_view, lists_of, opening_replies, or_faulty, unstarted_view, version_of as version_in, Starts};
 
 use crate::order::{Order, order_fault, order_in};
-use crate::shown::Shown;
+use nd_reply::Json;
 use nd_session::State;
 use nd_timeline::Command;
 use rewind_answers::answer_first;
@@ -27,7 +27,7 @@ pub struct Script {
     /// The version that the version line tells, if there was one.
     pub opened: Option<Version>,
     /// The graph's reply.
-    pub reply: Shown,
+    pub reply: Json,
     /// The `State` that begins at the graph's start.
     pub state: State,
     /// Each client's commands, in the order of its lines.
@@ -40,9 +40,9 @@ pub enum Intake {
     /// No graph yet; the version that the version line tells, if there was one. All others were blank.
     Unstarted(Option<Version>),
     /// The graph's line was refused, and this is its reply.
-    Refused(Shown),
+    Refused(Json),
     /// A line behind the graph's is faulty, and this is its reply.
-    Faulty(Shown),
+    Faulty(Json),
     /// A graph, and clients' commands.
     Whole(Script),
 }
@@ -63,7 +63,7 @@ fn refuse(alloc: Global, fault: LineFault, line: u64) -> Result<Intake, AllocErr
     ensures { IfOk result (λ new. (reply : Data) × (Some reply ≡ line_fault fault line)
         × (intake_view new ≡ refused_graph reply)) }
 {
-    Ok(Intake::Refused(Shown::new(replies::line_fault(alloc, fault, line)?)))
+    Ok(Intake::Refused(replies::line_fault(alloc, fault, line)?))
 }
 
 // What the graph's line comes to, by its value.
@@ -78,8 +78,7 @@ fn start(
         Starts processors clients opened (view value.now) (intake_view new)) }
 {
     let version = opened.unwrap_or(Version::First);
-    let (value, started) = answer_first(alloc, version, processors, value)?;
-    let reply = Shown::new(value);
+    let (reply, started) = answer_first(alloc, version, processors, value)?;
     match started {
         None => Ok(Intake::Refused(reply)),
         Some(state) => Ok(Intake::Whole(Script {
@@ -150,7 +149,7 @@ impl Script {
         alloc: Global,
         reading: Reading,
         line: u64,
-    ) -> Result<Option<Shown>, AllocError>
+    ) -> Result<Option<Json>, AllocError>
         ensures { IfOk result (λ r. or_faulty r self.new ≡ ordered (version_in self.old) (opening_replies self.old)
             (logged self.old.state) (lists_of self.old.commands.items) line
             (order_line (version_in self.old) (length self.old.commands.items)
@@ -163,7 +162,7 @@ impl Script {
                 add_command(&mut self.commands, order)?;
                 Ok(None)
             }
-            Err(fault) => Ok(Some(Shown::new(order_fault(alloc, fault, line)?))),
+            Err(fault) => Ok(Some(order_fault(alloc, fault, line)?)),
         }
     }
 }

@@ -9,7 +9,6 @@ mod numbers;
 mod order;
 mod reader;
 mod same;
-mod shown;
 mod tell;
 
 pub use clients::{debug_clients, debug_clients_within};

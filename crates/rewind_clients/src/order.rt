@@ -1,17 +1,18 @@
 //! What a line behind the graph's asks for, and of which client.
-ghost use Rattle.std.specs.Prelude.{◌≡◌, ◌<◌, false, IfOk};
+ghost use Rattle.std.specs.Prelude.{◌≡◌, ◌<◌, IfOk};
 ghost use Rattle.serde_json.specs.View.{view};
-ghost use Rattle.serde_json.specs.Written.{has_float};
 ghost use Rattle.rewind_lines.specs.Readings.{reading_view};
-ghost use Rattle.rewind_clients.specs.Orders.{among, asks as asks_in, is_first_query as is_first_query_in, is_later_query as is_later_query_in, is_query as is_query_in, order_of as order_in_value, order_in as order_in_line, order_fault as order_fault_data, number_of, name_of};
+ghost use Rattle.rewind_clients.specs.Orders.{among, asks as asks_in, is_first_query as is_first_query_in, is_later_query as is_later_query_in, is_query as is_query_in, order_of as order_in_value, order_in as order_in_line, order_fault as order_fault_data, code_of};
 
 use crate::numbers::without;
 use nd_graph::Graph;
 use nd_json::{has_text, whole_at};
+use nd_reply::{Json, reply};
+use nd_time::Code;
 use nd_timeline::Command;
 use rewind_forms::{Asked, LineFault, Version, asked_of};
 use rewind_lines::Reading;
-use serde_json::{Value, json};
+use serde_json::Value;
 use std::alloc::{AllocError, Global};
 
 /// A client's command.
@@ -33,35 +34,24 @@ pub enum OrderFault {
 }
 
 impl OrderFault {
-    /// The fault's number.
-    pub fn number(self) -> u64
-        ensures { result ≡ number_of self }
+    /// The number and the name under which the fault is answered.
+    pub fn code(self) -> Code
+        ensures { result ≡ code_of self }
     {
         match self {
-            OrderFault::Line(fault) => fault.number(),
-            OrderFault::BadClient => 35,
-            OrderFault::OneClientOnly => 36,
-        }
-    }
-
-    /// The fault's name.
-    pub fn name(self) -> &'static str
-        ensures { result.now ≡ name_of self }
-    {
-        match self {
-            OrderFault::Line(fault) => fault.name(),
-            OrderFault::BadClient => "BadClient",
-            OrderFault::OneClientOnly => "OneClientOnly",
+            OrderFault::Line(fault) => fault.code(),
+            OrderFault::BadClient => Code::new(35, "BadClient"),
+            OrderFault::OneClientOnly => Code::new(36, "OneClientOnly"),
         }
     }
 }
 
 /// The reply to a faulty line of this number.
-pub fn order_fault(alloc: Global, fault: OrderFault, line: u64) -> Result<Value, AllocError>
-    ensures reply { IfOk result (λ v. view v ≡ order_fault_data fault line) }
-    ensures text { IfOk result (λ v. has_float (view v) ≡ false) }
+pub fn order_fault(alloc: Global, fault: OrderFault, line: u64) -> Result<Json, AllocError>
+    ensures reply { IfOk result (λ j. j ≡ order_fault_data fault line) }
 {
-    json!(in alloc; {"code": fault.number(), "error": fault.name(), "line": line})
+    let code = fault.code();
+    reply!(in alloc; {"code": code.number(), "error": code.name(), "line": line})
 }
 
 // Whether the line asks for this.

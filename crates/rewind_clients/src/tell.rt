@@ -1,9 +1,7 @@
 //! What the clients were answered, as lines.
 ghost use Rattle.std.specs.Prelude.{◌≡◌, ◌++◌, ◌∷◌, [], ℕ, List, Some, false, map, IfOk, IfErr, OnOk};
 ghost use Rattle.serde_json.specs.Data.{Data};
-ghost use Rattle.serde_json.specs.View.{view};
-ghost use Rattle.serde_json.specs.Written.{has_float};
-ghost use Rattle.nd_session.specs.Faults.{number_of, name_of};
+ghost use Rattle.nd_session.specs.Faults.{code_of};
 ghost use Rattle.rewind_lines.specs.Texts.{text_of};
 ghost use Rattle.rewind_lines.specs.Faults.{is_write_fault};
 ghost use Rattle.rewind_clients.specs.Intakes.{version_replies};
@@ -11,29 +9,27 @@ ghost use Rattle.rewind_clients.specs.Gathered.{Gathered, IsOfWriting, StopsIn};
 ghost use Rattle.rewind_clients.specs.Told.{client_fault, entry_data, faults_data, lines_data};
 
 use crate::gather::{flush, put};
-use crate::shown::Shown;
 use nd_graph::Graph;
+use nd_reply::{Json, reply};
 use nd_session::{Receipt, SessionFault};
 use rewind_forms::{Version, replies};
 use rewind_lines::{DebugFault, Outbox, Sink};
-use serde_json::{Value, json};
 use std::alloc::{AllocError, Global};
 
 // The line of an entry of the log.
-fn entry_value(alloc: Global, graph: &Graph, entry: &Receipt) -> Result<Value, AllocError>
-    ensures reply { IfOk result (λ v. view v ≡ entry_data graph.now entry.now) }
-    ensures text { IfOk result (λ v. has_float (view v) ≡ false) }
+fn entry_value(alloc: Global, graph: &Graph, entry: &Receipt) -> Result<Json, AllocError>
+    ensures reply { IfOk result (λ j. j ≡ entry_data graph.now entry.now) }
 {
     let reply = replies::command_reply(alloc, graph, &entry.reply)?;
-    json!(in alloc; {"client": entry.client, "number": entry.number, "reply": reply})
+    reply!(in alloc; {"client": entry.client, "number": entry.number, "reply": reply})
 }
 
 // The line of a client whose command was answered with a fault.
-fn fault_value(alloc: Global, client: u64, fault: &SessionFault) -> Result<Value, AllocError>
-    ensures reply { IfOk result (λ v. view v ≡ client_fault client (number_of fault.now) (name_of fault.now)) }
-    ensures text { IfOk result (λ v. has_float (view v) ≡ false) }
+fn fault_value(alloc: Global, client: u64, fault: &SessionFault) -> Result<Json, AllocError>
+    ensures reply { IfOk result (λ j. j ≡ client_fault client (code_of fault.now)) }
 {
-    json!(in alloc; {"client": client, "code": fault.number(), "error": fault.name()})
+    let code = fault.code();
+    reply!(in alloc; {"client": client, "code": code.number(), "error": code.name()})
 }
 
 /// Gathers the lines of the entries of a log.
@@ -111,17 +107,17 @@ pub fn put_faults<T: Sink>(
 }
 
 /// Writes a reply alone.
-pub fn tell_one<T: Sink>(alloc: Global, sink: &mut T, reply: &Shown) -> Result<(), DebugFault>
+pub fn tell_one<T: Sink>(alloc: Global, sink: &mut T, reply: &Json) -> Result<(), DebugFault>
     requires sound { T.failed sink.old ≡ false }
     ensures ok { OnOk result ((before : List ℕ) → T.contents sink.old ≡ Some before
-        → T.contents sink.new ≡ Some (before ++ text_of (view reply.now ∷ []))) }
+        → T.contents sink.new ≡ Some (before ++ text_of (reply.now ∷ []))) }
     ensures err { IfErr result (λ e. (before : List ℕ) → T.contents sink.old ≡ Some before
-        → StopsIn (view reply.now ∷ []) before (T.contents sink.new) e) }
+        → StopsIn (reply.now ∷ []) before (T.contents sink.new) e) }
     ensures kind { IfErr result IsOfWriting }
     ensures failed { T.failed sink.new ≡ is_write_fault result }
 {
     let mut outbox = Outbox::new(alloc);
-    put(&mut outbox, sink, reply.value())?;
+    put(&mut outbox, sink, reply)?;
     flush(&mut outbox, sink)?;
     Ok(())
 }
@@ -176,19 +172,19 @@ pub fn tell_opening<T: Sink>(
     alloc: Global,
     sink: &mut T,
     opened: Option<Version>,
-    graph: &Shown,
+    graph: &Json,
 ) -> Result<(), DebugFault>
     requires sound { T.failed sink.old ≡ false }
     ensures ok { OnOk result ((before : List ℕ) → T.contents sink.old ≡ Some before
-        → T.contents sink.new ≡ Some (before ++ text_of (version_replies opened ++ view graph.now ∷ []))) }
+        → T.contents sink.new ≡ Some (before ++ text_of (version_replies opened ++ graph.now ∷ []))) }
     ensures err { IfErr result (λ e. (before : List ℕ) → T.contents sink.old ≡ Some before
-        → StopsIn (version_replies opened ++ view graph.now ∷ []) before (T.contents sink.new) e) }
+        → StopsIn (version_replies opened ++ graph.now ∷ []) before (T.contents sink.new) e) }
     ensures kind { IfErr result IsOfWriting }
     ensures failed { T.failed sink.new ≡ is_write_fault result }
 {
     let mut outbox = Outbox::new(alloc);
     put_version(alloc, &mut outbox, sink, opened)?;
-    put(&mut outbox, sink, graph.value())?;
+    put(&mut outbox, sink, graph)?;
     flush(&mut outbox, sink)?;
     Ok(())
 }

@@ -1,20 +1,13 @@
 -- The number and the name under which a line that is no command is answered (this project's own rule).
-use Rattle.std.specs.Prelude.{ℕ, List, codes}
+use Rattle.std.specs.Prelude.{codes}
+use Rattle.nd_time.specs.Code.{Code, coded}
 use Rattle.rewind_forms.specs.declared.fault.LineFault.{LineFault}
 use Rattle.rewind_forms.specs.declared.fault.LineFault.TheVariants.{LineTooLong, BadLine, BadShape, UnknownName, BadTime, Memory}
 
-abbrev pub number_of : LineFault → ℕ
-number_of BadLine = 30
-number_of BadShape = 31
-number_of UnknownName = 32
-number_of LineTooLong = 33
-number_of BadTime = 34
-number_of Memory = 29
-
-abbrev pub name_of : LineFault → List ℕ
-name_of BadLine = codes "BadLine"
-name_of BadShape = codes "BadShape"
-name_of UnknownName = codes "UnknownName"
-name_of LineTooLong = codes "LineTooLong"
-name_of BadTime = codes "BadTime"
-name_of Memory = codes "Memory"
+abbrev pub code_of : LineFault → Code
+code_of BadLine = coded 30 (codes "BadLine")
+code_of BadShape = coded 31 (codes "BadShape")
+code_of UnknownName = coded 32 (codes "UnknownName")
+code_of LineTooLong = coded 33 (codes "LineTooLong")
+code_of BadTime = coded 34 (codes "BadTime")
+code_of Memory = coded 29 (codes "Memory")

@@ -1,35 +1,36 @@
 -- The replies, as JSON values.
 use Rattle.std.specs.Prelude.{ℕ, Bool, true, false, List, codes, Option, Some, None}
 use Rattle.serde_json.specs.Data.{Data, null, boolean, number, string, object, unsigned, no_members, member}
+use Rattle.nd_time.specs.Code.{Code}
 use Rattle.nd_graph.specs.Graph.{Dataflow}
-use Rattle.nd_protocol.specs.Refusals.{number_of, name_of}
+use Rattle.nd_protocol.specs.Refusals.{code_of}
 use Rattle.nd_shown.specs.StateText.{point_data}
 use Rattle.nd_protocol.specs.declared.refusal.Refusal.{Refusal}
 use Rattle.nd_protocol.specs.declared.refusal.Refusal.TheVariants.{NoProcessor, NotYet, NotAdmissible}
-use Rattle.nd_timeline.specs.Faults.{number_of as number_of_fault, name_of as name_of_fault}
+use Rattle.nd_timeline.specs.Faults.{code_of as code_of_fault}
 use Rattle.nd_timeline.specs.declared.fault.Fault.{Fault}
 use Rattle.nd_timeline.specs.declared.fault.Fault.TheVariants.{Step, Memory}
 use Rattle.nd_timeline.specs.declared.reply.Stop.{Stop}
 use Rattle.nd_timeline.specs.declared.reply.Stop.TheVariants as end
 use Rattle.nd_timeline.specs.declared.reply.Reply.{Reply}
 use Rattle.nd_timeline.specs.declared.reply.Reply.TheVariants.{Moved, Ran, Set, Cleared, Refused}
-use Rattle.rewind_forms.specs.LineFaults.{number_of as number_of_line, name_of as name_of_line}
+use Rattle.rewind_forms.specs.LineFaults.{code_of as code_of_line}
 use Rattle.rewind_forms.specs.declared.fault.LineFault.{LineFault}
 use Rattle.rewind_forms.specs.declared.fault.LineFault.TheVariants as line
 
 -- {"code":n,"error":name}
-abbrev pub fault : ℕ → List ℕ → Data
-fault code name = object (member (codes "code") (number (unsigned code)) (member (codes "error") (string name) no_members))
+abbrev pub fault : Code → Data
+fault code = object (member (codes "code") (number (unsigned code.number)) (member (codes "error") (string code.name) no_members))
 
 -- {"code":n,"error":name,"location":name}
-abbrev pub location_fault : ℕ → List ℕ → List ℕ → Data
-location_fault code name location = object (member (codes "code") (number (unsigned code))
-    (member (codes "error") (string name) (member (codes "location") (string location) no_members)))
+abbrev pub location_fault : Code → List ℕ → Data
+location_fault code location = object (member (codes "code") (number (unsigned code.number))
+    (member (codes "error") (string code.name) (member (codes "location") (string location) no_members)))
 
 -- {"code":n,"error":name,"piece":n}
-abbrev pub piece_fault : ℕ → List ℕ → ℕ → Data
-piece_fault code name piece = object (member (codes "code") (number (unsigned code))
-    (member (codes "error") (string name) (member (codes "piece") (number (unsigned piece)) no_members)))
+abbrev pub piece_fault : Code → ℕ → Data
+piece_fault code piece = object (member (codes "code") (number (unsigned code.number))
+    (member (codes "error") (string code.name) (member (codes "piece") (number (unsigned piece)) no_members)))
 
 -- {"locations":n,"ok":true,"processors":n}
 abbrev pub graph : ℕ → ℕ → Data
@@ -62,26 +63,26 @@ abbrev pub done : Data
 done = object (member (codes "ok") (boolean true) no_members)
 
 -- {"code":n,"error":name,"point":point}
-abbrev pub point_fault : ℕ → List ℕ → Data → Data
-point_fault code name point = object (member (codes "code") (number (unsigned code))
-    (member (codes "error") (string name) (member (codes "point") point no_members)))
+abbrev pub point_fault : Code → Data → Data
+point_fault code point = object (member (codes "code") (number (unsigned code.number))
+    (member (codes "error") (string code.name) (member (codes "point") point no_members)))
 
 -- a step that the cluster refused, with what stands in the way
 abbrev pub step_refused : Dataflow → Refusal → Data
-step_refused g (NotYet blocker) = point_fault (number_of (NotYet blocker)) (name_of (NotYet blocker)) (point_data g blocker)
-step_refused g (NotAdmissible point) = point_fault (number_of (NotAdmissible point)) (name_of (NotAdmissible point)) (point_data g point)
-step_refused g r = fault (number_of r) (name_of r)
+step_refused g (NotYet blocker) = point_fault (code_of (NotYet blocker)) (point_data g blocker)
+step_refused g (NotAdmissible point) = point_fault (code_of (NotAdmissible point)) (point_data g point)
+step_refused g r = fault (code_of r)
 
 -- {"at":n,"code":n,"error":name}
-abbrev pub fault_at : ℕ → List ℕ → ℕ → Data
-fault_at code name at = object (member (codes "at") (number (unsigned at))
-    (member (codes "code") (number (unsigned code)) (member (codes "error") (string name) no_members)))
+abbrev pub fault_at : Code → ℕ → Data
+fault_at code at = object (member (codes "at") (number (unsigned at))
+    (member (codes "code") (number (unsigned code.number)) (member (codes "error") (string code.name) no_members)))
 
 -- a command that was refused, with the cursor for out of memory alone
 abbrev pub refused : Dataflow → Fault → Data
 refused g (Step r) = step_refused g r
-refused g (Memory at) = fault_at (number_of_fault (Memory at)) (name_of_fault (Memory at)) at
-refused g f = fault (number_of_fault f) (name_of_fault f)
+refused g (Memory at) = fault_at (code_of_fault (Memory at)) at
+refused g f = fault (code_of_fault f)
 
 -- the reply to a command
 abbrev pub reply_data : Dataflow → Reply → Data
@@ -92,14 +93,14 @@ reply_data g Cleared = done
 reply_data g (Refused f) = refused g f
 
 -- {"code":n,"error":name,"line":n}
-abbrev pub faulty : ℕ → List ℕ → ℕ → Data
-faulty code name n = object (member (codes "code") (number (unsigned code))
-    (member (codes "error") (string name) (member (codes "line") (number (unsigned n)) no_members)))
+abbrev pub faulty : Code → ℕ → Data
+faulty code n = object (member (codes "code") (number (unsigned code.number))
+    (member (codes "error") (string code.name) (member (codes "line") (number (unsigned n)) no_members)))
 
 -- the reply to a line that is no command; out of memory is none
 abbrev pub line_fault : LineFault → ℕ → Option Data
 line_fault line.Memory n = None
-line_fault e n = Some (faulty (number_of_line e) (name_of_line e) n)
+line_fault e n = Some (faulty (code_of_line e) n)
 
 -- {"count":n,"ok":true}
 abbrev pub count : ℕ → Data
@@ -130,7 +131,7 @@ abbrev pub not_passed : Data → Data
 not_passed point = object (member (codes "ok") (boolean true) (member (codes "passed") (boolean false) (member (codes "point") point no_members)))
 
 abbrev pub no_processor : Data
-no_processor = fault (number_of NoProcessor) (name_of NoProcessor)
+no_processor = fault (code_of NoProcessor)
 
 -- a position, or null
 abbrev pub position : Option ℕ → Data

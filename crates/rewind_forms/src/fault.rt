@@ -1,7 +1,8 @@
 //! Why a line is no command.
 ghost use Rattle.std.specs.Prelude.{◌≡◌};
-ghost use Rattle.rewind_forms.specs.LineFaults.{number_of, name_of};
+ghost use Rattle.rewind_forms.specs.LineFaults.{code_of};
 
+use nd_time::Code;
 use std::alloc::AllocError;
 use thiserror::Error;
 
@@ -34,31 +35,17 @@ impl From<AllocError> for LineFault {
 }
 
 impl LineFault {
-    /// The fault's number.
-    pub fn number(self) -> u64
-        ensures { result ≡ number_of self }
+    /// The number and the name under which the fault is answered.
+    pub fn code(self) -> Code
+        ensures { result ≡ code_of self }
     {
         match self {
-            LineFault::BadLine => 30,
-            LineFault::BadShape => 31,
-            LineFault::UnknownName => 32,
-            LineFault::LineTooLong => 33,
-            LineFault::BadTime => 34,
-            LineFault::Memory => 29,
-        }
-    }
-
-    /// The fault's name.
-    pub fn name(self) -> &'static str
-        ensures { result.now ≡ name_of self }
-    {
-        match self {
-            LineFault::BadLine => "BadLine",
-            LineFault::BadShape => "BadShape",
-            LineFault::UnknownName => "UnknownName",
-            LineFault::LineTooLong => "LineTooLong",
-            LineFault::BadTime => "BadTime",
-            LineFault::Memory => "Memory",
+            LineFault::BadLine => Code::new(30, "BadLine"),
+            LineFault::BadShape => Code::new(31, "BadShape"),
+            LineFault::UnknownName => Code::new(32, "UnknownName"),
+            LineFault::LineTooLong => Code::new(33, "LineTooLong"),
+            LineFault::BadTime => Code::new(34, "BadTime"),
+            LineFault::Memory => Code::new(29, "Memory"),
         }
     }
 }

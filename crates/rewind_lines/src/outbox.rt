@@ -1,12 +1,10 @@
 //! Replies that are gathered, and written together.
 ghost use Rattle.std.specs.Prelude.{◌≡◌, ◌++◌, [], ℕ, false, length, nat_le, take, is_err, OnOk, OnErr};
 ghost use Rattle.std.specs.Io.KnownBytes.{Appends};
-ghost use Rattle.serde_json.specs.View.{view};
-ghost use Rattle.serde_json.specs.Written.{has_float};
 ghost use Rattle.rewind_lines.specs.Texts.{reply_text};
 
 use crate::sink::{Sink, Unwritten, send};
-use serde_json::Value;
+use nd_reply::Json;
 use std::alloc::{AllocError, Global};
 use std::marker::Model;
 
@@ -39,15 +37,13 @@ impl Outbox {
         }
     }
 
-    /// Puts a reply's line behind those that wait: its compact JSON text and a newline. No reply
-    /// holds a float.
+    /// Puts a reply's line behind those that wait: its compact JSON text and a newline.
     #[tactic(auto, unfolding(crate::specs::Texts::reply_text))]
-    pub fn add(&mut self, reply: &Value) -> Result<(), AllocError>
-        requires { has_float (view reply.now) ≡ false }
-        ensures ok { OnOk result (self.new ≡ self.old ++ reply_text (view reply.now)) }
+    pub fn add(&mut self, reply: &Json) -> Result<(), AllocError>
+        ensures ok { OnOk result (self.new ≡ self.old ++ reply_text reply.now) }
         ensures err { OnErr result (self.new ≡ self.old) }
     {
-        let text = reply.to_vec(self.alloc)?;
+        let text = reply.to_bytes(self.alloc)?;
         self.waiting.reserve(text.len() + 1)?;
         self.waiting.extend_from_slice(text.as_slice())?;
         self.waiting.push(b'\n')?;

@@ -23,11 +23,14 @@ unheard_data (Unsent p n) = object (member (codes "n") (whole n) (member (codes 
 unheard_data (Queued p behind n) = object (member (codes "behind") (natural behind)
     (member (codes "n") (whole n) (member (codes "p") (natural p) no_members)))
 
--- {"held":[..],"point":point,"unheard":[..],"view":n}
+-- {"held":held,"point":point,"unheard":unheard,"view":view}
+abbrev pub reason_members : Data → Data → Data → Data → Data
+reason_members held point unheard view = object (member (codes "held") held (member (codes "point") point
+    (member (codes "unheard") unheard (member (codes "view") view no_members))))
+
+-- a reason: all that is held at its pointstamp, all that was not heard of it, and what the view counts
 abbrev pub reason_data : Dataflow → Account → Data
-reason_data g a = object (member (codes "held") (row (map (held_data g a.point.location) a.held))
-    (member (codes "point") (point_data g a.point)
-    (member (codes "unheard") (row (map unheard_data a.unheard)) (member (codes "view") (whole a.view) no_members))))
+reason_data g a = reason_members (row (map (held_data g a.point.location) a.held)) (point_data g a.point) (row (map unheard_data a.unheard)) (whole a.view)
 
 -- all reasons, in their order
 abbrev pub reasons_data : Dataflow → List Account → Data

@@ -1,25 +1,13 @@
 //! What is held at a pointstamp.
-ghost use Rattle.std.specs.Prelude.{◌≡◌, false, map, IfOk};
-ghost use Rattle.serde_json.specs.View.{view};
-ghost use Rattle.serde_json.specs.Written.{has_float};
-ghost use Rattle.nd_shown.specs.StateText.{name_at as name_in, row};
+ghost use Rattle.std.specs.Prelude.{◌≡◌, map, IfOk};
+ghost use Rattle.nd_shown.specs.StateText.{row};
 ghost use Rattle.rewind_reasons.specs.Reasons.{held_data};
 
 use nd_graph::Graph;
+use nd_reply::{Json, JsonList, reply};
+use nd_shown::name_value;
 use nd_why::Held;
-use serde_json::{Value, json};
 use std::alloc::{AllocError, Allocator, Global};
-
-// The name of a location; if there is none, nothing.
-fn name_at<A: Allocator>(graph: &Graph<A>, location: usize) -> &str
-    ensures { result.now ≡ name_in graph.now location }
-{
-    if location < graph.location_count() {
-        graph.location_name(location)
-    } else {
-        ""
-    }
-}
 
 // One thing that a processor holds, at this location.
 fn one_value<A: Allocator>(
@@ -27,17 +15,16 @@ fn one_value<A: Allocator>(
     graph: &Graph<A>,
     location: usize,
     one: &Held,
-) -> Result<Value, AllocError>
-    ensures reply { IfOk result (λ v. view v ≡ held_data graph.now location one.now) }
-    ensures text { IfOk result (λ v. has_float (view v) ≡ false) }
+) -> Result<Json, AllocError>
+    ensures reply { IfOk result (λ j. j ≡ held_data graph.now location one.now) }
 {
-    let name = name_at(graph, location);
+    let name = name_value(alloc, graph, location)?;
     match one {
         Held::Records { p, value, count } => {
-            json!(in alloc; {"edge": name, "n": *count, "p": *p as u64, "value": *value})
+            reply!(in alloc; {"edge": name, "n": *count, "p": *p as u64, "value": *value})
         }
-        Held::Request { p } => json!(in alloc; {"p": *p as u64, "request": name}),
-        Held::Token { p } => json!(in alloc; {"p": *p as u64, "token": name}),
+        Held::Request { p } => reply!(in alloc; {"p": *p as u64, "request": name}),
+        Held::Token { p } => reply!(in alloc; {"p": *p as u64, "token": name}),
     }
 }
 
@@ -47,13 +34,12 @@ pub(crate) fn held_value<A: Allocator>(
     graph: &Graph<A>,
     location: usize,
     held: &[Held],
-) -> Result<Value, AllocError>
-    ensures reply { IfOk result (λ v. view v ≡ row (map (held_data graph.now location) held.now)) }
-    ensures text { IfOk result (λ v. has_float (view v) ≡ false) }
+) -> Result<Json, AllocError>
+    ensures reply { IfOk result (λ j. j ≡ row (map (held_data graph.now location) held.now)) }
 {
-    let mut list = Vec::new(alloc);
+    let mut list = JsonList::new(alloc);
     for one in held {
         list.push(one_value(alloc, graph, location, one)?)?;
     }
-    Ok(Value::Array(list))
+    Ok(list.into_json())
 }

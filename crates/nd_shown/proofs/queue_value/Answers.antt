@@ -1,14 +1,11 @@
-use Rattle.std.proofs.Common.{◌≡◌, ◌∷◌, [], map, get_or, ap, sym, ◌∙◌, arith}
-use Rattle.std.proofs.lemmas.List.{map-append, take_all}
+use Rattle.std.proofs.Common.{◌≡◌, map, get_or, ap, sym, ◌∙◌, arith}
+use Rattle.std.proofs.lemmas.List.{take_all}
 use Rattle.std.proofs.lemmas.Option.{get_or_from_slice_get}
 use Rattle.std.specs.Prelude.{option_copied}
-use Rattle.serde_json.specs.Data.{array}
-use Rattle.serde_json.specs.View.{view, items_of}
-use Rattle.serde_json.proofs.Views.{view-Array}
-use Rattle.nd_json.specs.ListLaws.{map-more, no_float-more}
+use Rattle.nd_reply.specs.Shows.{shows-more}
 use Rattle.nd_delta.specs.Change.{Change, entries}
 use Rattle.nd_mesh.specs.Mesh.{queue}
-use Rattle.nd_shown.specs.StateText.{entries_data}
+use Rattle.nd_shown.specs.StateText.{row, entries_data}
 use Rattle.nd_shown.proofs.queue_value.Goals as goal
 
 pub loop-i-preserved : goal.loop-i-preserved
@@ -17,15 +14,16 @@ loop-i-preserved g c =
     let i = c.loop-i.i in
     let change = c.unwrap-change.result.now in
     let is : get_or changes i change ≡ change = get_or_from_slice_get changes i change change (sym c.get.ensures.value ∙ ap option_copied c.unwrap-change.ensures) in
-    rw (c.in_ok-push.ensures.items) (record {
-      made = map-more view (λ (d : Change). entries_data c.args.graph.now (entries d)) c.loop-i.list.items c.in_ok-entries_value.field-0 changes change i (omega (arith, c.loop-i-test.true, c.len-i-end.ensures.value)) (sym is)
-          c.loop-i.invariant.made (c.in_ok-entries_value.ensures.reply ∙ ap (entries_data c.args.graph.now) c.entries.ensures.listed);
-      no_float = rw (map-append view c.loop-i.list.items (c.in_ok-entries_value.field-0 ∷ []))
-          (no_float-more (map view c.loop-i.list.items) (view c.in_ok-entries_value.field-0) c.loop-i.invariant.no_float c.in_ok-entries_value.ensures.text);
-    })
+    c.in_ok-push.ensures.ok
+    ∙ shows-more (λ (d : Change). entries_data c.args.graph.now (entries d)) c.loop-i.list c.in_ok-entries_value.field-0 changes change i (omega (arith, c.loop-i-test.true, c.len-i-end.ensures.value)) (sym is)
+    c.loop-i.invariant (c.in_ok-entries_value.ensures.reply ∙ ap (entries_data c.args.graph.now) c.entries.ensures.listed)
 
-pub returns-clause-reply : goal.returns-clause-reply
-returns-clause-reply g c =
-    view-Array c.loop-i.list
-    ∙ ap (λ ds. array (items_of ds)) (c.loop-i.invariant.made
-    ∙ ap (map (λ (d : Change). entries_data c.args.graph.now (entries d))) (take_all c.loop-i.i (queue c.args.mesh.now c.args.from c.args.to) (omega (arith, c.loop-i-test.false, c.len-i-end.ensures.value))))
+pub returns : goal.returns
+returns g c =
+    record {
+      reply = (
+          c.into_json.ensures
+          ∙ ap row (c.loop-i.invariant
+          ∙ ap (map (λ (d : Change). entries_data c.args.graph.now (entries d))) (take_all c.loop-i.i (queue c.args.mesh.now c.args.from c.args.to) (omega (arith, c.loop-i-test.false, c.len-i-end.ensures.value))))
+          );
+    }

@@ -4,9 +4,13 @@ use Rattle.nd_shown.specs.StateText.{whole_members}
 use Rattle.nd_shown.proofs.Shown.{state_shown}
 use Rattle.nd_shown.proofs.state_value.Goals as goal
 
-pub returns-clause-reply : goal.returns-clause-reply
-returns-clause-reply g c =
-    let a = c.args in
-    IfOk-weaker c.whole_object.result _ _
-    (λ v h. h ∙ (λ i. whole_members (c.in_ok-processors.ensures.reply i) (c.in_ok-queues.ensures.reply i)) ∙ state_shown a.graph.now a.processors.now a.views.now a.mesh.now)
-    c.whole_object.ensures.reply
+pub returns : goal.returns
+returns g c =
+    record {
+      reply = (
+          let a = c.args in
+          IfOk-weaker c.whole_object.result _ _
+          (λ v h. h ∙ (λ i. whole_members (c.in_ok-processors.ensures.reply i) (c.in_ok-queues.ensures.reply i)) ∙ state_shown a.graph.now a.processors.now a.views.now a.mesh.now)
+          c.whole_object.ensures.reply
+          );
+    }

@@ -159,7 +159,7 @@ pub fn number_of<A: Allocator + Copy>(
             cluster.commit(&record).ok()?;
             Some(0)
         }
-        Err(refusal) => Some(refusal.number()),
+        Err(refusal) => Some(refusal.code().number()),
     }
 }
 

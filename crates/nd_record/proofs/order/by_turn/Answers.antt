@@ -28,7 +28,9 @@ loop-change-preserved g c =
     let all = c.args.all.items in
     let step : into_iter_items c.loop-change.change-iterator ≡ c.in-Some.change ∷ into_iter_items c.next.new.self = c.in-Some.ensures.steps.0 in
     record {
-      sorting = sorted_more ps all (into_iter_items c.next.new.self) c.in-Some.change c.loop-change.sorted c.add.new.self
+      sorting = sorted_more ps all (into_iter_items c.next.new.self) c.in-Some.change
+          c.loop-change.sorted.comes.items c.loop-change.sorted.alters.items c.loop-change.sorted.goes.items c.add.new.self.comes.items c.add.new.self.alters.items c.add.new.self.goes.items
+          c.loop-change.sorted.counts_stay c.loop-change.sorted.entries_stay c.add.new.self.counts_stay c.add.new.self.entries_stay
           c.in_ok-add.ensures.comes c.in_ok-add.ensures.alters c.in_ok-add.ensures.goes c.in_ok-add.ensures.counts c.in_ok-add.ensures.entries
           (subst (λ cs. IsSorting ps all cs c.loop-change.sorted) step c.loop-change.invariant.sorting);
       left = (subst (Each (IsReadable ps)) step c.loop-change.invariant.left).1;

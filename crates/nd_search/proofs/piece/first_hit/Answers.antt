@@ -7,7 +7,7 @@ pub loop-i-preserved : goal.loop-i-preserved
 loop-i-preserved g c =
     let m = c.args.timeline.now in
     let on = c.walk_to.ensures.on in
-    let there : c.walk_to.new.walk.at ≡ c.loop-i.i = ap (λ t. t.cursor) c.in_ok-walk_to.ensures.jump.3 in record {
+    let there : c.walk_to.new.walk.at ≡ c.loop-i.i = ap (λ t. t.cursor) c.in-Ok.ensures.jump.3 in record {
       on = on;
       none = no_hit_more (HoldsAt m c.args.b.now) c.args.from c.loop-i.i c.loop-i.invariant.none
           (not_here m c.walk_to.new.walk c.loop-i.i c.args.b.now on there

@@ -1,5 +1,6 @@
 use Rattle.std.proofs.Common.{◌≡◌, ◌≤◌}
 use Rattle.nd_delta.specs.Change.{entries}
+use Rattle.nd_view.specs.Links.{IsKnown}
 use Rattle.nd_view.specs.View.{IsPrecursor}
 use Rattle.nd_view.proofs.Parts.{IsCountUpTo}
 use Rattle.nd_view.proofs.keeping.count_before.Given as goal
@@ -8,6 +9,7 @@ use Rattle.nd_view.proofs.keeping.count_before.Given as goal
 abbrev pub invariant-loop-entry : goal.invariant-loop-entry
 invariant-loop-entry g l = record {
   items : l.entry-items ≡ entries l.counts;
+  known : IsKnown l.paths l.link;
   few : l.count ≤ l.entry-index;
   counted : IsCountUpTo l.counts (IsPrecursor l.paths l.counts l.point) l.entry-index l.count;
 }

@@ -1,7 +1,7 @@
 use Rattle.std.proofs.Common.{◌≡◌, ◌<◌, ◌≤◌, get_or, arith, sym, subst, refl, true≢false, unsigned_abs}
 use Rattle.nd_time.specs.Limits.{max_count}
 use Rattle.nd_delta.specs.Change.{size, combined, entries}
-use Rattle.nd_view.proofs.Plans.{counted_at, entry_small, past_limit, planned_none, planned_more, planned_fits}
+use Rattle.nd_view.proofs.Plans.{reckoned, entry_small, past_limit, planned_none, planned_more, planned_fits}
 use Rattle.nd_view.proofs.Points.{nothing_there, small}
 use Rattle.nd_view.proofs.steps.planned.Goals as goal
 
@@ -27,10 +27,7 @@ returns-then-not-is_within-clause-full g c =
     let i = c.loop-entry.entry-index in
     let lt : i < size d = rw c.loop-entry.invariant.items at c.loop-entry-test.true in
     let is : x ≡ get_or (entries d) i x = rw c.loop-entry.invariant.items at c.entry-item.is in
-    let by_small = entry_small d i x lt is c.entries-entry-items.ensures.within in
-    let old : unsigned_abs c.get-old.result ≤ max_count = c.get-old.ensures.within in
-    let new_is = rw (small c.get-old.result (omega (arith, old)), small x.1 (omega (arith, by_small))) at c.counted-new.ensures.value in
-    let value = counted_at c.args.minus m d i x lt is c.get-old.result x.1 c.counted-new.result c.get-old.ensures.value refl new_is in
+    let value = reckoned c.args.minus m d i x lt is c.entries-entry-items.ensures.within c.get-old.result c.counted-new.result c.get-old.ensures.within c.get-old.ensures.value c.counted-new.ensures.value in
     let test = rw (small c.counted-new.result c.counted-new.ensures.fits) at c.if-not-is_within.ensures in
     (λ _. (x.0, subst (λ v. max_count < unsigned_abs v) value (past_limit c.counted-new.result (λ within. true≢false (sym (test.1 within))))), λ _. refl)
 
@@ -47,10 +44,8 @@ loop-entry-preserved g c =
     let i = c.loop-entry.entry-index in
     let lt : i < size d = rw c.loop-entry.invariant.items at c.loop-entry-test.true in
     let is : x ≡ get_or (entries d) i x = rw c.loop-entry.invariant.items at c.entry-item.is in
-    let by_small = entry_small d i x lt is c.entries-entry-items.ensures.within in
+    let value = reckoned c.args.minus m d i x lt is c.entries-entry-items.ensures.within c.get-old.result c.counted-new.result c.get-old.ensures.within c.get-old.ensures.value c.counted-new.ensures.value in
     let old : unsigned_abs c.get-old.result ≤ max_count = c.get-old.ensures.within in
-    let new_is = rw (small c.get-old.result (omega (arith, old)), small x.1 (omega (arith, by_small))) at c.counted-new.ensures.value in
-    let value = counted_at c.args.minus m d i x lt is c.get-old.result x.1 c.counted-new.result c.get-old.ensures.value refl new_is in
     let within : unsigned_abs c.counted-new.result ≤ max_count = rw (small c.counted-new.result c.counted-new.ensures.fits) at (c.if-not-is_within.ensures.0 refl) in
     let more_is = rw (small c.get-old.result (omega (arith, old)), small c.counted-new.result c.counted-new.ensures.fits) at c.in-Ok-push.ensures.items in
     record {

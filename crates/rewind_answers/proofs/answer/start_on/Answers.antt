@@ -6,13 +6,16 @@ use Rattle.rewind_forms.specs.Replies.{location_fault}
 use Rattle.rewind_answers.proofs.AnswerLaws.{not_strict_replies}
 use Rattle.rewind_answers.proofs.answer.start_on.Goals as goal
 
-pub returns-in-Err-LoopNotStrict-clause-replies : goal.returns-in-Err-LoopNotStrict-clause-replies
-returns-in-Err-LoopNotStrict-clause-replies c =
-    let same : c.from.result ≡ c.args.processors = omega (arith, c.from.ensures) in
-    let fails : IsStartFault c.args.graph c.args.processors (LoopNotStrict c.in-Err-LoopNotStrict.location) =
-    subst (λ (f : StartFault). IsStartFault c.args.graph c.args.processors f) c.in-Err-LoopNotStrict.field-0-is
-    (subst (λ n. IsStartFault c.args.graph n c.in-Err-LoopNotStrict.field-0) same c.in-Err-LoopNotStrict.ensures.fault) in
-    not_strict_replies c.args.version c.args.processors c.in-Err-LoopNotStrict.location c.args.graph c.in_ok-names.names c.location_name-name.result.now _ (omega (arith, c.most_processors.ensures)) fails c.in_ok-names.ensures
-    c.location_name-name.ensures
-    (c.in_ok-reply-in-Err-LoopNotStrict.ensures.reply
-    ∙ (λ i. location_fault (c.number-in-Err-LoopNotStrict.ensures i) (c.name-in-Err-LoopNotStrict.ensures i) c.location_name-name.result.now))
+pub returns-in-Err-LoopNotStrict : goal.returns-in-Err-LoopNotStrict
+returns-in-Err-LoopNotStrict c = record {
+  replies = (
+      let same : c.from.result ≡ c.args.processors = omega (arith, c.from.ensures) in
+      let fails : IsStartFault c.args.graph c.args.processors (LoopNotStrict c.in-Err-LoopNotStrict.location) =
+      subst (λ (f : StartFault). IsStartFault c.args.graph c.args.processors f) c.in-Err-LoopNotStrict.field-0-is
+      (subst (λ n. IsStartFault c.args.graph n c.in-Err-LoopNotStrict.field-0) same c.in-Err-LoopNotStrict.ensures.fault) in
+      not_strict_replies c.args.version c.args.processors c.in-Err-LoopNotStrict.location c.args.graph c.in_ok-names.names c.location_name-name.result.now _ (omega (arith, c.most_processors.ensures)) fails c.in_ok-names.ensures
+      c.location_name-name.ensures
+      (c.in_ok-reply-in-Err-LoopNotStrict.ensures.reply
+      ∙ (λ i. location_fault (c.code-in-Err-LoopNotStrict.ensures i) c.location_name-name.result.now))
+      );
+}

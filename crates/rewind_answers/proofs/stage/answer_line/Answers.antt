@@ -12,5 +12,9 @@ skipped (Unopened processors) line = (refl, refl)
 skipped (Unstarted v processors) line = (refl, refl)
 skipped (Running v state) line = (refl, refl)
 
-pub returns-in-Blank-clause-answers : goal.returns-in-Blank-clause-answers
-returns-in-Blank-clause-answers g c = rw c.in-Blank.is (skipped c.args.stage.now c.args.line)
+pub returns-in-Blank : goal.returns-in-Blank
+returns-in-Blank g c = record {
+  answers = (
+      rw c.in-Blank.is (skipped c.args.stage.now c.args.line)
+      );
+}

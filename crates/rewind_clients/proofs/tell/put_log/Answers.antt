@@ -2,7 +2,6 @@ use Rattle.std.proofs.Common.{◌∙◌, ◌+◌, List, ◌++◌, map, drop, tak
 use Rattle.std.proofs.lemmas.List.{take_all}
 use Rattle.std.proofs.lemmas.Result.{err_from_is_err_and}
 use Rattle.serde_json.specs.Data.{Data}
-use Rattle.serde_json.specs.View.{view}
 use Rattle.rewind_clients.specs.Gathered.{Gathered}
 use Rattle.rewind_clients.specs.Told.{entry_data}
 use Rattle.rewind_clients.proofs.ToldLemmas.{lines-of, map-one, map-rest, stops-put}
@@ -23,8 +22,8 @@ returns-in_err-put-clause-err g c =
     let i = c.loop-entry.entry-index in
     let log = c.args.log.now in
     rw (p.1, p.2) (λ replies before h.
-    stops-put (replies ++ map f (take i log)) (map f (drop (i + 1) log)) _ (view c.in_ok-value.value) _ before _ _ (c.in_err-put.ensures.err _ before (c.loop-entry.invariant.gathered replies before h))
-    (ap (λ (ds : List Data). ds ++ map f (drop (i + 1) log)) (map-one f replies log i _ (view c.in_ok-value.value) c.loop-entry-test.true c.entry-item.is c.in_ok-value.ensures.reply) ∙ map-rest f replies log (i + 1)))
+    stops-put (replies ++ map f (take i log)) (map f (drop (i + 1) log)) _ c.in_ok-value.value _ before _ _ (c.in_err-put.ensures.err _ before (c.loop-entry.invariant.gathered replies before h))
+    (ap (λ (ds : List Data). ds ++ map f (drop (i + 1) log)) (map-one f replies log i _ c.in_ok-value.value c.loop-entry-test.true c.entry-item.is c.in_ok-value.ensures.reply) ∙ map-rest f replies log (i + 1)))
 
 pub loop-entry-preserved : goal.loop-entry-preserved
 loop-entry-preserved g c =
@@ -33,7 +32,7 @@ loop-entry-preserved g c =
     record {
       gathered = λ replies before h.
           subst (λ (rs : List Data). Gathered rs c.put.new.outbox before (g.T.Sink.contents c.put.new.sink))
-          (map-one f replies c.args.log.now i _ (view c.in_ok-value.value) c.loop-entry-test.true c.entry-item.is c.in_ok-value.ensures.reply)
+          (map-one f replies c.args.log.now i _ c.in_ok-value.value c.loop-entry-test.true c.entry-item.is c.in_ok-value.ensures.reply)
           (c.in_ok-put.ensures.ok _ before (c.loop-entry.invariant.gathered replies before h));
       sound = c.in_ok-put.ensures.failed;
     }

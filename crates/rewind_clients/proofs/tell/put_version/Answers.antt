@@ -2,7 +2,6 @@ use Rattle.std.proofs.Common.{◌∙◌, ◌++◌, ◌∷◌, [], refl, ap}
 use Rattle.std.proofs.lemmas.List.{append-nil}
 use Rattle.std.proofs.lemmas.Result.{err_from_is_err_and}
 use Rattle.serde_json.specs.Data.{Data}
-use Rattle.serde_json.specs.View.{view}
 use Rattle.rewind_forms.specs.Replies.{version}
 use Rattle.rewind_clients.specs.Intakes.{version_replies}
 use Rattle.rewind_clients.proofs.ToldLemmas.{lines-of, stops-put}
@@ -17,5 +16,5 @@ pub returns-in_err-put-clause-err : goal.returns-in_err-put-clause-err
 returns-in_err-put-clause-err g c =
     let p = err_from_is_err_and c.from_residual-in_err-put.result c.from_residual-in_err-put.ensures.1 in
     rw (p.1, p.2, c.in-Some.is) (λ replies before h.
-    stops-put replies [] _ (view c.in_ok-reply.reply) _ before _ _ (c.in_err-put.ensures.err replies before h)
-    (append-nil (replies ++ view c.in_ok-reply.reply ∷ []) ∙ ap (λ (d : Data). replies ++ d ∷ []) (c.in_ok-reply.ensures.reply ∙ ap version c.number.ensures)))
+    stops-put replies [] _ c.in_ok-reply.reply _ before _ _ (c.in_err-put.ensures.err replies before h)
+    (append-nil (replies ++ c.in_ok-reply.reply ∷ []) ∙ ap (λ (d : Data). replies ++ d ∷ []) (c.in_ok-reply.ensures.reply ∙ ap version c.number.ensures)))

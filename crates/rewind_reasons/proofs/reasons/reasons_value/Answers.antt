@@ -1,18 +1,19 @@
 use Rattle.std.proofs.Common.{ap, ◌∙◌, map}
-use Rattle.serde_json.specs.Data.{array}
-use Rattle.serde_json.specs.View.{items_of}
-use Rattle.serde_json.proofs.Views.{view-Array}
+use Rattle.nd_reply.specs.Shows.{shows-more}
+use Rattle.nd_shown.specs.StateText.{row}
 use Rattle.rewind_reasons.specs.Reasons.{reason_data}
-use Rattle.rewind_reasons.proofs.ReasonsLemmas.{shows_next, shows_all}
+use Rattle.rewind_reasons.proofs.ReasonsLemmas.{shows_all}
 use Rattle.rewind_reasons.proofs.reasons.reasons_value.Goals as goal
 
 pub loop-reason-preserved : goal.loop-reason-preserved
 loop-reason-preserved g c =
-    rw (c.in_ok-push.ensures.items) (shows_next (reason_data c.args.graph.now) c.as_slice-reason-items.result.now c.loop-reason.reason-index c.loop-reason.list.items c.reason-item.result c.in_ok-reason_value.field-0
-    c.loop-reason.invariant c.loop-reason-test.true c.reason-item.is c.in_ok-reason_value.ensures.reply c.in_ok-reason_value.ensures.text)
+    c.in_ok-push.ensures.ok
+    ∙ shows-more (reason_data c.args.graph.now) c.loop-reason.list c.in_ok-reason_value.field-0 c.as_slice-reason-items.result.now c.reason-item.result c.loop-reason.reason-index c.loop-reason-test.true
+    c.reason-item.is c.loop-reason.invariant c.in_ok-reason_value.ensures.reply
 
-pub returns-clause-reply : goal.returns-clause-reply
-returns-clause-reply g c =
-    view-Array c.loop-reason.list
-    ∙ ap (λ ds. array (items_of ds)) (shows_all (reason_data c.args.graph.now) c.as_slice-reason-items.result.now c.loop-reason.reason-index c.loop-reason.list.items c.loop-reason.invariant c.loop-reason-test.false
-    ∙ ap (map (reason_data c.args.graph.now)) c.as_slice-reason-items.ensures)
+pub returns : goal.returns
+returns g c = record {
+  reply = c.into_json.ensures
+      ∙ ap row (shows_all (reason_data c.args.graph.now) c.as_slice-reason-items.result.now c.loop-reason.reason-index c.loop-reason.list c.loop-reason.invariant c.loop-reason-test.false
+      ∙ ap (map (reason_data c.args.graph.now)) c.as_slice-reason-items.ensures);
+}

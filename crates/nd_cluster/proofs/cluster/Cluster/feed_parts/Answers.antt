@@ -1,4 +1,4 @@
-use Rattle.std.proofs.Common.{sym, arith}
+use Rattle.std.proofs.Common.{sym}
 use Rattle.nd_cluster.proofs.Passed.{few_values, epoch_goes, feed_free}
 use Rattle.nd_cluster.proofs.cluster.Cluster.feed_parts.Goals as goal
 

@@ -4,4 +4,4 @@ use Rattle.nd_timeline.proofs.KeptSteps.{is_timeline}
 use Rattle.nd_timeline.proofs.timeline.Timeline.at.Goals as goal
 
 pub returns-clause-timeline : goal.returns-clause-timeline
-returns-clause-timeline g c = subst IsTimeline c.self.view_is (is_timeline c.self.inside.kept.base c.self.inside.walk.cluster c.self.inside.kept.records.items c.self.inside.walk.at c.self.invariant)
+returns-clause-timeline g c = subst IsTimeline c.self.view_is (is_timeline c.self.inside.kept.base c.self.inside.walk.cluster c.self.inside.kept.steps.items c.self.inside.walk.at c.self.invariant)

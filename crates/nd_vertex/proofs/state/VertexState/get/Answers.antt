@@ -8,6 +8,6 @@ pub returns : goal.returns
 returns g c =
     let key = item_key c.args.time.now c.args.item in
     record {
-      value = rw (c.copy.ensures, to_z-of_z w64 c.args.item c.ranges.item) at c.get.ensures.value ∙ found c.self.inside.map key c.self.invariant c.args.self.now c.self.view_is;
+      value = rw (c.copy.ensures, to_z-of_z w64 c.args.item c.ranges.item) at c.get.ensures.value ∙ found c.self.inside.map c.self.invariant c.args.self.now c.self.view_is key;
       values = values c.self.inside.map c.self.invariant c.args.self.now c.self.view_is;
     }

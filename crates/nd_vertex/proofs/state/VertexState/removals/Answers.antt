@@ -43,4 +43,4 @@ returns g c =
     let all : c.loop-key.edits.items ≡ removed t (entries m)
     = sym (append-nil c.loop-key.edits.items) ∙ ap (λ es. c.loop-key.edits.items ++ map gone es) (sym c.in-None.ensures.steps.0) ∙ c.loop-key.invariant in
     subst (λ es. LeadsTo m es (only item_total (λ (k : ItemKey). not (eq_by_cmp time_cmp k.time t)) m)) (sym all)
-    (leads_removed m (subst (IsListed item_cmp) is c.self.invariant.listed) (λ k. ap (find item_cmp k) (sym is) ∙ found c.self.inside.map k c.self.invariant m c.self.view_is) t)
+    (leads_removed m (subst (IsListed item_cmp) is c.self.invariant.listed) (λ k. ap (find item_cmp k) (sym is) ∙ found c.self.inside.map c.self.invariant m c.self.view_is k) t)

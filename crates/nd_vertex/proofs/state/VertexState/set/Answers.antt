@@ -1,44 +1,43 @@
-use Rattle.std.proofs.Common.{◌≡◌, ◌∙◌, None, Some, pos, rules, ap, sym, w64}
+use Rattle.std.proofs.Common.{◌≡◌, ◌∙◌, None, Some, rules, ap, sym, w64}
 use Rattle.std.proofs.lemmas.Int.{to_z-of_z}
-use Rattle.nd_map.specs.Counts.{integers, set, of_entries}
+use Rattle.nd_map.specs.Counts.{integers, set}
+use Rattle.nd_map.specs.Kept as stored
 use Rattle.std.specs.FinMap.{find, put}
-use Rattle.nd_vertex.specs.Items.{item_key, item_total, item_cmp}
+use Rattle.nd_vertex.specs.Items.{item_key, item_cmp, item_total, item_exact}
 use Rattle.nd_vertex.specs.Edits.{number_of}
 use Rattle.nd_vertex.specs.Kept.{IsNumber}
-use Rattle.nd_vertex.proofs.KeptLemmas.{found, kept_put, kept_without, of_put, of_without}
+use Rattle.nd_vertex.proofs.KeptLemmas.{found, kept_put}
 use Rattle.nd_vertex.proofs.state.VertexState.set.Given.{Over}
 use Rattle.nd_vertex.proofs.state.VertexState.set.Goals as goal
 
 pub invariant_of-self : goal.invariant_of-self
-invariant_of-self g c = rw c.remove.ensures.value (kept_without c.self.inside.map _ c.self.invariant)
+invariant_of-self g c = rw c.remove.ensures.value (stored.kept_without item_cmp item_total c.self.inside.map _ IsNumber c.self.invariant)
 
 pub returns-in_default-clause-ok : goal.returns-in_default-clause-ok
 returns-in_default-clause-ok g c =
     let key = item_key c.args.time.now c.args.item in
     let is_none : c.args.new ≡ None = cc in
-    ap (of_entries {N = integers} item_total) (rw (c.copy.ensures, to_z-of_z w64 c.args.item c.ranges.item) at c.remove.ensures.value)
-    ∙ of_without c.self.inside.map key
-    ∙ ap (λ m. set item_total m key (pos 0)) c.self.view_is ∙ ap (λ n. set item_total c.args.self.now key (number_of n)) (sym is_none)
+    stored.of_without integers item_total item_exact c.self.inside.map c.args.self.now c.self.view_is key _ (rw (c.copy.ensures, to_z-of_z w64 c.args.item c.ranges.item) at c.remove.ensures.value)
+    ∙ ap (λ n. set item_total c.args.self.now key (number_of n)) (sym is_none)
 
 pub returns-in_default-put-clause-absent : goal.returns-in_default-put-clause-absent
 returns-in_default-put-clause-absent g c =
     let key = item_key c.args.time.now c.args.item in
     let absent : find item_cmp key c.self.inside.map ≡ None = rw (c.copy.ensures, to_z-of_z w64 c.args.item c.ranges.item) at c.in_default-put.ensures.absent in
-    sym c.requires.there ∙ sym (found c.self.inside.map key c.self.invariant c.args.self.now c.self.view_is) ∙ absent
+    sym c.requires.there ∙ sym (found c.self.inside.map c.self.invariant c.args.self.now c.self.view_is key) ∙ absent
 
 -- the number that is put
-number : (g : Over) (c : goal.In-Ok g) → IsNumber c.in-Some.number
-number g c = record { some = λ e. c.requires.some (c.in-Some.is ∙ ap Some e); fits = search rules }
+number : (g : Over) (c : goal.In-Ok g) → IsNumber (item_key c.args.time.now c.args.item) c.in-Some.number
+number g c = record { some = λ e. c.requires.some (c.in-Some.is ∙ ap Some e); fits = search rules; item = c.ranges.item }
 
 -- the entries that are put
 entries : (g : Over) (c : goal.In-Ok g) → c.put.new.self ≡ put item_cmp (item_key c.args.time.now c.args.item) c.in-Some.number c.self.inside.map
 entries g c = rw (c.copy.ensures, to_z-of_z w64 c.args.item c.ranges.item, to_z-of_z w64 c.in-Some.number (number g c).fits) at c.in-Ok.ensures.ok
 
 pub invariant_of-self-2 : goal.invariant_of-self-2
-invariant_of-self-2 g c = rw (entries g c) (kept_put c.self.inside.map _ c.in-Some.number c.ranges.item (number g c) c.self.invariant)
+invariant_of-self-2 g c = rw (entries g c) (kept_put c.self.inside.map _ c.in-Some.number (number g c) c.self.invariant)
 
 pub returns-clause-ok : goal.returns-clause-ok
 returns-clause-ok g c =
     let key = item_key c.args.time.now c.args.item in
-    ap (of_entries {N = integers} item_total) (entries g c) ∙ of_put c.self.inside.map key c.in-Some.number
-    ∙ ap (λ m. set item_total m key c.in-Some.number) c.self.view_is ∙ ap (λ n. set item_total c.args.self.now key (number_of n)) (sym c.in-Some.is)
+    stored.of_put integers item_total item_exact c.self.inside.map c.args.self.now c.self.view_is key c.in-Some.number _ (entries g c) ∙ ap (λ n. set item_total c.args.self.now key (number_of n)) (sym c.in-Some.is)

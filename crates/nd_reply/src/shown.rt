@@ -1,0 +1,72 @@
+//! What can be shown as a JSON value, and lists of it.
+ghost use Rattle.std.specs.Prelude.{◌≡◌, ◌≢◌, [], Bool, false, true, map, IfOk, OnErr};
+ghost use Rattle.serde_json.specs.Data.{Data, array, number, unsigned};
+ghost use Rattle.serde_json.specs.Find.{of_integer};
+ghost use Rattle.serde_json.specs.View.{items_of};
+
+use crate::{Json, JsonList};
+use std::alloc::{AllocError, Global};
+
+/// What a reply can show as one JSON value.
+pub trait ToJson {
+    ghost shown: { Self → Data };
+
+    ghost takes_memory: { Bool };
+
+    /// The value, in memory of its own. Numbers take none.
+    fn to_json(&self, alloc: Global) -> Result<Json, AllocError>
+        ensures reply { IfOk result (λ j. j ≡ shown self.now) }
+        ensures memory { OnErr result (takes_memory ≡ true) };
+}
+
+impl ToJson for u64 {
+    ghost shown = { λ n. number (unsigned n) };
+
+    ghost takes_memory = { false };
+
+    fn to_json(&self, _alloc: Global) -> Result<Json, AllocError> {
+        Ok(Json::natural(*self))
+    }
+}
+
+impl ToJson for u32 {
+    ghost shown = { λ n. number (unsigned n) };
+
+    ghost takes_memory = { false };
+
+    fn to_json(&self, alloc: Global) -> Result<Json, AllocError> {
+        u64::from(*self).to_json(alloc)
+    }
+}
+
+impl ToJson for i64 {
+    ghost shown = { λ z. number (of_integer z) };
+
+    ghost takes_memory = { false };
+
+    fn to_json(&self, _alloc: Global) -> Result<Json, AllocError> {
+        Ok(Json::integer(*self))
+    }
+}
+
+impl<T: ToJson> ToJson for Vec<T> {
+    ghost shown = { λ items. array (items_of (map T.shown items.items)) };
+
+    ghost takes_memory = { true };
+
+    fn to_json(&self, alloc: Global) -> Result<Json, AllocError> {
+        list_of(alloc, self.as_slice())
+    }
+}
+
+/// The list of what the items show, in their order.
+pub fn list_of<T: ToJson>(alloc: Global, items: &[T]) -> Result<Json, AllocError>
+    ensures reply { IfOk result (λ j. j ≡ array (items_of (map T.shown items.now))) }
+    ensures some { OnErr result (items.now ≢ []) }
+{
+    let mut list = JsonList::new(alloc);
+    for item in items {
+        list.push(item.to_json(alloc)?)?;
+    }
+    Ok(list.into_json())
+}

@@ -1,6 +1,0 @@
-use Rattle.std.proofs.Common.{take}
-use Rattle.nd_timeline.specs.Reached.{AreCopies}
-use Rattle.nd_timeline.proofs.timeline.copied_records.Given as goal
-
-abbrev pub invariant-loop-kept : goal.invariant-loop-kept
-invariant-loop-kept g l = AreCopies (take l.kept-index l.records) l.list.items
