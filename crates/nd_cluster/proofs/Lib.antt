@@ -9,4 +9,3 @@ pub mod SinksLemmas
 pub mod PartsLemmas
 pub mod SeenLemmas
 pub mod Reasoned
-pub mod ToldLemmas

@@ -13,7 +13,6 @@ mod reasons;
 mod refuse;
 mod sinks;
 mod start;
-mod telling;
 mod text;
 mod work;
 

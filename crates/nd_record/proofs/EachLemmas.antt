@@ -1,5 +1,5 @@
 -- Lists of changes: what they add at a place, what holds of each of them, and a place that stands in one of them.
-use Rattle.std.proofs.Common.{◌≡◌, ◌≢◌, ◌<◌, ◌≤◌, ◌+◌, ◌-◌, ℕ, zero, suc, ℤ, pos, ◌+ℤ◌, Bool, true, false, cond, List, [], ◌∷◌, take, drop, length, get_or, nat_eq, refl, sym, ap, subst, ◌∙◌, arith, drop-cons, true≢false}
+use Rattle.std.proofs.Common.{◌≡◌, ◌≢◌, ◌<◌, ◌≤◌, ◌+◌, ℕ, zero, suc, ℤ, pos, ◌+ℤ◌, Bool, true, false, cond, List, [], ◌∷◌, take, drop, length, get_or, nat_eq, refl, sym, ap, subst, ◌∙◌, arith, drop-cons, true≢false}
 use Rattle.std.proofs.lemmas.Int.{ints}
 use Rattle.std.proofs.lemmas.List.{take-append-drop}
 use Rattle.std.specs.List.{filter}
@@ -9,7 +9,7 @@ use Rattle.nd_record.specs.Places.{Place, place_cmp, place_total}
 use Rattle.nd_record.specs.Standing.{standing, IsThere, MayStand, IsWithinAt}
 use Rattle.nd_record.specs.Changes.{place_of, gain_of, made, FindsOld, Fits, applied}
 use Rattle.nd_record.specs.Edits.{total_at, edits_of}
-use Rattle.nd_record.specs.Plans.{often, Once, Each, kind}
+use Rattle.nd_record.specs.Plans.{often, Once, Each}
 use Rattle.nd_record.specs.Appended.{often-append, total-append}
 use Rattle.nd_record.specs.declared.change.Change.{Change}
 use Rattle.nd_record.specs.declared.change.Change.TheVariants.{Records, Request, Token, State, Sink, Unsent}

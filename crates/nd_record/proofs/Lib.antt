@@ -2,6 +2,7 @@ pub mod PlacesLemmas
 pub mod StandingLemmas
 pub mod RunsLemmas
 pub mod EachLemmas
+pub mod FlowLemmas
 pub mod PlansLemmas
 pub mod Edited
 pub mod SeenLemmas
@@ -10,8 +11,6 @@ pub mod LimitsLemmas
 pub mod Differences
 pub mod CountedLemmas
 pub mod ReachesLemmas
-pub mod InversesLemmas
-pub mod RestingLemmas
 pub mod TurnsLemmas
 pub mod ListedLemmas
 pub mod InPlaceLemmas

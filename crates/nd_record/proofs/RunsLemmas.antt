@@ -280,3 +280,7 @@ others_kept s (c ∷ cs) = others_kept (made s c) cs
 -- a state within its limits, in which a list of changes can be run, for its processors alone
 pub runs_only : (s : ClusterState) (cs : List Change) → IsWithinLimits s → IsRunnable s cs → Runs (alone s) (alone (applied s cs)) cs
 runs_only s cs within runs = runs-alone s (applied s cs) cs (record { runs = runs; limits = limits_of s within; arrives = refl })
+
+-- the changes have led here from a state that leads here
+pub led : (s now here : ClusterState) (cs ds : List Change) → Runs (alone s) (alone now) cs → now ≡ here → ds ≡ cs → Runs (alone s) (alone here) ds
+led s now here cs ds h e d = subst (λ (xs : List Change). Runs (alone s) (alone here) xs) (sym d) (subst (λ (t : ClusterState). Runs (alone s) (alone t) cs) e h)

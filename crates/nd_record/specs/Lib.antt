@@ -9,7 +9,7 @@ pub mod Plans
 pub mod Seen
 pub mod Exchanges
 pub mod Records
-pub mod Resting
+pub mod Flows
 pub mod Limits
 pub mod Turns
 pub mod Sorting

@@ -4,19 +4,19 @@
 mod change;
 mod counted;
 mod exchange;
+mod flow;
 mod in_place;
+mod kept;
 mod listed;
 mod making;
 mod order;
 mod reading;
 mod record;
-mod resting;
-mod turning;
 
 pub use change::Change;
 pub use counted::changes_are_counted;
+pub use flow::{Come, Flow, Part};
+pub use kept::Kept;
 pub use listed::{Entries, Entry};
 pub use order::planned_changes;
 pub use record::{Changes, Record};
-pub use resting::vertices_rest;
-pub use turning::inverses;

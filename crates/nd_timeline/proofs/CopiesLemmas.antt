@@ -1,6 +1,5 @@
 -- Copies of kept steps: what holds of the steps holds of them.
 use Rattle.std.proofs.Common.{◌≡◌, ◌<◌, ℕ, zero, suc, List, [], ◌∷◌, ◌++◌, length, take, get_or, refl, sym, ap, subst, ◌∙◌, arith}
-use Rattle.std.specs.Prelude.{Option, Some, None, Box}
 use Rattle.nd_delta.specs.Change.{Change as Delta}
 use Rattle.nd_protocol.specs.State.{ClusterState}
 use Rattle.nd_protocol.specs.Steps.{after, stepped}
@@ -8,7 +7,11 @@ use Rattle.nd_protocol.specs.Enabled.{IsEnabled}
 use Rattle.nd_protocol.specs.declared.step.Step.{Step}
 use Rattle.nd_record.specs.Changes.{IsRunnable, applied}
 use Rattle.nd_record.specs.Records.{AreEqual, Sends, Receives, Makes}
-use Rattle.nd_cluster.specs.Made.{IsMade, Recalls, AreSame}
+use Rattle.nd_record.specs.Flows.{FlowMakes, Recalls, AreAlike}
+use Rattle.nd_record.specs.declared.flow.Flow.{Flow}
+use Rattle.nd_record.specs.declared.kept.Kept.{Kept}
+use Rattle.nd_record.specs.declared.kept.Kept.TheVariants.{Flowed, Listed}
+use Rattle.nd_cluster.specs.Made.{IsMade}
 use Rattle.nd_record.specs.declared.change.Change.{Change}
 use Rattle.nd_record.specs.declared.record.Changes.{Changes}
 use Rattle.nd_record.specs.declared.record.Changes.TheVariants.{Each, Sent, Received}
@@ -31,11 +34,11 @@ module _ {A : Type 0} where
   makes s t (Received from to c) (Sent q d) is h = absurd is
 
   -- what is kept of a step tells what it did: so does a copy
-  recalls : (s : ClusterState) (x : Step A) (cs ds : Option (Box (Changes A) A)) → AreSame cs ds → Recalls s x cs → Recalls s x ds
-  recalls s x None None is h = h
-  recalls s x (Some cs) (Some ds) is h = makes s (stepped s x) cs.value ds.value is h
-  recalls s x None (Some ds) is h = absurd is
-  recalls s x (Some cs) None is h = absurd is
+  recalls : (s t : ClusterState) (x : Step A) (k l : Kept A) → AreAlike k l → Recalls s x k t → Recalls s x l t
+  recalls s t x (Flowed f) (Flowed h) is made = subst (λ (f : Flow). FlowMakes s x f t) (sym is) made
+  recalls s t x (Flowed f) (Listed ds) is made = absurd is
+  recalls s t x (Listed cs) (Flowed h) is made = absurd is
+  recalls s t x (Listed cs) (Listed ds) is made = makes s t cs.value ds.value is made
 
   -- a copy was made where the step was
   made_copy : (s : ClusterState) (m n : Made A) → IsCopy m n → IsMade m s → IsMade n s
@@ -44,7 +47,7 @@ module _ {A : Type 0} where
       record {
         state = h.state;
         enabled = subst (λ (x : Step A). IsEnabled s x) same h.enabled;
-        recalls = subst (λ (x : Step A). Recalls s x n.changes) same (recalls s m.step m.changes n.changes is.1 h.recalls);
+        recalls = subst (λ (x : Step A). Recalls s x n.kept (stepped s x)) same (recalls s (stepped s m.step) m.step m.kept n.kept is.1 h.recalls);
       }
 
   made_copies : (s : ClusterState) (rs qs : List (Made A)) → AreCopies rs qs → AreMade s rs → AreMade s qs

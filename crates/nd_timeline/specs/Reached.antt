@@ -7,7 +7,8 @@ use Rattle.nd_protocol.specs.State.{ClusterState, cluster_code}
 use Rattle.nd_protocol.specs.Steps.{after, stepped}
 use Rattle.nd_protocol.specs.Codes.{step_code}
 use Rattle.nd_protocol.specs.declared.step.Step.{Step}
-use Rattle.nd_cluster.specs.Made.{IsMade, AreSame}
+use Rattle.nd_record.specs.Flows.{AreAlike}
+use Rattle.nd_cluster.specs.Made.{IsMade}
 use Rattle.nd_cluster.specs.declared.made.Made.{Made}
 use Rattle.nd_watch.specs.Breaks.{break_code}
 use Rattle.nd_timeline.specs.Timeline.{TimelineValue}
@@ -47,7 +48,7 @@ pub record IsReached {A : Type 0} (base cluster : ClusterState) (steps : List (M
 
 -- the same step, of whose changes the same is kept
 abbrev pub IsCopy : {A : Type 0} → Made A → Made A → Type 0
-IsCopy m n = (n.step ≡ m.step) × AreSame m.changes n.changes
+IsCopy m n = (n.step ≡ m.step) × AreAlike m.kept n.kept
 
 abbrev pub AreCopies : {A : Type 0} → List (Made A) → List (Made A) → Type 0
 AreCopies [] [] = Unit {0}

@@ -1,19 +1,12 @@
-use Rattle.std.proofs.Common.{◌≡◌, List, sym, subst}
+use Rattle.std.proofs.Common.{subst}
 use Rattle.std.proofs.lemmas.Result.{IfOk-weaker}
-use Rattle.nd_protocol.specs.State.{ClusterState}
 use Rattle.nd_record.specs.Changes.{applied}
-use Rattle.nd_record.specs.Undone.{Runs}
 use Rattle.nd_record.specs.Seen.{seen}
 use Rattle.nd_record.specs.Records.{Makes}
-use Rattle.nd_record.specs.declared.change.Change.{Change}
-use Rattle.nd_record.proofs.RunsLemmas.{alone, runs_only}
+use Rattle.nd_record.proofs.RunsLemmas.{alone, runs_only, led}
 use Rattle.nd_record.proofs.SeenLemmas.{seen_before}
 use Rattle.nd_record.proofs.ExchangesLemmas.{on_both, sender_there, row_there, is_apart, is_newest, sent_back, view_is_there, from_row, to_row, has_room, not_large, received_back}
 use Rattle.nd_record.proofs.record.Changes.undo.Goals as goal
-
--- the changes have led here from a state that leads here
-led : (s now here : ClusterState) (cs ds : List Change) → Runs (alone s) (alone now) cs → now ≡ here → ds ≡ cs → Runs (alone s) (alone here) ds
-led s now here cs ds h e d = subst (λ (xs : List Change). Runs (alone s) (alone here) xs) (sym d) (subst (λ (t : ClusterState). Runs (alone s) (alone t) cs) e h)
 
 pub undo_all-requires : goal.undo_all-requires
 undo_all-requires g c =
