@@ -1,9 +1,8 @@
-use Rattle.std.proofs.Common.{◌≡◌, sym, subst}
+use Rattle.std.proofs.Common.{sym, subst}
 use Rattle.nd_protocol.specs.Steps.{stepped}
 use Rattle.nd_protocol.specs.Enabled.{IsEnabled}
 use Rattle.nd_protocol.specs.declared.step.Step.{Step}
 use Rattle.nd_record.specs.Records.{Makes}
-use Rattle.nd_record.specs.Flows.{Recalls}
 use Rattle.nd_record.specs.declared.record.Changes.{Changes}
 use Rattle.nd_cluster.proofs.cluster.Cluster.keep.Goals as goal
 
