@@ -52,20 +52,20 @@ pub fn link_of<B: Allocator>(paths: &Paths<B>, from: usize, to: usize) -> Link
     ensures from { result.from ≡ from }
     ensures to { result.to ≡ to }
 {
-    if is_epochal(paths, from, to) {
+    if !leads(paths, from, to) {
         return Link {
             from,
             to,
-            leads: true,
-            is_epochal: true,
+            leads: false,
+            is_epochal: false,
         };
     }
-    let leads = leads(paths, from, to);
+    let is_epochal = is_epochal(paths, from, to);
     Link {
         from,
         to,
-        leads,
-        is_epochal: false,
+        leads: true,
+        is_epochal,
     }
 }
 
