@@ -3,6 +3,7 @@ mod FrontierLists
 mod Fors
 mod Frontiers
 mod Keyed
+mod LinksLemmas
 mod Moves
 mod Parts
 mod Plans

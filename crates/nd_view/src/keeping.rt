@@ -8,7 +8,7 @@ ghost use Rattle.nd_paths.specs.Point.{point_cmp};
 ghost use Rattle.nd_view.specs.View.{IsPrecursor, IsCount};
 ghost use Rattle.nd_view.specs.Kept.{IsKeptAt, IsKeyed, IsReady, IsFrontierList, moved};
 
-use crate::links::{is_precursor, is_strictly_before, link_at};
+use crate::links::{is_precursor, is_strictly_before, link_of};
 use nd_delta::Delta;
 use nd_map::SortedMap;
 use nd_paths::{Paths, Pointstamp};
@@ -23,7 +23,7 @@ pub fn count_before<A: Allocator, B: Allocator>(
     ensures { IsCount (IsPrecursor paths.now counts.now point.now) counts.now result }
 {
     let mut count = 0;
-    let mut link = link_at(point.location);
+    let mut link = link_of(paths, point.location, point.location);
     for entry in counts.entries() {
         if is_precursor(&mut link, paths, entry, point) {
             count += 1;
@@ -57,7 +57,7 @@ pub fn shift<A: Allocator, B: Allocator>(
 {
     // No count is greater than the number of entries, which is a `usize`.
     let _ = counts.len();
-    let mut link = link_at(point.location);
+    let mut link = link_of(paths, point.location, point.location);
     for i in 0..precursor_counts.len() {
         let entry = &precursor_counts.entries()[i];
         if is_strictly_before(&mut link, paths, point, &entry.0) {

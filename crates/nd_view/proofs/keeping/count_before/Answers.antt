@@ -9,7 +9,7 @@ use Rattle.nd_view.proofs.keeping.count_before.Goals.{then-is_precursor, else-is
 use Rattle.nd_map.specs.Cases.{not_zero}
 
 pub loop-entry-init : goal.loop-entry-init
-loop-entry-init g c = record { items = c.entries-entry-items.ensures.listed; known = c.link_at-link.ensures c.args.paths.now; few = omega arith; counted = count_none c.args.counts.now (IsPrecursor c.args.paths.now c.args.counts.now c.args.point.now) }
+loop-entry-init g c = record { items = c.entries-entry-items.ensures.listed; known = c.link_of-link.ensures.known; few = omega arith; counted = count_none c.args.counts.now (IsPrecursor c.args.paths.now c.args.counts.now c.args.point.now) }
 
 pub loop-entry-preserved : goal.loop-entry-preserved
 loop-entry-preserved g c =

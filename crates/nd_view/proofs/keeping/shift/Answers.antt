@@ -8,7 +8,7 @@ use Rattle.nd_view.proofs.keeping.shift.Goals.{then-is_strictly_before, else-is_
 
 pub loop-i-init : goal.loop-i-init
 loop-i-init g c = record {
-  known = c.link_at-link.ensures c.args.paths.now;
+  known = c.link_of-link.ensures.known;
   size = refl;
   shifted = record {
     keys = refl;
