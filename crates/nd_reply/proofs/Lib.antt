@@ -1,1 +1,3 @@
+mod InOrder
 mod NoFloat
+mod Plain

@@ -1,2 +1,4 @@
 pub mod Codes
+pub mod Fields
+pub mod Shapes
 pub mod Shows

@@ -1,10 +1,13 @@
 //! Replies: JSON values without a float, how they are put together, and their text.
 #![tactic(auto)]
 
+mod fields;
 mod list;
 mod member;
 mod object;
+mod shape;
 mod shown;
+mod text;
 mod value;
 
 pub use list::JsonList;

@@ -10,6 +10,7 @@ use std::marker::Model;
 
 /// The values that a list will hold, in their order.
 pub struct JsonList {
+    alloc: Global,
     items: Vec<Value>,
 }
 
@@ -33,7 +34,7 @@ impl Model for JsonList {
 
 impl Drop for JsonList {
     fn drop(self) {
-        let JsonList { items: _ } = self;
+        let JsonList { alloc: _, items: _ } = self;
     }
 }
 
@@ -43,6 +44,7 @@ impl JsonList {
         ensures { result ≡ [] }
     {
         JsonList {
+            alloc,
             items: Vec::new(alloc),
         }
     }
@@ -52,7 +54,8 @@ impl JsonList {
         ensures ok { OnOk result (self.new ≡ self.old ++ item ∷ []) }
         ensures err { OnErr result (self.new ≡ self.old) }
     {
-        self.items.push(item.into_value())?;
+        let value = item.into_value(self.alloc)?;
+        self.items.push(value)?;
         Ok(())
     }
 
@@ -69,7 +72,7 @@ impl JsonList {
     pub fn into_json(self) -> Json
         ensures { result ≡ array (items_of self) }
     {
-        let JsonList { items } = self;
+        let JsonList { alloc: _, items } = self;
         Json::of(Value::Array(items))
     }
 }

@@ -1,16 +1,20 @@
 //! An object that is put together, member by member.
 ghost use Rattle.std.specs.Prelude.{◌≡◌, IfOk};
 ghost use Rattle.serde_json.specs.Data.{object, no_members, put};
+ghost use Rattle.serde_json.specs.View.{view};
+ghost use Rattle.nd_reply.specs.Shapes.{members_in, ArePart};
 
 use crate::Json;
-use serde_json::{Map, Value};
+use crate::fields::{Field, is_behind, map_of};
+use crate::shape::Parts;
+use serde_json::Value;
 use std::alloc::{AllocError, Global};
 use std::marker::Model;
 
 /// The members that an object will hold.
 pub struct JsonObject {
     alloc: Global,
-    members: Map<String, Value>,
+    parts: Parts,
 }
 
 impl Model for JsonObject {
@@ -22,20 +26,17 @@ impl Model for JsonObject {
 
     ghost coded = { members_code };
 
-    ghost use Rattle.serde_json.specs.View.{members_view};
     ghost use Rattle.serde_json.specs.Written.{members_have_float};
+    ghost use Rattle.nd_reply.specs.Shapes.{members_in, ArePart};
 
-    ghost view = { λ o. members_view o.members.entries };
+    ghost view = { λ o. members_in o.parts };
 
-    ghost invariant = { λ o. members_have_float (members_view o.members.entries) ≡ false };
+    ghost invariant = { λ o. (members_have_float (members_in o.parts) ≡ false) × ArePart o.parts };
 }
 
 impl Drop for JsonObject {
     fn drop(self) {
-        let JsonObject {
-            alloc: _,
-            members: _,
-        } = self;
+        let JsonObject { alloc: _, parts: _ } = self;
     }
 }
 
@@ -46,24 +47,56 @@ impl JsonObject {
     {
         JsonObject {
             alloc,
-            members: Map::new(alloc),
+            parts: Parts::InOrder(Vec::new(alloc)),
         }
     }
 
     /// The same, with this member.
-    pub fn with(self, key: &str, value: Json) -> Result<JsonObject, AllocError>
+    pub fn with(self, key: &'static str, value: Json) -> Result<JsonObject, AllocError>
         ensures { IfOk result (λ o. o ≡ put key.now value self) }
     {
-        let JsonObject { alloc, mut members } = self;
-        serde_json::put(&mut members, alloc, key, value.into_value())?;
-        Ok(JsonObject { alloc, members })
+        let JsonObject { alloc, parts } = self;
+        let value = value.into_value(alloc)?;
+        let parts = with_member(alloc, parts, key, value)?;
+        Ok(JsonObject { alloc, parts })
     }
 
     /// The object of them.
     pub fn into_json(self) -> Json
         ensures { result ≡ object self }
     {
-        let JsonObject { alloc: _, members } = self;
-        Json::of(Value::Object(members))
+        let JsonObject { alloc: _, parts } = self;
+        match parts {
+            Parts::InOrder(fields) => Json::of_fields(fields),
+            Parts::Any(members) => Json::of(Value::Object(members)),
+        }
+    }
+}
+
+// The same, with this member: in the order of the keys as long as each new one stands behind the others.
+fn with_member(
+    alloc: Global,
+    parts: Parts,
+    key: &'static str,
+    value: Value,
+) -> Result<Parts, AllocError>
+    requires { ArePart parts }
+    ensures members { IfOk result (λ p. members_in p ≡ put key.now (view value) (members_in parts)) }
+    ensures order { IfOk result ArePart }
+{
+    match parts {
+        Parts::InOrder(mut fields) => {
+            if is_behind(key, fields.as_slice()) {
+                fields.push(Field { key, value })?;
+                return Ok(Parts::InOrder(fields));
+            }
+            let mut members = map_of(alloc, fields)?;
+            serde_json::put(&mut members, alloc, key, value)?;
+            Ok(Parts::Any(members))
+        }
+        Parts::Any(mut members) => {
+            serde_json::put(&mut members, alloc, key, value)?;
+            Ok(Parts::Any(members))
+        }
     }
 }

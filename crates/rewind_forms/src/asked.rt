@@ -4,6 +4,7 @@ ghost use Rattle.serde_json.specs.View.{view};
 ghost use Rattle.rewind_forms.specs.Asked.{asked_of as asked_in};
 
 use crate::commands::command_of;
+use crate::forms::word_of;
 use crate::queries::query_of;
 use crate::steps::step_of;
 use crate::{LineFault, Query, Version};
@@ -34,13 +35,14 @@ pub fn asked_of(
     ensures ok { IfOk result (λ c. asked_in version graph.now (view value.now) ≡ Ok c) }
     ensures err { IfErr result (λ e. e ≢ LineFault.Memory → asked_in version graph.now (view value.now) ≡ Err e) }
 {
-    if let Some(step) = step_of(alloc, graph, value)? {
+    let word = word_of(value);
+    if let Some(step) = step_of(alloc, graph, value, word)? {
         return Ok(Asked::Do(Command::Forward(step)));
     }
-    if let Some(command) = command_of(alloc, graph, value)? {
+    if let Some(command) = command_of(alloc, graph, value, word)? {
         return Ok(Asked::Do(command));
     }
-    match query_of(alloc, version, graph, value)? {
+    match query_of(alloc, version, graph, value, word)? {
         Some(query) => Ok(Asked::Tell(query)),
         None => Err(LineFault::BadShape),
     }

@@ -1,5 +1,6 @@
 //! The command other than a step that a line asks for.
-ghost use Rattle.std.specs.Prelude.{◌≡◌, ◌≢◌, Ok, Err, IfOk, IfErr};
+ghost use Rattle.std.specs.Prelude.{◌≡◌, ◌≢◌, Ok, Err, IfOk, IfErr, codes, option_map};
+ghost use Rattle.nd_json.specs.Forms.{text_at as text_in};
 ghost use Rattle.serde_json.specs.View.{view};
 ghost use Rattle.rewind_forms.specs.Commands.{jump_of as jump_in, run_of as run_in, set_of as set_in, clear_of as clear_in, command_of as command_in};
 
@@ -46,24 +47,30 @@ fn clear_of(value: &Value) -> Result<Command, LineFault>
     Ok(Command::ClearBreak(id))
 }
 
-/// The command other than a step that the value asks for, against the graph; `None` if it has
-/// not the form of one.
+/// The command other than a step that the value, whose word this is, asks for, against the graph;
+/// `None` if it has not the form of one.
 #[tactic(auto, unfolding(crate::specs::Commands::command_of))]
-pub fn command_of(alloc: Global, graph: &Graph, value: &Value) -> Result<Option<Command>, LineFault>
+pub fn command_of(
+    alloc: Global,
+    graph: &Graph,
+    value: &Value,
+    word: Option<&str>,
+) -> Result<Option<Command>, LineFault>
+    requires { option_map (λ s. s.now) word ≡ text_in (codes "do") (view value.now) }
     ensures ok { IfOk result (λ c. command_in graph.now (view value.now) ≡ Ok c) }
     ensures err { IfErr result (λ e. e ≢ LineFault.Memory → command_in graph.now (view value.now) ≡ Err e) }
 {
-    if is_form(value, "back", &["do"]) {
+    if is_form(value, word, "back", &["do"]) {
         Ok(Some(Command::Back))
-    } else if is_form(value, "redo", &["do"]) {
+    } else if is_form(value, word, "redo", &["do"]) {
         Ok(Some(Command::Redo))
-    } else if is_form(value, "jump", &["do", "to"]) {
+    } else if is_form(value, word, "jump", &["do", "to"]) {
         Ok(Some(jump_of(value)?))
-    } else if is_form(value, "run", &["do", "limit"]) {
+    } else if is_form(value, word, "run", &["do", "limit"]) {
         Ok(Some(run_of(value)?))
-    } else if is_form(value, "break", &["do", "when"]) {
+    } else if is_form(value, word, "break", &["do", "when"]) {
         Ok(Some(set_of(alloc, graph, value)?))
-    } else if is_form(value, "unbreak", &["do", "id"]) {
+    } else if is_form(value, word, "unbreak", &["do", "id"]) {
         Ok(Some(clear_of(value)?))
     } else {
         Ok(None)

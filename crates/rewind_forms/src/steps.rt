@@ -1,5 +1,6 @@
 //! The step that a line asks for.
-ghost use Rattle.std.specs.Prelude.{◌≡◌, ◌≢◌, Ok, Err, IfOk, IfErr};
+ghost use Rattle.std.specs.Prelude.{◌≡◌, ◌≢◌, Ok, Err, IfOk, IfErr, codes, option_map};
+ghost use Rattle.nd_json.specs.Forms.{text_at as text_in};
 ghost use Rattle.serde_json.specs.View.{view};
 ghost use Rattle.rewind_forms.specs.Steps.{feed_of as feed_in, take_of as take_in, notice_of as notice_in, broadcast_of as broadcast_in, part_of as part_in, receive_of as receive_in, next_at as next_in, step_of as step_in};
 
@@ -118,23 +119,34 @@ fn receive_of(value: &Value) -> Result<Step, LineFault>
     Ok(Step::Receive { from, to })
 }
 
-/// The step that the value asks for, against the graph; `None` if it has not the form of one.
+/// The step that the value, whose word this is, asks for, against the graph; `None` if it has not the form of one.
 #[tactic(auto, unfolding(crate::specs::Steps::step_of))]
-pub fn step_of(alloc: Global, graph: &Graph, value: &Value) -> Result<Option<Step>, LineFault>
+pub fn step_of(
+    alloc: Global,
+    graph: &Graph,
+    value: &Value,
+    word: Option<&str>,
+) -> Result<Option<Step>, LineFault>
+    requires { option_map (λ s. s.now) word ≡ text_in (codes "do") (view value.now) }
     ensures ok { IfOk result (λ c. step_in graph.now (view value.now) ≡ Ok c) }
     ensures err { IfErr result (λ e. e ≢ LineFault.Memory → step_in graph.now (view value.now) ≡ Err e) }
 {
-    if is_form(value, "feed", &["do", "next", "p", "values", "vertex"]) {
+    if is_form(
+        value,
+        word,
+        "feed",
+        &["do", "next", "p", "values", "vertex"],
+    ) {
         Ok(Some(feed_of(alloc, graph, value)?))
-    } else if is_form(value, "take", &["do", "edge", "p", "time", "value"]) {
+    } else if is_form(value, word, "take", &["do", "edge", "p", "time", "value"]) {
         Ok(Some(take_of(alloc, graph, value)?))
-    } else if is_form(value, "notice", &["do", "p", "time", "vertex"]) {
+    } else if is_form(value, word, "notice", &["do", "p", "time", "vertex"]) {
         Ok(Some(notice_of(alloc, graph, value)?))
-    } else if is_form(value, "broadcast", &["do", "p"]) {
+    } else if is_form(value, word, "broadcast", &["do", "p"]) {
         Ok(Some(broadcast_of(value)?))
-    } else if is_form(value, "broadcast", &["do", "p", "part"]) {
+    } else if is_form(value, word, "broadcast", &["do", "p", "part"]) {
         Ok(Some(part_of(alloc, graph, value)?))
-    } else if is_form(value, "receive", &["do", "from", "to"]) {
+    } else if is_form(value, word, "receive", &["do", "from", "to"]) {
         Ok(Some(receive_of(value)?))
     } else {
         Ok(None)

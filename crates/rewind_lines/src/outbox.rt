@@ -11,11 +11,12 @@ use std::marker::Model;
 /// So many bytes of replies do not wait for more.
 const WAITING: usize = 65_536;
 
-/// The text of the replies that wait to be written.
+/// The text of the replies that wait to be written, and the room that each one's text is made in.
 #[derive(Drop)]
 pub struct Outbox {
     alloc: Global,
     waiting: Vec<u8>,
+    text: Vec<u8>,
 }
 
 impl Model for Outbox {
@@ -34,6 +35,7 @@ impl Outbox {
         Outbox {
             alloc,
             waiting: Vec::new(alloc),
+            text: Vec::new(alloc),
         }
     }
 
@@ -43,10 +45,10 @@ impl Outbox {
         ensures ok { OnOk result (self.new ≡ self.old ++ reply_text reply.now) }
         ensures err { OnErr result (self.new ≡ self.old) }
     {
-        let text = reply.to_bytes(self.alloc)?;
-        self.waiting.reserve(text.len() + 1)?;
-        self.waiting.extend_from_slice(text.as_slice())?;
-        self.waiting.push(b'\n')?;
+        self.text.clear();
+        reply.write_to(self.alloc, &mut self.text)?;
+        self.text.push(b'\n')?;
+        self.waiting.extend_from_slice(self.text.as_slice())?;
         Ok(())
     }
 
