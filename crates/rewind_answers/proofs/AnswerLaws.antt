@@ -31,7 +31,6 @@ use Rattle.nd_search.specs.Least.{HoldsAt, IsLeast as IsLeastHit}
 use Rattle.nd_search.specs.Answers.{MaySearch, SearchFails}
 use Rattle.nd_search.specs.declared.fault.SearchFault.{SearchFault}
 use Rattle.rewind_forms.specs.declared.queries.Query.{Query}
-use Rattle.rewind_forms.specs.declared.queries.Query.TheVariants.{Frontier}
 use Rattle.nd_timeline.specs.Moves.{Moves}
 use Rattle.nd_timeline.specs.declared.command.Command.{Command}
 use Rattle.nd_timeline.specs.declared.reply.Reply.{Reply}
@@ -99,12 +98,12 @@ frontier_replies s q g v f d (Ok w) there graph is part shown reply =
     inr (there, (f, subst (λ (h : Dataflow). IsPartWhere (IsOnFrontier h (view_in s q)) (view_in s q) f) graph same, reply ∙ ap frontier shown))
 frontier_replies s q g v f d (Err e) there graph is part shown reply = reply
 
--- the frontier of the cluster at the cursor
-pub frontier_query : (m : TimelineValue Global) (s : ClusterState) (q : ℕ) (query : Query) (r : Result Data AllocError) → s ≡ cluster_of m → query ≡ Frontier q
-    → IfOk r (λ v. FrontierReply s q v) → IfOk r (λ v. QueryReply m query v)
-frontier_query m s q query (Ok v) same is reply =
-    subst (λ (x : Query). QueryReply m x v) (sym is) (subst (λ (u : ClusterState). FrontierReply u q v) same reply)
-frontier_query m s q query (Err x) same is reply = reply
+-- a query that the cluster at the cursor answers
+pub answered_at : (P : ClusterState → Data → Type 0) (m : TimelineValue Global) (s : ClusterState) (query asked : Query) (r : Result Data AllocError) → s ≡ cluster_of m → query ≡ asked
+    → ((v : Data) → P (cluster_of m) v → QueryReply m asked v) → IfOk r (λ v. P s v) → IfOk r (λ v. QueryReply m query v)
+answered_at P m s query asked (Ok v) same is means reply =
+    subst (λ (x : Query). QueryReply m x v) (sym is) (means v (subst (λ (u : ClusterState). P u v) same reply))
+answered_at P m s query asked (Err x) same is means reply = reply
 
 -- ---- searches, of the timeline of a snapshot
 
