@@ -1,6 +1,6 @@
 -- Parts of a flow, found one after the other, and the changes that they tell.
 use Rattle.std.proofs.Common.{◌≡◌, ◌<◌, ℕ, ℤ, zero, suc, List, [], ◌∷◌, length, map, take, get_or, set, sym, ap, subst, ◌∙◌, arith}
-use Rattle.std.proofs.lemmas.List.{take-map}
+use Rattle.std.proofs.lemmas.List.{get_or-map, get_or-take, length-map, length-take}
 use Rattle.nd_time.specs.Time.{Time}
 use Rattle.nd_processor.specs.declared.key.ValueAt.{ValueAt}
 use Rattle.nd_protocol.specs.State.{ClusterState}
@@ -8,7 +8,8 @@ use Rattle.nd_protocol.specs.Steps.{record_key}
 use Rattle.nd_protocol.specs.declared.step.Step.{Step}
 use Rattle.nd_protocol.specs.declared.step.Step.TheVariants.{Take}
 use Rattle.nd_record.specs.Changes.{IsRunnable, applied}
-use Rattle.nd_record.specs.Flows.{part_of, flow_changes, FlowMakes, Recalls}
+use Rattle.nd_record.specs.Undone.{no_change_at, change_at}
+use Rattle.nd_record.specs.Flows.{flow_changes, FlowMakes, Recalls}
 use Rattle.nd_record.specs.declared.change.Change.{Change}
 use Rattle.nd_record.specs.declared.flow.Part.{Part}
 use Rattle.nd_record.specs.declared.flow.Flow.{Flow}
@@ -26,9 +27,13 @@ placed f (p ∷ ps) (c ∷ cs) (suc i) x d there few h e =
     let more = placed f ps cs i x d (omega arith) (omega arith) rest e in
     λ j. first j ∷ more j
 
--- what a flow tells, from all of its parts
-pub told : (p : ℕ) (gone : ValueAt) (f : Flow) (all : List Change) (n : ℕ) → all ≡ map (part_of p gone f.come) f.parts → take n f.parts ≡ take f.count f.parts → take n all ≡ flow_changes p gone f
-told p gone f all n is same = ap (take n) is ∙ take-map (part_of p gone f.come) n f.parts ∙ ap (map (part_of p gone f.come)) same
+-- so many parts tell so many changes, each at its position
+module _ (f : Part → Change) (n : ℕ) (ps : List Part) (i : ℕ) (lt : i < length (map f (take n ps))) where
+  among : i < length (take n ps)
+  among = omega (arith, lt, length-map (take n ps) f)
+
+  pub told_at : (x d : Part) → x ≡ get_or ps i d → change_at (map f (take n ps)) i ≡ f x
+  told_at x d is = get_or-map f (take n ps) i d no_change_at among ∙ ap f (get_or-take n ps i d (omega (arith, among, length-take n ps)) ∙ sym is)
 
 -- what is kept of a take by its flow
 pub flow_runs : {A : Type 0} (s t : ClusterState) (x : Step A) (k : Kept A) (p edge : ℕ) (time : Time) (value : ℤ) (gone : ValueAt) (f : Flow) → k ≡ Flowed f → x ≡ Take p edge time value → gone ≡ record_key edge time value

@@ -17,7 +17,7 @@ use Rattle.nd_record.specs.Places.{Place, place_at, records_at, request_at, toke
 use Rattle.nd_record.specs.Slots.{from_epoch, from_number}
 use Rattle.nd_record.specs.Standing.{standing, put_at, IsThere, MayStand, IsWithinAt}
 use Rattle.nd_record.specs.Changes.{place_of, from_add, gain_of, inverse, made, FindsOld, NamesNumbers, Fits, applied, state_at, IsRunnable}
-use Rattle.nd_record.specs.Undone.{CanTurn, Limits, Runs, only}
+use Rattle.nd_record.specs.Undone.{CanTurn, Limits, Runs, no_change_at, change_at, only}
 use Rattle.nd_record.specs.declared.change.Change.{Change}
 use Rattle.nd_record.specs.declared.change.Change.TheVariants.{Records, Request, Token, State, Sink, Unsent}
 use Rattle.nd_record.proofs.PlacesLemmas.{SameShape, shape-itself, shape-turned, shape-through, shape-put, there_alike, same_state, standing-put, standing-put_at, may_stand}
@@ -191,10 +191,6 @@ pub all_made : (s : ClusterState) (cs : List Change) (k : ℕ) → length cs ≤
 unfolding state_at
 all_made s cs k past = ap (applied s) (take_all k cs past)
 
--- a change to stand for a position in the list that is not there
-no_change_at : Change
-no_change_at = Sink 0 0 (pos 0) true
-
 pub limits_at : (s : ClusterState) (cs : List Change) → IsRunnable s cs → Limits s → (k : ℕ) → k ≤ length cs → Limits (state_at s cs k)
 limits_at s cs runs limits zero h = subst Limits (sym (state_none s cs)) limits
 limits_at s cs runs limits (suc k) h =
@@ -218,23 +214,26 @@ module _ (s : ClusterState) (cs : List Change) (runs : IsRunnable s cs) (limits 
   back_state : made (state_at s cs (k + 1)) (inverse (get_or cs k d)) ≡ state_at s cs k
   back_state = ap (λ t. made t (inverse (get_or cs k d))) (state_more s cs k d lt) ∙ made_back (state_at s cs k) (get_or cs k d) (runs.fits k d lt)
 
--- ---- the same for a change that a loop has read, in a state that equals the one there
-module _ (s : ClusterState) (cs : List Change) (runs : IsRunnable s cs) (limits : Limits s) (k : ℕ) (x : Change) (lt : k < length cs) (is : x ≡ get_or cs k x) (t : ClusterState) where
-  pub next_here : t ≡ state_at s cs k → made t x ≡ state_at s cs (k + 1)
-  next_here now = (λ i. made (now i) (is i)) ∙ sym (state_more s cs k x lt)
+-- ---- the same in a state that equals the one there
+module _ (s : ClusterState) (cs : List Change) (runs : IsRunnable s cs) (limits : Limits s) (k : ℕ) (lt : k < length cs) (t : ClusterState) where
+  pub fits_now : t ≡ state_at s cs k → Fits t (change_at cs k)
+  fits_now now = subst (λ u. Fits u (change_at cs k)) (sym now) (runs.fits k no_change_at lt)
 
-  pub turns_here : CanTurn x
-  turns_here = subst CanTurn (sym is) (back_turns s cs runs limits k x lt)
+  pub next_here : t ≡ state_at s cs k → made t (change_at cs k) ≡ state_at s cs (k + 1)
+  next_here now = ap (λ u. made u (change_at cs k)) now ∙ sym (state_more s cs k no_change_at lt)
+
+  pub turns_here : CanTurn (change_at cs k)
+  turns_here = back_turns s cs runs limits k no_change_at lt
 
   module _ (i : ℕ) (above : i ≡ k + 1) (now : t ≡ state_at s cs i) where
     from_above : t ≡ state_at s cs (k + 1)
     from_above = now ∙ ap (state_at s cs) above
 
-    pub fits_here : Fits t (inverse x)
-    fits_here = subst (λ c. Fits t (inverse c)) (sym is) (subst (λ u. Fits u (inverse (get_or cs k x))) (sym from_above) (back_fits s cs runs limits k x lt))
+    pub fits_here : Fits t (inverse (change_at cs k))
+    fits_here = subst (λ u. Fits u (inverse (change_at cs k))) (sym from_above) (back_fits s cs runs limits k no_change_at lt)
 
-    pub back_here : made t (inverse x) ≡ state_at s cs k
-    back_here = (λ j. made (from_above j) (inverse (is j))) ∙ back_state s cs runs limits k x lt
+    pub back_here : made t (inverse (change_at cs k)) ≡ state_at s cs k
+    back_here = ap (λ u. made u (inverse (change_at cs k))) from_above ∙ back_state s cs runs limits k no_change_at lt
 
 -- ---- the same over a list of processors alone
 

@@ -1,13 +1,15 @@
 //! The changes of a take, told by the record that goes and by what comes for it.
-ghost use Rattle.std.specs.Prelude.{◌≡◌, ◌≤◌, IfSome, OnOk, OnErr, length, map, take};
+ghost use Rattle.std.specs.Prelude.{◌≡◌, ◌<◌, ◌≤◌, IfSome, OnOk, OnErr, length, map, take, slice_index_or};
 ghost use Rattle.nd_protocol.specs.State.{ClusterState};
 ghost use Rattle.nd_record.specs.Changes.{IsRunnable, applied};
 ghost use Rattle.nd_record.specs.Undone.{Limits, Runs, HasRun, only};
-ghost use Rattle.nd_record.specs.Flows.{records_of, comes_of, come_unsent, part_of, flow_changes, Tells};
-ghost use Rattle.nd_record.specs.declared.change.Change.TheVariants.{Unsent};
+ghost use Rattle.nd_record.specs.Flows.{part_of, flow_changes, Tells};
+ghost use Rattle.nd_record.specs.declared.flow.Part.TheVariants.{Goes};
 
 use crate::Change;
-use crate::making::{make_all, undo_all, value_at};
+use crate::making::value_at;
+use crate::parts::Told;
+use crate::run::{make_run, undo_run};
 use nd_processor::{Processor, ValueAt};
 use nd_protocol::Step;
 use std::alloc::{AllocError, Allocator};
@@ -42,87 +44,7 @@ pub struct Flow {
     pub count: u8,
 }
 
-// So many records of a key more.
-fn records(p: u32, key: &ValueAt, n: i64) -> Change
-    ensures { result ≡ records_of p key.now n }
-{
-    Change::Records {
-        p,
-        edge: key.point.location,
-        time: key.point.time.copy(),
-        value: key.value,
-        n,
-    }
-}
-
-// So much more that is unsent.
-fn unsent(p: u32, key: &ValueAt, n: i64) -> Change
-    ensures { result ≡ Unsent p key.now.point n }
-{
-    Change::Unsent {
-        p,
-        point: key.point.copy(),
-        n,
-    }
-}
-
 impl Come {
-    // The change by which it comes.
-    fn comes(&self, p: u32, gone: &ValueAt) -> Change
-        ensures { result ≡ comes_of p gone.now self.now }
-    {
-        match self {
-            Come::Nothing => records(p, gone, -1),
-            Come::Record { p: to, key } => records(*to, key, 1),
-            Come::Count { vertex } => Change::Sink {
-                p,
-                vertex: *vertex,
-                value: gone.value,
-                add: true,
-            },
-        }
-    }
-
-    // The change by which that is to be sent.
-    fn unsent(&self, p: u32, gone: &ValueAt) -> Change
-        ensures { result ≡ come_unsent p gone.now self.now }
-    {
-        match self {
-            Come::Record { p: _, key } => unsent(p, key, 1),
-            Come::Nothing | Come::Count { .. } => unsent(p, gone, -1),
-        }
-    }
-
-    // A change of the take of a record.
-    fn part(&self, p: u32, gone: &ValueAt, part: Part) -> Change
-        ensures { result ≡ part_of p gone.now self.now part }
-    {
-        match part {
-            Part::Goes => records(p, gone, -1),
-            Part::GoneUnsent => unsent(p, gone, -1),
-            Part::Comes => self.comes(p, gone),
-            Part::ComeUnsent => self.unsent(p, gone),
-        }
-    }
-
-    // Which part of the take a change is, if it is one.
-    fn part_with(&self, p: u32, gone: &ValueAt, change: &Change) -> Option<Part>
-        ensures { IfSome result (λ x. part_of p gone.now self.now x ≡ change.now) }
-    {
-        let part = match change {
-            Change::Records { n, .. } if *n < 0 => Part::Goes,
-            Change::Unsent { n, .. } if *n < 0 => Part::GoneUnsent,
-            Change::Records { .. } | Change::Sink { .. } => Part::Comes,
-            Change::Unsent { .. } => Part::ComeUnsent,
-            Change::Request { .. } | Change::Token { .. } | Change::State { .. } => return None,
-        };
-        if self.part(p, gone, part) == *change {
-            Some(part)
-        } else {
-            None
-        }
-    }
-
     /// An equal one.
     fn copy(&self) -> Come
         ensures { result ≡ self.now }
@@ -211,24 +133,19 @@ impl Flow {
         }
     }
 
-    // All parts as changes of the take of a record, also those that do not count.
-    fn all(&self, p: u32, gone: &ValueAt) -> [Change; MOST]
-        ensures { result ≡ map (part_of p gone.now self.now.come) self.now.parts }
-    {
-        [
-            self.come.part(p, gone, self.parts[0]),
-            self.come.part(p, gone, self.parts[1]),
-            self.come.part(p, gone, self.parts[2]),
-            self.come.part(p, gone, self.parts[3]),
-        ]
-    }
-
     // How many parts count.
-    fn many(&self) -> usize
-        ensures few { result ≤ 4 }
-        ensures same { take result self.now.parts ≡ take self.now.count self.now.parts }
+    pub(crate) fn many(&self) -> usize
+        ensures { result ≡ length (take self.now.count self.now.parts) }
     {
         usize::from(self.count).min(MOST)
+    }
+
+    // One of the parts that count.
+    pub(crate) fn part(&self, i: usize) -> Part
+        requires { i < length (take self.now.count self.now.parts) }
+        ensures { result ≡ slice_index_or self.now.parts i Goes }
+    {
+        self.parts[i]
     }
 
     // Makes the changes that it tells of the take of a record.
@@ -243,8 +160,12 @@ impl Flow {
         ensures ok { OnOk result (only processors.new.items ≡ applied (only processors.old.items) (flow_changes p gone.now self.now)) }
         ensures err { OnErr result (processors.new.items ≡ processors.old.items) }
     {
-        let all = self.all(p, gone);
-        make_all(processors, &all[..self.many()])
+        let told = Told {
+            flow: self,
+            p,
+            gone,
+        };
+        make_run(processors, &told)
     }
 
     // Undoes them.
@@ -258,7 +179,11 @@ impl Flow {
         ensures ok { OnOk result ((s : ClusterState) → Runs s (only processors.old.items) (flow_changes p gone.now self.now) → only processors.new.items ≡ s) }
         ensures err { OnErr result (processors.new.items ≡ processors.old.items) }
     {
-        let all = self.all(p, gone);
-        undo_all(processors, &all[..self.many()])
+        let told = Told {
+            flow: self,
+            p,
+            gone,
+        };
+        undo_run(processors, &told)
     }
 }

@@ -10,8 +10,10 @@ mod kept;
 mod listed;
 mod making;
 mod order;
+mod parts;
 mod reading;
 mod record;
+mod run;
 
 pub use change::Change;
 pub use counted::changes_are_counted;

@@ -1,13 +1,12 @@
-//! Changes made, and undone by their inverses.
+//! A change made, and undone by its inverse.
 ghost use Rattle.std.specs.Prelude.{◌≡◌, ◌≤◌, ◌<◌, ◌≤ℤ◌, ◌+ℤ◌, ℤ, pos, length, slice_index_or, unsigned_abs, OnOk, OnErr};
 ghost use Rattle.nd_time.specs.Limits.{max_count};
 ghost use Rattle.nd_processor.specs.State.{idle};
-ghost use Rattle.nd_record.specs.Places.{records_at, unsent_at};
+ghost use Rattle.nd_record.specs.Places.{records_at, sink_at, unsent_at};
 ghost use Rattle.nd_record.specs.Slots.{stands, puts};
 ghost use Rattle.nd_record.specs.Standing.{standing};
-ghost use Rattle.nd_record.specs.Changes.{owner_of, slot_of, place_of, inverse, made_in, made, FitsIn, Fits, IsRunnable, applied};
-ghost use Rattle.nd_record.specs.Undone.{CanTurn, Limits, Runs, HasRun, only};
-ghost use Rattle.nd_protocol.specs.State.{ClusterState};
+ghost use Rattle.nd_record.specs.Changes.{owner_of, slot_of, place_of, inverse, made_in, made, FitsIn, Fits};
+ghost use Rattle.nd_record.specs.Undone.{CanTurn, only};
 ghost use Rattle.nd_protocol.specs.Steps.{record_key, point_at};
 
 use crate::Change;
@@ -18,7 +17,7 @@ use nd_time::Timestamp;
 use std::alloc::{AllocError, Allocator};
 
 // So many records more of a key, or less if negative. A key that is there takes no memory.
-fn more_records<A: Allocator + Copy>(
+pub(crate) fn more_records<A: Allocator + Copy>(
     processor: &mut Processor<A>,
     key: &ValueAt,
     n: i64,
@@ -41,7 +40,7 @@ fn more_records<A: Allocator + Copy>(
 }
 
 // So much more at a pointstamp of what is unsent. A pointstamp that has an entry takes no memory.
-fn more_unsent<A: Allocator + Copy>(
+pub(crate) fn more_unsent<A: Allocator + Copy>(
     processor: &mut Processor<A>,
     point: &Pointstamp,
     n: i64,
@@ -55,6 +54,24 @@ fn more_unsent<A: Allocator + Copy>(
         Ok(()) => Ok(()),
         Err(DeltaFault::Memory) => Err(AllocError),
         Err(DeltaFault::DeltaFull) => unreachable!(),
+    }
+}
+
+// A sink counts a value once more. A value that it has counted takes no memory.
+pub(crate) fn count_one<A: Allocator + Copy>(
+    processor: &mut Processor<A>,
+    vertex: usize,
+    value: i64,
+) -> Result<(), AllocError>
+    requires { unsigned_abs (stands processor.old (sink_at (record { vertex = vertex; value = value })) +ℤ pos 1) ≤ max_count }
+    ensures ok { OnOk result (processor.new ≡ puts processor.old (sink_at (record { vertex = vertex; value = value })) (stands processor.old (sink_at (record { vertex = vertex; value = value })) +ℤ pos 1)) }
+    ensures err { OnErr result (processor.new ≡ processor.old) }
+    ensures absent { OnErr result (stands processor.old (sink_at (record { vertex = vertex; value = value })) ≡ pos 0) }
+{
+    match processor.add_sink(vertex, value, 1) {
+        Ok(()) => Ok(()),
+        Err(CountFault::Memory) => Err(AllocError),
+        Err(CountFault::CountFull) => unreachable!(),
     }
 }
 
@@ -133,11 +150,7 @@ fn make_in<A: Allocator + Copy>(
             vertex,
             value,
             add: true,
-        } => match processor.add_sink(*vertex, *value, 1) {
-            Ok(()) => Ok(()),
-            Err(CountFault::Memory) => Err(AllocError),
-            Err(CountFault::CountFull) => unreachable!(),
-        },
+        } => count_one(processor, *vertex, *value),
         Change::Sink {
             p: _,
             vertex,
@@ -179,7 +192,7 @@ pub(crate) fn processor_of<A: Allocator + Copy>(
 }
 
 // Makes a change in one of the processors. If something stands already it takes no memory.
-fn make<A: Allocator + Copy>(
+pub(crate) fn make<A: Allocator + Copy>(
     processors: &mut Vec<Processor<A>, A>,
     change: &Change,
 ) -> Result<(), AllocError>
@@ -193,7 +206,7 @@ fn make<A: Allocator + Copy>(
 }
 
 // Undoes a change in one of the processors: makes its inverse. If something stands it takes no memory.
-fn undo<A: Allocator + Copy>(
+pub(crate) fn undo<A: Allocator + Copy>(
     processors: &mut Vec<Processor<A>, A>,
     change: &Change,
 ) -> Result<(), AllocError>
@@ -204,49 +217,4 @@ fn undo<A: Allocator + Copy>(
     ensures absent { OnErr result (standing (only processors.old.items) (place_of (inverse change.now)) ≡ pos 0) }
 {
     make(processors, &change.inverse())
-}
-
-// Makes changes, one after the other. What a refused growth interrupts is taken back by removals.
-pub(crate) fn make_all<A: Allocator + Copy>(
-    processors: &mut Vec<Processor<A>, A>,
-    changes: &[Change],
-) -> Result<(), AllocError>
-    requires runs { IsRunnable (only processors.old.items) changes.now }
-    requires limits { Limits (only processors.old.items) }
-    ensures ok { OnOk result (only processors.new.items ≡ applied (only processors.old.items) changes.now) }
-    ensures err { OnErr result (processors.new.items ≡ processors.old.items) }
-{
-    for i in 0..changes.len() {
-        let Ok(()) = make(processors, &changes[i]) else {
-            for j in (0..i).rev() {
-                let Ok(()) = undo(processors, &changes[j]) else {
-                    return Err(AllocError);
-                };
-            }
-            return Err(AllocError);
-        };
-    }
-    Ok(())
-}
-
-// Undoes changes, from the last to the first. What a refused growth interrupts is made again.
-pub(crate) fn undo_all<A: Allocator + Copy>(
-    processors: &mut Vec<Processor<A>, A>,
-    changes: &[Change],
-) -> Result<(), AllocError>
-    requires { HasRun (only processors.old.items) changes.now }
-    ensures ok { OnOk result ((s : ClusterState) → Runs s (only processors.old.items) changes.now → only processors.new.items ≡ s) }
-    ensures err { OnErr result (processors.new.items ≡ processors.old.items) }
-{
-    for i in (0..changes.len()).rev() {
-        let Ok(()) = undo(processors, &changes[i]) else {
-            for j in i + 1..changes.len() {
-                let Ok(()) = make(processors, &changes[j]) else {
-                    return Err(AllocError);
-                };
-            }
-            return Err(AllocError);
-        };
-    }
-    Ok(())
 }

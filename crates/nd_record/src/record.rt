@@ -8,7 +8,7 @@ ghost use Rattle.nd_record.specs.Records.{named, AreEqual, Makes};
 
 use crate::Change;
 use crate::exchange::{make_received, make_sent, undo_received, undo_sent};
-use crate::making::{make_all, undo_all};
+use crate::run::{make_all, undo_all};
 use nd_delta::Delta;
 use nd_mesh::Mesh;
 use nd_paths::Paths;
