@@ -220,8 +220,8 @@ module _ {A : Type 0} (s : ClusterState) (es : List Edit) (d : Draft A) (adds : 
 
   pub joined_some : Each (λ c. gain_of c ≢ pos 0) (joined d)
   joined_some = each_joined (λ c. gain_of c ≢ pos 0) (λ c h. h.some)
-      (all_found record_at_cmp record_at_total (λ k v. v ≢ pos 0) d.sums.records adds.kept.records.listed (λ k v e. is_some _ v e (adds.kept.records.sums k)))
-      (all_found point_cmp point_total (λ k v. v ≢ pos 0) d.sums.unsent adds.kept.unsent.listed (λ k v e. is_some _ v e (adds.kept.unsent.sums k)))
+      (all_found record_at_cmp record_at_total (λ k v. v ≢ pos 0) d.sums.records adds.kept.records.listed (λ k v e. is_some _ v e (adds.kept.records.numbers k)))
+      (all_found point_cmp point_total (λ k v. v ≢ pos 0) d.sums.unsent adds.kept.unsent.listed (λ k v e. is_some _ v e (adds.kept.unsent.numbers k)))
 
   pub joined_old : Each (FindsOld s) (joined d)
   joined_old = each_joined (FindsOld s) (λ c h. h.old) (λ i e lt. tt) (λ i e lt. tt)
@@ -235,5 +235,5 @@ module _ {A : Type 0} (s : ClusterState) (es : List Edit) (d : Draft A) (adds : 
 
   pub joined_small : Each IsSmallGain (joined d)
   joined_small = each_joined IsSmallGain (λ c h. single_small c h.single)
-      (all_found record_at_cmp record_at_total (λ k v. unsigned_abs v ≤ max_count) d.sums.records adds.kept.records.listed (λ k v e. is_within _ v e (adds.kept.records.sums k)))
-      (all_found point_cmp point_total (λ k v. unsigned_abs v ≤ max_count) d.sums.unsent adds.kept.unsent.listed (λ k v e. is_within _ v e (adds.kept.unsent.sums k)))
+      (all_found record_at_cmp record_at_total (λ k v. unsigned_abs v ≤ max_count) d.sums.records adds.kept.records.listed (λ k v e. is_within _ v e (adds.kept.records.numbers k)))
+      (all_found point_cmp point_total (λ k v. unsigned_abs v ≤ max_count) d.sums.unsent adds.kept.unsent.listed (λ k v e. is_within _ v e (adds.kept.unsent.numbers k)))

@@ -1,39 +1,21 @@
 -- Edits of the entries of a map of sums, and what they make of the sum at each place.
-use Rattle.std.proofs.Common.{◌≡◌, ◌≤◌, ◌^◌, ℤ, pos, ◌+ℤ◌, unsigned_abs, Bool, true, false, cond, List, Option, Some, None, IfSome, w64, to_z, of_z, FitsSigned, refl, sym, ap, subst, ◌∙◌, arith, Ordering}
+use Rattle.std.proofs.Common.{◌≡◌, ◌≤◌, ◌^◌, ℤ, pos, ◌+ℤ◌, unsigned_abs, Bool, true, false, cond, List, w64, to_z, of_z, FitsSigned, refl, sym, ap, ◌∙◌, arith, Ordering}
 use Rattle.std.proofs.lemmas.Int.{ints, to_z-of_z, fits_signed_from_abs}
 use Rattle.std.specs.Ordering.{eq_by_cmp}
 use Rattle.std.specs.Cmp.{IsTotalOrder}
-use Rattle.std.specs.FinMap.{IsAntisymmetric, find, put}
-use Rattle.std.specs.FinMap.Entries.{find-put}
+use Rattle.std.specs.FinMap.{IsAntisymmetric, put}
 use Rattle.std.proofs.lemmas.Map.Views.{tells_apart}
 use Rattle.nd_time.specs.Limits.{max_count}
-use Rattle.nd_map.specs.Counts.{or_else, or_else-cond}
+use Rattle.nd_map.specs.Kept.{found-put, found-without}
 use Rattle.nd_map.specs.Listed.{without}
-use Rattle.nd_map.specs.Maps.{find-without, listed-put, listed-without}
-use Rattle.nd_work.specs.Sums.{IsSum, AreSums, IsAdded, found}
-
-one_of : (b : Bool) (w x : Option ℤ) → IfSome w IsSum → IfSome x IsSum → IfSome (cond b w x) IsSum
-one_of true w x g h = g
-one_of false w x g h = h
+use Rattle.nd_work.specs.Sums.{IsAdded, found}
 
 module _ {K : Type 0} (R : K → K → Ordering) (o : IsTotalOrder R) (es : List (K × ℤ)) (k : K) where
-  pub sums_put : (v : ℤ) → IsSum v → AreSums R es → AreSums R (put R k v es)
-  sums_put v sum sums = record {
-    listed = listed-put R o k v es sums.listed;
-    sums = λ q. subst (λ x. IfSome x IsSum) (sym (find-put R o q k v es)) (one_of (eq_by_cmp R q k) (Some v) (find R q es) sum (sums.sums q));
-  }
-
-  pub sums_without : AreSums R es → AreSums R (without R k es)
-  sums_without sums = record {
-    listed = listed-without R k es sums.listed;
-    sums = λ q. subst (λ x. IfSome x IsSum) (sym (find-without R o q k es)) (one_of (eq_by_cmp R q k) None (find R q es) tt (sums.sums q));
-  }
-
   pub added_put : (n v : ℤ) → v ≡ found R es k +ℤ n → IsAdded R k n es (put R k v es)
-  added_put n v is q = ap (or_else (pos 0)) (find-put R o q k v es) ∙ or_else-cond (pos 0) (eq_by_cmp R q k) (Some v) (find R q es) ∙ ap (λ x. cond (eq_by_cmp R q k) x (found R es q)) is
+  added_put n v is q = found-put R o es k (pos 0) v q ∙ ap (λ x. cond (eq_by_cmp R q k) x (found R es q)) is
 
   pub added_without : (n : ℤ) → pos 0 ≡ found R es k +ℤ n → IsAdded R k n es (without R k es)
-  added_without n is q = ap (or_else (pos 0)) (find-without R o q k es) ∙ or_else-cond (pos 0) (eq_by_cmp R q k) None (find R q es) ∙ ap (λ x. cond (eq_by_cmp R q k) x (found R es q)) is
+  added_without n is q = found-without R o es k (pos 0) q ∙ ap (λ x. cond (eq_by_cmp R q k) x (found R es q)) is
 
 -- an integer as the code keeps it
 whole : (x : ℤ) → unsigned_abs x ≤ 2 ^ 42 → to_z w64 (of_z w64 x) ≡ x

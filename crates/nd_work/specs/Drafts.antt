@@ -16,7 +16,7 @@ use Rattle.nd_protocol.specs.declared.step.Next.{Next as Afterwards}
 use Rattle.nd_record.specs.Places.{Place, place_at, unsent_at}
 use Rattle.nd_record.specs.Changes.{gain_of, FindsOld, NamesNumbers}
 use Rattle.nd_record.specs.Edits.{Edit, total_at, edits_of}
-use Rattle.nd_work.specs.Edits.{edits}
+use Rattle.nd_work.specs.Edits.{come, edits}
 use Rattle.nd_record.specs.Plans.{Once, Each}
 use Rattle.nd_work.specs.Sums.{AreSummed, sum_at}
 use Rattle.nd_record.specs.declared.change.Change.{Change}
@@ -64,6 +64,10 @@ fed_edits s p vertex values next = edits {A = Unit {0}} s (Feed p vertex values 
 
 abbrev pub taken_edits : ClusterState → ℕ → ℕ → Time → ℤ → List Edit
 taken_edits s p edge t value = edits {A = Unit {0}} s (Take p edge t value)
+
+-- the records that come by a take
+abbrev pub taken_come : ClusterState → ℕ → ℕ → Time → ℤ → List (ℕ × ValueAt)
+taken_come s p edge t value = come {A = Unit {0}} s (Take p edge t value)
 
 abbrev pub noticed_edits : ClusterState → ℕ → ℕ → Time → List Edit
 noticed_edits s p vertex t = edits {A = Unit {0}} s (Notice p vertex t)

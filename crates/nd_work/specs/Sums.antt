@@ -1,5 +1,5 @@
 -- By how much a step changes each place, as finite maps of integers in which nothing is 0.
-use Rattle.std.specs.Prelude.{◌≡◌, ◌≢◌, ◌≤◌, ℕ, ℤ, ◌+ℤ◌, pos, cond, unsigned_abs, List, IfSome}
+use Rattle.std.specs.Prelude.{◌≡◌, ◌≢◌, ◌≤◌, ℕ, ℤ, ◌+ℤ◌, pos, cond, unsigned_abs, List}
 use Rattle.std.specs.declared.cmp.Ordering.{Ordering}
 use Rattle.std.specs.Ordering.{nat_cmp, ordering_then, eq_by_cmp}
 use Rattle.std.specs.Cmp.{IsTotalOrder}
@@ -9,7 +9,7 @@ use Rattle.std.proofs.lemmas.Cmp.{nat_cmp_total, on_total, then_total}
 use Rattle.std.proofs.lemmas.Map.Lookups.{exact_pairs, exact_unsigned}
 use Rattle.nd_time.specs.Limits.{max_count}
 use Rattle.nd_map.specs.Counts.{or_else}
-use Rattle.nd_map.specs.Listed.{IsListed}
+use Rattle.nd_map.specs.Kept.{IsKept}
 use Rattle.nd_paths.specs.Point.{point_cmp}
 use Rattle.nd_processor.specs.Keys.{value_at_cmp, value_at_total, value_at_exact}
 use Rattle.nd_processor.specs.declared.key.ValueAt.{ValueAt}
@@ -34,9 +34,8 @@ pub record IsSum (z : ℤ) : Type 0 where
   pub within : unsigned_abs z ≤ max_count
 
 -- entries in the order of listing, each a sum
-pub record AreSums {K : Type 0} (R : K → K → Ordering) (es : List (K × ℤ)) : Type 0 where
-  pub listed : IsListed R es
-  pub sums : (q : K) → IfSome (find R q es) IsSum
+abbrev pub AreSums : {K : Type 0} → (K → K → Ordering) → List (K × ℤ) → Type 0
+AreSums R es = IsKept R (λ _. IsSum) es
 
 -- the sum at a key
 abbrev pub found : {K : Type 0} → (K → K → Ordering) → List (K × ℤ) → K → ℤ

@@ -11,6 +11,7 @@ use nd_processor::ValueAt;
 use nd_record::Change;
 use nd_vertex::ItemEdit;
 use std::alloc::{AllocError, Allocator};
+use std::mem;
 
 // Changes that are listed as they are, and sums of those of records and unsent entries.
 pub(crate) struct Draft<A: Allocator> {
@@ -144,15 +145,11 @@ impl<A: Allocator + Copy> Draft<A> {
         Ok(())
     }
 
-    // All changes in one list.
-    pub(crate) fn join(self) -> Result<Vec<Change, A>, AllocError>
-        ensures { IfOk result (λ v. v.items ≡ joined self) }
+    // All changes in one list: the sums after those that are listed as they are.
+    pub(crate) fn join(&mut self, alloc: A) -> Result<Vec<Change, A>, AllocError>
+        ensures { IfOk result (λ v. v.items ≡ joined self.old) }
     {
-        let Draft {
-            singles: mut changes,
-            sums,
-        } = self;
-        sums.list(&mut changes)?;
-        Ok(changes)
+        self.sums.list(&mut self.singles)?;
+        Ok(mem::replace(&mut self.singles, Vec::new(alloc)))
     }
 }

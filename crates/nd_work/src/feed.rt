@@ -116,5 +116,6 @@ pub fn feed_changes<A: Allocator + Copy, B: Allocator>(
     requires goes { next ≡ token.Next → epoch < max_counter }
     ensures { IfOk result (λ v. (s : ClusterState) → Has graph.now n s → fin.get (processor s p).tokens vertex ≡ Some epoch → IsState s → IsFreeBelow {A = A} s (Feeding p vertex values.now next) 13 → Reaches s (stepped {A = A} s (Feeding p vertex values.now next)) v.items) }
 {
-    feed_draft(alloc, graph, n, p, vertex, epoch, values, next)?.join()
+    let mut draft = feed_draft(alloc, graph, n, p, vertex, epoch, values, next)?;
+    draft.join(alloc)
 }

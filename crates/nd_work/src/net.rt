@@ -126,10 +126,12 @@ impl<A: Allocator + Copy> Sums<A> {
     pub(crate) fn list(&self, to: &mut Vec<Change, A>) -> Result<(), AllocError>
         ensures { OnOk result (to.new.items ≡ (to.old.items ++ map change_of_records self.now.records) ++ map (change_of_unsent self.now.p) self.now.unsent) }
     {
-        let count = self.records.len().saturating_add(self.unsent.len());
+        let Some(count) = self.records.len().checked_add(self.unsent.len()) else {
+            return Err(AllocError);
+        };
         to.reserve_exact(count)?;
-        self.records.list(self.p, to)?;
-        self.unsent.list(self.p, to)?;
+        self.records.list(self.p, to);
+        self.unsent.list(self.p, to);
         Ok(())
     }
 }

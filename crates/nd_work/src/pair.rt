@@ -1,66 +1,86 @@
 //! At most two sums, held without memory of their own.
-ghost use Rattle.std.specs.Prelude.{◌≡◌, ◌∷◌, [], IfOk, IsTrue, false, length};
+ghost use Rattle.std.specs.Prelude.{◌≡◌, [], IfOk, IsTrue, false, length};
 ghost use Rattle.std.specs.FinMap.{find, put};
 ghost use Rattle.nd_map.specs.Listed.{IsListed, without};
-ghost use Rattle.nd_work.specs.Pairs.{entries_of};
+ghost use Rattle.nd_work.specs.Pairs.{entries_of, entry_in, turn_to, with_sum};
 
 use nd_map::{Key, SortedMap};
 use std::alloc::{AllocError, Allocator};
 use std::cmp::Ordering;
-use std::mem;
 
-// None, one, or two in the order of their keys.
+// None, one, or two in the order of their keys. A sum that goes leaves its place free.
 #[derive(Drop)]
-pub(crate) enum Pair<K: Key> {
-    Nothing,
-    One((K, i64)),
-    Two((K, i64), (K, i64)),
+pub(crate) struct Pair<K: Key> {
+    pub(crate) first: Option<(K, i64)>,
+    pub(crate) second: Option<(K, i64)>,
 }
 
-// The sum of an entry, if it is at this key.
-fn sum_if<K: Key>(entry: &(K, i64), key: &K) -> Option<i64>
-    ensures { result ≡ find K.cmp key.now (entry.now ∷ []) }
+// How a key compares with the one of an entry, if it is there.
+fn turn<K: Key>(entry: &Option<(K, i64)>, key: &K) -> Option<Ordering>
+    ensures { result ≡ turn_to K.cmp key.now entry.now }
 {
-    match key.cmp(&entry.0) {
-        Ordering::Equal => Some(entry.1),
-        Ordering::Less | Ordering::Greater => None,
+    match entry {
+        Some(entry) => Some(key.cmp(&entry.0)),
+        None => None,
     }
 }
 
-// An entry, and a sum at a key: at another one beside it.
-fn beside<K: Key>(entry: (K, i64), key: &K, sum: i64) -> Pair<K>
-    ensures { entries_of result ≡ put K.cmp key.now sum (entry ∷ []) }
+// The sum of an entry, if it is at this key.
+fn sum_if<K: Key>(entry: &Option<(K, i64)>, key: &K) -> Option<i64>
+    ensures { result ≡ find K.cmp key.now (entry_in entry.now) }
 {
-    match key.cmp(&entry.0) {
-        Ordering::Less => Pair::Two((key.duplicate(), sum), entry),
-        Ordering::Equal => Pair::One((entry.0, sum)),
-        Ordering::Greater => Pair::Two(entry, (key.duplicate(), sum)),
+    match entry {
+        Some(entry) => match key.cmp(&entry.0) {
+            Ordering::Equal => Some(entry.1),
+            Ordering::Less | Ordering::Greater => None,
+        },
+        None => None,
+    }
+}
+
+// Another sum at the key of an entry, if it is there.
+fn change_sum<K: Key>(entry: &mut Option<(K, i64)>, sum: i64)
+    ensures { entry.new ≡ with_sum sum entry.old }
+{
+    if let Some(entry) = entry {
+        entry.1 = sum;
+    }
+}
+
+// No entry, if it is at this key.
+fn clear<K: Key>(entry: &mut Option<(K, i64)>, key: &K)
+    ensures { entry_in entry.new ≡ without K.cmp key.now (entry_in entry.old) }
+{
+    if let Some(Ordering::Equal) = turn(entry, key) {
+        *entry = None;
     }
 }
 
 impl<K: Key> Pair<K> {
+    // No sum yet.
+    pub(crate) fn new() -> Pair<K>
+        ensures { entries_of result ≡ [] }
+    {
+        Pair {
+            first: None,
+            second: None,
+        }
+    }
+
     // The number of sums.
     pub(crate) fn len(&self) -> usize
         ensures { result ≡ length (entries_of self.now) }
     {
-        match self {
-            Pair::Nothing => 0,
-            Pair::One(_) => 1,
-            Pair::Two(_, _) => 2,
-        }
+        usize::from(self.first.is_some()) + usize::from(self.second.is_some())
     }
 
     // The sum at a key.
     pub(crate) fn get(&self, key: &K) -> Option<i64>
         ensures value { result ≡ find K.cmp key.now (entries_of self.now) }
     {
-        match self {
-            Pair::Nothing => None,
-            Pair::One(entry) => sum_if(entry, key),
-            Pair::Two(first, second) => match sum_if(first, key) {
-                Some(sum) => Some(sum),
-                None => sum_if(second, key),
-            },
+        match sum_if(&self.first, key) {
+            Some(sum) => Some(sum),
+            None => sum_if(&self.second, key),
         }
     }
 
@@ -69,52 +89,36 @@ impl<K: Key> Pair<K> {
         ensures put { IsTrue result → entries_of self.new ≡ put K.cmp key.now sum (entries_of self.old) }
         ensures full { result ≡ false → self.new ≡ self.old }
     {
-        match mem::replace(self, Pair::Nothing) {
-            Pair::Nothing => {
-                *self = Pair::One((key.duplicate(), sum));
-                true
+        match (turn(&self.first, key), turn(&self.second, key)) {
+            (None, None | Some(Ordering::Less)) => {
+                self.first = Some((key.duplicate(), sum));
             }
-            Pair::One(entry) => {
-                *self = beside(entry, key, sum);
-                true
+            (Some(Ordering::Greater), None) => {
+                self.second = Some((key.duplicate(), sum));
             }
-            Pair::Two(first, second) => {
-                let (turn, other) = (key.cmp(&first.0), key.cmp(&second.0));
-                match (turn, other) {
-                    (Ordering::Equal, _) => {
-                        *self = Pair::Two((first.0, sum), second);
-                        true
-                    }
-                    (Ordering::Greater, Ordering::Equal) => {
-                        *self = Pair::Two(first, (second.0, sum));
-                        true
-                    }
-                    _ => {
-                        *self = Pair::Two(first, second);
-                        false
-                    }
-                }
+            (Some(Ordering::Less), None) => {
+                self.second = self.first.take();
+                self.first = Some((key.duplicate(), sum));
             }
+            (None, Some(Ordering::Greater)) => {
+                self.first = self.second.take();
+                self.second = Some((key.duplicate(), sum));
+            }
+            (Some(Ordering::Equal), _) => change_sum(&mut self.first, sum),
+            (None | Some(Ordering::Greater), Some(Ordering::Equal)) => {
+                change_sum(&mut self.second, sum);
+            }
+            _ => return false,
         }
+        true
     }
 
     // Takes a key and its sum out, if it is there.
     pub(crate) fn remove(&mut self, key: &K)
         ensures value { entries_of self.new ≡ without K.cmp key.now (entries_of self.old) }
     {
-        *self = match mem::replace(self, Pair::Nothing) {
-            Pair::Nothing => Pair::Nothing,
-            Pair::One(entry) => match key.cmp(&entry.0) {
-                Ordering::Equal => Pair::Nothing,
-                Ordering::Less | Ordering::Greater => Pair::One(entry),
-            },
-            Pair::Two(first, second) => match (key.cmp(&first.0), key.cmp(&second.0)) {
-                (Ordering::Equal, Ordering::Equal) => Pair::Nothing,
-                (Ordering::Equal, _) => Pair::One(second),
-                (_, Ordering::Equal) => Pair::One(first),
-                _ => Pair::Two(first, second),
-            },
-        };
+        clear(&mut self.first, key);
+        clear(&mut self.second, key);
     }
 
     // The same sums in a map.
@@ -123,13 +127,11 @@ impl<K: Key> Pair<K> {
         ensures { IfOk result (λ m. m ≡ entries_of self.now) }
     {
         let mut sums = SortedMap::new(alloc);
-        match self {
-            Pair::Nothing => {}
-            Pair::One(entry) => sums.put(&entry.0, entry.1)?,
-            Pair::Two(first, second) => {
-                sums.put(&first.0, first.1)?;
-                sums.put(&second.0, second.1)?;
-            }
+        if let Some(entry) = &self.first {
+            sums.put(&entry.0, entry.1)?;
+        }
+        if let Some(entry) = &self.second {
+            sums.put(&entry.0, entry.1)?;
         }
         Ok(sums)
     }

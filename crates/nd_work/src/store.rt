@@ -1,8 +1,8 @@
 //! Sums at the keys of a step: at most two as they are, in a sorted list if they are few, in a tree if they may be many.
-ghost use Rattle.std.specs.Prelude.{◌≡◌, ◌++◌, ◌∷◌, [], map, length, IfOk, OnErr, OnOk};
+ghost use Rattle.std.specs.Prelude.{◌≡◌, ◌≤◌, ◌+◌, ◌++◌, [], map, length, IfOk, OnErr, OnOk, vec_len, vec_capacity};
 ghost use Rattle.std.specs.FinMap.{find, put};
 ghost use Rattle.nd_map.specs.Listed.{IsListed, without};
-ghost use Rattle.nd_work.specs.Pairs.{entries_of};
+ghost use Rattle.nd_work.specs.Pairs.{entries_of, entry_in};
 
 use crate::key::Summed;
 use crate::pair::Pair;
@@ -59,7 +59,7 @@ impl<K: Key, A: Allocator + Copy> Store<K, A> {
         ensures { result ≡ [] }
     {
         let held = if count <= 1 {
-            Held::Least(Pair::Nothing)
+            Held::Least(Pair::new())
         } else if count <= FEW {
             Held::Few(SortedMap::new(alloc))
         } else {
@@ -122,68 +122,60 @@ impl<K: Key, A: Allocator + Copy> Store<K, A> {
     }
 }
 
-// The change of a sum, after those that are there.
-fn list_one<K: Summed, A: Allocator>(
-    sum: &(K, i64),
-    p: u32,
-    to: &mut Vec<Change, A>,
-) -> Result<(), AllocError>
-    ensures { OnOk result (to.new.items ≡ to.old.items ++ K.change_of p sum.now ∷ []) }
+// The change of a sum, if it is there, after those that are there.
+fn list_one<K: Summed, A: Allocator>(sum: &Option<(K, i64)>, p: u32, to: &mut Vec<Change, A>)
+    requires { vec_len to.old + length (entry_in sum.now) ≤ vec_capacity to.old }
+    ensures items { to.new.items ≡ to.old.items ++ map (K.change_of p) (entry_in sum.now) }
+    ensures len { vec_len to.new ≡ vec_len to.old + length (entry_in sum.now) }
+    ensures capacity { vec_capacity to.new ≡ vec_capacity to.old }
 {
-    to.push(sum.0.change(p, &sum.1))?;
-    Ok(())
+    if let Some(sum) = sum {
+        to.push_reserved(sum.0.change(p, &sum.1));
+    }
 }
 
 // The changes of at most two sums.
-fn list_least<K: Summed, A: Allocator>(
-    sums: &Pair<K>,
-    p: u32,
-    to: &mut Vec<Change, A>,
-) -> Result<(), AllocError>
-    ensures { OnOk result (to.new.items ≡ to.old.items ++ map (K.change_of p) (entries_of sums.now)) }
+fn list_least<K: Summed, A: Allocator>(sums: &Pair<K>, p: u32, to: &mut Vec<Change, A>)
+    requires { vec_len to.old + length (entries_of sums.now) ≤ vec_capacity to.old }
+    ensures items { to.new.items ≡ to.old.items ++ map (K.change_of p) (entries_of sums.now) }
+    ensures len { vec_len to.new ≡ vec_len to.old + length (entries_of sums.now) }
+    ensures capacity { vec_capacity to.new ≡ vec_capacity to.old }
 {
-    match sums {
-        Pair::Nothing => Ok(()),
-        Pair::One(sum) => list_one(sum, p, to),
-        Pair::Two(first, second) => {
-            list_one(first, p, to)?;
-            list_one(second, p, to)
-        }
-    }
+    list_one(&sums.first, p, to);
+    list_one(&sums.second, p, to);
 }
 
 // The changes of sums in a list, after those that are there.
-fn list_few<K: Summed, A: Allocator>(
-    sums: &[(K, i64)],
-    p: u32,
-    to: &mut Vec<Change, A>,
-) -> Result<(), AllocError>
-    ensures { OnOk result (to.new.items ≡ to.old.items ++ map (K.change_of p) sums.now) }
+fn list_few<K: Summed, A: Allocator>(sums: &[(K, i64)], p: u32, to: &mut Vec<Change, A>)
+    requires { vec_len to.old + length sums.now ≤ vec_capacity to.old }
+    ensures items { to.new.items ≡ to.old.items ++ map (K.change_of p) sums.now }
+    ensures len { vec_len to.new ≡ vec_len to.old + length sums.now }
+    ensures capacity { vec_capacity to.new ≡ vec_capacity to.old }
 {
     for sum in sums {
-        to.push(sum.0.change(p, &sum.1))?;
+        to.push_reserved(sum.0.change(p, &sum.1));
     }
-    Ok(())
 }
 
 // The same in a tree.
-fn list_many<K: Summed, A: Allocator>(
-    sums: &TreeMap<K, i64, A>,
-    p: u32,
-    to: &mut Vec<Change, A>,
-) -> Result<(), AllocError>
-    ensures { OnOk result (to.new.items ≡ to.old.items ++ map (K.change_of p) sums.now) }
+fn list_many<K: Summed, A: Allocator>(sums: &TreeMap<K, i64, A>, p: u32, to: &mut Vec<Change, A>)
+    requires { vec_len to.old + length sums.now ≤ vec_capacity to.old }
+    ensures items { to.new.items ≡ to.old.items ++ map (K.change_of p) sums.now }
+    ensures len { vec_len to.new ≡ vec_len to.old + length sums.now }
+    ensures capacity { vec_capacity to.new ≡ vec_capacity to.old }
 {
     for (key, n) in sums.iter() {
-        to.push(key.change(p, n))?;
+        to.push_reserved(key.change(p, n));
     }
-    Ok(())
 }
 
 impl<K: Summed, A: Allocator + Copy> Store<K, A> {
-    // The changes of the sums of processor p's step, after those that are there.
-    pub(crate) fn list(&self, p: u32, to: &mut Vec<Change, A>) -> Result<(), AllocError>
-        ensures { OnOk result (to.new.items ≡ to.old.items ++ map (K.change_of p) self.now) }
+    // The changes of the sums of processor p's step, after those that are there. There is room for them.
+    pub(crate) fn list(&self, p: u32, to: &mut Vec<Change, A>)
+        requires { vec_len to.old + length self.now ≤ vec_capacity to.old }
+        ensures items { to.new.items ≡ to.old.items ++ map (K.change_of p) self.now }
+        ensures len { vec_len to.new ≡ vec_len to.old + length self.now }
+        ensures capacity { vec_capacity to.new ≡ vec_capacity to.old }
     {
         match &self.held {
             Held::Least(sums) => list_least(sums, p, to),

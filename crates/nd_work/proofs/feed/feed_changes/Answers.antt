@@ -11,4 +11,4 @@ use Rattle.nd_work.proofs.feed.feed_changes.Goals as goal
 pub returns : goal.returns
 returns g c = IfOk-weaker c.join.result _ _ (λ _ is s has held state free.
     let x : Step _ = Feed c.args.p c.args.vertex c.args.values.now c.args.next in
-    subst (λ (cs : List Change). Reaches s (stepped s x) cs) (sym is) (reaches s x tt state free _ (c.in_ok-feed_draft.ensures s has held))) c.join.ensures
+    subst (λ (cs : List Change). Reaches s (stepped s x) cs) (sym is) (reaches s x tt state free _ (c.in_ok-draft.ensures s has held))) c.join.ensures

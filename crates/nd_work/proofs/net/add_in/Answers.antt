@@ -1,7 +1,8 @@
 use Rattle.std.proofs.Common.{◌≡◌, ◌≤◌, ◌+ℤ◌, pos, w64, to_z, of_z, unsigned_abs, ap, sym, subst, ◌∙◌}
 use Rattle.nd_time.specs.Limits.{max_count}
+use Rattle.nd_map.specs.Kept.{kept_put, kept_without}
 use Rattle.nd_work.specs.Sums.{IsSum, found}
-use Rattle.nd_work.proofs.SumsLemmas.{added_put, added_without, sums_put, sums_without, parts, summed}
+use Rattle.nd_work.proofs.SumsLemmas.{added_put, added_without, parts, summed}
 use Rattle.nd_work.proofs.net.add_in.Goals as goal
 
 pub returns-then-sum-eq0-clause-ok : goal.returns-then-sum-eq0-clause-ok
@@ -12,7 +13,7 @@ returns-then-sum-eq0-clause-ok g c =
     rw c.remove.ensures.value (added_without g.K.Ord.cmp g.met.K.Ord.total c.args.sums.now c.args.key.now c.args.n is)
 
 pub returns-then-sum-eq0-clause-kept : goal.returns-then-sum-eq0-clause-kept
-returns-then-sum-eq0-clause-kept g c = rw c.remove.ensures.value (sums_without g.K.Ord.cmp g.met.K.Ord.total c.args.sums.now c.args.key.now c.requires.kept)
+returns-then-sum-eq0-clause-kept g c = rw c.remove.ensures.value (kept_without g.K.Ord.cmp g.met.K.Ord.total c.args.sums.now c.args.key.now (λ _. IsSum) c.requires.kept)
 
 pub returns-clause-ok : goal.returns-clause-ok
 returns-clause-ok g c =
@@ -29,4 +30,4 @@ returns-clause-kept g c =
       some = λ z. c.if-sum-eq0.false (ap (of_z w64) (parts c.find_in.result c.args.n c.find_in.ensures.within c.ranges.n ∙ z));
       within = fits;
     } in
-    rw e (sums_put g.K.Ord.cmp g.met.K.Ord.total c.args.sums.now c.args.key.now _ (subst IsSum (sym sum) is_sum) c.requires.kept)
+    rw e (kept_put g.K.Ord.cmp g.met.K.Ord.total c.args.sums.now c.args.key.now (λ _. IsSum) _ (λ _ _. subst IsSum (sym sum) is_sum) c.requires.kept)

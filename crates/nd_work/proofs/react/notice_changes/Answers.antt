@@ -11,4 +11,4 @@ use Rattle.nd_work.proofs.react.notice_changes.Goals as goal
 pub returns : goal.returns
 returns g c = IfOk-weaker c.join.result _ _ (λ _ is s has so state free.
     let x : Step _ = Notice c.args.p c.args.point.now.location c.args.point.now.time in
-    subst (λ (cs : List Change). Reaches s (stepped s x) cs) (sym is) (reaches s x tt state free _ (c.in_ok-notice_draft.ensures s has so))) c.join.ensures
+    subst (λ (cs : List Change). Reaches s (stepped s x) cs) (sym is) (reaches s x tt state free _ (c.in_ok-draft.ensures s has so))) c.join.ensures
