@@ -1,3 +1,3 @@
+mod Front
 mod InOrder
 mod NoFloat
-mod Plain

@@ -1,5 +1,5 @@
 -- The members that the fields of an object are.
-use Rattle.std.specs.Prelude.{◌≡◌, ℕ, Bool, List, [], ◌∷◌, fold}
+use Rattle.std.specs.Prelude.{◌≡◌, ℕ, Bool, List, [], ◌∷◌, ◌-◌, true, fold, get_or, length, take}
 use Rattle.std.specs.List.{list_all}
 use Rattle.std.specs.Ordering.{nat_cmp, is_gt}
 use Rattle.std.specs.Cmp.Lexicographic.{slice_cmp}
@@ -27,3 +27,7 @@ AreInOrder fs = all_put fs ≡ members_of fs
 -- the key stands behind each of theirs
 abbrev pub is_behind : List ℕ → List Field → Bool
 is_behind key fs = list_all (λ f. is_gt (slice_cmp nat_cmp key f.key.now)) fs
+
+-- the key of the last stands behind those of the others
+abbrev pub IsLastBehind : List Field → Type 0
+IsLastBehind fs = (d : Field) → is_behind (get_or fs (length fs - 1) d).key.now (take (length fs - 1) fs) ≡ true

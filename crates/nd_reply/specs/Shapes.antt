@@ -2,7 +2,7 @@
 use Rattle.std.specs.Prelude.{⊤}
 use Rattle.serde_json.specs.Data.{Data, Members, object}
 use Rattle.serde_json.specs.View.{view, members_view}
-use Rattle.nd_reply.specs.Fields.{members_of, AreInOrder}
+use Rattle.nd_reply.specs.Fields.{members_of, AreInOrder, IsLastBehind}
 use Rattle.nd_reply.specs.declared.shape.Shape.{Shape}
 use Rattle.nd_reply.specs.declared.shape.Shape.TheVariants.{Tree, Object}
 use Rattle.nd_reply.specs.declared.shape.Parts.{Parts}
@@ -23,5 +23,5 @@ members_in (InOrder fields) = members_of fields.items
 members_in (Any members) = members_view members.entries
 
 abbrev pub ArePart : Parts → Type 0
-ArePart (InOrder fields) = AreInOrder fields.items
+ArePart (InOrder fields) = AreInOrder fields.items × IsLastBehind fields.items
 ArePart (Any members) = ⊤

@@ -1,7 +1,7 @@
 //! The members of an object that is put together, kept as they were given.
 ghost use Rattle.std.specs.Prelude.{◌≡◌, IfOk};
 ghost use Rattle.serde_json.specs.View.{members_view};
-ghost use Rattle.nd_reply.specs.Fields.{all_put, is_behind as behind};
+ghost use Rattle.nd_reply.specs.Fields.{all_put, is_behind as behind, IsLastBehind};
 
 use serde_json::{Map, Value};
 use std::alloc::{AllocError, Global};
@@ -13,11 +13,15 @@ pub(crate) struct Field {
     pub(crate) value: Value,
 }
 
-/// Whether the key stands behind all that the fields have.
+/// Whether the key stands behind all that the fields have. It is enough to look at the last one's.
 pub(crate) fn is_behind(key: &str, fields: &[Field]) -> bool
+    requires { IsLastBehind fields.now }
     ensures { result ≡ behind key.now fields.now }
 {
-    fields.iter().all(|field| key.cmp(field.key).is_gt())
+    match fields.last() {
+        Some(last) => key.cmp(last.key).is_gt(),
+        None => true,
+    }
 }
 
 /// The map of the fields.

@@ -1,13 +1,13 @@
 //! An object that is put together, member by member.
 ghost use Rattle.std.specs.Prelude.{◌≡◌, IfOk};
 ghost use Rattle.serde_json.specs.Data.{object, no_members, put};
-ghost use Rattle.serde_json.specs.View.{view};
+ghost use Rattle.serde_json.specs.View.{view, members_view};
 ghost use Rattle.nd_reply.specs.Shapes.{members_in, ArePart};
 
 use crate::Json;
 use crate::fields::{Field, is_behind, map_of};
 use crate::shape::Parts;
-use serde_json::Value;
+use serde_json::{Map, Value};
 use std::alloc::{AllocError, Global};
 use std::marker::Model;
 
@@ -90,13 +90,26 @@ fn with_member(
                 fields.push(Field { key, value })?;
                 return Ok(Parts::InOrder(fields));
             }
-            let mut members = map_of(alloc, fields)?;
-            serde_json::put(&mut members, alloc, key, value)?;
-            Ok(Parts::Any(members))
+            let members = map_of(alloc, fields)?;
+            with_any(alloc, members, key, value)
         }
-        Parts::Any(mut members) => {
-            serde_json::put(&mut members, alloc, key, value)?;
-            Ok(Parts::Any(members))
-        }
+        Parts::Any(members) => with_any(alloc, members, key, value),
     }
+}
+
+// The same members with one that stands anywhere. Most objects have no such, so it stands apart.
+#[cold]
+#[inline(never)]
+fn with_any(
+    alloc: Global,
+    mut members: Map<String, Value>,
+    key: &'static str,
+    value: Value,
+) -> Result<Parts, AllocError>
+    ensures members { IfOk result (λ p. members_in p
+        ≡ put key.now (view value) (members_view members.entries)) }
+    ensures order { IfOk result ArePart }
+{
+    serde_json::put(&mut members, alloc, key, value)?;
+    Ok(Parts::Any(members))
 }

@@ -1,5 +1,5 @@
 //! A JSON value that can be replied.
-ghost use Rattle.std.specs.Prelude.{◌≡◌, ◌++◌, false, IfOk, OnOk};
+ghost use Rattle.std.specs.Prelude.{◌≡◌, ◌++◌, false, length, take, IfOk, OnOk, OnErr};
 ghost use Rattle.serde_json.specs.Data.{null, boolean, number, object, string, unsigned};
 ghost use Rattle.serde_json.specs.Find.{of_integer};
 ghost use Rattle.serde_json.specs.View.{view as data_of};
@@ -122,7 +122,10 @@ impl Json {
 
     /// Puts its compact JSON text behind what stands there.
     pub fn write_to(&self, alloc: Global, out: &mut Vec<u8>) -> Result<(), AllocError>
-        ensures { OnOk result (out.new.items ≡ out.old.items ++ compact_text self.now) }
+        ensures text { OnOk result (out.new.items ≡ out.old.items ++ compact_text self.now) }
+
+        // Where memory runs out, what stood there still stands in front.
+        ensures front { OnErr result (take (length out.old.items) out.new.items ≡ out.old.items) }
     {
         match &self.shape {
             Shape::Tree(value) => put_any(alloc, out, value),

@@ -11,12 +11,11 @@ use std::marker::Model;
 /// So many bytes of replies do not wait for more.
 const WAITING: usize = 65_536;
 
-/// The text of the replies that wait to be written, and the room that each one's text is made in.
+/// The text of the replies that wait to be written.
 #[derive(Drop)]
 pub struct Outbox {
     alloc: Global,
     waiting: Vec<u8>,
-    text: Vec<u8>,
 }
 
 impl Model for Outbox {
@@ -35,21 +34,20 @@ impl Outbox {
         Outbox {
             alloc,
             waiting: Vec::new(alloc),
-            text: Vec::new(alloc),
         }
     }
 
     /// Puts a reply's line behind those that wait: its compact JSON text and a newline.
-    #[tactic(auto, unfolding(crate::specs::Texts::reply_text))]
     pub fn add(&mut self, reply: &Json) -> Result<(), AllocError>
         ensures ok { OnOk result (self.new ≡ self.old ++ reply_text reply.now) }
         ensures err { OnErr result (self.new ≡ self.old) }
     {
-        self.text.clear();
-        reply.write_to(self.alloc, &mut self.text)?;
-        self.text.push(b'\n')?;
-        self.waiting.extend_from_slice(self.text.as_slice())?;
-        Ok(())
+        let len = self.waiting.len();
+        let done = put_line(self.alloc, &mut self.waiting, reply);
+        if done.is_err() {
+            self.waiting.truncate(len);
+        }
+        done
     }
 
     /// Whether so much waits that it is to be written.
@@ -72,4 +70,15 @@ impl Outbox {
         self.waiting.clear();
         Ok(())
     }
+}
+
+// Puts a reply's line behind what stands there, or the front of it where memory runs out.
+#[tactic(auto, unfolding(crate::specs::Texts::reply_text))]
+fn put_line(alloc: Global, out: &mut Vec<u8>, reply: &Json) -> Result<(), AllocError>
+    ensures ok { OnOk result (out.new.items ≡ out.old.items ++ reply_text reply.now) }
+    ensures err { OnErr result (take (length out.old.items) out.new.items ≡ out.old.items) }
+{
+    reply.write_to(alloc, out)?;
+    out.push(b'\n')?;
+    Ok(())
 }
