@@ -41,10 +41,10 @@ returns-clause-done g c = elim c.match-entry-2.branch [
       let same = rw w.in-Vacant.is at c.in-Ok.ensures.same_map in
       let update = rw (w.in-Vacant.is, c.duplicate.ensures) at c.in-Ok.ensures.update in
       rw (w.result-is, w.self-inside-is) (
-        ap (λ m. m.entries) (w.self-in-Vacant-2-1.given.1 (sym same)) ∙ update.1 w.insert.result.now
-        ∙ put_is g.K.Ord.cmp c.args.key.now w.insert.result.now c.self.inside.tree.entries
-        ∙ ap (λ v. put g.K.Ord.cmp c.args.key.now v c.self.inside.tree.entries) w.insert.ensures.value
-        ∙ ap (put g.K.Ord.cmp c.args.key.now c.args.value) c.self.view_is
+      ap (λ m. m.entries) (w.self-in-Vacant-2-1.given.1 (sym same)) ∙ update.1 w.insert.result.now
+      ∙ put_is g.K.Ord.cmp c.args.key.now w.insert.result.now c.self.inside.tree.entries
+      ∙ ap (λ v. put g.K.Ord.cmp c.args.key.now v c.self.inside.tree.entries) w.insert.ensures.value
+      ∙ ap (put g.K.Ord.cmp c.args.key.now c.args.value) c.self.view_is
       )
   | in-Occupied+in-Keep w ↦
       let same = rw w.in-Occupied.is at c.in-Ok.ensures.same_map in
@@ -54,17 +54,17 @@ returns-clause-done g c = elim c.match-entry-2.branch [
       let same = rw w.in-Occupied.is at c.in-Ok.ensures.same_map in
       let update = rw (w.in-Occupied.is, c.duplicate.ensures) at c.in-Ok.ensures.update in
       rw (w.result-is, w.self-inside-is) (
-        ap (λ m. m.entries) (w.self-in-Put-1.given.1 (sym (w.insert-in-Put.ensures.written.0 ∙ same)) ∙ w.insert-in-Put.ensures.written.1) ∙ update.1 w.in-Put.other
-        ∙ put_is g.K.Ord.cmp c.args.key.now w.in-Put.other c.self.inside.tree.entries
-        ∙ ap (put g.K.Ord.cmp c.args.key.now w.in-Put.other) c.self.view_is
+      ap (λ m. m.entries) (w.self-in-Put-1.given.1 (sym (w.insert-in-Put.ensures.written.0 ∙ same)) ∙ w.insert-in-Put.ensures.written.1) ∙ update.1 w.in-Put.other
+      ∙ put_is g.K.Ord.cmp c.args.key.now w.in-Put.other c.self.inside.tree.entries
+      ∙ ap (put g.K.Ord.cmp c.args.key.now w.in-Put.other) c.self.view_is
       )
   | in-Occupied+in-Remove w ↦
       let same = rw w.in-Occupied.is at c.in-Ok.ensures.same_map in
       let removal = rw (w.in-Occupied.is, c.duplicate.ensures) at c.in-Ok.ensures.removal in
       rw (w.result-is, w.self-inside-is) (
-        ap (λ m. m.entries) (w.self-in-Remove-1.given.1 (sym same)) ∙ w.remove.ensures.removed ∙ removal.1
-        ∙ without_is g.K.Ord.cmp g.met.K.Ord.total c.args.key.now c.self.inside.tree.entries c.self.invariant
-        ∙ ap (without g.K.Ord.cmp c.args.key.now) c.self.view_is
+      ap (λ m. m.entries) (w.self-in-Remove-1.given.1 (sym same)) ∙ w.remove.ensures.removed ∙ removal.1
+      ∙ without_is g.K.Ord.cmp g.met.K.Ord.total c.args.key.now c.self.inside.tree.entries c.self.invariant
+      ∙ ap (without g.K.Ord.cmp c.args.key.now) c.self.view_is
       )
 ]
 
