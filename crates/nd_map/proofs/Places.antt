@@ -10,6 +10,7 @@ use Rattle.std.specs.FinMap.Entries.{below_all, where_key, is_sorted-where_key}
 use Rattle.nd_map.specs.Entries.{below_at, rises}
 use Rattle.nd_map.specs.Counts.{keys_of}
 use Rattle.nd_map.specs.Listed.{IsListed, without}
+use Rattle.nd_map.specs.Maps.{none_below}
 use Rattle.nd_map.specs.Place.{IsAt, IsGap}
 use Rattle.nd_map.specs.Cases.{first, second, less}
 
@@ -68,13 +69,9 @@ module _ {K X : Type 0} (R : K → K → Ordering) (o : IsTotalOrder R) where
   find_at p (e ∷ es) zero d h = ap (λ r. cond (is_eq r) (Some e.1) (find R p es)) h
   find_at p (e ∷ es) (suc i) d h = ap (λ r. cond (is_eq r) (Some e.1) (find R p es)) h.0 ∙ find_at p es i d h.1
 
-  none_below : (p : K) (es : List (K × X)) (x : K) → R p x ≡ Less → T (below_all R x es) → find R p es ≡ None
-  none_below p [] x lt h = refl
-  none_below p (e ∷ es) x lt h = ap (λ r. cond (is_eq r) (Some e.1) (find R p es)) (o.trans p x e.0 lt (less _ (first _ _ h))) ∙ none_below p es x lt (second _ _ h)
-
   pub find_gap : (p : K) (es : List (K × X)) (i : ℕ) → T (is_sorted R es) → IsGap R p es i → find R p es ≡ None
   find_gap p [] i s h = refl
-  find_gap p (e ∷ es) zero s h = ap (λ r. cond (is_eq r) (Some e.1) (find R p es)) h ∙ none_below p es e.0 h (first _ _ s)
+  find_gap p (e ∷ es) zero s h = ap (λ r. cond (is_eq r) (Some e.1) (find R p es)) h ∙ none_below R o p es e.0 h (first _ _ s)
   find_gap p (e ∷ es) (suc i) s h = ap (λ r. cond (is_eq r) (Some e.1) (find R p es)) h.0 ∙ find_gap p es i (second _ _ s) h.1
 
   -- a write over the entry's value

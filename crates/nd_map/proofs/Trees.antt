@@ -1,5 +1,5 @@
 -- The words of std's tree are those of lists in the order of their keys.
-use Rattle.std.proofs.Common.{◌≡◌, true, false, cond, not, T, List, [], ◌∷◌, ◌++◌, Some, Ordering, Less, Equal, Greater, refl, sym, ap, ◌∙◌}
+use Rattle.std.proofs.Common.{◌≡◌, true, false, cond, not, T, List, [], ◌∷◌, ◌++◌, Option, Some, None, Result, Ok, IfOk, Ordering, Less, Equal, Greater, refl, sym, ap, subst, ◌∙◌}
 use Rattle.std.specs.Ordering.{eq_by_cmp, is_lt, match_ordering, ordering_reverse}
 use Rattle.std.specs.Cmp.{IsTotalOrder}
 use Rattle.std.specs.Map.{lookup, remove_entry}
@@ -7,6 +7,10 @@ use Rattle.std.specs.BTreeMap.{is_at, insert_entry}
 use Rattle.std.specs.FinMap.{find, put}
 use Rattle.std.specs.FinMap.Entries.{below_all, by_order}
 use Rattle.nd_map.specs.Listed.{IsListed, without}
+use Rattle.nd_map.specs.Edits.{edited}
+use Rattle.nd_map.specs.Maps.{listed-put, listed-without}
+use Rattle.nd_map.specs.declared.tree.Edit.{Edit}
+use Rattle.nd_map.specs.declared.tree.Edit.TheVariants.{Keep, Put, Remove}
 use Rattle.nd_map.proofs.Places.{keeps}
 use Rattle.nd_map.specs.Cases.{first, second, less, equal}
 
@@ -43,3 +47,13 @@ module _ {K X : Type 0} (R : K → K → Ordering) where
     put_last k v (e ∷ es) fs h =
         let past : R k e.0 ≡ Greater = o.antisymm k e.0 ∙ ap ordering_reverse (above e.0 k v es fs (first (below_all R e.0 (es ++ (k, v) ∷ fs)) _ h)) in
         rw past (ap (λ gs. e ∷ gs) (put_last k v es fs (second (below_all R e.0 (es ++ (k, v) ∷ fs)) _ h)))
+
+    listed_edited : (k : K) (v : X) (said : Option (Edit X)) (es : List (K × X)) → IsListed R es → IsListed R (edited R k v said es)
+    listed_edited k v None es h = listed-put R o k v es h
+    listed_edited k v (Some Keep) es h = h
+    listed_edited k v (Some (Put w)) es h = listed-put R o k w es h
+    listed_edited k v (Some Remove) es h = listed-without R k es h
+
+    -- entries are in order after an edit too
+    pub listed_after : {E : Type 0} (r : Result (Option (Edit X)) E) (k : K) (v : X) (es fs : List (K × X)) (said : Option (Edit X)) → r ≡ Ok said → IfOk r (λ e. fs ≡ edited R k v e es) → IsListed R es → IsListed R fs
+    listed_after r k v es fs said is done h = subst (IsListed R) (sym (subst (λ x. IfOk x (λ e. fs ≡ edited R k v e es)) is done)) (listed_edited k v said es h)

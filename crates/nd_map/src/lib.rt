@@ -13,7 +13,7 @@ mod tree;
 use std::alloc::{AllocError, Allocator, Global};
 use std::cmp::Ordering;
 use std::marker::Model;
-pub use tree::TreeMap;
+pub use tree::{Edit, TreeMap};
 
 /// What the keys of a map are: ordered, and copied without memory.
 pub trait Key: Ord + Drop {

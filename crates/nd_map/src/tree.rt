@@ -1,17 +1,30 @@
 //! Finite maps stored in a tree, the storage of the maps above that may grow large.
 ghost use Rattle.std.specs.Prelude.{◌≡◌, ◌↔◌, ◌<◌, ◌^◌, [], OnOk, OnErr, IfOk, IsTrue, None, length, slice_get};
+ghost use Rattle.std.specs.Option.{ForSome};
 ghost use Rattle.std.specs.Option.{option_map};
 ghost use Rattle.std.specs.FinMap.{find, put};
 ghost use Rattle.std.specs.Map.Iter.{ShowsInOrder, deref_pair};
 ghost use Rattle.std.specs.BTreeMap.Range.{IsLeBy, entries_between};
 ghost use Rattle.std.specs.declared.ops.Bound.TheVariants.{Included};
 ghost use Rattle.nd_map.specs.Listed.{IsListed, without};
+ghost use Rattle.nd_map.specs.Edits.{IsSaid, edited};
 
 use crate::Key;
 use std::alloc::{AllocError, Allocator, Global};
 use std::collections::BTreeMap;
-use std::collections::btree_map::{Iter, Range};
+use std::collections::btree_map::{Entry, Iter, Range};
 use std::marker::Model;
+
+/// What is done to the value of a key.
+#[derive(Clone, Copy)]
+pub enum Edit<V: Copy> {
+    /// It stays.
+    Keep,
+    /// It becomes this one.
+    Put(V),
+    /// The key goes, with its value.
+    Remove,
+}
 
 /// A finite map, seen as the list of its entries in the order of their keys.
 ///
@@ -121,6 +134,44 @@ impl<K: Key, V: Copy, A: Allocator + Clone> TreeMap<K, V, A> {
             return Err(AllocError);
         };
         Ok(())
+    }
+
+    /// Gives a key that has no value this one, and does to the value of another key what `edit` says: one search for both.
+    /// It returns what was said. A key that has a value takes no memory.
+    pub fn put_or_edit<F: FnOnce(V) -> Edit<V>>(
+        &mut self,
+        key: &K,
+        value: V,
+        edit: F,
+    ) -> Result<Option<Edit<V>>, AllocError>
+        requires { ForSome (find K.cmp key.now self.old) (F.pre edit) }
+        ensures said { IfOk result (IsSaid (F.post edit) (find K.cmp key.now self.old)) }
+        ensures done { IfOk result (λ said. self.new ≡ edited K.cmp key.now value said self.old) }
+        ensures err { OnErr result (self.new ≡ self.old) }
+        ensures absent { OnErr result (find K.cmp key.now self.old ≡ None) }
+        ensures listed { IsListed K.cmp self.new }
+        ensures was_listed { IsListed K.cmp self.old }
+    {
+        let Ok(entry) = self.tree.entry(key.duplicate()) else {
+            return Err(AllocError);
+        };
+        match entry {
+            Entry::Vacant(place) => {
+                place.insert(value);
+                Ok(None)
+            }
+            Entry::Occupied(mut held) => match edit(*held.get()) {
+                Edit::Keep => Ok(Some(Edit::Keep)),
+                Edit::Put(other) => {
+                    held.insert(other);
+                    Ok(Some(Edit::Put(other)))
+                }
+                Edit::Remove => {
+                    held.remove();
+                    Ok(Some(Edit::Remove))
+                }
+            },
+        }
     }
 
     /// An equal map.

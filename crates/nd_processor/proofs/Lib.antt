@@ -1,3 +1,4 @@
+mod Edited
 mod KeptLemmas
 mod Recorded
 mod Seen

@@ -6,9 +6,10 @@ ghost use Rattle.std.specs.Map.Iter.{ShowsInOrder, deref_pair};
 ghost use Rattle.std.specs.BTreeMap.Range.{IsLeBy, entries_between};
 ghost use Rattle.std.specs.declared.ops.Bound.TheVariants.{Included};
 ghost use Rattle.nd_time.specs.Limits.{max_count};
+ghost use Rattle.nd_map.specs.declared.tree.Edit.TheVariants.{Keep, Put, Remove};
 ghost use Rattle.nd_processor.specs.Kept.{IsKept, number, put_count};
 
-use nd_map::{Key, TreeMap};
+use nd_map::{Edit, Key, TreeMap};
 use std::alloc::{AllocError, Allocator, Global};
 use std::collections::btree_map::{Iter, Range};
 use std::marker::Model;
@@ -48,6 +49,29 @@ impl<K: Key, A: Allocator> Model for Tally<K, A> {
     ghost view = { λ a. a.map };
 
     ghost invariant = { λ a. IsKept K.cmp a.map };
+}
+
+// So many more than this count, if that is within the limit.
+fn raised(count: u64, n: u64) -> Edit<u64>
+    requires { count ≤ max_count }
+    ensures more { count + n ≤ max_count → result ≡ Put (count + n) }
+    ensures full { max_count < count + n → result ≡ Keep }
+{
+    if n > COUNT_LIMIT - count {
+        return Edit::Keep;
+    }
+    Edit::Put(count + n)
+}
+
+// So many less than this count, if something is left.
+fn lowered(count: u64, n: u64) -> Edit<u64>
+    ensures some { n < count → result ≡ Put (count - n) }
+    ensures all { count ≤ n → result ≡ Remove }
+{
+    if n >= count {
+        return Edit::Remove;
+    }
+    Edit::Put(count - n)
 }
 
 impl<K: Key, A: Allocator> Tally<K, A> {
@@ -102,24 +126,6 @@ impl<K: Key, A: Allocator> Tally<K, A> {
 }
 
 impl<K: Key, A: Allocator + Copy> Tally<K, A> {
-    // Gives a key this count.
-    fn put(&mut self, key: &K, count: u64) -> Result<(), AllocError>
-        requires { count ≤ max_count }
-        ensures ok { OnOk result (self.new ≡ put_count K.cmp key.now count self.old) }
-        ensures err { OnErr result (self.new ≡ self.old) }
-        ensures absent { OnErr result (find K.cmp key.now self.old ≡ None) }
-        ensures some { OnErr result (count ≢ 0) }
-    {
-        if count == 0 {
-            self.map.remove(key);
-            return Ok(());
-        }
-        let Ok(()) = self.map.put(key, count) else {
-            return Err(AllocError);
-        };
-        Ok(())
-    }
-
     // So many more of a key. A key that is there takes no memory.
     pub(crate) fn add(&mut self, key: &K, n: u64) -> Result<(), CountFault>
         ensures ok { OnOk result (self.new ≡ put_count K.cmp key.now (number K.cmp self.old key.now + n) self.old) }
@@ -127,14 +133,18 @@ impl<K: Key, A: Allocator + Copy> Tally<K, A> {
         ensures full { (result ≡ Err (CountFault.CountFull)) ↔ (max_count < number K.cmp self.old key.now + n) }
         ensures memory { result ≡ Err (CountFault.Memory) → find K.cmp key.now self.old ≡ None }
     {
-        let count = self.count_of(key);
-        if n > COUNT_LIMIT - count {
+        let _ = &self.map;
+        if n == 0 {
+            return Ok(());
+        }
+        if n > COUNT_LIMIT {
             return Err(CountFault::CountFull);
         }
-        let Ok(()) = self.put(key, count + n) else {
-            return Err(CountFault::Memory);
-        };
-        Ok(())
+        match self.map.put_or_edit(key, n, |count| raised(count, n)) {
+            Ok(Some(Edit::Keep)) => Err(CountFault::CountFull),
+            Ok(_) => Ok(()),
+            Err(_) => Err(CountFault::Memory),
+        }
     }
 
     // So many less of a key. It takes no memory.
@@ -142,8 +152,12 @@ impl<K: Key, A: Allocator + Copy> Tally<K, A> {
         requires { n ≤ number K.cmp self.old key.now }
         ensures { self.new ≡ put_count K.cmp key.now (number K.cmp self.old key.now - n) self.old }
     {
-        let count = self.count_of(key);
-        let Ok(()) = self.put(key, count - n) else {
+        let _ = &self.map;
+        if n == 0 {
+            return;
+        }
+        // the key is there
+        let Ok(_) = self.map.put_or_edit(key, n, |count| lowered(count, n)) else {
             return;
         };
     }
