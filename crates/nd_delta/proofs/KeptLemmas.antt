@@ -12,7 +12,7 @@ use Rattle.nd_delta.specs.Change.{Change, at, set, or_zero, of_entries, entries,
 use Rattle.nd_delta.specs.Kept.{IsCount, IsKept}
 
 -- an integer as the code keeps it
-whole : (n : ℤ) → unsigned_abs n ≤ max_count → to_z w64 (of_z w64 n) ≡ n
+pub whole : (n : ℤ) → unsigned_abs n ≤ max_count → to_z w64 (of_z w64 n) ≡ n
 whole n within = to_z-of_z w64 n (fits_signed_from_abs w64 n (omega (arith, within)))
 
 module _ (es : List (Pointstamp × ℤ)) (kept : IsKept es) (m : Change) (view : of_entries es ≡ m) where
@@ -26,7 +26,7 @@ module _ (es : List (Pointstamp × ℤ)) (kept : IsKept es) (m : Change) (view :
   all_within q = stored.at_is integers point_total point_exact es m view (λ _. IsCount) kept (λ z. unsigned_abs z ≤ max_count) q (λ _ count. count.within) (omega arith)
 
   module _ (p : Pointstamp) where
-    at_found : or_zero (find point_cmp p es) ≡ at m p
+    pub at_found : or_zero (find point_cmp p es) ≡ at m p
     unfolding of_entries at
     at_found = stored.at_found integers point_total point_exact es m view p
 

@@ -1,12 +1,13 @@
 //! Changes stored in trees.
-ghost use Rattle.std.specs.Prelude.{◌≡◌, ◌≢◌, [], ◌↔◌, ◌<◌, ◌≤◌, ◌^◌, ◌+ℤ◌, ℤ, pos, unsigned_abs, cond, length, OnOk, OnErr, IfOk, Err};
+ghost use Rattle.std.specs.Prelude.{◌≡◌, ◌≢◌, [], ◌↔◌, ◌<◌, ◌≤◌, ◌^◌, ◌+ℤ◌, ℤ, pos, unsigned_abs, cond, length, OnOk, OnErr, IfOk, Ok, Err, Some, IsTrue, false};
 ghost use Rattle.std.specs.Map.Iter.{ShowsInOrder, deref_pair};
 ghost use Rattle.nd_time.specs.Limits.{max_count};
+ghost use Rattle.nd_map.specs.declared.tree.Edit.TheVariants.{Keep, Put, Remove};
 ghost use Rattle.nd_paths.specs.declared.point.Pointstamp.{Pointstamp as Point};
 ghost use Rattle.nd_delta.specs.Change.{none, at, set, size, plus, minus, part, has_point, points_of, IsWithin, IsPartOf, IsApart, entries as listed};
 
 use crate::{Delta, DeltaFault, passes_limit};
-use nd_map::TreeMap;
+use nd_map::{Edit, TreeMap};
 use nd_paths::Pointstamp;
 use std::alloc::{AllocError, Allocator, Global};
 use std::collections::btree_map::Iter;
@@ -39,6 +40,35 @@ impl<A: Allocator> Model for LargeDelta<A> {
     ghost invariant = { λ a. IsKept a.map };
 }
 
+// An integer and what is added to it, if that is within the limit; of 0 there is no entry.
+fn summed(held: i64, n: i64) -> Edit<i64>
+    ensures full { max_count < unsigned_abs (held +ℤ n) → result ≡ Keep }
+    ensures none { held +ℤ n ≡ pos 0 → result ≡ Remove }
+    ensures some { unsigned_abs (held +ℤ n) ≤ max_count → held +ℤ n ≢ pos 0 → result ≡ Put (held +ℤ n) }
+{
+    let Some(sum) = held.checked_add(n) else {
+        return Edit::Keep;
+    };
+    if passes_limit(sum) {
+        return Edit::Keep;
+    }
+    if sum == 0 {
+        return Edit::Remove;
+    }
+    Edit::Put(sum)
+}
+
+// What came of an addition, by what was said of the integer that stood there.
+fn outcome_of(said: Option<Edit<i64>>) -> Result<(), DeltaFault>
+    ensures full { said ≡ Some Keep → result ≡ Err (DeltaFault.DeltaFull) }
+    ensures ok { said ≢ Some Keep → result ≡ Ok tt }
+{
+    match said {
+        Some(Edit::Keep) => Err(DeltaFault::DeltaFull),
+        _ => Ok(()),
+    }
+}
+
 impl<A: Allocator> LargeDelta<A> {
     /// The change with no entry. It takes no memory.
     pub fn new(alloc: A) -> LargeDelta<A>
@@ -68,6 +98,14 @@ impl<A: Allocator> LargeDelta<A> {
         ensures within { IsWithin self.now }
     {
         self.map.iter()
+    }
+
+    // Whether there is nothing to which `n` is added, and it passes the limit alone.
+    fn is_past_limit_alone(&self, point: &Pointstamp, n: i64) -> bool
+        ensures past { IsTrue result → max_count < unsigned_abs (at self.now point.now +ℤ n) }
+        ensures fits { result ≡ false → at self.now point.now ≡ pos 0 → unsigned_abs n ≤ max_count }
+    {
+        passes_limit(n) && self.get(point) == 0
     }
 
     // No integer any longer at a pointstamp.
@@ -172,16 +210,17 @@ impl<A: Allocator + Copy> LargeDelta<A> {
         ensures nothing { n ≡ pos 0 → result ≢ Err (DeltaFault.Memory) }
         ensures within { unsigned_abs (at self.old point.now) ≤ max_count }
     {
-        let Some(sum) = self.get(point).checked_add(n) else {
-            return Err(DeltaFault::DeltaFull);
-        };
-        if passes_limit(sum) {
+        let _ = &self.map;
+        if n == 0 {
+            return Ok(());
+        }
+        if self.is_past_limit_alone(point, n) {
             return Err(DeltaFault::DeltaFull);
         }
-        let Ok(()) = self.put(point, sum) else {
+        let Ok(said) = self.map.put_or_edit(point, n, |held| summed(held, n)) else {
             return Err(DeltaFault::Memory);
         };
-        Ok(())
+        outcome_of(said)
     }
 
     /// The entries of another change come, at whose pointstamps there are none: all of them or, if memory is refused, none.

@@ -1,15 +1,14 @@
 -- The entries of a tally after an edit of a count.
-use Rattle.std.proofs.Common.{◌≡◌, ◌≢◌, ◌≤◌, ◌<◌, ◌+◌, ◌-◌, ℕ, true, false, cond, List, Option, Some, None, Result, Ok, Err, IfOk, IfSome, OnErr, nat_eq, refl, sym, ap, subst, ◌∙◌, arith}
+use Rattle.std.proofs.Common.{◌≡◌, ◌≢◌, ◌≤◌, ◌<◌, ◌+◌, ◌-◌, ℕ, false, List, Option, Some, None, Result, Ok, Err, IfOk, IfSome, OnErr, nat_eq, refl, sym, ap, subst, ◌∙◌, arith}
 use Rattle.std.proofs.Common.{inl, inr}
 use Rattle.std.proofs.lemmas.Bool.{cases_lt}
 use Rattle.std.proofs.lemmas.Bool.Decides.{nat_tests}
 use Rattle.std.specs.declared.cmp.Ordering.{Ordering}
 use Rattle.std.specs.Cmp.{IsTotalOrder}
-use Rattle.std.specs.FinMap.{find, put}
+use Rattle.std.specs.FinMap.{find}
 use Rattle.nd_time.specs.Limits.{max_count}
 use Rattle.nd_map.specs.Counts.{or_else}
 use Rattle.nd_map.specs.Edits.{IsSaid, edited}
-use Rattle.nd_map.specs.Listed.{without}
 use Rattle.nd_map.specs.Maps.{put-same, without-none}
 use Rattle.nd_map.specs.Kept as stored
 use Rattle.nd_map.specs.declared.tree.Edit.{Edit}

@@ -1,5 +1,4 @@
 use Rattle.std.proofs.Common.{◌≡◌, ◌≤◌, ◌-◌, subst, arith, rules}
-use Rattle.nd_time.specs.Limits.{max_count}
 use Rattle.nd_processor.proofs.Edited.{within, stays, lowered, edited_kept}
 use Rattle.nd_processor.specs.Kept.{IsKept, number}
 use Rattle.nd_processor.proofs.tally.Tally.take.Goals as goal
