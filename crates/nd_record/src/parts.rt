@@ -1,5 +1,5 @@
 //! The parts of a take: each made, undone, and found among changes, with no change built.
-ghost use Rattle.std.specs.Prelude.{◌≡◌, pos, length, map, take, true, IfSome, OnOk, OnErr};
+ghost use Rattle.std.specs.Prelude.{◌≡◌, pos, true, IfSome, OnOk, OnErr};
 ghost use Rattle.nd_record.specs.Standing.{standing};
 ghost use Rattle.nd_record.specs.Changes.{place_of, inverse, made, Fits};
 ghost use Rattle.nd_record.specs.Undone.{only};
