@@ -63,19 +63,34 @@ def short(path):
     return name[:1].upper() + name[1:] if names_are_whole else name
 
 
+def parts(text):
+    """What stands between the commas of a list that no bracket encloses, without lifetimes."""
+    found, deep = [""], 0
+    for letter in text:
+        deep += {"<": 1, "(": 1, ">": -1, ")": -1}.get(letter, 0)
+        if letter == "," and not deep:
+            found.append("")
+        else:
+            found[-1] += letter
+    return [it.strip() for it in found if it.strip() and not it.strip().startswith("'")]
+
+
 def given_to(path):
     """What a path's last name is given between < and >, if the prover names it."""
-    if not names_are_whole:
-        return []
     inside = re.match(r"[^<]*<(.*)>\s*$", path)
-    parts, deep = [""], 0
-    for letter in inside[1] if inside else "":
-        deep += {"<": 1, ">": -1}.get(letter, 0)
-        if letter == "," and not deep:
-            parts.append("")
-        else:
-            parts[-1] += letter
-    return [it.strip() for it in parts if it.strip() and not it.strip().startswith("'")]
+    return parts(inside[1]) if inside and names_are_whole else []
+
+
+def named(path, own):
+    """A type or a trait with what it is given, as the prover names it in an impl, without what the impl itself is given."""
+    if path == "()":
+        return "Unit"
+    if path.startswith("&"):
+        return "Ref" + named(path[1:].strip(), own)
+    if path.startswith("("):
+        inside = parts(path[1:-1])
+        return f"Tuple{len(inside)}" + "".join(named(it, own) for it in inside)
+    return short(path) + "".join(named(it, own) for it in given_to(path) if it not in own)
 
 
 def owner(lines, at):
@@ -84,17 +99,17 @@ def owner(lines, at):
     if first is None or lines[first].startswith("}"):
         return None
     head = " ".join(lines[first : at + 1]).partition("{")[0].removeprefix("unsafe ").removeprefix("impl").strip()
+    own = ""
     if head.startswith("<"):
         deep = 0
         for end, letter in enumerate(head):
             deep += {"<": 1, ">": -1 if head[end - 1] != "-" else 0}.get(letter, 0)
             if not deep:
                 break
-        head = head[end + 1 :].strip()
+        own, head = head[: end + 1], head[end + 1 :].strip()
     trait, found, kind = head.partition(" where ")[0].partition(" for ")
-    if not found:
-        return short(trait)
-    return short(kind) + short(trait) + "".join(short(it) for it in given_to(trait))
+    own = {it.partition(":")[0].strip() for it in given_to(own)}
+    return named(kind, own) + named(trait, own) if found else short(trait)
 
 
 def function_at(file, source, at):

@@ -2,8 +2,9 @@
 
 use crate::clusters::limits::{ROWS, closes, number_of};
 use nd_cluster::{Change, Changes, Cluster, Entry, Next, StartFault};
-use nd_drawn::{LINE, LOOP, graph_of, time};
+use nd_drawn::{ADD, LINE, LOOP, SUM, graph_of, time};
 use nd_paths::Pointstamp;
+use nd_record::Kept;
 use nd_told::{Told, reach, start, step_of};
 use refusing::Refusing;
 use std::alloc::Global;
@@ -143,4 +144,25 @@ fn tells_exchange(alloc: Global) -> Option<bool> {
 fn entries_of_records(rt: HostRuntime) {
     assert_eq!(rt; tells_feed(rt.alloc()), Some(true));
     assert_eq!(rt; tells_exchange(rt.alloc()), Some(true));
+}
+
+/// Whether a flow is kept of a step after a feed of 2.
+fn keeps_flow(alloc: Global, text: &str, told: &Told) -> Option<bool> {
+    let fed = Told::Feed(0, "a", &[2], Next::Close);
+    let mut cluster = reach(alloc, alloc, text, 1, &[fed])?;
+    let record = cluster.plan(&step_of(alloc, cluster.graph(), told)?).ok()?;
+    let made = cluster.keep(record).ok()?;
+    Some(matches!(made.kept, Kept::Flowed(_)))
+}
+
+#[test]
+fn flows_are_kept_of_plain_takes(rt: HostRuntime) {
+    let alloc = rt.alloc();
+    let sunk = Told::Take(0, "az", &[0], 2);
+    assert_eq!(rt; keeps_flow(alloc, LINE, &sunk), Some(true));
+    let moved = Told::Take(0, "am", &[0], 2);
+    assert_eq!(rt; keeps_flow(alloc, ADD, &moved), Some(true));
+    let summed = Told::Take(0, "as", &[0], 2);
+    assert_eq!(rt; keeps_flow(alloc, SUM, &summed), Some(false));
+    assert_eq!(rt; keeps_flow(alloc, LINE, &Told::All(0)), Some(false));
 }
