@@ -8,4 +8,5 @@ mod Moves
 mod Parts
 mod Plans
 mod Points
+mod Runs
 mod Shifts

@@ -60,6 +60,12 @@ many_keys es ks keys = sym (length-map es (λ e. e.0)) ∙ ap length keys
 key_at : (es : List (Pointstamp × ℕ)) (ks : List Pointstamp) (i : ℕ) (d : Pointstamp × ℕ) (q : Pointstamp) → keys_of es ≡ ks → i < length es → get_or ks i q ≡ (get_or es i d).0
 key_at es ks i d q keys lt = ap (λ l. get_or l i q) (sym keys) ∙ get_or-map (λ e. e.0) es i d q lt
 
+-- entries of which only the values have moved
+pub same_key : (es fs : List (Pointstamp × ℕ)) (i : ℕ) (d : Pointstamp × ℕ) → keys_of fs ≡ keys_of es → i < length es → (get_or fs i d).0 ≡ (get_or es i d).0
+same_key es fs i d keys lt =
+    let many = many_keys fs (keys_of es) keys ∙ sym (many_keys es (keys_of es) refl) in
+    sym (key_at fs (keys_of es) i d d.0 keys (omega (arith, lt, many))) ∙ key_at es (keys_of es) i d d.0 refl lt
+
 module _ (g : Dataflow) (m : Change) (x : Pointstamp) (up : Bool) where
   -- the first keys have their counts, the others theirs but for one if they come after x
   pub record IsShifted (ks : List Pointstamp) (i : ℕ) (es : List (Pointstamp × ℕ)) : Type 0 where

@@ -8,7 +8,7 @@ ghost use Rattle.nd_paths.specs.Point.{point_cmp};
 ghost use Rattle.nd_view.specs.View.{IsPrecursor, IsCount};
 ghost use Rattle.nd_view.specs.Kept.{IsKeptAt, IsKeyed, IsReady, IsFrontierList, moved};
 
-use crate::links::{is_precursor, is_strictly_before, link_of};
+use crate::links::{is_epochal, is_strictly_before, leads, run_end};
 use nd_delta::Delta;
 use nd_map::SortedMap;
 use nd_paths::{Paths, Pointstamp};
@@ -22,12 +22,25 @@ pub fn count_before<A: Allocator, B: Allocator>(
 ) -> u64
     ensures { IsCount (IsPrecursor paths.now counts.now point.now) counts.now result }
 {
+    let entries = counts.entries();
     let mut count = 0;
-    let mut link = link_of(paths, point.location, point.location);
-    for entry in counts.entries() {
-        if is_precursor(&mut link, paths, entry, point) {
-            count += 1;
+    let mut i = 0;
+    while i < entries.len() {
+        let end = run_end(entries, i);
+        let first = &entries[i].0;
+        if leads(paths, first, point) {
+            let is_epochal = is_epochal(paths, first, point);
+            for k in i..end {
+                let entry = &entries[k];
+                if point.time.epoch() < entry.0.time.epoch() {
+                    break;
+                }
+                if entry.1 > 0 && is_strictly_before(paths, is_epochal, &entry.0, point) {
+                    count += 1;
+                }
+            }
         }
+        i = end;
     }
     count
 }
@@ -57,13 +70,22 @@ pub fn shift<A: Allocator, B: Allocator>(
 {
     // No count is greater than the number of entries, which is a `usize`.
     let _ = counts.len();
-    let mut link = link_of(paths, point.location, point.location);
-    for i in 0..precursor_counts.len() {
-        let entry = &precursor_counts.entries()[i];
-        if is_strictly_before(&mut link, paths, point, &entry.0) {
-            let n = moved_by_one(entry.1, up);
-            precursor_counts.put_at(i, n);
+    let mut i = 0;
+    while i < precursor_counts.len() {
+        let entries = precursor_counts.entries();
+        let end = run_end(entries, i);
+        let last = &entries[end - 1].0;
+        if leads(paths, point, last) {
+            let is_epochal = is_epochal(paths, point, last);
+            for k in i..end {
+                let entry = &precursor_counts.entries()[k];
+                if is_strictly_before(paths, is_epochal, point, &entry.0) {
+                    let n = moved_by_one(entry.1, up);
+                    precursor_counts.put_at(k, n);
+                }
+            }
         }
+        i = end;
     }
 }
 

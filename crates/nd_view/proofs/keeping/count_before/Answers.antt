@@ -1,42 +1,106 @@
-use Rattle.std.proofs.Common.{◌≡◌, ◌<◌, ◌+◌, length, get_or, pos, refl, sym, subst, arith, true≢false}
+use Rattle.std.proofs.Common.{◌≡◌, ◌<◌, ◌≤◌, ◌+◌, length, get_or, pos, refl, ap, sym, subst, ◌∙◌, arith, true≢false}
 use Rattle.std.specs.Prelude.{◌<ℤ◌}
-use Rattle.nd_delta.specs.Change.{entries}
+use Rattle.std.proofs.lemmas.Int.{ints}
+use Rattle.std.proofs.lemmas.List.{get_or_default}
+use Rattle.nd_map.specs.Cases.{not_zero}
+use Rattle.nd_map.specs.Listed.{IsListed}
+use Rattle.nd_paths.specs.Point.{point_cmp}
+use Rattle.nd_delta.specs.Change.{entries, sorted-entries}
 use Rattle.nd_delta.specs.Least.{at-index}
+use Rattle.nd_view.specs.Links.{IsRun}
 use Rattle.nd_view.specs.View.{IsPrecursor}
 use Rattle.nd_view.proofs.Parts.{IsCountUpTo, count_none, count_skip, count_take, count_done}
+use Rattle.nd_view.proofs.Runs.{onward, in_run}
 use Rattle.nd_view.proofs.keeping.count_before.Goals as goal
-use Rattle.nd_view.proofs.keeping.count_before.Goals.{then-is_precursor, else-is_precursor}
-use Rattle.nd_map.specs.Cases.{not_zero}
+use Rattle.nd_view.proofs.keeping.count_before.Goals.{then-entry-gt0+then-is_strictly_before, else-entry-gt0, else-entry-gt0-via-then-entry-gt0+else-is_strictly_before, else-entry-gt0-via-else-entry-gt0}
 
-pub loop-entry-init : goal.loop-entry-init
-loop-entry-init g c = record { items = c.entries-entry-items.ensures.listed; known = c.link_of-link.ensures.known; few = omega arith; counted = count_none c.args.counts.now (IsPrecursor c.args.paths.now c.args.counts.now c.args.point.now) }
+pub loop-i-init : goal.loop-i-init
+loop-i-init g c = record { few = omega arith; counted = count_none c.args.counts.now (IsPrecursor c.args.paths.now c.args.counts.now c.args.point.now) }
 
-pub loop-entry-preserved : goal.loop-entry-preserved
-loop-entry-preserved g c =
+pub run_end-end-requires-clause-listed : goal.run_end-end-requires-clause-listed
+run_end-end-requires-clause-listed g c = subst (IsListed point_cmp) (sym c.entries-entries.ensures.listed) (sorted-entries c.args.counts.now)
+
+pub is_strictly_before-requires : goal.is_strictly_before-requires
+is_strictly_before-requires g c = λ yes s t from to.
+    let listed = subst (IsListed point_cmp) (sym c.entries-entries.ensures.listed) (sorted-entries c.args.counts.now) in
+    let both = in_run c.entries-entries.result.now listed c.loop-i.i c.run_end-end.result c.run_end-end.ensures.run c.run_end-end.ensures.within c.loop-i.i c.loop-k.k c.index-entries-i.result c.index-entries-k.result (omega arith) c.loop-k.auto.k c.loop-k-test.true c.index-entries-i.is c.index-entries-k.is in
+    c.is_epochal-is_epochal.ensures yes s t (from ∙ sym both.0 ∙ ap (λ e. e.0.location) c.index-entries-i.is) to
+
+pub loop-k-preserved : goal.loop-k-preserved
+loop-k-preserved g c =
     let m = c.args.counts.now in
-    let x = c.entry-item.result in
-    let i = c.loop-entry.entry-index in
+    let x = c.index-entries-k.result in
+    let k = c.loop-k.k in
     let P = IsPrecursor c.args.paths.now m c.args.point.now in
-    let lt : i < length (entries m) = rw c.loop-entry.invariant.items at c.loop-entry-test.true in
-    let is : x ≡ get_or (entries m) i x = rw c.loop-entry.invariant.items at c.entry-item.is in
-    elim c.if-is_precursor.branch [
-      | then-is_precursor w ↦
-          let both = w.if-is_precursor.ensures.precursor.0 refl in
+    let within : c.run_end-end.result ≤ length (entries m) = rw c.entries-entries.ensures.listed at c.run_end-end.ensures.within in
+    let lt : k < length (entries m) = omega (arith, c.loop-k-test.true, within) in
+    let is : x ≡ get_or (entries m) k x = rw c.entries-entries.ensures.listed at c.index-entries-k.is in
+    elim c.if-entry-gt0.branch [
+      | then-entry-gt0+then-is_strictly_before w ↦
+          let up : pos 0 <ℤ x.1 = omega (arith, ints, w.if-entry-gt0.true) in
           record {
-            items = c.loop-entry.invariant.items;
-            known = w.if-is_precursor.ensures.known;
-            few = omega (arith, w.count-is, c.loop-entry.invariant.few);
-            counted = subst (IsCountUpTo m P (i + 1)) (sym w.count-is) (count_take m P i x lt is c.loop-entry.count (not_zero x.1 both.0) (record { positive = subst (λ z. pos 0 <ℤ z) (at-index m i x lt is) both.0; before = both.1 }) c.loop-entry.invariant.counted);
+            few = omega (arith, w.count-is, c.loop-k.invariant.few);
+            counted = subst (IsCountUpTo m P (k + 1)) (sym w.count-is) (count_take m P k x lt is c.loop-k.count (not_zero x.1 up) (record { positive = subst (λ z. pos 0 <ℤ z) (at-index m k x lt is) up; before = w.if-is_strictly_before.ensures.0 refl }) c.loop-k.invariant.counted);
           }
-      | else-is_precursor w ↦ record {
-        items = c.loop-entry.invariant.items;
-        known = w.if-is_precursor.ensures.known;
-        few = omega (arith, w.count-is, c.loop-entry.invariant.few);
-        counted = subst (IsCountUpTo m P (i + 1)) (sym w.count-is) (count_skip m P i x lt is c.loop-entry.count (λ p. true≢false (sym (w.if-is_precursor.ensures.precursor.1 (subst (λ z. pos 0 <ℤ z) (sym (at-index m i x lt is)) p.positive, p.before)))) c.loop-entry.invariant.counted);
+      | else-entry-gt0 w ↦ record {
+        few = omega (arith, w.count-is, c.loop-k.invariant.few);
+        counted = subst (IsCountUpTo m P (k + 1)) (sym w.count-is) (count_skip m P k x lt is c.loop-k.count (λ p. elim w.else-entry-gt0.branch [
+          | else-entry-gt0-via-then-entry-gt0+else-is_strictly_before v ↦ true≢false (sym (v.if-is_strictly_before.ensures.1 p.before))
+          | else-entry-gt0-via-else-entry-gt0 v ↦ absurd (let up : pos 0 <ℤ x.1 = subst (λ z. pos 0 <ℤ z) (sym (at-index m k x lt is)) p.positive in omega (arith, ints, up, v.if-entry-gt0.false))
+        ]) c.loop-k.invariant.counted);
       }
     ]
+
+pub loop-i-preserved-then-epoch : goal.loop-i-preserved-then-epoch
+loop-i-preserved-then-epoch g c =
+    let m = c.args.counts.now in
+    let k = c.loop-k.k in
+    let end = c.run_end-end.result in
+    let x = c.index-entries-k.result in
+    let P = IsPrecursor c.args.paths.now m c.args.point.now in
+    let within : end ≤ length (entries m) = rw c.entries-entries.ensures.listed at c.run_end-end.ensures.within in
+    let run : IsRun (entries m) c.loop-i.i end = rw c.entries-entries.ensures.listed at c.run_end-end.ensures.run in
+    let at : x ≡ get_or (entries m) k x = rw c.entries-entries.ensures.listed at c.index-entries-k.is in
+    let upto = c.loop-k-test.true in
+    record {
+      few = omega (arith, c.loop-k.invariant.few, upto);
+      counted = onward (λ j. IsCountUpTo m P j c.loop-k.count) k end (omega (arith, upto)) (λ j from before counted.
+          let e = get_or (entries m) j x in
+          let lt : j < length (entries m) = omega (arith, before, within) in
+          let is : e ≡ get_or (entries m) j e = get_or_default (entries m) j x e lt in
+          let both = in_run (entries m) (sorted-entries m) c.loop-i.i end run within k j x e c.loop-k.auto.k from before at is in
+          count_skip m P j e lt is c.loop-k.count (λ p. let rise = p.before.0.before.epoch in omega (arith, rise, both.1, c.if-epoch.true, c.epoch.ensures, c.epoch-in-loop-k.ensures)) counted) c.loop-k.invariant.counted;
+    }
+
+pub loop-i-preserved-after-loop-k : goal.loop-i-preserved-after-loop-k
+loop-i-preserved-after-loop-k g c =
+    let m = c.args.counts.now in
+    let more = c.run_end-end.ensures.more in
+    let at_end : c.loop-k.k ≡ c.run_end-end.result = (let upto = c.loop-k.auto.k-end (omega (arith, more)) in omega (arith, upto, c.loop-k-test.false)) in
+    record { few = omega (arith, at_end, c.loop-k.invariant.few); counted = subst (λ k. IsCountUpTo m (IsPrecursor c.args.paths.now m c.args.point.now) k c.loop-k.count) at_end c.loop-k.invariant.counted }
+
+pub loop-i-preserved : goal.loop-i-preserved
+loop-i-preserved g c =
+    let m = c.args.counts.now in
+    let i = c.loop-i.i in
+    let end = c.run_end-end.result in
+    let first = c.index-entries-i.result in
+    let P = IsPrecursor c.args.paths.now m c.args.point.now in
+    let within : end ≤ length (entries m) = rw c.entries-entries.ensures.listed at c.run_end-end.ensures.within in
+    let run : IsRun (entries m) i end = rw c.entries-entries.ensures.listed at c.run_end-end.ensures.run in
+    let at : first ≡ get_or (entries m) i first = rw c.entries-entries.ensures.listed at c.index-entries-i.is in
+    let more = c.run_end-end.ensures.more in
+    record {
+      few = omega (arith, c.loop-i.invariant.few, more);
+      counted = onward (λ k. IsCountUpTo m P k c.loop-i.count) i end (omega (arith, more)) (λ k from upto counted.
+          let e = get_or (entries m) k first in
+          let lt : k < length (entries m) = omega (arith, upto, within) in
+          let is : e ≡ get_or (entries m) k e = get_or_default (entries m) k first e lt in
+          let both = in_run (entries m) (sorted-entries m) i end run within i k first e (omega arith) from upto at is in
+          count_skip m P k e lt is c.loop-i.count (λ p. c.if-leads.ensures (λ yes. true≢false (sym yes)) e.0 c.args.point.now (sym both.0 ∙ ap (λ e. e.0.location) c.index-entries-i.is) refl (omega (arith, both.1, ap (λ e. e.0.time.epoch) c.index-entries-i.is)) (omega arith) p.before.0) counted) c.loop-i.invariant.counted;
+    }
 
 pub returns : goal.returns
 returns g c =
     let m = c.args.counts.now in
-    count_done m (IsPrecursor c.args.paths.now m c.args.point.now) c.loop-entry.count c.loop-entry.entry-index (rw c.loop-entry.invariant.items at c.loop-entry-test.false) (λ q p. not_zero _ p.positive) c.loop-entry.invariant.counted
+    count_done m (IsPrecursor c.args.paths.now m c.args.point.now) c.loop-i.count c.loop-i.i (rw c.entries-entries.ensures.listed at c.loop-i-test.false) (λ q p. not_zero _ p.positive) c.loop-i.invariant.counted

@@ -1,0 +1,62 @@
+-- Entries side by side at one location: their epochs rise.
+use Rattle.std.proofs.Common.{◌≡◌, ◌<◌, ◌≤◌, ◌+◌, ◌-◌, ◌⊎◌, inl, inr, ℕ, zero, suc, List, length, get_or, refl, sym, ap, subst, ◌∙◌, arith, Ordering, Less, Equal, Greater}
+use Rattle.std.specs.Ordering.{nat_cmp, ordering_then}
+use Rattle.std.proofs.lemmas.Bool.{cases_lt}
+use Rattle.std.proofs.lemmas.Cmp.{ranked}
+use Rattle.std.proofs.lemmas.List.{get_or_default}
+use Rattle.nd_map.specs.Entries.{rises}
+use Rattle.nd_map.specs.Listed.{IsListed}
+use Rattle.nd_paths.specs.Point.{point_cmp, point_total}
+use Rattle.nd_paths.specs.declared.point.Pointstamp.{Pointstamp}
+use Rattle.nd_view.specs.Links.{IsRun}
+
+-- what holds from one number on holds up to another
+pub onward : (Q : ℕ → Type 0) (i j : ℕ) → i ≤ j → ((k : ℕ) → i ≤ k → k < j → Q k → Q (k + 1)) → Q i → Q j
+onward Q i zero le step q = subst Q (omega (arith, le)) q
+onward Q i (suc j) le step q = elim (cases_lt j i) [
+  | inl past ↦ subst Q (omega (arith, le, past)) q
+  | inr at_least ↦ subst Q (omega arith) (step j at_least (omega arith) (onward Q i j at_least (λ k from upto. step k from (omega (arith, upto))) q))
+]
+
+decided : (a b : ℕ) (o : Ordering) → ordering_then (nat_cmp a b) o ≡ Less → (a < b) ⊎ ((a ≡ b) × (o ≡ Less))
+decided a b o h = by (nat_cmp a b) refl
+  where
+    by : (r : Ordering) → nat_cmp a b ≡ r → (a < b) ⊎ ((a ≡ b) × (o ≡ Less))
+    by Less e = inl (ranked a b Less (sym e))
+    by Equal e = inr (ranked a b Equal (sym e), sym (ap (λ r. ordering_then r o) e) ∙ h)
+    by Greater e = absurd (let no : Greater ≡ Less = sym (ap (λ r. ordering_then r o) e) ∙ h in cc)
+
+rising : (p q : Pointstamp) → point_cmp p q ≡ Less → (p.location ≤ q.location) × (p.location ≡ q.location → p.time.epoch ≤ q.time.epoch)
+rising p q h = elim (decided p.location q.location _ h) [
+  | inl lt ↦ (omega (arith, lt), λ same. absurd (omega (arith, lt, same)))
+  | inr both ↦ (omega (arith, both.0), λ _. elim (decided p.time.epoch q.time.epoch _ both.1) [ inl lt ↦ omega (arith, lt) | inr tie ↦ omega (arith, tie.0) ])
+]
+
+module _ {V : Type 0} (es : List (Pointstamp × V)) (listed : IsListed point_cmp es) where
+  pub rising_at : (i j : ℕ) (d : Pointstamp × V) → i ≤ j → j < length es
+      → ((get_or es i d).0.location ≤ (get_or es j d).0.location) × ((get_or es i d).0.location ≡ (get_or es j d).0.location → (get_or es i d).0.time.epoch ≤ (get_or es j d).0.time.epoch)
+  rising_at i j d le lt = elim (cases_lt i j) [
+    | inl before ↦ rising (get_or es i d).0 (get_or es j d).0 (rises point_cmp point_total es listed i j d before lt)
+    | inr at_least ↦
+        let same : i ≡ j = omega (arith, le, at_least) in
+        (omega (arith, ap (λ k. (get_or es k d).0.location) same), λ _. omega (arith, ap (λ k. (get_or es k d).0.time.epoch) same))
+  ]
+
+  -- if the last of some entries stands at the location of the first, so do those between
+  pub one_run : (first end : ℕ) → end ≤ length es → ((k : ℕ) → k + 1 ≡ end → (d : Pointstamp × V) → (get_or es k d).0.location ≡ (get_or es first d).0.location) → IsRun es first end
+  one_run first end within here k d from upto =
+      let last : end - 1 + 1 ≡ end = omega (arith, upto) in
+      let low = (rising_at first k d from (omega (arith, upto, within))).0 in
+      let high = (rising_at k (end - 1) d (omega (arith, upto)) (omega (arith, upto, within))).0 in
+      let at = here (end - 1) last d in
+      omega (arith, low, high, at)
+
+  -- two entries of a run
+  pub in_run : (first end : ℕ) → IsRun es first end → end ≤ length es → (i j : ℕ) (x y : Pointstamp × V) → first ≤ i → i ≤ j → j < end → x ≡ get_or es i x → y ≡ get_or es j y
+      → (x.0.location ≡ y.0.location) × (x.0.time.epoch ≤ y.0.time.epoch)
+  in_run first end run within i j x y from le upto is at =
+      let lt : j < length es = omega (arith, upto, within) in
+      let here : y ≡ get_or es j x = at ∙ get_or_default es j y x lt in
+      let place = run i x from (omega (arith, le, upto)) ∙ sym (run j x (omega (arith, from, le)) upto) in
+      let rise = (rising_at i j x le lt).1 place in
+      (ap (λ e. e.0.location) is ∙ place ∙ sym (ap (λ e. e.0.location) here), omega (arith, ap (λ e. e.0.time.epoch) is, rise, ap (λ e. e.0.time.epoch) here))
