@@ -150,7 +150,10 @@ fn entries_of_records(rt: HostRuntime) {
 fn keeps_flow(alloc: Global, text: &str, told: &Told) -> Option<bool> {
     let fed = Told::Feed(0, "a", &[2], Next::Close);
     let mut cluster = reach(alloc, alloc, text, 1, &[fed])?;
-    let record = cluster.plan(&step_of(alloc, cluster.graph(), told)?).ok()?;
+    let step = step_of(alloc, cluster.graph(), told)?;
+    let Ok(record) = cluster.plan(&step) else {
+        return None;
+    };
     let made = cluster.keep(record).ok()?;
     Some(matches!(made.kept, Kept::Flowed(_)))
 }
