@@ -1,8 +1,8 @@
 """The must-fail edits of a crate, tried together: one check of one copy with all those that change different functions.
 
 A function's proof rests on the contracts of what it calls and on no other body. So of bodies that are turned in different
-functions of one copy each is refused, or not, as it would be alone. An edit counts as refused only if the prover's line of
-each edited function gives a reason of its own, and names a place in that function or in its folder of answers, for its
+functions of one copy each is refused, or not, as it would be alone. An edit counts as refused only if the prover's line of a
+function that it changes gives a reason of its own, and names a place in that function or in its folder of answers, for its
 meaning: not a name that went, and not another function that is not proved. The check is asked for the edited functions alone, so
 that what stands above them is not read; and each other function of the copy has an empty proof and, unless a trait asks for it,
 a body that calls nothing, so that what stands below is not proved once more. What was not refused so is tried again with the
@@ -258,7 +258,8 @@ def refused_together(rt, crate, edits, texts, flags, kept):
     verdicts = dict(it.groups() for it in map(VERDICT.match, lines) if it)
     told = [it for it in whole(lines) if AGAINST.match(it) and not OF_NAMES.match(it)]
     said = {it: [reason(verdicts, told, at) for at in functions] for it, functions in edits.items()}
-    return {it: why[0] for it, why in said.items() if all(why)}, []
+    found = {it: next(filter(None, why), None) for it, why in said.items()}
+    return {it: why for it, why in found.items() if why}, []
 
 
 def must_fail_all(rt, crate, edits, flags, is_settled, refusal):
