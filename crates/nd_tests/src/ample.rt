@@ -3,13 +3,13 @@
 
 ghost use Rattle.nd_view.specs.Kept.{IsFor};
 
+use crate::drawn::{EMPTY, LINE, LONG, LOOP, change, graph_of, paths_of, point, time};
 use crate::holdings::{set, take_all};
 use crate::kinds::{KINDS, Kind};
 use crate::queues::{len, pop, push, unpop};
 use crate::refused::{Heap, many};
 use crate::views::view;
 use nd_delta::Delta;
-use nd_drawn::{EMPTY, LINE, LONG, LOOP, change, graph_of, paths_of, point, time};
 use nd_graph::{Graph, Op};
 use nd_mesh::Mesh;
 use nd_paths::Paths;

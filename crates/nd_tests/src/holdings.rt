@@ -3,8 +3,8 @@
 ghost use Rattle.std.specs.Prelude.{IfSome};
 ghost use Rattle.nd_delta.specs.Change.{IsApart};
 
+use crate::drawn::time;
 use nd_delta::Delta;
-use nd_drawn::time;
 use nd_processor::Processor;
 use nd_time::Timestamp;
 use nd_vertex::VertexState;

@@ -2,8 +2,8 @@
 
 ghost use Rattle.nd_view.specs.Kept.{IsFor};
 
+use crate::drawn::{LOOP, paths_of};
 use nd_delta::Delta;
-use nd_drawn::{LOOP, paths_of};
 use nd_graph::Graph;
 use nd_paths::{Paths, Pointstamp};
 use nd_time::Timestamp;

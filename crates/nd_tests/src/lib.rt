@@ -1,6 +1,7 @@
-//! Tests that cross the crates from timestamps to clusters: worked examples by their names, a view's counts
+//! Tests that cross the crates from timestamps to sessions: worked examples by their names, a view's counts
 //! against counts over all points, each request for memory refused in turn, calls that take none, and calls
-//! with ample memory, on nothing and on hundreds. One crate, since each crate of tests reads all that it stands on.
+//! with ample memory, on nothing and on hundreds; workers and clients in threads. One crate, since each crate of
+//! tests reads all that it stands on.
 #![tactic(auto)]
 
 #[cfg(test)]
@@ -8,15 +9,29 @@ mod ample;
 #[cfg(test)]
 mod clusters;
 #[cfg(test)]
+mod drawn;
+#[cfg(test)]
 mod holdings;
 #[cfg(test)]
 mod kept;
 #[cfg(test)]
 mod kinds;
 #[cfg(test)]
+mod memory;
+#[cfg(test)]
+mod opened;
+#[cfg(test)]
 mod queues;
 #[cfg(test)]
 mod refused;
+#[cfg(test)]
+mod searches;
+#[cfg(test)]
+mod sessions;
+#[cfg(test)]
+mod timelines;
+#[cfg(test)]
+mod told;
 #[cfg(test)]
 mod unasked;
 #[cfg(test)]

@@ -3,11 +3,11 @@
 
 ghost use Rattle.nd_vertex.specs.Edits.{CanEdit};
 
+use crate::drawn::{DISTINCT, LINE, LOOP, change, graph_of, paths_of, point, time};
 use crate::holdings::{move_token, set, set_item, take_all};
 use crate::queues::{len, push, unpop};
 use crate::views::view;
 use nd_delta::{Delta, DeltaFault};
-use nd_drawn::{DISTINCT, LINE, LOOP, change, graph_of, paths_of, point, time};
 use nd_graph::{Graph, GraphDraft, GraphFault, Op};
 use nd_mesh::{Mesh, PushFault};
 use nd_paths::{PathFault, Paths};

@@ -3,13 +3,13 @@
 ghost use Rattle.nd_delta.specs.Change.{IsPartOf};
 ghost use Rattle.nd_view.specs.Kept.{IsFor};
 
+use crate::drawn::{DISTINCT, LINE, change, graph_of, paths_of, point, time};
 use crate::holdings::{item, move_token, set, set_item};
 use crate::kinds::{KINDS, Kind};
 use crate::queues::{len, pop, push, unpush};
 use crate::refused::{Heap, many};
 use crate::views::view;
 use nd_delta::Delta;
-use nd_drawn::{DISTINCT, LINE, change, graph_of, paths_of, point, time};
 use nd_graph::Graph;
 use nd_mesh::Mesh;
 use nd_paths::Paths;

@@ -1,12 +1,12 @@
 //! The worked examples, by their names.
 
-use crate::queues::{len, pop, push, unpop, unpush};
-use crate::views::view;
-use nd_delta::{Delta, DeltaFault};
-use nd_drawn::{
+use crate::drawn::{
     CYCLE, DEEP, LINE, NESTED_LOOP, TWO_WAYS, UNGUARDED_LOOP, are_entries, change, graph_of,
     paths_of, point, time,
 };
+use crate::queues::{len, pop, push, unpop, unpush};
+use crate::views::view;
+use nd_delta::{Delta, DeltaFault};
 use nd_graph::{Action, GraphDraft, GraphFault, Op};
 use nd_mesh::{LIMIT, Mesh, PushFault};
 use nd_paths::{Constants, PathFault, Paths, Summary};

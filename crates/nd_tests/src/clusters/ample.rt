@@ -2,9 +2,9 @@
 //! their far ends, which do not run out of memory if there is enough.
 
 use crate::clusters::memory::Heap;
+use crate::drawn::{EMPTY, LINE, LONG, point};
+use crate::told::{SUM_NOTIFIED, Told, make, reach, start, step_of};
 use nd_cluster::{Cluster, Next, Step, Values};
-use nd_drawn::{EMPTY, LINE, LONG, point};
-use nd_told::{SUM_NOTIFIED, Told, make, reach, start, step_of};
 use refusing::{Refusing, unasked};
 use std::alloc::{Allocator, Global};
 

@@ -3,13 +3,13 @@ ghost use Rattle.std.specs.Prelude.{◌≡◌, All, IfSome};
 ghost use Rattle.nd_view.specs.Kept.{IsFor};
 
 use crate::clusters::memory::Heap;
+use crate::drawn::{LINE, LOOP, graph_of, point};
+use crate::told::{Told, is_state, make, step_of};
 use nd_cluster::{Cluster, Next};
-use nd_drawn::{LINE, LOOP, graph_of, point};
 use nd_graph::Graph;
 use nd_mesh::Mesh;
 use nd_paths::Paths;
 use nd_processor::{Processor, ValueAt};
-use nd_told::{Told, is_state, make, step_of};
 use nd_view::View;
 use refusing::unasked;
 use std::alloc::{Allocator, Global};

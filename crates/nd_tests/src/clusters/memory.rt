@@ -1,8 +1,10 @@
 //! Each request for memory of a call refused in turn.
 
+use crate::drawn::{LINE, LOOP, SUM, point};
+use crate::told::{
+    SUM_NOTIFIED, Script, Told, is_state, make, reach, state_text, step_of, values_of,
+};
 use nd_cluster::{Cluster, Next, NoMemory, Refusal, StartFault, Step};
-use nd_drawn::{LINE, LOOP, SUM, point};
-use nd_told::{SUM_NOTIFIED, Script, Told, is_state, make, reach, state_text, step_of, values_of};
 use refusing::{Refusing, in_turn, met};
 use std::alloc::{AllocError, Allocator, Global};
 

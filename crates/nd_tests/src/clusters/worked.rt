@@ -1,11 +1,11 @@
 //! The worked examples, by their names, and the changes that a record lists.
 
 use crate::clusters::limits::{ROWS, closes, number_of};
+use crate::drawn::{ADD, LINE, LOOP, SUM, graph_of, time};
+use crate::told::{Told, reach, start, step_of};
 use nd_cluster::{Change, Changes, Cluster, Entry, Next, StartFault};
-use nd_drawn::{ADD, LINE, LOOP, SUM, graph_of, time};
 use nd_paths::Pointstamp;
 use nd_record::Kept;
-use nd_told::{Told, reach, start, step_of};
 use refusing::Refusing;
 use std::alloc::Global;
 

@@ -1,11 +1,11 @@
 //! Calls of timelines that take no memory, made while none is given, copies, which grow in memory of their own, and
 //! timelines at their far ends, which do not run out of memory if there is enough.
 
+use crate::drawn::{EMPTY, LINE, point};
 use crate::timelines::memory::{ALL, Heap, ONE, kept};
+use crate::told::{Told, start, step_of};
 use nd_cluster::Next;
-use nd_drawn::{EMPTY, LINE, point};
 use nd_timeline::{Ran, Stop, Timeline};
-use nd_told::{Told, start, step_of};
 use nd_watch::Breaks;
 use refusing::{Refusing, unasked};
 use std::alloc::{Allocator, Global};

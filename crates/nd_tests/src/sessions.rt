@@ -1,18 +1,18 @@
 //! Sessions: clients in threads, strangers, openings, and a search beside a command.
 
-use crate::opened::{NOTHING, command_of, opened, session_of};
-use nd_cluster::Cluster;
-use nd_drawn::{
+use crate::drawn::{
     ADD, DISTINCT, EMPTY, EXCHANGE, FILTER, LINE, LOOP, NESTED_LOOP, SPLIT, SUM, TWO_WAYS,
     graph_of, point, time,
 };
+use crate::opened::{NOTHING, command_of, opened, session_of};
+use crate::told::{start, state_text};
+use nd_cluster::Cluster;
 use nd_mesh::Mesh;
 use nd_processor::Processor;
 use nd_search::{Gate, search};
 use nd_session::{Client, CloseWhy, Log, Receipt, Session, SessionFault};
 use nd_sign::Sign;
 use nd_timeline::{Command, Fault, Reply};
-use nd_told::{start, state_text};
 use nd_vertex::VertexState;
 use nd_view::View;
 use nd_watch::Break;

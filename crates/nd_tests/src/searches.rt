@@ -1,11 +1,11 @@
 //! Searches of timelines and of snapshots: the worked ones, how the pieces are claimed, and each request for memory refused in turn.
 
+use crate::drawn::{LINE, point};
+use crate::told::{Told, start, step_of};
 use nd_cluster::Next;
-use nd_drawn::{LINE, point};
 use nd_search::{Gate, OpenGate, SearchFault, Snapshot, search, search_in};
 use nd_sign::Sign;
 use nd_timeline::Timeline;
-use nd_told::{Told, start, step_of};
 use nd_watch::Break;
 use refusing::{MANY, Refusing, in_turn, met};
 use std::alloc::{AllocError, Allocator, Global};

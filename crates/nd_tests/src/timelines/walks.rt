@@ -1,10 +1,10 @@
 //! Walks over a timeline's kept steps, and what is told of them, each request for memory refused in turn.
 
+use crate::drawn::point;
 use crate::timelines::memory::{ALL, Heap, TEN, is_after, kept};
+use crate::told::{SUM_NOTIFIED, Script};
 use nd_changes::{ChangesFault, changes};
-use nd_drawn::point;
 use nd_timeline::Fault;
-use nd_told::{SUM_NOTIFIED, Script};
 use refusing::{Refusing, in_turn, met};
 use std::alloc::{AllocError, Allocator, Global};
 

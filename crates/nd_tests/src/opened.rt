@@ -1,11 +1,11 @@
 //! Sessions and commands that the tests begin with.
 
+use crate::drawn::graph_of;
+use crate::told::{Told, step_of};
 use nd_cluster::{Cluster, Next};
-use nd_drawn::graph_of;
 use nd_graph::Graph;
 use nd_session::{Session, State};
 use nd_timeline::{Command, Timeline};
-use nd_told::{Told, step_of};
 use nd_watch::Break;
 use std::alloc::{Allocator, Global};
 

@@ -1,8 +1,7 @@
 //! Clusters and steps told by the names of locations, for tests.
-#![tactic(auto)]
 
+use crate::drawn::{SUM, graph_of, point, time};
 use nd_cluster::{Cluster, Next, Part, Points, Step, Values};
-use nd_drawn::{SUM, graph_of, point, time};
 use nd_graph::Graph;
 use std::alloc::{Allocator, Global};
 

@@ -1,5 +1,4 @@
 //! The graphs of the worked examples, and points and changes by the names of their locations, for tests.
-#![tactic(auto)]
 
 use nd_delta::Delta;
 use nd_graph::{Action, Graph, GraphDraft};
@@ -10,7 +9,6 @@ use std::alloc::{Allocator, Global};
 
 /// The JSON text of a graph: its vertices, each with its operator, its depth and its number, and its
 /// edges, each from a port of a vertex to a vertex.
-#[macro_export]
 macro_rules! graph_text {
     (
         $vertex:ident $op:ident $depth:literal $(k $k:literal)?

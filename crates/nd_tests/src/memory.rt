@@ -1,12 +1,12 @@
 //! Each request for memory of a session's calls refused in turn.
 
+use crate::drawn::{LINE, graph_of};
 use crate::opened::{Asked, NOTHING, command_of, opened, session_of};
+use crate::told::{Told, is_state, state_text};
 use nd_cluster::Next;
-use nd_drawn::{LINE, graph_of};
 use nd_search::Snapshot;
 use nd_session::{Client, Receipt, Session, SessionFault, State};
 use nd_timeline::{Fault, Reply, Stop};
-use nd_told::{Told, is_state, state_text};
 use refusing::{MANY, Refusing, in_turn, met};
 use std::alloc::{AllocError, Allocator, Global};
 use std::sync::Wait;

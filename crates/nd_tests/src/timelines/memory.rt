@@ -1,9 +1,9 @@
 //! Each request for memory of a move refused in turn.
 
+use crate::drawn::LINE;
+use crate::told::{SUM_NOTIFIED, Script, Told, is_state, reach, start, state_text, step_of};
 use nd_cluster::{Cluster, Next};
-use nd_drawn::LINE;
 use nd_timeline::{Fault, Timeline};
-use nd_told::{SUM_NOTIFIED, Script, Told, is_state, reach, start, state_text, step_of};
 use nd_watch::Breaks;
 use refusing::{Refusing, in_turn, met};
 use std::alloc::{AllocError, Allocator, Global};
