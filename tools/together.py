@@ -1,12 +1,17 @@
-"""The must-fail edits of a crate, tried together: one check of one copy with all those that change different functions.
+"""The must-fail edits of a crate, tried together: one check of one copy with all of them.
 
 A function's proof rests on the contracts of what it calls and on no other body. So of bodies that are turned in different
 functions of one copy each is refused, or not, as it would be alone. An edit counts as refused only if the prover's line of a
 function that it changes gives a reason of its own, and names a place in that function or in its folder of answers, for its
 meaning: not a name that went, and not another function that is not proved. The check is asked for the edited functions alone, so
 that what stands above them is not read; and each other function of the copy has an empty proof and, unless a trait asks for it,
-a body that calls nothing, so that what stands below is not proved once more. What was not refused so is tried again with the
-rest, and at last alone, by the toolchain's own trial, over what the earlier checks of this run proved and then from nothing."""
+a body that calls nothing, so that what stands below is not proved once more. An edit of a function that another edit changes is
+made in a function of its own: the same once more under another name, with its contract and its answers. What was not refused so
+is tried again with the rest, and at last alone, by the toolchain's own trial, over what the earlier checks of this run proved and
+then from nothing.
+
+In the gate such a check searches half as long for each goal (the prover's --margin), since nearly all of its time goes into
+searches that find nothing; `tools/rt must-fail` searches as long as a proof does."""
 import collections
 import copy
 import glob
@@ -25,6 +30,10 @@ names_are_whole = True
 AGAINST = re.compile(r"(?:\./)?\S+?:\d+:\d+: error|note: (?:\./)?\S+?:\d+:\d+: it is not proved that ")
 PLACE = re.compile(r"(?:note: )?(?:\./)?(\S+?):(\d+):\d+: ")
 VERDICT = re.compile(r"fn (\S+): (.*)")
+# what follows a function's name where it stands once more
+AGAIN = "_again"
+# the prover's word for a search of half the length
+HALF = ["--margin"]
 
 # A function: its file, the last names that the prover has for it, its first line and its last.
 Function = collections.namedtuple("Function", "file names first last")
@@ -144,13 +153,54 @@ def made(edit, folder, texts):
     return found, texts
 
 
+def of_trait(lines, function):
+    """Whether the function is of an impl of a trait."""
+    around = next((it for it in reversed(lines[: function.first]) if it.startswith(("impl", "unsafe impl", "}"))), "")
+    return lines[function.last - 1].startswith(" ") and " for " in around
+
+
+def impl_around(lines, function):
+    """The lines that begin the impl around a function; none if it stands outside of any."""
+    if not lines[function.last - 1].startswith(" "):
+        return []
+    first = next(it for it in range(function.first - 1, -1, -1) if lines[it].startswith("impl"))
+    return lines[first : next(it for it in range(first, function.first) if lines[it].endswith("{")) + 1]
+
+
+def again(edit, folder, texts):
+    """The functions that an edit changes, each once more under another name at the end of its file, and the texts with them; nothing
+    where that cannot be: in an impl of a trait, and where functions call one another."""
+    functions, changed = made(edit, folder, {})
+    names = {it.names.rpartition("::")[2] for it in functions or ()}
+    texts, found = dict(texts), set()
+    for function in functions or ():
+        lines = changed[function.file].split("\n")
+        own = "\n".join(lines[function.first - 1 : function.last])
+        if of_trait(lines, function) or "#[cycle" in own:
+            return None, None
+        # its own name in its head, and those of the others where they are called
+        for name in names:
+            own = re.sub(rf"\bfn {name}\b|(?<![.:\w]){name}(?=\()", rf"\g<0>{AGAIN}", own)
+        around = impl_around(lines, function)
+        if function.file not in texts:
+            with open(f"{folder}/{function.file}", encoding="utf-8") as it:
+                texts[function.file] = it.read()
+        first = texts[function.file].count("\n") + 2 + len(around)
+        texts[function.file] += "\n".join(["", *around, own, *["}"] * bool(around), ""])
+        found.add(Function(function.file, function.names + AGAIN, first, first + function.last - function.first))
+    return found, texts
+
+
 def chosen(folder, left):
-    """Those edits that change different functions, each with its functions, and the texts with all of them."""
+    """Those edits that change different functions, each with its functions, and the texts with all of them. An edit that changes a
+    function which another changes gets a function of its own, with the same contract and the same proof."""
     taken, found, texts = set(), {}, {}
-    for edit in left:
-        functions, more = made(edit, folder, texts)
-        if functions and not functions & taken:
-            taken, texts, found[edit] = taken | functions, more, functions
+    for make in made, again:
+        for edit in left:
+            functions, more = make(edit, folder, texts) if edit not in found else (None, None)
+            names = {(it.file, it.names) for it in functions or ()}
+            if functions and not names & taken:
+                taken, texts, found[edit] = taken | names, more, functions
     return found, texts
 
 
@@ -210,10 +260,19 @@ def without_body(lines, function):
     return [*lines[:first], indent + "    unreachable!()", *[""] * (last - first - 1), *lines[last:]]
 
 
-def of_trait(lines, function):
-    """Whether the function is of an impl of a trait."""
-    around = next((it for it in reversed(lines[: function.first]) if it.startswith(("impl", "unsafe impl", "}"))), "")
-    return lines[function.last - 1].startswith(" ") and " for " in around
+def give_proofs_again(crate, edited, room):
+    """Gives each function that stands once more in the copy the proof of the one that it is made of."""
+    proofs = {(at.file, at.names): proof for at, proof in functions_of(crate.folder)}
+    for function in edited:
+        proof = proofs.get((function.file, function.names.removesuffix(AGAIN)), "")
+        if function.names.endswith(AGAIN) and os.path.isdir(f"{room}/{proof}"):
+            shutil.copytree(f"{room}/{proof}", f"{room}/{proof}{AGAIN}")
+            path = proof.replace("/", ".")
+            for file in glob.glob(f"{glob.escape(f'{room}/{proof}{AGAIN}')}/*.antt"):
+                with open(file, encoding="utf-8") as it:
+                    text = it.read()
+                with open(file, "w", encoding="utf-8") as it:
+                    it.write(text.replace(f"{path}.", f"{path}{AGAIN}."))
 
 
 def alone(crate, edited, texts, room):
@@ -222,6 +281,7 @@ def alone(crate, edited, texts, room):
     for part in ("src", "specs", "proofs"):
         if os.path.isdir(f"{crate.folder}/{part}"):
             shutil.copytree(f"{crate.folder}/{part}", f"{room}/{part}")
+    give_proofs_again(crate, edited, room)
     edited, files = {(it.file, it.names) for it in edited}, {}
     for at, proof in functions_of(crate.folder):
         if (at.file, at.names) in edited:
@@ -262,14 +322,14 @@ def refused_together(rt, crate, edits, texts, flags, kept):
     return {it: why for it, why in found.items() if why}, []
 
 
-def must_fail_all(rt, crate, edits, flags, is_settled, refusal):
+def must_fail_all(rt, crate, edits, flags, is_settled, refusal, half=()):
     """For each edit what a try of the crate with it comes to, and what to say, as the toolchain's own trial of one edit; that
-    trial's word for a refusal is handed in, and whether a word of its ends the matter."""
+    trial's word for a refusal is handed in, and whether a word of its ends the matter, and what shortens the searches of all edits together."""
     left, refused = [it for it in edits if not rt.read_edit(it, crate.folder)[1]], {}
     with tempfile.TemporaryDirectory(prefix="rt-together-") as kept:
         while left:
             together, texts = chosen(crate.folder, left)
-            said, barred = refused_together(rt, crate, together, texts, flags, kept) if together else ({}, [])
+            said, barred = refused_together(rt, crate, together, texts, [*flags, *half], kept) if together else ({}, [])
             if not said and not barred:
                 break
             refused.update(said)
@@ -302,7 +362,7 @@ def add_edits(rt, tasks, crate, edits, first, waits, is_well, kept, start=None, 
             return None
         left = [number for number in range(len(edits)) if number not in known()]
         chosen = [edits[it] for it in left]
-        tried = dict(zip(left, must_fail_all(rt, crate, chosen, ["--jobs", "1"], rt.SETTLED.__contains__, rt.REFUSED)))
+        tried = dict(zip(left, must_fail_all(rt, crate, chosen, ["--jobs", "1"], rt.SETTLED.__contains__, rt.REFUSED, HALF if in_ci else ())))
         read = [crate] if in_ci else [crate, *crate.below()]
         for number, (kind, text) in tried.items():
             if kind in rt.SETTLED and all(kept.is_untouched(it) for it in read):
