@@ -6,7 +6,7 @@ ghost use Rattle.nd_work.specs.Pairs.{entries_of, entry_in};
 
 use crate::key::Summed;
 use crate::pair::Pair;
-use nd_map::{Key, SortedMap, TreeMap};
+use nd_map::{GrowingMap, Key, SortedMap};
 use nd_record::Change;
 use std::alloc::{AllocError, Allocator};
 use std::marker::Model;
@@ -19,7 +19,7 @@ const FEW: usize = 64;
 pub(crate) enum Held<K: Key, A: Allocator> {
     Least(Pair<K>),
     Few(SortedMap<K, i64, A>),
-    Many(TreeMap<K, i64, A>),
+    Many(GrowingMap<K, i64, A>),
 }
 
 // A finite map of sums, seen as the list of its entries in the order of their keys.
@@ -63,7 +63,7 @@ impl<K: Key, A: Allocator + Copy> Store<K, A> {
         } else if count <= FEW {
             Held::Few(SortedMap::new(alloc))
         } else {
-            Held::Many(TreeMap::new(alloc))
+            Held::Many(GrowingMap::new(alloc))
         };
         Store { alloc, held }
     }
@@ -158,7 +158,7 @@ fn list_few<K: Summed, A: Allocator>(sums: &[(K, i64)], p: u32, to: &mut Vec<Cha
 }
 
 // The same in a tree.
-fn list_many<K: Summed, A: Allocator>(sums: &TreeMap<K, i64, A>, p: u32, to: &mut Vec<Change, A>)
+fn list_many<K: Summed, A: Allocator>(sums: &GrowingMap<K, i64, A>, p: u32, to: &mut Vec<Change, A>)
     requires { vec_len to.old + length sums.now ≤ vec_capacity to.old }
     ensures items { to.new.items ≡ to.old.items ++ map (K.change_of p) sums.now }
     ensures len { vec_len to.new ≡ vec_len to.old + length sums.now }
