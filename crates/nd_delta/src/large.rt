@@ -1,4 +1,4 @@
-//! Changes stored in trees.
+//! Changes stored in maps that may grow large.
 ghost use Rattle.std.specs.Prelude.{◌≡◌, ◌≢◌, [], ◌↔◌, ◌<◌, ◌≤◌, ◌^◌, ◌+ℤ◌, ℤ, pos, unsigned_abs, cond, length, OnOk, OnErr, IfOk, Ok, Err, Some, IsTrue, false};
 ghost use Rattle.std.specs.Map.Iter.{ShowsInOrder, deref_pair};
 ghost use Rattle.nd_time.specs.Limits.{max_count};
@@ -12,7 +12,7 @@ use nd_paths::Pointstamp;
 use std::alloc::{AllocError, Allocator, Global};
 use std::marker::Model;
 
-/// The same as a [`Delta`], stored in a tree, for a change that may have many entries.
+/// The same as a [`Delta`], for a change that may have many entries.
 ///
 /// A look-up and an edit each take a logarithm of the number of entries, where a `Delta` moves those after an entry
 /// that comes or goes.

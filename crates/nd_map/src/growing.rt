@@ -119,12 +119,12 @@ impl<'a, K, V> Iterator for Between<'a, K, V> {
 
     fn next(&mut self) -> Option<(&'a K, &'a V)> {
         match &mut self.left {
-            LeftBetween::Few(entries) => {
-                let (first, others) = entries.split_first()?;
-                *entries = others;
+            LeftBetween::Few(part) => {
+                let (first, others) = part.split_first()?;
+                *part = others;
                 Some((&first.0, &first.1))
             }
-            LeftBetween::Many(entries) => entries.next(),
+            LeftBetween::Many(part) => part.next(),
         }
     }
 }

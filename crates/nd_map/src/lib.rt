@@ -199,7 +199,7 @@ impl<K: Key, V: Copy, A: Allocator> SortedMap<K, V, A> {
         ensures fits { length self.now < 2 ^ 63 }
         ensures listed { IsListed K.cmp self.now }
     {
-        &self.entries
+        self.entries.as_slice()
     }
 
     // The entries from one key to another, both included.
@@ -228,16 +228,16 @@ impl<K: Key, V: Copy, A: Allocator> SortedMap<K, V, A> {
         ensures was_listed { IsListed K.cmp self.old }
     {
         match place(&self.entries, key) {
-            Ok(i) => {
-                let held = self.entries[i].1;
+            Ok(index) => {
+                let held = self.entries[index].1;
                 match edit(held) {
                     Edit::Keep => Ok(Some(Edit::Keep)),
                     Edit::Put(other) => {
-                        self.entries[i].1 = other;
+                        self.entries[index].1 = other;
                         Ok(Some(Edit::Put(other)))
                     }
                     Edit::Remove => {
-                        self.entries.remove(i);
+                        self.entries.remove(index);
                         Ok(Some(Edit::Remove))
                     }
                 }

@@ -20,21 +20,21 @@ kept R o k v es fs is h = subst (IsListed R) (sym is) (listed-put R o k v es h)
 
 -- ---- a key that is there
 pub edit-requires : goal.edit-requires
-edit-requires g c = c.requires c.index.result.now.1 (there g.K.Ord.cmp g.met.K.Ord.total c.args.key.now c.self.inside.entries.items _ c.in-Ok.i c.index.result.now c.self.view_is c.index.ensures (rw c.deref.ensures.value at c.in-Ok.ensures.found))
+edit-requires g c = c.requires c.index.result.now.1 (there g.K.Ord.cmp g.met.K.Ord.total c.args.key.now c.self.inside.entries.items _ c.in-Ok.index c.index.result.now c.self.view_is c.index.ensures (rw c.deref.ensures.value at c.in-Ok.ensures.found))
 
 pub returns-in-Keep-clause-said : goal.returns-in-Keep-clause-said
-returns-in-Keep-clause-said g c = rw (there g.K.Ord.cmp g.met.K.Ord.total c.args.key.now c.self.inside.entries.items c.args.self.now c.in-Ok.i c.index.result.now c.self.view_is c.index.ensures (rw c.deref.ensures.value at c.in-Ok.ensures.found)) c.in-Keep.ensures
+returns-in-Keep-clause-said g c = rw (there g.K.Ord.cmp g.met.K.Ord.total c.args.key.now c.self.inside.entries.items c.args.self.now c.in-Ok.index c.index.result.now c.self.view_is c.index.ensures (rw c.deref.ensures.value at c.in-Ok.ensures.found)) c.in-Keep.ensures
 
 pub returns-in-Put-clause-said : goal.returns-in-Put-clause-said
-returns-in-Put-clause-said g c = rw (there g.K.Ord.cmp g.met.K.Ord.total c.args.key.now c.self.inside.entries.items c.args.self.now c.in-Ok.i c.index.result.now c.self.view_is c.index.ensures (rw c.deref.ensures.value at c.in-Ok.ensures.found)) c.in-Put.ensures
+returns-in-Put-clause-said g c = rw (there g.K.Ord.cmp g.met.K.Ord.total c.args.key.now c.self.inside.entries.items c.args.self.now c.in-Ok.index c.index.result.now c.self.view_is c.index.ensures (rw c.deref.ensures.value at c.in-Ok.ensures.found)) c.in-Put.ensures
 
 pub returns-in-Remove-clause-said : goal.returns-in-Remove-clause-said
-returns-in-Remove-clause-said g c = rw (there g.K.Ord.cmp g.met.K.Ord.total c.args.key.now c.self.inside.entries.items c.args.self.now c.in-Ok.i c.index.result.now c.self.view_is c.index.ensures (rw c.deref.ensures.value at c.in-Ok.ensures.found)) c.in-Remove.ensures
+returns-in-Remove-clause-said g c = rw (there g.K.Ord.cmp g.met.K.Ord.total c.args.key.now c.self.inside.entries.items c.args.self.now c.in-Ok.index c.index.result.now c.self.view_is c.index.ensures (rw c.deref.ensures.value at c.in-Ok.ensures.found)) c.in-Remove.ensures
 
 pub invariant_of-self : goal.invariant_of-self
 invariant_of-self g c =
     kept g.K.Ord.cmp g.met.K.Ord.total c.args.key.now c.in-Put.other c.self.inside.entries.items _
-    (put_over g.K.Ord.cmp g.met.K.Ord.total c.args.key.now c.in-Put.other c.self.inside.entries.items c.in-Ok.i c.index_mut.result.now c.index_mut.ensures.value (rw c.deref.ensures.value at c.in-Ok.ensures.found))
+    (put_over g.K.Ord.cmp g.met.K.Ord.total c.args.key.now c.in-Put.other c.self.inside.entries.items c.in-Ok.index c.index_mut.result.now c.index_mut.ensures.value (rw c.deref.ensures.value at c.in-Ok.ensures.found))
     c.self.invariant
 
 pub returns-in-Put-clause-listed : goal.returns-in-Put-clause-listed
@@ -42,12 +42,12 @@ returns-in-Put-clause-listed g c = invariant_of-self g c
 
 pub returns-in-Put-clause-done : goal.returns-in-Put-clause-done
 returns-in-Put-clause-done g c =
-    put_over g.K.Ord.cmp g.met.K.Ord.total c.args.key.now c.in-Put.other c.self.inside.entries.items c.in-Ok.i c.index_mut.result.now c.index_mut.ensures.value (rw c.deref.ensures.value at c.in-Ok.ensures.found)
+    put_over g.K.Ord.cmp g.met.K.Ord.total c.args.key.now c.in-Put.other c.self.inside.entries.items c.in-Ok.index c.index_mut.result.now c.index_mut.ensures.value (rw c.deref.ensures.value at c.in-Ok.ensures.found)
     ∙ ap (put g.K.Ord.cmp c.args.key.now c.in-Put.other) c.self.view_is
 
 pub invariant_of-self-in-Remove : goal.invariant_of-self-in-Remove
 invariant_of-self-in-Remove g c =
-    rw (c.remove.ensures.items ∙ without_at g.K.Ord.cmp g.met.K.Ord.total c.args.key.now c.self.inside.entries.items c.in-Ok.i c.self.invariant (rw c.deref.ensures.value at c.in-Ok.ensures.found))
+    rw (c.remove.ensures.items ∙ without_at g.K.Ord.cmp g.met.K.Ord.total c.args.key.now c.self.inside.entries.items c.in-Ok.index c.self.invariant (rw c.deref.ensures.value at c.in-Ok.ensures.found))
     (listed_without g.K.Ord.cmp c.args.key.now c.self.inside.entries.items c.self.invariant)
 
 pub returns-in-Remove-clause-listed : goal.returns-in-Remove-clause-listed
@@ -55,7 +55,7 @@ returns-in-Remove-clause-listed g c = invariant_of-self-in-Remove g c
 
 pub returns-in-Remove-clause-done : goal.returns-in-Remove-clause-done
 returns-in-Remove-clause-done g c =
-    c.remove.ensures.items ∙ without_at g.K.Ord.cmp g.met.K.Ord.total c.args.key.now c.self.inside.entries.items c.in-Ok.i c.self.invariant (rw c.deref.ensures.value at c.in-Ok.ensures.found)
+    c.remove.ensures.items ∙ without_at g.K.Ord.cmp g.met.K.Ord.total c.args.key.now c.self.inside.entries.items c.in-Ok.index c.self.invariant (rw c.deref.ensures.value at c.in-Ok.ensures.found)
     ∙ ap (without g.K.Ord.cmp c.args.key.now) c.self.view_is
 
 -- ---- a key that comes
