@@ -1,4 +1,4 @@
-//! Changes stored in trees.
+//! Changes stored in maps that may grow large.
 ghost use Rattle.std.specs.Prelude.{◌≡◌, ◌≢◌, [], ◌↔◌, ◌<◌, ◌≤◌, ◌^◌, ◌+ℤ◌, ℤ, pos, unsigned_abs, cond, length, OnOk, OnErr, IfOk, Ok, Err, Some, IsTrue, false};
 ghost use Rattle.std.specs.Map.Iter.{ShowsInOrder, deref_pair};
 ghost use Rattle.nd_time.specs.Limits.{max_count};
@@ -7,18 +7,17 @@ ghost use Rattle.nd_paths.specs.declared.point.Pointstamp.{Pointstamp as Point};
 ghost use Rattle.nd_delta.specs.Change.{none, at, set, size, plus, minus, part, has_point, points_of, IsWithin, IsPartOf, IsApart, entries as listed};
 
 use crate::{Delta, DeltaFault, passes_limit};
-use nd_map::{Edit, TreeMap};
+use nd_map::{Edit, GrowingMap, Iter};
 use nd_paths::Pointstamp;
 use std::alloc::{AllocError, Allocator, Global};
-use std::collections::btree_map::Iter;
 use std::marker::Model;
 
-/// The same as a [`Delta`], stored in a tree, for a change that may have many entries.
+/// The same as a [`Delta`], for a change that may have many entries.
 ///
 /// A look-up and an edit each take a logarithm of the number of entries, where a `Delta` moves those after an entry
 /// that comes or goes.
 pub struct LargeDelta<A: Allocator = Global> {
-    map: TreeMap<Pointstamp, i64, A>,
+    map: GrowingMap<Pointstamp, i64, A>,
 }
 
 impl<A: Allocator> Drop for LargeDelta<A> {
@@ -70,15 +69,6 @@ fn outcome_of(said: Option<Edit<i64>>) -> Result<(), DeltaFault>
 }
 
 impl<A: Allocator> LargeDelta<A> {
-    /// The change with no entry. It takes no memory.
-    pub fn new(alloc: A) -> LargeDelta<A>
-        ensures { result ≡ none }
-    {
-        LargeDelta {
-            map: TreeMap::new(alloc),
-        }
-    }
-
     /// The integer of a pointstamp, 0 if it has none.
     pub fn get(&self, point: &Pointstamp) -> i64
         ensures value { result ≡ at self.now point.now }
@@ -183,6 +173,15 @@ impl<A: Allocator> LargeDelta<A> {
 }
 
 impl<A: Allocator + Copy> LargeDelta<A> {
+    /// The change with no entry. It takes no memory.
+    pub fn new(alloc: A) -> LargeDelta<A>
+        ensures { result ≡ none }
+    {
+        LargeDelta {
+            map: GrowingMap::new(alloc),
+        }
+    }
+
     /// Gives a pointstamp this integer. Only a pointstamp that has none takes memory.
     pub fn put(&mut self, point: &Pointstamp, n: i64) -> Result<(), AllocError>
         requires { unsigned_abs n ≤ max_count }

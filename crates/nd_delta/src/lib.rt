@@ -1,4 +1,4 @@
-//! Changes: finite maps from pointstamps to integers other than 0 (Naiad, SOSP 2013, section 3.3), stored in sorted lists and in trees.
+//! Changes: finite maps from pointstamps to integers other than 0 (Naiad, SOSP 2013, section 3.3), stored in sorted lists, or in maps that may grow large.
 #![tactic(auto)]
 
 ghost use Rattle.std.specs.Prelude.{◌≡◌, ◌≢◌, [], ◌↔◌, ◌<◌, ◌≤◌, ◌+ℤ◌, ◌<ℤ◌, ◌*◌, pos, unsigned_abs, OnOk, OnErr, IfOk, IfSome, IsNone, IsTrue, Err, Contains};

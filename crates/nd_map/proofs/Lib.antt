@@ -1,2 +1,4 @@
+mod Cuts
 mod Places
+mod Runs
 mod Trees

@@ -1,5 +1,5 @@
 -- The words of std's tree are those of lists in the order of their keys.
-use Rattle.std.proofs.Common.{◌≡◌, true, false, cond, not, T, List, [], ◌∷◌, ◌++◌, Option, Some, None, Result, Ok, IfOk, Ordering, Less, Equal, Greater, refl, sym, ap, subst, ◌∙◌}
+use Rattle.std.proofs.Common.{◌≡◌, ◌<◌, ◌+◌, ℕ, suc, true, false, cond, not, T, List, [], ◌∷◌, ◌++◌, length, get_or, drop, Option, Some, None, Result, Ok, IfOk, Ordering, Less, Equal, Greater, refl, sym, ap, subst, ◌∙◌, append_assoc, add-one}
 use Rattle.std.specs.Ordering.{eq_by_cmp, is_lt, match_ordering, ordering_reverse}
 use Rattle.std.specs.Cmp.{IsTotalOrder}
 use Rattle.std.specs.Map.{lookup, remove_entry}
@@ -7,6 +7,7 @@ use Rattle.std.specs.BTreeMap.{is_at, insert_entry}
 use Rattle.std.specs.FinMap.{find, put}
 use Rattle.std.specs.FinMap.Entries.{below_all, by_order}
 use Rattle.nd_map.specs.Listed.{IsListed, without}
+use Rattle.nd_map.specs.Entries.{drop-at}
 use Rattle.nd_map.specs.Edits.{edited}
 use Rattle.nd_map.specs.Maps.{listed-put, listed-without}
 use Rattle.nd_map.specs.declared.tree.Edit.{Edit}
@@ -57,3 +58,10 @@ module _ {K X : Type 0} (R : K → K → Ordering) where
     -- entries are in order after an edit too
     pub listed_after : {E : Type 0} (r : Result (Option (Edit X)) E) (k : K) (v : X) (es fs : List (K × X)) (said : Option (Edit X)) → r ≡ Ok said → IfOk r (λ e. fs ≡ edited R k v e es) → IsListed R es → IsListed R fs
     listed_after r k v es fs said is done h = subst (IsListed R) (sym (subst (λ x. IfOk x (λ e. fs ≡ edited R k v e es)) is done)) (listed_edited k v said es h)
+
+    -- the next of some entries comes last, too
+    pub put_next : (k : K) (v : X) (so_far es : List (K × X)) (i : ℕ) → i < length es → (k, v) ≡ get_or es i (k, v) → IsListed R es → so_far ++ drop i es ≡ es → put R k v so_far ++ drop (i + 1) es ≡ es
+    put_next k v so_far es i lt is h whole =
+        let rest : List (K × X) = drop (suc i) es in
+        let split : so_far ++ (k, v) ∷ rest ≡ es = ap (λ fs. so_far ++ fs) (sym (drop-at es i (k, v) lt is)) ∙ whole in
+        rw (add-one i) (ap (λ fs. fs ++ rest) (put_last k v so_far rest (subst (IsListed R) (sym split) h)) ∙ append_assoc so_far ((k, v) ∷ []) rest ∙ split)

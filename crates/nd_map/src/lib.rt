@@ -1,19 +1,26 @@
 //! Finite maps as lists of entries in the order of their keys, the storage of the maps above: sorted lists, and trees.
 #![tactic(auto)]
 
-ghost use Rattle.std.specs.Prelude.{◌≡◌, ◌<◌, ◌≤◌, ◌↔◌, [], OnOk, OnErr, IfOk, IfErr, IsTrue, None, length};
+ghost use Rattle.std.specs.Prelude.{◌≡◌, ◌<◌, ◌≤◌, ◌↔◌, ◌^◌, [], OnOk, OnErr, IfOk, IfErr, IsTrue, None, length, not, slice_get};
+ghost use Rattle.std.specs.Option.{ForSome, option_map};
 ghost use Rattle.std.specs.FinMap.{find, put};
+ghost use Rattle.std.specs.List.{filter};
+ghost use Rattle.std.specs.BTreeMap.Range.{IsLeBy, is_from_start, is_past_end, entries_between};
+ghost use Rattle.std.specs.declared.ops.Bound.TheVariants.{Included};
 ghost use Rattle.std.proofs.Common.{get_or};
 ghost use Rattle.nd_map.specs.Counts.{keys_of};
+ghost use Rattle.nd_map.specs.Edits.{IsSaid, edited};
 ghost use Rattle.nd_map.specs.Listed.{IsListed, without};
 ghost use Rattle.nd_map.specs.Place.{IsAt, IsGap};
 
+mod growing;
 mod tree;
 
+pub use growing::{Between, GrowingMap, Iter};
 use std::alloc::{AllocError, Allocator, Global};
 use std::cmp::Ordering;
 use std::marker::Model;
-pub use tree::{Edit, TreeMap};
+pub use tree::Edit;
 
 /// What the keys of a map are: ordered, and copied without memory.
 pub trait Key: Ord + Drop {
@@ -61,6 +68,31 @@ fn place<K: Key, V>(entries: &[(K, V)], key: &K) -> Result<usize, usize>
             ensures { result ≡ K.cmp entry.now.0 key.entry.now }
         { entry.0.cmp(key) },
     )
+}
+
+// The entries from a key on.
+fn from<'a, K: Key, V>(entries: &'a [(K, V)], key: &K) -> &'a [(K, V)]
+    requires { IsListed K.cmp entries.now }
+    ensures value { result.now ≡ filter (λ e. is_from_start K.cmp (Included key.now) e.0) entries.now }
+    ensures within { length result.now ≤ length entries.now }
+    ensures listed { IsListed K.cmp result.now }
+{
+    match place(entries, key) {
+        Ok(i) => &entries[i..],
+        Err(i) => &entries[i..],
+    }
+}
+
+// The entries up to a key, included.
+fn up_to<'a, K: Key, V>(entries: &'a [(K, V)], key: &K) -> &'a [(K, V)]
+    requires { IsListed K.cmp entries.now }
+    ensures value { result.now ≡ filter (λ e. not (is_past_end K.cmp (Included key.now) e.0)) entries.now }
+    ensures within { length result.now ≤ length entries.now }
+{
+    match place(entries, key) {
+        Ok(i) => &entries[..=i],
+        Err(i) => &entries[..i],
+    }
 }
 
 impl<K: Key, V: Copy, A: Allocator> SortedMap<K, V, A> {
@@ -147,6 +179,75 @@ impl<K: Key, V: Copy, A: Allocator> SortedMap<K, V, A> {
     {
         if let Ok(i) = place(&self.entries, key) {
             self.entries.remove(i);
+        }
+    }
+
+    // The entry of the least key.
+    pub(crate) fn first(&self) -> Option<(&K, V)>
+        ensures value { option_map (λ e. (e.0.now, e.1)) result ≡ slice_get self.now 0 }
+        ensures listed { IsListed K.cmp self.now }
+    {
+        match self.entries.first() {
+            Some(entry) => Some((&entry.0, entry.1)),
+            None => None,
+        }
+    }
+
+    // The entries, of which there are not too many for an iterator.
+    pub(crate) fn listed(&self) -> &[(K, V)]
+        ensures value { result.now ≡ self.now }
+        ensures fits { length self.now < 2 ^ 63 }
+        ensures listed { IsListed K.cmp self.now }
+    {
+        self.entries.as_slice()
+    }
+
+    // The entries from one key to another, both included.
+    pub(crate) fn between(&self, first: &K, last: &K) -> &[(K, V)]
+        requires { IsLeBy K.cmp first.now last.now }
+        ensures value { result.now ≡ entries_between K.cmp (Included first.now) (Included last.now) self.now }
+        ensures fits { length result.now < 2 ^ 63 }
+        ensures listed { IsListed K.cmp self.now }
+    {
+        up_to(from(self.listed(), first), last)
+    }
+
+    // As `GrowingMap::put_or_edit`.
+    pub(crate) fn put_or_edit<F: FnOnce(V) -> Edit<V>>(
+        &mut self,
+        key: &K,
+        value: V,
+        edit: F,
+    ) -> Result<Option<Edit<V>>, AllocError>
+        requires { ForSome (find K.cmp key.now self.old) (F.pre edit) }
+        ensures said { IfOk result (IsSaid (F.post edit) (find K.cmp key.now self.old)) }
+        ensures done { IfOk result (λ said. self.new ≡ edited K.cmp key.now value said self.old) }
+        ensures err { OnErr result (self.new ≡ self.old) }
+        ensures absent { OnErr result (find K.cmp key.now self.old ≡ None) }
+        ensures listed { IsListed K.cmp self.new }
+        ensures was_listed { IsListed K.cmp self.old }
+    {
+        match place(&self.entries, key) {
+            Ok(index) => {
+                let held = self.entries[index].1;
+                match edit(held) {
+                    Edit::Keep => Ok(Some(Edit::Keep)),
+                    Edit::Put(other) => {
+                        self.entries[index].1 = other;
+                        Ok(Some(Edit::Put(other)))
+                    }
+                    Edit::Remove => {
+                        self.entries.remove(index);
+                        Ok(Some(Edit::Remove))
+                    }
+                }
+            }
+            Err(i) => {
+                let Ok(()) = self.entries.insert(i, (key.duplicate(), value)) else {
+                    return Err(AllocError);
+                };
+                Ok(None)
+            }
         }
     }
 

@@ -1,7 +1,6 @@
-//! Finite maps stored in a tree, the storage of the maps above that may grow large.
-ghost use Rattle.std.specs.Prelude.{◌≡◌, ◌↔◌, ◌<◌, ◌^◌, [], OnOk, OnErr, IfOk, IsTrue, None, length, slice_get};
-ghost use Rattle.std.specs.Option.{ForSome};
-ghost use Rattle.std.specs.Option.{option_map};
+//! Finite maps stored in a tree, the storage of maps that have grown large.
+ghost use Rattle.std.specs.Prelude.{◌≡◌, ◌<◌, ◌^◌, [], OnOk, OnErr, IfOk, None, length, slice_get};
+ghost use Rattle.std.specs.Option.{ForSome, option_map};
 ghost use Rattle.std.specs.FinMap.{find, put};
 ghost use Rattle.std.specs.Map.Iter.{ShowsInOrder, deref_pair};
 ghost use Rattle.std.specs.BTreeMap.Range.{IsLeBy, entries_between};
@@ -26,11 +25,11 @@ pub enum Edit<V: Copy> {
     Remove,
 }
 
-/// A finite map, seen as the list of its entries in the order of their keys.
-///
-/// A look-up, an edit and the first entry each take a logarithm of the number of entries.
+// A finite map, seen as the list of its entries in the order of their keys.
+//
+// A look-up, an edit and the first entry each take a logarithm of the number of entries.
 #[derive(Drop)]
-pub struct TreeMap<K: Key, V: Copy, A: Allocator = Global> {
+pub(crate) struct TreeMap<K: Key, V: Copy, A: Allocator = Global> {
     tree: BTreeMap<K, V, A>,
 }
 
@@ -46,8 +45,8 @@ impl<K: Key, V: Copy, A: Allocator> Model for TreeMap<K, V, A> {
 }
 
 impl<K: Key, V: Copy, A: Allocator> TreeMap<K, V, A> {
-    /// The map with no entry. It takes no memory.
-    pub fn new(alloc: A) -> TreeMap<K, V, A>
+    // The map with no entry. It takes no memory.
+    pub(crate) fn new(alloc: A) -> TreeMap<K, V, A>
         ensures { result ≡ [] }
     {
         TreeMap {
@@ -55,16 +54,16 @@ impl<K: Key, V: Copy, A: Allocator> TreeMap<K, V, A> {
         }
     }
 
-    /// The value at a key.
-    pub fn get(&self, key: &K) -> Option<V>
+    // The value at a key.
+    pub(crate) fn get(&self, key: &K) -> Option<V>
         ensures value { result ≡ find K.cmp key.now self.now }
         ensures listed { IsListed K.cmp self.now }
     {
         self.tree.get(key).copied()
     }
 
-    /// The entries in the order of their keys, one by one.
-    pub fn iter(&self) -> Iter<'_, K, V>
+    // The entries in the order of their keys, one by one.
+    pub(crate) fn iter(&self) -> Iter<'_, K, V>
         ensures rest { result ≡ self.now }
         ensures runs { ShowsInOrder (deref_pair {K = K} {X = V}) }
         ensures fits { length self.now < 2 ^ 63 }
@@ -73,10 +72,10 @@ impl<K: Key, V: Copy, A: Allocator> TreeMap<K, V, A> {
         self.tree.iter()
     }
 
-    /// The entries from one key to another, both included, in the order of their keys, one by one.
-    ///
-    /// To come to the first takes a logarithm of the number of entries.
-    pub fn between(&self, first: &K, last: &K) -> Range<'_, K, V>
+    // The entries from one key to another, both included, in the order of their keys, one by one.
+    //
+    // To come to the first takes a logarithm of the number of entries.
+    pub(crate) fn between(&self, first: &K, last: &K) -> Range<'_, K, V>
         requires { IsLeBy K.cmp first.now last.now }
         ensures rest { result ≡ entries_between K.cmp (Included first.now) (Included last.now) self.now }
         ensures runs { ShowsInOrder (deref_pair {K = K} {X = V}) }
@@ -86,8 +85,8 @@ impl<K: Key, V: Copy, A: Allocator> TreeMap<K, V, A> {
         self.tree.range(first..=last)
     }
 
-    /// The entry of the least key.
-    pub fn first(&self) -> Option<(&K, V)>
+    // The entry of the least key.
+    pub(crate) fn first(&self) -> Option<(&K, V)>
         ensures value { option_map (λ e. (e.0.now, e.1)) result ≡ slice_get self.now 0 }
         ensures listed { IsListed K.cmp self.now }
     {
@@ -97,22 +96,15 @@ impl<K: Key, V: Copy, A: Allocator> TreeMap<K, V, A> {
         }
     }
 
-    /// The number of entries.
-    pub fn len(&self) -> usize
+    // The number of entries.
+    pub(crate) fn len(&self) -> usize
         ensures { result ≡ length self.now }
     {
         self.tree.len()
     }
 
-    /// Whether there is no entry.
-    pub fn is_empty(&self) -> bool
-        ensures { IsTrue result ↔ (self.now ≡ []) }
-    {
-        self.len() == 0
-    }
-
-    /// Takes a key and its value out, if it is there.
-    pub fn remove(&mut self, key: &K)
+    // Takes a key and its value out, if it is there.
+    pub(crate) fn remove(&mut self, key: &K)
         ensures value { self.new ≡ without K.cmp key.now self.old }
         ensures listed { IsListed K.cmp self.new }
         ensures was_listed { IsListed K.cmp self.old }
@@ -122,8 +114,8 @@ impl<K: Key, V: Copy, A: Allocator> TreeMap<K, V, A> {
 }
 
 impl<K: Key, V: Copy, A: Allocator + Clone> TreeMap<K, V, A> {
-    /// Gives a key a value. A key that has one takes no memory.
-    pub fn put(&mut self, key: &K, value: V) -> Result<(), AllocError>
+    // Gives a key a value. A key that has one takes no memory.
+    pub(crate) fn put(&mut self, key: &K, value: V) -> Result<(), AllocError>
         ensures ok { OnOk result (self.new ≡ put K.cmp key.now value self.old) }
         ensures err { OnErr result (self.new ≡ self.old) }
         ensures absent { OnErr result (find K.cmp key.now self.old ≡ None) }
@@ -136,9 +128,9 @@ impl<K: Key, V: Copy, A: Allocator + Clone> TreeMap<K, V, A> {
         Ok(())
     }
 
-    /// Gives a key that has no value this one, and does to the value of another key what `edit` says: one search for both.
-    /// It returns what was said. A key that has a value takes no memory.
-    pub fn put_or_edit<F: FnOnce(V) -> Edit<V>>(
+    // Gives a key that has no value this one, and does to the value of another key what `edit` says: one search for both.
+    // It returns what was said. A key that has a value takes no memory.
+    pub(crate) fn put_or_edit<F: FnOnce(V) -> Edit<V>>(
         &mut self,
         key: &K,
         value: V,
@@ -174,8 +166,8 @@ impl<K: Key, V: Copy, A: Allocator + Clone> TreeMap<K, V, A> {
         }
     }
 
-    /// An equal map.
-    pub fn copy(&self, alloc: A) -> Result<TreeMap<K, V, A>, AllocError>
+    // An equal map.
+    pub(crate) fn copy(&self, alloc: A) -> Result<TreeMap<K, V, A>, AllocError>
         ensures equal { IfOk result (λ m. m ≡ self.now) }
         ensures listed { IsListed K.cmp self.now }
     {

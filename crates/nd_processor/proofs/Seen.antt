@@ -1,8 +1,8 @@
 -- What a processor keeps, as the state that it is seen as: look-ups and edits.
-use Rattle.std.proofs.Common.{◌≡◌, ◌≤◌, ◌<◌, ℕ, ◌+◌, ◌-◌, ℤ, pos, neg_ℤ, List, length, map, Option, Some, None, sym, ap, subst, ◌∙◌}
+use Rattle.std.proofs.Common.{◌≡◌, ◌≤◌, ◌<◌, ℕ, ◌+◌, ◌-◌, ℤ, ◌+ℤ◌, pos, neg_ℤ, unsigned_abs, List, length, map, Option, Some, None, sym, ap, subst, ◌∙◌}
 use Rattle.std.specs.Option.{option_map}
-use Rattle.std.specs.Prelude.{slice_get, slice_set, slice_index_or, OnOk, Result, Ok, Err, ◌↔◌, IsTrue, is_some, Bool}
-use Rattle.std.proofs.lemmas.List.{get_or_default}
+use Rattle.std.specs.Prelude.{slice_get, slice_set, slice_index_or, OnOk, OnErr, Result, Ok, Err, ◌↔◌, IsTrue, is_some, Bool}
+use Rattle.std.proofs.lemmas.List.{get_or_default, set-get_or}
 use Rattle.std.proofs.lemmas.Option.{slice_get-map}
 use Rattle.std.proofs.lemmas.Cmp.{nat_cmp_total}
 use Rattle.std.specs.Ordering.{nat_cmp}
@@ -14,7 +14,7 @@ use Rattle.nd_map.specs.Maps.{from_entries-put, from_entries-without, entries-fr
 use Rattle.nd_map.specs.Counts.{none as no_items, or_else, at, added, of_entries, entries as counts_of}
 use Rattle.nd_paths.specs.Point.{point_cmp, point_total, point_exact}
 use Rattle.nd_paths.specs.declared.point.Pointstamp.{Pointstamp}
-use Rattle.nd_delta.specs.Change.{Change}
+use Rattle.nd_delta.specs.Change.{Change, at as change_at}
 use Rattle.nd_vertex.specs.Items.{Items}
 use Rattle.nd_vertex.specs.Edits.{item_of, with_item}
 use Rattle.nd_vertex.specs.declared.key.ItemKey.{ItemKey}
@@ -31,6 +31,10 @@ use Rattle.nd_processor.proofs.KeptLemmas.{number_at, kept_entries, kept_within,
 pub on_ok : {A E : Type 0} {P Q : Type 0} (r : Result A E) → (P → Q) → OnOk r P → OnOk r Q
 on_ok (Ok x) f h = f h
 on_ok (Err e) f h = h
+
+pub on_err : {A E : Type 0} {P : Type 0} (r : Result A E) → P → OnErr r P
+on_err (Ok x) h = tt
+on_err (Err e) h = h
 
 pub asked : (x y : Option (Unit {0})) (b : Bool) → b ≡ is_some x → x ≡ y → IsTrue b ↔ (y ≡ Some tt)
 asked None y b e same = ((λ t. absurd (cc)), λ s. absurd (cc))
@@ -177,9 +181,18 @@ module _ (records : List (ValueAt × ℕ)) (requests : List (Pointstamp × Unit 
       ap (λ (q : ProcessorState). record q { items = with_vertex_item q.items vertex k old }) (items_set vertex k new m m' within is made)
       ∙ (λ i. record state { items = vertex_item-back state.items vertex k old new in_range had i })
 
+  -- an item that could not be written is as it was
+  pub items_kept : (vertex : ℕ) (m m' : Items) → m ≡ slice_index_or items vertex m → m' ≡ m → seen records requests tokens (slice_set items vertex m') sinks unsent ≡ state
+  items_kept vertex m m' is same =
+      (λ i. seen records requests tokens (slice_set items vertex ((same ∙ is) i)) sinks unsent)
+      ∙ (λ i. seen records requests tokens (set-get_or items vertex m i) sinks unsent) ∙ view
+
   pub items_long : (vertex : ℕ) → vertex < length state.items → vertex < length items
   items_long vertex h = subst (λ (q : ProcessorState). vertex < length q.items) (sym view) h
 
   -- what is unsent is another change, from which an edit leads back
   pub unsent_back : (after : Change) → after ≡ unsent → seen records requests tokens items sinks after ≡ state
   unsent_back after is = ap (λ u. seen records requests tokens items sinks u) is ∙ view
+
+  pub unsent_full : (x : Pointstamp) (n : ℤ) {P : Type 0} → P ↔ (max_count < unsigned_abs (change_at unsent x +ℤ n)) → P ↔ (max_count < unsigned_abs (change_at state.unsent x +ℤ n))
+  unsent_full x n {P} h = subst (λ (q : ProcessorState). P ↔ (max_count < unsigned_abs (change_at q.unsent x +ℤ n))) view h

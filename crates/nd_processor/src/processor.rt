@@ -21,18 +21,17 @@ use crate::tally::{CountFault, Tally};
 use crate::{SinkKey, ValueAt};
 use nd_delta::{Delta, DeltaFault, LargeDelta};
 use nd_graph::Graph;
-use nd_map::{SortedMap, TreeMap};
+use nd_map::{GrowingMap, Iter, SortedMap};
 use nd_paths::Pointstamp;
 use nd_time::{NoMemory, Timestamp};
 use nd_vertex::VertexState;
 use std::alloc::{AllocError, Allocator, Global};
-use std::collections::btree_map::Iter;
 use std::marker::Model;
 
 /// One processor of a cluster, but for its view (Naiad, SOSP 2013, section 3.3).
 pub struct Processor<A: Allocator + Copy = Global> {
     records: Tally<ValueAt, A>,
-    requests: TreeMap<Pointstamp, (), A>,
+    requests: GrowingMap<Pointstamp, (), A>,
     tokens: SortedMap<usize, u32, A>,
     items: Vec<VertexState<A>, A>,
     sinks: Tally<SinkKey, A>,
@@ -72,7 +71,7 @@ impl<A: Allocator + Copy> Processor<A> {
     {
         Ok(Processor {
             records: Tally::new(alloc),
-            requests: TreeMap::new(alloc),
+            requests: GrowingMap::new(alloc),
             tokens: first_tokens(alloc, graph)?,
             items: no_items(alloc, graph.vertices().len())?,
             sinks: Tally::new(alloc),

@@ -9,9 +9,8 @@ ghost use Rattle.nd_time.specs.Limits.{max_count};
 ghost use Rattle.nd_map.specs.declared.tree.Edit.TheVariants.{Keep, Put, Remove};
 ghost use Rattle.nd_processor.specs.Kept.{IsKept, number, put_count};
 
-use nd_map::{Edit, Key, TreeMap};
+use nd_map::{Between, Edit, GrowingMap, Iter, Key};
 use std::alloc::{AllocError, Allocator, Global};
-use std::collections::btree_map::{Iter, Range};
 use std::marker::Model;
 use thiserror::Error;
 
@@ -31,7 +30,7 @@ pub enum CountFault {
 
 // A finite map from keys to counts other than 0, each within the limit, seen as the list of its entries.
 pub(crate) struct Tally<K: Key, A: Allocator = Global> {
-    map: TreeMap<K, u64, A>,
+    map: GrowingMap<K, u64, A>,
 }
 
 impl<K: Key, A: Allocator> Drop for Tally<K, A> {
@@ -75,15 +74,6 @@ fn lowered(count: u64, n: u64) -> Edit<u64>
 }
 
 impl<K: Key, A: Allocator> Tally<K, A> {
-    // Nothing counted. It takes no memory.
-    pub(crate) fn new(alloc: A) -> Tally<K, A>
-        ensures { result ≡ [] }
-    {
-        Tally {
-            map: TreeMap::new(alloc),
-        }
-    }
-
     // The count of a key.
     pub(crate) fn count_of(&self, key: &K) -> u64
         ensures value { result ≡ number K.cmp self.now key.now }
@@ -106,7 +96,7 @@ impl<K: Key, A: Allocator> Tally<K, A> {
     }
 
     // The keys from one to another, both included, with their counts, in order.
-    pub(crate) fn between(&self, first: &K, last: &K) -> Range<'_, K, u64>
+    pub(crate) fn between(&self, first: &K, last: &K) -> Between<'_, K, u64>
         requires { IsLeBy K.cmp first.now last.now }
         ensures rest { result ≡ entries_between K.cmp (Included first.now) (Included last.now) self.now }
         ensures runs { ShowsInOrder (deref_pair {K = K} {X = ℕ}) }
@@ -126,6 +116,15 @@ impl<K: Key, A: Allocator> Tally<K, A> {
 }
 
 impl<K: Key, A: Allocator + Copy> Tally<K, A> {
+    // Nothing counted. It takes no memory.
+    pub(crate) fn new(alloc: A) -> Tally<K, A>
+        ensures { result ≡ [] }
+    {
+        Tally {
+            map: GrowingMap::new(alloc),
+        }
+    }
+
     // So many more of a key. A key that is there takes no memory.
     pub(crate) fn add(&mut self, key: &K, n: u64) -> Result<(), CountFault>
         ensures ok { OnOk result (self.new ≡ put_count K.cmp key.now (number K.cmp self.old key.now + n) self.old) }

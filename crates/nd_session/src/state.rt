@@ -11,7 +11,7 @@ ghost use Rattle.nd_session.specs.Clients.{IsHistory};
 ghost use Rattle.nd_session.specs.Faults.{ApplyFails};
 
 use crate::{Receipt, SessionFault};
-use nd_map::TreeMap;
+use nd_map::GrowingMap;
 use nd_protocol::starts_keep_protocol;
 use nd_search::Snapshot;
 use nd_timeline::{Command, Machine, Reply, Timeline, moves_keep_timelines};
@@ -27,7 +27,7 @@ pub struct State<A: Allocator + Copy = Global> {
     machine: Machine<A>,
     log: Vec<Receipt<A>, A>,
     // How many entries each client has that has one, so that no command goes through the log.
-    counts: TreeMap<usize, u64, A>,
+    counts: GrowingMap<usize, u64, A>,
 }
 
 impl<A: Allocator + Copy> Model for State<A> {
@@ -70,7 +70,7 @@ impl<A: Allocator + Copy> State<A> {
         State {
             machine: Machine::new(timeline),
             log: Vec::new(alloc),
-            counts: TreeMap::new(alloc),
+            counts: GrowingMap::new(alloc),
         }
     }
 

@@ -11,7 +11,7 @@ ghost use Rattle.nd_view.specs.Kept.{Kept};
 ghost use Rattle.nd_shown.specs.StateText.{name_at as name_in, place, row, time_data, point_data, item_data, record_data, sink_data, token_data, entry_data, queue_data, queues_data, entries_data, processor_data, processor_members, whole_members, state_data};
 
 use nd_graph::Graph;
-use nd_map::Key;
+use nd_map::{Iter, Key};
 use nd_mesh::Mesh;
 use nd_paths::Pointstamp;
 use nd_processor::{Processor, SinkKey, ValueAt};
@@ -20,7 +20,6 @@ use nd_time::Timestamp;
 use nd_vertex::ItemKey;
 use nd_view::View;
 use std::alloc::{AllocError, Allocator, Global};
-use std::collections::btree_map::Iter;
 
 // The name of a location; if there is none, nothing.
 fn name_at<A: Allocator>(graph: &Graph<A>, location: usize) -> &str

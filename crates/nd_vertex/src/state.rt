@@ -7,15 +7,14 @@ ghost use Rattle.nd_vertex.specs.Edits.{item_of, with_item};
 ghost use Rattle.nd_vertex.specs.Effects.{AreValues};
 
 use crate::ItemKey;
-use nd_map::TreeMap;
+use nd_map::{GrowingMap, Iter};
 use nd_time::Timestamp;
 use std::alloc::{AllocError, Allocator, Global};
-use std::collections::btree_map::Iter;
 use std::marker::Model;
 
 /// A finite map from items at timestamps to numbers other than 0.
 pub struct VertexState<A: Allocator = Global> {
-    pub(crate) map: TreeMap<ItemKey, i64, A>,
+    pub(crate) map: GrowingMap<ItemKey, i64, A>,
 }
 
 impl<A: Allocator> Drop for VertexState<A> {
@@ -44,7 +43,7 @@ impl<A: Allocator + Copy> VertexState<A> {
         ensures { result ≡ none }
     {
         VertexState {
-            map: TreeMap::new(alloc),
+            map: GrowingMap::new(alloc),
         }
     }
 

@@ -4,7 +4,7 @@ ghost use Rattle.std.specs.FinMap.{find, put};
 ghost use Rattle.nd_map.specs.Listed.{IsListed, without};
 ghost use Rattle.nd_work.specs.Pairs.{entries_of, entry_in, turn_to, with_sum};
 
-use nd_map::{Key, SortedMap};
+use nd_map::{GrowingMap, Key};
 use std::alloc::{AllocError, Allocator};
 use std::cmp::Ordering;
 
@@ -122,11 +122,14 @@ impl<K: Key> Pair<K> {
     }
 
     // The same sums in a map.
-    pub(crate) fn to_map<A: Allocator>(&self, alloc: A) -> Result<SortedMap<K, i64, A>, AllocError>
+    pub(crate) fn to_map<A: Allocator + Copy>(
+        &self,
+        alloc: A,
+    ) -> Result<GrowingMap<K, i64, A>, AllocError>
         requires { IsListed K.cmp (entries_of self.now) }
         ensures { IfOk result (λ m. m ≡ entries_of self.now) }
     {
-        let mut sums = SortedMap::new(alloc);
+        let mut sums = GrowingMap::new(alloc);
         if let Some(entry) = &self.first {
             sums.put(&entry.0, entry.1)?;
         }

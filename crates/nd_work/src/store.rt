@@ -1,4 +1,4 @@
-//! Sums at the keys of a step: at most two as they are, in a sorted list if they are few, in a tree if they may be many.
+//! Sums at the keys of a step: at most two as they are, more in a map.
 ghost use Rattle.std.specs.Prelude.{◌≡◌, ◌≤◌, ◌+◌, ◌++◌, [], map, length, IfOk, OnErr, OnOk, vec_len, vec_capacity};
 ghost use Rattle.std.specs.FinMap.{find, put};
 ghost use Rattle.nd_map.specs.Listed.{IsListed, without};
@@ -6,20 +6,16 @@ ghost use Rattle.nd_work.specs.Pairs.{entries_of, entry_in};
 
 use crate::key::Summed;
 use crate::pair::Pair;
-use nd_map::{Key, SortedMap, TreeMap};
+use nd_map::{GrowingMap, Key};
 use nd_record::Change;
 use std::alloc::{AllocError, Allocator};
 use std::marker::Model;
 
-// So many sums are held in a list, in which an edit moves those after it.
-const FEW: usize = 64;
-
-// The sums in one of the three.
+// The sums in one of the two.
 #[derive(Drop)]
 pub(crate) enum Held<K: Key, A: Allocator> {
     Least(Pair<K>),
-    Few(SortedMap<K, i64, A>),
-    Many(TreeMap<K, i64, A>),
+    More(GrowingMap<K, i64, A>),
 }
 
 // A finite map of sums, seen as the list of its entries in the order of their keys.
@@ -38,13 +34,13 @@ impl<K: Key, A: Allocator> Model for Store<K, A> {
     ghost view = { λ a. held_in a.held };
 }
 
-// Two sums and one more, in a list.
-fn third<K: Key, A: Allocator>(
+// Two sums and one more, in a map.
+fn third<K: Key, A: Allocator + Copy>(
     sums: &Pair<K>,
     alloc: A,
     key: &K,
     sum: i64,
-) -> Result<SortedMap<K, i64, A>, AllocError>
+) -> Result<GrowingMap<K, i64, A>, AllocError>
     requires { IsListed K.cmp (entries_of sums.now) }
     ensures { IfOk result (λ m. m ≡ put K.cmp key.now sum (entries_of sums.now)) }
 {
@@ -60,10 +56,8 @@ impl<K: Key, A: Allocator + Copy> Store<K, A> {
     {
         let held = if count <= 1 {
             Held::Least(Pair::new())
-        } else if count <= FEW {
-            Held::Few(SortedMap::new(alloc))
         } else {
-            Held::Many(TreeMap::new(alloc))
+            Held::More(GrowingMap::new(alloc))
         };
         Store { alloc, held }
     }
@@ -74,8 +68,7 @@ impl<K: Key, A: Allocator + Copy> Store<K, A> {
     {
         match &self.held {
             Held::Least(sums) => sums.len(),
-            Held::Few(sums) => sums.len(),
-            Held::Many(sums) => sums.len(),
+            Held::More(sums) => sums.len(),
         }
     }
 
@@ -85,8 +78,7 @@ impl<K: Key, A: Allocator + Copy> Store<K, A> {
     {
         match &self.held {
             Held::Least(sums) => sums.get(key),
-            Held::Few(sums) => sums.get(key),
-            Held::Many(sums) => sums.get(key),
+            Held::More(sums) => sums.get(key),
         }
     }
 
@@ -102,11 +94,10 @@ impl<K: Key, A: Allocator + Copy> Store<K, A> {
                     return Ok(());
                 }
                 let more = third(sums, self.alloc, key, sum)?;
-                self.held = Held::Few(more);
+                self.held = Held::More(more);
                 Ok(())
             }
-            Held::Few(sums) => sums.put(key, sum),
-            Held::Many(sums) => sums.put(key, sum),
+            Held::More(sums) => sums.put(key, sum),
         }
     }
 
@@ -116,8 +107,7 @@ impl<K: Key, A: Allocator + Copy> Store<K, A> {
     {
         match &mut self.held {
             Held::Least(sums) => sums.remove(key),
-            Held::Few(sums) => sums.remove(key),
-            Held::Many(sums) => sums.remove(key),
+            Held::More(sums) => sums.remove(key),
         }
     }
 }
@@ -145,20 +135,8 @@ fn list_least<K: Summed, A: Allocator>(sums: &Pair<K>, p: u32, to: &mut Vec<Chan
     list_one(&sums.second, p, to);
 }
 
-// The changes of sums in a list, after those that are there.
-fn list_few<K: Summed, A: Allocator>(sums: &[(K, i64)], p: u32, to: &mut Vec<Change, A>)
-    requires { vec_len to.old + length sums.now ≤ vec_capacity to.old }
-    ensures items { to.new.items ≡ to.old.items ++ map (K.change_of p) sums.now }
-    ensures len { vec_len to.new ≡ vec_len to.old + length sums.now }
-    ensures capacity { vec_capacity to.new ≡ vec_capacity to.old }
-{
-    for sum in sums {
-        to.push_reserved(sum.0.change(p, &sum.1));
-    }
-}
-
-// The same in a tree.
-fn list_many<K: Summed, A: Allocator>(sums: &TreeMap<K, i64, A>, p: u32, to: &mut Vec<Change, A>)
+// The changes of sums in a map, after those that are there.
+fn list_more<K: Summed, A: Allocator>(sums: &GrowingMap<K, i64, A>, p: u32, to: &mut Vec<Change, A>)
     requires { vec_len to.old + length sums.now ≤ vec_capacity to.old }
     ensures items { to.new.items ≡ to.old.items ++ map (K.change_of p) sums.now }
     ensures len { vec_len to.new ≡ vec_len to.old + length sums.now }
@@ -179,8 +157,7 @@ impl<K: Summed, A: Allocator + Copy> Store<K, A> {
     {
         match &self.held {
             Held::Least(sums) => list_least(sums, p, to),
-            Held::Few(sums) => list_few(sums.entries(), p, to),
-            Held::Many(sums) => list_many(sums, p, to),
+            Held::More(sums) => list_more(sums, p, to),
         }
     }
 }

@@ -86,67 +86,49 @@ fn starts_and_copies(rt: HostRuntime) {
     }
 }
 
-/// Runs of whose last step memory is refused, and whether its commit asks for any: a tree's node has room for some keys.
-static RUNS: [(Script, bool); 7] = [
+/// Runs of whose last step memory is refused: its plan and its commit each ask for some.
+static RUNS: [Script; 7] = [
+    (LINE, 2, &[Told::Feed(1, "a", &[5, 7, 5], Next::Next)]),
+    (LINE, 1, &[Told::Feed(0, "a", &[5], Next::Stay)]),
     (
-        (LINE, 2, &[Told::Feed(1, "a", &[5, 7, 5], Next::Next)]),
-        true,
-    ),
-    ((LINE, 1, &[Told::Feed(0, "a", &[5], Next::Stay)]), true),
-    (
-        (
-            SUM,
-            1,
-            &[
-                Told::Feed(0, "a", &[2], Next::Close),
-                Told::Take(0, "as", &[0], 2),
-            ],
-        ),
-        true,
+        SUM,
+        1,
+        &[
+            Told::Feed(0, "a", &[2], Next::Close),
+            Told::Take(0, "as", &[0], 2),
+        ],
     ),
     (
-        (
-            LOOP,
-            1,
-            &[
-                Told::Feed(0, "a", &[1], Next::Next),
-                Told::Take(0, "ai", &[0], 1),
-                Told::Take(0, "im", &[0, 0], 1),
-                Told::Take(0, "ms", &[0, 0], 2),
-            ],
-        ),
-        false,
+        LOOP,
+        1,
+        &[
+            Told::Feed(0, "a", &[1], Next::Next),
+            Told::Take(0, "ai", &[0], 1),
+            Told::Take(0, "im", &[0, 0], 1),
+            Told::Take(0, "ms", &[0, 0], 2),
+        ],
     ),
     (
-        (
-            LINE,
-            2,
-            &[Told::Feed(0, "a", &[5], Next::Next), Told::All(0)],
-        ),
-        true,
+        LINE,
+        2,
+        &[Told::Feed(0, "a", &[5], Next::Next), Told::All(0)],
     ),
     (
-        (
-            LINE,
-            2,
-            &[
-                Told::Feed(0, "a", &[5], Next::Next),
-                Told::Points(0, &[("az", &[0]), ("az", &[0])]),
-            ],
-        ),
-        true,
+        LINE,
+        2,
+        &[
+            Told::Feed(0, "a", &[5], Next::Next),
+            Told::Points(0, &[("az", &[0]), ("az", &[0])]),
+        ],
     ),
     (
-        (
-            LINE,
-            2,
-            &[
-                Told::Feed(0, "a", &[5], Next::Next),
-                Told::All(0),
-                Told::Receive(0, 1),
-            ],
-        ),
-        true,
+        LINE,
+        2,
+        &[
+            Told::Feed(0, "a", &[5], Next::Next),
+            Told::All(0),
+            Told::Receive(0, 1),
+        ],
     ),
 ];
 
@@ -247,10 +229,10 @@ fn last_in_turn<A: Allocator + Copy>(
 #[test]
 fn last_steps(rt: HostRuntime) {
     let heap = Refusing::new(rt.alloc());
-    for (row, ((text, n, steps), asks)) in RUNS.iter().enumerate() {
+    for (row, (text, n, steps)) in RUNS.iter().enumerate() {
         let met = last_in_turn(&heap, &heap, rt.alloc(), text, *n, steps);
         let asked = met.map(|(plans, commits, _)| (plans > 0, commits > 0));
-        assert_eq!(rt; asked, Some((true, *asks)), "in row {row}");
+        assert_eq!(rt; asked, Some((true, true)), "in row {row}");
     }
     let (text, n, steps) = &SUM_NOTIFIED;
     for turn in 0..steps.len() {

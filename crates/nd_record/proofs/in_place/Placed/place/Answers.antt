@@ -1,11 +1,14 @@
-use Rattle.std.proofs.Common.{length, ap, sym, refl, ◌∙◌}
+use Rattle.std.proofs.Common.{length, ap, subst, sym, refl, ◌∙◌}
 use Rattle.std.proofs.lemmas.List.{with_items_is}
 use Rattle.std.specs.Vec.{with_items}
 use Rattle.nd_record.specs.Limits.{CountStaysOf, EntryStaysOf}
-use Rattle.nd_record.specs.Turns.{number_of}
+use Rattle.nd_record.specs.Turns.{IsReadable, number_of}
 use Rattle.nd_record.proofs.TurnsLemmas.{both_true}
 use Rattle.nd_record.proofs.InPlaceLemmas.{placed_first, placed_second, placed_third}
 use Rattle.nd_record.proofs.in_place.Placed.place.Goals as goal
+
+pub reading_of-reading-requires : goal.reading_of-reading-requires
+reading_of-reading-requires g c = subst (IsReadable c.args.processors.now) (sym c.index.ensures) (c.requires.readable c.index.result.now)
 
 pub returns-in-Comes : goal.returns-in-Comes
 returns-in-Comes g c = λ all lt h.

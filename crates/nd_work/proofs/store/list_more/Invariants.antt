@@ -1,5 +1,5 @@
 use Rattle.std.proofs.Common.{◌≡◌, ◌+◌, ◌++◌, map, length, vec_len, vec_capacity}
-use Rattle.nd_work.proofs.store.list_many.Given as goal
+use Rattle.nd_work.proofs.store.list_more.Given as goal
 
 -- the changes of the sums so far are listed, in the room that there was
 abbrev pub invariant-loop-key : goal.invariant-loop-key

@@ -1,7 +1,7 @@
 use Rattle.std.proofs.Common.{◌≡◌, ◌∷◌, ◌++◌, [], List, map, length, ap, sym, ◌∙◌, append_assoc, arith}
 use Rattle.std.specs.Map.Iter.{deref_pair}
 use Rattle.std.proofs.lemmas.Map.Iter.{rest_more}
-use Rattle.nd_work.proofs.store.list_many.Goals as goal
+use Rattle.nd_work.proofs.store.list_more.Goals as goal
 
 listed_more : {E X : Type 0} (f : E → X) (to made all : List X) (x : X) (e : E) (rest es : List E) → es ≡ e ∷ rest → x ≡ f e → made ≡ to ++ x ∷ [] → to ++ map f es ≡ all → made ++ map f rest ≡ all
 listed_more f to made all x e rest es step is pushed so_far =

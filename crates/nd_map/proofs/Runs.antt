@@ -1,0 +1,6 @@
+-- How an iterator that is seen as the list of what it has left runs.
+use Rattle.std_collections.proofs.IterRuns.{shows_in_order}
+use Rattle.std.specs.Map.Iter.{ShowsInOrder}
+
+pub in_order : {A X : Type 0} (shows : A → X) → ShowsInOrder shows
+in_order shows = shows_in_order shows
