@@ -8,10 +8,7 @@ that what stands above them is not read; and each other function of the copy has
 a body that calls nothing, so that what stands below is not proved once more. An edit of a function that another edit changes is
 made in a function of its own: the same once more under another name, with its contract and its answers. What was not refused so
 is tried again with the rest, and at last alone, by the toolchain's own trial, over what the earlier checks of this run proved and
-then from nothing.
-
-In the gate such a check searches half as long for each goal (the prover's --margin), since nearly all of its time goes into
-searches that find nothing; `tools/rt must-fail` searches as long as a proof does."""
+then from nothing."""
 import collections
 import copy
 import glob
@@ -32,8 +29,6 @@ PLACE = re.compile(r"(?:note: )?(?:\./)?(\S+?):(\d+):\d+: ")
 VERDICT = re.compile(r"fn (\S+): (.*)")
 # what follows a function's name where it stands once more
 AGAIN = "_again"
-# the prover's word for a search of half the length
-HALF = ["--margin"]
 
 # A function: its file, the last names that the prover has for it, its first line and its last.
 Function = collections.namedtuple("Function", "file names first last")
@@ -322,14 +317,14 @@ def refused_together(rt, crate, edits, texts, flags, kept):
     return {it: why for it, why in found.items() if why}, []
 
 
-def must_fail_all(rt, crate, edits, flags, is_settled, refusal, half=()):
+def must_fail_all(rt, crate, edits, flags, is_settled, refusal):
     """For each edit what a try of the crate with it comes to, and what to say, as the toolchain's own trial of one edit; that
-    trial's word for a refusal is handed in, and whether a word of its ends the matter, and what shortens the searches of all edits together."""
+    trial's word for a refusal is handed in, and whether a word of its ends the matter."""
     left, refused = [it for it in edits if not rt.read_edit(it, crate.folder)[1]], {}
     with tempfile.TemporaryDirectory(prefix="rt-together-") as kept:
         while left:
             together, texts = chosen(crate.folder, left)
-            said, barred = refused_together(rt, crate, together, texts, [*flags, *half], kept) if together else ({}, [])
+            said, barred = refused_together(rt, crate, together, texts, flags, kept) if together else ({}, [])
             if not said and not barred:
                 break
             refused.update(said)
@@ -362,7 +357,7 @@ def add_edits(rt, tasks, crate, edits, first, waits, is_well, kept, start=None, 
             return None
         left = [number for number in range(len(edits)) if number not in known()]
         chosen = [edits[it] for it in left]
-        tried = dict(zip(left, must_fail_all(rt, crate, chosen, ["--jobs", "1"], rt.SETTLED.__contains__, rt.REFUSED, HALF if in_ci else ())))
+        tried = dict(zip(left, must_fail_all(rt, crate, chosen, ["--jobs", "1"], rt.SETTLED.__contains__, rt.REFUSED)))
         read = [crate] if in_ci else [crate, *crate.below()]
         for number, (kind, text) in tried.items():
             if kind in rt.SETTLED and all(kept.is_untouched(it) for it in read):
