@@ -1,4 +1,4 @@
-use Rattle.std.proofs.Common.{refl, sym, subst}
+use Rattle.std.proofs.Common.{refl, sym, subst, true≢false}
 use Rattle.std.specs.Prelude.{All}
 use Rattle.nd_graph.specs.Graph.{Dataflow}
 use Rattle.nd_view.specs.Kept.{IsFor}
@@ -6,8 +6,16 @@ use Rattle.nd_protocol.specs.Fitting.{IsState}
 use Rattle.nd_record.specs.Seen.{seen}
 use Rattle.nd_cluster.proofs.cluster.Cluster.of_parts.Goals as goal
 
+pub returns-clause-state : goal.returns-clause-state
+returns-clause-state g c = subst IsState (λ i. seen c.args.paths (c.deref.ensures.value i) (c.deref-2.ensures.value i) c.args.mesh) (c.if-not-parts_fit.ensures.0 refl)
+
+pub returns-then-not-parts_fit-clause-none : goal.returns-then-not-parts_fit-clause-none
+returns-then-not-parts_fit-clause-none g c = λ _ is.
+    let there = subst (λ (k : Dataflow). IsState (seen k c.args.processors.items c.args.views.items c.args.mesh)) (sym c.requires.paths) is in
+    true≢false (sym (c.if-not-parts_fit.ensures.1 (subst IsState (λ i. seen c.args.paths (sym c.deref.ensures.value i) (sym c.deref-2.ensures.value i) c.args.mesh) there)))
+
 pub invariant_of-result : goal.invariant_of-result
 invariant_of-result g c = record {
-  state = subst IsState (λ i. seen c.args.paths (c.deref.ensures.value i) (c.deref-2.ensures.value i) c.args.mesh) (c.if-not-parts_fit.ensures.0 refl);
+  state = returns-clause-state g c;
   kept = subst (λ (k : Dataflow). All (IsFor k) c.args.views.items) (sym c.requires.paths) c.requires.views;
 }
