@@ -163,8 +163,8 @@ def impl_around(lines, function):
 
 
 def again(edit, folder, texts):
-    """The functions that an edit changes, each once more under another name at the end of its file, and the texts with them; nothing
-    where that cannot be: in an impl of a trait, and where functions call one another."""
+    """The functions that an edit changes, each once more under another name at the end of its file, and the texts with them; or
+    nothing, if one of them is of an impl of a trait or of a ring of calls."""
     functions, changed = made(edit, folder, {})
     names = {it.names.rpartition("::")[2] for it in functions or ()}
     texts, found = dict(texts), set()
