@@ -336,7 +336,9 @@ fn parts<A: Allocator + Copy>(
     n: u64,
 ) -> Option<bool> {
     let part = take_all(processor, alloc)?;
-    let mut left = processor.copy(alloc).ok()?;
+    let Ok(mut left) = processor.copy(alloc) else {
+        return None;
+    };
     met!(heap, n: left.put_part(&part); AllocError, left.unsent().len() == 0)
 }
 

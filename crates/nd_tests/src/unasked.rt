@@ -171,7 +171,9 @@ fn processors_tell<A: Allocator + Copy>(heap: &Heap, alloc: A, json: Global) -> 
     let mut processor = holding(alloc, &graph, &key)?;
     unasked!(heap: adds(&mut processor, &key)?);
     let is_told = unasked!(heap: processor_tells(&processor, &key));
-    let part = processor.unsent().part(alloc, &[key.point.copy()]).ok()?;
+    let Ok(part) = processor.unsent().part(alloc, &[key.point.copy()]) else {
+        return None;
+    };
     let is_given = unasked!(heap: gives_up(&mut processor, &key, &part)?);
     Some(is_told && is_given)
 }
