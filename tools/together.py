@@ -21,8 +21,6 @@ import threading
 FUNCTION = re.compile(r"\s*(?:pub(?:\([^)]*\))?\s+)?(?:const\s+)?(?:unsafe\s+)?fn\s+(\w+)")
 # a proof file that names what an edit took away, and what cites a proof that another edit broke
 OF_NAMES = re.compile(r"(\./)?proofs/.*(has no field|is not in scope|has no `|was not admitted|was not checked)")
-# whether the prover's name of an impl has what its trait is given, and the type's first letter as a capital
-names_are_whole = True
 # an error, or a goal that is left open
 AGAINST = re.compile(r"(?:\./)?\S+?:\d+:\d+: error|note: (?:\./)?\S+?:\d+:\d+: it is not proved that ")
 PLACE = re.compile(r"(?:note: )?(?:\./)?(\S+?):(\d+):\d+: ")
@@ -62,9 +60,9 @@ def without_angles(text):
 
 
 def short(path):
-    """The last name of a path, as the prover writes it: without what stands between < and >."""
+    """The last name of a path, as the prover writes it: with a capital, without what stands between < and >."""
     name = without_angles(path).strip().rpartition("::")[2]
-    return name[:1].upper() + name[1:] if names_are_whole else name
+    return name[:1].upper() + name[1:]
 
 
 def parts(text):
@@ -82,7 +80,7 @@ def parts(text):
 def given_to(path):
     """What a path's last name is given between < and >, if the prover names it."""
     inside = re.match(r"[^<]*<(.*)>\s*$", path)
-    return parts(inside[1]) if inside and names_are_whole else []
+    return parts(inside[1]) if inside else []
 
 
 def named(path, own):
