@@ -1,5 +1,9 @@
 -- What is kept of what a step changed: enough to tell it again.
-use Rattle.std.specs.Prelude.{◌≡◌, ℕ, ℤ, pos, negsuc, true, List, map, take}
+use Rattle.std.specs.Prelude.{◌≡◌, ℕ, ℤ, pos, negsuc, true, List, length, map, take, nat_lt, if◌then◌else◌}
+use Rattle.nd_time.specs.Time.{Time, ingress_of, egress_of, feedback_of, last_of}
+use Rattle.nd_time.specs.Limits.{max_depth, max_counter}
+use Rattle.nd_graph.specs.declared.op.Action.{Action}
+use Rattle.nd_graph.specs.declared.op.Action.TheVariants.{Identity, Ingress, Egress, Feedback}
 use Rattle.nd_processor.specs.declared.key.ValueAt.{ValueAt}
 use Rattle.nd_protocol.specs.State.{ClusterState}
 use Rattle.nd_protocol.specs.Steps.{record_key}
@@ -9,13 +13,26 @@ use Rattle.nd_record.specs.Changes.{IsRunnable, applied}
 use Rattle.nd_record.specs.Records.{AreEqual, Makes}
 use Rattle.nd_record.specs.declared.change.Change.{Change}
 use Rattle.nd_record.specs.declared.change.Change.TheVariants.{Records, Sink, Unsent}
-use Rattle.nd_record.specs.declared.flow.Come.{Come}
-use Rattle.nd_record.specs.declared.flow.Come.TheVariants.{Nothing, Record, Count}
+use Rattle.nd_record.specs.declared.come.Come.{Come}
+use Rattle.nd_record.specs.declared.come.Come.TheVariants.{Nothing, Record, Count}
 use Rattle.nd_record.specs.declared.flow.Part.{Part}
 use Rattle.nd_record.specs.declared.flow.Part.TheVariants.{Goes, GoneUnsent, Comes, ComeUnsent}
 use Rattle.nd_record.specs.declared.flow.Flow.{Flow}
 use Rattle.nd_record.specs.declared.kept.Kept.{Kept}
 use Rattle.nd_record.specs.declared.kept.Kept.TheVariants.{Flowed, Listed}
+
+-- the time past an action, or the same where the action is not taken: by the limits, or outside all loops
+abbrev pub past_action : Action → Time → Time
+past_action Identity t = t
+past_action Ingress t = if nat_lt (length t.counters) max_depth then record { epoch = t.epoch; counters = ingress_of t.counters } else t
+past_action Egress t = record { epoch = t.epoch; counters = egress_of t.counters }
+past_action Feedback t = if nat_lt (last_of t.counters) max_counter then record { epoch = t.epoch; counters = feedback_of t.counters } else t
+
+-- the record that comes for one that goes, at its time past the action; that one again if none comes
+abbrev pub come_key : ValueAt → Come → ValueAt
+come_key gone Nothing = gone
+come_key gone (Record action q edge value) = record_key edge (past_action action gone.point.time) value
+come_key gone (Count vertex) = gone
 
 -- so many records of a key more
 abbrev pub records_of : ℕ → ValueAt → ℤ → Change
@@ -29,26 +46,30 @@ abbrev pub gone_unsent : ℕ → ValueAt → Change
 gone_unsent p gone = Unsent p gone.point (negsuc 0)
 
 -- what comes for it, and that this is to be sent; where nothing does, what goes is told in its place
-abbrev pub comes_of : ℕ → ValueAt → Come → Change
-comes_of p gone Nothing = goes_of p gone
-comes_of p gone (Record q key) = records_of q key (pos 1)
-comes_of p gone (Count vertex) = Sink p vertex gone.value true
+abbrev pub comes_of : ℕ → ValueAt → ValueAt → Come → Change
+comes_of p gone key Nothing = goes_of p gone
+comes_of p gone key (Record action q edge value) = records_of q key (pos 1)
+comes_of p gone key (Count vertex) = Sink p vertex gone.value true
 
-abbrev pub come_unsent : ℕ → ValueAt → Come → Change
-come_unsent p gone Nothing = gone_unsent p gone
-come_unsent p gone (Record q key) = Unsent p key.point (pos 1)
-come_unsent p gone (Count vertex) = gone_unsent p gone
+abbrev pub come_unsent : ℕ → ValueAt → ValueAt → Come → Change
+come_unsent p gone key Nothing = gone_unsent p gone
+come_unsent p gone key (Record action q edge value) = Unsent p key.point (pos 1)
+come_unsent p gone key (Count vertex) = gone_unsent p gone
 
--- a change of the take of a record by processor p
-abbrev pub part_of : ℕ → ValueAt → Come → Part → Change
-part_of p gone come Goes = goes_of p gone
-part_of p gone come GoneUnsent = gone_unsent p gone
-part_of p gone come Comes = comes_of p gone come
-part_of p gone come ComeUnsent = come_unsent p gone come
+-- a change of the take of a record by processor p, for which this key comes if a record does
+abbrev pub part_of : ℕ → ValueAt → ValueAt → Come → Part → Change
+part_of p gone key come Goes = goes_of p gone
+part_of p gone key come GoneUnsent = gone_unsent p gone
+part_of p gone key come Comes = comes_of p gone key come
+part_of p gone key come ComeUnsent = come_unsent p gone key come
+
+-- those that are the parts of a flow
+abbrev pub told_parts : ℕ → ValueAt → ValueAt → Flow → List Change
+told_parts p gone key f = map (part_of p gone key f.come) (take f.count f.parts)
 
 -- the changes that a flow tells of the take of a record by processor p
 abbrev pub flow_changes : ℕ → ValueAt → Flow → List Change
-flow_changes p gone f = map (part_of p gone f.come) (take f.count f.parts)
+flow_changes p gone f = told_parts p gone (come_key gone f.come) f
 
 -- the step is a take, of which the flow tells these changes
 abbrev pub Tells : {A : Type 0} → Step A → Flow → List Change → Type 0

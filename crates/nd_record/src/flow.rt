@@ -3,10 +3,11 @@ ghost use Rattle.std.specs.Prelude.{◌≡◌, ◌<◌, ◌≤◌, IfSome, OnOk,
 ghost use Rattle.nd_protocol.specs.State.{ClusterState};
 ghost use Rattle.nd_record.specs.Changes.{IsRunnable, applied};
 ghost use Rattle.nd_record.specs.Undone.{Limits, Runs, HasRun, only};
-ghost use Rattle.nd_record.specs.Flows.{part_of, flow_changes, Tells};
+ghost use Rattle.nd_record.specs.Flows.{come_key, part_of, flow_changes, Tells};
 ghost use Rattle.nd_record.specs.declared.flow.Part.TheVariants.{Goes};
 
 use crate::Change;
+use crate::come::Come;
 use crate::making::value_at;
 use crate::parts::Told;
 use crate::run::{make_run, undo_run};
@@ -16,16 +17,6 @@ use std::alloc::{AllocError, Allocator};
 
 /// The most changes that a flow tells.
 pub const MOST: usize = 4;
-
-/// What comes for a record that goes.
-#[derive(Drop)]
-pub enum Come {
-    Nothing,
-    /// A record, to processor p.
-    Record { p: u32, key: ValueAt },
-    /// A sink counts the value.
-    Count { vertex: usize },
-}
 
 /// One of the changes of a take: of what goes, or of what comes for it; of records and sinks, or of what is unsent.
 #[derive(Clone, Copy, Debug, PartialEq, Eq, Drop)]
@@ -37,63 +28,25 @@ pub enum Part {
 }
 
 /// The changes of a take, in their order, but for what the step itself tells: the first `count` of `parts`.
-#[derive(Drop)]
+#[derive(Clone, Copy, Drop)]
 pub struct Flow {
     pub come: Come,
     pub parts: [Part; MOST],
     pub count: u8,
 }
 
-impl Come {
-    /// An equal one.
-    fn copy(&self) -> Come
-        ensures { result ≡ self.now }
-    {
-        match self {
-            Come::Nothing => Come::Nothing,
-            Come::Record { p, key } => Come::Record {
-                p: *p,
-                key: key.copy(),
-            },
-            Come::Count { vertex } => Come::Count { vertex: *vertex },
-        }
-    }
-}
-
-// What comes by changes of a take, as far as one change tells it.
-fn come_by(changes: &[Change]) -> Come {
-    for change in changes {
-        match change {
-            Change::Records {
-                p,
-                edge,
-                time,
-                value,
-                n,
-            } if *n > 0 => {
-                return Come::Record {
-                    p: *p,
-                    key: value_at(*edge, time, *value),
-                };
-            }
-            Change::Sink { vertex, .. } => return Come::Count { vertex: *vertex },
-            _ => {}
-        }
-    }
-    Come::Nothing
-}
-
 // The parts of a take that changes are, if each of them is one and they are few.
 fn parts_of(p: u32, gone: &ValueAt, come: &Come, changes: &[Change]) -> Option<[Part; MOST]>
     ensures few { IfSome result (λ ps. length changes.now ≤ 4) }
-    ensures parts { IfSome result (λ ps. map (part_of p gone.now come.now) (take (length changes.now) ps) ≡ changes.now) }
+    ensures parts { IfSome result (λ ps. map (part_of p gone.now (come_key gone.now come.now) come.now) (take (length changes.now) ps) ≡ changes.now) }
 {
     if changes.len() > MOST {
         return None;
     }
+    let key = come.key(gone);
     let mut parts = [Part::Goes; MOST];
     for i in 0..changes.len() {
-        parts[i] = come.part_with(p, gone, &changes[i])?;
+        parts[i] = come.part_with(p, gone, &key, &changes[i])?;
     }
     Some(parts)
 }
@@ -113,7 +66,7 @@ impl Flow {
             return None;
         };
         let gone = value_at(*edge, time, *value);
-        let come = come_by(changes);
+        let come = Come::by(&gone, changes)?;
         let parts = parts_of(*p, &gone, &come, changes)?;
         Some(Flow {
             come,
@@ -126,11 +79,7 @@ impl Flow {
     pub fn copy(&self) -> Flow
         ensures { result ≡ self.now }
     {
-        Flow {
-            come: self.come.copy(),
-            parts: self.parts,
-            count: self.count,
-        }
+        *self
     }
 
     // How many parts count.
@@ -164,6 +113,7 @@ impl Flow {
             flow: self,
             p,
             gone,
+            key: &self.come.key(gone),
         };
         make_run(processors, &told)
     }
@@ -183,6 +133,7 @@ impl Flow {
             flow: self,
             p,
             gone,
+            key: &self.come.key(gone),
         };
         undo_run(processors, &told)
     }

@@ -2,6 +2,7 @@
 #![tactic(auto)]
 
 mod change;
+mod come;
 mod counted;
 mod exchange;
 mod flow;
@@ -16,8 +17,9 @@ mod record;
 mod run;
 
 pub use change::Change;
+pub use come::Come;
 pub use counted::changes_are_counted;
-pub use flow::{Come, Flow, Part};
+pub use flow::{Flow, Part};
 pub use kept::Kept;
 pub use listed::{Entries, Entry};
 pub use order::planned_changes;

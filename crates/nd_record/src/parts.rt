@@ -3,11 +3,12 @@ ghost use Rattle.std.specs.Prelude.{◌≡◌, pos, true, IfSome, OnOk, OnErr};
 ghost use Rattle.nd_record.specs.Standing.{standing};
 ghost use Rattle.nd_record.specs.Changes.{place_of, inverse, made, Fits};
 ghost use Rattle.nd_record.specs.Undone.{only};
-ghost use Rattle.nd_record.specs.Flows.{records_of, part_of, flow_changes};
+ghost use Rattle.nd_record.specs.Flows.{records_of, part_of, told_parts};
 ghost use Rattle.nd_record.specs.declared.change.Change.TheVariants.{Sink, Unsent};
 
 use crate::Change;
-use crate::flow::{Come, Flow, Part};
+use crate::come::Come;
+use crate::flow::{Flow, Part};
 use crate::making::{count_one, more_records, more_unsent};
 use crate::run::Run;
 use nd_paths::Pointstamp;
@@ -21,12 +22,13 @@ impl Come {
         processors: &mut Vec<Processor<A>, A>,
         p: u32,
         gone: &ValueAt,
+        key: &ValueAt,
         part: Part,
     ) -> Result<(), AllocError>
-        requires { Fits (only processors.old.items) (part_of p gone.now self.now part) }
-        ensures ok { OnOk result (only processors.new.items ≡ made (only processors.old.items) (part_of p gone.now self.now part)) }
+        requires { Fits (only processors.old.items) (part_of p gone.now key.now self.now part) }
+        ensures ok { OnOk result (only processors.new.items ≡ made (only processors.old.items) (part_of p gone.now key.now self.now part)) }
         ensures err { OnErr result (processors.new.items ≡ processors.old.items) }
-        ensures absent { OnErr result (standing (only processors.old.items) (place_of (part_of p gone.now self.now part)) ≡ pos 0) }
+        ensures absent { OnErr result (standing (only processors.old.items) (place_of (part_of p gone.now key.now self.now part)) ≡ pos 0) }
     {
         let taker = p as usize;
         match part {
@@ -34,11 +36,11 @@ impl Come {
             Part::GoneUnsent => more_unsent(&mut processors[taker], &gone.point, -1),
             Part::Comes => match self {
                 Come::Nothing => more_records(&mut processors[taker], gone, -1),
-                Come::Record { p: to, key } => more_records(&mut processors[*to as usize], key, 1),
+                Come::Record { p: to, .. } => more_records(&mut processors[*to as usize], key, 1),
                 Come::Count { vertex } => count_one(&mut processors[taker], *vertex, gone.value),
             },
             Part::ComeUnsent => match self {
-                Come::Record { p: _, key } => more_unsent(&mut processors[taker], &key.point, 1),
+                Come::Record { .. } => more_unsent(&mut processors[taker], &key.point, 1),
                 Come::Nothing | Come::Count { .. } => {
                     more_unsent(&mut processors[taker], &gone.point, -1)
                 }
@@ -52,12 +54,13 @@ impl Come {
         processors: &mut Vec<Processor<A>, A>,
         p: u32,
         gone: &ValueAt,
+        key: &ValueAt,
         part: Part,
     ) -> Result<(), AllocError>
-        requires { Fits (only processors.old.items) (inverse (part_of p gone.now self.now part)) }
-        ensures ok { OnOk result (only processors.new.items ≡ made (only processors.old.items) (inverse (part_of p gone.now self.now part))) }
+        requires { Fits (only processors.old.items) (inverse (part_of p gone.now key.now self.now part)) }
+        ensures ok { OnOk result (only processors.new.items ≡ made (only processors.old.items) (inverse (part_of p gone.now key.now self.now part))) }
         ensures err { OnErr result (processors.new.items ≡ processors.old.items) }
-        ensures absent { OnErr result (standing (only processors.old.items) (place_of (inverse (part_of p gone.now self.now part))) ≡ pos 0) }
+        ensures absent { OnErr result (standing (only processors.old.items) (place_of (inverse (part_of p gone.now key.now self.now part))) ≡ pos 0) }
     {
         let taker = p as usize;
         match part {
@@ -65,14 +68,14 @@ impl Come {
             Part::GoneUnsent => more_unsent(&mut processors[taker], &gone.point, 1),
             Part::Comes => match self {
                 Come::Nothing => more_records(&mut processors[taker], gone, 1),
-                Come::Record { p: to, key } => more_records(&mut processors[*to as usize], key, -1),
+                Come::Record { p: to, .. } => more_records(&mut processors[*to as usize], key, -1),
                 Come::Count { vertex } => {
                     processors[taker].take_sink(*vertex, gone.value, 1);
                     Ok(())
                 }
             },
             Part::ComeUnsent => match self {
-                Come::Record { p: _, key } => more_unsent(&mut processors[taker], &key.point, -1),
+                Come::Record { .. } => more_unsent(&mut processors[taker], &key.point, -1),
                 Come::Nothing | Come::Count { .. } => {
                     more_unsent(&mut processors[taker], &gone.point, 1)
                 }
@@ -81,27 +84,33 @@ impl Come {
     }
 
     // Whether a change is a part of the take of a record.
-    fn is_part(&self, p: u32, gone: &ValueAt, part: Part, change: &Change) -> bool
-        ensures { result ≡ true → part_of p gone.now self.now part ≡ change.now }
+    fn is_part(&self, p: u32, gone: &ValueAt, key: &ValueAt, part: Part, change: &Change) -> bool
+        ensures { result ≡ true → part_of p gone.now key.now self.now part ≡ change.now }
     {
         match part {
             Part::Goes => is_records(change, p, gone, -1),
             Part::GoneUnsent => is_unsent(change, p, &gone.point, -1),
             Part::Comes => match self {
                 Come::Nothing => is_records(change, p, gone, -1),
-                Come::Record { p: to, key } => is_records(change, *to, key, 1),
+                Come::Record { p: to, .. } => is_records(change, *to, key, 1),
                 Come::Count { vertex } => is_count(change, p, *vertex, gone.value),
             },
             Part::ComeUnsent => match self {
-                Come::Record { p: _, key } => is_unsent(change, p, &key.point, 1),
+                Come::Record { .. } => is_unsent(change, p, &key.point, 1),
                 Come::Nothing | Come::Count { .. } => is_unsent(change, p, &gone.point, -1),
             },
         }
     }
 
     // Which part of the take a change is, if it is one.
-    pub(crate) fn part_with(&self, p: u32, gone: &ValueAt, change: &Change) -> Option<Part>
-        ensures { IfSome result (λ x. part_of p gone.now self.now x ≡ change.now) }
+    pub(crate) fn part_with(
+        &self,
+        p: u32,
+        gone: &ValueAt,
+        key: &ValueAt,
+        change: &Change,
+    ) -> Option<Part>
+        ensures { IfSome result (λ x. part_of p gone.now key.now self.now x ≡ change.now) }
     {
         let part = match change {
             Change::Records { n, .. } if *n < 0 => Part::Goes,
@@ -110,7 +119,7 @@ impl Come {
             Change::Unsent { .. } => Part::ComeUnsent,
             Change::Request { .. } | Change::Token { .. } | Change::State { .. } => return None,
         };
-        if self.is_part(p, gone, part, change) {
+        if self.is_part(p, gone, key, part, change) {
             Some(part)
         } else {
             None
@@ -165,16 +174,17 @@ fn is_unsent(change: &Change, p: u32, at: &Pointstamp, more: i64) -> bool
     }
 }
 
-// The changes that a flow tells of the take of a record by processor p.
+// The changes that a flow tells of the take of a record by processor p, for which a key comes if a record does.
 #[derive(Drop)]
 pub(crate) struct Told<'a> {
     pub(crate) flow: &'a Flow,
     pub(crate) p: u32,
     pub(crate) gone: &'a ValueAt,
+    pub(crate) key: &'a ValueAt,
 }
 
 impl<'a, A: Allocator + Copy> Run<A> for Told<'a> {
-    ghost told = { λ t. flow_changes t.p t.gone.now t.flow.now };
+    ghost told = { λ t. told_parts t.p t.gone.now t.key.now t.flow.now };
 
     fn count(&self) -> usize {
         self.flow.many()
@@ -184,13 +194,13 @@ impl<'a, A: Allocator + Copy> Run<A> for Told<'a> {
         let part = self.flow.part(i);
         self.flow
             .come
-            .make_part(processors, self.p, self.gone, part)
+            .make_part(processors, self.p, self.gone, self.key, part)
     }
 
     fn undo_at(&self, processors: &mut Vec<Processor<A>, A>, i: usize) -> Result<(), AllocError> {
         let part = self.flow.part(i);
         self.flow
             .come
-            .undo_part(processors, self.p, self.gone, part)
+            .undo_part(processors, self.p, self.gone, self.key, part)
     }
 }
