@@ -194,5 +194,9 @@ module _ (records : List (ValueAt × ℕ)) (requests : List (Pointstamp × Unit 
   pub unsent_back : (after : Change) → after ≡ unsent → seen records requests tokens items sinks after ≡ state
   unsent_back after is = ap (λ u. seen records requests tokens items sinks u) is ∙ view
 
+  -- what is unsent is changed
+  pub unsent_changed : (edit : Change → Change) (after : Change) → after ≡ edit unsent → seen records requests tokens items sinks after ≡ record state { unsent = edit state.unsent }
+  unsent_changed edit after is = ap (λ u. seen records requests tokens items sinks u) is ∙ ap (λ (q : ProcessorState). record q { unsent = edit q.unsent }) view
+
   pub unsent_full : (x : Pointstamp) (n : ℤ) {P : Type 0} → P ↔ (max_count < unsigned_abs (change_at unsent x +ℤ n)) → P ↔ (max_count < unsigned_abs (change_at state.unsent x +ℤ n))
   unsent_full x n {P} h = subst (λ (q : ProcessorState). P ↔ (max_count < unsigned_abs (change_at q.unsent x +ℤ n))) view h

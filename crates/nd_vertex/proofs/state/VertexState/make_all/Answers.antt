@@ -1,4 +1,4 @@
-use Rattle.std.proofs.Common.{◌≡◌, ◌<◌, ◌≤◌, ◌+◌, ◌-◌, true, false, cond, length, take, ap, sym, ◌∙◌, arith}
+use Rattle.std.proofs.Common.{◌≡◌, ◌<◌, ◌≤◌, ◌+◌, ◌-◌, true, false, cond, length, take, ap, sym, ◌∙◌, arith, rules}
 use Rattle.std.specs.List.{filter}
 use Rattle.std.proofs.lemmas.List.{take_all, length-map}
 use Rattle.nd_vertex.specs.Edits.{item_of, with_item, edited, directed}
@@ -93,3 +93,6 @@ returns-clause-ok g c =
     let past : length c.args.edits.now ≤ c.loop-k.k = omega (arith, c.loop-k-test.false) in
     let all : length es ≤ c.loop-k.k = rw length-map past in
     c.loop-k.invariant ∙ ap (λ xs. edited (edited c.args.self.now (filter adds es)) (filter others xs)) (take_all c.loop-k.k es all) ∙ reordered adds c.args.self.now es c.requires.once
+
+pub returns-in_default-clause-err : goal.returns-in_default-clause-err
+returns-in_default-clause-err g c = search rules
