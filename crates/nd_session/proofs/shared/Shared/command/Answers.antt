@@ -1,6 +1,6 @@
-use Rattle.std.proofs.Common.{rules, inr}
+use Rattle.std.proofs.Common.{rules, ap, inr, ◌∙◌}
 use Rattle.nd_session.specs.declared.receipt.Receipt.{Receipt}
-use Rattle.nd_session.specs.Clients.{HoldsLast, IsKnown}
+use Rattle.nd_session.specs.Clients.{ClientValue, HoldsLast, IsKnown}
 use Rattle.nd_session.specs.Faults.{CommandFails}
 use Rattle.nd_session.proofs.Logs.{refused, passed_on}
 use Rattle.nd_session.proofs.Told.{own_grows, known_fails}
@@ -35,3 +35,6 @@ invariant_of-client-2 g c =
     } in
     rw (c.push_reserved.ensures.items, c.reserve.ensures.items)
     (own_grows c.client.inside.number c.args.self.now.state.log c.client.inside.receipts.items pushed c.client.invariant known (search rules) (search rules))
+
+pub returns-clause-client : goal.returns-clause-client
+returns-clause-client g c = c.in_ok-receipt.ensures.client ∙ ap (λ (v : ClientValue g.row.A.Denot). v.number) c.client.view_is

@@ -1,9 +1,9 @@
-use Rattle.std.proofs.Common.{◌<◌, rules, arith, subst, length, Result, IfErr}
+use Rattle.std.proofs.Common.{◌<◌, rules, arith, subst, ap, length, Result, IfErr}
 use Rattle.nd_time.specs.Limits.{max_log}
 use Rattle.nd_session.specs.declared.fault.SessionFault.{SessionFault}
 use Rattle.nd_session.specs.declared.receipt.Receipt.{Receipt}
 use Rattle.nd_session.specs.Faults.{ApplyFails}
-use Rattle.nd_session.proofs.Logs.{passed_on}
+use Rattle.nd_session.proofs.Logs.{passed_on, placed_last}
 use Rattle.nd_session.proofs.state.State.apply.Goals as goal
 
 pub returns-in_err-reply-clause-fails : goal.returns-in_err-reply-clause-fails
@@ -17,3 +17,9 @@ returns-in_err-reply-clause-full g c =
       (λ is. subst (λ (r : Result (Receipt g.row.A.Denot) (SessionFault g.row.A.Denot)). IfErr r (ApplyFails (c.args.self.now).log)) is (returns-in_err-reply-clause-fails g c)),
       (λ full. absurd (omega (arith, full, room))),
     )
+
+pub returns-clause-entry : goal.returns-clause-entry
+returns-clause-entry g c = rw (c.log.ensures.value, c.count-number.ensures, c.in_ok-asked.ensures) c.in_ok-reply.ensures.entry
+
+pub returns-clause-placed : goal.returns-clause-placed
+returns-clause-placed g c = placed_last c.args.self.now.log _ (ap length c.log.ensures.value) c.count-number.ensures
