@@ -19,6 +19,7 @@ import tempfile
 import threading
 
 FUNCTION = re.compile(r"\s*(?:pub(?:\([^)]*\))?\s+)?(?:const\s+)?(?:unsafe\s+)?fn\s+(\w+)")
+TYPE = re.compile(r"^(?:pub(?:\([^)]*\))?\s+)?(?:struct|enum)\s+(\w+)", re.MULTILINE)
 # a proof file that names what an edit took away, and what cites a proof that another edit broke
 OF_NAMES = re.compile(r"(\./)?proofs/.*(has no field|is not in scope|has no `|was not admitted|was not checked)")
 # an error, or a goal that is left open
@@ -224,20 +225,27 @@ def reason(verdicts, told, function):
     return next((it for it in told if PLACE.match(it)[1].startswith(answers) or is_in(it, function)), None)
 
 
+def module_of(file):
+    """The module that a file of a crate is, as a folder."""
+    return re.sub(r"(^|/)(lib|main|mod)$", "", file.removeprefix("src/").removesuffix(".rt"))
+
+
 def functions_of(folder):
-    """The functions of a crate that have a proof of their own, each with its folder: not those that call one another, nor those that
-    take a value apart."""
+    """The functions of a crate that have a proof of their own, each with its folder, which stands under the module of its type: not
+    those that call one another, nor those that take a value apart."""
+    sources = {}
     for path in glob.glob(f"{folder}/src/**/*.rt", recursive=True):
-        file = os.path.relpath(path, folder)
         with open(path, encoding="utf-8") as it:
-            source = it.read()
-        module = re.sub(r"(^|/)(lib|main|mod)$", "", file.removeprefix("src/").removesuffix(".rt"))
+            sources[os.path.relpath(path, folder)] = it.read()
+    types = {name: module_of(file) for file, source in sources.items() for name in TYPE.findall(source)}
+    for file, source in sources.items():
         place = 0
         for line in source.split("\n"):
             at = function_at(file, source, place) if FUNCTION.match(line) else None
             if at and not at.names.endswith("Drop::drop") and "#[cycle" not in "\n".join(source.split("\n")[at.first - 1 : at.last]):
                 owner, _, name = at.names.rpartition("::")
-                yield at, "/".join(filter(None, ["proofs", module, owner if line.startswith(" ") else "", name]))
+                owner = owner if line.startswith(" ") else ""
+                yield at, "/".join(filter(None, ["proofs", types.get(owner, module_of(file)), owner, name]))
             place += len(line) + 1
 
 
