@@ -146,10 +146,9 @@ fn entries_of_records(rt: HostRuntime) {
     assert_eq!(rt; tells_exchange(rt.alloc()), Some(true));
 }
 
-/// Whether a flow is kept of a step after a feed of 2.
-fn keeps_flow(alloc: Global, text: &str, told: &Told) -> Option<bool> {
-    let fed = Told::Feed(0, "a", &[2], Next::Close);
-    let mut cluster = reach(alloc, alloc, text, 1, &[fed])?;
+/// Whether a flow is kept of a step after others.
+fn keeps_flow(alloc: Global, text: &str, before: &[Told], told: &Told) -> Option<bool> {
+    let mut cluster = reach(alloc, alloc, text, 1, before)?;
     let step = step_of(alloc, cluster.graph(), told)?;
     let Ok(record) = cluster.plan(&step) else {
         return None;
@@ -161,11 +160,32 @@ fn keeps_flow(alloc: Global, text: &str, told: &Told) -> Option<bool> {
 #[test]
 fn flows_are_kept_of_plain_takes(rt: HostRuntime) {
     let alloc = rt.alloc();
+    let fed = [Told::Feed(0, "a", &[2], Next::Close)];
     let sunk = Told::Take(0, "az", &[0], 2);
-    assert_eq!(rt; keeps_flow(alloc, LINE, &sunk), Some(true));
+    assert_eq!(rt; keeps_flow(alloc, LINE, &fed, &sunk), Some(true));
     let moved = Told::Take(0, "am", &[0], 2);
-    assert_eq!(rt; keeps_flow(alloc, ADD, &moved), Some(true));
+    assert_eq!(rt; keeps_flow(alloc, ADD, &fed, &moved), Some(true));
     let summed = Told::Take(0, "as", &[0], 2);
-    assert_eq!(rt; keeps_flow(alloc, SUM, &summed), Some(false));
-    assert_eq!(rt; keeps_flow(alloc, LINE, &Told::All(0)), Some(false));
+    assert_eq!(rt; keeps_flow(alloc, SUM, &fed, &summed), Some(false));
+    assert_eq!(rt; keeps_flow(alloc, LINE, &fed, &Told::All(0)), Some(false));
+}
+
+#[test]
+fn flows_are_kept_past_each_action(rt: HostRuntime) {
+    let alloc = rt.alloc();
+    let steps = [
+        Told::Feed(0, "a", &[1, 2], Next::Close),
+        Told::Take(0, "ai", &[0], 1),
+        Told::Take(0, "ai", &[0], 2),
+        Told::Take(0, "im", &[0, 0], 1),
+        Told::Take(0, "im", &[0, 0], 2),
+        Told::Take(0, "ms", &[0, 0], 2),
+        Told::Take(0, "ms", &[0, 0], 3),
+    ];
+    let entered = Told::Take(0, "ai", &[0], 1);
+    assert_eq!(rt; keeps_flow(alloc, LOOP, &steps[..1], &entered), Some(true));
+    let left = Told::Take(0, "se", &[0, 0], 3);
+    assert_eq!(rt; keeps_flow(alloc, LOOP, &steps, &left), Some(true));
+    let round = Told::Take(0, "sf", &[0, 0], 2);
+    assert_eq!(rt; keeps_flow(alloc, LOOP, &steps, &round), Some(true));
 }
