@@ -1,3 +1,1 @@
-mod Front
-mod InOrder
 mod NoFloat

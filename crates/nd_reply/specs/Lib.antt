@@ -1,4 +1,2 @@
 pub mod Codes
-pub mod Fields
-pub mod Shapes
 pub mod Shows

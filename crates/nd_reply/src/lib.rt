@@ -1,13 +1,10 @@
-//! Replies: JSON values without a float, how they are put together, and their text.
+//! Replies: values of `serde_json` that hold no float, so that their text is known.
 #![tactic(auto)]
 
-mod fields;
 mod list;
 mod member;
 mod object;
-mod shape;
 mod shown;
-mod text;
 mod value;
 
 pub use list::JsonList;

@@ -1,4 +1,4 @@
-//! A list of JSON values that is put together.
+//! An array that is built item by item.
 ghost use Rattle.std.specs.Prelude.{◌≡◌, ◌++◌, ◌∷◌, [], IfOk, OnOk, OnErr};
 ghost use Rattle.serde_json.specs.Data.{array};
 ghost use Rattle.serde_json.specs.View.{items_of};
@@ -8,9 +8,8 @@ use serde_json::Value;
 use std::alloc::{AllocError, Global};
 use std::marker::Model;
 
-/// The values that a list will hold, in their order.
+/// The items of an array that is being built.
 pub struct JsonList {
-    alloc: Global,
     items: Vec<Value>,
 }
 
@@ -34,32 +33,30 @@ impl Model for JsonList {
 
 impl Drop for JsonList {
     fn drop(self) {
-        let JsonList { alloc: _, items: _ } = self;
+        let JsonList { items: _ } = self;
     }
 }
 
 impl JsonList {
-    /// No value.
+    /// Makes an empty array.
     pub fn new(alloc: Global) -> JsonList
         ensures { result ≡ [] }
     {
         JsonList {
-            alloc,
             items: Vec::new(alloc),
         }
     }
 
-    /// Puts a value behind the others.
+    /// Appends `item`.
     pub fn push(&mut self, item: Json) -> Result<(), AllocError>
         ensures ok { OnOk result (self.new ≡ self.old ++ item ∷ []) }
         ensures err { OnErr result (self.new ≡ self.old) }
     {
-        let value = item.into_value(self.alloc)?;
-        self.items.push(value)?;
+        self.items.push(item.into_value())?;
         Ok(())
     }
 
-    /// The same, with this value behind the others.
+    /// Appends `item` and returns the array.
     pub fn with(self, item: Json) -> Result<JsonList, AllocError>
         ensures { IfOk result (λ l. l ≡ self ++ item ∷ []) }
     {
@@ -68,11 +65,11 @@ impl JsonList {
         Ok(list)
     }
 
-    /// The list of them.
+    /// Returns the array as a reply.
     pub fn into_json(self) -> Json
         ensures { result ≡ array (items_of self) }
     {
-        let JsonList { alloc: _, items } = self;
+        let JsonList { items } = self;
         Json::of(Value::Array(items))
     }
 }

@@ -1,4 +1,4 @@
-//! What can be a member of a reply, and replies as they are written.
+//! What can be a member of a reply, and the macro that builds replies.
 ghost use Rattle.std.specs.Prelude.{◌≡◌, Some, None, option_map, unwrap_or, IfOk};
 ghost use Rattle.serde_json.specs.Data.{Data, null, boolean, number, string, unsigned};
 ghost use Rattle.serde_json.specs.Find.{of_integer};
@@ -10,7 +10,7 @@ use std::alloc::{AllocError, Global};
 pub trait IntoJson {
     ghost told: { Self → Data };
 
-    /// Its value. Only texts take memory.
+    /// Converts `self` into a reply. Only a string takes memory.
     fn json(self, alloc: Global) -> Result<Json, AllocError>
         ensures { IfOk result (λ j. j ≡ told self) };
 }
@@ -74,7 +74,7 @@ impl IntoJson for Option<u64> {
     }
 }
 
-/// An object or a list, written as in JSON; where memory runs out the caller's function returns.
+/// Builds an object or an array that is written as in JSON. The caller's function returns if memory runs out.
 #[macro_export]
 macro_rules! reply {
     (in $alloc:expr; {$($key:tt : $member:expr),*}) => {

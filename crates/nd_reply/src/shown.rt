@@ -1,4 +1,4 @@
-//! What can be shown as a JSON value, and lists of it.
+//! What can be shown as a JSON value, and arrays of it.
 ghost use Rattle.std.specs.Prelude.{◌≡◌, ◌≢◌, [], Bool, false, true, map, IfOk, OnErr};
 ghost use Rattle.serde_json.specs.Data.{Data, array, number, unsigned};
 ghost use Rattle.serde_json.specs.Find.{of_integer};
@@ -7,13 +7,13 @@ ghost use Rattle.serde_json.specs.View.{items_of};
 use crate::{Json, JsonList};
 use std::alloc::{AllocError, Global};
 
-/// What a reply can show as one JSON value.
+/// What a reply shows as one JSON value.
 pub trait ToJson {
     ghost shown: { Self → Data };
 
     ghost takes_memory: { Bool };
 
-    /// The value, in memory of its own. Numbers take none.
+    /// Makes the JSON value of `self`. A number takes no memory.
     fn to_json(&self, alloc: Global) -> Result<Json, AllocError>
         ensures reply { IfOk result (λ j. j ≡ shown self.now) }
         ensures memory { OnErr result (takes_memory ≡ true) };
@@ -59,7 +59,7 @@ impl<T: ToJson> ToJson for Vec<T> {
     }
 }
 
-/// The list of what the items show, in their order.
+/// Makes the array of what `items` show, in their order.
 pub fn list_of<T: ToJson>(alloc: Global, items: &[T]) -> Result<Json, AllocError>
     ensures reply { IfOk result (λ j. j ≡ array (items_of (map T.shown items.now))) }
     ensures some { OnErr result (items.now ≢ []) }

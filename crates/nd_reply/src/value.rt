@@ -1,21 +1,17 @@
-//! A JSON value that can be replied.
-ghost use Rattle.std.specs.Prelude.{◌≡◌, ◌++◌, false, length, take, IfOk, OnOk, OnErr};
-ghost use Rattle.serde_json.specs.Data.{null, boolean, number, object, string, unsigned};
+//! A JSON value that a reply can hold.
+ghost use Rattle.std.specs.Prelude.{◌≡◌, false, IfOk};
+ghost use Rattle.serde_json.specs.Data.{null, boolean, number, string, unsigned};
 ghost use Rattle.serde_json.specs.Find.{of_integer};
 ghost use Rattle.serde_json.specs.View.{view as data_of};
-ghost use Rattle.serde_json.specs.Written.{compact_text, has_float, members_have_float};
-ghost use Rattle.nd_reply.specs.Fields.{members_of, AreInOrder};
+ghost use Rattle.serde_json.specs.Written.{compact_text, has_float};
 
-use crate::fields::{Field, map_of};
-use crate::shape::Shape;
-use crate::text::{put_any, put_object};
 use serde_json::Value;
 use std::alloc::{AllocError, Global};
 use std::marker::Model;
 
-/// A JSON value without a float, so that its text is known.
+/// A JSON value that holds no float, so that its text is known.
 pub struct Json {
-    shape: Shape,
+    value: Value,
 }
 
 impl Model for Json {
@@ -27,109 +23,84 @@ impl Model for Json {
 
     ghost coded = { data_code };
 
+    ghost use Rattle.serde_json.specs.View.{view as data_of};
     ghost use Rattle.serde_json.specs.Written.{has_float};
-    ghost use Rattle.nd_reply.specs.Shapes.{data_of, IsShape};
 
-    ghost view = { λ j. data_of j.shape };
+    ghost view = { λ j. data_of j.value };
 
-    ghost invariant = { λ j. (has_float (data_of j.shape) ≡ false) × IsShape j.shape };
+    ghost invariant = { λ j. has_float (data_of j.value) ≡ false };
 }
 
 impl Drop for Json {
     fn drop(self) {
-        let Json { shape: _ } = self;
+        let Json { value: _ } = self;
     }
 }
 
 impl Json {
-    /// Nothing.
+    /// Makes `null`.
     pub fn null() -> Json
         ensures { result ≡ null }
     {
-        Json::of(Value::Null)
+        Json { value: Value::Null }
     }
 
-    // What the value is.
+    // Makes the reply of `value`.
     pub(crate) fn of(value: Value) -> Json
         requires { has_float (data_of value) ≡ false }
         ensures { result ≡ data_of value }
     {
-        Json {
-            shape: Shape::Tree(value),
-        }
+        Json { value }
     }
 
-    // The object with these members, which stand in order.
-    pub(crate) fn of_fields(fields: Vec<Field>) -> Json
-        requires order { AreInOrder fields.items }
-        requires text { members_have_float (members_of fields.items) ≡ false }
-        ensures { result ≡ object (members_of fields.items) }
-    {
-        Json {
-            shape: Shape::Object(fields),
-        }
-    }
-
-    /// A truth value.
+    /// Makes `true` or `false`.
     pub fn boolean(is_so: bool) -> Json
         ensures { result ≡ boolean is_so }
     {
-        Json::of(Value::Bool(is_so))
+        Json {
+            value: Value::Bool(is_so),
+        }
     }
 
-    /// A number from 0 on.
+    /// Makes the number `n`.
     pub fn natural(n: u64) -> Json
         ensures { result ≡ number (unsigned n) }
     {
-        Json::of(Value::from(n))
+        Json {
+            value: Value::from(n),
+        }
     }
 
-    /// A number that may be below 0.
+    /// Makes the number `n`, which may be negative.
     pub fn integer(n: i64) -> Json
         ensures { result ≡ number (of_integer n) }
     {
-        Json::of(n.into())
+        Json { value: n.into() }
     }
 
-    /// A text, in memory of its own.
+    /// Makes a string of a copy of `text`.
     pub fn text(alloc: Global, text: &str) -> Result<Json, AllocError>
         ensures { IfOk result (λ j. j ≡ string text.now) }
     {
         let owned = String::from_str(alloc, text)?;
-        Ok(Json::of(Value::String(owned)))
+        Ok(Json {
+            value: Value::String(owned),
+        })
     }
 
-    // The value that it is.
-    pub(crate) fn into_value(self, alloc: Global) -> Result<Value, AllocError>
-        ensures value { IfOk result (λ v. data_of v ≡ self) }
+    // Takes the value out.
+    pub(crate) fn into_value(self) -> Value
+        ensures value { data_of result ≡ self }
         ensures text { has_float self ≡ false }
     {
-        let Json { shape } = self;
-        match shape {
-            Shape::Tree(value) => Ok(value),
-            Shape::Object(fields) => Ok(Value::Object(map_of(alloc, fields)?)),
-        }
+        let Json { value } = self;
+        value
     }
 
-    /// Its compact JSON text.
+    /// Writes the value as compact JSON text.
     pub fn to_bytes(&self, alloc: Global) -> Result<Vec<u8>, AllocError>
         ensures { IfOk result (λ b. b.items ≡ compact_text self.now) }
     {
-        let mut text = Vec::new(alloc);
-        self.write_to(alloc, &mut text)?;
-        Ok(text)
-    }
-
-    /// Puts its compact JSON text behind what stands there.
-    pub fn write_to(&self, alloc: Global, out: &mut Vec<u8>) -> Result<(), AllocError>
-        ensures text { OnOk result (out.new.items ≡ out.old.items ++ compact_text self.now) }
-
-        // Where memory runs out, what stood there still stands in front.
-        ensures front { OnErr result (take (length out.old.items) out.new.items ≡ out.old.items) }
-    {
-        match &self.shape {
-            Shape::Tree(value) => put_any(alloc, out, value),
-            Shape::Object(fields) => put_object(alloc, out, fields.as_slice()),
-        }
+        self.value.to_vec(alloc)
     }
 }

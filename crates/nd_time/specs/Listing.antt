@@ -1,10 +1,10 @@
 -- The order in which timestamps are listed.
-use Rattle.std.specs.Prelude.{◌≡◌, ℕ, ◌&&◌, Bool, List, Some, nat_eq, refl}
+use Rattle.std.specs.Prelude.{ℕ, List, refl}
 use Rattle.std.specs.Coded.{Coded, code_by, coded×, coded_ℕ, coded_list}
 use Rattle.std.specs.declared.cmp.Ordering.{Ordering}
-use Rattle.std.specs.Ordering.{nat_cmp, ordering_then, eq_by_cmp}
-use Rattle.std.specs.Cmp.{IsTotalOrder, IsPartialOrder, IsEquivalence, and_equiv, on_equiv, nat_eq_equiv, po, both_tied, unsigned_ties}
-use Rattle.std.specs.Cmp.Lexicographic.{slice_cmp, pointwise, nat_list_eq_equiv, texts_ties}
+use Rattle.std.specs.Ordering.{nat_cmp, ordering_then}
+use Rattle.std.specs.Cmp.{IsTotalOrder}
+use Rattle.std.specs.Cmp.Lexicographic.{slice_cmp}
 use Rattle.std.proofs.Common.{ap}
 use Rattle.std.proofs.lemmas.Map.Lookups.{CmpEqualImpliesEq, exact_pairs, exact_unsigned, exact_bytes}
 use Rattle.std.proofs.lemmas.Cmp.{nat_cmp_total, nat_list_cmp_total, on_total, then_total}
@@ -24,17 +24,3 @@ time_total = then_total (on_total (λ t. t.epoch) nat_cmp_total) (on_total (λ t
 -- timestamps that compare alike are one
 pub time_exact : CmpEqualImpliesEq time_cmp
 time_exact s t h = ap (λ (p : ℕ × List ℕ). record { epoch = p.0; counters = p.1 }) (exact_pairs nat_cmp (slice_cmp nat_cmp) exact_unsigned exact_bytes (s.epoch, s.counters) (t.epoch, t.counters) h)
-
--- they have one epoch and the same counters
-abbrev pub time_eq : Time → Time → Bool
-time_eq s t = nat_eq s.epoch t.epoch && pointwise nat_eq s.counters t.counters
-
-pub time_equiv : IsEquivalence time_eq
-time_equiv = and_equiv (on_equiv (λ t. t.epoch) nat_eq_equiv) (on_equiv (λ t. t.counters) nat_list_eq_equiv)
-
--- equal timestamps are those that compare alike
-pub time_ties : (s t : Time) → time_eq s t ≡ eq_by_cmp time_cmp s t
-time_ties s t = both_tied (nat_eq s.epoch t.epoch) (pointwise nat_eq s.counters t.counters) (nat_cmp s.epoch t.epoch) (slice_cmp nat_cmp s.counters t.counters) (unsigned_ties s.epoch t.epoch) (texts_ties s.counters t.counters)
-
-pub time_po : IsPartialOrder time_eq (λ s t. Some (time_cmp s t))
-time_po = po time_total time_ties

@@ -5,13 +5,11 @@ ghost use Rattle.std.specs.Prelude.{◌≡◌, ◌≤◌, ◌<◌, ◌↔◌, Is
 ghost use Rattle.nd_time.specs.Time.{Time, IsAtOrBefore, ingress_of, egress_of, feedback_of, last_of};
 ghost use Rattle.nd_time.specs.Limits.{max_depth, max_counter};
 ghost use Rattle.nd_time.specs.Listing.{time_cmp};
-ghost use Rattle.std.specs.Ordering.{nat_cmp};
-ghost use Rattle.std.specs.Cmp.Lexicographic.{slice_cmp};
 
 mod faults;
 
+use arrayvec::ArrayVec;
 pub use faults::Code;
-use std::cmp::Ordering;
 use std::marker::Model;
 use thiserror::Error;
 
@@ -28,39 +26,23 @@ pub struct CounterFull;
 #[error("out of memory")]
 pub struct NoMemory;
 
-// The order of two lists of counters: the first that differ decide, and else their lengths.
-fn counters_cmp(own: &[u32], other: &[u32]) -> Ordering
-    ensures { result ≡ slice_cmp nat_cmp own.now other.now }
-{
-    for i in 0..own.len().min(other.len()) {
-        if own[i] != other[i] {
-            return own[i].cmp(&other[i]);
-        }
-    }
-    own.len().cmp(&other.len())
-}
-
 /// An epoch, and the counters of the loops around a location, outermost first (Naiad, SOSP 2013, section 2.1).
 ///
 /// Timestamps are listed by epoch, and then by counters in lexicographic order.
-#[derive(Debug, Drop)]
+#[derive(Debug, PartialEq, Eq, PartialOrd, Ord, Drop)]
 pub struct Timestamp {
     epoch: u32,
-    // the counters, and behind them what does not count
-    counters: [u32; MAX_DEPTH],
-    depth: u8,
+    counters: ArrayVec<u32, MAX_DEPTH>,
 }
 
 impl Model for Timestamp {
-    ghost use Rattle.std.specs.Prelude.{◌≤◌, take};
     ghost use Rattle.nd_time.specs.Time.{Time};
-    ghost use Rattle.nd_time.specs.Limits.{max_depth};
 
     ghost Value = { Time };
 
-    ghost view = { λ a. record { epoch = a.epoch; counters = take a.depth a.counters } };
+    ghost view = { λ a. record { epoch = a.epoch; counters = a.counters.items } };
 
-    ghost invariant = { λ a. a.depth ≤ max_depth };
+    ghost inverse = { λ t. record { epoch = t.epoch; counters = record { items = t.counters } } };
 }
 
 impl Timestamp {
@@ -69,16 +51,8 @@ impl Timestamp {
         ensures fits { IsSome result ↔ (length counters.now ≤ max_depth) }
         ensures value { IfSome result (λ t. t ≡ record { epoch = epoch; counters = counters.now }) }
     {
-        if counters.len() > MAX_DEPTH {
-            return None;
-        }
-        let mut kept = [0; MAX_DEPTH];
-        kept[..counters.len()].copy_from_slice(counters);
-        Some(Timestamp {
-            epoch,
-            counters: kept,
-            depth: counters.len() as u8,
-        })
+        let counters = ArrayVec::try_from(counters).ok()?;
+        Some(Timestamp { epoch, counters })
     }
 
     /// The epoch.
@@ -93,7 +67,7 @@ impl Timestamp {
         ensures value { result.now ≡ self.now.counters }
         ensures few { length result.now ≤ max_depth }
     {
-        &self.counters[..self.depth as usize]
+        self.counters.as_slice()
     }
 
     /// The number of loop counters.
@@ -101,19 +75,14 @@ impl Timestamp {
         ensures value { result ≡ length self.now.counters }
         ensures small { result ≤ max_depth }
     {
-        usize::from(self.depth)
+        self.counters.len()
     }
 
     /// An equal timestamp.
     pub fn copy(&self) -> Timestamp
         ensures { result ≡ self.now }
     {
-        let epoch = self.epoch;
-        Timestamp {
-            epoch,
-            counters: self.counters,
-            depth: self.depth,
-        }
+        Timestamp::new(self.epoch, self.counters()).unwrap()
     }
 
     /// Whether this timestamp is at or before the other. It is not so if their depths differ.
@@ -124,7 +93,7 @@ impl Timestamp {
     {
         self.depth() == other.depth()
             && self.epoch <= other.epoch
-            && self.counters().cmp(other.counters()).is_le()
+            && self.counters.cmp(&other.counters).is_le()
     }
 
     /// The timestamp past an ingress vertex, or `None` if there is no room for one more counter.
@@ -132,16 +101,12 @@ impl Timestamp {
         ensures room { IsSome result ↔ (length self.now.counters < max_depth) }
         ensures value { IfSome result (λ t. t ≡ record { epoch = self.now.epoch; counters = ingress_of self.now.counters }) }
     {
-        if self.depth as usize == MAX_DEPTH {
+        let mut next = self.copy();
+        if next.counters.len() == MAX_DEPTH {
             return None;
         }
-        let mut counters = self.counters;
-        counters[self.depth as usize] = 0;
-        Some(Timestamp {
-            epoch: self.epoch,
-            counters,
-            depth: self.depth + 1,
-        })
+        next.counters.push(0);
+        Some(next)
     }
 
     /// The timestamp past an egress vertex, or `None` if there is no counter to leave.
@@ -149,14 +114,9 @@ impl Timestamp {
         ensures inside { IsSome result ↔ (0 < length self.now.counters) }
         ensures value { IfSome result (λ t. t ≡ record { epoch = self.now.epoch; counters = egress_of self.now.counters }) }
     {
-        if self.depth == 0 {
-            return None;
-        }
-        Some(Timestamp {
-            epoch: self.epoch,
-            counters: self.counters,
-            depth: self.depth - 1,
-        })
+        let mut next = self.copy();
+        next.counters.pop()?;
+        Some(next)
     }
 
     /// The timestamp past a feedback vertex: the innermost counter plus 1.
@@ -165,73 +125,13 @@ impl Timestamp {
         ensures room { IsOk result ↔ (last_of self.now.counters < max_counter) }
         ensures value { IfOk result (λ t. t ≡ record { epoch = self.now.epoch; counters = feedback_of self.now.counters }) }
     {
-        let innermost = self.depth as usize - 1;
-        let mut counters = self.counters;
-        if counters[innermost] == u32::MAX {
+        let mut next = self.copy();
+        let last = next.counters.pop().unwrap();
+        if last == u32::MAX {
             return Err(CounterFull);
         }
-        counters[innermost] += 1;
-        Ok(Timestamp {
-            epoch: self.epoch,
-            counters,
-            depth: self.depth,
-        })
-    }
-}
-
-impl PartialEq for Timestamp {
-    ghost use Rattle.std.specs.Prelude.{◌&&◌, nat_eq};
-    ghost use Rattle.std.specs.Cmp.{partial_equiv_from_equiv};
-    ghost use Rattle.nd_time.specs.Listing.{time_eq, time_equiv};
-
-    ghost eq = { time_eq };
-
-    ghost laws = { partial_equiv_from_equiv time_equiv };
-
-    fn eq(&self, other: &Timestamp) -> bool {
-        self.epoch == other.epoch
-            && self.depth == other.depth
-            && (self.depth == 0 || self.counters() == other.counters())
-    }
-}
-
-impl Eq for Timestamp {
-    ghost use Rattle.nd_time.specs.Listing.{time_equiv};
-
-    ghost laws = { time_equiv };
-}
-
-impl PartialOrd for Timestamp {
-    ghost use Rattle.std.specs.Prelude.{Some};
-    ghost use Rattle.nd_time.specs.Listing.{time_cmp, time_po};
-
-    ghost partial_cmp = { λ a b. Some (time_cmp a b) };
-
-    ghost laws = { time_po };
-
-    fn partial_cmp(&self, other: &Timestamp) -> Option<Ordering> {
-        Some(self.cmp(other))
-    }
-}
-
-impl Ord for Timestamp {
-    ghost use Rattle.std.specs.Prelude.{refl};
-    ghost use Rattle.nd_time.specs.Listing.{time_cmp, time_total, time_ties};
-
-    ghost cmp = { time_cmp };
-
-    ghost total = { time_total };
-
-    ghost matches_partial_cmp = { λ a b. refl };
-
-    ghost matches_eq = { time_ties };
-
-    fn cmp(&self, other: &Timestamp) -> Ordering {
-        let by_epoch = self.epoch.cmp(&other.epoch);
-        if by_epoch != Ordering::Equal || (self.depth == 0 && other.depth == 0) {
-            return by_epoch;
-        }
-        counters_cmp(self.counters(), other.counters())
+        next.counters.push(last + 1);
+        Ok(next)
     }
 }
 

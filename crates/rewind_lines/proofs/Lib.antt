@@ -1,4 +1,3 @@
 pub mod LineLaws
 pub mod ReaderLaws
 pub mod Refuses
-pub mod Turns

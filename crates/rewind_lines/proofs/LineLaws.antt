@@ -19,12 +19,12 @@ pub json_of-utf8 : (bs : List ℕ) → IsUtf8 bs → json_of bs ≡ read bs
 unfolding json_of
 json_of-utf8 bs h = rw (is_utf8-from_IsUtf8 bs h) refl
 
-pub json_of-none : (bs : List ℕ) → (IsUtf8 bs → ⊥) → None ≡ json_of bs
+pub json_of-none : (bs : List ℕ) → (IsUtf8 bs → read bs ≡ None) → json_of bs ≡ None
 unfolding json_of
 json_of-none bs h = go (is_utf8 bs) refl
   where
-    go : (b : Bool) → is_utf8 bs ≡ b → None ≡ cond (is_utf8 bs) (read bs) None
-    go true e = absurd (h (IsUtf8-from_is_utf8 bs e))
+    go : (b : Bool) → is_utf8 bs ≡ b → cond (is_utf8 bs) (read bs) None ≡ None
+    go true e = rw e (h (IsUtf8-from_is_utf8 bs e))
     go false e = rw e refl
 
 -- the front of a list, and of what follows it

@@ -6,5 +6,4 @@ pub mod Lines
 pub mod Readings
 pub mod Reads
 pub mod Texts
-pub mod Values
 pub mod Writes

@@ -5,14 +5,12 @@
 
 mod fault;
 mod line;
-mod number;
 mod options;
 mod outbox;
 mod reader;
 mod reading;
 mod sink;
 mod source;
-mod value;
 
 pub use fault::DebugFault;
 pub use options::Options;

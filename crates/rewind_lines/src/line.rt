@@ -8,7 +8,6 @@ ghost use Rattle.rewind_lines.specs.Readings.{reading_view};
 
 use crate::reading::{Reading, parse};
 use crate::source::front;
-use json::Scratch;
 use std::alloc::{AllocError, Allocator, Global};
 use std::marker::Model;
 
@@ -71,7 +70,7 @@ impl<A: Allocator> Line<A> {
     }
 
     /// What the line is read as.
-    pub fn reading(&self, alloc: Global, scratch: &mut Scratch) -> Result<Reading, AllocError>
+    pub fn reading(&self, alloc: Global) -> Result<Reading, AllocError>
         ensures reading { IfOk result (λ r. (line : List ℕ) → self.now ≡ front_of line
             → reading_view r ≡ reading_of line) }
 
@@ -84,7 +83,7 @@ impl<A: Allocator> Line<A> {
         if self.is_longer {
             return Ok(Reading::TooLong);
         }
-        match parse(alloc, self.front.as_slice(), scratch)? {
+        match parse(alloc, self.front.as_slice())? {
             Some(value) => Ok(Reading::Json(value)),
             None => Ok(Reading::NoJson),
         }

@@ -37,17 +37,16 @@ impl Outbox {
         }
     }
 
-    /// Puts a reply's line behind those that wait: its compact JSON text and a newline.
+    /// Appends `reply` as a line: its compact JSON text and a newline.
+    #[tactic(auto, unfolding(crate::specs::Texts::reply_text))]
     pub fn add(&mut self, reply: &Json) -> Result<(), AllocError>
         ensures ok { OnOk result (self.new ≡ self.old ++ reply_text reply.now) }
         ensures err { OnErr result (self.new ≡ self.old) }
     {
-        let len = self.waiting.len();
-        let done = put_line(self.alloc, &mut self.waiting, reply);
-        if done.is_err() {
-            self.waiting.truncate(len);
-        }
-        done
+        let mut line = reply.to_bytes(self.alloc)?;
+        line.push(b'\n')?;
+        self.waiting.extend_from_slice(line.as_slice())?;
+        Ok(())
     }
 
     /// Whether so much waits that it is to be written.
@@ -70,15 +69,4 @@ impl Outbox {
         self.waiting.clear();
         Ok(())
     }
-}
-
-// Puts a reply's line behind what stands there, or the front of it where memory runs out.
-#[tactic(auto, unfolding(crate::specs::Texts::reply_text))]
-fn put_line(alloc: Global, out: &mut Vec<u8>, reply: &Json) -> Result<(), AllocError>
-    ensures ok { OnOk result (out.new.items ≡ out.old.items ++ reply_text reply.now) }
-    ensures err { OnErr result (take (length out.old.items) out.new.items ≡ out.old.items) }
-{
-    reply.write_to(alloc, out)?;
-    out.push(b'\n')?;
-    Ok(())
 }

@@ -8,18 +8,16 @@ ghost use Rattle.rewind_lines.specs.Readings.{reading_view};
 use crate::line::Line;
 use crate::reading::Reading;
 use crate::source::front;
-use json::Scratch;
 use memchr::memchr;
 use std::alloc::{AllocError, Global};
 use std::marker::Model;
 
-/// The line of a script that is being read, its number, and the room that each line is read in.
+/// The line of a script that is being read, and its number.
 #[derive(Drop)]
 pub struct LineReader {
     alloc: Global,
     line: Line,
     number: u64,
-    scratch: Scratch,
 }
 
 impl Model for LineReader {
@@ -40,7 +38,6 @@ impl LineReader {
             alloc,
             line: Line::new(alloc),
             number: 1,
-            scratch: Scratch::new(alloc),
         }
     }
 
@@ -77,15 +74,14 @@ impl LineReader {
     }
 
     /// What the line is read as, once it is whole.
-    pub fn reading(&mut self) -> Result<Reading, AllocError>
-        ensures reading { IfOk result (λ r. (done : List ℕ) → self.old ≡ held_of done
+    pub fn reading(&self) -> Result<Reading, AllocError>
+        ensures reading { IfOk result (λ r. (done : List ℕ) → self.now ≡ held_of done
             → reading_view r ≡ reading_of (last_line_of done)) }
-        ensures same { self.new ≡ self.old }
 
         // A blank or too long line takes no memory.
-        ensures short { IsTrue (self.old.line.is_blank || self.old.line.is_longer) → IsOk result }
+        ensures short { IsTrue (self.now.line.is_blank || self.now.line.is_longer) → IsOk result }
     {
-        self.line.reading(self.alloc, &mut self.scratch)
+        self.line.reading(self.alloc)
     }
 
     /// Begins the next line, behind a newline.

@@ -1,14 +1,12 @@
-//! What a line comes to.
+//! What a line is read as.
 ghost use Rattle.std.specs.Prelude.{◌≡◌, option_map, IfOk};
 ghost use Rattle.serde_json.specs.View.{view};
 ghost use Rattle.rewind_lines.specs.Lines.{json_of};
 
-use crate::value::read_value;
-use json::{Reader, Scratch};
 use serde_json::Value;
 use std::alloc::{AllocError, Global};
 
-/// What a line comes to.
+/// What a line is read as.
 #[derive(Drop)]
 pub enum Reading {
     /// Spaces, tabs and carriage returns alone, of any number.
@@ -21,21 +19,13 @@ pub enum Reading {
     Json(Value),
 }
 
-/// The deepest that arrays and objects may nest.
-const MAX_DEPTH: usize = 127;
-
-/// The JSON value of a line, if it is one. The room that reading takes is lent, so that its 16 KiB
-/// are cleared once and not for each line.
-pub fn parse(alloc: Global, line: &[u8], scratch: &mut Scratch) -> Result<Option<Value>, AllocError>
+/// Parses `line` as one JSON value. Returns `None` if `line` is not JSON.
+pub fn parse(alloc: Global, line: &[u8]) -> Result<Option<Value>, AllocError>
     ensures { IfOk result (λ o. option_map view o ≡ json_of line.now) }
 {
-    let Ok(text) = str::from_utf8(line) else {
-        return Ok(None);
-    };
-    let mut reader = Reader::new(text, scratch)?;
-    let value = read_value(alloc, &mut reader, MAX_DEPTH)?;
-    if reader.next().is_some() {
-        return Ok(None);
+    match Value::from_slice(alloc, line) {
+        Ok(value) => Ok(Some(value)),
+        Err(error) if error.is_memory() => Err(AllocError),
+        Err(_) => Ok(None),
     }
-    Ok(value)
 }

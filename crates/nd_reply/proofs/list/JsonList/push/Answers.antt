@@ -8,7 +8,7 @@ use Rattle.nd_reply.proofs.list.JsonList.push.Goals as goal
 pub invariant_of-self-2 : goal.invariant_of-self-2
 invariant_of-self-2 c =
     let old = c.self.inside.items.items in
-    let value = c.in_ok-value.value in
+    let value = c.into_value.result in
     ap (λ vs. items_have_float (items_of (map view vs))) c.in_ok-push.ensures.items
     ∙ ap (λ ds. items_have_float (items_of ds)) (map-append view old (value ∷ []))
-    ∙ no_float-more (map view old) (view value) c.self.invariant (ap has_float c.in_ok-value.ensures.value ∙ c.in_ok-value.ensures.text)
+    ∙ no_float-more (map view old) (view value) c.self.invariant (ap has_float c.into_value.ensures.value ∙ c.into_value.ensures.text)

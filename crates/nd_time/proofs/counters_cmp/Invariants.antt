@@ -1,7 +1,0 @@
-use Rattle.std.proofs.Common.{◌≡◌, drop}
-use Rattle.std.specs.Ordering.{nat_cmp}
-use Rattle.std.specs.Cmp.Lexicographic.{slice_cmp}
-use Rattle.nd_time.proofs.counters_cmp.Given as goal
-
-abbrev pub invariant-loop-i : goal.invariant-loop-i
-invariant-loop-i l = slice_cmp nat_cmp (drop l.i l.own) (drop l.i l.other) ≡ slice_cmp nat_cmp l.own l.other
