@@ -1,6 +1,6 @@
 //! Each request for memory of a move refused in turn.
 
-use crate::drawn::LINE;
+use crate::drawn::{EXCHANGE, LINE};
 use crate::told::{SUM_NOTIFIED, Script, Told, is_state, reach, start, state_text, step_of};
 use nd_cluster::{Cluster, Next};
 use nd_timeline::{Fault, Timeline};
@@ -26,6 +26,30 @@ pub static TEN: Script = (
         Told::Feed(0, "a", &[], Next::Next),
         Told::Feed(0, "a", &[], Next::Next),
         Told::Feed(0, "a", &[], Next::Next),
+    ],
+);
+
+/// Two processors take the records that they exchange, and hear of one another's steps.
+///
+/// Each broadcast that is made again and each receive that is taken back asks for memory.
+static EXCHANGED: Script = (
+    EXCHANGE,
+    2,
+    &[
+        Told::Feed(0, "a", &[5, 7], Next::Close),
+        Told::Feed(1, "a", &[5], Next::Close),
+        Told::All(0),
+        Told::Receive(0, 1),
+        Told::Take(1, "az", &[0], 5),
+        Told::All(1),
+        Told::Receive(0, 0),
+        Told::Receive(1, 0),
+        Told::Take(1, "az", &[0], 5),
+        Told::Take(1, "az", &[0], 7),
+        Told::All(1),
+        Told::Receive(1, 0),
+        Told::Receive(1, 1),
+        Told::Receive(1, 1),
     ],
 );
 
@@ -69,7 +93,9 @@ pub fn is_after<A: Allocator + Copy>(
     Some(is_state(json, cluster, wanted.as_str()))
 }
 
-/// Whether a jump from one end of a script to the other met the request that was refused: then it stands where it says.
+/// Whether a jump from one end of a script to the other met the request that was refused.
+///
+/// If it did, it stands short of the other end, where it says; if it did not, at the other end.
 fn meets_jump<A: Allocator + Copy>(
     heap: &Heap,
     json: Global,
@@ -86,7 +112,7 @@ fn meets_jump<A: Allocator + Copy>(
     }
     let met = met!(heap, n: timeline.jump(to); Fault::Memory { at: timeline.at() }, true)?;
     let at = timeline.at();
-    let is_there = timeline.kept() == kept && (met || at == to);
+    let is_there = timeline.kept() == kept && met == (at != to);
     if is_there && is_after(json, timeline.cluster(), script, at)? {
         Some(met)
     } else {
@@ -108,10 +134,12 @@ fn jumps<A: Allocator + Copy>(
 #[test]
 fn jump_out_of_memory(rt: HostRuntime) {
     let heap = Refusing::new(rt.alloc());
-    for (row, script) in [&TEN, &SUM_NOTIFIED, &ALL].into_iter().enumerate() {
+    // each script, and how many requests a jump makes at least, either way
+    let rows = [(&TEN, 0), (&EXCHANGED, 3), (&SUM_NOTIFIED, 3), (&ALL, 1)];
+    for (row, (script, least)) in rows.into_iter().enumerate() {
         for is_back in [false, true] {
             let count = jumps(&heap, rt.alloc(), &heap, script, is_back);
-            assert!(rt; count.is_some(), "in row {row}");
+            assert!(rt; matches!(count, Some(n) if n >= least), "in row {row}");
         }
     }
     assert_eq!(rt; heap.live(), 0);
