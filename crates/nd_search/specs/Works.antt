@@ -59,6 +59,10 @@ pub record IsReady {A : Type 0} (m : TimelineValue A) (table : TableId) (pieces 
   pub me_is : job.ticket.me ≡ (hand (pieces + 1) (pieces + 1) [], [])
   pub empty : IsEmpty pieces job.searched
 
+-- each has the number of its place
+abbrev pub AreNumbered : {A : Type 0} → List (Job A) → Type 0
+AreNumbered jobs = (i : ℕ) (job : Job _) → slice_get jobs i ≡ Some job → job.number ≡ i
+
 -- what was drawn are the pieces that were claimed, and then numbers that are no pieces
 pub record HasDrawn {A : Type 0} (table : TableId) (pieces : ℕ) (work : Work A) : Type 0 where
   pub table_is : work.ticket.table_id ≡ table

@@ -6,6 +6,7 @@ ghost use Rattle.nd_search.specs.Least.{HoldsAt, IsLeast};
 ghost use Rattle.nd_search.specs.Pieces.{piece_count, piece_start, piece_end};
 ghost use Rattle.nd_search.specs.Works.{IsResult};
 
+use crate::Gate;
 use nd_timeline::{Timeline, Walk};
 use nd_watch::Break;
 use std::alloc::{AllocError, Allocator};
@@ -28,31 +29,40 @@ impl Positions {
     {
         (self.hi - self.lo) / PIECE_LENGTH + 1
     }
+}
 
-    /// Searches one piece: the least of its positions at which the breakpoint holds.
+/// What the workers of a search share: the positions of a timeline that they search for a
+/// breakpoint, and the gate that they call before each piece.
+#[derive(Drop)]
+pub(crate) struct Scan<'a, A: Allocator + Copy, G> {
+    pub(crate) timeline: &'a Timeline<A>,
+    pub(crate) b: &'a Break,
+    pub(crate) positions: Positions,
+    pub(crate) gate: &'a G,
+}
+
+impl<A: Allocator + Copy, G: Gate> Scan<'_, A, G> {
+    /// Searches a piece, for which worker `who` has called the gate: the least of its positions
+    /// at which the breakpoint holds.
     ///
     /// The walk goes there from where it stands by the shorter way.
-    pub(crate) fn search_piece<A: Allocator + Copy>(
-        self,
-        timeline: &Timeline<A>,
+    pub(crate) fn search_piece(
+        &self,
         walk: &mut Walk<A>,
-        b: &Break,
+        who: u64,
         piece: u64,
     ) -> Result<Option<u64>, AllocError>
-        requires range { (self.lo ≤ self.hi) × (self.hi ≤ max_kept) }
-        requires piece { piece < piece_count self.lo self.hi }
-        requires on { IsOn timeline.now walk.old }
-        ensures found { IfOk result (IsResult (HoldsAt timeline.now b.now) self.lo self.hi piece) }
-        ensures on { IsOn timeline.now walk.new }
+        requires called { G.called self.now.gate.now who piece }
+        requires range { (self.now.positions.lo ≤ self.now.positions.hi) × (self.now.positions.hi ≤ max_kept) }
+        requires piece { piece < piece_count self.now.positions.lo self.now.positions.hi }
+        requires on { IsOn self.now.timeline.now walk.old }
+        ensures found { IfOk result (IsResult (HoldsAt self.now.timeline.now self.now.b.now)
+            self.now.positions.lo self.now.positions.hi piece) }
+        ensures on { IsOn self.now.timeline.now walk.new }
     {
-        let start = self.lo + PIECE_LENGTH * piece;
-        first_hit(
-            timeline,
-            walk,
-            b,
-            start,
-            self.hi.min(start + (PIECE_LENGTH - 1)),
-        )
+        let start = self.positions.lo + PIECE_LENGTH * piece;
+        let end = self.positions.hi.min(start + (PIECE_LENGTH - 1));
+        first_hit(self.timeline, walk, self.b, start, end)
     }
 }
 

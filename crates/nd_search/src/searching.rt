@@ -2,7 +2,7 @@
 ghost use Rattle.std.specs.Prelude.{◌≡◌, ◌≤◌, length, map, IfOk, IfErr, OnOk};
 ghost use Rattle.nd_time.specs.Limits.{max_kept};
 ghost use Rattle.nd_search.specs.Least.{HoldsAt, IsLeast};
-ghost use Rattle.nd_search.specs.Answers.{MaySearch, CannotSearch, SearchFails};
+ghost use Rattle.nd_search.specs.Answers.{MaySearch, CannotSearch, SearchFails, AnswerIsCalled, FaultIsCalled};
 
 use crate::piece::Positions;
 use crate::table::{first, results};
@@ -72,6 +72,8 @@ pub fn search_in<A: Allocator + Copy + Send + Sync, R: Threads + Sync, G: Gate>(
     ensures found { IfOk result (IsLeast (HoldsAt timeline.now b.now) lo hi) }
     ensures may { OnOk result (MaySearch (length timeline.now.kept) lo hi workers) }
     ensures fails { IfErr result (SearchFails timeline.now b.now lo hi workers) }
+    ensures called { IfOk result (AnswerIsCalled (G.called gate.now) lo hi workers) }
+    ensures fault_called { IfErr result (FaultIsCalled (G.called gate.now)) }
 {
     let positions = positions(timeline, lo, hi, workers)?;
     let works = search_all(rt, alloc, timeline, b, positions, workers, gate)?;
@@ -99,6 +101,8 @@ pub fn search<A: Allocator + Copy + Send + Sync, R: Threads + Sync, G: Gate>(
     ensures found { IfOk result (IsLeast (HoldsAt snapshot.now.timeline b.now) lo hi) }
     ensures may { OnOk result (MaySearch (length snapshot.now.timeline.kept) lo hi workers) }
     ensures fails { IfErr result (SearchFails snapshot.now.timeline b.now lo hi workers) }
+    ensures called { IfOk result (AnswerIsCalled (G.called gate.now) lo hi workers) }
+    ensures fault_called { IfErr result (FaultIsCalled (G.called gate.now)) }
 {
     search_in(rt, alloc, snapshot.timeline(), b, lo, hi, workers, gate)
 }

@@ -4,13 +4,13 @@ ghost use Rattle.nd_time.specs.Limits.{max_kept, max_workers};
 ghost use Rattle.nd_search.specs.Least.{HoldsAt};
 ghost use Rattle.nd_search.specs.Pieces.{piece_count};
 ghost use Rattle.nd_search.specs.Claims.{times, times_all};
-ghost use Rattle.nd_search.specs.Answers.{AreClaims};
+ghost use Rattle.nd_search.specs.Answers.{AreClaims, AreCalled};
 ghost use Rattle.nd_search.specs.Hands.{hand};
-ghost use Rattle.nd_search.specs.Works.{IsReady, HasDrawn, IsSearched, IsWork, IsEmpty, HaveStopped, all_drawn};
+ghost use Rattle.nd_search.specs.Works.{IsReady, AreNumbered, HasDrawn, IsSearched, IsWork, IsEmpty, HaveStopped, all_drawn};
 
 use crate::Gate;
 use crate::board::{Ticket, Word, end_board, gather, open_board, share};
-use crate::piece::Positions;
+use crate::piece::{Positions, Scan};
 use crate::work::{Job, Searched, Work};
 use nd_timeline::Timeline;
 use nd_watch::Break;
@@ -47,6 +47,7 @@ fn jobs<A: Allocator + Copy>(
     requires small { (workers ≤ max_workers) × (pieces ≤ max_kept + 1) }
     ensures all { IfOk result (λ v. All (IsReady timeline.now word.now.table_id pieces) v.items) }
     ensures len { IfOk result (λ v. vec_len v ≡ workers) }
+    ensures numbered { IfOk result (λ v. AreNumbered v.items) }
     ensures ticket { IfOk result (λ _. (ticket.new.table_id ≡ word.now.table_id) × (ticket.new.me ≡ (hand (pieces + 1) 0 [], []))) }
 {
     let mut jobs = Vec::with_capacity(alloc, workers as usize)?;
@@ -106,6 +107,7 @@ pub(crate) fn search_all<A: Allocator + Copy + Send + Sync, R: Threads + Sync, G
     ensures found { IfOk result (λ v. All (IsSearched (HoldsAt timeline.now b.now) positions.lo positions.hi) v.items) }
     ensures claims { IfOk result (λ v. AreClaims (piece_count positions.lo positions.hi) workers (map (λ s. s.claimed.items) v.items)) }
     ensures stopped { IfOk result (λ v. HaveStopped (piece_count positions.lo positions.hi) v.items) }
+    ensures called { IfOk result (λ v. AreCalled (G.called gate.now) (map (λ s. s.claimed.items) v.items)) }
 {
     let pieces = positions.pieces();
     let workers = workers.min(MAX_WORKERS);
@@ -122,8 +124,17 @@ pub(crate) fn search_all<A: Allocator + Copy + Send + Sync, R: Threads + Sync, G
     )?;
     let worker = |job: Job<A>| -> Work<A>
         requires { IsReady timeline.now word.now.table_id pieces job × (0 < word.now.table_id.words) × (positions.lo ≤ positions.hi) × (positions.hi ≤ max_kept) × (pieces ≡ piece_count positions.lo positions.hi) }
-        ensures { IsWork (HoldsAt timeline.entry.now b.entry.now) positions.lo positions.hi word.entry.now.table_id pieces result }
-    { job.work(timeline, word, gate, b, positions, pieces) };
+        ensures { IsWork (HoldsAt timeline.entry.now b.entry.now) positions.lo positions.hi word.entry.now.table_id pieces result
+            × All (G.called gate.entry.now job.number) result.searched.claimed.items }
+    {
+        let scan = Scan {
+            timeline,
+            b,
+            positions,
+            gate,
+        };
+        job.work(word, &scan, pieces)
+    };
     let works = thread::map_vec(rt, jobs, &worker)?;
     let list = gathered(alloc, word, &mut ticket, works, pieces)?;
     end_board(board, ticket);

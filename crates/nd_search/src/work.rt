@@ -1,5 +1,5 @@
 //! One worker of a search.
-ghost use Rattle.std.specs.Prelude.{◌≡◌, ◌<◌, ◌≤◌};
+ghost use Rattle.std.specs.Prelude.{◌≡◌, ◌<◌, ◌≤◌, All};
 ghost use Rattle.nd_time.specs.Limits.{max_kept};
 ghost use Rattle.nd_search.specs.Least.{HoldsAt};
 ghost use Rattle.nd_search.specs.Pieces.{piece_count};
@@ -7,9 +7,8 @@ ghost use Rattle.nd_search.specs.Works.{IsReady, HasDrawn, IsSearched, HasStoppe
 
 use crate::Gate;
 use crate::board::{Ticket, Word, draw};
-use crate::piece::Positions;
-use nd_timeline::{Timeline, Walk};
-use nd_watch::Break;
+use crate::piece::Scan;
+use nd_timeline::Walk;
 use std::alloc::Allocator;
 
 /// The pieces that a worker has claimed, and what it has found in them. If it was refused
@@ -37,23 +36,18 @@ pub(crate) struct Work<A: Allocator> {
 }
 
 impl<A: Allocator + Copy> Job<A> {
-    /// Claims piece after piece and searches it, until a number is no piece or memory is refused.
-    pub(crate) fn work<G: Gate>(
-        self,
-        timeline: &Timeline<A>,
-        word: &Word,
-        gate: &G,
-        b: &Break,
-        positions: Positions,
-        pieces: u64,
-    ) -> Work<A>
-        requires job { IsReady timeline.now word.now.table_id pieces self }
+    /// Claims piece after piece, calls the gate and searches it, until a number is no piece or
+    /// memory is refused.
+    pub(crate) fn work<G: Gate>(self, word: &Word, scan: &Scan<A, G>, pieces: u64) -> Work<A>
+        requires job { IsReady scan.now.timeline.now word.now.table_id pieces self }
         requires word { 0 < word.now.table_id.words }
-        requires range { (positions.lo ≤ positions.hi) × (positions.hi ≤ max_kept) }
-        requires pieces { pieces ≡ piece_count positions.lo positions.hi }
+        requires range { (scan.now.positions.lo ≤ scan.now.positions.hi) × (scan.now.positions.hi ≤ max_kept) }
+        requires pieces { pieces ≡ piece_count scan.now.positions.lo scan.now.positions.hi }
         ensures drawn { HasDrawn word.now.table_id pieces result }
-        ensures searched { IsSearched (HoldsAt timeline.now b.now) positions.lo positions.hi result.searched }
+        ensures searched { IsSearched (HoldsAt scan.now.timeline.now scan.now.b.now)
+            scan.now.positions.lo scan.now.positions.hi result.searched }
         ensures stopped { HasStopped pieces result }
+        ensures called { All (G.called scan.now.gate.now self.number) result.searched.claimed.items }
     {
         let Job {
             number,
@@ -67,8 +61,8 @@ impl<A: Allocator + Copy> Job<A> {
                 break;
             }
             searched.claimed.push_reserved(piece);
-            gate.call(number, piece);
-            let Ok(found) = positions.search_piece(timeline, &mut walk, b, piece) else {
+            scan.gate.call(number, piece);
+            let Ok(found) = scan.search_piece(&mut walk, number, piece) else {
                 break;
             };
             searched.found.push_reserved(found);

@@ -4,6 +4,7 @@
 ghost use Rattle.nd_view.specs.Kept.{IsFor};
 
 use crate::drawn::{EMPTY, LINE, LONG, LOOP, change, graph_of, paths_of, point, time};
+use crate::graphs::are_same;
 use crate::holdings::{set, take_all};
 use crate::kinds::{KINDS, Kind};
 use crate::queues::{len, pop, push, unpop};
@@ -251,9 +252,10 @@ fn copies_have_their_own_memory(rt: HostRuntime) {
 /// Whether a processor of a graph starts, and is copied, as are the graph and its paths.
 fn starts<A: Allocator + Copy>(alloc: A, graph: &Graph<A>) -> Option<bool> {
     let copy = graph.copy(alloc).ok()?;
-    Paths::of(alloc, &copy).ok()?.copy(alloc).ok()?;
+    let paths = Paths::of(alloc, &copy).ok()?.copy(alloc).ok()?;
     let processor = Processor::start(alloc, &copy).ok()?.copy(alloc).ok()?;
-    Some(processor.vertex_count() == graph.vertices().len())
+    let is_started = processor.vertex_count() == graph.vertices().len();
+    Some(is_started && are_same(&copy, graph) && are_same(paths.graph(), graph))
 }
 
 /// The same of the graph of a text.

@@ -1,8 +1,8 @@
-//! What views keep, against a count over all points.
+//! What views keep: a worked example by its name, and precursor counts against a count over all points.
 
 ghost use Rattle.nd_view.specs.Kept.{IsFor};
 
-use crate::drawn::{LOOP, paths_of};
+use crate::drawn::{Entry, LINE, LOOP, are_entries, change, paths_of, point};
 use nd_delta::Delta;
 use nd_graph::Graph;
 use nd_paths::{Paths, Pointstamp};
@@ -147,5 +147,47 @@ fn mixed(alloc: Global, paths: &Paths, times: usize) -> Option<usize> {
 fn thousand_changes(rt: HostRuntime) -> Result<(), Fail> {
     let paths = paths_of(rt.alloc(), rt.alloc(), LOOP).ok_or("no paths")?;
     assert_eq!(rt; mixed(rt.alloc(), &paths, 1000), Some(1000));
+    Ok(())
+}
+
+/// What a view of *line* keeps: its entries, the one on its frontier, and the precursor counts of the edge and of the input.
+type Keeping = ([Entry; 2], Entry, [Option<u64>; 2]);
+
+/// Whether a view of *line* keeps this.
+fn keeps(alloc: Global, view: &View, paths: &Paths, wanted: &Keeping) -> Option<bool>
+    requires { IsFor paths.now view.now }
+{
+    let (entries, first, [edge, input]) = wanted;
+    let graph = paths.graph();
+    let (az, a) = (point(graph, "az", &[0])?, point(graph, "a", &[0])?);
+    let frontier = view.frontier(alloc, paths).ok()?;
+    Some(
+        are_entries(graph, view.entries(), entries)
+            && are_entries(graph, frontier.entries(), &[*first])
+            && (view.kept(&az), view.kept(&a)) == (*edge, *input)
+            && Some(view.precursors(paths, &az)) == *edge,
+    )
+}
+
+/// Whether a view keeps what it should after a record is told of, after more is taken than there was, and after that is undone.
+fn keeps_each(alloc: Global, paths: &Paths) -> Option<[Option<bool>; 3]> {
+    let told: Keeping = ([("a", 0, 1), ("az", 0, 1)], ("a", 0, 1), [Some(1), Some(0)]);
+    let taken: Keeping = ([("a", 0, -1), ("az", 0, 1)], ("az", 0, 1), [Some(0), None]);
+    let more = change(alloc, paths.graph(), &told.0)?;
+    let less = change(alloc, paths.graph(), &[("a", 0, -2)])?;
+    let mut view = View::new(alloc);
+    view.apply(paths, &more).ok()?;
+    let first = keeps(alloc, &view, paths, &told);
+    view.apply(paths, &less).ok()?;
+    let second = keeps(alloc, &view, paths, &taken);
+    view.unapply(paths, &less).ok()?;
+    Some([first, second, keeps(alloc, &view, paths, &told)])
+}
+
+/// The example *kept counts*.
+#[test]
+fn kept_counts(rt: HostRuntime) -> Result<(), Fail> {
+    let paths = paths_of(rt.alloc(), rt.alloc(), LINE).ok_or("no paths")?;
+    assert_eq!(rt; keeps_each(rt.alloc(), &paths), Some([Some(true); 3]));
     Ok(())
 }

@@ -11,6 +11,8 @@ mod clusters;
 #[cfg(test)]
 mod drawn;
 #[cfg(test)]
+mod graphs;
+#[cfg(test)]
 mod holdings;
 #[cfg(test)]
 mod kept;

@@ -250,8 +250,8 @@ fn are_below<A: Allocator>(alloc: Global, lists: &[Vec<u64, A>]) -> Option<bool>
     Some(true)
 }
 
-/// Whether the gate was called for each claimed piece, by the worker that claimed it: for the one in which it was refused
-/// memory too, so before the search of it.
+/// Whether the gate was called for each claimed piece, by the worker that claimed it: also for a piece in which the worker
+/// was refused memory, so before its walk.
 fn were_called<A: Allocator>(gate: &Recorded, lists: &[Vec<u64, A>]) -> bool {
     for (who, list) in lists.iter().enumerate() {
         for piece in list {
@@ -292,10 +292,9 @@ fn searched<A: Allocator + Copy + Send + Sync, R: Threads + Sync>(
         Err(SearchFault::Memory) => (met, false),
         Err(SearchFault::Missing { piece, claimed }) => {
             let is_stopped = is_stopped_in(piece, claimed.as_slice(), wanted);
-            (
-                met && is_stopped && are_below(json, claimed.as_slice())?,
-                true,
-            )
+            let is_called = were_called(&gate, claimed.as_slice());
+            let is_whole = are_below(json, claimed.as_slice())?;
+            (met && is_stopped && is_called && is_whole, true)
         }
         Err(_) => (false, false),
     };
@@ -358,6 +357,52 @@ fn searches_in_turn<A: Allocator + Copy + Send + Sync, R: Threads + Sync>(
 fn search_out_of_memory(rt: HostRuntime) {
     let heap = Refusing::new(rt.alloc());
     assert_eq!(rt; searches_in_turn(&rt, &heap, rt.alloc(), &heap), Some(true));
+    assert_eq!(rt; heap.live(), 0);
+}
+
+/// Refuses the next request for memory as a worker comes to piece 0, and records who came to which.
+#[derive(Drop)]
+struct Refuses<'a>(&'a Heap, Recorded);
+
+impl Gate for Refuses<'_> {
+    fn call(&self, who: u64, piece: u64) {
+        self.1.call(who, piece);
+        if piece == 0 {
+            self.0.refuse(0);
+        }
+    }
+}
+
+/// Whether a worker that is refused memory from the gate's call for piece 0 on has no result of that piece: its walk had
+/// not begun.
+fn stops_at_the_gate<A: Allocator + Copy + Send + Sync, R: Threads + Sync>(
+    rt: &R,
+    heap: &Heap,
+    json: Global,
+    alloc: A,
+) -> Option<bool> {
+    let snapshot = at_either_end(json, alloc, false)?;
+    let nowhere = count(&snapshot, "az", 0)?;
+    let gate = Refuses(heap, Recorded::new());
+    let answer = search(rt, alloc, &snapshot, &nowhere, 0, 31, 1, &gate);
+    let met = heap.relent(0);
+    let Err(SearchFault::Missing { piece, claimed }) = answer else {
+        return None;
+    };
+    let lists = claimed.as_slice();
+    let is_one = lists.len() == 1 && are_below(json, lists)?;
+    Some(
+        met && piece == 0 && is_one && is_stopped_in(0, lists, None) && were_called(&gate.1, lists),
+    )
+}
+
+#[test]
+fn the_gate_is_called_before_the_walk(rt: HostRuntime) {
+    let heap = Refusing::new(rt.alloc());
+    assert_eq!(rt;
+        stops_at_the_gate(&rt, &heap, rt.alloc(), &heap),
+        Some(true)
+    );
     assert_eq!(rt; heap.live(), 0);
 }
 

@@ -4,6 +4,7 @@ use crate::drawn::{
     ADD, DISTINCT, EMPTY, EXCHANGE, FILTER, LINE, LOOP, NESTED_LOOP, SPLIT, SUM, TWO_WAYS,
     graph_of, point, time,
 };
+use crate::graphs::are_same;
 use crate::opened::{NOTHING, command_of, opened, session_of};
 use crate::told::{start, state_text};
 use nd_cluster::Cluster;
@@ -144,7 +145,7 @@ fn of_copies(alloc: Global, cluster: &Cluster) -> Option<Cluster> {
     processors.push(processor).ok()?;
     let mut views: Vec<View> = Vec::new(alloc);
     views.push(view).ok()?;
-    if graph.location_count() != cluster.graph().location_count() {
+    if !are_same(&graph, cluster.graph()) || !are_same(paths.graph(), &graph) {
         return None;
     }
     Cluster::of_parts(alloc, cluster.graph(), paths, processors, views, mesh)
@@ -258,22 +259,11 @@ fn opens<R: Wait>(rt: &R, alloc: Global, text: &str, n: u32) -> Option<bool> {
     let client = session.enter(rt, alloc).ok()?;
     let snapshot = session.copy(rt, alloc, &client).ok()?;
     let cluster = snapshot.cluster();
-    let (graph, wanted) = (cluster.graph(), started.graph());
-    if graph.vertices().len() != wanted.vertices().len()
-        || graph.edges().len() != wanted.edges().len()
-    {
-        return Some(false);
-    }
-    for location in 0..wanted.location_count() {
-        let name = wanted.location_name(location);
-        if graph.location_of(name) != Some(location) {
-            return Some(false);
-        }
-    }
     let state = state_text(alloc, cluster)?;
     Some(
         (snapshot.index(), snapshot.at(), snapshot.kept()) == (0, 0, 0)
             && cluster.n() == n as usize
+            && are_same(cluster.graph(), started.graph())
             && state.as_str() == state_text(alloc, &started)?.as_str(),
     )
 }

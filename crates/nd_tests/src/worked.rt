@@ -1,15 +1,15 @@
 //! The worked examples, by their names.
 
 use crate::drawn::{
-    CYCLE, DEEP, LINE, NESTED_LOOP, TWO_WAYS, UNGUARDED_LOOP, are_entries, change, graph_of,
-    paths_of, point, time,
+    CYCLE, DEEP, Entry, LINE, LOOP, NESTED_LOOP, TWO_WAYS, UNGUARDED_LOOP, are_entries, change,
+    graph_of, paths_of, point, time,
 };
 use crate::queues::{len, pop, push, unpop, unpush};
 use crate::views::view;
 use nd_delta::{Delta, DeltaFault};
 use nd_graph::{Action, GraphDraft, GraphFault, Op};
 use nd_mesh::{LIMIT, Mesh, PushFault};
-use nd_paths::{Constants, PathFault, Paths, Summary};
+use nd_paths::{Constants, PathFault, Paths, Pointstamp, Summary};
 use nd_time::{CounterFull, Timestamp};
 use nd_vertex::{Effect, VertexFault, VertexState};
 use serde_json::Value;
@@ -107,33 +107,46 @@ fn loop_not_strict(rt: HostRuntime) -> Result<(), Fail> {
     Ok(())
 }
 
-/// Whether the summaries between two locations of *two-ways* are those that keep and that drop the counter.
-fn has_two(paths: &Paths) -> Option<bool> {
+/// The summary of these numbers, or `None` if it has too many constants.
+fn summary(keep: usize, add: u32, constants: &[u32]) -> Option<Summary> {
+    Some(Summary {
+        keep,
+        add,
+        constants: Constants::new(constants)?,
+    })
+}
+
+/// Whether the summaries from one location to another are these.
+fn are_summaries(paths: &Paths, from: &str, to: &str, wanted: &[Summary]) -> Option<bool> {
     let graph = paths.graph();
-    let (from, to) = (graph.location_of("x")?, graph.location_of("z")?);
+    let (from, to) = (graph.location_of(from)?, graph.location_of(to)?);
     if from >= graph.location_count() || to >= graph.location_count() {
         return None;
     }
-    let both = [
-        Summary {
-            keep: 1,
-            add: 0,
-            constants: Constants::new(&[])?,
-        },
-        Summary {
-            keep: 0,
-            add: 0,
-            constants: Constants::new(&[1])?,
-        },
-    ];
     let found = paths.summaries(from, to);
-    Some(found.as_slice() == both.as_slice())
+    Some(found.as_slice() == wanted)
+}
+
+/// The example *summaries of the loop*.
+#[test]
+fn summaries_of_the_loop(rt: HostRuntime) -> Result<(), Fail> {
+    let paths = paths_of(rt.alloc(), rt.alloc(), LOOP).ok_or("no paths")?;
+    let enters = summary(0, 0, &[1]).ok_or("no summary")?;
+    assert_eq!(rt; are_summaries(&paths, "a", "fm", &[enters]), Some(true));
+    let stays = summary(1, 0, &[]).ok_or("no summary")?;
+    assert_eq!(rt; are_summaries(&paths, "f", "f", &[stays]), Some(true));
+    Ok(())
 }
 
 #[test]
 fn two_summaries(rt: HostRuntime) -> Result<(), Fail> {
     let paths = paths_of(rt.alloc(), rt.alloc(), TWO_WAYS).ok_or("no paths")?;
-    assert_eq!(rt; has_two(&paths), Some(true));
+    let keeps = summary(1, 0, &[]).ok_or("no summary")?;
+    let drops = summary(0, 0, &[1]).ok_or("no summary")?;
+    assert_eq!(rt;
+        are_summaries(&paths, "x", "z", &[keeps, drops]),
+        Some(true)
+    );
     let pairs: [(&[u32], &[u32], bool); 3] = [
         (&[0, 5], &[0, 1], true),
         (&[0, 5], &[0, 0], false),
@@ -179,6 +192,41 @@ fn sums(alloc: Global) -> Option<bool> {
 fn change_limits(rt: HostRuntime) {
     assert_eq!(rt; is_limited(rt.alloc()), Some(true));
     assert_eq!(rt; sums(rt.alloc()), Some(true));
+}
+
+/// The least pointstamp at which a change of these entries is not upright.
+fn unsupported(alloc: Global, paths: &Paths, entries: &[Entry]) -> Option<Pointstamp> {
+    change(alloc, paths.graph(), entries)?.unsupported(paths)
+}
+
+/// Whether a view that counts a record negative knows what comes before the sink, and what does not once the token is
+/// taken back.
+fn knows_negative(alloc: Global, paths: &Paths) -> Option<bool> {
+    let graph = paths.graph();
+    let (a, z) = (point(graph, "a", &[0])?, point(graph, "z", &[0])?);
+    let all = change(alloc, graph, &[("a", 0, 3), ("az", 0, -1)])?;
+    let mut view = view(alloc, paths, &all)?;
+    let frontier = view.frontier(alloc, paths).ok()?;
+    let is_blocked = are_entries(graph, frontier.entries(), &[("a", 0, 3)])
+        && view.precursors(paths, &z) == 1
+        && view.blocker(paths, &z) == Some(a);
+    view.unapply(paths, &change(alloc, graph, &[("a", 0, 3)])?)
+        .ok()?;
+    let is_left = are_entries(graph, view.entries(), &[("az", 0, -1)]);
+    Some(is_blocked && is_left && view.passed(paths, &z))
+}
+
+/// The example *changes and views*.
+#[test]
+fn changes_and_views(rt: HostRuntime) -> Result<(), Fail> {
+    let alloc = rt.alloc();
+    let paths = paths_of(alloc, alloc, LINE).ok_or("no paths")?;
+    let upright = [("a", 0, -1), ("a", 1, 1), ("az", 0, 1)];
+    assert_eq!(rt; unsupported(alloc, &paths, &upright), None);
+    let least = point(paths.graph(), "a", &[1]).ok_or("no point")?;
+    assert_eq!(rt; unsupported(alloc, &paths, &upright[1..]), Some(least));
+    assert_eq!(rt; knows_negative(alloc, &paths), Some(true));
+    Ok(())
 }
 
 /// Whether a view that was given a change, and then its opposite, goes back over both.

@@ -1,5 +1,6 @@
 -- A run under way goes on by a line, or stops.
-use Rattle.std.proofs.Common.{◌≡◌, ◌∙◌, ℕ, ◌+◌, false, List, [], ◌∷◌, ◌++◌, length, take, refl, sym, ap, subst, arith, append_assoc, length-append}
+use Rattle.std.proofs.Common.{◌≡◌, ◌∙◌, ℕ, ◌+◌, ◌<◌, ◌≤◌, false, List, [], ◌∷◌, ◌++◌, length, take, refl, sym, ap, subst, arith, append_assoc, length-append}
+use Rattle.std.proofs.lemmas.List.{append-nil}
 use Rattle.std.proofs.Math.Seq.{take-append_seam, take-length}
 use Rattle.serde_json.specs.Data.{Data}
 use Rattle.rewind_lines.specs.Cuts.{lines-count, lines-split, take-clip, whole_lines-empty, whole_lines-front, whole_lines-more, whole_lines-newline, whole_lines-on}
@@ -10,7 +11,7 @@ use Rattle.rewind_lines.specs.Texts.{text_of}
 use Rattle.rewind_answers.specs.Answers.{Phase, unopened, refused, Answers}
 use Rattle.rewind.specs.Script.{Run, Replies}
 use Rattle.rewind_answers.specs.Stages.{phase_of}
-use Rattle.rewind.specs.States.{Gathers, Stands, Stopped}
+use Rattle.rewind.specs.States.{AddsOne, Gathers, Stands, Stopped, WaitsFew}
 use Rattle.rewind_lines.specs.declared.fault.DebugFault.{DebugFault}
 use Rattle.rewind_lines.specs.declared.fault.DebugFault.TheVariants as fault
 use Rattle.rewind.specs.declared.run.Run as declared
@@ -48,6 +49,18 @@ stands-new n run stage held none replied = record {
   text = sym none;
   replied = replied;
 }
+
+-- nothing was put behind what waited
+pub adds-none : (waited waits : List ℕ) → waits ≡ waited → AddsOne waited waits
+adds-none waited waits same = record { last = []; at_most_one = omega arith; text = same ∙ sym (append-nil waited) }
+
+-- a line's reply was
+pub adds-reply : (old new : Phase) (number : ℕ) (reading : Reading) (waited waits : List ℕ) (count : ℕ) → Gathers old number reading waited waits count new → count ≤ 1 → AddsOne waited waits
+adds-reply old new number reading waited waits count a one = record { last = a.replies; at_most_one = omega (arith, a.is_count, one); text = a.gathered }
+
+-- what waits has room for more
+pub waits-few : (waits : List ℕ) → length waits < 65536 → WaitsFew waits
+waits-few waits few = record { before = waits; few = few; more = adds-none waits waits refl }
 
 -- memory ran out at a line, of these or of later ones
 stopped-memory-at : (n : ℕ) (done sent : List ℕ) (run next : declared.Run) (lines : List (List ℕ)) (s : Stands n done sent run) → next.outbox ≡ run.outbox

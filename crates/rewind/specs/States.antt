@@ -1,5 +1,5 @@
 -- How a run under way stands to what was read and written. For the clauses of private functions.
-use Rattle.std.specs.Prelude.{◌≡◌, ◌≢◌, ℕ, ◌+◌, List, [], ◌++◌, length, take, Option, Some}
+use Rattle.std.specs.Prelude.{◌≡◌, ◌≢◌, ℕ, ◌+◌, ◌<◌, ◌≤◌, List, [], ◌++◌, length, take, Option, Some}
 use Rattle.serde_json.specs.Data.{Data}
 use Rattle.rewind_lines.specs.Front.{held_of}
 use Rattle.rewind_lines.specs.Lines.{Reading, whole_lines_of}
@@ -17,6 +17,18 @@ pub record Gathers (old : Phase) (number : ℕ) (reading : Reading) (waited wait
   pub answers : Answers old number reading replies new
   pub gathered : waits ≡ waited ++ text_of replies
   pub is_count : count ≡ length replies
+
+-- the reply to one line, or none, was put behind what waited
+pub record AddsOne (waited waits : List ℕ) : Type 0 where
+  pub last : List Data
+  pub at_most_one : length last ≤ 1
+  pub text : waits ≡ waited ++ text_of last
+
+-- fewer than 65,536 bytes wait, and behind them at most one reply
+pub record WaitsFew (waits : List ℕ) : Type 0 where
+  pub before : List ℕ
+  pub few : length before < 65536
+  pub more : AddsOne before waits
 
 -- `done` was read, and the replies to its whole lines are `sent`, and then those that wait
 pub record Stands (processors : ℕ) (done sent : List ℕ) (run : Run) : Type 0 where

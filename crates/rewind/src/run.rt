@@ -5,7 +5,7 @@ ghost use Rattle.rewind_lines.specs.Lines.{lines_of, whole_lines_of};
 ghost use Rattle.rewind_lines.specs.Readings.{reading_view};
 ghost use Rattle.rewind.specs.Faults.{IsOfLine, IsOfRun};
 ghost use Rattle.rewind_answers.specs.Stages.{phase_of, phase_after};
-ghost use Rattle.rewind.specs.States.{Answered, EndsEarly, Gathers, Stands, Stopped};
+ghost use Rattle.rewind.specs.States.{AddsOne, Answered, EndsEarly, Gathers, Stands, Stopped, WaitsFew};
 
 use rewind_answers::{Stage, answer_line};
 use rewind_lines::{DebugFault, LineReader, Outbox, Reading, Sink};
@@ -79,6 +79,7 @@ impl Run {
             → Stands processors done sent self.old → Stopped processors (lines_of done) sent self.new e) }
         ensures counts { OnOk result ((self.new.lines.number ≡ self.old.lines.number + 1)
             × (self.new.replied ≤ self.old.replied + 1)) }
+        ensures adds { AddsOne self.old.outbox self.new.outbox }
         ensures kind { IfErr result IsOfLine }
     {
         let reading = self.lines.reading()?;
@@ -99,10 +100,12 @@ impl Run {
         Ok(())
     }
 
-    /// Reads on until many bytes of replies wait, and says how far.
+    /// Reads on until many bytes of replies wait, and says how far: no reply is added once 65,536
+    /// bytes wait.
     fn gather<R: Threads + Sync>(&mut self, rt: &R, bytes: &[u8]) -> Result<usize, DebugFault>
         requires number { self.old.lines.number + length bytes.now < 2 ^ 64 }
         requires replied { self.old.replied + length bytes.now < 2 ^ 64 }
+        requires room { length self.old.outbox < 65536 }
         ensures within { IfOk result (λ n. n ≤ length bytes.now) }
         ensures some { IfOk result (λ n. 0 < length bytes.now → 0 < n) }
         ensures ok { IfOk result (λ n. (processors : ℕ) (done sent : List ℕ)
@@ -113,6 +116,7 @@ impl Run {
             → Stopped processors (whole_lines_of (done ++ bytes.now)) sent self.new e) }
         ensures counts { IfOk result (λ n. (self.new.lines.number ≤ self.old.lines.number + n)
             × (self.new.replied ≤ self.old.replied + n)) }
+        ensures few { WaitsFew self.new.outbox }
         ensures kind { IfErr result IsOfLine }
     {
         let mut from = 0;

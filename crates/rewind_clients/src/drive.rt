@@ -4,6 +4,7 @@ ghost use Rattle.rewind_clients.specs.Intakes.{lists_of};
 ghost use Rattle.rewind_clients.specs.Served.{AreDone, AreFresh, IsDone, IsOfDriving, asked};
 ghost use Rattle.rewind_clients.specs.Told.{IsServed, MayEnd, Told, machine_of};
 
+use crate::gated::Gated;
 use crate::same::same_graph;
 use nd_search::Gate;
 use nd_session::{Client, Log, Session, SessionFault, State};
@@ -36,12 +37,11 @@ pub struct Driven {
     pub faults: Vec<Option<SessionFault>>,
 }
 
-// Makes a client's commands in order, until one is answered with a fault.
+// Makes a client's commands in order, each behind the gate, until one is answered with a fault.
 fn drive<R: Wait, G: Gate>(
     rt: &R,
     alloc: Global,
-    session: &Session,
-    gate: &G,
+    gated: &Gated<G>,
     mut client: Client,
     commands: Vec<Command>,
 ) -> Done
@@ -50,8 +50,8 @@ fn drive<R: Wait, G: Gate>(
         → IsServed commands.items (asked result.client.receipts) result.fault }
 {
     for command in commands {
-        gate.call(client.number(), client.receipts().len() as u64);
-        if let Err(fault) = session.command(rt, alloc, &mut client, command) {
+        gated.call(&client);
+        if let Err(fault) = gated.command(rt, alloc, &mut client, command) {
             return Done {
                 client,
                 fault: Some(fault),
@@ -121,7 +121,10 @@ fn drive_all<R: Threads + Wait + Sync, G: Gate>(
 {
     let worker = |task: Task| -> Done
         ensures { IsDone task result }
-    { drive(rt, alloc, session, gate, task.client, task.commands) };
+    {
+        let gated = Gated::new(session, gate);
+        drive(rt, alloc, &gated, task.client, task.commands)
+    };
     thread::map_vec(rt, tasks, &worker)
 }
 

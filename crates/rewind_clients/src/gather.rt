@@ -1,5 +1,5 @@
 //! Replies that are gathered one after another, and written once they are many.
-ghost use Rattle.std.specs.Prelude.{◌≡◌, ◌++◌, ◌∷◌, [], ℕ, List, false, is_err, IfErr, OnOk, OnErr};
+ghost use Rattle.std.specs.Prelude.{◌≡◌, ◌<◌, ◌++◌, ◌∷◌, [], ℕ, List, false, length, is_err, IfErr, OnOk, OnErr};
 ghost use Rattle.serde_json.specs.Data.{Data};
 ghost use Rattle.rewind_lines.specs.Faults.{is_write_fault};
 ghost use Rattle.rewind_clients.specs.Gathered.{Gathered, GatherFails, IsOfWriting};
@@ -23,7 +23,8 @@ pub fn flush<T: Sink>(outbox: &mut Outbox, sink: &mut T) -> Result<(), Unwritten
     outbox.flush(sink)
 }
 
-/// Gathers one more reply, and writes all that wait if they are many.
+/// Gathers one more reply, and writes all that wait if they are many: fewer than 65,536 bytes are
+/// left waiting.
 pub fn put<T: Sink>(outbox: &mut Outbox, sink: &mut T, reply: &Json) -> Result<(), DebugFault>
     requires sound { T.failed sink.old ≡ false }
     ensures ok { OnOk result ((replies : List Data) (before : List ℕ)
@@ -32,6 +33,7 @@ pub fn put<T: Sink>(outbox: &mut Outbox, sink: &mut T, reply: &Json) -> Result<(
     ensures err { IfErr result (λ e. (replies : List Data) (before : List ℕ)
         → Gathered replies outbox.old before (T.contents sink.old)
         → GatherFails replies reply.now outbox.new before (T.contents sink.new) e) }
+    ensures few { OnOk result (length outbox.new < 65536) }
     ensures kind { IfErr result IsOfWriting }
     ensures failed { T.failed sink.new ≡ is_write_fault result }
 {

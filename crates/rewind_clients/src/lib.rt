@@ -3,6 +3,7 @@
 
 mod clients;
 mod drive;
+mod gated;
 mod gather;
 mod intake;
 mod numbers;

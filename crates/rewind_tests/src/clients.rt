@@ -56,7 +56,7 @@ fn clients_at_the_same_time(rt: HostRuntime) -> Result<(), Fail> {
 }
 
 /// Holds client 1 before its first command until client 0 comes to its second, and client 0 there until client 1 comes to
-/// its second.
+/// its third.
 #[derive(Drop)]
 struct Between<'a, R: Clock> {
     first: Sign<'a, R>,
@@ -65,23 +65,26 @@ struct Between<'a, R: Clock> {
 
 impl<R: Clock + Sync> Gate for Between<'_, R> {
     fn call(&self, who: u64, number: u64) {
-        if who == 0 && number == 1 {
-            self.first.give();
-            self.second.wait();
-        } else if who == 1 && number == 0 {
-            self.first.wait();
-        } else if who == 1 {
-            self.second.give();
+        match (who, number) {
+            (0, 1) => {
+                self.first.give();
+                self.second.wait();
+            }
+            (1, 0) => self.first.wait(),
+            (1, 2) => self.second.give(),
+            _ => {}
         }
     }
 }
 
+/// The gate is called before a command is made: while client 0 is held there, its second command is not in the log, and
+/// those of client 1 are.
 #[test]
 fn clients_in_turn(rt: HostRuntime) -> Result<(), Fail> {
     let alloc = rt.alloc();
     let zero = "{\"client\":0,\"do\":\"back\"}\n";
     let one = "{\"client\":1,\"do\":\"back\"}\n";
-    let script = format!(in alloc; "{LINE}\n{zero}{zero}{one}{one}")?;
+    let script = format!(in alloc; "{LINE}\n{zero}{zero}{one}{one}{one}")?;
     let gate = Between {
         first: Sign::new(&rt),
         second: Sign::new(&rt),
@@ -93,7 +96,7 @@ fn clients_in_turn(rt: HostRuntime) -> Result<(), Fail> {
     assert!(rt; gate.first.came() && gate.second.came());
     let reply = "\"reply\":{\"code\":20,\"error\":\"AtStart\"}}\n";
     let firsts = format!(in alloc;
-        "{LINE_REPLY}{{\"client\":0,\"number\":0,{reply}{{\"client\":1,\"number\":0,{reply}"
+        "{LINE_REPLY}{{\"client\":0,\"number\":0,{reply}{{\"client\":1,\"number\":0,{reply}{{\"client\":1,\"number\":1,{reply}"
     )?;
     assert!(rt; sink.bytes.as_slice().starts_with(firsts.as_bytes()));
     Ok(())

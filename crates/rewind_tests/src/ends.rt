@@ -92,6 +92,8 @@ impl Source for Newlines {
 #[derive(Drop)]
 pub struct Taken {
     pub bytes: Vec<u8>,
+    /// The most bytes that a call was given.
+    pub most: usize,
     pub step: usize,
     pub calls: usize,
     pub fails_at: usize,
@@ -105,6 +107,7 @@ pub fn empty_sink(alloc: Global, step: usize, fails_at: usize, takes_none: bool)
 {
     Taken {
         bytes: Vec::new(alloc),
+        most: 0,
         step,
         calls: 0,
         fails_at,
@@ -123,6 +126,7 @@ impl Sink for Taken {
     fn write(&mut self, bytes: &[u8]) -> Result<usize, Unwritten> {
         let call = self.calls;
         self.calls = call.saturating_add(1);
+        self.most = self.most.max(bytes.len());
         if call == self.fails_at && !self.takes_none {
             self.has_failed = true;
             return Err(Unwritten);

@@ -7,3 +7,5 @@ mod clients;
 mod ends;
 #[cfg(test)]
 mod runs;
+#[cfg(test)]
+mod steps;

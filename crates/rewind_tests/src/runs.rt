@@ -42,7 +42,7 @@ static LINES: [(&str, &str); 8] = [
     ),
 ];
 
-static ONE: Options = Options {
+pub static ONE: Options = Options {
     processors: 1,
     clients: 1,
 };
@@ -131,6 +131,34 @@ fn gathers_its_replies(rt: HostRuntime) -> Result<(), Fail> {
     assert!(rt; sink.bytes.as_slice() == want.as_slice());
     // What was read at once is answered at once, and then the last line, which has no newline.
     assert_eq!(rt; sink.calls, 2);
+    Ok(())
+}
+
+/// The reply that tells the state of a line's start.
+const STATE_REPLY: &str =
+    "{\"ok\":true,\"state\":{\"processors\":[{\"items\":[],\"records\":[],\"requests\":[],\"sinks\":[],\"tokens\":[[\"a\",0]],\"unsent\":[],\"view\":[[\"a\",[0],1]]}],\"queues\":[[[]]]}}\n";
+
+/// A line's graph and so many queries of its state, all of which are read at once.
+fn asks_states(alloc: Global, times: usize) -> Result<Vec<u8>, AllocError> {
+    let mut script = Vec::new(alloc);
+    script.extend_from_slice(LINE.as_bytes())?;
+    for _ in 0..times {
+        script.extend_from_slice(b"\n{\"do\":\"state\"}")?;
+    }
+    Ok(script)
+}
+
+#[test]
+fn writes_before_much_waits(rt: HostRuntime) -> Result<(), Fail> {
+    let script = asks_states(rt.alloc(), 2000)?;
+    let mut source = pieces_of(script.as_slice(), NEVER, NEVER);
+    let mut sink = empty_sink(rt.alloc(), NEVER, NEVER, false);
+    assert_eq!(rt; debug(&rt, rt.alloc(), &mut source, &mut sink, &ONE)?, 2001);
+    // One read gives all of the script, and one its end.
+    assert_eq!(rt; source.calls, 2);
+    assert!(rt; sink.bytes.as_slice().ends_with(STATE_REPLY.as_bytes()));
+    assert!(rt; sink.bytes.len() > 4 * 65_536);
+    assert!(rt; sink.most < 65_536 + STATE_REPLY.len());
     Ok(())
 }
 
@@ -258,7 +286,7 @@ fn passes_over_a_long_line(rt: HostRuntime) -> Result<(), Fail> {
 }
 
 /// What a run of the script writes, and how it ends.
-fn run<R: Threads + Sync>(
+pub fn run<R: Threads + Sync>(
     rt: &R,
     alloc: Global,
     options: &Options,

@@ -1,7 +1,7 @@
 //! The worked examples, by their names, and the changes that a record lists.
 
 use crate::clusters::limits::{ROWS, closes, number_of};
-use crate::drawn::{ADD, LINE, LOOP, SUM, graph_of, time};
+use crate::drawn::{ADD, EXCHANGE, LINE, LOOP, SUM, graph_of, time};
 use crate::told::{Told, reach, start, step_of};
 use nd_cluster::{Change, Changes, Cluster, Entry, Next, StartFault};
 use nd_paths::Pointstamp;
@@ -70,9 +70,30 @@ fn lists_changes(alloc: Global) -> Option<bool> {
     Some(kinds(changes) == (1, 1, 2) && copied.as_slice() == changes.as_slice())
 }
 
+/// How many entries the record of the last of these steps has, once the others were made.
+fn entry_count(alloc: Global, text: &str, n: u32, steps: &[Told]) -> Option<usize> {
+    let (last, made) = steps.split_last()?;
+    let cluster = reach(alloc, alloc, text, n, made)?;
+    let record = cluster.plan(&step_of(alloc, cluster.graph(), last)?).ok()?;
+    Some(record.entries())
+}
+
+/// The example *inverse records*. Its exchange is that of *views-lag*.
 #[test]
-fn changes_of_a_feed(rt: HostRuntime) {
-    assert_eq!(rt; lists_changes(rt.alloc()), Some(true));
+fn inverse_records(rt: HostRuntime) {
+    let alloc = rt.alloc();
+    assert_eq!(rt; lists_changes(alloc), Some(true));
+    let feed = [Told::Feed(0, "a", &[7, 7], Next::Close)];
+    assert_eq!(rt; entry_count(alloc, LINE, 1, &feed), Some(4));
+    let steps = [
+        Told::Feed(0, "a", &[5], Next::Close),
+        Told::Take(2, "az", &[0], 5),
+        Told::All(2),
+        Told::Receive(2, 1),
+        Told::All(0),
+    ];
+    assert_eq!(rt; entry_count(alloc, EXCHANGE, 3, &steps[..4]), Some(2));
+    assert_eq!(rt; entry_count(alloc, EXCHANGE, 3, &steps), Some(3));
 }
 
 /// What a step changes on *line*, once others were made.

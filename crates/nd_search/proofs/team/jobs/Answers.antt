@@ -3,6 +3,7 @@ use Rattle.nd_search.specs.declared.work.Job.{Job}
 use Rattle.nd_search.specs.Works.{IsReady}
 use Rattle.nd_search.proofs.Shares.{unshared, enough, share_left, share_given, none_remains}
 use Rattle.nd_search.proofs.Elements.{all_none, all_more}
+use Rattle.nd_search.proofs.Joined.{none_numbered, numbered_more}
 use Rattle.nd_search.proofs.team.jobs.Goals as goal
 
 pub share-requires-clause-allowed : goal.share-requires-clause-allowed
@@ -15,6 +16,7 @@ loop-number-init g c =
       me = unshared c.args.ticket.now.me (c.args.pieces + 1) c.args.workers c.requires.whole;
       counted = search rules;
       room = search rules;
+      numbered = none_numbered c.in_ok-jobs.jobs.items c.in_ok-jobs.ensures.items;
       ready = all_none (IsReady c.args.timeline.now c.args.word.now.table_id c.args.pieces) c.in_ok-jobs.jobs.items c.in_ok-jobs.ensures.items;
     }
 
@@ -34,6 +36,7 @@ loop-number-preserved g c =
       me = share_left p c.args.workers c.loop-number.number c.loop-number.ticket.me at.me c.share.new.ticket.me c.share.ensures.left.1;
       counted = search rules;
       room = search rules;
+      numbered = numbered_more c.loop-number.jobs.items c.push_reserved.new.self.items job c.push_reserved.ensures.items (search rules) at.numbered;
       ready = all_more (IsReady c.args.timeline.now c.args.word.now.table_id c.args.pieces) c.loop-number.jobs.items c.push_reserved.new.self.items job c.push_reserved.ensures.items at.ready ready;
     }
 

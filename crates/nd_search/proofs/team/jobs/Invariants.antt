@@ -1,6 +1,6 @@
 use Rattle.std.proofs.Common.{◌≡◌, ◌+◌, ◌-◌, ◌*◌, ◌≤◌, [], All, vec_len, vec_capacity}
 use Rattle.nd_search.specs.Hands.{hand}
-use Rattle.nd_search.specs.Works.{IsReady}
+use Rattle.nd_search.specs.Works.{IsReady, AreNumbered}
 use Rattle.nd_search.proofs.team.jobs.Given as goal
 
 abbrev pub invariant-loop-number : goal.invariant-loop-number
@@ -9,5 +9,6 @@ invariant-loop-number g l = record {
   me : l.ticket.me ≡ (hand (l.pieces + 1) ((l.workers - l.number) * (l.pieces + 1)) [], []);
   counted : vec_len l.jobs ≡ l.number;
   room : l.workers ≤ vec_capacity l.jobs;
+  numbered : AreNumbered l.jobs.items;
   ready : All (IsReady l.timeline l.word.table_id l.pieces) l.jobs.items;
 }

@@ -6,8 +6,9 @@ use Rattle.nd_search.specs.Least.{HoldsAt}
 use Rattle.nd_search.specs.Claims.{times}
 use Rattle.nd_search.specs.Works.{IsReady, IsSearched, HaveStopped}
 use Rattle.nd_search.proofs.Elements.{all_mapped, length_twice}
-use Rattle.nd_search.proofs.Joined.{all_done}
+use Rattle.nd_search.proofs.Joined.{all_done, all_called}
 use Rattle.nd_search.proofs.WorksLemmas.{have_stopped}
+use Rattle.nd_search.proofs.AnswersLemmas.{called_lists}
 use Rattle.nd_search.proofs.Lists.{below_min}
 use Rattle.nd_search.proofs.team.search_all.Goals as goal
 
@@ -19,7 +20,7 @@ map_vec-requires-after_bounds g c κs within =
 
 pub gathered-requires-clause-all : goal.gathered-requires-clause-all
 gathered-requires-clause-all g c =
-    let done = all_done _ _ c.args.timeline.now c.args.b.now c.args.positions.lo c.args.positions.hi c.in_ok-board.board.shared.table_id c.pieces-pieces.result c.in_ok-jobs.jobs.items c.in_ok-works.works.items (search rules) c.in_ok-works.ensures.each (λ job w met. met) in
+    let done = all_done _ _ c.args.timeline.now c.args.b.now c.args.positions.lo c.args.positions.hi c.in_ok-board.board.shared.table_id c.pieces-pieces.result c.in_ok-jobs.jobs.items c.in_ok-works.works.items (search rules) c.in_ok-works.ensures.each (λ job w met. met.0) in
     λ k d lt. (done k d lt).drawn
 
 pub end_board-requires-clause-board : goal.end_board-requires-clause-board
@@ -32,7 +33,7 @@ end_board-requires-clause-whole g c =
 
 pub returns-clause-found : goal.returns-clause-found
 returns-clause-found g c =
-    let done = all_done _ _ c.args.timeline.now c.args.b.now c.args.positions.lo c.args.positions.hi c.in_ok-board.board.shared.table_id c.pieces-pieces.result c.in_ok-jobs.jobs.items c.in_ok-works.works.items (search rules) c.in_ok-works.ensures.each (λ job w met. met) in
+    let done = all_done _ _ c.args.timeline.now c.args.b.now c.args.positions.lo c.args.positions.hi c.in_ok-board.board.shared.table_id c.pieces-pieces.result c.in_ok-jobs.jobs.items c.in_ok-works.works.items (search rules) c.in_ok-works.ensures.each (λ job w met. met.0) in
     all_mapped (λ (w : Work g.row.A.Denot). w.searched) (λ (s : Searched g.row.A.Denot). IsSearched (HoldsAt c.args.timeline.now c.args.b.now) c.args.positions.lo c.args.positions.hi s) c.in_ok-works.works.items c.in_ok-list.list.items c.in_ok-list.ensures.each
     (λ k d lt. (done k d lt).searched)
 
@@ -54,9 +55,15 @@ returns-clause-stopped g c =
     let p : ℕ = c.pieces-pieces.result in
     let works : List (Work g.row.A.Denot) = c.in_ok-works.works.items in
     let list : List (Searched g.row.A.Denot) = c.in_ok-list.list.items in
-    let done = all_done _ _ c.args.timeline.now c.args.b.now c.args.positions.lo c.args.positions.hi c.in_ok-board.board.shared.table_id p c.in_ok-jobs.jobs.items works (search rules) c.in_ok-works.ensures.each (λ job w met. met) in
+    let done = all_done _ _ c.args.timeline.now c.args.b.now c.args.positions.lo c.args.positions.hi c.in_ok-board.board.shared.table_id p c.in_ok-jobs.jobs.items works (search rules) c.in_ok-works.ensures.each (λ job w met. met.0) in
     let drawn = c.in_ok-list.ensures.drawn in
     subst (λ (m : ℕ). HaveStopped m list) c.pieces-pieces.ensures
     (have_stopped p n works list c.in_ok-list.ensures.each (λ k d lt. (done k d lt).stopped)
     (λ x. ap (times x) (sym drawn) ∙ c.end_board.ensures.each x) (c.end_board.ensures.count ∙ ap length drawn)
     (λ x. c.in_ok-list.ensures.claimed x ∙ (ap (λ (k : ℕ). cond (nat_lt x p) k 0) (c.end_board.ensures.each x) ∙ below_min x n p)))
+
+pub returns-clause-called : goal.returns-clause-called
+returns-clause-called g c =
+    let Called : ℕ → ℕ → Type 0 = g.G.Gate.called c.args.gate.now in
+    called_lists Called c.in_ok-works.works.items c.in_ok-list.list.items c.in_ok-list.ensures.each
+    (all_called _ _ Called c.in_ok-jobs.jobs.items c.in_ok-works.works.items (search rules) c.in_ok-works.ensures.each (λ job w met. met.1) c.in_ok-jobs.ensures.numbered)

@@ -1,4 +1,4 @@
-use Rattle.std.proofs.Common.{rules, ◌≡◌, ◌+◌, ◌-◌, ◌<◌, ◌++◌, ◌∷◌, [], ℕ, length, length-append, inl, inr, refl, sym, ap, subst, ◌∙◌, arith}
+use Rattle.std.proofs.Common.{rules, ◌≡◌, ◌+◌, ◌-◌, ◌<◌, ◌++◌, ◌∷◌, [], ℕ, All, length, length-append, inl, inr, refl, sym, ap, subst, ◌∙◌, arith}
 use Rattle.nd_search.specs.Least.{HoldsAt}
 use Rattle.atomic_table.specs.declared.shared.Seat.{Seat}
 use Rattle.nd_search.specs.declared.hand.Hand.{Hand}
@@ -30,12 +30,13 @@ loop-init g c =
       claimed_room = job.empty.claimed_room;
       found_room = job.empty.found_room;
       on = job.on;
-      right = starts (HoldsAt c.args.timeline.now c.args.b.now) c.args.positions.lo c.args.positions.hi s.claimed.items s.found.items job.empty.nothing_claimed job.empty.nothing_found;
+      called = all_none (g.G.Gate.called c.args.scan.now.gate.now c.args.self.number) s.claimed.items job.empty.nothing_claimed;
+      right = starts (HoldsAt c.args.scan.now.timeline.now c.args.scan.now.b.now) c.args.scan.now.positions.lo c.args.scan.now.positions.hi s.claimed.items s.found.items job.empty.nothing_claimed job.empty.nothing_found;
     }
 
 pub loop-preserved : goal.loop-preserved
 loop-preserved g c =
-    let m = c.args.timeline.now in
+    let m = c.args.scan.now.timeline.now in
     let at = c.loop.invariant in
     let claimed = c.loop.searched.claimed.items in
     let piece = c.draw-piece.result in
@@ -48,17 +49,18 @@ loop-preserved g c =
       claimed_room = search rules;
       found_room = search rules;
       on = c.search_piece.ensures.on;
-      right = ends (HoldsAt m c.args.b.now) c.args.positions.lo c.args.positions.hi claimed c.push_reserved.new.self.items c.loop.searched.found.items c.push_reserved-in-loop.new.self.items piece c.in-Ok.found at.right at.even c.in-Ok.ensures.found c.push_reserved.ensures.items c.push_reserved-in-loop.ensures.items;
+      called = all_more (g.G.Gate.called c.args.scan.now.gate.now c.args.self.number) claimed c.push_reserved.new.self.items piece c.push_reserved.ensures.items at.called c.call.ensures;
+      right = ends (HoldsAt m c.args.scan.now.b.now) c.args.scan.now.positions.lo c.args.scan.now.positions.hi claimed c.push_reserved.new.self.items c.loop.searched.found.items c.push_reserved-in-loop.new.self.items piece c.in-Ok.found at.right at.even c.in-Ok.ensures.found c.push_reserved.ensures.items c.push_reserved-in-loop.ensures.items;
     }
 
 pub returns-clause-searched : goal.returns-clause-searched
 returns-clause-searched g c =
-    let m = c.args.timeline.now in
-    let P : Searched g.row.A.Denot → Type 0 = λ s. IsSearched (HoldsAt m c.args.b.now) c.args.positions.lo c.args.positions.hi s in
+    let m = c.args.scan.now.timeline.now in
+    let P : Searched g.row.A.Denot → Type 0 = λ s. IsSearched (HoldsAt m c.args.scan.now.b.now) c.args.scan.now.positions.lo c.args.scan.now.positions.hi s in
     elim c.loop-test.branch [
       | else-loop-test w ↦ subst P (sym w.searched-is) c.loop.invariant.right
       | then-loop-test+then-piece-pieces w ↦ subst P (sym w.searched-is) c.loop.invariant.right
-      | then-loop-test+else-piece-pieces+in_default w ↦ subst P (sym w.searched-is) (begins (HoldsAt m c.args.b.now) c.args.positions.lo c.args.positions.hi c.loop.searched.claimed.items w.push_reserved.new.self.items c.loop.searched.found.items w.draw-piece.result c.loop.invariant.right w.push_reserved.ensures.items)
+      | then-loop-test+else-piece-pieces+in_default w ↦ subst P (sym w.searched-is) (begins (HoldsAt m c.args.scan.now.b.now) c.args.scan.now.positions.lo c.args.scan.now.positions.hi c.loop.searched.claimed.items w.push_reserved.new.self.items c.loop.searched.found.items w.draw-piece.result c.loop.invariant.right w.push_reserved.ensures.items)
     ]
 
 pub returns-clause-drawn : goal.returns-clause-drawn
@@ -109,4 +111,14 @@ returns-clause-stopped g c =
           let counted : length more.items ≡ c.loop.counter + 1 = ap length w.push_reserved.ensures.items ∙ omega (arith, length-append c.loop.searched.claimed.items (w.draw-piece.result ∷ []), count) in
           subst (λ t. P t c.loop-test.searched) (sym w.ticket-is) (subst (λ s. P w.draw-piece.new.ticket s) (sym w.searched-is)
           (inl (omega (arith, counted, count, at.even))))
+    ]
+
+pub returns-clause-called : goal.returns-clause-called
+returns-clause-called g c =
+    let Called : ℕ → Type 0 = g.G.Gate.called c.args.scan.now.gate.now c.args.self.number in
+    let P : Searched g.row.A.Denot → Type 0 = λ s. All Called s.claimed.items in
+    elim c.loop-test.branch [
+      | else-loop-test w ↦ subst P (sym w.searched-is) c.loop.invariant.called
+      | then-loop-test+then-piece-pieces w ↦ subst P (sym w.searched-is) c.loop.invariant.called
+      | then-loop-test+else-piece-pieces+in_default w ↦ subst P (sym w.searched-is) (all_more Called c.loop.searched.claimed.items w.push_reserved.new.self.items w.draw-piece.result w.push_reserved.ensures.items c.loop.invariant.called w.call.ensures)
     ]

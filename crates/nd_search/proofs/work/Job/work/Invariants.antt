@@ -14,6 +14,7 @@ invariant-loop g l = record {
   below : All (λ x. x < l.pieces) l.searched.claimed.items;
   claimed_room : l.pieces < vec_capacity l.searched.claimed;
   found_room : l.pieces < vec_capacity l.searched.found;
-  on : IsOn l.timeline l.walk;
-  right : IsSearched (HoldsAt l.timeline l.b) l.positions.lo l.positions.hi l.searched;
+  on : IsOn l.scan.timeline.now l.walk;
+  called : All (g.G.Gate.called l.scan.gate.now l.fn.self.number) l.searched.claimed.items;
+  right : IsSearched (HoldsAt l.scan.timeline.now l.scan.b.now) l.scan.positions.lo l.scan.positions.hi l.searched;
 }

@@ -1,6 +1,6 @@
-use Rattle.std.proofs.Common.{◌∙◌, refl, ap}
+use Rattle.std.proofs.Common.{refl}
 use Rattle.std.proofs.lemmas.Result.{err_from_is_err_and}
-use Rattle.rewind.proofs.StandLaws.{stopped-memory-here, stopped-refused, stands-next}
+use Rattle.rewind.proofs.StandLaws.{adds-none, adds-reply, stopped-memory-here, stopped-refused, stands-next}
 use Rattle.rewind.proofs.run.Run.end_line.Goals as goal
 
 pub returns-in_err-reading-clause-err : goal.returns-in_err-reading-clause-err
@@ -15,12 +15,21 @@ returns-in_err-count-clause-err g c =
 
 pub returns-then-is_last-clause-err : goal.returns-then-is_last-clause-err
 returns-then-is_last-clause-err g c = λ n done sent s.
-    let number = c.number-number.ensures ∙ ap (λ h. h.number) c.reading.ensures.same in
-    stopped-refused n done sent c.args.self.now _ _ _ _ s number (c.in_ok-reading.ensures.reading done s.held) (rw c.if-is_last.true at c.in_ok-count.ensures.answers)
+    stopped-refused n done sent c.args.self.now _ _ _ _ s c.number-number.ensures (c.in_ok-reading.ensures.reading done s.held) (rw c.if-is_last.true at c.in_ok-count.ensures.answers)
 
 pub returns-clause-ok : goal.returns-clause-ok
 returns-clause-ok g c = λ n done sent s.
-    let same = c.reading.ensures.same in
-    let number = c.number-number.ensures ∙ ap (λ h. h.number) same in
-    stands-next n done sent c.args.self.now _ _ _ _ s number (c.in_ok-reading.ensures.reading done s.held) (rw c.if-is_last.false at c.in_ok-count.ensures.answers)
-    (λ d h. c.begin_next.ensures.next d (same ∙ h)) refl
+    stands-next n done sent c.args.self.now _ _ _ _ s c.number-number.ensures (c.in_ok-reading.ensures.reading done s.held) (rw c.if-is_last.false at c.in_ok-count.ensures.answers)
+    (λ d h. c.begin_next.ensures.next d h) refl
+
+pub returns-in_err-reading-clause-adds : goal.returns-in_err-reading-clause-adds
+returns-in_err-reading-clause-adds g c = adds-none _ _ refl
+
+pub returns-in_err-count-clause-adds : goal.returns-in_err-count-clause-adds
+returns-in_err-count-clause-adds g c = adds-none _ _ c.in_err-count.ensures.err
+
+pub returns-then-is_last-clause-adds : goal.returns-then-is_last-clause-adds
+returns-then-is_last-clause-adds g c = adds-reply _ _ _ _ _ _ _ c.in_ok-count.ensures.answers c.in_ok-count.ensures.one
+
+pub returns-clause-adds : goal.returns-clause-adds
+returns-clause-adds g c = adds-reply _ _ _ _ _ _ _ c.in_ok-count.ensures.answers c.in_ok-count.ensures.one

@@ -4,7 +4,7 @@ use Rattle.std.proofs.lemmas.Result.{err_from_is_err_and}
 use Rattle.rewind_lines.specs.Cuts.{up_to, up_to-newline}
 use Rattle.rewind.specs.States.{Stands}
 use Rattle.rewind.specs.declared.run.Run.{Run}
-use Rattle.rewind.proofs.StandLaws.{stands-on, stopped-memory, stopped-newline}
+use Rattle.rewind.proofs.StandLaws.{stands-on, stopped-memory, stopped-newline, waits-few}
 use Rattle.rewind.proofs.run.Run.gather.Goals as goal
 
 pub returns-in_err-n-clause-err : goal.returns-in_err-n-clause-err
@@ -56,6 +56,7 @@ lines-preserved g c =
           (c.in_ok-end_line.ensures.ok k (begun ++ w.0) sent (stands-on k begun w.0 sent c.lines.self _ w.1.one_line (i.stands k done sent s) w.2 refl refl refl));
       number = let x = i.number in let y = counts.0 in omega arith;
       replied = let x = i.replied in let y = counts.1 in omega arith;
+      few = search rules;
     }
 
 pub returns-clause-ok : goal.returns-clause-ok
@@ -67,3 +68,15 @@ returns-clause-ok g c = λ k done sent s.
     let all : (done ++ take from bytes) ++ drop from bytes ≡ done ++ take (length bytes) bytes = up_to done bytes from ∙ ap (λ xs. done ++ xs) (sym (take_all (length bytes) bytes (omega arith))) in
     let next : Run = record c.lines.self { lines = c.take.new.self } in
     subst (λ (xs : List ℕ). Stands k xs sent next) all (stands-on k (done ++ take from bytes) (drop from bytes) sent c.lines.self next p.0 (c.lines.invariant.stands k done sent s) p.1 refl refl refl)
+
+pub returns-in_err-n-clause-few : goal.returns-in_err-n-clause-few
+returns-in_err-n-clause-few g c = waits-few c.lines.self.outbox c.lines.invariant.few
+
+pub returns-in_err-end_line-clause-few : goal.returns-in_err-end_line-clause-few
+returns-in_err-end_line-clause-few g c = record { before = c.lines.self.outbox; few = c.lines.invariant.few; more = c.end_line.ensures.adds }
+
+pub returns-then-is_full-clause-few : goal.returns-then-is_full-clause-few
+returns-then-is_full-clause-few g c = record { before = c.lines.self.outbox; few = c.lines.invariant.few; more = c.end_line.ensures.adds }
+
+pub returns-clause-few : goal.returns-clause-few
+returns-clause-few g c = waits-few c.lines.self.outbox c.lines.invariant.few

@@ -1,4 +1,4 @@
-use Rattle.std.proofs.Common.{ℕ, ◌+◌, ◌-◌, ◌≤◌, List, ◌++◌, length, take}
+use Rattle.std.proofs.Common.{ℕ, ◌+◌, ◌-◌, ◌<◌, ◌≤◌, List, ◌++◌, length, take}
 use Rattle.rewind.specs.States.{Stands}
 use Rattle.rewind.proofs.run.Run.gather.Given as goal
 
@@ -8,6 +8,7 @@ invariant-lines g l = record {
   stands : (n : ℕ) (done sent : List ℕ) → Stands n done sent l.fn.self → Stands n (done ++ take l.from l.bytes) sent l.self;
   number : l.self.lines.number ≤ l.fn.self.lines.number + l.from;
   replied : l.self.replied ≤ l.fn.self.replied + l.from;
+  few : length l.self.outbox < 65536;
 }
 
 abbrev pub decreases-lines : goal.decreases-lines

@@ -1,9 +1,8 @@
-use Rattle.std.proofs.Common.{◌∙◌, refl, ap}
+use Rattle.std.proofs.Common.{refl}
 use Rattle.rewind_clients.proofs.ReadersLemmas.{stands-next}
 use Rattle.rewind_clients.proofs.reader.Reader.end_line.Goals as goal
 
 pub returns-clause-ok : goal.returns-clause-ok
 returns-clause-ok c = λ o done s.
-    let same = c.reading.ensures.same in
-    stands-next o done c.args.self.now _ c.number-number.result _ s (c.number-number.ensures ∙ ap (λ h. h.number) same) (c.in_ok-reading.ensures.reading done s.held)
-    c.in_ok-read_line.ensures.reads (λ d h. c.begin_next.ensures.next d (same ∙ h)) refl
+    stands-next o done c.args.self.now _ c.number-number.result _ s c.number-number.ensures (c.in_ok-reading.ensures.reading done s.held)
+    c.in_ok-read_line.ensures.reads (λ d h. c.begin_next.ensures.next d h) refl
