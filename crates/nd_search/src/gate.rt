@@ -6,11 +6,10 @@ ghost use Rattle.std.specs.Prelude.{ℕ};
 ///
 /// No answer depends on it.
 pub trait Gate: Sync {
-    /// What is known once the gate was called with these two numbers: nothing, unless an
-    /// implementation says more.
+    /// States what a call with these two numbers leaves known. By default that is nothing.
     ///
-    /// Searches and runs are proved for every meaning of it, so they know it from a call alone:
-    /// what requires it can only be done after the call.
+    /// Searches and runs are proved for every meaning of `called`, so only a call gives it to
+    /// them: what requires `called` can only be done after a call with the same numbers.
     ghost called: { Self → ℕ → ℕ → Type 0 } = { λ _ _ _. Unit {0} };
 
     /// Worker or client `who`, counted from 0, is about to search this piece or make its command

@@ -184,7 +184,7 @@ fn keeps_each(alloc: Global, paths: &Paths) -> Option<[Option<bool>; 3]> {
     Some([first, second, keeps(alloc, &view, paths, &told)])
 }
 
-/// The example *kept counts*.
+/// The precursor counts that a view stores, in three states on *line*: an example of the specification.
 #[test]
 fn kept_counts(rt: HostRuntime) -> Result<(), Fail> {
     let paths = paths_of(rt.alloc(), rt.alloc(), LINE).ok_or("no paths")?;

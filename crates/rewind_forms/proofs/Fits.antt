@@ -174,12 +174,16 @@ step_fits g form.Broadcast d = all_fits g d
 step_fits g form.Part d = part_fits g d
 step_fits g form.Receive d = receive_fits g d
 
-form_fits : (g : Dataflow) (d : Data) (form : Form) → IfOk (read_as g d form) (NamesFit g)
-form_fits g d (line.Step form) = step_fits g form d
-form_fits g d (line.Command form) = tt
-form_fits g d (line.Query form) = tt
+-- a step that was read in its form
+pub form_fits : (g : Dataflow) (form : StepForm) (d : Data) (x : Step Global) → step_of g form d ≡ Ok x → NamesFit g x
+form_fits g form d x e = subst (λ r. IfOk r (NamesFit g)) e (step_fits g form d)
+
+line_fits : (g : Dataflow) (d : Data) (form : Form) → IfOk (read_as g d form) (NamesFit g)
+line_fits g d (line.Step form) = step_fits g form d
+line_fits g d (line.Command form) = tt
+line_fits g d (line.Query form) = tt
 
 pub read_fits : (g : Dataflow) (d : Data) (x : Step Global) → read_of g d ≡ Ok x → NamesFit g x
 unfolding read_of
 read_fits g d x e =
-    subst (λ r. IfOk r (NamesFit g)) e (if_given BadShape (form_of First d) (read_as g d) (NamesFit g) (λ form _. form_fits g d form))
+    subst (λ r. IfOk r (NamesFit g)) e (if_given BadShape (form_of First d) (read_as g d) (NamesFit g) (λ form _. line_fits g d form))

@@ -142,7 +142,7 @@ pub fn step_of(
 /// then `BadTime`.
 ///
 /// `Memory` comes only if there was no memory for a list of the step.
-#[tactic(auto, using(crate::proofs::Fits::read_fits), unfolding(crate::specs::Steps::read_of))]
+#[tactic(auto, unfolding(crate::specs::Steps::read_of))]
 pub fn read_step(alloc: Global, graph: &Graph, value: &Value) -> Result<Step, LineFault>
     ensures ok { IfOk result (λ x. read_in graph.now (view value.now) ≡ Ok x) }
     ensures fits { IfOk result (NamesFit graph.now) }
