@@ -1,4 +1,4 @@
-//! Whether two graphs are equal in all that can be read of them, for tests.
+//! Compares graphs in all that can be read of them.
 
 use nd_graph::{Edge, Graph, Vertex};
 use std::alloc::Allocator;
@@ -22,7 +22,7 @@ fn are_same_edges(one: &[Edge], other: &[Edge]) -> bool {
     one.len() == other.len()
 }
 
-/// Whether two graphs have the same vertices and edges, the same depths and arcs, and the same location under each name.
+/// Returns whether two graphs have the same vertices, edges, depths and arcs, and the same location under each name.
 pub fn are_same<A: Allocator, B: Allocator>(one: &Graph<A>, other: &Graph<B>) -> bool {
     for location in 0..one.location_count() {
         let name = one.location_name(location);

@@ -150,44 +150,45 @@ fn thousand_changes(rt: HostRuntime) -> Result<(), Fail> {
     Ok(())
 }
 
-/// What a view of *line* keeps: its entries, the one on its frontier, and the precursor counts of the edge and of the input.
-type Keeping = ([Entry; 2], Entry, [Option<u64>; 2]);
+/// A state of a view on *line*: its entries, its frontier, and the precursor counts that it keeps for the edge and the input.
+type ViewState = ([Entry; 2], Entry, [Option<u64>; 2]);
 
-/// Whether a view of *line* keeps this.
-fn keeps(alloc: Global, view: &View, paths: &Paths, wanted: &Keeping) -> Option<bool>
+/// Returns whether a view on *line* is in this state.
+fn is_in_state(alloc: Global, view: &View, paths: &Paths, wanted: &ViewState) -> Option<bool>
     requires { IsFor paths.now view.now }
 {
-    let (entries, first, [edge, input]) = wanted;
+    let (entries, on_frontier, [edge, input]) = wanted;
     let graph = paths.graph();
     let (az, a) = (point(graph, "az", &[0])?, point(graph, "a", &[0])?);
     let frontier = view.frontier(alloc, paths).ok()?;
     Some(
         are_entries(graph, view.entries(), entries)
-            && are_entries(graph, frontier.entries(), &[*first])
+            && are_entries(graph, frontier.entries(), &[*on_frontier])
             && (view.kept(&az), view.kept(&a)) == (*edge, *input)
             && Some(view.precursors(paths, &az)) == *edge,
     )
 }
 
-/// Whether a view keeps what it should after a record is told of, after more is taken than there was, and after that is undone.
-fn keeps_each(alloc: Global, paths: &Paths) -> Option<[Option<bool>; 3]> {
-    let told: Keeping = ([("a", 0, 1), ("az", 0, 1)], ("a", 0, 1), [Some(1), Some(0)]);
-    let taken: Keeping = ([("a", 0, -1), ("az", 0, 1)], ("az", 0, 1), [Some(0), None]);
-    let more = change(alloc, paths.graph(), &told.0)?;
+/// Returns, for each of the example's three states, whether the view is in it.
+fn are_in_states(alloc: Global, paths: &Paths) -> Option<[Option<bool>; 3]> {
+    let first: ViewState = ([("a", 0, 1), ("az", 0, 1)], ("a", 0, 1), [Some(1), Some(0)]);
+    let second: ViewState = ([("a", 0, -1), ("az", 0, 1)], ("az", 0, 1), [Some(0), None]);
+    let more = change(alloc, paths.graph(), &first.0)?;
     let less = change(alloc, paths.graph(), &[("a", 0, -2)])?;
     let mut view = View::new(alloc);
     view.apply(paths, &more).ok()?;
-    let first = keeps(alloc, &view, paths, &told);
+    let is_first = is_in_state(alloc, &view, paths, &first);
     view.apply(paths, &less).ok()?;
-    let second = keeps(alloc, &view, paths, &taken);
+    let is_second = is_in_state(alloc, &view, paths, &second);
     view.unapply(paths, &less).ok()?;
-    Some([first, second, keeps(alloc, &view, paths, &told)])
+    let is_third = is_in_state(alloc, &view, paths, &first);
+    Some([is_first, is_second, is_third])
 }
 
-/// The precursor counts that a view stores, in three states on *line*: an example of the specification.
+/// Checks the worked example *kept-counts*.
 #[test]
 fn kept_counts(rt: HostRuntime) -> Result<(), Fail> {
     let paths = paths_of(rt.alloc(), rt.alloc(), LINE).ok_or("no paths")?;
-    assert_eq!(rt; keeps_each(rt.alloc(), &paths), Some([Some(true); 3]));
+    assert_eq!(rt; are_in_states(rt.alloc(), &paths), Some([Some(true); 3]));
     Ok(())
 }

@@ -250,8 +250,8 @@ fn are_below<A: Allocator>(alloc: Global, lists: &[Vec<u64, A>]) -> Option<bool>
     Some(true)
 }
 
-/// Whether the gate was called for each claimed piece, by the worker that claimed it: also for a piece in which the worker
-/// was refused memory, so before its walk.
+/// Returns whether each worker called the gate for each piece that it claimed. A piece whose walk was refused memory counts
+/// too, so the call came before the walk ended.
 fn were_called<A: Allocator>(gate: &Recorded, lists: &[Vec<u64, A>]) -> bool {
     for (who, list) in lists.iter().enumerate() {
         for piece in list {
@@ -360,7 +360,7 @@ fn search_out_of_memory(rt: HostRuntime) {
     assert_eq!(rt; heap.live(), 0);
 }
 
-/// Refuses the next request for memory as a worker comes to piece 0, and records who came to which.
+/// Refuses the next request for memory when the gate is called for piece 0, and records which worker came to which piece.
 #[derive(Drop)]
 struct Refuses<'a>(&'a Heap, Recorded);
 
@@ -373,8 +373,8 @@ impl Gate for Refuses<'_> {
     }
 }
 
-/// Whether a worker that is refused memory from the gate's call for piece 0 on has no result of that piece: its walk had
-/// not begun.
+/// Returns whether piece 0 has no result if the first request for memory after the gate's call is refused: its walk had not
+/// begun at the call.
 fn stops_at_the_gate<A: Allocator + Copy + Send + Sync, R: Threads + Sync>(
     rt: &R,
     heap: &Heap,

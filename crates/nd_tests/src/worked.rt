@@ -107,7 +107,7 @@ fn loop_not_strict(rt: HostRuntime) -> Result<(), Fail> {
     Ok(())
 }
 
-/// The summary of these numbers, or `None` if it has too many constants.
+/// Builds a summary, or returns `None` if there are too many constants.
 fn summary(keep: usize, add: u32, constants: &[u32]) -> Option<Summary> {
     Some(Summary {
         keep,
@@ -116,7 +116,7 @@ fn summary(keep: usize, add: u32, constants: &[u32]) -> Option<Summary> {
     })
 }
 
-/// Whether the summaries from one location to another are these.
+/// Returns whether the summaries from one location to another are `wanted`.
 fn are_summaries(paths: &Paths, from: &str, to: &str, wanted: &[Summary]) -> Option<bool> {
     let graph = paths.graph();
     let (from, to) = (graph.location_of(from)?, graph.location_of(to)?);
@@ -127,7 +127,7 @@ fn are_summaries(paths: &Paths, from: &str, to: &str, wanted: &[Summary]) -> Opt
     Some(found.as_slice() == wanted)
 }
 
-/// The example *summaries of the loop*.
+/// Checks the worked example *summaries-of-the-loop*.
 #[test]
 fn summaries_of_the_loop(rt: HostRuntime) -> Result<(), Fail> {
     let paths = paths_of(rt.alloc(), rt.alloc(), LOOP).ok_or("no paths")?;
@@ -194,14 +194,14 @@ fn change_limits(rt: HostRuntime) {
     assert_eq!(rt; sums(rt.alloc()), Some(true));
 }
 
-/// The least pointstamp at which a change of these entries is not upright.
+/// Returns the least unsupported pointstamp of the change with these entries.
 fn unsupported(alloc: Global, paths: &Paths, entries: &[Entry]) -> Option<Pointstamp> {
     change(alloc, paths.graph(), entries)?.unsupported(paths)
 }
 
-/// Whether a view that counts a record negative knows what comes before the sink, and what does not once the token is
-/// taken back.
-fn knows_negative(alloc: Global, paths: &Paths) -> Option<bool> {
+/// Returns whether the view {(a, 0): 3, (az, 0): -1} is blocked at the sink by (a, 0), and has passed the sink once (a, 0)
+/// is undone.
+fn passes_when_undone(alloc: Global, paths: &Paths) -> Option<bool> {
     let graph = paths.graph();
     let (a, z) = (point(graph, "a", &[0])?, point(graph, "z", &[0])?);
     let all = change(alloc, graph, &[("a", 0, 3), ("az", 0, -1)])?;
@@ -216,7 +216,7 @@ fn knows_negative(alloc: Global, paths: &Paths) -> Option<bool> {
     Some(is_blocked && is_left && view.passed(paths, &z))
 }
 
-/// The example *changes and views*.
+/// Checks the worked example *changes-and-views*.
 #[test]
 fn changes_and_views(rt: HostRuntime) -> Result<(), Fail> {
     let alloc = rt.alloc();
@@ -225,7 +225,7 @@ fn changes_and_views(rt: HostRuntime) -> Result<(), Fail> {
     assert_eq!(rt; unsupported(alloc, &paths, &upright), None);
     let least = point(paths.graph(), "a", &[1]).ok_or("no point")?;
     assert_eq!(rt; unsupported(alloc, &paths, &upright[1..]), Some(least));
-    assert_eq!(rt; knows_negative(alloc, &paths), Some(true));
+    assert_eq!(rt; passes_when_undone(alloc, &paths), Some(true));
     Ok(())
 }
 

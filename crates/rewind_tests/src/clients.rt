@@ -77,8 +77,8 @@ impl<R: Clock + Sync> Gate for Between<'_, R> {
     }
 }
 
-/// The gate is called before a command is made: while client 0 is held there, its second command is not in the log, and
-/// those of client 1 are.
+/// Checks that the gate is called before a command is executed: while the gate holds client 0, the log gets the commands of
+/// client 1 but not the second command of client 0.
 #[test]
 fn clients_in_turn(rt: HostRuntime) -> Result<(), Fail> {
     let alloc = rt.alloc();

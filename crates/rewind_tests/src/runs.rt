@@ -134,11 +134,11 @@ fn gathers_its_replies(rt: HostRuntime) -> Result<(), Fail> {
     Ok(())
 }
 
-/// The reply that tells the state of a line's start.
+/// The reply with the state of a start on *line*.
 const STATE_REPLY: &str =
     "{\"ok\":true,\"state\":{\"processors\":[{\"items\":[],\"records\":[],\"requests\":[],\"sinks\":[],\"tokens\":[[\"a\",0]],\"unsent\":[],\"view\":[[\"a\",[0],1]]}],\"queues\":[[[]]]}}\n";
 
-/// A line's graph and so many queries of its state, all of which are read at once.
+/// Returns a script that asks for the state on *line* `times` times.
 fn asks_states(alloc: Global, times: usize) -> Result<Vec<u8>, AllocError> {
     let mut script = Vec::new(alloc);
     script.extend_from_slice(LINE.as_bytes())?;
@@ -154,7 +154,7 @@ fn writes_before_much_waits(rt: HostRuntime) -> Result<(), Fail> {
     let mut source = pieces_of(script.as_slice(), NEVER, NEVER);
     let mut sink = empty_sink(rt.alloc(), NEVER, NEVER, false);
     assert_eq!(rt; debug(&rt, rt.alloc(), &mut source, &mut sink, &ONE)?, 2001);
-    // One read gives all of the script, and one its end.
+    // The first read gives the whole script, and the second its end.
     assert_eq!(rt; source.calls, 2);
     assert!(rt; sink.bytes.as_slice().ends_with(STATE_REPLY.as_bytes()));
     assert!(rt; sink.bytes.len() > 4 * 65_536);

@@ -1,4 +1,4 @@
-//! The steps that a script exports, read back.
+//! Steps that a script exports, read back.
 
 use crate::runs::{ONE, run};
 use nd_graph::{Graph, GraphDraft};
@@ -7,11 +7,11 @@ use serde_json::Value;
 use std::alloc::{AllocError, Global};
 use std::test::Fail;
 
-/// The graph of one input, a sum, one sink and the edges between them.
+/// The graph of one input, a sum and a sink in a row.
 const SUM: &str =
     r#"{"vertices":[{"name":"a","op":"input","depth":0},{"name":"s","op":"sum","depth":0},{"name":"z","op":"sink","depth":0}],"edges":[{"name":"as","from":"a","port":0,"to":"s","route":"local"},{"name":"sz","from":"s","port":0,"to":"z","route":"local"}]}"#;
 
-/// The lines of the nine steps of the example *sum-notified*, each as it is exported.
+/// The nine steps of the worked example *sum-notified*, each as it is exported.
 static STEPS: [&str; 9] = [
     r#"{"do":"feed","next":"close","p":0,"values":[2,3],"vertex":"a"}"#,
     r#"{"do":"take","edge":"as","p":0,"time":[0],"value":2}"#,
@@ -24,7 +24,7 @@ static STEPS: [&str; 9] = [
     r#"{"do":"take","edge":"sz","p":0,"time":[0],"value":5}"#,
 ];
 
-/// A script of version 2 that makes the steps, and exports them.
+/// Returns a script of version 2 that executes the steps and exports them.
 fn script_of(alloc: Global) -> Result<Vec<u8>, AllocError> {
     let mut script = Vec::new(alloc);
     for line in ["{\"version\":2}\n", SUM, "\n"] {
@@ -38,7 +38,7 @@ fn script_of(alloc: Global) -> Result<Vec<u8>, AllocError> {
     Ok(script)
 }
 
-/// The reply to the export.
+/// Returns the reply to the export.
 fn exported(alloc: Global) -> Result<Vec<u8>, AllocError> {
     let mut reply = Vec::new(alloc);
     reply.extend_from_slice(b"{\"at\":9,\"ok\":true,\"steps\":[")?;
@@ -52,7 +52,7 @@ fn exported(alloc: Global) -> Result<Vec<u8>, AllocError> {
     Ok(reply)
 }
 
-/// The text of the object of the step that a text is read as, against *sum*.
+/// Reads a step on *sum* from its text, and returns the text of the step's object.
 fn read_and_shown(alloc: Global, text: &str) -> Option<Vec<u8>> {
     let draft = GraphDraft::from_value(alloc, &Value::from_str(alloc, SUM).ok()?).ok()?;
     let graph: Graph = draft.check(alloc).ok()?;
@@ -60,7 +60,8 @@ fn read_and_shown(alloc: Global, text: &str) -> Option<Vec<u8>> {
     step_value(alloc, &graph, &step).ok()?.to_bytes(alloc).ok()
 }
 
-/// The example *export-replays*: each exported step is read, as the step that has this object.
+/// Checks what the worked example *export-replays* says of `read_step`: each exported step is read, and its object is the
+/// exported one.
 #[test]
 fn export_replays(rt: HostRuntime) -> Result<(), Fail> {
     let alloc = rt.alloc();

@@ -70,15 +70,15 @@ fn lists_changes(alloc: Global) -> Option<bool> {
     Some(kinds(changes) == (1, 1, 2) && copied.as_slice() == changes.as_slice())
 }
 
-/// How many entries the record of the last of these steps has, once the others were made.
+/// Returns the number of entries in the record of the last step, planned after the other steps.
 fn entry_count(alloc: Global, text: &str, n: u32, steps: &[Told]) -> Option<usize> {
-    let (last, made) = steps.split_last()?;
-    let cluster = reach(alloc, alloc, text, n, made)?;
+    let (last, before) = steps.split_last()?;
+    let cluster = reach(alloc, alloc, text, n, before)?;
     let record = cluster.plan(&step_of(alloc, cluster.graph(), last)?).ok()?;
     Some(record.entries())
 }
 
-/// The example *inverse records*. Its exchange is that of *views-lag*.
+/// Checks the worked example *inverse-records*. Its second half goes on with the steps of *views-lag*.
 #[test]
 fn inverse_records(rt: HostRuntime) {
     let alloc = rt.alloc();
