@@ -18,9 +18,9 @@ use Rattle.nd_changes.specs.Answers.{changes_of, MayTell, CannotTell}
 use Rattle.nd_changes.specs.declared.told.Told.{Told}
 use Rattle.nd_changes.specs.declared.fault.ChangesFault.{ChangesFault}
 use Rattle.rewind_forms.specs.Replies.{exported, kept_step, changed, why}
-use Rattle.rewind_steps.specs.Objects.{object_of}
-use Rattle.rewind_reasons.specs.Reasons.{reasons_data}
-use Rattle.rewind_reasons.specs.Changes.{changes_data}
+use Rattle.rewind_forms.specs.Objects.{object_of}
+use Rattle.rewind_forms.specs.Reasons.{reasons_data}
+use Rattle.rewind_forms.specs.Changes.{changes_data}
 use Rattle.rewind_answers.specs.Explained.{steps_data, ExportReply, StepReply, TellsWhy, WhyReply, ChangesReply, told, untold, changes_fault}
 
 -- ---- kept steps, by the graph that was read

@@ -22,9 +22,9 @@ use Rattle.nd_changes.specs.declared.told.Told.{Told}
 use Rattle.nd_changes.specs.declared.fault.ChangesFault.{ChangesFault}
 use Rattle.nd_changes.specs.declared.fault.ChangesFault.TheVariants as changes
 use Rattle.rewind_forms.specs.Replies.{fault, no_processor, exported, kept_step, changed, why}
-use Rattle.rewind_steps.specs.Objects.{object_of}
-use Rattle.rewind_reasons.specs.Reasons.{reasons_data}
-use Rattle.rewind_reasons.specs.Changes.{changes_data}
+use Rattle.rewind_forms.specs.Objects.{object_of}
+use Rattle.rewind_forms.specs.Reasons.{reasons_data}
+use Rattle.rewind_forms.specs.Changes.{changes_data}
 
 -- ---- kept steps
 

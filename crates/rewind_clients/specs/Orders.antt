@@ -1,14 +1,16 @@
 -- What a line behind the graph's asks for in a script of several clients, and of which client.
-use Rattle.std.specs.Prelude.{ℕ, ◌||◌, Bool, true, false, List, codes, nat_lt, if◌then◌else◌, Option, Some, None, Result, Ok, Err}
+use Rattle.std.specs.Prelude.{ℕ, Bool, true, false, codes, nat_lt, if◌then◌else◌, Option, Some, None, Result, Ok, Err}
 use Rattle.serde_json.specs.Data.{Data}
-use Rattle.nd_json.specs.Forms.{has_text}
 use Rattle.nd_time.specs.Code.{Code, coded}
 use Rattle.nd_graph.specs.Graph.{Dataflow}
 use Rattle.rewind_lines.specs.Lines.{Reading, blank, too_long, no_json, json}
+use Rattle.rewind_forms.specs.Grammar.{form_of}
 use Rattle.rewind_forms.specs.Asked.{asked_of}
 use Rattle.rewind_forms.specs.LineFaults.{code_of as code_of_line}
 use Rattle.rewind_forms.specs.Replies.{faulty}
 use Rattle.rewind_forms.specs.declared.version.Version.{Version}
+use Rattle.rewind_forms.specs.declared.form.Form.{Form}
+use Rattle.rewind_forms.specs.declared.form.Form.TheVariants.{Step, Command, Query}
 use Rattle.rewind_forms.specs.declared.asked.Asked.{Asked}
 use Rattle.rewind_forms.specs.declared.asked.Asked.TheVariants.{Do, Tell}
 use Rattle.rewind_forms.specs.declared.fault.LineFault.{LineFault}
@@ -18,24 +20,12 @@ use Rattle.rewind_clients.specs.declared.order.Order.{Order}
 use Rattle.rewind_clients.specs.declared.order.OrderFault.{OrderFault}
 use Rattle.rewind_clients.specs.declared.order.OrderFault.TheVariants.{Line, BadClient, OneClientOnly}
 
--- the line asks for this
-abbrev pub asks : List ℕ → Data → Bool
-asks name d = has_text (codes "do") name d
-
--- the line asks to be told what a script of any version may ask
-unfoldable pub is_first_query : Data → Bool
-is_first_query d =
-    asks (codes "state") d || (asks (codes "view") d || (asks (codes "frontier") d || (asks (codes "passed") d
-    || (asks (codes "count") d || (asks (codes "before") d || asks (codes "search") d)))))
-
--- or what one of a later version may
-unfoldable pub is_later_query : Data → Bool
-is_later_query d =
-    asks (codes "export") d || (asks (codes "why") d || (asks (codes "changes") d || asks (codes "step") d))
-
 -- the line asks to be told something, and for no command
-abbrev pub is_query : Data → Bool
-is_query d = is_first_query d || is_later_query d
+abbrev pub is_query : Option Form → Bool
+is_query None = false
+is_query (Some (Step form)) = false
+is_query (Some (Command form)) = false
+is_query (Some (Query form)) = true
 
 -- a line of a client that is there: queries belong to scripts of one client
 abbrev pub of_client : ℕ → Bool → Result Asked LineFault → Result Order OrderFault
@@ -51,7 +41,7 @@ among clients client query asked = if nat_lt client clients then of_client clien
 
 abbrev pub order_named : Version → ℕ → Dataflow → Option Named → Result Order OrderFault
 order_named version clients g None = Err (Line BadShape)
-order_named version clients g (Some named) = among clients named.client (is_query named.rest) (asked_of version g named.rest)
+order_named version clients g (Some named) = among clients named.client (is_query (form_of version named.rest)) (asked_of version g named.rest)
 
 -- what a line's value asks for in a script of this version, against a graph, if there are so many clients
 unfoldable pub order_of : Version → ℕ → Dataflow → Data → Result Order OrderFault

@@ -2,15 +2,16 @@
 ghost use Rattle.std.specs.Prelude.{◌≡◌, ◌<◌, IfOk};
 ghost use Rattle.serde_json.specs.View.{view};
 ghost use Rattle.rewind_lines.specs.Readings.{reading_view};
-ghost use Rattle.rewind_clients.specs.Orders.{among, asks as asks_in, is_first_query as is_first_query_in, is_later_query as is_later_query_in, is_query as is_query_in, order_of as order_in_value, order_in as order_in_line, order_fault as order_fault_data, code_of};
+ghost use Rattle.rewind_forms.specs.Grammar.{form_of};
+ghost use Rattle.rewind_clients.specs.Orders.{among, is_query as is_query_in, order_of as order_in_value, order_in as order_in_line, order_fault as order_fault_data, code_of};
 
 use crate::numbers::without;
 use nd_graph::Graph;
-use nd_json::{has_text, whole_at};
+use nd_json::whole_at;
 use nd_reply::{Json, reply};
 use nd_time::Code;
 use nd_timeline::Command;
-use rewind_forms::{Asked, LineFault, Version, asked_of};
+use rewind_forms::{Asked, Form, LineFault, Version, asked_of};
 use rewind_lines::Reading;
 use serde_json::Value;
 use std::alloc::{AllocError, Global};
@@ -54,40 +55,11 @@ pub fn order_fault(alloc: Global, fault: OrderFault, line: u64) -> Result<Json, 
     reply!(in alloc; {"code": code.number(), "error": code.name(), "line": line})
 }
 
-// Whether the line asks for this.
-fn asks(value: &Value, name: &str) -> bool
-    ensures { result ≡ asks_in name.now (view value.now) }
-{
-    has_text(value, "do", name)
-}
-
-// Whether the line asks to be told what a script of any version may ask.
-#[tactic(auto, unfolding(crate::specs::Orders::is_first_query))]
-fn is_first_query(value: &Value) -> bool
-    ensures { result ≡ is_first_query_in (view value.now) }
-{
-    asks(value, "state")
-        || asks(value, "view")
-        || asks(value, "frontier")
-        || asks(value, "passed")
-        || asks(value, "count")
-        || asks(value, "before")
-        || asks(value, "search")
-}
-
-// Whether the line asks to be told what a script of a later version may ask.
-#[tactic(auto, unfolding(crate::specs::Orders::is_later_query))]
-fn is_later_query(value: &Value) -> bool
-    ensures { result ≡ is_later_query_in (view value.now) }
-{
-    asks(value, "export") || asks(value, "why") || asks(value, "changes") || asks(value, "step")
-}
-
 // Whether the line asks to be told something, and for no command.
-fn is_query(value: &Value) -> bool
-    ensures { result ≡ is_query_in (view value.now) }
+fn is_query(version: Version, value: &Value) -> bool
+    ensures { result ≡ is_query_in (form_of version (view value.now)) }
 {
-    is_first_query(value) || is_later_query(value)
+    matches!(Form::of(version, value), Some(Form::Query(_)))
 }
 
 // The order of a line that has a form, among so many clients.
@@ -129,7 +101,7 @@ fn order_of(
         return Ok(Err(OrderFault::Line(LineFault::BadShape)));
     };
     let rest = without(value, "client");
-    let query = is_query(&rest);
+    let query = is_query(version, &rest);
     match asked_of(alloc, version, graph, &rest) {
         Ok(asked) => Ok(settle(clients, client, query, Ok(asked))),
         Err(LineFault::Memory) => Err(AllocError),

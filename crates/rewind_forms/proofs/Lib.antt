@@ -1,1 +1,6 @@
 pub mod Within
+pub mod NamesLemmas
+pub mod Values
+pub mod ReadBack
+pub mod Fits
+pub mod ReasonsLemmas

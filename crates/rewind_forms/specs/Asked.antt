@@ -1,18 +1,27 @@
 -- What a line asks for: a step, another command, or a query.
-use Rattle.std.specs.Prelude.{Result, Err}
+use Rattle.std.specs.Prelude.{Result, Ok}
 use Rattle.serde_json.specs.Data.{Data}
 use Rattle.nd_graph.specs.Graph.{Dataflow}
 use Rattle.nd_timeline.specs.declared.command.Command.TheVariants.{Forward}
-use Rattle.rewind_forms.specs.Forms.{or_else}
+use Rattle.rewind_forms.specs.Forms.{given, after}
+use Rattle.rewind_forms.specs.Grammar.{form_of}
 use Rattle.rewind_forms.specs.Steps.{step_of}
 use Rattle.rewind_forms.specs.Commands.{command_of}
 use Rattle.rewind_forms.specs.Queries.{query_of}
 use Rattle.rewind_forms.specs.declared.version.Version.{Version}
+use Rattle.rewind_forms.specs.declared.form.Form.{Form}
+use Rattle.rewind_forms.specs.declared.form.Form.TheVariants.{Step, Command, Query}
 use Rattle.rewind_forms.specs.declared.asked.Asked.{Asked}
 use Rattle.rewind_forms.specs.declared.asked.Asked.TheVariants.{Do, Tell}
 use Rattle.rewind_forms.specs.declared.fault.LineFault.{LineFault}
 use Rattle.rewind_forms.specs.declared.fault.LineFault.TheVariants.{BadShape}
 
+-- what a line of a form asks for, against a graph
+abbrev pub asked_as : Dataflow → Data → Form → Result Asked LineFault
+asked_as g d (Step form) = after (step_of g form d) (λ step. Ok (Do (Forward step)))
+asked_as g d (Command form) = after (command_of g form d) (λ command. Ok (Do command))
+asked_as g d (Query form) = after (query_of g form d) (λ query. Ok (Tell query))
+
 -- what a line of a script of this version asks for, against a graph
 unfoldable pub asked_of : Version → Dataflow → Data → Result Asked LineFault
-asked_of v g d = or_else (λ step. Do (Forward step)) (step_of g d) (or_else Do (command_of g d) (or_else Tell (query_of v g d) (Err BadShape)))
+asked_of v g d = given BadShape (form_of v d) (asked_as g d)

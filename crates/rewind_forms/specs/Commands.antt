@@ -1,5 +1,5 @@
 -- The command other than a step that a line asks for.
-use Rattle.std.specs.Prelude.{[], ◌∷◌, if◌then◌else◌, Option, Some, None, codes, Result, Ok}
+use Rattle.std.specs.Prelude.{codes, Result, Ok}
 use Rattle.std.specs.declared.alloc.Global.{Global}
 use Rattle.serde_json.specs.Data.{Data}
 use Rattle.serde_json.specs.Find.{get}
@@ -7,8 +7,10 @@ use Rattle.nd_json.specs.Forms.{whole_at}
 use Rattle.nd_graph.specs.Graph.{Dataflow}
 use Rattle.nd_timeline.specs.declared.command.Command.{Command}
 use Rattle.nd_timeline.specs.declared.command.Command.TheVariants.{Back, Redo, Jump, Run, SetBreak, ClearBreak}
-use Rattle.rewind_forms.specs.Forms.{given, after, among, is_form}
+use Rattle.rewind_forms.specs.Forms.{given, after}
 use Rattle.rewind_forms.specs.Breaks.{break_of}
+use Rattle.rewind_forms.specs.declared.form.CommandForm.{CommandForm}
+use Rattle.rewind_forms.specs.declared.form.CommandForm.TheVariants as form
 use Rattle.rewind_forms.specs.declared.fault.LineFault.{LineFault}
 use Rattle.rewind_forms.specs.declared.fault.LineFault.TheVariants.{BadShape}
 
@@ -27,13 +29,11 @@ set_of g d =
 unfoldable pub clear_of : Data → Result (Command Global) LineFault
 clear_of d = given BadShape (whole_at (codes "id") d) (λ id. Ok (ClearBreak id))
 
--- the command; nothing if the line has not the form of one
-unfoldable pub command_of : Dataflow → Data → Result (Option (Command Global)) LineFault
-command_of g d =
-    if is_form (codes "back") (codes "do" ∷ []) d then Ok (Some Back)
-    else (if is_form (codes "redo") (codes "do" ∷ []) d then Ok (Some Redo)
-    else (if is_form (codes "jump") (codes "do" ∷ codes "to" ∷ []) d then among (jump_of d)
-    else (if is_form (codes "run") (codes "do" ∷ codes "limit" ∷ []) d then among (run_of d)
-    else (if is_form (codes "break") (codes "do" ∷ codes "when" ∷ []) d then among (set_of g d)
-    else (if is_form (codes "unbreak") (codes "do" ∷ codes "id" ∷ []) d then among (clear_of d)
-    else Ok None)))))
+-- the command of a form
+abbrev pub command_of : Dataflow → CommandForm → Data → Result (Command Global) LineFault
+command_of g form.Back d = Ok Back
+command_of g form.Redo d = Ok Redo
+command_of g form.Jump d = jump_of d
+command_of g form.Run d = run_of d
+command_of g form.Break d = set_of g d
+command_of g form.Unbreak d = clear_of d

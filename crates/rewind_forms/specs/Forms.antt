@@ -1,8 +1,8 @@
 -- The shapes of a line's values, and of what is read from them.
-use Rattle.std.specs.Prelude.{ℕ, ℤ, ◌&&◌, Bool, List, [], ◌∷◌, if◌then◌else◌, Option, Some, None, codes, option_map, option_and_then, Result, Ok, Err}
+use Rattle.std.specs.Prelude.{ℕ, ℤ, ◌&&◌, List, [], ◌∷◌, if◌then◌else◌, Option, Some, None, codes, option_map, option_and_then, Result, Ok, Err}
 use Rattle.serde_json.specs.Data.{Data}
 use Rattle.serde_json.specs.Find.{get}
-use Rattle.nd_json.specs.Forms.{has_keys, has_text, text, list, small, integer, text_at, list_at}
+use Rattle.nd_json.specs.Forms.{has_keys, text, list, small, integer, text_at, list_at}
 use Rattle.rewind_forms.specs.declared.fault.LineFault.{LineFault}
 
 -- ---- what is made of a reading
@@ -16,17 +16,6 @@ given fault (Some x) made = made x
 abbrev pub after : {A B : Type 0} → Result A LineFault → (A → Result B LineFault) → Result B LineFault
 after (Err e) made = Err e
 after (Ok x) made = made x
-
--- a reading of one form among others: nothing stands for the others
-abbrev pub among : {A : Type 0} → Result A LineFault → Result (Option A) LineFault
-among (Err e) = Err e
-among (Ok x) = Ok (Some x)
-
--- what is made of a reading if it had its form, and else the other
-abbrev pub or_else : {A B : Type 0} → (A → B) → Result (Option A) LineFault → Result B LineFault → Result B LineFault
-or_else made (Err e) other = Err e
-or_else made (Ok None) other = other
-or_else made (Ok (Some x)) other = Ok (made x)
 
 -- what is read from a value if it is there, and else the other
 abbrev pub within : {B : Type 0} → Option Data → (Data → Result B LineFault) → Result B LineFault → Result B LineFault
@@ -85,10 +74,6 @@ unfoldable pub named_at : List ℕ → Data → Option (List ℕ × List ℕ)
 named_at key d = option_and_then (λ name. option_map (λ numbers. (name, numbers)) (numbers_at (codes "time") d)) (text_at key d)
 
 -- ---- objects
-
--- an object with exactly these keys that asks for this
-unfoldable pub is_form : List ℕ → List (List ℕ) → Data → Bool
-is_form wanted keys d = has_keys keys d && has_text (codes "do") wanted d
 
 -- the object with exactly these keys that stands under the only key of an object
 unfoldable pub inner : List ℕ → List (List ℕ) → Data → Option Data

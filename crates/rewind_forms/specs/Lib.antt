@@ -1,6 +1,7 @@
 pub mod Forms
 pub mod Places
 pub mod Versions
+pub mod Grammar
 pub mod Steps
 pub mod Breaks
 pub mod Commands
@@ -8,3 +9,8 @@ pub mod Queries
 pub mod Asked
 pub mod LineFaults
 pub mod Replies
+pub mod Objects
+pub mod Fitting
+pub mod Laws
+pub mod Reasons
+pub mod Changes

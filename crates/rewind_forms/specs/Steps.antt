@@ -1,5 +1,5 @@
 -- The step that a line asks for: the shapes of its values, then the names, then the times.
-use Rattle.std.specs.Prelude.{[], ◌∷◌, if◌then◌else◌, Option, Some, None, codes, Result, Ok, Err}
+use Rattle.std.specs.Prelude.{if◌then◌else◌, Option, Some, None, codes, Result, Ok, Err}
 use Rattle.std.specs.declared.alloc.Global.{Global}
 use Rattle.serde_json.specs.Data.{Data}
 use Rattle.nd_json.specs.Forms.{has_text, text_at, small_at, integer_at}
@@ -9,8 +9,14 @@ use Rattle.nd_protocol.specs.declared.step.Step.TheVariants.{Feed, Take, Notice,
 use Rattle.nd_protocol.specs.declared.part.Part.TheVariants.{All, Points}
 use Rattle.nd_protocol.specs.declared.step.Next.{Next as Afterwards}
 use Rattle.nd_protocol.specs.declared.step.Next.TheVariants as token
-use Rattle.rewind_forms.specs.Forms.{given, after, among, each, named_at, points_at, values_at, is_form}
+use Rattle.rewind_forms.specs.Forms.{given, after, each, named_at, points_at, values_at}
 use Rattle.rewind_forms.specs.Places.{vertex_named, edge_named, placed, are_known, point_named}
+use Rattle.rewind_forms.specs.Grammar.{form_of}
+use Rattle.rewind_forms.specs.declared.version.Version.TheVariants.{First}
+use Rattle.rewind_forms.specs.declared.form.Form.{Form}
+use Rattle.rewind_forms.specs.declared.form.Form.TheVariants as line
+use Rattle.rewind_forms.specs.declared.form.StepForm.{StepForm}
+use Rattle.rewind_forms.specs.declared.form.StepForm.TheVariants as form
 use Rattle.rewind_forms.specs.declared.fault.LineFault.{LineFault}
 use Rattle.rewind_forms.specs.declared.fault.LineFault.TheVariants.{BadShape, UnknownName, BadTime}
 
@@ -63,13 +69,21 @@ receive_of d =
     given BadShape (small_at (codes "to") d) (λ to.
     Ok (Receive from to)))
 
--- the step; nothing if the line has not the form of one
-unfoldable pub step_of : Dataflow → Data → Result (Option (Step Global)) LineFault
-step_of g d =
-    if is_form (codes "feed") (codes "do" ∷ codes "next" ∷ codes "p" ∷ codes "values" ∷ codes "vertex" ∷ []) d then among (feed_of g d)
-    else (if is_form (codes "take") (codes "do" ∷ codes "edge" ∷ codes "p" ∷ codes "time" ∷ codes "value" ∷ []) d then among (take_of g d)
-    else (if is_form (codes "notice") (codes "do" ∷ codes "p" ∷ codes "time" ∷ codes "vertex" ∷ []) d then among (notice_of g d)
-    else (if is_form (codes "broadcast") (codes "do" ∷ codes "p" ∷ []) d then among (broadcast_of d)
-    else (if is_form (codes "broadcast") (codes "do" ∷ codes "p" ∷ codes "part" ∷ []) d then among (part_of g d)
-    else (if is_form (codes "receive") (codes "do" ∷ codes "from" ∷ codes "to" ∷ []) d then among (receive_of d)
-    else Ok None)))))
+-- the step of a form
+abbrev pub step_of : Dataflow → StepForm → Data → Result (Step Global) LineFault
+step_of g form.Feed d = feed_of g d
+step_of g form.Take d = take_of g d
+step_of g form.Notice d = notice_of g d
+step_of g form.Broadcast d = broadcast_of d
+step_of g form.Part d = part_of g d
+step_of g form.Receive d = receive_of d
+
+-- what has no form of a step has a bad shape
+abbrev pub read_as : Dataflow → Data → Form → Result (Step Global) LineFault
+read_as g d (line.Step form) = step_of g form d
+read_as g d (line.Command form) = Err BadShape
+read_as g d (line.Query form) = Err BadShape
+
+-- the step that a value asks for, or why it asks for none
+unfoldable pub read_of : Dataflow → Data → Result (Step Global) LineFault
+read_of g d = given BadShape (form_of First d) (read_as g d)

@@ -1,5 +1,5 @@
 -- The versions of a script, and the line that tells one (this project's own rule).
-use Rattle.std.specs.Prelude.{ℕ, Bool, true, false, nat_eq, [], ◌∷◌, if◌then◌else◌, Option, Some, None, option_and_then, codes}
+use Rattle.std.specs.Prelude.{ℕ, Bool, nat_eq, nat_le, [], ◌∷◌, if◌then◌else◌, Option, Some, None, option_and_then, codes}
 use Rattle.serde_json.specs.Data.{Data}
 use Rattle.nd_json.specs.Forms.{has_keys, whole_at}
 use Rattle.rewind_forms.specs.declared.version.Version.{Version}
@@ -18,16 +18,6 @@ numbered n = if nat_eq n 2 then Some Second else (if nat_eq n 3 then Some Third 
 unfoldable pub version_of : Data → Option Version
 version_of d = if has_keys (codes "version" ∷ []) d then option_and_then numbered (whole_at (codes "version") d) else None
 
--- ---- what may be asked
-
--- for all kept steps
-abbrev pub may_export : Version → Bool
-may_export First = false
-may_export Second = true
-may_export Third = true
-
--- for reasons, changes of a view and one kept step
-abbrev pub may_ask_why : Version → Bool
-may_ask_why First = false
-may_ask_why Second = false
-may_ask_why Third = true
+-- a script of this version has what another version brought
+abbrev pub includes : Version → Version → Bool
+includes v since = nat_le (number_of since) (number_of v)

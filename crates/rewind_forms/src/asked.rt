@@ -4,10 +4,9 @@ ghost use Rattle.serde_json.specs.View.{view};
 ghost use Rattle.rewind_forms.specs.Asked.{asked_of as asked_in};
 
 use crate::commands::command_of;
-use crate::forms::word_of;
 use crate::queries::query_of;
 use crate::steps::step_of;
-use crate::{LineFault, Query, Version};
+use crate::{Form, LineFault, Query, Version};
 use nd_graph::Graph;
 use nd_timeline::Command;
 use serde_json::Value;
@@ -35,15 +34,18 @@ pub fn asked_of(
     ensures ok { IfOk result (λ c. asked_in version graph.now (view value.now) ≡ Ok c) }
     ensures err { IfErr result (λ e. e ≢ LineFault.Memory → asked_in version graph.now (view value.now) ≡ Err e) }
 {
-    let word = word_of(value);
-    if let Some(step) = step_of(alloc, graph, value, word)? {
-        return Ok(Asked::Do(Command::Forward(step)));
-    }
-    if let Some(command) = command_of(alloc, graph, value, word)? {
-        return Ok(Asked::Do(command));
-    }
-    match query_of(alloc, version, graph, value, word)? {
-        Some(query) => Ok(Asked::Tell(query)),
-        None => Err(LineFault::BadShape),
+    match Form::of(version, value).ok_or(LineFault::BadShape)? {
+        Form::Step(form) => {
+            let step = step_of(alloc, graph, form, value)?;
+            Ok(Asked::Do(Command::Forward(step)))
+        }
+        Form::Command(form) => {
+            let command = command_of(alloc, graph, form, value)?;
+            Ok(Asked::Do(command))
+        }
+        Form::Query(form) => {
+            let query = query_of(alloc, graph, form, value)?;
+            Ok(Asked::Tell(query))
+        }
     }
 }

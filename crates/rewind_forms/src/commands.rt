@@ -1,12 +1,10 @@
 //! The command other than a step that a line asks for.
-ghost use Rattle.std.specs.Prelude.{◌≡◌, ◌≢◌, Ok, Err, IfOk, IfErr, codes, option_map};
-ghost use Rattle.nd_json.specs.Forms.{text_at as text_in};
+ghost use Rattle.std.specs.Prelude.{◌≡◌, ◌≢◌, Ok, Err, IfOk, IfErr};
 ghost use Rattle.serde_json.specs.View.{view};
 ghost use Rattle.rewind_forms.specs.Commands.{jump_of as jump_in, run_of as run_in, set_of as set_in, clear_of as clear_in, command_of as command_in};
 
-use crate::LineFault;
 use crate::breaks::break_of;
-use crate::forms::is_form;
+use crate::{CommandForm, LineFault};
 use nd_graph::Graph;
 use nd_json::whole_at;
 use nd_timeline::Command;
@@ -47,32 +45,22 @@ fn clear_of(value: &Value) -> Result<Command, LineFault>
     Ok(Command::ClearBreak(id))
 }
 
-/// The command other than a step that the value, whose word this is, asks for, against the graph;
-/// `None` if it has not the form of one.
-#[tactic(auto, unfolding(crate::specs::Commands::command_of))]
+/// The command of this form that the value asks for, against the graph.
 pub fn command_of(
     alloc: Global,
     graph: &Graph,
+    form: CommandForm,
     value: &Value,
-    word: Option<&str>,
-) -> Result<Option<Command>, LineFault>
-    requires { option_map (λ s. s.now) word ≡ text_in (codes "do") (view value.now) }
-    ensures ok { IfOk result (λ c. command_in graph.now (view value.now) ≡ Ok c) }
-    ensures err { IfErr result (λ e. e ≢ LineFault.Memory → command_in graph.now (view value.now) ≡ Err e) }
+) -> Result<Command, LineFault>
+    ensures ok { IfOk result (λ c. command_in graph.now form (view value.now) ≡ Ok c) }
+    ensures err { IfErr result (λ e. e ≢ LineFault.Memory → command_in graph.now form (view value.now) ≡ Err e) }
 {
-    if is_form(value, word, "back", &["do"]) {
-        Ok(Some(Command::Back))
-    } else if is_form(value, word, "redo", &["do"]) {
-        Ok(Some(Command::Redo))
-    } else if is_form(value, word, "jump", &["do", "to"]) {
-        Ok(Some(jump_of(value)?))
-    } else if is_form(value, word, "run", &["do", "limit"]) {
-        Ok(Some(run_of(value)?))
-    } else if is_form(value, word, "break", &["do", "when"]) {
-        Ok(Some(set_of(alloc, graph, value)?))
-    } else if is_form(value, word, "unbreak", &["do", "id"]) {
-        Ok(Some(clear_of(value)?))
-    } else {
-        Ok(None)
+    match form {
+        CommandForm::Back => Ok(Command::Back),
+        CommandForm::Redo => Ok(Command::Redo),
+        CommandForm::Jump => jump_of(value),
+        CommandForm::Run => run_of(value),
+        CommandForm::Break => set_of(alloc, graph, value),
+        CommandForm::Unbreak => clear_of(value),
     }
 }

@@ -1,20 +1,32 @@
-//! What the lines of a script ask for, and the replies to them, as JSON values.
+//! What the lines of a script ask for, the object of a step's line, and the replies, as JSON values.
 #![tactic(auto)]
 
 mod asked;
 mod breaks;
+mod changes;
 mod commands;
 mod fault;
-mod forms;
+mod form;
+mod held;
+mod laws;
 mod numbers;
+mod objects;
 mod places;
 mod points;
 mod queries;
+mod reasons;
 pub mod replies;
 mod steps;
+mod unheard;
 mod version;
 
 pub use asked::{Asked, asked_of};
+pub use changes::changes_value;
 pub use fault::LineFault;
+pub use form::{CommandForm, Form, QueryForm, StepForm};
+pub use laws::steps_are_their_objects;
+pub use objects::step_value;
 pub use queries::Query;
+pub use reasons::reasons_value;
+pub use steps::read_step;
 pub use version::{Version, version_of};

@@ -1,16 +1,13 @@
 //! Queries: what a line asks to be told.
-ghost use Rattle.std.specs.Prelude.{◌≡◌, ◌≢◌, Ok, Err, IfOk, IfErr, codes, option_map};
-ghost use Rattle.nd_json.specs.Forms.{text_at as text_in};
+ghost use Rattle.std.specs.Prelude.{◌≡◌, ◌≢◌, Ok, Err, IfOk, IfErr};
 ghost use Rattle.serde_json.specs.View.{view};
 ghost use Rattle.rewind_forms.specs.Queries.{count_of as count_in, before_of as before_in, view_of as view_in, frontier_of as frontier_in, passed_of as passed_in, search_of as search_in, query_of as query_in};
-ghost use Rattle.rewind_forms.specs.Queries.{why_of as why_in, changes_of as changes_in, kept_step_of as kept_step_in, explained_of as explained_in, later_of as later_in};
+ghost use Rattle.rewind_forms.specs.Queries.{why_of as why_in, changes_of as changes_in, kept_step_of as kept_step_in};
 
 use crate::breaks::break_of;
-use crate::forms::is_form;
 use crate::places::{location_named, time_of};
 use crate::points::{point_at, point_there};
-use crate::version::{may_ask_why, may_export};
-use crate::{LineFault, Version};
+use crate::{LineFault, QueryForm};
 use nd_graph::Graph;
 use nd_json::{small_at, whole_at};
 use nd_paths::Pointstamp;
@@ -166,90 +163,27 @@ fn kept_step_of(value: &Value) -> Result<Query, LineFault>
     Ok(Query::Step(to))
 }
 
-// The query for reasons, for changes of a view, or for one kept step.
-#[tactic(auto, unfolding(crate::specs::Queries::explained_of))]
-fn explained_of(
-    alloc: Global,
-    graph: &Graph,
-    value: &Value,
-    word: Option<&str>,
-) -> Result<Option<Query>, LineFault>
-    requires { option_map (λ s. s.now) word ≡ text_in (codes "do") (view value.now) }
-    ensures ok { IfOk result (λ c. explained_in graph.now (view value.now) ≡ Ok c) }
-    ensures err { IfErr result (λ e. e ≢ LineFault.Memory → explained_in graph.now (view value.now) ≡ Err e) }
-{
-    if is_form(value, word, "why", &["at", "do", "q", "time"]) {
-        Ok(Some(why_of(alloc, graph, value)?))
-    } else if is_form(
-        value,
-        word,
-        "changes",
-        &["at", "do", "hi", "lo", "q", "time"],
-    ) {
-        Ok(Some(changes_of(alloc, graph, value)?))
-    } else if is_form(value, word, "step", &["do", "to"]) {
-        Ok(Some(kept_step_of(value)?))
-    } else {
-        Ok(None)
-    }
-}
-
-// The query that a version later than the first has.
-#[tactic(auto, unfolding(crate::specs::Queries::later_of))]
-fn later_of(
-    alloc: Global,
-    version: Version,
-    graph: &Graph,
-    value: &Value,
-    word: Option<&str>,
-) -> Result<Option<Query>, LineFault>
-    requires { option_map (λ s. s.now) word ≡ text_in (codes "do") (view value.now) }
-    ensures ok { IfOk result (λ c. later_in version graph.now (view value.now) ≡ Ok c) }
-    ensures err { IfErr result (λ e. e ≢ LineFault.Memory → later_in version graph.now (view value.now) ≡ Err e) }
-{
-    if may_export(version) && is_form(value, word, "export", &["do"]) {
-        Ok(Some(Query::Export))
-    } else if may_ask_why(version) {
-        explained_of(alloc, graph, value, word)
-    } else {
-        Ok(None)
-    }
-}
-
-/// The query that the value, whose word this is, is in a script of this version, against the graph; `None` if it has not
-/// the form of one.
-#[tactic(auto, unfolding(crate::specs::Queries::query_of))]
+/// The query of this form that the value is, against the graph.
 pub fn query_of(
     alloc: Global,
-    version: Version,
     graph: &Graph,
+    form: QueryForm,
     value: &Value,
-    word: Option<&str>,
-) -> Result<Option<Query>, LineFault>
-    requires { option_map (λ s. s.now) word ≡ text_in (codes "do") (view value.now) }
-    ensures ok { IfOk result (λ c. query_in version graph.now (view value.now) ≡ Ok c) }
-    ensures err { IfErr result (λ e. e ≢ LineFault.Memory → query_in version graph.now (view value.now) ≡ Err e) }
+) -> Result<Query, LineFault>
+    ensures ok { IfOk result (λ c. query_in graph.now form (view value.now) ≡ Ok c) }
+    ensures err { IfErr result (λ e. e ≢ LineFault.Memory → query_in graph.now form (view value.now) ≡ Err e) }
 {
-    if is_form(value, word, "state", &["do"]) {
-        Ok(Some(Query::State))
-    } else if is_form(value, word, "count", &["at", "do", "time"]) {
-        Ok(Some(count_of(alloc, graph, value)?))
-    } else if is_form(value, word, "before", &["do", "from", "to"]) {
-        Ok(Some(before_of(alloc, graph, value)?))
-    } else if is_form(value, word, "view", &["do", "q"]) {
-        Ok(Some(view_of(value)?))
-    } else if is_form(value, word, "frontier", &["do", "q"]) {
-        Ok(Some(frontier_of(value)?))
-    } else if is_form(value, word, "passed", &["at", "do", "q", "time"]) {
-        Ok(Some(passed_of(alloc, graph, value)?))
-    } else if is_form(
-        value,
-        word,
-        "search",
-        &["do", "hi", "lo", "when", "workers"],
-    ) {
-        Ok(Some(search_of(alloc, graph, value)?))
-    } else {
-        later_of(alloc, version, graph, value, word)
+    match form {
+        QueryForm::State => Ok(Query::State),
+        QueryForm::Count => count_of(alloc, graph, value),
+        QueryForm::Before => before_of(alloc, graph, value),
+        QueryForm::View => view_of(value),
+        QueryForm::Frontier => frontier_of(value),
+        QueryForm::Passed => passed_of(alloc, graph, value),
+        QueryForm::Search => search_of(alloc, graph, value),
+        QueryForm::Export => Ok(Query::Export),
+        QueryForm::Why => why_of(alloc, graph, value),
+        QueryForm::Changes => changes_of(alloc, graph, value),
+        QueryForm::Step => kept_step_of(value),
     }
 }

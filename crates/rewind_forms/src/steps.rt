@@ -1,14 +1,13 @@
 //! The step that a line asks for.
-ghost use Rattle.std.specs.Prelude.{◌≡◌, ◌≢◌, Ok, Err, IfOk, IfErr, codes, option_map};
-ghost use Rattle.nd_json.specs.Forms.{text_at as text_in};
+ghost use Rattle.std.specs.Prelude.{◌≡◌, ◌≢◌, Ok, Err, IfOk, IfErr};
 ghost use Rattle.serde_json.specs.View.{view};
-ghost use Rattle.rewind_forms.specs.Steps.{feed_of as feed_in, take_of as take_in, notice_of as notice_in, broadcast_of as broadcast_in, part_of as part_in, receive_of as receive_in, next_at as next_in, step_of as step_in};
+ghost use Rattle.rewind_forms.specs.Steps.{feed_of as feed_in, take_of as take_in, notice_of as notice_in, broadcast_of as broadcast_in, part_of as part_in, receive_of as receive_in, next_at as next_in, step_of as step_in, read_of as read_in};
+ghost use Rattle.rewind_forms.specs.Fitting.{NamesFit};
 
-use crate::LineFault;
-use crate::forms::is_form;
 use crate::numbers::values_at;
 use crate::places::{edge_named, placed, vertex_named};
 use crate::points::{are_known, named_at, points_at, points_named};
+use crate::{Form, LineFault, StepForm, Version};
 use nd_graph::Graph;
 use nd_json::{has_text, integer_at, small_at, text_at};
 use nd_protocol::{Next, Part, Step};
@@ -119,36 +118,38 @@ fn receive_of(value: &Value) -> Result<Step, LineFault>
     Ok(Step::Receive { from, to })
 }
 
-/// The step that the value, whose word this is, asks for, against the graph; `None` if it has not the form of one.
-#[tactic(auto, unfolding(crate::specs::Steps::step_of))]
+/// The step of this form that the value asks for, against the graph.
 pub fn step_of(
     alloc: Global,
     graph: &Graph,
+    form: StepForm,
     value: &Value,
-    word: Option<&str>,
-) -> Result<Option<Step>, LineFault>
-    requires { option_map (λ s. s.now) word ≡ text_in (codes "do") (view value.now) }
-    ensures ok { IfOk result (λ c. step_in graph.now (view value.now) ≡ Ok c) }
-    ensures err { IfErr result (λ e. e ≢ LineFault.Memory → step_in graph.now (view value.now) ≡ Err e) }
+) -> Result<Step, LineFault>
+    ensures ok { IfOk result (λ c. step_in graph.now form (view value.now) ≡ Ok c) }
+    ensures err { IfErr result (λ e. e ≢ LineFault.Memory → step_in graph.now form (view value.now) ≡ Err e) }
 {
-    if is_form(
-        value,
-        word,
-        "feed",
-        &["do", "next", "p", "values", "vertex"],
-    ) {
-        Ok(Some(feed_of(alloc, graph, value)?))
-    } else if is_form(value, word, "take", &["do", "edge", "p", "time", "value"]) {
-        Ok(Some(take_of(alloc, graph, value)?))
-    } else if is_form(value, word, "notice", &["do", "p", "time", "vertex"]) {
-        Ok(Some(notice_of(alloc, graph, value)?))
-    } else if is_form(value, word, "broadcast", &["do", "p"]) {
-        Ok(Some(broadcast_of(value)?))
-    } else if is_form(value, word, "broadcast", &["do", "p", "part"]) {
-        Ok(Some(part_of(alloc, graph, value)?))
-    } else if is_form(value, word, "receive", &["do", "from", "to"]) {
-        Ok(Some(receive_of(value)?))
-    } else {
-        Ok(None)
+    match form {
+        StepForm::Feed => feed_of(alloc, graph, value),
+        StepForm::Take => take_of(alloc, graph, value),
+        StepForm::Notice => notice_of(alloc, graph, value),
+        StepForm::Broadcast => broadcast_of(value),
+        StepForm::Part => part_of(alloc, graph, value),
+        StepForm::Receive => receive_of(value),
+    }
+}
+
+/// The step that a line of this value asks for, against the graph: `BadShape` if it is no step's, then `UnknownName`,
+/// then `BadTime`.
+///
+/// `Memory` comes only if there was no memory for a list of the step.
+#[tactic(auto, unfolding(crate::specs::Steps::read_of))]
+pub fn read_step(alloc: Global, graph: &Graph, value: &Value) -> Result<Step, LineFault>
+    ensures ok { IfOk result (λ x. read_in graph.now (view value.now) ≡ Ok x) }
+    ensures fits { IfOk result (NamesFit graph.now) }
+    ensures err { IfErr result (λ e. e ≢ LineFault.Memory → read_in graph.now (view value.now) ≡ Err e) }
+{
+    match Form::of(Version::First, value) {
+        Some(Form::Step(form)) => step_of(alloc, graph, form, value),
+        _ => Err(LineFault::BadShape),
     }
 }

@@ -1,7 +1,7 @@
 //! The version of a script.
 ghost use Rattle.std.specs.Prelude.{◌≡◌};
 ghost use Rattle.serde_json.specs.View.{view};
-ghost use Rattle.rewind_forms.specs.Versions.{number_of, numbered as numbered_in, version_of as version_in, may_export as exports, may_ask_why as asks_why};
+ghost use Rattle.rewind_forms.specs.Versions.{number_of, numbered as numbered_in, version_of as version_in, includes as includes_in};
 
 use nd_json::{has_keys, whole_at};
 use serde_json::Value;
@@ -28,25 +28,12 @@ impl Version {
             Version::Third => 3,
         }
     }
-}
 
-/// Whether a script of the version may ask for all kept steps.
-pub fn may_export(version: Version) -> bool
-    ensures { result ≡ exports version }
-{
-    match version {
-        Version::First => false,
-        Version::Second | Version::Third => true,
-    }
-}
-
-/// Whether a script of the version may ask for reasons, for changes of a view, and for one kept step.
-pub fn may_ask_why(version: Version) -> bool
-    ensures { result ≡ asks_why version }
-{
-    match version {
-        Version::First | Version::Second => false,
-        Version::Third => true,
+    /// Whether a script of this version has what the version `since` brought.
+    pub fn includes(self, since: Version) -> bool
+        ensures { result ≡ includes_in self since }
+    {
+        self.number() >= since.number()
     }
 }
 

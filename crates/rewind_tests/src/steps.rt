@@ -2,7 +2,7 @@
 
 use crate::runs::{ONE, run};
 use nd_graph::{Graph, GraphDraft};
-use rewind_steps::{read_step, step_value};
+use rewind_forms::{read_step, step_value};
 use serde_json::Value;
 use std::alloc::{AllocError, Global};
 use std::test::Fail;

@@ -3,7 +3,7 @@ use Rattle.std.proofs.lemmas.List.{take_all}
 use Rattle.std.proofs.lemmas.Option.{get_or_from_slice_get}
 use Rattle.nd_reply.specs.Shows.{shows-more}
 use Rattle.nd_shown.specs.StateText.{row}
-use Rattle.rewind_steps.specs.Objects.{object_of}
+use Rattle.rewind_forms.specs.Objects.{object_of}
 use Rattle.rewind_answers.proofs.kept.steps_value.Goals as goal
 
 pub loop-i-preserved : goal.loop-i-preserved

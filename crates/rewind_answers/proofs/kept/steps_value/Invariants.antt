@@ -1,5 +1,5 @@
 use Rattle.std.proofs.Common.{◌≡◌, map, take}
-use Rattle.rewind_steps.specs.Objects.{object_of}
+use Rattle.rewind_forms.specs.Objects.{object_of}
 use Rattle.rewind_answers.proofs.kept.steps_value.Given as goal
 
 abbrev pub invariant-loop-i : goal.invariant-loop-i

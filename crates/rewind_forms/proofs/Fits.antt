@@ -1,0 +1,189 @@
+-- What a step that was read names is in the graph.
+use Rattle.std.proofs.Common.{◌≡◌, ℕ, ◌<◌, ◌≤◌, Bool, true, false, cond, List, [], ◌∷◌, length, refl, sym, ap, subst, Option, Some, None, Result, Ok, Err, codes}
+use Rattle.std.specs.Prelude.{All as Each, IfOk, nat_eq, nat_lt, slice_get, option_map}
+use Rattle.std.specs.Option.{option_map_or}
+use Rattle.std.specs.declared.alloc.Global.{Global}
+use Rattle.std.proofs.lemmas.Bool.{ltb-true, ltb-false, eqb-true}
+use Rattle.std.proofs.lemmas.List.Elements.{All-nil, All-cons}
+use Rattle.std.proofs.lemmas.Option.{cond_some, option_and_then_some}
+use Rattle.serde_json.specs.Data.{Data}
+use Rattle.nd_json.specs.Forms.{text_at, small_at, integer_at}
+use Rattle.nd_time.specs.Time.{Time}
+use Rattle.nd_graph.specs.Graph.{Dataflow, depths}
+use Rattle.nd_paths.specs.declared.point.Pointstamp.{Pointstamp}
+use Rattle.nd_protocol.specs.declared.step.Step.{Step}
+use Rattle.rewind_forms.specs.Forms.{given, after, each, named_at, points_at, values_at}
+use Rattle.rewind_forms.specs.Places.{location_named, vertex_named, edge_named, time_of, placed, are_known, point_named}
+use Rattle.rewind_forms.specs.Steps.{next_at, feed_of, take_of, notice_of, broadcast_of, part_of, receive_of, step_of, read_as, read_of}
+use Rattle.rewind_forms.specs.Grammar.{form_of}
+use Rattle.rewind_forms.specs.declared.version.Version.TheVariants.{First}
+use Rattle.rewind_forms.specs.declared.form.Form.{Form}
+use Rattle.rewind_forms.specs.declared.form.Form.TheVariants as line
+use Rattle.rewind_forms.specs.declared.form.StepForm.{StepForm}
+use Rattle.rewind_forms.specs.declared.form.StepForm.TheVariants as form
+use Rattle.rewind_forms.specs.declared.fault.LineFault.{LineFault}
+use Rattle.rewind_forms.specs.declared.fault.LineFault.TheVariants.{BadShape, BadTime}
+use Rattle.rewind_forms.specs.Fitting.{HasDepth, NamesFit}
+
+-- ---- of what is read, if all that it is made of was read
+
+if_given : {A B : Type 0} (fault : LineFault) (o : Option A) (made : A → Result B LineFault) (P : B → Type 0) → ((x : A) → o ≡ Some x → IfOk (made x) P)
+    → IfOk (given fault o made) P
+if_given fault None made P h = tt
+if_given fault (Some x) made P h = h x refl
+
+if_after : {A B : Type 0} (r : Result A LineFault) (made : A → Result B LineFault) (P : B → Type 0) → ((x : A) → r ≡ Ok x → IfOk (made x) P)
+    → IfOk (after r made) P
+if_after (Err e) made P h = tt
+if_after (Ok x) made P h = h x refl
+
+-- ---- vertices, edges and times
+
+cond_none : {A : Type 0} (b : Bool) (x y : A) → cond b None (Some x) ≡ Some y → (b ≡ false) × (x ≡ y)
+cond_none true x y e = absurd (cc)
+cond_none false x y e = (refl, cc)
+
+vertex_is : (g : Dataflow) (name : List ℕ) (v : ℕ) → vertex_named g name ≡ Some v → v < length g.vertices
+unfolding vertex_named
+vertex_is g name v e =
+    option_and_then_some (λ l. cond (nat_lt l (length g.vertices)) (Some l) None) (location_named g name) v e
+    (λ l _ here. (let parts = cond_some (nat_lt l (length g.vertices)) l v here in
+    subst (λ l. l < length g.vertices) parts.1 (ltb-true l (length g.vertices) parts.0)))
+
+edge_is : (g : Dataflow) (name : List ℕ) (l : ℕ) → edge_named g name ≡ Some l → length g.vertices ≤ l
+unfolding edge_named
+edge_is g name l e =
+    option_and_then_some (λ l. cond (nat_lt l (length g.vertices)) None (Some l)) (location_named g name) l e
+    (λ k _ here. (let parts = cond_none (nat_lt k (length g.vertices)) k l here in
+    subst (λ l. length g.vertices ≤ l) parts.1 (ltb-false k (length g.vertices) parts.0)))
+
+depth_is : (n : ℕ) (o : Option ℕ) → option_map_or (nat_eq n) o false ≡ true → o ≡ Some n
+depth_is n None e = absurd (cc)
+depth_is n (Some m) e = ap Some (sym (eqb-true n m e))
+
+time_is : (g : Dataflow) (l : ℕ) (numbers : List ℕ) (t : Time) → time_of g l numbers ≡ Some t → HasDepth g l t
+unfolding time_of
+time_is g l [] t e = absurd (cc)
+time_is g l (epoch ∷ counters) t e =
+    let test = option_map_or (nat_eq (length counters)) (slice_get (depths g) l) false in
+    let read : Time = record { epoch = epoch; counters = counters } in
+    let parts = cond_some test read t e in
+    subst (λ t. HasDepth g l t) parts.1 (depth_is (length counters) (slice_get (depths g) l) parts.0)
+
+-- the location is the one that was found, and the time has its depth
+abbrev IsAt : Dataflow → Option ℕ → Pointstamp → Type 0
+IsAt g found q = (found ≡ Some q.location) × HasDepth g q.location q.time
+
+placed_is : (g : Dataflow) (found : Option ℕ) (numbers : List ℕ) → IfOk (placed g found numbers) (IsAt g found)
+unfolding placed
+placed_is g None numbers = tt
+placed_is g (Some l) numbers =
+    if_given BadTime (time_of g l numbers) (λ t. Ok (record { location = l; time = t })) (IsAt g (Some l)) (λ t is. (refl, time_is g l numbers t is))
+
+if_placed : {B : Type 0} (g : Dataflow) (found : Option ℕ) (numbers : List ℕ) (made : Pointstamp → Result B LineFault) (P : B → Type 0)
+    → ((q : Pointstamp) → IsAt g found q → IfOk (made q) P) → IfOk (after (placed g found numbers) made) P
+if_placed g found numbers made P h =
+    if_after (placed g found numbers) made P (λ q is. h q (subst (λ r. IfOk r (IsAt g found)) is (placed_is g found numbers)))
+
+-- ---- pointstamps
+
+made_at : (g : Dataflow) (l : ℕ) (o : Option Time) (q : Pointstamp) → ((t : Time) → o ≡ Some t → HasDepth g l t)
+    → option_map (λ t. record { location = l; time = t }) o ≡ Some q → HasDepth g q.location q.time
+made_at g l None q h e = absurd (cc)
+made_at g l (Some t) q h e =
+    let read : Pointstamp = record { location = l; time = t } in
+    let same : read ≡ q = cc in
+    subst (λ q. HasDepth g q.location q.time) same (h t refl)
+
+point_is : (g : Dataflow) (p : List ℕ × List ℕ) (q : Pointstamp) → point_named g p ≡ Some q → HasDepth g q.location q.time
+unfolding point_named
+point_is g p q e =
+    option_and_then_some (λ l. option_map (λ t. record { location = l; time = t }) (time_of g l p.1)) (location_named g p.0) q e
+    (λ l _ here. made_at g l (time_of g l p.1) q (λ t is. time_is g l p.1 t is) here)
+
+consed : {B : Type 0} (P : B → Type 0) (y : B) (o : Option (List B)) (ys : List B) → P y → ((zs : List B) → o ≡ Some zs → Each P zs)
+    → option_map (λ zs. y ∷ zs) o ≡ Some ys → Each P ys
+consed P y None ys here rest e = absurd (cc)
+consed P y (Some zs) ys here rest e =
+    let same : y ∷ zs ≡ ys = cc in
+    subst (λ ys. Each P ys) same (All-cons P y zs here (rest zs refl))
+
+each_is : {A B : Type 0} (f : A → Option B) (P : B → Type 0) → ((x : A) (y : B) → f x ≡ Some y → P y)
+    → (xs : List A) (ys : List B) → each f xs ≡ Some ys → Each P ys
+each_is f P h [] ys e = let same : [] ≡ ys = cc in subst (λ ys. Each P ys) same (All-nil P)
+each_is f P h (x ∷ xs) ys e =
+    option_and_then_some (λ y. option_map (λ ys. y ∷ ys) (each f xs)) (f x) ys e
+    (λ y is rest. consed P y (each f xs) ys (h x y is) (λ zs all. each_is f P h xs zs all) rest)
+
+-- ---- one kind of step after the other
+
+feed_fits : (g : Dataflow) (d : Data) → IfOk (feed_of g d) (NamesFit g)
+unfolding feed_of
+feed_fits g d =
+    if_given _ (small_at (codes "p") d) _ (NamesFit g) (λ p _.
+    if_given _ (text_at (codes "vertex") d) _ (NamesFit g) (λ name _.
+    if_given _ (values_at (codes "values") d) _ (NamesFit g) (λ values _.
+    if_given _ (next_at d) _ (NamesFit g) (λ next _.
+    if_given _ (vertex_named g name) _ (NamesFit g) (λ vertex is. vertex_is g name vertex is)))))
+
+take_fits : (g : Dataflow) (d : Data) → IfOk (take_of g d) (NamesFit g)
+unfolding take_of
+take_fits g d =
+    if_given _ (small_at (codes "p") d) _ (NamesFit g) (λ p _.
+    if_given _ (integer_at (codes "value") d) _ (NamesFit g) (λ value _.
+    if_given _ (named_at (codes "edge") d) _ (NamesFit g) (λ named _.
+    if_placed g (edge_named g named.0) named.1 _ (NamesFit g) (λ q is. (edge_is g named.0 q.location is.0, is.1)))))
+
+notice_fits : (g : Dataflow) (d : Data) → IfOk (notice_of g d) (NamesFit g)
+unfolding notice_of
+notice_fits g d =
+    if_given _ (small_at (codes "p") d) _ (NamesFit g) (λ p _.
+    if_given _ (named_at (codes "vertex") d) _ (NamesFit g) (λ named _.
+    if_placed g (vertex_named g named.0) named.1 _ (NamesFit g) (λ q is. (vertex_is g named.0 q.location is.0, is.1))))
+
+all_fits : (g : Dataflow) (d : Data) → IfOk (broadcast_of d) (NamesFit g)
+unfolding broadcast_of
+all_fits g d = if_given _ (small_at (codes "p") d) _ (NamesFit g) (λ p _. tt)
+
+receive_fits : (g : Dataflow) (d : Data) → IfOk (receive_of d) (NamesFit g)
+unfolding receive_of
+receive_fits g d =
+    if_given _ (small_at (codes "from") d) _ (NamesFit g) (λ from _.
+    if_given _ (small_at (codes "to") d) _ (NamesFit g) (λ to _. tt))
+
+if_true : {B : Type 0} (b : Bool) (r : Result B LineFault) (e : LineFault) (P : B → Type 0) → IfOk r P → IfOk (cond b r (Err e)) P
+if_true true r e P h = h
+if_true false r e P h = tt
+
+part_fits : (g : Dataflow) (d : Data) → IfOk (part_of g d) (NamesFit g)
+unfolding part_of
+part_fits g d =
+    if_given _ (small_at (codes "p") d) _ (NamesFit g) (λ p _.
+    if_given _ (points_at (codes "part") d) _ (NamesFit g) (λ named _.
+    if_true (are_known g named) _ _ (NamesFit g)
+    (if_given _ (each (point_named g) named) _ (NamesFit g) (λ points is.
+    each_is (point_named g) (λ q. HasDepth g q.location q.time) (point_is g) named points is))))
+
+-- ---- all
+
+step_fits : (g : Dataflow) (form : StepForm) (d : Data) → IfOk (step_of g form d) (NamesFit g)
+step_fits g form.Feed d = feed_fits g d
+step_fits g form.Take d = take_fits g d
+step_fits g form.Notice d = notice_fits g d
+step_fits g form.Broadcast d = all_fits g d
+step_fits g form.Part d = part_fits g d
+step_fits g form.Receive d = receive_fits g d
+
+-- a step that was read in its form
+pub form_fits : (g : Dataflow) (form : StepForm) (d : Data) (x : Step Global) → step_of g form d ≡ Ok x → NamesFit g x
+form_fits g form d x e = subst (λ r. IfOk r (NamesFit g)) e (step_fits g form d)
+
+line_fits : (g : Dataflow) (d : Data) (form : Form) → IfOk (read_as g d form) (NamesFit g)
+line_fits g d (line.Step form) = step_fits g form d
+line_fits g d (line.Command form) = tt
+line_fits g d (line.Query form) = tt
+
+pub read_fits : (g : Dataflow) (d : Data) (x : Step Global) → read_of g d ≡ Ok x → NamesFit g x
+unfolding read_of
+read_fits g d x e =
+    subst (λ r. IfOk r (NamesFit g)) e (if_given BadShape (form_of First d) (read_as g d) (NamesFit g) (λ form _. line_fits g d form))

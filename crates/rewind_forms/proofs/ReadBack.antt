@@ -1,0 +1,116 @@
+-- Reading the object of a step gives the step.
+use Rattle.std.proofs.Common.{◌≡◌, ℕ, ◌<◌, ◌≤◌, ℤ, true, false, List, [], ◌∷◌, length, map, refl, ap, Some, Ok, FitsSigned, w64, codes}
+use Rattle.std.specs.Prelude.{All as Each}
+use Rattle.std.specs.declared.alloc.Global.{Global}
+use Rattle.std.proofs.lemmas.List.Elements.{All-head, All-tail}
+use Rattle.nd_json.specs.Forms.{has_keys, has_text, text}
+use Rattle.nd_time.specs.Time.{Time}
+use Rattle.nd_graph.specs.Graph.{Dataflow, names}
+use Rattle.nd_graph.specs.Checked.{has_double}
+use Rattle.nd_paths.specs.declared.point.Pointstamp.{Pointstamp}
+use Rattle.nd_shown.specs.StateText.{natural, whole, name_at, point_data}
+use Rattle.nd_protocol.specs.declared.step.Step.{Step}
+use Rattle.nd_protocol.specs.declared.step.Step.TheVariants.{Feed, Take, Notice, Broadcast, Receive}
+use Rattle.nd_protocol.specs.declared.part.Part.TheVariants.{All, Points}
+use Rattle.nd_protocol.specs.declared.step.Next.{Next as Afterwards}
+use Rattle.nd_protocol.specs.declared.step.Next.TheVariants as token
+use Rattle.rewind_forms.specs.Forms.{numbers_at, named_at, values_at, points_at, listed_point}
+use Rattle.rewind_forms.specs.Places.{placed, are_known, point_named}
+use Rattle.rewind_forms.specs.Grammar.{steps, form_of}
+use Rattle.rewind_forms.specs.Steps.{next_at, feed_of, take_of, notice_of, broadcast_of, part_of, receive_of, read_of}
+use Rattle.rewind_forms.specs.Objects.{feed_object, take_object, notice_object, all_object, part_object, receive_object, object_of}
+use Rattle.nd_protocol.specs.Ranges.{NumbersFit, IsSmall, TimeIsSmall}
+use Rattle.rewind_forms.specs.Fitting.{HasDepth, NamesFit}
+use Rattle.rewind_forms.proofs.NamesLemmas.{vertex-name_at, edge-name_at, time-numbers, known, point-name_at}
+use Rattle.rewind_forms.proofs.Values.{each_as, each_back, list-row, small-natural, integer-whole, integers-whole, numbers-natural, named, point-data}
+
+-- ---- one kind of step after the other
+
+receive_back : (from to : ℕ) → IsSmall from → IsSmall to → receive_of (receive_object from to) ≡ Ok (Receive from to)
+unfolding receive_of
+receive_back from to h k = rw (small-natural from h, small-natural to k) refl
+
+all_back : (p : ℕ) → IsSmall p → broadcast_of (all_object p) ≡ Ok (Broadcast p All)
+unfolding broadcast_of
+all_back p h = rw (small-natural p h) refl
+
+notice_named : (g : Dataflow) (p vertex : ℕ) (t : Time) → TimeIsSmall t
+    → named_at (codes "vertex") (notice_object g p vertex t) ≡ Some (name_at g vertex, t.epoch ∷ t.counters)
+unfolding named_at numbers_at text
+notice_named g p vertex t h = rw (list-row (map natural (t.epoch ∷ t.counters)), numbers-natural t h) refl
+
+notice_back : (g : Dataflow) (p vertex : ℕ) (t : Time) → has_double (names g) ≡ false → vertex < length g.vertices → HasDepth g vertex t
+    → IsSmall p → TimeIsSmall t → notice_of g (notice_object g p vertex t) ≡ Ok (Notice p vertex t)
+unfolding notice_of placed
+notice_back g p vertex t once there depth h k =
+    rw (small-natural p h, notice_named g p vertex t k, vertex-name_at g vertex once there, time-numbers g vertex t depth) refl
+
+take_named : (g : Dataflow) (p edge : ℕ) (t : Time) (value : ℤ) → TimeIsSmall t
+    → named_at (codes "edge") (take_object g p edge t value) ≡ Some (name_at g edge, t.epoch ∷ t.counters)
+unfolding named_at numbers_at text
+take_named g p edge t value h = rw (list-row (map natural (t.epoch ∷ t.counters)), numbers-natural t h) refl
+
+take_back : (g : Dataflow) (p edge : ℕ) (t : Time) (value : ℤ) → has_double (names g) ≡ false → length g.vertices ≤ edge → HasDepth g edge t
+    → IsSmall p → TimeIsSmall t → FitsSigned w64 value → take_of g (take_object g p edge t value) ≡ Ok (Take p edge t value)
+unfolding take_of placed
+take_back g p edge t value once there depth h k fits =
+    rw (small-natural p h, integer-whole value fits, take_named g p edge t value k, edge-name_at g edge t once there depth, time-numbers g edge t depth) refl
+
+next_back : (g : Dataflow) (p vertex : ℕ) (values : List ℤ) (then : Afterwards) → next_at (feed_object g p vertex values then) ≡ Some then
+unfolding next_at has_text text
+next_back g p vertex values token.Next = refl
+next_back g p vertex values token.Close = refl
+next_back g p vertex values token.Stay = refl
+
+values_back : (g : Dataflow) (p vertex : ℕ) (values : List ℤ) (then : Afterwards) → Each (FitsSigned w64) values
+    → values_at (codes "values") (feed_object g p vertex values then) ≡ Some values
+unfolding values_at
+values_back g p vertex values then h = rw (list-row (map whole values), integers-whole values h) refl
+
+feed_back : (g : Dataflow) (p vertex : ℕ) (values : List ℤ) (then : Afterwards) → has_double (names g) ≡ false → vertex < length g.vertices
+    → IsSmall p → Each (FitsSigned w64) values → feed_of g (feed_object g p vertex values then) ≡ Ok (Feed p vertex values then)
+unfolding feed_of text
+feed_back g p vertex values then once there h k =
+    rw (small-natural p h, values_back g p vertex values then k, next_back g p vertex values then, vertex-name_at g vertex once there) refl
+
+-- ---- a broadcast of a part
+
+points_named_back : (g : Dataflow) (p : ℕ) (points : List Pointstamp) → Each (λ q. TimeIsSmall q.time) points
+    → points_at (codes "part") (part_object g p points) ≡ Some (map (named g) points)
+unfolding points_at
+points_named_back g p points h =
+    rw (list-row (map (point_data g) points)) (each_as listed_point (point_data g) (named g) points (λ k d lt. point-data g _ (h k d lt)))
+
+all_known : (g : Dataflow) (points : List Pointstamp) → has_double (names g) ≡ false → Each (λ q. HasDepth g q.location q.time) points
+    → are_known g (map (named g) points) ≡ true
+all_known g [] once h = refl
+all_known g (q ∷ points) once h =
+    let P : Pointstamp → Type 0 = λ q. HasDepth g q.location q.time in
+    rw (known g q.location q.time once (All-head P q points h)) (all_known g points once (All-tail P q points h))
+
+part_back : (g : Dataflow) (p : ℕ) (points : List Pointstamp) → has_double (names g) ≡ false → Each (λ q. HasDepth g q.location q.time) points
+    → IsSmall p → Each (λ q. TimeIsSmall q.time) points → part_of g (part_object g p points) ≡ Ok (Broadcast p (Points points))
+unfolding part_of
+part_back g p points once there h k =
+    let read = each_back (point_named g) (named g) points (λ i d lt. point-name_at g _ once (there i d lt)) in
+    rw (small-natural p h, points_named_back g p points k, all_known g points once there, read) refl
+
+-- ---- all
+
+pub read_back : (g : Dataflow) (x : Step Global) → has_double (names g) ≡ false → NamesFit g x → NumbersFit x → read_of g (object_of g x) ≡ Ok x
+unfolding read_of form_of steps object_of has_keys text
+read_back g (Feed p vertex values then) once there fits = rw (feed_back g p vertex values then once there fits.0 fits.1) refl
+read_back g (Take p edge t value) once there fits = rw (take_back g p edge t value once there.0 there.1 fits.0 fits.1 fits.2) refl
+read_back g (Notice p vertex t) once there fits = rw (notice_back g p vertex t once there.0 there.1 fits.0 fits.1) refl
+read_back g (Broadcast p All) once there fits = rw (all_back p fits.0) refl
+read_back g (Broadcast p (Points points)) once there fits = rw (part_back g p points once there fits.0 fits.1) refl
+read_back g (Receive from to) once there fits = rw (receive_back from to fits.0 fits.1) refl
+
+-- two steps with one object are one step
+pub one_step : (g : Dataflow) (x y : Step Global) → has_double (names g) ≡ false → NamesFit g x → NumbersFit x → NamesFit g y → NumbersFit y
+    → object_of g x ≡ object_of g y → x ≡ y
+one_step g x y once there fits there' fits' same =
+    let ex = read_back g x once there fits in
+    let ey = read_back g y once there' fits' in
+    let e = ap (read_of g) same in
+    cc

@@ -1,0 +1,88 @@
+-- The grammar of a script (this project's own rule): the words that a line may have under "do", each with the keys of its object.
+use Rattle.std.specs.Prelude.{ℕ, ◌&&◌, List, [], ◌∷◌, if◌then◌else◌, Option, Some, None, option_and_then, codes}
+use Rattle.std.specs.Str.{bytes_eq}
+use Rattle.serde_json.specs.Data.{Data}
+use Rattle.nd_json.specs.Forms.{has_keys, text_at}
+use Rattle.rewind_forms.specs.Versions.{includes}
+use Rattle.rewind_forms.specs.declared.version.Version.{Version}
+use Rattle.rewind_forms.specs.declared.version.Version.TheVariants.{First, Second, Third}
+use Rattle.rewind_forms.specs.declared.form.Form.{Form}
+use Rattle.rewind_forms.specs.declared.form.Form.TheVariants.{Step, Command, Query}
+use Rattle.rewind_forms.specs.declared.form.StepForm.{StepForm}
+use Rattle.rewind_forms.specs.declared.form.StepForm.TheVariants as step
+use Rattle.rewind_forms.specs.declared.form.CommandForm.{CommandForm}
+use Rattle.rewind_forms.specs.declared.form.CommandForm.TheVariants as command
+use Rattle.rewind_forms.specs.declared.form.QueryForm.{QueryForm}
+use Rattle.rewind_forms.specs.declared.form.QueryForm.TheVariants as query
+
+-- ---- the words, each with the keys, which are in the order of their bytes, and what both mean
+
+unfoldable pub steps : List (List ℕ × List (List ℕ) × StepForm)
+steps =
+    (codes "feed", codes "do" ∷ codes "next" ∷ codes "p" ∷ codes "values" ∷ codes "vertex" ∷ [], step.Feed)
+    ∷ (codes "take", codes "do" ∷ codes "edge" ∷ codes "p" ∷ codes "time" ∷ codes "value" ∷ [], step.Take)
+    ∷ (codes "notice", codes "do" ∷ codes "p" ∷ codes "time" ∷ codes "vertex" ∷ [], step.Notice)
+    ∷ (codes "broadcast", codes "do" ∷ codes "p" ∷ [], step.Broadcast)
+    ∷ (codes "broadcast", codes "do" ∷ codes "p" ∷ codes "part" ∷ [], step.Part)
+    ∷ (codes "receive", codes "do" ∷ codes "from" ∷ codes "to" ∷ [], step.Receive)
+    ∷ []
+
+unfoldable pub commands : List (List ℕ × List (List ℕ) × CommandForm)
+commands =
+    (codes "back", codes "do" ∷ [], command.Back)
+    ∷ (codes "redo", codes "do" ∷ [], command.Redo)
+    ∷ (codes "jump", codes "do" ∷ codes "to" ∷ [], command.Jump)
+    ∷ (codes "run", codes "do" ∷ codes "limit" ∷ [], command.Run)
+    ∷ (codes "break", codes "do" ∷ codes "when" ∷ [], command.Break)
+    ∷ (codes "unbreak", codes "do" ∷ codes "id" ∷ [], command.Unbreak)
+    ∷ []
+
+unfoldable pub queries : List (List ℕ × List (List ℕ) × QueryForm)
+queries =
+    (codes "state", codes "do" ∷ [], query.State)
+    ∷ (codes "count", codes "at" ∷ codes "do" ∷ codes "time" ∷ [], query.Count)
+    ∷ (codes "before", codes "do" ∷ codes "from" ∷ codes "to" ∷ [], query.Before)
+    ∷ (codes "view", codes "do" ∷ codes "q" ∷ [], query.View)
+    ∷ (codes "frontier", codes "do" ∷ codes "q" ∷ [], query.Frontier)
+    ∷ (codes "passed", codes "at" ∷ codes "do" ∷ codes "q" ∷ codes "time" ∷ [], query.Passed)
+    ∷ (codes "search", codes "do" ∷ codes "hi" ∷ codes "lo" ∷ codes "when" ∷ codes "workers" ∷ [], query.Search)
+    ∷ (codes "export", codes "do" ∷ [], query.Export)
+    ∷ (codes "why", codes "at" ∷ codes "do" ∷ codes "q" ∷ codes "time" ∷ [], query.Why)
+    ∷ (codes "changes", codes "at" ∷ codes "do" ∷ codes "hi" ∷ codes "lo" ∷ codes "q" ∷ codes "time" ∷ [], query.Changes)
+    ∷ (codes "step", codes "do" ∷ codes "to" ∷ [], query.Step)
+    ∷ []
+
+-- the first version whose scripts have a query
+abbrev pub since : QueryForm → Version
+since query.State = First
+since query.Count = First
+since query.Before = First
+since query.View = First
+since query.Frontier = First
+since query.Passed = First
+since query.Search = First
+since query.Export = Second
+since query.Why = Third
+since query.Changes = Third
+since query.Step = Third
+
+-- ---- the form of a line
+
+-- what the first row means that has this word, and the keys of this object
+abbrev pub find : {A : Type 0} → List (List ℕ × List (List ℕ) × A) → List ℕ → Data → Option A
+find [] word d = None
+find (row ∷ rows) word d = if bytes_eq word row.0 && has_keys row.1 d then Some row.2 else find rows word d
+
+abbrev pub known_to : Version → QueryForm → Option Form
+known_to v form = if includes v (since form) then Some (Query form) else None
+
+abbrev pub one_of : Version → Option StepForm → Option CommandForm → Option QueryForm → Option Form
+one_of v (Some form) command query = Some (Step form)
+one_of v None (Some form) query = Some (Command form)
+one_of v None None (Some form) = known_to v form
+one_of v None None None = None
+
+-- the form of an object in a script of this version
+unfoldable pub form_of : Version → Data → Option Form
+form_of v d =
+    option_and_then (λ word. one_of v (find steps word d) (find commands word d) (find queries word d)) (text_at (codes "do") d)

@@ -1,0 +1,152 @@
+//! The grammar of a script: the word that a line has under `do`, and the keys beside it.
+ghost use Rattle.std.specs.Prelude.{◌≡◌};
+ghost use Rattle.serde_json.specs.View.{view};
+ghost use Rattle.rewind_forms.specs.Grammar.{find, steps, commands, queries, since as since_in, form_of as form_in};
+
+use crate::Version;
+use nd_json::{has_keys, text_at};
+use serde_json::Value;
+
+/// What a line asks for, as its word and its keys say alone.
+#[derive(Clone, Copy, Debug, PartialEq, Eq, Drop)]
+pub enum Form {
+    Step(StepForm),
+    Command(CommandForm),
+    Query(QueryForm),
+}
+
+/// Which step a line asks for.
+#[derive(Clone, Copy, Debug, PartialEq, Eq, Drop)]
+pub enum StepForm {
+    Feed,
+    Take,
+    Notice,
+    /// A broadcast of all that is unsent.
+    Broadcast,
+    /// A broadcast of a part.
+    Part,
+    Receive,
+}
+
+/// Which command other than a step a line asks for.
+#[derive(Clone, Copy, Debug, PartialEq, Eq, Drop)]
+pub enum CommandForm {
+    Back,
+    Redo,
+    Jump,
+    Run,
+    Break,
+    Unbreak,
+}
+
+/// What a line asks to be told.
+#[derive(Clone, Copy, Debug, PartialEq, Eq, Drop)]
+pub enum QueryForm {
+    State,
+    Count,
+    Before,
+    View,
+    Frontier,
+    Passed,
+    Search,
+    Export,
+    Why,
+    Changes,
+    Step,
+}
+
+impl QueryForm {
+    // The first version whose scripts have the query.
+    fn since(self) -> Version
+        ensures { result ≡ since_in self }
+    {
+        match self {
+            QueryForm::State
+            | QueryForm::Count
+            | QueryForm::Before
+            | QueryForm::View
+            | QueryForm::Frontier
+            | QueryForm::Passed
+            | QueryForm::Search => Version::First,
+            QueryForm::Export => Version::Second,
+            QueryForm::Why | QueryForm::Changes | QueryForm::Step => Version::Third,
+        }
+    }
+}
+
+impl Form {
+    /// Returns the form that the value has in a script of this version, or `None` if it has none.
+    #[tactic(auto, unfolding(crate::specs::Grammar::form_of))]
+    pub fn of(version: Version, value: &Value) -> Option<Form>
+        ensures { result ≡ form_in version (view value.now) }
+    {
+        let word = text_at(value, "do")?;
+        if let Some(form) = step_form(word, value) {
+            return Some(Form::Step(form));
+        }
+        if let Some(form) = command_form(word, value) {
+            return Some(Form::Command(form));
+        }
+        let form = query_form(word, value)?;
+        if version.includes(form.since()) {
+            Some(Form::Query(form))
+        } else {
+            None
+        }
+    }
+}
+
+// The keys of each object are in the order of their bytes.
+#[tactic(auto, unfolding(crate::specs::Grammar::steps))]
+fn step_form(word: &str, value: &Value) -> Option<StepForm>
+    ensures { result ≡ find steps word.now (view value.now) }
+{
+    match word {
+        "feed" if has_keys(value, &["do", "next", "p", "values", "vertex"]) => Some(StepForm::Feed),
+        "take" if has_keys(value, &["do", "edge", "p", "time", "value"]) => Some(StepForm::Take),
+        "notice" if has_keys(value, &["do", "p", "time", "vertex"]) => Some(StepForm::Notice),
+        "broadcast" if has_keys(value, &["do", "p"]) => Some(StepForm::Broadcast),
+        "broadcast" if has_keys(value, &["do", "p", "part"]) => Some(StepForm::Part),
+        "receive" if has_keys(value, &["do", "from", "to"]) => Some(StepForm::Receive),
+        _ => None,
+    }
+}
+
+#[tactic(auto, unfolding(crate::specs::Grammar::commands))]
+fn command_form(word: &str, value: &Value) -> Option<CommandForm>
+    ensures { result ≡ find commands word.now (view value.now) }
+{
+    match word {
+        "back" if has_keys(value, &["do"]) => Some(CommandForm::Back),
+        "redo" if has_keys(value, &["do"]) => Some(CommandForm::Redo),
+        "jump" if has_keys(value, &["do", "to"]) => Some(CommandForm::Jump),
+        "run" if has_keys(value, &["do", "limit"]) => Some(CommandForm::Run),
+        "break" if has_keys(value, &["do", "when"]) => Some(CommandForm::Break),
+        "unbreak" if has_keys(value, &["do", "id"]) => Some(CommandForm::Unbreak),
+        _ => None,
+    }
+}
+
+#[tactic(auto, unfolding(crate::specs::Grammar::queries))]
+fn query_form(word: &str, value: &Value) -> Option<QueryForm>
+    ensures { result ≡ find queries word.now (view value.now) }
+{
+    match word {
+        "state" if has_keys(value, &["do"]) => Some(QueryForm::State),
+        "count" if has_keys(value, &["at", "do", "time"]) => Some(QueryForm::Count),
+        "before" if has_keys(value, &["do", "from", "to"]) => Some(QueryForm::Before),
+        "view" if has_keys(value, &["do", "q"]) => Some(QueryForm::View),
+        "frontier" if has_keys(value, &["do", "q"]) => Some(QueryForm::Frontier),
+        "passed" if has_keys(value, &["at", "do", "q", "time"]) => Some(QueryForm::Passed),
+        "search" if has_keys(value, &["do", "hi", "lo", "when", "workers"]) => {
+            Some(QueryForm::Search)
+        }
+        "export" if has_keys(value, &["do"]) => Some(QueryForm::Export),
+        "why" if has_keys(value, &["at", "do", "q", "time"]) => Some(QueryForm::Why),
+        "changes" if has_keys(value, &["at", "do", "hi", "lo", "q", "time"]) => {
+            Some(QueryForm::Changes)
+        }
+        "step" if has_keys(value, &["do", "to"]) => Some(QueryForm::Step),
+        _ => None,
+    }
+}

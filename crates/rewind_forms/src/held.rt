@@ -1,0 +1,45 @@
+//! What is held at a pointstamp.
+ghost use Rattle.std.specs.Prelude.{◌≡◌, map, IfOk};
+ghost use Rattle.nd_shown.specs.StateText.{row};
+ghost use Rattle.rewind_forms.specs.Reasons.{held_data};
+
+use nd_graph::Graph;
+use nd_reply::{Json, JsonList, reply};
+use nd_shown::name_value;
+use nd_why::Held;
+use std::alloc::{AllocError, Allocator, Global};
+
+// One thing that a processor holds, at this location.
+fn one_value<A: Allocator>(
+    alloc: Global,
+    graph: &Graph<A>,
+    location: usize,
+    one: &Held,
+) -> Result<Json, AllocError>
+    ensures reply { IfOk result (λ j. j ≡ held_data graph.now location one.now) }
+{
+    let name = name_value(alloc, graph, location)?;
+    match one {
+        Held::Records { p, value, count } => {
+            reply!(in alloc; {"edge": name, "n": *count, "p": *p as u64, "value": *value})
+        }
+        Held::Request { p } => reply!(in alloc; {"p": *p as u64, "request": name}),
+        Held::Token { p } => reply!(in alloc; {"p": *p as u64, "token": name}),
+    }
+}
+
+/// All that is held at a pointstamp of this location, in the order in which it is given.
+pub(crate) fn held_value<A: Allocator>(
+    alloc: Global,
+    graph: &Graph<A>,
+    location: usize,
+    held: &[Held],
+) -> Result<Json, AllocError>
+    ensures reply { IfOk result (λ j. j ≡ row (map (held_data graph.now location) held.now)) }
+{
+    let mut list = JsonList::new(alloc);
+    for one in held {
+        list.push(one_value(alloc, graph, location, one)?)?;
+    }
+    Ok(list.into_json())
+}

@@ -1,0 +1,31 @@
+//! What a processor has not heard of a pointstamp.
+ghost use Rattle.std.specs.Prelude.{◌≡◌, map, IfOk};
+ghost use Rattle.nd_shown.specs.StateText.{row};
+ghost use Rattle.rewind_forms.specs.Reasons.{unheard_data};
+
+use nd_reply::{Json, JsonList, reply};
+use nd_why::Unheard;
+use std::alloc::{AllocError, Global};
+
+// One update, with where it is.
+fn one_value(alloc: Global, one: &Unheard) -> Result<Json, AllocError>
+    ensures reply { IfOk result (λ j. j ≡ unheard_data one.now) }
+{
+    match one {
+        Unheard::Unsent { p, n } => reply!(in alloc; {"n": *n, "p": *p as u64, "unsent": true}),
+        Unheard::Queued { p, behind, n } => {
+            reply!(in alloc; {"behind": *behind as u64, "n": *n, "p": *p as u64})
+        }
+    }
+}
+
+/// All updates that were not heard, in the order in which they are given.
+pub(crate) fn unheard_value(alloc: Global, unheard: &[Unheard]) -> Result<Json, AllocError>
+    ensures reply { IfOk result (λ j. j ≡ row (map unheard_data unheard.now)) }
+{
+    let mut list = JsonList::new(alloc);
+    for one in unheard {
+        list.push(one_value(alloc, one)?)?;
+    }
+    Ok(list.into_json())
+}

@@ -1,5 +1,0 @@
-pub mod NamesLemmas
-pub mod Values
-pub mod ReadBack
-pub mod Fits
-pub mod Forms

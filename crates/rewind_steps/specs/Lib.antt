@@ -1,4 +1,0 @@
-pub mod Objects
-pub mod Fitting
-pub mod Reading
-pub mod Laws
