@@ -8,8 +8,7 @@ ghost use Rattle.nd_timeline.specs.declared.fault.Fault.TheVariants.{NoSuchPoint
 use nd_graph::Graph;
 use nd_reply::{Json, JsonList};
 use nd_timeline::{Fault, Timeline};
-use rewind_forms::replies;
-use rewind_forms::step_value;
+use rewind_forms::{replies, step_value};
 use std::alloc::{AllocError, Global};
 
 // All kept steps, each as the object of its command line.

@@ -7,8 +7,7 @@ use nd_cluster::Cluster;
 use nd_paths::Pointstamp;
 use nd_reply::Json;
 use nd_timeline::Timeline;
-use rewind_forms::replies;
-use rewind_forms::{changes_value, reasons_value};
+use rewind_forms::{changes_value, reasons_value, replies};
 use std::alloc::{AllocError, Global};
 
 /// Replies with the reasons for which a processor does not consider a pointstamp finished, and whether it is.
