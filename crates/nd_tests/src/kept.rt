@@ -150,38 +150,53 @@ fn thousand_changes(rt: HostRuntime) -> Result<(), Fail> {
     Ok(())
 }
 
-/// A state of a view on *line*: its entries, its frontier, and the precursor counts that it keeps for the edge and the input.
-type ViewState = ([Entry; 2], Entry, [Option<u64>; 2]);
-
-/// Returns whether a view on *line* is in this state.
-fn is_in_state(alloc: Global, view: &View, paths: &Paths, wanted: &ViewState) -> Option<bool>
+/// Returns whether a view on *line* has these entries, and these on its frontier.
+fn has_entries(
+    alloc: Global,
+    view: &View,
+    paths: &Paths,
+    entries: &[Entry],
+    frontier: &[Entry],
+) -> Option<bool>
     requires { IsFor paths.now view.now }
 {
-    let (entries, on_frontier, [edge, input]) = wanted;
     let graph = paths.graph();
-    let (az, a) = (point(graph, "az", &[0])?, point(graph, "a", &[0])?);
-    let frontier = view.frontier(alloc, paths).ok()?;
+    let first = view.frontier(alloc, paths).ok()?;
     Some(
         are_entries(graph, view.entries(), entries)
-            && are_entries(graph, frontier.entries(), &[*on_frontier])
-            && (view.kept(&az), view.kept(&a)) == (*edge, *input)
-            && Some(view.precursors(paths, &az)) == *edge,
+            && are_entries(graph, first.entries(), frontier),
+    )
+}
+
+/// Returns whether a view on *line* keeps these precursor counts for the edge and for the input.
+fn keeps(view: &View, paths: &Paths, edge: u64, input: Option<u64>) -> Option<bool>
+    requires { IsFor paths.now view.now }
+{
+    let graph = paths.graph();
+    let (az, a) = (point(graph, "az", &[0])?, point(graph, "a", &[0])?);
+    Some(
+        view.kept(&az) == Some(edge)
+            && view.kept(&a) == input
+            && view.precursors(paths, &az) == edge,
     )
 }
 
 /// Returns, for each of the example's three states, whether the view is in it.
-fn are_in_states(alloc: Global, paths: &Paths) -> Option<[Option<bool>; 3]> {
-    let first: ViewState = ([("a", 0, 1), ("az", 0, 1)], ("a", 0, 1), [Some(1), Some(0)]);
-    let second: ViewState = ([("a", 0, -1), ("az", 0, 1)], ("az", 0, 1), [Some(0), None]);
-    let more = change(alloc, paths.graph(), &first.0)?;
+fn are_in_states(alloc: Global, paths: &Paths) -> Option<[bool; 3]> {
+    let made = [("a", 0, 1), ("az", 0, 1)];
+    let taken = [("a", 0, -1), ("az", 0, 1)];
+    let more = change(alloc, paths.graph(), &made)?;
     let less = change(alloc, paths.graph(), &[("a", 0, -2)])?;
     let mut view = View::new(alloc);
     view.apply(paths, &more).ok()?;
-    let is_first = is_in_state(alloc, &view, paths, &first);
+    let is_first = has_entries(alloc, &view, paths, &made, &[("a", 0, 1)])?
+        && keeps(&view, paths, 1, Some(0))?;
     view.apply(paths, &less).ok()?;
-    let is_second = is_in_state(alloc, &view, paths, &second);
+    let is_second = has_entries(alloc, &view, paths, &taken, &[("az", 0, 1)])?
+        && keeps(&view, paths, 0, None)?;
     view.unapply(paths, &less).ok()?;
-    let is_third = is_in_state(alloc, &view, paths, &first);
+    let is_third = has_entries(alloc, &view, paths, &made, &[("a", 0, 1)])?
+        && keeps(&view, paths, 1, Some(0))?;
     Some([is_first, is_second, is_third])
 }
 
@@ -189,6 +204,6 @@ fn are_in_states(alloc: Global, paths: &Paths) -> Option<[Option<bool>; 3]> {
 #[test]
 fn kept_counts(rt: HostRuntime) -> Result<(), Fail> {
     let paths = paths_of(rt.alloc(), rt.alloc(), LINE).ok_or("no paths")?;
-    assert_eq!(rt; are_in_states(rt.alloc(), &paths), Some([Some(true); 3]));
+    assert_eq!(rt; are_in_states(rt.alloc(), &paths), Some([true; 3]));
     Ok(())
 }
