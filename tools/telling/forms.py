@@ -1,8 +1,10 @@
-"""The forms of a script's lines, as docs/SCRIPT.md has them, and what keeps a value from having one.
+"""The forms of a script's lines in words, and what keeps a value from having one.
 
 Nothing here decides whether a line is right: that is the program's answer. 'tools/test_tell' compares the two."""
 import difflib
 
+import script
+from script import LAST, OPTIONAL, SINCE, words_of
 from telling import values
 from telling.values import shown
 
@@ -22,47 +24,18 @@ SAMPLES = {
     id(SMALL): "0", id(WHOLE): "0", id(SIGNED): "5", id(VERTEX): '"a"', id(EDGE): '"am"', id(PLACE): '"a"', id(TIME): "[0]",
     id(POINT): '["a",[0]]', id(POINTS): '[["a",[0]]]', id(VALUES): "[5]", id(NEXT): '"next"', id(WHEN): "{..}",
 }  # fmt: skip
-COMMANDS = {
-    "feed": {"p": SMALL, "vertex": VERTEX, "values": VALUES, "next": NEXT},
-    "take": {"p": SMALL, "edge": EDGE, "time": TIME, "value": SIGNED},
-    "notice": {"p": SMALL, "vertex": VERTEX, "time": TIME},
-    "broadcast": {"p": SMALL, "part": POINTS},
-    "receive": {"from": SMALL, "to": SMALL},
-    "back": {},
-    "redo": {},
-    "jump": {"to": WHOLE},
-    "run": {"limit": WHOLE},
-    "break": {"when": WHEN},
-    "unbreak": {"id": WHOLE},
-}
-QUERIES = {
-    "state": {},
-    "count": {"at": PLACE, "time": TIME},
-    "before": {"from": POINT, "to": POINT},
-    "view": {"q": SMALL},
-    "frontier": {"q": SMALL},
-    "passed": {"q": SMALL, "at": PLACE, "time": TIME},
-    "search": {"when": WHEN, "lo": WHOLE, "hi": WHOLE, "workers": WHOLE},
-    "export": {},
-    "why": {"q": SMALL, "at": PLACE, "time": TIME},
-    "changes": {"q": SMALL, "at": PLACE, "time": TIME, "lo": WHOLE, "hi": WHOLE},
-    "step": {"to": WHOLE},
-}
-FORMS = {**COMMANDS, **QUERIES}
-# The version of the script with which a word came, if it is not the first, and the last version that there is.
-SINCE, LAST = {"export": 2, "why": 3, "changes": 3, "step": 3}, 3
-BREAKS = {
-    "passed": {"q": SMALL, "at": PLACE, "time": TIME},
-    "count": {"at": PLACE, "at_least": WHOLE, "time": TIME},
-    "queue": {"at_least": WHOLE, "from": SMALL, "to": SMALL},
-    "sink": {"at_least": WHOLE, "value": SIGNED, "vertex": VERTEX},
-}
-OPTIONAL = {"part"}
+KINDS = {
+    "small": SMALL, "whole": WHOLE, "signed": SIGNED, "vertex": VERTEX, "edge": EDGE, "place": PLACE, "time": TIME, "point": POINT,
+    "points": POINTS, "values": VALUES, "next": NEXT, "when": WHEN,
+}  # fmt: skip
 
 
-def words_of(version):
-    """The words of a script's version."""
-    return [it for it in FORMS if SINCE.get(it, 1) <= version]
+def with_kinds(forms):
+    """Forms of the grammar, with what is said of the kind under each key."""
+    return {word: {key: KINDS[kind] for key, kind in form.items()} for word, form in forms.items()}
+
+
+FORMS, BREAKS = with_kinds(script.FORMS), with_kinds(script.BREAKS)
 
 
 def nearest(word, known):

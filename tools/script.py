@@ -1,0 +1,59 @@
+"""The grammar of scripts, for every tool: the words, the keys of each with what stands there, the version with which a word came,
+the breakpoints, and the errors by their numbers. docs/SCRIPT.md has it in words.
+
+'tools/test_tell' compares the grammar with the program, on each form and on thousands of lines with one change."""
+
+STEPS = {
+    "feed": {"p": "small", "vertex": "vertex", "values": "values", "next": "next"},
+    "take": {"p": "small", "edge": "edge", "time": "time", "value": "signed"},
+    "notice": {"p": "small", "vertex": "vertex", "time": "time"},
+    "broadcast": {"p": "small", "part": "points"},
+    "receive": {"from": "small", "to": "small"},
+}
+COMMANDS = {
+    **STEPS,
+    "back": {},
+    "redo": {},
+    "jump": {"to": "whole"},
+    "run": {"limit": "whole"},
+    "break": {"when": "when"},
+    "unbreak": {"id": "whole"},
+}
+QUERIES = {
+    "state": {},
+    "count": {"at": "place", "time": "time"},
+    "before": {"from": "point", "to": "point"},
+    "view": {"q": "small"},
+    "frontier": {"q": "small"},
+    "passed": {"q": "small", "at": "place", "time": "time"},
+    "search": {"when": "when", "lo": "whole", "hi": "whole", "workers": "whole"},
+    "export": {},
+    "why": {"q": "small", "at": "place", "time": "time"},
+    "changes": {"q": "small", "at": "place", "time": "time", "lo": "whole", "hi": "whole"},
+    "step": {"to": "whole"},
+}
+FORMS = {**COMMANDS, **QUERIES}
+# The keys that a line may leave out.
+OPTIONAL = {"part"}
+# The version with which a word came, if it is not the first, and the last version that there is.
+SINCE, LAST = {"export": 2, "why": 3, "changes": 3, "step": 3}, 3
+# What stands under the only key of "when".
+BREAKS = {
+    "passed": {"q": "small", "at": "place", "time": "time"},
+    "count": {"at": "place", "at_least": "whole", "time": "time"},
+    "queue": {"at_least": "whole", "from": "small", "to": "small"},
+    "sink": {"at_least": "whole", "value": "signed", "vertex": "vertex"},
+}
+ERRORS = {
+    1: "NoProcessor", 2: "NoVertex", 3: "NoEdge", 4: "NotInput", 5: "InputClosed", 6: "TooManyValues", 7: "EpochFull", 8: "NoRecord",
+    9: "NoRequest", 10: "NotYet", 11: "CounterFull", 12: "ValueRange", 13: "CountFull", 14: "DeltaFull", 15: "NothingToSend",
+    16: "NotAdmissible", 17: "QueueEmpty", 18: "QueueFull", 19: "Memory", 20: "AtStart", 21: "AtEnd", 22: "NoSuchPoint",
+    23: "TimelineFull", 24: "TooManyBreaks", 25: "NoBreak", 27: "LogFull", 29: "Memory", 30: "BadLine", 31: "BadShape",
+    32: "UnknownName", 33: "LineTooLong", 34: "BadTime", 35: "BadClient", 36: "OneClientOnly", 50: "BadRange", 51: "NoWorkers",
+    52: "Missing",
+}  # fmt: skip
+
+
+def words_of(version):
+    """The words of a script's version."""
+    return [word for word in FORMS if SINCE.get(word, 1) <= version]
