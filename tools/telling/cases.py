@@ -148,6 +148,24 @@ TOLD = {
         (6, 'the key "time" of "passed" is missing'), (7, 'the nearest is "passed"'), (8, 'the key "p" is missing'),
         (8, 'right is {"do":"broadcast","p":0}'),
     ]),
+    "values that are kept": ([], [
+        LINE, do("feed", p=3, vertex="b", values=[7, -8]), do("take", p=2, edge="az", tiem=[4], value=9), do("frontier", p=6),
+        do("passed", q="1", time=[2]), do("broadcast", part=[["az", [1]]]), do("search", when={"sink": {"value": 6}}, lo=2),
+        do("break", when={"queue": {"from": 1, "too": 2, "at_least": -1}}, id=1), do("search", when={"sink": 5}, lo=1, hi=2), '{"q":3}',
+        do("feed", p=0, vertex="a", values=[10] * 40),
+    ], 0, [
+        (2, 'right is {"do":"feed","p":3,"vertex":"b","values":[7,-8],"next":"next"}'),
+        (3, 'right is {"do":"take","p":2,"edge":"az","time":[4],"value":9}'), (4, 'right is {"do":"frontier","q":6}'),
+        (5, 'right is {"do":"passed","q":0,"at":"a","time":[2]}'), (6, 'right is {"do":"broadcast","p":0,"part":[["az",[1]]]}'),
+        (7, 'right is {"do":"search","when":{"sink":{"at_least":0,"value":6,"vertex":"a"}},"lo":2,"hi":0,"workers":1}'),
+        (7, 'right is "when":{"sink":{"at_least":0,"value":6,"vertex":"a"}}'),
+        (8, 'right is {"do":"break","when":{"queue":{"at_least":0,"from":1,"to":2}}}'),
+        (9, 'right is {"do":"search","when":{"sink":{"at_least":0,"value":5,"vertex":"a"}},"lo":1,"hi":2,"workers":1}'),
+        (10, 'the nearest form is {"do":"view","q":3}'), (11, '"values":[10,10,10,10,10,10,10,10,10,10,10,10,...,"next":"next"}'),
+    ]),
+    "values that are kept, with clients": (["--clients", "2"], [*CLIENTS, '{"client":1,"do":"jump","too":5}'], 2, [
+        (4, 'right is {"client":1,"do":"jump","to":5}'),
+    ]),
     "kinds": ([], [
         LINE, do("view", q="0"), '{"do":"view","q":1.0}', do("view", q=-1), do("view", q=2**32), do("view", q=None),
         do("take", p=0, edge="az", time=0, value=5), do("take", p=0, edge="az", time=[], value=5), do("jump", to=-1),
@@ -203,7 +221,7 @@ TOLD = {
         (13, "refused, 50 BadRange: lo, 2, is above hi, 1"), (14, "22 NoSuchPoint: position 6 is past the last kept step"),
         (15, "which step leads to position 4? processor 1 receives the first change on its way from processor 2"),
         (16, "22 NoSuchPoint: no step leads to position 0"), (17, "22 NoSuchPoint: position 6 is past the last kept step"),
-        (18, '"y" is no name of the graph'), (19, 'right is {"do":"why","q":0,"at":"a","time":[0]}'),
+        (18, '"y" is no name of the graph'), (19, 'right is {"do":"why","q":1,"at":"z","time":[0]}'),
     ]),
     "reasons": ([], [
         V3, SUM, do("feed", p=0, vertex="a", values=[2, 3, 3], next="close"), do("take", p=0, edge="as", time=[0], value=2),

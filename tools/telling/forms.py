@@ -22,8 +22,11 @@ WHEN = ("a breakpoint's form", lambda value: None)
 # What stands for a value in a form that is shown.
 SAMPLES = {
     id(SMALL): "0", id(WHOLE): "0", id(SIGNED): "5", id(VERTEX): '"a"', id(EDGE): '"am"', id(PLACE): '"a"', id(TIME): "[0]",
-    id(POINT): '["a",[0]]', id(POINTS): '[["a",[0]]]', id(VALUES): "[5]", id(NEXT): '"next"', id(WHEN): "{..}",
+    id(POINT): '["a",[0]]', id(POINTS): '[["a",[0]]]', id(VALUES): "[5]", id(NEXT): '"next"',
+    id(WHEN): '{"passed":{"q":0,"at":"a","time":[0]}}',
 }  # fmt: skip
+# The same under a key for which the sample of its kind says little.
+KEY_SAMPLES = {"limit": "1000", "workers": "1"}
 KINDS = {
     "small": SMALL, "whole": WHOLE, "signed": SIGNED, "vertex": VERTEX, "edge": EDGE, "place": PLACE, "time": TIME, "point": POINT,
     "points": POINTS, "values": VALUES, "next": NEXT, "when": WHEN,
@@ -50,24 +53,45 @@ def listed(words, last="and"):
     return words[0] if len(words) == 1 else f"{', '.join(words[:-1])} {last} {words[-1]}" if words else "none"
 
 
-def form_shown(start, form):
-    """A form as a line of it may be written."""
-    members = [*start, *(f'"{key}":{SAMPLES[id(kind)]}' for key, kind in form.items() if key not in OPTIONAL)]
+def form_shown(form, value=None):
+    """A form as a line may be written: the values of an object where they are right, samples where it has none."""
+    kept = kept_values(value or {}, form)
+    members = (f"{shown(key)}:{member_shown(key, kind, kept)}" for key, kind in form.items() if key in kept or key not in OPTIONAL)
     return "{" + ",".join(members) + "}"
+
+
+def member_shown(key, kind, kept):
+    if key not in kept:
+        return KEY_SAMPLES.get(key, SAMPLES[id(kind)])
+    return when_shown(kept[key]) if kind is WHEN else shown(kept[key])
+
+
+def kept_values(value, form):
+    """The values of an object that a form may have: those of the right kind, under its keys or under keys to be renamed."""
+    renamed = {meant: value[key] for key, meant in meant_keys(value, form).items() if meant}
+    return {key: it for key, it in {**value, **renamed}.items() if key in form and not form[key][1](it)}
+
+
+def meant_keys(value, form):
+    """The keys of an object that a form has not, each with the missing key that may be meant, or None."""
+    missing = missing_keys(value, form)
+    others = [key for key in value if key not in form]
+    is_clear, meant = len(missing) == len(others) == 1, {}
+    for key in others:
+        meant[key] = missing[0] if is_clear else nearest(key, missing)
+        missing = [it for it in missing if it != meant[key]]
+    return meant
+
+
+def missing_keys(value, form):
+    return [key for key in form if key not in value and key not in OPTIONAL]
 
 
 def keys_faults(value, form, where=""):
     """What is wrong with the keys of an object that is to have those of a form, each fault in words."""
-    missing = [key for key in form if key not in value and key not in OPTIONAL]
-    others = [key for key in value if key not in form]
-    faults = []
-    for key in others:
-        meant = missing[0] if len(missing) == len(others) == 1 else nearest(key, missing)
-        if meant:
-            missing.remove(meant)
-            faults.append(f"the key {shown(key)}{where} is to be {shown(meant)}")
-        else:
-            faults.append(f"the key {shown(key)}{where} is too many")
+    meant = meant_keys(value, form)
+    faults = [f"the key {shown(key)}{where} is {'to be ' + shown(it) if it else 'too many'}" for key, it in meant.items()]
+    missing = [key for key in missing_keys(value, form) if key not in meant.values()]
     return faults + [f"the key {shown(key)}{where} is missing: {form[key][0]}" for key in missing]
 
 
@@ -94,14 +118,33 @@ def when_faults(value):
     if not isinstance(inner, dict):
         return [f"{shown(name)}:{shown(inner)} {values.kind_of(inner)}; right is {break_shown(name)}"]
     faults = keys_faults(inner, BREAKS[name], f" of {shown(name)}") + value_faults(inner, BREAKS[name])
-    return faults + [f'right is "when":{break_shown(name)}'] if faults else []
+    return faults + [f'right is "when":{break_shown(name, inner)}'] if faults else []
 
 
-def break_shown(name):
-    return f"{{{shown(name)}:{form_shown([], BREAKS[name])}}}"
+def break_shown(name, inner=None):
+    return f"{{{shown(name)}:{form_shown(BREAKS[name], inner)}}}"
 
 
-def word_faults(value, version):
+def when_shown(value):
+    """A breakpoint as it may be written, with what is right in the value that stands in its place."""
+    known = [key for key in value if key in BREAKS] if isinstance(value, dict) else []
+    if len(known) != 1:
+        return SAMPLES[id(WHEN)]
+    inner = value[known[0]]
+    return break_shown(known[0], inner if isinstance(inner, dict) else None)
+
+
+def line_form(word, has_clients):
+    """The form of a command or query with all that its line has."""
+    return {**({"client": WHOLE} if has_clients else {}), "do": VERTEX, **FORMS[word]}
+
+
+def line_shown(word, value=None, has_clients=False):
+    """The line of a command or query as it may be written, with what is right in a value."""
+    return form_shown(line_form(word, has_clients), {**(value or {}), "do": word})
+
+
+def word_faults(value, has_clients, version):
     """What is wrong with the command word of an object; nothing if it is one of the script's version."""
     known = words_of(version)
     if "do" not in value:
@@ -111,7 +154,7 @@ def word_faults(value, version):
         if value.keys() == {"version"}:
             return ["a version line stands before the graph alone"]
         form = likeliest(value, known)
-        hint = f"; the nearest form is {form_shown([do_of(form)], FORMS[form])}" if form else ""
+        hint = f"; the nearest form is {line_shown(form, value, has_clients)}" if form else ""
         return [f'the key "do" is missing, which says what to do{hint}']
     word = value["do"]
     if values.text(word):
@@ -126,10 +169,6 @@ def word_faults(value, version):
     return [f"{shown(word)} is no command or query{hint}"]
 
 
-def do_of(word):
-    return f'"do":{shown(word)}'
-
-
 def likeliest(value, known):
     """The known word whose form has most keys in common with the object's, and fewest others; None if it has none."""
     common = lambda word: (len(FORMS[word].keys() & value.keys()), -len(FORMS[word].keys() ^ value.keys()))
@@ -141,15 +180,14 @@ def shape_faults(value, has_clients, version=LAST):
     """What keeps a value from having the form of a line, each fault in words; if keys are wrong, the right form last."""
     if not isinstance(value, dict):
         return [f'{shown(value)} {values.kind_of(value)}; a line is an object that says what to do, as {{"do":"back"}}']
-    start = {"client": WHOLE} if has_clients else {}
-    wrong = word_faults(value, version)
+    wrong = word_faults(value, has_clients, version)
     if wrong:
+        start = {"client": WHOLE} if has_clients else {}
         given = {key: value[key] for key in start if key in value}
         return wrong + keys_faults(given, start) + value_faults(given, start)
-    form = FORMS[value["do"]]
-    faults = keys_faults(value, {**start, "do": VERTEX, **form})
+    form = line_form(value["do"], has_clients)
+    faults = keys_faults(value, form)
     if faults:
-        head = ['"client":0'] if has_clients else []
-        faults.append(f"right is {form_shown([*head, do_of(value['do'])], form)}")
-    faults += value_faults(value, {**start, **form})
+        faults.append(f"right is {form_shown(form, value)}")
+    faults += value_faults(value, form)
     return faults + (when_faults(value["when"]) if "when" in form and "when" in value else [])

@@ -89,9 +89,10 @@ def wrong_times(graph, value):
     for name, _, time in slots_of(value):
         depth = depth_at(graph, name) if time is not None else None
         if depth is not None and len(time) != depth + 1:
+            right = (time + [0] * depth)[: depth + 1]
             faults.append(
                 f"the time {shown(time)} has {numbers(len(time))}; at {shown(name)}, {loops(depth)}, "
-                f"a time has {numbers(depth + 1)}: {parts(depth)}, as {shown([0] * (depth + 1))}"
+                f"a time has {numbers(depth + 1)}: {parts(depth)}, as {shown(right)}"
             )
     return list(dict.fromkeys(faults))
 
