@@ -166,6 +166,31 @@ TOLD = {
     "values that are kept, with clients": (["--clients", "2"], [*CLIENTS, '{"client":1,"do":"jump","too":5}'], 2, [
         (4, 'right is {"client":1,"do":"jump","to":5}'),
     ]),
+    # words of other debuggers, and words without JSON
+    "words of other debuggers": ([], [LINE, *map(do, ("help", "quit", "Continue", "next", "step", "undo")), '"help"', '"run"'], 0, [
+        (2, '"help" is no command or query; the commands of version 1 are feed, take, notice, broadcast, receive, back, redo, jump, run,'),
+        (2, "the queries are state, count, before, view, frontier, passed, search version 3 adds export, why, changes, step"),
+        (3, '"quit" is no command or query; the end of the input ends the run'), (4, '{"do":"run","limit":1000} executes up to 1,000'),
+        (5, '{"do":"run","limit":1} executes the next step, {"do":"redo"} a kept step again'), (6, '"step" came with version 3'),
+        (6, '{"do":"run","limit":1} executes the next step'), (7, '{"do":"back"} undoes the last step'), (8, '"help" is a text; a line'),
+        (8, "the commands of version 1 are"), (9, '"run" is a text; a line is an object that says what to do, as {"do":"run","limit":1000}'),
+    ]),
+    "the same of version 3": ([], [V3, LINE, do("help"), do("step"), do("step", at=7), "step 4", "why 1 z [2]", "c"], 0, [
+        (3, "frontier, passed, search, export, why, changes, step docs/SCRIPT.md shows the form of each"), (4, 'right is {"do":"step","to":0}'),
+        (4, '{"do":"run","limit":1} executes the next step'), (5, 'right is {"do":"step","to":7}'), (6, 'right is {"do":"step","to":4}'),
+        (7, 'right is {"do":"why","q":1,"at":"z","time":[2]}'), (8, '"c" is no command or query; {"do":"run","limit":1000} executes'),
+    ]),
+    "words without JSON": ([], [LINE, "back", "help", "quit", "continue", "run 10", " Feed 1 a [7] close", "veiw 0", "jmp", "xyzzy", "why"], 0, [
+        (2, 'faulty, 30 BadLine: the line is not JSON; right is {"do":"back"}'), (3, 'the line is not JSON, and "help" is no command'),
+        (3, "the commands of version 1 are feed,"), (4, "the end of the input ends the run"), (5, '{"do":"run","limit":1000} executes'),
+        (6, 'right is {"do":"run","limit":10}'), (7, 'right is {"do":"feed","p":1,"vertex":"a","values":[7],"next":"close"}'),
+        (8, 'the nearest is "view" a line is an object that says what to do, as {"do":"view","q":0}'), (9, 'as {"do":"jump","to":0}'),
+        (10, "the words are feed, take,"), (10, 'as {"do":"back"}'), (11, '"why" came with version 3'),
+    ]),
+    "clients' words": (["--clients", "2"], [*CLIENTS, "back"], 2, [(4, 'the line is not JSON; right is {"client":0,"do":"back"}')]),
+    "clients' help": (["--clients", "2"], [*CLIENTS, '{"client":1,"do":"help"}'], 2, [
+        (4, "run, break, unbreak several clients have no queries"), (4, 'as {"client":0,"do":"back"}'),
+    ]),
     "kinds": ([], [
         LINE, do("view", q="0"), '{"do":"view","q":1.0}', do("view", q=-1), do("view", q=2**32), do("view", q=None),
         do("take", p=0, edge="az", time=0, value=5), do("take", p=0, edge="az", time=[], value=5), do("jump", to=-1),
@@ -199,6 +224,18 @@ TOLD = {
         (2, "faulty, 30 BadLine: it breaks as JSON at column 7"), (3, "at column 13"),
         (4, "faulty, 33 LineTooLong: the line has 65539 bytes; at most 65536 may be"),
     ]),
+    # the graph's place
+    "a command first": ([], [do("back"), LINE], 2, [
+        (1, 'faulty, 40 Shape: the first line must be the graph, as {"vertices":[{"name":"a","op":"input","depth":0}],"edges":[]}'),
+        (1, "commands and queries come after it"),
+    ]),
+    "a command after the version": ([], [V2, do("back")], 2, [(2, "40 Shape: the first line after the version line must be the graph")]),
+    "a word first": ([], ["help"], 2, [(1, "30 BadLine: the first line must be the graph"), (1, "the commands of version 1 are feed,")]),
+    "help first": ([], [do("help")], 2, [(1, "the first line must be the graph"), (1, "the commands of version 1 are feed,")]),
+    "a faulty text first": ([], ['{"do":back}'], 2, [(1, "the first line must be the graph"), (1, "it breaks as JSON at column 7")]),
+    "another object first": ([], ['{"nodes":[]}'], 2, [(1, "the first line must be the graph"), (1, 'the key "vertices" is missing')]),
+    "a number first": ([], ["7"], 2, [(1, "the first line must be the graph"), (1, "7 is a number")]),
+    "a client's command first": (["--clients", "2"], ['{"client":0,"do":"back"}'], 2, [(1, "the first line must be the graph")]),
     "no graph": ([], ['{"vertices":'], 2, [(1, "faulty, 30 BadLine: it breaks as JSON at column 13")]),
     # versions 2 and 3
     "export": ([], [V2, LINE, FEED, do("broadcast", p=0, part=[["az", [0]], ["a", [0]]]), do("back"), do("export"), do("step", to=1)], 0, [
@@ -241,7 +278,9 @@ TOLD = {
     ]),
     "another version": ([], ['{"version":4}', LINE], 2, [(1, 'faulty, 40 Shape: a version line is {"version":2} or {"version":3} alone')]),
     "a version twice": ([], [V2, V2, LINE], 2, [(1, "of version 2"), (2, "faulty, 40 Shape: a version line is")]),
-    "a version alone": ([], [V3], 0, [(1, "this is a script of version 3")]),
+    "a version alone": ([], [V3], 0, [
+        (1, "this is a script of version 3"), (1, "the graph is missing: the first line after the version line must be the graph"),
+    ]),
     "a deep time": ([], [V2, DEEP, do("count", at="z", time=[0])], 0, [(3, 'at "z", at depth 5, a time has 6 numbers')]),
     "a deep graph": ([], [DEEP], 2, [(1, '"z" is at depth 5; at most 4 may be; in versions 2 and 3 at most 6')]),
     "nine processors": (["--processors", "9"], [LINE], 2, [(1, "48 BadCount: a script of version 1 has at most 8 processors")]),

@@ -67,9 +67,28 @@ def line_faults(text, reply, teller):
     if name == "LineTooLong":
         return [f"the line has {len(text)} bytes; at most {LONGEST} may be"]
     if name == "BadLine":
-        found = texts.break_of(text)
-        return [f"it breaks as JSON at column {found[0]}: {found[1]}"] if found else []
+        return first_line_faults(text, teller) + text_faults(text, teller)
     return faults_in(text, lambda value: FAULTS[name](value, teller)) if name in FAULTS else []
+
+
+def first_line_faults(text, teller):
+    """That the graph comes first, if the line stands in its place and has no sign of one."""
+    return [graph_faults.graph_first(teller.version)] if teller.graph is None and b'"vertices"' not in text else []
+
+
+def text_faults(text, teller):
+    """What is wrong with a text that is no JSON."""
+    words = texts.words_of_line(text)
+    if words:
+        return forms.typed_faults(words, teller.has_clients, teller.version)
+    found = texts.break_of(text)
+    return [f"it breaks as JSON at column {found[0]}: {found[1]}"] if found else []
+
+
+def missing_graph(told):
+    """That a script ends before its graph, in words; None of any other run."""
+    has_ended = all("version" in it.reply for it in told.entries) and (told.entries or not told.output)
+    return f"the graph is missing: {graph_faults.graph_first(told.version)}" if told.status == 0 and has_ended else None
 
 
 FAULTS = {

@@ -5,7 +5,7 @@ import difflib
 
 import script
 from script import LAST, OPTIONAL, SINCE, words_of
-from telling import values
+from telling import habits, values
 from telling.values import shown
 
 SMALL, WHOLE, SIGNED = (values.number(it) for it in (values.SMALL, values.WHOLE, values.SIGNED))
@@ -161,9 +161,13 @@ def word_faults(value, has_clients, version):
         return [f'"do":{shown(word)} {values.text(word)}; right is one of the words {listed(known)}']
     if word in known:
         return []
+    other = habits.instead(word, version, has_clients)
     if word in FORMS:
         since = SINCE[word]
-        return [f'{shown(word)} came with version {since}, and the script is of version {version}; its first line is to be {{"version":{since}}}']
+        came = f'{shown(word)} came with version {since}, and the script is of version {version}; its first line is to be {{"version":{since}}}'
+        return [came, *(other if not FORMS[word].keys() & value.keys() else [])]
+    if other:
+        return [f"{shown(word)} is no command or query; {other[0]}", *other[1:]]
     near = nearest(word, known)
     hint = f"; the nearest is {shown(near)}" if near else f"; the words are {listed(known)}"
     return [f"{shown(word)} is no command or query{hint}"]
@@ -179,7 +183,10 @@ def likeliest(value, known):
 def shape_faults(value, has_clients, version=LAST):
     """What keeps a value from having the form of a line, each fault in words; if keys are wrong, the right form last."""
     if not isinstance(value, dict):
-        return [f'{shown(value)} {values.kind_of(value)}; a line is an object that says what to do, as {{"do":"back"}}']
+        word = value if isinstance(value, str) else ""
+        right = line_shown(word if word in words_of(version) else "back", None, has_clients)
+        said = f"{shown(value)} {values.kind_of(value)}; a line is an object that says what to do, as {right}"
+        return [said, *habits.instead(word, version, has_clients)]
     wrong = word_faults(value, has_clients, version)
     if wrong:
         start = {"client": WHOLE} if has_clients else {}
@@ -189,5 +196,32 @@ def shape_faults(value, has_clients, version=LAST):
     faults = keys_faults(value, form)
     if faults:
         faults.append(f"right is {form_shown(form, value)}")
+        if not FORMS[value["do"]].keys() & value.keys():
+            faults += habits.instead(value["do"], version, has_clients)
     faults += value_faults(value, form)
     return faults + (when_faults(value["when"]) if "when" in form and "when" in value else [])
+
+
+def typed_faults(words, has_clients, version):
+    """What is wrong with a line of plain words, the first of which may be that of a command or query."""
+    word, known = words[0].lower(), words_of(version)
+    if word in known:
+        right = line_shown(word, typed_values(words[1:], FORMS[word]), has_clients)
+        return [f"the line is not JSON; right is {right}", *habits.instead(word, version, has_clients)]
+    wrong = word_faults({"do": word}, has_clients, version)
+    faults = [f"the line is not JSON, and {wrong[0]}", *wrong[1:]]
+    if word in FORMS or habits.instead(word, version, has_clients):
+        return faults
+    return [*faults, f'a line is an object that says what to do, as {line_shown(nearest(word, known) or "back", None, has_clients)}']
+
+
+def typed_values(words, form):
+    """The words after a command's word, each under the key of its form in that place."""
+    return {key: value_typed(word) for key, word in zip(form, words)}
+
+
+def value_typed(word):
+    try:
+        return values.value_of(word.encode())
+    except (ValueError, RecursionError):
+        return word

@@ -1,6 +1,6 @@
 """What is wrong with a graph that the program has refused, by the number of its answer: where in the line, and what is right."""
 from telling.forms import keys_faults, listed, nearest, value_faults
-from telling import values
+from telling import habits, values
 from telling.forms import SIGNED, SMALL
 from telling.values import shown
 
@@ -34,12 +34,31 @@ def deepest(version):
     return 4 if version == 1 else 6
 
 
+def graph_first(version):
+    """Where a script of a version has its graph."""
+    place = "the first line" if version == 1 else "the first line after the version line"
+    return f'{place} must be the graph, as {{"vertices":[{{"name":"a","op":"input","depth":0}}],"edges":[]}}'
+
+
+def form_faults(value, version):
+    """What keeps a value in the graph's place from having a graph's form; that the graph comes first, if it has nothing of one."""
+    if isinstance(value, dict) and (has_version(value) or GRAPH.keys() & value.keys()):
+        return shape_faults(value)
+    if isinstance(value, dict) and "do" not in value:
+        return [graph_first(version), *shape_faults(value)]
+    word = value["do"] if isinstance(value, dict) else value
+    said = "commands and queries come after it" if isinstance(value, dict) else f"{shown(value)} {values.kind_of(value)}"
+    return [graph_first(version), said, *(habits.instead(word, version, False) if isinstance(word, str) else [])]
+
+
+def has_version(value):
+    return any(key.lower() == "version" for key in value)
+
+
 def shape_faults(graph):
     """What keeps a value from having a graph's form: the faults of its keys, or those of its first wrong vertex or edge."""
-    if isinstance(graph, dict) and any(key.lower() == "version" for key in graph):
+    if has_version(graph):
         return ['a version line is {"version":2} or {"version":3} alone, as the first line, and the graph is the next']
-    if not isinstance(graph, dict):
-        return [f'{shown(graph)} {values.kind_of(graph)}; a graph is an object with the keys "vertices" and "edges"']
     faults = keys_faults(graph, GRAPH) + value_faults(graph, GRAPH)
     if faults:
         return faults
@@ -153,11 +172,13 @@ def too_large(graph, version):
     return faults
 
 
-FAULTS = {40: shape_faults, 41: double_names, 42: unknown_names, 43: bad_ports, 44: wrong_depths}
+FAULTS = {41: double_names, 42: unknown_names, 43: bad_ports, 44: wrong_depths}
 
 
 def graph_faults(value, reply, version=1):
     """What is wrong with a graph that was refused by this reply in a script of a version, each fault in words."""
+    if reply["code"] == 40:
+        return form_faults(value, version)
     if reply["code"] == 45:
         return too_large(value, version)
     if reply["code"] == 48:

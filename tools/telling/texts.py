@@ -5,6 +5,13 @@ import re
 LEVELS = 127
 TOKEN = re.compile(r'"(?:[^"\\]|\\.)*"|[][{}]|-?Infinity|NaN|-?\d[-+.\deE]*')
 HALF = re.compile(r"\\\\|\\u[dD][89abAB]..\\u[dD][c-fC-F]..|(\\u[dD][89a-fA-F]..)")
+WORDS = re.compile(r"\s*[A-Za-z?][\w-]*(?:\s+\S+)*\s*", re.ASCII)
+
+
+def words_of_line(line):
+    """The words of a line that begins with one, as 'run 10' does; none of another line."""
+    text = line.decode(errors="replace")
+    return text.split() if WORDS.fullmatch(text) else []
 
 
 def break_of(line):
