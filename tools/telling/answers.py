@@ -18,7 +18,7 @@ class Teller:
         self.keep(value, reply)
         if "error" in reply:
             return self.refused(value, reply, before)
-        return ANSWERS[value["do"]](self, value, reply)
+        return ANSWERS[value["do"]](self, value, reply) + self.warnings(value)
 
     def keep(self, value, reply):
         """Keeps what a reply tells of the timeline and the breakpoints."""
@@ -55,12 +55,21 @@ class Teller:
             return "how many are kept was not told"
         return f"kept are the positions 0 to {self.kept}" if self.kept else "no step is kept, so position 0 is the only one"
 
-    def no_processor(self, value, reply, before):
-        """Which of the processors of a line is none, and which there are."""
+    def absent_processors(self, value):
+        """Which of the processors that an object names is none, and which there are; an empty text if all are there."""
         asked = [value[key] for key in ("p", "q", "from", "to") if isinstance(value.get(key), int)]
         absent = sorted({it for it in asked if self.processors is not None and it >= self.processors})
         there = "is processor 0 alone" if self.processors == 1 else f"are the processors 0 to {(self.processors or 0) - 1}"
         return f"there is no processor {listed(map(str, absent), 'or')}; there {there}" if absent else ""
+
+    def no_processor(self, value, reply, before):
+        return self.absent_processors(value)
+
+    def warnings(self, value):
+        """That a breakpoint never holds, if it names a processor that is not there."""
+        absent = self.absent_processors(next(iter(value["when"].values()))) if "when" in value else ""
+        never = "this breakpoint never triggers" if value["do"] == "break" else "this holds at no position"
+        return [f"warning: {never}: {absent}"] if absent else []
 
     def not_input(self, value, reply, before):
         inputs = [name for name, it in self.graph.vertices.items() if it["op"] == "input"]

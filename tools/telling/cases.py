@@ -1,4 +1,4 @@
-"""What tools/test_tell tells: scripts, each with its words, its status, and what must be told of which line."""
+"""What tools/test_tell tells: scripts, each with its words, its status, what must be told of which line, and in some what must not."""
 import json
 
 
@@ -93,6 +93,20 @@ TOLD = {
         (5, "ran 3 steps, then stopped: breakpoint 0 holds: processor 0 has passed z (0)"),
         (7, "refused, 25 NoBreak: there is no breakpoint 1; set: 0"), (8, "nothing is enabled"),
         (9, "ran 0 steps, then stopped: that is the limit"),
+    ]),
+    "breakpoints that never trigger": (["--processors", "2"], [
+        LINE, do("break", when={"passed": {"at": "z", "q": 2, "time": [0]}}), do("break", when={"queue": {"at_least": 0, "from": 5, "to": 4}}),
+        do("break", when={"queue": {"at_least": 9, "from": 1, "to": 0}}), do("break", when={"count": {"at": "a", "at_least": 9, "time": [0]}}),
+        do("search", when={"queue": {"at_least": 0, "from": 0, "to": 7}}, lo=0, hi=0, workers=1), do("feed", p=0, vertex="a", values=[], next="close"),
+        do("feed", p=1, vertex="a", values=[], next="close"), do("run", limit=99),
+        do("search", when={"passed": {"at": "z", "q": 2, "time": [0]}}, lo=0, hi=0, workers=0),
+    ], 0, [
+        (2, "done: it is breakpoint 0 warning: this breakpoint never triggers: there is no processor 2; there are the processors 0 to 1"),
+        (3, "it is breakpoint 1 warning: this breakpoint never triggers: there is no processor 4 or 5; there are the processors 0 to 1"),
+        (6, "at none warning: this holds at no position: there is no processor 7"), (9, "nothing is enabled"), (10, "refused, 51 NoWorkers"),
+    ], [(4, "warning"), (5, "warning"), (9, "warning"), (10, "warning")]),
+    "a client's breakpoint": (["--clients", "2"], [*CLIENTS, json.dumps({"client": 1, "do": "break", "when": {"passed": {"at": "z", "q": 1, "time": [0]}}})], 0, [
+        (4, "warning: this breakpoint never triggers: there is no processor 1; there is processor 0 alone"),
     ]),
     # refusals
     "refusals": (["--processors", "3"], [
