@@ -24,7 +24,7 @@ def break_of(line):
         json.loads(text)
     except json.JSONDecodeError as fault:
         return fault.pos + 1, fault.msg[0].lower() + fault.msg[1:]
-    except RecursionError:
+    except (ValueError, RecursionError):
         pass
     return break_past_python(text)
 
