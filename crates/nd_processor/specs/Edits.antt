@@ -1,5 +1,5 @@
 -- Edits of a processor's maps, and that each is undone by its inverse.
-use Rattle.std.specs.Prelude.{◌≡◌, ◌≤◌, ◌<◌, ℕ, zero, suc, ◌-◌, ℤ, pos, negsuc, ◌+ℤ◌, neg_ℤ, Bool, true, false, cond, List, [], ◌∷◌, length, map, Option, Some, None, slice_index_or, slice_set, refl}
+use Rattle.std.specs.Prelude.{◌≡◌, ◌≢◌, ◌≤◌, ◌<◌, ℕ, zero, suc, ◌+◌, ◌-◌, ℤ, pos, negsuc, ◌+ℤ◌, neg_ℤ, Bool, true, false, cond, List, [], ◌∷◌, length, map, Option, Some, None, slice_index_or, slice_set, unsigned_abs, refl}
 use Rattle.std.proofs.Common.{Ordering, sym, ap, ◌∙◌, arith}
 use Rattle.std.proofs.lemmas.Int.{ints}
 use Rattle.std.proofs.lemmas.List.{set-get_or, get_or-set_same}
@@ -7,15 +7,19 @@ use Rattle.std.proofs.lemmas.Map.Views.{tells_apart}
 use Rattle.std.specs.Ordering.{eq_by_cmp}
 use Rattle.std.specs.Cmp.{IsTotalOrder}
 use Rattle.std.specs.FinMap as fin
+use Rattle.nd_time.specs.Limits.{max_count}
+use Rattle.nd_time.specs.Time.{Time}
 use Rattle.nd_paths.specs.declared.point.Pointstamp.{Pointstamp}
 use Rattle.nd_map.specs.Counts.{Counts, naturals, natural, none as no_items, at as count_at, added, added-back}
-use Rattle.nd_delta.specs.Change.{Change, at, set, at-set_same, set-set, set-at}
-use Rattle.nd_vertex.specs.Items.{Items, item_total, item_exact}
+use Rattle.nd_delta.specs.Change.{Change, at, set, plus, minus, at-set_same, set-set, set-at}
+use Rattle.nd_vertex.specs.Items.{Items, item_key, item_total, item_exact}
 use Rattle.nd_vertex.specs.Edits.{item_of, with_item, number_of}
 use Rattle.nd_vertex.specs.Table.{is_zero}
 use Rattle.nd_vertex.specs.declared.key.ItemKey.{ItemKey}
 use Rattle.nd_map.specs.Counts.{set-back}
 use Rattle.nd_processor.specs.State.{ProcessorState, token_point}
+use Rattle.nd_processor.specs.Keys.{value_at_total, sink_total}
+use Rattle.nd_processor.specs.declared.key.ValueAt.{ValueAt}
 use Rattle.nd_processor.specs.Held.{natural-less}
 
 -- ---- counts
@@ -99,3 +103,65 @@ pub unsent-back : (m : Change) (x : Pointstamp) (n : ℤ) → more_unsent (more_
 unsent-back m x n =
     let back : at (more_unsent m x n) x +ℤ neg_ℤ n ≡ at m x = ap (λ z. z +ℤ neg_ℤ n) (at-set_same m x (at m x +ℤ n)) ∙ (let e : at m x +ℤ n +ℤ neg_ℤ n ≡ at m x = omega (arith, ints) in e) in
     ap (set (more_unsent m x n) x) back ∙ set-set m x (at m x +ℤ n) (at m x) ∙ set-at m x
+
+-- ---- a processor with one edit
+
+-- so many fewer, as an integer that is added
+abbrev pub less : ℕ → ℤ
+less n = neg_ℤ (pos n)
+
+-- a count with so many more would pass the limit
+abbrev pub IsTooMany : ℕ → ℕ → Type 0
+IsTooMany count n = max_count < count + n
+
+-- an integer more of the records of a key, and of a value at a sink
+abbrev pub with_records : ProcessorState → ValueAt → ℤ → ProcessorState
+with_records q k n = record q { records = added value_at_total q.records k n }
+
+abbrev pub with_counted : ProcessorState → ℕ → ℤ → ℤ → ProcessorState
+with_counted q vertex value n = record q { sinks = added sink_total q.sinks (record { vertex = vertex; value = value }) n }
+
+-- how often a sink has counted a value
+abbrev pub counted_at : ProcessorState → ℕ → ℤ → ℕ
+counted_at q vertex value = count_at q.sinks (record { vertex = vertex; value = value })
+
+-- a request more, or one fewer
+abbrev pub with_request : ProcessorState → Pointstamp → ProcessorState
+with_request q x = record q { requests = fin.insert q.requests x tt }
+
+abbrev pub without_request : ProcessorState → Pointstamp → ProcessorState
+without_request q x = record q { requests = fin.remove q.requests x }
+
+-- a request that came, and was not there, is taken back; one that went, and was there, is given back
+abbrev pub ComesBack : ProcessorState → ProcessorState → Pointstamp → Type 0
+ComesBack old new x = fin.get old.requests x ≡ None → without_request new x ≡ old
+
+abbrev pub GoesBack : ProcessorState → ProcessorState → Pointstamp → Type 0
+GoesBack old new x = fin.get old.requests x ≡ Some tt → with_request new x ≡ old
+
+-- another epoch of a token, and another number of an item
+abbrev pub with_token : ProcessorState → ℕ → Option ℕ → ProcessorState
+with_token q vertex epoch = record q { tokens = with_value q.tokens vertex epoch }
+
+abbrev pub with_number : ProcessorState → ℕ → Time → ℤ → Option ℤ → ProcessorState
+with_number q vertex t item n = record q { items = with_vertex_item q.items vertex (item_key t item) n }
+
+-- an integer more of what is unsent at a pointstamp, and whether that would be past the limit
+abbrev pub with_more_unsent : ProcessorState → Pointstamp → ℤ → ProcessorState
+with_more_unsent q x n = record q { unsent = more_unsent q.unsent x n }
+
+abbrev pub with_fewer_unsent : ProcessorState → Pointstamp → ℤ → ProcessorState
+with_fewer_unsent q x n = with_more_unsent q x (neg_ℤ n)
+
+abbrev pub HasUnsent : ProcessorState → Pointstamp → Type 0
+HasUnsent q x = at q.unsent x ≢ pos 0
+
+abbrev pub IsUnsentTooLarge : ProcessorState → Pointstamp → ℤ → Type 0
+IsUnsentTooLarge q x n = max_count < unsigned_abs (at q.unsent x +ℤ n)
+
+-- what is unsent with a part more, or without it
+abbrev pub with_part : ProcessorState → Change → ProcessorState
+with_part q part = record q { unsent = plus q.unsent part }
+
+abbrev pub without_part : ProcessorState → Change → ProcessorState
+without_part q part = record q { unsent = minus q.unsent part }

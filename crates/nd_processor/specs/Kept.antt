@@ -1,8 +1,10 @@
 -- What a processor keeps, as lists of entries, and the state that it is seen as.
-use Rattle.std.specs.Prelude.{◌≢◌, ◌≤◌, ℕ, cond, FitsSigned, List, nat_eq}
+use Rattle.std.specs.Prelude.{◌≢◌, ◌≤◌, ℕ, ◌+◌, ◌-◌, cond, FitsSigned, List, nat_eq}
 use mir.Syntax.{w64}
 use Rattle.std.specs.declared.cmp.Ordering.{Ordering}
 use Rattle.std.specs.FinMap.{find, put, from_entries}
+use Rattle.std.specs.BTreeMap.Range.{entries_between}
+use Rattle.std.specs.declared.ops.Bound.TheVariants.{Included}
 use Rattle.nd_time.specs.Limits.{max_count}
 use Rattle.nd_map.specs.Listed.{without}
 use Rattle.nd_map.specs.Kept as stored
@@ -35,6 +37,17 @@ number R es k = or_else 0 (find R k es)
 -- the entries with another count of a key; of 0 there is no entry
 abbrev pub put_count : {K : Type 0} → (K → K → Ordering) → K → ℕ → List (K × ℕ) → List (K × ℕ)
 put_count R k n es = cond (nat_eq n 0) (without R k es) (put R k n es)
+
+-- so many more of a key, and so many fewer
+abbrev pub put_more : {K : Type 0} → (K → K → Ordering) → K → ℕ → List (K × ℕ) → List (K × ℕ)
+put_more R k n es = put_count R k (number R es k + n) es
+
+abbrev pub put_fewer : {K : Type 0} → (K → K → Ordering) → K → ℕ → List (K × ℕ) → List (K × ℕ)
+put_fewer R k n es = put_count R k (number R es k - n) es
+
+-- the entries from one key to another, both included
+abbrev pub from_to : {K : Type 0} → (K → K → Ordering) → K → K → List (K × ℕ) → List (K × ℕ)
+from_to R first last es = entries_between R (Included first) (Included last) es
 
 -- the state of a processor that keeps these
 abbrev pub seen : List (ValueAt × ℕ) → List (Pointstamp × Unit {0}) → List (ℕ × ℕ) → List Items → List (SinkKey × ℕ) → Change → ProcessorState

@@ -4,15 +4,17 @@ ghost use Rattle.std.specs.Option.{option_map};
 ghost use Rattle.std.specs.FinMap as fin;
 ghost use Rattle.std.specs.Map.Iter.{ShowsInOrder, deref_pair};
 ghost use Rattle.nd_time.specs.Limits.{max_count};
-ghost use Rattle.nd_map.specs.Counts.{at, added, entries as counts_of};
+ghost use Rattle.nd_map.specs.Counts.{at, entries as counts_of};
 ghost use Rattle.nd_paths.specs.declared.point.Pointstamp.{Pointstamp as Point};
-ghost use Rattle.nd_delta.specs.Change.{IsWithin, plus, minus, at as unsent_at, IsPartOf, IsApart};
+ghost use Rattle.nd_delta.specs.Change.{IsWithin, IsPartOf, IsApart};
 ghost use Rattle.nd_vertex.specs.Items.{item_key};
 ghost use Rattle.nd_vertex.specs.Edits.{item_of};
-ghost use Rattle.nd_processor.specs.Keys.{value_at_total, sink_total};
 ghost use Rattle.nd_processor.specs.State.{in_records, items_at};
 ghost use Rattle.nd_processor.specs.Start.{start_processor};
-ghost use Rattle.nd_processor.specs.Edits.{with_value, with_vertex_item, more_unsent, token_points as points_of_tokens};
+ghost use Rattle.nd_processor.specs.Edits.{less, IsTooMany, counted_at, with_records, with_counted, with_request, without_request, ComesBack, GoesBack};
+ghost use Rattle.nd_processor.specs.Edits.{with_token, with_number, with_more_unsent, with_fewer_unsent, HasUnsent, IsUnsentTooLarge, with_part, without_part};
+ghost use Rattle.nd_processor.specs.Edits.{token_points as points_of_tokens};
+ghost use Rattle.nd_processor.specs.declared.tally.CountFault.TheVariants.{CountFull, Memory as CountMemory};
 ghost use Rattle.nd_processor.specs.declared.key.ValueAt.{ValueAt as Value};
 ghost use Rattle.nd_processor.specs.declared.key.SinkKey.{SinkKey as Counted};
 
@@ -207,7 +209,7 @@ impl<A: Allocator + Copy> Processor<A> {
 
     /// How often a sink vertex has counted a value.
     pub fn sink_count(&self, vertex: usize, value: i64) -> u64
-        ensures value { result ≡ at self.now.sinks (record { vertex = vertex; value = value }) }
+        ensures value { result ≡ counted_at self.now vertex value }
         ensures within { result ≤ max_count }
     {
         self.sinks.count_of(&SinkKey { vertex, value })
@@ -234,11 +236,11 @@ impl<A: Allocator + Copy> Processor<A> {
 
     /// So many records more of a key.
     pub fn add_records(&mut self, key: &ValueAt, n: u64) -> Result<(), CountFault>
-        ensures ok { OnOk result (self.new ≡ record self.old { records = added value_at_total self.old.records key.now (pos n) }) }
-        ensures undone { OnOk result (record self.new { records = added value_at_total self.new.records key.now (neg_ℤ (pos n)) } ≡ self.old) }
+        ensures ok { OnOk result (self.new ≡ with_records self.old key.now (pos n)) }
+        ensures undone { OnOk result (with_records self.new key.now (less n) ≡ self.old) }
         ensures err { OnErr result (self.new ≡ self.old) }
-        ensures full { (result ≡ Err (CountFault.CountFull)) ↔ (max_count < at self.old.records key.now + n) }
-        ensures memory { result ≡ Err (CountFault.Memory) → at self.old.records key.now ≡ 0 }
+        ensures full { (result ≡ Err CountFull) ↔ IsTooMany (at self.old.records key.now) n }
+        ensures memory { result ≡ Err CountMemory → at self.old.records key.now ≡ 0 }
     {
         // (its type keeps a value that is read in its range)
         let _value = key.value;
@@ -248,16 +250,16 @@ impl<A: Allocator + Copy> Processor<A> {
     /// So many records less of a key. It takes no memory.
     pub fn take_records(&mut self, key: &ValueAt, n: u64)
         requires { n ≤ at self.old.records key.now }
-        ensures taken { self.new ≡ record self.old { records = added value_at_total self.old.records key.now (neg_ℤ (pos n)) } }
-        ensures undone { record self.new { records = added value_at_total self.new.records key.now (pos n) } ≡ self.old }
+        ensures taken { self.new ≡ with_records self.old key.now (less n) }
+        ensures undone { with_records self.new key.now (pos n) ≡ self.old }
     {
         self.records.take(key, n);
     }
 
     /// A notice is asked for.
     pub fn add_request(&mut self, point: &Pointstamp) -> Result<(), AllocError>
-        ensures ok { OnOk result (self.new ≡ record self.old { requests = fin.insert self.old.requests point.now tt }) }
-        ensures undone { OnOk result (fin.get self.old.requests point.now ≡ None → record self.new { requests = fin.remove self.new.requests point.now } ≡ self.old) }
+        ensures ok { OnOk result (self.new ≡ with_request self.old point.now) }
+        ensures undone { OnOk result (ComesBack self.old self.new point.now) }
         ensures err { OnErr result (self.new ≡ self.old) }
         ensures absent { OnErr result (fin.get self.old.requests point.now ≡ None) }
     {
@@ -269,8 +271,8 @@ impl<A: Allocator + Copy> Processor<A> {
 
     /// A notice is asked for no longer. It takes no memory.
     pub fn drop_request(&mut self, point: &Pointstamp)
-        ensures dropped { self.new ≡ record self.old { requests = fin.remove self.old.requests point.now } }
-        ensures undone { fin.get self.old.requests point.now ≡ Some tt → record self.new { requests = fin.insert self.new.requests point.now tt } ≡ self.old }
+        ensures dropped { self.new ≡ without_request self.old point.now }
+        ensures undone { GoesBack self.old self.new point.now }
     {
         self.requests.remove(point);
     }
@@ -283,8 +285,8 @@ impl<A: Allocator + Copy> Processor<A> {
         new: Option<u32>,
     ) -> Result<(), AllocError>
         requires { fin.get self.old.tokens vertex ≡ old }
-        ensures ok { OnOk result (self.new ≡ record self.old { tokens = with_value self.old.tokens vertex new }) }
-        ensures undone { OnOk result (record self.new { tokens = with_value self.new.tokens vertex old } ≡ self.old) }
+        ensures ok { OnOk result (self.new ≡ with_token self.old vertex new) }
+        ensures undone { OnOk result (with_token self.new vertex old ≡ self.old) }
         ensures err { OnErr result (self.new ≡ self.old) }
         ensures absent { OnErr result (old ≡ None) }
         ensures growing { OnErr result (new ≢ None) }
@@ -312,8 +314,8 @@ impl<A: Allocator + Copy> Processor<A> {
         requires in_range { vertex < length self.old.items }
         requires there { item_of (items_at self.old vertex) (item_key time.now item) ≡ old }
         requires some { new ≢ Some (pos 0) }
-        ensures ok { OnOk result (self.new ≡ record self.old { items = with_vertex_item self.old.items vertex (item_key time.now item) new }) }
-        ensures undone { OnOk result (record self.new { items = with_vertex_item self.new.items vertex (item_key time.now item) old } ≡ self.old) }
+        ensures ok { OnOk result (self.new ≡ with_number self.old vertex time.now item new) }
+        ensures undone { OnOk result (with_number self.new vertex time.now item old ≡ self.old) }
         ensures err { OnErr result (self.new ≡ self.old) }
         ensures absent { OnErr result (old ≡ None) }
         ensures growing { OnErr result (new ≢ None) }
@@ -324,31 +326,31 @@ impl<A: Allocator + Copy> Processor<A> {
 
     /// A sink vertex counts a value so many times more.
     pub fn add_sink(&mut self, vertex: usize, value: i64, n: u64) -> Result<(), CountFault>
-        ensures ok { OnOk result (self.new ≡ record self.old { sinks = added sink_total self.old.sinks (record { vertex = vertex; value = value }) (pos n) }) }
-        ensures undone { OnOk result (record self.new { sinks = added sink_total self.new.sinks (record { vertex = vertex; value = value }) (neg_ℤ (pos n)) } ≡ self.old) }
+        ensures ok { OnOk result (self.new ≡ with_counted self.old vertex value (pos n)) }
+        ensures undone { OnOk result (with_counted self.new vertex value (less n) ≡ self.old) }
         ensures err { OnErr result (self.new ≡ self.old) }
-        ensures full { (result ≡ Err (CountFault.CountFull)) ↔ (max_count < at self.old.sinks (record { vertex = vertex; value = value }) + n) }
-        ensures memory { result ≡ Err (CountFault.Memory) → at self.old.sinks (record { vertex = vertex; value = value }) ≡ 0 }
+        ensures full { (result ≡ Err CountFull) ↔ IsTooMany (counted_at self.old vertex value) n }
+        ensures memory { result ≡ Err CountMemory → counted_at self.old vertex value ≡ 0 }
     {
         self.sinks.add(&SinkKey { vertex, value }, n)
     }
 
     /// A sink vertex counts a value so many times less. It takes no memory.
     pub fn take_sink(&mut self, vertex: usize, value: i64, n: u64)
-        requires { n ≤ at self.old.sinks (record { vertex = vertex; value = value }) }
-        ensures taken { self.new ≡ record self.old { sinks = added sink_total self.old.sinks (record { vertex = vertex; value = value }) (neg_ℤ (pos n)) } }
-        ensures undone { record self.new { sinks = added sink_total self.new.sinks (record { vertex = vertex; value = value }) (pos n) } ≡ self.old }
+        requires { n ≤ counted_at self.old vertex value }
+        ensures taken { self.new ≡ with_counted self.old vertex value (less n) }
+        ensures undone { with_counted self.new vertex value (pos n) ≡ self.old }
     {
         self.sinks.take(&SinkKey { vertex, value }, n);
     }
 
     /// An integer more at a pointstamp of what is unsent. A pointstamp that has one takes no memory.
     pub fn add_unsent(&mut self, point: &Pointstamp, n: i64) -> Result<(), DeltaFault>
-        ensures ok { OnOk result (self.new ≡ record self.old { unsent = more_unsent self.old.unsent point.now n }) }
-        ensures undone { OnOk result (record self.new { unsent = more_unsent self.new.unsent point.now (neg_ℤ n) } ≡ self.old) }
+        ensures ok { OnOk result (self.new ≡ with_more_unsent self.old point.now n) }
+        ensures undone { OnOk result (with_fewer_unsent self.new point.now n ≡ self.old) }
         ensures err { OnErr result (self.new ≡ self.old) }
-        ensures full { (result ≡ Err (DeltaFault.DeltaFull)) ↔ (max_count < unsigned_abs (unsent_at self.old.unsent point.now +ℤ n)) }
-        ensures no_growth { unsent_at self.old.unsent point.now ≢ pos 0 → result ≢ Err (DeltaFault.Memory) }
+        ensures full { (result ≡ Err (DeltaFault.DeltaFull)) ↔ IsUnsentTooLarge self.old point.now n }
+        ensures no_growth { HasUnsent self.old point.now → result ≢ Err (DeltaFault.Memory) }
     {
         self.unsent.add(point, n)?;
         Ok(())
@@ -357,8 +359,8 @@ impl<A: Allocator + Copy> Processor<A> {
     /// These entries go out of what is unsent. It takes no memory.
     pub fn take_part(&mut self, part: &Delta<A>)
         requires { IsPartOf part.now self.old.unsent }
-        ensures taken { self.new ≡ record self.old { unsent = minus self.old.unsent part.now } }
-        ensures undone { record self.new { unsent = plus self.new.unsent part.now } ≡ self.old }
+        ensures taken { self.new ≡ without_part self.old part.now }
+        ensures undone { with_part self.new part.now ≡ self.old }
     {
         self.unsent.take_part(part);
     }
@@ -366,8 +368,8 @@ impl<A: Allocator + Copy> Processor<A> {
     /// These entries come into what is unsent, which has none at their pointstamps.
     pub fn put_part(&mut self, part: &Delta<A>) -> Result<(), AllocError>
         requires { IsApart part.now self.old.unsent }
-        ensures ok { OnOk result (self.new ≡ record self.old { unsent = plus self.old.unsent part.now }) }
-        ensures undone { OnOk result (record self.new { unsent = minus self.new.unsent part.now } ≡ self.old) }
+        ensures ok { OnOk result (self.new ≡ with_part self.old part.now) }
+        ensures undone { OnOk result (without_part self.new part.now ≡ self.old) }
         ensures err { OnErr result (self.new ≡ self.old) }
     {
         self.unsent.put_part(part)?;

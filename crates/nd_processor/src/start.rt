@@ -25,7 +25,7 @@ pub(crate) fn first_tokens<A: Allocator>(
     alloc: A,
     graph: &Graph<A>,
 ) -> Result<SortedMap<usize, u32, A>, AllocError>
-    ensures { IfOk result (λ m. from_entries {R = nat_cmp} m ≡ tokens_from 0 graph.now.vertices) }
+    ensures { IfOk result (λ m. from_entries m ≡ tokens_from 0 graph.now.vertices) }
 {
     let vertices = graph.vertices();
     let mut tokens = SortedMap::new(alloc);

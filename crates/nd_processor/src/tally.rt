@@ -3,11 +3,12 @@ ghost use Rattle.std.specs.Prelude.{ℕ, ◌≡◌, ◌≢◌, ◌↔◌, ◌≤
 ghost use Rattle.std.specs.Option.{option_map};
 ghost use Rattle.std.specs.FinMap.{find};
 ghost use Rattle.std.specs.Map.Iter.{ShowsInOrder, deref_pair};
-ghost use Rattle.std.specs.BTreeMap.Range.{IsLeBy, entries_between};
-ghost use Rattle.std.specs.declared.ops.Bound.TheVariants.{Included};
+ghost use Rattle.std.specs.BTreeMap.Range.{IsLeBy};
 ghost use Rattle.nd_time.specs.Limits.{max_count};
 ghost use Rattle.nd_map.specs.declared.tree.Edit.TheVariants.{Keep, Put, Remove};
-ghost use Rattle.nd_processor.specs.Kept.{IsKept, number, put_count};
+ghost use Rattle.nd_processor.specs.Kept.{IsKept, number, put_more, put_fewer, from_to};
+ghost use Rattle.nd_processor.specs.Edits.{IsTooMany};
+ghost use Rattle.nd_processor.specs.declared.tally.CountFault.TheVariants.{CountFull, Memory};
 
 use nd_map::{Between, Edit, GrowingMap, Iter, Key};
 use std::alloc::{AllocError, Allocator, Global};
@@ -98,7 +99,7 @@ impl<K: Key, A: Allocator> Tally<K, A> {
     // The keys from one to another, both included, with their counts, in order.
     pub(crate) fn between(&self, first: &K, last: &K) -> Between<'_, K, u64>
         requires { IsLeBy K.cmp first.now last.now }
-        ensures rest { result ≡ entries_between K.cmp (Included first.now) (Included last.now) self.now }
+        ensures rest { result ≡ from_to K.cmp first.now last.now self.now }
         ensures runs { ShowsInOrder (deref_pair {K = K} {X = ℕ}) }
         ensures fits { length result < 2 ^ 63 }
         ensures kept { IsKept K.cmp self.now }
@@ -127,10 +128,10 @@ impl<K: Key, A: Allocator + Copy> Tally<K, A> {
 
     // So many more of a key. A key that is there takes no memory.
     pub(crate) fn add(&mut self, key: &K, n: u64) -> Result<(), CountFault>
-        ensures ok { OnOk result (self.new ≡ put_count K.cmp key.now (number K.cmp self.old key.now + n) self.old) }
+        ensures ok { OnOk result (self.new ≡ put_more K.cmp key.now n self.old) }
         ensures err { OnErr result (self.new ≡ self.old) }
-        ensures full { (result ≡ Err (CountFault.CountFull)) ↔ (max_count < number K.cmp self.old key.now + n) }
-        ensures memory { result ≡ Err (CountFault.Memory) → find K.cmp key.now self.old ≡ None }
+        ensures full { (result ≡ Err CountFull) ↔ IsTooMany (number K.cmp self.old key.now) n }
+        ensures memory { result ≡ Err Memory → find K.cmp key.now self.old ≡ None }
     {
         let _ = &self.map;
         if n == 0 {
@@ -149,7 +150,7 @@ impl<K: Key, A: Allocator + Copy> Tally<K, A> {
     // So many less of a key. It takes no memory.
     pub(crate) fn take(&mut self, key: &K, n: u64)
         requires { n ≤ number K.cmp self.old key.now }
-        ensures { self.new ≡ put_count K.cmp key.now (number K.cmp self.old key.now - n) self.old }
+        ensures { self.new ≡ put_fewer K.cmp key.now n self.old }
     {
         let _ = &self.map;
         if n == 0 {
