@@ -17,7 +17,7 @@ pub struct Json {
 impl Model for Json {
     ghost use Rattle.std.specs.Prelude.{◌≡◌, false};
     ghost use Rattle.serde_json.specs.Data.{Data};
-    ghost use Rattle.nd_reply.specs.Codes.{data_code};
+    ghost use Rattle.nd_json.specs.Codes.{data_code};
 
     ghost Value = { Data };
 

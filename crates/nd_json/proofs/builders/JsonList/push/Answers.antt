@@ -2,8 +2,8 @@ use Rattle.std.proofs.Common.{◌∷◌, [], ◌∙◌, ap, map}
 use Rattle.std.proofs.lemmas.List.{map-append}
 use Rattle.serde_json.specs.View.{view, items_of}
 use Rattle.serde_json.specs.Written.{has_float, items_have_float}
-use Rattle.nd_reply.proofs.NoFloat.{no_float-more}
-use Rattle.nd_reply.proofs.list.JsonList.push.Goals as goal
+use Rattle.nd_json.proofs.NoFloat.{no_float-more}
+use Rattle.nd_json.proofs.builders.JsonList.push.Goals as goal
 
 pub invariant_of-self-2 : goal.invariant_of-self-2
 invariant_of-self-2 c =

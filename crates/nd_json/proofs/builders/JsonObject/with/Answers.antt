@@ -1,8 +1,8 @@
 use Rattle.std.proofs.Common.{◌∙◌, ap}
 use Rattle.serde_json.specs.View.{view, members_view}
 use Rattle.serde_json.specs.Written.{has_float, members_have_float}
-use Rattle.nd_reply.proofs.NoFloat.{no_float-put}
-use Rattle.nd_reply.proofs.object.JsonObject.with.Goals as goal
+use Rattle.nd_json.proofs.NoFloat.{no_float-put}
+use Rattle.nd_json.proofs.builders.JsonObject.with.Goals as goal
 
 pub invariant_of-result : goal.invariant_of-result
 invariant_of-result c =
