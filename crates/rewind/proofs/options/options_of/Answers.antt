@@ -10,9 +10,9 @@ use Rattle.clap.specs.declared.error.kind.ErrorKind.TheVariants as kind
 use Rattle.clap.specs.declared.error.kind.ErrorKind.{ErrorKind}
 use Rattle.clap.proofs.OnLiterals.{clap_on_literals}
 use Rattle.clap.proofs.WalkLemmas.{one_text-rows}
-use Rattle.rewind_options.specs.Options.{command_line, number_or_one, AreRefused}
-use Rattle.rewind_options.proofs.OptionReads.{two_options}
-use Rattle.rewind_options.proofs.options.options_of.Goals as goal
+use Rattle.rewind.specs.Options.{command_line, number_or_one, AreRefused}
+use Rattle.rewind.proofs.OptionReads.{two_options}
+use Rattle.rewind.proofs.options.options_of.Goals as goal
 
 line_is_simple : is_simple command_line ≡ true
 unfolding clap_on_literals

@@ -26,7 +26,7 @@ use Rattle.std.proofs.Common.{zero, suc, ap₂, true≢false}
 use Rattle.clap.specs.Built.{FitsChain}
 use Rattle.clap.specs.declared.builder.value_parser.ValueParser.TheVariants as vp
 use Rattle.clap.proofs.CallerReads.{signed_reads}
-use Rattle.rewind_options.specs.Options.{number_or_one}
+use Rattle.rewind.specs.Options.{number_or_one}
 
 head_passes : (P : Bor (List ℕ) → Type 0) (how : Reading) (vs : List (Bor (List ℕ))) → All P vs
     → is_some (option_map (λ s. s.now) (slice_get vs 0)) ≡ true

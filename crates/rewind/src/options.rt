@@ -9,7 +9,7 @@ ghost use Rattle.clap.specs.Built.{FitsChain};
 ghost use Rattle.clap.specs.declared.builder.value_parser.ValueParser.TheVariants as vp;
 ghost use Rattle.clap.specs.declared.builder.command.Command.TheViews.{out-Command};
 ghost use Rattle.nd_time.specs.Limits.{max_clients, max_processors};
-ghost use Rattle.rewind_options.specs.Options.{given, number_or_one, number_rule, refusals, AreRefused, AskHelp, IsHelp, IsRefused};
+ghost use Rattle.rewind.specs.Options.{given, number_or_one, number_rule, refusals, AreRefused, AskHelp, IsHelp, IsRefused};
 
 use clap::error::ErrorKind;
 use clap::{Arg, ArgAction, Command, value_parser};

@@ -7,8 +7,8 @@ use Rattle.clap.specs.Faults.{fault_of}
 use Rattle.clap.specs.declared.builder.action.ArgAction.TheVariants.{Set}
 use Rattle.clap.specs.declared.builder.value_parser.ValueParser.TheVariants as vp
 use Rattle.nd_time.specs.Limits.{max_clients, max_processors}
-use Rattle.rewind_options.specs.declared.options.WordsFault.{WordsFault}
-use Rattle.rewind_options.specs.declared.options.WordsFault.TheVariants.{Help, Refused, Memory}
+use Rattle.rewind.specs.declared.options.WordsFault.{WordsFault}
+use Rattle.rewind.specs.declared.options.WordsFault.TheVariants.{Help, Refused, Memory}
 use Rattle.clap.specs.declared.error.kind.ErrorKind.{ErrorKind}
 use Rattle.clap.specs.declared.error.kind.ErrorKind.TheVariants as kind
 
