@@ -1,5 +1,4 @@
-//! A sign that one thread waits for and another gives, for tests.
-#![tactic(auto)]
+//! A sign that one thread waits for and another gives.
 
 use std::rt::Clock;
 use std::sync::atomic::{AtomicBool, Ordering};
