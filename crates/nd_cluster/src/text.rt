@@ -4,7 +4,7 @@ ghost use Rattle.nd_shown.specs.StateText.{state_data};
 
 use crate::Cluster;
 use nd_protocol::NoMemory;
-use nd_reply::Json;
+use nd_json::Json;
 use nd_shown::state_value;
 use std::alloc::{AllocError, Allocator, Global};
 

@@ -15,7 +15,7 @@ use nd_map::{Iter, Key};
 use nd_mesh::Mesh;
 use nd_paths::Pointstamp;
 use nd_processor::{Processor, SinkKey, ValueAt};
-use nd_reply::{Json, JsonList, list_of, reply};
+use nd_json::{Json, JsonList, list_of, reply};
 use nd_time::Timestamp;
 use nd_vertex::ItemKey;
 use nd_view::View;

@@ -15,9 +15,9 @@ use nd_graph::{Graph, Op};
 use nd_mesh::Mesh;
 use nd_paths::Paths;
 use nd_processor::{Processor, ValueAt};
+use nd_testing::{Refusing, unasked};
 use nd_vertex::VertexState;
 use nd_view::View;
-use refusing::{Refusing, unasked};
 use std::alloc::{Allocator, Global};
 
 /// Adds 1 at so many points of *loop*, none of them before another.

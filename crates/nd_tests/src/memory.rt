@@ -6,8 +6,8 @@ use crate::told::{Told, is_state, state_text};
 use nd_cluster::Next;
 use nd_search::Snapshot;
 use nd_session::{Client, Receipt, Session, SessionFault, State};
+use nd_testing::{MANY, Refusing, in_turn, met};
 use nd_timeline::{Fault, Reply, Stop};
-use refusing::{MANY, Refusing, in_turn, met};
 use std::alloc::{AllocError, Allocator, Global};
 use std::sync::Wait;
 

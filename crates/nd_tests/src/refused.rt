@@ -12,9 +12,9 @@ use nd_graph::{Graph, GraphDraft, GraphFault, Op};
 use nd_mesh::{Mesh, PushFault};
 use nd_paths::{PathFault, Paths};
 use nd_processor::{CountFault, Processor, ValueAt};
+use nd_testing::{Refusing, in_turn, met};
 use nd_time::NoMemory;
 use nd_vertex::{Effect, VertexFault, VertexState};
-use refusing::{Refusing, in_turn, met};
 use serde_json::Value;
 use std::alloc::{AllocError, Allocator, Global};
 

@@ -12,7 +12,7 @@ use nd_mesh::Mesh;
 use nd_processor::Processor;
 use nd_search::{Gate, search};
 use nd_session::{Client, CloseWhy, Log, Receipt, Session, SessionFault};
-use nd_sign::Sign;
+use nd_testing::Sign;
 use nd_timeline::{Command, Fault, Reply};
 use nd_vertex::VertexState;
 use nd_view::View;

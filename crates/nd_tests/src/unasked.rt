@@ -14,10 +14,10 @@ use nd_graph::Graph;
 use nd_mesh::Mesh;
 use nd_paths::Paths;
 use nd_processor::{Processor, ValueAt};
+use nd_testing::{Refusing, unasked};
 use nd_time::Timestamp;
 use nd_vertex::VertexState;
 use nd_view::View;
-use refusing::{Refusing, unasked};
 use std::alloc::{Allocator, Global};
 
 /// Whether a change of -1 at a and 2 at z tells them, and takes what is added at a.

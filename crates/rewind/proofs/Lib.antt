@@ -1,4 +1,5 @@
 pub mod AnsweredLaws
 pub mod DriverLaws
+pub mod OptionReads
 pub mod RunLaws
 pub mod StandLaws

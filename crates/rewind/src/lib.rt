@@ -3,11 +3,12 @@
 #![tactic(auto)]
 
 mod driver;
+mod options;
 mod run;
 
 pub use driver::{INPUT_LIMIT, debug, debug_within};
 pub use nd_search::{Gate, OpenGate};
+pub use options::{WordsFault, options_of};
 pub use rewind_clients::{debug_clients, debug_clients_within};
 pub use rewind_forms::{LineFault, read_step, step_value};
 pub use rewind_lines::{DebugFault, Options};
-pub use rewind_options::{WordsFault, options_of};

@@ -10,7 +10,7 @@ ghost use Rattle.nd_timeline.specs.Timeline.{cluster_of};
 use crate::query::answer_query;
 use nd_cluster::{Cluster, StartFault};
 use nd_graph::{Graph, GraphDraft, GraphFault};
-use nd_reply::Json;
+use nd_json::Json;
 use nd_session::State;
 use nd_timeline::{Command, Timeline};
 use rewind_forms::{Asked, Version, asked_of, replies};

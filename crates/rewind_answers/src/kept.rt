@@ -6,7 +6,7 @@ ghost use Rattle.nd_timeline.specs.Faults.{code_of};
 ghost use Rattle.nd_timeline.specs.declared.fault.Fault.TheVariants.{NoSuchPoint};
 
 use nd_graph::Graph;
-use nd_reply::{Json, JsonList};
+use nd_json::{Json, JsonList};
 use nd_timeline::{Fault, Timeline};
 use rewind_forms::{replies, step_value};
 use std::alloc::{AllocError, Global};

@@ -10,7 +10,7 @@ ghost use Rattle.rewind_forms.specs.Versions.{version_of as version_in};
 ghost use Rattle.rewind_answers.specs.Stages.{phase_of, phase_after, replies_of};
 
 use crate::answer::{answer_first, answer_later};
-use nd_reply::Json;
+use nd_json::Json;
 use nd_session::State;
 use rewind_forms::{LineFault, Version, replies, version_of};
 use rewind_lines::Reading;

@@ -5,7 +5,7 @@ ghost use Rattle.rewind_answers.specs.Explained.{WhyReply, ChangesReply, changes
 use nd_changes::{ChangesFault, changes};
 use nd_cluster::Cluster;
 use nd_paths::Pointstamp;
-use nd_reply::Json;
+use nd_json::Json;
 use nd_timeline::Timeline;
 use rewind_forms::{changes_value, reasons_value, replies};
 use std::alloc::{AllocError, Global};

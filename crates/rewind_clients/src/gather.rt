@@ -5,7 +5,7 @@ ghost use Rattle.rewind_lines.specs.Faults.{is_write_fault};
 ghost use Rattle.rewind_clients.specs.Gathered.{Gathered, GatherFails, IsOfWriting};
 ghost use Rattle.rewind_clients.specs.Written.{WroteFront};
 
-use nd_reply::Json;
+use nd_json::Json;
 use rewind_lines::{DebugFault, Outbox, Sink, Unwritten};
 
 /// Writes the replies that wait.

@@ -12,7 +12,7 @@ ghost use Rattle.rewind_clients.specs.Intake.{refused_graph, ReadsLine, no_comma
 ghost use Rattle.rewind_clients.specs.Intakes.{intake_view, lists_of, opening_replies, or_faulty, unstarted_view, version_of as version_in, Starts};
 
 use crate::order::{Order, order_fault, order_in};
-use nd_reply::Json;
+use nd_json::Json;
 use nd_session::State;
 use nd_timeline::Command;
 use rewind_answers::answer_first;

@@ -10,7 +10,7 @@ ghost use Rattle.rewind_clients.specs.Told.{client_fault, entry_data, faults_dat
 
 use crate::gather::{flush, put};
 use nd_graph::Graph;
-use nd_reply::{Json, reply};
+use nd_json::{Json, reply};
 use nd_session::{Receipt, SessionFault};
 use rewind_forms::{Version, replies};
 use rewind_lines::{DebugFault, Outbox, Sink};

@@ -2,7 +2,7 @@
 use Rattle.std.proofs.Common.{◌≡◌, ◌∙◌, ℕ, ◌+◌, ◌<◌, ◌≤◌, List, [], ◌∷◌, ◌++◌, length, take, get_or, map, ap}
 use Rattle.std.proofs.lemmas.List.{take_all, get_or_default}
 use Rattle.serde_json.specs.Data.{Data}
-use Rattle.nd_reply.specs.Shows.{shows-more}
+use Rattle.nd_json.specs.Shows.{shows-more}
 
 module _ {T : Type 0} (f : T → Data) (xs : List T) where
   -- one more, of a thing that was read at its index

@@ -4,7 +4,7 @@ ghost use Rattle.nd_shown.specs.StateText.{row};
 ghost use Rattle.rewind_forms.specs.Reasons.{held_data};
 
 use nd_graph::Graph;
-use nd_reply::{Json, JsonList, reply};
+use nd_json::{Json, JsonList, reply};
 use nd_shown::name_value;
 use nd_why::Held;
 use std::alloc::{AllocError, Allocator, Global};

@@ -6,7 +6,7 @@ ghost use Rattle.rewind_forms.specs.Objects.{next_word as word_of, feed_object, 
 use nd_graph::Graph;
 use nd_paths::Pointstamp;
 use nd_protocol::{Next, Part, Step};
-use nd_reply::{Json, JsonList, list_of, reply};
+use nd_json::{Json, JsonList, list_of, reply};
 use nd_shown::{name_value, point_value, time_value};
 use nd_time::Timestamp;
 use std::alloc::{AllocError, Global};

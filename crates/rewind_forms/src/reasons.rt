@@ -5,7 +5,7 @@ ghost use Rattle.rewind_forms.specs.Reasons.{reason_members, reason_data, reason
 use crate::held::held_value;
 use crate::unheard::unheard_value;
 use nd_graph::Graph;
-use nd_reply::{Json, JsonList, reply};
+use nd_json::{Json, JsonList, reply};
 use nd_shown::point_value;
 use nd_why::{Reason, Reasons};
 use std::alloc::{AllocError, Allocator, Global};

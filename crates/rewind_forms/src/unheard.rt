@@ -3,7 +3,7 @@ ghost use Rattle.std.specs.Prelude.{◌≡◌, map, IfOk};
 ghost use Rattle.nd_shown.specs.StateText.{row};
 ghost use Rattle.rewind_forms.specs.Reasons.{unheard_data};
 
-use nd_reply::{Json, JsonList, reply};
+use nd_json::{Json, JsonList, reply};
 use nd_why::Unheard;
 use std::alloc::{AllocError, Global};
 

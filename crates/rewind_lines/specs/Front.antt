@@ -1,5 +1,5 @@
 -- What is held of a script while it is read.
-use Rattle.std.specs.Prelude.{ℕ, Bool, List, length, take, nat_lt}
+use Rattle.std.specs.Prelude.{◌≡◌, ◌++◌, ℕ, Bool, List, length, take, nat_lt}
 use Rattle.std.specs.List.{list_all}
 use Rattle.nd_time.specs.Limits.{max_line}
 use Rattle.rewind_lines.specs.Lines.{is_blank_byte, last_line_of, lines_of}
@@ -26,3 +26,7 @@ pub record Held : Type 0 where
 -- what is held once these bytes were read
 abbrev pub held_of : List ℕ → Held
 held_of done = record { line = front_of (last_line_of done); number = length (lines_of done) }
+
+-- these bytes were read on: what is held is what was, with them behind
+abbrev pub ReadsOn : Held → List ℕ → Held → Type 0
+ReadsOn old bytes new = (done : List ℕ) → old ≡ held_of done → new ≡ held_of (done ++ bytes)

@@ -4,7 +4,7 @@ ghost use Rattle.std.specs.Io.KnownBytes.{Appends};
 ghost use Rattle.rewind_lines.specs.Texts.{reply_text};
 
 use crate::sink::{Sink, Unwritten, send};
-use nd_reply::Json;
+use nd_json::Json;
 use std::alloc::{AllocError, Global};
 use std::marker::Model;
 

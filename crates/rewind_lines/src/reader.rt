@@ -1,7 +1,7 @@
 //! The lines of a script, read in pieces.
-ghost use Rattle.std.specs.Prelude.{◌≡◌, ◌+◌, ◌<◌, ◌≤◌, ◌^◌, ◌||◌, ◌∷◌, ◌++◌, [], ℕ, List, false, length, IfNone, IfOk, IfSome, IsOk, IsTrue, OnErr};
+ghost use Rattle.std.specs.Prelude.{◌≡◌, ◌+◌, ◌<◌, ◌≤◌, ◌^◌, ◌||◌, ◌∷◌, [], ℕ, List, false, length, IfNone, IfOk, IfSome, IsOk, IsTrue, OnErr};
 ghost use Rattle.nd_time.specs.Limits.{max_line};
-ghost use Rattle.rewind_lines.specs.Front.{held_of};
+ghost use Rattle.rewind_lines.specs.Front.{ReadsOn, held_of};
 ghost use Rattle.rewind_lines.specs.Lines.{EndsLine, has_newline, last_line_of, reading_of};
 ghost use Rattle.rewind_lines.specs.Readings.{reading_view};
 
@@ -52,9 +52,9 @@ impl LineReader {
     /// line is whole then. `None` if no newline is among them: all of them were read.
     pub fn take(&mut self, bytes: &[u8]) -> Result<Option<usize>, AllocError>
         ensures part { IfOk result (λ o. IfNone o ((has_newline bytes.now ≡ false)
-            × ((done : List ℕ) → self.old ≡ held_of done → self.new ≡ held_of (done ++ bytes.now)))) }
+            × ReadsOn self.old bytes.now self.new)) }
         ensures whole { IfOk result (λ o. IfSome o (λ n. (rest : List ℕ) × EndsLine bytes.now n rest
-            × ((done : List ℕ) → self.old ≡ held_of done → self.new ≡ held_of (done ++ rest)))) }
+            × ReadsOn self.old rest self.new)) }
         ensures number { self.new.number ≡ self.old.number }
         ensures err { OnErr result (self.new ≡ self.old) }
 
@@ -87,7 +87,7 @@ impl LineReader {
     /// Begins the next line, behind a newline.
     pub fn begin_next(&mut self)
         requires { self.old.number + 1 < 2 ^ 64 }
-        ensures next { (done : List ℕ) → self.old ≡ held_of done → self.new ≡ held_of (done ++ 10 ∷ []) }
+        ensures next { ReadsOn self.old (10 ∷ []) self.new }
         ensures number { self.new.number ≡ self.old.number + 1 }
     {
         self.line.clear();

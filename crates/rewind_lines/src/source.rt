@@ -56,7 +56,8 @@ impl<R> ReadSource<R> {
     /// The source of a reader that has not been read.
     pub fn new(reader: R) -> Self
         ensures reader { result.reader ≡ reader }
-        ensures unread { (result.given ≡ 0) × (result.has_ended ≡ false) × (result.has_failed ≡ false) }
+        ensures unread { (result.given ≡ 0) × (result.has_ended ≡ false)
+            × (result.has_failed ≡ false) }
     {
         ReadSource {
             reader,

@@ -2,7 +2,7 @@
 
 use crate::ends::{NEVER, Newlines, Pieces, Taken, empty_sink, pieces_of};
 use crate::runs::{LINE, LINE_REPLY};
-use nd_sign::Sign;
+use nd_testing::Sign;
 use rewind::{DebugFault, Gate, OpenGate, Options, debug_clients, debug_clients_within};
 use std::alloc::{AllocError, Global};
 use std::rt::Clock;

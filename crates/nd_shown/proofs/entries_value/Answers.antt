@@ -1,6 +1,6 @@
 use Rattle.std.proofs.Common.{◌∙◌, ap, map}
 use Rattle.std.proofs.lemmas.List.{take_all}
-use Rattle.nd_reply.specs.Shows.{shows-more}
+use Rattle.nd_json.specs.Shows.{shows-more}
 use Rattle.nd_shown.specs.StateText.{row}
 use Rattle.nd_shown.proofs.entries_value.Goals as goal
 

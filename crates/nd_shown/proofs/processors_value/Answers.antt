@@ -1,6 +1,6 @@
 use Rattle.std.proofs.Common.{map, ap, ◌∙◌, arith}
 use Rattle.std.specs.List.{zip}
-use Rattle.nd_reply.specs.Shows.{shows-more}
+use Rattle.nd_json.specs.Shows.{shows-more}
 use Rattle.nd_view.specs.Kept.{Kept}
 use Rattle.nd_processor.specs.State.{ProcessorState}
 use Rattle.nd_shown.specs.StateText.{row, processor_data}

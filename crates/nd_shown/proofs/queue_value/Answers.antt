@@ -2,7 +2,7 @@ use Rattle.std.proofs.Common.{◌≡◌, map, get_or, ap, sym, ◌∙◌, arith}
 use Rattle.std.proofs.lemmas.List.{take_all}
 use Rattle.std.proofs.lemmas.Option.{get_or_from_slice_get}
 use Rattle.std.specs.Prelude.{option_copied}
-use Rattle.nd_reply.specs.Shows.{shows-more}
+use Rattle.nd_json.specs.Shows.{shows-more}
 use Rattle.nd_delta.specs.Change.{Change, entries}
 use Rattle.nd_mesh.specs.Mesh.{queue}
 use Rattle.nd_shown.specs.StateText.{row, entries_data}

@@ -1,6 +1,6 @@
 use Rattle.std.proofs.Common.{◌<◌, [], map, length, ap, ◌∙◌, arith}
 use Rattle.std.proofs.lemmas.List.{take_all, get_or_default}
-use Rattle.nd_reply.specs.Shows.{shows-more}
+use Rattle.nd_json.specs.Shows.{shows-more}
 use Rattle.nd_mesh.specs.Mesh.{row as queues_from}
 use Rattle.nd_shown.specs.StateText.{row, queues_data}
 use Rattle.nd_shown.proofs.queues_value.Goals as goal

@@ -1,6 +1,6 @@
 use Rattle.std.proofs.Common.{◌≡◌, ◌<◌, [], map, length, ap, ◌∙◌, arith}
 use Rattle.std.proofs.lemmas.List.{take_all, get_or_default}
-use Rattle.nd_reply.specs.Shows.{shows-more}
+use Rattle.nd_json.specs.Shows.{shows-more}
 use Rattle.nd_mesh.specs.Mesh.{row as queues_from, queue}
 use Rattle.nd_shown.specs.StateText.{row, queue_data}
 use Rattle.nd_shown.proofs.sender_value.Goals as goal

@@ -5,7 +5,7 @@ use crate::clusters::memory::Heap;
 use crate::drawn::{EMPTY, LINE, LONG, point};
 use crate::told::{SUM_NOTIFIED, Told, make, reach, start, step_of};
 use nd_cluster::{Cluster, Next, Step, Values};
-use refusing::{Refusing, unasked};
+use nd_testing::{Refusing, unasked};
 use std::alloc::{Allocator, Global};
 
 /// A line that is fed, taken from and broadcast.

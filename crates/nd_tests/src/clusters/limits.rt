@@ -10,8 +10,8 @@ use nd_graph::Graph;
 use nd_mesh::Mesh;
 use nd_paths::Paths;
 use nd_processor::{Processor, ValueAt};
+use nd_testing::unasked;
 use nd_view::View;
-use refusing::unasked;
 use std::alloc::{Allocator, Global};
 
 /// What a processor holds beyond its start.

@@ -5,7 +5,7 @@ use crate::told::{
     SUM_NOTIFIED, Script, Told, is_state, make, reach, state_text, step_of, values_of,
 };
 use nd_cluster::{Cluster, Next, NoMemory, Refusal, StartFault, Step};
-use refusing::{Refusing, in_turn, met};
+use nd_testing::{Refusing, in_turn, met};
 use std::alloc::{AllocError, Allocator, Global};
 
 /// The allocator of these tests.

@@ -6,7 +6,7 @@ use crate::told::{Told, reach, start, step_of};
 use nd_cluster::{Change, Changes, Cluster, Entry, Next, StartFault};
 use nd_paths::Pointstamp;
 use nd_record::Kept;
-use refusing::Refusing;
+use nd_testing::Refusing;
 use std::alloc::Global;
 
 /// Why a cluster of n processors does not start on a line, if so.

@@ -5,9 +5,9 @@ use crate::drawn::{EMPTY, LINE, point};
 use crate::timelines::memory::{ALL, Heap, ONE, kept};
 use crate::told::{Told, start, step_of};
 use nd_cluster::Next;
+use nd_testing::{Refusing, unasked};
 use nd_timeline::{Ran, Stop, Timeline};
 use nd_watch::Breaks;
-use refusing::{Refusing, unasked};
 use std::alloc::{Allocator, Global};
 
 /// Whether a timeline of four steps, of which the last lets z pass, tells where it is, and stays there.

@@ -3,9 +3,9 @@
 use crate::drawn::{EXCHANGE, LINE};
 use crate::told::{SUM_NOTIFIED, Script, Told, is_state, reach, start, state_text, step_of};
 use nd_cluster::{Cluster, Next};
+use nd_testing::{Refusing, in_turn, met};
 use nd_timeline::{Fault, Timeline};
 use nd_watch::Breaks;
-use refusing::{Refusing, in_turn, met};
 use std::alloc::{AllocError, Allocator, Global};
 
 /// The allocator of these tests.

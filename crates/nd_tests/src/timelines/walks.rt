@@ -4,8 +4,8 @@ use crate::drawn::point;
 use crate::timelines::memory::{ALL, Heap, TEN, is_after, kept};
 use crate::told::{SUM_NOTIFIED, Script};
 use nd_changes::{ChangesFault, changes};
+use nd_testing::{Refusing, in_turn, met};
 use nd_timeline::Fault;
-use refusing::{Refusing, in_turn, met};
 use std::alloc::{AllocError, Allocator, Global};
 
 /// Whether the beginning of a walk met the request that was refused.

@@ -1,0 +1,91 @@
+//! An allocator that refuses one request for memory.
+use std::alloc::{AllocError, Allocator};
+use std::sync::atomic::{AtomicU64, Ordering};
+
+/// Passes each request for memory on, but for one that it refuses.
+///
+/// A test lends it to what allocates as `&heap`, and prepares its values. Then it calls
+/// `refuse(n)`, makes the call that is under test, and asks `relent(n)` whether that call
+/// met the request that was to be refused: if it did, the call answered out of memory and
+/// left its values as they were; if not, no call with a greater `n` meets it either.
+/// `live()` tells how many blocks were given and not taken back, so after a test none is. What the
+/// allocator counts is stated by no contract.
+pub struct Refusing<B: Allocator> {
+    inner: B,
+    counts: Counts,
+}
+
+// How many requests are still passed on, and how many blocks are live.
+#[derive(Drop)]
+struct Counts {
+    calls: AtomicU64,
+    live: AtomicU64,
+}
+
+impl<B: Allocator> Refusing<B> {
+    /// An allocator that refuses nothing yet.
+    pub fn new(inner: B) -> Refusing<B> {
+        Refusing {
+            inner,
+            counts: Counts {
+                calls: AtomicU64::new(u64::MAX),
+                live: AtomicU64::new(0),
+            },
+        }
+    }
+
+    /// From now on the request of number `n` is refused, counted from 0, and no other.
+    pub fn refuse(&self, n: u64) {
+        self.counts.calls.store(n, Ordering::SeqCst);
+    }
+
+    /// Refuses nothing from now on, and says whether a request was refused since `refuse(n)`.
+    pub fn relent(&self, n: u64) -> bool {
+        let left = self.counts.calls.swap(u64::MAX, Ordering::SeqCst);
+        left > n
+    }
+
+    /// How many blocks were given and not taken back.
+    pub fn live(&self) -> u64 {
+        self.counts.live.load(Ordering::SeqCst)
+    }
+}
+
+impl<B: Allocator> Drop for Refusing<B> {
+    fn drop(self) {
+        let Self {
+            inner: _,
+            counts: _,
+        } = self;
+    }
+}
+
+// Counts a request down. The one that finds 0 is refused, each other one is a block more.
+fn tick(counts: &Counts) -> bool {
+    if counts.calls.fetch_sub(1, Ordering::SeqCst) == 0 {
+        return true;
+    }
+    counts.live.fetch_add(1, Ordering::SeqCst);
+    false
+}
+
+// Counts a block that is taken back, and asks for no refusal.
+fn tock(counts: &Counts) -> bool {
+    counts.live.fetch_sub(1, Ordering::SeqCst) == 0
+}
+
+unsafe impl<B: Allocator> Allocator for Refusing<B> {
+    ghost dealloc_token = { λ heap ty ptr. B.dealloc_token heap.inner ty ptr };
+
+    fn allocate(&self, size: usize, align: usize) -> Result<*mut u8, AllocError> {
+        if tick(&self.counts) {
+            return Err(AllocError);
+        }
+        self.inner.allocate(size, align)
+    }
+
+    unsafe fn deallocate(&self, ptr: *mut u8, size: usize, align: usize) {
+        tock(&self.counts);
+        self.inner.deallocate(ptr, size, align);
+    }
+}

@@ -1,0 +1,10 @@
+//! What tests need: an allocator that refuses one request for memory, calls made under it, and a sign between threads.
+#![tactic(auto)]
+
+mod allocator;
+mod requests;
+mod signal;
+
+pub use allocator::Refusing;
+pub use requests::{MANY, in_turn, was_refused};
+pub use signal::Sign;
