@@ -16,12 +16,9 @@ impl<A: Allocator + Copy> VertexState<A> {
         ensures absent { OnErr result (edit.now.old ≡ None) }
         ensures growing { OnErr result (edit.now.new ≢ None) }
     {
-        if !wanted {
-            return Ok(());
+        if wanted {
+            self.set(&edit.key.time, edit.key.item, edit.old, edit.new)?;
         }
-        let Ok(()) = self.set(&edit.key.time, edit.key.item, edit.old, edit.new) else {
-            return Err(AllocError);
-        };
         Ok(())
     }
 
@@ -57,12 +54,11 @@ impl<A: Allocator + Copy> VertexState<A> {
         requires { CanEdit self.old effect.now.items.items }
         ensures ok { OnOk result (self.new ≡ edited self.old effect.now.items.items) }
         ensures back { OnOk result (CanEdit self.new (map turned effect.now.items.items)) }
-        ensures undone { OnOk result (edited self.new (map turned effect.now.items.items) ≡ self.old) }
+        ensures undone { OnOk result
+            (edited self.new (map turned effect.now.items.items) ≡ self.old) }
         ensures err { OnErr result (self.new ≡ self.old) }
     {
-        let Ok(()) = self.make_all(&effect.items, false) else {
-            return Err(AllocError);
-        };
+        self.make_all(&effect.items, false)?;
         Ok(())
     }
 
@@ -72,9 +68,7 @@ impl<A: Allocator + Copy> VertexState<A> {
         ensures ok { OnOk result (self.new ≡ edited self.old (map turned effect.now.items.items)) }
         ensures err { OnErr result (self.new ≡ self.old) }
     {
-        let Ok(()) = self.make_all(&effect.items, true) else {
-            return Err(AllocError);
-        };
+        self.make_all(&effect.items, true)?;
         Ok(())
     }
 }

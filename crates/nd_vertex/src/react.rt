@@ -101,7 +101,8 @@ impl<A: Allocator + Copy> VertexState<A> {
     // The edit that gives an item a number or takes it out, none if it changes nothing.
     fn change(&self, time: &Timestamp, item: i64, new: Option<i64>) -> Option<ItemEdit>
         requires { new ≢ Some (pos 0) }
-        ensures { LeadsTo self.now (listed result) (with_item self.now (item_key time.now item) new) }
+        ensures { LeadsTo self.now (listed result)
+            (with_item self.now (item_key time.now item) new) }
     {
         let old = self.get(time, item);
         if old == new {
@@ -177,9 +178,11 @@ impl<A: Allocator + Copy> VertexState<A> {
         value: i64,
     ) -> Result<Effect<A>, VertexFault>
         requires { MayActAt (action_of op) (length time.now.counters) }
-        ensures ok { IfOk result (IsEffect self.now op time.now (recorded op self.now time.now value)) }
+        ensures ok { IfOk result
+            (IsEffect self.now op time.now (recorded op self.now time.now value)) }
         ensures full { (result ≡ Err VertexFault.CounterFull) ↔ IsCounterFull op time.now }
-        ensures range { (result ≡ Err VertexFault.ValueRange) ↔ IsOutOfRange self.now op time.now value }
+        ensures range { (result ≡ Err VertexFault.ValueRange)
+            ↔ IsOutOfRange self.now op time.now value }
         ensures memory { result ≡ Err VertexFault.Memory → MayReact self.now op time.now value }
     {
         let past = time_past(op, time)?;
