@@ -45,9 +45,10 @@ plain_emissions (Add k) v = (0, v +ℤ k) ∷ []
 plain_emissions (Mul k) v = (0, v *ℤ k) ∷ []
 plain_emissions (Below k) v = cond (int_lt v k) ((0, v) ∷ []) []
 plain_emissions (Split k) v = (cond (int_lt v k) 0 1, v) ∷ []
+plain_emissions Sink v = []
+-- a sum and a distinct go by what is kept, below
 plain_emissions Sum v = []
 plain_emissions Distinct v = []
-plain_emissions Sink v = []
 
 -- on a record of value v at the timestamp t: what is emitted, and what is kept then
 abbrev pub reacted : Op → Items → Time → ℤ → List (ℕ × ℤ) × Items
