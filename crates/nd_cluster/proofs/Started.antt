@@ -26,7 +26,7 @@ use Rattle.nd_protocol.specs.Start.{start}
 use Rattle.nd_protocol.specs.Fitting.{IsOrdered}
 use Rattle.nd_record.specs.Seen.{seen}
 use Rattle.nd_cluster.specs.Starting.{tokens_weigh, IsProcessorCount, IsStartFault, fault_of}
-use Rattle.nd_protocol.specs.Truth.{truth-count}
+use Rattle.nd_protocol.specs.TruthLaws.{truth-count}
 
 add_here : (b : Bool) (here : ℤ) (s n : ℕ) → (b ≡ true → here ≡ pos s) → cond b (here +ℤ pos n) (pos s) ≡ pos (s + n * cond b 1 0)
 add_here true here s n e = rw (e refl) (ap pos (omega arith))

@@ -94,19 +94,11 @@ fewer_faults most least g h e = no_fault (list_any (has_bad_port g.vertices) g.e
 
 -- a vertex that is not misplaced leads to the depth past it
 leads : (operator : Op) (depth : ℕ) → is_misplaced_at operator depth ≡ false → LeadsTo (action_of operator) depth (depth_past (action_of operator) depth)
-leads op.Input depth h = refl
-leads op.Ingress depth h = refl
 leads op.Egress zero h = cc
 leads op.Egress (suc depth) h = omega arith
 leads op.Feedback zero h = cc
 leads op.Feedback (suc depth) h = (omega arith, refl)
-leads (op.Add k) depth h = refl
-leads (op.Mul k) depth h = refl
-leads (op.Below k) depth h = refl
-leads (op.Split k) depth h = refl
-leads op.Sum depth h = refl
-leads op.Distinct depth h = refl
-leads op.Sink depth h = refl
+leads _ depth h = refl
 
 source_leads : (vertices : List Vertex) (l : ℕ) → l < length vertices → list_any is_misplaced vertices ≡ false
     → LeadsTo (action_at vertices l) (vertex_depth vertices l) (depth_past_vertex vertices l)

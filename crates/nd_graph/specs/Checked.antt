@@ -1,5 +1,5 @@
 -- Which graphs are refused, and as what (this project's own rule).
-use Rattle.std.specs.Prelude.{◌≡◌, ℕ, ◌<◌, All, Bool, true, false, not, ◌==◌, ◌&&◌, ◌||◌, nat_lt, nat_le, List, [], ◌∷◌, ◌++◌, length, map, if◌then◌else◌, Option, Some, None, ok_or, option_map, option_and_then, Result, Ok, Err, slice_get}
+use Rattle.std.specs.Prelude.{◌≡◌, ℕ, ◌<◌, All, Bool, false, not, ◌==◌, ◌&&◌, ◌||◌, nat_lt, nat_le, List, [], ◌∷◌, ◌++◌, length, map, if◌then◌else◌, Option, Some, None, ok_or, option_map, option_and_then, Result, Ok, Err, slice_get}
 use Rattle.std.specs.Option.{option_map_or}
 use Rattle.std.specs.List.{list_any, position}
 use Rattle.std.specs.Str.{bytes_eq}
@@ -11,7 +11,7 @@ use Rattle.nd_graph.specs.declared.draft.DraftEdge.{DraftEdge}
 use Rattle.nd_graph.specs.declared.fault.GraphFault.{GraphFault}
 use Rattle.nd_graph.specs.declared.fault.GraphFault.TheVariants.{DoubleName, UnknownName, BadPort, DepthMismatch, TooLarge}
 use Rattle.nd_graph.specs.Operators.{facts, stands_in_loop, leads_in}
-use Rattle.nd_graph.specs.Graph.{Dataflow, action_of, depth_past_vertex, location_count, names}
+use Rattle.nd_graph.specs.Graph.{Dataflow, graph_of, action_of, depth_past_vertex, location_count, names}
 use Rattle.nd_graph.specs.Draft.{Draft, every}
 
 -- ---- names
@@ -24,6 +24,9 @@ has_double (name ∷ names) = list_any (bytes_eq name) names || has_double names
 -- vertices and edges share one space of names
 abbrev pub written_names : List Vertex → List DraftEdge → List (List ℕ)
 written_names vertices edges = map (λ v. v.name) vertices ++ map (λ e. e.name) edges
+
+abbrev pub has_double_name : List Vertex → List DraftEdge → Bool
+has_double_name vertices edges = has_double (written_names vertices edges)
 
 -- the location of the vertex that an end of an edge names
 unfoldable pub end_of : List Vertex → Option (List ℕ) → Option ℕ
@@ -39,7 +42,7 @@ located vertices e =
 -- the edges that are written, if no name stands twice and each end is a vertex
 unfoldable pub edges_between : List Vertex → List DraftEdge → Result (List Edge) GraphFault
 edges_between vertices edges =
-    if has_double (written_names vertices edges) then Err DoubleName
+    if has_double_name vertices edges then Err DoubleName
     else ok_or (every (located vertices) edges) UnknownName
 
 -- ---- ports
@@ -115,7 +118,7 @@ judged most g = option_map_or (λ e. Err e) (fault_of most g) (Ok g)
 
 -- the judgement of the edges that were found
 abbrev pub judged_with : ℕ → List Vertex → Result (List Edge) GraphFault → Result Dataflow GraphFault
-judged_with most vertices (Ok edges) = judged most (record { vertices = vertices; edges = edges })
+judged_with most vertices (Ok edges) = judged most (graph_of vertices edges)
 judged_with most vertices (Err e) = Err e
 
 -- the graph that is written, or the fault of least number, if depths may be at most this

@@ -1,5 +1,5 @@
 -- Graphs as numbers, so that a model's value can hold one.
-use Rattle.std.specs.Prelude.{◌≡◌, ℕ, ℤ, pos, Bool, true, false, List, nat_eq, if◌then◌else◌, refl}
+use Rattle.std.specs.Prelude.{◌≡◌, ℕ, ℤ, pos, Bool, true, false, List, [], ◌∷◌, slice_index_or, refl}
 use Rattle.std.specs.Coded.{Coded, code_by, coded×, coded_ℕ, coded_ℤ, coded_bool, coded_list}
 use Rattle.nd_graph.specs.Graph.{Dataflow}
 use Rattle.nd_graph.specs.declared.op.Op.{Op}
@@ -25,30 +25,13 @@ op_parts Sink = (10, pos 0)
 
 abbrev pub op_of : ℕ × ℤ → Op
 op_of p =
-    if nat_eq p.0 0 then Input
-    else (if nat_eq p.0 1 then Ingress
-    else (if nat_eq p.0 2 then Egress
-    else (if nat_eq p.0 3 then Feedback
-    else (if nat_eq p.0 4 then Add p.1
-    else (if nat_eq p.0 5 then Mul p.1
-    else (if nat_eq p.0 6 then Below p.1
-    else (if nat_eq p.0 7 then Split p.1
-    else (if nat_eq p.0 8 then Sum
-    else (if nat_eq p.0 9 then Distinct
-    else Sink)))))))))
+    slice_index_or
+    (Input ∷ Ingress ∷ Egress ∷ Feedback ∷ Add p.1 ∷ Mul p.1 ∷ Below p.1 ∷ Split p.1 ∷ Sum ∷ Distinct ∷ [])
+    p.0 Sink
 
 pub op_back : (o : Op) → op_of (op_parts o) ≡ o
 op_back Input = refl
-op_back Ingress = refl
-op_back Egress = refl
-op_back Feedback = refl
-op_back (Add k) = refl
-op_back (Mul k) = refl
-op_back (Below k) = refl
-op_back (Split k) = refl
-op_back Sum = refl
-op_back Distinct = refl
-op_back Sink = refl
+op_back _ = refl
 
 abbrev pub is_local : Route → Bool
 is_local Local = true

@@ -82,10 +82,16 @@ edge_of d =
 abbrev pub every_at : {X : Type 0} → List ℕ → (Data → Option X) → Data → Option (List X)
 every_at key read d = option_and_then (every read) (list_at key d)
 
+abbrev pub vertices_in : Data → Option (List Vertex)
+vertices_in d = every_at (codes "vertices") vertex_of d
+
+abbrev pub edges_in : Data → Option (List DraftEdge)
+edges_in d = every_at (codes "edges") edge_of d
+
 -- the graph that a value is
 unfoldable pub draft_of : Data → Option Draft
 draft_of d =
     if has_keys (codes "edges" ∷ codes "vertices" ∷ []) d
-    then option_and_then (λ vertices. option_map (λ edges. record { vertices = vertices; edges = edges })
-    (every_at (codes "edges") edge_of d)) (every_at (codes "vertices") vertex_of d)
+    then option_and_then (λ vertices. option_map
+    (λ edges. record { vertices = vertices; edges = edges }) (edges_in d)) (vertices_in d)
     else None

@@ -18,6 +18,9 @@ pub record Dataflow : Type 0 where
   pub vertices : List Vertex
   pub edges : List Edge
 
+abbrev pub graph_of : List Vertex → List Edge → Dataflow
+graph_of vertices edges = record { vertices = vertices; edges = edges }
+
 -- what a vertex does to the times that pass it
 abbrev pub action_of : Op → Action
 action_of o = (facts o).action

@@ -1,7 +1,7 @@
 //! A graph made of vertices and edges that were found to have no fault.
 ghost use Rattle.std.specs.Prelude.{◌≡◌, ◌+◌, ◌≤◌, IfOk, length};
 ghost use Rattle.nd_time.specs.Limits.{max_locations};
-ghost use Rattle.nd_graph.specs.Graph.{depths as all_depths, arcs as all_arcs, action_at};
+ghost use Rattle.nd_graph.specs.Graph.{graph_of, depths as all_depths, arcs as all_arcs, action_at};
 ghost use Rattle.nd_graph.specs.Checked.{IsFaultless};
 
 use crate::check::edge_depth;
@@ -14,16 +14,13 @@ fn depths_of<A: Allocator>(
     vertices: &[Vertex],
     edges: &[Edge],
 ) -> Result<Vec<usize, A>, AllocError>
-    ensures { IfOk result (λ v. v.items ≡ all_depths (record { vertices = vertices.now; edges = edges.now })) }
+    ensures { IfOk result (λ v. v.items ≡ all_depths (graph_of vertices.now edges.now)) }
 {
-    let mut depths = Vec::new(alloc);
-    for vertex in vertices {
-        depths.push(vertex.depth as usize)?;
-    }
-    for edge in edges {
-        depths.push(edge_depth(vertices, edge))?;
-    }
-    Ok(depths)
+    vertices
+        .iter()
+        .map(|vertex: &Vertex| vertex.depth as usize)
+        .chain(edges.iter().map(|edge: &Edge| edge_depth(vertices, edge)))
+        .collect(alloc)
 }
 
 // The action of the vertex that the edge leaves.
@@ -43,7 +40,7 @@ fn arcs_of<A: Allocator>(
     edges: &[Edge],
 ) -> Result<Vec<Arc, A>, AllocError>
     requires { length vertices.now + length edges.now ≤ max_locations }
-    ensures { IfOk result (λ v. v.items ≡ all_arcs (record { vertices = vertices.now; edges = edges.now })) }
+    ensures { IfOk result (λ v. v.items ≡ all_arcs (graph_of vertices.now edges.now)) }
 {
     let mut arcs = Vec::new(alloc);
     for (index, edge) in edges.iter().enumerate() {
@@ -68,8 +65,8 @@ pub(crate) fn built<A: Allocator + Copy>(
     vertices: Vec<Vertex, A>,
     edges: Vec<Edge, A>,
 ) -> Result<Graph<A>, AllocError>
-    requires { IsFaultless (record { vertices = vertices.items; edges = edges.items }) }
-    ensures { IfOk result (λ g. g ≡ record { vertices = vertices.items; edges = edges.items }) }
+    requires { IsFaultless (graph_of vertices.items edges.items) }
+    ensures { IfOk result (λ g. g ≡ graph_of vertices.items edges.items) }
 {
     let depths = depths_of(alloc, &vertices, &edges)?;
     let arcs = arcs_of(alloc, &vertices, &edges)?;

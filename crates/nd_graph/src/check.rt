@@ -2,7 +2,7 @@
 ghost use Rattle.std.specs.Prelude.{◌≡◌, ◌+◌, nat_lt};
 ghost use Rattle.std.specs.List.{list_any};
 ghost use Rattle.nd_time.specs.Limits.{max_locations};
-ghost use Rattle.nd_graph.specs.Graph.{depth_past as past_depth, action_of, depth_past_vertex};
+ghost use Rattle.nd_graph.specs.Graph.{graph_of, depth_past as past_depth, action_of, depth_past_vertex};
 ghost use Rattle.nd_graph.specs.Checked as rule;
 
 use crate::{Action, Edge, GraphFault, Vertex};
@@ -119,7 +119,7 @@ fn some_leads_too_deep(most: usize, vertices: &[Vertex], edges: &[Edge]) -> bool
 
 #[tactic(auto, unfolding(crate::specs::Checked::has_depth_mismatch))]
 fn has_depth_mismatch(vertices: &[Vertex], edges: &[Edge]) -> bool
-    ensures { result ≡ rule.has_depth_mismatch (record { vertices = vertices.now; edges = edges.now }) }
+    ensures { result ≡ rule.has_depth_mismatch (graph_of vertices.now edges.now) }
 {
     some_is_misplaced(vertices) || some_misses_depth(vertices, edges)
 }
@@ -132,7 +132,7 @@ fn are_too_many(vertices: usize, edges: usize) -> bool
 
 #[tactic(auto, unfolding(crate::specs::Checked::is_too_large))]
 fn is_too_large(most: usize, vertices: &[Vertex], edges: &[Edge]) -> bool
-    ensures { result ≡ rule.is_too_large most (record { vertices = vertices.now; edges = edges.now }) }
+    ensures { result ≡ rule.is_too_large most (graph_of vertices.now edges.now) }
 {
     are_too_many(vertices.len(), edges.len())
         || some_is_too_deep(most, vertices)
@@ -142,7 +142,7 @@ fn is_too_large(most: usize, vertices: &[Vertex], edges: &[Edge]) -> bool
 /// The first fault of a graph whose names are found, and whose depths may be at most this.
 #[tactic(auto, unfolding(crate::specs::Checked::fault_of))]
 pub(crate) fn fault_of(most: usize, vertices: &[Vertex], edges: &[Edge]) -> Option<GraphFault>
-    ensures { result ≡ rule.fault_of most (record { vertices = vertices.now; edges = edges.now }) }
+    ensures { result ≡ rule.fault_of most (graph_of vertices.now edges.now) }
 {
     if some_has_bad_port(vertices, edges) {
         Some(GraphFault::BadPort)

@@ -1,5 +1,5 @@
 //! A graph as it is written, before its names are looked up.
-ghost use Rattle.std.specs.Prelude.{◌≡◌, ◌≤◌, ◌⊎◌, IfOk, IfErr, Some, None, codes, ok_or};
+ghost use Rattle.std.specs.Prelude.{◌≡◌, ◌≤◌, ◌⊎◌, IfOk, IfErr, Some, None, ok_or};
 ghost use Rattle.serde_json.specs.View.{view};
 ghost use Rattle.nd_graph.specs.Draft as form;
 ghost use Rattle.nd_time.specs.Limits.{max_depth};
@@ -105,9 +105,9 @@ impl<A: Allocator> GraphDraft<A> {
 }
 
 fn vertices_of<A: Allocator>(alloc: A, value: &Value) -> Result<Vec<Vertex, A>, GraphFault>
-    ensures ok { IfOk result (λ v. form.every_at (codes "vertices") form.vertex_of (view value.now) ≡ Some v.items) }
+    ensures ok { IfOk result (λ v. form.vertices_in (view value.now) ≡ Some v.items) }
     ensures err { IfErr result (λ e. (e ≡ Memory)
-        ⊎ ((e ≡ Shape) × (form.every_at (codes "vertices") form.vertex_of (view value.now) ≡ None))) }
+        ⊎ ((e ≡ Shape) × (form.vertices_in (view value.now) ≡ None))) }
 {
     let values = list_at(value, "vertices").ok_or(GraphFault::Shape)?;
     let mut vertices = Vec::new(alloc);
@@ -119,9 +119,9 @@ fn vertices_of<A: Allocator>(alloc: A, value: &Value) -> Result<Vec<Vertex, A>, 
 }
 
 fn edges_of<A: Allocator>(alloc: A, value: &Value) -> Result<Vec<DraftEdge, A>, GraphFault>
-    ensures ok { IfOk result (λ v. form.every_at (codes "edges") form.edge_of (view value.now) ≡ Some v.items) }
+    ensures ok { IfOk result (λ v. form.edges_in (view value.now) ≡ Some v.items) }
     ensures err { IfErr result (λ e. (e ≡ Memory)
-        ⊎ ((e ≡ Shape) × (form.every_at (codes "edges") form.edge_of (view value.now) ≡ None))) }
+        ⊎ ((e ≡ Shape) × (form.edges_in (view value.now) ≡ None))) }
 {
     let values = list_at(value, "edges").ok_or(GraphFault::Shape)?;
     let mut edges = Vec::new(alloc);

@@ -86,16 +86,15 @@ impl<A: Allocator> Drop for Graph<A> {
 }
 
 impl<A: Allocator> Model for Graph<A> {
-    ghost use Rattle.nd_graph.specs.Graph.{Dataflow, IsGraph};
+    ghost use Rattle.nd_graph.specs.Graph.{Dataflow, IsGraph, graph_of};
+    ghost use Rattle.nd_graph.specs.Checked.{IsFaultless};
 
     ghost Value = { Dataflow };
 
-    ghost view = { λ a. record { vertices = a.vertices.items; edges = a.edges.items } };
+    ghost view = { λ a. graph_of a.vertices.items a.edges.items };
 
-    ghost use Rattle.nd_graph.specs.Checked.{IsFaultless};
-
-    ghost invariant = { λ a. IsGraph (record { vertices = a.vertices.items; edges = a.edges.items }) a.depths.items a.arcs.items
-        × IsFaultless (record { vertices = a.vertices.items; edges = a.edges.items }) };
+    ghost invariant = { λ a. IsGraph (graph_of a.vertices.items a.edges.items) a.depths.items a.arcs.items
+        × IsFaultless (graph_of a.vertices.items a.edges.items) };
 }
 
 fn copied_vertices<A: Allocator>(
@@ -104,25 +103,20 @@ fn copied_vertices<A: Allocator>(
 ) -> Result<Vec<Vertex, A>, AllocError>
     ensures { IfOk result (λ v. v.items ≡ vertices.now) }
 {
-    let mut copied = Vec::with_capacity(alloc, vertices.len())?;
-    for vertex in vertices {
-        copied.push(vertex.copy())?;
-    }
-    Ok(copied)
+    vertices
+        .iter()
+        .map(|vertex: &Vertex| vertex.copy())
+        .collect(alloc)
 }
 
 fn copied_edges<A: Allocator>(alloc: A, edges: &[Edge]) -> Result<Vec<Edge, A>, AllocError>
     ensures { IfOk result (λ v. v.items ≡ edges.now) }
 {
-    let mut copied = Vec::with_capacity(alloc, edges.len())?;
-    for edge in edges {
-        copied.push(edge.copy())?;
-    }
-    Ok(copied)
+    edges.iter().map(|edge: &Edge| edge.copy()).collect(alloc)
 }
 
 impl<A: Allocator> Graph<A> {
-    ghost use Rattle.nd_graph.specs.Graph.{IsGraph};
+    ghost use Rattle.nd_graph.specs.Graph.{IsGraph, graph_of};
     ghost use Rattle.nd_graph.specs.Checked.{IsFaultless};
 
     /// The graph of these parts.
@@ -132,9 +126,9 @@ impl<A: Allocator> Graph<A> {
         depths: Vec<usize, A>,
         arcs: Vec<Arc, A>,
     ) -> Graph<A>
-        requires kept { IsGraph (record { vertices = vertices.items; edges = edges.items }) depths.items arcs.items }
-        requires sound { IsFaultless (record { vertices = vertices.items; edges = edges.items }) }
-        ensures { result ≡ record { vertices = vertices.items; edges = edges.items } }
+        requires kept { IsGraph (graph_of vertices.items edges.items) depths.items arcs.items }
+        requires sound { IsFaultless (graph_of vertices.items edges.items) }
+        ensures { result ≡ graph_of vertices.items edges.items }
     {
         Graph {
             vertices,

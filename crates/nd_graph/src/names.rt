@@ -35,9 +35,9 @@ fn numbered<A: Allocator + Copy>(
     edges: &[DraftEdge],
 ) -> Result<Names<A>, GraphFault>
     ensures all { IfOk result (λ s. s.keys ≡ rule.written_names vertices.now edges.now) }
-    ensures once { OnOk result (rule.has_double (rule.written_names vertices.now edges.now) ≡ false) }
+    ensures once { OnOk result (rule.has_double_name vertices.now edges.now ≡ false) }
     ensures err { IfErr result (λ e. (e ≡ Memory)
-        ⊎ ((e ≡ DoubleName) × (rule.has_double (rule.written_names vertices.now edges.now) ≡ true))) }
+        ⊎ ((e ≡ DoubleName) × (rule.has_double_name vertices.now edges.now ≡ true))) }
 {
     let mut names = IndexSet::new(alloc);
     for vertex in vertices {
@@ -108,7 +108,8 @@ pub(crate) fn edges_between<A: Allocator + Copy>(
     edges: &[DraftEdge],
 ) -> Result<Vec<Edge, A>, GraphFault>
     ensures ok { IfOk result (λ v. rule.edges_between vertices.now edges.now ≡ Ok v.items) }
-    ensures err { IfErr result (λ e. (e ≡ Memory) ⊎ (rule.edges_between vertices.now edges.now ≡ Err e)) }
+    ensures err { IfErr result (λ e. (e ≡ Memory)
+        ⊎ (rule.edges_between vertices.now edges.now ≡ Err e)) }
 {
     let names = numbered(alloc, vertices, edges)?;
     all_located(alloc, &names, vertices, edges)

@@ -81,29 +81,20 @@ impl Op {
     pub fn is_input(self) -> bool
         ensures { result ≡ is_fed self }
     {
-        match self {
-            Op::Input => true,
-            _ => false,
-        }
+        matches!(self, Op::Input)
     }
 
     /// Whether a vertex of this operator may ask for notices.
     pub fn asks_for_notices(self) -> bool
         ensures { result ≡ (facts self).asks }
     {
-        match self {
-            Op::Sum | Op::Distinct => true,
-            _ => false,
-        }
+        matches!(self, Op::Sum | Op::Distinct)
     }
 
     /// Whether a vertex of this operator counts the values that reach it.
     pub fn counts_values(self) -> bool
         ensures { result ≡ (facts self).counts }
     {
-        match self {
-            Op::Sink => true,
-            _ => false,
-        }
+        matches!(self, Op::Sink)
     }
 }

@@ -1,4 +1,4 @@
--- How records that come move what is outstanding in a cluster; and the sums of specs/Truth, passed on.
+-- How records that come move what is outstanding in a cluster; and the sums of specs/TruthLaws, passed on.
 use Rattle.std.proofs.Common.{◌≡◌, ◌⊎◌, inl, inr, ℕ, ◌+◌, pos, true, false, cond, List, [], ◌∷◌, ◌++◌, refl, sym, ap, subst, ◌∙◌, arith}
 use Rattle.std.proofs.lemmas.Map.Views.{tells_apart}
 use Rattle.std.specs.Prelude.{slice_index_or}
@@ -13,7 +13,7 @@ use Rattle.nd_processor.specs.declared.key.ValueAt.{ValueAt}
 use Rattle.nd_protocol.proofs.Shape.{AllAt}
 use Rattle.nd_map.specs.Counts.{added}
 use Rattle.nd_processor.specs.Held.{in_records-added}
-pub use Rattle.nd_protocol.specs.Truth.{count, truth-count, gain-count, count-set, count-set_same, kept-set, kept-records, length-records}
+pub use Rattle.nd_protocol.specs.TruthLaws.{count, truth-count, gain-count, count-set, count-set_same, kept-set, kept-records, length-records}
 
 -- ---- records come
 

@@ -14,7 +14,7 @@ use Rattle.nd_protocol.proofs.Reading.{reading}
 use Rattle.nd_protocol.proofs.Arcs.{IsTransitive, CouldIsTransitive, strict_order}
 use Rattle.nd_protocol.proofs.Counts.{truth-count}
 use Rattle.nd_protocol.proofs.Readings.{change_finite, sound_of}
-use Rattle.nd_protocol.proofs.Safe.{safe, stays}
+use Rattle.nd_protocol.proofs.Safety.{safe, stays}
 
 could_down : CouldIsTransitive → (g : Dataflow) (t : Pointstamp) → IsDownward (IsStrictlyBefore g) (λ x. CouldResultIn g x t)
 could_down could g t x y r h = could g x y t r.0 h

@@ -10,7 +10,7 @@ use Rattle.std.proofs.lemmas.Option.{slice_get-get_or}
 use Rattle.std.proofs.lemmas.List.{length-map}
 use Rattle.nd_time.specs.Time.{Time}
 use Rattle.nd_graph.specs.declared.op.Op.{Op}
-use Rattle.nd_graph.specs.declared.op.Op.TheVariants.{Input, Ingress, Egress, Feedback, Add, Mul, Below, Split, Sum, Distinct, Sink}
+use Rattle.nd_graph.specs.declared.op.Op.TheVariants.{Input, Sum, Distinct, Sink}
 use Rattle.nd_graph.specs.declared.op.Route.TheVariants.{Local}
 use Rattle.nd_graph.specs.declared.graph.Edge.{Edge}
 use Rattle.nd_graph.specs.Graph.{Dataflow, depths, depth_past_vertex, op_at}
@@ -82,14 +82,6 @@ edited : (items edits : Items) (k q : ItemKey) (t : Time) → k.time ≡ t → (
 edited items edits k q t at_t h some = elim h [ inl same ↦ inl (ap (λ (j : ItemKey). j.time) same ∙ at_t) | inr same ↦ inr (λ e. some (same ∙ e)) ]
 
 pub items_recorded : (o : Op) (items : Items) (t : Time) (v : ℤ) (q : ItemKey) → at (on_record o items t v).items q ≢ pos 0 → (q.time ≡ t) ⊎ (at items q ≢ pos 0)
-items_recorded Input items t v q some = inr some
-items_recorded Ingress items t v q some = inr some
-items_recorded Egress items t v q some = inr some
-items_recorded Feedback items t v q some = inr some
-items_recorded (Add k) items t v q some = inr some
-items_recorded (Mul k) items t v q some = inr some
-items_recorded (Below k) items t v q some = inr some
-items_recorded (Split k) items t v q some = inr some
 items_recorded Sum items t v q some =
     let k : ItemKey = item_key t (pos 0) in
     edited items (added item_total items k v) k q t refl (set_cases item_total item_exact items k (at items k +ℤ v) q) some
@@ -99,42 +91,25 @@ items_recorded Distinct items t v q some =
       | true ↦ λ h. edited items (with_number item_total items k (pos 1)) k q t refl (set_cases item_total item_exact items k (pos 1) q) h
       | false ↦ λ h. inr h
     ] some
-items_recorded Sink items t v q some = inr some
+items_recorded o items t v q some = inr some
 
 still_there : (b : Bool) (v : ℤ) → cond b v (pos 0) ≢ pos 0 → v ≢ pos 0
 still_there true v some = some
 still_there false v some = absurd (some refl)
 
 pub items_noticed : (o : Op) (items : Items) (t : Time) (q : ItemKey) → at (on_notice o items t).items q ≢ pos 0 → (q.time ≡ t) ⊎ (at items q ≢ pos 0)
-items_noticed Input items t q some = inr some
-items_noticed Ingress items t q some = inr some
-items_noticed Egress items t q some = inr some
-items_noticed Feedback items t q some = inr some
-items_noticed (Add k) items t q some = inr some
-items_noticed (Mul k) items t q some = inr some
-items_noticed (Below k) items t q some = inr some
-items_noticed (Split k) items t q some = inr some
 items_noticed Sum items t q some =
     let k : ItemKey = item_key t (pos 0) in
     edited items (with_number item_total items k (pos 0)) k q t refl (set_cases item_total item_exact items k (pos 0) q) some
 items_noticed Distinct items t q some =
     let p : ItemKey → Bool = λ k. not (eq_by_cmp time_cmp k.time t) in
     inr (still_there (p q) (at items q) (λ e. some (at-only item_total item_exact p items q ∙ e)))
-items_noticed Sink items t q some = inr some
+items_noticed o items t q some = inr some
 
 -- only a sink counts
 pub counts_sink : (o : Op) (items : Items) (t : Time) (v : ℤ) → (on_record o items t v).counts ≡ true → o ≡ Sink
-counts_sink Input items t v e = absurd (cc)
-counts_sink Ingress items t v e = absurd (cc)
-counts_sink Egress items t v e = absurd (cc)
-counts_sink Feedback items t v e = absurd (cc)
-counts_sink (Add k) items t v e = absurd (cc)
-counts_sink (Mul k) items t v e = absurd (cc)
-counts_sink (Below k) items t v e = absurd (cc)
-counts_sink (Split k) items t v e = absurd (cc)
-counts_sink Sum items t v e = absurd (cc)
-counts_sink Distinct items t v e = absurd (cc)
 counts_sink Sink items t v e = refl
+counts_sink o items t v e = absurd (cc)
 
 -- ---- the processor that is written
 

@@ -1,8 +1,8 @@
 pub mod Core
 pub mod Descent
 pub mod UprightSums
-pub mod Kept
-pub mod Safe
+pub mod Preservation
+pub mod Safety
 pub mod Arcs
 pub mod Shape
 pub mod Counts
@@ -25,4 +25,4 @@ pub mod Notices
 pub mod Runs
 pub mod Bounds
 pub mod Exchanges
-pub mod Same
+pub mod Equality

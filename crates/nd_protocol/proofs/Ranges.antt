@@ -1,7 +1,6 @@
 -- A step leaves numbers in the ranges of their types.
-use Rattle.std.proofs.Common.{◌≡◌, ◌≢◌, ◌⊎◌, inl, inr, ℕ, zero, suc, ◌+◌, ◌^◌, ◌<◌, ◌≤◌, ℤ, pos, negsuc, ◌+ℤ◌, Bool, true, false, cond, not, ◌&&◌, List, [], ◌∷◌, ◌++◌, length, refl, sym, ap, subst, ◌∙◌, arith}
+use Rattle.std.proofs.Common.{◌≡◌, ◌≢◌, ◌⊎◌, inl, inr, ℕ, zero, suc, ◌+◌, ◌^◌, ◌<◌, ◌≤◌, ℤ, pos, negsuc, ◌+ℤ◌, Bool, true, false, cond, not, ◌&&◌, List, [], ◌∷◌, ◌++◌, length, refl, sym, subst, ◌∙◌, arith}
 use Rattle.std.proofs.lemmas.Bool.{cases_lt}
-use Rattle.std.proofs.lemmas.Cmp.{tied_itself}
 use Rattle.std.proofs.lemmas.List.Elements.{All-nil, All-cons, All-push, All-head, All-tail}
 use Rattle.std.specs.Prelude.{All, nat_eq}
 use Rattle.std.specs.List.{flat_map}
@@ -12,10 +11,10 @@ use Rattle.nd_time.specs.Time.{Time, egress_of, feedback_of, last_of}
 use Rattle.nd_graph.specs.Graph.{Dataflow, action_of, acted, op_at}
 use Rattle.nd_graph.specs.declared.graph.Edge.{Edge}
 use Rattle.nd_graph.specs.declared.op.Op.{Op}
-use Rattle.nd_graph.specs.declared.op.Op.TheVariants.{Input, Ingress, Egress, Feedback, Add, Mul, Below, Split, Sum, Distinct, Sink}
+use Rattle.nd_graph.specs.declared.op.Op.TheVariants.{Input, Feedback, Sum, Distinct}
 use Rattle.nd_graph.specs.declared.op.Action.{Action}
 use Rattle.nd_graph.specs.declared.op.Action.TheVariants as action
-use Rattle.nd_map.specs.Counts.{at, set as with_number, added, at-set, at-only}
+use Rattle.nd_map.specs.Counts.{at, set as with_number, at-set, at-only}
 use Rattle.nd_vertex.specs.Items.{Items, item_key, item_cmp, item_total, item_exact}
 use Rattle.nd_vertex.specs.Table.{Outcome, on_record, on_notice, time_past, is_zero}
 use Rattle.nd_vertex.specs.declared.key.ItemKey.{ItemKey}
@@ -63,17 +62,8 @@ acted_small action.Egress counters room h = egress_small counters h
 acted_small action.Feedback counters room h = feedback_small counters (room refl) h
 
 feeds_back : (o : Op) → action_of o ≡ action.Feedback → o ≡ Feedback
-feeds_back Input e = absurd (cc)
-feeds_back Ingress e = absurd (cc)
-feeds_back Egress e = absurd (cc)
 feeds_back Feedback e = refl
-feeds_back (Add k) e = absurd (cc)
-feeds_back (Mul k) e = absurd (cc)
-feeds_back (Below k) e = absurd (cc)
-feeds_back (Split k) e = absurd (cc)
-feeds_back Sum e = absurd (cc)
-feeds_back Distinct e = absurd (cc)
-feeds_back Sink e = absurd (cc)
+feeds_back o e = absurd (cc)
 
 pub past_small : (o : Op) (t : Time) → (o ≡ Feedback → last_of t.counters < max_counter) → TimeIsSmall t → TimeIsSmall (time_past o t)
 past_small o t room h =
@@ -113,14 +103,6 @@ emitted_small g n p vertex t e small value = made_small n p vertex e.0 e.1 (time
 
 -- an item that is there after a record was there, or is 0, or is the record's value
 pub recorded_value : (o : Op) (items : Items) (t : Time) (v : ℤ) (q : ItemKey) → IsValue v → (at items q ≢ pos 0 → IsValue q.item) → at (on_record o items t v).items q ≢ pos 0 → IsValue q.item
-recorded_value Input items t v q value old some = old some
-recorded_value Ingress items t v q value old some = old some
-recorded_value Egress items t v q value old some = old some
-recorded_value Feedback items t v q value old some = old some
-recorded_value (Add k) items t v q value old some = old some
-recorded_value (Mul k) items t v q value old some = old some
-recorded_value (Below k) items t v q value old some = old some
-recorded_value (Split k) items t v q value old some = old some
 recorded_value Sum items t v q value old some =
     elim (set_cases item_total item_exact items (item_key t (pos 0)) (at items (item_key t (pos 0)) +ℤ v) q) [
       | inl same ↦ subst (λ (j : ItemKey). IsValue j.item) (sym same) zero_is_value
@@ -135,7 +117,7 @@ recorded_value Distinct items t v q value old some =
       ]
       | false ↦ λ h. old h
     ] some
-recorded_value Sink items t v q value old some = old some
+recorded_value o items t v q value old some = old some
 
 zero_or_same : (b : Bool) (v : ℤ) → (cond b v (pos 0) ≡ pos 0) ⊎ (cond b v (pos 0) ≡ v)
 zero_or_same true v = inr refl
@@ -147,14 +129,6 @@ zero_or_kept false v = inr refl
 
 -- a notice leaves an item as it was, or takes it away
 pub noticed_number : (o : Op) (items : Items) (t : Time) (q : ItemKey) → (at (on_notice o items t).items q ≡ pos 0) ⊎ (at (on_notice o items t).items q ≡ at items q)
-noticed_number Input items t q = inr refl
-noticed_number Ingress items t q = inr refl
-noticed_number Egress items t q = inr refl
-noticed_number Feedback items t q = inr refl
-noticed_number (Add k) items t q = inr refl
-noticed_number (Mul k) items t q = inr refl
-noticed_number (Below k) items t q = inr refl
-noticed_number (Split k) items t q = inr refl
 noticed_number Sum items t q =
     let k : ItemKey = item_key t (pos 0) in
     let is : at (with_number item_total items k (pos 0)) q ≡ cond (eq_by_cmp item_cmp q k) (pos 0) (at items q) = at-set item_total items k (pos 0) q in
@@ -163,7 +137,7 @@ noticed_number Distinct items t q =
     let p : ItemKey → Bool = λ k. not (eq_by_cmp time_cmp k.time t) in
     let is = at-only item_total item_exact p items q in
     elim (zero_or_same (p q) (at items q)) [ inl e ↦ inl (is ∙ e) | inr e ↦ inr (is ∙ e) ]
-noticed_number Sink items t q = inr refl
+noticed_number o items t q = inr refl
 
 number_is_value : (z : ℤ) → (z ≢ pos 0 → IsValue z) → IsValue z
 number_is_value (pos zero) h = zero_is_value
@@ -176,17 +150,8 @@ IsFine o t e = TimeIsSmall (time_past o t) × IsValue e.1
 
 -- what a notice emits are numbers of items
 pub notice_fine : (o : Op) (items : Items) (t : Time) → TimeIsSmall t → ((q : ItemKey) → at items q ≢ pos 0 → IsValue (at items q)) → All (IsFine o t) (on_notice o items t).emissions
-notice_fine Input items t small each = All-nil (IsFine Input t)
-notice_fine Ingress items t small each = All-nil (IsFine Ingress t)
-notice_fine Egress items t small each = All-nil (IsFine Egress t)
-notice_fine Feedback items t small each = All-nil (IsFine Feedback t)
-notice_fine (Add k) items t small each = All-nil (IsFine (Add k) t)
-notice_fine (Mul k) items t small each = All-nil (IsFine (Mul k) t)
-notice_fine (Below k) items t small each = All-nil (IsFine (Below k) t)
-notice_fine (Split k) items t small each = All-nil (IsFine (Split k) t)
 notice_fine Sum items t small each =
     let sum : ℤ = at items (item_key t (pos 0)) in
     let value : IsValue sum = number_is_value sum (each (item_key t (pos 0))) in
     elim (is_zero sum) as (λ b. All (IsFine Sum t) (cond b [] ((0, sum) ∷ []))) [ true ↦ All-nil (IsFine Sum t) | false ↦ All-cons (IsFine Sum t) (0, sum) [] (small, value) (All-nil (IsFine Sum t)) ]
-notice_fine Distinct items t small each = All-nil (IsFine Distinct t)
-notice_fine Sink items t small each = All-nil (IsFine Sink t)
+notice_fine o items t small each = All-nil (IsFine o t)

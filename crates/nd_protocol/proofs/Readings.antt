@@ -13,7 +13,7 @@ use Rattle.nd_protocol.specs.Invariant.{sum_of, total, HoldsToken, pending, IsSe
 use Rattle.nd_protocol.proofs.Core.{IsIn, IsFinite, IsBalanced, IsSound, sum_at, pending as reading_pending}
 use Rattle.nd_protocol.proofs.Reading.{reading}
 use Rattle.nd_protocol.proofs.Counts.{truth-count}
-use Rattle.nd_protocol.proofs.Kept.{total_same}
+use Rattle.nd_protocol.proofs.Preservation.{total_same}
 use Rattle.nd_protocol.proofs.UprightSums.{upright_same}
 
 found : (es : List (Pointstamp × ℤ)) (x : Pointstamp) → or_zero (find point_cmp x es) ≢ pos 0 → IsIn (map (λ e. e.0) es) x

@@ -14,7 +14,7 @@ use Rattle.nd_protocol.specs.declared.step.Step.TheVariants.{Feed, Take, Notice,
 use Rattle.nd_protocol.specs.declared.refusal.Refusal.TheVariants.{QueueEmpty}
 use Rattle.nd_protocol.proofs.Arcs.{IsTransitive, CouldIsTransitive, strict_order}
 use Rattle.nd_protocol.proofs.Core.{IsSound, Steps}
-use Rattle.nd_protocol.proofs.Kept.{sent_balanced, taken_balanced, step_kept as kept_by_step}
+use Rattle.nd_protocol.proofs.Preservation.{sent_balanced, taken_balanced, step_kept as kept_by_step}
 use Rattle.nd_protocol.proofs.Reading.{reading}
 use Rattle.nd_protocol.proofs.Readings.{change_finite, balanced_of, settled_of, sound_of, keeps_of}
 use Rattle.nd_protocol.proofs.Shape.{Work, feeding, taking, noticing, performer, performed, IsPossible, done}

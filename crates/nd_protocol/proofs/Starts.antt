@@ -9,7 +9,7 @@ use Rattle.std.specs.declared.cmp.Ordering.{Ordering}
 use Rattle.std.specs.FinMap as fin
 use Rattle.nd_time.specs.Limits.{max_count, max_locations, max_processors}
 use Rattle.nd_graph.specs.declared.op.Op.{Op}
-use Rattle.nd_graph.specs.declared.op.Op.TheVariants.{Input, Ingress, Egress, Feedback, Add, Mul, Below, Split, Sum, Distinct, Sink}
+use Rattle.nd_graph.specs.declared.op.Op.TheVariants.{Input, Sink}
 use Rattle.nd_graph.specs.declared.graph.Vertex.{Vertex}
 use Rattle.nd_graph.specs.Graph.{Dataflow, op_at, location_count}
 use Rattle.nd_graph.specs.Checked.{is_input, IsFaultless}
@@ -35,7 +35,7 @@ use Rattle.nd_protocol.proofs.Keys.{inserted_is}
 use Rattle.nd_protocol.proofs.Ranges.{flat_small}
 use Rattle.nd_protocol.proofs.Readings.{counted, keeps_of}
 use Rattle.nd_protocol.proofs.Fitness.{outstanding_fits, zero_or_some}
-use Rattle.nd_protocol.proofs.Kept.{start_sound}
+use Rattle.nd_protocol.proofs.Preservation.{start_sound}
 
 -- ---- lists of equal elements
 
@@ -82,16 +82,7 @@ start_keeps trans g o n =
 
 input_op : (o : Op) → is_input o ≡ true → o ≡ Input
 input_op Input e = refl
-input_op Ingress e = absurd (cc)
-input_op Egress e = absurd (cc)
-input_op Feedback e = absurd (cc)
-input_op (Add k) e = absurd (cc)
-input_op (Mul k) e = absurd (cc)
-input_op (Below k) e = absurd (cc)
-input_op (Split k) e = absurd (cc)
-input_op Sum e = absurd (cc)
-input_op Distinct e = absurd (cc)
-input_op Sink e = absurd (cc)
+input_op o e = absurd (cc)
 
 nothing_found : {K X : Type 0} (R : K → K → Ordering) (q : K) (v : X) → fin.get (fin.empty {X = X} {R = R}) q ≡ Some v → ⊥
 nothing_found R q v e = absurd (cc (fin.get-empty R q, e))

@@ -22,7 +22,7 @@ use Rattle.nd_protocol.proofs.Takes.{take_cause, notice_cause}
 use Rattle.nd_protocol.proofs.Feeds.{feed_cause}
 use Rattle.nd_protocol.proofs.Readings.{counted, balanced_of, settled_of}
 use Rattle.nd_protocol.proofs.UprightSums.{upright_wider}
-use Rattle.nd_protocol.proofs.Kept.{performed_balanced}
+use Rattle.nd_protocol.proofs.Preservation.{performed_balanced}
 
 module _ (s : ClusterState) (x : Work) where
   -- a field that neither the records nor the unsent change are

@@ -1,6 +1,6 @@
 pub mod State
 pub mod Steps
-pub mod Truth
+pub mod TruthLaws
 pub mod Ranges
 pub mod Fitting
 pub mod Refusals

@@ -46,9 +46,7 @@ impl<A: Allocator> Points<A> {
         ensures ok { OnOk result (self.new ≡ self.old ++ point ∷ []) }
         ensures err { OnErr result (self.new ≡ self.old) }
     {
-        let Ok(()) = self.items.push(point) else {
-            return Err(AllocError);
-        };
+        self.items.push(point)?;
         Ok(())
     }
 
@@ -56,11 +54,10 @@ impl<A: Allocator> Points<A> {
     pub fn copy(&self, alloc: A) -> Result<Points<A>, AllocError>
         ensures { IfOk result (λ v. v ≡ self.now) }
     {
-        let mut items = Vec::with_capacity(alloc, self.items.len())?;
-        for point in &self.items {
-            items.push(point.copy())?;
-        }
-        Ok(Points { items })
+        let items = self.items.iter().map(|point: &Pointstamp| point.copy());
+        Ok(Points {
+            items: items.collect(alloc)?,
+        })
     }
 
     // Whether both name the same pointstamps, in one order.

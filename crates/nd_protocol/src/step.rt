@@ -42,9 +42,7 @@ impl<A: Allocator> Values<A> {
         ensures ok { OnOk result (self.new ≡ self.old ++ value ∷ []) }
         ensures err { OnErr result (self.new ≡ self.old) }
     {
-        let Ok(()) = self.items.push(value) else {
-            return Err(AllocError);
-        };
+        self.items.push(value)?;
         Ok(())
     }
 

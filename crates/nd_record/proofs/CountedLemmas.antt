@@ -17,7 +17,7 @@ use Rattle.nd_processor.specs.State.{ProcessorState, idle}
 use Rattle.nd_protocol.specs.State.{ClusterState, processor, view, queue}
 use Rattle.nd_protocol.specs.Exchange.{IsPart, sent, received, received_from}
 use Rattle.nd_protocol.specs.Fitting.{KeysFit}
-use Rattle.nd_protocol.specs.Truth.{kept-set}
+use Rattle.nd_protocol.specs.TruthLaws.{kept-set}
 use Rattle.nd_record.specs.Places.{Place, place_at, records_at, request_at, token_at, item_at, sink_at, unsent_at, view_of}
 use Rattle.nd_record.specs.Slots.{from_request, from_epoch}
 use Rattle.nd_record.specs.Standing.{standing, difference, queues_changed, changed}

@@ -7,21 +7,20 @@ use Rattle.std.specs.List.{IsDistinct}
 use Rattle.std.specs.Ordering.{eq_by_cmp}
 use Rattle.nd_map.specs.Counts.{at, set, at-set}
 use Rattle.nd_time.specs.Time.{Time}
-use Rattle.nd_graph.specs.Operators.{facts}
 use Rattle.nd_graph.specs.declared.op.Op.{Op}
-use Rattle.nd_graph.specs.declared.op.Op.TheVariants.{Input, Ingress, Egress, Feedback, Add, Mul, Below, Split, Sum, Distinct, Sink}
+use Rattle.nd_graph.specs.declared.op.Op.TheVariants.{Sum, Distinct}
 use Rattle.nd_vertex.specs.Items.{Items, item_cmp, item_total}
-use Rattle.nd_vertex.specs.Table.{on_record, on_notice, is_zero}
+use Rattle.nd_vertex.specs.Table.{plain_emissions, reacted, on_notice, emits, is_zero}
 use Rattle.nd_vertex.specs.Edits.{LeadsTo, item_of, number_of, with_item}
 use Rattle.nd_vertex.specs.Effects.{AreValues}
 use Rattle.nd_vertex.specs.declared.key.ItemKey.{ItemKey}
 use Rattle.nd_vertex.proofs.EditsLemmas.{put_same, number_at, itself}
 
-one : {X : Type 0} (P : X → Type 0) (x : X) → P x → All P (x ∷ [])
+pub one : {X : Type 0} (P : X → Type 0) (x : X) → P x → All P (x ∷ [])
 one P x p zero d lt = p
 one P x p (suc i) d lt = absurd (omega arith)
 
-nothing : {X : Type 0} (P : X → Type 0) → All P []
+pub nothing : {X : Type 0} (P : X → Type 0) → All P []
 nothing P i d lt = absurd (omega arith)
 
 pub leads_none : (m n : Items) → m ≡ n → LeadsTo m [] n
@@ -52,31 +51,15 @@ pub values_set : (m : Items) (k : ItemKey) (z : ℤ) → AreValues m → FitsSig
 values_set m k z values fits q = subst (FitsSigned w64) (sym (at-set item_total m k z q)) (either (eq_by_cmp item_cmp q k) z (at m q) (fits) (values q))
 
 -- operators that keep nothing
-pub unchanged : (op : Op) (m : Items) (t : Time) (v : ℤ) → (op ≡ Sum → ⊥) → (op ≡ Distinct → ⊥) → (on_record op m t v).items ≡ m
-unchanged Input m t v s d = refl
-unchanged Ingress m t v s d = refl
-unchanged Egress m t v s d = refl
-unchanged Feedback m t v s d = refl
-unchanged (Add k) m t v s d = refl
-unchanged (Mul k) m t v s d = refl
-unchanged (Below k) m t v s d = refl
-unchanged (Split k) m t v s d = refl
-unchanged Sum m t v s d = absurd (s refl)
-unchanged Distinct m t v s d = absurd (d refl)
-unchanged Sink m t v s d = refl
+pub reacted_plain : (op : Op) (m : Items) (t : Time) (v : ℤ) → ¬ (op ≡ Sum) → ¬ (op ≡ Distinct) → reacted op m t v ≡ (plain_emissions op v, m)
+reacted_plain Sum m t v s d = absurd (s refl)
+reacted_plain Distinct m t v s d = absurd (d refl)
+reacted_plain op m t v s d = refl
 
-pub left_alone : (op : Op) (m : Items) (t : Time) → (op ≡ Sum → ⊥) → (op ≡ Distinct → ⊥) → (on_notice op m t).items ≡ m
-left_alone Input m t s d = refl
-left_alone Ingress m t s d = refl
-left_alone Egress m t s d = refl
-left_alone Feedback m t s d = refl
-left_alone (Add k) m t s d = refl
-left_alone (Mul k) m t s d = refl
-left_alone (Below k) m t s d = refl
-left_alone (Split k) m t s d = refl
-left_alone Sum m t s d = absurd (s refl)
-left_alone Distinct m t s d = absurd (d refl)
-left_alone Sink m t s d = refl
+pub noticed_plain : (op : Op) (m : Items) (t : Time) → ¬ (op ≡ Sum) → ¬ (op ≡ Distinct) → on_notice op m t ≡ emits m []
+noticed_plain Sum m t s d = absurd (s refl)
+noticed_plain Distinct m t s d = absurd (d refl)
+noticed_plain op m t s d = refl
 
 -- ---- a sum's new number, and what a distinct has
 
@@ -102,31 +85,3 @@ pub is_absent : (z : ℤ) → None ≡ cond (is_zero z) None (Some z) → is_zer
 is_absent (pos zero) e = refl
 is_absent (pos (suc n)) e = absurd (cc)
 is_absent (negsuc n) e = absurd (cc)
-
--- ---- what the table says of every record
-
-pub asks_is : (op : Op) (m : Items) (t : Time) (v : ℤ) → (on_record op m t v).asks ≡ (facts op).asks
-asks_is Input m t v = refl
-asks_is Ingress m t v = refl
-asks_is Egress m t v = refl
-asks_is Feedback m t v = refl
-asks_is (Add k) m t v = refl
-asks_is (Mul k) m t v = refl
-asks_is (Below k) m t v = refl
-asks_is (Split k) m t v = refl
-asks_is Sum m t v = refl
-asks_is Distinct m t v = refl
-asks_is Sink m t v = refl
-
-pub counts_is : (op : Op) (m : Items) (t : Time) (v : ℤ) → (on_record op m t v).counts ≡ (facts op).counts
-counts_is Input m t v = refl
-counts_is Ingress m t v = refl
-counts_is Egress m t v = refl
-counts_is Feedback m t v = refl
-counts_is (Add k) m t v = refl
-counts_is (Mul k) m t v = refl
-counts_is (Below k) m t v = refl
-counts_is (Split k) m t v = refl
-counts_is Sum m t v = refl
-counts_is Distinct m t v = refl
-counts_is Sink m t v = refl

@@ -20,6 +20,10 @@ number_of n = or_else (pos 0) n
 abbrev pub with_item : Items → ItemKey → Option ℤ → Items
 with_item m k n = set item_total m k (number_of n)
 
+-- the items after an edit, if it is wanted
+abbrev pub edited_if : Bool → Items → ItemEdit → Items
+edited_if wanted m e = cond wanted (with_item m e.key e.new) m
+
 -- the items after edits, one after another
 abbrev pub edited : Items → List ItemEdit → Items
 edited m [] = m

@@ -9,11 +9,12 @@ use Rattle.nd_graph.specs.declared.op.Op.{Op}
 use Rattle.nd_graph.specs.declared.op.Action.{Action}
 use Rattle.nd_graph.specs.declared.op.Action.TheVariants as action
 use Rattle.nd_vertex.specs.Items.{Items}
-use Rattle.nd_vertex.specs.Table.{Outcome, time_past}
+use Rattle.nd_vertex.specs.Table.{Outcome, on_record, time_past}
 use Rattle.nd_vertex.specs.Edits.{LeadsTo}
 use Rattle.nd_vertex.specs.declared.key.ItemKey.{ItemKey}
 use Rattle.nd_vertex.specs.declared.effect.Emission.{Emission}
 use Rattle.nd_vertex.specs.declared.effect.Effect.{Effect}
+use Rattle.nd_vertex.specs.declared.react.Reaction.{Reaction}
 
 -- what is emitted at a timestamp
 abbrev pub emitted : Time → List (ℕ × ℤ) → List Emission
@@ -42,12 +43,29 @@ pub record IsCounterFull (op : Op) (t : Time) : Type 0 where
 abbrev pub AreValues : Items → Type 0
 AreValues m = (k : ItemKey) → FitsSigned w64 (at m k)
 
--- every value that is emitted, and every item's number, has 64 bits
+-- every value that is emitted has 64 bits
+abbrev pub AreEmittable : List (ℕ × ℤ) → Type 0
+AreEmittable es = All (λ e. FitsSigned w64 e.1) es
+
+-- so has it, and so has every item's number
 pub record IsInRange (o : Outcome) : Type 0 where
-  pub emissions : All (λ e. FitsSigned w64 e.1) o.emissions
+  pub emissions : AreEmittable o.emissions
   pub items : AreValues o.items
+
+-- no counter is full, and each number has 64 bits
+abbrev pub MayReact : Items → Op → Time → ℤ → Type 0
+MayReact m op t v = (¬ IsCounterFull op t) × IsInRange (on_record op m t v)
+
+-- no counter is full, but a number leaves 64 bits
+abbrev pub IsOutOfRange : Items → Op → Time → ℤ → Type 0
+IsOutOfRange m op t v = (¬ IsCounterFull op t) × (¬ IsInRange (on_record op m t v))
 
 -- none, or one
 abbrev pub listed : {X : Type 0} → Option X → List X
 listed None = []
 listed (Some x) = x ∷ []
+
+-- what is emitted and edited on a record, of these items, is what the table says
+pub record IsReaction (m : Items) (op : Op) (t : Time) (v : ℤ) (r : Reaction) : Type 0 where
+  pub output : listed r.output ≡ (on_record op m t v).emissions
+  pub edit : LeadsTo m (listed r.edit) (on_record op m t v).items

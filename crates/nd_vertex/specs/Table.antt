@@ -4,6 +4,7 @@ use Rattle.std.specs.Ordering.{eq_by_cmp}
 use Rattle.nd_map.specs.Counts.{at, added, set, only}
 use Rattle.nd_time.specs.Time.{Time}
 use Rattle.nd_graph.specs.Graph.{action_of, acted}
+use Rattle.nd_graph.specs.Operators.{facts}
 use Rattle.nd_graph.specs.declared.op.Op.{Op}
 use Rattle.nd_graph.specs.declared.op.Op.TheVariants.{Input, Ingress, Egress, Feedback, Add, Mul, Below, Split, Sum, Distinct, Sink}
 use Rattle.nd_time.specs.Listing.{time_cmp}
@@ -21,7 +22,7 @@ pub record Outcome : Type 0 where
   -- whether it counts the value
   pub counts : Bool
 
--- it emits, and nothing else
+-- it keeps items and emits, and nothing else
 abbrev pub emits : Items → List (ℕ × ℤ) → Outcome
 emits items es = record { emissions = es; items = items; asks = false; counts = false }
 
@@ -30,41 +31,49 @@ is_zero (pos zero) = true
 is_zero (pos (suc n)) = false
 is_zero (negsuc n) = false
 
--- on a record of value v at the timestamp t
+-- the items at other timestamps
+abbrev pub without_time : Items → Time → Items
+without_time items t = only item_total (λ (k : ItemKey). not (eq_by_cmp time_cmp k.time t)) items
+
+-- what an operator emits on a record of value v, whatever its vertex keeps
+abbrev pub plain_emissions : Op → ℤ → List (ℕ × ℤ)
+plain_emissions Input v = []
+plain_emissions Ingress v = (0, v) ∷ []
+plain_emissions Egress v = (0, v) ∷ []
+plain_emissions Feedback v = (0, v) ∷ []
+plain_emissions (Add k) v = (0, v +ℤ k) ∷ []
+plain_emissions (Mul k) v = (0, v *ℤ k) ∷ []
+plain_emissions (Below k) v = cond (int_lt v k) ((0, v) ∷ []) []
+plain_emissions (Split k) v = (cond (int_lt v k) 0 1, v) ∷ []
+plain_emissions Sink v = []
+-- a sum and a distinct go by what is kept, below
+plain_emissions Sum v = []
+plain_emissions Distinct v = []
+
+-- on a record of value v at the timestamp t: what is emitted, and what is kept then
+abbrev pub reacted : Op → Items → Time → ℤ → List (ℕ × ℤ) × Items
+-- a sum is kept under the item 0
+reacted Sum items t v = ([], added item_total items (item_key t (pos 0)) v)
+-- of a value that is there already, nothing
+reacted Distinct items t v =
+    let is_new = is_zero (at items (item_key t v)) in
+    (cond is_new ((0, v) ∷ []) [], cond is_new (set item_total items (item_key t v) (pos 1)) items)
+-- any other operator keeps nothing
+reacted op items t v = (plain_emissions op v, items)
+
+-- on a record; whether it asks and counts are facts of the operator
 abbrev pub on_record : Op → Items → Time → ℤ → Outcome
-on_record Input items t v = emits items []
-on_record Ingress items t v = emits items ((0, v) ∷ [])
-on_record Egress items t v = emits items ((0, v) ∷ [])
-on_record Feedback items t v = emits items ((0, v) ∷ [])
-on_record (Add k) items t v = emits items ((0, v +ℤ k) ∷ [])
-on_record (Mul k) items t v = emits items ((0, v *ℤ k) ∷ [])
-on_record (Below k) items t v = emits items (cond (int_lt v k) ((0, v) ∷ []) [])
-on_record (Split k) items t v = emits items ((cond (int_lt v k) 0 1, v) ∷ [])
--- a sum keeps it under the item 0
-on_record Sum items t v = record { emissions = []; items = added item_total items (item_key t (pos 0)) v; asks = true; counts = false }
-on_record Distinct items t v = record {
-  emissions = cond (is_zero (at items (item_key t v))) ((0, v) ∷ []) [];
-  items = cond (is_zero (at items (item_key t v))) (set item_total items (item_key t v) (pos 1)) items;
-  asks = true;
-  counts = false;
-}
-on_record Sink items t v = record { emissions = []; items = items; asks = false; counts = true }
+on_record op items t v =
+    let reaction = reacted op items t v in
+    record { emissions = reaction.0; items = reaction.1; asks = (facts op).asks; counts = (facts op).counts }
 
 -- on a notice at the timestamp t
 abbrev pub on_notice : Op → Items → Time → Outcome
 on_notice Sum items t =
     let sum = at items (item_key t (pos 0)) in
     emits (set item_total items (item_key t (pos 0)) (pos 0)) (cond (is_zero sum) [] ((0, sum) ∷ []))
-on_notice Distinct items t = emits (only item_total (λ (k : ItemKey). not (eq_by_cmp time_cmp k.time t)) items) []
-on_notice Input items t = emits items []
-on_notice Ingress items t = emits items []
-on_notice Egress items t = emits items []
-on_notice Feedback items t = emits items []
-on_notice (Add k) items t = emits items []
-on_notice (Mul k) items t = emits items []
-on_notice (Below k) items t = emits items []
-on_notice (Split k) items t = emits items []
-on_notice Sink items t = emits items []
+on_notice Distinct items t = emits (without_time items t) []
+on_notice op items t = emits items []
 
 -- the timestamp of what a vertex emits
 abbrev pub time_past : Op → Time → Time

@@ -1,6 +1,6 @@
 //! The edits of an effect, made and taken back.
-ghost use Rattle.std.specs.Prelude.{◌≡◌, ◌≢◌, None, Some, Bool, cond, map, OnOk, OnErr, IsTrue, pos};
-ghost use Rattle.nd_vertex.specs.Edits.{CanEdit, item_of, with_item, edited, turned, directed};
+ghost use Rattle.std.specs.Prelude.{◌≡◌, ◌≢◌, None, Some, map, OnOk, OnErr, IsTrue, pos};
+ghost use Rattle.nd_vertex.specs.Edits.{CanEdit, item_of, edited_if, edited, turned, directed};
 
 use crate::{Effect, ItemEdit, VertexState};
 use std::alloc::{AllocError, Allocator};
@@ -10,18 +10,15 @@ impl<A: Allocator + Copy> VertexState<A> {
     fn make(&mut self, wanted: bool, edit: &ItemEdit) -> Result<(), AllocError>
         requires there { IsTrue wanted → item_of self.old edit.now.key ≡ edit.now.old }
         requires some { IsTrue wanted → edit.now.new ≢ Some (pos 0) }
-        ensures ok { OnOk result (self.new ≡ cond wanted (with_item self.old edit.now.key edit.now.new) self.old) }
+        ensures ok { OnOk result (self.new ≡ edited_if wanted self.old edit.now) }
         ensures err { OnErr result (self.new ≡ self.old) }
         ensures wanted { OnErr result (IsTrue wanted) }
         ensures absent { OnErr result (edit.now.old ≡ None) }
         ensures growing { OnErr result (edit.now.new ≢ None) }
     {
-        if !wanted {
-            return Ok(());
+        if wanted {
+            self.set(&edit.key.time, edit.key.item, edit.old, edit.new)?;
         }
-        let Ok(()) = self.set(&edit.key.time, edit.key.item, edit.old, edit.new) else {
-            return Err(AllocError);
-        };
         Ok(())
     }
 
@@ -57,12 +54,11 @@ impl<A: Allocator + Copy> VertexState<A> {
         requires { CanEdit self.old effect.now.items.items }
         ensures ok { OnOk result (self.new ≡ edited self.old effect.now.items.items) }
         ensures back { OnOk result (CanEdit self.new (map turned effect.now.items.items)) }
-        ensures undone { OnOk result (edited self.new (map turned effect.now.items.items) ≡ self.old) }
+        ensures undone { OnOk result
+            (edited self.new (map turned effect.now.items.items) ≡ self.old) }
         ensures err { OnErr result (self.new ≡ self.old) }
     {
-        let Ok(()) = self.make_all(&effect.items, false) else {
-            return Err(AllocError);
-        };
+        self.make_all(&effect.items, false)?;
         Ok(())
     }
 
@@ -72,9 +68,7 @@ impl<A: Allocator + Copy> VertexState<A> {
         ensures ok { OnOk result (self.new ≡ edited self.old (map turned effect.now.items.items)) }
         ensures err { OnErr result (self.new ≡ self.old) }
     {
-        let Ok(()) = self.make_all(&effect.items, true) else {
-            return Err(AllocError);
-        };
+        self.make_all(&effect.items, true)?;
         Ok(())
     }
 }

@@ -1,15 +1,10 @@
 //! What a vertex does on records and notices: the table of operators (this project's own rule).
-ghost use Rattle.std.specs.Prelude.{◌≡◌, ◌≢◌, ◌↔◌, Some, None, Err, IfOk, IfErr, IsErr, All, FitsSigned, ℤ, pos, length, not};
-ghost use mir.Syntax.{w64};
+ghost use Rattle.std.specs.Prelude.{◌≡◌, ◌≢◌, ◌↔◌, Some, Err, IfOk, IfErr, IsErr, pos, length};
 ghost use Rattle.nd_graph.specs.Graph.{action_of};
-ghost use Rattle.std.specs.Ordering.{eq_by_cmp};
-ghost use Rattle.nd_map.specs.Counts.{only};
-ghost use Rattle.nd_time.specs.Time.{Time};
-ghost use Rattle.nd_time.specs.Listing.{time_cmp};
-ghost use Rattle.nd_vertex.specs.Items.{Items, item_key, item_total};
-ghost use Rattle.nd_vertex.specs.Table.{on_record as recorded, on_notice as noticed, time_past as past_of};
+ghost use Rattle.nd_vertex.specs.Items.{item_key};
+ghost use Rattle.nd_vertex.specs.Table.{plain_emissions, on_record as recorded, on_notice as noticed, time_past as past_of, without_time};
 ghost use Rattle.nd_vertex.specs.Edits.{LeadsTo, number_of, with_item};
-ghost use Rattle.nd_vertex.specs.Effects.{IsEffect, IsCounterFull, IsInRange, AreValues, MayActAt, emitted, listed};
+ghost use Rattle.nd_vertex.specs.Effects.{IsEffect, IsReaction, IsCounterFull, AreEmittable, IsInRange, IsOutOfRange, MayReact, MayActAt, emitted, listed};
 
 use crate::{Effect, Emission, ItemEdit, ItemKey, VertexFault, VertexState};
 use nd_graph::{Action, Op};
@@ -38,20 +33,6 @@ fn nonzero(n: i64) -> Option<i64>
     if n == 0 { None } else { Some(n) }
 }
 
-// Whether the operator asks for a notice on a record.
-fn asks_for_notices(op: Op) -> bool
-    ensures { (m : Items) → (t : Time) → (v : ℤ) → (recorded op m t v).asks ≡ result }
-{
-    op.asks_for_notices()
-}
-
-// Whether the operator counts the values of records.
-fn counts_values(op: Op) -> bool
-    ensures { (m : Items) → (t : Time) → (v : ℤ) → (recorded op m t v).counts ≡ result }
-{
-    op.counts_values()
-}
-
 // None, or one.
 fn list_of<T: Drop, A: Allocator>(alloc: A, item: Option<T>) -> Result<Vec<T, A>, AllocError>
     ensures { IfOk result (λ v. v.items ≡ listed item) }
@@ -73,55 +54,55 @@ fn emission_of(time: Timestamp, output: Option<(u32, i64)>) -> Option<Emission>
     }
 }
 
-impl<A: Allocator + Copy> VertexState<A> {
-    // The value that a record makes a vertex emit, with its port.
-    fn output(
-        &self,
-        op: Op,
-        time: &Timestamp,
-        value: i64,
-    ) -> Result<Option<(u32, i64)>, VertexFault>
-        ensures ok { IfOk result (λ e. listed e ≡ (recorded op self.now time.now value).emissions) }
-        ensures fits { IfOk result (λ _. All (λ e. FitsSigned w64 e.1) (recorded op self.now time.now value).emissions) }
-        ensures fault { IfErr result (λ f. f ≡ VertexFault.ValueRange) }
-        ensures range { IfErr result (λ _. IsInRange (recorded op self.now time.now value) → ⊥) }
-    {
-        match op {
-            Op::Input | Op::Sum | Op::Sink => Ok(None),
-            Op::Ingress | Op::Egress | Op::Feedback => Ok(Some((0, value))),
-            Op::Add(k) => match value.checked_add(k) {
-                Some(sum) => Ok(Some((0, sum))),
-                None => Err(VertexFault::ValueRange),
-            },
-            Op::Mul(k) => match value.checked_mul(k) {
-                Some(product) => Ok(Some((0, product))),
-                None => Err(VertexFault::ValueRange),
-            },
-            Op::Below(k) => {
-                if value < k {
-                    Ok(Some((0, value)))
-                } else {
-                    Ok(None)
-                }
+// What a vertex does with a record, beside asking for a notice and counting.
+struct Reaction {
+    // The value that it emits, with its port.
+    output: Option<(u32, i64)>,
+    // The edit of the item that it changes.
+    edit: Option<ItemEdit>,
+}
+
+// What an operator emits on a record whatever its vertex keeps, with its port.
+fn plain_output(op: Op, value: i64) -> Result<Option<(u32, i64)>, VertexFault>
+    ensures ok { IfOk result (λ e. listed e ≡ plain_emissions op value) }
+    ensures fits { IfOk result (λ _. AreEmittable (plain_emissions op value)) }
+    ensures fault { IfErr result (λ f. f ≡ VertexFault.ValueRange) }
+    ensures range { IfErr result (λ _. ¬ AreEmittable (plain_emissions op value)) }
+{
+    match op {
+        Op::Input | Op::Sum | Op::Distinct | Op::Sink => Ok(None),
+        Op::Ingress | Op::Egress | Op::Feedback => Ok(Some((0, value))),
+        Op::Add(k) => match value.checked_add(k) {
+            Some(sum) => Ok(Some((0, sum))),
+            None => Err(VertexFault::ValueRange),
+        },
+        Op::Mul(k) => match value.checked_mul(k) {
+            Some(product) => Ok(Some((0, product))),
+            None => Err(VertexFault::ValueRange),
+        },
+        Op::Below(k) => {
+            if value < k {
+                Ok(Some((0, value)))
+            } else {
+                Ok(None)
             }
-            Op::Split(k) => {
-                if value < k {
-                    Ok(Some((0, value)))
-                } else {
-                    Ok(Some((1, value)))
-                }
+        }
+        Op::Split(k) => {
+            if value < k {
+                Ok(Some((0, value)))
+            } else {
+                Ok(Some((1, value)))
             }
-            Op::Distinct => match self.get(time, value) {
-                Some(_) => Ok(None),
-                None => Ok(Some((0, value))),
-            },
         }
     }
+}
 
+impl<A: Allocator + Copy> VertexState<A> {
     // The edit that gives an item a number or takes it out, none if it changes nothing.
     fn change(&self, time: &Timestamp, item: i64, new: Option<i64>) -> Option<ItemEdit>
         requires { new ≢ Some (pos 0) }
-        ensures { LeadsTo self.now (listed result) (with_item self.now (item_key time.now item) new) }
+        ensures { LeadsTo self.now (listed result)
+            (with_item self.now (item_key time.now item) new) }
     {
         let old = self.get(time, item);
         if old == new {
@@ -134,24 +115,54 @@ impl<A: Allocator + Copy> VertexState<A> {
         Some(ItemEdit { key, old, new })
     }
 
-    // The edit of the item that a record changes.
-    fn edit(&self, op: Op, time: &Timestamp, value: i64) -> Result<Option<ItemEdit>, VertexFault>
-        ensures ok { IfOk result (λ e. LeadsTo self.now (listed e) (recorded op self.now time.now value).items) }
-        ensures fits { IfOk result (λ _. AreValues (recorded op self.now time.now value).items) }
+    // A sum adds the value to what it keeps, and emits nothing yet.
+    fn sum(&self, time: &Timestamp, value: i64) -> Result<Reaction, VertexFault>
+        ensures ok { IfOk result (λ r. IsReaction self.now Op.Sum time.now value r) }
+        ensures fits { IfOk result (λ _. IsInRange (recorded Op.Sum self.now time.now value)) }
         ensures fault { IfErr result (λ f. f ≡ VertexFault.ValueRange) }
-        ensures range { IfErr result (λ _. IsInRange (recorded op self.now time.now value) → ⊥) }
+        ensures range { IfErr result (λ _. ¬ IsInRange (recorded Op.Sum self.now time.now value)) }
+    {
+        match self.get(time, 0).unwrap_or(0).checked_add(value) {
+            Some(sum) => Ok(Reaction {
+                output: None,
+                edit: self.change(time, 0, nonzero(sum)),
+            }),
+            None => Err(VertexFault::ValueRange),
+        }
+    }
+
+    // A distinct emits and keeps a value that it sees for the first time.
+    fn distinct(&self, time: &Timestamp, value: i64) -> Reaction
+        ensures ok { IsReaction self.now Op.Distinct time.now value result }
+        ensures fits { IsInRange (recorded Op.Distinct self.now time.now value) }
+    {
+        match self.get(time, value) {
+            Some(_) => Reaction {
+                output: None,
+                edit: None,
+            },
+            None => Reaction {
+                output: Some((0, value)),
+                edit: self.change(time, value, Some(1)),
+            },
+        }
+    }
+
+    // What a vertex emits on a record, and which item it changes.
+    fn reaction(&self, op: Op, time: &Timestamp, value: i64) -> Result<Reaction, VertexFault>
+        ensures ok { IfOk result (λ r. IsReaction self.now op time.now value r) }
+        ensures fits { IfOk result (λ _. IsInRange (recorded op self.now time.now value)) }
+        ensures fault { IfErr result (λ f. f ≡ VertexFault.ValueRange) }
+        ensures range { IfErr result (λ _. ¬ IsInRange (recorded op self.now time.now value)) }
     {
         let _ = &self.map;
         match op {
-            Op::Sum => match self.get(time, 0).unwrap_or(0).checked_add(value) {
-                Some(sum) => Ok(self.change(time, 0, nonzero(sum))),
-                None => Err(VertexFault::ValueRange),
-            },
-            Op::Distinct => match self.get(time, value) {
-                Some(_) => Ok(None),
-                None => Ok(self.change(time, value, Some(1))),
-            },
-            _ => Ok(None),
+            Op::Sum => self.sum(time, value),
+            Op::Distinct => Ok(self.distinct(time, value)),
+            _ => Ok(Reaction {
+                output: plain_output(op, value)?,
+                edit: None,
+            }),
         }
     }
 
@@ -167,19 +178,20 @@ impl<A: Allocator + Copy> VertexState<A> {
         value: i64,
     ) -> Result<Effect<A>, VertexFault>
         requires { MayActAt (action_of op) (length time.now.counters) }
-        ensures ok { IfOk result (IsEffect self.now op time.now (recorded op self.now time.now value)) }
+        ensures ok { IfOk result
+            (IsEffect self.now op time.now (recorded op self.now time.now value)) }
         ensures full { (result ≡ Err VertexFault.CounterFull) ↔ IsCounterFull op time.now }
-        ensures range { (result ≡ Err VertexFault.ValueRange) ↔ ((IsCounterFull op time.now → ⊥) × (IsInRange (recorded op self.now time.now value) → ⊥)) }
-        ensures memory { result ≡ Err VertexFault.Memory → (IsCounterFull op time.now → ⊥) × IsInRange (recorded op self.now time.now value) }
+        ensures range { (result ≡ Err VertexFault.ValueRange)
+            ↔ IsOutOfRange self.now op time.now value }
+        ensures memory { result ≡ Err VertexFault.Memory → MayReact self.now op time.now value }
     {
         let past = time_past(op, time)?;
-        let output = self.output(op, time, value)?;
-        let edit = self.edit(op, time, value)?;
+        let Reaction { output, edit } = self.reaction(op, time, value)?;
         Ok(Effect {
             emits: list_of(alloc, emission_of(past, output))?,
-            asks: asks_for_notices(op),
+            asks: op.asks_for_notices(),
             items: list_of(alloc, edit)?,
-            sink: counts_values(op),
+            sink: op.counts_values(),
         })
     }
 
@@ -198,7 +210,7 @@ impl<A: Allocator + Copy> VertexState<A> {
 
     // The edits that take out all items at a timestamp. It looks at these alone.
     fn removals(&self, alloc: A, time: &Timestamp) -> Result<Vec<ItemEdit, A>, AllocError>
-        ensures { IfOk result (λ v. LeadsTo self.now v.items (only item_total (λ (k : ItemKey). not (eq_by_cmp time_cmp k.time time.now)) self.now)) }
+        ensures { IfOk result (λ v. LeadsTo self.now v.items (without_time self.now time.now)) }
     {
         let first = ItemKey {
             time: time.copy(),

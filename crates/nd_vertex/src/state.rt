@@ -88,13 +88,10 @@ impl<A: Allocator + Copy> VertexState<A> {
             time: time.copy(),
             item,
         };
-        let Some(number) = new else {
-            self.map.remove(&key);
-            return Ok(());
-        };
-        let Ok(()) = self.map.put(&key, number) else {
-            return Err(AllocError);
-        };
+        match new {
+            Some(number) => self.map.put(&key, number)?,
+            None => self.map.remove(&key),
+        }
         Ok(())
     }
 

@@ -13,7 +13,7 @@ use Rattle.nd_paths.specs.declared.point.Pointstamp.{Pointstamp}
 use Rattle.nd_delta.specs.Change.{is_point, at}
 use Rattle.nd_processor.specs.State.{ProcessorState, held}
 use Rattle.nd_protocol.specs.State.{truth}
-use Rattle.nd_protocol.specs.Truth.{truth-count}
+use Rattle.nd_protocol.specs.TruthLaws.{truth-count}
 use Rattle.nd_why.specs.Why.{HasBefore}
 
 pub drop_past : {X : Type 0} (i : ℕ) (xs : List X) → length xs ≤ i → drop i xs ≡ []

@@ -12,7 +12,7 @@ use Rattle.nd_delta.specs.Change.{Change, none, at, plus, is_point, at-none, at-
 use Rattle.nd_processor.specs.State.{ProcessorState, idle, token_point, one_at, in_records, in_requests, in_tokens, held}
 use Rattle.nd_processor.specs.declared.key.ValueAt.{ValueAt}
 use Rattle.nd_protocol.specs.State.{ClusterState, processor, view, queue}
-use Rattle.nd_protocol.specs.Truth.{truth-count}
+use Rattle.nd_protocol.specs.TruthLaws.{truth-count}
 use Rattle.nd_protocol.specs.Invariant.{IsSettled, sum_of, pending, total}
 use Rattle.nd_why.specs.Why.{in_turn, if_at, records_at, requests_at, tokens_at, held_by, unless_zero, queued_behind, queued_at, unheard_from, unheard_at, amount, number, news, account, IsCounted, IsBalanced}
 use Rattle.nd_why.specs.declared.answer.Held.{Held}

@@ -12,7 +12,7 @@ use Rattle.nd_processor.specs.State.{ProcessorState, idle, one_at}
 use Rattle.nd_processor.specs.Held.{held-added}
 use Rattle.nd_processor.specs.declared.key.ValueAt.{ValueAt}
 use Rattle.nd_protocol.specs.Steps.{with_record, with_records}
-use Rattle.nd_protocol.specs.Truth.{count, count-set}
+use Rattle.nd_protocol.specs.TruthLaws.{count, count-set}
 use Rattle.nd_record.specs.Places.{Place, place_at, records_at, unsent_at}
 use Rattle.nd_record.specs.Edits.{total_at}
 use Rattle.nd_work.specs.Edits.{come_edits}

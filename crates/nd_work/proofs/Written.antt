@@ -14,7 +14,7 @@ use Rattle.nd_processor.specs.declared.key.ValueAt.{ValueAt}
 use Rattle.nd_processor.specs.declared.key.SinkKey.{SinkKey}
 use Rattle.nd_protocol.specs.State.{ClusterState, processor, view}
 use Rattle.nd_protocol.specs.Steps.{with_records, with_gain, gain}
-use Rattle.nd_protocol.specs.Truth.{length-records, kept-set, kept-records, count, count-set, gain-count}
+use Rattle.nd_protocol.specs.TruthLaws.{length-records, kept-set, kept-records, count, count-set, gain-count}
 use Rattle.nd_record.specs.Places.{Place, place_at, records_at, request_at, token_at, item_at, sink_at, unsent_at, view_of}
 use Rattle.nd_record.specs.Slots.{from_request, from_epoch}
 use Rattle.nd_record.specs.Standing.{standing}

@@ -1,6 +1,6 @@
 use Rattle.std.proofs.Common.{◌∙◌}
 use Rattle.std.proofs.lemmas.Slice.Eq.{slice_eq-Decides}
-use Rattle.nd_protocol.proofs.Same.{points_tell, matched}
+use Rattle.nd_protocol.proofs.Equality.{points_tell, matched}
 use Rattle.nd_protocol.proofs.part.Points.same.Goals as goal
 
 -- src/part.rt:67:5

@@ -1,7 +1,7 @@
 use Rattle.std.proofs.Common.{◌∙◌}
 use Rattle.std.proofs.lemmas.Bool.Decides.{Decides-int_eq}
 use Rattle.std.proofs.lemmas.Slice.Eq.{slice_eq-Decides}
-use Rattle.nd_protocol.proofs.Same.{matched}
+use Rattle.nd_protocol.proofs.Equality.{matched}
 use Rattle.nd_protocol.proofs.step.Values.same.Goals as goal
 
 -- src/step.rt:61:5

@@ -7,7 +7,7 @@ pub make_all-requires : goal.make_all-requires
 make_all-requires g c = rw (c.deref.ensures.value, straight) c.requires
 
 pub returns-clause-ok : goal.returns-clause-ok
-returns-clause-ok g c = rw (c.deref.ensures.value, straight) at c.in-Ok.ensures.ok
+returns-clause-ok g c = rw (c.deref.ensures.value, straight) at c.in_ok-make_all.ensures.ok
 
 pub returns-clause-back : goal.returns-clause-back
 returns-clause-back g c =

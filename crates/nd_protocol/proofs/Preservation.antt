@@ -1,4 +1,4 @@
--- Each step keeps the invariant.
+-- Each of the three moves keeps the invariant.
 use Rattle.std.proofs.Common.{◌≡◌, ◌≢◌, ℕ, zero, suc, ◌<◌, ◌≤◌, ◌⊎◌, inl, inr, List, [], ◌∷◌, ◌++◌, length, drop, refl, sym, subst, subst₂, ap, arith, ℤ, pos, ◌+ℤ◌}
 use Rattle.std.proofs.lemmas.Int.{ints}
 use Rattle.nd_protocol.proofs.Core.{IsStrictOrder, IsFinite, IsHeld, sum_at, Reading, pending, IsBalanced, IsSound, Adds, Performs, Broadcasts, Receives, Steps, IsStart}

@@ -5,7 +5,7 @@ use Rattle.nd_protocol.proofs.Core.{IsStrictOrder, IsFinite, IsHeld, Reading, pe
 use Rattle.nd_protocol.specs.Invariant.{total}
 use Rattle.nd_delta.specs.Upright.{IsUpright}
 use Rattle.nd_protocol.proofs.UprightSums.{finite_sum, finite_total, upright_total}
-use Rattle.nd_protocol.proofs.Kept.{finite_pending}
+use Rattle.nd_protocol.proofs.Preservation.{finite_pending}
 use Rattle.nd_protocol.proofs.Descent.{induction}
 
 pub zero_or_more : (n : ℕ) → (n ≡ 0) ⊎ (0 < n)
