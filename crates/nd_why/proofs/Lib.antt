@@ -1,4 +1,4 @@
-mod Left
+mod Before
 mod Nothing
 mod Order
 mod Sums

@@ -1,6 +1,6 @@
 -- Why a processor does not consider a pointstamp finished (this project's own rule, on FORTE 2013).
 use Rattle.std.specs.Prelude.{◌≡◌, ◌<◌, ◌+ℤ◌, ℕ, zero, suc, ℤ, pos, negsuc, cond, List, [], ◌∷◌, ◌++◌, Contains, length, map, slice_index_or, sum_by}
-use Rattle.std.specs.List.{flat_map}
+use Rattle.std.specs.List.{flat_map, Any}
 use Rattle.std.specs.FinMap as fin
 use Rattle.nd_graph.specs.Graph.{Dataflow}
 use Rattle.nd_map.specs.Counts.{entries as numbers}
@@ -10,6 +10,7 @@ use Rattle.nd_delta.specs.Change.{Change, none, at, is_point, entries}
 use Rattle.nd_view.specs.Kept.{Kept}
 use Rattle.nd_view.specs.View.{IsOnFrontier, IsPartWhere}
 use Rattle.nd_processor.specs.State.{ProcessorState, idle, token_point}
+use Rattle.nd_processor.specs.declared.key.ValueAt.{ValueAt}
 use Rattle.nd_mesh.specs.Mesh.{queue}
 use Rattle.nd_protocol.specs.State.{ClusterState, view, truth}
 use Rattle.nd_why.specs.Account.{Account}
@@ -84,6 +85,16 @@ pub record HasBefore (g : Dataflow) (t : Pointstamp) (count : Pointstamp → ℕ
   pub point : Pointstamp
   pub before : CouldResultIn g point t
   pub some : 0 < count point
+
+-- a processor has a record, a request, a token at or before t
+abbrev pub RecordBefore : Dataflow → Pointstamp → ProcessorState → Type 0
+RecordBefore g t q = Any (λ (e : ValueAt × ℕ). CouldResultIn g e.0.point t) (numbers q.records)
+
+abbrev pub RequestBefore : Dataflow → Pointstamp → ProcessorState → Type 0
+RequestBefore g t q = Any (λ (e : Pointstamp × Unit {0}). CouldResultIn g e.0 t) (fin.entries q.requests)
+
+abbrev pub TokenBefore : Dataflow → Pointstamp → ProcessorState → Type 0
+TokenBefore g t q = Any (λ (e : ℕ × ℕ). CouldResultIn g (token_point e.0 e.1) t) (fin.entries q.tokens)
 
 -- ---- the reasons
 

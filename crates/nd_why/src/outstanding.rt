@@ -2,13 +2,13 @@
 ghost use Rattle.std.specs.Prelude.{◌↔◌, IsTrue, List};
 ghost use Rattle.nd_delta.specs.Change.{Change};
 ghost use Rattle.nd_view.specs.Kept.{Kept};
-ghost use Rattle.nd_processor.specs.State.{held, in_records, in_requests, in_tokens};
+ghost use Rattle.nd_processor.specs.State.{held};
 ghost use Rattle.nd_protocol.specs.Invariant.{IsFinished};
-ghost use Rattle.nd_why.specs.Why.{state_of, HasBefore};
+ghost use Rattle.nd_why.specs.Why.{state_of, HasBefore, RecordBefore, RequestBefore, TokenBefore};
 
 use crate::holdings::token_point;
 use nd_paths::{Paths, Pointstamp};
-use nd_processor::Processor;
+use nd_processor::{Processor, ValueAt};
 use std::alloc::Allocator;
 
 // Whether a processor has a record at or before a pointstamp.
@@ -17,14 +17,11 @@ fn has_record<A: Allocator + Copy>(
     processor: &Processor<A>,
     point: &Pointstamp,
 ) -> bool
-    ensures { IsTrue result ↔ HasBefore paths.now point.now (in_records processor.now.records) }
+    ensures { IsTrue result ↔ RecordBefore paths.now point.now processor.now }
 {
-    for (key, _) in processor.records() {
-        if paths.before(&key.point, point) {
-            return true;
-        }
-    }
-    false
+    processor
+        .records()
+        .any(|e: (&ValueAt, &u64)| paths.before(&e.0.point, point))
 }
 
 // Whether a processor has a request at or before a pointstamp.
@@ -33,14 +30,11 @@ fn has_request<A: Allocator + Copy>(
     processor: &Processor<A>,
     point: &Pointstamp,
 ) -> bool
-    ensures { IsTrue result ↔ HasBefore paths.now point.now (in_requests processor.now.requests) }
+    ensures { IsTrue result ↔ RequestBefore paths.now point.now processor.now }
 {
-    for (key, _) in processor.requests() {
-        if paths.before(key, point) {
-            return true;
-        }
-    }
-    false
+    processor
+        .requests()
+        .any(|e: (&Pointstamp, &())| paths.before(e.0, point))
 }
 
 // Whether a processor has a token at or before a pointstamp.
@@ -49,14 +43,9 @@ fn has_token<A: Allocator + Copy>(
     processor: &Processor<A>,
     point: &Pointstamp,
 ) -> bool
-    ensures { IsTrue result ↔ HasBefore paths.now point.now (in_tokens processor.now.tokens) }
+    ensures { IsTrue result ↔ TokenBefore paths.now point.now processor.now }
 {
-    for token in processor.tokens() {
-        if paths.before(&token_point(token.0, token.1), point) {
-            return true;
-        }
-    }
-    false
+    processor.tokens().iter().any(|e: &(usize, u32)| paths.before(&token_point(e.0, e.1), point))
 }
 
 // Whether a processor has anything outstanding at or before a pointstamp.
@@ -67,13 +56,10 @@ fn holds_before<A: Allocator + Copy>(
 ) -> bool
     ensures { IsTrue result ↔ HasBefore paths.now point.now (held processor.now) }
 {
-    if has_record(paths, processor, point) {
-        return true;
-    }
-    if has_request(paths, processor, point) {
-        return true;
-    }
-    has_token(paths, processor, point)
+    let record = has_record(paths, processor, point);
+    let request = has_request(paths, processor, point);
+    let token = has_token(paths, processor, point);
+    record | request | token
 }
 
 /// Whether nothing outstanding is at or before a pointstamp, in a cluster with these processors.

@@ -1,8 +1,8 @@
-use Rattle.std.proofs.Common.{◌≡◌, refl, sym, subst, ◌∙◌, true≢false, below_more}
+use Rattle.std.proofs.Common.{refl, sym, subst, ◌∙◌, true≢false, below_more}
 use Rattle.std.proofs.lemmas.List.{get_or_default}
 use Rattle.nd_processor.specs.State.{ProcessorState, held}
 use Rattle.nd_why.specs.Why.{HasBefore}
-use Rattle.nd_why.proofs.Left.{finished_if, unfinished_if}
+use Rattle.nd_why.proofs.Before.{finished_if, unfinished_if}
 use Rattle.nd_why.proofs.outstanding.finished.Goals as goal
 
 pub loop-processor-preserved : goal.loop-processor-preserved

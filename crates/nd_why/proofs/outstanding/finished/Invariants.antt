@@ -1,4 +1,4 @@
-use Rattle.nd_why.proofs.Left.{NoneUpTo}
+use Rattle.nd_why.proofs.Before.{NoneUpTo}
 use Rattle.nd_why.proofs.outstanding.finished.Given as goal
 
 abbrev pub invariant-loop-processor : goal.invariant-loop-processor
