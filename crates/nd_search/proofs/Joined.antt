@@ -1,12 +1,9 @@
 -- What the workers leave, once all are joined.
 use Rattle.std.proofs.Common.{◌≡◌, ◌∙◌, ◌<◌, ℕ, List, [], ◌∷◌, ◌++◌, All, Some, get_or, length, slice_get, inl, inr, arith, sym, ap, subst}
-use Rattle.std.proofs.lemmas.Option.{slice_get_cases}
+use Rattle.std.proofs.lemmas.Option.{slice_get_cases, slice_get-get_or}
 use Rattle.std.specs.Fork.{GivesJobs}
 use denote.Param.Members.{Shared}
 use Rattle.atomic_table.specs.Seated.{TableId}
-use Rattle.nd_watch.specs.declared.watch.Break.{Break}
-use Rattle.nd_timeline.specs.Timeline.{TimelineValue}
-use Rattle.nd_search.specs.Least.{HoldsAt}
 use Rattle.nd_search.specs.Works.{IsWork, AreNumbered}
 use Rattle.nd_search.specs.declared.work.Job.{Job}
 use Rattle.nd_search.specs.declared.work.Work.{Work}
@@ -37,25 +34,20 @@ numbered_more jobs more job is next numbered =
       | inr p ↦ sym (ap (λ j. j.number) p.1) ∙ (next ∙ sym p.0)
     ])
 
-module _ {A F : Type 0} (call : Shared F (Job A × Unit {0}) (Work A)) (f : F) (m : TimelineValue A) (b : Break) (lo hi : ℕ) (table : TableId) (pieces : ℕ) where
-  abbrev Done : Work A → Type 0
-  Done w = IsWork (HoldsAt m b) lo hi table pieces w
+module _ {A : Type 0} where
+  -- what holds of each work holds of all
+  pub all_of : (P : Work A → Type 0) (works : List (Work A)) → ((who : ℕ) (w : Work A) → slice_get works who ≡ Some w → P w) → All P works
+  all_of P works each k d lt = each k (get_or works k d) (slice_get-get_or works k d lt)
 
-  pub all_done : (jobs : List (Job A)) (works : List (Work A)) → length works ≡ length jobs → GivesJobs call f jobs works
-      → ((job : Job A) (w : Work A) → call.post f (job, tt) w → Done w) → All Done works
-  all_done jobs works same gives ensures k d lt =
-      let given = (gives k d (omega (arith, same, lt))).1 in
-      ensures given.job _ given.call.met
-
--- each worker called the gate for what it claimed, with the number of its place
-module _ {A F : Type 0} (call : Shared F (Job A × Unit {0}) (Work A)) (f : F) where
-  pub all_called : (Called : ℕ → ℕ → Type 0) (jobs : List (Job A)) (works : List (Work A)) → length works ≡ length jobs → GivesJobs call f jobs works
-      → ((job : Job A) (w : Work A) → call.post f (job, tt) w → All (Called job.number) w.searched.claimed.items)
-      → AreNumbered jobs → (who : ℕ) (w : Work A) → slice_get works who ≡ Some w → All (Called who) w.searched.claimed.items
-  all_called Called jobs works same gives ensures numbered who w at =
+-- each worker's work, with the number of its place
+module _ {A F : Type 0} (call : Shared F (Job A × Unit {0}) (Work A)) (f : F) (Hit : ℕ → Type 0) (Called : ℕ → ℕ → Type 0) (lo hi : ℕ) (table : TableId) (pieces : ℕ) where
+  pub each_work : (jobs : List (Job A)) (works : List (Work A)) → length works ≡ length jobs → GivesJobs call f jobs works
+      → ((job : Job A) (w : Work A) → call.post f (job, tt) w → IsWork Hit (Called job.number) lo hi table pieces w)
+      → AreNumbered jobs → (who : ℕ) (w : Work A) → slice_get works who ≡ Some w → IsWork Hit (Called who) lo hi table pieces w
+  each_work jobs works same gives ensures numbered who w at =
       let here = found works who w at in
       let lt : who < length jobs = omega (arith, same, here.0) in
       let given = (gives who w lt).1 in
       let number : given.job.number ≡ who = numbered who given.job (placed jobs who given.job lt given.job_is) in
-      let made : All (Called given.job.number) (get_or works who w).searched.claimed.items = ensures given.job _ given.call.met in
-      subst (λ (n : ℕ). All (Called n) w.searched.claimed.items) number (subst (λ (x : Work A). All (Called given.job.number) x.searched.claimed.items) here.1 made)
+      let made : IsWork Hit (Called given.job.number) lo hi table pieces (get_or works who w) = ensures given.job _ given.call.met in
+      subst (λ (n : ℕ). IsWork Hit (Called n) lo hi table pieces w) number (subst (λ (x : Work A). IsWork Hit (Called given.job.number) lo hi table pieces x) here.1 made)

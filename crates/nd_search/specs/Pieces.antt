@@ -1,6 +1,11 @@
 -- The positions of a search, from lo to hi, in pieces (this project's own rule).
-use Rattle.std.specs.Prelude.{ℕ, ◌+◌, ◌-◌, ◌*◌, ◌/◌, min}
-use Rattle.nd_time.specs.Limits.{piece_length}
+use Rattle.std.specs.Prelude.{ℕ, ◌+◌, ◌-◌, ◌*◌, ◌/◌, ◌≤◌, min}
+use Rattle.nd_time.specs.Limits.{max_kept, piece_length}
+
+-- a range of positions: in order, and no more than can be kept
+pub record IsRange (lo hi : ℕ) : Type 0 where
+  pub in_order : lo ≤ hi
+  pub few : hi ≤ max_kept
 
 -- how many pieces there are
 abbrev pub piece_count : ℕ → ℕ → ℕ

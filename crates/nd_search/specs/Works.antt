@@ -1,12 +1,14 @@
 -- What a worker is given, what it does, and the table of all results; for the contracts of this crate's own functions.
-use Rattle.std.specs.Prelude.{◌≡◌, ℕ, ◌+◌, ◌<◌, ◌≤◌, ◌⊎◌, List, [], ◌∷◌, ◌++◌, length, map, All, Option, Some, None, slice_get, vec_capacity}
+use Rattle.std.specs.Prelude.{◌≡◌, ℕ, ◌+◌, ◌*◌, ◌<◌, ◌≤◌, ◌⊎◌, List, [], ◌∷◌, ◌++◌, length, map, All, Option, Some, None, slice_get, vec_capacity, nat_lt, cond}
 use Rattle.atomic_table.specs.Seated.{TableId}
 use Rattle.nd_timeline.specs.Timeline.{TimelineValue}
 use Rattle.nd_timeline.specs.Walks.{IsOn}
 use Rattle.nd_search.specs.Least.{IsLeast}
-use Rattle.nd_search.specs.Pieces.{piece_start, piece_end}
-use Rattle.nd_search.specs.Claims.{times, AreTheNumbersBelow}
+use Rattle.nd_search.specs.Pieces.{IsRange, piece_count, piece_start, piece_end}
+use Rattle.nd_search.specs.Claims.{times, times_all, AreTheNumbersBelow}
 use Rattle.nd_search.specs.Hands.{hand}
+use Rattle.nd_search.specs.Answers.{AreClaims, AreCalled}
+use Rattle.nd_search.specs.declared.hand.Hand.{Hand}
 use Rattle.nd_search.specs.declared.work.Job.{Job}
 use Rattle.nd_search.specs.declared.work.Work.{Work}
 use Rattle.nd_search.specs.declared.work.Searched.{Searched}
@@ -44,6 +46,12 @@ abbrev pub IsCutOff : {A : Type 0} → Searched A → Type 0
 IsCutOff s = length s.claimed.items ≡ length s.found.items + 1
 
 -- ---- workers
+
+-- what all workers share: a range of positions, the number of its pieces, and a claim word
+pub record IsTeam (lo hi pieces : ℕ) (table : TableId) : Type 0 where
+  pub range : IsRange lo hi
+  pub count : pieces ≡ piece_count lo hi
+  pub word : 0 < table.words
 
 -- nothing yet, and room for the pieces
 pub record IsEmpty {A : Type 0} (pieces : ℕ) (s : Searched A) : Type 0 where
@@ -87,21 +95,36 @@ NoneIsLeft pieces drawn = HasNoPiece pieces drawn ⊎ (pieces < length drawn)
 abbrev pub HasStopped : {A : Type 0} → ℕ → Work A → Type 0
 HasStopped pieces work = IsCutOff work.searched ⊎ (IsComplete work.searched × NoneIsLeft pieces work.ticket.me.0.drawn)
 
--- a worker's work
-pub record IsWork {A : Type 0} (Hit : ℕ → Type 0) (lo hi : ℕ) (table : TableId) (pieces : ℕ) (work : Work A) : Type 0 where
+-- a worker's work: what it drew and found, where it stopped, and that it called the gate for each piece that it claimed
+pub record IsWork {A : Type 0} (Hit Called : ℕ → Type 0) (lo hi : ℕ) (table : TableId) (pieces : ℕ) (work : Work A) : Type 0 where
   pub drawn : HasDrawn table pieces work
   pub searched : IsSearched Hit lo hi work.searched
   pub stopped : HasStopped pieces work
+  pub called : All Called work.searched.claimed.items
 
 -- what all drew, one worker after the other
 abbrev pub all_drawn : {A : Type 0} → List (Work A) → List ℕ
 all_drawn [] = []
 all_drawn (w ∷ ws) = w.ticket.me.0.drawn ++ all_drawn ws
 
+-- the hand that took all others in: what it drew are the claims of all workers, and then numbers that are no pieces
+pub record AreGathered {A : Type 0} (pieces : ℕ) (works : List (Work A)) (all : Hand) (list : List (Searched A)) : Type 0 where
+  pub weight : all.allowance + length all.drawn ≡ length works * (pieces + 1)
+  pub drawn : all.drawn ≡ all_drawn works
+  pub each : list ≡ map (λ w. w.searched) works
+  pub claimed : (x : ℕ) → times_all x (map (λ s. s.claimed.items) list) ≡ cond (nat_lt x pieces) (times x all.drawn) 0
+
 -- each worker was cut off or tells of all its pieces; and all were cut off, or each piece was claimed
 pub record HaveStopped {A : Type 0} (pieces : ℕ) (works : List (Searched A)) : Type 0 where
   pub each : All (λ s. IsCutOff s ⊎ IsComplete s) works
   pub all : All IsCutOff works ⊎ AreTheNumbersBelow pieces (map (λ s. s.claimed.items) works)
+
+-- the work of all workers of a search: what they found and claimed, where they stopped, and for what they called the gate
+pub record AreSearched {A : Type 0} (Hit : ℕ → Type 0) (Called : ℕ → ℕ → Type 0) (lo hi workers : ℕ) (works : List (Searched A)) : Type 0 where
+  pub found : All (IsSearched Hit lo hi) works
+  pub claims : AreClaims (piece_count lo hi) workers (map (λ s. s.claimed.items) works)
+  pub stopped : HaveStopped (piece_count lo hi) works
+  pub called : AreCalled Called (map (λ s. s.claimed.items) works)
 
 -- ---- the table of results, by piece
 
@@ -111,6 +134,18 @@ pub record IsTold {A : Type 0} (works : List (Searched A)) (j : ℕ) (r : Option
   pub work : Searched A
   pub there : slice_get works who ≡ Some work
   pub by : IsToldBy work j r
+
+-- each result in the new table stood in the old one, or the worker tells it
+abbrev pub AreOldOrToldBy : {A : Type 0} → Searched A → List (Option (Option ℕ)) → List (Option (Option ℕ)) → Type 0
+AreOldOrToldBy s old new = (j : ℕ) (r : Option ℕ) → slice_get new j ≡ Some (Some r) → (slice_get old j ≡ Some (Some r)) ⊎ IsToldBy s j r
+
+-- a piece without a result in the new table had none in the old one
+abbrev pub WereEmpty : List (Option (Option ℕ)) → List (Option (Option ℕ)) → Type 0
+WereEmpty old new = (j : ℕ) → slice_get new j ≡ Some None → slice_get old j ≡ Some None
+
+-- no piece that the worker tells of is without a result in the table
+abbrev pub AreInBy : {A : Type 0} → Searched A → List (Option (Option ℕ)) → Type 0
+AreInBy s rs = (j : ℕ) (r : Option ℕ) → IsToldBy s j r → slice_get rs j ≡ Some None → ⊥
 
 -- each result in the table is told by a worker
 abbrev pub AreTold : {A : Type 0} → List (Searched A) → List (Option (Option ℕ)) → Type 0

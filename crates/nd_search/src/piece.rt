@@ -3,7 +3,7 @@ ghost use Rattle.std.specs.Prelude.{◌≡◌, ◌+◌, ◌*◌, ◌<◌, ◌≤
 ghost use Rattle.nd_time.specs.Limits.{max_kept, piece_length};
 ghost use Rattle.nd_timeline.specs.Walks.{IsOn};
 ghost use Rattle.nd_search.specs.Least.{HoldsAt, IsLeast};
-ghost use Rattle.nd_search.specs.Pieces.{piece_count, piece_start, piece_end};
+ghost use Rattle.nd_search.specs.Pieces.{IsRange, piece_count};
 ghost use Rattle.nd_search.specs.Works.{IsResult};
 
 use crate::Gate;
@@ -53,7 +53,7 @@ impl<A: Allocator + Copy, G: Gate> Scan<'_, A, G> {
         piece: u64,
     ) -> Result<Option<u64>, AllocError>
         requires called { G.called self.now.gate.now who piece }
-        requires range { (self.now.positions.lo ≤ self.now.positions.hi) × (self.now.positions.hi ≤ max_kept) }
+        requires range { IsRange self.now.positions.lo self.now.positions.hi }
         requires piece { piece < piece_count self.now.positions.lo self.now.positions.hi }
         requires on { IsOn self.now.timeline.now walk.old }
         ensures found { IfOk result (IsResult (HoldsAt self.now.timeline.now self.now.b.now)

@@ -4,7 +4,7 @@ ghost use Rattle.nd_time.specs.Limits.{max_kept};
 ghost use Rattle.nd_search.specs.Least.{HoldsAt, IsLeast};
 ghost use Rattle.nd_search.specs.Answers.{MaySearch, CannotSearch, SearchFails, AnswerIsCalled, FaultIsCalled};
 
-use crate::piece::Positions;
+use crate::piece::{Positions, Scan};
 use crate::table::{first, results};
 use crate::team::search_all;
 use crate::work::Searched;
@@ -57,8 +57,9 @@ fn claims<A: Allocator + Copy>(
 /// The least position from `lo` to `hi`, both included, at which the breakpoint holds.
 ///
 /// At most 64 workers are started, each on a thread of its own and with a cluster of its own that
-/// walks over the kept steps (this project's own rule). They claim pieces of 16 positions, one after the other, and
-/// call the gate before each. One that is refused memory in its walk stops, and the others go on.
+/// walks over the kept steps (this project's own rule). They claim pieces of 16 positions, one
+/// after the other, and call the gate before each. One that is refused memory in its walk stops,
+/// and the others go on.
 pub fn search_in<A: Allocator + Copy + Send + Sync, R: Threads + Sync, G: Gate>(
     rt: &R,
     alloc: A,
@@ -75,9 +76,14 @@ pub fn search_in<A: Allocator + Copy + Send + Sync, R: Threads + Sync, G: Gate>(
     ensures called { IfOk result (AnswerIsCalled (G.called gate.now) lo hi workers) }
     ensures fault_called { IfErr result (FaultIsCalled (G.called gate.now)) }
 {
-    let positions = positions(timeline, lo, hi, workers)?;
-    let works = search_all(rt, alloc, timeline, b, positions, workers, gate)?;
-    let results = results(alloc, works.as_slice(), positions.pieces())?;
+    let scan = Scan {
+        timeline: &*timeline,
+        b: &*b,
+        positions: positions(timeline, lo, hi, workers)?,
+        gate: &*gate,
+    };
+    let works = search_all(rt, alloc, &scan, workers)?;
+    let results = results(alloc, works.as_slice(), scan.positions.pieces())?;
     match first(results.as_slice()) {
         Ok(found) => Ok(found),
         Err(piece) => Err(SearchFault::Missing {
@@ -87,7 +93,8 @@ pub fn search_in<A: Allocator + Copy + Send + Sync, R: Threads + Sync, G: Gate>(
     }
 }
 
-/// The least position of a snapshot from `lo` to `hi`, both included, at which the breakpoint holds, as `search_in` tells it.
+/// The least position of a snapshot from `lo` to `hi`, both included, at which the breakpoint
+/// holds, as `search_in` returns it.
 pub fn search<A: Allocator + Copy + Send + Sync, R: Threads + Sync, G: Gate>(
     rt: &R,
     alloc: A,

@@ -92,8 +92,10 @@ impl<A: Allocator + Copy> Snapshot<A> {
     /// (FORTE 2013).
     pub fn passed(&self, q: usize, point: &Pointstamp) -> bool
         requires { q < length (cluster_of self.now.timeline).processors }
-        ensures passed { IsTrue result ↔ IsPassed (cluster_of self.now.timeline).graph (view (cluster_of self.now.timeline) q) point.now }
-        ensures finished { IsTrue result → KeepsProtocol self.now.timeline.base → IsFinished (cluster_of self.now.timeline) point.now }
+        ensures passed { IsTrue result ↔ IsPassed (cluster_of self.now.timeline).graph
+            (view (cluster_of self.now.timeline) q) point.now }
+        ensures finished { IsTrue result → KeepsProtocol self.now.timeline.base
+            → IsFinished (cluster_of self.now.timeline) point.now }
     {
         self.timeline.passed(q, point)
     }

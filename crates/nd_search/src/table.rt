@@ -1,6 +1,6 @@
 //! The results of all workers by piece, and the least hit among them.
-ghost use Rattle.std.specs.Prelude.{◌≡◌, ◌≤◌, ◌⊎◌, ℕ, Option, Some, None, length, All, IfOk, IfErr, MatchResult, slice_get, vec_len};
-ghost use Rattle.nd_search.specs.Works.{IsEven, IsToldBy, AreTold, AreIn, IsFirst, IsFirstGap};
+ghost use Rattle.std.specs.Prelude.{◌≡◌, length, All, IfOk, MatchResult, vec_len};
+ghost use Rattle.nd_search.specs.Works.{IsEven, AreOldOrToldBy, WereEmpty, AreInBy, AreTold, AreIn, IsFirst, IsFirstGap};
 
 use crate::work::Searched;
 use std::alloc::{AllocError, Allocator};
@@ -9,9 +9,9 @@ use std::alloc::{AllocError, Allocator};
 fn put<A: Allocator>(searched: &Searched<A>, results: &mut [Option<Option<u64>>])
     requires { IsEven searched.now }
     ensures len { length results.new ≡ length results.old }
-    ensures told { (j : ℕ) (r : Option ℕ) → slice_get results.new j ≡ Some (Some r) → (slice_get results.old j ≡ Some (Some r)) ⊎ IsToldBy searched.now j r }
-    ensures was_empty { (j : ℕ) → slice_get results.new j ≡ Some None → slice_get results.old j ≡ Some None }
-    ensures all_in { (j : ℕ) (r : Option ℕ) → IsToldBy searched.now j r → slice_get results.new j ≡ Some None → ⊥ }
+    ensures told { AreOldOrToldBy searched.now results.old results.new }
+    ensures was_empty { WereEmpty results.old results.new }
+    ensures all_in { AreInBy searched.now results.new }
 {
     for k in 0..searched.found.len() {
         let piece = searched.claimed[k];

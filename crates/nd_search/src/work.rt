@@ -1,9 +1,7 @@
 //! One worker of a search.
-ghost use Rattle.std.specs.Prelude.{◌≡◌, ◌<◌, ◌≤◌, All};
-ghost use Rattle.nd_time.specs.Limits.{max_kept};
+ghost use Rattle.std.specs.Prelude.{◌≡◌};
 ghost use Rattle.nd_search.specs.Least.{HoldsAt};
-ghost use Rattle.nd_search.specs.Pieces.{piece_count};
-ghost use Rattle.nd_search.specs.Works.{IsReady, HasDrawn, IsSearched, HasStopped};
+ghost use Rattle.nd_search.specs.Works.{IsTeam, IsReady, IsWork};
 
 use crate::Gate;
 use crate::board::{Ticket, Word, draw};
@@ -35,19 +33,26 @@ pub(crate) struct Work<A: Allocator> {
     pub(crate) searched: Searched<A>,
 }
 
+/// What all workers of a search share: what they search, the claim word, and the number of pieces.
+#[derive(Drop)]
+pub(crate) struct Team<'t, 's, A: Allocator + Copy, G> {
+    pub(crate) scan: &'t Scan<'s, A, G>,
+    pub(crate) word: &'t Word,
+    pub(crate) pieces: u64,
+}
+
 impl<A: Allocator + Copy> Job<A> {
     /// Claims piece after piece, calls the gate and searches it, until a number is no piece or
     /// memory is refused.
-    pub(crate) fn work<G: Gate>(self, word: &Word, scan: &Scan<A, G>, pieces: u64) -> Work<A>
-        requires job { IsReady scan.now.timeline.now word.now.table_id pieces self }
-        requires word { 0 < word.now.table_id.words }
-        requires range { (scan.now.positions.lo ≤ scan.now.positions.hi) × (scan.now.positions.hi ≤ max_kept) }
-        requires pieces { pieces ≡ piece_count scan.now.positions.lo scan.now.positions.hi }
-        ensures drawn { HasDrawn word.now.table_id pieces result }
-        ensures searched { IsSearched (HoldsAt scan.now.timeline.now scan.now.b.now)
-            scan.now.positions.lo scan.now.positions.hi result.searched }
-        ensures stopped { HasStopped pieces result }
-        ensures called { All (G.called scan.now.gate.now self.number) result.searched.claimed.items }
+    pub(crate) fn work<G: Gate>(self, team: &Team<A, G>) -> Work<A>
+        requires team { IsTeam team.now.scan.now.positions.lo team.now.scan.now.positions.hi
+            team.now.pieces team.now.word.now.table_id }
+        requires job { IsReady team.now.scan.now.timeline.now team.now.word.now.table_id
+            team.now.pieces self }
+        ensures { IsWork (HoldsAt team.now.scan.now.timeline.now team.now.scan.now.b.now)
+            (G.called team.now.scan.now.gate.now self.number)
+            team.now.scan.now.positions.lo team.now.scan.now.positions.hi
+            team.now.word.now.table_id team.now.pieces result }
     {
         let Job {
             number,
@@ -55,14 +60,14 @@ impl<A: Allocator + Copy> Job<A> {
             mut ticket,
             mut searched,
         } = self;
-        for _ in 0..pieces + 1 {
-            let piece = draw(word, &mut ticket);
-            if piece >= pieces {
+        for _ in 0..team.pieces + 1 {
+            let piece = draw(team.word, &mut ticket);
+            if piece >= team.pieces {
                 break;
             }
             searched.claimed.push_reserved(piece);
-            scan.gate.call(number, piece);
-            let Ok(found) = scan.search_piece(&mut walk, number, piece) else {
+            team.scan.gate.call(number, piece);
+            let Ok(found) = team.scan.search_piece(&mut walk, number, piece) else {
                 break;
             };
             searched.found.push_reserved(found);

@@ -5,10 +5,10 @@ use Rattle.nd_search.proofs.team.jobs.Given as goal
 
 abbrev pub invariant-loop-number : goal.invariant-loop-number
 invariant-loop-number g l = record {
-  table : l.ticket.table_id ≡ l.word.table_id;
-  me : l.ticket.me ≡ (hand (l.pieces + 1) ((l.workers - l.number) * (l.pieces + 1)) [], []);
+  table : l.ticket.table_id ≡ l.team.word.now.table_id;
+  me : l.ticket.me ≡ (hand (l.team.pieces + 1) ((l.workers - l.number) * (l.team.pieces + 1)) [], []);
   counted : vec_len l.jobs ≡ l.number;
   room : l.workers ≤ vec_capacity l.jobs;
   numbered : AreNumbered l.jobs.items;
-  ready : All (IsReady l.timeline l.word.table_id l.pieces) l.jobs.items;
+  ready : All (IsReady l.team.scan.now.timeline.now l.team.word.now.table_id l.team.pieces) l.jobs.items;
 }

@@ -7,14 +7,14 @@ use Rattle.nd_search.proofs.work.Job.work.Given as goal
 
 abbrev pub invariant-loop : goal.invariant-loop
 invariant-loop g l = record {
-  table : l.ticket.table_id ≡ l.word.table_id;
-  me : l.ticket.me ≡ (hand (l.pieces + 1) (l.pieces + 1 - l.counter) l.searched.claimed.items, []);
+  table : l.ticket.table_id ≡ l.team.word.now.table_id;
+  me : l.ticket.me ≡ (hand (l.team.pieces + 1) (l.team.pieces + 1 - l.counter) l.searched.claimed.items, []);
   counted : vec_len l.searched.claimed ≡ l.counter;
   even : length l.searched.found.items ≡ length l.searched.claimed.items;
-  below : All (λ x. x < l.pieces) l.searched.claimed.items;
-  claimed_room : l.pieces < vec_capacity l.searched.claimed;
-  found_room : l.pieces < vec_capacity l.searched.found;
-  on : IsOn l.scan.timeline.now l.walk;
-  called : All (g.G.Gate.called l.scan.gate.now l.fn.self.number) l.searched.claimed.items;
-  right : IsSearched (HoldsAt l.scan.timeline.now l.scan.b.now) l.scan.positions.lo l.scan.positions.hi l.searched;
+  below : All (λ x. x < l.team.pieces) l.searched.claimed.items;
+  claimed_room : l.team.pieces < vec_capacity l.searched.claimed;
+  found_room : l.team.pieces < vec_capacity l.searched.found;
+  on : IsOn l.team.scan.now.timeline.now l.walk;
+  called : All (g.G.Gate.called l.team.scan.now.gate.now l.fn.self.number) l.searched.claimed.items;
+  right : IsSearched (HoldsAt l.team.scan.now.timeline.now l.team.scan.now.b.now) l.team.scan.now.positions.lo l.team.scan.now.positions.hi l.searched;
 }
