@@ -26,7 +26,8 @@ use Rattle.std.specs.FinMap.Entries.{is_some-find, same_entries}
 use Rattle.std.proofs.lemmas.List.Folds.{list_any-append}
 use Rattle.std.specs.FinMap as fin
 use Rattle.std.proofs.lemmas.Map.Views.{tells_apart}
-use Rattle.nd_map.specs.Weights.{weight, weight_at, weight_moves}
+use Rattle.nd_map.specs.Weights.{weight, weight_at}
+use Rattle.nd_map.specs.WeightsLaws.{weight_moves}
 
 -- numbers that are some of the integers
 pub record Number (X : Type 0) : Type 0 where

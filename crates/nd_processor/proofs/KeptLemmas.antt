@@ -8,8 +8,8 @@ use Rattle.nd_time.specs.Limits.{max_count}
 use Rattle.nd_map.specs.Listed.{without}
 use Rattle.nd_map.specs.Counts.{Counts, naturals, natural, at, set, added, of_entries, entries}
 use Rattle.nd_map.specs.Kept as stored
-use Rattle.nd_processor.specs.Edits.{more-back, less-back}
-use Rattle.nd_processor.specs.Held.{natural-less}
+use Rattle.nd_processor.specs.EditsLaws.{more-back, less-back}
+use Rattle.nd_processor.specs.HeldLaws.{natural-less}
 use Rattle.nd_processor.specs.Kept.{IsCount, IsKept, number, put_count}
 
 module _ {K : Type 0} (R : K → K → Ordering) (o : IsTotalOrder R) (tells : IsAntisymmetric R) (es : List (K × ℕ)) (m : Counts R naturals) (is_m : of_entries o es ≡ m) where

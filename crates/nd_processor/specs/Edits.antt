@@ -1,41 +1,18 @@
--- Edits of a processor's maps, and that each is undone by its inverse.
-use Rattle.std.specs.Prelude.{◌≡◌, ◌≢◌, ◌≤◌, ◌<◌, ℕ, zero, suc, ◌+◌, ◌-◌, ℤ, pos, negsuc, ◌+ℤ◌, neg_ℤ, Bool, true, false, cond, List, [], ◌∷◌, length, map, Option, Some, None, slice_index_or, slice_set, unsigned_abs, refl}
-use Rattle.std.proofs.Common.{Ordering, sym, ap, ◌∙◌, arith}
-use Rattle.std.proofs.lemmas.Int.{ints}
-use Rattle.std.proofs.lemmas.List.{set-get_or, get_or-set_same}
-use Rattle.std.proofs.lemmas.Map.Views.{tells_apart}
-use Rattle.std.specs.Ordering.{eq_by_cmp}
-use Rattle.std.specs.Cmp.{IsTotalOrder}
+-- Edits of a processor's maps.
+use Rattle.std.specs.Prelude.{◌≡◌, ◌≢◌, ◌<◌, ℕ, ◌+◌, ℤ, pos, ◌+ℤ◌, neg_ℤ, List, map, Option, Some, None, slice_index_or, slice_set, unsigned_abs}
+use Rattle.std.proofs.Common.{Ordering}
 use Rattle.std.specs.FinMap as fin
 use Rattle.nd_time.specs.Limits.{max_count}
 use Rattle.nd_time.specs.Time.{Time}
 use Rattle.nd_paths.specs.declared.point.Pointstamp.{Pointstamp}
-use Rattle.nd_map.specs.Counts.{Counts, naturals, natural, none as no_items, at as count_at, added, added-back}
-use Rattle.nd_delta.specs.Change.{Change, at, set, plus, minus, at-set_same, set-set, set-at}
-use Rattle.nd_vertex.specs.Items.{Items, item_key, item_total, item_exact}
-use Rattle.nd_vertex.specs.Edits.{item_of, with_item, number_of}
-use Rattle.nd_vertex.specs.Table.{is_zero}
+use Rattle.nd_map.specs.Counts.{none as no_items, at as count_at, added}
+use Rattle.nd_delta.specs.Delta.{DeltaValue, at, set, plus, minus}
+use Rattle.nd_vertex.specs.Items.{Items, item_key}
+use Rattle.nd_vertex.specs.Edits.{with_item}
 use Rattle.nd_vertex.specs.declared.key.ItemKey.{ItemKey}
-use Rattle.nd_map.specs.Counts.{set-back}
 use Rattle.nd_processor.specs.State.{ProcessorState, token_point}
 use Rattle.nd_processor.specs.Keys.{value_at_total, sink_total}
 use Rattle.nd_processor.specs.declared.key.ValueAt.{ValueAt}
-use Rattle.nd_processor.specs.Held.{natural-less}
-
--- ---- counts
-
-module _ {K : Type 0} {R : K → K → Ordering} (o : IsTotalOrder R) (tells : fin.IsAntisymmetric R) where
-  -- what was added is taken away
-  pub more-back : (m : Counts R naturals) (k : K) (n : ℕ) → added o (added o m k (pos n)) k (neg_ℤ (pos n)) ≡ m
-  more-back m k n = added-back o tells m k (pos n) refl
-
-  -- what was taken away is added
-  pub less-back : (m : Counts R naturals) (k : K) (n : ℕ) → n ≤ count_at m k → added o (added o m k (neg_ℤ (pos n))) k (pos n) ≡ m
-  less-back m k n h =
-      let fits : pos (natural (pos (count_at m k) +ℤ neg_ℤ (pos n))) ≡ pos (count_at m k) +ℤ neg_ℤ (pos n)
-      = ap pos (natural-less (count_at m k) n h) ∙ (let e : pos (count_at m k - n) ≡ pos (count_at m k) +ℤ neg_ℤ (pos n) = omega (arith, ints) in e) in
-      let twice : neg_ℤ (neg_ℤ (pos n)) ≡ pos n = omega (arith, ints) in
-      ap (λ z. added o (added o m k (neg_ℤ (pos n))) k z) (sym twice) ∙ added-back o tells m k (neg_ℤ (pos n)) fits
 
 -- ---- tokens and requests
 
@@ -43,22 +20,6 @@ module _ {K : Type 0} {R : K → K → Ordering} (o : IsTotalOrder R) (tells : f
 abbrev pub with_value : {K X : Type 0} {R : K → K → Ordering} → fin.FinMap R X → K → Option X → fin.FinMap R X
 with_value m k None = fin.remove m k
 with_value m k (Some v) = fin.insert m k v
-
-over : {A : Type 0} (b : Bool) (x y z : A) → (b ≡ true → x ≡ z) → cond b x (cond b y z) ≡ z
-over true x y z e = e refl
-over false x y z e = refl
-
-module _ {K X : Type 0} {R : K → K → Ordering} (o : IsTotalOrder R) where
-  pub get-with_value : (m : fin.FinMap R X) (k : K) (x : Option X) (q : K) → fin.get (with_value m k x) q ≡ cond (eq_by_cmp R q k) x (fin.get m q)
-  get-with_value m k None q = fin.get-remove o m k q
-  get-with_value m k (Some v) q = fin.get-insert o m k v q
-
-  -- the old value is given back
-  pub value-back : fin.IsAntisymmetric R → (m : fin.FinMap R X) (k : K) (old new : Option X) → fin.get m k ≡ old → with_value (with_value m k new) k old ≡ m
-  value-back tells m k old new is =
-      fin.same_map o tells _ _ (λ q.
-      get-with_value (with_value m k new) k old q ∙ ap (cond (eq_by_cmp R q k) old) (get-with_value m k new q)
-      ∙ over (eq_by_cmp R q k) old new (fin.get m q) (λ e. sym is ∙ ap (fin.get m) (sym (tells_apart tells q k e))))
 
 -- the pointstamps of the tokens, in the order of their vertices
 abbrev pub token_points : ProcessorState → List Pointstamp
@@ -70,39 +31,11 @@ token_points q = map (λ e. token_point e.0 e.1) (fin.entries q.tokens)
 abbrev pub with_vertex_item : List Items → ℕ → ItemKey → Option ℤ → List Items
 with_vertex_item items vertex k n = slice_set items vertex (with_item (slice_index_or items vertex no_items) k n)
 
-item_number : (z : ℤ) → number_of (cond (is_zero z) None (Some z)) ≡ z
-item_number (pos zero) = refl
-item_number (pos (suc n)) = refl
-item_number (negsuc n) = refl
-
--- an item's old number is given back
-pub item-back : (m : Items) (k : ItemKey) (old new : Option ℤ) → item_of m k ≡ old → with_item (with_item m k new) k old ≡ m
-item-back m k old new is = set-back item_total item_exact m k (number_of new) (number_of old) (ap number_of (sym is) ∙ item_number (count_at m k))
-
-written_over : {A : Type 0} (xs : List A) (i : ℕ) (x y : A) → slice_set (slice_set xs i x) i y ≡ slice_set xs i y
-written_over [] i x y = refl
-written_over (z ∷ xs) zero x y = refl
-written_over (z ∷ xs) (suc i) x y = ap (λ ys. z ∷ ys) (written_over xs i x y)
-
-pub vertex_item-back : (items : List Items) (vertex : ℕ) (k : ItemKey) (old new : Option ℤ) → vertex < length items → item_of (slice_index_or items vertex no_items) k ≡ old
-    → with_vertex_item (with_vertex_item items vertex k new) vertex k old ≡ items
-vertex_item-back items vertex k old new within is =
-    let m : Items = slice_index_or items vertex no_items in
-    ap (λ x. slice_set (slice_set items vertex (with_item m k new)) vertex (with_item x k old)) (get_or-set_same items vertex (with_item m k new) no_items within)
-    ∙ written_over items vertex (with_item m k new) (with_item (with_item m k new) k old)
-    ∙ ap (slice_set items vertex) (item-back m k old new is)
-    ∙ set-get_or items vertex no_items
-
 -- ---- what is unsent
 
 -- an integer more at a pointstamp
-abbrev pub more_unsent : Change → Pointstamp → ℤ → Change
+abbrev pub more_unsent : DeltaValue → Pointstamp → ℤ → DeltaValue
 more_unsent m x n = set m x (at m x +ℤ n)
-
-pub unsent-back : (m : Change) (x : Pointstamp) (n : ℤ) → more_unsent (more_unsent m x n) x (neg_ℤ n) ≡ m
-unsent-back m x n =
-    let back : at (more_unsent m x n) x +ℤ neg_ℤ n ≡ at m x = ap (λ z. z +ℤ neg_ℤ n) (at-set_same m x (at m x +ℤ n)) ∙ (let e : at m x +ℤ n +ℤ neg_ℤ n ≡ at m x = omega (arith, ints) in e) in
-    ap (set (more_unsent m x n) x) back ∙ set-set m x (at m x +ℤ n) (at m x) ∙ set-at m x
 
 -- ---- a processor with one edit
 
@@ -160,8 +93,8 @@ abbrev pub IsUnsentTooLarge : ProcessorState → Pointstamp → ℤ → Type 0
 IsUnsentTooLarge q x n = max_count < unsigned_abs (at q.unsent x +ℤ n)
 
 -- what is unsent with a part more, or without it
-abbrev pub with_part : ProcessorState → Change → ProcessorState
+abbrev pub with_part : ProcessorState → DeltaValue → ProcessorState
 with_part q part = record q { unsent = plus q.unsent part }
 
-abbrev pub without_part : ProcessorState → Change → ProcessorState
+abbrev pub without_part : ProcessorState → DeltaValue → ProcessorState
 without_part q part = record q { unsent = minus q.unsent part }

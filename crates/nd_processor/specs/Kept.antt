@@ -10,7 +10,7 @@ use Rattle.nd_map.specs.Listed.{without}
 use Rattle.nd_map.specs.Kept as stored
 use Rattle.nd_map.specs.Counts.{or_else, of_entries}
 use Rattle.nd_paths.specs.declared.point.Pointstamp.{Pointstamp}
-use Rattle.nd_delta.specs.Change.{Change}
+use Rattle.nd_delta.specs.Delta.{DeltaValue}
 use Rattle.nd_vertex.specs.Items.{Items}
 use Rattle.nd_processor.specs.Keys.{value_at_cmp, value_at_total, sink_total}
 use Rattle.nd_processor.specs.State.{ProcessorState}
@@ -50,7 +50,7 @@ abbrev pub from_to : {K : Type 0} → (K → K → Ordering) → K → K → Lis
 from_to R first last es = entries_between R (Included first) (Included last) es
 
 -- the state of a processor that keeps these
-abbrev pub seen : List (ValueAt × ℕ) → List (Pointstamp × Unit {0}) → List (ℕ × ℕ) → List Items → List (SinkKey × ℕ) → Change → ProcessorState
+abbrev pub seen : List (ValueAt × ℕ) → List (Pointstamp × Unit {0}) → List (ℕ × ℕ) → List Items → List (SinkKey × ℕ) → DeltaValue → ProcessorState
 seen records requests tokens items sinks unsent =
     record {
       records = of_entries value_at_total records;

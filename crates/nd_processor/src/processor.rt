@@ -6,7 +6,7 @@ ghost use Rattle.std.specs.Map.Iter.{ShowsInOrder, deref_pair};
 ghost use Rattle.nd_time.specs.Limits.{max_count};
 ghost use Rattle.nd_map.specs.Counts.{at, entries as counts_of};
 ghost use Rattle.nd_paths.specs.declared.point.Pointstamp.{Pointstamp as Point};
-ghost use Rattle.nd_delta.specs.Change.{IsWithin, IsPartOf, IsApart};
+ghost use Rattle.nd_delta.specs.Delta.{IsWithin, IsPartOf, IsApart};
 ghost use Rattle.nd_vertex.specs.Items.{item_key};
 ghost use Rattle.nd_vertex.specs.Edits.{item_of};
 ghost use Rattle.nd_processor.specs.State.{in_records, items_at};

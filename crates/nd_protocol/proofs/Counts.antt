@@ -5,14 +5,14 @@ use Rattle.std.specs.Prelude.{slice_index_or}
 use Rattle.std.specs.List.{flat_map}
 use Rattle.nd_paths.specs.Point.{point_exact}
 use Rattle.nd_paths.specs.declared.point.Pointstamp.{Pointstamp}
-use Rattle.nd_delta.specs.Change.{is_point}
+use Rattle.nd_delta.specs.Delta.{is_point}
 use Rattle.nd_processor.specs.Keys.{value_at_total}
 use Rattle.nd_processor.specs.State.{ProcessorState, idle, one_at, in_records}
 use Rattle.nd_protocol.specs.Steps.{with_record, with_records}
 use Rattle.nd_processor.specs.declared.key.ValueAt.{ValueAt}
 use Rattle.nd_protocol.proofs.Shape.{AllAt}
 use Rattle.nd_map.specs.Counts.{added}
-use Rattle.nd_processor.specs.Held.{in_records-added}
+use Rattle.nd_processor.specs.HeldLaws.{in_records-added}
 pub use Rattle.nd_protocol.specs.TruthLaws.{count, truth-count, gain-count, count-set, count-set_same, kept-set, kept-records, length-records}
 
 -- ---- records come

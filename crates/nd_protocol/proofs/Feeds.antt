@@ -16,7 +16,8 @@ use Rattle.nd_protocol.proofs.Ranges.{AllKeys-flat, emitted_small, input_past}
 use Rattle.nd_protocol.proofs.Shape.{feeding, FitsTypes, IsSmallKey, HasCause}
 use Rattle.nd_graph.specs.Graph.{op_at}
 use Rattle.nd_vertex.specs.Table.{time_past}
-use Rattle.nd_processor.specs.Held.{point_cases, one_at_itself, token_at, in_tokens-insert, in_tokens-remove}
+use Rattle.nd_processor.specs.Held.{token_at}
+use Rattle.nd_processor.specs.HeldLaws.{point_cases, one_at_itself, in_tokens-insert, in_tokens-remove}
 use Rattle.nd_protocol.proofs.Arcs.{later_epoch}
 use Rattle.nd_protocol.proofs.Counts.{AllAt-flat}
 use Rattle.nd_protocol.proofs.Emissions.{emitted_later, emitted_on_edges}

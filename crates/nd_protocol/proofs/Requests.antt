@@ -3,7 +3,7 @@ use Rattle.std.proofs.Common.{◌+◌, ◌≤◌, Bool, true, false, cond, arith
 use Rattle.std.specs.FinMap as fin
 use Rattle.nd_paths.specs.declared.point.Pointstamp.{Pointstamp}
 use Rattle.nd_processor.specs.State.{Requests, one_at, in_requests}
-use Rattle.nd_processor.specs.Held.{in_requests-insert_le}
+use Rattle.nd_processor.specs.HeldLaws.{in_requests-insert_le}
 
 -- where it is asked for
 pub in_requests-asked : (b : Bool) (s : Requests) (k x : Pointstamp) → in_requests (cond b (fin.insert s k tt) s) x ≤ in_requests s x + one_at k x

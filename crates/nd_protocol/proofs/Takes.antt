@@ -19,7 +19,7 @@ use Rattle.nd_protocol.proofs.Ranges.{AllKeys-flat, past_small, emitted_small, r
 use Rattle.nd_protocol.proofs.Shape.{taking, noticing, FitsTypes, IsSmallKey, HasCause}
 use Rattle.nd_graph.specs.Graph.{op_at}
 use Rattle.nd_map.specs.Counts.{at, added}
-use Rattle.nd_processor.specs.Held.{point_cases, one_at_itself, in_records-taken, in_requests-remove}
+use Rattle.nd_processor.specs.HeldLaws.{point_cases, one_at_itself, in_records-taken, in_requests-remove}
 use Rattle.nd_processor.specs.Keys.{value_at_total, sink_total}
 use Rattle.std.specs.Prelude.{All, slice_set}
 use Rattle.nd_protocol.proofs.Arcs.{IsTransitive, irreflexive, along, arc_of_edge}

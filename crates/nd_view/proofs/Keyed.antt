@@ -8,7 +8,7 @@ use Rattle.nd_map.specs.Maps.{find-without, listed-put, listed-without}
 use Rattle.nd_graph.specs.Graph.{Dataflow}
 use Rattle.nd_paths.specs.Point.{point_cmp, point_total}
 use Rattle.nd_paths.specs.declared.point.Pointstamp.{Pointstamp}
-use Rattle.nd_delta.specs.Change.{Change, at, set, entries, is_point, at-set_same}
+use Rattle.nd_delta.specs.Delta.{DeltaValue, at, set, entries, is_point, at-set_same}
 use Rattle.nd_delta.specs.Least.{at-index, place_of}
 use Rattle.nd_view.specs.View.{IsPrecursor, IsCount}
 use Rattle.nd_view.specs.Kept.{IsKeptAt, IsFor, IsKeyed}
@@ -19,7 +19,7 @@ use Rattle.nd_view.proofs.Shifts.{found_put, found_other, size_put}
 use Rattle.nd_map.specs.Cases.{not_zero}
 
 -- a view of a graph has the right keys
-pub keyed_for : (g : Dataflow) (m : Change) (es : List (Pointstamp × ℕ)) → IsFor g (record { map = m; counts = es }) → IsKeyed m es
+pub keyed_for : (g : Dataflow) (m : DeltaValue) (es : List (Pointstamp × ℕ)) → IsFor g (record { map = m; counts = es }) → IsKeyed m es
 keyed_for g m es h = record {
   listed = h.listed;
   some = λ q p e. present q (find point_cmp q es) (h.each q) p e;
@@ -34,7 +34,7 @@ keyed_for g m es h = record {
     absent q None none never = refl
     absent q (Some n) kept never = absurd (never kept.0)
 
-module _ (m n : Change) (es : List (Pointstamp × ℕ)) (x : Pointstamp) (v : ℤ) (is : n ≡ set m x v) (h : IsKeyed m es) where
+module _ (m n : DeltaValue) (es : List (Pointstamp × ℕ)) (x : Pointstamp) (v : ℤ) (is : n ≡ set m x v) (h : IsKeyed m es) where
   here : at n x ≡ v
   here = ap (λ c. at c x) is ∙ at-set_same m x v
 
@@ -73,7 +73,7 @@ module _ (m n : Change) (es : List (Pointstamp × ℕ)) (x : Pointstamp) (v : �
       value q other = ap (find point_cmp q) out ∙ find-without point_cmp point_total q x es ∙ ap (λ b. cond b None (find point_cmp q es)) other
 
 -- a positive point's count is put in the place of another
-pub size_same : (m : Change) (es fs : List (Pointstamp × ℕ)) (k : Pointstamp) (i : ℕ) → IsKeyed m es → pos 0 <ℤ at m k → fs ≡ put point_cmp k i es → length fs ≡ length es
+pub size_same : (m : DeltaValue) (es fs : List (Pointstamp × ℕ)) (k : Pointstamp) (i : ℕ) → IsKeyed m es → pos 0 <ℤ at m k → fs ≡ put point_cmp k i es → length fs ≡ length es
 size_same m es fs k i h up put_is = by (find point_cmp k es) refl
   where
     by : (o : Option ℕ) → find point_cmp k es ≡ o → length fs ≡ length es
@@ -84,7 +84,7 @@ some_not_none : (k : ℕ) (o : Option ℕ) → o ≡ Some k → o ≡ None → �
 some_not_none k o e f = absurd (cc (e, f))
 
 -- ---- counting anew, entry by entry
-module _ (g : Dataflow) (m : Change) where
+module _ (g : Dataflow) (m : DeltaValue) where
   -- the keys are right, and the points of the first entries have their counts
   pub record IsCountedUpTo (i : ℕ) (es : List (Pointstamp × ℕ)) : Type 0 where
     pub keyed : IsKeyed m es

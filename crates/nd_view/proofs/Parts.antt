@@ -8,31 +8,31 @@ use Rattle.std.proofs.lemmas.Map.Views.{tells_apart}
 use Rattle.nd_map.specs.Entries.{rises}
 use Rattle.nd_paths.specs.Point.{point_cmp, point_total, point_exact}
 use Rattle.nd_paths.specs.declared.point.Pointstamp.{Pointstamp}
-use Rattle.nd_delta.specs.Change.{Change, none, at, set, size, entries, is_point, at-none, at-set, size-set, size-none, sorted-entries}
+use Rattle.nd_delta.specs.Delta.{DeltaValue, none, at, set, size, entries, is_point, at-none, at-set, size-set, size-none, sorted-entries}
 use Rattle.nd_delta.specs.Least.{place_of, at-index}
 use Rattle.nd_view.specs.View.{IsPartWhere, IsCount}
 use Rattle.nd_map.specs.Cases.{zero_or_not}
 
 -- the point of one of the first entries
-pub record IsAmong (m : Change) (i : ℕ) (q : Pointstamp) : Type 0 where
+pub record IsAmong (m : DeltaValue) (i : ℕ) (q : Pointstamp) : Type 0 where
   pub index : ℕ
   pub early : index < i
   pub in_range : index < length (entries m)
   pub is : (get_or (entries m) index (q, pos 0)).0 ≡ q
 
 -- f is the part of m at those of the first entries that are of the kind
-pub record IsPartUpTo (m : Change) (P : Pointstamp → Type 0) (i : ℕ) (f : Change) : Type 0 where
+pub record IsPartUpTo (m : DeltaValue) (P : Pointstamp → Type 0) (i : ℕ) (f : DeltaValue) : Type 0 where
   pub all : (q : Pointstamp) → IsAmong m i q → P q → at f q ≡ at m q
   pub some : (q : Pointstamp) → at f q ≢ pos 0 → P q
   pub early : (q : Pointstamp) → at f q ≢ pos 0 → IsAmong m i q
 
 -- n of the first entries are of the kind
-pub record IsCountUpTo (m : Change) (P : Pointstamp → Type 0) (i n : ℕ) : Type 0 where
-  pub part : Change
+pub record IsCountUpTo (m : DeltaValue) (P : Pointstamp → Type 0) (i n : ℕ) : Type 0 where
+  pub part : DeltaValue
   pub is_part : IsPartUpTo m P i part
   pub many : size part ≡ n
 
-module _ (m : Change) (P : Pointstamp → Type 0) where
+module _ (m : DeltaValue) (P : Pointstamp → Type 0) where
   pub part_none : IsPartUpTo m P 0 none
   part_none = record {
     all = λ q among p. absurd (omega (arith, among.early));
@@ -64,11 +64,11 @@ module _ (m : Change) (P : Pointstamp → Type 0) where
         absurd (cc (rise, tied))
 
     -- the new entry's point has nothing yet
-    pub part_fresh : (f : Change) → IsPartUpTo m P i f → at f x.0 ≡ pos 0
+    pub part_fresh : (f : DeltaValue) → IsPartUpTo m P i f → at f x.0 ≡ pos 0
     part_fresh f part = elim (zero_or_not (at f x.0)) [ inl e ↦ e | inr some ↦ absurd (fresh (part.early x.0 some)) ]
 
     -- an entry that is not of the kind
-    pub part_skip : (f : Change) → (P x.0 → ⊥) → IsPartUpTo m P i f → IsPartUpTo m P (i + 1) f
+    pub part_skip : (f : DeltaValue) → (P x.0 → ⊥) → IsPartUpTo m P i f → IsPartUpTo m P (i + 1) f
     part_skip f never part = record {
       all = λ q among p. elim (split q among) [ inl before ↦ part.all q before p | inr here ↦ absurd (never (subst P here p)) ];
       some = part.some;
@@ -80,7 +80,7 @@ module _ (m : Change) (P : Pointstamp → Type 0) where
     one_of false y z w e h = h refl
 
     -- an entry of the kind
-    pub part_take : (f g : Change) → g ≡ set f x.0 x.1 → P x.0 → IsPartUpTo m P i f → IsPartUpTo m P (i + 1) g
+    pub part_take : (f g : DeltaValue) → g ≡ set f x.0 x.1 → P x.0 → IsPartUpTo m P i f → IsPartUpTo m P (i + 1) g
     part_take f g set_is p part = record {
       all = λ q among k.
           ap (λ c. at c q) set_is ∙ at-set f x.0 x.1 q
@@ -118,7 +118,7 @@ module _ (m : Change) (P : Pointstamp → Type 0) where
   count_none = record { part = none; is_part = part_none; many = size-none }
 
   -- after the last entry
-  pub part_done : (f : Change) (i : ℕ) → length (entries m) ≤ i → ((q : Pointstamp) → P q → at m q ≢ pos 0) → IsPartUpTo m P i f → IsPartWhere P m f
+  pub part_done : (f : DeltaValue) (i : ℕ) → length (entries m) ≤ i → ((q : Pointstamp) → P q → at m q ≢ pos 0) → IsPartUpTo m P i f → IsPartWhere P m f
   part_done f i past has part = record {
     all = λ q p. let place = place_of m q (has q p) in part.all q (record { index = place.index; early = omega (arith, place.in_range, past); in_range = place.in_range; is = ap (λ y. y.0) (get_or_default (entries m) place.index (q, pos 0) (q, at m q) place.in_range) ∙ place.is }) p;
     only = part.some;

@@ -4,23 +4,23 @@ use Rattle.std.proofs.lemmas.Bool.{cases_lt}
 use Rattle.std.proofs.lemmas.List.{get_or_default, get_or_append_left, get_or_push, length_push}
 use Rattle.nd_time.specs.Limits.{max_count}
 use Rattle.nd_paths.specs.declared.point.Pointstamp.{Pointstamp}
-use Rattle.nd_delta.specs.Change.{Change, at, size, combined, entries, at-plus, at-minus, IsWithin, IsTooLarge}
+use Rattle.nd_delta.specs.Delta.{DeltaValue, at, size, combined, entries, at-plus, at-minus, IsWithin, IsTooLarge}
 use Rattle.nd_delta.specs.Least.{at-index, place_of}
 use Rattle.nd_view.specs.Room.{step_at}
 use Rattle.nd_view.proofs.Points.{small}
 use Rattle.nd_map.specs.Cases.{zero_or_not}
 
 -- an entry's integer added to what its point has, or taken from it
-pub counted_at : (minus : Bool) (m d : Change) (i : ℕ) (x : Pointstamp × ℤ) → i < size d → x ≡ get_or (entries d) i x → (old by new : ℤ) → old ≡ at m x.0 → by ≡ x.1 → new ≡ cond minus (old -ℤ by) (old +ℤ by) → new ≡ at (combined minus m d) x.0
+pub counted_at : (minus : Bool) (m d : DeltaValue) (i : ℕ) (x : Pointstamp × ℤ) → i < size d → x ≡ get_or (entries d) i x → (old by new : ℤ) → old ≡ at m x.0 → by ≡ x.1 → new ≡ cond minus (old -ℤ by) (old +ℤ by) → new ≡ at (combined minus m d) x.0
 counted_at true m d i x lt is old by new old_is by_is new_is = new_is ∙ (λ j. old_is j -ℤ (by_is ∙ at-index d i x lt is) j) ∙ sym (at-minus m d x.0)
 counted_at false m d i x lt is old by new old_is by_is new_is = new_is ∙ (λ j. old_is j +ℤ (by_is ∙ at-index d i x lt is) j) ∙ sym (at-plus m d x.0)
 
 -- an entry's integer is within the limit
-pub entry_small : (d : Change) (i : ℕ) (x : Pointstamp × ℤ) → i < size d → x ≡ get_or (entries d) i x → IsWithin d → unsigned_abs x.1 ≤ max_count
+pub entry_small : (d : DeltaValue) (i : ℕ) (x : Pointstamp × ℤ) → i < size d → x ≡ get_or (entries d) i x → IsWithin d → unsigned_abs x.1 ≤ max_count
 entry_small d i x lt is within = subst (λ v. unsigned_abs v ≤ max_count) (sym (at-index d i x lt is)) (within x.0)
 
 -- what the code reckons for an entry is the integer of its point in the sum, or in the difference
-pub reckoned : (minus : Bool) (m d : Change) (i : ℕ) (x : Pointstamp × ℤ) → i < size d → x ≡ get_or (entries d) i x → IsWithin d → (old new : ℤ) → unsigned_abs old ≤ max_count → old ≡ at m x.0
+pub reckoned : (minus : Bool) (m d : DeltaValue) (i : ℕ) (x : Pointstamp × ℤ) → i < size d → x ≡ get_or (entries d) i x → IsWithin d → (old new : ℤ) → unsigned_abs old ≤ max_count → old ≡ at m x.0
     → new ≡ cond minus (to_z w64 (of_z w64 old) -ℤ to_z w64 (of_z w64 x.1)) (to_z w64 (of_z w64 old) +ℤ to_z w64 (of_z w64 x.1)) → new ≡ at (combined minus m d) x.0
 reckoned minus m d i x lt is within old new old_small old_is new_is =
     let by_small = entry_small d i x lt is within in
@@ -29,7 +29,7 @@ reckoned minus m d i x lt is within old new old_small old_is new_is =
 pub past_limit : (v : ℤ) → (unsigned_abs v ≤ max_count → ⊥) → max_count < unsigned_abs v
 past_limit v never = elim (cases_lt max_count (unsigned_abs v)) [ inl past ↦ past | inr within ↦ absurd (never within) ]
 
-module _ (d m n : Change) where
+module _ (d m n : DeltaValue) where
   -- the first steps: at the points of their entries m has the old integers and n the new ones
   pub record IsPlannedUpTo (i : ℕ) (steps : List (ℤ × ℤ)) : Type 0 where
     pub many : length steps ≡ i

@@ -9,7 +9,7 @@ use Rattle.nd_time.specs.Limits.{max_count}
 use Rattle.nd_map.specs.Entries.{rises}
 use Rattle.nd_paths.specs.Point.{point_cmp, point_total}
 use Rattle.nd_paths.specs.declared.point.Pointstamp.{Pointstamp}
-use Rattle.nd_delta.specs.Change.{Change, at, set, size, combined, entries, is_point, same, set-at, at-set_same, at-plus, at-minus, sorted-entries}
+use Rattle.nd_delta.specs.Delta.{DeltaValue, at, set, size, combined, entries, is_point, same, set-at, at-set_same, at-plus, at-minus, sorted-entries}
 use Rattle.nd_delta.specs.Least.{place_of}
 use Rattle.nd_view.specs.Room.{IsWithinRoom, AreAt, AreSteps, IsPartway, grown, step_at, end_at, grown_at}
 use Rattle.nd_view.proofs.Fors.{signed}
@@ -79,7 +79,7 @@ pub small : (z : ℤ) → unsigned_abs z ≤ 2 * max_count → to_z w64 (of_z w6
 small z fits = to_z-of_z w64 z (fits_signed_from_abs w64 z (omega (arith, fits)))
 
 -- both ends of a step, and what it leaves once all memory is taken, are within the limit
-module _ (d : Change) (steps : List (ℤ × ℤ)) (h : AreSteps d steps) (k : ℕ) (lt : k < size d) where
+module _ (d : DeltaValue) (steps : List (ℤ × ℤ)) (h : AreSteps d steps) (k : ℕ) (lt : k < size d) where
   end_within : (back : Bool) → unsigned_abs (end_at back steps k) ≤ max_count
   end_within true = h.old k lt
   end_within false = h.new k lt
@@ -104,13 +104,13 @@ module _ (d : Change) (steps : List (ℤ × ℤ)) (h : AreSteps d steps) (k : �
   first_kept v is = let within = first_small v is in small v (omega (arith, within))
 
 -- a point gets the integer that it has
-pub unchanged : (m : Change) (x : Pointstamp) (was n : ℤ) → FitsSigned w64 was → FitsSigned w64 n → of_z w64 n ≡ of_z w64 was → was ≡ at m x → m ≡ set m x n
+pub unchanged : (m : DeltaValue) (x : Pointstamp) (was n : ℤ) → FitsSigned w64 was → FitsSigned w64 n → of_z w64 n ≡ of_z w64 was → was ≡ at m x → m ≡ set m x n
 unchanged m x was n was_fits n_fits bits is =
     let value : n ≡ at m x = sym (to_z-of_z w64 n n_fits) ∙ ap (to_z w64) bits ∙ to_z-of_z w64 was was_fits ∙ is in
     sym (ap (set m x) value ∙ set-at m x)
 
 -- ---- the points of a change on the way
-module _ (d : Change) (i : ℕ) (x : Pointstamp × ℤ) (lt : i < size d) (is : x ≡ get_or (entries d) i x) where
+module _ (d : DeltaValue) (i : ℕ) (x : Pointstamp × ℤ) (lt : i < size d) (is : x ≡ get_or (entries d) i x) where
   here : (y : Pointstamp × ℤ) → (get_or (entries d) i y).0 ≡ x.0
   here y = ap (λ z. z.0) (get_or_default (entries d) i y x lt ∙ sym is)
 
@@ -133,7 +133,7 @@ module _ (d : Change) (i : ℕ) (x : Pointstamp × ℤ) (lt : i < size d) (is : 
     ]
   ]
 
-  module _ (v : ℤ) (s t : Change) (set_is : t ≡ set s x.0 v) where
+  module _ (v : ℤ) (s t : DeltaValue) (set_is : t ≡ set s x.0 v) where
     elsewhere : (k : ℕ) → k < size d → (k ≡ i → ⊥) → (y : Pointstamp × ℤ) → at t (get_or (entries d) k y).0 ≡ at s (get_or (entries d) k y).0
     elsewhere k k_lt other y = ap (λ c. at c (get_or (entries d) k y).0) set_is ∙ at-elsewhere s x.0 v (get_or (entries d) k y).0 (apart k k_lt other y)
 
@@ -146,12 +146,12 @@ module _ (d : Change) (i : ℕ) (x : Pointstamp × ℤ) (lt : i < size d) (is : 
       | inr differ ↦ ap (λ c. at c q) set_is ∙ at-elsewhere s x.0 v q differ
     ]
 
-  module _ (m : Change) (a b : ℕ → ℤ) (s : Change) where
+  module _ (m : DeltaValue) (a b : ℕ → ℤ) (s : DeltaValue) where
     -- the next entry's point
     pub way_next : IsPartway d m a b i s → at s x.0 ≡ b i
     way_next h = ap (λ y. at s y.0) is ∙ h.late i (omega arith) lt x
 
-    pub way_forth : (t : Change) → t ≡ set s x.0 (a i) → IsPartway d m a b i s → IsPartway d m a b (i + 1) t
+    pub way_forth : (t : DeltaValue) → t ≡ set s x.0 (a i) → IsPartway d m a b i s → IsPartway d m a b (i + 1) t
     way_forth t set_is h = record {
       early = λ k soon k_lt y. elim (cases_lt k i) [
         | inl before ↦ elsewhere (a i) s t set_is k k_lt (λ e. absurd (omega (arith, e, before))) y ∙ h.early k before k_lt y
@@ -165,7 +165,7 @@ module _ (d : Change) (i : ℕ) (x : Pointstamp × ℤ) (lt : i < size d) (is : 
     pub way_last : IsPartway d m a b (i + 1) s → at s x.0 ≡ a i
     way_last h = ap (λ y. at s y.0) is ∙ h.early i (omega arith) lt x
 
-    pub way_back : (t : Change) → t ≡ set s x.0 (b i) → IsPartway d m a b (i + 1) s → IsPartway d m a b i t
+    pub way_back : (t : DeltaValue) → t ≡ set s x.0 (b i) → IsPartway d m a b (i + 1) s → IsPartway d m a b i t
     way_back t set_is h = record {
       early = λ k soon k_lt y. elsewhere (b i) s t set_is k k_lt (λ e. absurd (omega (arith, e, soon))) y ∙ h.early k (omega (arith, soon)) k_lt y;
       late = λ k past k_lt y. elim (cases_lt i k) [
@@ -176,15 +176,15 @@ module _ (d : Change) (i : ℕ) (x : Pointstamp × ℤ) (lt : i < size d) (is : 
     }
 
 -- ---- one of the first steps is taken, from the last of them to the first
-pub record IsLast (d m : Change) (steps : List (ℤ × ℤ)) (back : Bool) (upto i : ℕ) (x : Pointstamp × ℤ) (was n : ℤ) (s : Change) : Type 0 where
+pub record IsLast (d m : DeltaValue) (steps : List (ℤ × ℤ)) (back : Bool) (upto i : ℕ) (x : Pointstamp × ℤ) (was n : ℤ) (s : DeltaValue) : Type 0 where
   pub was_kept : to_z w64 (of_z w64 was) ≡ was
   pub n_kept : to_z w64 (of_z w64 n) ≡ n
   pub within : unsigned_abs n ≤ max_count
   pub stands : was ≡ at s x.0
   pub room : IsWithinRoom was n
-  pub next : (t : Change) → t ≡ set s x.0 n → IsPartway d m (grown_at steps) (end_at back steps) (upto - (i + 1)) t
+  pub next : (t : DeltaValue) → t ≡ set s x.0 n → IsPartway d m (grown_at steps) (end_at back steps) (upto - (i + 1)) t
 
-pub last_of : (d m : Change) (steps : List (ℤ × ℤ)) (back : Bool) (upto i : ℕ) (x : Pointstamp × ℤ) (was n : ℤ) (s : Change)
+pub last_of : (d m : DeltaValue) (steps : List (ℤ × ℤ)) (back : Bool) (upto i : ℕ) (x : Pointstamp × ℤ) (was n : ℤ) (s : DeltaValue)
     → AreSteps d steps → upto ≤ size d → i < upto → x ≡ get_or (entries d) (upto - 1 - i) x → was ≡ grown_at steps (upto - 1 - i) → n ≡ end_at back steps (upto - 1 - i)
     → IsPartway d m (grown_at steps) (end_at back steps) (upto - i) s → IsLast d m steps back upto i x was n s
 last_of d m steps back upto i x was n s h within more is was_is n_is way =
@@ -205,14 +205,14 @@ last_of d m steps back upto i x was n s h within more is was_is n_is way =
     }
 
 -- none of them is taken yet, or all are
-pub way_all : (d m : Change) (a b : ℕ → ℤ) (upto : ℕ) (s : Change) → IsPartway d m a b upto s → IsPartway d m a b (upto - 0) s
+pub way_all : (d m : DeltaValue) (a b : ℕ → ℤ) (upto : ℕ) (s : DeltaValue) → IsPartway d m a b upto s → IsPartway d m a b (upto - 0) s
 way_all d m a b upto s = let all : upto ≡ upto - 0 = omega arith in subst (λ j. IsPartway d m a b j s) all
 
-pub way_over : (d m : Change) (a b : ℕ → ℤ) (upto i : ℕ) (s : Change) → upto ≤ i → IsPartway d m a b (upto - i) s → IsPartway d m a b 0 s
+pub way_over : (d m : DeltaValue) (a b : ℕ → ℤ) (upto i : ℕ) (s : DeltaValue) → upto ≤ i → IsPartway d m a b (upto - i) s → IsPartway d m a b 0 s
 way_over d m a b upto i s past = let over : upto - i ≡ 0 = omega (arith, past) in subst (λ j. IsPartway d m a b j s) over
 
-module _ (d : Change) where
-  pub way_first : (m : Change) (a b : ℕ → ℤ) → AreAt d b m → IsPartway d m a b 0 m
+module _ (d : DeltaValue) where
+  pub way_first : (m : DeltaValue) (a b : ℕ → ℤ) → AreAt d b m → IsPartway d m a b 0 m
   way_first m a b h = record {
     early = λ k soon. absurd (omega (arith, soon));
     late = λ k _ k_lt y. h k k_lt y;
@@ -220,11 +220,11 @@ module _ (d : Change) where
   }
 
   -- the same seen from where one is
-  pub way_from : (m : Change) (a b : ℕ → ℤ) (i : ℕ) (s : Change) → IsPartway d m a b i s → IsPartway d s a b i s
+  pub way_from : (m : DeltaValue) (a b : ℕ → ℤ) (i : ℕ) (s : DeltaValue) → IsPartway d m a b i s → IsPartway d s a b i s
   way_from m a b i s h = record { early = h.early; late = h.late; others = λ q _. refl }
 
   -- all of them back: that is a change which has the same at all points
-  pub way_end : (m : Change) (a b : ℕ → ℤ) (t u : Change) → IsPartway d m a b 0 t → AreAt d b u → ((q : Pointstamp) → at d q ≡ pos 0 → at u q ≡ at m q) → t ≡ u
+  pub way_end : (m : DeltaValue) (a b : ℕ → ℤ) (t u : DeltaValue) → IsPartway d m a b 0 t → AreAt d b u → ((q : Pointstamp) → at d q ≡ pos 0 → at u q ≡ at m q) → t ≡ u
   way_end m a b t u h there elsewhere = same t u (λ q. elim (zero_or_not (at d q)) [
     | inl none ↦ h.others q none ∙ sym (elsewhere q none)
     | inr some ↦
@@ -234,6 +234,6 @@ module _ (d : Change) where
   ])
 
 -- a sum where there is nothing to add
-pub nothing_there : (minus : Bool) (m d : Change) (q : Pointstamp) → at d q ≡ pos 0 → at (combined minus m d) q ≡ at m q
+pub nothing_there : (minus : Bool) (m d : DeltaValue) (q : Pointstamp) → at d q ≡ pos 0 → at (combined minus m d) q ≡ at m q
 nothing_there true m d q e = let h = at-minus m d q in omega (arith, ints, h, e)
 nothing_there false m d q e = let h = at-plus m d q in omega (arith, ints, h, e)

@@ -2,11 +2,11 @@
 use Rattle.std.specs.Prelude.{◌≡◌, ◌<◌, ◌≤◌, ℕ, zero, suc, ℤ, pos, negsuc, ◌<ℤ◌, Bool, cond, List, length, slice_index_or, unsigned_abs}
 use Rattle.nd_time.specs.Limits.{max_count}
 use Rattle.nd_paths.specs.declared.point.Pointstamp.{Pointstamp}
-use Rattle.nd_delta.specs.Change.{Change, at, size, entries}
+use Rattle.nd_delta.specs.Delta.{DeltaValue, at, size, entries}
 use Rattle.nd_view.specs.Kept.{Kept}
 
 -- a map and what is stored beside it
-abbrev pub kept_of : Change → List (Pointstamp × ℕ) → Kept
+abbrev pub kept_of : DeltaValue → List (Pointstamp × ℕ) → Kept
 kept_of m es = record { map = m; counts = es }
 
 -- an integer that takes no memory in the place of another: nothing comes into the map, nothing becomes positive
@@ -34,17 +34,17 @@ abbrev pub end_at : Bool → List (ℤ × ℤ) → ℕ → ℤ
 end_at back steps k = cond back (step_at steps k).0 (step_at steps k).1
 
 -- as many steps as the change d has entries, within the limit of the program
-pub record AreSteps (d : Change) (steps : List (ℤ × ℤ)) : Type 0 where
+pub record AreSteps (d : DeltaValue) (steps : List (ℤ × ℤ)) : Type 0 where
   pub many : length steps ≡ size d
   pub old : (k : ℕ) → k < size d → unsigned_abs (step_at steps k).0 ≤ max_count
   pub new : (k : ℕ) → k < size d → unsigned_abs (step_at steps k).1 ≤ max_count
 
 -- the points of the entries of d have these integers
-abbrev pub AreAt : Change → (ℕ → ℤ) → Change → Type 0
+abbrev pub AreAt : DeltaValue → (ℕ → ℤ) → DeltaValue → Type 0
 AreAt d a m = (k : ℕ) → k < size d → (x : Pointstamp × ℤ) → at m (slice_index_or (entries d) k x).0 ≡ a k
 
 -- those of the first i entries have the integers a, those of the others the integers b, and all other points what they have in m
-pub record IsPartway (d m : Change) (a b : ℕ → ℤ) (i : ℕ) (s : Change) : Type 0 where
+pub record IsPartway (d m : DeltaValue) (a b : ℕ → ℤ) (i : ℕ) (s : DeltaValue) : Type 0 where
   pub early : (k : ℕ) → k < i → k < size d → (x : Pointstamp × ℤ) → at s (slice_index_or (entries d) k x).0 ≡ a k
   pub late : (k : ℕ) → i ≤ k → k < size d → (x : Pointstamp × ℤ) → at s (slice_index_or (entries d) k x).0 ≡ b k
   pub others : (q : Pointstamp) → at d q ≡ pos 0 → at s q ≡ at m q

@@ -2,7 +2,7 @@
 
 ghost use Rattle.std.specs.Prelude.{◌≡◌, ◌≢◌, ◌↔◌, ◌≤◌, ◌<ℤ◌, pos, true, false, length, unsigned_abs, OnOk, OnErr, vec_capacity};
 ghost use Rattle.nd_time.specs.Limits.{max_count};
-ghost use Rattle.nd_delta.specs.Change.{at, set, size};
+ghost use Rattle.nd_delta.specs.Delta.{at, set, size};
 ghost use Rattle.nd_view.specs.Kept.{IsFor, IsKeyed};
 ghost use Rattle.nd_view.specs.Room.{kept_of, IsWithinRoom, AreAt, AreSteps, IsPartway, end_at, grown_at};
 

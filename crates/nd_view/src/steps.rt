@@ -3,7 +3,7 @@
 ghost use Rattle.std.specs.Prelude.{◌≡◌, ◌↔◌, ◌<◌, ◌≤◌, ◌*◌, ◌+ℤ◌, ◌-ℤ◌, true, false, cond, length, unsigned_abs, IfOk, IsTrue, Err};
 ghost use Rattle.nd_time.specs.Limits.{max_count};
 ghost use Rattle.nd_delta.specs.declared.DeltaFault.{DeltaFault};
-ghost use Rattle.nd_delta.specs.Change.{combined, IsTooLarge};
+ghost use Rattle.nd_delta.specs.Delta.{combined, IsTooLarge};
 ghost use Rattle.nd_view.specs.Room.{AreAt, AreSteps, end_at, grown_at};
 
 use crate::entry_tests::takes_room;

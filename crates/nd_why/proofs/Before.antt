@@ -13,11 +13,11 @@ use Rattle.nd_graph.specs.Graph.{Dataflow}
 use Rattle.nd_paths.specs.Order.{CouldResultIn}
 use Rattle.nd_paths.specs.Point.{point_total, point_exact}
 use Rattle.nd_paths.specs.declared.point.Pointstamp.{Pointstamp}
-use Rattle.nd_delta.specs.Change.{is_point, at}
+use Rattle.nd_delta.specs.Delta.{is_point, at}
 use Rattle.nd_map.specs.Counts.{entries}
 use Rattle.nd_processor.specs.Keys.{value_at_total, value_at_exact}
 use Rattle.nd_processor.specs.State.{ProcessorState, token_point, in_records, in_requests, in_tokens, held}
-use Rattle.nd_processor.specs.Held.{in_requests-weight}
+use Rattle.nd_processor.specs.HeldLaws.{in_requests-weight}
 use Rattle.nd_processor.specs.declared.key.ValueAt.{ValueAt}
 use Rattle.nd_why.proofs.Nothing.{some_number}
 use Rattle.nd_protocol.specs.State.{truth}

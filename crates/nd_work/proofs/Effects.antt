@@ -12,7 +12,7 @@ use Rattle.nd_vertex.specs.Items.{Items}
 use Rattle.nd_vertex.specs.declared.key.ItemKey.{ItemKey}
 use Rattle.nd_processor.specs.Keys.{value_at_cmp, value_at_total, value_at_exact, sink_cmp, sink_total, sink_exact}
 use Rattle.nd_processor.specs.State.{Requests, one_at, in_requests}
-use Rattle.nd_processor.specs.Held.{natural-less, in_requests-insert, in_requests-again}
+use Rattle.nd_processor.specs.HeldLaws.{natural-less, in_requests-insert, in_requests-again}
 use Rattle.nd_processor.specs.declared.key.ValueAt.{ValueAt}
 use Rattle.nd_processor.specs.declared.key.SinkKey.{SinkKey}
 use Rattle.nd_record.specs.Places.{Place, place_at, records_at, request_at, item_at, sink_at, unsent_at}

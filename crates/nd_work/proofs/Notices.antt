@@ -14,7 +14,7 @@ use Rattle.nd_vertex.specs.Items.{Items}
 use Rattle.nd_vertex.specs.Table.{Outcome}
 use Rattle.nd_vertex.specs.declared.key.ItemKey.{ItemKey}
 use Rattle.nd_processor.specs.State.{ProcessorState, idle, items_at, one_at, held, in_requests}
-use Rattle.nd_processor.specs.Held.{in_requests-remove}
+use Rattle.nd_processor.specs.HeldLaws.{in_requests-remove}
 use Rattle.nd_protocol.specs.State.{ClusterState, processor}
 use Rattle.nd_protocol.specs.Steps.{emitted, point_at, notice_outcome, noticed, stepped}
 use Rattle.nd_protocol.specs.Fitting.{IsState, ProcessorFits}

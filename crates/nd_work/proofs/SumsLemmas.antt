@@ -6,7 +6,7 @@ use Rattle.std.specs.Cmp.{IsTotalOrder}
 use Rattle.std.specs.FinMap.{IsAntisymmetric, put}
 use Rattle.std.proofs.lemmas.Map.Views.{tells_apart}
 use Rattle.nd_time.specs.Limits.{max_count}
-use Rattle.nd_map.specs.Kept.{found-put, found-without}
+use Rattle.nd_map.specs.KeptLaws.{found-put, found-without}
 use Rattle.nd_map.specs.Listed.{without}
 use Rattle.nd_work.specs.Sums.{IsAdded, found}
 

@@ -11,7 +11,7 @@ use Rattle.nd_vertex.specs.Items.{Items}
 use Rattle.nd_vertex.specs.Table.{Outcome}
 use Rattle.nd_processor.specs.Keys.{value_at_total, sink_total}
 use Rattle.nd_processor.specs.State.{ProcessorState, idle, items_at, one_at, held, in_records, in_requests}
-use Rattle.nd_processor.specs.Held.{in_records-taken}
+use Rattle.nd_processor.specs.HeldLaws.{in_records-taken}
 use Rattle.nd_processor.specs.declared.key.ValueAt.{ValueAt}
 use Rattle.nd_processor.specs.declared.key.SinkKey.{SinkKey}
 use Rattle.nd_protocol.specs.State.{ClusterState, processor}

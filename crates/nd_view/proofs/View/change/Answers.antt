@@ -1,5 +1,5 @@
 use Rattle.std.proofs.Common.{sym, ap, subst, ◌∙◌, false}
-use Rattle.nd_delta.specs.Change.{combined}
+use Rattle.nd_delta.specs.Delta.{combined}
 use Rattle.nd_view.specs.Room.{kept_of, AreAt, end_at, grown_at}
 use Rattle.nd_view.specs.Settled.{same_views}
 use Rattle.nd_view.proofs.Points.{nothing_there, way_end}

@@ -1,7 +1,7 @@
 use Rattle.std.proofs.Common.{◌≡◌, ◌<◌, ◌+◌, length, get_or, sym, ap, subst, ◌∙◌, pos, arith, refl}
 use Rattle.std.specs.Prelude.{◌<ℤ◌}
 use Rattle.std.proofs.lemmas.Int.{ints}
-use Rattle.nd_delta.specs.Change.{entries}
+use Rattle.nd_delta.specs.Delta.{entries}
 use Rattle.nd_delta.specs.Least.{at-index}
 use Rattle.nd_view.proofs.Keyed.{IsCountedUpTo, counted_none, counted_skip, counted_take, counted_done, size_same}
 use Rattle.nd_view.proofs.keeping.recount.Goals as goal

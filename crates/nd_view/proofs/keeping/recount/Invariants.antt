@@ -1,5 +1,5 @@
 use Rattle.std.proofs.Common.{◌≡◌, length}
-use Rattle.nd_delta.specs.Change.{entries}
+use Rattle.nd_delta.specs.Delta.{entries}
 use Rattle.nd_view.proofs.Keyed.{IsCountedUpTo}
 use Rattle.nd_view.proofs.keeping.recount.Given as goal
 

@@ -1,5 +1,5 @@
 use Rattle.std.proofs.Common.{◌≡◌, ◌<◌, get_or, sym, subst, ◌∙◌, true, ap, arith}
-use Rattle.nd_delta.specs.Change.{at, set, size, entries}
+use Rattle.nd_delta.specs.Delta.{at, set, size, entries}
 use Rattle.nd_view.specs.Kept.{IsFor}
 use Rattle.nd_view.specs.Room.{kept_of, IsPartway, step_at, end_at, grown_at}
 use Rattle.nd_view.proofs.Points.{end_kept, first_kept, first_small, grown_from, way_first, way_next, way_forth, way_from, way_end}

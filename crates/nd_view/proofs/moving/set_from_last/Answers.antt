@@ -1,5 +1,5 @@
 use Rattle.std.proofs.Common.{◌≡◌, ◌-◌, get_or, arith, false}
-use Rattle.nd_delta.specs.Change.{size, entries}
+use Rattle.nd_delta.specs.Delta.{size, entries}
 use Rattle.nd_view.specs.Room.{end_at, grown_at}
 use Rattle.nd_view.proofs.Points.{last_of, way_all, way_over}
 use Rattle.nd_view.proofs.moving.set_from_last.Goals as goal

@@ -1,5 +1,5 @@
 use Rattle.std.proofs.Common.{◌≤◌, ◌-◌, length, false}
-use Rattle.nd_delta.specs.Change.{size}
+use Rattle.nd_delta.specs.Delta.{size}
 use Rattle.nd_view.specs.Kept.{IsKeyed}
 use Rattle.nd_view.specs.Room.{IsPartway, end_at, grown_at}
 use Rattle.nd_view.proofs.moving.set_from_last.Given as goal

@@ -1,6 +1,6 @@
 use Rattle.std.proofs.Common.{◌≡◌, ◌<◌, ◌≤◌, get_or, arith, sym, subst, refl, true≢false, unsigned_abs}
 use Rattle.nd_time.specs.Limits.{max_count}
-use Rattle.nd_delta.specs.Change.{size, combined, entries}
+use Rattle.nd_delta.specs.Delta.{size, combined, entries}
 use Rattle.nd_view.proofs.Plans.{reckoned, entry_small, past_limit, planned_none, planned_more, planned_fits}
 use Rattle.nd_view.proofs.Points.{nothing_there, small}
 use Rattle.nd_view.proofs.steps.planned.Goals as goal

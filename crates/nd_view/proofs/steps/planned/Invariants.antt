@@ -1,5 +1,5 @@
 use Rattle.std.proofs.Common.{◌≡◌, ◌≤◌, vec_capacity}
-use Rattle.nd_delta.specs.Change.{size, combined, entries}
+use Rattle.nd_delta.specs.Delta.{size, combined, entries}
 use Rattle.nd_view.proofs.Plans.{IsPlannedUpTo}
 use Rattle.nd_view.proofs.steps.planned.Given as goal
 

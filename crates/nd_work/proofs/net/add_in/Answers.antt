@@ -1,6 +1,6 @@
 use Rattle.std.proofs.Common.{◌≡◌, ◌≤◌, ◌+ℤ◌, pos, w64, to_z, of_z, unsigned_abs, ap, sym, subst, ◌∙◌}
 use Rattle.nd_time.specs.Limits.{max_count}
-use Rattle.nd_map.specs.Kept.{kept_put, kept_without}
+use Rattle.nd_map.specs.KeptLaws.{kept_put, kept_without}
 use Rattle.nd_work.specs.Sums.{IsSum, found}
 use Rattle.nd_work.proofs.SumsLemmas.{added_put, added_without, parts, summed}
 use Rattle.nd_work.proofs.net.add_in.Goals as goal

@@ -1,7 +1,8 @@
 use Rattle.std.proofs.Common.{rules, ◌≡◌, Err, neg_ℤ, ap, ◌∙◌, w64}
 use Rattle.std.proofs.lemmas.Int.{to_z-of_z}
 use Rattle.nd_processor.proofs.Seen.{unsent_back, unsent_changed, unsent_full}
-use Rattle.nd_processor.specs.Edits.{more_unsent, unsent-back}
+use Rattle.nd_processor.specs.Edits.{more_unsent}
+use Rattle.nd_processor.specs.EditsLaws.{unsent-back}
 use Rattle.nd_processor.proofs.processor.Processor.add_unsent.Goals as goal
 
 pub returns-clause-ok : goal.returns-clause-ok
