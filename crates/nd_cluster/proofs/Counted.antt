@@ -8,7 +8,7 @@ use Rattle.std.specs.FinMap as fin
 use Rattle.nd_paths.specs.Point.{point_cmp, point_total, point_exact}
 use Rattle.nd_paths.specs.declared.point.Pointstamp.{Pointstamp}
 use Rattle.nd_map.specs.Weights.{weight}
-use Rattle.nd_delta.specs.Change.{is_point}
+use Rattle.nd_delta.specs.Delta.{is_point}
 use Rattle.nd_processor.specs.State.{Requests, token_point, one_at, in_requests, in_tokens}
 use Rattle.nd_processor.specs.Held.{sum_by-map, one_at_itself, token_at, in_requests-remove, in_tokens-remove}
 

@@ -7,10 +7,10 @@ use Rattle.nd_vertex.specs.Items.{Items}
 use Rattle.nd_vertex.specs.declared.key.ItemKey.{ItemKey}
 use Rattle.nd_processor.specs.declared.key.ValueAt.{ValueAt}
 use Rattle.nd_processor.specs.declared.key.SinkKey.{SinkKey}
-use Rattle.nd_delta.specs.Change.{Change}
+use Rattle.nd_delta.specs.Delta.{DeltaValue}
 use Rattle.nd_mesh.specs.Mesh.{queue}
 use Rattle.nd_protocol.specs.Ranges.{IsValue}
-use Rattle.nd_protocol.specs.Fitting.{IsAtVertex, IsAtEdge, ChangeFits, ChangeIsWithin}
+use Rattle.nd_protocol.specs.Fitting.{IsAtVertex, IsAtEdge, DeltaFits, DeltaIsWithin}
 
 -- a record may be at the key's pointstamp, with the key's value
 abbrev pub IsRecordKey : Dataflow → ValueAt → Type 0
@@ -29,8 +29,8 @@ abbrev pub ItemsFit : Dataflow → ℕ → Items → Type 0
 ItemsFit g vertex m = All (λ (e : ItemKey × ℤ). e.1 ≢ pos 0 → IsItem g vertex e.0 e.1) (entries m)
 
 -- the changes from a processor have entries at pointstamps of the graph alone, and within the limit
-abbrev pub RowFits : Dataflow → List (List (List Change)) → ℕ → Type 0
-RowFits g m p = (q : ℕ) → q < length m → All (ChangeFits g) (queue m p q)
+abbrev pub RowFits : Dataflow → List (List (List DeltaValue)) → ℕ → Type 0
+RowFits g m p = (q : ℕ) → q < length m → All (DeltaFits g) (queue m p q)
 
-abbrev pub RowIsWithin : List (List (List Change)) → ℕ → Type 0
-RowIsWithin m p = (q : ℕ) → q < length m → All ChangeIsWithin (queue m p q)
+abbrev pub RowIsWithin : List (List (List DeltaValue)) → ℕ → Type 0
+RowIsWithin m p = (q : ℕ) → q < length m → All DeltaIsWithin (queue m p q)

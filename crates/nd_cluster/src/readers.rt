@@ -1,7 +1,7 @@
 //! What is outstanding in a cluster, and copies of it.
 ghost use Rattle.std.specs.Prelude.{◌≡◌, ◌<◌, ◌≤◌, ◌^◌, pos, IfOk, sum_by, length};
 ghost use Rattle.nd_time.specs.Limits.{max_processors};
-ghost use Rattle.nd_delta.specs.Change.{at};
+ghost use Rattle.nd_delta.specs.Delta.{at};
 ghost use Rattle.nd_processor.specs.State.{held, in_requests, in_tokens};
 ghost use Rattle.nd_protocol.specs.State.{truth};
 ghost use Rattle.nd_protocol.specs.Invariant.{IsSettled};

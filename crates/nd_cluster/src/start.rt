@@ -1,7 +1,7 @@
 //! The start of a cluster.
 ghost use Rattle.std.specs.Prelude.{◌≡◌, ◌*◌, pos, All, IfOk, IfErr, OnOk, map, replicate};
 ghost use Rattle.nd_paths.specs.declared.point.Pointstamp.{Pointstamp as Point};
-ghost use Rattle.nd_delta.specs.Change.{at};
+ghost use Rattle.nd_delta.specs.Delta.{at};
 ghost use Rattle.nd_view.specs.Kept.{IsFor};
 ghost use Rattle.nd_processor.specs.State.{token_point as point_of};
 ghost use Rattle.nd_processor.specs.Start.{start_processor};

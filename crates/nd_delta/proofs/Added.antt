@@ -10,7 +10,7 @@ use Rattle.nd_map.specs.declared.tree.Edit.{Edit}
 use Rattle.nd_map.specs.declared.tree.Edit.TheVariants.{Keep, Put, Remove}
 use Rattle.nd_paths.specs.Point.{point_cmp}
 use Rattle.nd_paths.specs.declared.point.Pointstamp.{Pointstamp}
-use Rattle.nd_delta.specs.Change.{Change, at, set, or_zero, of_entries}
+use Rattle.nd_delta.specs.Delta.{DeltaValue, at, set, or_zero, of_entries}
 use Rattle.nd_delta.specs.Kept.{IsCount, IsKept}
 use Rattle.nd_delta.specs.declared.DeltaFault.{DeltaFault}
 use Rattle.nd_delta.specs.declared.DeltaFault.TheVariants.{DeltaFull}
@@ -22,7 +22,7 @@ pub record IsSum (n h : ℤ) (e : Edit ℤ) : Type 0 where
   pub none : h +ℤ n ≡ pos 0 → e ≡ Remove
   pub some : unsigned_abs (h +ℤ n) ≤ max_count → h +ℤ n ≢ pos 0 → e ≡ Put (h +ℤ n)
 
-module _ (es : List (Pointstamp × ℤ)) (kept : IsKept es) (m : Change) (view : of_entries es ≡ m) (p : Pointstamp) (n : ℤ) where
+module _ (es : List (Pointstamp × ℤ)) (kept : IsKept es) (m : DeltaValue) (view : of_entries es ≡ m) (p : Pointstamp) (n : ℤ) where
   pub record Changed (fs : List (Pointstamp × ℤ)) : Type 0 where
     pub kept_so : IsKept fs
     pub is : of_entries fs ≡ set m p (at m p +ℤ n)

@@ -8,14 +8,14 @@ use Rattle.nd_map.specs.Listed.{without}
 use Rattle.nd_map.specs.Kept as stored
 use Rattle.nd_paths.specs.Point.{point_cmp, point_total, point_exact}
 use Rattle.nd_paths.specs.declared.point.Pointstamp.{Pointstamp}
-use Rattle.nd_delta.specs.Change.{Change, at, set, or_zero, of_entries, entries, IsWithin}
+use Rattle.nd_delta.specs.Delta.{DeltaValue, at, set, or_zero, of_entries, entries, IsWithin}
 use Rattle.nd_delta.specs.Kept.{IsCount, IsKept}
 
 -- an integer as the code keeps it
 pub whole : (n : ℤ) → unsigned_abs n ≤ max_count → to_z w64 (of_z w64 n) ≡ n
 whole n within = to_z-of_z w64 n (fits_signed_from_abs w64 n (omega (arith, within)))
 
-module _ (es : List (Pointstamp × ℤ)) (kept : IsKept es) (m : Change) (view : of_entries es ≡ m) where
+module _ (es : List (Pointstamp × ℤ)) (kept : IsKept es) (m : DeltaValue) (view : of_entries es ≡ m) where
   pub listed : es ≡ entries m
   unfolding of_entries entries
   listed = stored.listed integers point_total point_exact es m view (λ _. IsCount) kept (λ _ _ count. count.some)

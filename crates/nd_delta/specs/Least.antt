@@ -8,7 +8,7 @@ use Rattle.std.specs.FinMap.{find}
 use Rattle.nd_map.specs.Entries.{find-index, found_at, rises}
 use Rattle.nd_paths.specs.Point.{point_cmp, point_total, point_exact}
 use Rattle.nd_paths.specs.declared.point.Pointstamp.{Pointstamp}
-use Rattle.nd_delta.specs.Change.{Change, at, entries, or_zero, at-entries, sorted-entries}
+use Rattle.nd_delta.specs.Delta.{DeltaValue, at, entries, or_zero, at-entries, sorted-entries}
 
 -- x is of the kind P, and none of that kind is listed before it
 pub record IsLeast (P : Pointstamp → Type 0) (x : Pointstamp) : Type 0 where
@@ -22,7 +22,7 @@ AllUpTo G es i = (k : ℕ) → k < i → (d : Pointstamp × ℤ) → G (get_or e
 pub all-more : (G : Pointstamp → Type 0) (es : List (Pointstamp × ℤ)) (i : ℕ) (x : Pointstamp × ℤ) → i < length es → x ≡ get_or es i x → G x.0 → AllUpTo G es i → AllUpTo G es (i + 1)
 all-more G es i x lt is g h = below_more _ _ h (λ d. subst (λ y. G y.0) (is ∙ get_or_default es i x d lt) g)
 
-module _ (m : Change) where
+module _ (m : DeltaValue) where
   -- an entry has its point's integer
   pub at-index : (i : ℕ) (x : Pointstamp × ℤ) → i < length (entries m) → x ≡ get_or (entries m) i x → x.1 ≡ at m x.0
   at-index i x lt is =

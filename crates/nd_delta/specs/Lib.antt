@@ -1,4 +1,4 @@
-pub mod Change
+pub mod Delta
 pub mod Kept
 pub mod Least
 pub mod Upright

@@ -4,7 +4,7 @@ ghost use Rattle.std.specs.Map.Iter.{ShowsInOrder, deref_pair};
 ghost use Rattle.nd_time.specs.Limits.{max_count};
 ghost use Rattle.nd_map.specs.declared.tree.Edit.TheVariants.{Keep, Put, Remove};
 ghost use Rattle.nd_paths.specs.declared.point.Pointstamp.{Pointstamp as Point};
-ghost use Rattle.nd_delta.specs.Change.{none, at, set, size, plus, minus, part, has_point, points_of, IsWithin, IsPartOf, IsApart, entries as listed};
+ghost use Rattle.nd_delta.specs.Delta.{none, at, set, size, plus, minus, part, has_point, points_of, IsWithin, IsPartOf, IsApart, entries as listed};
 
 use crate::{Delta, DeltaFault, passes_limit};
 use nd_map::{Edit, GrowingMap, Iter};
@@ -27,12 +27,12 @@ impl<A: Allocator> Drop for LargeDelta<A> {
 }
 
 impl<A: Allocator> Model for LargeDelta<A> {
-    ghost use Rattle.nd_delta.specs.Change.{Change, change_code, of_entries};
+    ghost use Rattle.nd_delta.specs.Delta.{DeltaValue, delta_code, of_entries};
     ghost use Rattle.nd_delta.specs.Kept.{IsKept};
 
-    ghost Value = { Change };
+    ghost Value = { DeltaValue };
 
-    ghost coded = { change_code };
+    ghost coded = { delta_code };
 
     ghost view = { λ a. of_entries a.map };
 

@@ -1,6 +1,6 @@
 //! Broadcasts: a part of what is unsent goes to the back of the queues from a processor.
 ghost use Rattle.std.specs.Prelude.{◌≡◌, ◌≢◌, ◌↔◌, ◌<◌, length, IfErr, IfOk, IfSome, IsNone, IsTrue, OnErr, OnOk};
-ghost use Rattle.nd_delta.specs.Change.{none, plus, minus, part as part_at, IsPartOf, IsApart};
+ghost use Rattle.nd_delta.specs.Delta.{none, plus, minus, part as part_at, IsPartOf, IsApart};
 ghost use Rattle.nd_mesh.specs.Mesh.{row, pushed, unpushed, HasQueue, IsFull, IsMesh};
 ghost use Rattle.nd_protocol.specs.Steps.{chosen};
 ghost use Rattle.nd_exchange.specs.Exchanges.{LeavesUpright, LeavesAlone, SendFails, IsNewest};

@@ -1,7 +1,7 @@
 //! Receives: the front of a queue goes into the receiver's view.
 ghost use Rattle.std.specs.Prelude.{◌≡◌, ◌↔◌, ◌<◌, ◌≤◌, ◌*◌, ◌+ℤ◌, unsigned_abs, length, slice_get, Some, IfErr, IfOk, IsTrue, OnErr, OnOk};
 ghost use Rattle.nd_time.specs.Limits.{max_count};
-ghost use Rattle.nd_delta.specs.Change.{at, plus, minus, IsTooLarge};
+ghost use Rattle.nd_delta.specs.Delta.{at, plus, minus, IsTooLarge};
 ghost use Rattle.nd_view.specs.Kept.{Kept, IsFor};
 ghost use Rattle.nd_mesh.specs.Mesh.{queue, popped, unpopped, IsFull, IsMesh};
 ghost use Rattle.nd_exchange.specs.Exchanges.{ReceiveFails};

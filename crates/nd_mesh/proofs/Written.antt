@@ -2,23 +2,23 @@
 use Rattle.std.proofs.Common.{◌≡◌, ℕ, ◌<◌, List, [], ◌∷◌, length, map, get_or, Some, slice_get, ap, subst, sym, ◌∙◌}
 use Rattle.std.proofs.Math.ListN.{set}
 use Rattle.std.proofs.lemmas.List.{get_or_read}
-use Rattle.nd_delta.specs.Change.{Change}
+use Rattle.nd_delta.specs.Delta.{DeltaValue}
 use Rattle.nd_mesh.specs.Mesh.{appended, without_newest, without_oldest, row, queue, pushed, unpushed, popped, unpopped, HasQueue, IsFull, IsMesh}
 
-module _ (m : List (List (List Change))) (from : ℕ) (f : from < length m) (old : List (List Change)) (read : old ≡ get_or m from old) where
+module _ (m : List (List (List DeltaValue))) (from : ℕ) (f : from < length m) (old : List (List DeltaValue)) (read : old ≡ get_or m from old) where
   is_row : old ≡ row m from
   is_row = get_or_read m from old f read []
 
-  pub written_pushed : (c : Change) (new : List (List Change)) → new ≡ map (appended c) old → set m from new ≡ pushed m from c
+  pub written_pushed : (c : DeltaValue) (new : List (List DeltaValue)) → new ≡ map (appended c) old → set m from new ≡ pushed m from c
   written_pushed c new e = ap (set m from) (e ∙ ap (map (appended c)) is_row)
 
-  pub written_unpushed : (new : List (List Change)) → new ≡ map without_newest old → set m from new ≡ unpushed m from
+  pub written_unpushed : (new : List (List DeltaValue)) → new ≡ map without_newest old → set m from new ≡ unpushed m from
   written_unpushed new e = ap (set m from) (e ∙ ap (map without_newest) is_row)
 
-  pub written_popped : (to : ℕ) (new : List (List Change)) → new ≡ set old to (without_oldest (get_or old to [])) → set m from new ≡ popped m from to
+  pub written_popped : (to : ℕ) (new : List (List DeltaValue)) → new ≡ set old to (without_oldest (get_or old to [])) → set m from new ≡ popped m from to
   written_popped to new e = ap (set m from) (e ∙ ap (λ r. set r to (without_oldest (get_or r to []))) is_row)
 
-  pub written_unpopped : (to : ℕ) (c : Change) (new : List (List Change)) → new ≡ set old to (c ∷ get_or old to []) → set m from new ≡ unpopped m from to c
+  pub written_unpopped : (to : ℕ) (c : DeltaValue) (new : List (List DeltaValue)) → new ≡ set old to (c ∷ get_or old to []) → set m from new ≡ unpopped m from to c
   written_unpopped to c new e = ap (set m from) (e ∙ ap (λ r. set r to (c ∷ get_or r to [])) is_row)
 
   pub not_full : (HasQueue IsFull old → ⊥) → HasQueue IsFull (row m from) → ⊥
@@ -29,7 +29,7 @@ module _ (m : List (List (List Change))) (from : ℕ) (f : from < length m) (old
   there to mesh t = subst (λ n. to < n) (sym (mesh.square from [] f)) t
 
   -- what is read of one queue of the row
-  pub front_is : (to : ℕ) (c : Change) → Some c ≡ slice_get (get_or old to []) 0 → slice_get (queue m from to) 0 ≡ Some c
+  pub front_is : (to : ℕ) (c : DeltaValue) → Some c ≡ slice_get (get_or old to []) 0 → slice_get (queue m from to) 0 ≡ Some c
   front_is to c e = ap (λ r. slice_get (get_or r to []) 0) (sym is_row) ∙ sym e
 
   pub length_is : (to n : ℕ) → n ≡ length (get_or old to []) → n ≡ length (queue m from to)

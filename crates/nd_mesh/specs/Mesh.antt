@@ -2,65 +2,65 @@
 use Rattle.std.specs.Prelude.{◌≡◌, ℕ, ◌<◌, ◌≤◌, ◌-◌, zero, suc, List, [], ◌∷◌, ◌++◌, length, map, take, drop, slice_index_or, slice_set}
 use Rattle.std.specs.List.{All}
 use Rattle.nd_time.specs.Limits.{max_queue}
-use Rattle.nd_delta.specs.Change.{Change}
+use Rattle.nd_delta.specs.Delta.{DeltaValue}
 
 -- ---- one queue
 
 -- with a change at the back
-abbrev pub appended : Change → List Change → List Change
+abbrev pub appended : DeltaValue → List DeltaValue → List DeltaValue
 appended c q = q ++ c ∷ []
 
 -- without the change at the back, the newest
-abbrev pub without_newest : List Change → List Change
+abbrev pub without_newest : List DeltaValue → List DeltaValue
 without_newest q = take (length q - 1) q
 
 -- without the change at the front, the oldest
-abbrev pub without_oldest : List Change → List Change
+abbrev pub without_oldest : List DeltaValue → List DeltaValue
 without_oldest q = drop 1 q
 
 -- it holds as many changes as a queue may
-abbrev pub IsFull : List Change → Type 0
+abbrev pub IsFull : List DeltaValue → Type 0
 IsFull q = max_queue ≤ length q
 
-abbrev pub IsVacant : List Change → Type 0
+abbrev pub IsVacant : List DeltaValue → Type 0
 IsVacant q = q ≡ []
 
 -- ---- all of them
 
 -- the queues from a processor
-abbrev pub row : List (List (List Change)) → ℕ → List (List Change)
+abbrev pub row : List (List (List DeltaValue)) → ℕ → List (List DeltaValue)
 row m from = slice_index_or m from []
 
 -- the queue from a processor to another
-abbrev pub queue : List (List (List Change)) → ℕ → ℕ → List Change
+abbrev pub queue : List (List (List DeltaValue)) → ℕ → ℕ → List DeltaValue
 queue m from to = slice_index_or (row m from) to []
 
 -- the same but for one queue
-abbrev pub with_queue : List (List (List Change)) → ℕ → ℕ → List Change → List (List (List Change))
+abbrev pub with_queue : List (List (List DeltaValue)) → ℕ → ℕ → List DeltaValue → List (List (List DeltaValue))
 with_queue m from to q = slice_set m from (slice_set (row m from) to q)
 
 -- a change at the back of each queue from a processor
-abbrev pub pushed : List (List (List Change)) → ℕ → Change → List (List (List Change))
+abbrev pub pushed : List (List (List DeltaValue)) → ℕ → DeltaValue → List (List (List DeltaValue))
 pushed m from c = slice_set m from (map (appended c) (row m from))
 
 -- without the newest change of each queue from a processor
-abbrev pub unpushed : List (List (List Change)) → ℕ → List (List (List Change))
+abbrev pub unpushed : List (List (List DeltaValue)) → ℕ → List (List (List DeltaValue))
 unpushed m from = slice_set m from (map without_newest (row m from))
 
 -- without the oldest change of one queue
-abbrev pub popped : List (List (List Change)) → ℕ → ℕ → List (List (List Change))
+abbrev pub popped : List (List (List DeltaValue)) → ℕ → ℕ → List (List (List DeltaValue))
 popped m from to = with_queue m from to (without_oldest (queue m from to))
 
 -- a change at the front of one queue
-abbrev pub unpopped : List (List (List Change)) → ℕ → ℕ → Change → List (List (List Change))
+abbrev pub unpopped : List (List (List DeltaValue)) → ℕ → ℕ → DeltaValue → List (List (List DeltaValue))
 unpopped m from to c = with_queue m from to (c ∷ queue m from to)
 
 -- one of the queues is of the kind P
-abbrev pub HasQueue : (List Change → Type 0) → List (List Change) → Type 0
+abbrev pub HasQueue : (List DeltaValue → Type 0) → List (List DeltaValue) → Type 0
 HasQueue P queues = (to : ℕ) × (to < length queues) × P (slice_index_or queues to [])
 
 -- as many queues from each processor as there are processors, each with at most as many changes as it may hold
-pub record IsMesh (m : List (List (List Change))) : Type 0 where
+pub record IsMesh (m : List (List (List DeltaValue))) : Type 0 where
   pub square : All (λ queues. length queues ≡ length m) m
   pub within : All (λ queues. All (λ q. length q ≤ max_queue) queues) m
 

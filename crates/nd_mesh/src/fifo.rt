@@ -23,11 +23,11 @@ impl<A: Allocator + Copy> Drop for Queue<A> {
 impl<A: Allocator + Copy> Model for Queue<A> {
     ghost use Rattle.std.specs.Prelude.{List};
     ghost use Rattle.std.specs.Coded.{coded_list};
-    ghost use Rattle.nd_delta.specs.Change.{Change, change_code};
+    ghost use Rattle.nd_delta.specs.Delta.{DeltaValue, delta_code};
 
-    ghost Value = { List Change };
+    ghost Value = { List DeltaValue };
 
-    ghost coded = { coded_list change_code };
+    ghost coded = { coded_list delta_code };
 
     ghost view = { λ a. a.changes.items };
 }

@@ -24,11 +24,11 @@ impl<A: Allocator + Copy> Drop for Outbox<A> {
 impl<A: Allocator + Copy> Model for Outbox<A> {
     ghost use Rattle.std.specs.Prelude.{List};
     ghost use Rattle.std.specs.Coded.{coded_list};
-    ghost use Rattle.nd_delta.specs.Change.{Change, change_code};
+    ghost use Rattle.nd_delta.specs.Delta.{DeltaValue, delta_code};
 
-    ghost Value = { List (List Change) };
+    ghost Value = { List (List DeltaValue) };
 
-    ghost coded = { coded_list (coded_list change_code) };
+    ghost coded = { coded_list (coded_list delta_code) };
 
     ghost view = { λ a. a.queues.items };
 }

@@ -19,7 +19,7 @@ use Rattle.nd_map.specs.Kept as stored
 use Rattle.nd_map.specs.Weights.{weight}
 use Rattle.nd_paths.specs.Point.{point_cmp, point_total}
 use Rattle.nd_paths.specs.declared.point.Pointstamp.{Pointstamp}
-use Rattle.nd_delta.specs.Change.{is_point}
+use Rattle.nd_delta.specs.Delta.{is_point}
 use Rattle.nd_processor.specs.Keys.{value_at_cmp, value_at_total, value_at_exact}
 use Rattle.nd_processor.specs.Kept.{AreRecords, IsCount, IsKept, number, put_count}
 use Rattle.nd_processor.specs.declared.key.ValueAt.{ValueAt}

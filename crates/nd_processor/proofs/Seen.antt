@@ -14,7 +14,7 @@ use Rattle.nd_map.specs.Maps.{from_entries-put, from_entries-without, entries-fr
 use Rattle.nd_map.specs.Counts.{none as no_items, or_else, at, added, of_entries, entries as counts_of}
 use Rattle.nd_paths.specs.Point.{point_cmp, point_total, point_exact}
 use Rattle.nd_paths.specs.declared.point.Pointstamp.{Pointstamp}
-use Rattle.nd_delta.specs.Change.{Change, at as change_at}
+use Rattle.nd_delta.specs.Delta.{DeltaValue, at as change_at}
 use Rattle.nd_vertex.specs.Items.{Items}
 use Rattle.nd_vertex.specs.Edits.{item_of, with_item}
 use Rattle.nd_vertex.specs.declared.key.ItemKey.{ItemKey}
@@ -42,7 +42,7 @@ asked (Some u) y b e same = ((λ t. sym same), λ s. e)
 
 -- ---- look-ups and edits of the state
 
-module _ (records : List (ValueAt × ℕ)) (requests : List (Pointstamp × Unit {0})) (tokens : List (ℕ × ℕ)) (items : List Items) (sinks : List (SinkKey × ℕ)) (unsent : Change) (state : ProcessorState) (view : seen records requests tokens items sinks unsent ≡ state) where
+module _ (records : List (ValueAt × ℕ)) (requests : List (Pointstamp × Unit {0})) (tokens : List (ℕ × ℕ)) (items : List Items) (sinks : List (SinkKey × ℕ)) (unsent : DeltaValue) (state : ProcessorState) (view : seen records requests tokens items sinks unsent ≡ state) where
   records_is : of_entries value_at_total records ≡ state.records
   records_is = ap (λ (q : ProcessorState). q.records) view
 
@@ -191,11 +191,11 @@ module _ (records : List (ValueAt × ℕ)) (requests : List (Pointstamp × Unit 
   items_long vertex h = subst (λ (q : ProcessorState). vertex < length q.items) (sym view) h
 
   -- what is unsent is another change, from which an edit leads back
-  pub unsent_back : (after : Change) → after ≡ unsent → seen records requests tokens items sinks after ≡ state
+  pub unsent_back : (after : DeltaValue) → after ≡ unsent → seen records requests tokens items sinks after ≡ state
   unsent_back after is = ap (λ u. seen records requests tokens items sinks u) is ∙ view
 
   -- what is unsent is changed
-  pub unsent_changed : (edit : Change → Change) (after : Change) → after ≡ edit unsent → seen records requests tokens items sinks after ≡ record state { unsent = edit state.unsent }
+  pub unsent_changed : (edit : DeltaValue → DeltaValue) (after : DeltaValue) → after ≡ edit unsent → seen records requests tokens items sinks after ≡ record state { unsent = edit state.unsent }
   unsent_changed edit after is = ap (λ u. seen records requests tokens items sinks u) is ∙ ap (λ (q : ProcessorState). record q { unsent = edit q.unsent }) view
 
   pub unsent_full : (x : Pointstamp) (n : ℤ) {P : Type 0} → P ↔ (max_count < unsigned_abs (change_at unsent x +ℤ n)) → P ↔ (max_count < unsigned_abs (change_at state.unsent x +ℤ n))

@@ -7,7 +7,7 @@ use Rattle.std.specs.Prelude.{replicate}
 use Rattle.nd_map.specs.Counts.{naturals, none as no_items, of_entries, of_entries-nil}
 use Rattle.nd_graph.specs.Graph.{Dataflow}
 use Rattle.nd_paths.specs.declared.point.Pointstamp.{Pointstamp}
-use Rattle.nd_delta.specs.Change.{Change, none}
+use Rattle.nd_delta.specs.Delta.{DeltaValue, none}
 use Rattle.nd_vertex.specs.Items.{Items}
 use Rattle.nd_processor.specs.Keys.{value_at_total, sink_total}
 use Rattle.nd_processor.specs.Kept.{seen}
@@ -27,7 +27,7 @@ pub drop_end : {X : Type 0} (xs : List X) → drop (length xs) xs ≡ []
 drop_end [] = refl
 drop_end (x ∷ xs) = drop_end xs
 
-pub start_seen : (g : Dataflow) (records : List (ValueAt × ℕ)) (requests : List (Pointstamp × Unit {0})) (tokens : List (ℕ × ℕ)) (items : List Items) (sinks : List (SinkKey × ℕ)) (unsent : Change)
+pub start_seen : (g : Dataflow) (records : List (ValueAt × ℕ)) (requests : List (Pointstamp × Unit {0})) (tokens : List (ℕ × ℕ)) (items : List Items) (sinks : List (SinkKey × ℕ)) (unsent : DeltaValue)
     → records ≡ [] → requests ≡ [] → fin.from_entries tokens ≡ first_tokens 0 g.vertices → items ≡ replicate (length g.vertices) no_items → sinks ≡ [] → unsent ≡ none
     → seen records requests tokens items sinks unsent ≡ start_processor g
 start_seen g records requests tokens items sinks unsent r q t m s u =

@@ -9,7 +9,7 @@ use Rattle.std.specs.Cmp.{IsTotalOrder}
 use Rattle.std.specs.FinMap as fin
 use Rattle.nd_paths.specs.declared.point.Pointstamp.{Pointstamp}
 use Rattle.nd_map.specs.Counts.{Counts, naturals, natural, none as no_items, at as count_at, added, added-back}
-use Rattle.nd_delta.specs.Change.{Change, at, set, at-set_same, set-set, set-at}
+use Rattle.nd_delta.specs.Delta.{DeltaValue, at, set, at-set_same, set-set, set-at}
 use Rattle.nd_vertex.specs.Items.{Items, item_total, item_exact}
 use Rattle.nd_vertex.specs.Edits.{item_of, with_item, number_of}
 use Rattle.nd_vertex.specs.Table.{is_zero}
@@ -92,10 +92,10 @@ vertex_item-back items vertex k old new within is =
 -- ---- what is unsent
 
 -- an integer more at a pointstamp
-abbrev pub more_unsent : Change → Pointstamp → ℤ → Change
+abbrev pub more_unsent : DeltaValue → Pointstamp → ℤ → DeltaValue
 more_unsent m x n = set m x (at m x +ℤ n)
 
-pub unsent-back : (m : Change) (x : Pointstamp) (n : ℤ) → more_unsent (more_unsent m x n) x (neg_ℤ n) ≡ m
+pub unsent-back : (m : DeltaValue) (x : Pointstamp) (n : ℤ) → more_unsent (more_unsent m x n) x (neg_ℤ n) ≡ m
 unsent-back m x n =
     let back : at (more_unsent m x n) x +ℤ neg_ℤ n ≡ at m x = ap (λ z. z +ℤ neg_ℤ n) (at-set_same m x (at m x +ℤ n)) ∙ (let e : at m x +ℤ n +ℤ neg_ℤ n ≡ at m x = omega (arith, ints) in e) in
     ap (set (more_unsent m x n) x) back ∙ set-set m x (at m x +ℤ n) (at m x) ∙ set-at m x

@@ -16,7 +16,7 @@ use Rattle.nd_paths.specs.declared.point.Pointstamp.{Pointstamp}
 use Rattle.nd_map.specs.Counts.{Counts, naturals, natural, none, at, set, added, entries, of_entries-nil, entries-of_entries, weight-set}
 use Rattle.nd_map.specs.Maps.{entries-from_entries}
 use Rattle.nd_map.specs.Weights.{weight, weight_at, weight-insert, weight_moves}
-use Rattle.nd_delta.specs.Change.{is_point}
+use Rattle.nd_delta.specs.Delta.{is_point}
 use Rattle.nd_processor.specs.Keys.{value_at_cmp, value_at_total, value_at_exact}
 use Rattle.nd_processor.specs.State.{ProcessorState, Requests, token_point, one_at, in_records, in_requests, in_tokens, held}
 use Rattle.nd_processor.specs.declared.key.ValueAt.{ValueAt}

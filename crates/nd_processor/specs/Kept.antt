@@ -8,7 +8,7 @@ use Rattle.nd_map.specs.Listed.{without}
 use Rattle.nd_map.specs.Kept as stored
 use Rattle.nd_map.specs.Counts.{or_else, of_entries}
 use Rattle.nd_paths.specs.declared.point.Pointstamp.{Pointstamp}
-use Rattle.nd_delta.specs.Change.{Change}
+use Rattle.nd_delta.specs.Delta.{DeltaValue}
 use Rattle.nd_vertex.specs.Items.{Items}
 use Rattle.nd_processor.specs.Keys.{value_at_cmp, value_at_total, sink_total}
 use Rattle.nd_processor.specs.State.{ProcessorState}
@@ -37,7 +37,7 @@ abbrev pub put_count : {K : Type 0} → (K → K → Ordering) → K → ℕ →
 put_count R k n es = cond (nat_eq n 0) (without R k es) (put R k n es)
 
 -- the state of a processor that keeps these
-abbrev pub seen : List (ValueAt × ℕ) → List (Pointstamp × Unit {0}) → List (ℕ × ℕ) → List Items → List (SinkKey × ℕ) → Change → ProcessorState
+abbrev pub seen : List (ValueAt × ℕ) → List (Pointstamp × Unit {0}) → List (ℕ × ℕ) → List Items → List (SinkKey × ℕ) → DeltaValue → ProcessorState
 seen records requests tokens items sinks unsent =
     record {
       records = of_entries value_at_total records;

@@ -8,7 +8,7 @@ use Rattle.nd_paths.specs.Point.{point_cmp, point_code}
 use Rattle.nd_paths.specs.declared.point.Pointstamp.{Pointstamp}
 use Rattle.nd_map.specs.Counts.{Counts, naturals, code, entries, none as no_counts}
 use Rattle.nd_map.specs.Weights.{weight}
-use Rattle.nd_delta.specs.Change.{Change, none, is_point, change_code}
+use Rattle.nd_delta.specs.Delta.{DeltaValue, none, is_point, delta_code}
 use Rattle.nd_vertex.specs.Items.{Items, items_code}
 use Rattle.nd_processor.specs.Keys.{value_at_cmp, sink_cmp, value_at_code, sink_code}
 use Rattle.nd_processor.specs.declared.key.ValueAt.{ValueAt}
@@ -30,7 +30,7 @@ pub record ProcessorState : Type 0 where
   -- how many records of each value each sink vertex has counted
   pub sinks : Counts sink_cmp naturals
   -- the progress updates that were not sent yet
-  pub unsent : Change
+  pub unsent : DeltaValue
 
 -- a processor with nothing in it
 abbrev pub idle : ProcessorState
@@ -68,7 +68,7 @@ held q x = in_records q.records x + (in_requests q.requests x + in_tokens q.toke
 
 abbrev pub processor_code : Coded ProcessorState
 processor_code =
-    code_by _ (coded× (code value_at_code coded_ℕ) (coded× (finset.code point_code) (coded× (fin.code coded_ℕ coded_ℕ) (coded× (coded_list items_code) (coded× (code sink_code coded_ℕ) change_code)))))
+    code_by _ (coded× (code value_at_code coded_ℕ) (coded× (finset.code point_code) (coded× (fin.code coded_ℕ coded_ℕ) (coded× (coded_list items_code) (coded× (code sink_code coded_ℕ) delta_code)))))
     (λ q. (q.records, (q.requests, (q.tokens, (q.items, (q.sinks, q.unsent))))))
     (λ t. record { records = t.0; requests = t.1.0; tokens = t.1.1.0; items = t.1.1.1.0; sinks = t.1.1.1.1.0; unsent = t.1.1.1.1.1 })
     (λ _. refl)

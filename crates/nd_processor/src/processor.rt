@@ -6,7 +6,7 @@ ghost use Rattle.std.specs.Map.Iter.{ShowsInOrder, deref_pair};
 ghost use Rattle.nd_time.specs.Limits.{max_count};
 ghost use Rattle.nd_map.specs.Counts.{at, added, entries as counts_of};
 ghost use Rattle.nd_paths.specs.declared.point.Pointstamp.{Pointstamp as Point};
-ghost use Rattle.nd_delta.specs.Change.{IsWithin, plus, minus, at as unsent_at, IsPartOf, IsApart};
+ghost use Rattle.nd_delta.specs.Delta.{IsWithin, plus, minus, at as unsent_at, IsPartOf, IsApart};
 ghost use Rattle.nd_vertex.specs.Items.{item_key};
 ghost use Rattle.nd_vertex.specs.Edits.{item_of};
 ghost use Rattle.nd_processor.specs.Keys.{value_at_total, sink_total};

@@ -4,17 +4,17 @@ use Rattle.std.proofs.lemmas.Int.{ints}
 use Rattle.std.specs.Prelude.{All, unsigned_abs}
 use Rattle.nd_time.specs.Limits.{max_count, max_queue, max_processors}
 use Rattle.nd_paths.specs.declared.point.Pointstamp.{Pointstamp}
-use Rattle.nd_delta.specs.Change.{Change, none, at, at-none, at-plus}
+use Rattle.nd_delta.specs.Delta.{DeltaValue, none, at, at-none, at-plus}
 use Rattle.nd_processor.specs.State.{idle}
 use Rattle.nd_protocol.specs.State.{ClusterState, processor, view, queue, truth}
-use Rattle.nd_protocol.specs.Fitting.{ChangeIsWithin, QueueIsWithin, IsState}
+use Rattle.nd_protocol.specs.Fitting.{DeltaIsWithin, QueueIsWithin, IsState}
 use Rattle.nd_protocol.specs.Invariant.{sum_of, pending, total, IsSettled}
 
 at_most : (z : ℤ) (m : ℕ) → unsigned_abs z ≤ m → z ≤ℤ pos m
 at_most (pos n) m h = omega (arith, ints)
 at_most (negsuc n) m h = omega (arith, ints)
 
-sum_most : (cs : List Change) (x : Pointstamp) → All ChangeIsWithin cs → at (sum_of cs) x ≤ℤ pos (length cs * max_count)
+sum_most : (cs : List DeltaValue) (x : Pointstamp) → All DeltaIsWithin cs → at (sum_of cs) x ≤ℤ pos (length cs * max_count)
 sum_most [] x within = let nothing = at-none x in omega (arith, ints)
 sum_most (c ∷ cs) x within =
     let sum = at-plus c (sum_of cs) x in

@@ -2,7 +2,7 @@
 use Rattle.std.proofs.Common.{◌≡◌, ◌⊎◌, inl, inr, ℕ, ◌+◌, ◌<◌, ◌≤◌, ◌<ℤ◌, ◌≤ℤ◌, pos, ◌+ℤ◌, List, length, get_or, set, arith}
 use Rattle.std.proofs.lemmas.Int.{ints}
 use Rattle.nd_paths.specs.declared.point.Pointstamp.{Pointstamp}
-use Rattle.nd_delta.specs.Change.{at}
+use Rattle.nd_delta.specs.Delta.{at}
 use Rattle.nd_delta.specs.Upright.{IsUpright}
 use Rattle.nd_processor.specs.State.{ProcessorState, idle, held}
 use Rattle.nd_protocol.specs.Steps.{with_records, gain}

@@ -5,7 +5,7 @@ use Rattle.std.specs.Prelude.{slice_index_or}
 use Rattle.std.specs.List.{flat_map}
 use Rattle.nd_paths.specs.Point.{point_exact}
 use Rattle.nd_paths.specs.declared.point.Pointstamp.{Pointstamp}
-use Rattle.nd_delta.specs.Change.{is_point}
+use Rattle.nd_delta.specs.Delta.{is_point}
 use Rattle.nd_processor.specs.Keys.{value_at_total}
 use Rattle.nd_processor.specs.State.{ProcessorState, idle, one_at, in_records}
 use Rattle.nd_protocol.specs.Steps.{with_record, with_records}

@@ -5,7 +5,7 @@ use Rattle.std.specs.Prelude.{All}
 use Rattle.std.specs.FinMap as fin
 use Rattle.nd_time.specs.Limits.{max_count, max_counter, max_processors, max_queue}
 use Rattle.nd_processor.specs.State.{idle}
-use Rattle.nd_delta.specs.Change.{Change, at, part, at-part, has_point}
+use Rattle.nd_delta.specs.Delta.{DeltaValue, at, part, at-part, has_point}
 use Rattle.nd_protocol.specs.State.{ClusterState, processor, queue}
 use Rattle.nd_protocol.specs.Exchange.{IsPart}
 use Rattle.nd_protocol.specs.declared.part.Part.{Part}
@@ -85,7 +85,7 @@ part_or_none true z = inr refl
 part_or_none false z = inl refl
 
 -- what a broadcast names is a part of what is unsent
-chosen_is_part : {A : Type 0} (part : Part A) (c : Change) → IsPart (chosen part c) c
+chosen_is_part : {A : Type 0} (part : Part A) (c : DeltaValue) → IsPart (chosen part c) c
 chosen_is_part Whole c x = inr refl
 chosen_is_part (Points points) c x = subst (λ z. (z ≡ pos 0) ⊎ (z ≡ at c x)) (sym (at-part c points x)) (part_or_none (has_point x points) (at c x))
 

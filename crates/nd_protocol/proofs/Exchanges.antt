@@ -9,12 +9,12 @@ use Rattle.nd_time.specs.Limits.{max_count, max_queue, max_processors}
 use Rattle.nd_graph.specs.Graph.{Dataflow}
 use Rattle.std.proofs.Math.ListN.{get_or-map}
 use Rattle.nd_paths.specs.Order.{IsStrictlyBefore}
-use Rattle.nd_delta.specs.Change.{Change, none, at, plus, minus, at-plus, at-minus}
+use Rattle.nd_delta.specs.Delta.{DeltaValue, none, at, plus, minus, at-plus, at-minus}
 use Rattle.nd_delta.specs.Upright.{IsUpright}
 use Rattle.nd_processor.specs.State.{ProcessorState, idle, in_tokens}
 use Rattle.nd_protocol.specs.State.{ClusterState, processor, view, queue}
 use Rattle.nd_protocol.specs.Exchange.{IsPart, StaysUpright, sent, received_from, received}
-use Rattle.nd_protocol.specs.Fitting.{ChangeFits, ProcessorFits, KeysFit, ChangeIsWithin, ProcessorIsWithin, QueueIsWithin, IsState}
+use Rattle.nd_protocol.specs.Fitting.{DeltaFits, ProcessorFits, KeysFit, DeltaIsWithin, ProcessorIsWithin, QueueIsWithin, IsState}
 use Rattle.nd_protocol.specs.Invariant.{HoldsToken}
 use Rattle.nd_protocol.proofs.Core.{Broadcasts, Receives}
 use Rattle.nd_protocol.proofs.Reading.{reading}
@@ -23,7 +23,7 @@ use Rattle.std.proofs.lemmas.Bool.{cases_eq}
 use Rattle.nd_protocol.proofs.Fitness.{plus_fits}
 
 -- a list of all queues, in which the one from p to q is read
-abbrev row : List (List (List Change)) → ℕ → List (List Change)
+abbrev row : List (List (List DeltaValue)) → ℕ → List (List DeltaValue)
 row queues p = get_or queues p []
 
 module _ (s : ClusterState) (p : ℕ) (here : p < length s.processors) (fits : KeysFit s) where
@@ -33,7 +33,7 @@ module _ (s : ClusterState) (p : ℕ) (here : p < length s.processors) (fits : K
   receiver : (q : ℕ) → q < length s.processors → q < length (row s.queues p)
   receiver q lt = subst (λ n. q < n) (sym (fits.each_receiver p [] sender)) lt
 
-  module _ (c : Change) (stays : StaysUpright s p c) where
+  module _ (c : DeltaValue) (stays : StaysUpright s p c) where
     unsent_here : (processor (sent s p c) p).unsent ≡ minus (processor s p).unsent c
     unfolding sent
     unsent_here = ap (λ (q : ProcessorState). q.unsent) (get_or-set_same s.processors p (record (processor s p) { unsent = minus (processor s p).unsent c }) idle here)
@@ -41,8 +41,8 @@ module _ (s : ClusterState) (p : ℕ) (here : p < length s.processors) (fits : K
     queue_here : (q : ℕ) → q < length s.processors → queue (sent s p c) p q ≡ queue s p q ++ c ∷ []
     unfolding sent
     queue_here q lt =
-        let f = λ (changes : List Change). changes ++ c ∷ [] in
-        ap (λ (r : List (List Change)). get_or r q []) (get_or-set_same s.queues p (map f (row s.queues p)) [] sender)
+        let f = λ (changes : List DeltaValue). changes ++ c ∷ [] in
+        ap (λ (r : List (List DeltaValue)). get_or r q []) (get_or-set_same s.queues p (map f (row s.queues p)) [] sender)
         ∙ get_or_default (map f (row s.queues p)) q [] (f []) (subst (λ n. q < n) (sym (length-map (row s.queues p) f)) (receiver q lt))
         ∙ get_or-map f (row s.queues p) q []
 
@@ -61,13 +61,13 @@ module _ (s : ClusterState) (p : ℕ) (here : p < length s.processors) (fits : K
       unsent_others = λ k other. ap (λ (q : ProcessorState). q.unsent) (get_or-set_other s.processors p k _ idle other);
       view = λ q. refl;
       queue = queue_here;
-      queue_others = λ k q other. ap (λ (r : List (List Change)). get_or r q []) (get_or-set_other s.queues p k _ [] other);
+      queue_others = λ k q other. ap (λ (r : List (List DeltaValue)). get_or r q []) (get_or-set_other s.queues p k _ [] other);
     }
 
-  module _ (q : ℕ) (there : q < length s.processors) (c : Change) (rest : List Change) (front : queue s p q ≡ c ∷ rest) where
+  module _ (q : ℕ) (there : q < length s.processors) (c : DeltaValue) (rest : List DeltaValue) (front : queue s p q ≡ c ∷ rest) where
     queue_rest : queue (received_from s p q (c ∷ rest)) p q ≡ rest
     queue_rest =
-        ap (λ (r : List (List Change)). get_or r q []) (get_or-set_same s.queues p (set (row s.queues p) q rest) [] sender)
+        ap (λ (r : List (List DeltaValue)). get_or r q []) (get_or-set_same s.queues p (set (row s.queues p) q rest) [] sender)
         ∙ get_or-set_same (row s.queues p) q rest [] (receiver q there)
 
     queue_others : (k l : ℕ) → (k ≡ p → l ≡ q → ⊥) → queue (received_from s p q (c ∷ rest)) k l ≡ queue s k l
@@ -75,9 +75,9 @@ module _ (s : ClusterState) (p : ℕ) (here : p < length s.processors) (fits : K
         elim (cases_eq k p) [
           | inl is ↦
               ap (λ n. queue (received_from s p q (c ∷ rest)) n l) is
-              ∙ ap (λ (r : List (List Change)). get_or r l []) (get_or-set_same s.queues p (set (row s.queues p) q rest) [] sender)
+              ∙ ap (λ (r : List (List DeltaValue)). get_or r l []) (get_or-set_same s.queues p (set (row s.queues p) q rest) [] sender)
               ∙ get_or-set_other (row s.queues p) q l rest [] (λ e. apart is e) ∙ ap (λ n. queue s n l) (sym is)
-          | inr other ↦ ap (λ (r : List (List Change)). get_or r l []) (get_or-set_other s.queues p k (set (row s.queues p) q rest) [] other)
+          | inr other ↦ ap (λ (r : List (List DeltaValue)). get_or r l []) (get_or-set_other s.queues p k (set (row s.queues p) q rest) [] other)
         ]
 
     pub receives : Receives (IsStrictlyBefore s.graph) at p q c (reading s) (reading (received_from s p q (c ∷ rest)))
@@ -96,22 +96,22 @@ module _ (s : ClusterState) (p : ℕ) (here : p < length s.processors) (fits : K
 
 -- ---- states
 
-part_fits : (g : Dataflow) (c d : Change) → IsPart c d → ChangeFits g d → ChangeFits g c
+part_fits : (g : Dataflow) (c d : DeltaValue) → IsPart c d → DeltaFits g d → DeltaFits g c
 part_fits g c d part fits x some = elim (part x) [ inl none_there ↦ absurd (some none_there) | inr same ↦ fits x (λ e. some (same ∙ e)) ]
 
-rest_fits : (g : Dataflow) (c d : Change) → IsPart c d → ChangeFits g d → ChangeFits g (minus d c)
+rest_fits : (g : Dataflow) (c d : DeltaValue) → IsPart c d → DeltaFits g d → DeltaFits g (minus d c)
 rest_fits g c d part fits x some =
     let less : at (minus d c) x ≡ at d x -ℤ at c x = at-minus d c x in
     fits x (λ e. elim (part x) [ inl none_there ↦ some (omega (arith, ints)) | inr same ↦ some (omega (arith, ints)) ])
 
-part_within : (c d : Change) → IsPart c d → ChangeIsWithin d → ChangeIsWithin c
+part_within : (c d : DeltaValue) → IsPart c d → DeltaIsWithin d → DeltaIsWithin c
 part_within c d part within x =
     elim (part x) [
       | inl none_there ↦ subst (λ z. unsigned_abs z ≤ max_count) (sym none_there) (omega arith)
       | inr same ↦ subst (λ z. unsigned_abs z ≤ max_count) (sym same) (within x)
     ]
 
-rest_within : (c d : Change) → IsPart c d → ChangeIsWithin d → ChangeIsWithin (minus d c)
+rest_within : (c d : DeltaValue) → IsPart c d → DeltaIsWithin d → DeltaIsWithin (minus d c)
 rest_within c d part within x =
     let less : at (minus d c) x ≡ at d x -ℤ at c x = at-minus d c x in
     elim (part x) [
@@ -119,7 +119,7 @@ rest_within c d part within x =
       | inr same ↦ subst (λ z. unsigned_abs z ≤ max_count) (let e : pos 0 ≡ at (minus d c) x = omega (arith, ints) in e) (omega arith)
     ]
 
-pub sent_state : (s : ClusterState) (p : ℕ) (c : Change) → IsState s → p < length s.processors → IsPart c (processor s p).unsent → ((q : ℕ) → q < length s.processors → length (queue s p q) < max_queue) → IsState (sent s p c)
+pub sent_state : (s : ClusterState) (p : ℕ) (c : DeltaValue) → IsState s → p < length s.processors → IsPart c (processor s p).unsent → ((q : ℕ) → q < length s.processors → length (queue s p q) < max_queue) → IsState (sent s p c)
 unfolding sent
 sent_state s p c state here part room =
     let g : Dataflow = s.graph in
@@ -127,18 +127,18 @@ sent_state s p c state here part room =
     let fit : ProcessorFits g q = state.fits.processors p idle here in
     let limit : ProcessorIsWithin q = state.within.processors p idle here in
     let from : p < length s.queues = subst (λ n. p < n) (sym state.fits.each_sender) here in
-    let r : List (List Change) = row s.queues p in
+    let r : List (List DeltaValue) = row s.queues p in
     let wide : length r ≡ length s.processors = state.fits.each_receiver p [] from in
-    let push = λ (changes : List Change). changes ++ c ∷ [] in
+    let push = λ (changes : List DeltaValue). changes ++ c ∷ [] in
     let many : length (sent s p c).processors ≡ length s.processors = length-set s.processors p _ in
-    let fits_row : All (λ changes. All (ChangeFits g) changes) (map push r) =
-    All-map (λ changes. All (ChangeFits g) changes) push r (λ k d lt. All-push (ChangeFits g) (get_or r k d) c (state.fits.queues p [] from k d lt) (part_fits g c q.unsent part fit.unsent)) in
+    let fits_row : All (λ changes. All (DeltaFits g) changes) (map push r) =
+    All-map (λ changes. All (DeltaFits g) changes) push r (λ k d lt. All-push (DeltaFits g) (get_or r k d) c (state.fits.queues p [] from k d lt) (part_fits g c q.unsent part fit.unsent)) in
     let within_row : All QueueIsWithin (map push r) =
     All-map QueueIsWithin push r (λ k d lt.
     let short : length (queue s p k) < max_queue = room k (subst (λ n. k < n) wide lt) in
     let same : length (get_or r k d) ≡ length (queue s p k) = ap length (get_or_default r k d [] lt) in
     let more : length (get_or r k d ++ c ∷ []) ≡ length (get_or r k d) + 1 = length-append (get_or r k d) (c ∷ []) in
-    record { few = omega arith; entries = All-push ChangeIsWithin (get_or r k d) c (state.within.queues p [] from k d lt).entries (part_within c q.unsent part limit.unsent) }) in
+    record { few = omega arith; entries = All-push DeltaIsWithin (get_or r k d) c (state.within.queues p [] from k d lt).entries (part_within c q.unsent part limit.unsent) }) in
     record {
       ordered = state.ordered;
       fits = record {
@@ -152,7 +152,7 @@ sent_state s p c state here part room =
           unsent = rest_fits g c q.unsent part fit.unsent;
         }) state.fits.processors;
         views = state.fits.views;
-        queues = All-set (λ row. All (λ changes. All (ChangeFits g) changes) row) s.queues p (map push r) fits_row state.fits.queues;
+        queues = All-set (λ row. All (λ changes. All (DeltaFits g) changes) row) s.queues p (map push r) fits_row state.fits.queues;
         each_view = state.fits.each_view ∙ sym many;
         each_sender = length-set s.queues p (map push r) ∙ state.fits.each_sender ∙ sym many;
         each_receiver = All-set (λ row. length row ≡ length (sent s p c).processors) s.queues p (map push r) (length-map r push ∙ wide ∙ sym many)
@@ -171,15 +171,15 @@ sent_state s p c state here part room =
       };
     }
 
-front_state : (s : ClusterState) (p q : ℕ) (c : Change) (rest : List Change) → IsState s → p < length s.processors → q < length s.processors → queue s p q ≡ c ∷ rest → ChangeIsWithin (plus (view s q) c) → IsState (received_from s p q (c ∷ rest))
+front_state : (s : ClusterState) (p q : ℕ) (c : DeltaValue) (rest : List DeltaValue) → IsState s → p < length s.processors → q < length s.processors → queue s p q ≡ c ∷ rest → DeltaIsWithin (plus (view s q) c) → IsState (received_from s p q (c ∷ rest))
 front_state s p q c rest state here there front small =
     let g : Dataflow = s.graph in
     let from : p < length s.queues = subst (λ n. p < n) (sym state.fits.each_sender) here in
-    let r : List (List Change) = row s.queues p in
+    let r : List (List DeltaValue) = row s.queues p in
     let wide : length r ≡ length s.processors = state.fits.each_receiver p [] from in
     let to : q < length r = subst (λ n. q < n) (sym wide) there in
     let seen : q < length s.views = subst (λ n. q < n) (sym state.fits.each_view) there in
-    let old : All (ChangeFits g) (c ∷ rest) = subst (All (ChangeFits g)) front (state.fits.queues p [] from q [] to) in
+    let old : All (DeltaFits g) (c ∷ rest) = subst (All (DeltaFits g)) front (state.fits.queues p [] from q [] to) in
     let limits : QueueIsWithin (c ∷ rest) = subst QueueIsWithin front (state.within.queues p [] from q [] to) in
     let short : length (c ∷ rest) ≤ max_queue = limits.few in
     let wide_now : length (set r q rest) ≡ length s.processors = length-set r q rest ∙ wide in
@@ -187,9 +187,9 @@ front_state s p q c rest state here there front small =
       ordered = state.ordered;
       fits = record {
         processors = state.fits.processors;
-        views = All-set (ChangeFits g) s.views q (plus (view s q) c) (plus_fits g (view s q) c (state.fits.views q none seen) (All-head (ChangeFits g) c rest old)) state.fits.views;
-        queues = All-set (λ row. All (λ changes. All (ChangeFits g) changes) row) s.queues p (set r q rest)
-            (All-set (λ changes. All (ChangeFits g) changes) r q rest (All-tail (ChangeFits g) c rest old) (state.fits.queues p [] from)) state.fits.queues;
+        views = All-set (DeltaFits g) s.views q (plus (view s q) c) (plus_fits g (view s q) c (state.fits.views q none seen) (All-head (DeltaFits g) c rest old)) state.fits.views;
+        queues = All-set (λ row. All (λ changes. All (DeltaFits g) changes) row) s.queues p (set r q rest)
+            (All-set (λ changes. All (DeltaFits g) changes) r q rest (All-tail (DeltaFits g) c rest old) (state.fits.queues p [] from)) state.fits.queues;
         each_view = length-set s.views q (plus (view s q) c) ∙ state.fits.each_view;
         each_sender = length-set s.queues p (set r q rest) ∙ state.fits.each_sender;
         each_receiver = All-set (λ row. length row ≡ length s.processors) s.queues p (set r q rest) wide_now state.fits.each_receiver;
@@ -198,18 +198,18 @@ front_state s p q c rest state here there front small =
         some = state.within.some;
         few = state.within.few;
         processors = state.within.processors;
-        views = All-set ChangeIsWithin s.views q (plus (view s q) c) small state.within.views;
+        views = All-set DeltaIsWithin s.views q (plus (view s q) c) small state.within.views;
         queues = All-set (λ row. All QueueIsWithin row) s.queues p (set r q rest)
-            (All-set QueueIsWithin r q rest (record { few = omega arith; entries = All-tail ChangeIsWithin c rest limits.entries }) (state.within.queues p [] from)) state.within.queues;
+            (All-set QueueIsWithin r q rest (record { few = omega arith; entries = All-tail DeltaIsWithin c rest limits.entries }) (state.within.queues p [] from)) state.within.queues;
       };
     }
 
-pub received_state : (s : ClusterState) (p q : ℕ) → IsState s → p < length s.processors → q < length s.processors → ChangeIsWithin (view (received s p q) q) → IsState (received s p q)
+pub received_state : (s : ClusterState) (p q : ℕ) → IsState s → p < length s.processors → q < length s.processors → DeltaIsWithin (view (received s p q) q) → IsState (received s p q)
 unfolding received
 received_state s p q state here there = by (queue s p q) refl
   where
-    by : (cs : List Change) → queue s p q ≡ cs → ChangeIsWithin (view (received_from s p q cs) q) → IsState (received_from s p q cs)
+    by : (cs : List DeltaValue) → queue s p q ≡ cs → DeltaIsWithin (view (received_from s p q cs) q) → IsState (received_from s p q cs)
     by [] e small = state
     by (c ∷ rest) e small =
         let is : view (received_from s p q (c ∷ rest)) q ≡ plus (view s q) c = get_or-set_same s.views q (plus (view s q) c) none (subst (λ n. q < n) (sym state.fits.each_view) there) in
-        front_state s p q c rest state here there e (subst ChangeIsWithin is small)
+        front_state s p q c rest state here there e (subst DeltaIsWithin is small)

@@ -16,14 +16,14 @@ use Rattle.nd_map.specs.Weights.{weight}
 use Rattle.nd_paths.specs.Order.{IsStrictlyBefore}
 use Rattle.nd_paths.specs.Point.{point_total, point_exact}
 use Rattle.nd_paths.specs.declared.point.Pointstamp.{Pointstamp}
-use Rattle.nd_delta.specs.Change.{Change, at, plus, at-plus, is_point}
+use Rattle.nd_delta.specs.Delta.{DeltaValue, at, plus, at-plus, is_point}
 use Rattle.nd_processor.specs.Keys.{value_at_total, value_at_exact}
 use Rattle.nd_processor.specs.State.{ProcessorState, idle, token_point, one_at, in_records, in_requests, in_tokens, held}
 use Rattle.nd_processor.specs.declared.key.ValueAt.{ValueAt}
 use Rattle.nd_protocol.specs.State.{ClusterState}
 use Rattle.nd_protocol.specs.Steps.{gain, with_gain, with_record, with_records}
 use Rattle.nd_protocol.specs.Ranges.{IsValue}
-use Rattle.nd_protocol.specs.Fitting.{IsOrdered, IsAtVertex, IsAtEdge, IsAtLocation, ChangeFits, ProcessorFits, KeysFit}
+use Rattle.nd_protocol.specs.Fitting.{IsOrdered, IsAtVertex, IsAtEdge, IsAtLocation, DeltaFits, ProcessorFits, KeysFit}
 use Rattle.nd_protocol.proofs.Arcs.{IsTransitive}
 use Rattle.nd_protocol.proofs.Shape.{Work, performer, performed, done, AllAt, AllKeys, IsSmallKey, IsPossible, written, come, performed-writes, HasCause}
 use Rattle.nd_protocol.proofs.Counts.{count, gain-count}
@@ -131,7 +131,7 @@ outstanding_fits g qs x fits some =
     let (i, lt, part) = some_part (λ q. held q x) qs some in
     held_at g (get_or qs i idle) x (fits i idle lt) (part idle)
 
-gain_fits : (g : Dataflow) (old new : List ProcessorState) → All (ProcessorFits g) old → All (ProcessorFits g) new → ChangeFits g (gain old new)
+gain_fits : (g : Dataflow) (old new : List ProcessorState) → All (ProcessorFits g) old → All (ProcessorFits g) new → DeltaFits g (gain old new)
 gain_fits g old new then now x some =
     let moves : at (gain old new) x +ℤ pos (count old x) ≡ pos (count new x) = gain-count old new x in
     elim (zero_or_some (count old x)) [
@@ -142,7 +142,7 @@ gain_fits g old new then now x some =
       ]
     ]
 
-pub plus_fits : (g : Dataflow) (c d : Change) → ChangeFits g c → ChangeFits g d → ChangeFits g (plus c d)
+pub plus_fits : (g : Dataflow) (c d : DeltaValue) → DeltaFits g c → DeltaFits g d → DeltaFits g (plus c d)
 plus_fits g c d h k x some =
     let sum : at (plus c d) x ≡ at c x +ℤ at d x = at-plus c d x in
     elim (zero_or_not (at c x)) [

@@ -4,7 +4,7 @@ use Rattle.std.proofs.lemmas.Int.{ints, by_lt_z}
 use Rattle.nd_graph.specs.Graph.{Dataflow}
 use Rattle.nd_paths.specs.Order.{CouldResultIn, IsStrictlyBefore}
 use Rattle.nd_paths.specs.declared.point.Pointstamp.{Pointstamp}
-use Rattle.nd_delta.specs.Change.{Change, at}
+use Rattle.nd_delta.specs.Delta.{DeltaValue, at}
 use Rattle.nd_view.specs.View.{IsPassed, IsPrecursor}
 use Rattle.nd_protocol.specs.State.{ClusterState, view, truth}
 use Rattle.nd_protocol.proofs.Core.{IsStrictOrder, IsDownward, Steps}
@@ -22,7 +22,7 @@ could_down could g t x y r h = could g x y t r.0 h
 strictly_down : IsTransitive → (g : Dataflow) → IsOrdered g → (t : Pointstamp) → IsDownward (IsStrictlyBefore g) (λ x. IsStrictlyBefore g x t)
 strictly_down trans g o t x y r h = let order : IsStrictOrder (IsStrictlyBefore g) = strict_order trans g o in order.transitive x y t r h
 
-quiet : (v : Change) (D : Pointstamp → Type 0) → ((x : Pointstamp) → pos 0 <ℤ at v x → D x → ⊥) → (x : Pointstamp) → D x → at v x ≤ℤ pos 0
+quiet : (v : DeltaValue) (D : Pointstamp → Type 0) → ((x : Pointstamp) → pos 0 <ℤ at v x → D x → ⊥) → (x : Pointstamp) → D x → at v x ≤ℤ pos 0
 quiet v D none x d = by_lt_z (pos 0) (at v x) (λ positive. absurd (none x positive d)) (λ le. le)
 
 pub passed : IsTransitive → CouldIsTransitive → (s : ClusterState) → IsOrdered s.graph → KeepsProtocol s → (q : ℕ) → q < length s.processors → (t : Pointstamp) → IsPassed s.graph (view s q) t → IsFinished s t

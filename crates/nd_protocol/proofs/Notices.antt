@@ -6,7 +6,7 @@ use Rattle.nd_time.specs.Time.{Time}
 use Rattle.nd_paths.specs.Order.{IsStrictlyBefore}
 use Rattle.nd_paths.specs.Point.{point_cmp, point_total}
 use Rattle.nd_paths.specs.declared.point.Pointstamp.{Pointstamp}
-use Rattle.nd_delta.specs.Change.{Change, at}
+use Rattle.nd_delta.specs.Delta.{DeltaValue, at}
 use Rattle.nd_delta.specs.Least.{IsLeast}
 use Rattle.nd_view.specs.View.{IsPrecursor}
 use Rattle.nd_protocol.specs.State.{ClusterState, view, truth}
@@ -38,7 +38,7 @@ turned : (x y : Pointstamp) → point_cmp x y ≡ Greater → point_cmp y x ≡ 
 turned x y greater = point_total.antisymm y x ∙ ap ordering_reverse greater
 
 -- a kind of the points of a change that has no least point has none
-none_without_least : (c : Change) (P : Pointstamp → Type 0) → ((x : Pointstamp) → P x → at c x ≢ pos 0) → ((x : Pointstamp) → IsLeast P x → ⊥) → (x : Pointstamp) → P x → ⊥
+none_without_least : (c : DeltaValue) (P : Pointstamp → Type 0) → ((x : Pointstamp) → P x → at c x ≢ pos 0) → ((x : Pointstamp) → IsLeast P x → ⊥) → (x : Pointstamp) → P x → ⊥
 none_without_least c P some no_least =
     let points : IsFinite (at c) = change_finite c in
     induction listed_order P (λ x. ⊥) points.0 (λ y is_one. points.1 y (some y is_one))

@@ -1,12 +1,12 @@
 -- How the protocol's theorem reads a cluster.
 use Rattle.std.specs.Prelude.{length, sum_by}
 use Rattle.nd_paths.specs.declared.point.Pointstamp.{Pointstamp}
-use Rattle.nd_delta.specs.Change.{Change}
+use Rattle.nd_delta.specs.Delta.{DeltaValue}
 use Rattle.nd_processor.specs.State.{held, in_tokens}
 use Rattle.nd_protocol.specs.State.{ClusterState, processor, view, queue}
 use Rattle.nd_protocol.proofs.Core.{Reading}
 
-abbrev pub reading : ClusterState → Reading Pointstamp Change
+abbrev pub reading : ClusterState → Reading Pointstamp DeltaValue
 reading s = record {
   n = length s.processors;
   truth = λ x. sum_by (λ q. held q x) s.processors;

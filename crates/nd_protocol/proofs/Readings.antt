@@ -6,7 +6,7 @@ use Rattle.std.specs.FinMap.{find}
 use Rattle.nd_paths.specs.Point.{point_cmp, point_exact}
 use Rattle.nd_paths.specs.Order.{IsStrictlyBefore}
 use Rattle.nd_paths.specs.declared.point.Pointstamp.{Pointstamp}
-use Rattle.nd_delta.specs.Change.{Change, at, or_zero, entries, at-entries, at-none, at-plus, is_point}
+use Rattle.nd_delta.specs.Delta.{DeltaValue, at, or_zero, entries, at-entries, at-none, at-plus, is_point}
 use Rattle.nd_protocol.specs.State.{ClusterState, processor, view, queue}
 use Rattle.nd_processor.specs.State.{idle, held}
 use Rattle.nd_protocol.specs.Invariant.{sum_of, total, HoldsToken, pending, IsSettled, KeepsProtocol}
@@ -25,10 +25,10 @@ found (e ∷ es) x h =
     ] refl h
 
 -- a change is 0 but at finitely many pointstamps
-pub change_finite : (c : Change) → IsFinite (at c)
+pub change_finite : (c : DeltaValue) → IsFinite (at c)
 change_finite c = (map (λ e. e.0) (entries c), λ x h. found (entries c) x (λ e. h (sym (at-entries c x) ∙ e)))
 
-pub at-sum_of : (cs : List Change) (x : Pointstamp) → at (sum_of cs) x ≡ sum_at at cs x
+pub at-sum_of : (cs : List DeltaValue) (x : Pointstamp) → at (sum_of cs) x ≡ sum_at at cs x
 at-sum_of [] x = at-none x
 at-sum_of (c ∷ cs) x = at-plus c (sum_of cs) x ∙ ap (λ z. at c x +ℤ z) (at-sum_of cs x)
 

@@ -2,7 +2,7 @@
 use Rattle.std.proofs.Common.{◌≡◌, inl, inr, ℕ, ◌<◌, List, [], ◌∷◌, length, refl, sym, subst}
 use Rattle.nd_paths.specs.Order.{IsStrictlyBefore}
 use Rattle.nd_paths.specs.declared.point.Pointstamp.{Pointstamp}
-use Rattle.nd_delta.specs.Change.{Change, at}
+use Rattle.nd_delta.specs.Delta.{DeltaValue, at}
 use Rattle.nd_protocol.specs.State.{ClusterState, processor, queue}
 use Rattle.nd_protocol.specs.Exchange.{sent, received_from, received}
 use Rattle.nd_protocol.specs.Steps.{gain, chosen, stepped, after}
@@ -28,7 +28,7 @@ use Rattle.nd_protocol.proofs.InvariantLemmas.{stays_finished}
 work_steps : IsTransitive → (s : ClusterState) (x : Work) → IsState s → IsPossible s x → Steps (IsStrictlyBefore s.graph) at (reading s) (reading (done s x))
 work_steps trans s x state possible = inl (performer x, at (gain s.processors (performed s x)), performs_of trans s x state.ordered state.fits possible)
 
-front_steps : (s : ClusterState) (p q : ℕ) → IsState s → p < length s.processors → q < length s.processors → (cs : List Change) → queue s p q ≡ cs → (cs ≡ [] → ⊥)
+front_steps : (s : ClusterState) (p q : ℕ) → IsState s → p < length s.processors → q < length s.processors → (cs : List DeltaValue) → queue s p q ≡ cs → (cs ≡ [] → ⊥)
     → Steps (IsStrictlyBefore s.graph) at (reading s) (reading (received_from s p q cs))
 front_steps s p q state here there [] e some = absurd (some refl)
 front_steps s p q state here there (c ∷ rest) e some = inr (inr (p, q, c, receives s p here state.fits q there c rest e))
@@ -39,7 +39,7 @@ protocol_step trans s (Feed p vertex values next) state enabled = work_steps tra
 protocol_step trans s (Take p edge t value) state enabled = work_steps trans s (taking p edge t value) state (take_possible s p edge t value enabled)
 protocol_step trans s (Notice p vertex t) state enabled = work_steps trans s (noticing p vertex t) state (notice_possible s p vertex t enabled)
 protocol_step trans s (Broadcast p part) state enabled =
-    let c : Change = chosen part (processor s p).unsent in
+    let c : DeltaValue = chosen part (processor s p).unsent in
     inr (inl (p, c, broadcasts s p (sender_below s p part enabled) state.fits c enabled.admissible))
 protocol_step trans s (Receive from to) state enabled =
     front_steps s from to state (from_below s from to enabled) (to_below s from to enabled) (queue s from to) refl (enabled.free QueueEmpty)
@@ -52,7 +52,7 @@ same_graph s (Notice p vertex t) = refl
 same_graph s (Broadcast p part) = refl
 same_graph s (Receive from to) = by (queue s from to)
   where
-    by : (cs : List Change) → (received_from s from to cs).graph ≡ s.graph
+    by : (cs : List DeltaValue) → (received_from s from to cs).graph ≡ s.graph
     by [] = refl
     by (c ∷ rest) = refl
 
@@ -61,7 +61,7 @@ step_kept trans s x state enabled keeps =
     keeps_of (stepped s x) (subst (λ g. IsSound (IsStrictlyBefore g) at (reading (stepped s x))) (sym (same_graph s x))
     (kept_by_step (IsStrictlyBefore s.graph) (strict_order trans s.graph state.ordered) at change_finite (reading s) (reading (stepped s x)) (protocol_step trans s x state enabled) (sound_of s keeps)))
 
-front_settled : IsTransitive → (s : ClusterState) (p q : ℕ) → IsState s → p < length s.processors → q < length s.processors → (cs : List Change) → queue s p q ≡ cs → IsSettled s → IsSettled (received_from s p q cs)
+front_settled : IsTransitive → (s : ClusterState) (p q : ℕ) → IsState s → p < length s.processors → q < length s.processors → (cs : List DeltaValue) → queue s p q ≡ cs → IsSettled s → IsSettled (received_from s p q cs)
 front_settled trans s p q state here there [] e settled = settled
 front_settled trans s p q state here there (c ∷ rest) e settled =
     let t : ClusterState = received_from s p q (c ∷ rest) in
@@ -73,7 +73,7 @@ step_settled trans s (Feed p vertex values next) state enabled settled = settled
 step_settled trans s (Take p edge t value) state enabled settled = settled_kept s (taking p edge t value) (take_possible s p edge t value enabled).performer_is settled
 step_settled trans s (Notice p vertex t) state enabled settled = settled_kept s (noticing p vertex t) (notice_possible s p vertex t enabled).performer_is settled
 step_settled trans s (Broadcast p part) state enabled settled =
-    let c : Change = chosen part (processor s p).unsent in
+    let c : DeltaValue = chosen part (processor s p).unsent in
     let t : ClusterState = sent s p c in
     settled_of t (sent_balanced (IsStrictlyBefore s.graph) (strict_order trans s.graph state.ordered) at change_finite p c (reading s) (reading t) (broadcasts s p (sender_below s p part enabled) state.fits c enabled.admissible) (balanced_of s settled))
 step_settled trans s (Receive from to) state enabled settled = front_settled trans s from to state (from_below s from to enabled) (to_below s from to enabled) (queue s from to) refl settled

@@ -17,7 +17,7 @@ use Rattle.nd_map.specs.Counts.{none as no_counts, naturals, integers, at-none a
 use Rattle.nd_paths.specs.Order.{IsStrictlyBefore}
 use Rattle.nd_paths.specs.Point.{point_cmp}
 use Rattle.nd_paths.specs.declared.point.Pointstamp.{Pointstamp}
-use Rattle.nd_delta.specs.Change.{Change, none, at, at-none, is_point}
+use Rattle.nd_delta.specs.Delta.{DeltaValue, none, at, at-none, is_point}
 use Rattle.nd_vertex.specs.Items.{Items, item_cmp}
 use Rattle.nd_processor.specs.Keys.{value_at_cmp, sink_cmp}
 use Rattle.nd_processor.specs.State.{ProcessorState, idle, token_point, one_at, in_tokens, held}
@@ -25,7 +25,7 @@ use Rattle.nd_processor.specs.Start.{first_tokens, start_processor}
 use Rattle.nd_processor.specs.Held.{token_at, in_tokens-insert, no_records, no_requests, no_tokens}
 use Rattle.nd_protocol.specs.State.{ClusterState, truth}
 use Rattle.nd_protocol.specs.Start.{start}
-use Rattle.nd_protocol.specs.Fitting.{QueueIsWithin, IsOrdered, ChangeFits, ProcessorFits, KeysFit, ProcessorIsWithin, IsWithinLimits, IsState}
+use Rattle.nd_protocol.specs.Fitting.{QueueIsWithin, IsOrdered, DeltaFits, ProcessorFits, KeysFit, ProcessorIsWithin, IsWithinLimits, IsState}
 use Rattle.nd_protocol.specs.Invariant.{KeepsProtocol}
 use Rattle.nd_protocol.proofs.Reading.{reading}
 use Rattle.nd_protocol.proofs.Inputs.{AreInputsFlat, inputs_flat, few_locations}
@@ -58,7 +58,7 @@ many-replicate : {X : Type 0} (n : ℕ) (x : X) → length (replicate n x) ≡ n
 many-replicate zero x = refl
 many-replicate (suc n) x = let more : length (replicate n x) ≡ n = many-replicate n x in omega arith
 
-empty_queue : (m n p q : ℕ) → ◌≡◌ {A = List Change} (get_or (get_or (replicate m (replicate n [])) p []) q []) []
+empty_queue : (m n p q : ℕ) → ◌≡◌ {A = List DeltaValue} (get_or (get_or (replicate m (replicate n [])) p []) q []) []
 empty_queue zero n p q = refl
 empty_queue (suc m) n zero q = same-replicate n [] q
 empty_queue (suc m) n (suc p) q = empty_queue m n p q
@@ -111,7 +111,7 @@ first_input l (w ∷ vs) v e found =
       | false ↦ λ t h. later h
     ] refl found
 
-no_unsent : (g : Dataflow) → ChangeFits g none
+no_unsent : (g : Dataflow) → DeltaFits g none
 no_unsent g x some = absurd (some (at-none x))
 
 tokens_fit : (g : Dataflow) → AreInputsFlat g → ProcessorFits g (start_processor g)
@@ -134,16 +134,16 @@ unfolding start
 start_fits g inputs_are_flat n =
     let qs : List ProcessorState = replicate n (start_processor g) in
     let all : All (ProcessorFits g) qs = all-replicate (ProcessorFits g) n (start_processor g) (tokens_fit g inputs_are_flat) in
-    let shown : ChangeFits g (truth qs) = λ x some. elim (zero_or_some (count qs x)) [
+    let shown : DeltaFits g (truth qs) = λ x some. elim (zero_or_some (count qs x)) [
       | inl nothing ↦ absurd (some (truth-count qs x ∙ ap pos nothing))
       | inr more ↦ outstanding_fits g qs x all more
     ] in
     let many : length qs ≡ n = many-replicate n (start_processor g) in
-    let row : List (List Change) = replicate n [] in
+    let row : List (List DeltaValue) = replicate n [] in
     record {
       processors = all;
-      views = all-replicate (ChangeFits g) n (truth qs) shown;
-      queues = all-replicate (λ row. All (λ queue. All (ChangeFits g) queue) row) n row (all-replicate (λ queue. All (ChangeFits g) queue) n [] (λ k d lt. absurd (omega arith)));
+      views = all-replicate (DeltaFits g) n (truth qs) shown;
+      queues = all-replicate (λ row. All (λ queue. All (DeltaFits g) queue) row) n row (all-replicate (λ queue. All (DeltaFits g) queue) n [] (λ k d lt. absurd (omega arith)));
       each_view = many-replicate n (truth qs) ∙ sym many;
       each_sender = many-replicate n row ∙ sym many;
       each_receiver = all-replicate (λ row. length row ≡ length qs) n row (many-replicate n [] ∙ sym many);
@@ -200,7 +200,7 @@ start_within : (g : Dataflow) → IsFaultless g → (n : ℕ) → 0 < n → n �
 unfolding start
 start_within g sound n some few =
     let many : length (replicate n (start_processor g)) ≡ n = many-replicate n (start_processor g) in
-    let row : List (List Change) = replicate n [] in
+    let row : List (List DeltaValue) = replicate n [] in
     record {
       some = subst (λ m. 0 < m) (sym many) some;
       few = subst (λ m. m ≤ max_processors) (sym many) few;

@@ -3,7 +3,7 @@ use Rattle.std.proofs.Common.{◌≡◌, ◌≢◌, inl, inr, ℕ, ◌<◌, ◌<
 use Rattle.std.proofs.lemmas.Int.{ints}
 use Rattle.nd_paths.specs.Order.{IsStrictlyBefore}
 use Rattle.nd_paths.specs.declared.point.Pointstamp.{Pointstamp}
-use Rattle.nd_delta.specs.Change.{Change, at, plus, at-plus}
+use Rattle.nd_delta.specs.Delta.{DeltaValue, at, plus, at-plus}
 use Rattle.nd_delta.specs.Upright.{IsUpright}
 use Rattle.nd_processor.specs.Keys.{value_at_cmp}
 use Rattle.nd_processor.specs.State.{ProcessorState, idle, held, in_tokens}
@@ -26,7 +26,7 @@ use Rattle.nd_protocol.proofs.Kept.{performed_balanced}
 
 module _ (s : ClusterState) (x : Work) where
   -- a field that neither the records nor the unsent change are
-  after_field : {X : Type 0} (f : ProcessorState → X) → ((q : ProcessorState) (m : Counts value_at_cmp naturals) → f (record q { records = m }) ≡ f q) → ((q : ProcessorState) (d : Change) → f (record q { unsent = d }) ≡ f q)
+  after_field : {X : Type 0} (f : ProcessorState → X) → ((q : ProcessorState) (m : Counts value_at_cmp naturals) → f (record q { records = m }) ≡ f q) → ((q : ProcessorState) (d : DeltaValue) → f (record q { unsent = d }) ≡ f q)
       → (k : ℕ) → f (processor (done s x) k) ≡ f (get_or (set s.processors (performer x) (written s x)) k idle)
   unfolding done
   after_field f keeps_records keeps_unsent k =

@@ -9,7 +9,7 @@ use Rattle.nd_graph.specs.Graph.{location_count, op_at}
 use Rattle.nd_graph.specs.declared.op.Op.TheVariants as op
 use Rattle.nd_paths.specs.Order.{IsStrictlyBefore}
 use Rattle.nd_paths.specs.declared.point.Pointstamp.{Pointstamp}
-use Rattle.nd_delta.specs.Change.{Change, none, at as in_change, minus}
+use Rattle.nd_delta.specs.Delta.{DeltaValue, none, at as in_change, minus}
 use Rattle.nd_delta.specs.Least.{IsLeast}
 use Rattle.nd_delta.specs.Upright.{IsUnsupported}
 use Rattle.nd_view.specs.View.{IsPrecursor}
@@ -82,7 +82,7 @@ abbrev pub HasFullQueue : ClusterState → ℕ → Type 0
 HasFullQueue s p = (q : ℕ) × (q < length s.processors) × (max_queue ≤ length (queue s p q))
 
 -- c is the part that p would send; what stays is not supported at the point of refusal 16
-abbrev pub BroadcastFails : ClusterState → ℕ → Change → Refusal → Type 0
+abbrev pub BroadcastFails : ClusterState → ℕ → DeltaValue → Refusal → Type 0
 BroadcastFails s p c NoProcessor = length s.processors ≤ p
 BroadcastFails s p c NothingToSend = c ≡ none
 BroadcastFails s p c (NotAdmissible x) = IsLeast (IsUnsupported (IsStrictlyBefore s.graph) (HoldsToken (processor s p)) (in_change (minus (processor s p).unsent c))) x

@@ -2,21 +2,21 @@
 use Rattle.std.specs.Prelude.{◌≡◌, ◌⊎◌, ℕ, pos, List, [], ◌∷◌, ◌++◌, map, slice_index_or, slice_set}
 use Rattle.nd_paths.specs.Order.{IsStrictlyBefore}
 use Rattle.nd_paths.specs.declared.point.Pointstamp.{Pointstamp}
-use Rattle.nd_delta.specs.Change.{Change, at, plus, minus}
+use Rattle.nd_delta.specs.Delta.{DeltaValue, at, plus, minus}
 use Rattle.nd_delta.specs.Upright.{IsUpright}
 use Rattle.nd_protocol.specs.State.{ClusterState, processor, view, queue}
 use Rattle.nd_protocol.specs.Invariant.{HoldsToken}
 
 -- c has the entry of d at each pointstamp, or none
-abbrev pub IsPart : Change → Change → Type 0
+abbrev pub IsPart : DeltaValue → DeltaValue → Type 0
 IsPart c d = (x : Pointstamp) → (at c x ≡ pos 0) ⊎ (at c x ≡ at d x)
 
 -- what stays once p has sent c is upright, with the tokens that p holds
-abbrev pub StaysUpright : ClusterState → ℕ → Change → Type 0
+abbrev pub StaysUpright : ClusterState → ℕ → DeltaValue → Type 0
 StaysUpright s p c = IsUpright (IsStrictlyBefore s.graph) (HoldsToken (processor s p)) (at (minus (processor s p).unsent c))
 
 -- p sends the change c: it goes out of what is unsent, and to the back of the queues from p
-unfoldable pub sent : ClusterState → ℕ → Change → ClusterState
+unfoldable pub sent : ClusterState → ℕ → DeltaValue → ClusterState
 sent s p c =
     let q = processor s p in
     record s {
@@ -25,7 +25,7 @@ sent s p c =
     }
 
 -- q receives the front of a list of changes, which are those on their way to it from p
-abbrev pub received_from : ClusterState → ℕ → ℕ → List Change → ClusterState
+abbrev pub received_from : ClusterState → ℕ → ℕ → List DeltaValue → ClusterState
 received_from s p q [] = s
 received_from s p q (c ∷ rest) = record s {
   views = slice_set s.views q (plus (view s q) c);

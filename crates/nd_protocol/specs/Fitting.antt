@@ -8,7 +8,7 @@ use Rattle.nd_graph.specs.Checked.{JoinsVertices}
 use Rattle.nd_graph.specs.declared.op.Op.TheVariants as op
 use Rattle.nd_paths.specs.Order.{Fits, IsAccepted}
 use Rattle.nd_paths.specs.declared.point.Pointstamp.{Pointstamp}
-use Rattle.nd_delta.specs.Change.{Change, at as in_change}
+use Rattle.nd_delta.specs.Delta.{DeltaValue, at as in_change}
 use Rattle.nd_vertex.specs.declared.key.ItemKey.{ItemKey}
 use Rattle.nd_processor.specs.State.{ProcessorState, token_point, items_at}
 use Rattle.nd_processor.specs.declared.key.ValueAt.{ValueAt}
@@ -39,8 +39,8 @@ pub record IsAtLocation (g : Dataflow) (x : Pointstamp) : Type 0 where
   pub small : TimeIsSmall x.time
 
 -- each pointstamp of a change is one of the graph
-abbrev pub ChangeFits : Dataflow → Change → Type 0
-ChangeFits g c = (x : Pointstamp) → in_change c x ≢ pos 0 → IsAtLocation g x
+abbrev pub DeltaFits : Dataflow → DeltaValue → Type 0
+DeltaFits g c = (x : Pointstamp) → in_change c x ≢ pos 0 → IsAtLocation g x
 
 -- each key of a processor's maps is at a location of the graph where it may stand, with a time of that location's depth;
 -- its numbers, and those of items, fit their types
@@ -51,13 +51,13 @@ pub record ProcessorFits (g : Dataflow) (q : ProcessorState) : Type 0 where
   pub vertices : length q.items ≡ length g.vertices
   pub items : (vertex : ℕ) (k : ItemKey) → at (items_at q vertex) k ≢ pos 0 → IsAtVertex g (record { location = vertex; time = k.time }) × IsValue k.item × IsValue (at (items_at q vertex) k)
   pub sinks : (k : SinkKey) → at q.sinks k ≢ 0 → (op_at g k.vertex ≡ op.Sink) × (k.vertex < length g.vertices) × IsValue k.value
-  pub unsent : ChangeFits g q.unsent
+  pub unsent : DeltaFits g q.unsent
 
 -- so is each key of a cluster; each processor has a view, and a queue to each
 pub record KeysFit (s : ClusterState) : Type 0 where
   pub processors : All (ProcessorFits s.graph) s.processors
-  pub views : All (ChangeFits s.graph) s.views
-  pub queues : All (λ row. All (λ changes. All (ChangeFits s.graph) changes) row) s.queues
+  pub views : All (DeltaFits s.graph) s.views
+  pub queues : All (λ row. All (λ changes. All (DeltaFits s.graph) changes) row) s.queues
   pub each_view : length s.views ≡ length s.processors
   pub each_sender : length s.queues ≡ length s.processors
   pub each_receiver : All (λ row. length row ≡ length s.processors) s.queues
@@ -69,20 +69,20 @@ pub record ProcessorIsWithin (q : ProcessorState) : Type 0 where
   pub unsent : (x : Pointstamp) → unsigned_abs (in_change q.unsent x) ≤ max_count
 
 -- no entry of a change is past its limit
-abbrev pub ChangeIsWithin : Change → Type 0
-ChangeIsWithin c = (x : Pointstamp) → unsigned_abs (in_change c x) ≤ max_count
+abbrev pub DeltaIsWithin : DeltaValue → Type 0
+DeltaIsWithin c = (x : Pointstamp) → unsigned_abs (in_change c x) ≤ max_count
 
 -- a queue holds no more changes than it may, and none of their entries is past its limit
-pub record QueueIsWithin (changes : List Change) : Type 0 where
+pub record QueueIsWithin (changes : List DeltaValue) : Type 0 where
   pub few : length changes ≤ max_queue
-  pub entries : All ChangeIsWithin changes
+  pub entries : All DeltaIsWithin changes
 
 -- nor is any number of a cluster, which has at least one processor
 pub record IsWithinLimits (s : ClusterState) : Type 0 where
   pub some : 0 < length s.processors
   pub few : length s.processors ≤ max_processors
   pub processors : All ProcessorIsWithin s.processors
-  pub views : All ChangeIsWithin s.views
+  pub views : All DeltaIsWithin s.views
   pub queues : All (λ row. All QueueIsWithin row) s.queues
 
 -- a state that a cluster may be in, reachable or not

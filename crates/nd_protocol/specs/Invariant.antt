@@ -2,7 +2,7 @@
 use Rattle.std.specs.Prelude.{◌≡◌, ◌<◌, ◌≤◌, ℕ, zero, suc, ℤ, pos, ◌+ℤ◌, List, [], ◌∷◌, length, drop}
 use Rattle.nd_paths.specs.Order.{CouldResultIn, IsStrictlyBefore}
 use Rattle.nd_paths.specs.declared.point.Pointstamp.{Pointstamp}
-use Rattle.nd_delta.specs.Change.{Change, none, at, plus}
+use Rattle.nd_delta.specs.Delta.{DeltaValue, none, at, plus}
 use Rattle.nd_delta.specs.Upright.{IsUpright}
 use Rattle.nd_processor.specs.State.{ProcessorState, in_tokens}
 use Rattle.nd_protocol.specs.State.{ClusterState, processor, view, queue, truth}
@@ -12,12 +12,12 @@ abbrev pub HoldsToken : ProcessorState → Pointstamp → Type 0
 HoldsToken q x = 0 < in_tokens q.tokens x
 
 -- the sum of changes
-abbrev pub sum_of : List Change → Change
+abbrev pub sum_of : List DeltaValue → DeltaValue
 sum_of [] = none
 sum_of (c ∷ cs) = plus c (sum_of cs)
 
 -- what q is yet to hear from p, once it has received k more changes
-abbrev pub pending : ClusterState → ℕ → ℕ → ℕ → Change
+abbrev pub pending : ClusterState → ℕ → ℕ → ℕ → DeltaValue
 pending s p q k = plus (sum_of (drop k (queue s p q))) (processor s p).unsent
 
 -- f 0 + .. + f (n - 1)

@@ -6,7 +6,7 @@ use Rattle.nd_graph.specs.Graph.{Dataflow}
 use Rattle.nd_graph.specs.Checked.{IsFaultless}
 use Rattle.nd_paths.specs.Order.{IsStrictlyBefore}
 use Rattle.nd_paths.specs.declared.point.Pointstamp.{Pointstamp}
-use Rattle.nd_delta.specs.Change.{at}
+use Rattle.nd_delta.specs.Delta.{at}
 use Rattle.nd_view.specs.View.{IsPassed, IsPrecursor}
 use Rattle.nd_protocol.specs.State.{ClusterState, view, truth}
 use Rattle.nd_protocol.specs.Start.{start}

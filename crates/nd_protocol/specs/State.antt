@@ -7,25 +7,25 @@ use Rattle.nd_graph.specs.Graph.{Dataflow}
 use Rattle.nd_graph.specs.Codes.{graph_code}
 use Rattle.nd_paths.specs.declared.point.Pointstamp.{Pointstamp}
 use Rattle.nd_map.specs.Counts.{entries}
-use Rattle.nd_delta.specs.Change.{Change, none, at, set, change_code}
+use Rattle.nd_delta.specs.Delta.{DeltaValue, none, at, set, delta_code}
 use Rattle.nd_processor.specs.State.{ProcessorState, idle, token_point, processor_code}
 
 -- a cluster: its graph, its processors, the view of each, and for each processor its queues of progress updates to all
 pub record ClusterState : Type 0 where
   pub graph : Dataflow
   pub processors : List ProcessorState
-  pub views : List Change
-  pub queues : List (List (List Change))
+  pub views : List DeltaValue
+  pub queues : List (List (List DeltaValue))
 
 abbrev pub processor : ClusterState → ℕ → ProcessorState
 processor s p = slice_index_or s.processors p idle
 
 -- what processor q knows of the outstanding pointstamps
-abbrev pub view : ClusterState → ℕ → Change
+abbrev pub view : ClusterState → ℕ → DeltaValue
 view s q = slice_index_or s.views q none
 
 -- the changes on their way from p to q, from front to back
-abbrev pub queue : ClusterState → ℕ → ℕ → List Change
+abbrev pub queue : ClusterState → ℕ → ℕ → List DeltaValue
 queue s p q = slice_index_or (slice_index_or s.queues p []) q []
 
 -- ---- what is outstanding
@@ -38,20 +38,20 @@ outstanding_at q =
     ++ map (λ e. (token_point e.0 e.1, 1)) (fin.entries q.tokens))
 
 -- the sums of a list of numbers at pointstamps
-abbrev pub tally : List (Pointstamp × ℕ) → Change
+abbrev pub tally : List (Pointstamp × ℕ) → DeltaValue
 tally [] = none
 tally (e ∷ es) = set (tally es) e.0 (at (tally es) e.0 +ℤ pos e.1)
 
 -- the true count of each pointstamp: how many records, requests and tokens are at it, over all processors
-unfoldable pub truth : List ProcessorState → Change
+unfoldable pub truth : List ProcessorState → DeltaValue
 truth processors = tally (flat_map outstanding_at processors)
 
 -- ---- codes
 
 abbrev pub cluster_code : Coded ClusterState
 cluster_code =
-    code_by (Dataflow × (List ProcessorState × (List Change × List (List (List Change)))))
-    (coded× graph_code (coded× (coded_list processor_code) (coded× (coded_list change_code) (coded_list (coded_list (coded_list change_code))))))
+    code_by (Dataflow × (List ProcessorState × (List DeltaValue × List (List (List DeltaValue)))))
+    (coded× graph_code (coded× (coded_list processor_code) (coded× (coded_list delta_code) (coded_list (coded_list (coded_list delta_code))))))
     (λ s. (s.graph, (s.processors, (s.views, s.queues))))
     (λ t. record { graph = t.0; processors = t.1.0; views = t.1.1.0; queues = t.1.1.1 })
     (λ _. refl)

@@ -12,7 +12,7 @@ use Rattle.nd_graph.specs.declared.op.Route.{Route}
 use Rattle.nd_graph.specs.declared.op.Route.TheVariants.{Local, Exchange}
 use Rattle.nd_graph.specs.declared.graph.Edge.{Edge}
 use Rattle.nd_paths.specs.declared.point.Pointstamp.{Pointstamp}
-use Rattle.nd_delta.specs.Change.{Change, plus, minus, part as part_at}
+use Rattle.nd_delta.specs.Delta.{DeltaValue, plus, minus, part as part_at}
 use Rattle.nd_vertex.specs.Table.{Outcome, on_record, on_notice, time_past}
 use Rattle.nd_processor.specs.Keys.{value_at_total, sink_total}
 use Rattle.nd_processor.specs.State.{ProcessorState, idle, items_at}
@@ -125,7 +125,7 @@ noticed s p vertex t =
 -- ---- the steps
 
 -- what a step adds to the truth
-abbrev pub gain : List ProcessorState → List ProcessorState → Change
+abbrev pub gain : List ProcessorState → List ProcessorState → DeltaValue
 gain old new = minus (truth new) (truth old)
 
 -- the performer's unsent change has what the step adds to the truth
@@ -137,7 +137,7 @@ abbrev pub worked : ClusterState → ℕ → List ProcessorState → ClusterStat
 worked s p new = record s { processors = with_gain s.processors p new }
 
 -- the part of a change that a broadcast names: all of it, or its entries at some pointstamps
-abbrev pub chosen : {A : Type 0} → Part A → Change → Change
+abbrev pub chosen : {A : Type 0} → Part A → DeltaValue → DeltaValue
 chosen All c = c
 chosen (Points points) c = part_at c points
 

@@ -13,7 +13,7 @@ use Rattle.std.specs.FinMap as fin
 use Rattle.nd_paths.specs.Point.{point_exact}
 use Rattle.nd_paths.specs.declared.point.Pointstamp.{Pointstamp}
 use Rattle.nd_map.specs.Counts.{Counts, naturals, added, entries}
-use Rattle.nd_delta.specs.Change.{at, is_point, at-minus, at-none, at-set}
+use Rattle.nd_delta.specs.Delta.{at, is_point, at-minus, at-none, at-set}
 use Rattle.nd_processor.specs.Keys.{value_at_cmp, value_at_total}
 use Rattle.nd_processor.specs.State.{ProcessorState, idle, token_point, held}
 use Rattle.nd_processor.specs.Held.{sum_by-map}

@@ -5,7 +5,7 @@ use Rattle.std.proofs.lemmas.List.{set-set, set-get_or, length-drop, length-map}
 use Rattle.std.specs.Prelude.{unsigned_abs}
 use Rattle.nd_time.specs.Limits.{max_count, max_queue}
 use Rattle.nd_graph.specs.Graph.{Dataflow}
-use Rattle.nd_delta.specs.Change.{Change, none, at, plus, minus, at-minus, IsTooLarge, minus-plus, plus-minus, IsApart}
+use Rattle.nd_delta.specs.Delta.{DeltaValue, none, at, plus, minus, at-minus, IsTooLarge, minus-plus, plus-minus, IsApart}
 use Rattle.nd_view.specs.Kept.{Kept}
 use Rattle.nd_view.specs.Views.{maps}
 use Rattle.nd_processor.specs.State.{ProcessorState, idle}
@@ -26,12 +26,12 @@ on_both (Err e) X Y Z x y f = tt
 
 -- ---- a broadcast
 
-module _ (g : Dataflow) (ps qs : List ProcessorState) (vs : List Kept) (m k : List (List (List Change))) (p : ℕ) (c : Change) where
+module _ (g : Dataflow) (ps qs : List ProcessorState) (vs : List Kept) (m k : List (List (List DeltaValue))) (p : ℕ) (c : DeltaValue) where
   pub sent_leads : (t : ClusterState) → Sends (seen g ps vs m) p c t → qs ≡ with_unsent ps p (minus (get_or ps p idle).unsent c) → k ≡ pushed m p c → seen g qs vs k ≡ t
   unfolding sent
   sent_leads t h e f = (λ i. record { graph = g; processors = e i; views = maps vs; queues = f i }) ∙ h.arrives
 
-module _ (s : ClusterState) (g : Dataflow) (ps : List ProcessorState) (vs : List Kept) (m : List (List (List Change))) (p : ℕ) (c : Change) (state : IsState s) (h : Sends s p c (seen g ps vs m)) where
+module _ (s : ClusterState) (g : Dataflow) (ps : List ProcessorState) (vs : List Kept) (m : List (List (List DeltaValue))) (p : ℕ) (c : DeltaValue) (state : IsState s) (h : Sends s p c (seen g ps vs m)) where
   sender : p < length s.queues
   sender = subst (λ n. p < n) (sym state.fits.each_sender) h.there
 
@@ -58,7 +58,7 @@ module _ (s : ClusterState) (g : Dataflow) (ps : List ProcessorState) (vs : List
   sender_there = let n : length ps ≡ length s.processors = ap (λ (qs : List ProcessorState). length qs) (sym sent_processors) ∙ length-set s.processors p _ in omega (arith, n, h.there)
 
   pub row_there : p < length m
-  row_there = let n : length m ≡ length s.queues = ap (λ (k : List (List (List Change))). length k) (sym sent_queues) ∙ length-set s.queues p _ in omega (arith, n, sender)
+  row_there = let n : length m ≡ length s.queues = ap (λ (k : List (List (List DeltaValue))). length k) (sym sent_queues) ∙ length-set s.queues p _ in omega (arith, n, sender)
 
   pub is_apart : IsApart c (get_or ps p idle).unsent
   is_apart x some =
@@ -69,7 +69,7 @@ module _ (s : ClusterState) (g : Dataflow) (ps : List ProcessorState) (vs : List
   pub is_newest : IsNewest m p c
   is_newest = subst (λ k. IsNewest k p c) sent_queues (ap (λ k. pushed k p c) (unpushed-pushed s.queues p c sender))
 
-  pub sent_back : (qs : List ProcessorState) (k : List (List (List Change))) → qs ≡ with_unsent ps p (plus (get_or ps p idle).unsent c) → k ≡ unpushed m p → seen g qs vs k ≡ s
+  pub sent_back : (qs : List ProcessorState) (k : List (List (List DeltaValue))) → qs ≡ with_unsent ps p (plus (get_or ps p idle).unsent c) → k ≡ unpushed m p → seen g qs vs k ≡ s
   sent_back qs k e f =
       let q : ProcessorState = processor s p in
       let unsent : plus (get_or ps p idle).unsent c ≡ q.unsent = ap (λ (r : ProcessorState). plus r.unsent c) here_now ∙ plus-minus q.unsent c in
@@ -84,11 +84,11 @@ module _ (s : ClusterState) (g : Dataflow) (ps : List ProcessorState) (vs : List
 
 -- ---- a receive
 
-module _ (g : Dataflow) (ps : List ProcessorState) (vs ws : List Kept) (m k : List (List (List Change))) (from to : ℕ) (c : Change) where
+module _ (g : Dataflow) (ps : List ProcessorState) (vs ws : List Kept) (m k : List (List (List DeltaValue))) (from to : ℕ) (c : DeltaValue) where
   pub received_leads : (t : ClusterState) → Receives (seen g ps vs m) from to c t → maps ws ≡ set (maps vs) to (plus (map_at vs to) c) → k ≡ popped m from to → seen g ps ws k ≡ t
   received_leads t h e f = (λ i. record { graph = g; processors = ps; views = e i; queues = f i }) ∙ sym (received-front (seen g ps vs m) from to c h.front) ∙ h.arrives
 
-module _ (s : ClusterState) (g : Dataflow) (ps : List ProcessorState) (vs : List Kept) (m : List (List (List Change))) (from to : ℕ) (c : Change) (state : IsState s) (h : Receives s from to c (seen g ps vs m)) where
+module _ (s : ClusterState) (g : Dataflow) (ps : List ProcessorState) (vs : List Kept) (m : List (List (List DeltaValue))) (from to : ℕ) (c : DeltaValue) (state : IsState s) (h : Receives s from to c (seen g ps vs m)) where
   arrives : record s { views = set s.views to (plus (view s to) c); queues = popped s.queues from to } ≡ seen g ps vs m
   arrives = sym (received-front s from to c h.front) ∙ h.arrives
 
@@ -114,16 +114,16 @@ module _ (s : ClusterState) (g : Dataflow) (ps : List ProcessorState) (vs : List
   received_ps = ap (λ (t : ClusterState). t.processors) arrives
 
   map_now : map_at vs to ≡ plus (view s to) c
-  map_now = ap (λ (cs : List Change). get_or cs to none) (sym received_views) ∙ get_or-set_same s.views to (plus (view s to) c) none view_there
+  map_now = ap (λ (cs : List DeltaValue). get_or cs to none) (sym received_views) ∙ get_or-set_same s.views to (plus (view s to) c) none view_there
 
   pub view_is_there : to < length vs
   view_is_there =
-      let w : length (maps vs) ≡ length s.views = ap (λ (cs : List Change). length cs) (sym received_views) ∙ length-set s.views to _ in
+      let w : length (maps vs) ≡ length s.views = ap (λ (cs : List DeltaValue). length cs) (sym received_views) ∙ length-set s.views to _ in
       let n : length (maps vs) ≡ length vs = length-map vs (λ (v : Kept). v.map) in
       omega (arith, n, w, view_there)
 
   many_rows : length m ≡ length s.processors
-  many_rows = ap (λ (k : List (List (List Change))). length k) (sym received_queues) ∙ length-set s.queues from _ ∙ state.fits.each_sender
+  many_rows = ap (λ (k : List (List (List DeltaValue))). length k) (sym received_queues) ∙ length-set s.queues from _ ∙ state.fits.each_sender
 
   pub from_row : from < length m
   from_row = let n = many_rows in let l = h.from_there in omega arith
@@ -136,7 +136,7 @@ module _ (s : ClusterState) (g : Dataflow) (ps : List ProcessorState) (vs : List
       let limits : QueueIsWithin (queue s from to) = state.within.queues from [] from_there to [] to_there in
       let now : queue_in m from to ≡ drop 1 (queue s from to)
       = ap (λ k. queue_in k from to) (sym received_queues) ∙ queue-with_queue s.queues from to (drop 1 (queue s from to)) from_there to_there in
-      let short : length (queue_in m from to) ≡ length (queue s from to) - 1 = ap (λ (cs : List Change). length cs) now ∙ length-drop 1 (queue s from to) in
+      let short : length (queue_in m from to) ≡ length (queue s from to) - 1 = ap (λ (cs : List DeltaValue). length cs) now ∙ length-drop 1 (queue s from to) in
       let few : length (queue s from to) ≤ max_queue = limits.few in
       let all : max_queue ≤ length (queue_in m from to) = full in
       omega arith
@@ -148,7 +148,7 @@ module _ (s : ClusterState) (g : Dataflow) (ps : List ProcessorState) (vs : List
       let within : unsigned_abs (at (view s to) x) ≤ max_count = state.within.views to none view_there x in
       omega arith
 
-  pub received_back : (ws : List Kept) (k : List (List (List Change))) → maps ws ≡ set (maps vs) to (minus (map_at vs to) c) → k ≡ unpopped m from to c → seen g ps ws k ≡ s
+  pub received_back : (ws : List Kept) (k : List (List (List DeltaValue))) → maps ws ≡ set (maps vs) to (minus (map_at vs to) c) → k ≡ unpopped m from to c → seen g ps ws k ≡ s
   received_back ws k e f =
       let was : minus (map_at vs to) c ≡ view s to = ap (λ d. minus d c) map_now ∙ minus-plus (view s to) c in
       let old : maps vs ≡ set s.views to (plus (view s to) c) = sym received_views in

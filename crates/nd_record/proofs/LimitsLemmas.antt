@@ -3,7 +3,7 @@ use Rattle.std.proofs.Common.{◌≡◌, ◌<◌, ◌≤◌, ◌+◌, ℕ, zero,
 use Rattle.std.proofs.lemmas.Int.{ints}
 use Rattle.std.proofs.lemmas.Bool.{cases_lt}
 use Rattle.nd_time.specs.Limits.{max_count, max_processors}
-use Rattle.nd_delta.specs.Change.{at as in_change}
+use Rattle.nd_delta.specs.Delta.{at as in_change}
 use Rattle.nd_processor.specs.State.{ProcessorState, idle}
 use Rattle.nd_protocol.specs.State.{ClusterState}
 use Rattle.nd_protocol.specs.Fitting.{IsWithinLimits, ProcessorIsWithin, QueueIsWithin}

@@ -8,7 +8,7 @@ use Rattle.std.specs.Ordering.{eq_by_cmp}
 use Rattle.nd_time.specs.Limits.{max_count}
 use Rattle.nd_map.specs.Counts.{int_at, at-none, naturals}
 use Rattle.nd_paths.specs.declared.point.Pointstamp.{Pointstamp}
-use Rattle.nd_delta.specs.Change.{at as in_change, none as no_change, at-none as in_no_change}
+use Rattle.nd_delta.specs.Delta.{at as in_change, none as no_change, at-none as in_no_change}
 use Rattle.nd_processor.specs.Keys.{value_at_cmp, sink_cmp}
 use Rattle.nd_processor.specs.State.{ProcessorState, idle}
 use Rattle.nd_protocol.specs.State.{ClusterState, processor, view}

@@ -1,6 +1,6 @@
 -- What the record of a step names, and what it makes of a cluster's state.
 use Rattle.std.specs.Prelude.{◌≡◌, ◌<◌, ℕ, ◌+◌, Some, slice_get, length}
-use Rattle.nd_delta.specs.Change.{Change as Delta, plus, size, IsTooLarge, IsPartOf}
+use Rattle.nd_delta.specs.Delta.{DeltaValue, plus, size, IsTooLarge, IsPartOf}
 use Rattle.nd_mesh.specs.Mesh.{row, HasQueue, IsFull}
 use Rattle.nd_protocol.specs.State.{ClusterState, processor, view, queue}
 use Rattle.nd_protocol.specs.Exchange.{sent, received}
@@ -22,14 +22,14 @@ AreEqual (Received from to change) (Received k l other) = (k ≡ from) × (l ≡
 AreEqual _ _ = ⊥
 
 -- p sends a part of what is unsent, for which there is room
-pub record Sends (s : ClusterState) (p : ℕ) (c : Delta) (t : ClusterState) : Type 0 where
+pub record Sends (s : ClusterState) (p : ℕ) (c : DeltaValue) (t : ClusterState) : Type 0 where
   pub there : p < length s.processors
   pub part : IsPartOf c (processor s p).unsent
   pub room : HasQueue IsFull (row s.queues p) → ⊥
   pub arrives : sent s p c ≡ t
 
 -- a queue's front is received into a view, in which there is room for it
-pub record Receives (s : ClusterState) (from to : ℕ) (c : Delta) (t : ClusterState) : Type 0 where
+pub record Receives (s : ClusterState) (from to : ℕ) (c : DeltaValue) (t : ClusterState) : Type 0 where
   pub from_there : from < length s.processors
   pub to_there : to < length s.processors
   pub front : slice_get (queue s from to) 0 ≡ Some c

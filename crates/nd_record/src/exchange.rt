@@ -1,6 +1,6 @@
 //! Broadcasts and receives, made and undone in the processors, views and queues of a cluster.
 ghost use Rattle.std.specs.Prelude.{◌≡◌, ◌<◌, All, Some, slice_get, slice_index_or, slice_set, length, map, OnErr, OnOk};
-ghost use Rattle.nd_delta.specs.Change.{none, plus, minus, IsTooLarge, IsPartOf, IsApart};
+ghost use Rattle.nd_delta.specs.Delta.{none, plus, minus, IsTooLarge, IsPartOf, IsApart};
 ghost use Rattle.nd_view.specs.Kept.{IsFor};
 ghost use Rattle.nd_processor.specs.State.{idle};
 ghost use Rattle.nd_mesh.specs.Mesh.{row, queue, pushed, unpushed, popped, unpopped, HasQueue, IsFull};

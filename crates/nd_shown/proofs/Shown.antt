@@ -6,7 +6,7 @@ use Rattle.std.specs.List.{flat_map, enumerate_from, zip}
 use Rattle.nd_graph.specs.Graph.{Dataflow}
 use Rattle.std.specs.FinMap as fin
 use Rattle.nd_paths.specs.declared.point.Pointstamp.{Pointstamp}
-use Rattle.nd_delta.specs.Change.{Change, entries as listed}
+use Rattle.nd_delta.specs.Delta.{DeltaValue, entries as listed}
 use Rattle.nd_processor.specs.declared.key.ValueAt.{ValueAt}
 use Rattle.nd_processor.specs.declared.key.SinkKey.{SinkKey}
 use Rattle.nd_map.specs.Counts.{entries}
@@ -59,7 +59,7 @@ items_shown g q =
 -- ---- a processor
 
 -- the members of a processor are those of its maps' entries
-pub processor_shown : (g : Dataflow) (q : ProcessorState) (view : Change) (items : List (ℕ × ItemKey × ℤ)) (records : List (ValueAt × ℕ)) (requests : List (Pointstamp × Unit {0})) (sinks : List (SinkKey × ℕ)) (tokens : List (ℕ × ℕ)) (unsent known : List (Pointstamp × ℤ))
+pub processor_shown : (g : Dataflow) (q : ProcessorState) (view : DeltaValue) (items : List (ℕ × ItemKey × ℤ)) (records : List (ValueAt × ℕ)) (requests : List (Pointstamp × Unit {0})) (sinks : List (SinkKey × ℕ)) (tokens : List (ℕ × ℕ)) (unsent known : List (Pointstamp × ℤ))
     → items ≡ flat_map item_of_vertex (enumerate_from 0 q.items) → records ≡ entries q.records → requests ≡ fin.entries q.requests → sinks ≡ entries q.sinks → tokens ≡ fin.entries q.tokens → unsent ≡ listed q.unsent → known ≡ listed view
     → processor_members (row (map (λ e. item_data g e.0 (e.1, e.2)) items)) (row (map (record_data g) records)) (row (map (λ e. point_data g e.0) requests)) (row (map (sink_data g) sinks)) (row (map (token_data g) tokens)) (row (map (entry_data g) unsent)) (row (map (entry_data g) known))
     ≡ processor_data g q view
@@ -78,7 +78,7 @@ zip_mapped f h (x ∷ xs) [] = refl
 zip_mapped f h (x ∷ xs) (y ∷ ys) = ap (λ ws. f (x, h y) ∷ ws) (zip_mapped f h xs ys)
 
 -- the state of these processors, views and queues
-pub state_shown : (g : Dataflow) (ps : List ProcessorState) (vs : List Kept) (m : List (List (List Change)))
+pub state_shown : (g : Dataflow) (ps : List ProcessorState) (vs : List Kept) (m : List (List (List DeltaValue)))
     → whole_data (map (λ e. processor_data g e.0 e.1.map) (zip ps vs)) (map (queues_data g) m) ≡ state_data (record { graph = g; processors = ps; views = map (λ (v : Kept). v.map) vs; queues = m })
 unfolding state_data
 state_shown g ps vs m = λ i. whole_data (sym (zip_mapped (λ e. processor_data g e.0 e.1) (λ (v : Kept). v.map) ps vs) i) (map (queues_data g) m)

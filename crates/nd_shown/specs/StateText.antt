@@ -9,7 +9,7 @@ use Rattle.serde_json.specs.View.{items_of}
 use Rattle.nd_time.specs.Time.{Time}
 use Rattle.nd_graph.specs.Graph.{Dataflow, names}
 use Rattle.nd_paths.specs.declared.point.Pointstamp.{Pointstamp}
-use Rattle.nd_delta.specs.Change.{Change, entries}
+use Rattle.nd_delta.specs.Delta.{DeltaValue, entries}
 use Rattle.nd_protocol.specs.State.{ClusterState}
 use Rattle.nd_vertex.specs.declared.key.ItemKey.{ItemKey}
 use Rattle.nd_processor.specs.State.{ProcessorState}
@@ -85,17 +85,17 @@ abbrev pub items_data : Dataflow → ProcessorState → List Data
 items_data g q = flat_map (λ i. map (item_data g i.0) (numbers i.1)) (enumerate_from 0 q.items)
 
 -- a processor, and its view
-unfoldable pub processor_data : Dataflow → ProcessorState → Change → Data
+unfoldable pub processor_data : Dataflow → ProcessorState → DeltaValue → Data
 processor_data g q view =
     processor_members (row (items_data g q)) (row (map (record_data g) (numbers q.records))) (row (map (point_data g) (fin.keys q.requests)))
     (row (map (sink_data g) (numbers q.sinks))) (row (map (token_data g) (fin.entries q.tokens))) (entries_data g (entries q.unsent)) (entries_data g (entries view))
 
 -- a queue, from front to back
-abbrev pub queue_data : Dataflow → List Change → Data
+abbrev pub queue_data : Dataflow → List DeltaValue → Data
 queue_data g changes = row (map (λ c. entries_data g (entries c)) changes)
 
 -- the queues of one sender
-abbrev pub queues_data : Dataflow → List (List Change) → Data
+abbrev pub queues_data : Dataflow → List (List DeltaValue) → Data
 queues_data g queues = row (map (queue_data g) queues)
 
 -- a cluster with these lists

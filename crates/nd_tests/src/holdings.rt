@@ -1,7 +1,7 @@
 //! What processors hold: items of a vertex, the token of another, and parts of what is unsent.
 
 ghost use Rattle.std.specs.Prelude.{IfSome};
-ghost use Rattle.nd_delta.specs.Change.{IsApart};
+ghost use Rattle.nd_delta.specs.Delta.{IsApart};
 
 use crate::drawn::time;
 use nd_delta::Delta;

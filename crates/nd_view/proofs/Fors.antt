@@ -9,7 +9,7 @@ use Rattle.nd_graph.specs.Graph.{Dataflow}
 use Rattle.nd_map.specs.Listed.{IsListed, without}
 use Rattle.nd_paths.specs.Point.{point_cmp, point_total, point_exact}
 use Rattle.nd_paths.specs.declared.point.Pointstamp.{Pointstamp}
-use Rattle.nd_delta.specs.Change.{Change, none, at, set, is_point, at-none, entries, or_zero, at-entries, some-entry}
+use Rattle.nd_delta.specs.Delta.{DeltaValue, none, at, set, is_point, at-none, entries, or_zero, at-entries, some-entry}
 use Rattle.nd_delta.specs.Least.{place_of}
 use Rattle.nd_view.specs.View.{IsOnFrontier}
 use Rattle.nd_view.specs.Kept.{Kept, IsKeptAt, IsFor, kept_of}
@@ -21,7 +21,7 @@ signed (pos zero) = inr (λ p. absurd (omega (arith, ints, p)))
 signed (pos (suc n)) = inl (omega (arith, ints))
 signed (negsuc n) = inr (λ p. absurd (omega (arith, ints, p)))
 
-pub for_none : (g : Dataflow) (m : Change) (es : List (Pointstamp × ℕ)) → m ≡ none → es ≡ [] → IsFor g (kept_of m es)
+pub for_none : (g : Dataflow) (m : DeltaValue) (es : List (Pointstamp × ℕ)) → m ≡ none → es ≡ [] → IsFor g (kept_of m es)
 for_none g m es m_is es_is = record {
   listed = subst (IsListed point_cmp) (sym es_is) tt;
   each = λ q. subst (IsKeptAt g m q) (sym (ap (find point_cmp q) es_is)) (λ p. not_zero (at m q) p (ap (λ c. at c q) m_is ∙ at-none q));
@@ -31,7 +31,7 @@ pub for_kept : (g : Dataflow) (v : Kept) (q : Pointstamp) (o : Option ℕ) (es :
 for_kept g v q o es o_is es_is h = subst (IsKeptAt g v.map q) (sym (o_is ∙ ap (find point_cmp q) es_is)) (h.each q)
 
 -- a count of the same sign
-pub for_stay : (g : Dataflow) (m n : Change) (es : List (Pointstamp × ℕ)) (x : Pointstamp) (z : ℤ) → IsFor g (kept_of m es) → n ≡ set m x z
+pub for_stay : (g : Dataflow) (m n : DeltaValue) (es : List (Pointstamp × ℕ)) (x : Pointstamp) (z : ℤ) → IsFor g (kept_of m es) → n ≡ set m x z
     → ((pos 0 <ℤ z → pos 0 <ℤ at m x) × (pos 0 <ℤ at m x → pos 0 <ℤ z)) → IsFor g (kept_of n es)
 for_stay g m n es x z h is sign = record {
   listed = h.listed;
@@ -52,7 +52,7 @@ on_ok (Ok x) P Q f p = f p
 on_ok (Err e) P Q f p = tt
 
 -- ---- precursor counts of 0
-pub frontier_of_none : (g : Dataflow) (m : Change) (q : Pointstamp) → IsKeptAt g m q (Some 0) → IsOnFrontier g m q
+pub frontier_of_none : (g : Dataflow) (m : DeltaValue) (q : Pointstamp) → IsKeptAt g m q (Some 0) → IsOnFrontier g m q
 frontier_of_none g m q kept = record {
   positive = kept.0;
   first = λ y p.
@@ -61,7 +61,7 @@ frontier_of_none g m q kept = record {
       omega (arith, place.in_range, kept.1.2);
 }
 
-pub not_on_frontier : (g : Dataflow) (m : Change) (q : Pointstamp) (n : ℕ) → 0 < n → IsKeptAt g m q (Some n) → IsOnFrontier g m q → ⊥
+pub not_on_frontier : (g : Dataflow) (m : DeltaValue) (q : Pointstamp) (n : ℕ) → 0 < n → IsKeptAt g m q (Some n) → IsOnFrontier g m q → ⊥
 not_on_frontier g m q n more kept on =
     let f = kept.1.0 in
     let one = first_one (entries f) (omega (arith, more, kept.1.2)) in
@@ -80,7 +80,7 @@ pub frontier_of_zero : (g : Dataflow) (v : Kept) → IsFor g v → (q : Pointsta
 frontier_of_zero g v h q e = frontier_of_none g v.map q (subst (IsKeptAt g v.map q) e (h.each q))
 
 -- ---- what is put in and taken out again
-kept_none : (g : Dataflow) (m : Change) (q : Pointstamp) (o : Option ℕ) → IsKeptAt g m q o → (pos 0 <ℤ at m q → ⊥) → o ≡ None
+kept_none : (g : Dataflow) (m : DeltaValue) (q : Pointstamp) (o : Option ℕ) → IsKeptAt g m q o → (pos 0 <ℤ at m q → ⊥) → o ≡ None
 kept_none g m q None h never = refl
 kept_none g m q (Some n) h never = absurd (never h.0)
 

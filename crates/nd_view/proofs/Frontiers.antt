@@ -8,7 +8,7 @@ use Rattle.nd_graph.specs.Graph.{Dataflow}
 use Rattle.nd_paths.specs.Order.{CouldResultIn, IsStrictlyBefore}
 use Rattle.nd_paths.specs.Laws.{IsMinimalAmong}
 use Rattle.nd_paths.specs.declared.point.Pointstamp.{Pointstamp}
-use Rattle.nd_delta.specs.Change.{Change, at, entries, points_of, part, has_point, is_point, at-part}
+use Rattle.nd_delta.specs.Delta.{DeltaValue, at, entries, points_of, part, has_point, is_point, at-part}
 use Rattle.nd_delta.specs.Least.{IsLeast, place_of}
 use Rattle.nd_view.specs.View.{IsBefore, IsPositiveBefore, IsBlocker, IsPrecursor, IsOnFrontier, IsPartWhere, IsCount}
 use Rattle.nd_view.specs.Kept.{Kept, IsKeptAt, IsFor, IsFrontierList}
@@ -24,7 +24,7 @@ pub record IsOrder (g : Dataflow) : Type 0 where
   pub strict : (s t u : Pointstamp) → IsStrictlyBefore g s t → IsStrictlyBefore g t u → IsStrictlyBefore g s u
   pub minimal : (p : Pointstamp) (ps : List Pointstamp) → (m : Pointstamp) × IsMinimalAmong g (p ∷ ps) m
 
-module _ (g : Dataflow) (order : IsOrder g) (m : Change) where
+module _ (g : Dataflow) (order : IsOrder g) (m : DeltaValue) where
   -- at or before a positive point there is one on the frontier
   pub frontier_before : (x : Pointstamp) (n : ℕ) → pos 0 <ℤ at m x → IsCount (IsPrecursor g m x) m n → (y : Pointstamp) × IsOnFrontier g m y × ((y ≡ x) ⊎ IsStrictlyBefore g y x)
   frontier_before x n positive counted =
@@ -47,7 +47,7 @@ module _ (g : Dataflow) (order : IsOrder g) (m : Change) where
           let is : (get_or (entries counted.0) k (y, pos 0)).0 ≡ y = sym (get_or-map (λ z. z.0) (entries counted.0) k (y, pos 0) y short) ∙ e in
           inr (subst (λ z. at counted.0 z ≢ pos 0) is (index_some counted.0 k (y, pos 0) short))
 
-      listed : (f : Change) (z : Pointstamp) → at f z ≢ pos 0 → Contains (x ∷ points_of (entries f)) z
+      listed : (f : DeltaValue) (z : Pointstamp) → at f z ≢ pos 0 → Contains (x ∷ points_of (entries f)) z
       listed f z some =
           let place = place_of f z some in (
             suc place.index,
@@ -78,7 +78,7 @@ pub frontier_list : (v : Kept) (es : List (Pointstamp × ℕ)) (frontier ps : Li
 frontier_list v es frontier ps room es_is ps_is listed = subst (λ l. IsFrontierList v.counts l room) (sym ps_is) (subst (λ l. IsFrontierList l frontier room) es_is listed)
 
 -- the part at the listed points is the part on the frontier
-pub frontier_part : (g : Dataflow) (v : Kept) → IsFor g v → (m : Change) → m ≡ v.map → (frontier : List Pointstamp) (room : ℕ) → IsFrontierList v.counts frontier room → (f : Change) → f ≡ part m frontier → IsPartWhere (IsOnFrontier g v.map) v.map f
+pub frontier_part : (g : Dataflow) (v : Kept) → IsFor g v → (m : DeltaValue) → m ≡ v.map → (frontier : List Pointstamp) (room : ℕ) → IsFrontierList v.counts frontier room → (f : DeltaValue) → f ≡ part m frontier → IsPartWhere (IsOnFrontier g v.map) v.map f
 frontier_part g v h m m_is frontier room listed f f_is = record {
   all = λ x on. value x ∙ ap (λ b. cond b (at v.map x) (pos 0)) (has x (listed.all x (zero_of_frontier g v h x on)));
   only = λ x some. by x some (has_point x frontier) refl;
@@ -108,16 +108,16 @@ if_ok (Ok x) P Q f p = f x p
 if_ok (Err e) P Q f p = p
 
 -- ---- blockers and precursors
-pub to_blocker : (g : Dataflow) (v : Change) (t x : Pointstamp) → IsPositiveBefore g v false t x → IsBlocker g v t x
+pub to_blocker : (g : Dataflow) (v : DeltaValue) (t x : Pointstamp) → IsPositiveBefore g v false t x → IsBlocker g v t x
 to_blocker g v t x p = record { positive = p.positive; before = p.before }
 
-pub of_blocker : (g : Dataflow) (v : Change) (t x : Pointstamp) → IsBlocker g v t x → IsPositiveBefore g v false t x
+pub of_blocker : (g : Dataflow) (v : DeltaValue) (t x : Pointstamp) → IsBlocker g v t x → IsPositiveBefore g v false t x
 of_blocker g v t x p = record { positive = p.positive; before = p.before }
 
-pub to_precursor : (g : Dataflow) (v : Change) (t x : Pointstamp) → IsPositiveBefore g v true t x → IsPrecursor g v t x
+pub to_precursor : (g : Dataflow) (v : DeltaValue) (t x : Pointstamp) → IsPositiveBefore g v true t x → IsPrecursor g v t x
 to_precursor g v t x p = record { positive = p.positive; before = p.before }
 
-pub of_precursor : (g : Dataflow) (v : Change) (t x : Pointstamp) → IsPrecursor g v t x → IsPositiveBefore g v true t x
+pub of_precursor : (g : Dataflow) (v : DeltaValue) (t x : Pointstamp) → IsPrecursor g v t x → IsPositiveBefore g v true t x
 of_precursor g v t x p = record { positive = p.positive; before = p.before }
 
 pub least_as : (P Q : Pointstamp → Type 0) → ((x : Pointstamp) → P x → Q x) → ((x : Pointstamp) → Q x → P x) → (o : Option Pointstamp) → IfSome o (IsLeast P) → IfSome o (IsLeast Q)

@@ -13,7 +13,7 @@ use Rattle.nd_map.specs.Maps.{find-without}
 use Rattle.nd_paths.specs.Order.{IsStrictlyBefore}
 use Rattle.nd_paths.specs.Point.{point_cmp, point_total, point_exact}
 use Rattle.nd_paths.specs.declared.point.Pointstamp.{Pointstamp}
-use Rattle.nd_delta.specs.Change.{Change, at, set, size, entries, is_point, or_zero, at-set, at-set_same, set-set, set-at, size-set, at-entries, sorted-entries, some-entry}
+use Rattle.nd_delta.specs.Delta.{DeltaValue, at, set, size, entries, is_point, or_zero, at-set, at-set_same, set-set, set-at, size-set, at-entries, sorted-entries, some-entry}
 use Rattle.nd_view.specs.View.{IsPrecursor, IsPartWhere, IsCount}
 use Rattle.nd_view.specs.Kept.{IsKeptAt, IsMovable, IsReady}
 use Rattle.nd_map.specs.Cases.{not_zero, zero_or_not}
@@ -32,14 +32,14 @@ itself x = ap is_eq (tied_itself point_total x)
 pub apart : (q x : Pointstamp) → is_point q x ≡ false → q ≡ x → ⊥
 apart q x e here = true≢false (sym (ap (λ z. is_point z x) here ∙ itself x) ∙ e)
 
-pub at-elsewhere : (m : Change) (x : Pointstamp) (v : ℤ) (q : Pointstamp) → is_point q x ≡ false → at (set m x v) q ≡ at m q
+pub at-elsewhere : (m : DeltaValue) (x : Pointstamp) (v : ℤ) (q : Pointstamp) → is_point q x ≡ false → at (set m x v) q ≡ at m q
 at-elsewhere m x v q e = at-set m x v q ∙ ap (λ b. cond b v (at m q)) e
 
 -- ---- sizes
-pub size_gone : (f : Change) (x : Pointstamp) → at f x ≢ pos 0 → size f ≡ size (set f x (pos 0)) + 1
+pub size_gone : (f : DeltaValue) (x : Pointstamp) → at f x ≢ pos 0 → size f ≡ size (set f x (pos 0)) + 1
 size_gone f x some = ap size (sym (set-set f x (pos 0) (at f x) ∙ set-at f x)) ∙ size-set (set f x (pos 0)) x (at f x) some (at-set_same f x (pos 0))
 
-size_stays : (f : Change) (x : Pointstamp) (w : ℤ) → at f x ≢ pos 0 → w ≢ pos 0 → size (set f x w) ≡ size f
+size_stays : (f : DeltaValue) (x : Pointstamp) (w : ℤ) → at f x ≢ pos 0 → w ≢ pos 0 → size (set f x w) ≡ size f
 size_stays f x w some other =
     ap size (sym (set-set f x (pos 0) w)) ∙ size-set (set f x (pos 0)) x w other (at-set_same f x (pos 0)) ∙ sym (size_gone f x some)
 
@@ -48,14 +48,14 @@ first_one [] lt = absurd (omega (arith, lt))
 first_one (e ∷ es) lt = record { point = e.0; value = e.1; found = find-head point_cmp point_total e es }
 
 -- the point of an entry has an integer
-pub index_some : (m : Change) (k : ℕ) (d : Pointstamp × ℤ) → k < length (entries m) → at m (get_or (entries m) k d).0 ≢ pos 0
+pub index_some : (m : DeltaValue) (k : ℕ) (d : Pointstamp × ℤ) → k < length (entries m) → at m (get_or (entries m) k d).0 ≢ pos 0
 index_some m k d lt e =
     let q = (get_or (entries m) k d).0 in
     let found : find point_cmp q (entries m) ≡ Some (get_or (entries m) k d).1 = find-index point_cmp point_total (entries m) k d (sorted-entries m) lt in
     some-entry m q (get_or (entries m) k d).1 found (sym (ap or_zero found) ∙ at-entries m q ∙ e)
 
 -- a change with no other points is no larger
-pub size_within : (k : ℕ) (f m : Change) → size f ≡ k → ((q : Pointstamp) → at f q ≢ pos 0 → at m q ≢ pos 0) → k ≤ size m
+pub size_within : (k : ℕ) (f m : DeltaValue) → size f ≡ k → ((q : Pointstamp) → at f q ≢ pos 0 → at m q ≢ pos 0) → k ≤ size m
 size_within zero f m e h = omega arith
 size_within (suc k) f m e h =
     let one = first_one (entries f) (omega (arith, e)) in
@@ -71,17 +71,17 @@ size_within (suc k) f m e h =
     omega (arith, there, less)
 
 -- a count is at most the number of entries
-pub count_small : (P : Pointstamp → Type 0) (m : Change) (n : ℕ) → ((q : Pointstamp) → P q → at m q ≢ pos 0) → IsCount P m n → n ≤ size m
+pub count_small : (P : Pointstamp → Type 0) (m : DeltaValue) (n : ℕ) → ((q : Pointstamp) → P q → at m q ≢ pos 0) → IsCount P m n → n ≤ size m
 count_small P m n some counted = size_within n counted.0 m counted.2 (λ q q_some. some q (counted.1.only q q_some))
 
-module _ (m n : Change) (x : Pointstamp) (v : ℤ) (is : n ≡ set m x v) where
+module _ (m n : DeltaValue) (x : Pointstamp) (v : ℤ) (is : n ≡ set m x v) where
   here : at n x ≡ v
   here = ap (λ c. at c x) is ∙ at-set_same m x v
 
   there : (q : Pointstamp) → is_point q x ≡ false → at n q ≡ at m q
   there q e = ap (λ c. at c q) is ∙ at-elsewhere m x v q e
 
-  part_moved : (P Q : Pointstamp → Type 0) (f : Change) (w : ℤ)
+  part_moved : (P Q : Pointstamp → Type 0) (f : DeltaValue) (w : ℤ)
       → ((q : Pointstamp) → is_point q x ≡ false → P q → Q q) → ((q : Pointstamp) → is_point q x ≡ false → Q q → P q) → (Q x → w ≡ v) → (w ≢ pos 0 → Q x) → IsPartWhere P m f → IsPartWhere Q n (set f x w)
   part_moved P Q f w to from value only part = record {
     all = λ q k. elim (alike q x) [

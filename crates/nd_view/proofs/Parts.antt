@@ -8,33 +8,33 @@ use Rattle.std.proofs.lemmas.Map.Views.{tells_apart}
 use Rattle.nd_map.specs.Entries.{rises}
 use Rattle.nd_paths.specs.Point.{point_cmp, point_total, point_exact}
 use Rattle.nd_paths.specs.declared.point.Pointstamp.{Pointstamp}
-use Rattle.nd_delta.specs.Change.{Change, at, set, size, entries, is_point, at-set, size-set, sorted-entries}
+use Rattle.nd_delta.specs.Delta.{DeltaValue, at, set, size, entries, is_point, at-set, size-set, sorted-entries}
 use Rattle.nd_delta.specs.Least.{place_of, at-index}
 use Rattle.nd_view.specs.View.{IsCount}
 use Rattle.nd_view.proofs.Moves.{size_within}
 use Rattle.nd_map.specs.Cases.{zero_or_not}
 
 -- the point of one of the first entries
-pub record IsAmong (m : Change) (i : ℕ) (q : Pointstamp) : Type 0 where
+pub record IsAmong (m : DeltaValue) (i : ℕ) (q : Pointstamp) : Type 0 where
   pub index : ℕ
   pub early : index < i
   pub in_range : index < length (entries m)
   pub is : (get_or (entries m) index (q, pos 0)).0 ≡ q
 
 -- f is the part of m at those of the first entries that are of the kind P, and at the points of the kind B
-pub record IsPartUpTo (m : Change) (P B : Pointstamp → Type 0) (i : ℕ) (f : Change) : Type 0 where
+pub record IsPartUpTo (m : DeltaValue) (P B : Pointstamp → Type 0) (i : ℕ) (f : DeltaValue) : Type 0 where
   pub all : (q : Pointstamp) → IsAmong m i q → P q → at f q ≡ at m q
   pub base : (q : Pointstamp) → B q → at f q ≡ at m q
   pub some : (q : Pointstamp) → at f q ≢ pos 0 → P q
   pub early : (q : Pointstamp) → at f q ≢ pos 0 → IsAmong m i q ⊎ B q
 
 -- n of the first entries are of the kind P, or of the kind B
-pub record IsCountUpTo (m : Change) (P B : Pointstamp → Type 0) (i n : ℕ) : Type 0 where
-  pub part : Change
+pub record IsCountUpTo (m : DeltaValue) (P B : Pointstamp → Type 0) (i n : ℕ) : Type 0 where
+  pub part : DeltaValue
   pub is_part : IsPartUpTo m P B i part
   pub many : size part ≡ n
 
-module _ (m : Change) (P B : Pointstamp → Type 0) where
+module _ (m : DeltaValue) (P B : Pointstamp → Type 0) where
   pub later : (i : ℕ) (q : Pointstamp) → IsAmong m i q → IsAmong m (i + 1) q
   later i q among = record { index = among.index; early = omega (arith, among.early); in_range = among.in_range; is = among.is }
 
@@ -59,14 +59,14 @@ module _ (m : Change) (P B : Pointstamp → Type 0) where
         absurd (cc (rise, tied))
 
     -- the new entry's point has nothing yet
-    pub part_fresh : (f : Change) → (B x.0 → ⊥) → IsPartUpTo m P B i f → at f x.0 ≡ pos 0
+    pub part_fresh : (f : DeltaValue) → (B x.0 → ⊥) → IsPartUpTo m P B i f → at f x.0 ≡ pos 0
     part_fresh f never part = elim (zero_or_not (at f x.0)) [
       | inl e ↦ e
       | inr some ↦ elim (part.early x.0 some) [ inl among ↦ absurd (fresh among) | inr base ↦ absurd (never base) ]
     ]
 
     -- an entry that is not of the kind P, but for those of the kind B
-    pub part_skip : (f : Change) → (P x.0 → B x.0) → IsPartUpTo m P B i f → IsPartUpTo m P B (i + 1) f
+    pub part_skip : (f : DeltaValue) → (P x.0 → B x.0) → IsPartUpTo m P B i f → IsPartUpTo m P B (i + 1) f
     part_skip f never part = record {
       all = λ q among p. elim (split q among) [
         | inl before ↦ part.all q before p
@@ -82,7 +82,7 @@ module _ (m : Change) (P B : Pointstamp → Type 0) where
     one_of false y z w e h = h refl
 
     -- an entry of the kind P, and not of the kind B
-    pub part_take : (f g : Change) → g ≡ set f x.0 x.1 → P x.0 → (B x.0 → ⊥) → IsPartUpTo m P B i f → IsPartUpTo m P B (i + 1) g
+    pub part_take : (f g : DeltaValue) → g ≡ set f x.0 x.1 → P x.0 → (B x.0 → ⊥) → IsPartUpTo m P B i f → IsPartUpTo m P B (i + 1) g
     part_take f g set_is p never part = record {
       all = λ q among k.
           value q

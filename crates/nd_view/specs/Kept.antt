@@ -7,23 +7,23 @@ use Rattle.nd_map.specs.Listed.{IsListed}
 use Rattle.nd_paths.specs.Order.{IsStrictlyBefore}
 use Rattle.nd_paths.specs.Point.{point_cmp, point_code}
 use Rattle.nd_paths.specs.declared.point.Pointstamp.{Pointstamp}
-use Rattle.nd_delta.specs.Change.{Change, at, change_code}
+use Rattle.nd_delta.specs.Delta.{DeltaValue, at, delta_code}
 use Rattle.nd_view.specs.View.{IsPrecursor, IsCount}
 
 -- a finite map, and numbers that are stored beside it
 pub record Kept : Type 0 where
-  pub map : Change
+  pub map : DeltaValue
   pub counts : List (Pointstamp × ℕ)
 
 abbrev pub kept_code : Coded Kept
-kept_code = code_by (Change × List (Pointstamp × ℕ)) (coded× change_code (coded_list (coded× point_code coded_ℕ))) (λ v. (v.map, v.counts)) (λ p. record { map = p.0; counts = p.1 }) (λ _. refl)
+kept_code = code_by (DeltaValue × List (Pointstamp × ℕ)) (coded× delta_code (coded_list (coded× point_code coded_ℕ))) (λ v. (v.map, v.counts)) (λ p. record { map = p.0; counts = p.1 }) (λ _. refl)
 
 -- a map and what is stored beside it
-abbrev pub kept_of : Change → List (Pointstamp × ℕ) → Kept
+abbrev pub kept_of : DeltaValue → List (Pointstamp × ℕ) → Kept
 kept_of m es = record { map = m; counts = es }
 
 -- what is stored for q: the number of its precursors if it is positive, else nothing
-abbrev pub IsKeptAt : Dataflow → Change → Pointstamp → Option ℕ → Type 0
+abbrev pub IsKeptAt : Dataflow → DeltaValue → Pointstamp → Option ℕ → Type 0
 IsKeptAt g m q None = pos 0 <ℤ at m q → ⊥
 IsKeptAt g m q (Some n) = (pos 0 <ℤ at m q) × IsCount (IsPrecursor g m q) m n
 
@@ -40,11 +40,11 @@ pub record IsFrontierList (counts : List (Pointstamp × ℕ)) (frontier : List P
 
 -- ---- what a stored count says of another point's precursors
 -- each number that is stored is right
-abbrev pub AreKept : Dataflow → Change → List (Pointstamp × ℕ) → Type 0
+abbrev pub AreKept : Dataflow → DeltaValue → List (Pointstamp × ℕ) → Type 0
 AreKept g m es = (q : Pointstamp) (n : ℕ) → find point_cmp q es ≡ Some n → IsKeptAt g m q (Some n)
 
 -- x is a precursor of t whose epoch is below a number
-pub record IsEarlier (g : Dataflow) (m : Change) (t : Pointstamp) (below : ℕ) (x : Pointstamp) : Type 0 where
+pub record IsEarlier (g : Dataflow) (m : DeltaValue) (t : Pointstamp) (below : ℕ) (x : Pointstamp) : Type 0 where
   pub precursor : IsPrecursor g m t x
   pub early : x.time.epoch < below
 
@@ -58,12 +58,12 @@ abbrev pub moved : Bool → ℕ → ℕ
 moved true n = n + 1
 moved false n = n - 1
 
-abbrev pub IsMovable : Dataflow → Change → Pointstamp → Bool → Option ℕ → Type 0
+abbrev pub IsMovable : Dataflow → DeltaValue → Pointstamp → Bool → Option ℕ → Type 0
 IsMovable g m q up None = ⊥
 IsMovable g m q true (Some n) = IsKeptAt g m q (Some (n + 1))
 IsMovable g m q false (Some n) = (1 ≤ n) × IsKeptAt g m q (Some (n - 1))
 
 -- a positive point after x has its count but for one, every other point has its own
-pub record IsReady (g : Dataflow) (m : Change) (x : Pointstamp) (up : Bool) (q : Pointstamp) (o : Option ℕ) : Type 0 where
+pub record IsReady (g : Dataflow) (m : DeltaValue) (x : Pointstamp) (up : Bool) (q : Pointstamp) (o : Option ℕ) : Type 0 where
   pub after : pos 0 <ℤ at m q → IsStrictlyBefore g x q → IsMovable g m q up o
   pub others : ((pos 0 <ℤ at m q) × IsStrictlyBefore g x q → ⊥) → IsKeptAt g m q o

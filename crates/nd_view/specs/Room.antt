@@ -4,7 +4,7 @@ use Rattle.std.specs.FinMap.{find}
 use Rattle.nd_time.specs.Limits.{max_count}
 use Rattle.nd_paths.specs.Point.{point_cmp}
 use Rattle.nd_paths.specs.declared.point.Pointstamp.{Pointstamp}
-use Rattle.nd_delta.specs.Change.{Change, at, or_zero}
+use Rattle.nd_delta.specs.Delta.{DeltaValue, at, or_zero}
 
 -- an integer that takes no memory in the place of another: nothing comes into the map, nothing becomes positive
 pub record IsWithinRoom (old new : ℤ) : Type 0 where
@@ -20,5 +20,5 @@ abbrev pub AreWithin : List (Pointstamp × ℤ) → Type 0
 AreWithin es = (q : Pointstamp) → unsigned_abs (among es q) ≤ max_count
 
 -- n has at each point what m has and the entries, or what m has without them
-abbrev pub IsAdded : Bool → List (Pointstamp × ℤ) → Change → Change → Type 0
+abbrev pub IsAdded : Bool → List (Pointstamp × ℤ) → DeltaValue → DeltaValue → Type 0
 IsAdded minus es m n = (q : Pointstamp) → at n q ≡ cond minus (at m q -ℤ among es q) (at m q +ℤ among es q)

@@ -5,21 +5,21 @@ use Rattle.std.specs.FinMap.Entries.{same_entries}
 use Rattle.nd_graph.specs.Graph.{Dataflow}
 use Rattle.nd_paths.specs.Point.{point_cmp, point_total, point_exact}
 use Rattle.nd_paths.specs.declared.point.Pointstamp.{Pointstamp}
-use Rattle.nd_delta.specs.Change.{Change, at, size, same}
+use Rattle.nd_delta.specs.Delta.{DeltaValue, at, size, same}
 use Rattle.nd_view.specs.View.{IsPrecursor, IsPartWhere, IsCount}
 use Rattle.nd_view.specs.Kept.{Kept, IsKeptAt, IsFor}
 use Rattle.nd_map.specs.Cases.{zero_or_not}
 
-part_unique : (P : Pointstamp → Type 0) (m f h : Change) → IsPartWhere P m f → IsPartWhere P m h → f ≡ h
+part_unique : (P : Pointstamp → Type 0) (m f h : DeltaValue) → IsPartWhere P m f → IsPartWhere P m h → f ≡ h
 part_unique P m f h a b = same f h (λ q. elim (zero_or_not (at f q)) [
   | inl e ↦ elim (zero_or_not (at h q)) [ inl z ↦ e ∙ sym z | inr some ↦ (let p = b.only q some in a.all q p ∙ sym (b.all q p)) ]
   | inr some ↦ (let p = a.only q some in a.all q p ∙ sym (b.all q p))
 ])
 
-pub count_unique : (P : Pointstamp → Type 0) (m : Change) (n k : ℕ) → IsCount P m n → IsCount P m k → n ≡ k
+pub count_unique : (P : Pointstamp → Type 0) (m : DeltaValue) (n k : ℕ) → IsCount P m n → IsCount P m k → n ≡ k
 count_unique P m n k a b = sym a.2 ∙ ap size (part_unique P m a.0 b.0 a.1 b.1) ∙ b.2
 
-kept_unique : (g : Dataflow) (m : Change) (q : Pointstamp) (a b : Option ℕ) → IsKeptAt g m q a → IsKeptAt g m q b → a ≡ b
+kept_unique : (g : Dataflow) (m : DeltaValue) (q : Pointstamp) (a b : Option ℕ) → IsKeptAt g m q a → IsKeptAt g m q b → a ≡ b
 kept_unique g m q None None h k = refl
 kept_unique g m q None (Some n) h k = absurd (h k.0)
 kept_unique g m q (Some n) None h k = absurd (k h.0)

@@ -3,24 +3,24 @@ use Rattle.std.specs.Prelude.{◌≡◌, ◌≢◌, ℕ, pos, ◌<ℤ◌, Bool, 
 use Rattle.nd_graph.specs.Graph.{Dataflow}
 use Rattle.nd_paths.specs.Order.{CouldResultIn, IsStrictlyBefore}
 use Rattle.nd_paths.specs.declared.point.Pointstamp.{Pointstamp}
-use Rattle.nd_delta.specs.Change.{Change, at, size}
+use Rattle.nd_delta.specs.Delta.{DeltaValue, at, size}
 
 -- x is positive, and could result in t
-pub record IsBlocker (g : Dataflow) (v : Change) (t x : Pointstamp) : Type 0 where
+pub record IsBlocker (g : Dataflow) (v : DeltaValue) (t x : Pointstamp) : Type 0 where
   pub positive : pos 0 <ℤ at v x
   pub before : CouldResultIn g x t
 
 -- nothing positive is at or before t
-abbrev pub IsPassed : Dataflow → Change → Pointstamp → Type 0
+abbrev pub IsPassed : Dataflow → DeltaValue → Pointstamp → Type 0
 IsPassed g v t = (x : Pointstamp) → IsBlocker g v t x → ⊥
 
 -- x is positive, and strictly before t
-pub record IsPrecursor (g : Dataflow) (v : Change) (t x : Pointstamp) : Type 0 where
+pub record IsPrecursor (g : Dataflow) (v : DeltaValue) (t x : Pointstamp) : Type 0 where
   pub positive : pos 0 <ℤ at v x
   pub before : IsStrictlyBefore g x t
 
 -- x is positive, and has no precursor
-pub record IsOnFrontier (g : Dataflow) (v : Change) (x : Pointstamp) : Type 0 where
+pub record IsOnFrontier (g : Dataflow) (v : DeltaValue) (x : Pointstamp) : Type 0 where
   pub positive : pos 0 <ℤ at v x
   pub first : (y : Pointstamp) → IsPrecursor g v x y → ⊥
 
@@ -30,15 +30,15 @@ IsBefore g true x t = IsStrictlyBefore g x t
 IsBefore g false x t = CouldResultIn g x t
 
 -- x is positive, and before t: a precursor, or a blocker
-pub record IsPositiveBefore (g : Dataflow) (v : Change) (strictly : Bool) (t x : Pointstamp) : Type 0 where
+pub record IsPositiveBefore (g : Dataflow) (v : DeltaValue) (strictly : Bool) (t x : Pointstamp) : Type 0 where
   pub positive : pos 0 <ℤ at v x
   pub before : IsBefore g strictly x t
 
 -- f is the part of v at the points of the kind P
-pub record IsPartWhere (P : Pointstamp → Type 0) (v f : Change) : Type 0 where
+pub record IsPartWhere (P : Pointstamp → Type 0) (v f : DeltaValue) : Type 0 where
   pub all : (x : Pointstamp) → P x → at f x ≡ at v x
   pub only : (x : Pointstamp) → at f x ≢ pos 0 → P x
 
 -- v has entries at n points of the kind P
-abbrev pub IsCount : (Pointstamp → Type 0) → Change → ℕ → Type 0
-IsCount P v n = (f : Change) × IsPartWhere P v f × (size f ≡ n)
+abbrev pub IsCount : (Pointstamp → Type 0) → DeltaValue → ℕ → Type 0
+IsCount P v n = (f : DeltaValue) × IsPartWhere P v f × (size f ≡ n)

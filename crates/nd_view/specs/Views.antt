@@ -7,19 +7,19 @@ use Rattle.std.proofs.Common.{◌≡◌, ◌<◌, ℕ, zero, suc, List, [], ◌�
 use Rattle.std.specs.Prelude.{All}
 use Rattle.std.proofs.lemmas.List.{get_or-map}
 use Rattle.nd_graph.specs.Graph.{Dataflow}
-use Rattle.nd_delta.specs.Change.{Change}
+use Rattle.nd_delta.specs.Delta.{DeltaValue}
 use Rattle.nd_view.specs.Kept.{Kept, IsFor}
 use Rattle.nd_view.specs.Settled.{same_views}
 
 -- the maps of views, without what is stored beside them
-abbrev pub maps : List Kept → List Change
+abbrev pub maps : List Kept → List DeltaValue
 maps vs = map (λ v. v.map) vs
 
 -- the precursor counts of every view are those of the graph
 abbrev pub AreFor : Dataflow → List Kept → Type 0
 AreFor g vs = All (IsFor g) vs
 
-pub maps-get : (vs : List Kept) (q : ℕ) (v : Kept) (m : Change) → q < length vs → v ≡ get_or vs q v → get_or (maps vs) q m ≡ v.map
+pub maps-get : (vs : List Kept) (q : ℕ) (v : Kept) (m : DeltaValue) → q < length vs → v ≡ get_or vs q v → get_or (maps vs) q m ≡ v.map
 maps-get vs q v m lt is = get_or-map (λ u. u.map) vs q v m lt ∙ ap (λ u. u.map) (sym is)
 
 pub maps-set : (vs : List Kept) (q : ℕ) (v : Kept) → maps (set vs q v) ≡ set (maps vs) q v.map

@@ -12,7 +12,7 @@ ghost use Rattle.nd_time.specs.Limits.{max_count};
 ghost use Rattle.nd_graph.specs.Graph.{Dataflow};
 ghost use Rattle.nd_paths.specs.declared.point.Pointstamp.{Pointstamp};
 ghost use Rattle.nd_delta.specs.declared.DeltaFault.{DeltaFault};
-ghost use Rattle.nd_delta.specs.Change.{none, at, plus, minus, combined, IsTooLarge, IsWithin, entries as listed};
+ghost use Rattle.nd_delta.specs.Delta.{none, at, plus, minus, combined, IsTooLarge, IsWithin, entries as listed};
 ghost use Rattle.nd_delta.specs.Least.{IsLeast};
 ghost use Rattle.nd_view.specs.View.{IsPassed, IsBlocker, IsPrecursor, IsOnFrontier, IsCount, IsPartWhere, IsPositiveBefore};
 ghost use Rattle.nd_view.specs.Kept.{Kept, IsKeptAt, IsFor};

@@ -6,7 +6,7 @@ ghost use Rattle.nd_graph.specs.Graph.{Dataflow};
 ghost use Rattle.nd_map.specs.Listed.{IsListed};
 ghost use Rattle.nd_paths.specs.Point.{point_cmp};
 ghost use Rattle.nd_delta.specs.declared.DeltaFault.{DeltaFault};
-ghost use Rattle.nd_delta.specs.Change.{none, at, set, combined, IsTooLarge};
+ghost use Rattle.nd_delta.specs.Delta.{none, at, set, combined, IsTooLarge};
 ghost use Rattle.nd_view.specs.View.{IsPrecursor, IsCount};
 ghost use Rattle.nd_view.specs.Kept.{IsKeptAt, IsFor, IsFrontierList};
 ghost use Rattle.nd_view.specs.Room.{IsWithinRoom, AreWithin, IsAdded};

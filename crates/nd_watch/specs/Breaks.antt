@@ -8,7 +8,7 @@ use Rattle.nd_time.specs.Limits.{max_breaks}
 use Rattle.nd_graph.specs.Graph.{location_count}
 use Rattle.nd_paths.specs.Point.{point_code}
 use Rattle.nd_paths.specs.declared.point.Pointstamp.{Pointstamp}
-use Rattle.nd_delta.specs.Change.{at}
+use Rattle.nd_delta.specs.Delta.{at}
 use Rattle.nd_view.specs.View.{IsPassed}
 use Rattle.nd_protocol.specs.State.{ClusterState, view, queue, truth}
 use Rattle.nd_cluster.specs.Sinks.{sunk}

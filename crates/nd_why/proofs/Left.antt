@@ -10,7 +10,7 @@ use Rattle.nd_graph.specs.Graph.{Dataflow}
 use Rattle.nd_paths.specs.Order.{CouldResultIn}
 use Rattle.nd_paths.specs.Point.{point_total, point_exact}
 use Rattle.nd_paths.specs.declared.point.Pointstamp.{Pointstamp}
-use Rattle.nd_delta.specs.Change.{is_point, at}
+use Rattle.nd_delta.specs.Delta.{is_point, at}
 use Rattle.nd_processor.specs.State.{ProcessorState, held}
 use Rattle.nd_protocol.specs.State.{truth}
 use Rattle.nd_protocol.specs.Truth.{truth-count}

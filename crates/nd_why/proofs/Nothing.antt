@@ -11,7 +11,7 @@ use Rattle.std.specs.FinMap.Entries.{where_key, find-where_key, is_sorted-where_
 use Rattle.nd_map.specs.Counts.{Counts, naturals, at, entries, of_entries, or_else, same, at-of_entries, at-entries, entries_listed, entries-of_entries}
 use Rattle.nd_map.specs.Entries.{find-index}
 use Rattle.nd_paths.specs.declared.point.Pointstamp.{Pointstamp}
-use Rattle.nd_delta.specs.Change.{is_point, at as in_change}
+use Rattle.nd_delta.specs.Delta.{is_point, at as in_change}
 use Rattle.nd_processor.specs.Keys.{value_at_total, value_at_exact}
 use Rattle.nd_processor.specs.State.{ProcessorState, idle, token_point}
 use Rattle.nd_processor.specs.declared.key.ValueAt.{ValueAt}

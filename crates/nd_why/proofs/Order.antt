@@ -9,7 +9,7 @@ use Rattle.nd_paths.specs.Laws.{IsMinimalAmong}
 use Rattle.nd_paths.specs.Order.{CouldResultIn, Fits, IsStrictlyBefore}
 use Rattle.nd_paths.specs.Point.{point_cmp, point_total}
 use Rattle.nd_paths.specs.declared.point.Pointstamp.{Pointstamp}
-use Rattle.nd_delta.specs.Change.{Change, at, entries, points_of, or_zero, at-entries, sorted-entries, some-entry}
+use Rattle.nd_delta.specs.Delta.{DeltaValue, at, entries, points_of, or_zero, at-entries, sorted-entries, some-entry}
 use Rattle.nd_delta.specs.Least.{place_of}
 use Rattle.nd_view.specs.Kept.{Kept, IsKeptAt, IsFor}
 use Rattle.nd_view.specs.View.{IsBlocker, IsCount, IsOnFrontier, IsPrecursor}
@@ -23,13 +23,13 @@ pub record IsOrder (g : Dataflow) : Type 0 where
   pub minimal : (p : Pointstamp) (ps : List Pointstamp) → (m : Pointstamp) × IsMinimalAmong g (p ∷ ps) m
 
 -- an entry's integer is not 0
-pub index_some : (m : Change) (k : ℕ) (d : Pointstamp × ℤ) → k < length (entries m) → at m (get_or (entries m) k d).0 ≢ pos 0
+pub index_some : (m : DeltaValue) (k : ℕ) (d : Pointstamp × ℤ) → k < length (entries m) → at m (get_or (entries m) k d).0 ≢ pos 0
 index_some m k d lt e =
     let q = (get_or (entries m) k d).0 in
     let found : find point_cmp q (entries m) ≡ Some (get_or (entries m) k d).1 = find-index point_cmp point_total (entries m) k d (sorted-entries m) lt in
     some-entry m q (get_or (entries m) k d).1 found (sym (ap or_zero found) ∙ at-entries m q ∙ e)
 
-module _ (g : Dataflow) (order : IsOrder g) (m : Change) where
+module _ (g : Dataflow) (order : IsOrder g) (m : DeltaValue) where
   -- the least among x and its precursors, of which there are finitely many
   frontier_by : (x : Pointstamp) (n : ℕ) → pos 0 <ℤ at m x → IsCount (IsPrecursor g m x) m n → (y : Pointstamp) × IsOnFrontier g m y × ((y ≡ x) ⊎ IsStrictlyBefore g y x)
   frontier_by x n positive counted =
@@ -53,7 +53,7 @@ module _ (g : Dataflow) (order : IsOrder g) (m : Change) where
           let is : (get_or (entries counted.0) k (y, pos 0)).0 ≡ y = sym (get_or-map (λ z. z.0) (entries counted.0) k (y, pos 0) y short) ∙ e in
           inr (subst (λ z. at counted.0 z ≢ pos 0) is (index_some counted.0 k (y, pos 0) short))
 
-      listed : (f : Change) (z : Pointstamp) → at f z ≢ pos 0 → Contains (x ∷ points_of (entries f)) z
+      listed : (f : DeltaValue) (z : Pointstamp) → at f z ≢ pos 0 → Contains (x ∷ points_of (entries f)) z
       listed f z some =
           let place = place_of f z some in (
             suc place.index,
@@ -62,7 +62,7 @@ module _ (g : Dataflow) (order : IsOrder g) (m : Change) where
           )
 
 -- one on the frontier, at or before x
-pub record HasFrontierBefore (g : Dataflow) (m : Change) (x : Pointstamp) : Type 0 where
+pub record HasFrontierBefore (g : Dataflow) (m : DeltaValue) (x : Pointstamp) : Type 0 where
   pub point : Pointstamp
   pub frontier : IsOnFrontier g m point
   pub before : CouldResultIn g point x

@@ -8,7 +8,7 @@ use Rattle.std.specs.List.{flat_map}
 use Rattle.std.specs.FinMap as fin
 use Rattle.nd_map.specs.Counts.{entries as numbers}
 use Rattle.nd_paths.specs.declared.point.Pointstamp.{Pointstamp}
-use Rattle.nd_delta.specs.Change.{Change, none, at, plus, is_point, at-none, at-plus}
+use Rattle.nd_delta.specs.Delta.{DeltaValue, none, at, plus, is_point, at-none, at-plus}
 use Rattle.nd_processor.specs.State.{ProcessorState, idle, token_point, one_at, in_records, in_requests, in_tokens, held}
 use Rattle.nd_processor.specs.declared.key.ValueAt.{ValueAt}
 use Rattle.nd_protocol.specs.State.{ClusterState, processor, view, queue}
@@ -81,7 +81,7 @@ news-in_turn : (f : ℕ → List Unheard) (z : ℕ → ℤ) → ((k : ℕ) → n
 news-in_turn f z each zero = refl
 news-in_turn f z each (suc n) = news-append (in_turn n f) (f n) ∙ (λ i. news-in_turn f z each n i +ℤ each n i)
 
-at-sum_of-last : (cs : List Change) (c : Change) (b : Pointstamp) → at (sum_of (cs ++ c ∷ [])) b ≡ at (sum_of cs) b +ℤ at c b
+at-sum_of-last : (cs : List DeltaValue) (c : DeltaValue) (b : Pointstamp) → at (sum_of (cs ++ c ∷ [])) b ≡ at (sum_of cs) b +ℤ at c b
 at-sum_of-last [] c b = let e = at-plus c none b in let z = at-none b in omega (arith, ints, e, z)
 at-sum_of-last (d ∷ cs) c b =
     let e = at-plus d (sum_of (cs ++ c ∷ [])) b in
@@ -90,18 +90,18 @@ at-sum_of-last (d ∷ cs) c b =
     omega (arith, ints, e, f, rest)
 
 -- the first n changes
-first_changes : (cs : List Change) (b : Pointstamp) (n : ℕ) → n ≤ length cs → total n (λ k. at (get_or cs k none) b) ≡ at (sum_of (take n cs)) b
+first_changes : (cs : List DeltaValue) (b : Pointstamp) (n : ℕ) → n ≤ length cs → total n (λ k. at (get_or cs k none) b) ≡ at (sum_of (take n cs)) b
 first_changes cs b zero le = sym (at-none b)
 first_changes cs b (suc n) le =
     ap (λ z. z +ℤ at (get_or cs n none) b) (first_changes cs b n (omega arith))
     ∙ sym (ap (λ l. at (sum_of l) b) (take-suc cs n none (omega arith)) ∙ at-sum_of-last (take n cs) (get_or cs n none) b)
 
-news-queued : (p : ℕ) (cs : List Change) (b : Pointstamp) → news (queued_at p cs b) ≡ at (sum_of cs) b
+news-queued : (p : ℕ) (cs : List DeltaValue) (b : Pointstamp) → news (queued_at p cs b) ≡ at (sum_of cs) b
 news-queued p cs b =
     news-in_turn (queued_behind p cs b) (λ k. at (get_or cs k none) b) (λ k. news-unless_zero (at (get_or cs k none) b) (Queued p k (at (get_or cs k none) b)) refl) (length cs)
     ∙ first_changes cs b (length cs) (omega arith) ∙ ap (λ l. at (sum_of l) b) (take_all (length cs) cs (omega arith))
 
-news-from : (p : ℕ) (unsent : Change) (cs : List Change) (b : Pointstamp) → news (unheard_from p unsent cs b) ≡ at (plus (sum_of cs) unsent) b
+news-from : (p : ℕ) (unsent : DeltaValue) (cs : List DeltaValue) (b : Pointstamp) → news (unheard_from p unsent cs b) ≡ at (plus (sum_of cs) unsent) b
 unfolding unheard_from
 news-from p unsent cs b =
     let first = news-append (unless_zero (at unsent b) (Unsent p (at unsent b))) (queued_at p cs b) in

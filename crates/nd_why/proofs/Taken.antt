@@ -6,14 +6,14 @@ use Rattle.nd_graph.specs.Graph.{Dataflow}
 use Rattle.nd_paths.specs.Order.{CouldResultIn}
 use Rattle.nd_paths.specs.Point.{point_exact}
 use Rattle.nd_paths.specs.declared.point.Pointstamp.{Pointstamp}
-use Rattle.nd_delta.specs.Change.{Change, none, at, set, entries, is_point, IsWithin, at-none, at-set, at-set_same}
+use Rattle.nd_delta.specs.Delta.{DeltaValue, none, at, set, entries, is_point, IsWithin, at-none, at-set, at-set_same}
 use Rattle.nd_delta.specs.Least.{AllUpTo, all-more, all-points, at-index}
 use Rattle.nd_view.specs.View.{IsOnFrontier, IsPartWhere}
 use Rattle.nd_why.specs.Why.{IsReason}
 use Rattle.nd_map.specs.Cases.{not_zero}
 
 -- an entry's number is within the limit
-pub within_limit : (m : Change) (i : ℕ) (x : Pointstamp × ℤ) → IsWithin m → i < length (entries m) → x ≡ get_or (entries m) i x → unsigned_abs x.1 ≤ max_count
+pub within_limit : (m : DeltaValue) (i : ℕ) (x : Pointstamp × ℤ) → IsWithin m → i < length (entries m) → x ≡ get_or (entries m) i x → unsigned_abs x.1 ≤ max_count
 within_limit m i x within lt is = subst (λ z. unsigned_abs z ≤ max_count) (sym (at-index m i x lt is)) (within x.0)
 
 -- what holds of the new number, if x is b, and else of the old one
@@ -24,26 +24,26 @@ by_point P x b n z here there =
       | false ↦ λ e. there
     ] refl
 
-module _ (g : Dataflow) (t : Pointstamp) (f : Change) where
+module _ (g : Dataflow) (t : Pointstamp) (f : DeltaValue) where
   -- x has its number, if it is at or before t
-  abbrev Gets : Change → Pointstamp → Type 0
+  abbrev Gets : DeltaValue → Pointstamp → Type 0
   Gets taken x = CouldResultIn g x t → at taken x ≡ at f x
 
   -- of the first i pointstamps of f those at or before t were taken, and no others
-  pub record IsTaken (taken : Change) (i : ℕ) : Type 0 where
+  pub record IsTaken (taken : DeltaValue) (i : ℕ) : Type 0 where
     pub same : (x : Pointstamp) → at taken x ≢ pos 0 → at taken x ≡ at f x
     pub before : (x : Pointstamp) → at taken x ≢ pos 0 → CouldResultIn g x t
     pub all : AllUpTo (λ x. CouldResultIn g x t → at taken x ≡ at f x) (entries f) i
 
-  pub taken_none : (taken : Change) → taken ≡ none → IsTaken taken 0
+  pub taken_none : (taken : DeltaValue) → taken ≡ none → IsTaken taken 0
   taken_none taken is =
       let zero_at : (x : Pointstamp) → at taken x ≡ pos 0 = λ x. ap (λ m. at m x) is ∙ at-none x in
       record { same = λ x some. absurd (some (zero_at x)); before = λ x some. absurd (some (zero_at x)); all = λ k lt. absurd (omega arith) }
 
-  pub taken_skip : (taken : Change) (i : ℕ) (x : Pointstamp × ℤ) → i < length (entries f) → x ≡ get_or (entries f) i x → (CouldResultIn g x.0 t → ⊥) → IsTaken taken i → IsTaken taken (i + 1)
+  pub taken_skip : (taken : DeltaValue) (i : ℕ) (x : Pointstamp × ℤ) → i < length (entries f) → x ≡ get_or (entries f) i x → (CouldResultIn g x.0 t → ⊥) → IsTaken taken i → IsTaken taken (i + 1)
   taken_skip taken i x lt is not h = record { same = h.same; before = h.before; all = all-more (Gets taken) (entries f) i x lt is (λ c. absurd (not c)) h.all }
 
-  pub taken_one : (taken new : Change) (i : ℕ) (x : Pointstamp × ℤ) → i < length (entries f) → x ≡ get_or (entries f) i x → CouldResultIn g x.0 t → new ≡ set taken x.0 x.1 → IsTaken taken i → IsTaken new (i + 1)
+  pub taken_one : (taken new : DeltaValue) (i : ℕ) (x : Pointstamp × ℤ) → i < length (entries f) → x ≡ get_or (entries f) i x → CouldResultIn g x.0 t → new ≡ set taken x.0 x.1 → IsTaken taken i → IsTaken new (i + 1)
   taken_one taken new i x lt is could new_is h =
       let number : x.1 ≡ at f x.0 = at-index f i x lt is in
       let value : (y : Pointstamp) → cond (is_point y x.0) x.1 (at taken y) ≡ at new y = λ y. sym (ap (λ m. at m y) new_is ∙ at-set taken x.0 x.1 y) in
@@ -57,7 +57,7 @@ module _ (g : Dataflow) (t : Pointstamp) (f : Change) where
       }
 
   -- once all were looked at, what was taken is the part of the view at its reasons
-  pub taken_all : (v taken : Change) (i : ℕ) → length (entries f) ≤ i → IsPartWhere (IsOnFrontier g v) v f → IsTaken taken i → IsPartWhere (IsReason g v t) v taken
+  pub taken_all : (v taken : DeltaValue) (i : ℕ) → length (entries f) ≤ i → IsPartWhere (IsOnFrontier g v) v f → IsTaken taken i → IsPartWhere (IsReason g v t) v taken
   taken_all v taken i past part h = record {
     all = λ x reason.
         let number : at f x ≡ at v x = part.all x reason.frontier in

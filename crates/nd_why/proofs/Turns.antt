@@ -5,7 +5,7 @@ use Rattle.std.proofs.lemmas.List.{take_more, map-append}
 use Rattle.std.specs.List.{flat_map}
 use Rattle.nd_time.specs.Limits.{max_count}
 use Rattle.nd_paths.specs.declared.point.Pointstamp.{Pointstamp}
-use Rattle.nd_delta.specs.Change.{Change, at}
+use Rattle.nd_delta.specs.Delta.{DeltaValue, at}
 use Rattle.nd_processor.specs.State.{ProcessorState}
 use Rattle.nd_why.specs.Why.{in_turn, records_at, requests_at, tokens_at, held_by, unless_zero, queued_at, unheard_from}
 use Rattle.nd_why.specs.declared.answer.Held.{Held}
@@ -40,7 +40,7 @@ held_more p r b before first second new x y z =
     ∙ append_assoc before (records_at p r b ++ requests_at p r b) (tokens_at p r b) ∙ ap (λ hs. before ++ hs) (append_assoc (records_at p r b) (requests_at p r b) (tokens_at p r b))
 
 -- what is unsent, and what is queued
-pub unheard_more : (p : ℕ) (n : ℤ) (unsent : Change) (changes : List Change) (b : Pointstamp) (before first new : List Unheard) → n ≡ at unsent b → first ≡ before ++ unless_zero n (Unsent p n) → new ≡ first ++ queued_at p changes b → new ≡ before ++ unheard_from p unsent changes b
+pub unheard_more : (p : ℕ) (n : ℤ) (unsent : DeltaValue) (changes : List DeltaValue) (b : Pointstamp) (before first new : List Unheard) → n ≡ at unsent b → first ≡ before ++ unless_zero n (Unsent p n) → new ≡ first ++ queued_at p changes b → new ≡ before ++ unheard_from p unsent changes b
 unfolding unheard_from
 unheard_more p n unsent changes b before first new is x y =
     y ∙ ap (λ us. us ++ queued_at p changes b) (x ∙ ap (λ m. before ++ unless_zero m (Unsent p m)) is) ∙ append_assoc before (unless_zero (at unsent b) (Unsent p (at unsent b))) (queued_at p changes b)

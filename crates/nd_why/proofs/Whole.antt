@@ -5,7 +5,7 @@ use Rattle.std.proofs.lemmas.List.{get_or-map, length-map}
 use Rattle.std.proofs.lemmas.List.Elements.{All-map}
 use Rattle.nd_graph.specs.Graph.{Dataflow}
 use Rattle.nd_paths.specs.declared.point.Pointstamp.{Pointstamp}
-use Rattle.nd_delta.specs.Change.{Change, none, at, entries}
+use Rattle.nd_delta.specs.Delta.{DeltaValue, none, at, entries}
 use Rattle.nd_delta.specs.Least.{place_of}
 use Rattle.nd_view.specs.Kept.{Kept, IsFor}
 use Rattle.nd_view.specs.View.{IsBlocker, IsOnFrontier, IsPartWhere, IsPassed}
@@ -19,14 +19,14 @@ use Rattle.nd_why.proofs.Order.{IsOrder, index_some, frontier_before}
 use Rattle.nd_map.specs.Cases.{not_zero}
 
 -- the view of q, as it is stored
-pub seen : (g : Dataflow) (ps : List ProcessorState) (vs : List Kept) (m : List (List (List Change))) → IsState (state_of g ps vs m) → AreFor g vs → (q : ℕ) → q < length ps → (v : Kept) → v ≡ get_or vs q v
+pub seen : (g : Dataflow) (ps : List ProcessorState) (vs : List Kept) (m : List (List (List DeltaValue))) → IsState (state_of g ps vs m) → AreFor g vs → (q : ℕ) → q < length ps → (v : Kept) → v ≡ get_or vs q v
     → (v.map ≡ view (state_of g ps vs m) q) × IsFor g v
 seen g ps vs m state kept q lt v is =
     let short : q < length vs = omega (arith, lt, state.fits.each_view, length-map vs (λ (k : Kept). k.map)) in
     (sym (maps-get vs q v none short is), subst (IsFor g) (sym is) (kept q v short))
 
 -- what the parts tell is the account of each reason
-pub whole_of : (s : ClusterState) (q : ℕ) (t : Pointstamp) (known : Change) → known ≡ view s q → (points : Change) → IsPartWhere (IsReason s.graph known t) known points → (accounts : List Account)
+pub whole_of : (s : ClusterState) (q : ℕ) (t : Pointstamp) (known : DeltaValue) → known ≡ view s q → (points : DeltaValue) → IsPartWhere (IsReason s.graph known t) known points → (accounts : List Account)
     → accounts ≡ map (λ e. account_of s.processors s.queues q known e.0) (entries points) → IsWhy s q t accounts
 whole_of s q t known is points part accounts told = (
   points,

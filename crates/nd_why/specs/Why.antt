@@ -6,7 +6,7 @@ use Rattle.nd_graph.specs.Graph.{Dataflow}
 use Rattle.nd_map.specs.Counts.{entries as numbers}
 use Rattle.nd_paths.specs.Order.{CouldResultIn}
 use Rattle.nd_paths.specs.declared.point.Pointstamp.{Pointstamp}
-use Rattle.nd_delta.specs.Change.{Change, none, at, is_point, entries}
+use Rattle.nd_delta.specs.Delta.{DeltaValue, none, at, is_point, entries}
 use Rattle.nd_view.specs.Kept.{Kept}
 use Rattle.nd_view.specs.View.{IsOnFrontier, IsPartWhere}
 use Rattle.nd_processor.specs.State.{ProcessorState, idle, token_point}
@@ -19,7 +19,7 @@ use Rattle.nd_why.specs.declared.answer.Unheard.{Unheard}
 use Rattle.nd_why.specs.declared.answer.Unheard.TheVariants.{Unsent, Queued}
 
 -- the state of a cluster, from its parts
-abbrev pub state_of : Dataflow → List ProcessorState → List Kept → List (List (List Change)) → ClusterState
+abbrev pub state_of : Dataflow → List ProcessorState → List Kept → List (List (List DeltaValue)) → ClusterState
 state_of g processors views queues = record { graph = g; processors = processors; views = map (λ v. v.map) views; queues = queues }
 
 -- f 0, then f 1, .. , then f (n - 1)
@@ -62,19 +62,19 @@ unless_zero (pos (suc n)) x = x ∷ []
 unless_zero (negsuc n) x = x ∷ []
 
 -- the update of b in the change behind k others in a queue from processor p, if there is one
-abbrev pub queued_behind : ℕ → List Change → Pointstamp → ℕ → List Unheard
+abbrev pub queued_behind : ℕ → List DeltaValue → Pointstamp → ℕ → List Unheard
 queued_behind p changes b k = unless_zero (at (slice_index_or changes k none) b) (Queued p k (at (slice_index_or changes k none) b))
 
 -- all of them, from front to back
-abbrev pub queued_at : ℕ → List Change → Pointstamp → List Unheard
+abbrev pub queued_at : ℕ → List DeltaValue → Pointstamp → List Unheard
 queued_at p changes b = in_turn (length changes) (queued_behind p changes b)
 
 -- what is unsent, and then what is in the queue
-unfoldable pub unheard_from : ℕ → Change → List Change → Pointstamp → List Unheard
+unfoldable pub unheard_from : ℕ → DeltaValue → List DeltaValue → Pointstamp → List Unheard
 unheard_from p unsent changes b = unless_zero (at unsent b) (Unsent p (at unsent b)) ++ queued_at p changes b
 
 -- all that q has not heard of b, by sender
-abbrev pub unheard_at : List ProcessorState → List (List (List Change)) → ℕ → Pointstamp → List Unheard
+abbrev pub unheard_at : List ProcessorState → List (List (List DeltaValue)) → ℕ → Pointstamp → List Unheard
 unheard_at processors queues q b = in_turn (length processors) (λ p. unheard_from p (slice_index_or processors p idle).unsent (queue queues p q) b)
 
 -- ---- what is outstanding
@@ -88,7 +88,7 @@ pub record HasBefore (g : Dataflow) (t : Pointstamp) (count : Pointstamp → ℕ
 -- ---- the reasons
 
 -- what stands behind the reason b of processor q, whose view is this
-abbrev pub account_of : List ProcessorState → List (List (List Change)) → ℕ → Change → Pointstamp → Account
+abbrev pub account_of : List ProcessorState → List (List (List DeltaValue)) → ℕ → DeltaValue → Pointstamp → Account
 account_of processors queues q known b = record { point = b; held = held_at processors b; unheard = unheard_at processors queues q b; view = at known b }
 
 -- the same in a cluster
@@ -96,13 +96,13 @@ abbrev pub account : ClusterState → ℕ → Pointstamp → Account
 account s q b = account_of s.processors s.queues q (view s q) b
 
 -- b is on the frontier of the view v, and at or before t
-pub record IsReason (g : Dataflow) (v : Change) (t b : Pointstamp) : Type 0 where
+pub record IsReason (g : Dataflow) (v : DeltaValue) (t b : Pointstamp) : Type 0 where
   pub frontier : IsOnFrontier g v b
   pub before : CouldResultIn g b t
 
 -- these are the accounts of the reasons for which q does not consider t finished, in the order of listing
 abbrev pub IsWhy : ClusterState → ℕ → Pointstamp → List Account → Type 0
-IsWhy s q t accounts = (reasons : Change) × IsPartWhere (IsReason s.graph (view s q) t) (view s q) reasons × (accounts ≡ map (λ e. account s q e.0) (entries reasons))
+IsWhy s q t accounts = (reasons : DeltaValue) × IsPartWhere (IsReason s.graph (view s q) t) (view s q) reasons × (accounts ≡ map (λ e. account s q e.0) (entries reasons))
 
 -- one of them is of a pointstamp at or before x
 pub record HasReasonBefore (g : Dataflow) (accounts : List Account) (x : Pointstamp) : Type 0 where

@@ -1,6 +1,6 @@
 //! Whether anything outstanding is at or before a pointstamp.
 ghost use Rattle.std.specs.Prelude.{◌↔◌, IsTrue, List};
-ghost use Rattle.nd_delta.specs.Change.{Change};
+ghost use Rattle.nd_delta.specs.Delta.{DeltaValue};
 ghost use Rattle.nd_view.specs.Kept.{Kept};
 ghost use Rattle.nd_processor.specs.State.{held, in_records, in_requests, in_tokens};
 ghost use Rattle.nd_protocol.specs.Invariant.{IsFinished};
@@ -82,7 +82,7 @@ pub fn finished<A: Allocator + Copy>(
     processors: &[Processor<A>],
     point: &Pointstamp,
 ) -> bool
-    ensures { (views : List Kept) (queues : List (List (List Change))) → IsTrue result
+    ensures { (views : List Kept) (queues : List (List (List DeltaValue))) → IsTrue result
         ↔ IsFinished (state_of paths.now processors.now views queues) point.now }
 {
     for processor in processors {

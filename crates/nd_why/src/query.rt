@@ -2,7 +2,7 @@
 ghost use Rattle.std.specs.Prelude.{◌≡◌, ◌↔◌, ◌<◌, [], All, IfOk, length, map};
 ghost use Rattle.nd_paths.specs.Order.{CouldResultIn};
 ghost use Rattle.nd_paths.specs.declared.point.Pointstamp.{Pointstamp as Point};
-ghost use Rattle.nd_delta.specs.Change.{entries};
+ghost use Rattle.nd_delta.specs.Delta.{entries};
 ghost use Rattle.nd_view.specs.Kept.{IsFor};
 ghost use Rattle.nd_view.specs.View.{IsBlocker, IsPartWhere, IsPassed};
 ghost use Rattle.nd_view.specs.Views.{AreFor};

@@ -1,6 +1,6 @@
 use Rattle.std.proofs.Common.{ap, ◌∙◌}
 use Rattle.std.proofs.lemmas.Result.{IfOk-weaker}
-use Rattle.nd_delta.specs.Change.{entries}
+use Rattle.nd_delta.specs.Delta.{entries}
 use Rattle.nd_shown.specs.StateText.{processor_members}
 use Rattle.nd_shown.proofs.Shown.{processor_shown}
 use Rattle.nd_shown.proofs.processor_value.Goals as goal

@@ -1,5 +1,5 @@
 use Rattle.std.proofs.Common.{◌≡◌, map, take}
-use Rattle.nd_delta.specs.Change.{entries}
+use Rattle.nd_delta.specs.Delta.{entries}
 use Rattle.nd_mesh.specs.Mesh.{queue}
 use Rattle.nd_shown.specs.StateText.{entries_data}
 use Rattle.nd_shown.proofs.queue_value.Given as goal

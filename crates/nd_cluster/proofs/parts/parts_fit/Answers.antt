@@ -4,7 +4,7 @@ use Rattle.nd_time.specs.Limits.{max_processors}
 use Rattle.nd_graph.specs.Graph.{Dataflow}
 use Rattle.nd_paths.specs.Order.{IsAccepted}
 use Rattle.nd_view.specs.Kept.{Kept}
-use Rattle.nd_protocol.specs.Fitting.{IsOrdered, ProcessorFits, ChangeFits}
+use Rattle.nd_protocol.specs.Fitting.{IsOrdered, ProcessorFits, DeltaFits}
 use Rattle.nd_cluster.specs.Parts.{RowFits}
 use Rattle.nd_cluster.proofs.Started.{ordered}
 use Rattle.nd_cluster.proofs.PartsLemmas.{views_to, mesh_to, state_from}
@@ -20,7 +20,7 @@ pub returns-then-not-views_fit : goal.returns-then-not-views_fit
 returns-then-not-views_fit g c = (
   λ t. absurd (cc (t)),
   λ s. c.if-not-views_fit.ensures.fits.1
-      (subst (λ (k : Dataflow). All (λ (v : Kept). ChangeFits k v.map) c.args.views.now) (sym c.graph-graph.ensures.value)
+      (subst (λ (k : Dataflow). All (λ (v : Kept). DeltaFits k v.map) c.args.views.now) (sym c.graph-graph.ensures.value)
       (views_to c.args.paths.now c.args.processors.now c.args.views.now c.args.mesh.now c.n.ensures.mesh s)),
 )
 
@@ -40,7 +40,7 @@ returns g c =
       λ t. state_from k ps vs m c.n.ensures.mesh order some few each_view each_sender
           (subst (λ (k : Dataflow). All (ProcessorFits k) ps) is (c.if-not-processors_fit.ensures.fits.0 refl))
           (c.if-not-processors_fit.ensures.within refl)
-          (subst (λ (k : Dataflow). All (λ (v : Kept). ChangeFits k v.map) vs) is (c.if-not-views_fit.ensures.fits.0 refl))
+          (subst (λ (k : Dataflow). All (λ (v : Kept). DeltaFits k v.map) vs) is (c.if-not-views_fit.ensures.fits.0 refl))
           (c.if-not-views_fit.ensures.within refl)
           (subst (λ (k : Dataflow). (p : ℕ) → p < length m → RowFits k m p) is (c.mesh_fits.ensures.fits.0 t))
           (c.mesh_fits.ensures.within t),

@@ -2,7 +2,7 @@ use Rattle.std.proofs.Common.{◌≡◌, ◌∷◌, ℤ, ap, refl, ◌∙◌, ru
 use Rattle.std.specs.Prelude.{All}
 use Rattle.std.specs.Map.Iter.{deref_pair}
 use Rattle.std.proofs.lemmas.Map.Iter.{rest_more}
-use Rattle.nd_delta.specs.Change.{entries}
+use Rattle.nd_delta.specs.Delta.{entries}
 use Rattle.nd_protocol.specs.Fitting.{IsAtLocation}
 use Rattle.nd_paths.specs.declared.point.Pointstamp.{Pointstamp}
 use Rattle.nd_cluster.proofs.PartsLemmas.{rest_first, rest_next, rest_fails, rest_done, change_from, change_to}

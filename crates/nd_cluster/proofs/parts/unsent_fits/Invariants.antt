@@ -1,5 +1,5 @@
 use Rattle.std.proofs.Common.{ℤ}
-use Rattle.nd_delta.specs.Change.{entries}
+use Rattle.nd_delta.specs.Delta.{entries}
 use Rattle.nd_protocol.specs.Fitting.{IsAtLocation}
 use Rattle.nd_paths.specs.declared.point.Pointstamp.{Pointstamp}
 use Rattle.nd_cluster.proofs.PartsLemmas.{IsRest}

@@ -1,14 +1,14 @@
 use Rattle.std.proofs.Common.{refl, arith}
 use Rattle.nd_view.specs.Kept.{Kept}
-use Rattle.nd_protocol.specs.Fitting.{ChangeFits, ChangeIsWithin}
+use Rattle.nd_protocol.specs.Fitting.{DeltaFits, DeltaIsWithin}
 use Rattle.nd_cluster.proofs.PartsLemmas.{all_more}
 use Rattle.nd_cluster.proofs.parts.views_fit.Goals as goal
 
 pub loop-view-preserved : goal.loop-view-preserved
 loop-view-preserved g c = record {
-  fits = all_more (λ (v : Kept). ChangeFits c.args.graph.now v.map) c.args.views.now c.loop-view.view-index c.view-item.result c.loop-view-test.true c.view-item.is
+  fits = all_more (λ (v : Kept). DeltaFits c.args.graph.now v.map) c.args.views.now c.loop-view.view-index c.view-item.result c.loop-view-test.true c.view-item.is
       (c.if-not-view_fits.ensures.fits.0 refl) c.loop-view.invariant.fits;
-  within = all_more (λ (v : Kept). ChangeIsWithin v.map) c.args.views.now c.loop-view.view-index c.view-item.result c.loop-view-test.true c.view-item.is
+  within = all_more (λ (v : Kept). DeltaIsWithin v.map) c.args.views.now c.loop-view.view-index c.view-item.result c.loop-view-test.true c.view-item.is
       c.if-not-view_fits.ensures.within c.loop-view.invariant.within;
 }
 

@@ -1,6 +1,6 @@
 use Rattle.std.proofs.Common.{◌≡◌, ℕ, Bool, true, false, cond, Option, sym, ap, ◌∙◌}
 use Rattle.std.specs.Ordering.{is_eq}
-use Rattle.nd_delta.specs.Change.{is_point}
+use Rattle.nd_delta.specs.Delta.{is_point}
 use Rattle.nd_processor.specs.State.{token_point}
 use Rattle.nd_processor.specs.Held.{token_at}
 use Rattle.nd_cluster.proofs.Counted.{one_token}

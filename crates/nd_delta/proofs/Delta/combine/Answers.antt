@@ -1,4 +1,4 @@
-use Rattle.nd_delta.specs.Change.{at, combined, entries}
+use Rattle.nd_delta.specs.Delta.{at, combined, entries}
 use Rattle.nd_delta.proofs.Sums.{kept, next_entry, combined_done}
 use Rattle.nd_delta.proofs.Delta.combine.Goals as goal
 

@@ -1,5 +1,5 @@
 use Rattle.std.proofs.Common.{◌≡◌, cond, take}
-use Rattle.nd_delta.specs.Change.{at, combined, entries, has_point, points_of}
+use Rattle.nd_delta.specs.Delta.{at, combined, entries, has_point, points_of}
 use Rattle.nd_paths.specs.declared.point.Pointstamp.{Pointstamp}
 use Rattle.nd_delta.proofs.Delta.combine.Given as goal
 

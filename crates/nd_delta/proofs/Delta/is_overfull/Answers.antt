@@ -1,6 +1,6 @@
 use Rattle.std.proofs.Common.{arith, ◌≤◌, unsigned_abs, true≢false, sym, refl}
 use Rattle.nd_time.specs.Limits.{max_count}
-use Rattle.nd_delta.specs.Change.{at, combined, entries}
+use Rattle.nd_delta.specs.Delta.{at, combined, entries}
 use Rattle.nd_delta.proofs.KeptLemmas.{all_within}
 use Rattle.nd_delta.proofs.Sums.{kept, fits_more, not_past, not_too_large}
 use Rattle.nd_delta.proofs.Delta.is_overfull.Goals as goal

@@ -1,5 +1,5 @@
 use Rattle.std.proofs.Common.{◌≡◌}
-use Rattle.nd_delta.specs.Change.{at, combined, entries}
+use Rattle.nd_delta.specs.Delta.{at, combined, entries}
 use Rattle.nd_delta.proofs.Sums.{AllFit}
 use Rattle.nd_delta.proofs.Delta.is_overfull.Given as goal
 

@@ -1,7 +1,7 @@
 use Rattle.std.proofs.Common.{◌≡◌, ◌<◌, length, get_or, pos, refl, sym, subst, arith, true≢false, inl, inr}
 use Rattle.std.specs.Prelude.{◌<ℤ◌}
 use Rattle.nd_paths.specs.Order.{IsStrictlyBefore}
-use Rattle.nd_delta.specs.Change.{at, entries}
+use Rattle.nd_delta.specs.Delta.{at, entries}
 use Rattle.nd_delta.specs.Least.{all-more, all-points, at-index}
 use Rattle.nd_delta.proofs.Signs.{not_zero_below}
 use Rattle.nd_delta.proofs.Delta.supports.Goals as goal

@@ -2,13 +2,13 @@ use Rattle.std.proofs.Common.{[], Option, Some, None}
 use Rattle.std.specs.Prelude.{IfSome, Contains}
 use Rattle.nd_paths.specs.Order.{IsStrictlyBefore}
 use Rattle.nd_paths.specs.declared.point.Pointstamp.{Pointstamp}
-use Rattle.nd_delta.specs.Change.{Change, at}
+use Rattle.nd_delta.specs.Delta.{DeltaValue, at}
 use Rattle.nd_delta.specs.Least.{IsLeast}
 use Rattle.nd_delta.specs.Upright.{IsUnsupported, HoldsNothing}
 use Rattle.nd_delta.proofs.Held.{upright, upright_too, least}
 use Rattle.nd_delta.proofs.Delta.unsupported.Goals as goal
 
-some_least : (R : Pointstamp → Pointstamp → Type 0) (m : Change) (o : Option Pointstamp) → IfSome o (IsLeast (IsUnsupported R (Contains []) (at m))) → IfSome o (IsLeast (IsUnsupported R HoldsNothing (at m)))
+some_least : (R : Pointstamp → Pointstamp → Type 0) (m : DeltaValue) (o : Option Pointstamp) → IfSome o (IsLeast (IsUnsupported R (Contains []) (at m))) → IfSome o (IsLeast (IsUnsupported R HoldsNothing (at m)))
 some_least R m None h = h
 some_least R m (Some x) h = least R (at m) x h
 

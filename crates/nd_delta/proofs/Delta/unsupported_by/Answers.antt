@@ -1,7 +1,7 @@
 use Rattle.std.proofs.Common.{◌≡◌, ◌<◌, length, get_or, pos, refl, sym, subst, arith, true≢false}
 use Rattle.std.specs.Prelude.{◌<ℤ◌, Contains}
 use Rattle.nd_paths.specs.Order.{IsStrictlyBefore}
-use Rattle.nd_delta.specs.Change.{at, entries}
+use Rattle.nd_delta.specs.Delta.{at, entries}
 use Rattle.nd_delta.specs.Least.{IsLeast, all-more, all-points, at-index, least-index}
 use Rattle.nd_delta.specs.Upright.{IsSupported, IsUnsupported}
 use Rattle.nd_delta.proofs.Delta.unsupported_by.Given.{Over}

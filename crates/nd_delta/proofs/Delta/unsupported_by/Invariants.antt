@@ -1,7 +1,7 @@
 use Rattle.std.proofs.Common.{◌≡◌}
 use Rattle.std.specs.Prelude.{pos, ◌<ℤ◌, Contains}
 use Rattle.nd_paths.specs.Order.{IsStrictlyBefore}
-use Rattle.nd_delta.specs.Change.{at, entries}
+use Rattle.nd_delta.specs.Delta.{at, entries}
 use Rattle.nd_delta.specs.Upright.{IsSupported}
 use Rattle.nd_delta.specs.Least.{AllUpTo}
 use Rattle.nd_delta.proofs.Delta.unsupported_by.Given as goal

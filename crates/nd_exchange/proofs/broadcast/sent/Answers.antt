@@ -1,5 +1,5 @@
 use Rattle.std.proofs.Common.{sym, ap, subst, rules}
-use Rattle.nd_delta.specs.Change.{IsApart}
+use Rattle.nd_delta.specs.Delta.{IsApart}
 use Rattle.nd_exchange.proofs.Parts.{part_leaves}
 use Rattle.nd_exchange.proofs.broadcast.sent.Goals as goal
 

@@ -1,5 +1,5 @@
 use Rattle.std.proofs.Common.{refl, sym, ap, subst}
-use Rattle.nd_delta.specs.Change.{IsPartOf}
+use Rattle.nd_delta.specs.Delta.{IsPartOf}
 use Rattle.nd_exchange.proofs.Parts.{part_comes}
 use Rattle.nd_exchange.proofs.Ends.{newest_there}
 use Rattle.nd_exchange.proofs.broadcast.take_back.Goals as goal

@@ -1,6 +1,6 @@
 use Rattle.std.proofs.Common.{◌≡◌, set, sym, ap, ◌∙◌}
 use Rattle.std.proofs.lemmas.Result.{IfOk-weaker}
-use Rattle.nd_delta.specs.Change.{none, plus}
+use Rattle.nd_delta.specs.Delta.{none, plus}
 use Rattle.nd_view.specs.Views.{maps, maps-get, maps-set}
 use Rattle.nd_record.specs.Exchanges.{map_at}
 use Rattle.nd_record.proofs.exchange.make_received.Goals as goal

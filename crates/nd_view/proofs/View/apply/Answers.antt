@@ -1,5 +1,5 @@
 use Rattle.std.proofs.Common.{ap, ◌∙◌}
-use Rattle.nd_delta.specs.Change.{minus, minus-plus}
+use Rattle.nd_delta.specs.Delta.{minus, minus-plus}
 use Rattle.nd_view.proofs.Fors.{on_ok}
 use Rattle.nd_view.proofs.View.apply.Goals as goal
 

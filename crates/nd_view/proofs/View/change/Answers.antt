@@ -2,7 +2,7 @@ use Rattle.std.proofs.Common.{◌≡◌, ◌≤◌, refl, sym, ap, subst, ◌∙
 use Rattle.nd_time.specs.Limits.{max_count}
 use Rattle.nd_map.specs.Listed.{IsListed}
 use Rattle.nd_paths.specs.Point.{point_cmp}
-use Rattle.nd_delta.specs.Change.{at, combined, sorted-entries}
+use Rattle.nd_delta.specs.Delta.{at, combined, sorted-entries}
 use Rattle.nd_view.specs.Kept.{IsFor}
 use Rattle.nd_view.specs.Room.{AreWithin, IsAdded}
 use Rattle.nd_view.specs.Settled.{same_views}

@@ -1,6 +1,6 @@
 use Rattle.std.proofs.Common.{◌≡◌, ◌<◌, length, get_or, pos, refl, sym, subst, arith, true≢false}
 use Rattle.std.specs.Prelude.{◌<ℤ◌}
-use Rattle.nd_delta.specs.Change.{entries}
+use Rattle.nd_delta.specs.Delta.{entries}
 use Rattle.nd_delta.specs.Least.{IsLeast, at-index}
 use Rattle.nd_view.specs.View.{IsPositiveBefore}
 use Rattle.nd_view.proofs.First.{none-more, nothing, least}

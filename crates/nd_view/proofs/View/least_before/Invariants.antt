@@ -1,5 +1,5 @@
 use Rattle.std.proofs.Common.{◌≡◌}
-use Rattle.nd_delta.specs.Change.{entries}
+use Rattle.nd_delta.specs.Delta.{entries}
 use Rattle.nd_view.specs.View.{IsPositiveBefore}
 use Rattle.nd_view.proofs.First.{NoneUpTo}
 use Rattle.nd_view.proofs.View.least_before.Given as goal

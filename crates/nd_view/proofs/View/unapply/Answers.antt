@@ -1,5 +1,5 @@
 use Rattle.std.proofs.Common.{ap, ◌∙◌}
-use Rattle.nd_delta.specs.Change.{plus, plus-minus}
+use Rattle.nd_delta.specs.Delta.{plus, plus-minus}
 use Rattle.nd_view.proofs.Fors.{on_ok}
 use Rattle.nd_view.proofs.View.unapply.Goals as goal
 

@@ -5,7 +5,7 @@ use Rattle.std.proofs.lemmas.List.{get_or_default}
 use Rattle.nd_map.specs.Cases.{not_zero}
 use Rattle.nd_map.specs.Listed.{IsListed}
 use Rattle.nd_paths.specs.Point.{point_cmp}
-use Rattle.nd_delta.specs.Change.{entries, sorted-entries}
+use Rattle.nd_delta.specs.Delta.{entries, sorted-entries}
 use Rattle.nd_delta.specs.Least.{at-index}
 use Rattle.nd_view.specs.Links.{IsRun, AreSmaller, AreNotSmaller}
 use Rattle.nd_view.specs.Kept.{IsEarlier}

@@ -1,6 +1,6 @@
 use Rattle.std.proofs.Common.{◌≡◌, ◌<◌, ◌+◌, length, get_or, sym, subst, ◌∙◌, arith}
 use Rattle.std.proofs.lemmas.Int.{ints}
-use Rattle.nd_delta.specs.Change.{entries}
+use Rattle.nd_delta.specs.Delta.{entries}
 use Rattle.nd_view.proofs.Anew.{IsCountedUpTo, counted_skip, counted_take, counted_done}
 use Rattle.nd_view.proofs.keeping.counted_anew.Goals as goal
 use Rattle.nd_view.proofs.keeping.counted_anew.Goals.{then-entry-gt0+in_ok-put, else-entry-gt0}

@@ -1,5 +1,5 @@
 use Rattle.std.proofs.Common.{◌≡◌}
-use Rattle.nd_delta.specs.Change.{entries}
+use Rattle.nd_delta.specs.Delta.{entries}
 use Rattle.nd_view.proofs.Anew.{IsCountedUpTo}
 use Rattle.nd_view.proofs.keeping.counted_anew.Given as goal
 

@@ -1,7 +1,7 @@
 use Rattle.std.proofs.Common.{◌≡◌, get_or, ap, sym, ◌∙◌}
 use Rattle.std.proofs.lemmas.Option.{get_or_from_slice_get}
 use Rattle.std.specs.Prelude.{option_copied}
-use Rattle.nd_delta.specs.Change.{none, at}
+use Rattle.nd_delta.specs.Delta.{none, at}
 use Rattle.nd_mesh.specs.Mesh.{queue}
 use Rattle.nd_why.specs.Why.{unless_zero, queued_behind}
 use Rattle.nd_why.specs.declared.answer.Unheard.TheVariants.{Queued}

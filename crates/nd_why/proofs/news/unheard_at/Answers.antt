@@ -1,6 +1,6 @@
 use Rattle.std.proofs.Common.{◌≡◌, ◌<◌, [], length, get_or, ap, ◌∙◌, arith}
 use Rattle.std.proofs.lemmas.List.{get_or_default}
-use Rattle.nd_delta.specs.Change.{at}
+use Rattle.nd_delta.specs.Delta.{at}
 use Rattle.nd_mesh.specs.Mesh.{queue}
 use Rattle.nd_processor.specs.State.{ProcessorState, idle}
 use Rattle.nd_why.specs.Why.{in_turn, unheard_from}

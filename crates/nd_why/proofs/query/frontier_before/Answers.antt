@@ -1,6 +1,6 @@
 use Rattle.std.proofs.Common.{◌≡◌, ◌≤◌, ◌<◌, ◌+◌, length, get_or, refl, true≢false, sym, subst, unsigned_abs}
 use Rattle.nd_time.specs.Limits.{max_count}
-use Rattle.nd_delta.specs.Change.{entries}
+use Rattle.nd_delta.specs.Delta.{entries}
 use Rattle.nd_why.proofs.Taken.{IsTaken, within_limit, taken_none, taken_skip, taken_one, taken_all}
 use Rattle.nd_why.proofs.Turns.{small}
 use Rattle.nd_why.proofs.query.frontier_before.Goals as goal

@@ -1,12 +1,12 @@
 use Rattle.std.proofs.Common.{◌≡◌}
-use Rattle.nd_delta.specs.Change.{Change, entries}
+use Rattle.nd_delta.specs.Delta.{DeltaValue, entries}
 use Rattle.nd_view.specs.View.{IsOnFrontier, IsPartWhere}
 use Rattle.nd_why.proofs.Taken.{IsTaken}
 use Rattle.nd_why.proofs.query.frontier_before.Given as goal
 
 abbrev pub invariant-loop-entry : goal.invariant-loop-entry
 invariant-loop-entry g l = record {
-  frontier : Change;
+  frontier : DeltaValue;
   part : IsPartWhere (IsOnFrontier l.paths l.known.map) l.known.map frontier;
   items : l.entry-items ≡ entries frontier;
   taken : IsTaken l.paths l.point frontier l.before l.entry-index;

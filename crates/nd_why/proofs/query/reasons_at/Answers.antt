@@ -1,7 +1,7 @@
 use Rattle.std.proofs.Common.{ℤ, map, ap, ◌∙◌, w64, to_z, of_z}
 use Rattle.std.proofs.lemmas.List.{take_all}
 use Rattle.nd_paths.specs.declared.point.Pointstamp.{Pointstamp}
-use Rattle.nd_delta.specs.Change.{at}
+use Rattle.nd_delta.specs.Delta.{at}
 use Rattle.nd_why.specs.Account.{Account}
 use Rattle.nd_why.specs.Why.{held_at, unheard_at, account_of}
 use Rattle.nd_why.proofs.Turns.{small, map_more}

@@ -1,7 +1,7 @@
 use Rattle.std.proofs.Common.{◌≡◌, ◌<◌, length, sym, ap, subst, ◌∙◌, arith}
 use Rattle.std.proofs.lemmas.Result.{err_from_is_err_and}
 use Rattle.std.specs.Prelude.{slice_get}
-use Rattle.nd_delta.specs.Change.{plus, IsTooLarge}
+use Rattle.nd_delta.specs.Delta.{plus, IsTooLarge}
 use Rattle.nd_mesh.specs.Mesh.{queue as queue_in}
 use Rattle.nd_protocol.specs.State.{ClusterState, view, queue}
 use Rattle.nd_protocol.specs.declared.refusal.Refusal.TheVariants.{Memory}

@@ -1,6 +1,6 @@
 use Rattle.std.proofs.Common.{◌≡◌, ◌≤◌, ◌+ℤ◌, unsigned_abs, IfOk, w64, to_z, of_z, sym, ap, subst, refl, ◌∙◌, arith, rules}
 use Rattle.std.proofs.lemmas.Int.{ints, to_z-of_z}
-use Rattle.nd_delta.specs.Change.{at, set, set-at}
+use Rattle.nd_delta.specs.Delta.{at, set, set-at}
 use Rattle.nd_delta.proofs.KeptLemmas.{all_within, got_none}
 use Rattle.nd_time.specs.Limits.{max_count}
 use Rattle.nd_map.specs.Edits.{edited}

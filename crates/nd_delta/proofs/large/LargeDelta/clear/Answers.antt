@@ -1,6 +1,6 @@
 use Rattle.std.proofs.Common.{cond, pos, ap, ◌∙◌}
 use Rattle.std.proofs.lemmas.List.{take_all}
-use Rattle.nd_delta.specs.Change.{at, has_point, points_of}
+use Rattle.nd_delta.specs.Delta.{at, has_point, points_of}
 use Rattle.nd_delta.proofs.Sums.{next_entry}
 use Rattle.nd_delta.proofs.large.LargeDelta.clear.Goals as goal
 

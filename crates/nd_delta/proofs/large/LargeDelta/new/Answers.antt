@@ -1,5 +1,5 @@
 use Rattle.std.proofs.Common.{ap, ◌∙◌}
-use Rattle.nd_delta.specs.Change.{of_entries, of_entries-nil}
+use Rattle.nd_delta.specs.Delta.{of_entries, of_entries-nil}
 use Rattle.nd_delta.proofs.large.LargeDelta.new.Goals as goal
 
 pub returns : goal.returns

@@ -1,6 +1,6 @@
 use Rattle.std.proofs.Common.{arith, ◌≡◌, pos, ap, sym, ◌∙◌}
 use Rattle.std.proofs.lemmas.Int.{ints}
-use Rattle.nd_delta.specs.Change.{set}
+use Rattle.nd_delta.specs.Delta.{set}
 use Rattle.nd_delta.proofs.KeptLemmas.{got_none, put_kept, put_is}
 use Rattle.nd_delta.proofs.large.LargeDelta.put.Goals as goal
 

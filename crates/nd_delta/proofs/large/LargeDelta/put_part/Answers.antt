@@ -1,6 +1,6 @@
 use Rattle.std.proofs.Common.{◌≡◌, ◌<◌, ◌≤◌, cond, pos, take, length, get_or, unsigned_abs, ap, subst, ◌∙◌, arith}
 use Rattle.nd_time.specs.Limits.{max_count}
-use Rattle.nd_delta.specs.Change.{at, entries, has_point, points_of}
+use Rattle.nd_delta.specs.Delta.{at, entries, has_point, points_of}
 use Rattle.nd_delta.specs.Least.{at-index}
 use Rattle.nd_delta.proofs.Sums.{kept, next_entry, entry_within, part_here, part_back}
 use Rattle.nd_delta.proofs.large.LargeDelta.put_part.Goals as goal

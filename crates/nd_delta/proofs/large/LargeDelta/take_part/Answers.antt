@@ -1,5 +1,5 @@
 use Rattle.std.proofs.Common.{cond, pos, ap, ◌∙◌}
-use Rattle.nd_delta.specs.Change.{at, has_point, points_of}
+use Rattle.nd_delta.specs.Delta.{at, has_point, points_of}
 use Rattle.nd_delta.proofs.Sums.{part_gone}
 use Rattle.nd_delta.proofs.large.LargeDelta.take_part.Goals as goal
 

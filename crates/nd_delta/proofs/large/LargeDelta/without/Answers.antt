@@ -2,7 +2,7 @@ use Rattle.std.proofs.Common.{◌≡◌, ◌∷◌, ◌≤◌, unsigned_abs, ◌
 use Rattle.std.specs.Map.Iter.{deref_pair}
 use Rattle.std.proofs.lemmas.Map.Iter.{rest_more}
 use Rattle.nd_time.specs.Limits.{max_count}
-use Rattle.nd_delta.specs.Change.{at, minus}
+use Rattle.nd_delta.specs.Delta.{at, minus}
 use Rattle.nd_delta.proofs.Sums.{lessened, lessens, stays_absent, stays_within, made_first, made_more, made_next, made_last}
 use Rattle.nd_delta.proofs.large.LargeDelta.without.Goals as goal
 

@@ -1,4 +1,4 @@
-use Rattle.nd_delta.specs.Change.{minus}
+use Rattle.nd_delta.specs.Delta.{minus}
 use Rattle.nd_delta.proofs.Sums.{IsMade}
 use Rattle.nd_delta.proofs.large.LargeDelta.without.Given as goal
 

@@ -1,6 +1,6 @@
 use Rattle.std.proofs.Common.{ap, ◌∙◌}
 use Rattle.nd_processor.proofs.Seen.{unsent_back, unsent_changed}
-use Rattle.nd_delta.specs.Change.{plus, minus, minus-plus}
+use Rattle.nd_delta.specs.Delta.{plus, minus, minus-plus}
 use Rattle.nd_processor.proofs.processor.Processor.put_part.Goals as goal
 
 pub returns-clause-ok : goal.returns-clause-ok

@@ -1,6 +1,6 @@
 use Rattle.std.proofs.Common.{ap, ◌∙◌}
 use Rattle.nd_processor.proofs.Seen.{unsent_back}
-use Rattle.nd_delta.specs.Change.{plus, plus-minus}
+use Rattle.nd_delta.specs.Delta.{plus, plus-minus}
 use Rattle.nd_processor.proofs.processor.Processor.take_part.Goals as goal
 
 pub returns-clause-undone : goal.returns-clause-undone

@@ -1,6 +1,6 @@
 use Rattle.std.proofs.Common.{◌≡◌, ◌≤◌, refl, sym, ap, ◌∙◌, arith, true≢false, unsigned_abs}
 use Rattle.nd_time.specs.Limits.{max_count}
-use Rattle.nd_delta.specs.Change.{at, set, set-at, at-set_same}
+use Rattle.nd_delta.specs.Delta.{at, set, set-at, at-set_same}
 use Rattle.nd_view.proofs.Points.{small, moved_by, turned, within_room, rest_still, all_added, all_after, set_back}
 use Rattle.nd_view.proofs.stored.Stored.+add.Goals as goal
 

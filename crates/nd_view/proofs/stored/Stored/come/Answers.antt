@@ -3,7 +3,7 @@ use Rattle.std.proofs.lemmas.Int.{to_z-of_z}
 use Rattle.std.specs.FinMap.{find, put}
 use Rattle.nd_map.specs.Listed.{without}
 use Rattle.nd_paths.specs.Point.{point_cmp}
-use Rattle.nd_delta.specs.Change.{set}
+use Rattle.nd_delta.specs.Delta.{set}
 use Rattle.nd_view.specs.Kept.{IsFor, IsReady, kept_of}
 use Rattle.nd_view.proofs.Fors.{taken_out}
 use Rattle.nd_view.proofs.Moves.{ready_up}

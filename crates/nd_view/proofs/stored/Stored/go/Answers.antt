@@ -3,7 +3,7 @@ use Rattle.std.proofs.lemmas.Int.{to_z-of_z}
 use Rattle.std.specs.FinMap.{find}
 use Rattle.nd_map.specs.Listed.{without}
 use Rattle.nd_paths.specs.Point.{point_cmp}
-use Rattle.nd_delta.specs.Change.{set}
+use Rattle.nd_delta.specs.Delta.{set}
 use Rattle.nd_view.specs.Kept.{IsReady}
 use Rattle.nd_view.proofs.Moves.{ready_down}
 use Rattle.nd_view.proofs.Shifts.{size_without}

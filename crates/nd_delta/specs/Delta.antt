@@ -18,11 +18,11 @@ use Rattle.nd_paths.specs.Point.{point_cmp, point_code, point_total, point_exact
 use Rattle.nd_paths.specs.declared.point.Pointstamp.{Pointstamp}
 
 -- an integer for each pointstamp; one with 0 is absent
-abbrev pub Change : Type 0
-Change = Counts point_cmp integers
+abbrev pub DeltaValue : Type 0
+DeltaValue = Counts point_cmp integers
 
-abbrev pub change_code : Coded Change
-change_code = counts.code point_code coded_ℤ
+abbrev pub delta_code : Coded DeltaValue
+delta_code = counts.code point_code coded_ℤ
 
 abbrev pub or_zero : Option ℤ → ℤ
 or_zero x = or_else (pos 0) x
@@ -39,59 +39,59 @@ abbrev pub points_of : List (Pointstamp × ℤ) → List Pointstamp
 points_of es = keys_of es
 
 -- the integer of a pointstamp
-unfoldable pub at : Change → Pointstamp → ℤ
+unfoldable pub at : DeltaValue → Pointstamp → ℤ
 at m q = counts.at m q
 
 -- no pointstamp
-unfoldable pub none : Change
+unfoldable pub none : DeltaValue
 none = counts.none
 
 -- the same but for one pointstamp
-unfoldable pub set : Change → Pointstamp → ℤ → Change
+unfoldable pub set : DeltaValue → Pointstamp → ℤ → DeltaValue
 set m k v = counts.set point_total m k v
 
 -- the pointstamps that have an integer, and it, in the order of listing
-unfoldable pub entries : Change → List (Pointstamp × ℤ)
+unfoldable pub entries : DeltaValue → List (Pointstamp × ℤ)
 entries m = counts.entries m
 
-abbrev pub size : Change → ℕ
+abbrev pub size : DeltaValue → ℕ
 size m = length (entries m)
 
 -- the change that a list of entries gives
-unfoldable pub of_entries : List (Pointstamp × ℤ) → Change
+unfoldable pub of_entries : List (Pointstamp × ℤ) → DeltaValue
 of_entries es = counts.of_entries point_total es
 
 -- pointwise sum
-pub plus : Change → Change → Change
+pub plus : DeltaValue → DeltaValue → DeltaValue
 plus m n = counts.merged point_total (λ x y. x +ℤ y) m n
 
 -- pointwise difference
-pub minus : Change → Change → Change
+pub minus : DeltaValue → DeltaValue → DeltaValue
 minus m n = counts.merged point_total (λ x y. x -ℤ y) m n
 
 -- the difference, or the sum
-abbrev pub combined : Bool → Change → Change → Change
+abbrev pub combined : Bool → DeltaValue → DeltaValue → DeltaValue
 combined true m n = minus m n
 combined false m n = plus m n
 
 -- the entries at the pointstamps of the list
-pub part : Change → List Pointstamp → Change
+pub part : DeltaValue → List Pointstamp → DeltaValue
 part m ks = counts.only point_total (λ q. has_point q ks) m
 
 -- some integer is past the limit of the program
-abbrev pub IsTooLarge : Change → Type 0
+abbrev pub IsTooLarge : DeltaValue → Type 0
 IsTooLarge m = (q : Pointstamp) × (max_count < unsigned_abs (at m q))
 
 -- each integer is within the limit of the program
-abbrev pub IsWithin : Change → Type 0
+abbrev pub IsWithin : DeltaValue → Type 0
 IsWithin m = (q : Pointstamp) → unsigned_abs (at m q) ≤ max_count
 
 -- the entries of the one are entries of the other
-abbrev pub IsPartOf : Change → Change → Type 0
+abbrev pub IsPartOf : DeltaValue → DeltaValue → Type 0
 IsPartOf piece m = (x : Pointstamp) → at piece x ≢ pos 0 → at m x ≡ at piece x
 
 -- if the one has an entry the other has none
-abbrev pub IsApart : Change → Change → Type 0
+abbrev pub IsApart : DeltaValue → DeltaValue → Type 0
 IsApart piece m = (x : Pointstamp) → at piece x ≢ pos 0 → at m x ≡ pos 0
 
 -- no pointstamp has 0
@@ -101,7 +101,7 @@ NoZeros es = (q : Pointstamp) → find point_cmp q es ≢ Some (pos 0)
 -- ---- the laws of counts, in these names
 
 -- changes that have the same integer at each pointstamp are equal
-pub same : (m n : Change) → ((q : Pointstamp) → at m q ≡ at n q) → m ≡ n
+pub same : (m n : DeltaValue) → ((q : Pointstamp) → at m q ≡ at n q) → m ≡ n
 unfolding at
 same m n h = counts.same point_total point_exact m n h
 
@@ -112,29 +112,29 @@ pub at-none : (q : Pointstamp) → at none q ≡ pos 0
 unfolding at none
 at-none q = counts.at-none point_cmp integers q
 
-pub at-set : (m : Change) (k : Pointstamp) (v : ℤ) (q : Pointstamp) → at (set m k v) q ≡ cond (is_point q k) v (at m q)
+pub at-set : (m : DeltaValue) (k : Pointstamp) (v : ℤ) (q : Pointstamp) → at (set m k v) q ≡ cond (is_point q k) v (at m q)
 unfolding at set
 at-set m k v q = counts.at-set point_total m k v q
 
-pub at-plus : (m n : Change) (q : Pointstamp) → at (plus m n) q ≡ at m q +ℤ at n q
+pub at-plus : (m n : DeltaValue) (q : Pointstamp) → at (plus m n) q ≡ at m q +ℤ at n q
 unfolding at plus
 at-plus m n q = counts.at-merged point_total point_exact (λ x y. x +ℤ y) refl m n q
 
-pub at-minus : (m n : Change) (q : Pointstamp) → at (minus m n) q ≡ at m q -ℤ at n q
+pub at-minus : (m n : DeltaValue) (q : Pointstamp) → at (minus m n) q ≡ at m q -ℤ at n q
 unfolding at minus
 at-minus m n q = counts.at-merged point_total point_exact (λ x y. x -ℤ y) refl m n q
 
-pub at-part : (m : Change) (ks : List Pointstamp) (q : Pointstamp) → at (part m ks) q ≡ cond (has_point q ks) (at m q) (pos 0)
+pub at-part : (m : DeltaValue) (ks : List Pointstamp) (q : Pointstamp) → at (part m ks) q ≡ cond (has_point q ks) (at m q) (pos 0)
 unfolding at part
 at-part m ks q = counts.at-only point_total point_exact (λ p. has_point p ks) m q
 
 -- what has no entry has 0
-pub at-absent : (m : Change) (q : Pointstamp) → has_point q (points_of (entries m)) ≡ false → at m q ≡ pos 0
+pub at-absent : (m : DeltaValue) (q : Pointstamp) → has_point q (points_of (entries m)) ≡ false → at m q ≡ pos 0
 unfolding at entries
 at-absent m q e = counts.at-absent m q e
 
 -- what has an entry has an integer
-pub at-present : (m : Change) (q : Pointstamp) → has_point q (points_of (entries m)) ≡ true → at m q ≢ pos 0
+pub at-present : (m : DeltaValue) (q : Pointstamp) → has_point q (points_of (entries m)) ≡ true → at m q ≢ pos 0
 unfolding at entries
 at-present m q e = counts.at-present m q e
 
@@ -151,32 +151,32 @@ pub entries-of_entries : (es : List (Pointstamp × ℤ)) → T (is_sorted point_
 unfolding entries of_entries
 entries-of_entries es sorted some = counts.entries-of_entries integers point_total point_exact es sorted some
 
-pub at-entries : (m : Change) (q : Pointstamp) → or_zero (find point_cmp q (entries m)) ≡ at m q
+pub at-entries : (m : DeltaValue) (q : Pointstamp) → or_zero (find point_cmp q (entries m)) ≡ at m q
 unfolding entries at
 at-entries m q = sym (counts.at-entries m q)
 
-pub sorted-entries : (m : Change) → T (is_sorted point_cmp (entries m))
+pub sorted-entries : (m : DeltaValue) → T (is_sorted point_cmp (entries m))
 unfolding entries
 sorted-entries m = counts.entries_listed m
 
 -- an entry's integer is not 0
-pub some-entry : (m : Change) (q : Pointstamp) (v : ℤ) → find point_cmp q (entries m) ≡ Some v → v ≢ pos 0
+pub some-entry : (m : DeltaValue) (q : Pointstamp) (v : ℤ) → find point_cmp q (entries m) ≡ Some v → v ≢ pos 0
 unfolding entries
 some-entry m q v e = counts.some-entry m q v e
 
-pub at-set_same : (m : Change) (k : Pointstamp) (v : ℤ) → at (set m k v) k ≡ v
+pub at-set_same : (m : DeltaValue) (k : Pointstamp) (v : ℤ) → at (set m k v) k ≡ v
 unfolding at set
 at-set_same m k v = counts.at-set_here point_total point_exact m k v
 
-pub set-set : (m : Change) (k : Pointstamp) (v w : ℤ) → set (set m k v) k w ≡ set m k w
+pub set-set : (m : DeltaValue) (k : Pointstamp) (v w : ℤ) → set (set m k v) k w ≡ set m k w
 unfolding set
 set-set m k v w = counts.set-set point_total point_exact m k v w
 
-pub set-at : (m : Change) (k : Pointstamp) → set m k (at m k) ≡ m
+pub set-at : (m : DeltaValue) (k : Pointstamp) → set m k (at m k) ≡ m
 unfolding at set
 set-at m k = counts.set-at point_total point_exact m k
 
-pub size-set : (m : Change) (k : Pointstamp) (v : ℤ) → v ≢ pos 0 → at m k ≡ pos 0 → size (set m k v) ≡ size m + 1
+pub size-set : (m : DeltaValue) (k : Pointstamp) (v : ℤ) → v ≢ pos 0 → at m k ≡ pos 0 → size (set m k v) ≡ size m + 1
 unfolding at set entries
 size-set m k v some absent = counts.size-set point_total m k v some absent
 
@@ -185,8 +185,8 @@ unfolding none entries
 size-none = counts.size-none point_cmp integers
 
 -- ---- sums undone
-pub minus-plus : (m n : Change) → minus (plus m n) n ≡ m
+pub minus-plus : (m n : DeltaValue) → minus (plus m n) n ≡ m
 minus-plus m n = same _ _ (λ q. let d = at-minus (plus m n) n q in let e = at-plus m n q in omega (arith, ints, d, e))
 
-pub plus-minus : (m n : Change) → plus (minus m n) n ≡ m
+pub plus-minus : (m n : DeltaValue) → plus (minus m n) n ≡ m
 plus-minus m n = same _ _ (λ q. let d = at-plus (minus m n) n q in let e = at-minus m n q in omega (arith, ints, d, e))
