@@ -192,8 +192,8 @@ impl<A: Allocator> Delta<A> {
         false
     }
 
-    // The difference, or the sum, if it fits.
-    fn combine(&self, alloc: A, other: &Delta<A>, minus: bool) -> Result<Delta<A>, DeltaFault>
+    /// The difference, or the sum, if it fits.
+    pub fn combine(&self, alloc: A, other: &Delta<A>, minus: bool) -> Result<Delta<A>, DeltaFault>
         ensures ok { IfOk result (λ d. d ≡ combined minus self.now other.now) }
         ensures full { (result ≡ Err (DeltaFault.DeltaFull)) ↔ IsTooLarge (combined minus self.now other.now) }
         ensures within { IsWithin self.now × IsWithin other.now }

@@ -1,6 +1,6 @@
 -- Views whose precursor counts are those of a graph.
 use Rattle.std.proofs.Common.{cond, ◌≡◌, ℕ, ℤ, pos, List, [], Option, Some, None, refl, sym, ap, subst, ◌∙◌, ◌⊎◌, inl, inr, zero, suc, negsuc, arith, Result, Ok, Err, ◌<◌}
-use Rattle.std.specs.Prelude.{◌<ℤ◌, OnOk}
+use Rattle.std.specs.Prelude.{◌<ℤ◌, OnOk, OnErr}
 use Rattle.std.proofs.lemmas.Int.{ints}
 use Rattle.std.specs.FinMap.{find, put}
 use Rattle.std.specs.FinMap.Entries.{find-put, same_entries}
@@ -12,8 +12,7 @@ use Rattle.nd_paths.specs.declared.point.Pointstamp.{Pointstamp}
 use Rattle.nd_delta.specs.Delta.{DeltaValue, none, at, set, is_point, at-none, entries, or_zero, at-entries, some-entry}
 use Rattle.nd_delta.specs.Least.{place_of}
 use Rattle.nd_view.specs.View.{IsOnFrontier}
-use Rattle.nd_view.specs.Kept.{Kept, IsKeptAt, IsFor}
-use Rattle.nd_view.specs.Room.{kept_of}
+use Rattle.nd_view.specs.Kept.{Kept, IsKeptAt, IsFor, kept_of}
 use Rattle.nd_view.proofs.Moves.{kept_positive, kept_other, first_one, alike, itself}
 use Rattle.nd_map.specs.Cases.{not_zero}
 
@@ -41,6 +40,12 @@ for_stay g m n es x z h is sign = record {
     | inr never ↦ kept_other m n x z is g (λ p. never (sign.1 p)) never q (find point_cmp q es) (h.each q)
   ];
 }
+
+-- the same if it may have been refused
+pub for_same : (g : Dataflow) {E : Type 0} (r : Result (Unit {0}) E) (v w : Kept) (x : Pointstamp) (z : ℤ) → OnOk r (w.map ≡ set v.map x z) → OnErr r (w.map ≡ v.map) → w.counts ≡ v.counts
+    → ((pos 0 <ℤ z → pos 0 <ℤ at v.map x) × (pos 0 <ℤ at v.map x → pos 0 <ℤ z)) → IsFor g v → IsFor g w
+for_same g (Ok u) v w x z ok err same sign h = for_stay g v.map w.map w.counts x z (subst (λ es. IsFor g (kept_of v.map es)) (sym same) h) ok sign
+for_same g (Err e) v w x z ok err same sign h = subst (IsFor g) (λ j. kept_of (sym err j) (sym same j)) h
 
 pub on_ok : {E : Type 0} (r : Result (Unit {0}) E) (P Q : Type 0) → (P → Q) → OnOk r P → OnOk r Q
 on_ok (Ok x) P Q f p = f p

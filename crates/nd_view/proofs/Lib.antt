@@ -1,12 +1,12 @@
+mod Anew
 mod First
 mod FrontierLists
 mod Fors
 mod Frontiers
-mod Keyed
 mod LinksLemmas
 mod Moves
+mod Nearest
 mod Parts
-mod Plans
 mod Points
 mod Runs
 mod Shifts

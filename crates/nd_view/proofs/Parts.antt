@@ -8,9 +8,10 @@ use Rattle.std.proofs.lemmas.Map.Views.{tells_apart}
 use Rattle.nd_map.specs.Entries.{rises}
 use Rattle.nd_paths.specs.Point.{point_cmp, point_total, point_exact}
 use Rattle.nd_paths.specs.declared.point.Pointstamp.{Pointstamp}
-use Rattle.nd_delta.specs.Delta.{DeltaValue, none, at, set, size, entries, is_point, at-none, at-set, size-set, size-none, sorted-entries}
+use Rattle.nd_delta.specs.Delta.{DeltaValue, at, set, size, entries, is_point, at-set, size-set, sorted-entries}
 use Rattle.nd_delta.specs.Least.{place_of, at-index}
-use Rattle.nd_view.specs.View.{IsPartWhere, IsCount}
+use Rattle.nd_view.specs.View.{IsCount}
+use Rattle.nd_view.proofs.Moves.{size_within}
 use Rattle.nd_map.specs.Cases.{zero_or_not}
 
 -- the point of one of the first entries
@@ -20,26 +21,20 @@ pub record IsAmong (m : DeltaValue) (i : ℕ) (q : Pointstamp) : Type 0 where
   pub in_range : index < length (entries m)
   pub is : (get_or (entries m) index (q, pos 0)).0 ≡ q
 
--- f is the part of m at those of the first entries that are of the kind
-pub record IsPartUpTo (m : DeltaValue) (P : Pointstamp → Type 0) (i : ℕ) (f : DeltaValue) : Type 0 where
+-- f is the part of m at those of the first entries that are of the kind P, and at the points of the kind B
+pub record IsPartUpTo (m : DeltaValue) (P B : Pointstamp → Type 0) (i : ℕ) (f : DeltaValue) : Type 0 where
   pub all : (q : Pointstamp) → IsAmong m i q → P q → at f q ≡ at m q
+  pub base : (q : Pointstamp) → B q → at f q ≡ at m q
   pub some : (q : Pointstamp) → at f q ≢ pos 0 → P q
-  pub early : (q : Pointstamp) → at f q ≢ pos 0 → IsAmong m i q
+  pub early : (q : Pointstamp) → at f q ≢ pos 0 → IsAmong m i q ⊎ B q
 
--- n of the first entries are of the kind
-pub record IsCountUpTo (m : DeltaValue) (P : Pointstamp → Type 0) (i n : ℕ) : Type 0 where
+-- n of the first entries are of the kind P, or of the kind B
+pub record IsCountUpTo (m : DeltaValue) (P B : Pointstamp → Type 0) (i n : ℕ) : Type 0 where
   pub part : DeltaValue
-  pub is_part : IsPartUpTo m P i part
+  pub is_part : IsPartUpTo m P B i part
   pub many : size part ≡ n
 
-module _ (m : DeltaValue) (P : Pointstamp → Type 0) where
-  pub part_none : IsPartUpTo m P 0 none
-  part_none = record {
-    all = λ q among p. absurd (omega (arith, among.early));
-    some = λ q some. absurd (some (at-none q));
-    early = λ q some. absurd (some (at-none q));
-  }
-
+module _ (m : DeltaValue) (P B : Pointstamp → Type 0) where
   pub later : (i : ℕ) (q : Pointstamp) → IsAmong m i q → IsAmong m (i + 1) q
   later i q among = record { index = among.index; early = omega (arith, among.early); in_range = among.in_range; is = among.is }
 
@@ -64,65 +59,99 @@ module _ (m : DeltaValue) (P : Pointstamp → Type 0) where
         absurd (cc (rise, tied))
 
     -- the new entry's point has nothing yet
-    pub part_fresh : (f : DeltaValue) → IsPartUpTo m P i f → at f x.0 ≡ pos 0
-    part_fresh f part = elim (zero_or_not (at f x.0)) [ inl e ↦ e | inr some ↦ absurd (fresh (part.early x.0 some)) ]
+    pub part_fresh : (f : DeltaValue) → (B x.0 → ⊥) → IsPartUpTo m P B i f → at f x.0 ≡ pos 0
+    part_fresh f never part = elim (zero_or_not (at f x.0)) [
+      | inl e ↦ e
+      | inr some ↦ elim (part.early x.0 some) [ inl among ↦ absurd (fresh among) | inr base ↦ absurd (never base) ]
+    ]
 
-    -- an entry that is not of the kind
-    pub part_skip : (f : DeltaValue) → (P x.0 → ⊥) → IsPartUpTo m P i f → IsPartUpTo m P (i + 1) f
+    -- an entry that is not of the kind P, but for those of the kind B
+    pub part_skip : (f : DeltaValue) → (P x.0 → B x.0) → IsPartUpTo m P B i f → IsPartUpTo m P B (i + 1) f
     part_skip f never part = record {
-      all = λ q among p. elim (split q among) [ inl before ↦ part.all q before p | inr here ↦ absurd (never (subst P here p)) ];
+      all = λ q among p. elim (split q among) [
+        | inl before ↦ part.all q before p
+        | inr here ↦ part.base q (subst B (sym here) (never (subst P here p)))
+      ];
+      base = part.base;
       some = part.some;
-      early = λ q some. later i q (part.early q some);
+      early = λ q some. elim (part.early q some) [ inl among ↦ inl (later i q among) | inr base ↦ inr base ];
     }
 
     one_of : (b : Bool) (y z w : ℤ) → (b ≡ true → y ≡ w) → (b ≡ false → z ≡ w) → cond b y z ≡ w
     one_of true y z w e h = e refl
     one_of false y z w e h = h refl
 
-    -- an entry of the kind
-    pub part_take : (f g : DeltaValue) → g ≡ set f x.0 x.1 → P x.0 → IsPartUpTo m P i f → IsPartUpTo m P (i + 1) g
-    part_take f g set_is p part = record {
+    -- an entry of the kind P, and not of the kind B
+    pub part_take : (f g : DeltaValue) → g ≡ set f x.0 x.1 → P x.0 → (B x.0 → ⊥) → IsPartUpTo m P B i f → IsPartUpTo m P B (i + 1) g
+    part_take f g set_is p never part = record {
       all = λ q among k.
-          ap (λ c. at c q) set_is ∙ at-set f x.0 x.1 q
+          value q
           ∙ one_of (is_point q x.0) x.1 (at f q) (at m q)
           (λ e. at-index m i x lt is ∙ ap (at m) (sym (tells_apart point_exact q x.0 e)))
           (λ e. elim (split q among) [ inl before ↦ part.all q before k | inr here ↦ absurd (apart q e here) ]);
+      base = λ q b.
+          value q
+          ∙ one_of (is_point q x.0) x.1 (at f q) (at m q)
+          (λ e. absurd (never (subst B (tells_apart point_exact q x.0 e) b)))
+          (λ e. part.base q b);
       some = λ q some. elim (reached q some) [ inl here ↦ subst P (sym here) p | inr old ↦ part.some q old ];
-      early = λ q some. elim (reached q some) [ inl here ↦ subst (IsAmong m (i + 1)) (sym here) last | inr old ↦ later i q (part.early q old) ];
+      early = λ q some. elim (reached q some) [
+        | inl here ↦ inl (subst (IsAmong m (i + 1)) (sym here) last)
+        | inr old ↦ elim (part.early q old) [ inl among ↦ inl (later i q among) | inr base ↦ inr base ]
+      ];
     }
       where
+        value : (q : Pointstamp) → at g q ≡ cond (is_point q x.0) x.1 (at f q)
+        value q = ap (λ c. at c q) set_is ∙ at-set f x.0 x.1 q
+
         apart : (q : Pointstamp) → is_point q x.0 ≡ false → q ≡ x.0 → ⊥
         apart q e here = true≢false (sym (ap (λ z. is_point z x.0) here ∙ ap is_eq (tied_itself point_total x.0)) ∙ e)
 
         reached : (q : Pointstamp) → at g q ≢ pos 0 → (q ≡ x.0) ⊎ (at f q ≢ pos 0)
         reached q some = by (is_point q x.0) refl
           where
-            value : (b : Bool) → is_point q x.0 ≡ b → at g q ≡ cond b x.1 (at f q)
-            value b e = ap (λ c. at c q) set_is ∙ at-set f x.0 x.1 q ∙ ap (λ a. cond a x.1 (at f q)) e
-
             by : (b : Bool) → is_point q x.0 ≡ b → (q ≡ x.0) ⊎ (at f q ≢ pos 0)
             by true e = inl (tells_apart point_exact q x.0 e)
-            by false e = inr (λ z. some (value false e ∙ z))
+            by false e = inr (λ z. some (value q ∙ ap (λ a. cond a x.1 (at f q)) e ∙ z))
 
-    pub count_skip : (n : ℕ) → (P x.0 → ⊥) → IsCountUpTo m P i n → IsCountUpTo m P (i + 1) n
+    pub count_skip : (n : ℕ) → (P x.0 → B x.0) → IsCountUpTo m P B i n → IsCountUpTo m P B (i + 1) n
     count_skip n never counted = record { part = counted.part; is_part = part_skip counted.part never counted.is_part; many = counted.many }
 
-    pub count_take : (n : ℕ) → x.1 ≢ pos 0 → P x.0 → IsCountUpTo m P i n → IsCountUpTo m P (i + 1) (n + 1)
-    count_take n some p counted = record {
+    pub count_take : (n : ℕ) → x.1 ≢ pos 0 → P x.0 → (B x.0 → ⊥) → IsCountUpTo m P B i n → IsCountUpTo m P B (i + 1) (n + 1)
+    count_take n some p never counted = record {
       part = set counted.part x.0 x.1;
-      is_part = part_take counted.part _ refl p counted.is_part;
-      many = size-set counted.part x.0 x.1 some (part_fresh counted.part counted.is_part) ∙ ap (λ k. k + 1) counted.many;
+      is_part = part_take counted.part _ refl p never counted.is_part;
+      many = size-set counted.part x.0 x.1 some (part_fresh counted.part never counted.is_part) ∙ ap (λ k. k + 1) counted.many;
     }
 
-  pub count_none : IsCountUpTo m P 0 0
-  count_none = record { part = none; is_part = part_none; many = size-none }
-
-  -- after the last entry
-  pub part_done : (f : DeltaValue) (i : ℕ) → length (entries m) ≤ i → ((q : Pointstamp) → P q → at m q ≢ pos 0) → IsPartUpTo m P i f → IsPartWhere P m f
-  part_done f i past has part = record {
-    all = λ q p. let place = place_of m q (has q p) in part.all q (record { index = place.index; early = omega (arith, place.in_range, past); in_range = place.in_range; is = ap (λ y. y.0) (get_or_default (entries m) place.index (q, pos 0) (q, at m q) place.in_range) ∙ place.is }) p;
-    only = part.some;
+  -- those of the kind B alone
+  pub count_base : (n : ℕ) → ((q : Pointstamp) → B q → P q) → IsCount B m n → IsCountUpTo m P B 0 n
+  count_base n of counted = record {
+    part = counted.0;
+    is_part = record {
+      all = λ q among p. absurd (omega (arith, among.early));
+      base = counted.1.all;
+      some = λ q some. of q (counted.1.only q some);
+      early = λ q some. inr (counted.1.only q some);
+    };
+    many = counted.2;
   }
 
-  pub count_done : (n i : ℕ) → length (entries m) ≤ i → ((q : Pointstamp) → P q → at m q ≢ pos 0) → IsCountUpTo m P i n → IsCount P m n
-  count_done n i past has counted = (counted.part, part_done counted.part i past has counted.is_part, counted.many)
+  -- after the last entry
+  pub count_done : (n i : ℕ) → length (entries m) ≤ i → ((q : Pointstamp) → P q → at m q ≢ pos 0) → IsCountUpTo m P B i n → IsCount P m n
+  count_done n i past has counted = (
+    counted.part,
+    record {
+      all = λ q p.
+          let place = place_of m q (has q p) in
+          counted.is_part.all q
+          (record { index = place.index; early = omega (arith, place.in_range, past); in_range = place.in_range; is = ap (λ y. y.0) (get_or_default (entries m) place.index (q, pos 0) (q, at m q) place.in_range) ∙ place.is })
+          p;
+      only = counted.is_part.some;
+    },
+    counted.many,
+  )
+
+  -- no more than there are entries
+  pub count_few : (n i : ℕ) → ((q : Pointstamp) → P q → at m q ≢ pos 0) → IsCountUpTo m P B i n → n ≤ size m
+  count_few n i has counted = size_within n counted.part m counted.many (λ q some. has q (counted.is_part.some q some))

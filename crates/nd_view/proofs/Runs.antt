@@ -8,7 +8,7 @@ use Rattle.nd_map.specs.Entries.{rises}
 use Rattle.nd_map.specs.Listed.{IsListed}
 use Rattle.nd_paths.specs.Point.{point_cmp, point_total}
 use Rattle.nd_paths.specs.declared.point.Pointstamp.{Pointstamp}
-use Rattle.nd_view.specs.Links.{IsRun}
+use Rattle.nd_view.specs.Links.{IsRun, AreSmaller, AreNotSmaller}
 
 -- what holds from one number on holds up to another
 pub onward : (Q : ℕ → Type 0) (i j : ℕ) → i ≤ j → ((k : ℕ) → i ≤ k → k < j → Q k → Q (k + 1)) → Q i → Q j
@@ -60,3 +60,17 @@ module _ {V : Type 0} (es : List (Pointstamp × V)) (listed : IsListed point_cmp
       let place = run i x from (omega (arith, le, upto)) ∙ sym (run j x (omega (arith, from, le)) upto) in
       let rise = (rising_at i j x le lt).1 place in
       (ap (λ e. e.0.location) is ∙ place ∙ sym (ap (λ e. e.0.location) here), omega (arith, ap (λ e. e.0.time.epoch) is, rise, ap (λ e. e.0.time.epoch) here))
+
+  -- what is known of the epoch of one entry of a run
+  module _ (first end : ℕ) (run : IsRun es first end) (within : end ≤ length es) (i epoch : ℕ) (x : Pointstamp × V) (from : first ≤ i) (upto : i < end) (is : x ≡ get_or es i x) where
+    pub smaller_upto : x.0.time.epoch < epoch → AreSmaller es first (i + 1) epoch
+    smaller_upto less k d early late =
+        let e = get_or es k d in
+        let rise = (in_run first end run within k i e x early (omega (arith, late)) upto (get_or_default es k d e (omega (arith, late, upto, within))) is).1 in
+        omega (arith, rise, less)
+
+    pub not_smaller_from : (x.0.time.epoch < epoch → ⊥) → AreNotSmaller es i end epoch
+    not_smaller_from never k d early late =
+        let e = get_or es k d in
+        let rise = (in_run first end run within i k x e from early late is (get_or_default es k d e (omega (arith, late, within)))).1 in
+        elim (cases_lt x.0.time.epoch epoch) [ inl less ↦ absurd (never less) | inr more ↦ omega (arith, rise, more) ]

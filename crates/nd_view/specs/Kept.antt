@@ -1,5 +1,5 @@
 -- A view with its precursor counts, and when they are those of a graph.
-use Rattle.std.specs.Prelude.{◌≡◌, ◌≢◌, ◌≤◌, ◌-◌, ◌+◌, ℕ, pos, ◌<ℤ◌, List, length, Contains, Bool, true, false, Option, Some, None, refl}
+use Rattle.std.specs.Prelude.{◌≡◌, ◌≤◌, ◌<◌, ◌-◌, ◌+◌, ℕ, pos, ◌<ℤ◌, List, [], length, Contains, Bool, true, false, Option, Some, None, refl}
 use Rattle.std.specs.Coded.{Coded, code_by, coded×, coded_ℕ, coded_list}
 use Rattle.std.specs.FinMap.{find}
 use Rattle.nd_graph.specs.Graph.{Dataflow}
@@ -18,6 +18,10 @@ pub record Kept : Type 0 where
 abbrev pub kept_code : Coded Kept
 kept_code = code_by (DeltaValue × List (Pointstamp × ℕ)) (coded× delta_code (coded_list (coded× point_code coded_ℕ))) (λ v. (v.map, v.counts)) (λ p. record { map = p.0; counts = p.1 }) (λ _. refl)
 
+-- a map and what is stored beside it
+abbrev pub kept_of : DeltaValue → List (Pointstamp × ℕ) → Kept
+kept_of m es = record { map = m; counts = es }
+
 -- what is stored for q: the number of its precursors if it is positive, else nothing
 abbrev pub IsKeptAt : Dataflow → DeltaValue → Pointstamp → Option ℕ → Type 0
 IsKeptAt g m q None = pos 0 <ℤ at m q → ⊥
@@ -34,11 +38,19 @@ pub record IsFrontierList (counts : List (Pointstamp × ℕ)) (frontier : List P
   pub only : (q : Pointstamp) → Contains frontier q → find point_cmp q counts ≡ Some 0
   pub enough : length counts ≤ room
 
--- something is stored for the positive points, and for no others
-pub record IsKeyed (m : DeltaValue) (counts : List (Pointstamp × ℕ)) : Type 0 where
-  pub listed : IsListed point_cmp counts
-  pub some : (q : Pointstamp) → pos 0 <ℤ at m q → find point_cmp q counts ≢ None
-  pub none : (q : Pointstamp) → (pos 0 <ℤ at m q → ⊥) → find point_cmp q counts ≡ None
+-- ---- what a stored count says of another point's precursors
+-- each number that is stored is right
+abbrev pub AreKept : Dataflow → DeltaValue → List (Pointstamp × ℕ) → Type 0
+AreKept g m es = (q : Pointstamp) (n : ℕ) → find point_cmp q es ≡ Some n → IsKeptAt g m q (Some n)
+
+-- x is a precursor of t whose epoch is below a number
+pub record IsEarlier (g : Dataflow) (m : DeltaValue) (t : Pointstamp) (below : ℕ) (x : Pointstamp) : Type 0 where
+  pub precursor : IsPrecursor g m t x
+  pub early : x.time.epoch < below
+
+-- x stands at the location of t with a smaller epoch, and neither has counters
+abbrev pub IsNear : Pointstamp → Pointstamp → Type 0
+IsNear x t = (x.location ≡ t.location) × (x.time.epoch < t.time.epoch) × (x.time.counters ≡ []) × (t.time.counters ≡ [])
 
 -- ---- counts that are still to be moved by one, since x came (up) or went
 

@@ -16,3 +16,10 @@ IsEpochal g from to = (s t : Pointstamp) → s.location ≡ from → t.location 
 -- the entries from one to another stand at the location of the first
 abbrev pub IsRun : {V : Type 0} → List (Pointstamp × V) → ℕ → ℕ → Type 0
 IsRun es first end = (k : ℕ) (d : Pointstamp × _) → first ≤ k → k < end → (get_or es k d).0.location ≡ (get_or es first d).0.location
+
+-- the entries from one to another have smaller epochs, or none that is smaller
+abbrev pub AreSmaller : {V : Type 0} → List (Pointstamp × V) → ℕ → ℕ → ℕ → Type 0
+AreSmaller es first end epoch = (k : ℕ) (d : Pointstamp × _) → first ≤ k → k < end → (get_or es k d).0.time.epoch < epoch
+
+abbrev pub AreNotSmaller : {V : Type 0} → List (Pointstamp × V) → ℕ → ℕ → ℕ → Type 0
+AreNotSmaller es first end epoch = (k : ℕ) (d : Pointstamp × _) → first ≤ k → k < end → epoch ≤ (get_or es k d).0.time.epoch

@@ -1,36 +1,106 @@
-//! What is stored beside a map: made anew, and moved when a pointstamp came or went.
+//! What is stored beside a map: counted anew, and moved when a pointstamp came or went.
 
-ghost use Rattle.std.specs.Prelude.{◌≡◌, ◌≤◌, ◌+◌, ◌<◌, ◌^◌, IsTrue, length, vec_capacity};
+ghost use Rattle.std.specs.Prelude.{◌≡◌, ◌↔◌, ◌≤◌, ◌+◌, ◌<◌, ◌^◌, Contains, IsTrue, IfOk, IfSome, length, vec_capacity};
 ghost use Rattle.std.specs.FinMap.{find};
 ghost use Rattle.nd_map.specs.Listed.{IsListed};
 ghost use Rattle.nd_paths.specs.declared.point.Pointstamp.{Pointstamp};
 ghost use Rattle.nd_paths.specs.Point.{point_cmp};
 ghost use Rattle.nd_view.specs.View.{IsPrecursor, IsCount};
-ghost use Rattle.nd_view.specs.Kept.{IsKeptAt, IsKeyed, IsReady, IsFrontierList, moved};
+ghost use Rattle.nd_view.specs.Kept.{IsKeptAt, AreKept, IsEarlier, IsNear, IsReady, IsFor, IsFrontierList, kept_of, moved};
 
-use crate::links::{is_epochal, is_strictly_before, leads, run_end};
+use crate::links::{epoch_from, is_epochal, is_outside, is_strictly_before, leads, run_end};
 use nd_delta::Delta;
 use nd_map::SortedMap;
 use nd_paths::{Paths, Pointstamp};
-use std::alloc::Allocator;
+use std::alloc::{AllocError, Allocator};
 
-/// The number of positive entries strictly before a pointstamp.
-pub fn count_before<A: Allocator, B: Allocator>(
+// How many precursors of a pointstamp have epochs below a number.
+#[derive(Drop)]
+struct Known {
+    below: u32,
+    count: u64,
+}
+
+// Whether a pointstamp stands at the location of another with a smaller epoch, and neither has counters.
+fn is_near(first: &Pointstamp, point: &Pointstamp) -> bool
+    ensures { IsTrue result ↔ IsNear first.now point.now }
+{
+    first.location == point.location
+        && first.time.epoch() < point.time.epoch()
+        && is_outside(first)
+        && is_outside(point)
+}
+
+// The positive entry before a pointstamp, if it is near.
+fn nearest<'a>(kept: &'a [(Pointstamp, u64)], point: &Pointstamp) -> Option<&'a (Pointstamp, u64)>
+    ensures { IfSome result (λ e. Contains kept.now e.now × IsNear e.now.0 point.now) }
+{
+    let after = kept.partition_point(|entry: &(Pointstamp, u64)| -> bool { entry.0 < *point });
+    if after == 0 {
+        return None;
+    }
+    let last = &kept[after - 1];
+    if is_near(&last.0, point) {
+        Some(last)
+    } else {
+        None
+    }
+}
+
+// What the count of the nearest positive entry says: up to its epoch the two have the same precursors, but for itself.
+fn known_before<A: Allocator, B: Allocator>(
+    counts: &Delta<A>,
+    kept: &[(Pointstamp, u64)],
+    paths: &Paths<B>,
+    point: &Pointstamp,
+) -> Known
+    requires listed { IsListed point_cmp kept.now }
+    requires kept { AreKept paths.now counts.now kept.now }
+    ensures { IsCount (IsEarlier paths.now counts.now point.now result.below) counts.now result.count }
+{
+    // No count is greater than the number of entries, which is a `usize`.
+    let _ = counts.len();
+    let Some(near) = nearest(kept, point) else {
+        return Known { below: 0, count: 0 };
+    };
+    // Its epoch is smaller than this one, which is a `u32`.
+    let _ = point.time.epoch();
+    let below = near.0.time.epoch() + 1;
+    if paths.strictly_before(&near.0, point) {
+        Known {
+            below,
+            count: near.1 + 1,
+        }
+    } else {
+        Known {
+            below,
+            count: near.1,
+        }
+    }
+}
+
+// The number of positive entries strictly before a pointstamp, by those whose epochs are not below what is known.
+fn count_from<A: Allocator, B: Allocator>(
     counts: &Delta<A>,
     paths: &Paths<B>,
     point: &Pointstamp,
+    known: &Known,
 ) -> u64
+    requires { IsCount (IsEarlier paths.now counts.now point.now known.now.below) counts.now known.now.count }
     ensures { IsCount (IsPrecursor paths.now counts.now point.now) counts.now result }
 {
+    // No count is greater than the number of entries, which is a `usize`.
+    let _ = counts.len();
     let entries = counts.entries();
-    let mut count = 0;
+    let mut count = known.count;
     let mut i = 0;
     while i < entries.len() {
         let end = run_end(entries, i);
         let first = &entries[i].0;
         if leads(paths, first, point) {
             let is_epochal = is_epochal(paths, first, point);
-            for k in i..end {
+            let start = epoch_from(entries, i, end, known.below);
+            for k in start..end {
                 let entry = &entries[k];
                 if point.time.epoch() < entry.0.time.epoch() {
                     break;
@@ -45,6 +115,28 @@ pub fn count_before<A: Allocator, B: Allocator>(
     count
 }
 
+/// The number of positive entries strictly before a pointstamp.
+///
+/// By the nearest positive entry, if that has no counters: each location with a walk to this one takes a logarithm of its
+/// entries, and one test for each whose epoch lies between. Else one test for each entry whose epoch is not greater.
+pub fn count_before<A: Allocator, B: Allocator>(
+    counts: &Delta<A>,
+    kept: &[(Pointstamp, u64)],
+    paths: &Paths<B>,
+    point: &Pointstamp,
+) -> u64
+    requires listed { IsListed point_cmp kept.now }
+    requires kept { AreKept paths.now counts.now kept.now }
+    ensures { IsCount (IsPrecursor paths.now counts.now point.now) counts.now result }
+{
+    count_from(
+        counts,
+        paths,
+        point,
+        &known_before(counts, kept, paths, point),
+    )
+}
+
 // One more, or one less.
 fn moved_by_one(n: u64, up: bool) -> u64
     requires room { IsTrue up → n + 1 < 2 ^ 64 }
@@ -55,6 +147,9 @@ fn moved_by_one(n: u64, up: bool) -> u64
 }
 
 /// Moves the precursor counts of the positive pointstamps after one that came or went. It takes no memory.
+///
+/// Of each location to which a walk leads it passes over the entries with smaller epochs by a logarithm of their number.
+/// Without counters it moves each of the others; with counters it tests each.
 pub fn shift<A: Allocator, B: Allocator>(
     precursor_counts: &mut SortedMap<Pointstamp, u64, A>,
     counts: &Delta<A>,
@@ -77,7 +172,8 @@ pub fn shift<A: Allocator, B: Allocator>(
         let last = &entries[end - 1].0;
         if leads(paths, point, last) {
             let is_epochal = is_epochal(paths, point, last);
-            for k in i..end {
+            let start = epoch_from(entries, i, end, point.time.epoch());
+            for k in start..end {
                 let entry = &precursor_counts.entries()[k];
                 if is_strictly_before(paths, is_epochal, point, &entry.0) {
                     let n = moved_by_one(entry.1, up);
@@ -90,15 +186,13 @@ pub fn shift<A: Allocator, B: Allocator>(
 }
 
 /// Lists the pointstamps whose precursor count is 0. It takes no memory.
-pub fn list_frontier<A: Allocator>(
-    frontier: &mut Vec<Pointstamp, A>,
-    precursor_counts: &SortedMap<Pointstamp, u64, A>,
-)
-    requires { length precursor_counts.now ≤ vec_capacity frontier.old }
-    ensures { IsFrontierList precursor_counts.now frontier.new.items (vec_capacity frontier.new) }
+pub fn list_zeros<A: Allocator>(kept: &[(Pointstamp, u64)], frontier: &mut Vec<Pointstamp, A>)
+    requires listed { IsListed point_cmp kept.now }
+    requires room { length kept.now ≤ vec_capacity frontier.old }
+    ensures { IsFrontierList kept.now frontier.new.items (vec_capacity frontier.new) }
 {
     frontier.clear();
-    for entry in precursor_counts.entries() {
+    for entry in kept {
         if entry.1 == 0 {
             let Ok(()) = frontier.push(entry.0.copy()) else {
                 return;
@@ -107,23 +201,20 @@ pub fn list_frontier<A: Allocator>(
     }
 }
 
-/// Counts anew for each positive pointstamp those strictly before it. It takes no memory.
-pub fn recount<A: Allocator, B: Allocator>(
-    precursor_counts: &mut SortedMap<Pointstamp, u64, A>,
+/// Counts for each positive pointstamp those strictly before it.
+pub fn counted_anew<A: Allocator, B: Allocator>(
+    alloc: A,
     counts: &Delta<A>,
     paths: &Paths<B>,
-)
-    requires { IsKeyed counts.now precursor_counts.old }
-    ensures listed { IsListed point_cmp precursor_counts.new }
-    ensures kept { (q : Pointstamp) → IsKeptAt paths.now counts.now q (find point_cmp q precursor_counts.new) }
-    ensures size { length precursor_counts.new ≡ length precursor_counts.old }
+) -> Result<SortedMap<Pointstamp, u64, A>, AllocError>
+    ensures { IfOk result (λ es. IsFor paths.now (kept_of counts.now es)) }
 {
+    let mut precursor_counts = SortedMap::new(alloc);
     for entry in counts.entries() {
         if entry.1 > 0 {
-            let Ok(()) = precursor_counts.put(&entry.0, count_before(counts, paths, &entry.0))
-            else {
-                return;
-            };
+            let count = count_before(counts, precursor_counts.entries(), paths, &entry.0);
+            precursor_counts.put(&entry.0, count)?;
         }
     }
+    Ok(precursor_counts)
 }

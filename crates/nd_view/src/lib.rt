@@ -5,8 +5,7 @@
 mod entry_tests;
 mod keeping;
 mod links;
-mod moving;
-mod steps;
+mod stored;
 
 ghost use Rattle.std.specs.Prelude.{◌≡◌, ◌↔◌, ◌≤◌, unsigned_abs, OnOk, OnErr, IfOk, IfSome, IsNone, IsTrue, Err};
 ghost use Rattle.nd_time.specs.Limits.{max_count};
@@ -19,20 +18,19 @@ ghost use Rattle.nd_view.specs.View.{IsPassed, IsBlocker, IsPrecursor, IsOnFront
 ghost use Rattle.nd_view.specs.Kept.{Kept, IsKeptAt, IsFor};
 
 use entry_tests::{is_before, is_positive_before};
-use keeping::{count_before, list_frontier};
-use moving::take_steps;
 use nd_delta::{Delta, DeltaFault};
-use nd_map::SortedMap;
 use nd_paths::{Paths, Pointstamp};
 use std::alloc::{AllocError, Allocator, Global};
 use std::marker::Model;
-use steps::planned;
+use stored::Stored;
+
+// A change with more entries has the whole view made anew: the lists are joined, and each count is counted once.
+const MANY: usize = 64;
 
 /// A finite map from pointstamps to counts other than 0, which may be negative for a while.
 /// Beside it stands for each positive pointstamp the number of positive ones strictly before it.
 pub struct View<A: Allocator + Copy = Global> {
-    counts: Delta<A>,
-    precursor_counts: SortedMap<Pointstamp, u64, A>,
+    stored: Stored<A>,
     frontier: Vec<Pointstamp, A>,
     alloc: A,
 }
@@ -40,8 +38,7 @@ pub struct View<A: Allocator + Copy = Global> {
 impl<A: Allocator + Copy> Drop for View<A> {
     fn drop(self) {
         let View {
-            counts: _,
-            precursor_counts: _,
+            stored: _,
             frontier: _,
             alloc: _,
         } = self;
@@ -56,9 +53,9 @@ impl<A: Allocator + Copy> Model for View<A> {
 
     ghost coded = { kept_code };
 
-    ghost view = { λ a. record { map = a.counts; counts = a.precursor_counts } };
+    ghost view = { λ a. a.stored };
 
-    ghost invariant = { λ a. IsFrontierList a.precursor_counts a.frontier.items (vec_capacity a.frontier) };
+    ghost invariant = { λ a. IsFrontierList a.stored.counts a.frontier.items (vec_capacity a.frontier) };
 }
 
 impl<A: Allocator + Copy> View<A> {
@@ -68,8 +65,7 @@ impl<A: Allocator + Copy> View<A> {
         ensures for_all { (g : Dataflow) → IsFor g result }
     {
         View {
-            counts: Delta::new(alloc),
-            precursor_counts: SortedMap::new(alloc),
+            stored: Stored::new(alloc),
             frontier: Vec::new(alloc),
             alloc,
         }
@@ -80,7 +76,7 @@ impl<A: Allocator + Copy> View<A> {
         ensures value { result ≡ at self.now.map point.now }
         ensures within { unsigned_abs result ≤ max_count }
     {
-        self.counts.get(point)
+        self.stored.counts().get(point)
     }
 
     /// The entries in the order of listing.
@@ -88,7 +84,7 @@ impl<A: Allocator + Copy> View<A> {
         ensures listed { result.now ≡ listed self.now.map }
         ensures within { IsWithin self.now.map }
     {
-        self.counts.entries()
+        self.stored.counts().entries()
     }
 
     /// The precursor count of a positive pointstamp: the number of positive ones strictly before it, by the
@@ -96,30 +92,58 @@ impl<A: Allocator + Copy> View<A> {
     pub fn kept(&self, point: &Pointstamp) -> Option<u64>
         ensures { (g : Dataflow) → IsFor g self.now → IsKeptAt g self.now.map point.now result }
     {
-        self.precursor_counts.get(point)
+        self.stored.kept(point)
     }
 
     /// What is stored is settled by the map: two views of one order are equal if their maps are.
     pub fn is_settled(&self)
         ensures { (g : Dataflow) (v : Kept) → IsFor g v → IsFor g self.now → v.map ≡ self.now.map → v ≡ self.now }
     {
-        let _ = &self.counts;
+        let _ = &self.stored;
     }
 
     /// An equal view.
     pub fn copy(&self, alloc: A) -> Result<View<A>, AllocError>
         ensures { IfOk result (λ v. v ≡ self.now) }
     {
-        let counts = self.counts.copy(alloc)?;
-        let precursor_counts = self.precursor_counts.copy(alloc)?;
-        let mut frontier = Vec::with_capacity(alloc, precursor_counts.len())?;
-        list_frontier(&mut frontier, &precursor_counts);
+        View::with(alloc, self.stored.copy(alloc)?)
+    }
+
+    // The view with these counts.
+    fn with(alloc: A, stored: Stored<A>) -> Result<View<A>, AllocError>
+        ensures { IfOk result (λ v. v ≡ stored) }
+    {
+        let mut frontier = Vec::with_capacity(alloc, stored.positive())?;
+        stored.list_frontier(&mut frontier);
         Ok(View {
-            counts,
-            precursor_counts,
+            stored,
             frontier,
             alloc,
         })
+    }
+
+    // Adds a change, or takes it back: the whole view anew.
+    fn change_anew<B: Allocator>(
+        &mut self,
+        paths: &Paths<B>,
+        delta: &Delta<A>,
+        minus: bool,
+    ) -> Result<(), DeltaFault>
+        requires { IsFor paths.now self.old }
+        ensures paths { IsFor paths.now self.new }
+        ensures ok { OnOk result (self.new.map ≡ combined minus self.old.map delta.now) }
+        ensures err { OnErr result (self.new ≡ self.old) }
+        ensures full { (result ≡ Err (DeltaFault.DeltaFull)) ↔ IsTooLarge (combined minus self.old.map delta.now) }
+    {
+        let counts = self.stored.counts().combine(self.alloc, delta, minus)?;
+        let Ok(stored) = Stored::of(self.alloc, counts, paths) else {
+            return Err(DeltaFault::Memory);
+        };
+        let Ok(view) = View::with(self.alloc, stored) else {
+            return Err(DeltaFault::Memory);
+        };
+        *self = view;
+        Ok(())
     }
 
     // Adds a change, or takes it back.
@@ -135,19 +159,20 @@ impl<A: Allocator + Copy> View<A> {
         ensures err { OnErr result (self.new ≡ self.old) }
         ensures full { (result ≡ Err (DeltaFault.DeltaFull)) ↔ IsTooLarge (combined minus self.old.map delta.now) }
     {
-        let steps = planned(self.alloc, &self.counts, delta, minus)?;
-        let taken = take_steps(
-            &mut self.counts,
-            &mut self.precursor_counts,
-            &mut self.frontier,
-            paths,
-            delta,
-            &steps,
-        );
-        list_frontier(&mut self.frontier, &self.precursor_counts);
-        let Ok(()) = taken else {
-            return Err(DeltaFault::Memory);
+        if delta.len() > MANY {
+            return self.change_anew(paths, delta, minus);
+        }
+        let most = self.stored.positive().saturating_add(delta.len());
+        let missing = most.saturating_sub(self.frontier.len());
+        let Ok(()) = self.frontier.reserve(missing) else {
+            return Err(self.stored.refusal(delta, minus));
         };
+        if !self.stored.add(paths, delta.entries(), minus) {
+            return Err(self.stored.refusal(delta, minus));
+        }
+        // What is there is within the limit.
+        let _ = self.stored.counts().entries();
+        self.stored.list_frontier(&mut self.frontier);
         Ok(())
     }
 
@@ -261,7 +286,7 @@ impl<A: Allocator + Copy> View<A> {
     {
         match self.kept(point) {
             Some(n) => n,
-            None => count_before(&self.counts, paths, point),
+            None => self.stored.count_before(paths, point),
         }
     }
 
@@ -276,6 +301,6 @@ impl<A: Allocator + Copy> View<A> {
         ensures value { IfOk result (IsPartWhere (IsOnFrontier _paths.now self.now.map) self.now.map) }
         ensures some { OnErr result ((x : Pointstamp) × IsOnFrontier _paths.now self.now.map x) }
     {
-        self.counts.part(alloc, &self.frontier)
+        self.stored.counts().part(alloc, &self.frontier)
     }
 }

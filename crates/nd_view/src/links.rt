@@ -4,7 +4,7 @@ ghost use Rattle.std.specs.Prelude.{◌≡◌, ◌≢◌, ◌↔◌, ◌≤◌, 
 ghost use Rattle.nd_map.specs.Listed.{IsListed};
 ghost use Rattle.nd_paths.specs.Order.{IsStrictlyBefore};
 ghost use Rattle.nd_paths.specs.Point.{point_cmp};
-ghost use Rattle.nd_view.specs.Links.{IsCut, IsEpochal, IsRun};
+ghost use Rattle.nd_view.specs.Links.{IsCut, IsEpochal, IsRun, AreSmaller, AreNotSmaller};
 
 use nd_paths::{Paths, Pointstamp};
 use std::alloc::Allocator;
@@ -21,9 +21,9 @@ pub fn leads<B: Allocator>(paths: &Paths<B>, first: &Pointstamp, second: &Points
         && paths.leads(first.location, second.location)
 }
 
-// Whether a pointstamp has no counters.
+/// Whether a pointstamp has no counters.
 #[inline(always)]
-fn is_outside(point: &Pointstamp) -> bool
+pub fn is_outside(point: &Pointstamp) -> bool
     ensures { IsTrue result ↔ (point.now.time.counters ≡ []) }
 {
     point.time.depth() == 0
@@ -67,7 +67,7 @@ pub fn is_strictly_before<B: Allocator>(
     paths.strictly_before(first, second)
 }
 
-/// Past the entries at the location of one of them. Where they are more than 32 it stops earlier.
+/// Past the entries at the location of one of them. It takes a logarithm of their number.
 #[inline(always)]
 pub fn run_end<V>(entries: &[(Pointstamp, V)], first: usize) -> usize
     requires listed { IsListed point_cmp entries.now }
@@ -78,18 +78,41 @@ pub fn run_end<V>(entries: &[(Pointstamp, V)], first: usize) -> usize
 {
     let location = entries[first].0.location;
     let mut end = first + 1;
-    if entries.len() - first < 32 {
-        while end < entries.len() && entries[end].0.location == location {
-            end += 1;
-        }
-        return end;
+    let mut step = 1;
+    while step <= entries.len() - end && entries[end + step - 1].0.location == location {
+        end += step;
+        step *= 2;
     }
-    let mut step = 16;
-    while step > 0 {
-        if entries[end + step - 1].0.location == location {
+    'narrowing: while step > 0 {
+        if step <= entries.len() - end && entries[end + (step - 1)].0.location == location {
             end += step;
         }
         step /= 2;
     }
     end
+}
+
+/// Past the entries of a run whose epochs are smaller than this one. It takes a logarithm of their number.
+#[inline(always)]
+pub fn epoch_from<V>(entries: &[(Pointstamp, V)], first: usize, end: usize, epoch: u32) -> usize
+    requires listed { IsListed point_cmp entries.now }
+    requires rise { first ≤ end }
+    requires within { end ≤ length entries.now }
+    requires run { IsRun entries.now first end }
+    ensures from { first ≤ result }
+    ensures upto { result ≤ end }
+    ensures smaller { AreSmaller entries.now first result epoch }
+    ensures others { AreNotSmaller entries.now result end epoch }
+{
+    let mut low = first;
+    let mut high = end;
+    while low < high {
+        let middle = low + (high - low) / 2;
+        if entries[middle].0.time.epoch() < epoch {
+            low = middle + 1;
+        } else {
+            high = middle;
+        }
+    }
+    low
 }

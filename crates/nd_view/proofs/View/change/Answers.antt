@@ -1,19 +1,46 @@
-use Rattle.std.proofs.Common.{sym, ap, subst, ◌∙◌, false}
-use Rattle.nd_delta.specs.Delta.{combined}
-use Rattle.nd_view.specs.Room.{kept_of, AreAt, end_at, grown_at}
+use Rattle.std.proofs.Common.{◌≡◌, ◌≤◌, refl, sym, ap, subst, ◌∙◌, arith, true≢false, unsigned_abs, vec_capacity}
+use Rattle.nd_time.specs.Limits.{max_count}
+use Rattle.nd_map.specs.Listed.{IsListed}
+use Rattle.nd_paths.specs.Point.{point_cmp}
+use Rattle.nd_delta.specs.Delta.{at, combined, sorted-entries}
+use Rattle.nd_view.specs.Kept.{IsFor}
+use Rattle.nd_view.specs.Room.{AreWithin, IsAdded}
 use Rattle.nd_view.specs.Settled.{same_views}
-use Rattle.nd_view.proofs.Points.{nothing_there, way_end}
+use Rattle.nd_view.proofs.FrontierLists.{still_listed}
+use Rattle.nd_view.proofs.Points.{added_all, within_entries}
 use Rattle.nd_view.proofs.View.change.Goals as goal
 
-pub returns-in_default-clause-err : goal.returns-in_default-clause-err
-returns-in_default-clause-err g c =
-    same_views c.args.paths.now (kept_of c.take_steps-taken.new.counts c.take_steps-taken.new.precursor_counts) c.args.self.now c.in_default.ensures.paths c.requires (c.in_default.ensures.err ∙ ap (λ v. v.map) c.self.view_is)
+pub add-requires-clause-listed : goal.add-requires-clause-listed
+add-requires-clause-listed g c = subst (IsListed point_cmp) (sym c.entries.ensures.listed) (sorted-entries c.args.delta.now)
+
+pub add-requires-clause-within : goal.add-requires-clause-within
+add-requires-clause-within g c = subst AreWithin (sym c.entries.ensures.listed) (within_entries c.args.delta.now c.entries.ensures.within)
+
+pub invariant_of-self-then-not-add : goal.invariant_of-self-then-not-add
+invariant_of-self-then-not-add g c =
+    let old = c.self.inside.stored in
+    let same : c.add.new.self ≡ old
+    = same_views c.args.paths.now c.add.new.self old c.add.ensures.paths (subst (IsFor c.args.paths.now) (sym c.self.view_is) c.requires) (c.if-not-add.ensures.none (λ yes. true≢false (sym yes))) in
+    still_listed old.counts c.add.new.self.counts c.self.inside.frontier.items c.reserve.new.self.items (vec_capacity c.self.inside.frontier) (vec_capacity c.reserve.new.self)
+    (ap (λ v. v.counts) same) c.reserve.ensures.items c.reserve.ensures.capacity c.self.invariant
+
+pub returns-then-not-add-clause-err : goal.returns-then-not-add-clause-err
+returns-then-not-add-clause-err g c =
+    same_views c.args.paths.now c.add.new.self c.args.self.now c.add.ensures.paths c.requires (c.if-not-add.ensures.none (λ yes. true≢false (sym yes)) ∙ ap (λ v. v.map) c.self.view_is)
 
 pub returns-clause-ok : goal.returns-clause-ok
 returns-clause-ok g c =
-    let d = c.args.delta.now in
-    let m = c.self.inside.counts in
-    let steps = c.deref.result.now in
-    let after = subst (λ l. AreAt d (end_at false l) (combined c.args.minus m d)) (sym c.deref.ensures.value) c.in_ok-steps.ensures.after in
-    way_end d m (grown_at steps) (end_at false steps) c.take_steps-taken.new.counts (combined c.args.minus m d) c.in-Ok.ensures.way after (nothing_there c.args.minus m d)
-    ∙ ap (λ v. combined c.args.minus v.map d) c.self.view_is
+    let minus = c.args.minus in
+    let n = c.add.new.self.map in
+    let added : IsAdded minus c.entries.result.now c.args.self.now.map n = subst (λ v. IsAdded minus c.entries.result.now v.map n) c.self.view_is (c.if-not-add.ensures.added refl) in
+    added_all minus c.args.delta.now c.args.self.now.map n (subst (λ es. IsAdded minus es c.args.self.now.map n) c.entries.ensures.listed added)
+
+pub returns-clause-full : goal.returns-clause-full
+returns-clause-full g c =
+    let minus = c.args.minus in
+    let n = c.add.new.self.map in
+    let added : IsAdded minus c.entries.result.now c.args.self.now.map n = subst (λ v. IsAdded minus c.entries.result.now v.map n) c.self.view_is (c.if-not-add.ensures.added refl) in
+    let is : n ≡ combined minus c.args.self.now.map c.args.delta.now = added_all minus c.args.delta.now c.args.self.now.map n (subst (λ es. IsAdded minus es c.args.self.now.map n) c.entries.ensures.listed added) in (
+      λ e. absurd (cc),
+      λ large. absurd (let within = subst (λ m. unsigned_abs (at m large.0) ≤ max_count) (c.counts.ensures ∙ is) (c.entries-2.ensures.within large.0) in omega (arith, within, large.1)),
+    )

@@ -9,7 +9,7 @@ pub returns-then-is_before : goal.returns-then-is_before
 returns-then-is_before g c =
     let v = c.args.self.now in
     let x = c.member-item.result in
-    let listed = frontier_list v c.self.inside.precursor_counts c.self.inside.frontier.items c.deref-member-items.result.now (vec_capacity c.self.inside.frontier) (ap (λ k. k.counts) c.self.view_is) c.deref-member-items.ensures.value c.self.invariant in
+    let listed = frontier_list v c.self.inside.stored.counts c.self.inside.frontier.items c.deref-member-items.result.now (vec_capacity c.self.inside.frontier) (ap (λ k. k.counts) c.self.view_is) c.deref-member-items.ensures.value c.self.invariant in
     let on = frontier_of_zero c.args.paths.now v c.requires x (listed.only x (c.loop-member.member-index, c.loop-member-test.true, sym c.member-item.is)) in
     (λ _. (x, record { positive = on.positive; before = c.if-is_before.ensures.0 refl }), λ _. refl)
 
@@ -17,7 +17,7 @@ pub returns : goal.returns
 returns g c =
     let d = c.args.paths.now in
     let v = c.args.self.now in
-    let listed = frontier_list v c.self.inside.precursor_counts c.self.inside.frontier.items c.deref-member-items.result.now (vec_capacity c.self.inside.frontier) (ap (λ k. k.counts) c.self.view_is) c.deref-member-items.ensures.value c.self.invariant in
+    let listed = frontier_list v c.self.inside.stored.counts c.self.inside.frontier.items c.deref-member-items.result.now (vec_capacity c.self.inside.frontier) (ap (λ k. k.counts) c.self.view_is) c.deref-member-items.ensures.value c.self.invariant in
     let laws = c.order_is_partial.ensures in
     let order : IsOrder d = record { transitive = laws.transitive; strict = laws.strict; minimal = laws.minimal } in (
       λ e. absurd (true≢false (sym e)),

@@ -3,7 +3,7 @@ use Rattle.std.specs.FinMap.{put}
 use Rattle.std.proofs.lemmas.List.{get_or_default}
 use Rattle.nd_paths.specs.Point.{point_cmp}
 use Rattle.nd_map.specs.Counts.{keys_of}
-use Rattle.nd_view.specs.Links.{IsRun}
+use Rattle.nd_view.specs.Links.{IsRun, AreSmaller}
 use Rattle.nd_view.proofs.Runs.{onward, in_run}
 use Rattle.nd_view.proofs.Shifts.{IsShifted, shifted_skip, shifted_take, shifted_done, same_key, movable, many_keys, room, some}
 use Rattle.nd_view.proofs.keeping.shift.Goals as goal
@@ -34,8 +34,28 @@ is_strictly_before-requires g c = λ yes s t from to.
     let lt : k < length es = omega (arith, upto, within) in
     let was = get_or es k x in
     let key : x.0 ≡ was.0 = ap (λ e. e.0) is ∙ same_key es c.loop-k.precursor_counts k x c.loop-k.invariant.shifted.keys lt in
-    let place = (in_run es c.loop-i.invariant.shifted.listed c.loop-i.i end run within k (end - 1) was c.index-entries-end.result c.loop-k.auto.k (omega (arith, upto)) (omega (arith, upto)) (get_or_default es k x was lt) at).0 in
+    let place = (in_run es c.loop-i.invariant.shifted.listed c.loop-i.i end run within k (end - 1) was c.index-entries-end.result (omega (arith, c.loop-k.auto.k, c.epoch_from-start.ensures.from)) (omega (arith, upto)) (omega (arith, upto)) (get_or_default es k x was lt) at).0 in
     c.is_epochal-is_epochal.ensures yes s t from (to ∙ ap (λ p. p.location) key ∙ place ∙ ap (λ e. e.0.location) c.index-entries-end.is)
+
+-- the entries with smaller epochs
+pub loop-k-init : goal.loop-k-init
+loop-k-init g c =
+    let p = c.args.point.now in
+    let es = c.loop-i.precursor_counts in
+    let ks = keys_of es in
+    let start = c.epoch_from-start.result in
+    let last = c.index-entries-end.result in
+    let within : c.run_end-end.result ≤ length es = rw c.entries-entries.ensures.value at c.run_end-end.ensures.within in
+    let small : AreSmaller es c.loop-i.i start p.time.epoch = rw (c.entries-entries.ensures.value, c.epoch.ensures) at c.epoch_from-start.ensures.smaller in
+    let here : IsShifted c.args.paths.now c.args.counts.now p c.args.up ks c.loop-i.i es
+    = subst (λ keys. IsShifted c.args.paths.now c.args.counts.now p c.args.up keys c.loop-i.i es) (sym c.loop-i.invariant.shifted.keys) c.loop-i.invariant.shifted in
+    record {
+      size = refl;
+      shifted = onward (λ k. IsShifted c.args.paths.now c.args.counts.now p c.args.up ks k es) c.loop-i.i start c.epoch_from-start.ensures.from (λ k from upto shifted.
+          let e = get_or es k last in
+          let lt : k < length es = omega (arith, upto, within, c.epoch_from-start.ensures.upto) in
+          shifted_skip c.args.paths.now c.args.counts.now p c.args.up ks k es shifted e lt (get_or_default es k last e lt) (λ before. let rise = before.0.before.epoch in let less = small k last from upto in absurd (omega (arith, rise, less)))) here;
+    }
 
 pub moved_by_one-n-requires-clause-room : goal.moved_by_one-n-requires-clause-room
 moved_by_one-n-requires-clause-room g c = λ up.

@@ -1,0 +1,80 @@
+-- Precursor counts that are counted anew, entry by entry.
+use Rattle.std.proofs.Common.{◌≡◌, ◌≢◌, ◌<◌, ◌≤◌, ◌+◌, ℕ, ℤ, pos, List, [], length, get_or, Option, Some, None, refl, sym, ap, subst, ◌∙◌, inl, inr, arith}
+use Rattle.std.specs.Prelude.{◌<ℤ◌}
+use Rattle.std.specs.FinMap.{find, put}
+use Rattle.std.proofs.lemmas.List.{get_or_default}
+use Rattle.nd_map.specs.Listed.{IsListed}
+use Rattle.nd_map.specs.Maps.{listed-put}
+use Rattle.nd_graph.specs.Graph.{Dataflow}
+use Rattle.nd_paths.specs.Point.{point_cmp, point_total}
+use Rattle.nd_paths.specs.declared.point.Pointstamp.{Pointstamp}
+use Rattle.nd_delta.specs.Delta.{DeltaValue, at, entries}
+use Rattle.nd_delta.specs.Least.{at-index, place_of}
+use Rattle.nd_view.specs.View.{IsPrecursor, IsCount}
+use Rattle.nd_view.specs.Kept.{IsKeptAt, AreKept, IsFor, kept_of}
+use Rattle.nd_view.proofs.Moves.{alike, apart}
+use Rattle.nd_view.proofs.Parts.{IsAmong, split}
+use Rattle.nd_view.proofs.Shifts.{found_put, found_other}
+use Rattle.nd_map.specs.Cases.{not_zero}
+
+module _ (g : Dataflow) (m : DeltaValue) where
+  -- what is stored is right, and it is stored for the positive points among the first entries
+  pub record IsCountedUpTo (i : ℕ) (es : List (Pointstamp × ℕ)) : Type 0 where
+    pub listed : IsListed point_cmp es
+    pub kept : AreKept g m es
+    pub some : (q : Pointstamp) → IsAmong m i q → pos 0 <ℤ at m q → find point_cmp q es ≢ None
+
+  pub counted_none : (es : List (Pointstamp × ℕ)) → es ≡ [] → IsCountedUpTo 0 es
+  counted_none es e = record {
+    listed = subst (IsListed point_cmp) (sym e) tt;
+    kept = λ q n found. absurd (let none = ap (find point_cmp q) e in cc (none, found));
+    some = λ q among. absurd (omega (arith, among.early));
+  }
+
+  module _ (i : ℕ) (e : Pointstamp × ℤ) (lt : i < length (entries m)) (is : e ≡ get_or (entries m) i e) where
+    positive : pos 0 <ℤ at m e.0 → pos 0 <ℤ e.1
+    positive p = subst (λ z. pos 0 <ℤ z) (sym (at-index m i e lt is)) p
+
+    pub counted_skip : (es : List (Pointstamp × ℕ)) → (pos 0 <ℤ e.1 → ⊥) → IsCountedUpTo i es → IsCountedUpTo (i + 1) es
+    counted_skip es never h = record {
+      listed = h.listed;
+      kept = h.kept;
+      some = λ q among p. elim (split m (λ _. Unit {0}) (λ _. Unit {0}) i e lt is q among) [
+        | inl before ↦ h.some q before p
+        | inr same ↦ absurd (never (positive (subst (λ y. pos 0 <ℤ at m y) same p)))
+      ];
+    }
+
+    pub counted_take : (es fs : List (Pointstamp × ℕ)) (n : ℕ) → fs ≡ put point_cmp e.0 n es → pos 0 <ℤ e.1 → IsCount (IsPrecursor g m e.0) m n → IsCountedUpTo i es → IsCountedUpTo (i + 1) fs
+    counted_take es fs n put_is up counted h = record {
+      listed = subst (IsListed point_cmp) (sym put_is) (listed-put point_cmp point_total e.0 n es h.listed);
+      kept = λ q k found. elim (alike q e.0) [
+        | inl same ↦
+            let stored : find point_cmp q fs ≡ Some n = ap (find point_cmp q) put_is ∙ found_put q e.0 n es same in
+            subst (IsKeptAt g m q) (sym stored ∙ found) (subst (λ y. IsKeptAt g m y (Some n)) (sym same) (subst (λ z. pos 0 <ℤ z) (at-index m i e lt is) up, counted))
+        | inr other ↦ h.kept q k (sym (ap (find point_cmp q) put_is ∙ found_other q e.0 n es other) ∙ found)
+      ];
+      some = λ q among p none. elim (alike q e.0) [
+        | inl same ↦ let stored : find point_cmp q fs ≡ Some n = ap (find point_cmp q) put_is ∙ found_put q e.0 n es same in absurd (cc (stored, none))
+        | inr other ↦ elim (split m (λ _. Unit {0}) (λ _. Unit {0}) i e lt is q among) [
+          | inl before ↦ h.some q before p (sym (ap (find point_cmp q) put_is ∙ found_other q e.0 n es other) ∙ none)
+          | inr same ↦ absurd (apart q e.0 other same)
+        ]
+      ];
+    }
+
+  -- after the last entry
+  pub counted_done : (i : ℕ) (es : List (Pointstamp × ℕ)) → length (entries m) ≤ i → IsCountedUpTo i es → IsFor g (kept_of m es)
+  counted_done i es past h = record { listed = h.listed; each = λ q. by q (find point_cmp q es) refl }
+    where
+      by : (q : Pointstamp) (o : Option ℕ) → find point_cmp q es ≡ o → IsKeptAt g m q (find point_cmp q es)
+      by q None e = subst (IsKeptAt g m q) (sym e) (λ p.
+          let place = place_of m q (not_zero (at m q) p) in
+          h.some q
+          (record { index = place.index; early = omega (arith, place.in_range, past); in_range = place.in_range; is = ap (λ y. y.0) (get_or_default (entries m) place.index (q, pos 0) (q, at m q) place.in_range) ∙ place.is })
+          p e)
+      by q (Some n) e = subst (IsKeptAt g m q) (sym e) (h.kept q n e)
+
+-- each number that is stored in a view of a graph is right
+pub are_kept : (g : Dataflow) (m : DeltaValue) (es : List (Pointstamp × ℕ)) → IsFor g (kept_of m es) → AreKept g m es
+are_kept g m es h q n found = subst (IsKeptAt g m q) found (h.each q)

@@ -1,0 +1,96 @@
+-- What the count of a positive point says of the precursors of a later one at its location.
+use Rattle.std.proofs.Common.{◌≡◌, ◌≢◌, ◌≤◌, ◌+◌, ℕ, pos, List, length, get_or, Some, refl, sym, ap, subst, ◌∙◌, inl, inr, arith}
+use Rattle.std.specs.Prelude.{Contains}
+use Rattle.std.specs.FinMap.{find}
+use Rattle.nd_graph.specs.Graph.{Dataflow}
+use Rattle.nd_time.specs.Time.{IsLexicallyAtMost}
+use Rattle.nd_map.specs.Entries.{find-index}
+use Rattle.nd_map.specs.Listed.{IsListed}
+use Rattle.nd_paths.specs.Order.{HasDepth, IsWalk, effect, CouldResultIn, IsStrictlyBefore}
+use Rattle.nd_paths.specs.Point.{point_cmp, point_total}
+use Rattle.nd_paths.specs.declared.point.Pointstamp.{Pointstamp}
+use Rattle.nd_delta.specs.Delta.{DeltaValue, none, at, set, size, at-none, at-set_same, size-set, size-none}
+use Rattle.nd_map.specs.Cases.{not_zero, zero_or_not}
+use Rattle.nd_view.specs.View.{IsPrecursor, IsCount}
+use Rattle.nd_view.specs.Kept.{IsKeptAt, AreKept, IsEarlier, IsNear}
+use Rattle.nd_view.proofs.Moves.{alike, apart, at-elsewhere, count_small}
+
+-- none has a negative epoch
+pub count_nothing : (g : Dataflow) (m : DeltaValue) (t : Pointstamp) → IsCount (IsEarlier g m t 0) m 0
+count_nothing g m t = (
+  none,
+  record { all = λ q p. absurd (omega (arith, p.early)); only = λ q some. absurd (some (at-none q)) },
+  size-none,
+)
+
+module _ (g : Dataflow) (m : DeltaValue) (es : List (Pointstamp × ℕ)) (t : Pointstamp) (e : Pointstamp × ℕ) (listed : IsListed point_cmp es) (kept : AreKept g m es) (among : Contains es e) (near : IsNear e.0 t) where
+  -- what is stored for it is right
+  pub kept_near : IsKeptAt g m e.0 (Some e.1)
+  kept_near =
+      let found : find point_cmp (get_or es among.0 e).0 es ≡ Some (get_or es among.0 e).1 = find-index point_cmp point_total es among.0 e listed among.1 in
+      kept e.0 e.1 (subst (λ x. find point_cmp x.0 es ≡ Some x.1) among.2 found)
+
+  -- before the one and before the other
+  up : (x : Pointstamp) → CouldResultIn g x e.0 → CouldResultIn g x t
+  up x h = record {
+    fits_s = h.fits_s;
+    fits_t = record { depth = subst (λ cs. HasDepth g t.location (length cs)) (near.2 ∙ sym near.3) (subst (λ l. HasDepth g l (length e.0.time.counters)) near.0 h.fits_t.depth) };
+    walk = h.walk;
+    leads = subst (IsWalk g x.location h.walk) near.0 h.leads;
+    before = record { depth = h.before.depth ∙ ap length (near.2 ∙ sym near.3); epoch = omega (arith, h.before.epoch, near.1); counters = subst (IsLexicallyAtMost (effect h.walk x.time.counters)) (near.2 ∙ sym near.3) h.before.counters };
+  }
+
+  down : (x : Pointstamp) → x.time.epoch ≤ e.0.time.epoch → CouldResultIn g x t → CouldResultIn g x e.0
+  down x low h = record {
+    fits_s = h.fits_s;
+    fits_t = record { depth = subst (λ cs. HasDepth g e.0.location (length cs)) (near.3 ∙ sym near.2) (subst (λ l. HasDepth g l (length t.time.counters)) (sym near.0) h.fits_t.depth) };
+    walk = h.walk;
+    leads = subst (IsWalk g x.location h.walk) (sym near.0) h.leads;
+    before = record { depth = h.before.depth ∙ ap length (near.3 ∙ sym near.2); epoch = low; counters = subst (IsLexicallyAtMost (effect h.walk x.time.counters)) (near.3 ∙ sym near.2) h.before.counters };
+  }
+
+  -- a precursor of it is an earlier one of t
+  earlier_of : (x : Pointstamp) → IsPrecursor g m e.0 x → IsEarlier g m t (e.0.time.epoch + 1) x
+  earlier_of x p = let rise = p.before.0.before.epoch in record {
+    precursor = record { positive = p.positive; before = (up x p.before.0, λ same. let e_is = ap (λ q. q.time.epoch) same in omega (arith, e_is, rise, near.1)) };
+    early = omega (arith, rise);
+  }
+
+  precursor_of : (x : Pointstamp) → (x ≢ e.0) → IsEarlier g m t (e.0.time.epoch + 1) x → IsPrecursor g m e.0 x
+  precursor_of x other p = record { positive = p.precursor.positive; before = (down x (omega (arith, p.early)) p.precursor.before.0, other) }
+
+  pub near_few : e.1 ≤ size m
+  near_few = count_small (IsPrecursor g m e.0) m e.1 (λ q p. not_zero _ p.positive) kept_near.1
+
+  -- it is a precursor itself
+  pub count_with : IsStrictlyBefore g e.0 t → IsCount (IsEarlier g m t (e.0.time.epoch + 1)) m (e.1 + 1)
+  count_with before =
+      let f = kept_near.1.0 in
+      let part = kept_near.1.1 in
+      let v = at m e.0 in
+      let fresh : at f e.0 ≡ pos 0 = elim (zero_or_not (at f e.0)) [ inl z ↦ z | inr some ↦ absurd ((part.only e.0 some).before.1 refl) ] in (
+        set f e.0 v,
+        record {
+          all = λ q p. elim (alike q e.0) [
+            | inl same ↦ ap (at (set f e.0 v)) same ∙ at-set_same f e.0 v ∙ ap (at m) (sym same)
+            | inr other ↦ at-elsewhere f e.0 v q other ∙ part.all q (precursor_of q (apart q e.0 other) p)
+          ];
+          only = λ q some. elim (alike q e.0) [
+            | inl same ↦ subst (IsEarlier g m t (e.0.time.epoch + 1)) (sym same) (record { precursor = record { positive = kept_near.0; before = before }; early = omega arith })
+            | inr other ↦ earlier_of q (part.only q (λ z. some (at-elsewhere f e.0 v q other ∙ z)))
+          ];
+        },
+        size-set f e.0 v (not_zero v kept_near.0) fresh ∙ ap (λ k. k + 1) kept_near.1.2,
+      )
+
+  -- it is none
+  pub count_without : (IsStrictlyBefore g e.0 t → ⊥) → IsCount (IsEarlier g m t (e.0.time.epoch + 1)) m e.1
+  count_without never =
+      let part = kept_near.1.1 in (
+        kept_near.1.0,
+        record {
+          all = λ q p. part.all q (precursor_of q (λ same. never (subst (λ z. IsStrictlyBefore g z t) same p.precursor.before)) p);
+          only = λ q some. earlier_of q (part.only q some);
+        },
+        kept_near.1.2,
+      )

@@ -1,0 +1,317 @@
+//! The counts of pointstamps, and beside them what is stored of the positive ones, changed together.
+
+ghost use Rattle.std.specs.Prelude.{◌≡◌, ◌≢◌, [], ◌∷◌, ◌↔◌, ◌≤◌, ◌<ℤ◌, ◌+◌, ◌*◌, ◌+ℤ◌, ◌-ℤ◌, cond, pos, length, unsigned_abs, vec_capacity, OnOk, OnErr, IfOk, IfSome, IsNone, IsTrue};
+ghost use Rattle.nd_time.specs.Limits.{max_count};
+ghost use Rattle.nd_graph.specs.Graph.{Dataflow};
+ghost use Rattle.nd_map.specs.Listed.{IsListed};
+ghost use Rattle.nd_paths.specs.Point.{point_cmp};
+ghost use Rattle.nd_delta.specs.declared.DeltaFault.{DeltaFault};
+ghost use Rattle.nd_delta.specs.Delta.{none, at, set, combined, IsTooLarge};
+ghost use Rattle.nd_view.specs.View.{IsPrecursor, IsCount};
+ghost use Rattle.nd_view.specs.Kept.{IsKeptAt, IsFor, IsFrontierList};
+ghost use Rattle.nd_view.specs.Room.{IsWithinRoom, AreWithin, IsAdded};
+
+use crate::entry_tests::takes_room;
+use crate::keeping::{count_before, counted_anew, list_zeros, shift};
+use nd_delta::{Delta, DeltaFault, LIMIT};
+use nd_map::SortedMap;
+use nd_paths::{Paths, Pointstamp};
+use std::alloc::{AllocError, Allocator, Global};
+use std::marker::Model;
+
+/// The counts of pointstamps, and for each positive one the number of positive ones strictly before it.
+pub struct Stored<A: Allocator = Global> {
+    counts: Delta<A>,
+    precursor_counts: SortedMap<Pointstamp, u64, A>,
+}
+
+impl<A: Allocator> Drop for Stored<A> {
+    fn drop(self) {
+        let Stored {
+            counts: _,
+            precursor_counts: _,
+        } = self;
+    }
+}
+
+impl<A: Allocator> Model for Stored<A> {
+    ghost use Rattle.nd_view.specs.Kept.{Kept, kept_code};
+
+    ghost Value = { Kept };
+
+    ghost coded = { kept_code };
+
+    ghost view = { λ a. record { map = a.counts; counts = a.precursor_counts } };
+}
+
+// A count with so many more, or so many fewer.
+fn counted(old: i64, by: i64, minus: bool) -> i64
+    requires old { unsigned_abs old ≤ max_count }
+    requires by { unsigned_abs by ≤ max_count }
+    ensures value { result ≡ cond minus (old -ℤ by) (old +ℤ by) }
+    ensures fits { unsigned_abs result ≤ 2 * max_count }
+{
+    if minus { old - by } else { old + by }
+}
+
+// Whether a count is within the limit.
+fn is_within(n: i64) -> bool
+    ensures { IsTrue result ↔ (unsigned_abs n ≤ max_count) }
+{
+    n <= LIMIT && n >= -LIMIT
+}
+
+// The first of some entries and the others, if there are any.
+fn first_and_rest<'a>(
+    entries: &'a [(Pointstamp, i64)],
+) -> Option<(&'a (Pointstamp, i64), &'a [(Pointstamp, i64)])>
+    requires listed { IsListed point_cmp entries.now }
+    requires within { AreWithin entries.now }
+    ensures nothing { IsNone result → length entries.now ≡ 0 }
+    ensures parts { IfSome result (λ p. entries.now ≡ p.0.now ∷ p.1.now) }
+    ensures listed { IfSome result (λ p. IsListed point_cmp p.1.now) }
+    ensures within { IfSome result (λ p. AreWithin p.1.now) }
+    ensures first { IfSome result (λ p. unsigned_abs p.0.now.1 ≤ max_count) }
+{
+    let Some((first, rest)) = entries.split_first() else {
+        return None;
+    };
+    Some((first, rest))
+}
+
+impl<A: Allocator> Stored<A> {
+    /// No entry, for whichever paths. It takes no memory.
+    pub fn new(alloc: A) -> Stored<A>
+    where
+        A: Copy,
+        ensures value { result.map ≡ none }
+        ensures empty { result.counts ≡ [] }
+        ensures for_all { (g : Dataflow) → IsFor g result }
+    {
+        Stored {
+            counts: Delta::new(alloc),
+            precursor_counts: SortedMap::new(alloc),
+        }
+    }
+
+    /// These counts, with the precursor counts counted anew.
+    pub fn of<B: Allocator>(
+        alloc: A,
+        counts: Delta<A>,
+        paths: &Paths<B>,
+    ) -> Result<Stored<A>, AllocError>
+        ensures map { IfOk result (λ s. s.map ≡ counts) }
+        ensures paths { IfOk result (IsFor paths.now) }
+    {
+        let precursor_counts = counted_anew(alloc, &counts, paths)?;
+        Ok(Stored {
+            counts,
+            precursor_counts,
+        })
+    }
+
+    /// The counts.
+    pub fn counts(&self) -> &Delta<A>
+        ensures { result.now ≡ self.now.map }
+    {
+        &self.counts
+    }
+
+    /// The precursor count of a positive pointstamp.
+    pub fn kept(&self, point: &Pointstamp) -> Option<u64>
+        ensures { (g : Dataflow) → IsFor g self.now → IsKeptAt g self.now.map point.now result }
+    {
+        self.precursor_counts.get(point)
+    }
+
+    /// The number of positive entries.
+    pub fn positive(&self) -> usize
+        ensures { result ≡ length self.now.counts }
+    {
+        self.precursor_counts.len()
+    }
+
+    /// Lists the pointstamps whose precursor count is 0. It takes no memory.
+    pub fn list_frontier(&self, frontier: &mut Vec<Pointstamp, A>)
+        requires { length self.now.counts ≤ vec_capacity frontier.old }
+        ensures { IsFrontierList self.now.counts frontier.new.items (vec_capacity frontier.new) }
+    {
+        list_zeros(self.precursor_counts.entries(), frontier);
+    }
+
+    /// The same in another place.
+    pub fn copy(&self, alloc: A) -> Result<Stored<A>, AllocError>
+    where
+        A: Copy,
+        ensures { IfOk result (λ s. s ≡ self.now) }
+    {
+        Ok(Stored {
+            counts: self.counts.copy(alloc)?,
+            precursor_counts: self.precursor_counts.copy(alloc)?,
+        })
+    }
+
+    /// Why a change is refused that gets no memory or passes the limit.
+    pub fn refusal(&self, delta: &Delta<A>, minus: bool) -> DeltaFault
+        ensures { (result ≡ DeltaFault.DeltaFull) ↔ IsTooLarge (combined minus self.now.map delta.now) }
+    {
+        if self.counts.is_overfull(delta, minus) {
+            DeltaFault::DeltaFull
+        } else {
+            DeltaFault::Memory
+        }
+    }
+
+    /// The number of positive entries strictly before a pointstamp.
+    pub fn count_before<B: Allocator>(&self, paths: &Paths<B>, point: &Pointstamp) -> u64
+        requires { IsFor paths.now self.now }
+        ensures { IsCount (IsPrecursor paths.now self.now.map point.now) self.now.map result }
+    {
+        count_before(&self.counts, self.precursor_counts.entries(), paths, point)
+    }
+
+    // Gives a pointstamp a count of the same sign.
+    fn stay(&mut self, point: &Pointstamp, n: i64) -> Result<(), AllocError>
+        requires within { unsigned_abs n ≤ max_count }
+        requires sign { (pos 0 <ℤ n) ↔ (pos 0 <ℤ at self.old.map point.now) }
+        ensures ok { OnOk result (self.new.map ≡ set self.old.map point.now n) }
+        ensures paths { (g : Dataflow) → IsFor g self.old → IsFor g self.new }
+        ensures err { OnErr result (self.new ≡ self.old) }
+        ensures absent { OnErr result (at self.old.map point.now ≡ pos 0) }
+        ensures some { OnErr result (n ≢ pos 0) }
+        ensures stored { self.new.counts ≡ self.old.counts }
+    {
+        self.counts.put(point, n)
+    }
+
+    // Gives a pointstamp that is not positive a positive count.
+    fn come<B: Allocator>(
+        &mut self,
+        paths: &Paths<B>,
+        point: &Pointstamp,
+        n: i64,
+    ) -> Result<(), AllocError>
+        requires paths { IsFor paths.now self.old }
+        requires within { unsigned_abs n ≤ max_count }
+        requires was { pos 0 <ℤ at self.old.map point.now → ⊥ }
+        requires is { pos 0 <ℤ n }
+        ensures ok { OnOk result (self.new.map ≡ set self.old.map point.now n) }
+        ensures paths { IsFor paths.now self.new }
+        ensures err { OnErr result (self.new.map ≡ self.old.map) }
+        ensures size { length self.new.counts ≤ length self.old.counts + 1 }
+    {
+        let count = self.count_before(paths, point);
+        self.precursor_counts.put(point, count)?;
+        let Ok(()) = self.counts.put(point, n) else {
+            self.precursor_counts.remove(point);
+            return Err(AllocError);
+        };
+        shift(&mut self.precursor_counts, &self.counts, paths, point, true);
+        Ok(())
+    }
+
+    // Gives a positive pointstamp a count that is not. It takes no memory.
+    fn go<B: Allocator>(&mut self, paths: &Paths<B>, point: &Pointstamp, n: i64)
+        requires paths { IsFor paths.now self.old }
+        requires within { unsigned_abs n ≤ max_count }
+        requires was { pos 0 <ℤ at self.old.map point.now }
+        requires is { pos 0 <ℤ n → ⊥ }
+        ensures ok { self.new.map ≡ set self.old.map point.now n }
+        ensures paths { IsFor paths.now self.new }
+        ensures size { length self.new.counts ≤ length self.old.counts }
+    {
+        let Ok(()) = self.counts.put(point, n) else {
+            return;
+        };
+        self.precursor_counts.remove(point);
+        shift(
+            &mut self.precursor_counts,
+            &self.counts,
+            paths,
+            point,
+            false,
+        );
+    }
+
+    // Gives a pointstamp a count that takes memory in the place of the one that it has.
+    fn enter<B: Allocator>(
+        &mut self,
+        paths: &Paths<B>,
+        point: &Pointstamp,
+        n: i64,
+    ) -> Result<(), AllocError>
+        requires paths { IsFor paths.now self.old }
+        requires within { unsigned_abs n ≤ max_count }
+        requires room { IsWithinRoom (at self.old.map point.now) n → ⊥ }
+        ensures ok { OnOk result (self.new.map ≡ set self.old.map point.now n) }
+        ensures paths { IsFor paths.now self.new }
+        ensures err { OnErr result (self.new.map ≡ self.old.map) }
+        ensures size { length self.new.counts ≤ length self.old.counts + 1 }
+    {
+        if n > 0 {
+            self.come(paths, point, n)
+        } else {
+            self.stay(point, n)
+        }
+    }
+
+    // Gives a pointstamp a count that takes no memory in the place of the one that it has.
+    fn leave<B: Allocator>(&mut self, paths: &Paths<B>, point: &Pointstamp, was: i64, n: i64)
+        requires paths { IsFor paths.now self.old }
+        requires within { unsigned_abs n ≤ max_count }
+        requires was { was ≡ at self.old.map point.now }
+        requires room { IsWithinRoom was n }
+        ensures ok { self.new.map ≡ set self.old.map point.now n }
+        ensures paths { IsFor paths.now self.new }
+        ensures size { length self.new.counts ≤ length self.old.counts }
+    {
+        if was > 0 && n <= 0 {
+            self.go(paths, point, n);
+        } else {
+            let Ok(()) = self.stay(point, n) else {
+                return;
+            };
+        }
+    }
+
+    /// Adds the entries of a change, or takes them back, and says whether: all of them or, if one passes the limit
+    /// or memory is refused, none. What takes memory is done on the way down, the rest on the way up.
+    pub fn add<B: Allocator>(
+        &mut self,
+        paths: &Paths<B>,
+        entries: &[(Pointstamp, i64)],
+        minus: bool,
+    ) -> bool
+        requires paths { IsFor paths.now self.old }
+        requires listed { IsListed point_cmp entries.now }
+        requires within { AreWithin entries.now }
+        ensures added { IsTrue result → IsAdded minus entries.now self.old.map self.new.map }
+        ensures none { (IsTrue result → ⊥) → self.new.map ≡ self.old.map }
+        ensures paths { IsFor paths.now self.new }
+        ensures size { length self.new.counts ≤ length self.old.counts + length entries.now }
+    {
+        let Some((entry, others)) = first_and_rest(entries) else {
+            return true;
+        };
+        let was = self.counts.get(&entry.0);
+        let n = counted(was, entry.1, minus);
+        if !is_within(n) {
+            return false;
+        }
+        if !takes_room(was, n) {
+            if !self.add(paths, others, minus) {
+                return false;
+            }
+            self.leave(paths, &entry.0, was, n);
+            return true;
+        }
+        let Ok(()) = self.enter(paths, &entry.0, n) else {
+            return false;
+        };
+        if !self.add(paths, others, minus) {
+            self.leave(paths, &entry.0, n, was);
+            return false;
+        }
+        true
+    }
+}
