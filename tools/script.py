@@ -2,6 +2,7 @@
 the breakpoints, and the errors by their numbers. docs/SCRIPT.md has it in words.
 
 'tools/test_tell' compares the grammar with the program, on each form and on thousands of lines with one change."""
+import json
 
 STEPS = {
     "feed": {"p": "small", "vertex": "vertex", "values": "values", "next": "next"},
@@ -52,6 +53,11 @@ ERRORS = {
     32: "UnknownName", 33: "LineTooLong", 34: "BadTime", 35: "BadClient", 36: "OneClientOnly", 50: "BadRange", 51: "NoWorkers",
     52: "Missing",
 }  # fmt: skip
+
+
+def line(word, *values, **others):
+    """The line of a word: its values in the order of the keys above, of which the last may be left out, and other members."""
+    return json.dumps({**others, "do": word, **dict(zip(FORMS[word], values))}, separators=(",", ":"))
 
 
 def words_of(version):

@@ -3,8 +3,8 @@ ghost use Rattle.std.specs.Prelude.{◌≡◌, IfOk};
 ghost use Rattle.nd_shown.specs.StateText.{state_data};
 
 use crate::Cluster;
-use nd_protocol::NoMemory;
 use nd_json::Json;
+use nd_protocol::NoMemory;
 use nd_shown::state_value;
 use std::alloc::{AllocError, Allocator, Global};
 

@@ -11,11 +11,11 @@ ghost use Rattle.nd_view.specs.Kept.{Kept};
 ghost use Rattle.nd_shown.specs.StateText.{name_at as name_in, place, row, time_data, point_data, item_data, record_data, sink_data, token_data, entry_data, queue_data, queues_data, entries_data, processor_data, processor_members, whole_members, state_data};
 
 use nd_graph::Graph;
+use nd_json::{Json, JsonList, list_of, reply};
 use nd_map::{Iter, Key};
 use nd_mesh::Mesh;
 use nd_paths::Pointstamp;
 use nd_processor::{Processor, SinkKey, ValueAt};
-use nd_json::{Json, JsonList, list_of, reply};
 use nd_time::Timestamp;
 use nd_vertex::ItemKey;
 use nd_view::View;

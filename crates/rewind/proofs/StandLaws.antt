@@ -23,7 +23,7 @@ use Rattle.rewind.proofs.RunLaws.{Run-push}
 pub phase_of-goes_on : (stage : Stage) → phase_of stage ≡ refused → ⊥
 phase_of-goes_on (Unopened processors) e = cc
 phase_of-goes_on (Unstarted version processors) e = cc
-phase_of-goes_on (Running version machine) e = cc
+phase_of-goes_on (Running script) e = cc
 
 -- the line is answered
 all-ran : (n : ℕ) (done sent : List ℕ) (run : declared.Run) (number : ℕ) (reading : Reading) (s : Stands n done sent run) (replies : List Data) (new : Phase)

@@ -25,12 +25,12 @@ use Rattle.rewind_forms.specs.declared.fault.LineFault.{LineFault}
 use Rattle.rewind_forms.specs.declared.fault.LineFault.TheVariants as line
 use Rattle.std.specs.declared.alloc.Global.{Global}
 use Rattle.nd_time.specs.Limits.{max_log}
-use Rattle.nd_watch.specs.declared.watch.Break.{Break}
 use Rattle.nd_timeline.specs.Timeline.{TimelineValue, cluster_of}
 use Rattle.nd_search.specs.Least.{HoldsAt, IsLeast as IsLeastHit}
 use Rattle.nd_search.specs.Answers.{MaySearch, SearchFails}
 use Rattle.nd_search.specs.declared.fault.SearchFault.{SearchFault}
 use Rattle.rewind_forms.specs.declared.queries.Query.{Query}
+use Rattle.rewind_forms.specs.declared.queries.Search.{Search}
 use Rattle.nd_timeline.specs.Moves.{Moves}
 use Rattle.nd_timeline.specs.declared.command.Command.{Command}
 use Rattle.nd_timeline.specs.declared.reply.Reply.{Reply}
@@ -107,17 +107,17 @@ answered_at P m s query asked (Err x) same is means reply = reply
 
 -- ---- searches, of the timeline of a snapshot
 
-pub found_replies : (m t : TimelineValue Global) (when : Break) (lo hi workers : ℕ) (least : Option ℕ) (r : Result Data AllocError) → t ≡ m → MaySearch (length t.kept) lo hi workers
-    → IsLeastHit (HoldsAt t when) lo hi least → IfOk r (λ v. v ≡ found_data least) → IfOk r (λ v. SearchReply m when lo hi workers v)
-found_replies m t when lo hi workers least (Ok v) same may hit told =
-    searched least (subst (λ (u : TimelineValue Global). MaySearch (length u.kept) lo hi workers) same may)
-    (subst (λ (u : TimelineValue Global). IsLeastHit (HoldsAt u when) lo hi least) same hit) told
-found_replies m t when lo hi workers least (Err x) same may hit told = told
+pub found_replies : (m t : TimelineValue Global) (s : Search) (least : Option ℕ) (r : Result Data AllocError) → t ≡ m → MaySearch (length t.kept) s.lo s.hi s.workers
+    → IsLeastHit (HoldsAt t s.when) s.lo s.hi least → IfOk r (λ v. v ≡ found_data least) → IfOk r (λ v. SearchReply m s v)
+found_replies m t s least (Ok v) same may hit told =
+    searched least (subst (λ (u : TimelineValue Global). MaySearch (length u.kept) s.lo s.hi s.workers) same may)
+    (subst (λ (u : TimelineValue Global). IsLeastHit (HoldsAt u s.when) s.lo s.hi least) same hit) told
+found_replies m t s least (Err x) same may hit told = told
 
-pub failed_replies : (m t : TimelineValue Global) (when : Break) (lo hi workers : ℕ) (e : SearchFault Global) (r : Result Data AllocError) → t ≡ m
-    → SearchFails t when lo hi workers e → IfOk r (λ v. Some v ≡ search_fault e) → IfOk r (λ v. SearchReply m when lo hi workers v)
-failed_replies m t when lo hi workers e (Ok v) same why told = unanswered e (subst (λ (u : TimelineValue Global). SearchFails u when lo hi workers e) same why) told
-failed_replies m t when lo hi workers e (Err x) same why told = told
+pub failed_replies : (m t : TimelineValue Global) (s : Search) (e : SearchFault Global) (r : Result Data AllocError) → t ≡ m
+    → SearchFails t s.when s.lo s.hi s.workers e → IfOk r (λ v. Some v ≡ search_fault e) → IfOk r (λ v. SearchReply m s v)
+failed_replies m t s e (Ok v) same why told = unanswered e (subst (λ (u : TimelineValue Global). SearchFails u s.when s.lo s.hi s.workers e) same why) told
+failed_replies m t s e (Err x) same why told = told
 
 -- ---- starts
 

@@ -21,6 +21,7 @@ use Rattle.rewind_forms.specs.Replies.{exported, kept_step, changed, why}
 use Rattle.rewind_forms.specs.Objects.{object_of}
 use Rattle.rewind_forms.specs.Reasons.{reasons_data}
 use Rattle.rewind_forms.specs.Changes.{changes_data}
+use Rattle.rewind_forms.specs.declared.queries.ViewChanges.{ViewChanges}
 use Rattle.rewind_answers.specs.Explained.{steps_data, ExportReply, StepReply, TellsWhy, WhyReply, ChangesReply, told, untold, changes_fault}
 
 -- ---- kept steps, by the graph that was read
@@ -55,12 +56,13 @@ why_replies s q t g accounts p f d (Err e) there same whole has_passed is_finish
 
 -- ---- changes
 
-pub told_replies : (m : TimelineValue Global) (q : ℕ) (x : Pointstamp) (lo hi : ℕ) (telling : Told Global) (d : Data) (r : Result Data AllocError) → MayTell m q lo hi → IsTold (changes_of m q x lo hi) telling
-    → d ≡ changes_data telling.changes → IfOk r (λ v. v ≡ changed d telling.more) → IfOk r (λ v. ChangesReply m q x lo hi v)
-told_replies m q x lo hi telling d (Ok v) may is shown reply = told telling may is (reply ∙ ap (λ e. changed e telling.more) shown)
-told_replies m q x lo hi telling d (Err e) may is shown reply = reply
+pub told_replies : (m : TimelineValue Global) (asked : ViewChanges) (telling : Told Global) (d : Data) (r : Result Data AllocError) → MayTell m asked.q asked.lo asked.hi
+    → IsTold (changes_of m asked.q asked.point asked.lo asked.hi) telling → d ≡ changes_data telling.changes → IfOk r (λ v. v ≡ changed d telling.more)
+    → IfOk r (λ v. ChangesReply m asked v)
+told_replies m asked telling d (Ok v) may is shown reply = told telling may is (reply ∙ ap (λ e. changed e telling.more) shown)
+told_replies m asked telling d (Err e) may is shown reply = reply
 
-pub untold_replies : (m : TimelineValue Global) (q : ℕ) (x : Pointstamp) (lo hi : ℕ) (e : ChangesFault) (r : Result Data AllocError) → CannotTell m q lo hi e → IfOk r (λ v. Some v ≡ changes_fault e)
-    → IfOk r (λ v. ChangesReply m q x lo hi v)
-untold_replies m q x lo hi e (Ok v) cannot reply = untold e cannot reply
-untold_replies m q x lo hi e (Err y) cannot reply = reply
+pub untold_replies : (m : TimelineValue Global) (asked : ViewChanges) (e : ChangesFault) (r : Result Data AllocError) → CannotTell m asked.q asked.lo asked.hi e
+    → IfOk r (λ v. Some v ≡ changes_fault e) → IfOk r (λ v. ChangesReply m asked v)
+untold_replies m asked e (Ok v) cannot reply = untold e cannot reply
+untold_replies m asked e (Err y) cannot reply = reply

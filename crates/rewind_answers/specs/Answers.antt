@@ -22,7 +22,6 @@ use Rattle.nd_shown.specs.StateText.{state_data, entries_data, point_data}
 use Rattle.nd_protocol.specs.Start.{start}
 use Rattle.nd_cluster.specs.Starting.{IsStartFault, CanStart, start_code}
 use Rattle.nd_cluster.specs.declared.start.StartFault.TheVariants as start_fault
-use Rattle.nd_watch.specs.declared.watch.Break.{Break}
 use Rattle.nd_timeline.specs.Timeline.{TimelineValue, cluster_of, opened}
 use Rattle.nd_timeline.specs.Moves.{MachineValue, Moves, without_breaks}
 use Rattle.nd_timeline.specs.declared.command.Command.{Command}
@@ -45,6 +44,7 @@ use Rattle.rewind_forms.specs.declared.fault.LineFault.{LineFault}
 use Rattle.rewind_forms.specs.declared.fault.LineFault.TheVariants.{LineTooLong, BadLine}
 use Rattle.rewind_forms.specs.declared.asked.Asked.{Asked}
 use Rattle.rewind_forms.specs.declared.asked.Asked.TheVariants.{Do, Tell}
+use Rattle.rewind_forms.specs.declared.queries.Search.{Search as Searching}
 use Rattle.rewind_forms.specs.declared.queries.Query.{Query}
 use Rattle.rewind_forms.specs.declared.queries.Query.TheVariants.{State, Count, Before, View, Frontier, Passed, Search, Export, Why, Changes, Step}
 use Rattle.rewind_answers.specs.Explained.{WhyReply, ChangesReply, ExportReply, StepReply}
@@ -121,6 +121,10 @@ session_fault e = fault (code_of_session e)
 abbrev pub true_count : ClusterState → Pointstamp → ℕ
 true_count s x = unsigned_abs (at (truth s.processors) x)
 
+-- whether one pointstamp could result in another
+abbrev pub BeforeReply : Dataflow → Pointstamp → Pointstamp → Data → Type 0
+BeforeReply g x y reply = (b : Bool) × (IsTrue b ↔ CouldResultIn g x y) × (reply ≡ before b)
+
 -- the entries of processor q's view
 abbrev pub ViewReply : ClusterState → ℕ → Data → Type 0
 ViewReply s q reply =
@@ -150,23 +154,23 @@ search_fault e = Some (fault (code_of_search e))
 
 -- A search is answered by the least position at which the breakpoint holds, or by null if it holds at none; or by the first of the faults
 -- whose condition holds; or by a piece that is missing, before which there is no such position.
-pub data SearchReply (m : TimelineValue Global) (when : Break) (lo hi workers : ℕ) (reply : Data) : Type 0 where
-  searched : (least : Option ℕ) → MaySearch (length m.kept) lo hi workers → IsLeastHit (HoldsAt m when) lo hi least → reply ≡ found least
-      → SearchReply m when lo hi workers reply
-  unanswered : (e : SearchFault Global) → SearchFails m when lo hi workers e → Some reply ≡ search_fault e → SearchReply m when lo hi workers reply
+pub data SearchReply (m : TimelineValue Global) (s : Searching) (reply : Data) : Type 0 where
+  searched : (least : Option ℕ) → MaySearch (length m.kept) s.lo s.hi s.workers → IsLeastHit (HoldsAt m s.when) s.lo s.hi least
+      → reply ≡ found least → SearchReply m s reply
+  unanswered : (e : SearchFault Global) → SearchFails m s.when s.lo s.hi s.workers e → Some reply ≡ search_fault e → SearchReply m s reply
 
 -- the reply to a query, asked of a timeline: of its cluster at the cursor, or of all that it keeps
 abbrev pub QueryReply : TimelineValue Global → Query → Data → Type 0
 QueryReply m State reply = reply ≡ state (state_data (cluster_of m))
 QueryReply m (Count x) reply = reply ≡ count (true_count (cluster_of m) x)
-QueryReply m (Before x y) reply = (b : Bool) × (IsTrue b ↔ CouldResultIn (cluster_of m).graph x y) × (reply ≡ before b)
+QueryReply m (Before x y) reply = BeforeReply (cluster_of m).graph x y reply
 QueryReply m (View q) reply = ViewReply (cluster_of m) q reply
 QueryReply m (Frontier q) reply = FrontierReply (cluster_of m) q reply
 QueryReply m (Passed q x) reply = PassedReply (cluster_of m) q x reply
-QueryReply m (Search when lo hi workers) reply = SearchReply m when lo hi workers reply
+QueryReply m (Search s) reply = SearchReply m s reply
 QueryReply m Export reply = ExportReply m reply
 QueryReply m (Why q x) reply = WhyReply (cluster_of m) q x reply
-QueryReply m (Changes q x lo hi) reply = ChangesReply m q x lo hi reply
+QueryReply m (Changes asked) reply = ChangesReply m asked reply
 QueryReply m (Step to) reply = StepReply m to reply
 
 -- A command is answered by a move of the machine, shown with the names of the graph, and is logged; or, exactly if the log is full, by that; or by out of memory.

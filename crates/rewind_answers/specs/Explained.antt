@@ -25,6 +25,7 @@ use Rattle.rewind_forms.specs.Replies.{fault, no_processor, exported, kept_step,
 use Rattle.rewind_forms.specs.Objects.{object_of}
 use Rattle.rewind_forms.specs.Reasons.{reasons_data}
 use Rattle.rewind_forms.specs.Changes.{changes_data}
+use Rattle.rewind_forms.specs.declared.queries.ViewChanges.{ViewChanges}
 
 -- ---- kept steps
 
@@ -66,9 +67,9 @@ abbrev pub changes_fault : ChangesFault → Option Data
 changes_fault changes.Memory = None
 changes_fault e = Some (fault (code_of_changes e))
 
--- The changes of processor q's view at a pointstamp are told, the first of them and whether there are more; or the first of the faults
+-- The changes that were asked for are told, the first of them and whether there are more; or the first of the faults
 -- whose condition holds.
-pub data ChangesReply (m : TimelineValue Global) (q : ℕ) (x : Pointstamp) (lo hi : ℕ) (reply : Data) : Type 0 where
-  told : (telling : Told Global) → MayTell m q lo hi → IsTold (changes_of m q x lo hi) telling → reply ≡ changed (changes_data telling.changes) telling.more
-      → ChangesReply m q x lo hi reply
-  untold : (e : ChangesFault) → CannotTell m q lo hi e → Some reply ≡ changes_fault e → ChangesReply m q x lo hi reply
+pub data ChangesReply (m : TimelineValue Global) (c : ViewChanges) (reply : Data) : Type 0 where
+  told : (telling : Told Global) → MayTell m c.q c.lo c.hi → IsTold (changes_of m c.q c.point c.lo c.hi) telling
+      → reply ≡ changed (changes_data telling.changes) telling.more → ChangesReply m c reply
+  untold : (e : ChangesFault) → CannotTell m c.q c.lo c.hi e → Some reply ≡ changes_fault e → ChangesReply m c reply

@@ -1,10 +1,13 @@
 -- The phases that a run's values stand for.
-use Rattle.std.specs.Prelude.{Bool, true, false, List, [], ◌∷◌, length, Option, Some, None}
+use Rattle.std.specs.Prelude.{Bool, true, false, ℕ, List, [], ◌∷◌, length, Option, Some, None, Result}
 use Rattle.serde_json.specs.Data.{Data}
 use Rattle.std.specs.declared.alloc.Global.{Global}
+use Rattle.nd_graph.specs.Graph.{Dataflow}
+use Rattle.nd_graph.specs.declared.fault.GraphFault.{GraphFault}
 use Rattle.nd_session.specs.State.{StateValue}
 use Rattle.rewind_forms.specs.declared.version.Version.{Version}
-use Rattle.rewind_answers.specs.Answers.{Logged, Phase, unopened, unstarted, running, refused}
+use Rattle.rewind_answers.specs.Answers.{Logged, Phase, unopened, unstarted, running, refused, StartReplies}
+use Rattle.rewind_answers.specs.declared.stage.Script.{Script}
 use Rattle.rewind_answers.specs.declared.stage.Stage.{Stage}
 use Rattle.rewind_answers.specs.declared.stage.Stage.TheVariants.{Unopened, Unstarted, Running}
 
@@ -12,15 +15,22 @@ use Rattle.rewind_answers.specs.declared.stage.Stage.TheVariants.{Unopened, Unst
 abbrev pub logged : StateValue Global → Logged
 logged s = record { machine = s.machine; entries = length s.log }
 
+abbrev pub phase_in : Script → Phase
+phase_in script = running script.version (logged script.state)
+
 abbrev pub phase_of : Stage → Phase
 phase_of (Unopened processors) = unopened processors
 phase_of (Unstarted v processors) = unstarted v processors
-phase_of (Running v state) = running v (logged state)
+phase_of (Running script) = phase_in script
 
 -- the phase after the graph's line, with a `State` or none
 abbrev pub phase_of_start : Version → Option (StateValue Global) → Phase
 phase_of_start v None = refused
 phase_of_start v (Some state) = running v (logged state)
+
+-- the reply to the graph's line, and the `State` with which its script runs from then on, if one does
+abbrev pub Starts : Version → ℕ → Result Dataflow GraphFault → Data → Option (StateValue Global) → Type 0
+Starts v processors graph reply state = StartReplies v processors graph (reply ∷ []) (phase_of_start v state)
 
 -- the phase after an answer, the last one or not
 abbrev pub phase_after : Bool → Stage → Phase

@@ -2,12 +2,13 @@
 ghost use Rattle.std.specs.Prelude.{◌≡◌, ◌∷◌, [], Ok, IfOk};
 ghost use Rattle.nd_graph.specs.Fault.{IsUnlessMemory};
 ghost use Rattle.serde_json.specs.View.{view};
-ghost use Rattle.rewind_answers.specs.Answers.{running, checked_in, graph_of as graph_in, most_processors as most_in, StartReplies, LineReplies, AskedReply, CommandReply};
-ghost use Rattle.rewind_answers.specs.Stages.{logged, phase_of_start};
+ghost use Rattle.rewind_answers.specs.Answers.{checked_in, graph_of as graph_in, most_processors as most_in, LineReplies, AskedReply, CommandReply};
+ghost use Rattle.rewind_answers.specs.Stages.{Starts, logged, phase_in};
 ghost use Rattle.nd_protocol.specs.Invariant.{KeepsProtocol};
 ghost use Rattle.nd_timeline.specs.Timeline.{cluster_of};
 
 use crate::query::answer_query;
+use crate::stage::Script;
 use nd_cluster::{Cluster, StartFault};
 use nd_graph::{Graph, GraphDraft, GraphFault};
 use nd_json::Json;
@@ -59,7 +60,7 @@ fn start_on(
     processors: u8,
     graph: Graph,
 ) -> Result<(Json, Option<State>), AllocError>
-    ensures replies { IfOk result (λ r. StartReplies version processors (Ok graph) (r.0 ∷ []) (phase_of_start version r.1)) }
+    ensures replies { IfOk result (λ r. Starts version processors (Ok graph) r.0 r.1) }
 {
     if processors > most_processors(version) {
         return Ok((replies::fault(alloc, StartFault::BadCount.code())?, None));
@@ -93,7 +94,7 @@ pub fn answer_first(
     value: &Value,
 ) -> Result<(Json, Option<State>), AllocError>
     ensures replies { IfOk result (λ r.
-        StartReplies version processors (graph_in version (view value.now)) (r.0 ∷ []) (phase_of_start version r.1)) }
+        Starts version processors (graph_in version (view value.now)) r.0 r.1) }
 {
     let graph = match graph_of(alloc, version, value) {
         Ok(graph) => graph,
@@ -113,7 +114,8 @@ pub fn cluster(state: &State) -> &Cluster
 
 // Has a command answered and logged, and replies.
 fn answer_do(alloc: Global, state: &mut State, command: Command) -> Result<Json, AllocError>
-    ensures reply { IfOk result (λ v. CommandReply (logged state.old) command v (logged state.new)) }
+    ensures reply { IfOk result (λ v.
+        CommandReply (logged state.old) command v (logged state.new)) }
 {
     match state.answer(ONLY_CLIENT, command) {
         Ok(reply) => replies::command_reply(alloc, cluster(state).graph(), &reply),
@@ -136,21 +138,21 @@ fn answer_asked<R: Threads + Sync>(
     }
 }
 
-/// Answers a later line of a script of the version.
+/// Answers a later line of a script.
 pub fn answer_later<R: Threads + Sync>(
     rt: &R,
     alloc: Global,
-    version: Version,
-    state: &mut State,
+    script: &mut Script,
     value: &Value,
     line: u64,
 ) -> Result<Json, AllocError>
-    ensures replies { IfOk result (λ v.
-        LineReplies version (logged state.old) line (view value.now) (v ∷ []) (running version (logged state.new))) }
+    ensures replies { IfOk result (λ v. LineReplies script.old.version (logged script.old.state)
+        line (view value.now) (v ∷ []) (phase_in script.new)) }
 {
-    let asked = match asked_of(alloc, version, cluster(state).graph(), value) {
+    let graph = cluster(&script.state).graph();
+    let asked = match asked_of(alloc, script.version, graph, value) {
         Ok(asked) => asked,
         Err(fault) => return replies::line_fault(alloc, fault, line),
     };
-    answer_asked(rt, alloc, state, asked)
+    answer_asked(rt, alloc, &mut script.state, asked)
 }

@@ -1,22 +1,20 @@
 //! The replies to queries.
-ghost use Rattle.std.specs.Prelude.{◌≡◌, ◌↔◌, Bool, Some, IfOk, IsTrue};
-ghost use Rattle.nd_paths.specs.Order.{CouldResultIn};
+ghost use Rattle.std.specs.Prelude.{◌≡◌, Some, IfOk};
 ghost use Rattle.nd_protocol.specs.Invariant.{IsSettled, KeepsProtocol};
 ghost use Rattle.nd_shown.specs.StateText.{state_data};
-ghost use Rattle.rewind_forms.specs.Replies.{count as count_data, before as before_data, state};
-ghost use Rattle.rewind_answers.specs.Answers.{QueryReply, ViewReply, FrontierReply, PassedReply, SearchReply, search_fault, true_count};
+ghost use Rattle.rewind_forms.specs.Replies.{count as count_data, state};
+ghost use Rattle.rewind_answers.specs.Answers.{QueryReply, BeforeReply, ViewReply, FrontierReply, PassedReply, SearchReply, search_fault, true_count};
 
 use crate::answer::cluster;
 use crate::kept::{answer_export, answer_step};
 use crate::why::{answer_changes, answer_why};
 use nd_cluster::Cluster;
-use nd_paths::Pointstamp;
 use nd_json::Json;
+use nd_paths::Pointstamp;
 use nd_search::{OpenGate, SearchFault, search_in};
 use nd_session::State;
 use nd_shown::{counts_value, point_value};
-use nd_watch::Break;
-use rewind_forms::{Query, replies};
+use rewind_forms::{Query, Search, replies};
 use std::alloc::{AllocError, Global};
 use std::thread::Threads;
 
@@ -48,7 +46,7 @@ fn answer_before(
     from: &Pointstamp,
     to: &Pointstamp,
 ) -> Result<Json, AllocError>
-    ensures reply { IfOk result (λ v. (b : Bool) × (IsTrue b ↔ CouldResultIn cluster.now.graph from.now to.now) × (v ≡ before_data b)) }
+    ensures reply { IfOk result (λ v. BeforeReply cluster.now.graph from.now to.now v) }
 {
     replies::before(alloc, cluster.paths().before(from, to))
 }
@@ -119,15 +117,18 @@ fn answer_search<R: Threads + Sync>(
     rt: &R,
     alloc: Global,
     state: &State,
-    when: &Break,
-    lo: u64,
-    hi: u64,
-    workers: u64,
+    search: &Search,
 ) -> Result<Json, AllocError>
-    ensures reply { IfOk result (λ v. SearchReply state.now.machine.timeline when.now lo hi workers v) }
+    ensures reply { IfOk result (λ v. SearchReply state.now.machine.timeline search.now v) }
 {
     let timeline = state.timeline();
-    match search_in(rt, alloc, timeline, when, lo, hi, workers, &OpenGate) {
+    let Search {
+        when,
+        lo,
+        hi,
+        workers,
+    } = search;
+    match search_in(rt, alloc, timeline, when, *lo, *hi, *workers, &OpenGate) {
         Ok(least) => replies::found(alloc, least),
         Err(fault) => refuse_search(alloc, &fault),
     }
@@ -150,17 +151,10 @@ pub fn answer_query<R: Threads + Sync>(
         Query::View(q) => answer_view(alloc, cluster, *q),
         Query::Frontier(q) => answer_frontier(alloc, cluster, *q),
         Query::Passed(q, point) => answer_passed(alloc, cluster, *q, point),
-        Query::Search {
-            when,
-            lo,
-            hi,
-            workers,
-        } => answer_search(rt, alloc, state, when, *lo, *hi, *workers),
+        Query::Search(search) => answer_search(rt, alloc, state, search),
         Query::Export => answer_export(alloc, state.timeline()),
         Query::Why(q, point) => answer_why(alloc, cluster, *q, point),
-        Query::Changes { q, point, lo, hi } => {
-            answer_changes(alloc, state.timeline(), *q, point, *lo, *hi)
-        }
+        Query::Changes(asked) => answer_changes(alloc, state.timeline(), asked),
         Query::Step(to) => answer_step(alloc, state.timeline(), *to),
     }
 }

@@ -18,13 +18,19 @@ use serde_json::Value;
 use std::alloc::{AllocError, Global};
 use std::thread::Threads;
 
-/// How far a run has come: before any line, of a number of processors; before the graph's line, in a script of a version; or with
-/// a `State`.
+/// How far a run has come: before any line, of a number of processors; before the graph's line, in a script of a version; or running.
 #[derive(Drop)]
 pub enum Stage {
     Unopened(u8),
     Unstarted(Version, u8),
-    Running(Version, State),
+    Running(Script),
+}
+
+/// A script that runs, of a version.
+#[derive(Drop)]
+pub struct Script {
+    pub version: Version,
+    pub state: State,
 }
 
 /// What a line is answered, and whether the run ends there.
@@ -51,7 +57,8 @@ fn answer_fault(
     line: u64,
 ) -> Result<Answer, AllocError>
     ensures reply { IfOk result (λ a. replies_of a.reply ≡ option_to_list (line_fault fault line)) }
-    ensures after { IfOk result (λ a. phase_after a.is_last stage.now ≡ after_fault (phase_of stage.now)) }
+    ensures after { IfOk result (λ a.
+        phase_after a.is_last stage.now ≡ after_fault (phase_of stage.now)) }
 {
     let reply = replies::line_fault(alloc, fault, line)?;
     Ok(Answer {
@@ -68,13 +75,14 @@ fn answer_graph(
     processors: u8,
     value: &Value,
 ) -> Result<Answer, AllocError>
-    ensures answers { IfOk result (λ a. StartReplies version processors (graph_of version (view value.now))
+    ensures answers { IfOk result (λ a.
+        StartReplies version processors (graph_of version (view value.now))
         (replies_of a.reply) (phase_after a.is_last stage.new)) }
 {
     let (reply, started) = answer_first(alloc, version, processors, value)?;
     let is_last = started.is_none();
     if let Some(state) = started {
-        *stage = Stage::Running(version, state);
+        *stage = Stage::Running(Script { version, state });
     }
     Ok(Answer {
         reply: Some(reply),
@@ -89,7 +97,8 @@ fn answer_opening(
     processors: u8,
     value: &Value,
 ) -> Result<Answer, AllocError>
-    ensures answers { IfOk result (λ a. OpeningReplies (version_in (view value.now)) processors (view value.now)
+    ensures answers { IfOk result (λ a.
+        OpeningReplies (version_in (view value.now)) processors (view value.now)
         (replies_of a.reply) (phase_after a.is_last stage.new)) }
 {
     let Some(version) = version_of(value) else {
@@ -120,8 +129,8 @@ fn answer_value<R: Threads + Sync>(
             let (version, processors) = (*version, *processors);
             answer_graph(alloc, stage, version, processors, value)
         }
-        Stage::Running(version, state) => {
-            let reply = answer_later(rt, alloc, *version, state, value, line)?;
+        Stage::Running(script) => {
+            let reply = answer_later(rt, alloc, script, value, line)?;
             Ok(goes_on(reply))
         }
     }

@@ -4,10 +4,10 @@ ghost use Rattle.rewind_answers.specs.Explained.{WhyReply, ChangesReply, changes
 
 use nd_changes::{ChangesFault, changes};
 use nd_cluster::Cluster;
-use nd_paths::Pointstamp;
 use nd_json::Json;
+use nd_paths::Pointstamp;
 use nd_timeline::Timeline;
-use rewind_forms::{changes_value, reasons_value, replies};
+use rewind_forms::{ViewChanges, changes_value, reasons_value, replies};
 use std::alloc::{AllocError, Global};
 
 /// Replies with the reasons for which a processor does not consider a pointstamp finished, and whether it is.
@@ -46,14 +46,12 @@ fn refuse_changes(alloc: Global, fault: ChangesFault) -> Result<Json, AllocError
 pub(crate) fn answer_changes(
     alloc: Global,
     timeline: &Timeline,
-    q: u32,
-    point: &Pointstamp,
-    lo: u64,
-    hi: u64,
+    asked: &ViewChanges,
 ) -> Result<Json, AllocError>
-    ensures reply { IfOk result (λ v. ChangesReply timeline.now q point.now lo hi v) }
+    ensures reply { IfOk result (λ v. ChangesReply timeline.now asked.now v) }
 {
-    match changes(alloc, timeline, q as usize, point, lo, hi) {
+    let ViewChanges { q, point, lo, hi } = asked;
+    match changes(alloc, timeline, *q as usize, point, *lo, *hi) {
         Ok(told) => {
             let shown = changes_value(alloc, &told.changes)?;
             replies::changed(alloc, shown, told.more)

@@ -7,8 +7,7 @@ ghost use Rattle.rewind_clients.specs.Orders.{among, is_query as is_query_in, or
 
 use crate::numbers::without;
 use nd_graph::Graph;
-use nd_json::whole_at;
-use nd_json::{Json, reply};
+use nd_json::{Json, reply, whole_at};
 use nd_time::Code;
 use nd_timeline::Command;
 use rewind_forms::{Asked, Form, LineFault, Version, asked_of};

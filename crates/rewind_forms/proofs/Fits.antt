@@ -12,7 +12,8 @@ use Rattle.nd_time.specs.Time.{Time}
 use Rattle.nd_graph.specs.Graph.{Dataflow, depths}
 use Rattle.nd_paths.specs.declared.point.Pointstamp.{Pointstamp}
 use Rattle.nd_protocol.specs.declared.step.Step.{Step}
-use Rattle.rewind_forms.specs.Forms.{given, after, each, named_at, points_at, values_at}
+use Rattle.nd_graph.specs.Draft.{every}
+use Rattle.rewind_forms.specs.Forms.{given, after, named_at, points_at, values_at}
 use Rattle.rewind_forms.specs.Places.{location_named, vertex_named, edge_named, time_of, placed, are_known, point_named}
 use Rattle.rewind_forms.specs.Steps.{next_at, feed_of, take_of, notice_of, broadcast_of, part_of, receive_of, step_of, read_as, read_of}
 use Rattle.rewind_forms.specs.Grammar.{form_of}
@@ -108,12 +109,12 @@ consed P y (Some zs) ys here rest e =
     let same : y ∷ zs ≡ ys = cc in
     subst (λ ys. Each P ys) same (All-cons P y zs here (rest zs refl))
 
-each_is : {A B : Type 0} (f : A → Option B) (P : B → Type 0) → ((x : A) (y : B) → f x ≡ Some y → P y)
-    → (xs : List A) (ys : List B) → each f xs ≡ Some ys → Each P ys
-each_is f P h [] ys e = let same : [] ≡ ys = cc in subst (λ ys. Each P ys) same (All-nil P)
-each_is f P h (x ∷ xs) ys e =
-    option_and_then_some (λ y. option_map (λ ys. y ∷ ys) (each f xs)) (f x) ys e
-    (λ y is rest. consed P y (each f xs) ys (h x y is) (λ zs all. each_is f P h xs zs all) rest)
+every_is : {A B : Type 0} (f : A → Option B) (P : B → Type 0) → ((x : A) (y : B) → f x ≡ Some y → P y)
+    → (xs : List A) (ys : List B) → every f xs ≡ Some ys → Each P ys
+every_is f P h [] ys e = let same : [] ≡ ys = cc in subst (λ ys. Each P ys) same (All-nil P)
+every_is f P h (x ∷ xs) ys e =
+    option_and_then_some (λ y. option_map (λ ys. y ∷ ys) (every f xs)) (f x) ys e
+    (λ y is rest. consed P y (every f xs) ys (h x y is) (λ zs all. every_is f P h xs zs all) rest)
 
 -- ---- one kind of step after the other
 
@@ -161,8 +162,8 @@ part_fits g d =
     if_given _ (small_at (codes "p") d) _ (NamesFit g) (λ p _.
     if_given _ (points_at (codes "part") d) _ (NamesFit g) (λ named _.
     if_true (are_known g named) _ _ (NamesFit g)
-    (if_given _ (each (point_named g) named) _ (NamesFit g) (λ points is.
-    each_is (point_named g) (λ q. HasDepth g q.location q.time) (point_is g) named points is))))
+    (if_given _ (every (point_named g) named) _ (NamesFit g) (λ points is.
+    every_is (point_named g) (λ q. HasDepth g q.location q.time) (point_is g) named points is))))
 
 -- ---- all
 

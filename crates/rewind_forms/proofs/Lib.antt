@@ -1,4 +1,3 @@
-pub mod Within
 pub mod NamesLemmas
 pub mod Values
 pub mod ReadBack

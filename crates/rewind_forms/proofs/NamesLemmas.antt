@@ -1,14 +1,15 @@
--- The name of a location, looked up in a graph whose names are distinct, is found at that location.
-use Rattle.std.proofs.Common.{◌≡◌, ◌∙◌, ℕ, ◌+◌, ◌<◌, ◌≤◌, zero, suc, Bool, false, List, [], ◌∷◌, length, get_or, map, refl, ap, arith, Some, length-append}
-use Rattle.std.proofs.lemmas.Bool.{or_parts, lt-ltb, le-ltb, eq-eqb}
+-- Names looked up in a graph: what is found is a location; and the name of a location is found there, if all names are distinct.
+use Rattle.std.proofs.Common.{◌≡◌, ◌∙◌, ℕ, ◌+◌, ◌<◌, ◌≤◌, zero, suc, Bool, true, false, cond, nat_lt, List, [], ◌∷◌, length, get_or, map, refl, sym, subst, ap, arith, Some, None, length-append}
+use Rattle.std.proofs.lemmas.Bool.{or_parts, lt-ltb, ltb-true, le-ltb, eq-eqb}
 use Rattle.std.proofs.lemmas.List.{length-map}
 use Rattle.std.proofs.lemmas.List.Sums.{position_or_len_is}
 use Rattle.std.proofs.lemmas.Option.{slice_get_within}
-use Rattle.std.specs.List.{list_any, position}
+use Rattle.std.specs.List.{list_any, position, position_or_len}
+use Rattle.std.specs.Prelude.{IfSome}
 use Rattle.std.specs.Str.{bytes_eq}
 use Rattle.std.specs.Cmp.Lexicographic.{nat_list_eq_equiv}
 use Rattle.nd_time.specs.Time.{Time}
-use Rattle.nd_graph.specs.Graph.{Dataflow, names, depths, depth_past_vertex}
+use Rattle.nd_graph.specs.Graph.{Dataflow, names, depths, depth_past_vertex, location_count}
 use Rattle.nd_graph.specs.Checked.{has_double}
 use Rattle.nd_paths.specs.declared.point.Pointstamp.{Pointstamp}
 use Rattle.nd_shown.specs.StateText.{name_at}
@@ -40,11 +41,21 @@ found_again ks l once within =
 
 -- ---- locations
 
-length-names : (g : Dataflow) → length (names g) ≡ length g.vertices + length g.edges
+length-names : (g : Dataflow) → length (names g) ≡ location_count g
 length-names g =
     length-append (map (λ v. v.name) g.vertices) (map (λ e. e.name) g.edges)
     ∙ (ap (λ n. n + length (map (λ e. e.name) g.edges)) (length-map g.vertices (λ v. v.name))
     ∙ ap (λ n. length g.vertices + n) (length-map g.edges (λ e. e.name)))
+
+within-test : (b : Bool) (i n : ℕ) → b ≡ nat_lt i n → IfSome (cond b (Some i) None) (λ l. l < n)
+within-test true i n e = ltb-true i n (sym e)
+within-test false i n e = tt
+
+pub position-within : {A : Type 0} (p : A → Bool) (xs : List A) → IfSome (position p xs) (λ l. l < length xs)
+position-within p xs = within-test _ (position_or_len p xs) (length xs) refl
+
+pub named-within : (g : Dataflow) (p : List ℕ → Bool) → IfSome (position p (names g)) (λ l. l < location_count g)
+named-within g p = let P : ℕ → Type 0 = λ n. IfSome (position p (names g)) (λ l. l < n) in subst P (length-names g) (position-within p (names g))
 
 length-depths : (g : Dataflow) → length (depths g) ≡ length g.vertices + length g.edges
 length-depths g =

@@ -22,7 +22,7 @@ use Rattle.rewind_forms.specs.Objects.{feed_object, take_object, notice_object, 
 use Rattle.nd_protocol.specs.Ranges.{NumbersFit, IsSmall, TimeIsSmall}
 use Rattle.rewind_forms.specs.Fitting.{HasDepth, NamesFit}
 use Rattle.rewind_forms.proofs.NamesLemmas.{vertex-name_at, edge-name_at, time-numbers, known, point-name_at}
-use Rattle.rewind_forms.proofs.Values.{each_as, each_back, list-row, small-natural, integer-whole, integers-whole, numbers-natural, named, point-data}
+use Rattle.rewind_forms.proofs.Values.{every_as, every_back, list-row, small-natural, integer-whole, integers-whole, numbers-natural, named, point-data}
 
 -- ---- one kind of step after the other
 
@@ -79,7 +79,7 @@ points_named_back : (g : Dataflow) (p : ℕ) (points : List Pointstamp) → Each
     → points_at (codes "part") (part_object g p points) ≡ Some (map (named g) points)
 unfolding points_at
 points_named_back g p points h =
-    rw (list-row (map (point_data g) points)) (each_as listed_point (point_data g) (named g) points (λ k d lt. point-data g _ (h k d lt)))
+    rw (list-row (map (point_data g) points)) (every_as listed_point (point_data g) (named g) points (λ k d lt. point-data g _ (h k d lt)))
 
 all_known : (g : Dataflow) (points : List Pointstamp) → has_double (names g) ≡ false → Each (λ q. HasDepth g q.location q.time) points
     → are_known g (map (named g) points) ≡ true
@@ -92,7 +92,7 @@ part_back : (g : Dataflow) (p : ℕ) (points : List Pointstamp) → has_double (
     → IsSmall p → Each (λ q. TimeIsSmall q.time) points → part_of g (part_object g p points) ≡ Ok (Broadcast p (Points points))
 unfolding part_of
 part_back g p points once there h k =
-    let read = each_back (point_named g) (named g) points (λ i d lt. point-name_at g _ once (there i d lt)) in
+    let read = every_back (point_named g) (named g) points (λ i d lt. point-name_at g _ once (there i d lt)) in
     rw (small-natural p h, points_named_back g p points k, all_known g points once there, read) refl
 
 -- ---- all

@@ -10,25 +10,26 @@ use Rattle.nd_time.specs.Time.{Time}
 use Rattle.nd_graph.specs.Graph.{Dataflow}
 use Rattle.nd_paths.specs.declared.point.Pointstamp.{Pointstamp}
 use Rattle.nd_shown.specs.StateText.{row, natural, whole, name_at, place, time_data, point_data}
-use Rattle.rewind_forms.specs.Forms.{each, numbers_of, point_of, listed_point, named_time}
+use Rattle.nd_graph.specs.Draft.{every}
+use Rattle.rewind_forms.specs.Forms.{numbers_of, point_of, listed_point, named_time}
 use Rattle.nd_protocol.specs.Ranges.{IsSmall, TimeIsSmall}
 
 -- ---- lists
 
 -- what is read of each item, if each is what another shows
-pub each_as : {A B C : Type 0} (f : A → Option C) (shown : B → A) (r : B → C) (xs : List B) → All (λ x. f (shown x) ≡ Some (r x)) xs
-    → each f (map shown xs) ≡ Some (map r xs)
-each_as f shown r [] h = refl
-each_as {A} {B} {C} f shown r (x ∷ xs) h =
+pub every_as : {A B C : Type 0} (f : A → Option C) (shown : B → A) (r : B → C) (xs : List B) → All (λ x. f (shown x) ≡ Some (r x)) xs
+    → every f (map shown xs) ≡ Some (map r xs)
+every_as f shown r [] h = refl
+every_as {A} {B} {C} f shown r (x ∷ xs) h =
     let P : B → Type 0 = λ x. f (shown x) ≡ Some (r x) in
-    rw (All-head P x xs h, each_as f shown r xs (All-tail P x xs h)) refl
+    rw (All-head P x xs h, every_as f shown r xs (All-tail P x xs h)) refl
 
-pub each_back : {A B : Type 0} (f : A → Option B) (shown : B → A) (xs : List B) → All (λ x. f (shown x) ≡ Some x) xs
-    → each f (map shown xs) ≡ Some xs
-each_back f shown [] h = refl
-each_back {A} {B} f shown (x ∷ xs) h =
+pub every_back : {A B : Type 0} (f : A → Option B) (shown : B → A) (xs : List B) → All (λ x. f (shown x) ≡ Some x) xs
+    → every f (map shown xs) ≡ Some xs
+every_back f shown [] h = refl
+every_back {A} {B} f shown (x ∷ xs) h =
     let P : B → Type 0 = λ x. f (shown x) ≡ Some x in
-    rw (All-head P x xs h, each_back f shown xs (All-tail P x xs h)) refl
+    rw (All-head P x xs h, every_back f shown xs (All-tail P x xs h)) refl
 
 listed-items_of : (ds : List Data) → listed (items_of ds) ≡ ds
 listed-items_of [] = refl
@@ -49,11 +50,11 @@ unfolding integer
 integer-whole (pos n) h = rw (lt-ltb n (2 ^ 63) h.sfits) refl
 integer-whole (negsuc n) h = refl
 
-pub integers-whole : (values : List ℤ) → All (FitsSigned w64) values → each integer (map whole values) ≡ Some values
-integers-whole values h = each_back integer whole values (λ k d lt. integer-whole _ (h k d lt))
+pub integers-whole : (values : List ℤ) → All (FitsSigned w64) values → every integer (map whole values) ≡ Some values
+integers-whole values h = every_back integer whole values (λ k d lt. integer-whole _ (h k d lt))
 
 pub numbers-natural : (t : Time) → TimeIsSmall t → numbers_of (map natural (t.epoch ∷ t.counters)) ≡ Some (t.epoch ∷ t.counters)
-numbers-natural t h = each_back small natural (t.epoch ∷ t.counters) (λ k d lt. small-natural _ (h k d lt))
+numbers-natural t h = every_back small natural (t.epoch ∷ t.counters) (λ k d lt. small-natural _ (h k d lt))
 
 -- ---- pointstamps
 

@@ -1,9 +1,12 @@
 -- The shapes of a line's values, and of what is read from them.
-use Rattle.std.specs.Prelude.{ℕ, ℤ, ◌&&◌, List, [], ◌∷◌, if◌then◌else◌, Option, Some, None, codes, option_map, option_and_then, Result, Ok, Err}
+use Rattle.std.specs.Prelude.{◌≡◌, ◌≢◌, ℕ, ℤ, ◌&&◌, List, [], ◌∷◌, if◌then◌else◌, Option, Some, None, codes, option_map, option_and_then, Result, Ok, Err}
 use Rattle.serde_json.specs.Data.{Data}
 use Rattle.serde_json.specs.Find.{get}
 use Rattle.nd_json.specs.Forms.{has_keys, text, list, small, integer, text_at, list_at}
+use Rattle.nd_graph.specs.Draft.{every}
 use Rattle.rewind_forms.specs.declared.fault.LineFault.{LineFault}
+use Rattle.rewind_forms.specs.declared.fault.LineFault.TheVariants.{Memory}
+use Rattle.rewind_forms.specs.declared.points.NamedTime.{NamedTime}
 
 -- ---- what is made of a reading
 
@@ -22,17 +25,16 @@ abbrev pub within : {B : Type 0} → Option Data → (Data → Result B LineFaul
 within None read other = other
 within (Some d) read other = read d
 
--- ---- values
+-- the fault is that of the reading, unless memory ran out
+abbrev pub FailsWith : {B : Type 0} → Result B LineFault → LineFault → Type 0
+FailsWith reading e = e ≢ Memory → reading ≡ Err e
 
--- what all items are, if each is something
-abbrev pub each : {A B : Type 0} → (A → Option B) → List A → Option (List B)
-each f [] = Some []
-each f (x ∷ xs) = option_and_then (λ y. option_map (λ ys. y ∷ ys) (each f xs)) (f x)
+-- ---- values
 
 -- the numbers of a time: at least one
 abbrev pub numbers_of : List Data → Option (List ℕ)
 numbers_of [] = None
-numbers_of (d ∷ ds) = each small (d ∷ ds)
+numbers_of (d ∷ ds) = every small (d ∷ ds)
 
 -- the numbers of the time at the key
 unfoldable pub numbers_at : List ℕ → Data → Option (List ℕ)
@@ -44,6 +46,10 @@ pair_of [] = None
 pair_of (a ∷ []) = None
 pair_of (a ∷ b ∷ []) = Some (a, b)
 pair_of (a ∷ b ∷ c ∷ ds) = None
+
+-- the name and the numbers that the code read
+abbrev pub name_and_numbers : NamedTime → List ℕ × List ℕ
+name_and_numbers n = (n.name.now, n.numbers.items)
 
 -- a name and the numbers of a time
 unfoldable pub named_time : Data × Data → Option (List ℕ × List ℕ)
@@ -63,11 +69,11 @@ listed_point d = option_and_then point_of (list d)
 
 -- the pointstamps in the list at the key
 unfoldable pub points_at : List ℕ → Data → Option (List (List ℕ × List ℕ))
-points_at key d = option_and_then (each listed_point) (list_at key d)
+points_at key d = option_and_then (every listed_point) (list_at key d)
 
 -- the values in the list at the key
 unfoldable pub values_at : List ℕ → Data → Option (List ℤ)
-values_at key d = option_and_then (each integer) (list_at key d)
+values_at key d = option_and_then (every integer) (list_at key d)
 
 -- the name at the key, and the numbers of the time beside it
 unfoldable pub named_at : List ℕ → Data → Option (List ℕ × List ℕ)

@@ -47,7 +47,7 @@ search_of g d =
     given BadShape (whole_at (codes "workers") d) (λ workers.
     given BadShape (get (codes "when") d) (λ when.
     after (break_of g when) (λ condition.
-    Ok (Search condition lo hi workers))))))
+    Ok (Search (record { when = condition; lo = lo; hi = hi; workers = workers })))))))
 
 unfoldable pub why_of : Dataflow → Data → Result Query LineFault
 why_of g d =
@@ -61,7 +61,7 @@ changes_of g d =
     given BadShape (whole_at (codes "lo") d) (λ lo.
     given BadShape (whole_at (codes "hi") d) (λ hi.
     after (point_there g d) (λ point.
-    Ok (Changes q point lo hi)))))
+    Ok (Changes (record { q = q; point = point; lo = lo; hi = hi }))))))
 
 unfoldable pub kept_step_of : Data → Result Query LineFault
 kept_step_of d = given BadShape (whole_at (codes "to") d) (λ to. Ok (Step to))

@@ -9,7 +9,8 @@ use Rattle.nd_protocol.specs.declared.step.Step.TheVariants.{Feed, Take, Notice,
 use Rattle.nd_protocol.specs.declared.part.Part.TheVariants.{All, Points}
 use Rattle.nd_protocol.specs.declared.step.Next.{Next as Afterwards}
 use Rattle.nd_protocol.specs.declared.step.Next.TheVariants as token
-use Rattle.rewind_forms.specs.Forms.{given, after, each, named_at, points_at, values_at}
+use Rattle.nd_graph.specs.Draft.{every}
+use Rattle.rewind_forms.specs.Forms.{given, after, named_at, points_at, values_at}
 use Rattle.rewind_forms.specs.Places.{vertex_named, edge_named, placed, are_known, point_named}
 use Rattle.rewind_forms.specs.Grammar.{form_of}
 use Rattle.rewind_forms.specs.declared.version.Version.TheVariants.{First}
@@ -60,7 +61,7 @@ unfoldable pub part_of : Dataflow → Data → Result (Step Global) LineFault
 part_of g d =
     given BadShape (small_at (codes "p") d) (λ p.
     given BadShape (points_at (codes "part") d) (λ named.
-    if are_known g named then given BadTime (each (point_named g) named) (λ points. Ok (Broadcast p (Points points)))
+    if are_known g named then given BadTime (every (point_named g) named) (λ points. Ok (Broadcast p (Points points)))
     else Err UnknownName))
 
 unfoldable pub receive_of : Data → Result (Step Global) LineFault

@@ -1,6 +1,7 @@
 //! What a line's JSON value asks for.
-ghost use Rattle.std.specs.Prelude.{◌≡◌, ◌≢◌, Ok, Err, IfOk, IfErr};
+ghost use Rattle.std.specs.Prelude.{◌≡◌, Ok, IfOk, IfErr};
 ghost use Rattle.serde_json.specs.View.{view};
+ghost use Rattle.rewind_forms.specs.Forms.{FailsWith};
 ghost use Rattle.rewind_forms.specs.Asked.{asked_of as asked_in};
 
 use crate::commands::command_of;
@@ -32,7 +33,7 @@ pub fn asked_of(
     value: &Value,
 ) -> Result<Asked, LineFault>
     ensures ok { IfOk result (λ c. asked_in version graph.now (view value.now) ≡ Ok c) }
-    ensures err { IfErr result (λ e. e ≢ LineFault.Memory → asked_in version graph.now (view value.now) ≡ Err e) }
+    ensures err { IfErr result (FailsWith (asked_in version graph.now (view value.now))) }
 {
     match Form::of(version, value).ok_or(LineFault::BadShape)? {
         Form::Step(form) => {

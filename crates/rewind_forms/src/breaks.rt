@@ -1,7 +1,7 @@
 //! The breakpoint that a line sets.
-ghost use Rattle.std.specs.Prelude.{◌≡◌, ◌≢◌, Ok, Err, IfOk, IfErr, map, option_map};
+ghost use Rattle.std.specs.Prelude.{◌≡◌, Ok, IfOk, IfErr, map, option_map};
 ghost use Rattle.serde_json.specs.View.{view};
-ghost use Rattle.rewind_forms.specs.Forms.{inner as inner_in};
+ghost use Rattle.rewind_forms.specs.Forms.{FailsWith, inner as inner_in};
 ghost use Rattle.rewind_forms.specs.Breaks.{passed_of as passed_in, count_of as count_in, queue_of as queue_in, sink_of as sink_in, break_of as break_in};
 
 use crate::LineFault;
@@ -16,7 +16,8 @@ use std::alloc::Global;
 // The object with these keys that stands under the only key of the value.
 #[tactic(auto, unfolding(crate::specs::Forms::inner))]
 fn inner<'v>(value: &'v Value, key: &str, keys: &[&str]) -> Option<&'v Value>
-    ensures { option_map (λ v. view v.now) result ≡ inner_in key.now (map (λ k. k.now) keys.now) (view value.now) }
+    ensures { option_map (λ v. view v.now) result
+        ≡ inner_in key.now (map (λ k. k.now) keys.now) (view value.now) }
 {
     let found = value.get(key)?;
     if has_keys(value, &[key]) && has_keys(found, keys) {
@@ -29,7 +30,7 @@ fn inner<'v>(value: &'v Value, key: &str, keys: &[&str]) -> Option<&'v Value>
 #[tactic(auto, unfolding(crate::specs::Breaks::passed_of))]
 fn passed_of(alloc: Global, graph: &Graph, value: &Value) -> Result<Break, LineFault>
     ensures ok { IfOk result (λ c. passed_in graph.now (view value.now) ≡ Ok c) }
-    ensures err { IfErr result (λ e. e ≢ LineFault.Memory → passed_in graph.now (view value.now) ≡ Err e) }
+    ensures err { IfErr result (FailsWith (passed_in graph.now (view value.now))) }
 {
     let q = small_at(value, "q").ok_or(LineFault::BadShape)?;
     let point = point_there(alloc, graph, value)?;
@@ -39,7 +40,7 @@ fn passed_of(alloc: Global, graph: &Graph, value: &Value) -> Result<Break, LineF
 #[tactic(auto, unfolding(crate::specs::Breaks::count_of))]
 fn count_of(alloc: Global, graph: &Graph, value: &Value) -> Result<Break, LineFault>
     ensures ok { IfOk result (λ c. count_in graph.now (view value.now) ≡ Ok c) }
-    ensures err { IfErr result (λ e. e ≢ LineFault.Memory → count_in graph.now (view value.now) ≡ Err e) }
+    ensures err { IfErr result (FailsWith (count_in graph.now (view value.now))) }
 {
     let at_least = whole_at(value, "at_least").ok_or(LineFault::BadShape)?;
     let point = point_there(alloc, graph, value)?;
@@ -75,7 +76,7 @@ fn sink_of(graph: &Graph, value: &Value) -> Result<Break, LineFault>
 #[tactic(auto, unfolding(crate::specs::Breaks::break_of))]
 pub fn break_of(alloc: Global, graph: &Graph, value: &Value) -> Result<Break, LineFault>
     ensures ok { IfOk result (λ c. break_in graph.now (view value.now) ≡ Ok c) }
-    ensures err { IfErr result (λ e. e ≢ LineFault.Memory → break_in graph.now (view value.now) ≡ Err e) }
+    ensures err { IfErr result (FailsWith (break_in graph.now (view value.now))) }
 {
     if let Some(shown) = inner(value, "passed", &["at", "q", "time"]) {
         passed_of(alloc, graph, shown)

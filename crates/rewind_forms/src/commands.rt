@@ -1,6 +1,7 @@
 //! The command other than a step that a line asks for.
-ghost use Rattle.std.specs.Prelude.{◌≡◌, ◌≢◌, Ok, Err, IfOk, IfErr};
+ghost use Rattle.std.specs.Prelude.{◌≡◌, Ok, IfOk, IfErr};
 ghost use Rattle.serde_json.specs.View.{view};
+ghost use Rattle.rewind_forms.specs.Forms.{FailsWith};
 ghost use Rattle.rewind_forms.specs.Commands.{jump_of as jump_in, run_of as run_in, set_of as set_in, clear_of as clear_in, command_of as command_in};
 
 use crate::breaks::break_of;
@@ -30,7 +31,7 @@ fn run_of(value: &Value) -> Result<Command, LineFault>
 #[tactic(auto, unfolding(crate::specs::Commands::set_of))]
 fn set_of(alloc: Global, graph: &Graph, value: &Value) -> Result<Command, LineFault>
     ensures ok { IfOk result (λ c. set_in graph.now (view value.now) ≡ Ok c) }
-    ensures err { IfErr result (λ e. e ≢ LineFault.Memory → set_in graph.now (view value.now) ≡ Err e) }
+    ensures err { IfErr result (FailsWith (set_in graph.now (view value.now))) }
 {
     let when = value.get("when").ok_or(LineFault::BadShape)?;
     let condition = break_of(alloc, graph, when)?;
@@ -53,7 +54,7 @@ pub fn command_of(
     value: &Value,
 ) -> Result<Command, LineFault>
     ensures ok { IfOk result (λ c. command_in graph.now form (view value.now) ≡ Ok c) }
-    ensures err { IfErr result (λ e. e ≢ LineFault.Memory → command_in graph.now form (view value.now) ≡ Err e) }
+    ensures err { IfErr result (FailsWith (command_in graph.now form (view value.now))) }
 {
     match form {
         CommandForm::Back => Ok(Command::Back),

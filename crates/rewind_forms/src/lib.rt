@@ -26,7 +26,7 @@ pub use fault::LineFault;
 pub use form::{CommandForm, Form, QueryForm, StepForm};
 pub use laws::steps_are_their_objects;
 pub use objects::step_value;
-pub use queries::Query;
+pub use queries::{Query, Search, ViewChanges};
 pub use reasons::reasons_value;
 pub use steps::read_step;
 pub use version::{Version, version_of};

@@ -2,7 +2,8 @@
 ghost use Rattle.std.specs.Prelude.{◌≡◌, map, option_map, IfOk};
 ghost use Rattle.serde_json.specs.View.{view};
 ghost use Rattle.nd_json.specs.Forms.{small as small_in, integer as integer_in};
-ghost use Rattle.rewind_forms.specs.Forms.{each, numbers_of as numbers_from, numbers_at as numbers_in, values_at as values_in};
+ghost use Rattle.nd_graph.specs.Draft.{every};
+ghost use Rattle.rewind_forms.specs.Forms.{numbers_of as numbers_from, numbers_at as numbers_in, values_at as values_in};
 
 use nd_json::{integer, list_at, small};
 use nd_protocol::Values;
@@ -11,7 +12,7 @@ use std::alloc::{AllocError, Global};
 
 // The numbers that the items are, if each is one from 0 to 2^32 - 1.
 fn smalls(alloc: Global, items: &[Value]) -> Result<Option<Vec<u32>>, AllocError>
-    ensures { IfOk result (λ o. option_map (λ v. v.items) o ≡ each small_in (map view items.now)) }
+    ensures { IfOk result (λ o. option_map (λ v. v.items) o ≡ every small_in (map view items.now)) }
 {
     let mut numbers = Vec::new(alloc);
     for item in items {
@@ -25,7 +26,7 @@ fn smalls(alloc: Global, items: &[Value]) -> Result<Option<Vec<u32>>, AllocError
 
 // The values that the items are, if each is one of 64 bits.
 fn integers(alloc: Global, items: &[Value]) -> Result<Option<Values>, AllocError>
-    ensures { IfOk result (λ o. o ≡ each integer_in (map view items.now)) }
+    ensures { IfOk result (λ o. o ≡ every integer_in (map view items.now)) }
 {
     let mut values = Values::new(alloc);
     for item in items {

@@ -4,9 +4,9 @@ ghost use Rattle.nd_shown.specs.StateText.{row, point_data};
 ghost use Rattle.rewind_forms.specs.Objects.{next_word as word_of, feed_object, take_object, notice_object, all_object, part_object, receive_object, object_of};
 
 use nd_graph::Graph;
+use nd_json::{Json, JsonList, list_of, reply};
 use nd_paths::Pointstamp;
 use nd_protocol::{Next, Part, Step};
-use nd_json::{Json, JsonList, list_of, reply};
 use nd_shown::{name_value, point_value, time_value};
 use nd_time::Timestamp;
 use std::alloc::{AllocError, Global};
@@ -33,78 +33,68 @@ fn points_value(alloc: Global, graph: &Graph, points: &[Pointstamp]) -> Result<J
     Ok(list.into_json())
 }
 
-// Values that are fed, and what becomes of the token.
-fn feed(
+// Makes the objects of steps, with the names of a graph.
+#[derive(Drop)]
+struct Objects<'g> {
     alloc: Global,
-    graph: &Graph,
-    p: u32,
-    vertex: usize,
-    values: &[i64],
-    next: Next,
-) -> Result<Json, AllocError>
-    ensures object { IfOk result (λ j. j ≡ feed_object graph.now p vertex values.now next) }
-{
-    let values = list_of(alloc, values)?;
-    let name = name_value(alloc, graph, vertex)?;
-    reply!(in alloc; {"do": "feed", "next": next_word(next), "p": p, "values": values, "vertex": name})
+    graph: &'g Graph,
 }
 
-// A record that is taken off an edge.
-fn take(
-    alloc: Global,
-    graph: &Graph,
-    p: u32,
-    edge: usize,
-    time: &Timestamp,
-    value: i64,
-) -> Result<Json, AllocError>
-    ensures object { IfOk result (λ j. j ≡ take_object graph.now p edge time.now value) }
-{
-    let time = time_value(alloc, time)?;
-    let name = name_value(alloc, graph, edge)?;
-    reply!(in alloc; {"do": "take", "edge": name, "p": p, "time": time, "value": value})
-}
+impl<'g> Objects<'g> {
+    // Values that are fed, and what becomes of the token.
+    fn feed(&self, p: u32, vertex: usize, values: &[i64], next: Next) -> Result<Json, AllocError>
+        ensures object { IfOk result (λ j.
+            j ≡ feed_object self.now.graph.now p vertex values.now next) }
+    {
+        let alloc = self.alloc;
+        let values = list_of(alloc, values)?;
+        let name = name_value(alloc, self.graph, vertex)?;
+        let next = next_word(next);
+        reply!(in alloc; {"do": "feed", "next": next, "p": p, "values": values, "vertex": name})
+    }
 
-// A notice that a vertex is given.
-fn notice(
-    alloc: Global,
-    graph: &Graph,
-    p: u32,
-    vertex: usize,
-    time: &Timestamp,
-) -> Result<Json, AllocError>
-    ensures object { IfOk result (λ j. j ≡ notice_object graph.now p vertex time.now) }
-{
-    let time = time_value(alloc, time)?;
-    let name = name_value(alloc, graph, vertex)?;
-    reply!(in alloc; {"do": "notice", "p": p, "time": time, "vertex": name})
-}
+    // A record that is taken off an edge.
+    fn take(&self, p: u32, edge: usize, time: &Timestamp, value: i64) -> Result<Json, AllocError>
+        ensures object { IfOk result (λ j.
+            j ≡ take_object self.now.graph.now p edge time.now value) }
+    {
+        let alloc = self.alloc;
+        let time = time_value(alloc, time)?;
+        let name = name_value(alloc, self.graph, edge)?;
+        reply!(in alloc; {"do": "take", "edge": name, "p": p, "time": time, "value": value})
+    }
 
-// A broadcast of all that is unsent.
-fn broadcast(alloc: Global, p: u32) -> Result<Json, AllocError>
-    ensures object { IfOk result (λ j. j ≡ all_object p) }
-{
-    reply!(in alloc; {"do": "broadcast", "p": p})
-}
+    // A notice that a vertex is given.
+    fn notice(&self, p: u32, vertex: usize, time: &Timestamp) -> Result<Json, AllocError>
+        ensures object { IfOk result (λ j. j ≡ notice_object self.now.graph.now p vertex time.now) }
+    {
+        let alloc = self.alloc;
+        let time = time_value(alloc, time)?;
+        let name = name_value(alloc, self.graph, vertex)?;
+        reply!(in alloc; {"do": "notice", "p": p, "time": time, "vertex": name})
+    }
 
-// A broadcast of what is unsent at some pointstamps.
-fn broadcast_part(
-    alloc: Global,
-    graph: &Graph,
-    p: u32,
-    points: &[Pointstamp],
-) -> Result<Json, AllocError>
-    ensures object { IfOk result (λ j. j ≡ part_object graph.now p points.now) }
-{
-    let part = points_value(alloc, graph, points)?;
-    reply!(in alloc; {"do": "broadcast", "p": p, "part": part})
-}
+    // A broadcast of all that is unsent.
+    fn broadcast(&self, p: u32) -> Result<Json, AllocError>
+        ensures object { IfOk result (λ j. j ≡ all_object p) }
+    {
+        reply!(in self.alloc; {"do": "broadcast", "p": p})
+    }
 
-// A change that is received.
-fn receive(alloc: Global, from: u32, to: u32) -> Result<Json, AllocError>
-    ensures object { IfOk result (λ j. j ≡ receive_object from to) }
-{
-    reply!(in alloc; {"do": "receive", "from": from, "to": to})
+    // A broadcast of what is unsent at some pointstamps.
+    fn part(&self, p: u32, points: &[Pointstamp]) -> Result<Json, AllocError>
+        ensures object { IfOk result (λ j. j ≡ part_object self.now.graph.now p points.now) }
+    {
+        let part = points_value(self.alloc, self.graph, points)?;
+        reply!(in self.alloc; {"do": "broadcast", "p": p, "part": part})
+    }
+
+    // A change that is received.
+    fn receive(&self, from: u32, to: u32) -> Result<Json, AllocError>
+        ensures object { IfOk result (λ j. j ≡ receive_object from to) }
+    {
+        reply!(in self.alloc; {"do": "receive", "from": from, "to": to})
+    }
 }
 
 /// The object of a step's command line, with the names of the graph's locations: what a line holds that asks for the
@@ -115,25 +105,26 @@ fn receive(alloc: Global, from: u32, to: u32) -> Result<Json, AllocError>
 pub fn step_value(alloc: Global, graph: &Graph, step: &Step) -> Result<Json, AllocError>
     ensures object { IfOk result (λ j. j ≡ object_of graph.now step.now) }
 {
+    let objects = Objects { alloc, graph };
     match step {
         Step::Feed {
             p,
             vertex,
             values,
             next,
-        } => feed(alloc, graph, *p, *vertex, values.as_slice(), *next),
+        } => objects.feed(*p, *vertex, values.as_slice(), *next),
         Step::Take {
             p,
             edge,
             time,
             value,
-        } => take(alloc, graph, *p, *edge, time, *value),
-        Step::Notice { p, vertex, time } => notice(alloc, graph, *p, *vertex, time),
-        Step::Broadcast { p, part: Part::All } => broadcast(alloc, *p),
+        } => objects.take(*p, *edge, time, *value),
+        Step::Notice { p, vertex, time } => objects.notice(*p, *vertex, time),
+        Step::Broadcast { p, part: Part::All } => objects.broadcast(*p),
         Step::Broadcast {
             p,
             part: Part::Points(points),
-        } => broadcast_part(alloc, graph, *p, points.as_slice()),
-        Step::Receive { from, to } => receive(alloc, *from, *to),
+        } => objects.part(*p, points.as_slice()),
+        Step::Receive { from, to } => objects.receive(*from, *to),
     }
 }

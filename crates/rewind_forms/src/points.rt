@@ -1,7 +1,8 @@
 //! Pointstamps among JSON values: by their names and numbers first, and then by their locations and times.
-ghost use Rattle.std.specs.Prelude.{◌≡◌, ◌≢◌, map, option_map, Ok, Err, IfOk, IfErr};
+ghost use Rattle.std.specs.Prelude.{◌≡◌, map, option_map, Ok, IfOk, IfErr};
 ghost use Rattle.serde_json.specs.View.{view};
-ghost use Rattle.rewind_forms.specs.Forms.{each, named_time as named_time_in, point_of as point_in, point_at as point_at_in, listed_point as listed_in, points_at as points_in, named_at as named_at_in};
+ghost use Rattle.nd_graph.specs.Draft.{every};
+ghost use Rattle.rewind_forms.specs.Forms.{FailsWith, name_and_numbers, named_time as named_time_in, point_of as point_in, point_at as point_at_in, listed_point as listed_in, points_at as points_in, named_at as named_at_in};
 ghost use Rattle.rewind_forms.specs.Places.{are_known as known_in, point_named as named_in, point_there as there_in};
 
 use crate::LineFault;
@@ -28,7 +29,8 @@ fn named_time<'v>(
     name: &'v Value,
     time: &Value,
 ) -> Result<Option<NamedTime<'v>>, AllocError>
-    ensures { IfOk result (λ o. option_map (λ n. (n.name.now, n.numbers.items)) o ≡ named_time_in (view name.now, view time.now)) }
+    ensures { IfOk result (λ o. option_map name_and_numbers o
+        ≡ named_time_in (view name.now, view time.now)) }
 {
     let Some(name) = text(name) else {
         return Ok(None);
@@ -49,7 +51,8 @@ pub fn named_at<'v>(
     value: &'v Value,
     key: &str,
 ) -> Result<Option<NamedTime<'v>>, AllocError>
-    ensures { IfOk result (λ o. option_map (λ n. (n.name.now, n.numbers.items)) o ≡ named_at_in key.now (view value.now)) }
+    ensures { IfOk result (λ o. option_map name_and_numbers o
+        ≡ named_at_in key.now (view value.now)) }
 {
     let Some(name) = text_at(value, key) else {
         return Ok(None);
@@ -63,7 +66,7 @@ pub fn named_at<'v>(
 // The pointstamp that the items are, by its name and its numbers.
 #[tactic(auto, unfolding(crate::specs::Forms::point_of))]
 fn point_of<'v>(alloc: Global, items: &'v [Value]) -> Result<Option<NamedTime<'v>>, AllocError>
-    ensures { IfOk result (λ o. option_map (λ n. (n.name.now, n.numbers.items)) o ≡ point_in (map view items.now)) }
+    ensures { IfOk result (λ o. option_map name_and_numbers o ≡ point_in (map view items.now)) }
 {
     match items {
         [name, time] => named_time(alloc, name, time),
@@ -78,7 +81,8 @@ pub fn point_at<'v>(
     value: &'v Value,
     key: &str,
 ) -> Result<Option<NamedTime<'v>>, AllocError>
-    ensures { IfOk result (λ o. option_map (λ n. (n.name.now, n.numbers.items)) o ≡ point_at_in key.now (view value.now)) }
+    ensures { IfOk result (λ o. option_map name_and_numbers o
+        ≡ point_at_in key.now (view value.now)) }
 {
     match list_at(value, key) {
         Some(items) => point_of(alloc, items),
@@ -89,7 +93,7 @@ pub fn point_at<'v>(
 // The pointstamp that the value is, by its name and its numbers.
 #[tactic(auto, unfolding(crate::specs::Forms::listed_point))]
 fn listed_point<'v>(alloc: Global, value: &'v Value) -> Result<Option<NamedTime<'v>>, AllocError>
-    ensures { IfOk result (λ o. option_map (λ n. (n.name.now, n.numbers.items)) o ≡ listed_in (view value.now)) }
+    ensures { IfOk result (λ o. option_map name_and_numbers o ≡ listed_in (view value.now)) }
 {
     match list(value) {
         Some(items) => point_of(alloc, items),
@@ -102,7 +106,8 @@ fn points_of<'v>(
     alloc: Global,
     items: &'v [Value],
 ) -> Result<Option<Vec<NamedTime<'v>>>, AllocError>
-    ensures { IfOk result (λ o. option_map (λ v. map (λ n. (n.name.now, n.numbers.items)) v.items) o ≡ each listed_in (map view items.now)) }
+    ensures { IfOk result (λ o. option_map (λ v. map name_and_numbers v.items) o
+        ≡ every listed_in (map view items.now)) }
 {
     let mut points = Vec::new(alloc);
     for item in items {
@@ -121,7 +126,8 @@ pub fn points_at<'v>(
     value: &'v Value,
     key: &str,
 ) -> Result<Option<Vec<NamedTime<'v>>>, AllocError>
-    ensures { IfOk result (λ o. option_map (λ v. map (λ n. (n.name.now, n.numbers.items)) v.items) o ≡ points_in key.now (view value.now)) }
+    ensures { IfOk result (λ o. option_map (λ v. map name_and_numbers v.items) o
+        ≡ points_in key.now (view value.now)) }
 {
     match list_at(value, key) {
         Some(items) => points_of(alloc, items),
@@ -131,7 +137,7 @@ pub fn points_at<'v>(
 
 /// Whether each of the names is that of a location.
 pub fn are_known(graph: &Graph, points: &[NamedTime<'_>]) -> bool
-    ensures { result ≡ known_in graph.now (map (λ n. (n.name.now, n.numbers.items)) points.now) }
+    ensures { result ≡ known_in graph.now (map name_and_numbers points.now) }
 {
     for point in points {
         if location_named(graph, point.name).is_none() {
@@ -155,7 +161,7 @@ fn point_named(graph: &Graph, name: &str, numbers: &[u32]) -> Option<Pointstamp>
 #[tactic(auto, unfolding(crate::specs::Places::point_there))]
 pub fn point_there(alloc: Global, graph: &Graph, value: &Value) -> Result<Pointstamp, LineFault>
     ensures ok { IfOk result (λ c. there_in graph.now (view value.now) ≡ Ok c) }
-    ensures err { IfErr result (λ e. e ≢ LineFault.Memory → there_in graph.now (view value.now) ≡ Err e) }
+    ensures err { IfErr result (FailsWith (there_in graph.now (view value.now))) }
 {
     let named = named_at(alloc, value, "at")?.ok_or(LineFault::BadShape)?;
     let location = location_named(graph, named.name);
@@ -168,7 +174,7 @@ pub fn points_named(
     graph: &Graph,
     points: &[NamedTime<'_>],
 ) -> Result<Option<Points>, AllocError>
-    ensures { IfOk result (λ o. o ≡ each (named_in graph.now) (map (λ n. (n.name.now, n.numbers.items)) points.now)) }
+    ensures { IfOk result (λ o. o ≡ every (named_in graph.now) (map name_and_numbers points.now)) }
 {
     let mut named = Points::new(alloc);
     for point in points {

@@ -1,6 +1,7 @@
 //! Queries: what a line asks to be told.
-ghost use Rattle.std.specs.Prelude.{◌≡◌, ◌≢◌, Ok, Err, IfOk, IfErr};
+ghost use Rattle.std.specs.Prelude.{◌≡◌, Ok, IfOk, IfErr};
 ghost use Rattle.serde_json.specs.View.{view};
+ghost use Rattle.rewind_forms.specs.Forms.{FailsWith};
 ghost use Rattle.rewind_forms.specs.Queries.{count_of as count_in, before_of as before_in, view_of as view_in, frontier_of as frontier_in, passed_of as passed_in, search_of as search_in, query_of as query_in};
 ghost use Rattle.rewind_forms.specs.Queries.{why_of as why_in, changes_of as changes_in, kept_step_of as kept_step_in};
 
@@ -14,6 +15,24 @@ use nd_paths::Pointstamp;
 use nd_watch::Break;
 use serde_json::Value;
 use std::alloc::Global;
+
+/// A search of the positions from `lo` to `hi`, which both count, for the least at which a breakpoint holds.
+#[derive(Drop)]
+pub struct Search {
+    pub when: Break,
+    pub lo: u64,
+    pub hi: u64,
+    pub workers: u64,
+}
+
+/// The changes of processor `q`'s view of a pointstamp, at the positions after `lo` and up to `hi`.
+#[derive(Drop)]
+pub struct ViewChanges {
+    pub q: u32,
+    pub point: Pointstamp,
+    pub lo: u64,
+    pub hi: u64,
+}
 
 /// What is to be told, and changes nothing.
 #[derive(Drop)]
@@ -30,24 +49,14 @@ pub enum Query {
     Frontier(u32),
     /// Whether a processor's view has passed a pointstamp.
     Passed(u32, Pointstamp),
-    /// The least position from one to another, which both count, at which a breakpoint holds.
-    Search {
-        when: Break,
-        lo: u64,
-        hi: u64,
-        workers: u64,
-    },
+    /// The least of some positions at which a breakpoint holds.
+    Search(Search),
     /// All kept steps.
     Export,
     /// The reasons why a processor's view has not passed a pointstamp.
     Why(u32, Pointstamp),
-    /// The kept positions after one, up to another, at which a processor's view of a pointstamp changed.
-    Changes {
-        q: u32,
-        point: Pointstamp,
-        lo: u64,
-        hi: u64,
-    },
+    /// The kept positions at which a processor's view of a pointstamp changed.
+    Changes(ViewChanges),
     /// The kept step that leads to a position.
     Step(u64),
 }
@@ -55,7 +64,7 @@ pub enum Query {
 #[tactic(auto, unfolding(crate::specs::Queries::count_of))]
 fn count_of(alloc: Global, graph: &Graph, value: &Value) -> Result<Query, LineFault>
     ensures ok { IfOk result (λ c. count_in graph.now (view value.now) ≡ Ok c) }
-    ensures err { IfErr result (λ e. e ≢ LineFault.Memory → count_in graph.now (view value.now) ≡ Err e) }
+    ensures err { IfErr result (FailsWith (count_in graph.now (view value.now))) }
 {
     let point = point_there(alloc, graph, value)?;
     Ok(Query::Count(point))
@@ -64,7 +73,7 @@ fn count_of(alloc: Global, graph: &Graph, value: &Value) -> Result<Query, LineFa
 #[tactic(auto, unfolding(crate::specs::Queries::before_of))]
 fn before_of(alloc: Global, graph: &Graph, value: &Value) -> Result<Query, LineFault>
     ensures ok { IfOk result (λ c. before_in graph.now (view value.now) ≡ Ok c) }
-    ensures err { IfErr result (λ e. e ≢ LineFault.Memory → before_in graph.now (view value.now) ≡ Err e) }
+    ensures err { IfErr result (FailsWith (before_in graph.now (view value.now))) }
 {
     let from = point_at(alloc, value, "from")?.ok_or(LineFault::BadShape)?;
     let to = point_at(alloc, value, "to")?.ok_or(LineFault::BadShape)?;
@@ -103,7 +112,7 @@ fn frontier_of(value: &Value) -> Result<Query, LineFault>
 #[tactic(auto, unfolding(crate::specs::Queries::passed_of))]
 fn passed_of(alloc: Global, graph: &Graph, value: &Value) -> Result<Query, LineFault>
     ensures ok { IfOk result (λ c. passed_in graph.now (view value.now) ≡ Ok c) }
-    ensures err { IfErr result (λ e. e ≢ LineFault.Memory → passed_in graph.now (view value.now) ≡ Err e) }
+    ensures err { IfErr result (FailsWith (passed_in graph.now (view value.now))) }
 {
     let q = small_at(value, "q").ok_or(LineFault::BadShape)?;
     let point = point_there(alloc, graph, value)?;
@@ -113,25 +122,25 @@ fn passed_of(alloc: Global, graph: &Graph, value: &Value) -> Result<Query, LineF
 #[tactic(auto, unfolding(crate::specs::Queries::search_of))]
 fn search_of(alloc: Global, graph: &Graph, value: &Value) -> Result<Query, LineFault>
     ensures ok { IfOk result (λ c. search_in graph.now (view value.now) ≡ Ok c) }
-    ensures err { IfErr result (λ e. e ≢ LineFault.Memory → search_in graph.now (view value.now) ≡ Err e) }
+    ensures err { IfErr result (FailsWith (search_in graph.now (view value.now))) }
 {
     let lo = whole_at(value, "lo").ok_or(LineFault::BadShape)?;
     let hi = whole_at(value, "hi").ok_or(LineFault::BadShape)?;
     let workers = whole_at(value, "workers").ok_or(LineFault::BadShape)?;
     let shown = value.get("when").ok_or(LineFault::BadShape)?;
     let when = break_of(alloc, graph, shown)?;
-    Ok(Query::Search {
+    Ok(Query::Search(Search {
         when,
         lo,
         hi,
         workers,
-    })
+    }))
 }
 
 #[tactic(auto, unfolding(crate::specs::Queries::why_of))]
 fn why_of(alloc: Global, graph: &Graph, value: &Value) -> Result<Query, LineFault>
     ensures ok { IfOk result (λ c. why_in graph.now (view value.now) ≡ Ok c) }
-    ensures err { IfErr result (λ e. e ≢ LineFault.Memory → why_in graph.now (view value.now) ≡ Err e) }
+    ensures err { IfErr result (FailsWith (why_in graph.now (view value.now))) }
 {
     let processor = small_at(value, "q").ok_or(LineFault::BadShape)?;
     let point = point_there(alloc, graph, value)?;
@@ -141,18 +150,13 @@ fn why_of(alloc: Global, graph: &Graph, value: &Value) -> Result<Query, LineFaul
 #[tactic(auto, unfolding(crate::specs::Queries::changes_of))]
 fn changes_of(alloc: Global, graph: &Graph, value: &Value) -> Result<Query, LineFault>
     ensures ok { IfOk result (λ c. changes_in graph.now (view value.now) ≡ Ok c) }
-    ensures err { IfErr result (λ e. e ≢ LineFault.Memory → changes_in graph.now (view value.now) ≡ Err e) }
+    ensures err { IfErr result (FailsWith (changes_in graph.now (view value.now))) }
 {
     let q = small_at(value, "q").ok_or(LineFault::BadShape)?;
-    let from = whole_at(value, "lo").ok_or(LineFault::BadShape)?;
-    let to = whole_at(value, "hi").ok_or(LineFault::BadShape)?;
+    let lo = whole_at(value, "lo").ok_or(LineFault::BadShape)?;
+    let hi = whole_at(value, "hi").ok_or(LineFault::BadShape)?;
     let point = point_there(alloc, graph, value)?;
-    Ok(Query::Changes {
-        q,
-        point,
-        lo: from,
-        hi: to,
-    })
+    Ok(Query::Changes(ViewChanges { q, point, lo, hi }))
 }
 
 #[tactic(auto, unfolding(crate::specs::Queries::kept_step_of))]
@@ -171,7 +175,7 @@ pub fn query_of(
     value: &Value,
 ) -> Result<Query, LineFault>
     ensures ok { IfOk result (λ c. query_in graph.now form (view value.now) ≡ Ok c) }
-    ensures err { IfErr result (λ e. e ≢ LineFault.Memory → query_in graph.now form (view value.now) ≡ Err e) }
+    ensures err { IfErr result (FailsWith (query_in graph.now form (view value.now))) }
 {
     match form {
         QueryForm::State => Ok(Query::State),

@@ -7,8 +7,8 @@ ghost use Rattle.rewind_forms.specs.Replies.{version as version_data, exported a
 
 use crate::LineFault;
 use nd_graph::Graph;
-use nd_protocol::Refusal;
 use nd_json::{Json, reply};
+use nd_protocol::Refusal;
 use nd_shown::point_value;
 use nd_time::Code;
 use nd_timeline::{Reply, Stop};

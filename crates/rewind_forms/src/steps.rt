@@ -1,6 +1,7 @@
 //! The step that a line asks for.
-ghost use Rattle.std.specs.Prelude.{◌≡◌, ◌≢◌, Ok, Err, IfOk, IfErr};
+ghost use Rattle.std.specs.Prelude.{◌≡◌, Ok, IfOk, IfErr};
 ghost use Rattle.serde_json.specs.View.{view};
+ghost use Rattle.rewind_forms.specs.Forms.{FailsWith};
 ghost use Rattle.rewind_forms.specs.Steps.{feed_of as feed_in, take_of as take_in, notice_of as notice_in, broadcast_of as broadcast_in, part_of as part_in, receive_of as receive_in, next_at as next_in, step_of as step_in, read_of as read_in};
 ghost use Rattle.rewind_forms.specs.Fitting.{NamesFit};
 
@@ -33,7 +34,7 @@ fn next_at(value: &Value) -> Option<Next>
 #[tactic(auto, unfolding(crate::specs::Steps::feed_of))]
 fn feed_of(alloc: Global, graph: &Graph, value: &Value) -> Result<Step, LineFault>
     ensures ok { IfOk result (λ c. feed_in graph.now (view value.now) ≡ Ok c) }
-    ensures err { IfErr result (λ e. e ≢ LineFault.Memory → feed_in graph.now (view value.now) ≡ Err e) }
+    ensures err { IfErr result (FailsWith (feed_in graph.now (view value.now))) }
 {
     let p = small_at(value, "p").ok_or(LineFault::BadShape)?;
     let name = text_at(value, "vertex").ok_or(LineFault::BadShape)?;
@@ -51,7 +52,7 @@ fn feed_of(alloc: Global, graph: &Graph, value: &Value) -> Result<Step, LineFaul
 #[tactic(auto, unfolding(crate::specs::Steps::take_of))]
 fn take_of(alloc: Global, graph: &Graph, value: &Value) -> Result<Step, LineFault>
     ensures ok { IfOk result (λ c. take_in graph.now (view value.now) ≡ Ok c) }
-    ensures err { IfErr result (λ e. e ≢ LineFault.Memory → take_in graph.now (view value.now) ≡ Err e) }
+    ensures err { IfErr result (FailsWith (take_in graph.now (view value.now))) }
 {
     let p = small_at(value, "p").ok_or(LineFault::BadShape)?;
     let number = integer_at(value, "value").ok_or(LineFault::BadShape)?;
@@ -69,7 +70,7 @@ fn take_of(alloc: Global, graph: &Graph, value: &Value) -> Result<Step, LineFaul
 #[tactic(auto, unfolding(crate::specs::Steps::notice_of))]
 fn notice_of(alloc: Global, graph: &Graph, value: &Value) -> Result<Step, LineFault>
     ensures ok { IfOk result (λ c. notice_in graph.now (view value.now) ≡ Ok c) }
-    ensures err { IfErr result (λ e. e ≢ LineFault.Memory → notice_in graph.now (view value.now) ≡ Err e) }
+    ensures err { IfErr result (FailsWith (notice_in graph.now (view value.now))) }
 {
     let p = small_at(value, "p").ok_or(LineFault::BadShape)?;
     let named = named_at(alloc, value, "vertex")?.ok_or(LineFault::BadShape)?;
@@ -95,7 +96,7 @@ fn broadcast_of(value: &Value) -> Result<Step, LineFault>
 #[tactic(auto, unfolding(crate::specs::Steps::part_of))]
 fn part_of(alloc: Global, graph: &Graph, value: &Value) -> Result<Step, LineFault>
     ensures ok { IfOk result (λ c. part_in graph.now (view value.now) ≡ Ok c) }
-    ensures err { IfErr result (λ e. e ≢ LineFault.Memory → part_in graph.now (view value.now) ≡ Err e) }
+    ensures err { IfErr result (FailsWith (part_in graph.now (view value.now))) }
 {
     let p = small_at(value, "p").ok_or(LineFault::BadShape)?;
     let named = points_at(alloc, value, "part")?.ok_or(LineFault::BadShape)?;
@@ -126,7 +127,7 @@ pub fn step_of(
     value: &Value,
 ) -> Result<Step, LineFault>
     ensures ok { IfOk result (λ c. step_in graph.now form (view value.now) ≡ Ok c) }
-    ensures err { IfErr result (λ e. e ≢ LineFault.Memory → step_in graph.now form (view value.now) ≡ Err e) }
+    ensures err { IfErr result (FailsWith (step_in graph.now form (view value.now))) }
 {
     match form {
         StepForm::Feed => feed_of(alloc, graph, value),
@@ -146,7 +147,7 @@ pub fn step_of(
 pub fn read_step(alloc: Global, graph: &Graph, value: &Value) -> Result<Step, LineFault>
     ensures ok { IfOk result (λ x. read_in graph.now (view value.now) ≡ Ok x) }
     ensures fits { IfOk result (NamesFit graph.now) }
-    ensures err { IfErr result (λ e. e ≢ LineFault.Memory → read_in graph.now (view value.now) ≡ Err e) }
+    ensures err { IfErr result (FailsWith (read_in graph.now (view value.now))) }
 {
     match Form::of(Version::First, value) {
         Some(Form::Step(form)) => step_of(alloc, graph, form, value),

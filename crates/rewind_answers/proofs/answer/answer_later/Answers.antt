@@ -8,15 +8,15 @@ use Rattle.rewind_answers.proofs.answer.answer_later.Goals as goal
 pub returns-in-Err : goal.returns-in-Err
 returns-in-Err g c = record {
   replies = (
-      let same = c.graph.ensures ∙ ap (λ s. s.graph) c.cluster.ensures.value in
-      fault_replies c.args.version (logged c.args.state.now) c.args.line (view c.args.value.now) c.in-Err.fault c.line_fault.result (λ some. ap (λ g. asked_of c.args.version g (view c.args.value.now)) (sym same) ∙ c.in-Err.ensures.err some) c.line_fault.ensures.reply
+      let same = c.graph-graph.ensures ∙ ap (λ s. s.graph) c.cluster.ensures.value in
+      fault_replies c.args.script.now.version (logged c.args.script.now.state) c.args.line (view c.args.value.now) c.in-Err.fault c.line_fault.result (λ some. ap (λ g. asked_of c.args.script.now.version g (view c.args.value.now)) (sym same) ∙ c.in-Err.ensures.err some) c.line_fault.ensures.reply
       );
 }
 
 pub returns : goal.returns
 returns g c = record {
   replies = (
-      let same = c.graph.ensures ∙ ap (λ s. s.graph) c.cluster.ensures.value in
-      asked_replies c.args.version (logged c.args.state.now) c.args.line (view c.args.value.now) c.in-Ok.asked c.answer_asked.result _ (ap (λ g. asked_of c.args.version g (view c.args.value.now)) (sym same) ∙ c.in-Ok.ensures.ok) c.answer_asked.ensures.reply
+      let same = c.graph-graph.ensures ∙ ap (λ s. s.graph) c.cluster.ensures.value in
+      asked_replies c.args.script.now.version (logged c.args.script.now.state) c.args.line (view c.args.value.now) c.in-Ok.asked c.answer_asked.result _ (ap (λ g. asked_of c.args.script.now.version g (view c.args.value.now)) (sym same) ∙ c.in-Ok.ensures.ok) c.answer_asked.ensures.reply
       );
 }

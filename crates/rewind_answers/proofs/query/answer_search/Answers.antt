@@ -4,7 +4,7 @@ use Rattle.rewind_answers.proofs.query.answer_search.Goals as goal
 pub returns-in-Ok : goal.returns-in-Ok
 returns-in-Ok g c = record {
   reply = (
-      found_replies (c.args.state.now).machine.timeline c.timeline-timeline.result.now c.args.when.now c.args.lo c.args.hi c.args.workers c.in-Ok.least c.found.result
+      found_replies (c.args.state.now).machine.timeline c.timeline-timeline.result.now c.args.search.now c.in-Ok.least c.found.result
       c.timeline-timeline.ensures.value c.in-Ok.ensures.may c.in-Ok.ensures.found c.found.ensures.reply
       );
 }
@@ -12,7 +12,7 @@ returns-in-Ok g c = record {
 pub returns-in-Err : goal.returns-in-Err
 returns-in-Err g c = record {
   reply = (
-      failed_replies (c.args.state.now).machine.timeline c.timeline-timeline.result.now c.args.when.now c.args.lo c.args.hi c.args.workers c.in-Err.fault c.refuse_search.result
+      failed_replies (c.args.state.now).machine.timeline c.timeline-timeline.result.now c.args.search.now c.in-Err.fault c.refuse_search.result
       c.timeline-timeline.ensures.value c.in-Err.ensures.fails c.refuse_search.ensures.reply
       );
 }

@@ -10,7 +10,7 @@ use Rattle.rewind_answers.proofs.stage.answer_line.Goals as goal
 skipped : (s : Stage) (line : ℕ) → Answers (phase_of s) line blank [] (phase_of s)
 skipped (Unopened processors) line = (refl, refl)
 skipped (Unstarted v processors) line = (refl, refl)
-skipped (Running v state) line = (refl, refl)
+skipped (Running script) line = (refl, refl)
 
 pub returns-in-Blank : goal.returns-in-Blank
 returns-in-Blank g c = record {

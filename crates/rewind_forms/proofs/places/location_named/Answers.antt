@@ -1,4 +1,4 @@
-use Rattle.rewind_forms.proofs.Within.{named-within}
+use Rattle.rewind_forms.proofs.NamesLemmas.{named-within}
 use Rattle.rewind_forms.proofs.places.location_named.Goals as goal
 
 pub returns-clause-there : goal.returns-clause-there
