@@ -10,7 +10,7 @@ use Rattle.nd_time.specs.Limits.{max_count}
 use Rattle.nd_map.specs.Counts.{or_else}
 use Rattle.nd_map.specs.Edits.{IsSaid, edited}
 use Rattle.nd_map.specs.Maps.{put-same, without-none}
-use Rattle.nd_map.specs.Kept as stored
+use Rattle.nd_map.specs.KeptLaws as laws
 use Rattle.nd_map.specs.declared.tree.Edit.{Edit}
 use Rattle.nd_map.specs.declared.tree.Edit.TheVariants.{Keep, Put, Remove}
 use Rattle.nd_processor.specs.Kept.{IsCount, IsKept, number, put_count}
@@ -41,7 +41,7 @@ puts P each (Some c) e counts said = each c e counts said
 
 module _ {K : Type 0} (R : K → K → Ordering) (o : IsTotalOrder R) (es : List (K × ℕ)) (k : K) (kept : IsKept R es) where
   pub within : number R es k ≤ max_count
-  within = stored.number_is R (λ _. IsCount) es kept.numbers (λ n. n ≤ max_count) 0 k (λ _ count. count.within) (omega arith)
+  within = laws.number_is R (λ _. IsCount) es kept.numbers (λ n. n ≤ max_count) 0 k (λ _ count. count.within) (omega arith)
 
   -- the count that there is, is put again
   pub stays : (n : ℕ) → n ≡ number R es k → es ≡ put_count R k n es
@@ -55,10 +55,10 @@ module _ {K : Type 0} (R : K → K → Ordering) (o : IsTotalOrder R) (es : List
           rw (here, other) (sym (put-same R o k c es kept.listed t))
 
   after : (n : ℕ) → IsCount n → (e : Option (Edit ℕ)) → ((d : Edit ℕ) → e ≡ Some d → PutsCount d) → IsKept R (edited R k n e es)
-  after n count None put_is = stored.kept_put R o es k (λ _. IsCount) n (λ _ _. count) kept
+  after n count None put_is = laws.kept_put R o es k (λ _. IsCount) n (λ _ _. count) kept
   after n count (Some Keep) put_is = kept
-  after n count (Some (Put m)) put_is = stored.kept_put R o es k (λ _. IsCount) m (λ _ _. put_is (Put m) refl) kept
-  after n count (Some Remove) put_is = stored.kept_without R o es k (λ _. IsCount) kept
+  after n count (Some (Put m)) put_is = laws.kept_put R o es k (λ _. IsCount) m (λ _ _. put_is (Put m) refl) kept
+  after n count (Some Remove) put_is = laws.kept_without R o es k (λ _. IsCount) kept
 
   -- the entries are kept after an edit by which counts are put
   pub edited_kept : {E : Type 0} (P : ℕ → Edit ℕ → Type 0) (n : ℕ) → IsCount n → ((c : ℕ) (e : Edit ℕ) → IsCount c → P c e → PutsCount e)

@@ -7,7 +7,7 @@ use Rattle.std.specs.FinMap.{IsAntisymmetric, put}
 use Rattle.nd_time.specs.Limits.{max_count}
 use Rattle.nd_map.specs.Listed.{without}
 use Rattle.nd_map.specs.Counts.{Counts, naturals, natural, at, set, added, of_entries, entries}
-use Rattle.nd_map.specs.Kept as stored
+use Rattle.nd_map.specs.KeptLaws as laws
 use Rattle.nd_processor.specs.EditsLaws.{more-back, less-back}
 use Rattle.nd_processor.specs.HeldLaws.{natural-less}
 use Rattle.nd_processor.specs.Kept.{IsCount, IsKept, number, put_count}
@@ -15,22 +15,22 @@ use Rattle.nd_processor.specs.Kept.{IsCount, IsKept, number, put_count}
 module _ {K : Type 0} (R : K → K → Ordering) (o : IsTotalOrder R) (tells : IsAntisymmetric R) (es : List (K × ℕ)) (m : Counts R naturals) (is_m : of_entries o es ≡ m) where
   -- the entries that are stored are those of their map
   pub kept_entries : IsKept R es → es ≡ entries m
-  kept_entries kept = stored.listed naturals o tells es m is_m (λ _. IsCount) kept (λ _ _ count. count.some)
+  kept_entries kept = laws.listed naturals o tells es m is_m (λ _. IsCount) kept (λ _ _ count. count.some)
 
   pub kept_within : IsKept R es → (k : K) → at m k ≤ max_count
-  kept_within kept k = stored.at_is naturals o tells es m is_m (λ _. IsCount) kept (λ n. n ≤ max_count) k (λ _ count. count.within) (omega arith)
+  kept_within kept k = laws.at_is naturals o tells es m is_m (λ _. IsCount) kept (λ n. n ≤ max_count) k (λ _ count. count.within) (omega arith)
 
   module _ (k : K) where
     -- what a look-up finds
     pub number_at : number R es k ≡ at m k
-    number_at = stored.at_found naturals o tells es m is_m k
+    number_at = laws.at_found naturals o tells es m is_m k
 
     -- ---- after an edit
     changed : (n z : ℕ) (fs : List (K × ℕ)) → fs ≡ put_count R k n es → n ≡ z → of_entries {N = naturals} o fs ≡ set o m k z
     changed n z fs is same =
         elim (nat_eq n 0) as (λ b. nat_eq n 0 ≡ b → fs ≡ cond b (without R k es) (put R k n es) → of_entries {N = naturals} o fs ≡ set o m k z) [
-          | true ↦ λ t here. stored.of_without naturals o tells es m is_m k fs here ∙ (let e : 0 ≡ z = grind (arith, nat_tests) in ap (set o m k) e)
-          | false ↦ λ t here. stored.of_put naturals o tells es m is_m k n fs here ∙ ap (set o m k) same
+          | true ↦ λ t here. laws.of_without naturals o tells es m is_m k fs here ∙ (let e : 0 ≡ z = grind (arith, nat_tests) in ap (set o m k) e)
+          | false ↦ λ t here. laws.of_put naturals o tells es m is_m k n fs here ∙ ap (set o m k) same
         ] refl is
 
     pub more : (n : ℕ) (fs : List (K × ℕ)) → fs ≡ put_count R k (number R es k + n) es → of_entries o fs ≡ added o m k (pos n)

@@ -15,7 +15,7 @@ use Rattle.nd_time.specs.Limits.{max_count}
 use Rattle.nd_map.specs.Counts.{or_else}
 use Rattle.nd_map.specs.Entries.{all_found}
 use Rattle.nd_map.specs.Listed.{without}
-use Rattle.nd_map.specs.Kept as stored
+use Rattle.nd_map.specs.KeptLaws as laws
 use Rattle.nd_map.specs.Weights.{weight}
 use Rattle.nd_paths.specs.Point.{point_cmp, point_total}
 use Rattle.nd_paths.specs.declared.point.Pointstamp.{Pointstamp}
@@ -30,12 +30,12 @@ use Rattle.nd_map.specs.Ends.{not_below, not_above}
 module _ (es : List (ValueAt × ℕ)) (k : ValueAt) (kept : AreRecords es) where
   put_records : (n : ℕ) → FitsSigned w64 k.value → AreRecords (put value_at_cmp k n es)
   put_records n fits = record {
-    values = stored.each_put value_at_cmp value_at_total es k (λ k _. FitsSigned w64 k.value) n
+    values = laws.each_put value_at_cmp value_at_total es k (λ k _. FitsSigned w64 k.value) n
         (λ q t. subst (λ (x : ValueAt). FitsSigned w64 x.value) (sym (tells_apart value_at_exact q k t)) fits) kept.values;
   }
 
   without_records : AreRecords (without value_at_cmp k es)
-  without_records = record { values = stored.each_without value_at_cmp value_at_total es k (λ k _. FitsSigned w64 k.value) kept.values }
+  without_records = record { values = laws.each_without value_at_cmp value_at_total es k (λ k _. FitsSigned w64 k.value) kept.values }
 
   -- of a value of 64 bits there is another count, if it is not 0
   counted : (n : ℕ) → (n ≢ 0 → FitsSigned w64 k.value) → AreRecords (put_count value_at_cmp k n es)

@@ -2,7 +2,7 @@ use Rattle.std.proofs.Common.{◌≡◌, ◌∙◌, None, Some, Ok, Err, rules, 
 use Rattle.std.specs.Prelude.{OnErr, Result}
 use Rattle.std.proofs.lemmas.Int.{to_z-of_z}
 use Rattle.nd_map.specs.Counts.{integers, set}
-use Rattle.nd_map.specs.Kept as stored
+use Rattle.nd_map.specs.KeptLaws as laws
 use Rattle.std.specs.FinMap.{find, put}
 use Rattle.nd_vertex.specs.Items.{item_key, item_cmp, item_total, item_exact}
 use Rattle.nd_vertex.specs.Edits.{number_of}
@@ -12,13 +12,13 @@ use Rattle.nd_vertex.proofs.state.VertexState.set.Given.{Over}
 use Rattle.nd_vertex.proofs.state.VertexState.set.Goals as goal
 
 pub invariant_of-self-in-None : goal.invariant_of-self-in-None
-invariant_of-self-in-None g c = rw c.remove.ensures.value (stored.kept_without item_cmp item_total c.self.inside.map _ IsNumber c.self.invariant)
+invariant_of-self-in-None g c = rw c.remove.ensures.value (laws.kept_without item_cmp item_total c.self.inside.map _ IsNumber c.self.invariant)
 
 pub returns-in-None-clause-ok : goal.returns-in-None-clause-ok
 returns-in-None-clause-ok g c =
     let key = item_key c.args.time.now c.args.item in
     let is_none : c.args.new ≡ None = cc in
-    stored.of_without integers item_total item_exact c.self.inside.map c.args.self.now c.self.view_is key _ (rw (c.copy.ensures, to_z-of_z w64 c.args.item c.ranges.item) at c.remove.ensures.value)
+    laws.of_without integers item_total item_exact c.self.inside.map c.args.self.now c.self.view_is key _ (rw (c.copy.ensures, to_z-of_z w64 c.args.item c.ranges.item) at c.remove.ensures.value)
     ∙ ap (λ n. set item_total c.args.self.now key (number_of n)) (sym is_none)
 
 -- what holds at all holds where a call fails
@@ -46,4 +46,4 @@ invariant_of-self g c = rw (entries g c) (kept_put c.self.inside.map _ c.in-Some
 pub returns-in_ok-put-in-Some-clause-ok : goal.returns-in_ok-put-in-Some-clause-ok
 returns-in_ok-put-in-Some-clause-ok g c =
     let key = item_key c.args.time.now c.args.item in
-    stored.of_put integers item_total item_exact c.self.inside.map c.args.self.now c.self.view_is key c.in-Some.number _ (entries g c) ∙ ap (λ n. set item_total c.args.self.now key (number_of n)) (sym c.in-Some.is)
+    laws.of_put integers item_total item_exact c.self.inside.map c.args.self.now c.self.view_is key c.in-Some.number _ (entries g c) ∙ ap (λ n. set item_total c.args.self.now key (number_of n)) (sym c.in-Some.is)
