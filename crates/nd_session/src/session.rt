@@ -7,7 +7,7 @@ ghost use Rattle.nd_session.specs.Faults.{CommandMayFail, CopyMayFail, EnterMayF
 
 use crate::shared::Shared;
 use crate::{Client, CloseFault, Log, Receipt, SessionFault, State};
-use nd_search::Snapshot;
+use nd_history::Snapshot;
 use nd_timeline::Command;
 use std::alloc::{Allocator, Global};
 use std::sync::{Mutex, Wait};

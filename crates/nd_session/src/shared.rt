@@ -3,13 +3,13 @@ ghost use Rattle.std.specs.Prelude.{◌≡◌, ◌+◌, ◌<◌, [], ◌∷◌, 
 ghost use Rattle.std.specs.Option.{option_map_or};
 ghost use Rattle.nd_time.specs.Limits.{max_clients, max_log};
 ghost use Rattle.nd_timeline.specs.Moves.{Moves};
-ghost use Rattle.nd_search.specs.Snapshot.{snapshot_of};
+ghost use Rattle.nd_history.specs.Snapshot.{snapshot_of};
 ghost use Rattle.nd_session.specs.Clients.{Holds, last_of, HoldsLast, IsHistory, IsKnown, IsUnknown};
 ghost use Rattle.nd_session.specs.Log.{IsPlaced, IsLegal, opening_of};
 ghost use Rattle.nd_session.specs.Faults.{TestFails, CommandFails, CopyFails, EnterFails};
 
 use crate::{Client, Receipt, SessionFault, State};
-use nd_search::Snapshot;
+use nd_history::Snapshot;
 use nd_timeline::Command;
 use std::alloc::{AllocError, Allocator, Global};
 

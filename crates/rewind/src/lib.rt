@@ -6,7 +6,7 @@ mod driver;
 mod run;
 
 pub use driver::{INPUT_LIMIT, debug, debug_within};
-pub use nd_search::{Gate, OpenGate};
+pub use nd_history::{Gate, OpenGate};
 pub use rewind_clients::{debug_clients, debug_clients_within};
 pub use rewind_forms::{LineFault, read_step, step_value};
 pub use rewind_lines::{DebugFault, Options};

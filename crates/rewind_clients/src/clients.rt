@@ -10,7 +10,7 @@ use crate::drive::drive_session;
 use crate::intake::{Intake, Script};
 use crate::reader::read_script;
 use crate::tell::{tell_log, tell_one, tell_opening, tell_version};
-use nd_search::Gate;
+use nd_history::Gate;
 use rewind_lines::{DebugFault, Options, Sink, Source};
 use std::alloc::Global;
 use std::sync::Wait;

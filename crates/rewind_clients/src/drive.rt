@@ -6,7 +6,7 @@ ghost use Rattle.rewind_clients.specs.Told.{IsServed, MayEnd, Told, machine_of};
 
 use crate::gated::Gated;
 use crate::same::same_graph;
-use nd_search::Gate;
+use nd_history::Gate;
 use nd_session::{Client, Log, Session, SessionFault, State};
 use nd_timeline::Command;
 use rewind_lines::DebugFault;

@@ -2,7 +2,7 @@
 ghost use Rattle.std.specs.Prelude.{◌≡◌, ◌++◌, ◌∷◌, [], length, IfOk, OnErr};
 ghost use Rattle.nd_session.specs.Clients.{IsTold};
 
-use nd_search::Gate;
+use nd_history::Gate;
 use nd_session::{Client, Receipt, Session, SessionFault};
 use nd_timeline::Command;
 use std::alloc::Global;
