@@ -1,5 +1,5 @@
 -- What a client was told, against the log of a session (this project's own rule).
-use Rattle.std.specs.Prelude.{◌≡◌, ℕ, ◌-◌, ◌<◌, ◌≤◌, ◌⊎◌, List, length, slice_get, Option, Some, MatchOption, refl}
+use Rattle.std.specs.Prelude.{◌≡◌, ℕ, ◌-◌, ◌<◌, ◌≤◌, ◌⊎◌, List, [], ◌∷◌, ◌++◌, length, slice_get, Option, Some, MatchOption, refl}
 use Rattle.std.specs.Option.{option_map_or}
 use Rattle.std.specs.Coded.{Coded, code_by, coded×, coded_ℕ, coded_list}
 use Rattle.nd_time.specs.Limits.{max_log}
@@ -21,6 +21,10 @@ abbrev pub client_code : (A : Type 0) → Coded (ClientValue A)
 client_code A =
     code_by _ (coded× coded_ℕ (coded_list (receipt_code A)))
     (λ p. (p.number, p.receipts)) (λ t. record { number = t.0; receipts = t.1 }) (λ _. refl)
+
+-- a client got one receipt more
+abbrev pub Gains : {A : Type 0} → ClientValue A → ClientValue A → Receipt A → Type 0
+Gains old new r = new ≡ record old { receipts = old.receipts ++ r ∷ [] }
 
 -- ---- receipts and a log
 
