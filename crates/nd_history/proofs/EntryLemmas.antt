@@ -2,7 +2,7 @@
 use Rattle.std.proofs.Common.{◌≡◌, ◌≤◌, ℕ, ℤ, pos, length, ap, ◌∙◌, arith}
 use Rattle.std.proofs.lemmas.List.{get_or_past}
 use Rattle.nd_paths.specs.declared.point.Pointstamp.{Pointstamp}
-use Rattle.nd_delta.specs.Change.{none, at, at-none}
+use Rattle.nd_delta.specs.Delta.{none, at, at-none}
 use Rattle.nd_protocol.specs.State.{ClusterState, view}
 use Rattle.nd_protocol.specs.Fitting.{IsState}
 use Rattle.nd_timeline.specs.Timeline.{TimelineValue}

@@ -1,7 +1,7 @@
 -- The changes of a processor's view over the kept steps of a timeline, and why none are told (this project's own rule).
 use Rattle.std.specs.Prelude.{ℕ, ◌<◌, ◌≤◌, ℤ, List, length, take}
 use Rattle.nd_paths.specs.declared.point.Pointstamp.{Pointstamp}
-use Rattle.nd_delta.specs.Change.{at}
+use Rattle.nd_delta.specs.Delta.{at}
 use Rattle.nd_protocol.specs.State.{view}
 use Rattle.nd_protocol.specs.Steps.{after}
 use Rattle.nd_timeline.specs.Timeline.{TimelineValue, cluster_of}

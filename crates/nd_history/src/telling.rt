@@ -1,6 +1,6 @@
 //! The changes of a processor's view, by one walk over the kept steps.
 ghost use Rattle.std.specs.Prelude.{◌≡◌, ◌≤◌, length, IfOk, IfErr, OnOk};
-ghost use Rattle.nd_delta.specs.Change.{at};
+ghost use Rattle.nd_delta.specs.Delta.{at};
 ghost use Rattle.nd_protocol.specs.State.{view};
 ghost use Rattle.nd_timeline.specs.Walks.{IsOn};
 ghost use Rattle.nd_history.specs.Told.{IsTold};
