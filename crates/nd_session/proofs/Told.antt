@@ -11,10 +11,12 @@ use Rattle.nd_protocol.specs.Invariant.{KeepsProtocol}
 use Rattle.nd_timeline.specs.Timeline.{opened}
 use Rattle.nd_timeline.specs.Moves.{MachineValue, without_breaks}
 use Rattle.nd_timeline.specs.declared.command.Command.{Command}
-use Rattle.nd_search.specs.Snapshot.{SnapshotValue, snapshot_of}
+use Rattle.nd_history.specs.Snapshot.{SnapshotValue, snapshot_of}
 use Rattle.nd_session.specs.declared.receipt.Receipt.{Receipt}
 use Rattle.nd_session.specs.declared.fault.SessionFault.{SessionFault}
-use Rattle.nd_session.specs.Log.{IsStart, IsPlaced, IsLegal, opening_of}
+use Rattle.nd_session.specs.declared.shared.Shared.{Shared}
+use Rattle.nd_session.specs.Answered.{IsAnswered}
+use Rattle.nd_session.specs.Log.{IsStart, IsLegal, opening_of}
 use Rattle.nd_session.specs.Clients.{ClientValue, Holds, last_of, HoldsLast, IsAboveLast, IsOwn, IsHistory, IsKnown, IsUnknown, IsStranger, IsTold, IsSeen}
 use Rattle.nd_session.specs.declared.fault.SessionFault.TheVariants.{NotThisSession, LogFull, TooManyClients, Memory}
 use Rattle.nd_session.specs.Faults.{ApplyFails, CommandFails, CopyFails, CommandMayFail, CopyMayFail}
@@ -99,27 +101,26 @@ module _ {A : Type 0} where
 
   -- ---- the answers of a session
 
-  module _ (log : List (Receipt A)) (m : MachineValue A) (history : IsHistory log m) (entered : ℕ) (p : ClientValue A) where
-    -- what a command was answered
-    pub told : (command : Command A) (next : List (Receipt A)) (new : MachineValue A) (result : Result (Receipt A) (SessionFault A))
-        → OnOk result (IsLegal (opening_of m) next new) → OnOk result (new.timeline.base ≡ m.timeline.base) → OnOk result (IsKnown entered log p) → OnOk result (length log < max_log)
-        → IfOk result (λ r. next ≡ log ++ r ∷ []) → IfOk result (λ r. IsPlaced log (length log) r) → IfOk result (λ r. r.client ≡ p.number) → IfOk result (λ r. r.command ≡ command)
-        → IfOk result (IsTold p command)
-    told command next new (Err e) legal base known room logged placed client asked = tt
-    told command next new (Ok r) legal base known room logged placed client asked =
-        let P : List (Receipt A) → Type 0 = λ l. IsLegal (opening_of m) l new in
-        let Q : ℕ → Type 0 = λ i. slice_get (log ++ r ∷ []) i ≡ Some r in
-        let S : ℕ → Type 0 = λ i. IsAboveLast i p.receipts in record {
-          log = log ++ r ∷ [];
-          machine = new;
-          history = history_grows log (log ++ r ∷ []) m new history (subst P logged legal) base (omega (arith, length-append log (r ∷ []), room));
-          entry = subst Q (sym placed.index) (slice_get-seam log r);
-          last = last_stays log (r ∷ []) p.receipts known.last;
-          later = subst S (sym placed.index) (last_below log p.receipts known.last);
-          client = client;
-          command_is = asked;
-        }
+  -- what a command was answered
+  pub told : (was new : Shared A) (p : ClientValue A) (command : Command A) (result : Result (Receipt A) (SessionFault A))
+      → IsHistory was.state.log was.state.machine → IfOk result (IsAnswered was new p command) → IfOk result (IsTold p command)
+  told was new p command (Err e) history answered = tt
+  told was new p command (Ok r) history answered =
+      let log = was.state.log in
+      let P : List (Receipt A) → Type 0 = λ l. IsLegal (opening_of was.state.machine) l new.state.machine in
+      let Q : ℕ → Type 0 = λ i. slice_get (log ++ r ∷ []) i ≡ Some r in
+      let S : ℕ → Type 0 = λ i. IsAboveLast i p.receipts in record {
+        log = log ++ r ∷ [];
+        machine = new.state.machine;
+        history = history_grows log (log ++ r ∷ []) was.state.machine new.state.machine history (subst P answered.logged answered.legal) answered.base (omega (arith, length-append log (r ∷ []), answered.room));
+        entry = subst Q (sym answered.placed.index) (slice_get-seam log r);
+        last = last_stays log (r ∷ []) p.receipts answered.known.last;
+        later = subst S (sym answered.placed.index) (last_below log p.receipts answered.known.last);
+        client = answered.client;
+        command_is = answered.command_is;
+      }
 
+  module _ (log : List (Receipt A)) (m : MachineValue A) (history : IsHistory log m) (entered : ℕ) (p : ClientValue A) where
     -- what a copy is of
     pub seen : (result : Result (SnapshotValue A) (SessionFault A)) → IfOk result (λ s. s ≡ snapshot_of m.timeline (length log)) → OnOk result (IsKnown entered log p) → IfOk result (IsSeen p)
     seen (Err e) ok known = tt

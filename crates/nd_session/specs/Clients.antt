@@ -1,5 +1,5 @@
 -- What a client was told, against the log of a session (this project's own rule).
-use Rattle.std.specs.Prelude.{◌≡◌, ℕ, ◌-◌, ◌<◌, ◌≤◌, ◌⊎◌, List, length, slice_get, Option, Some, MatchOption, refl}
+use Rattle.std.specs.Prelude.{◌≡◌, ℕ, ◌-◌, ◌<◌, ◌≤◌, ◌⊎◌, List, [], ◌∷◌, ◌++◌, length, slice_get, Option, Some, MatchOption, refl}
 use Rattle.std.specs.Option.{option_map_or}
 use Rattle.std.specs.Coded.{Coded, code_by, coded×, coded_ℕ, coded_list}
 use Rattle.nd_time.specs.Limits.{max_log}
@@ -7,7 +7,7 @@ use Rattle.nd_protocol.specs.Fitting.{IsState}
 use Rattle.nd_protocol.specs.Invariant.{KeepsProtocol}
 use Rattle.nd_timeline.specs.Moves.{MachineValue}
 use Rattle.nd_timeline.specs.declared.command.Command.{Command}
-use Rattle.nd_search.specs.Snapshot.{SnapshotValue}
+use Rattle.nd_history.specs.Snapshot.{SnapshotValue}
 use Rattle.nd_session.specs.Codes.{receipt_code}
 use Rattle.nd_session.specs.Log.{IsStart, IsLegal, opening_of}
 use Rattle.nd_session.specs.declared.receipt.Receipt.{Receipt}
@@ -21,6 +21,10 @@ abbrev pub client_code : (A : Type 0) → Coded (ClientValue A)
 client_code A =
     code_by _ (coded× coded_ℕ (coded_list (receipt_code A)))
     (λ p. (p.number, p.receipts)) (λ t. record { number = t.0; receipts = t.1 }) (λ _. refl)
+
+-- a client got one receipt more
+abbrev pub Gains : {A : Type 0} → ClientValue A → ClientValue A → Receipt A → Type 0
+Gains old new r = new ≡ record old { receipts = old.receipts ++ r ∷ [] }
 
 -- ---- receipts and a log
 

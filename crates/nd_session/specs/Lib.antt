@@ -4,6 +4,7 @@ pub mod Codes
 pub mod State
 pub mod Kept
 pub mod Clients
+pub mod Answered
 pub mod Faults
 pub mod Close
 pub mod Tested

@@ -24,8 +24,8 @@ pub struct Log<A: Allocator + Copy = Global> {
 /// What is wrong with the clients that a session is closed with.
 #[derive(Clone, Copy, Debug, Drop, PartialEq, Eq)]
 pub enum CloseWhy {
-    /// A client's receipt is not the log's entry at this index, or the client's number was handed in
-    /// before (the index is then the log's length), or the entry at this index has no receipt.
+    /// A client's receipt is not the log's entry at this index, or the client's number was handed
+    /// in before (the index is then the log's length), or the entry at this index has no receipt.
     Mismatch { client: u64, index: u64 },
     /// The client of this number was not handed in.
     ClientMissing { client: u64 },
@@ -56,12 +56,7 @@ fn is_new<A: Allocator + Copy>(clients: &[Client<A>], k: usize, number: u64) -> 
     requires { k ≤ length clients.now }
     ensures { MatchBool result (IsNewBelow clients.now k number) (IsOther clients.now k number) }
 {
-    for j in 0..k {
-        if clients[j].number() == number {
-            return false;
-        }
-    }
-    true
+    !clients[..k].iter().any(|client| client.number() == number)
 }
 
 // Whether a client has this number.
@@ -134,14 +129,10 @@ fn has_at<A: Allocator + Copy>(client: &Client<A>, entry: &Receipt<A>) -> bool
 
 // Whether a client has the entry at its position.
 fn has_in_place<A: Allocator + Copy>(clients: &[Client<A>], entry: &Receipt<A>) -> bool
-    ensures { MatchBool result (HasInPlace clients.now entry.now) (¬ HasInPlace clients.now entry.now) }
+    ensures { MatchBool result (HasInPlace clients.now entry.now)
+        (¬ HasInPlace clients.now entry.now) }
 {
-    for client in clients {
-        if has_at(client, entry) {
-            return true;
-        }
-    }
-    false
+    clients.iter().any(|client| has_at(client, entry))
 }
 
 // The client and the index of the first entry that no client has at its position.
@@ -186,7 +177,8 @@ impl<A: Allocator + Copy> Shared<A> {
     // What the `State` and these clients leave. It takes no memory.
     pub(crate) fn close(self, clients: &[Client<A>]) -> Result<Log<A>, CloseFault<A>>
         ensures whole { IfOk result (λ l. IsWhole l.entries.items clients.now l.entered) }
-        ensures wrong { IfErr result (λ f. ClosesWith f.log.entries.items clients.now f.log.entered f.why) }
+        ensures wrong { IfErr result (λ f.
+            ClosesWith f.log.entries.items clients.now f.log.entered f.why) }
         ensures settled { IfOk result IsSettled }
         ensures fault_settled { IfErr result (λ f. IsSettled f.log) }
         ensures left { IfOk result (IsLeft self) }

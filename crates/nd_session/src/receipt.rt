@@ -4,8 +4,8 @@ ghost use Rattle.std.specs.Prelude.{◌≡◌, ◌≢◌, IfOk, MatchBool};
 use nd_timeline::{Command, Reply};
 use std::alloc::{AllocError, Allocator, Global};
 
-/// A command that was answered: an entry of the log, and what its client is told (this project's own
-/// rule).
+/// A command that was answered: an entry of the log, and what its client is told (this project's
+/// own rule).
 #[derive(Drop)]
 pub struct Receipt<A: Allocator = Global> {
     /// The entry's position in the log, counted from 0.

@@ -1,13 +1,13 @@
 //! A `State` that many clients drive through one lock.
-ghost use Rattle.std.specs.Prelude.{◌≡◌, ◌<◌, [], ◌∷◌, ◌++◌, IfOk, IfErr, OnErr};
+ghost use Rattle.std.specs.Prelude.{◌≡◌, ◌<◌, [], IfOk, IfErr, OnErr};
 ghost use Rattle.nd_time.specs.Limits.{max_clients};
-ghost use Rattle.nd_session.specs.Clients.{IsTold, IsSeen};
+ghost use Rattle.nd_session.specs.Clients.{Gains, IsTold, IsSeen};
 ghost use Rattle.nd_session.specs.Close.{ClosesWith, IsWhole, IsSettled};
 ghost use Rattle.nd_session.specs.Faults.{CommandMayFail, CopyMayFail, EnterMayFail};
 
 use crate::shared::Shared;
 use crate::{Client, CloseFault, Log, Receipt, SessionFault, State};
-use nd_search::Snapshot;
+use nd_history::Snapshot;
 use nd_timeline::Command;
 use std::alloc::{Allocator, Global};
 use std::sync::{Mutex, Wait};
@@ -44,14 +44,15 @@ impl<A: Allocator + Copy> Session<A> {
         command: Command<A>,
     ) -> Result<Receipt<A>, SessionFault<A>>
         ensures told { IfOk result (IsTold client.old command) }
-        ensures kept { IfOk result (λ r. client.new ≡ record client.old { receipts = client.old.receipts ++ r ∷ [] }) }
+        ensures kept { IfOk result (Gains client.old client.new) }
         ensures same { OnErr result (client.new ≡ client.old) }
         ensures fails { IfErr result (CommandMayFail client.old) }
     {
         self.lock.lock(rt).command(alloc, client, command)
     }
 
-    /// A copy of the timeline as it is now, and the length of the log. It is no command and not logged.
+    /// Copies the timeline as it is now, with the length of the log. It is no command and not
+    /// logged.
     pub fn copy(
         &self,
         rt: &impl Wait,
@@ -69,7 +70,8 @@ impl<A: Allocator + Copy> Session<A> {
     /// The session is ended in all cases, and the fault carries the log, too.
     pub fn close(self, clients: Vec<Client<A>, A>) -> Result<Log<A>, CloseFault<A>>
         ensures whole { IfOk result (λ l. IsWhole l.entries.items clients.items l.entered) }
-        ensures wrong { IfErr result (λ f. ClosesWith f.log.entries.items clients.items f.log.entered f.why) }
+        ensures wrong { IfErr result (λ f.
+            ClosesWith f.log.entries.items clients.items f.log.entered f.why) }
         ensures settled { IfOk result IsSettled }
         ensures fault_settled { IfErr result (λ f. IsSettled f.log) }
     {

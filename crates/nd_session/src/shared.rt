@@ -1,15 +1,14 @@
 //! What lies under a session's lock.
-ghost use Rattle.std.specs.Prelude.{◌≡◌, ◌+◌, ◌<◌, [], ◌∷◌, ◌++◌, length, slice_get, IfOk, IfErr, OnOk, OnErr, MatchBool};
+ghost use Rattle.std.specs.Prelude.{◌≡◌, ◌+◌, ◌<◌, [], length, slice_get, IfOk, IfErr, OnOk, OnErr, MatchBool};
 ghost use Rattle.std.specs.Option.{option_map_or};
-ghost use Rattle.nd_time.specs.Limits.{max_clients, max_log};
-ghost use Rattle.nd_timeline.specs.Moves.{Moves};
-ghost use Rattle.nd_search.specs.Snapshot.{snapshot_of};
-ghost use Rattle.nd_session.specs.Clients.{Holds, last_of, HoldsLast, IsHistory, IsKnown, IsUnknown};
-ghost use Rattle.nd_session.specs.Log.{IsPlaced, IsLegal, opening_of};
+ghost use Rattle.nd_time.specs.Limits.{max_clients};
+ghost use Rattle.nd_history.specs.Snapshot.{snapshot_of};
+ghost use Rattle.nd_session.specs.Answered.{IsAnswered};
+ghost use Rattle.nd_session.specs.Clients.{Gains, Holds, last_of, HoldsLast, IsHistory, IsKnown, IsUnknown};
 ghost use Rattle.nd_session.specs.Faults.{TestFails, CommandFails, CopyFails, EnterFails};
 
 use crate::{Client, Receipt, SessionFault, State};
-use nd_search::Snapshot;
+use nd_history::Snapshot;
 use nd_timeline::Command;
 use std::alloc::{AllocError, Allocator, Global};
 
@@ -95,7 +94,8 @@ impl<A: Allocator + Copy> Shared<A> {
 
     // Whether the client is one of this session, as far as its number and its last receipt tell.
     fn knows(&self, client: &Client<A>) -> bool
-        ensures { MatchBool result (IsKnown self.now.entered self.now.state.log client.now) (IsUnknown self.now.entered self.now.state.log client.now) }
+        ensures { MatchBool result (IsKnown self.now.entered self.now.state.log client.now)
+            (IsUnknown self.now.entered self.now.state.log client.now) }
     {
         client.number() < self.entered && holds_last(self.state.log(), client.receipts())
     }
@@ -123,17 +123,9 @@ impl<A: Allocator + Copy> Shared<A> {
         client: &mut Client<A>,
         command: Command<A>,
     ) -> Result<Receipt<A>, SessionFault<A>>
-        ensures logged { IfOk result (λ r. self.new.state.log ≡ self.old.state.log ++ r ∷ []) }
-        ensures placed { IfOk result (λ r. IsPlaced self.old.state.log (length self.old.state.log) r) }
-        ensures client { IfOk result (λ r. r.client ≡ client.old.number) }
-        ensures command { IfOk result (λ r. r.command ≡ command) }
-        ensures moved { IfOk result (λ r. Moves self.old.state.machine command r.reply self.new.state.machine) }
-        ensures known { OnOk result (IsKnown self.old.entered self.old.state.log client.old) }
         ensures history { IsHistory self.old.state.log self.old.state.machine }
-        ensures room { OnOk result (length self.old.state.log < max_log) }
-        ensures legal { OnOk result (IsLegal (opening_of self.old.state.machine) self.new.state.log self.new.state.machine) }
-        ensures base { OnOk result (self.new.state.machine.timeline.base ≡ self.old.state.machine.timeline.base) }
-        ensures kept { IfOk result (λ r. client.new ≡ record client.old { receipts = client.old.receipts ++ r ∷ [] }) }
+        ensures answered { IfOk result (IsAnswered self.old self.new client.old command) }
+        ensures kept { IfOk result (Gains client.old client.new) }
         ensures entered { OnOk result (self.new.entered ≡ self.old.entered) }
         ensures same { OnErr result (self.new ≡ self.old) }
         ensures receipts { OnErr result (client.new ≡ client.old) }
@@ -158,7 +150,8 @@ impl<A: Allocator + Copy> Shared<A> {
 
     // A copy of the timeline, for a client.
     pub(crate) fn copy(&self, alloc: A, client: &Client<A>) -> Result<Snapshot<A>, SessionFault<A>>
-        ensures value { IfOk result (λ s. s ≡ snapshot_of self.now.state.machine.timeline (length self.now.state.log)) }
+        ensures value { IfOk result (λ s.
+            s ≡ snapshot_of self.now.state.machine.timeline (length self.now.state.log)) }
         ensures known { OnOk result (IsKnown self.now.entered self.now.state.log client.now) }
         ensures history { IsHistory self.now.state.log self.now.state.machine }
         ensures fails { IfErr result (CopyFails self.now.entered self.now.state.log client.now) }

@@ -3,7 +3,7 @@ ghost use Rattle.std.specs.Prelude.{◌≡◌, ◌↔◌, ◌<◌, ◌≤◌, []
 ghost use Rattle.nd_time.specs.Limits.{max_log};
 ghost use Rattle.nd_protocol.specs.Fitting.{IsState};
 ghost use Rattle.nd_protocol.specs.Invariant.{KeepsProtocol};
-ghost use Rattle.nd_search.specs.Snapshot.{snapshot_of};
+ghost use Rattle.nd_history.specs.Snapshot.{snapshot_of};
 ghost use Rattle.nd_timeline.specs.Moves.{Moves, without_breaks};
 ghost use Rattle.nd_session.specs.Log.{IsStart, IsPlaced, IsLegal, count_of, entry_of, opening_of};
 ghost use Rattle.nd_session.specs.State.{StateValue};
@@ -11,9 +11,9 @@ ghost use Rattle.nd_session.specs.Clients.{IsHistory};
 ghost use Rattle.nd_session.specs.Faults.{ApplyFails};
 
 use crate::{Receipt, SessionFault};
+use nd_history::Snapshot;
 use nd_map::GrowingMap;
 use nd_protocol::starts_keep_protocol;
-use nd_search::Snapshot;
 use nd_timeline::{Command, Machine, Reply, Timeline, moves_keep_timelines};
 use nd_watch::Breaks;
 use std::alloc::{AllocError, Allocator, Global};
@@ -60,8 +60,8 @@ impl<A: Allocator + Copy> State<A> {
         requires start { IsStart timeline.base }
         ensures { result ≡ record { machine = without_breaks timeline; log = [] } }
     {
-        // The clauses of these three say that the cursor stands within what is kept, that edges join vertices, and that
-        // depths agree along the arcs.
+        // The clauses of these three say that the cursor stands within what is kept, that edges
+        // join vertices, and that depths agree along the arcs.
         let _ = timeline.at();
         let graph = timeline.base().graph();
         let _ = graph.vertices();
@@ -124,7 +124,8 @@ impl<A: Allocator + Copy> State<A> {
 
     /// Answers a client's command, and logs it. The command is not copied.
     pub fn answer(&mut self, client: u64, command: Command<A>) -> Result<Reply, SessionFault<A>>
-        ensures entry { IfOk result (λ r. self.new.log ≡ self.old.log ++ entry_of self.old.log client command r ∷ []) }
+        ensures entry { IfOk result (λ r.
+            self.new.log ≡ self.old.log ++ entry_of self.old.log client command r ∷ []) }
         ensures moved { IfOk result (λ r. Moves self.old.machine command r self.new.machine) }
         ensures legal { IsLegal (opening_of self.old.machine) self.new.log self.new.machine }
         ensures base { self.new.machine.timeline.base ≡ self.old.machine.timeline.base }
@@ -188,7 +189,8 @@ impl<A: Allocator + Copy> State<A> {
 
     /// A copy of the timeline, under the length of the log.
     pub fn snapshot(&self, alloc: A) -> Result<Snapshot<A>, AllocError>
-        ensures { IfOk result (λ s. s ≡ snapshot_of self.now.machine.timeline (length self.now.log)) }
+        ensures { IfOk result (λ s.
+            s ≡ snapshot_of self.now.machine.timeline (length self.now.log)) }
     {
         Snapshot::of(alloc, self.timeline(), self.log.len() as u64)
     }

@@ -4,7 +4,7 @@ use crate::drawn::{LINE, graph_of};
 use crate::opened::{Asked, NOTHING, command_of, opened, session_of};
 use crate::told::{Told, is_state, state_text};
 use nd_cluster::Next;
-use nd_search::Snapshot;
+use nd_history::Snapshot;
 use nd_session::{Client, Receipt, Session, SessionFault, State};
 use nd_testing::{MANY, Refusing, in_turn, met};
 use nd_timeline::{Fault, Reply, Stop};

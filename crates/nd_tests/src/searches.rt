@@ -3,7 +3,7 @@
 use crate::drawn::{LINE, point};
 use crate::told::{Told, start, step_of};
 use nd_cluster::Next;
-use nd_search::{Gate, OpenGate, SearchFault, Snapshot, search, search_in};
+use nd_history::{Gate, OpenGate, SearchFault, Snapshot, search, search_in};
 use nd_testing::{MANY, Refusing, Sign, in_turn, met};
 use nd_timeline::Timeline;
 use nd_watch::Break;

@@ -7,7 +7,7 @@ mod options;
 mod run;
 
 pub use driver::{INPUT_LIMIT, debug, debug_within};
-pub use nd_search::{Gate, OpenGate};
+pub use nd_history::{Gate, OpenGate};
 pub use options::{WordsFault, options_of};
 pub use rewind_clients::{debug_clients, debug_clients_within};
 pub use rewind_forms::{LineFault, read_step, step_value};

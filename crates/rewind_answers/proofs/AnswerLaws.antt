@@ -26,9 +26,9 @@ use Rattle.rewind_forms.specs.declared.fault.LineFault.TheVariants as line
 use Rattle.std.specs.declared.alloc.Global.{Global}
 use Rattle.nd_time.specs.Limits.{max_log}
 use Rattle.nd_timeline.specs.Timeline.{TimelineValue, cluster_of}
-use Rattle.nd_search.specs.Least.{HoldsAt, IsLeast as IsLeastHit}
-use Rattle.nd_search.specs.Answers.{MaySearch, SearchFails}
-use Rattle.nd_search.specs.declared.fault.SearchFault.{SearchFault}
+use Rattle.nd_history.specs.Least.{HoldsAt, IsLeast as IsLeastHit}
+use Rattle.nd_history.specs.Answers.{MaySearch, SearchFails}
+use Rattle.nd_history.specs.declared.fault.SearchFault.{SearchFault}
 use Rattle.rewind_forms.specs.declared.queries.Query.{Query}
 use Rattle.rewind_forms.specs.declared.queries.Search.{Search}
 use Rattle.nd_timeline.specs.Moves.{Moves}

@@ -13,10 +13,10 @@ use Rattle.nd_protocol.specs.declared.step.Step.{Step}
 use Rattle.nd_timeline.specs.Timeline.{TimelineValue, cluster_of}
 use Rattle.nd_why.specs.Account.{Account}
 use Rattle.nd_why.specs.Why.{IsWhy}
-use Rattle.nd_changes.specs.Told.{IsTold}
-use Rattle.nd_changes.specs.Answers.{changes_of, MayTell, CannotTell}
-use Rattle.nd_changes.specs.declared.told.Told.{Told}
-use Rattle.nd_changes.specs.declared.fault.ChangesFault.{ChangesFault}
+use Rattle.nd_history.specs.Told.{IsTold}
+use Rattle.nd_history.specs.ViewChanges.{changes_of, MayTell, CannotTell}
+use Rattle.nd_history.specs.declared.told.Told.{Told}
+use Rattle.nd_history.specs.declared.fault.ChangesFault.{ChangesFault}
 use Rattle.rewind_forms.specs.Replies.{exported, kept_step, changed, why}
 use Rattle.rewind_forms.specs.Objects.{object_of}
 use Rattle.rewind_forms.specs.Reasons.{reasons_data}

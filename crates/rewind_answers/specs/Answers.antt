@@ -26,11 +26,11 @@ use Rattle.nd_timeline.specs.Timeline.{TimelineValue, cluster_of, opened}
 use Rattle.nd_timeline.specs.Moves.{MachineValue, Moves, without_breaks}
 use Rattle.nd_timeline.specs.declared.command.Command.{Command}
 use Rattle.nd_timeline.specs.declared.reply.Reply.{Reply}
-use Rattle.nd_search.specs.Least.{HoldsAt, IsLeast as IsLeastHit}
-use Rattle.nd_search.specs.Answers.{MaySearch, SearchFails}
-use Rattle.nd_search.specs.Faults.{code_of as code_of_search}
-use Rattle.nd_search.specs.declared.fault.SearchFault.{SearchFault}
-use Rattle.nd_search.specs.declared.fault.SearchFault.TheVariants as search
+use Rattle.nd_history.specs.Least.{HoldsAt, IsLeast as IsLeastHit}
+use Rattle.nd_history.specs.Answers.{MaySearch, SearchFails}
+use Rattle.nd_history.specs.Faults.{code_of_search}
+use Rattle.nd_history.specs.declared.fault.SearchFault.{SearchFault}
+use Rattle.nd_history.specs.declared.fault.SearchFault.TheVariants as search
 use Rattle.nd_session.specs.Faults.{code_of as code_of_session}
 use Rattle.nd_session.specs.declared.fault.SessionFault.{SessionFault}
 use Rattle.nd_session.specs.declared.fault.SessionFault.TheVariants.{LogFull, Memory}

@@ -15,12 +15,12 @@ use Rattle.nd_timeline.specs.Faults.{code_of}
 use Rattle.nd_timeline.specs.declared.fault.Fault.TheVariants.{NoSuchPoint}
 use Rattle.nd_why.specs.Account.{Account}
 use Rattle.nd_why.specs.Why.{IsWhy}
-use Rattle.nd_changes.specs.Told.{IsTold}
-use Rattle.nd_changes.specs.Answers.{changes_of, MayTell, CannotTell}
-use Rattle.nd_changes.specs.Faults.{code_of as code_of_changes}
-use Rattle.nd_changes.specs.declared.told.Told.{Told}
-use Rattle.nd_changes.specs.declared.fault.ChangesFault.{ChangesFault}
-use Rattle.nd_changes.specs.declared.fault.ChangesFault.TheVariants as changes
+use Rattle.nd_history.specs.Told.{IsTold}
+use Rattle.nd_history.specs.ViewChanges.{changes_of, MayTell, CannotTell}
+use Rattle.nd_history.specs.Faults.{code_of_changes}
+use Rattle.nd_history.specs.declared.told.Told.{Told}
+use Rattle.nd_history.specs.declared.fault.ChangesFault.{ChangesFault}
+use Rattle.nd_history.specs.declared.fault.ChangesFault.TheVariants as changes
 use Rattle.rewind_forms.specs.Replies.{fault, no_processor, exported, kept_step, changed, why}
 use Rattle.rewind_forms.specs.Objects.{object_of}
 use Rattle.rewind_forms.specs.Reasons.{reasons_data}

@@ -11,7 +11,7 @@ use crate::why::{answer_changes, answer_why};
 use nd_cluster::Cluster;
 use nd_json::Json;
 use nd_paths::Pointstamp;
-use nd_search::{OpenGate, SearchFault, search_in};
+use nd_history::{OpenGate, SearchFault, search_in};
 use nd_session::State;
 use nd_shown::{counts_value, point_value};
 use rewind_forms::{Query, Search, replies};

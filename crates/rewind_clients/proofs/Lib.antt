@@ -1,7 +1,8 @@
 pub mod OpeningLemmas
 pub mod ServedLemmas
 pub mod WrittenLemmas
-pub mod OutboxLemmas
+pub mod OrdersLemmas
+mod OutboxLemmas
 pub mod Members
 pub mod ReadersLemmas
 pub mod ToldLemmas

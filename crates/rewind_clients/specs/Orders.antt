@@ -27,6 +27,11 @@ is_query (Some (Step form)) = false
 is_query (Some (Command form)) = false
 is_query (Some (Query form)) = true
 
+-- what a line asks for is to be told something
+abbrev pub asks_query : Asked → Bool
+asks_query (Do command) = false
+asks_query (Tell query) = true
+
 -- a line of a client that is there: queries belong to scripts of one client
 abbrev pub of_client : ℕ → Bool → Result Asked LineFault → Result Order OrderFault
 of_client client true asked = Err OneClientOnly

@@ -10,7 +10,7 @@ use crate::drive::drive_session;
 use crate::intake::{Intake, Script};
 use crate::reader::read_script;
 use crate::tell::{tell_log, tell_one, tell_opening, tell_version};
-use nd_search::Gate;
+use nd_history::Gate;
 use rewind_lines::{DebugFault, Options, Sink, Source};
 use std::alloc::Global;
 use std::sync::Wait;
@@ -19,8 +19,8 @@ use std::thread::Threads;
 /// The most bytes of a script.
 const INPUT_LIMIT: usize = 268_435_456;
 
-// Answers a script that was read whole: the version line, if there was one, and the graph's, then what the clients were
-// answered.
+// Answers a script that was read completely: the version line, if there was one, and the graph's,
+// then what the clients were answered.
 fn answer_script<R: Threads + Wait + Sync, T: Sink, G: Gate>(
     rt: &R,
     alloc: Global,
@@ -79,10 +79,10 @@ fn answer<R: Threads + Wait + Sync, T: Sink, G: Gate>(
 ///
 /// All of the script is read first, at most `INPUT_LIMIT` bytes; after a fault of reading nothing
 /// is written. The first faulty line is answered alone, without the reply to a version line, and no
-/// command is run. Else the reply to the version line, if there is one, and the graph's are written,
-/// and then, once all clients have stopped, the entries of the log and a line for each client whose
-/// command was answered with a fault of the session. The gate is called with a client's number and
-/// that of its command before each.
+/// command is run. Else the reply to the version line, if there is one, and the graph's are
+/// written, and then, once all clients have stopped, the entries of the log and a line for each
+/// client whose command was answered with a fault of the session. The gate is called with a
+/// client's number and that of its command before each.
 pub fn debug_clients<R: Threads + Wait + Sync, S: Source, T: Sink, G: Gate>(
     rt: &R,
     alloc: Global,
@@ -95,8 +95,10 @@ pub fn debug_clients<R: Threads + Wait + Sync, S: Source, T: Sink, G: Gate>(
     requires unfailed { S.failed source.old ≡ false }
     requires few { S.given source.old + max_input + 1 < 2 ^ 64 }
     requires sound { T.failed sink.old ≡ false }
-    ensures run { (input before : List ℕ) → S.remaining source.old ≡ Some input → T.contents sink.old ≡ Some before
-        → Ends options.now.processors options.now.clients max_input input (S.remaining source.new) before (T.contents sink.new) result }
+    ensures run { (input before : List ℕ)
+        → S.remaining source.old ≡ Some input → T.contents sink.old ≡ Some before
+        → Ends options.now.processors options.now.clients max_input
+        input (S.remaining source.new) before (T.contents sink.new) result }
 
     // Whether the source tells its bytes or not, so many are taken, and all if it ended.
     ensures takes { Takes max_input result (S.given source.new - S.given source.old) }
@@ -124,8 +126,10 @@ pub fn debug_clients_within<R: Threads + Wait + Sync, S: Source, T: Sink, G: Gat
     requires unfailed { S.failed source.old ≡ false }
     requires few { S.given source.old + limit + 1 < 2 ^ 64 }
     requires sound { T.failed sink.old ≡ false }
-    ensures run { (input before : List ℕ) → S.remaining source.old ≡ Some input → T.contents sink.old ≡ Some before
-        → Ends options.now.processors options.now.clients limit input (S.remaining source.new) before (T.contents sink.new) result }
+    ensures run { (input before : List ℕ)
+        → S.remaining source.old ≡ Some input → T.contents sink.old ≡ Some before
+        → Ends options.now.processors options.now.clients limit
+        input (S.remaining source.new) before (T.contents sink.new) result }
     ensures takes { Takes limit result (S.given source.new - S.given source.old) }
     ensures ended { OnOk result (S.ended source.new ≡ true) }
     ensures read { S.failed source.new ≡ is_read_fault result }

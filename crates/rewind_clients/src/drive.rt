@@ -6,7 +6,7 @@ ghost use Rattle.rewind_clients.specs.Told.{IsServed, MayEnd, Told, machine_of};
 
 use crate::gated::Gated;
 use crate::same::same_graph;
-use nd_search::Gate;
+use nd_history::Gate;
 use nd_session::{Client, Log, Session, SessionFault, State};
 use nd_timeline::Command;
 use rewind_lines::DebugFault;
@@ -128,7 +128,8 @@ fn drive_all<R: Threads + Wait + Sync, G: Gate>(
     thread::map_vec(rt, tasks, &worker)
 }
 
-// Whether a client of a run may end so: it made all its commands, or met a full log or a refused growth.
+// Whether a client of a run may end so: it made all its commands, or met a full log or a refused
+// growth.
 fn may_end(fault: &Option<SessionFault>) -> bool
     ensures { MatchBool result (MayEnd fault.now) (MayEnd fault.now → ⊥) }
 {
@@ -141,7 +142,8 @@ fn may_end(fault: &Option<SessionFault>) -> bool
     }
 }
 
-// The clients, and why each stopped. Another fault than a client may end with is one of a session that does not add up.
+// The clients, and why each stopped. Another fault than a client may end with is one of a session
+// that does not add up.
 fn split(
     alloc: Global,
     done: Vec<Done>,
@@ -163,8 +165,8 @@ fn split(
     Ok((clients, faults))
 }
 
-/// Runs all clients' commands on a session of the `State`, and closes it. A log that began elsewhere is
-/// one of a session that does not add up.
+/// Runs all clients' commands on a session of the `State`, and closes it. A log that began elsewhere
+/// is one of a session that does not add up.
 pub fn drive_session<R: Threads + Wait + Sync, G: Gate>(
     rt: &R,
     alloc: Global,
@@ -173,7 +175,8 @@ pub fn drive_session<R: Threads + Wait + Sync, G: Gate>(
     gate: &G,
 ) -> Result<Driven, DebugFault>
     ensures told { IfOk result (λ d.
-        Told state.machine (lists_of commands.items) d.log.entries.items (machine_of d.log) d.faults.items) }
+        Told state.machine (lists_of commands.items)
+        d.log.entries.items (machine_of d.log) d.faults.items) }
     ensures kind { IfErr result IsOfDriving }
 {
     // A lock's contract does not tell what it first held, so it is looked at afterwards.

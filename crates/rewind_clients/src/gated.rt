@@ -1,8 +1,9 @@
 //! A session behind a gate.
-ghost use Rattle.std.specs.Prelude.{◌≡◌, ◌++◌, ◌∷◌, [], length, IfOk, OnErr};
+ghost use Rattle.std.specs.Prelude.{◌≡◌, ◌++◌, ◌∷◌, [], length, IfOk, IfErr, OnErr};
 ghost use Rattle.nd_session.specs.Clients.{IsTold};
+ghost use Rattle.nd_session.specs.Faults.{CommandMayFail};
 
-use nd_search::Gate;
+use nd_history::Gate;
 use nd_session::{Client, Receipt, Session, SessionFault};
 use nd_timeline::Command;
 use std::alloc::Global;
@@ -37,11 +38,13 @@ impl<'a, G: Gate> Gated<'a, G> {
         client: &mut Client,
         command: Command,
     ) -> Result<Receipt, SessionFault>
-        requires called { G.called self.now.gate.now client.old.number (length client.old.receipts) }
+        requires called { G.called self.now.gate.now client.old.number
+            (length client.old.receipts) }
         ensures told { IfOk result (IsTold client.old command) }
         ensures kept { IfOk result (λ r.
             client.new ≡ record client.old { receipts = client.old.receipts ++ r ∷ [] }) }
         ensures same { OnErr result (client.new ≡ client.old) }
+        ensures fails { IfErr result (CommandMayFail client.old) }
     {
         self.session.command(rt, alloc, client, command)
     }

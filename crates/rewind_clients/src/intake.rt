@@ -17,7 +17,7 @@ use nd_session::State;
 use nd_timeline::Command;
 use rewind_answers::answer_first;
 use rewind_forms::{LineFault, Version, replies, version_of};
-use rewind_lines::Reading;
+use rewind_lines::{Options, Reading};
 use serde_json::Value;
 use std::alloc::{AllocError, Global};
 
@@ -37,7 +37,8 @@ pub struct Script {
 /// What the lines read so far come to.
 #[derive(Drop)]
 pub enum Intake {
-    /// No graph yet; the version that the version line tells, if there was one. All others were blank.
+    /// No graph yet; the version that the version line tells, if there was one. All others were
+    /// blank.
     Unstarted(Option<Version>),
     /// The graph's line was refused, and this is its reply.
     Refused(Json),
@@ -69,23 +70,23 @@ fn refuse(alloc: Global, fault: LineFault, line: u64) -> Result<Intake, AllocErr
 // What the graph's line comes to, by its value.
 fn start(
     alloc: Global,
-    processors: u8,
-    clients: u8,
+    options: &Options,
     opened: Option<Version>,
     value: &Value,
 ) -> Result<Intake, AllocError>
     ensures { IfOk result (λ new.
-        Starts processors clients opened (view value.now) (intake_view new)) }
+        Starts options.now.processors options.now.clients opened
+        (view value.now) (intake_view new)) }
 {
     let version = opened.unwrap_or(Version::First);
-    let (reply, started) = answer_first(alloc, version, processors, value)?;
+    let (reply, started) = answer_first(alloc, version, options.processors, value)?;
     match started {
         None => Ok(Intake::Refused(reply)),
         Some(state) => Ok(Intake::Whole(Script {
             opened,
             reply,
             state,
-            commands: no_commands(alloc, clients)?,
+            commands: no_commands(alloc, options.clients)?,
         })),
     }
 }
@@ -93,41 +94,41 @@ fn start(
 // What the version line or the graph's comes to, by its value: a second version line is none.
 fn read_value(
     alloc: Global,
-    processors: u8,
-    clients: u8,
+    options: &Options,
     opened: Option<Version>,
     value: &Value,
     line: u64,
 ) -> Result<Intake, AllocError>
     ensures { IfOk result (λ new.
-        ReadsLine processors clients (unstarted_view opened) line (json (view value.now)) (intake_view new)) }
+        ReadsLine options.now.processors options.now.clients (unstarted_view opened) line
+        (json (view value.now)) (intake_view new)) }
 {
     match opened {
         None => match version_of(value) {
-            None => start(alloc, processors, clients, None, value),
+            None => start(alloc, options, None, value),
             Some(version) => Ok(Intake::Unstarted(Some(version))),
         },
-        Some(version) => start(alloc, processors, clients, Some(version), value),
+        Some(version) => start(alloc, options, Some(version), value),
     }
 }
 
 // What the graph's line, or one before it, comes to.
 fn begin(
     alloc: Global,
-    processors: u8,
-    clients: u8,
+    options: &Options,
     opened: Option<Version>,
     reading: &Reading,
     line: u64,
 ) -> Result<Intake, AllocError>
     ensures { IfOk result (λ new.
-        ReadsLine processors clients (unstarted_view opened) line (reading_view reading.now) (intake_view new)) }
+        ReadsLine options.now.processors options.now.clients (unstarted_view opened) line
+        (reading_view reading.now) (intake_view new)) }
 {
     match reading {
         Reading::Blank => Ok(Intake::Unstarted(opened)),
         Reading::TooLong => refuse(alloc, LineFault::LineTooLong, line),
         Reading::NoJson => refuse(alloc, LineFault::BadLine, line),
-        Reading::Json(value) => read_value(alloc, processors, clients, opened, value, line),
+        Reading::Json(value) => read_value(alloc, options, opened, value, line),
     }
 }
 
@@ -150,8 +151,8 @@ impl Script {
         reading: Reading,
         line: u64,
     ) -> Result<Option<Json>, AllocError>
-        ensures { IfOk result (λ r. or_faulty r self.new ≡ ordered (version_in self.old) (opening_replies self.old)
-            (logged self.old.state) (lists_of self.old.commands.items) line
+        ensures { IfOk result (λ r. or_faulty r self.new ≡ ordered (version_in self.old)
+            (opening_replies self.old) (logged self.old.state) (lists_of self.old.commands.items) line
             (order_line (version_in self.old) (length self.old.commands.items)
             (cluster_of self.old.state.machine.timeline).graph (reading_view reading))) }
     {
@@ -172,17 +173,16 @@ impl Intake {
     pub fn read_line(
         &mut self,
         alloc: Global,
-        processors: u8,
-        clients: u8,
+        options: &Options,
         reading: Reading,
         line: u64,
     ) -> Result<(), AllocError>
-        ensures reads { OnOk result (ReadsLine processors clients (intake_view self.old) line
-            (reading_view reading) (intake_view self.new)) }
+        ensures reads { OnOk result (ReadsLine options.now.processors options.now.clients
+            (intake_view self.old) line (reading_view reading) (intake_view self.new)) }
     {
         match self {
             Intake::Unstarted(opened) => {
-                *self = begin(alloc, processors, clients, *opened, &reading, line)?;
+                *self = begin(alloc, options, *opened, &reading, line)?;
             }
             Intake::Refused(_) | Intake::Faulty(_) => (),
             Intake::Whole(script) => {

@@ -3,7 +3,7 @@ ghost use Rattle.std.specs.Prelude.{◌≡◌, ◌<◌, IfOk};
 ghost use Rattle.serde_json.specs.View.{view};
 ghost use Rattle.rewind_lines.specs.Readings.{reading_view};
 ghost use Rattle.rewind_forms.specs.Grammar.{form_of};
-ghost use Rattle.rewind_clients.specs.Orders.{among, is_query as is_query_in, order_of as order_in_value, order_in as order_in_line, order_fault as order_fault_data, code_of};
+ghost use Rattle.rewind_clients.specs.Orders.{among, asks_query, is_query as is_query_in, order_of as order_in_value, order_in as order_in_line, order_fault as order_fault_data, code_of};
 
 use crate::numbers::without;
 use nd_graph::Graph;
@@ -54,11 +54,16 @@ pub fn order_fault(alloc: Global, fault: OrderFault, line: u64) -> Result<Json, 
     reply!(in alloc; {"code": code.number(), "error": code.name(), "line": line})
 }
 
-// Whether the line asks to be told something, and for no command.
-fn is_query(version: Version, value: &Value) -> bool
+// Whether the line has the form of a query, as what it asks for says, or else the form itself.
+fn is_query(version: Version, value: &Value, asked: &Result<Asked, LineFault>) -> bool
+    requires { IfOk asked.now (λ a. is_query_in (form_of version (view value.now)) ≡ asks_query a) }
     ensures { result ≡ is_query_in (form_of version (view value.now)) }
 {
-    matches!(Form::of(version, value), Some(Form::Query(_)))
+    match asked {
+        Ok(Asked::Do(_)) => false,
+        Ok(Asked::Tell(_)) => true,
+        Err(_) => matches!(Form::of(version, value), Some(Form::Query(_))),
+    }
 }
 
 // The order of a line that has a form, among so many clients.
@@ -100,16 +105,17 @@ fn order_of(
         return Ok(Err(OrderFault::Line(LineFault::BadShape)));
     };
     let rest = without(value, "client");
-    let query = is_query(version, &rest);
-    match asked_of(alloc, version, graph, &rest) {
+    let asked = asked_of(alloc, version, graph, &rest);
+    let query = is_query(version, &rest, &asked);
+    match asked {
         Ok(asked) => Ok(settle(clients, client, query, Ok(asked))),
         Err(LineFault::Memory) => Err(AllocError),
         Err(fault) => Ok(settle(clients, client, query, Err(fault))),
     }
 }
 
-/// What a line that is not blank asks for in a script of this version, among so many clients; the outer
-/// `Err` is out of memory.
+/// Reads what a line that is not blank asks for in a script of this version, among so many clients.
+/// The outer `Err` is out of memory.
 pub fn order_in(
     alloc: Global,
     version: Version,
@@ -117,7 +123,8 @@ pub fn order_in(
     graph: &Graph,
     reading: Reading,
 ) -> Result<Result<Order, OrderFault>, AllocError>
-    ensures value { IfOk result (λ r. r ≡ order_in_line version clients graph.now (reading_view reading)) }
+    ensures value { IfOk result (λ r.
+        r ≡ order_in_line version clients graph.now (reading_view reading)) }
     ensures within { IfOk result (λ r. IfOk r (λ o. o.client < clients)) }
 {
     match reading {

@@ -45,13 +45,8 @@ impl Reader {
     {
         let reading = self.lines.reading()?;
         let number = self.lines.number();
-        self.intake.read_line(
-            self.alloc,
-            self.options.processors,
-            self.options.clients,
-            reading,
-            number,
-        )?;
+        self.intake
+            .read_line(self.alloc, &self.options, reading, number)?;
         self.lines.begin_next();
         Ok(())
     }
@@ -61,7 +56,8 @@ impl Reader {
         requires number { self.old.lines.number + length bytes.now < 2 ^ 64 }
         ensures ok { OnOk result ((options : TheOptions) (done : List ℕ)
             → StandsAt options done self.old → StandsAt options (done ++ bytes.now) self.new) }
-        ensures number { OnOk result (self.new.lines.number ≤ self.old.lines.number + length bytes.now) }
+        ensures number { OnOk result
+            (self.new.lines.number ≤ self.old.lines.number + length bytes.now) }
     {
         let mut from = 0;
         'lines: while let Some(n) = self.lines.take(&bytes[from..])? {
@@ -84,7 +80,8 @@ pub fn read_script<S: Source>(
     requires unfailed { S.failed source.old ≡ false }
     requires few { S.given source.old + limit + 1 < 2 ^ 64 }
     ensures whole { IfOk result (λ i. (input : List ℕ) → S.remaining source.old ≡ Some input
-        → ReadWhole options.now.processors options.now.clients limit input (S.remaining source.new) (intake_view i)) }
+        → ReadWhole options.now.processors options.now.clients limit
+        input (S.remaining source.new) (intake_view i)) }
     ensures err { IfErr result (λ e. (input : List ℕ) → S.remaining source.old ≡ Some input
         → ReadFails limit input (S.remaining source.new) e) }
     ensures kind { IfErr result IsOfReading }

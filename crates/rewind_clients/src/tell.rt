@@ -43,7 +43,8 @@ pub fn put_log<T: Sink>(
     requires sound { T.failed sink.old ≡ false }
     ensures ok { OnOk result ((replies : List Data) (before : List ℕ)
         → Gathered replies outbox.old before (T.contents sink.old)
-        → Gathered (replies ++ map (entry_data graph.now) log.now) outbox.new before (T.contents sink.new)) }
+        → Gathered (replies ++ map (entry_data graph.now) log.now)
+        outbox.new before (T.contents sink.new)) }
     ensures err { IfErr result (λ e. (replies : List Data) (before : List ℕ)
         → Gathered replies outbox.old before (T.contents sink.old)
         → StopsIn (replies ++ map (entry_data graph.now) log.now) before (T.contents sink.new) e) }
@@ -68,7 +69,8 @@ fn put_fault<T: Sink>(
     requires sound { T.failed sink.old ≡ false }
     ensures ok { OnOk result ((replies : List Data) (before : List ℕ)
         → Gathered replies outbox.old before (T.contents sink.old)
-        → Gathered (replies ++ faults_data client (fault.now ∷ [])) outbox.new before (T.contents sink.new)) }
+        → Gathered (replies ++ faults_data client (fault.now ∷ []))
+        outbox.new before (T.contents sink.new)) }
     ensures err { IfErr result (λ e. (replies : List Data) (before : List ℕ)
         → Gathered replies outbox.old before (T.contents sink.old)
         → StopsIn (replies ++ faults_data client (fault.now ∷ [])) before (T.contents sink.new) e) }
@@ -93,7 +95,8 @@ pub fn put_faults<T: Sink>(
     requires sound { T.failed sink.old ≡ false }
     ensures ok { OnOk result ((replies : List Data) (before : List ℕ)
         → Gathered replies outbox.old before (T.contents sink.old)
-        → Gathered (replies ++ faults_data 0 faults.now) outbox.new before (T.contents sink.new)) }
+        → Gathered (replies ++ faults_data 0 faults.now)
+        outbox.new before (T.contents sink.new)) }
     ensures err { IfErr result (λ e. (replies : List Data) (before : List ℕ)
         → Gathered replies outbox.old before (T.contents sink.old)
         → StopsIn (replies ++ faults_data 0 faults.now) before (T.contents sink.new) e) }
@@ -176,7 +179,8 @@ pub fn tell_opening<T: Sink>(
 ) -> Result<(), DebugFault>
     requires sound { T.failed sink.old ≡ false }
     ensures ok { OnOk result ((before : List ℕ) → T.contents sink.old ≡ Some before
-        → T.contents sink.new ≡ Some (before ++ text_of (version_replies opened ++ graph.now ∷ []))) }
+        → T.contents sink.new
+        ≡ Some (before ++ text_of (version_replies opened ++ graph.now ∷ []))) }
     ensures err { IfErr result (λ e. (before : List ℕ) → T.contents sink.old ≡ Some before
         → StopsIn (version_replies opened ++ graph.now ∷ []) before (T.contents sink.new) e) }
     ensures kind { IfErr result IsOfWriting }
@@ -199,7 +203,8 @@ pub fn tell_log<T: Sink>(
 ) -> Result<(), DebugFault>
     requires sound { T.failed sink.old ≡ false }
     ensures ok { OnOk result ((before : List ℕ) → T.contents sink.old ≡ Some before
-        → T.contents sink.new ≡ Some (before ++ text_of (lines_data graph.now log.now faults.now))) }
+        → T.contents sink.new
+        ≡ Some (before ++ text_of (lines_data graph.now log.now faults.now))) }
     ensures err { IfErr result (λ e. (before : List ℕ) → T.contents sink.old ≡ Some before
         → StopsIn (lines_data graph.now log.now faults.now) before (T.contents sink.new) e) }
     ensures kind { IfErr result IsOfWriting }

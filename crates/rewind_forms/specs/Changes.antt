@@ -2,7 +2,7 @@
 use Rattle.std.specs.Prelude.{List, [], ◌∷◌, map}
 use Rattle.serde_json.specs.Data.{Data}
 use Rattle.nd_shown.specs.StateText.{row, natural, whole}
-use Rattle.nd_changes.specs.declared.told.Changed.{Changed}
+use Rattle.nd_history.specs.declared.told.Changed.{Changed}
 
 -- [position,n], n being the entry there
 abbrev pub changed_data : Changed → Data

@@ -2,7 +2,7 @@
 ghost use Rattle.std.specs.Prelude.{◌≡◌, IfOk};
 ghost use Rattle.rewind_forms.specs.Changes.{changed_data, changes_data};
 
-use nd_changes::{Changed, Changes};
+use nd_history::{Changed, Changes};
 use nd_json::{Json, JsonList, reply};
 use std::alloc::{AllocError, Allocator, Global};
 

@@ -3,7 +3,7 @@
 use crate::drawn::point;
 use crate::timelines::memory::{ALL, Heap, TEN, is_after, kept};
 use crate::told::{SUM_NOTIFIED, Script};
-use nd_changes::{ChangesFault, changes};
+use nd_history::{ChangesFault, changes};
 use nd_testing::{Refusing, in_turn, met};
 use nd_timeline::Fault;
 use std::alloc::{AllocError, Allocator, Global};

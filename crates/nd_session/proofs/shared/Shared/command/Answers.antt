@@ -36,5 +36,14 @@ invariant_of-client-2 g c =
     rw (c.push_reserved.ensures.items, c.reserve.ensures.items)
     (own_grows c.client.inside.number c.args.self.now.state.log c.client.inside.receipts.items pushed c.client.invariant known (search rules) (search rules))
 
-pub returns-clause-client : goal.returns-clause-client
-returns-clause-client g c = c.in_ok-receipt.ensures.client ∙ ap (λ (v : ClientValue g.row.A.Denot). v.number) c.client.view_is
+pub returns-clause-answered : goal.returns-clause-answered
+returns-clause-answered g c = record {
+  known = search rules;
+  room = search rules;
+  placed = search rules;
+  client = c.in_ok-receipt.ensures.client ∙ ap (λ (v : ClientValue g.row.A.Denot). v.number) c.client.view_is;
+  command_is = search rules;
+  logged = c.in_ok-receipt.ensures.entry;
+  legal = search rules;
+  base = search rules;
+}

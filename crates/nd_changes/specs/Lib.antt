@@ -1,4 +1,0 @@
-pub mod Changes
-pub mod Told
-pub mod Answers
-pub mod Faults

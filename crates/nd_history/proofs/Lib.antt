@@ -1,0 +1,13 @@
+pub mod AnswersLemmas
+pub mod HandsLemmas
+pub mod Elements
+pub mod Found
+pub mod Joined
+pub mod Lists
+pub mod Shares
+pub mod Steps
+pub mod WorksLemmas
+pub mod Totals
+pub mod WalkLemmas
+pub mod ToldLemmas
+pub mod EntryLemmas

@@ -1,0 +1,26 @@
+-- The number and the name under which each fault of a search, and of a question for changes, is answered (this project's own rule).
+use Rattle.std.specs.Prelude.{codes}
+use Rattle.nd_time.specs.Code.{Code, coded}
+use Rattle.nd_protocol.specs.Refusals as refusals
+use Rattle.nd_protocol.specs.declared.refusal.Refusal.TheVariants as refusal
+use Rattle.nd_timeline.specs.Faults as faults
+use Rattle.nd_timeline.specs.declared.fault.Fault.TheVariants as fault
+use Rattle.nd_history.specs.declared.fault.SearchFault.{SearchFault}
+use Rattle.nd_history.specs.declared.fault.SearchFault.TheVariants.{BadRange, NoWorkers, NoSuchPoint, Memory, Missing}
+use Rattle.nd_history.specs.declared.fault.ChangesFault.{ChangesFault}
+use Rattle.nd_history.specs.declared.fault.ChangesFault.TheVariants as changes
+
+-- of a search
+abbrev pub code_of_search : {A : Type 0} → SearchFault A → Code
+code_of_search BadRange = coded 50 (codes "BadRange")
+code_of_search NoWorkers = coded 51 (codes "NoWorkers")
+code_of_search NoSuchPoint = faults.code_of fault.NoSuchPoint
+code_of_search Memory = refusals.code_of refusal.Memory
+code_of_search (Missing piece claimed) = coded 52 (codes "Missing")
+
+-- of a question for changes
+abbrev pub code_of_changes : ChangesFault → Code
+code_of_changes changes.NoProcessor = refusals.code_of refusal.NoProcessor
+code_of_changes changes.BadRange = coded 50 (codes "BadRange")
+code_of_changes changes.NoSuchPoint = faults.code_of fault.NoSuchPoint
+code_of_changes changes.Memory = refusals.code_of refusal.Memory

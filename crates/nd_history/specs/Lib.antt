@@ -1,0 +1,11 @@
+pub mod Snapshot
+pub mod Least
+pub mod Pieces
+pub mod Claims
+pub mod Answers
+pub mod Faults
+pub mod Hands
+pub mod Works
+pub mod Changes
+pub mod Told
+pub mod ViewChanges

@@ -1,0 +1,10 @@
+-- What is told of a list of changes (this project's own rule).
+use Rattle.std.specs.Prelude.{◌≡◌, ◌↔◌, ◌<◌, ℕ, List, length, take, IsTrue}
+use Rattle.nd_time.specs.Limits.{max_told}
+use Rattle.nd_history.specs.declared.told.Changed.{Changed}
+use Rattle.nd_history.specs.declared.told.Told.{Told}
+
+-- the first of them, in order, and whether there are more
+pub record IsTold {A : Type 0} (all : List Changed) (told : Told A) : Type 0 where
+  pub changes : told.changes ≡ take max_told all
+  pub more : IsTrue told.more ↔ (max_told < length all)

@@ -1,0 +1,94 @@
+//! Why a search answers nothing, and why no changes are told.
+ghost use Rattle.std.specs.Prelude.{◌≡◌};
+ghost use Rattle.nd_history.specs.Faults.{code_of_changes, code_of_search};
+
+use nd_protocol::Refusal;
+use nd_time::Code;
+use nd_timeline::Fault;
+use std::alloc::{AllocError, Allocator, Global};
+
+/// Why a search answers nothing (this project's own rule).
+#[derive(Drop)]
+pub enum SearchFault<A: Allocator = Global> {
+    /// The first position is above the last.
+    BadRange,
+    /// No worker is to search.
+    NoWorkers,
+    /// Fewer steps are kept.
+    NoSuchPoint,
+    /// A growth was refused before the workers walked, or after.
+    Memory,
+    /// A worker was refused memory in its walk. The least piece without a result, and the pieces
+    /// that each worker has claimed.
+    Missing {
+        piece: u64,
+        claimed: Vec<Vec<u64, A>, A>,
+    },
+}
+
+impl<A: Allocator> From<AllocError> for SearchFault<A> {
+    ghost use Rattle.std.specs.Prelude.{◌≡◌};
+    ghost use Rattle.nd_history.specs.declared.fault.SearchFault.TheVariants.{Memory};
+
+    ghost from_gives = { λ _ r. r ≡ Memory };
+
+    fn from(_: AllocError) -> SearchFault<A> {
+        SearchFault::Memory
+    }
+}
+
+impl<A: Allocator> SearchFault<A> {
+    /// The number and the name under which the fault is answered.
+    pub fn code(&self) -> Code
+        ensures { result ≡ code_of_search self.now }
+    {
+        match self {
+            SearchFault::BadRange => Code::new(50, "BadRange"),
+            SearchFault::NoWorkers => Code::new(51, "NoWorkers"),
+            SearchFault::NoSuchPoint => Fault::NoSuchPoint.code(),
+            SearchFault::Memory => Refusal::Memory.code(),
+            SearchFault::Missing {
+                piece: _,
+                claimed: _,
+            } => Code::new(52, "Missing"),
+        }
+    }
+}
+
+/// Why no changes are told (this project's own rule).
+#[derive(Clone, Copy, Debug, Drop, PartialEq, Eq)]
+pub enum ChangesFault {
+    /// The cluster has no such processor.
+    NoProcessor,
+    /// The first position is above the last.
+    BadRange,
+    /// Fewer steps are kept.
+    NoSuchPoint,
+    /// A growth was refused.
+    Memory,
+}
+
+impl From<AllocError> for ChangesFault {
+    ghost use Rattle.std.specs.Prelude.{◌≡◌};
+    ghost use Rattle.nd_history.specs.declared.fault.ChangesFault.TheVariants.{Memory};
+
+    ghost from_gives = { λ _ r. r ≡ Memory };
+
+    fn from(_: AllocError) -> ChangesFault {
+        ChangesFault::Memory
+    }
+}
+
+impl ChangesFault {
+    /// The number and the name under which the fault is answered.
+    pub fn code(&self) -> Code
+        ensures { result ≡ code_of_changes self.now }
+    {
+        match self {
+            ChangesFault::NoProcessor => Refusal::NoProcessor.code(),
+            ChangesFault::BadRange => Code::new(50, "BadRange"),
+            ChangesFault::NoSuchPoint => Fault::NoSuchPoint.code(),
+            ChangesFault::Memory => Refusal::Memory.code(),
+        }
+    }
+}

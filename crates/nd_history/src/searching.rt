@@ -1,0 +1,115 @@
+//! The search of a timeline, and that of a snapshot.
+ghost use Rattle.std.specs.Prelude.{◌≡◌, ◌≤◌, length, map, IfOk, IfErr, OnOk};
+ghost use Rattle.nd_time.specs.Limits.{max_kept};
+ghost use Rattle.nd_history.specs.Least.{HoldsAt, IsLeast};
+ghost use Rattle.nd_history.specs.Answers.{MaySearch, CannotSearch, SearchFails, AnswerIsCalled, FaultIsCalled};
+
+use crate::piece::{Positions, Scan};
+use crate::table::{first, results};
+use crate::team::search_all;
+use crate::work::Searched;
+use crate::{Gate, SearchFault, Snapshot};
+use nd_timeline::Timeline;
+use nd_watch::Break;
+use std::alloc::{AllocError, Allocator};
+use std::thread::Threads;
+
+// The positions, or why there is nothing to search.
+fn positions<A: Allocator + Copy>(
+    timeline: &Timeline<A>,
+    lo: u64,
+    hi: u64,
+    workers: u64,
+) -> Result<Positions, SearchFault<A>>
+    ensures positions { IfOk result (λ p. (p.lo ≡ lo) × (p.hi ≡ hi)) }
+    ensures may { OnOk result (MaySearch (length timeline.now.kept) lo hi workers) }
+    ensures few { OnOk result (hi ≤ max_kept) }
+    ensures err { IfErr result (CannotSearch (length timeline.now.kept) lo hi workers) }
+{
+    if lo > hi {
+        return Err(SearchFault::BadRange);
+    }
+    if workers == 0 {
+        return Err(SearchFault::NoWorkers);
+    }
+    // This call's clause says that few steps are kept.
+    let _ = timeline.at();
+    if hi > timeline.kept() {
+        return Err(SearchFault::NoSuchPoint);
+    }
+    Ok(Positions { lo, hi })
+}
+
+// The lists of all workers.
+fn claims<A: Allocator + Copy>(
+    alloc: A,
+    works: Vec<Searched<A>, A>,
+) -> Result<Vec<Vec<u64, A>, A>, AllocError>
+    ensures { IfOk result (λ v. v.items ≡ map (λ s. s.claimed) works.items) }
+{
+    let mut lists = Vec::with_capacity(alloc, works.len())?;
+    for searched in works {
+        lists.push_reserved(searched.claimed);
+    }
+    Ok(lists)
+}
+
+/// The least position from `lo` to `hi`, both included, at which the breakpoint holds.
+///
+/// At most 64 workers are started, each on a thread of its own and with a cluster of its own that
+/// walks over the kept steps (this project's own rule). They claim pieces of 16 positions, one
+/// after the other, and call the gate before each. One that is refused memory in its walk stops,
+/// and the others go on.
+pub fn search_in<A: Allocator + Copy + Send + Sync, R: Threads + Sync, G: Gate>(
+    rt: &R,
+    alloc: A,
+    timeline: &Timeline<A>,
+    b: &Break,
+    lo: u64,
+    hi: u64,
+    workers: u64,
+    gate: &G,
+) -> Result<Option<u64>, SearchFault<A>>
+    ensures found { IfOk result (IsLeast (HoldsAt timeline.now b.now) lo hi) }
+    ensures may { OnOk result (MaySearch (length timeline.now.kept) lo hi workers) }
+    ensures fails { IfErr result (SearchFails timeline.now b.now lo hi workers) }
+    ensures called { IfOk result (AnswerIsCalled (G.called gate.now) lo hi workers) }
+    ensures fault_called { IfErr result (FaultIsCalled (G.called gate.now)) }
+{
+    let scan = Scan {
+        timeline: &*timeline,
+        b: &*b,
+        positions: positions(timeline, lo, hi, workers)?,
+        gate: &*gate,
+    };
+    let works = search_all(rt, alloc, &scan, workers)?;
+    let results = results(alloc, works.as_slice(), scan.positions.pieces())?;
+    match first(results.as_slice()) {
+        Ok(found) => Ok(found),
+        Err(piece) => Err(SearchFault::Missing {
+            piece,
+            claimed: claims(alloc, works)?,
+        }),
+    }
+}
+
+/// The least position of a snapshot from `lo` to `hi`, both included, at which the breakpoint
+/// holds, as `search_in` returns it.
+pub fn search<A: Allocator + Copy + Send + Sync, R: Threads + Sync, G: Gate>(
+    rt: &R,
+    alloc: A,
+    snapshot: &Snapshot<A>,
+    b: &Break,
+    lo: u64,
+    hi: u64,
+    workers: u64,
+    gate: &G,
+) -> Result<Option<u64>, SearchFault<A>>
+    ensures found { IfOk result (IsLeast (HoldsAt snapshot.now.timeline b.now) lo hi) }
+    ensures may { OnOk result (MaySearch (length snapshot.now.timeline.kept) lo hi workers) }
+    ensures fails { IfErr result (SearchFails snapshot.now.timeline b.now lo hi workers) }
+    ensures called { IfOk result (AnswerIsCalled (G.called gate.now) lo hi workers) }
+    ensures fault_called { IfErr result (FaultIsCalled (G.called gate.now)) }
+{
+    search_in(rt, alloc, snapshot.timeline(), b, lo, hi, workers, gate)
+}

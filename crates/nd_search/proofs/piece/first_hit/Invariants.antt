@@ -1,9 +1,0 @@
-use Rattle.nd_timeline.specs.Walks.{IsOn}
-use Rattle.nd_search.specs.Least.{HoldsAt, NoHit}
-use Rattle.nd_search.proofs.piece.first_hit.Given as goal
-
-abbrev pub invariant-loop-i : goal.invariant-loop-i
-invariant-loop-i g l = record {
-  on : IsOn l.timeline l.walk;
-  none : NoHit (HoldsAt l.timeline l.b) l.from l.i;
-}

@@ -1,8 +1,0 @@
-use Rattle.std.proofs.Common.{◌≡◌, ◌≤◌, length, map, vec_capacity}
-use Rattle.nd_search.proofs.searching.claims.Given as goal
-
-abbrev pub invariant-loop-searched : goal.invariant-loop-searched
-invariant-loop-searched g l = record {
-  each : l.lists.items ≡ map (λ s. s.claimed) l.yielded;
-  room : length l.fn.works.items ≤ vec_capacity l.lists;
-}

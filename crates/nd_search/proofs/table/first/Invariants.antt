@@ -1,5 +1,0 @@
-use Rattle.nd_search.specs.Works.{NoneBefore}
-use Rattle.nd_search.proofs.table.first.Given as goal
-
-abbrev pub invariant-loop-j : goal.invariant-loop-j
-invariant-loop-j l = NoneBefore l.results l.j
