@@ -1,6 +1,6 @@
 //! Calls that take no memory, made while none is given.
 
-ghost use Rattle.nd_delta.specs.Change.{IsPartOf};
+ghost use Rattle.nd_delta.specs.Delta.{IsPartOf};
 ghost use Rattle.nd_view.specs.Kept.{IsFor};
 
 use crate::drawn::{DISTINCT, LINE, change, graph_of, paths_of, point, time};

@@ -11,7 +11,7 @@ use Rattle.nd_graph.specs.declared.fault.GraphFault.{GraphFault}
 use Rattle.nd_graph.specs.declared.fault.GraphFault.TheVariants.{Shape, Memory}
 use Rattle.rewind_forms.specs.Asked.{asked_of}
 use Rattle.rewind_forms.specs.Replies.{found as found_data, location_fault, line_fault, frontier, not_passed, reply_data}
-use Rattle.nd_delta.specs.Change.{Change, entries}
+use Rattle.nd_delta.specs.Delta.{DeltaValue, entries}
 use Rattle.nd_delta.specs.Least.{IsLeast}
 use Rattle.nd_paths.specs.declared.point.Pointstamp.{Pointstamp}
 use Rattle.nd_view.specs.View.{IsBlocker, IsOnFrontier, IsPartWhere}
@@ -91,10 +91,10 @@ pub blocked_replies : (s : ClusterState) (q : ℕ) (t x : Pointstamp) (d : Data)
 blocked_replies s q t x d (Ok w) there least shown reply = inr (there, inr (x, least, reply ∙ ap not_passed shown))
 blocked_replies s q t x d (Err e) there least shown reply = reply
 
-pub frontier_replies : (s : ClusterState) (q : ℕ) (g : Dataflow) (v f : Change) (d : Data) (r : Result Data AllocError) → q < length s.processors → g ≡ s.graph → v ≡ view_in s q
+pub frontier_replies : (s : ClusterState) (q : ℕ) (g : Dataflow) (v f : DeltaValue) (d : Data) (r : Result Data AllocError) → q < length s.processors → g ≡ s.graph → v ≡ view_in s q
     → IsPartWhere (IsOnFrontier g v) v f → d ≡ entries_data s.graph (entries f) → IfOk r (λ w. w ≡ frontier d) → IfOk r (λ w. FrontierReply s q w)
 frontier_replies s q g v f d (Ok w) there graph is part shown reply =
-    let same : IsPartWhere (IsOnFrontier g (view_in s q)) (view_in s q) f = subst (λ (u : Change). IsPartWhere (IsOnFrontier g u) u f) is part in
+    let same : IsPartWhere (IsOnFrontier g (view_in s q)) (view_in s q) f = subst (λ (u : DeltaValue). IsPartWhere (IsOnFrontier g u) u f) is part in
     inr (there, (f, subst (λ (h : Dataflow). IsPartWhere (IsOnFrontier h (view_in s q)) (view_in s q) f) graph same, reply ∙ ap frontier shown))
 frontier_replies s q g v f d (Err e) there graph is part shown reply = reply
 

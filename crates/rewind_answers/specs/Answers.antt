@@ -13,7 +13,7 @@ use Rattle.nd_graph.specs.declared.fault.GraphFault.{GraphFault}
 use Rattle.nd_graph.specs.declared.fault.GraphFault.TheVariants.{Shape}
 use Rattle.nd_paths.specs.Order.{CouldResultIn}
 use Rattle.nd_paths.specs.declared.point.Pointstamp.{Pointstamp}
-use Rattle.nd_delta.specs.Change.{Change, at, entries}
+use Rattle.nd_delta.specs.Delta.{DeltaValue, at, entries}
 use Rattle.nd_delta.specs.Least.{IsLeast}
 use Rattle.nd_view.specs.View.{IsPassed, IsBlocker, IsOnFrontier, IsPartWhere}
 use Rattle.nd_protocol.specs.State.{ClusterState, truth, view}
@@ -136,7 +136,7 @@ abbrev pub FrontierReply : ClusterState → ℕ → Data → Type 0
 FrontierReply s q reply =
     ((length s.processors ≤ q) × (reply ≡ no_processor))
     ⊎ ((q < length s.processors)
-    × ((f : Change) × IsPartWhere (IsOnFrontier s.graph (view s q)) (view s q) f × (reply ≡ frontier (entries_data s.graph (entries f)))))
+    × ((f : DeltaValue) × IsPartWhere (IsOnFrontier s.graph (view s q)) (view s q) f × (reply ≡ frontier (entries_data s.graph (entries f)))))
 
 -- whether processor q's view has passed a pointstamp, which is then finished, and if not, the least that stands in the way
 abbrev pub PassedReply : ClusterState → ℕ → Pointstamp → Data → Type 0
