@@ -57,6 +57,14 @@ pub record Stopped (processors : ℕ) (lines : List (List ℕ)) (sent : List ℕ
   pub stops : StopsIn e phase
   pub text : text_of replies ≡ sent ++ run.outbox
 
+-- from `old` to `new` these bytes were read, and the lines that end in them replied to
+abbrev pub ReadsOn : Run → List ℕ → Run → Type 0
+ReadsOn old bytes new = (processors : ℕ) (done sent : List ℕ) → Stands processors done sent old → Stands processors (done ++ bytes) sent new
+
+-- a run stopped at one of the lines of what was read
+abbrev pub StopsAmong : (List ℕ → List (List ℕ)) → Run → Run → DebugFault → Type 0
+StopsAmong lines old new e = (processors : ℕ) (done sent : List ℕ) → Stands processors done sent old → Stopped processors (lines done) sent new e
+
 -- `done` was read, no reply waits, and the writer held `before` and holds `after`
 pub record Answered (processors : ℕ) (done before : List ℕ) (after : Option (List ℕ)) (run : Run) : Type 0 where
   pub sent : List ℕ
@@ -77,6 +85,16 @@ Faulted processors lines before after fault.Close = ⊥
 -- at one of these lines the run ended with a fault
 unfoldable pub EndsEarly : ℕ → List (List ℕ) → List ℕ → Option (List ℕ) → DebugFault → Type 0
 EndsEarly processors lines before after e = (count : ℕ) × Faulted processors (take count lines) before after e
+
+-- from `old` to `new` these bytes were read, and the lines that end in them answered: the writer held `held` and holds `holds`
+abbrev pub AnswersOn : Run → Option (List ℕ) → List ℕ → Run → Option (List ℕ) → Type 0
+AnswersOn old held bytes new holds =
+    (processors : ℕ) (done before : List ℕ) → Answered processors done before held old → Answered processors (done ++ bytes) before holds new
+
+-- a run ended at one of the lines of what was read
+abbrev pub EndsAmong : (List ℕ → List (List ℕ)) → Run → Option (List ℕ) → Option (List ℕ) → DebugFault → Type 0
+EndsAmong lines old held holds e =
+    (processors : ℕ) (done before : List ℕ) → Answered processors done before held old → EndsEarly processors (lines done) before holds e
 
 -- `taken` of the input was read and answered, and so many bytes more may be read
 pub record Going (processors limit left : ℕ) (input before : List ℕ) (remaining contents : Option (List ℕ)) (run : Run) : Type 0 where

@@ -33,8 +33,10 @@ pub fn debug<R: Threads + Sync, S: Source, T: Sink>(
     requires unfailed { S.failed source.old ≡ false }
     requires few { S.given source.old + max_input + 1 < 2 ^ 64 }
     requires sound { T.failed sink.old ≡ false }
-    ensures run { (input before : List ℕ) → S.remaining source.old ≡ Some input → T.contents sink.old ≡ Some before
-        → Ends options.now.processors max_input input (S.remaining source.new) before (T.contents sink.new) result }
+    ensures run { (input before : List ℕ)
+        → S.remaining source.old ≡ Some input → T.contents sink.old ≡ Some before
+        → Ends options.now.processors max_input input (S.remaining source.new)
+        before (T.contents sink.new) result }
 
     // Whether the source tells its bytes or not, so many are taken, and all are answered only if it ended.
     ensures takes { Takes max_input result (S.given source.new - S.given source.old) }
@@ -62,8 +64,10 @@ pub fn debug_within<R: Threads + Sync, S: Source, T: Sink>(
     requires unfailed { S.failed source.old ≡ false }
     requires few { S.given source.old + limit + 1 < 2 ^ 64 }
     requires sound { T.failed sink.old ≡ false }
-    ensures run { (input before : List ℕ) → S.remaining source.old ≡ Some input → T.contents sink.old ≡ Some before
-        → Ends options.now.processors limit input (S.remaining source.new) before (T.contents sink.new) result }
+    ensures run { (input before : List ℕ)
+        → S.remaining source.old ≡ Some input → T.contents sink.old ≡ Some before
+        → Ends options.now.processors limit input (S.remaining source.new)
+        before (T.contents sink.new) result }
     ensures takes { Takes limit result (S.given source.new - S.given source.old) }
     ensures ended { OnOk result (S.ended source.new ≡ true) }
     ensures read { S.failed source.new ≡ is_read_fault result }

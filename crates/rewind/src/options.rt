@@ -111,7 +111,8 @@ pub fn options_of<S: AsStr>(alloc: Global, words: &[S]) -> Result<Options, Words
         × (1 ≤ o.clients) × (o.clients ≤ max_clients)) }
     ensures taken { OnOk result (refusals (map S.text words.now) ≡ []) }
     ensures help { IfErr result (λ e. IsHelp e → AskHelp (refusals (map S.text words.now))) }
-    ensures refused { IfErr result (λ e. IsRefused e → AreRefused (refusals (map S.text words.now))) }
+    ensures refused { IfErr result (λ e.
+        IsRefused e → AreRefused (refusals (map S.text words.now))) }
 {
     let processors = processors_argument(alloc);
     let clients = clients_argument(alloc);

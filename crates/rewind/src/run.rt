@@ -1,40 +1,16 @@
 //! A run of a script. The replies to what is read at a time are gathered, and written together.
-ghost use Rattle.std.specs.Prelude.{◌≡◌, ◌+◌, ◌<◌, ◌≤◌, ◌^◌, ◌∷◌, ◌++◌, [], ℕ, List, false, length, take, IfOk, IfErr, OnErr, OnOk};
+ghost use Rattle.std.specs.Prelude.{◌≡◌, ◌+◌, ◌<◌, ◌≤◌, ◌^◌, ◌∷◌, ◌++◌, [], false, length, take, IfOk, IfErr, OnErr, OnOk};
 ghost use Rattle.rewind_lines.specs.Faults.{is_write_fault};
 ghost use Rattle.rewind_lines.specs.Lines.{lines_of, whole_lines_of};
 ghost use Rattle.rewind_lines.specs.Readings.{reading_view};
 ghost use Rattle.rewind.specs.Faults.{IsOfLine, IsOfRun};
 ghost use Rattle.rewind_answers.specs.Stages.{phase_of, phase_after};
-ghost use Rattle.rewind.specs.States.{AddsOne, Answered, EndsEarly, Gathers, Stands, Stopped, WaitsFew};
+ghost use Rattle.rewind.specs.States.{AddsOne, AnswersOn, EndsAmong, Gathers, ReadsOn, Stands, StopsAmong, WaitsFew};
 
 use rewind_answers::{Stage, answer_line};
 use rewind_lines::{DebugFault, LineReader, Outbox, Reading, Sink};
 use std::alloc::{AllocError, Global};
 use std::thread::Threads;
-
-/// Answers a line, gathers the reply, and says how many replies that is and whether the run ends there.
-fn answer<R: Threads + Sync>(
-    rt: &R,
-    alloc: Global,
-    stage: &mut Stage,
-    reading: &Reading,
-    number: u64,
-    outbox: &mut Outbox,
-) -> Result<(u64, bool), AllocError>
-    ensures answers { IfOk result (λ r. Gathers (phase_of stage.old) number (reading_view reading.now)
-        outbox.old outbox.new r.0 (phase_after r.1 stage.new)) }
-    ensures one { IfOk result (λ r. r.0 ≤ 1) }
-    ensures err { OnErr result (outbox.new ≡ outbox.old) }
-{
-    let answer = answer_line(rt, alloc, stage, reading, number)?;
-    match &answer.reply {
-        None => Ok((0, answer.is_last)),
-        Some(reply) => {
-            outbox.add(reply)?;
-            Ok((1, answer.is_last))
-        }
-    }
-}
 
 /// What was read of a script, what it came to, and the replies that wait to be written.
 #[derive(Drop)]
@@ -69,29 +45,44 @@ impl Run {
         self.replied
     }
 
+    /// Answers the line, gathers the reply, and says how many replies that is and whether the run ends there.
+    fn answer<R: Threads + Sync>(
+        &mut self,
+        rt: &R,
+        reading: &Reading,
+    ) -> Result<(u64, bool), AllocError>
+        ensures answers { IfOk result (λ r. Gathers (phase_of self.old.stage) self.old.lines.number
+            (reading_view reading.now) self.old.outbox self.new.outbox
+            r.0 (phase_after r.1 self.new.stage)) }
+        ensures one { IfOk result (λ r. r.0 ≤ 1) }
+        ensures err { OnErr result (self.new.outbox ≡ self.old.outbox) }
+        ensures lines { self.new.lines ≡ self.old.lines }
+        ensures replied { self.new.replied ≡ self.old.replied }
+    {
+        let number = self.lines.number();
+        let answer = answer_line(rt, self.alloc, &mut self.stage, reading, number)?;
+        match &answer.reply {
+            None => Ok((0, answer.is_last)),
+            Some(reply) => {
+                self.outbox.add(reply)?;
+                Ok((1, answer.is_last))
+            }
+        }
+    }
+
     /// Ends the line, and gathers the reply to it.
     fn end_line<R: Threads + Sync>(&mut self, rt: &R) -> Result<(), DebugFault>
         requires number { self.old.lines.number + 1 < 2 ^ 64 }
         requires replied { self.old.replied + 1 < 2 ^ 64 }
-        ensures ok { OnOk result ((processors : ℕ) (done sent : List ℕ)
-            → Stands processors done sent self.old → Stands processors (done ++ 10 ∷ []) sent self.new) }
-        ensures err { IfErr result (λ e. (processors : ℕ) (done sent : List ℕ)
-            → Stands processors done sent self.old → Stopped processors (lines_of done) sent self.new e) }
+        ensures ok { OnOk result (ReadsOn self.old (10 ∷ []) self.new) }
+        ensures err { IfErr result (StopsAmong lines_of self.old self.new) }
         ensures counts { OnOk result ((self.new.lines.number ≡ self.old.lines.number + 1)
             × (self.new.replied ≤ self.old.replied + 1)) }
         ensures adds { AddsOne self.old.outbox self.new.outbox }
         ensures kind { IfErr result IsOfLine }
     {
         let reading = self.lines.reading()?;
-        let number = self.lines.number();
-        let (count, is_last) = answer(
-            rt,
-            self.alloc,
-            &mut self.stage,
-            &reading,
-            number,
-            &mut self.outbox,
-        )?;
+        let (count, is_last) = self.answer(rt, &reading)?;
         if is_last {
             return Err(DebugFault::Graph);
         }
@@ -108,12 +99,9 @@ impl Run {
         requires room { length self.old.outbox < 65536 }
         ensures within { IfOk result (λ n. n ≤ length bytes.now) }
         ensures some { IfOk result (λ n. 0 < length bytes.now → 0 < n) }
-        ensures ok { IfOk result (λ n. (processors : ℕ) (done sent : List ℕ)
-            → Stands processors done sent self.old
-            → Stands processors (done ++ take n bytes.now) sent self.new) }
-        ensures err { IfErr result (λ e. (processors : ℕ) (done sent : List ℕ)
-            → Stands processors done sent self.old
-            → Stopped processors (whole_lines_of (done ++ bytes.now)) sent self.new e) }
+        ensures ok { IfOk result (λ n. ReadsOn self.old (take n bytes.now) self.new) }
+        ensures err { IfErr result
+            (StopsAmong (λ done. whole_lines_of (done ++ bytes.now)) self.old self.new) }
         ensures counts { IfOk result (λ n. (self.new.lines.number ≤ self.old.lines.number + n)
             × (self.new.replied ≤ self.old.replied + n)) }
         ensures few { WaitsFew self.new.outbox }
@@ -141,13 +129,12 @@ impl Run {
         requires replied { self.old.replied + length bytes.now < 2 ^ 64 }
         requires none_waits { self.old.outbox ≡ [] }
         requires sound { T.failed sink.old ≡ false }
-        ensures ok { OnOk result ((processors : ℕ) (done before : List ℕ)
-            → Answered processors done before (T.contents sink.old) self.old
-            → Answered processors (done ++ bytes.now) before (T.contents sink.new) self.new) }
-        ensures err { IfErr result (λ e. (processors : ℕ) (done before : List ℕ)
-            → Answered processors done before (T.contents sink.old) self.old
-            → EndsEarly processors (whole_lines_of (done ++ bytes.now)) before (T.contents sink.new) e) }
-        ensures counts { OnOk result ((self.new.lines.number ≤ self.old.lines.number + length bytes.now)
+        ensures ok { OnOk result (AnswersOn self.old (T.contents sink.old) bytes.now
+            self.new (T.contents sink.new)) }
+        ensures err { IfErr result (EndsAmong (λ done. whole_lines_of (done ++ bytes.now))
+            self.old (T.contents sink.old) (T.contents sink.new)) }
+        ensures counts { OnOk result (
+            (self.new.lines.number ≤ self.old.lines.number + length bytes.now)
             × (self.new.replied ≤ self.old.replied + length bytes.now)) }
         ensures none_waits { OnOk result (self.new.outbox ≡ []) }
         ensures kind { IfErr result IsOfRun }
@@ -172,12 +159,10 @@ impl Run {
         requires replied { self.old.replied + 1 < 2 ^ 64 }
         requires none_waits { self.old.outbox ≡ [] }
         requires sound { T.failed sink.old ≡ false }
-        ensures ok { OnOk result ((processors : ℕ) (done before : List ℕ)
-            → Answered processors done before (T.contents sink.old) self.old
-            → Answered processors (done ++ 10 ∷ []) before (T.contents sink.new) self.new) }
-        ensures err { IfErr result (λ e. (processors : ℕ) (done before : List ℕ)
-            → Answered processors done before (T.contents sink.old) self.old
-            → EndsEarly processors (lines_of done) before (T.contents sink.new) e) }
+        ensures ok { OnOk result (AnswersOn self.old (T.contents sink.old) (10 ∷ [])
+            self.new (T.contents sink.new)) }
+        ensures err { IfErr result (EndsAmong lines_of
+            self.old (T.contents sink.old) (T.contents sink.new)) }
         ensures kind { IfErr result IsOfRun }
         ensures failed { T.failed sink.new ≡ is_write_fault result }
     {
