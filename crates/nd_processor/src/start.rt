@@ -69,8 +69,8 @@ pub(crate) fn copied_items<A: Allocator + Copy>(
     Ok(copied)
 }
 
-// The pointstamp of an input vertex's token.
-fn token_point(vertex: usize, epoch: u32) -> Pointstamp
+/// The pointstamp of an input vertex's token.
+pub fn token_point(vertex: usize, epoch: u32) -> Pointstamp
     ensures { result ≡ point_of vertex epoch }
 {
     Pointstamp {

@@ -1,12 +1,10 @@
 //! What the processors hold at a pointstamp.
 ghost use Rattle.std.specs.Prelude.{◌≡◌, ◌++◌, IfOk, OnOk};
-ghost use Rattle.nd_processor.specs.State.{token_point as point_of};
 ghost use Rattle.nd_why.specs.Why.{if_at, records_at, requests_at, tokens_at, held_by, held_at as all_held};
 
 use crate::Held;
 use nd_paths::Pointstamp;
-use nd_processor::Processor;
-use nd_time::Timestamp;
+use nd_processor::{Processor, token_point};
 use std::alloc::{AllocError, Allocator};
 
 // Puts what is held at one pointstamp into the list, if that is the other.
@@ -22,16 +20,6 @@ fn push_if<A: Allocator>(
         held.push(one)?;
     }
     Ok(())
-}
-
-// The pointstamp of an input vertex's token.
-pub(crate) fn token_point(vertex: usize, epoch: u32) -> Pointstamp
-    ensures { result ≡ point_of vertex epoch }
-{
-    Pointstamp {
-        location: vertex,
-        time: Timestamp::new(epoch, &[]).unwrap(),
-    }
 }
 
 // Puts the records of processor p at a pointstamp into the list.

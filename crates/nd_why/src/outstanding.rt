@@ -6,9 +6,8 @@ ghost use Rattle.nd_processor.specs.State.{held};
 ghost use Rattle.nd_protocol.specs.Invariant.{IsFinished};
 ghost use Rattle.nd_why.specs.Why.{state_of, HasBefore, RecordBefore, RequestBefore, TokenBefore};
 
-use crate::holdings::token_point;
 use nd_paths::{Paths, Pointstamp};
-use nd_processor::{Processor, ValueAt};
+use nd_processor::{Processor, ValueAt, token_point};
 use std::alloc::Allocator;
 
 // Whether a processor has a record at or before a pointstamp.
