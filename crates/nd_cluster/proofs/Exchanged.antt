@@ -21,15 +21,15 @@ use Rattle.nd_protocol.specs.declared.step.Step.{Step}
 use Rattle.nd_protocol.specs.declared.step.Step.TheVariants.{Feed, Take, Notice, Broadcast, Receive}
 use Rattle.nd_protocol.specs.declared.refusal.Refusal.{Refusal}
 use Rattle.nd_protocol.specs.declared.refusal.Refusal.TheVariants.{NoProcessor, DeltaFull, NothingToSend, NotAdmissible, QueueEmpty, QueueFull, Memory}
-use Rattle.nd_exchange.specs.Exchanges.{LeavesUpright, ReceiveFails}
-use Rattle.nd_record.specs.Standing.{changed}
-use Rattle.nd_record.specs.Counted.{SentChanges, ReceivedChanges}
-use Rattle.nd_record.specs.Exchanges.{received-front}
-use Rattle.nd_work.specs.Edits.{Works}
-use Rattle.nd_record.specs.Plans.{LeadsTo}
-use Rattle.nd_record.specs.declared.change.Change.{Change as Single}
+use Rattle.nd_steps.specs.Refused.{LeavesUpright, ReceiveFails}
+use Rattle.nd_steps.specs.Standing.{changed}
+use Rattle.nd_steps.specs.Counted.{SentChanges, ReceivedChanges}
+use Rattle.nd_steps.specs.Stored.{received-front}
+use Rattle.nd_steps.specs.Edits.{Works}
+use Rattle.nd_steps.specs.Plans.{LeadsTo}
+use Rattle.nd_steps.specs.declared.change.Change.{Change as Single}
 use Rattle.nd_cluster.specs.Records.{shared, Plans, ComesLast}
-use Rattle.nd_record.specs.declared.record.Changes.TheVariants.{Each, Sent, Received}
+use Rattle.nd_steps.specs.declared.record.Changes.TheVariants.{Each, Sent, Received}
 use Rattle.nd_map.specs.Cases.{zero_or_not}
 
 is_part : (c d : Change) → IsPartOf c d → IsPart c d

@@ -37,9 +37,9 @@ use Rattle.nd_protocol.specs.Enabled.{TakeFails, NoticeFails}
 use Rattle.nd_protocol.specs.Refusals.{number_of}
 use Rattle.nd_protocol.specs.declared.refusal.Refusal.{Refusal}
 use Rattle.nd_protocol.specs.declared.refusal.Refusal.TheVariants.{NoProcessor, NoEdge, NoRecord, NotYet, CounterFull, ValueRange}
-use Rattle.nd_record.specs.Seen.{seen, IsSeen}
+use Rattle.nd_steps.specs.Seen.{seen, IsSeen}
 use Rattle.nd_cluster.specs.Tested.{TakePasses, TakeRefused, NoticePasses, NoticeRefused}
-use Rattle.nd_work.specs.Targets.{target_there}
+use Rattle.nd_steps.specs.Targets.{target_there}
 use Rattle.std.proofs.lemmas.Bool.{or_parts}
 use Rattle.nd_map.specs.Cases.{at_least}
 

@@ -5,7 +5,7 @@ use Rattle.nd_delta.specs.Change.{Change}
 use Rattle.nd_view.specs.Kept.{Kept}
 use Rattle.nd_processor.specs.State.{ProcessorState}
 use Rattle.nd_protocol.specs.State.{ClusterState}
-use Rattle.nd_record.specs.Seen.{seen}
+use Rattle.nd_steps.specs.Seen.{seen}
 use Rattle.nd_why.specs.Why.{state_of}
 
 pub of_cluster : (P : ClusterState → Type 0) (g : Dataflow) (ps qs : List ProcessorState) (vs ws : List Kept) (m : List (List (List Change))) (s : ClusterState)

@@ -6,7 +6,7 @@ use Rattle.nd_view.specs.Kept.{Kept, IsFor}
 use Rattle.nd_processor.specs.State.{ProcessorState}
 use Rattle.nd_protocol.specs.State.{ClusterState}
 use Rattle.nd_protocol.specs.Fitting.{IsState}
-use Rattle.nd_record.specs.Seen.{seen, IsSeen}
+use Rattle.nd_steps.specs.Seen.{seen, IsSeen}
 
 pub is_seen : (g : Dataflow) (qs : List ProcessorState) (vs : List Kept) (m : List (List (List Delta))) (s : ClusterState) → seen g qs vs m ≡ s → IsState s → All (IsFor g) vs → IsSeen g qs vs m
 is_seen g qs vs m s e state kept = record { state = subst IsState (sym e) state; kept = kept }

@@ -4,7 +4,7 @@ use Rattle.nd_protocol.specs.State.{ClusterState}
 use Rattle.nd_protocol.specs.Steps.{stepped}
 use Rattle.nd_protocol.specs.Fitting.{IsState}
 use Rattle.nd_protocol.specs.Enabled.{IsEnabled}
-use Rattle.nd_record.specs.Flows.{Recalls}
+use Rattle.nd_steps.specs.Flows.{Recalls}
 use Rattle.nd_cluster.specs.declared.made.Made.{Made}
 
 -- the step was enabled in s, and what is kept of its changes makes it there

@@ -10,10 +10,10 @@ use Rattle.nd_protocol.specs.Enabled.{IsEnabled}
 use Rattle.nd_protocol.specs.Invariant.{KeepsProtocol}
 use Rattle.nd_protocol.specs.declared.step.Step.{Step}
 use Rattle.nd_protocol.specs.declared.step.Step.TheVariants.{Notice, Broadcast}
-use Rattle.nd_record.specs.Standing.{changed}
-use Rattle.nd_record.specs.Records.{named, Makes}
-use Rattle.nd_record.specs.declared.record.Changes.{Changes}
-use Rattle.nd_record.specs.declared.record.Record.{Record}
+use Rattle.nd_steps.specs.Standing.{changed}
+use Rattle.nd_steps.specs.Records.{named, Makes}
+use Rattle.nd_steps.specs.declared.record.Changes.{Changes}
+use Rattle.nd_steps.specs.declared.record.Record.{Record}
 
 -- how many ends of queues a step changes beyond those that are named
 abbrev pub shared : {A : Type 0} → ClusterState → Step A → ℕ

@@ -5,7 +5,7 @@ ghost use Rattle.nd_time.specs.Limits.{max_counter, max_values};
 ghost use Rattle.nd_time.specs.Time.{last_of};
 ghost use Rattle.nd_protocol.specs.State.{processor};
 ghost use Rattle.nd_protocol.specs.Steps.{target_of};
-ghost use Rattle.nd_work.specs.Drafts.{TakesSo, NoticesSo};
+ghost use Rattle.nd_steps.specs.Drafts.{TakesSo, NoticesSo};
 ghost use Rattle.nd_cluster.specs.Tested.{TakePasses, TakeRefused, NoticePasses, NoticeRefused};
 
 use crate::refuse::op_at;

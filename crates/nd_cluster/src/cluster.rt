@@ -39,7 +39,7 @@ impl<A: Allocator + Copy> Drop for Cluster<A> {
 
 impl<A: Allocator + Copy> Model for Cluster<A> {
     ghost use Rattle.nd_protocol.specs.State.{ClusterState, cluster_code};
-    ghost use Rattle.nd_record.specs.Seen.{seen, IsSeen};
+    ghost use Rattle.nd_steps.specs.Seen.{seen, IsSeen};
 
     ghost Value = { ClusterState };
 

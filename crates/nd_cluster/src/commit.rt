@@ -8,7 +8,7 @@ ghost use Rattle.nd_cluster.specs.Records.{IsPlanned, Leads, IsCommitted};
 
 use crate::Cluster;
 use nd_protocol::{NoMemory, protocol_is_safe, steps_keep_protocol};
-use nd_record::Record;
+use nd_steps::Record;
 use std::alloc::Allocator;
 
 impl<A: Allocator + Copy> Cluster<A> {

@@ -2,13 +2,13 @@
 ghost use Rattle.std.specs.Prelude.{◌≡◌, IfOk, OnOk, OnErr};
 ghost use Rattle.nd_protocol.specs.State.{ClusterState};
 ghost use Rattle.nd_protocol.specs.Steps.{stepped};
-ghost use Rattle.nd_record.specs.Flows.{AreAlike};
+ghost use Rattle.nd_steps.specs.Flows.{AreAlike};
 ghost use Rattle.nd_cluster.specs.Records.{IsPlanned};
 ghost use Rattle.nd_cluster.specs.Made.{HasLed, IsMade, Joins};
 
 use crate::{Cluster, Record, Step};
 use nd_protocol::{NoMemory, steps_keep_protocol};
-use nd_record::Kept;
+use nd_steps::Kept;
 use std::alloc::{AllocError, Allocator, Global};
 
 /// A step that was made, and what is kept of its changes.

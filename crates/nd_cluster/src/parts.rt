@@ -6,7 +6,7 @@ ghost use Rattle.nd_graph.specs.declared.op.Op.TheVariants as operator;
 ghost use Rattle.nd_map.specs.Counts.{entries as counts_of};
 ghost use Rattle.nd_processor.specs.State.{items_at, token_point as point_of_token};
 ghost use Rattle.nd_cluster.specs.Parts.{IsRecordKey, IsItem, IsSinkKey, ItemsFit, RowFits, RowIsWithin};
-ghost use Rattle.nd_record.specs.Seen.{seen};
+ghost use Rattle.nd_steps.specs.Seen.{seen};
 ghost use Rattle.nd_mesh.specs.Mesh.{queue};
 ghost use Rattle.nd_view.specs.Kept.{Kept, IsFor};
 ghost use Rattle.nd_protocol.specs.Ranges.{IsValue};

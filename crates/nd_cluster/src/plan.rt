@@ -3,17 +3,17 @@ ghost use Rattle.std.specs.Prelude.{◌≡◌, ◌≢◌, ◌+◌, Err, IfOk, If
 ghost use Rattle.nd_protocol.specs.Steps.{stepped};
 ghost use Rattle.nd_protocol.specs.Ranges.{NumbersFit};
 ghost use Rattle.nd_protocol.specs.Enabled.{IsEnabled, IsRefused, MayWantMemory};
-ghost use Rattle.nd_work.specs.Edits.{Works};
-ghost use Rattle.nd_record.specs.Standing.{changed};
-ghost use Rattle.nd_record.specs.Records.{named};
+ghost use Rattle.nd_steps.specs.Edits.{Works};
+ghost use Rattle.nd_steps.specs.Standing.{changed};
+ghost use Rattle.nd_steps.specs.Records.{named};
 ghost use Rattle.nd_cluster.specs.Records.{shared, Plans, ComesLast, IsPlanned};
 ghost use Rattle.nd_protocol.specs.declared.step.Step.TheVariants.{Broadcast as Sending, Receive as Receiving};
 ghost use Rattle.nd_protocol.specs.declared.refusal.Refusal.TheVariants.{Memory};
 
 use crate::{Changes, Cluster, Part, Record, Refusal, Step};
-use nd_exchange::{planned_front, planned_part};
+use nd_steps::{planned_front, planned_part};
 use nd_protocol::protocol_is_safe;
-use nd_record::changes_are_counted;
+use nd_steps::changes_are_counted;
 use std::alloc::Allocator;
 
 impl<A: Allocator + Copy> Cluster<A> {

@@ -3,8 +3,8 @@ ghost use Rattle.std.specs.Prelude.{◌≡◌, ◌≢◌, Err, IfOk, IfErr, OnOk
 ghost use Rattle.nd_protocol.specs.Steps.{stepped};
 ghost use Rattle.nd_protocol.specs.Fitting.{IsState};
 ghost use Rattle.nd_protocol.specs.Enabled.{IsEnabled, IsFreeBelow, IsRefused, MayWantMemory};
-ghost use Rattle.nd_work.specs.Edits.{Works};
-ghost use Rattle.nd_record.specs.Plans.{Reaches, LeadsTo};
+ghost use Rattle.nd_steps.specs.Edits.{Works};
+ghost use Rattle.nd_steps.specs.Plans.{Reaches, LeadsTo};
 ghost use Rattle.nd_cluster.specs.Tested.{FeedPasses, FeedRefused, TakePasses, TakeRefused, NoticePasses, NoticeRefused};
 ghost use Rattle.nd_protocol.specs.declared.step.Step.TheVariants.{Feed as Feeding, Take as Taking, Notice as Noticing};
 ghost use Rattle.nd_protocol.specs.declared.refusal.Refusal.TheVariants.{Memory};
@@ -12,8 +12,8 @@ ghost use Rattle.nd_protocol.specs.declared.refusal.Refusal.TheVariants.{Memory}
 use crate::{Change, Cluster, Next, Refusal, Step};
 use nd_paths::Pointstamp;
 use nd_processor::ValueAt;
-use nd_record::planned_changes;
-use nd_work::{feed_changes, notice_changes, take_changes};
+use nd_steps::planned_changes;
+use nd_steps::{feed_changes, notice_changes, take_changes};
 use std::alloc::Allocator;
 
 impl<A: Allocator + Copy> Cluster<A> {

@@ -5,16 +5,16 @@ use Rattle.nd_protocol.specs.State.{ClusterState}
 use Rattle.nd_protocol.specs.Steps.{after, stepped}
 use Rattle.nd_protocol.specs.Enabled.{IsEnabled}
 use Rattle.nd_protocol.specs.declared.step.Step.{Step}
-use Rattle.nd_record.specs.Changes.{IsRunnable, applied}
-use Rattle.nd_record.specs.Records.{AreEqual, Sends, Receives, Makes}
-use Rattle.nd_record.specs.Flows.{FlowMakes, Recalls, AreAlike}
-use Rattle.nd_record.specs.declared.flow.Flow.{Flow}
-use Rattle.nd_record.specs.declared.kept.Kept.{Kept}
-use Rattle.nd_record.specs.declared.kept.Kept.TheVariants.{Flowed, Listed}
+use Rattle.nd_steps.specs.Changes.{IsRunnable, applied}
+use Rattle.nd_steps.specs.Records.{AreEqual, Sends, Receives, Makes}
+use Rattle.nd_steps.specs.Flows.{FlowMakes, Recalls, AreAlike}
+use Rattle.nd_steps.specs.declared.flow.Flow.{Flow}
+use Rattle.nd_steps.specs.declared.kept.Kept.{Kept}
+use Rattle.nd_steps.specs.declared.kept.Kept.TheVariants.{Flowed, Listed}
 use Rattle.nd_cluster.specs.Made.{IsMade}
-use Rattle.nd_record.specs.declared.change.Change.{Change}
-use Rattle.nd_record.specs.declared.record.Changes.{Changes}
-use Rattle.nd_record.specs.declared.record.Changes.TheVariants.{Each, Sent, Received}
+use Rattle.nd_steps.specs.declared.change.Change.{Change}
+use Rattle.nd_steps.specs.declared.record.Changes.{Changes}
+use Rattle.nd_steps.specs.declared.record.Changes.TheVariants.{Each, Sent, Received}
 use Rattle.nd_cluster.specs.declared.made.Made.{Made}
 use Rattle.nd_timeline.specs.Timeline.{TimelineValue}
 use Rattle.nd_timeline.specs.Reached.{steps_of, AreMade, IsReached, IsCopy, AreCopies}

@@ -7,7 +7,7 @@ use Rattle.nd_protocol.specs.State.{ClusterState, cluster_code}
 use Rattle.nd_protocol.specs.Steps.{after, stepped}
 use Rattle.nd_protocol.specs.Codes.{step_code}
 use Rattle.nd_protocol.specs.declared.step.Step.{Step}
-use Rattle.nd_record.specs.Flows.{AreAlike}
+use Rattle.nd_steps.specs.Flows.{AreAlike}
 use Rattle.nd_cluster.specs.Made.{IsMade}
 use Rattle.nd_cluster.specs.declared.made.Made.{Made}
 use Rattle.nd_watch.specs.Breaks.{break_code}

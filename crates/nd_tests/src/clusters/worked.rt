@@ -5,7 +5,7 @@ use crate::drawn::{ADD, EXCHANGE, LINE, LOOP, SUM, graph_of, time};
 use crate::told::{Told, reach, start, step_of};
 use nd_cluster::{Change, Changes, Cluster, Entry, Next, StartFault};
 use nd_paths::Pointstamp;
-use nd_record::Kept;
+use nd_steps::Kept;
 use refusing::Refusing;
 use std::alloc::Global;
 

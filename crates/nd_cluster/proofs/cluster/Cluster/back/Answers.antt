@@ -1,5 +1,5 @@
 use Rattle.std.proofs.Common.{sym, subst, ◌∙◌}
-use Rattle.nd_record.specs.Records.{Makes}
+use Rattle.nd_steps.specs.Records.{Makes}
 use Rattle.nd_cluster.proofs.SeenLemmas.{is_seen}
 use Rattle.nd_cluster.proofs.cluster.Cluster.back.Goals as goal
 

@@ -4,7 +4,7 @@ use Rattle.nd_protocol.specs.State.{ClusterState}
 use Rattle.nd_protocol.specs.Steps.{stepped, after}
 use Rattle.nd_protocol.specs.declared.step.Step.{Step}
 use Rattle.nd_protocol.specs.Invariant.{IsSettled, KeepsProtocol, IsFinished}
-use Rattle.nd_record.specs.Records.{Makes}
+use Rattle.nd_steps.specs.Records.{Makes}
 use Rattle.nd_cluster.proofs.SeenLemmas.{is_seen}
 use Rattle.nd_cluster.proofs.cluster.Cluster.commit.Goals as goal
 

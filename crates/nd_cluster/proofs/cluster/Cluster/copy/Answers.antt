@@ -4,7 +4,7 @@ use Rattle.nd_graph.specs.Graph.{Dataflow}
 use Rattle.nd_delta.specs.Change.{Change}
 use Rattle.nd_processor.specs.State.{ProcessorState}
 use Rattle.nd_view.specs.Kept.{Kept}
-use Rattle.nd_record.specs.Seen.{IsSeen, seen}
+use Rattle.nd_steps.specs.Seen.{IsSeen, seen}
 use Rattle.nd_cluster.proofs.cluster.Cluster.copy.Goals as goal
 
 pub invariant_of-result : goal.invariant_of-result

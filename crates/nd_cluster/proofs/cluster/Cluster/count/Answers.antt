@@ -5,7 +5,7 @@ use Rattle.nd_delta.specs.Change.{at}
 use Rattle.nd_processor.specs.State.{ProcessorState}
 use Rattle.nd_protocol.specs.State.{ClusterState, truth}
 use Rattle.nd_protocol.specs.Invariant.{IsSettled}
-use Rattle.nd_record.specs.Seen.{seen}
+use Rattle.nd_steps.specs.Seen.{seen}
 use Rattle.nd_protocol.specs.Truth.{count, truth-count}
 use Rattle.nd_cluster.proofs.cluster.Cluster.count.Goals as goal
 

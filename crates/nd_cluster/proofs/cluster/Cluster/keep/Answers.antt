@@ -2,8 +2,8 @@ use Rattle.std.proofs.Common.{sym, subst}
 use Rattle.nd_protocol.specs.Steps.{stepped}
 use Rattle.nd_protocol.specs.Enabled.{IsEnabled}
 use Rattle.nd_protocol.specs.declared.step.Step.{Step}
-use Rattle.nd_record.specs.Records.{Makes}
-use Rattle.nd_record.specs.declared.record.Changes.{Changes}
+use Rattle.nd_steps.specs.Records.{Makes}
+use Rattle.nd_steps.specs.declared.record.Changes.{Changes}
 use Rattle.nd_cluster.proofs.cluster.Cluster.keep.Goals as goal
 
 pub make_again-requires : goal.make_again-requires

@@ -1,6 +1,6 @@
 use Rattle.std.proofs.Common.{sym, subst}
 use Rattle.nd_protocol.specs.Steps.{stepped}
-use Rattle.nd_record.specs.Flows.{Recalls}
+use Rattle.nd_steps.specs.Flows.{Recalls}
 use Rattle.nd_cluster.proofs.SeenLemmas.{is_seen}
 use Rattle.nd_cluster.proofs.cluster.Cluster.make_again.Goals as goal
 

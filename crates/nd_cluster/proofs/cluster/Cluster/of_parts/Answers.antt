@@ -3,7 +3,7 @@ use Rattle.std.specs.Prelude.{All}
 use Rattle.nd_graph.specs.Graph.{Dataflow}
 use Rattle.nd_view.specs.Kept.{IsFor}
 use Rattle.nd_protocol.specs.Fitting.{IsState}
-use Rattle.nd_record.specs.Seen.{seen}
+use Rattle.nd_steps.specs.Seen.{seen}
 use Rattle.nd_cluster.proofs.cluster.Cluster.of_parts.Goals as goal
 
 pub returns-clause-state : goal.returns-clause-state

@@ -1,5 +1,5 @@
 use Rattle.std.proofs.Common.{sym, subst, ◌∙◌}
-use Rattle.nd_record.specs.Flows.{Recalls}
+use Rattle.nd_steps.specs.Flows.{Recalls}
 use Rattle.nd_cluster.proofs.SeenLemmas.{is_seen}
 use Rattle.nd_cluster.proofs.cluster.Cluster.take_back.Goals as goal
 

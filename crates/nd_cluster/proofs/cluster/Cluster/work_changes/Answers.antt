@@ -2,8 +2,8 @@ use Rattle.std.proofs.Common.{sym, ap, subst, ◌∙◌}
 use Rattle.std.proofs.lemmas.Result.{err_from_is_err_and}
 use Rattle.nd_protocol.specs.State.{ClusterState}
 use Rattle.nd_protocol.specs.Steps.{stepped}
-use Rattle.nd_record.specs.Plans.{ReachesIn}
-use Rattle.nd_record.specs.Limits.{LimitFails}
+use Rattle.nd_steps.specs.Plans.{ReachesIn}
+use Rattle.nd_steps.specs.Limits.{LimitFails}
 use Rattle.nd_cluster.proofs.TestedLemmas.{enabled, limit_refused}
 use Rattle.nd_cluster.proofs.cluster.Cluster.work_changes.Goals as goal
 

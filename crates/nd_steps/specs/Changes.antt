@@ -1,0 +1,60 @@
+-- Changes one after the other: what each makes of a cluster's state, and when a list of them can be made.
+use Rattle.std.specs.Prelude.{◌≡◌, ◌≢◌, ◌<◌, ◌≤◌, ◌+◌, ℕ, pos, neg_ℤ, ◌+ℤ◌, List, [], ◌∷◌, take, length, slice_index_or}
+use Rattle.std.proofs.Common.{get_or}
+use Rattle.nd_processor.specs.State.{ProcessorState, idle}
+use Rattle.nd_protocol.specs.State.{ClusterState, processor}
+use Rattle.nd_steps.specs.Places.{Place, place_at}
+use Rattle.nd_steps.specs.Slots.{stands, puts, SlotIsThere, SlotMay, SlotWithin}
+use Rattle.nd_steps.specs.Standing.{standing, put_at}
+use Rattle.nd_steps.specs.declared.change.Change.{Change}
+
+-- where in the cluster a change is
+abbrev pub place_of : Change → Place
+place_of c = place_at c.p c.slot
+
+-- the processor that a change is of
+abbrev pub own : List ProcessorState → Change → ProcessorState
+own processors c = slice_index_or processors c.p idle
+
+-- the change that takes it back
+abbrev pub inverse : Change → Change
+inverse c = record c { n = neg_ℤ c.n }
+
+-- the processor after a change, and the state
+abbrev pub made_in : ProcessorState → Change → ProcessorState
+made_in q c = puts q c.slot (stands q c.slot +ℤ c.n)
+
+abbrev pub made : ClusterState → Change → ClusterState
+made s c = put_at s (place_of c) (standing s (place_of c) +ℤ c.n)
+
+-- a change may be made in a processor
+pub record FitsIn (q : ProcessorState) (c : Change) : Type 0 where
+  pub there : SlotIsThere q c.slot
+  pub may : SlotMay c.slot (stands q c.slot +ℤ c.n)
+  pub within : SlotWithin c.slot (stands q c.slot +ℤ c.n)
+
+-- it may be made in this state
+pub record Fits (s : ClusterState) (c : Change) : Type 0 where
+  pub owner : c.p < length s.processors
+  pub inside : FitsIn (processor s c.p) c
+
+-- something stands at the place of the change
+abbrev pub Finds : ClusterState → Change → Type 0
+Finds s c = standing s (place_of c) ≢ pos 0
+
+-- the state after a list of changes
+unfoldable pub applied : ClusterState → List Change → ClusterState
+applied s [] = s
+applied s (c ∷ cs) = applied (made s c) cs
+
+-- the state after the first k changes
+unfoldable pub state_at : ClusterState → List Change → ℕ → ClusterState
+state_at s cs k = applied s (take k cs)
+
+-- each change fits in its turn, and nothing is taken out before the last thing is put in:
+-- the first changes leave something at their places, and the others find something at theirs
+pub record IsRunnable (s : ClusterState) (cs : List Change) : Type 0 where
+  pub turn : ℕ
+  pub fits : (k : ℕ) (d : Change) → k < length cs → Fits (state_at s cs k) (get_or cs k d)
+  pub leaves : (k : ℕ) (d : Change) → k < length cs → k < turn → Finds (state_at s cs (k + 1)) (get_or cs k d)
+  pub finds : (k : ℕ) (d : Change) → k < length cs → turn ≤ k → Finds (state_at s cs k) (get_or cs k d)

@@ -1,0 +1,15 @@
+//! A change at one place of a cluster's state: a place, and a number.
+ghost use Rattle.std.specs.Prelude.{◌≡◌};
+ghost use Rattle.nd_steps.specs.Changes.{inverse};
+ghost use Rattle.nd_steps.specs.Undone.{IsGain};
+
+use crate::Slot;
+
+/// So much more stands at a key of processor p's maps. The numbers that items keep have 64 bits, so what leads from one to
+/// another has more.
+#[derive(Debug, PartialEq, Eq, Drop)]
+pub struct Change {
+    pub p: u32,
+    pub slot: Slot,
+    pub n: i128,
+}

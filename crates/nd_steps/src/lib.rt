@@ -1,0 +1,39 @@
+//! Steps of a cluster: what each changes, in which order, and how that is made and undone.
+#![tactic(auto)]
+
+mod broadcast;
+mod change;
+mod come;
+mod counted;
+mod draft;
+mod emit;
+mod exchange;
+mod feed;
+mod flow;
+mod kept;
+mod laws;
+mod listed;
+mod making;
+mod order;
+mod parts;
+mod react;
+mod reading;
+mod receive;
+mod record;
+mod run;
+mod slot;
+
+pub use broadcast::planned_part;
+pub use change::Change;
+pub use come::Come;
+pub use counted::changes_are_counted;
+pub use feed::feed_changes;
+pub use flow::{Flow, Part};
+pub use kept::Kept;
+pub use laws::free_steps_are_enabled;
+pub use listed::{Entries, Entry};
+pub use order::planned_changes;
+pub use react::{notice_changes, take_changes};
+pub use receive::planned_front;
+pub use record::{Changes, Record};
+pub use slot::Slot;

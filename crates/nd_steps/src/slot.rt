@@ -1,0 +1,22 @@
+//! The keys of a processor's maps.
+
+use nd_paths::Pointstamp;
+use nd_processor::{SinkKey, ValueAt};
+use nd_vertex::ItemKey;
+
+/// A key of one of a processor's maps. An integer stands there, 0 if the map does not have the key.
+#[derive(Debug, PartialEq, Eq, Drop)]
+pub enum Slot {
+    /// A count of records.
+    Records(ValueAt),
+    /// 1 for a request, 0 for none.
+    Request(Pointstamp),
+    /// 1 more than the epoch of an input vertex's token, 0 for none.
+    Token(usize),
+    /// The number that a vertex keeps for an item.
+    State { vertex: usize, key: ItemKey },
+    /// A count of a value at a sink.
+    Sink(SinkKey),
+    /// An entry of what is unsent.
+    Unsent(Pointstamp),
+}
