@@ -11,9 +11,7 @@ pub mod LimitsLemmas
 pub mod Differences
 pub mod CountedLemmas
 pub mod ReachesLemmas
-pub mod TurnsLemmas
 pub mod ListedLemmas
-pub mod InPlaceLemmas
 pub mod SumsOfSteps
 pub mod Arrivals
 pub mod Destinations

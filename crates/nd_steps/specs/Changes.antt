@@ -27,9 +27,11 @@ made_in q c = puts q c.slot (stands q c.slot +ℤ c.n)
 abbrev pub made : ClusterState → Change → ClusterState
 made s c = put_at s (place_of c) (standing s (place_of c) +ℤ c.n)
 
--- a change may be made in a processor
+-- a change may be made in a processor: it changes something, and what stands at its key is within the limits before it and after it
 pub record FitsIn (q : ProcessorState) (c : Change) : Type 0 where
   pub there : SlotIsThere q c.slot
+  pub some : c.n ≢ pos 0
+  pub before : SlotWithin c.slot (stands q c.slot)
   pub may : SlotMay c.slot (stands q c.slot +ℤ c.n)
   pub within : SlotWithin c.slot (stands q c.slot +ℤ c.n)
 

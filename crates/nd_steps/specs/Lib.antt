@@ -12,7 +12,6 @@ pub mod Records
 pub mod Flows
 pub mod Limits
 pub mod Turns
-pub mod Sorting
 pub mod Counted
 pub mod Listed
 pub mod Appended

@@ -1,11 +1,9 @@
--- Lists of changes as a plan makes them: no place twice, and in an order in which something is put in first, then altered, then taken out.
-use Rattle.std.specs.Prelude.{◌≡◌, ◌≢◌, ◌≤◌, ℕ, ◌+◌, pos, ◌+ℤ◌, Bool, cond, List, [], ◌∷◌, ◌++◌, length, nat_eq}
-use Rattle.std.specs.List.{filter}
+-- Lists of changes as a plan makes them: no place twice, and nothing is taken out before the last is put in.
+use Rattle.std.specs.Prelude.{◌≡◌, ◌≢◌, ◌≤◌, ℕ, ◌+◌, pos, ◌+ℤ◌, cond, List, [], ◌∷◌, length}
 use Rattle.std.specs.Ordering.{eq_by_cmp}
-use Rattle.nd_vertex.specs.Table.{is_zero}
 use Rattle.nd_processor.specs.State.{ProcessorState}
 use Rattle.nd_protocol.specs.State.{ClusterState, processor}
-use Rattle.nd_protocol.specs.Fitting.{IsWithinLimits}
+use Rattle.nd_protocol.specs.Fitting.{IsState}
 use Rattle.nd_steps.specs.Places.{Place, place_cmp}
 use Rattle.nd_steps.specs.Standing.{standing, changed}
 use Rattle.nd_steps.specs.Changes.{place_of, IsRunnable, applied}
@@ -28,27 +26,13 @@ abbrev pub Each : (Change → Type 0) → List Change → Type 0
 Each P [] = Unit {0}
 Each P (c ∷ cs) = P c × Each P cs
 
--- 0 for a change where nothing stands, 2 for one that leaves nothing, 1 for one that alters what stands
-abbrev pub kind_by : Bool → Bool → ℕ
-kind_by a b = cond a 0 (cond b 2 1)
-
-abbrev pub kind : ClusterState → Change → ℕ
-kind s c = kind_by (is_zero (standing s (place_of c))) (is_zero (standing s (place_of c) +ℤ c.n))
-
-abbrev pub of_kind : ClusterState → ℕ → List Change → List Change
-of_kind s k cs = filter (λ c. nat_eq (kind s c) k) cs
-
--- the changes in the order of their kinds
-abbrev pub ordered : ClusterState → List Change → List Change
-ordered s cs = (of_kind s 0 cs ++ of_kind s 1 cs) ++ of_kind s 2 cs
-
 -- the epoch or the item's number that stands at its place then has the bits of its type
 abbrev pub StaysRanged : ClusterState → Change → Type 0
 StaysRanged s c = SlotRanged c.slot (standing s (place_of c) +ℤ c.n)
 
--- in no order, the changes add what t has more than s, a state within its limits; they touch the processors alone
+-- in any order, the changes add what t has more than s, a state that a cluster may be in; they change the processors alone
 pub record Reaches (s t : ClusterState) (cs : List Change) : Type 0 where
-  pub within : IsWithinLimits s
+  pub state : IsState s
   pub graph : t.graph ≡ s.graph
   pub views : t.views ≡ s.views
   pub queues : t.queues ≡ s.queues

@@ -93,10 +93,7 @@ SlotRanged (State vertex key) z = IsValue z
 SlotRanged _ z = Unit {0}
 
 -- each is within its own limit
-abbrev pub SlotWithin : Slot → ℤ → Type 0
-SlotWithin (Records key) z = unsigned_abs z ≤ max_count
-SlotWithin (Request point) z = Unit {0}
-SlotWithin (Token vertex) z = unsigned_abs z ≤ max_counter + 1
-SlotWithin (State vertex key) z = IsValue z
-SlotWithin (Sink key) z = unsigned_abs z ≤ max_count
-SlotWithin (Unsent point) z = unsigned_abs z ≤ max_count
+pub record SlotWithin (l : Slot) (z : ℤ) : Type 0 where
+  pub count : CountWithin l z
+  pub entry : EntryWithin l z
+  pub ranged : SlotRanged l z

@@ -14,7 +14,7 @@ use Rattle.nd_processor.specs.State.{ProcessorState}
 use Rattle.nd_protocol.specs.State.{ClusterState, processor, view, queue}
 use Rattle.nd_steps.specs.Places.{Place, place_at, view_of, place_cmp, place_total}
 use Rattle.nd_steps.specs.declared.slot.Slot.TheVariants.{Records, Request, Token, State, Sink, Unsent}
-use Rattle.nd_steps.specs.Slots.{stands, puts, SlotIsThere, SlotMay, CountWithin, EntryWithin, SlotWithin}
+use Rattle.nd_steps.specs.Slots.{stands, puts, SlotIsThere, SlotMay, CountWithin, EntryWithin}
 
 -- ---- what stands at a place
 
@@ -38,7 +38,7 @@ abbrev pub MayStand : Place → ℤ → Type 0
 MayStand (place_at p slot) z = SlotMay slot z
 MayStand (view_of q point) z = Unit {0}
 
--- it is within the limit of a count, of an entry, of either
+-- it is within the limit of a count, of an entry
 abbrev pub CountAt : Place → ℤ → Type 0
 CountAt (place_at p slot) z = CountWithin slot z
 CountAt (view_of q point) z = Unit {0}
@@ -46,10 +46,6 @@ CountAt (view_of q point) z = Unit {0}
 abbrev pub EntryAt : Place → ℤ → Type 0
 EntryAt (place_at p slot) z = EntryWithin slot z
 EntryAt (view_of q point) z = unsigned_abs z ≤ max_count
-
-abbrev pub IsWithinAt : Place → ℤ → Type 0
-IsWithinAt (place_at p slot) z = SlotWithin slot z
-IsWithinAt (view_of q point) z = unsigned_abs z ≤ max_count
 
 -- ---- at how many places two states differ
 

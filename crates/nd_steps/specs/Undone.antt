@@ -3,8 +3,6 @@ use Rattle.std.specs.Prelude.{◌≡◌, ◌≤◌, ◌^◌, ℕ, ℤ, pos, List
 use Rattle.std.proofs.Common.{get_or}
 use Rattle.nd_processor.specs.State.{ProcessorState}
 use Rattle.nd_protocol.specs.State.{ClusterState}
-use Rattle.nd_steps.specs.Places.{Place}
-use Rattle.nd_steps.specs.Standing.{standing, IsWithinAt}
 use Rattle.nd_steps.specs.Changes.{IsRunnable, applied}
 use Rattle.nd_steps.specs.declared.change.Change.{Change}
 use Rattle.nd_steps.specs.declared.slot.Slot.TheVariants.{Token}
@@ -12,10 +10,6 @@ use Rattle.nd_steps.specs.declared.slot.Slot.TheVariants.{Token}
 -- what leads from a number that may stand at a place to another: its negative is an integer of 128 bits, too
 abbrev pub IsGain : ℤ → Type 0
 IsGain n = unsigned_abs n ≤ 2 ^ 65
-
--- all that stands is within its limit
-abbrev pub Limits : ClusterState → Type 0
-Limits s = (k : Place) → IsWithinAt k (standing s k)
 
 -- the change at a position of a list; past its end one that stands for none
 abbrev pub no_change_at : Change
@@ -27,7 +21,6 @@ change_at cs k = get_or cs k no_change_at
 -- the changes can be made in s, one after the other, and lead to t
 pub record Runs (s t : ClusterState) (cs : List Change) : Type 0 where
   pub runs : IsRunnable s cs
-  pub limits : Limits s
   pub arrives : applied s cs ≡ t
 
 -- the changes have led to t

@@ -13,3 +13,27 @@ pub struct Change {
     pub slot: Slot,
     pub n: i128,
 }
+
+impl Change {
+    /// An equal change.
+    pub fn copy(&self) -> Change
+        ensures { result ≡ self.now }
+    {
+        Change {
+            p: self.p,
+            slot: self.slot.copy(),
+            n: self.n,
+        }
+    }
+
+    /// The change that takes this one back.
+    pub fn inverse(&self) -> Change
+        requires { IsGain self.now.n }
+        ensures { result ≡ inverse self.now }
+    {
+        Change {
+            n: -self.n,
+            ..self.copy()
+        }
+    }
+}

@@ -1,100 +1,29 @@
 //! A change made, and undone by its inverse.
-ghost use Rattle.std.specs.Prelude.{◌≡◌, ◌≤◌, ◌<◌, ◌≤ℤ◌, ◌+ℤ◌, ℤ, pos, length, slice_index_or, unsigned_abs, OnOk, OnErr};
-ghost use Rattle.nd_time.specs.Limits.{max_count};
-ghost use Rattle.nd_processor.specs.State.{idle};
-ghost use Rattle.nd_steps.specs.declared.slot.Slot.TheVariants.{Records, Sink, Unsent};
-ghost use Rattle.nd_steps.specs.Slots.{stands, puts};
+ghost use Rattle.std.specs.Prelude.{◌≡◌, ◌≤◌, ◌<◌, ◌≤ℤ◌, ◌+ℤ◌, pos, slice_index_or, unsigned_abs, OnOk, OnErr};
+ghost use Rattle.nd_time.specs.Limits.{max_count, max_counter};
+ghost use Rattle.nd_processor.specs.State.{items_at};
+ghost use Rattle.nd_vertex.specs.Edits.{number_of};
+ghost use Rattle.nd_protocol.specs.Ranges.{IsValue};
+ghost use Rattle.nd_steps.specs.Slots.{from_epoch, stands};
 ghost use Rattle.nd_steps.specs.Standing.{standing};
-ghost use Rattle.nd_steps.specs.Changes.{owner_of, slot_of, place_of, inverse, made_in, made, FitsIn, Fits};
-ghost use Rattle.nd_steps.specs.Undone.{CanTurn, only};
-ghost use Rattle.nd_protocol.specs.Steps.{record_key, point_at};
+ghost use Rattle.nd_steps.specs.Changes.{place_of, inverse, made_in, made, FitsIn, Fits};
+ghost use Rattle.nd_steps.specs.Undone.{only};
 
-use crate::Change;
+use crate::{Change, Slot};
 use nd_delta::DeltaFault;
-use nd_paths::Pointstamp;
-use nd_processor::{CountFault, Processor, ValueAt};
-use nd_time::Timestamp;
+use nd_processor::{CountFault, Processor};
 use std::alloc::{AllocError, Allocator};
 
-// So many records more of a key, or less if negative. A key that is there takes no memory.
-pub(crate) fn more_records<A: Allocator + Copy>(
-    processor: &mut Processor<A>,
-    key: &ValueAt,
-    n: i64,
-) -> Result<(), AllocError>
-    requires some { pos 0 ≤ℤ (stands processor.old (Records key.now) +ℤ n) }
-    requires within { unsigned_abs (stands processor.old (Records key.now) +ℤ n) ≤ max_count }
-    ensures ok { OnOk result (processor.new ≡ puts processor.old (Records key.now) (stands processor.old (Records key.now) +ℤ n)) }
-    ensures err { OnErr result (processor.new ≡ processor.old) }
-    ensures absent { OnErr result (stands processor.old (Records key.now) ≡ pos 0) }
+// A token's epoch after a change, `None` if it goes.
+fn epoch_after(old: Option<u32>, n: i128) -> Option<u32>
+    requires some { pos 0 ≤ℤ (from_epoch old +ℤ n) }
+    requires within { unsigned_abs (from_epoch old +ℤ n) ≤ max_counter + 1 }
+    ensures { from_epoch result ≡ from_epoch old +ℤ n }
 {
-    if n < 0 {
-        processor.take_records(key, n.unsigned_abs());
-        return Ok(());
-    }
-    match processor.add_records(key, n.unsigned_abs()) {
-        Ok(()) => Ok(()),
-        Err(CountFault::Memory) => Err(AllocError),
-        Err(CountFault::CountFull) => unreachable!(),
-    }
-}
-
-// So much more at a pointstamp of what is unsent. A pointstamp that has an entry takes no memory.
-pub(crate) fn more_unsent<A: Allocator + Copy>(
-    processor: &mut Processor<A>,
-    point: &Pointstamp,
-    n: i64,
-) -> Result<(), AllocError>
-    requires { unsigned_abs (stands processor.old (Unsent point.now) +ℤ n) ≤ max_count }
-    ensures ok { OnOk result (processor.new ≡ puts processor.old (Unsent point.now) (stands processor.old (Unsent point.now) +ℤ n)) }
-    ensures err { OnErr result (processor.new ≡ processor.old) }
-    ensures absent { OnErr result (stands processor.old (Unsent point.now) ≡ pos 0) }
-{
-    match processor.add_unsent(point, n) {
-        Ok(()) => Ok(()),
-        Err(DeltaFault::Memory) => Err(AllocError),
-        Err(DeltaFault::DeltaFull) => unreachable!(),
-    }
-}
-
-// A sink counts a value once more. A value that it has counted takes no memory.
-pub(crate) fn count_one<A: Allocator + Copy>(
-    processor: &mut Processor<A>,
-    vertex: usize,
-    value: i64,
-) -> Result<(), AllocError>
-    requires { unsigned_abs (stands processor.old (Sink (record { vertex = vertex; value = value })) +ℤ pos 1) ≤ max_count }
-    ensures ok { OnOk result (processor.new ≡ puts processor.old (Sink (record { vertex = vertex; value = value })) (stands processor.old (Sink (record { vertex = vertex; value = value })) +ℤ pos 1)) }
-    ensures err { OnErr result (processor.new ≡ processor.old) }
-    ensures absent { OnErr result (stands processor.old (Sink (record { vertex = vertex; value = value })) ≡ pos 0) }
-{
-    match processor.add_sink(vertex, value, 1) {
-        Ok(()) => Ok(()),
-        Err(CountFault::Memory) => Err(AllocError),
-        Err(CountFault::CountFull) => unreachable!(),
-    }
-}
-
-// The record of a value at an edge's pointstamp.
-pub(crate) fn value_at(edge: usize, time: &Timestamp, value: i64) -> ValueAt
-    ensures { result ≡ record_key edge time.now value }
-{
-    ValueAt {
-        point: Pointstamp {
-            location: edge,
-            time: time.copy(),
-        },
-        value,
-    }
-}
-
-// The pointstamp of a vertex.
-pub(crate) fn vertex_point(vertex: usize, time: &Timestamp) -> Pointstamp
-    ensures { result ≡ point_at vertex time.now }
-{
-    Pointstamp {
-        location: vertex,
-        time: time.copy(),
+    let before = old.map_or(0, |epoch| i128::from(epoch) + 1);
+    match before + n {
+        0 => None,
+        more => Some((more - 1) as u32),
     }
 }
 
@@ -106,89 +35,49 @@ fn make_in<A: Allocator + Copy>(
     requires { FitsIn processor.old change.now }
     ensures ok { OnOk result (processor.new ≡ made_in processor.old change.now) }
     ensures err { OnErr result (processor.new ≡ processor.old) }
-    ensures absent { OnErr result (stands processor.old (slot_of change.now) ≡ pos 0) }
+    ensures absent { OnErr result (stands processor.old change.now.slot ≡ pos 0) }
 {
-    match change {
-        Change::Records {
-            p: _,
-            edge,
-            time,
-            value,
-            n,
-        } => more_records(processor, &value_at(*edge, time, *value), *n),
-        Change::Request {
-            p: _,
-            vertex,
-            time,
-            add: true,
-        } => processor.add_request(&vertex_point(*vertex, time)),
-        Change::Request {
-            p: _,
-            vertex,
-            time,
-            add: false,
-        } => {
-            processor.drop_request(&vertex_point(*vertex, time));
+    let n = change.n;
+    match &change.slot {
+        Slot::Records(key) if n < 0 => {
+            processor.take_records(key, n.unsigned_abs() as u64);
             Ok(())
         }
-        Change::Token {
-            p: _,
-            vertex,
-            old,
-            new,
-        } => processor.move_token(*vertex, *old, *new),
-        Change::State {
-            p: _,
-            vertex,
-            time,
-            item,
-            old,
-            new,
-        } => processor.set_item(*vertex, time, *item, *old, *new),
-        Change::Sink {
-            p: _,
-            vertex,
-            value,
-            add: true,
-        } => count_one(processor, *vertex, *value),
-        Change::Sink {
-            p: _,
-            vertex,
-            value,
-            add: false,
-        } => {
-            processor.take_sink(*vertex, *value, 1);
+        Slot::Records(key) => match processor.add_records(key, n as u64) {
+            Ok(()) => Ok(()),
+            Err(CountFault::Memory) => Err(AllocError),
+            Err(CountFault::CountFull) => unreachable!(),
+        },
+        Slot::Request(point) if n < 0 => {
+            processor.drop_request(point);
             Ok(())
         }
-        Change::Unsent { p: _, point, n } => more_unsent(processor, point, *n),
-    }
-}
-
-impl Change {
-    // Whose processor it is of.
-    pub(crate) fn owner(&self) -> usize
-        ensures { result ≡ owner_of self.now }
-    {
-        match self {
-            Change::Records { p, .. }
-            | Change::Request { p, .. }
-            | Change::Token { p, .. }
-            | Change::State { p, .. }
-            | Change::Sink { p, .. }
-            | Change::Unsent { p, .. } => *p as usize,
+        Slot::Request(point) => processor.add_request(point),
+        Slot::Token(vertex) => {
+            let old = processor.token(*vertex);
+            processor.move_token(*vertex, old, epoch_after(old, n))
         }
+        Slot::State { vertex, key } => {
+            let old = processor.vertex_state(*vertex).get(&key.time, key.item);
+            let new = i128::from(old.unwrap_or(0)) + n;
+            let new = if new == 0 { None } else { Some(new as i64) };
+            processor.set_item(*vertex, &key.time, key.item, old, new)
+        }
+        Slot::Sink(key) if n < 0 => {
+            processor.take_sink(key.vertex, key.value, n.unsigned_abs() as u64);
+            Ok(())
+        }
+        Slot::Sink(key) => match processor.add_sink(key.vertex, key.value, n as u64) {
+            Ok(()) => Ok(()),
+            Err(CountFault::Memory) => Err(AllocError),
+            Err(CountFault::CountFull) => unreachable!(),
+        },
+        Slot::Unsent(point) => match processor.add_unsent(point, n as i64) {
+            Ok(()) => Ok(()),
+            Err(DeltaFault::Memory) => Err(AllocError),
+            Err(DeltaFault::DeltaFull) => unreachable!(),
+        },
     }
-}
-
-// One of the processors.
-pub(crate) fn processor_of<A: Allocator + Copy>(
-    processors: &[Processor<A>],
-    p: usize,
-) -> &Processor<A>
-    requires { p < length processors.now }
-    ensures { result.now ≡ slice_index_or processors.now p idle }
-{
-    &processors[p]
 }
 
 // Makes a change in one of the processors. If something stands already it takes no memory.
@@ -201,7 +90,7 @@ pub(crate) fn make<A: Allocator + Copy>(
     ensures err { OnErr result (processors.new.items ≡ processors.old.items) }
     ensures absent { OnErr result (standing (only processors.old.items) (place_of change.now) ≡ pos 0) }
 {
-    let processor = &mut processors[change.owner()];
+    let processor = &mut processors[change.p as usize];
     make_in(processor, change)
 }
 
@@ -210,11 +99,10 @@ pub(crate) fn undo<A: Allocator + Copy>(
     processors: &mut Vec<Processor<A>, A>,
     change: &Change,
 ) -> Result<(), AllocError>
-    requires fits { Fits (only processors.old.items) (inverse change.now) }
-    requires turns { CanTurn change.now }
+    requires { Fits (only processors.old.items) (inverse change.now) }
     ensures ok { OnOk result (only processors.new.items ≡ made (only processors.old.items) (inverse change.now)) }
     ensures err { OnErr result (processors.new.items ≡ processors.old.items) }
-    ensures absent { OnErr result (standing (only processors.old.items) (place_of (inverse change.now)) ≡ pos 0) }
+    ensures absent { OnErr result (standing (only processors.old.items) (place_of change.now) ≡ pos 0) }
 {
     make(processors, &change.inverse())
 }

@@ -1,4 +1,5 @@
 //! The keys of a processor's maps.
+ghost use Rattle.std.specs.Prelude.{◌≡◌};
 
 use nd_paths::Pointstamp;
 use nd_processor::{SinkKey, ValueAt};
@@ -19,4 +20,23 @@ pub enum Slot {
     Sink(SinkKey),
     /// An entry of what is unsent.
     Unsent(Pointstamp),
+}
+
+impl Slot {
+    /// An equal key.
+    pub fn copy(&self) -> Slot
+        ensures { result ≡ self.now }
+    {
+        match self {
+            Slot::Records(key) => Slot::Records(key.copy()),
+            Slot::Request(point) => Slot::Request(point.copy()),
+            Slot::Token(vertex) => Slot::Token(*vertex),
+            Slot::State { vertex, key } => Slot::State {
+                vertex: *vertex,
+                key: key.copy(),
+            },
+            Slot::Sink(key) => Slot::Sink(*key),
+            Slot::Unsent(point) => Slot::Unsent(point.copy()),
+        }
+    }
 }
