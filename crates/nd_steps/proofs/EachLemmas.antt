@@ -1,66 +1,30 @@
--- Lists of changes: what they add at a place, what holds of each of them, and a place that stands in one of them.
-use Rattle.std.proofs.Common.{◌≡◌, ◌≢◌, ◌<◌, ◌≤◌, ◌+◌, ℕ, zero, suc, ℤ, pos, ◌+ℤ◌, Bool, true, false, cond, List, [], ◌∷◌, take, drop, length, get_or, nat_eq, refl, sym, ap, subst, ◌∙◌, arith, drop-cons, true≢false}
+-- Lists of changes: what they add at a place, what holds of each of them, the same in another order, and a place that stands in one of them.
+use Rattle.std.proofs.Common.{◌≡◌, ◌≢◌, ◌<◌, ◌≤◌, ◌+◌, ℕ, zero, suc, ℤ, pos, negsuc, neg_ℤ, ◌+ℤ◌, ◌-ℤ◌, Bool, true, false, cond, List, [], ◌∷◌, take, drop, length, get_or, refl, sym, ap, subst, ◌∙◌, arith, drop-cons, true≢false}
 use Rattle.std.proofs.lemmas.Int.{ints}
 use Rattle.std.proofs.lemmas.List.{take-append-drop}
-use Rattle.std.specs.List.{filter}
+use Rattle.std.proofs.lemmas.List.Sorted.{All-permutation, sum_by-IsPermutation}
+use Rattle.std.proofs.lemmas.List.Sums.{sum_by-cons}
+use Rattle.std.specs.List.{sum_by}
+use Rattle.std.specs.List.Sorted.{IsPermutation}
 use Rattle.std.specs.Ordering.{eq_by_cmp}
+use Rattle.nd_map.specs.Counts.{natural}
 use Rattle.nd_protocol.specs.State.{ClusterState}
 use Rattle.nd_steps.specs.Places.{Place, place_cmp, place_total}
-use Rattle.nd_steps.specs.Standing.{standing, IsThere, MayStand, IsWithinAt}
-use Rattle.nd_steps.specs.Changes.{place_of, gain_of, made, FindsOld, Fits, applied}
+use Rattle.nd_steps.specs.Alike.{same_key}
+use Rattle.nd_steps.specs.Slots.{SlotMay, SlotWithin}
+use Rattle.nd_steps.specs.Standing.{standing, IsThere}
+use Rattle.nd_steps.specs.Changes.{place_of, made, Fits, applied}
 use Rattle.nd_steps.specs.Totals.{total_at, edits_of}
 use Rattle.nd_steps.specs.Plans.{often, Once, Each}
 use Rattle.nd_steps.specs.Appended.{often-append, total-append}
 use Rattle.nd_steps.specs.declared.change.Change.{Change}
 use Rattle.nd_steps.proofs.PlacesLemmas.{SameShape, shape-turned, there_alike, standing-put_other}
-use Rattle.nd_steps.specs.Alike.{same_key}
 use Rattle.nd_steps.proofs.RunsLemmas.{shape-made}
 
 -- ---- sums over lists
 
 abbrev pub total : Place → List Change → ℤ
 total k cs = total_at (edits_of cs) k
-
--- changes by kind are the same changes
-module _ (f : Change → ℕ) (low : (c : Change) → f c ≤ 2) where
-  abbrev pick : ℕ → List Change → List Change
-  pick k cs = filter (λ c. nat_eq (f c) k) cs
-
-  each : (n : ℕ) → n ≤ 2 → (c : Change) (p : List Change → ℕ) → ((ds : List Change) → p (c ∷ ds) ≡ p (c ∷ []) + p ds) → (x y z : List Change)
-      → p (cond (nat_eq n 0) (c ∷ x) x) + (p (cond (nat_eq n 1) (c ∷ y) y) + p (cond (nat_eq n 2) (c ∷ z) z)) ≡ p (c ∷ []) + (p x + (p y + p z))
-  each zero h c p cons x y z = let e = cons x in omega (arith, e)
-  each (suc zero) h c p cons x y z = let e = cons y in omega (arith, e)
-  each (suc (suc zero)) h c p cons x y z = let e = cons z in omega (arith, e)
-  each (suc (suc (suc n))) h c p cons x y z = absurd (omega (arith, h))
-
-  each_z : (n : ℕ) → n ≤ 2 → (c : Change) (p : List Change → ℤ) → ((ds : List Change) → p (c ∷ ds) ≡ p (c ∷ []) +ℤ p ds) → (x y z : List Change)
-      → p (cond (nat_eq n 0) (c ∷ x) x) +ℤ (p (cond (nat_eq n 1) (c ∷ y) y) +ℤ p (cond (nat_eq n 2) (c ∷ z) z)) ≡ p (c ∷ []) +ℤ (p x +ℤ (p y +ℤ p z))
-  each_z zero h c p cons x y z = let e = cons x in omega (arith, ints, e)
-  each_z (suc zero) h c p cons x y z = let e = cons y in omega (arith, ints, e)
-  each_z (suc (suc zero)) h c p cons x y z = let e = cons z in omega (arith, ints, e)
-  each_z (suc (suc (suc n))) h c p cons x y z = absurd (omega (arith, h))
-
-  often-cons : (k : Place) (c : Change) (ds : List Change) → often k (c ∷ ds) ≡ often k (c ∷ []) + often k ds
-  often-cons k c ds = omega arith
-
-  total-cons : (k : Place) (c : Change) (ds : List Change) → total k (c ∷ ds) ≡ total k (c ∷ []) +ℤ total k ds
-  total-cons k c ds = omega (arith, ints)
-
-  pub often-picked : (k : Place) (cs : List Change) → often k (pick 0 cs) + (often k (pick 1 cs) + often k (pick 2 cs)) ≡ often k cs
-  often-picked k [] = refl
-  often-picked k (c ∷ cs) =
-      let ih = often-picked k cs in
-      let e = each (f c) (low c) c (often k) (often-cons k c) (pick 0 cs) (pick 1 cs) (pick 2 cs) in
-      let d = often-cons k c cs in
-      e ∙ ap (λ n. often k (c ∷ []) + n) ih ∙ sym d
-
-  pub total-picked : (k : Place) (cs : List Change) → total k (pick 0 cs) +ℤ (total k (pick 1 cs) +ℤ total k (pick 2 cs)) ≡ total k cs
-  total-picked k [] = omega (arith, ints)
-  total-picked k (c ∷ cs) =
-      let ih = total-picked k cs in
-      let e = each_z (f c) (low c) c (total k) (total-cons k c) (pick 0 cs) (pick 1 cs) (pick 2 cs) in
-      let d = total-cons k c cs in
-      e ∙ ap (λ n. total k (c ∷ []) +ℤ n) ih ∙ sym d
 
 -- ---- every change of a list
 
@@ -74,13 +38,6 @@ each_take P cs zero h = tt
 each_take P [] (suc k) h = tt
 each_take P (c ∷ cs) (suc k) h = (h.0, each_take P cs k h.1)
 
-pub each_picked : (P Q : Change → Type 0) (p : Change → Bool) → ((c : Change) → p c ≡ true → P c → Q c) → (cs : List Change) → Each P cs → Each Q (filter p cs)
-each_picked P Q p imp [] h = tt
-each_picked P Q p imp (c ∷ cs) h = elim (p c) as (λ b. p c ≡ b → Each Q (cond b (c ∷ filter p cs) (filter p cs))) [
-  | true ↦ λ t. (imp c t h.0, each_picked P Q p imp cs h.1)
-  | false ↦ λ t. each_picked P Q p imp cs h.1
-] refl
-
 pub each_from : (P : Change → Type 0) (cs : List Change) → ((k : ℕ) (d : Change) → k < length cs → P (get_or cs k d)) → Each P cs
 each_from P [] h = tt
 each_from P (c ∷ cs) h = (h 0 c (omega arith), each_from P cs (λ k d lt. h (suc k) d (omega (arith, lt))))
@@ -88,6 +45,51 @@ each_from P (c ∷ cs) h = (h 0 c (omega arith), each_from P cs (λ k d lt. h (s
 pub each_through : (P Q : Change → Type 0) → ((c : Change) → P c → Q c) → (cs : List Change) → Each P cs → Each Q cs
 each_through P Q imp [] h = tt
 each_through P Q imp (c ∷ cs) h = (imp c h.0, each_through P Q imp cs h.1)
+
+-- ---- the same changes in another order
+
+pub each_moved : (P : Change → Type 0) (cs ds : List Change) → IsPermutation cs ds → Each P cs → Each P ds
+each_moved P cs ds moved h = each_from P ds (All-permutation P cs ds moved (λ k d lt. each_at P cs k d h lt))
+
+abbrev once_at : Place → Change → ℕ
+once_at k c = cond (eq_by_cmp place_cmp k (place_of c)) 1 0
+
+often_summed : (k : Place) (cs : List Change) → often k cs ≡ sum_by (once_at k) cs
+often_summed k [] = refl
+often_summed k (c ∷ cs) = ap (λ n. once_at k c + n) (often_summed k cs) ∙ sym (sum_by-cons (once_at k) c cs)
+
+pub often_moved : (k : Place) (cs ds : List Change) → IsPermutation cs ds → often k ds ≡ often k cs
+often_moved k cs ds moved = often_summed k ds ∙ sum_by-IsPermutation (once_at k) cs ds moved ∙ sym (often_summed k cs)
+
+-- a sum of integers is a sum of what is above 0, without that of what is below
+abbrev up : ℤ → ℕ
+up z = natural z
+
+abbrev down : ℤ → ℕ
+down z = natural (neg_ℤ z)
+
+abbrev added_at : Place → Change → ℤ
+added_at k c = cond (eq_by_cmp place_cmp k (place_of c)) c.n (pos 0)
+
+parted : (z : ℤ) → z ≡ pos (up z) -ℤ pos (down z)
+parted (pos zero) = refl
+parted (pos (suc n)) = omega (arith, ints)
+parted (negsuc n) = omega (arith, ints)
+
+total_parted : (k : Place) (cs : List Change) → total k cs ≡ pos (sum_by (λ c. up (added_at k c)) cs) -ℤ pos (sum_by (λ c. down (added_at k c)) cs)
+total_parted k [] = omega (arith, ints)
+total_parted k (c ∷ cs) =
+    let here = parted (added_at k c) in
+    let rest = total_parted k cs in
+    let ups = sum_by-cons (λ c. up (added_at k c)) c cs in
+    let downs = sum_by-cons (λ c. down (added_at k c)) c cs in
+    omega (arith, ints, here, rest, ups, downs)
+
+pub total_moved : (k : Place) (cs ds : List Change) → IsPermutation cs ds → total k ds ≡ total k cs
+total_moved k cs ds moved =
+    total_parted k ds
+    ∙ (λ i. pos (sum_by-IsPermutation (λ c. up (added_at k c)) cs ds moved i) -ℤ pos (sum_by-IsPermutation (λ c. down (added_at k c)) cs ds moved i))
+    ∙ sym (total_parted k cs)
 
 -- ---- a place that stands once
 
@@ -127,7 +129,7 @@ module _ (cs : List Change) (once : Once cs) (k : ℕ) (d : Change) (lt : k < le
   often_after = let e = around in let h = once (place_of (get_or cs k d)) in omega (arith, e, h)
 
   -- what is added at its place is its gain
-  pub gain_alone : total (place_of (get_or cs k d)) cs ≡ gain_of (get_or cs k d)
+  pub gain_alone : total (place_of (get_or cs k d)) cs ≡ (get_or cs k d).n
   gain_alone =
       let c = get_or cs k d in
       let x = place_of c in
@@ -153,14 +155,6 @@ untouched s (c ∷ cs) k there none =
     (each_through (λ d. IsThere s (place_of d)) (λ d. IsThere (made s c) (place_of d)) (λ d. there_alike s (made s c) (place_of d) (shape-turned (made s c) s (shape-made s c))) cs there.1) rest
     ∙ standing-put_other s (place_of c) (standing s (place_of c) +ℤ c.n) k there.0 other
 
-finds_moved : (s u : ClusterState) (c : Change) → standing u (place_of c) ≡ standing s (place_of c) → FindsOld s c → FindsOld u c
-finds_moved s u (Token p vertex old new) e h = e ∙ h
-finds_moved s u (State p vertex t item old new) e h = e ∙ h
-finds_moved s u (Records p edge t value n) e h = tt
-finds_moved s u (Request p vertex t add) e h = tt
-finds_moved s u (Sink p vertex value add) e h = tt
-finds_moved s u (Unsent p point n) e h = tt
-
 -- a change fits wherever the same stands at its place
 pub fits_moved : (s u : ClusterState) (c : Change) → SameShape u s → standing u (place_of c) ≡ standing s (place_of c) → Fits s c → Fits u c
 fits_moved s u c shape e fits =
@@ -169,9 +163,9 @@ fits_moved s u c shape e fits =
       owner = there.0;
       inside = record {
         there = there.1;
-        old = finds_moved s u c e fits.inside.old;
-        numbers = fits.inside.numbers;
-        may = subst (λ z. MayStand (place_of c) (z +ℤ c.n)) (sym e) fits.inside.may;
-        within = subst (λ z. IsWithinAt (place_of c) (z +ℤ c.n)) (sym e) fits.inside.within;
+        some = fits.inside.some;
+        before = subst (SlotWithin c.slot) (sym e) fits.inside.before;
+        may = subst (λ z. SlotMay c.slot (z +ℤ c.n)) (sym e) fits.inside.may;
+        within = subst (λ z. SlotWithin c.slot (z +ℤ c.n)) (sym e) fits.inside.within;
       };
     }

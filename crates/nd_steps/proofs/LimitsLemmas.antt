@@ -1,25 +1,35 @@
 -- Counts and entries after changes, each at a place of its own: within their limits, or past them.
-use Rattle.std.proofs.Common.{◌≡◌, ◌<◌, ◌≤◌, ◌+◌, ℕ, zero, suc, All, ℤ, pos, ◌+ℤ◌, unsigned_abs, Bool, true, false, cond, List, [], ◌∷◌, length, get_or, ◌⊎◌, inl, inr, refl, sym, ap, subst, ◌∙◌, arith}
-use Rattle.std.proofs.lemmas.Int.{ints}
+use Rattle.std.proofs.Common.{◌≡◌, ◌<◌, ◌≤◌, ◌+◌, ℕ, suc, ℤ, pos, ◌+ℤ◌, unsigned_abs, w64, lit<, Bool, true, false, cond, List, [], ◌∷◌, Option, Some, None, length, get_or, ◌⊎◌, inl, inr, refl, sym, ap, subst, ◌∙◌, arith}
+use Rattle.std.proofs.lemmas.Int.{ints, fits_signed_from_abs}
 use Rattle.std.proofs.lemmas.Bool.{cases_lt}
-use Rattle.nd_time.specs.Limits.{max_count, max_processors}
-use Rattle.nd_delta.specs.Change.{at as in_change}
-use Rattle.nd_processor.specs.State.{ProcessorState, idle}
-use Rattle.nd_protocol.specs.State.{ClusterState}
-use Rattle.nd_protocol.specs.Fitting.{IsWithinLimits, ProcessorIsWithin, QueueIsWithin}
+use Rattle.std.proofs.lemmas.List.{get_or_past}
+use Rattle.std.specs.FinMap as fin
+use Rattle.nd_time.specs.Limits.{max_count, max_counter}
+use Rattle.nd_graph.specs.Graph.{Dataflow}
+use Rattle.nd_map.specs.Cases.{zero_or_not}
+use Rattle.nd_map.specs.Counts.{at as number_at}
+use Rattle.nd_paths.specs.declared.point.Pointstamp.{Pointstamp}
+use Rattle.nd_delta.specs.Change.{at as in_change, none as no_change, at-none as in_no_change}
+use Rattle.nd_vertex.specs.declared.key.ItemKey.{ItemKey}
+use Rattle.nd_processor.specs.State.{ProcessorState, idle, items_at}
+use Rattle.nd_protocol.specs.State.{ClusterState, processor, view}
+use Rattle.nd_protocol.specs.Fitting.{IsState, ProcessorFits, ProcessorIsWithin}
+use Rattle.nd_protocol.specs.Ranges.{IsValue}
 use Rattle.nd_protocol.specs.Enabled.{HasLargeCount, of_record, of_sink, HasLargeEntry, of_unsent, of_view}
 use Rattle.nd_steps.specs.Places.{Place, place_at, view_of}
+use Rattle.nd_steps.specs.Alike.{is_place, same_place}
+use Rattle.nd_steps.specs.declared.slot.Slot.{Slot}
 use Rattle.nd_steps.specs.declared.slot.Slot.TheVariants.{Records, Request, Token, State, Sink, Unsent}
-use Rattle.nd_steps.specs.Standing.{standing, CountAt, EntryAt, IsWithinAt}
-use Rattle.nd_steps.specs.Changes.{place_of, gain_of}
+use Rattle.nd_steps.specs.Slots.{from_epoch, stands, SlotWithin}
+use Rattle.nd_steps.specs.Standing.{standing, CountAt, EntryAt}
+use Rattle.nd_steps.specs.Changes.{place_of}
 use Rattle.nd_steps.specs.Totals.{total_at, edits_of}
 use Rattle.nd_steps.specs.Plans.{often, Each, Reaches}
-use Rattle.nd_steps.specs.Undone.{Limits}
-use Rattle.nd_steps.specs.Limits.{CountStaysOf, EntryStaysOf, StaysWithin}
+use Rattle.nd_steps.specs.Undone.{no_change_at, change_at}
+use Rattle.nd_steps.specs.Limits.{after, CountStays, EntryStays}
 use Rattle.nd_steps.specs.declared.change.Change.{Change}
-use Rattle.nd_steps.specs.Alike.{is_place, same_place}
+use Rattle.nd_steps.proofs.PlacesLemmas.{idle_stands}
 use Rattle.nd_steps.proofs.EachLemmas.{never_added, gain_alone}
-use Rattle.nd_steps.proofs.RunsLemmas.{limits_of}
 
 -- ---- a property of what stands at a place, in a state that changes reach
 
@@ -59,7 +69,7 @@ module _ (P : Place → ℤ → Type 0) (s : ClusterState) where
     fails_then : (j : ℕ) (d : Change) → j < length cs → (After (get_or cs j d) → ⊥) → P (place_of (get_or cs j d)) (standing t (place_of (get_or cs j d))) → ⊥
     fails_then j d lt fails h =
         let k = place_of (get_or cs j d) in
-        let e : standing t k ≡ standing s k +ℤ gain_of (get_or cs j d) = reaches.totals k ∙ ap (λ z. standing s k +ℤ z) (gain_alone cs reaches.once j d lt) in
+        let e : standing t k ≡ standing s k +ℤ (get_or cs j d).n = reaches.totals k ∙ ap (λ z. standing s k +ℤ z) (gain_alone cs reaches.once j d lt) in
         fails (subst (P k) e h)
 
 -- ---- a change that does not stay within the limit
@@ -135,80 +145,75 @@ small_entries : (t : ClusterState) → ((k : Place) → EntryAt k (standing t k)
 small_entries t h (of_unsent p x lt) = not_past _ _ lt (h (place_at p (Unsent x)))
 small_entries t h (of_view q x lt) = not_past _ _ lt (h (view_of q x))
 
+-- ---- a state that a cluster may be in
+
+none_within : (l : Slot) → SlotWithin l (pos 0)
+none_within (Records key) = record { count = omega arith; entry = tt; ranged = tt }
+none_within (Request point) = record { count = tt; entry = tt; ranged = tt }
+none_within (Token vertex) = record { count = tt; entry = tt; ranged = omega arith }
+none_within (State vertex key) = record { count = tt; entry = tt; ranged = fits_signed_from_abs w64 (pos 0) (lit< tt) }
+none_within (Sink key) = record { count = omega arith; entry = tt; ranged = tt }
+none_within (Unsent point) = record { count = tt; entry = omega arith; ranged = tt }
+
+module _ (g : Dataflow) (q : ProcessorState) (fits : ProcessorFits g q) (within : ProcessorIsWithin q) where
+  epoch_within : (vertex : ℕ) (x : Option ℕ) → fin.get q.tokens vertex ≡ x → unsigned_abs (from_epoch x) ≤ max_counter + 1
+  epoch_within vertex None e = omega arith
+  epoch_within vertex (Some epoch) e = let h = (fits.tokens vertex epoch e).1.small 0 0 (omega arith) in omega (arith, h)
+
+  number_within : (vertex : ℕ) (key : ItemKey) → IsValue (number_at (items_at q vertex) key)
+  number_within vertex key = elim (zero_or_not (number_at (items_at q vertex) key)) [
+    | inl none ↦ subst IsValue (sym none) (none_within (State vertex key)).ranged
+    | inr some ↦ (fits.items vertex key some).2
+  ]
+
+  processor_within : (l : Slot) → SlotWithin l (stands q l)
+  processor_within (Records key) = record { count = within.records key; entry = tt; ranged = tt }
+  processor_within (Request point) = record { count = tt; entry = tt; ranged = tt }
+  processor_within (Token vertex) = record { count = tt; entry = tt; ranged = epoch_within vertex (fin.get q.tokens vertex) refl }
+  processor_within (State vertex key) = record { count = tt; entry = tt; ranged = number_within vertex key }
+  processor_within (Sink key) = record { count = within.sinks key; entry = tt; ranged = tt }
+  processor_within (Unsent point) = record { count = tt; entry = within.unsent point; ranged = tt }
+
+-- what stands in a cluster's processors is within its limits
+pub slot_within : (s : ClusterState) → IsState s → (p : ℕ) (l : Slot) → SlotWithin l (stands (processor s p) l)
+slot_within s state p l = elim (cases_lt p (length s.processors)) [
+  | inl lt ↦ processor_within s.graph (processor s p) (state.fits.processors p idle lt) (state.within.processors p idle lt) l
+  | inr past ↦ subst (λ q. SlotWithin l (stands q l)) (sym (get_or_past s.processors p idle past)) (subst (SlotWithin l) (sym (idle_stands l)) (none_within l))
+]
+
+view_within : (s : ClusterState) → IsState s → (q : ℕ) (x : Pointstamp) → unsigned_abs (in_change (view s q) x) ≤ max_count
+view_within s state q x = elim (cases_lt q (length s.views)) [
+  | inl lt ↦ state.within.views q no_change lt x
+  | inr past ↦ subst (λ z. unsigned_abs z ≤ max_count) (sym (ap (λ c. in_change c x) (get_or_past s.views q no_change past) ∙ in_no_change x)) (omega arith)
+]
+
+counts_within : (s : ClusterState) → IsState s → (k : Place) → CountAt k (standing s k)
+counts_within s state (place_at p l) = (slot_within s state p l).count
+counts_within s state (view_of q point) = tt
+
+entries_within : (s : ClusterState) → IsState s → (k : Place) → EntryAt k (standing s k)
+entries_within s state (place_at p l) = (slot_within s state p l).entry
+entries_within s state (view_of q point) = view_within s state q point
+
 -- ---- both limits
 
-count_part : (k : Place) (z : ℤ) → IsWithinAt k z → CountAt k z
-count_part (place_at p (Records key)) z h = h
-count_part (place_at p (Sink key)) z h = h
-count_part (place_at p (Request point)) z h = tt
-count_part (place_at p (Token vertex)) z h = tt
-count_part (place_at p (State vertex key)) z h = tt
-count_part (place_at p (Unsent point)) z h = tt
-count_part (view_of q point) z h = tt
+module _ (s : ClusterState) (cs : List Change) (t : ClusterState) (reaches : Reaches s t cs) where
+  pub counts_pass : (Each (CountStays s.processors) cs → ⊥) → HasLargeCount t
+  unfolding after
+  counts_pass h =
+      let m = missed (CountStays s.processors) (λ c. count_test (place_of c) _) cs h in
+      large_count t (place_of (change_at cs m.at)) (fails_then CountAt s t cs reaches m.at no_change_at m.within (m.fails no_change_at))
 
-entry_part : (k : Place) (z : ℤ) → IsWithinAt k z → EntryAt k z
-entry_part (place_at p (Unsent point)) z h = h
-entry_part (view_of q point) z h = h
-entry_part (place_at p (Records key)) z h = tt
-entry_part (place_at p (Request point)) z h = tt
-entry_part (place_at p (Token vertex)) z h = tt
-entry_part (place_at p (State vertex key)) z h = tt
-entry_part (place_at p (Sink key)) z h = tt
+  pub entries_pass : (Each (EntryStays s.processors) cs → ⊥) → HasLargeEntry t
+  unfolding after
+  entries_pass h =
+      let m = missed (EntryStays s.processors) (λ c. entry_test (place_of c) _) cs h in
+      large_entry t (place_of (change_at cs m.at)) (fails_then EntryAt s t cs reaches m.at no_change_at m.within (m.fails no_change_at))
 
-both_parts : (k : Place) (z : ℤ) → CountAt k z → EntryAt k z → IsWithinAt k z
-both_parts (place_at p (Records key)) z h g = h
-both_parts (place_at p (Sink key)) z h g = h
-both_parts (place_at p (Unsent point)) z h g = g
-both_parts (view_of q point) z h g = g
-both_parts (place_at p (Request point)) z h g = tt
-both_parts (place_at p (Token vertex)) z h g = tt
-both_parts (place_at p (State vertex key)) z h g = tt
+  pub counts_fit : Each (CountStays s.processors) cs → HasLargeCount t → ⊥
+  unfolding after
+  counts_fit h = small_counts t (holds_then CountAt s t cs reaches (counts_within s reaches.state) h)
 
-any_default : (qs : List ProcessorState) (i : ℕ) (d : ProcessorState) → i < length qs → get_or qs i idle ≡ get_or qs i d
-any_default [] i d lt = absurd (omega (arith, lt))
-any_default (q ∷ qs) zero d lt = refl
-any_default (q ∷ qs) (suc i) d lt = any_default qs i d (omega (arith, lt))
-
-pub both_stay : (s : ClusterState) (cs : List Change) → Each (CountStaysOf s.processors) cs → Each (EntryStaysOf s.processors) cs → Each (StaysWithin s) cs
-unfolding CountStaysOf EntryStaysOf
-both_stay s [] h g = tt
-both_stay s (c ∷ cs) h g = (both_parts (place_of c) _ h.0 g.0, both_stay s cs h.1 g.1)
-
-module _ (s : ClusterState) (cs : List Change) where
-  pub counts_pass : (Each (CountStaysOf s.processors) cs → ⊥) → (t : ClusterState) → Reaches s t cs → HasLargeCount t
-  unfolding CountStaysOf
-  counts_pass h t reaches =
-      let m = missed (CountStaysOf s.processors) (λ c. count_test (place_of c) _) cs h in
-      let d : Change = Sink 0 0 (pos 0) true in
-      large_count t (place_of (get_or cs m.at d)) (fails_then CountAt s t cs reaches m.at d m.within (m.fails d))
-
-  pub entries_pass : (Each (EntryStaysOf s.processors) cs → ⊥) → (t : ClusterState) → Reaches s t cs → HasLargeEntry t
-  unfolding EntryStaysOf
-  entries_pass h t reaches =
-      let m = missed (EntryStaysOf s.processors) (λ c. entry_test (place_of c) _) cs h in
-      let d : Change = Sink 0 0 (pos 0) true in
-      large_entry t (place_of (get_or cs m.at d)) (fails_then EntryAt s t cs reaches m.at d m.within (m.fails d))
-
-  pub counts_fit : Each (CountStaysOf s.processors) cs → (t : ClusterState) → Reaches s t cs → HasLargeCount t → ⊥
-  unfolding CountStaysOf
-  counts_fit h t reaches = small_counts t (holds_then CountAt s t cs reaches (λ k. count_part k (standing s k) (limits_of s reaches.within k)) h)
-
-  pub entries_fit : Each (EntryStaysOf s.processors) cs → (t : ClusterState) → Reaches s t cs → HasLargeEntry t → ⊥
-  unfolding EntryStaysOf
-  entries_fit h t reaches = small_entries t (holds_then EntryAt s t cs reaches (λ k. entry_part k (standing s k) (limits_of s reaches.within k)) h)
-
-  -- the state that is reached is within the limits if each change leaves its place so
-  pub within_then : Each (StaysWithin s) cs → (t : ClusterState) → Reaches s t cs → IsWithinLimits t
-  within_then h t reaches =
-      let limits : Limits t = holds_then IsWithinAt s t cs reaches (limits_of s reaches.within) h in
-      record {
-        some = subst (λ n. 0 < n) (sym reaches.count) reaches.within.some;
-        few = subst (λ n. n ≤ max_processors) (sym reaches.count) reaches.within.few;
-        processors = λ i q lt. subst ProcessorIsWithin (any_default t.processors i q lt) (record {
-          records = λ k. limits (place_at i (Records k));
-          sinks = λ k. limits (place_at i (Sink k));
-          unsent = λ y. limits (place_at i (Unsent y));
-        });
-        views = subst (λ vs. All (λ c. (y : _) → unsigned_abs (in_change c y) ≤ max_count) vs) (sym reaches.views) reaches.within.views;
-        queues = subst (λ rows. All (λ row. All QueueIsWithin row) rows) (sym reaches.queues) reaches.within.queues;
-      }
+  pub entries_fit : Each (EntryStays s.processors) cs → HasLargeEntry t → ⊥
+  unfolding after
+  entries_fit h = small_entries t (holds_then EntryAt s t cs reaches (entries_within s reaches.state) h)

@@ -271,7 +271,7 @@ pub may_stand : (s : ClusterState) (k : Place) → MayStand k (standing s k)
 may_stand s (place_at p l) = may_be (processor s p) l
 may_stand s (view_of q point) = tt
 
-idle_stands : (l : Slot) → stands idle l ≡ pos 0
+pub idle_stands : (l : Slot) → stands idle l ≡ pos 0
 idle_stands (Records key) = ap pos (at-none value_at_cmp naturals key)
 idle_stands (Request point) = ap from_request (get-empty point_cmp point)
 idle_stands (Token vertex) = ap from_epoch (get-empty nat_cmp vertex)

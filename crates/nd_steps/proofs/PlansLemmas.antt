@@ -1,127 +1,75 @@
--- A list of changes in which no place stands twice can be run, in the order of their kinds, and leads where its sums say.
-use Rattle.std.proofs.Common.{◌≡◌, ◌≢◌, ◌<◌, ◌≤◌, ◌+◌, ◌-◌, ◌⊎◌, ℕ, zero, suc, ℤ, pos, negsuc, ◌+ℤ◌, ◌-ℤ◌, Bool, true, false, cond, List, [], ◌∷◌, ◌++◌, take, length, get_or, nat_eq, T, Option, Some, None, is_some, refl, sym, ap, subst, ◌∙◌, arith, inl, inr, true≢false}
+-- A list of changes in which no place stands twice can be run, if nothing is taken out before the last is put in, and leads where its sums say.
+use Rattle.std.proofs.Common.{◌≡◌, ◌≢◌, ◌<◌, ◌≤◌, ◌+◌, ◌⊎◌, ℕ, zero, suc, ℤ, pos, ◌+ℤ◌, ◌-ℤ◌, Bool, true, false, cond, List, [], ◌∷◌, take, length, get_or, T, Option, Some, None, is_some, refl, sym, ap, subst, ◌∙◌, arith, inl, inr, true≢false}
 use Rattle.std.proofs.lemmas.Int.{ints}
-use Rattle.std.proofs.lemmas.List.{take_more, take_all, get_or_append_left, get_or-append_right, length-append}
-use Rattle.std.proofs.lemmas.Bool.Decides.{nat_tests}
+use Rattle.std.proofs.lemmas.List.{take_more, take_all}
 use Rattle.std.proofs.lemmas.Map.Views.{tells_apart}
 use Rattle.std.specs.Ordering.{eq_by_cmp}
 use Rattle.std.specs.FinMap.{find, is_sorted}
 use Rattle.std.specs.FinMap.Entries.{put, is_sorted-put, find-put, length-put}
+use Rattle.nd_map.specs.Cases.{zero_or_not}
 use Rattle.nd_map.specs.Counts.{or_else, integers, entries, of_entries, at-of_entries, entries-of_entries, same, size}
-use Rattle.nd_vertex.specs.Table.{is_zero}
 use Rattle.nd_protocol.specs.State.{ClusterState}
-use Rattle.nd_protocol.specs.Fitting.{IsWithinLimits}
 use Rattle.nd_steps.specs.Places.{Place, place_cmp, place_total, place_exact}
-use Rattle.nd_steps.specs.Standing.{standing, IsThere, MayStand, IsWithinAt, difference}
-use Rattle.nd_steps.specs.Changes.{place_of, gain_of, made, FindsOld, NamesNumbers, Fits, Finds, applied, state_at, IsRunnable}
+use Rattle.nd_steps.specs.Alike.{same_key}
+use Rattle.nd_steps.specs.Slots.{SlotMay}
+use Rattle.nd_steps.specs.Standing.{standing, IsThere, difference}
+use Rattle.nd_steps.specs.Changes.{place_of, made, Fits, Finds, applied, state_at, IsRunnable}
 use Rattle.nd_steps.specs.Totals.{total_at, edits_of}
-use Rattle.nd_steps.specs.Plans.{often, Once, Each, IsSmallGain, Reaches, kind_by, kind, of_kind, ordered, LeadsTo}
+use Rattle.nd_steps.specs.Limits.{after, CountStays, EntryStays}
+use Rattle.nd_steps.specs.Plans.{often, Once, Each, StaysRanged, Reaches, LeadsTo}
+use Rattle.nd_steps.specs.Turns.{IsInOrder}
+use Rattle.nd_steps.specs.Undone.{IsGain, no_change_at}
+use Rattle.nd_steps.specs.Appended.{total-append}
 use Rattle.nd_steps.specs.declared.change.Change.{Change}
 use Rattle.nd_steps.proofs.PlacesLemmas.{SameShape, shape-turned, shape-through, there_alike, there_where, same_state, may_stand}
-use Rattle.nd_steps.specs.Alike.{same_key}
 use Rattle.nd_steps.proofs.CountedLemmas.{queues_same}
 use Rattle.nd_steps.proofs.StandingLemmas.{at-difference}
-use Rattle.nd_steps.proofs.RunsLemmas.{shape-applied, landed, moved_by, state_none, state_more, all_made, limits_of}
-use Rattle.nd_steps.specs.Appended.{often-append, total-append, each-append}
-use Rattle.nd_steps.proofs.EachLemmas.{total, often-picked, total-picked, each_at, each_take, each_picked, each_from, each_through, not_there, rest_none, never_added, often_before, gain_alone, untouched, fits_moved}
-use Rattle.nd_map.specs.Cases.{zero_or_not}
+use Rattle.nd_steps.proofs.RunsLemmas.{shape-applied, landed, moved_by, state_none, state_more, all_made}
+use Rattle.nd_steps.proofs.EachLemmas.{total, each_at, each_take, each_from, each_through, each_moved, often_moved, total_moved, not_there, rest_none, never_added, often_before, gain_alone, untouched, fits_moved}
+use Rattle.nd_steps.proofs.LimitsLemmas.{slot_within}
 
 -- changes that reach a state keep the shape
 shape_of : (s t : ClusterState) (cs : List Change) → Reaches s t cs → SameShape s t
 shape_of s t cs h = record { graph = sym h.graph; processors = sym h.count; items = λ p. sym (h.items p); views = ap length (sym h.views); queues = sym h.queues }
 
--- ---- the kinds
-
-zero_is : (z : ℤ) → is_zero z ≡ true → z ≡ pos 0
-zero_is (pos zero) e = refl
-zero_is (pos (suc n)) e = absurd (true≢false (sym e))
-zero_is (negsuc n) e = absurd (true≢false (sym e))
-
-zero_not : (z : ℤ) → is_zero z ≡ false → z ≢ pos 0
-zero_not z e h = absurd (true≢false (ap is_zero (sym h) ∙ e))
-
-kind_low : (a b : Bool) → kind_by a b ≤ 2
-kind_low true b = omega arith
-kind_low false true = omega arith
-kind_low false false = omega arith
-
-first_by : (x : ℤ) (a b : Bool) → is_zero x ≡ a → kind_by a b ≡ 0 → x ≡ pos 0
-first_by x true b t h = zero_is x t
-first_by x false true t h = absurd (omega (arith, h))
-first_by x false false t h = absurd (omega (arith, h))
-
-second_by : (y : ℤ) (a b : Bool) → is_zero y ≡ b → kind_by a b ≡ 1 → y ≢ pos 0
-second_by y true b t h = absurd (omega (arith, h))
-second_by y false true t h = absurd (omega (arith, h))
-second_by y false false t h = zero_not y t
-
-third_by : (x : ℤ) (a b : Bool) → is_zero x ≡ a → kind_by a b ≡ 2 → x ≢ pos 0
-third_by x true b t h = absurd (omega (arith, h))
-third_by x false b t h = zero_not x t
-
-eq_is : (m n : ℕ) → nat_eq m n ≡ true → m ≡ n
-eq_is m n e = grind (arith, nat_tests, e)
-
-abbrev before_of : ClusterState → Change → ℤ
-before_of s c = standing s (place_of c)
-
-abbrev after_of : ClusterState → Change → ℤ
-after_of s c = standing s (place_of c) +ℤ c.n
-
-no_more : (x g : ℤ) → x ≡ pos 0 → x +ℤ g ≡ pos 0 → g ≡ pos 0
-no_more x g e h = omega (arith, ints, e, h)
-
-module _ (s : ClusterState) (all : List Change) (some : Each (λ c. c.n ≢ pos 0) all) where
-  -- a change of the first kind puts something where nothing stands
-  leave_first : Each (λ c. after_of s c ≢ pos 0) (of_kind s 0 all)
-  leave_first = each_picked (λ c. c.n ≢ pos 0) (λ c. after_of s c ≢ pos 0) (λ c. nat_eq (kind s c) 0)
-      (λ c t n e. n (no_more (before_of s c) (c.n) (first_by (before_of s c) (is_zero (before_of s c)) (is_zero (after_of s c)) refl (eq_is (kind s c) 0 t)) e)) all some
-
-  leave_second : Each (λ c. after_of s c ≢ pos 0) (of_kind s 1 all)
-  leave_second = each_picked (λ c. c.n ≢ pos 0) (λ c. after_of s c ≢ pos 0) (λ c. nat_eq (kind s c) 1)
-      (λ c t n. second_by (after_of s c) (is_zero (before_of s c)) (is_zero (after_of s c)) refl (eq_is (kind s c) 1 t)) all some
-
-  find_third : Each (λ c. before_of s c ≢ pos 0) (of_kind s 2 all)
-  find_third = each_picked (λ c. c.n ≢ pos 0) (λ c. before_of s c ≢ pos 0) (λ c. nat_eq (kind s c) 2)
-      (λ c t n. third_by (before_of s c) (is_zero (before_of s c)) (is_zero (after_of s c)) refl (eq_is (kind s c) 2 t)) all some
-
 -- ---- a list that can be run
 
-module _ (s : ClusterState) (front tail : List Change) (once : Once (front ++ tail)) (fit : Each (Fits s) (front ++ tail))
-    (leave : Each (λ c. after_of s c ≢ pos 0) front) (find : Each (λ c. before_of s c ≢ pos 0) tail) where
-  fits_at : (k : ℕ) (d : Change) → k < length (front ++ tail) → Fits s (get_or (front ++ tail) k d)
-  fits_at k d lt = each_at (Fits s) (front ++ tail) k d fit lt
+after_is : (s : ClusterState) (c : Change) → after s.processors c ≡ standing s (place_of c) +ℤ c.n
+unfolding after
+after_is s c = refl
 
-  untouched_at : (k : ℕ) (d : Change) → k < length (front ++ tail) → standing (state_at s (front ++ tail) k) (place_of (get_or (front ++ tail) k d)) ≡ standing s (place_of (get_or (front ++ tail) k d))
-  unfolding state_at
-  untouched_at k d lt =
-      untouched s (take k (front ++ tail)) (place_of (get_or (front ++ tail) k d))
-      (each_take (λ c. IsThere s (place_of c)) (front ++ tail) k (each_through (Fits s) (λ c. IsThere s (place_of c)) (λ c h. (h.owner, h.inside.there)) (front ++ tail) fit))
-      (often_before (front ++ tail) once k d lt)
+none_left : (x n z : ℤ) → z ≡ x +ℤ n → z ≡ pos 0 → x ≡ pos 0 → n ≡ pos 0
+none_left x n z e f g = omega (arith, ints, e, f, g)
 
-  shape_at : (k : ℕ) → SameShape (state_at s (front ++ tail) k) s
-  unfolding state_at
-  shape_at k = shape-applied s (take k (front ++ tail))
+module _ (s : ClusterState) (all cs : List Change) (once : Once cs) (fit : Each (Fits s) cs) (order : IsInOrder s.processors all cs) where
+  module _ (k : ℕ) (d : Change) (lt : k < length cs) where
+    abbrev at : Change
+    at = get_or cs k d
 
-  fits_in_turn : (k : ℕ) (d : Change) → k < length (front ++ tail) → Fits (state_at s (front ++ tail) k) (get_or (front ++ tail) k d)
-  fits_in_turn k d lt = fits_moved s (state_at s (front ++ tail) k) (get_or (front ++ tail) k d) (shape_at k) (untouched_at k d lt) (fits_at k d lt)
+    fits_at : Fits s at
+    fits_at = each_at (Fits s) cs k d fit lt
 
-  leaves_in_turn : (k : ℕ) (d : Change) → k < length (front ++ tail) → k < length front → Finds (state_at s (front ++ tail) (k + 1)) (get_or (front ++ tail) k d)
-  leaves_in_turn k d lt first z =
-      let c = get_or (front ++ tail) k d in
-      let here : c ≡ get_or front k d = get_or_append_left front tail d k first in
-      let e : standing (state_at s (front ++ tail) (k + 1)) (place_of c) ≡ after_of s c
-      = ap (λ t. standing t (place_of c)) (state_more s (front ++ tail) k d lt) ∙ landed (state_at s (front ++ tail) k) c (fits_in_turn k d lt) ∙ ap (λ x. x +ℤ c.n) (untouched_at k d lt) in
-      subst (λ x. after_of s x ≢ pos 0) (sym here) (each_at (λ x. after_of s x ≢ pos 0) front k d leave first) (sym e ∙ z)
+    untouched_at : standing (state_at s cs k) (place_of at) ≡ standing s (place_of at)
+    unfolding state_at
+    untouched_at =
+        untouched s (take k cs) (place_of at)
+        (each_take (λ c. IsThere s (place_of c)) cs k (each_through (Fits s) (λ c. IsThere s (place_of c)) (λ c h. (h.owner, h.inside.there)) cs fit))
+        (often_before cs once k d lt)
 
-  finds_in_turn : (k : ℕ) (d : Change) → k < length (front ++ tail) → length front ≤ k → Finds (state_at s (front ++ tail) k) (get_or (front ++ tail) k d)
-  finds_in_turn k d lt past z =
-      let there : k - length front < length tail = omega (arith, past, lt, length-append front tail) in
-      subst (λ x. before_of s x ≢ pos 0) (sym (get_or-append_right front tail (length front) k d refl past))
-      (each_at (λ x. before_of s x ≢ pos 0) tail (k - length front) d find there) (sym (untouched_at k d lt) ∙ z)
+    fits_in_turn : Fits (state_at s cs k) at
+    unfolding state_at
+    fits_in_turn = fits_moved s (state_at s cs k) at (shape-applied s (take k cs)) untouched_at fits_at
 
-  pub runnable : IsRunnable s (front ++ tail)
-  runnable = record { turn = length front; fits = fits_in_turn; leaves = leaves_in_turn; finds = finds_in_turn }
+    leaves_in_turn : k < order.turn → Finds (state_at s cs (k + 1)) at
+    leaves_in_turn first none =
+        order.leaves k d lt first
+        (after_is s at ∙ ap (λ z. z +ℤ at.n) (sym untouched_at) ∙ sym (landed (state_at s cs k) at fits_in_turn) ∙ ap (λ t. standing t (place_of at)) (sym (state_more s cs k d lt)) ∙ none)
+
+    finds_in_turn : order.turn ≤ k → Finds (state_at s cs k) at
+    finds_in_turn past none = fits_at.inside.some (none_left (standing s (place_of at)) at.n (after s.processors at) (after_is s at) (order.goes k d lt past) (sym untouched_at ∙ none))
+
+  pub runnable : IsRunnable s cs
+  runnable = record { turn = order.turn; fits = fits_in_turn; leaves = leaves_in_turn; finds = finds_in_turn }
 
 -- ---- where the run leads
 
@@ -143,21 +91,18 @@ moved_more t k c fits =
     moved_by t c k fits
     ∙ by_key (eq_by_cmp place_cmp k (place_of c)) (standing t k) (standing t (place_of c)) (c.n) (λ e. ap (standing t) (sym (tells_apart place_exact k (place_of c) e)))
 
-some_change : Change
-some_change = Sink 0 0 (pos 0) true
-
 moved_at : (s : ClusterState) (cs : List Change) (runs : IsRunnable s cs) (j : Place) (k : ℕ) → k ≤ length cs → standing (state_at s cs k) j ≡ standing s j +ℤ total j (take k cs)
 moved_at s cs runs j zero h = ap (λ t. standing t j) (state_none s cs) ∙ sym (plus_none (standing s j))
 moved_at s cs runs j (suc k) h =
     let lt : k < length cs = omega (arith, h) in
-    let c = get_or cs k some_change in
+    let c = get_or cs k no_change_at in
     let t = state_at s cs k in
     let more : suc k ≡ k + 1 = omega arith in
     let ih : standing t j ≡ standing s j +ℤ total j (take k cs) = moved_at s cs runs j k (omega (arith, h)) in
     let a : standing (state_at s cs (suc k)) j ≡ standing t j +ℤ cond (eq_by_cmp place_cmp j (place_of c)) (c.n) (pos 0)
-    = ap (λ i. standing (state_at s cs i) j) more ∙ ap (λ u. standing u j) (state_more s cs k some_change lt) ∙ moved_more t j c (runs.fits k some_change lt) in
+    = ap (λ i. standing (state_at s cs i) j) more ∙ ap (λ u. standing u j) (state_more s cs k no_change_at lt) ∙ moved_more t j c (runs.fits k no_change_at lt) in
     let b : total j (take (suc k) cs) ≡ total j (take k cs) +ℤ (cond (eq_by_cmp place_cmp j (place_of c)) (c.n) (pos 0) +ℤ pos 0)
-    = ap (λ i. total j (take i cs)) more ∙ ap (total j) (take_more cs k some_change lt) ∙ total-append j (take k cs) (c ∷ []) in
+    = ap (λ i. total j (take i cs)) more ∙ ap (total j) (take_more cs k no_change_at lt) ∙ total-append j (take k cs) (c ∷ []) in
     a ∙ ap (λ x. x +ℤ cond (eq_by_cmp place_cmp j (place_of c)) (c.n) (pos 0)) ih ∙ plus_by (standing s j) (total j (take k cs)) _ ∙ ap (λ x. standing s j +ℤ x) (sym b)
 
 pub moved : (s : ClusterState) (cs : List Change) → IsRunnable s cs → (j : Place) → standing (applied s cs) j ≡ standing s j +ℤ total_at (edits_of cs) j
@@ -246,93 +191,64 @@ as_many s t cs once some totals =
 
 -- ---- the plan
 
-module _ (s t : ClusterState) (cs : List Change) (joined : Reaches s t cs) where
-  module _ (k : ℕ) (d : Change) (lt : k < length cs) where
-    comes_to : standing t (place_of (get_or cs k d)) ≡ after_of s (get_or cs k d)
-    comes_to = joined.totals (place_of (get_or cs k d)) ∙ ap (λ z. standing s (place_of (get_or cs k d)) +ℤ z) (gain_alone cs joined.once k d lt)
-
-    there_by : (before_of s (get_or cs k d) ≡ pos 0) ⊎ (before_of s (get_or cs k d) ≢ pos 0) → IsThere s (place_of (get_or cs k d))
-    there_by (inr some) = there_where s (place_of (get_or cs k d)) some
-    there_by (inl none) =
-        there_alike t s (place_of (get_or cs k d)) (shape-turned s t (shape_of s t cs joined))
-        (there_where t (place_of (get_or cs k d)) (λ e. each_at (λ c. c.n ≢ pos 0) cs k d joined.some lt (no_more (before_of s (get_or cs k d)) (gain_of (get_or cs k d)) none (sym comes_to ∙ e))))
-
-    joined_fits : IsWithinLimits t → Fits s (get_or cs k d)
-    joined_fits within =
-        let there : IsThere s (place_of (get_or cs k d)) = there_by (zero_or_not (before_of s (get_or cs k d))) in
-        record {
-          owner = there.0;
-          inside = record {
-            there = there.1;
-            old = each_at (FindsOld s) cs k d joined.old lt;
-            numbers = each_at NamesNumbers cs k d joined.numbers lt;
-            may = subst (MayStand (place_of (get_or cs k d))) comes_to (may_stand t (place_of (get_or cs k d)));
-            within = subst (IsWithinAt (place_of (get_or cs k d))) comes_to (limits_of t within (place_of (get_or cs k d)));
-          };
-        }
-
+module _ (s t : ClusterState) (cs : List Change) (h : Reaches s t cs) where
   -- what the changes alter is there
-  pub each_there : Each (λ c. IsThere s (place_of c)) cs
-  each_there = each_from (λ c. IsThere s (place_of c)) cs (λ k d lt. there_by k d lt (zero_or_not (before_of s (get_or cs k d))))
+  pub there_by : (k : ℕ) (d : Change) → k < length cs → IsThere s (place_of (get_or cs k d))
+  there_by k d lt =
+      let c : Change = get_or cs k d in
+      let then : standing t (place_of c) ≡ standing s (place_of c) +ℤ c.n = h.totals (place_of c) ∙ ap (λ z. standing s (place_of c) +ℤ z) (gain_alone cs h.once k d lt) in
+      elim (zero_or_not (standing s (place_of c))) [
+        | inr some ↦ there_where s (place_of c) some
+        | inl none ↦
+            there_alike t s (place_of c) (shape-turned s t (shape_of s t cs h))
+            (there_where t (place_of c) (λ e. each_at (λ c. c.n ≢ pos 0) cs k d h.some lt (none_left (standing s (place_of c)) c.n (standing t (place_of c)) then e none)))
+      ]
 
-module _ (s t : ClusterState) (all : List Change) (joined : Reaches s t all) where
-  low : (c : Change) → kind s c ≤ 2
-  low c = kind_low (is_zero (before_of s c)) (is_zero (after_of s c))
+  each_fits : Each (CountStays s.processors) cs → Each (EntryStays s.processors) cs → Each (Fits s) cs
+  unfolding after
+  each_fits counts entries = each_from (Fits s) cs (λ k d lt.
+      let c : Change = get_or cs k d in
+      let there = there_by k d lt in
+      let then : standing t (place_of c) ≡ standing s (place_of c) +ℤ c.n = h.totals (place_of c) ∙ ap (λ z. standing s (place_of c) +ℤ z) (gain_alone cs h.once k d lt) in
+      record {
+        owner = there.0;
+        inside = record {
+          there = there.1;
+          some = each_at (λ c. c.n ≢ pos 0) cs k d h.some lt;
+          before = slot_within s h.state c.p c.slot;
+          may = subst (SlotMay c.slot) then (may_stand t (place_of c));
+          within = record {
+            count = each_at (CountStays s.processors) cs k d counts lt;
+            entry = each_at (EntryStays s.processors) cs k d entries lt;
+            ranged = each_at (StaysRanged s) cs k d h.ranged lt;
+          };
+        };
+      })
 
-  ordered_each : (P : Change → Type 0) → Each P all → Each P (ordered s all)
-  ordered_each P h =
-      each-append P (of_kind s 0 all ++ of_kind s 1 all) (of_kind s 2 all)
-      (each-append P (of_kind s 0 all) (of_kind s 1 all) (each_picked P P (λ c. nat_eq (kind s c) 0) (λ c t h. h) all h) (each_picked P P (λ c. nat_eq (kind s c) 1) (λ c t h. h) all h))
-      (each_picked P P (λ c. nat_eq (kind s c) 2) (λ c t h. h) all h)
-
-  ordered_often : (k : Place) → often k (ordered s all) ≡ often k all
-  ordered_often k =
-      let a = often-append k (of_kind s 0 all ++ of_kind s 1 all) (of_kind s 2 all) in
-      let b = often-append k (of_kind s 0 all) (of_kind s 1 all) in
-      let e = often-picked (kind s) low k all in
-      a ∙ ap (λ n. n + often k (of_kind s 2 all)) b ∙ summed (often k (of_kind s 0 all)) (often k (of_kind s 1 all)) (often k (of_kind s 2 all)) ∙ e
-    where
-      summed : (x y z : ℕ) → x + y + z ≡ x + (y + z)
-      summed x y z = omega arith
-
-  ordered_total : (k : Place) → total k (ordered s all) ≡ total k all
-  ordered_total k =
-      let a = total-append k (of_kind s 0 all ++ of_kind s 1 all) (of_kind s 2 all) in
-      let b = total-append k (of_kind s 0 all) (of_kind s 1 all) in
-      let e = total-picked (kind s) low k all in
-      a ∙ ap (λ n. n +ℤ total k (of_kind s 2 all)) b ∙ summed (total k (of_kind s 0 all)) (total k (of_kind s 1 all)) (total k (of_kind s 2 all)) ∙ e
-    where
-      summed : (x y z : ℤ) → (x +ℤ y) +ℤ z ≡ x +ℤ (y +ℤ z)
-      summed x y z = omega (arith, ints)
-
-  ordered_joined : Reaches s t (ordered s all)
-  ordered_joined = record {
-    within = joined.within;
-    graph = joined.graph;
-    views = joined.views;
-    queues = joined.queues;
-    count = joined.count;
-    items = joined.items;
-    small = ordered_each IsSmallGain joined.small;
-    once = λ k. subst (λ n. n ≤ 1) (sym (ordered_often k)) (joined.once k);
-    some = ordered_each (λ c. c.n ≢ pos 0) joined.some;
-    old = ordered_each (FindsOld s) joined.old;
-    numbers = ordered_each NamesNumbers joined.numbers;
-    totals = λ k. joined.totals k ∙ ap (λ z. standing s k +ℤ z) (sym (ordered_total k));
+module _ (s t : ClusterState) (all cs : List Change) (h : Reaches s t all) (order : IsInOrder s.processors all cs) where
+  reaches_moved : Reaches s t cs
+  reaches_moved = record {
+    state = h.state;
+    graph = h.graph;
+    views = h.views;
+    queues = h.queues;
+    count = h.count;
+    items = h.items;
+    once = λ k. subst (λ n. n ≤ 1) (sym (often_moved k all cs order.same)) (h.once k);
+    some = each_moved (λ c. c.n ≢ pos 0) all cs order.same h.some;
+    small = each_moved (λ c. IsGain c.n) all cs order.same h.small;
+    ranged = each_moved (StaysRanged s) all cs order.same h.ranged;
+    totals = λ k. h.totals k ∙ ap (λ z. standing s k +ℤ z) (sym (total_moved k all cs order.same));
   }
 
-  ordered_runs : IsWithinLimits t → IsRunnable s (ordered s all)
-  ordered_runs within =
-      runnable s (of_kind s 0 all ++ of_kind s 1 all) (of_kind s 2 all) ordered_joined.once
-      (each_from (Fits s) (ordered s all) (λ k d lt. joined_fits s t (ordered s all) ordered_joined k d lt within))
-      (each-append (λ c. after_of s c ≢ pos 0) (of_kind s 0 all) (of_kind s 1 all) (leave_first s all joined.some) (leave_second s all joined.some))
-      (find_third s all joined.some)
-
-  -- the changes in the order of their kinds can be run, lead to t, and are as many as the places and queues at which it differs
-  pub planned : IsWithinLimits t → LeadsTo s t (ordered s all)
-  planned within = record {
-    runs = ordered_runs within;
-    arrives = same_state (applied s (ordered s all)) t (shape-through (applied s (ordered s all)) s t (shape-applied s (ordered s all)) (shape_of s t all joined))
-        (λ k. moved s (ordered s all) (ordered_runs within) k ∙ sym (ordered_joined.totals k));
-    small = (let keys = as_many s t (ordered s all) ordered_joined.once ordered_joined.some ordered_joined.totals in let ends = queues_same s t joined.queues in omega (arith, keys, ends));
-  }
+  -- the changes in order can be run, lead to t, and are as many as the places and queues at which it differs
+  pub planned : Each (CountStays s.processors) all → Each (EntryStays s.processors) all → LeadsTo s t cs
+  planned counts entries =
+      let now : Reaches s t cs = reaches_moved in
+      let runs : IsRunnable s cs
+      = runnable s all cs now.once (each_fits s t cs now (each_moved (CountStays s.processors) all cs order.same counts) (each_moved (EntryStays s.processors) all cs order.same entries)) order in
+      record {
+        runs = runs;
+        arrives = same_state (applied s cs) t (shape-through (applied s cs) s t (shape-applied s cs) (shape_of s t cs now)) (λ k. moved s cs runs k ∙ sym (now.totals k));
+        small = (let keys = as_many s t cs now.once now.some now.totals in let ends = queues_same s t now.queues in omega (arith, keys, ends));
+      }

@@ -1,38 +1,42 @@
 -- Changes that reach a state, in the processors that they are of.
-use Rattle.std.proofs.Common.{◌≡◌, ◌<◌, ℕ, List, ◌++◌, length, refl, sym, ap, subst, ◌∙◌}
+use Rattle.std.proofs.Common.{◌<◌, ℕ, List, length, sym, subst}
 use Rattle.nd_processor.specs.State.{ProcessorState}
 use Rattle.nd_protocol.specs.State.{ClusterState}
-use Rattle.nd_protocol.specs.Fitting.{IsWithinLimits}
-use Rattle.nd_steps.specs.Standing.{IsThere}
-use Rattle.nd_steps.specs.Changes.{owner_of, place_of, own, FindsIn}
-use Rattle.nd_steps.specs.Plans.{Each, ReachesIn, of_kind, ordered, LeadsTo}
-use Rattle.nd_steps.specs.Turns.{kind_of, of_turn}
+use Rattle.nd_protocol.specs.Enabled.{HasLargeCount, HasLargeEntry}
+use Rattle.nd_steps.specs.Limits.{CountStays, EntryStays}
+use Rattle.nd_steps.specs.Plans.{Each, Reaches, ReachesIn, LeadsTo}
+use Rattle.nd_steps.specs.Turns.{IsReadable, IsInOrder}
+use Rattle.nd_steps.specs.Undone.{IsGain}
 use Rattle.nd_steps.specs.declared.change.Change.{Change}
-use Rattle.nd_steps.proofs.EachLemmas.{each_through}
-use Rattle.nd_steps.proofs.PlansLemmas.{each_there, planned}
+use Rattle.nd_steps.proofs.EachLemmas.{each_at, each_from}
+use Rattle.nd_steps.proofs.LimitsLemmas.{counts_pass, entries_pass, counts_fit, entries_fit}
+use Rattle.nd_steps.proofs.PlansLemmas.{there_by, planned}
 
-turns : (s : ClusterState) (k : ℕ) (cs : List Change) → of_turn s.processors k cs ≡ of_kind s k cs
-unfolding kind_of
-turns s k cs = refl
+readable_in : (s t : ClusterState) (cs : List Change) → Reaches s t cs → Each (IsReadable s.processors) cs
+readable_in s t cs h = each_from (IsReadable s.processors) cs (λ k d lt.
+    let there = there_by s t cs h k d lt in
+    record { owner = there.0; there = there.1; small = each_at (λ c. IsGain c.n) cs k d h.small lt })
 
-module _ (ps : List ProcessorState) (s t : ClusterState) (cs : List Change) (h : ReachesIn ps s t cs) where
-  -- their processors are there, and they find what they name
-  pub owners_there : Each (λ c. c.p < length ps) cs
-  owners_there = subst (λ qs. Each (λ c. c.p < length qs) cs) h.0 (each_through (λ c. IsThere s (place_of c)) (λ c. c.p < length s.processors) (λ c there. there.0) cs (each_there s t cs h.1))
+module _ (ps : List ProcessorState) (s t : ClusterState) (all : List Change) (h : ReachesIn ps s t all) where
+  pub readable : Each (IsReadable ps) all
+  readable = subst (λ qs. Each (IsReadable qs) all) h.0 (readable_in s t all h.1)
 
-  pub all_find : Each (λ c. FindsIn (own ps c) c) cs
-  all_find = subst (λ qs. Each (λ c. FindsIn (own qs c) c) cs) h.0 h.1.old
+  -- what holds of the changes in the processors holds in the state
+  in_state : (P : List ProcessorState → Type 0) → P ps → P s.processors
+  in_state P x = subst P (sym h.0) x
 
-  -- what holds of them in the state holds in the processors, and the other way round
-  pub in_state : (P : List ProcessorState → Change → Type 0) → Each (P ps) cs → Each (P s.processors) cs
-  in_state P all = subst (λ qs. Each (P qs) cs) (sym h.0) all
+  pub too_many : (Each (CountStays ps) all → ⊥) → HasLargeCount t
+  too_many fails = counts_pass s all t h.1 (in_state (λ qs. Each (CountStays qs) all → ⊥) fails)
 
-  pub in_list : (P : List ProcessorState → Change → Type 0) → Each (P s.processors) cs → Each (P ps) cs
-  in_list P all = subst (λ qs. Each (P qs) cs) h.0 all
+  pub too_much : (Each (EntryStays ps) all → ⊥) → HasLargeEntry t
+  too_much fails = entries_pass s all t h.1 (in_state (λ qs. Each (EntryStays qs) all → ⊥) fails)
 
-  same_order : (of_turn ps 0 cs ++ of_turn ps 1 cs) ++ of_turn ps 2 cs ≡ ordered s cs
-  same_order = ap (λ qs. (of_turn qs 0 cs ++ of_turn qs 1 cs) ++ of_turn qs 2 cs) (sym h.0) ∙ (λ i. (turns s 0 cs i ++ turns s 1 cs i) ++ turns s 2 cs i)
+  pub few_enough : Each (CountStays ps) all → HasLargeCount t → ⊥
+  few_enough each = counts_fit s all t h.1 (in_state (λ qs. Each (CountStays qs) all) each)
 
-  -- the changes in the order of their turns
-  pub leads_in : (ds : List Change) → ds ≡ (of_turn ps 0 cs ++ of_turn ps 1 cs) ++ of_turn ps 2 cs → IsWithinLimits t → LeadsTo s t ds
-  leads_in ds is within = subst (LeadsTo s t) (sym (is ∙ same_order)) (planned s t cs h.1 within)
+  pub little_enough : Each (EntryStays ps) all → HasLargeEntry t → ⊥
+  little_enough each = entries_fit s all t h.1 (in_state (λ qs. Each (EntryStays qs) all) each)
+
+  pub leads : (cs : List Change) → IsInOrder ps all cs → Each (CountStays ps) all → Each (EntryStays ps) all → LeadsTo s t cs
+  leads cs order counts entries =
+      planned s t all cs h.1 (in_state (λ qs. IsInOrder qs all cs) order) (in_state (λ qs. Each (CountStays qs) all) counts) (in_state (λ qs. Each (EntryStays qs) all) entries)

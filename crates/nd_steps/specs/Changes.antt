@@ -1,5 +1,5 @@
 -- Changes one after the other: what each makes of a cluster's state, and when a list of them can be made.
-use Rattle.std.specs.Prelude.{◌≡◌, ◌≢◌, ◌<◌, ◌≤◌, ◌+◌, ℕ, pos, neg_ℤ, ◌+ℤ◌, List, [], ◌∷◌, take, length, slice_index_or}
+use Rattle.std.specs.Prelude.{◌≡◌, ◌≢◌, ◌<◌, ◌≤◌, ◌+◌, ℕ, ℤ, pos, neg_ℤ, ◌+ℤ◌, List, [], ◌∷◌, take, length, slice_index_or}
 use Rattle.std.proofs.Common.{get_or}
 use Rattle.nd_processor.specs.State.{ProcessorState, idle}
 use Rattle.nd_protocol.specs.State.{ClusterState, processor}
@@ -7,6 +7,7 @@ use Rattle.nd_steps.specs.Places.{Place, place_at}
 use Rattle.nd_steps.specs.Slots.{stands, puts, SlotIsThere, SlotMay, SlotWithin}
 use Rattle.nd_steps.specs.Standing.{standing, put_at}
 use Rattle.nd_steps.specs.declared.change.Change.{Change}
+use Rattle.nd_steps.specs.declared.slot.Slot.{Slot}
 
 -- where in the cluster a change is
 abbrev pub place_of : Change → Place
@@ -20,25 +21,26 @@ own processors c = slice_index_or processors c.p idle
 abbrev pub inverse : Change → Change
 inverse c = record c { n = neg_ℤ c.n }
 
--- the processor after a change, and the state
-abbrev pub made_in : ProcessorState → Change → ProcessorState
-made_in q c = puts q c.slot (stands q c.slot +ℤ c.n)
+-- the processor with so much more at a key
+abbrev pub made_in : ProcessorState → Slot → ℤ → ProcessorState
+made_in q l n = puts q l (stands q l +ℤ n)
 
+-- the state after a change
 abbrev pub made : ClusterState → Change → ClusterState
 made s c = put_at s (place_of c) (standing s (place_of c) +ℤ c.n)
 
--- a change may be made in a processor: it changes something, and what stands at its key is within the limits before it and after it
-pub record FitsIn (q : ProcessorState) (c : Change) : Type 0 where
-  pub there : SlotIsThere q c.slot
-  pub some : c.n ≢ pos 0
-  pub before : SlotWithin c.slot (stands q c.slot)
-  pub may : SlotMay c.slot (stands q c.slot +ℤ c.n)
-  pub within : SlotWithin c.slot (stands q c.slot +ℤ c.n)
+-- so much more may stand at a key: something more or less, and what stands there is within its limit before and after
+pub record FitsIn (q : ProcessorState) (l : Slot) (n : ℤ) : Type 0 where
+  pub there : SlotIsThere q l
+  pub some : n ≢ pos 0
+  pub before : SlotWithin l (stands q l)
+  pub may : SlotMay l (stands q l +ℤ n)
+  pub within : SlotWithin l (stands q l +ℤ n)
 
 -- it may be made in this state
 pub record Fits (s : ClusterState) (c : Change) : Type 0 where
   pub owner : c.p < length s.processors
-  pub inside : FitsIn (processor s c.p) c
+  pub inside : FitsIn (processor s c.p) c.slot c.n
 
 -- something stands at the place of the change
 abbrev pub Finds : ClusterState → Change → Type 0

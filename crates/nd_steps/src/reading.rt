@@ -1,10 +1,11 @@
 //! What stands at a key, and what is read of a change before it is made: whether it leaves something at its place, and
 //! whether this is within its limit (this project's own rule).
-ghost use Rattle.std.specs.Prelude.{◌≡◌, ◌≢◌, ◌↔◌, ◌≤◌, ◌<◌, ◌^◌, IsTrue, pos, unsigned_abs};
-ghost use Rattle.nd_steps.specs.Slots.{stands, SlotIsThere};
+ghost use Rattle.std.specs.Prelude.{◌≡◌, ◌≢◌, ◌↔◌, ◌≤◌, ◌^◌, IsTrue, pos, unsigned_abs};
+ghost use Rattle.nd_steps.specs.Slots.{stands, SlotIsThere, CountWithin, EntryWithin};
 ghost use Rattle.nd_steps.specs.Limits.{after, CountStays, EntryStays};
 ghost use Rattle.nd_steps.specs.Turns.{IsReadable};
 
+use crate::making::epoch_number;
 use crate::{Change, Slot};
 use nd_delta::LIMIT;
 use nd_processor::Processor;
@@ -19,10 +20,7 @@ fn number_at<A: Allocator + Copy>(processor: &Processor<A>, slot: &Slot) -> i128
     match slot {
         Slot::Records(key) => i128::from(processor.count_of(key)),
         Slot::Request(point) => i128::from(processor.has_request(point)),
-        Slot::Token(vertex) => match processor.token(*vertex) {
-            None => 0,
-            Some(epoch) => i128::from(epoch) + 1,
-        },
+        Slot::Token(vertex) => epoch_number(processor.token(*vertex)),
         Slot::State { vertex, key } => {
             let number = processor.vertex_state(*vertex).get(&key.time, key.item);
             i128::from(number.unwrap_or(0))
@@ -43,6 +41,33 @@ pub(crate) struct Reading {
     pub(crate) entry_stays: bool,
 }
 
+// What is read of a change that leaves this number at a key.
+fn reading_after(slot: &Slot, after: i128) -> Reading
+    ensures leaves { IsTrue result.leaves ↔ (after ≢ pos 0) }
+    ensures count { IsTrue result.count_stays ↔ CountWithin slot.now after }
+    ensures entry { IsTrue result.entry_stays ↔ EntryWithin slot.now after }
+{
+    let leaves = after != 0;
+    let stays = after.unsigned_abs() <= LIMIT as u128;
+    match slot {
+        Slot::Records(_) | Slot::Sink(_) => Reading {
+            leaves,
+            count_stays: stays,
+            entry_stays: true,
+        },
+        Slot::Unsent(_) => Reading {
+            leaves,
+            count_stays: true,
+            entry_stays: stays,
+        },
+        Slot::Request(_) | Slot::Token(_) | Slot::State { .. } => Reading {
+            leaves,
+            count_stays: true,
+            entry_stays: true,
+        },
+    }
+}
+
 // What is read of a change in the processor that it is of.
 pub(crate) fn reading_of<A: Allocator + Copy>(
     processors: &[Processor<A>],
@@ -53,13 +78,6 @@ pub(crate) fn reading_of<A: Allocator + Copy>(
     ensures count { IsTrue result.count_stays ↔ CountStays processors.now change.now }
     ensures entry { IsTrue result.entry_stays ↔ EntryStays processors.now change.now }
 {
-    let after = number_at(&processors[change.p as usize], &change.slot) + change.n;
-    let is_small = after.unsigned_abs() <= LIMIT as u128;
-    let is_count = matches!(change.slot, Slot::Records(_) | Slot::Sink(_));
-    let is_entry = matches!(change.slot, Slot::Unsent(_));
-    Reading {
-        leaves: after != 0,
-        count_stays: is_small || !is_count,
-        entry_stays: is_small || !is_entry,
-    }
+    let before = number_at(&processors[change.p as usize], &change.slot);
+    reading_after(&change.slot, before + change.n)
 }
