@@ -18,6 +18,7 @@ use Rattle.nd_steps.specs.Totals.{total_at, edits_of}
 use Rattle.nd_steps.specs.Plans.{often, Once, Each}
 use Rattle.nd_steps.specs.Appended.{often-append, total-append}
 use Rattle.nd_steps.specs.declared.change.Change.{Change}
+use Rattle.nd_steps.specs.declared.slot.Slot.TheVariants.{Token}
 use Rattle.nd_steps.proofs.PlacesLemmas.{SameShape, shape-turned, there_alike, standing-put_other}
 use Rattle.nd_steps.proofs.RunsLemmas.{shape-made}
 
@@ -45,6 +46,10 @@ each_from P (c ∷ cs) h = (h 0 c (omega arith), each_from P cs (λ k d lt. h (s
 pub each_through : (P Q : Change → Type 0) → ((c : Change) → P c → Q c) → (cs : List Change) → Each P cs → Each Q cs
 each_through P Q imp [] h = tt
 each_through P Q imp (c ∷ cs) h = (imp c h.0, each_through P Q imp cs h.1)
+
+-- a change that stands for none
+abbrev pub no_change : Change
+no_change = record { p = 0; slot = Token 0; n = pos 0 }
 
 -- ---- the same changes in another order
 

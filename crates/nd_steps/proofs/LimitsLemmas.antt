@@ -25,11 +25,10 @@ use Rattle.nd_steps.specs.Standing.{standing, CountAt, EntryAt}
 use Rattle.nd_steps.specs.Changes.{place_of}
 use Rattle.nd_steps.specs.Totals.{total_at, edits_of}
 use Rattle.nd_steps.specs.Plans.{often, Each, Reaches}
-use Rattle.nd_steps.specs.Undone.{no_change_at, change_at}
 use Rattle.nd_steps.specs.Limits.{after, CountStays, EntryStays}
 use Rattle.nd_steps.specs.declared.change.Change.{Change}
 use Rattle.nd_steps.proofs.PlacesLemmas.{idle_stands}
-use Rattle.nd_steps.proofs.EachLemmas.{never_added, gain_alone}
+use Rattle.nd_steps.proofs.EachLemmas.{no_change as nothing, never_added, gain_alone}
 
 -- ---- a property of what stands at a place, in a state that changes reach
 
@@ -202,13 +201,13 @@ module _ (s : ClusterState) (cs : List Change) (t : ClusterState) (reaches : Rea
   unfolding after
   counts_pass h =
       let m = missed (CountStays s.processors) (λ c. count_test (place_of c) _) cs h in
-      large_count t (place_of (change_at cs m.at)) (fails_then CountAt s t cs reaches m.at no_change_at m.within (m.fails no_change_at))
+      large_count t (place_of (get_or cs m.at nothing)) (fails_then CountAt s t cs reaches m.at nothing m.within (m.fails nothing))
 
   pub entries_pass : (Each (EntryStays s.processors) cs → ⊥) → HasLargeEntry t
   unfolding after
   entries_pass h =
       let m = missed (EntryStays s.processors) (λ c. entry_test (place_of c) _) cs h in
-      large_entry t (place_of (change_at cs m.at)) (fails_then EntryAt s t cs reaches m.at no_change_at m.within (m.fails no_change_at))
+      large_entry t (place_of (get_or cs m.at nothing)) (fails_then EntryAt s t cs reaches m.at nothing m.within (m.fails nothing))
 
   pub counts_fit : Each (CountStays s.processors) cs → HasLargeCount t → ⊥
   unfolding after

@@ -18,14 +18,14 @@ use Rattle.nd_steps.specs.Totals.{total_at, edits_of}
 use Rattle.nd_steps.specs.Limits.{after, CountStays, EntryStays}
 use Rattle.nd_steps.specs.Plans.{often, Once, Each, StaysRanged, Reaches, LeadsTo}
 use Rattle.nd_steps.specs.Turns.{IsInOrder}
-use Rattle.nd_steps.specs.Undone.{IsGain, no_change_at}
+use Rattle.nd_steps.specs.Undone.{IsGain}
 use Rattle.nd_steps.specs.Appended.{total-append}
 use Rattle.nd_steps.specs.declared.change.Change.{Change}
 use Rattle.nd_steps.proofs.PlacesLemmas.{SameShape, shape-turned, shape-through, there_alike, there_where, same_state, may_stand}
 use Rattle.nd_steps.proofs.CountedLemmas.{queues_same}
 use Rattle.nd_steps.proofs.StandingLemmas.{at-difference}
 use Rattle.nd_steps.proofs.RunsLemmas.{shape-applied, landed, moved_by, state_none, state_more, all_made}
-use Rattle.nd_steps.proofs.EachLemmas.{total, each_at, each_take, each_from, each_through, each_moved, often_moved, total_moved, not_there, rest_none, never_added, often_before, gain_alone, untouched, fits_moved}
+use Rattle.nd_steps.proofs.EachLemmas.{total, no_change, each_at, each_take, each_from, each_through, each_moved, often_moved, total_moved, not_there, rest_none, never_added, often_before, gain_alone, untouched, fits_moved}
 use Rattle.nd_steps.proofs.LimitsLemmas.{slot_within}
 
 -- changes that reach a state keep the shape
@@ -95,14 +95,14 @@ moved_at : (s : ClusterState) (cs : List Change) (runs : IsRunnable s cs) (j : P
 moved_at s cs runs j zero h = ap (λ t. standing t j) (state_none s cs) ∙ sym (plus_none (standing s j))
 moved_at s cs runs j (suc k) h =
     let lt : k < length cs = omega (arith, h) in
-    let c = get_or cs k no_change_at in
+    let c = get_or cs k no_change in
     let t = state_at s cs k in
     let more : suc k ≡ k + 1 = omega arith in
     let ih : standing t j ≡ standing s j +ℤ total j (take k cs) = moved_at s cs runs j k (omega (arith, h)) in
     let a : standing (state_at s cs (suc k)) j ≡ standing t j +ℤ cond (eq_by_cmp place_cmp j (place_of c)) (c.n) (pos 0)
-    = ap (λ i. standing (state_at s cs i) j) more ∙ ap (λ u. standing u j) (state_more s cs k no_change_at lt) ∙ moved_more t j c (runs.fits k no_change_at lt) in
+    = ap (λ i. standing (state_at s cs i) j) more ∙ ap (λ u. standing u j) (state_more s cs k no_change lt) ∙ moved_more t j c (runs.fits k no_change lt) in
     let b : total j (take (suc k) cs) ≡ total j (take k cs) +ℤ (cond (eq_by_cmp place_cmp j (place_of c)) (c.n) (pos 0) +ℤ pos 0)
-    = ap (λ i. total j (take i cs)) more ∙ ap (total j) (take_more cs k no_change_at lt) ∙ total-append j (take k cs) (c ∷ []) in
+    = ap (λ i. total j (take i cs)) more ∙ ap (total j) (take_more cs k no_change lt) ∙ total-append j (take k cs) (c ∷ []) in
     a ∙ ap (λ x. x +ℤ cond (eq_by_cmp place_cmp j (place_of c)) (c.n) (pos 0)) ih ∙ plus_by (standing s j) (total j (take k cs)) _ ∙ ap (λ x. standing s j +ℤ x) (sym b)
 
 pub moved : (s : ClusterState) (cs : List Change) → IsRunnable s cs → (j : Place) → standing (applied s cs) j ≡ standing s j +ℤ total_at (edits_of cs) j

@@ -10,7 +10,7 @@ use Rattle.nd_steps.specs.Places.{Place, place_cmp, place_exact}
 use Rattle.nd_steps.specs.Slots.{SlotMay, SlotWithin}
 use Rattle.nd_steps.specs.Standing.{standing, put_at, IsThere}
 use Rattle.nd_steps.specs.Changes.{place_of, inverse, made, Fits, applied, state_at, IsRunnable}
-use Rattle.nd_steps.specs.Undone.{Runs, no_change_at, change_at, only}
+use Rattle.nd_steps.specs.Undone.{Runs, only}
 use Rattle.nd_steps.specs.declared.change.Change.{Change}
 use Rattle.nd_steps.proofs.PlacesLemmas.{SameShape, shape-itself, shape-turned, shape-through, shape-put, there_alike, same_state, standing-put, standing-put_at, may_stand}
 
@@ -90,22 +90,25 @@ all_made s cs k past = ap (applied s) (take_all k cs past)
 
 -- ---- a change of the list, in a state that equals the one there
 
-module _ (s : ClusterState) (cs : List Change) (runs : IsRunnable s cs) (k : ℕ) (lt : k < length cs) (t : ClusterState) where
-  pub fits_now : t ≡ state_at s cs k → Fits t (change_at cs k)
-  fits_now now = subst (λ u. Fits u (change_at cs k)) (sym now) (runs.fits k no_change_at lt)
+module _ (s : ClusterState) (cs : List Change) (runs : IsRunnable s cs) (k : ℕ) (d : Change) (lt : k < length cs) (t : ClusterState) where
+  abbrev it : Change
+  it = get_or cs k d
 
-  pub next_here : t ≡ state_at s cs k → made t (change_at cs k) ≡ state_at s cs (k + 1)
-  next_here now = ap (λ u. made u (change_at cs k)) now ∙ sym (state_more s cs k no_change_at lt)
+  pub fits_now : t ≡ state_at s cs k → Fits t it
+  fits_now now = subst (λ u. Fits u it) (sym now) (runs.fits k d lt)
+
+  pub next_here : t ≡ state_at s cs k → made t it ≡ state_at s cs (k + 1)
+  next_here now = ap (λ u. made u it) now ∙ sym (state_more s cs k d lt)
 
   module _ (i : ℕ) (above : i ≡ k + 1) (now : t ≡ state_at s cs i) where
-    from_above : t ≡ made (state_at s cs k) (change_at cs k)
-    from_above = now ∙ ap (state_at s cs) above ∙ state_more s cs k no_change_at lt
+    from_above : t ≡ made (state_at s cs k) it
+    from_above = now ∙ ap (state_at s cs) above ∙ state_more s cs k d lt
 
-    pub fits_here : Fits t (inverse (change_at cs k))
-    fits_here = subst (λ u. Fits u (inverse (change_at cs k))) (sym from_above) (fits_back (state_at s cs k) (change_at cs k) (runs.fits k no_change_at lt))
+    pub fits_here : Fits t (inverse it)
+    fits_here = subst (λ u. Fits u (inverse it)) (sym from_above) (fits_back (state_at s cs k) it (runs.fits k d lt))
 
-    pub back_here : made t (inverse (change_at cs k)) ≡ state_at s cs k
-    back_here = ap (λ u. made u (inverse (change_at cs k))) from_above ∙ made_back (state_at s cs k) (change_at cs k) (runs.fits k no_change_at lt)
+    pub back_here : made t (inverse it) ≡ state_at s cs k
+    back_here = ap (λ u. made u (inverse it)) from_above ∙ made_back (state_at s cs k) it (runs.fits k d lt)
 
 -- ---- the same over a list of processors alone
 
