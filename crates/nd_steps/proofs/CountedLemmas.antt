@@ -22,7 +22,8 @@ use Rattle.nd_steps.specs.Places.{Place, place_at, view_of}
 use Rattle.nd_steps.specs.declared.slot.Slot.TheVariants.{Records, Request, Token, State, Sink, Unsent}
 use Rattle.nd_steps.specs.Slots.{from_request, from_epoch}
 use Rattle.nd_steps.specs.Standing.{standing, difference, queues_changed, changed}
-use Rattle.nd_steps.specs.Alike.{is_place, place_itself}
+use Rattle.nd_steps.specs.Places.{is_place}
+use Rattle.nd_steps.proofs.AlikeLemmas.{place_itself}
 use Rattle.nd_steps.proofs.Differences.{of_one_map, IsNone, keys_changed, alike_queues, unlike_queues, none_below, each_below, one_below}
 
 -- the same queues

@@ -21,7 +21,8 @@ use Rattle.nd_steps.specs.Places.{Place, parts, place_cmp, place_total, place_ex
 use Rattle.nd_steps.specs.Standing.{standing, difference, change_cmp, queue_cmp, sum_below}
 use Rattle.nd_steps.specs.Totals.{Edit}
 use Rattle.nd_steps.proofs.StandingLemmas.{at-difference}
-use Rattle.nd_steps.specs.Alike.{same_key, is_place, same_place, other_place, place_itself}
+use Rattle.nd_steps.specs.Places.{is_place}
+use Rattle.nd_steps.proofs.AlikeLemmas.{same_key, same_place, other_place, place_itself}
 
 -- ---- keys
 

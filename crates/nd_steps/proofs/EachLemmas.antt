@@ -1,5 +1,5 @@
 -- Lists of changes: what they add at a place, what holds of each of them, the same in another order, and a place that stands in one of them.
-use Rattle.std.proofs.Common.{◌≡◌, ◌≢◌, ◌<◌, ◌≤◌, ◌+◌, ℕ, zero, suc, ℤ, pos, negsuc, neg_ℤ, ◌+ℤ◌, ◌-ℤ◌, Bool, true, false, cond, List, [], ◌∷◌, take, drop, length, get_or, refl, sym, ap, subst, ◌∙◌, arith, drop-cons, true≢false}
+use Rattle.std.proofs.Common.{◌≡◌, ◌≢◌, ◌<◌, ◌+◌, ℕ, zero, suc, ℤ, pos, negsuc, neg_ℤ, ◌+ℤ◌, ◌-ℤ◌, Bool, true, false, cond, List, [], ◌∷◌, ◌++◌, take, drop, length, get_or, refl, sym, ap, subst, ◌∙◌, arith, drop-cons, true≢false}
 use Rattle.std.proofs.lemmas.Int.{ints}
 use Rattle.std.proofs.lemmas.List.{take-append-drop}
 use Rattle.std.proofs.lemmas.List.Sorted.{All-permutation, sum_by-IsPermutation}
@@ -10,13 +10,12 @@ use Rattle.std.specs.Ordering.{eq_by_cmp}
 use Rattle.nd_map.specs.Counts.{natural}
 use Rattle.nd_protocol.specs.State.{ClusterState}
 use Rattle.nd_steps.specs.Places.{Place, place_cmp, place_total}
-use Rattle.nd_steps.specs.Alike.{same_key}
+use Rattle.nd_steps.proofs.AlikeLemmas.{same_key}
 use Rattle.nd_steps.specs.Slots.{SlotMay, SlotWithin}
 use Rattle.nd_steps.specs.Standing.{standing, IsThere}
 use Rattle.nd_steps.specs.Changes.{place_of, made, Fits, applied}
 use Rattle.nd_steps.specs.Totals.{total_at, edits_of}
 use Rattle.nd_steps.specs.Plans.{often, Once, Each}
-use Rattle.nd_steps.specs.Appended.{often-append, total-append}
 use Rattle.nd_steps.specs.declared.change.Change.{Change}
 use Rattle.nd_steps.specs.declared.slot.Slot.TheVariants.{Token}
 use Rattle.nd_steps.proofs.PlacesLemmas.{SameShape, shape-turned, there_alike, standing-put_other}
@@ -26,6 +25,23 @@ use Rattle.nd_steps.proofs.RunsLemmas.{shape-made}
 
 abbrev pub total : Place → List Change → ℤ
 total k cs = total_at (edits_of cs) k
+
+-- ---- two lists, one after the other
+
+-- how often a place stands in both
+pub often-append : (k : Place) (cs ds : List Change) → often k (cs ++ ds) ≡ often k cs + often k ds
+often-append k [] ds = omega arith
+often-append k (c ∷ cs) ds = let e = often-append k cs ds in omega (arith, e)
+
+-- what both add
+pub total-append : (k : Place) (cs ds : List Change) → total_at (edits_of (cs ++ ds)) k ≡ total_at (edits_of cs) k +ℤ total_at (edits_of ds) k
+total-append k [] ds = omega (arith, ints)
+total-append k (c ∷ cs) ds = let e = total-append k cs ds in omega (arith, ints, e)
+
+-- what holds of each of both
+pub each-append : (P : Change → Type 0) (cs ds : List Change) → Each P cs → Each P ds → Each P (cs ++ ds)
+each-append P [] ds h i = i
+each-append P (c ∷ cs) ds h i = (h.0, each-append P cs ds h.1 i)
 
 -- ---- every change of a list
 

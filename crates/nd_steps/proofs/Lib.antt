@@ -1,3 +1,4 @@
+pub mod AlikeLemmas
 pub mod PlacesLemmas
 pub mod StandingLemmas
 pub mod RunsLemmas
@@ -11,6 +12,7 @@ pub mod LimitsLemmas
 pub mod Differences
 pub mod CountedLemmas
 pub mod ReachesLemmas
+pub mod TurnsLemmas
 pub mod ListedLemmas
 pub mod SumsOfSteps
 pub mod Arrivals

@@ -17,7 +17,8 @@ use Rattle.nd_protocol.specs.Fitting.{IsState, ProcessorFits, ProcessorIsWithin}
 use Rattle.nd_protocol.specs.Ranges.{IsValue}
 use Rattle.nd_protocol.specs.Enabled.{HasLargeCount, of_record, of_sink, HasLargeEntry, of_unsent, of_view}
 use Rattle.nd_steps.specs.Places.{Place, place_at, view_of}
-use Rattle.nd_steps.specs.Alike.{is_place, same_place}
+use Rattle.nd_steps.specs.Places.{is_place}
+use Rattle.nd_steps.proofs.AlikeLemmas.{same_place}
 use Rattle.nd_steps.specs.declared.slot.Slot.{Slot}
 use Rattle.nd_steps.specs.declared.slot.Slot.TheVariants.{Records, Request, Token, State, Sink, Unsent}
 use Rattle.nd_steps.specs.Slots.{from_epoch, stands, SlotWithin}

@@ -27,7 +27,7 @@ use Rattle.nd_protocol.specs.State.{ClusterState, processor, view}
 use Rattle.nd_steps.specs.Places.{Place, place_at, view_of, place_cmp, place_total, place_exact}
 use Rattle.nd_steps.specs.declared.slot.Slot.{Slot}
 use Rattle.nd_steps.specs.declared.slot.Slot.TheVariants.{Records, Request, Token, State, Sink, Unsent}
-use Rattle.nd_steps.specs.Alike.{same_key, other_key}
+use Rattle.nd_steps.proofs.AlikeLemmas.{same_key, other_key}
 use Rattle.nd_steps.specs.Slots.{from_request, from_epoch, with_request, with_epoch, stands, puts, SlotIsThere, SlotMay}
 use Rattle.nd_steps.specs.Standing.{standing, put_at, IsThere, MayStand}
 

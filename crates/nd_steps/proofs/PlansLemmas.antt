@@ -1,16 +1,17 @@
 -- A list of changes in which no place stands twice can be run, if nothing is taken out before the last is put in, and leads where its sums say.
-use Rattle.std.proofs.Common.{◌≡◌, ◌≢◌, ◌<◌, ◌≤◌, ◌+◌, ◌⊎◌, ℕ, zero, suc, ℤ, pos, ◌+ℤ◌, ◌-ℤ◌, Bool, true, false, cond, List, [], ◌∷◌, take, length, get_or, T, Option, Some, None, is_some, refl, sym, ap, subst, ◌∙◌, arith, inl, inr, true≢false}
+use Rattle.std.proofs.Common.{◌≡◌, ◌≢◌, ◌<◌, ◌≤◌, ◌+◌, ℕ, zero, suc, ℤ, pos, ◌+ℤ◌, ◌-ℤ◌, Bool, true, false, cond, List, [], ◌∷◌, take, length, get_or, T, Option, Some, None, is_some, refl, sym, ap, subst, ◌∙◌, arith, inl, inr, true≢false}
 use Rattle.std.proofs.lemmas.Int.{ints}
 use Rattle.std.proofs.lemmas.List.{take_more, take_all}
 use Rattle.std.proofs.lemmas.Map.Views.{tells_apart}
 use Rattle.std.specs.Ordering.{eq_by_cmp}
+use Rattle.std.specs.List.Sorted.{IsPermutation}
 use Rattle.std.specs.FinMap.{find, is_sorted}
 use Rattle.std.specs.FinMap.Entries.{put, is_sorted-put, find-put, length-put}
 use Rattle.nd_map.specs.Cases.{zero_or_not}
 use Rattle.nd_map.specs.Counts.{or_else, integers, entries, of_entries, at-of_entries, entries-of_entries, same, size}
 use Rattle.nd_protocol.specs.State.{ClusterState}
 use Rattle.nd_steps.specs.Places.{Place, place_cmp, place_total, place_exact}
-use Rattle.nd_steps.specs.Alike.{same_key}
+use Rattle.nd_steps.proofs.AlikeLemmas.{same_key}
 use Rattle.nd_steps.specs.Slots.{SlotMay}
 use Rattle.nd_steps.specs.Standing.{standing, IsThere, difference}
 use Rattle.nd_steps.specs.Changes.{place_of, made, Fits, Finds, applied, state_at, IsRunnable}
@@ -19,7 +20,7 @@ use Rattle.nd_steps.specs.Limits.{after, CountStays, EntryStays}
 use Rattle.nd_steps.specs.Plans.{often, Once, Each, StaysRanged, Reaches, LeadsTo}
 use Rattle.nd_steps.specs.Turns.{IsInOrder}
 use Rattle.nd_steps.specs.Undone.{IsGain}
-use Rattle.nd_steps.specs.Appended.{total-append}
+use Rattle.nd_steps.proofs.EachLemmas.{total-append}
 use Rattle.nd_steps.specs.declared.change.Change.{Change}
 use Rattle.nd_steps.proofs.PlacesLemmas.{SameShape, shape-turned, shape-through, there_alike, there_where, same_state, may_stand}
 use Rattle.nd_steps.proofs.CountedLemmas.{queues_same}
@@ -41,7 +42,10 @@ after_is s c = refl
 none_left : (x n z : ℤ) → z ≡ x +ℤ n → z ≡ pos 0 → x ≡ pos 0 → n ≡ pos 0
 none_left x n z e f g = omega (arith, ints, e, f, g)
 
-module _ (s : ClusterState) (all cs : List Change) (once : Once cs) (fit : Each (Fits s) cs) (order : IsInOrder s.processors all cs) where
+-- the first changes leave something at their places, and the others find something at theirs
+module _ (s : ClusterState) (cs : List Change) (once : Once cs) (fit : Each (Fits s) cs) (turn : ℕ)
+    (leave : (k : ℕ) (d : Change) → k < length cs → k < turn → standing s (place_of (get_or cs k d)) +ℤ (get_or cs k d).n ≢ pos 0)
+    (find : (k : ℕ) (d : Change) → k < length cs → turn ≤ k → standing s (place_of (get_or cs k d)) ≢ pos 0) where
   module _ (k : ℕ) (d : Change) (lt : k < length cs) where
     abbrev at : Change
     at = get_or cs k d
@@ -60,16 +64,16 @@ module _ (s : ClusterState) (all cs : List Change) (once : Once cs) (fit : Each 
     unfolding state_at
     fits_in_turn = fits_moved s (state_at s cs k) at (shape-applied s (take k cs)) untouched_at fits_at
 
-    leaves_in_turn : k < order.turn → Finds (state_at s cs (k + 1)) at
+    leaves_in_turn : k < turn → Finds (state_at s cs (k + 1)) at
     leaves_in_turn first none =
-        order.leaves k d lt first
-        (after_is s at ∙ ap (λ z. z +ℤ at.n) (sym untouched_at) ∙ sym (landed (state_at s cs k) at fits_in_turn) ∙ ap (λ t. standing t (place_of at)) (sym (state_more s cs k d lt)) ∙ none)
+        leave k d lt first
+        (ap (λ z. z +ℤ at.n) (sym untouched_at) ∙ sym (landed (state_at s cs k) at fits_in_turn) ∙ ap (λ t. standing t (place_of at)) (sym (state_more s cs k d lt)) ∙ none)
 
-    finds_in_turn : order.turn ≤ k → Finds (state_at s cs k) at
-    finds_in_turn past none = fits_at.inside.some (none_left (standing s (place_of at)) at.n (after s.processors at) (after_is s at) (order.goes k d lt past) (sym untouched_at ∙ none))
+    finds_in_turn : turn ≤ k → Finds (state_at s cs k) at
+    finds_in_turn past none = find k d lt past (sym untouched_at ∙ none)
 
   pub runnable : IsRunnable s cs
-  runnable = record { turn = order.turn; fits = fits_in_turn; leaves = leaves_in_turn; finds = finds_in_turn }
+  runnable = record { turn = turn; fits = fits_in_turn; leaves = leaves_in_turn; finds = finds_in_turn }
 
 -- ---- where the run leads
 
@@ -225,30 +229,41 @@ module _ (s t : ClusterState) (cs : List Change) (h : Reaches s t cs) where
         };
       })
 
-module _ (s t : ClusterState) (all cs : List Change) (h : Reaches s t all) (order : IsInOrder s.processors all cs) where
-  reaches_moved : Reaches s t cs
-  reaches_moved = record {
-    state = h.state;
-    graph = h.graph;
-    views = h.views;
-    queues = h.queues;
-    count = h.count;
-    items = h.items;
-    once = λ k. subst (λ n. n ≤ 1) (sym (often_moved k all cs order.same)) (h.once k);
-    some = each_moved (λ c. c.n ≢ pos 0) all cs order.same h.some;
-    small = each_moved (λ c. IsGain c.n) all cs order.same h.small;
-    ranged = each_moved (StaysRanged s) all cs order.same h.ranged;
-    totals = λ k. h.totals k ∙ ap (λ z. standing s k +ℤ z) (sym (total_moved k all cs order.same));
-  }
+  -- the changes can be run, lead to t, and are as many as the places and queues at which it differs
+  module _ (counts : Each (CountStays s.processors) cs) (entries : Each (EntryStays s.processors) cs) (turn : ℕ)
+      (leave : (k : ℕ) (d : Change) → k < length cs → k < turn → standing s (place_of (get_or cs k d)) +ℤ (get_or cs k d).n ≢ pos 0)
+      (find : (k : ℕ) (d : Change) → k < length cs → turn ≤ k → standing s (place_of (get_or cs k d)) ≢ pos 0) where
+    runs_so : IsRunnable s cs
+    runs_so = runnable s cs h.once (each_fits counts entries) turn leave find
 
-  -- the changes in order can be run, lead to t, and are as many as the places and queues at which it differs
-  pub planned : Each (CountStays s.processors) all → Each (EntryStays s.processors) all → LeadsTo s t cs
-  planned counts entries =
-      let now : Reaches s t cs = reaches_moved in
-      let runs : IsRunnable s cs
-      = runnable s all cs now.once (each_fits s t cs now (each_moved (CountStays s.processors) all cs order.same counts) (each_moved (EntryStays s.processors) all cs order.same entries)) order in
-      record {
-        runs = runs;
-        arrives = same_state (applied s cs) t (shape-through (applied s cs) s t (shape-applied s cs) (shape_of s t cs now)) (λ k. moved s cs runs k ∙ sym (now.totals k));
-        small = (let keys = as_many s t cs now.once now.some now.totals in let ends = queues_same s t now.queues in omega (arith, keys, ends));
-      }
+    pub planned_so : LeadsTo s t cs
+    planned_so = record {
+      runs = runs_so;
+      arrives = same_state (applied s cs) t (shape-through (applied s cs) s t (shape-applied s cs) (shape_of s t cs h)) (λ k. moved s cs runs_so k ∙ sym (h.totals k));
+      small = (let keys = as_many s t cs h.once h.some h.totals in let ends = queues_same s t h.queues in omega (arith, keys, ends));
+    }
+
+-- changes reach a state in any order
+pub reaches_moved : (s t : ClusterState) (all cs : List Change) → Reaches s t all → IsPermutation all cs → Reaches s t cs
+reaches_moved s t all cs h same = record {
+  state = h.state;
+  graph = h.graph;
+  views = h.views;
+  queues = h.queues;
+  count = h.count;
+  items = h.items;
+  once = λ k. subst (λ n. n ≤ 1) (sym (often_moved k all cs same)) (h.once k);
+  some = each_moved (λ c. c.n ≢ pos 0) all cs same h.some;
+  small = each_moved (λ c. IsGain c.n) all cs same h.small;
+  ranged = each_moved (StaysRanged s) all cs same h.ranged;
+  totals = λ k. h.totals k ∙ ap (λ z. standing s k +ℤ z) (sym (total_moved k all cs same));
+}
+
+-- those in order are led to t
+pub planned : (s t : ClusterState) (all cs : List Change) → Reaches s t all → IsInOrder s.processors all cs → Each (CountStays s.processors) all → Each (EntryStays s.processors) all → LeadsTo s t cs
+planned s t all cs h order counts entries =
+    let now : Reaches s t cs = reaches_moved s t all cs h order.same in
+    planned_so s t cs now (each_moved (CountStays s.processors) all cs order.same counts) (each_moved (EntryStays s.processors) all cs order.same entries) order.turn
+    (λ k d lt first none. order.leaves k d lt first (after_is s (get_or cs k d) ∙ none))
+    (λ k d lt past none.
+    each_at (λ c. c.n ≢ pos 0) cs k d now.some lt (none_left (standing s (place_of (get_or cs k d))) (get_or cs k d).n (after s.processors (get_or cs k d)) (after_is s (get_or cs k d)) (order.goes k d lt past) none))

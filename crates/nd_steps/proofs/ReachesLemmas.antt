@@ -1,5 +1,5 @@
 -- Changes that reach a state, in the processors that they are of.
-use Rattle.std.proofs.Common.{◌<◌, ℕ, List, length, sym, subst}
+use Rattle.std.proofs.Common.{List, sym, subst}
 use Rattle.nd_processor.specs.State.{ProcessorState}
 use Rattle.nd_protocol.specs.State.{ClusterState}
 use Rattle.nd_protocol.specs.Enabled.{HasLargeCount, HasLargeEntry}

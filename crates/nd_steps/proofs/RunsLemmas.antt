@@ -90,25 +90,28 @@ all_made s cs k past = ap (applied s) (take_all k cs past)
 
 -- ---- a change of the list, in a state that equals the one there
 
-module _ (s : ClusterState) (cs : List Change) (runs : IsRunnable s cs) (k : ℕ) (d : Change) (lt : k < length cs) (t : ClusterState) where
-  abbrev it : Change
-  it = get_or cs k d
+module _ (s : ClusterState) (cs : List Change) (runs : IsRunnable s cs) (k : ℕ) (c : Change) (is : c ≡ get_or cs k c) (lt : k < length cs) (t : ClusterState) where
+  fits_there_now : Fits (state_at s cs k) c
+  fits_there_now = subst (Fits (state_at s cs k)) (sym is) (runs.fits k c lt)
 
-  pub fits_now : t ≡ state_at s cs k → Fits t it
-  fits_now now = subst (λ u. Fits u it) (sym now) (runs.fits k d lt)
+  next : state_at s cs (k + 1) ≡ made (state_at s cs k) c
+  next = state_more s cs k c lt ∙ ap (made (state_at s cs k)) (sym is)
 
-  pub next_here : t ≡ state_at s cs k → made t it ≡ state_at s cs (k + 1)
-  next_here now = ap (λ u. made u it) now ∙ sym (state_more s cs k d lt)
+  pub fits_now : t ≡ state_at s cs k → Fits t c
+  fits_now now = subst (λ u. Fits u c) (sym now) fits_there_now
+
+  pub next_here : t ≡ state_at s cs k → made t c ≡ state_at s cs (k + 1)
+  next_here now = ap (λ u. made u c) now ∙ sym next
 
   module _ (i : ℕ) (above : i ≡ k + 1) (now : t ≡ state_at s cs i) where
-    from_above : t ≡ made (state_at s cs k) it
-    from_above = now ∙ ap (state_at s cs) above ∙ state_more s cs k d lt
+    from_above : t ≡ made (state_at s cs k) c
+    from_above = now ∙ ap (state_at s cs) above ∙ next
 
-    pub fits_here : Fits t (inverse it)
-    fits_here = subst (λ u. Fits u (inverse it)) (sym from_above) (fits_back (state_at s cs k) it (runs.fits k d lt))
+    pub fits_here : Fits t (inverse c)
+    fits_here = subst (λ u. Fits u (inverse c)) (sym from_above) (fits_back (state_at s cs k) c fits_there_now)
 
-    pub back_here : made t (inverse it) ≡ state_at s cs k
-    back_here = ap (λ u. made u (inverse it)) from_above ∙ made_back (state_at s cs k) it (runs.fits k d lt)
+    pub back_here : made t (inverse c) ≡ state_at s cs k
+    back_here = ap (λ u. made u (inverse c)) from_above ∙ made_back (state_at s cs k) c fits_there_now
 
 -- ---- the same over a list of processors alone
 

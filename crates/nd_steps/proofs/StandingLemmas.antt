@@ -23,7 +23,7 @@ use Rattle.nd_steps.specs.declared.slot.Slot.TheVariants.{Records, Request, Toke
 use Rattle.nd_steps.specs.Standing.{standing, IsThere, places_of_processor, places_of, difference}
 use Rattle.nd_steps.specs.Slots.{from_request, from_epoch, stands}
 use Rattle.nd_steps.proofs.PlacesLemmas.{there_where, slot_there}
-use Rattle.nd_steps.specs.Alike.{same_key}
+use Rattle.nd_steps.proofs.AlikeLemmas.{same_key}
 use Rattle.nd_map.specs.Cases.{zero_or_not}
 use Rattle.std.proofs.lemmas.Bool.{or_left, or_right}
 

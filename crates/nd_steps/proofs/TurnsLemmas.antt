@@ -1,5 +1,5 @@
 -- Changes put in order from the front: what is known of the first i, one more, and all.
-use Rattle.std.proofs.Common.{◌≡◌, ◌≢◌, ◌<◌, ◌≤◌, ◌+◌, ◌⊎◌, ℕ, pos, Bool, true, false, ◌&&◌, List, length, get_or, refl, sym, ap, subst, ◌∙◌, inl, inr, arith}
+use Rattle.std.proofs.Common.{◌≡◌, ◌≢◌, ◌<◌, ◌≤◌, ◌+◌, ℕ, pos, Bool, true, false, ◌&&◌, List, length, get_or, refl, sym, ap, subst, ◌∙◌, inl, inr, arith}
 use Rattle.std.specs.Prelude.{◌↔◌, IsTrue}
 use Rattle.std.specs.List as edits
 use Rattle.std.specs.List.Sorted.{IsPermutation}
@@ -69,7 +69,7 @@ module _ (ps : List ProcessorState) (all cs : List Change) (turn i : ℕ) (count
           | inl e ↦ subst P (sym (ap (λ j. get_or all j d) e ∙ of_all d)) (both.0 t).1
           | inr n ↦ (both.0 t).0 k d (omega (arith, less, n))
         ],
-        λ each. both.1 ((λ k d less. each k d (omega (arith, less))), subst P (of_all x) (each i x (omega arith)))
+        λ each. both.1 ((λ k d less. each k d (omega (arith, less))), subst P (of_all x) (each i x (omega arith))),
       )
 
   -- it leaves nothing, and stays where it stands
@@ -83,9 +83,9 @@ module _ (ps : List ProcessorState) (all cs : List Change) (turn i : ℕ) (count
     within = omega (arith, lt);
     leaves = h.leaves;
     goes = λ k d past less. elim (cases_eq k i) [
-          | inl e ↦ ap (after ps) (ap (λ j. get_or cs j d) e ∙ here d) ∙ nothing not
-          | inr n ↦ h.goes k d past (omega (arith, less, n))
-        ];
+      | inl e ↦ ap (after ps) (ap (λ j. get_or cs j d) e ∙ here d) ∙ nothing not
+      | inr n ↦ h.goes k d past (omega (arith, less, n))
+    ];
     rest = λ k d past. h.rest k d (omega (arith, past));
     counts_stay = below_more (CountStays ps) counts count h.counts_stay count_is;
     entries_stay = below_more (EntryStays ps) entries entry h.entries_stay entry_is;
@@ -108,16 +108,16 @@ module _ (ps : List ProcessorState) (all cs : List Change) (turn i : ℕ) (count
       behind = (let b = h.behind in omega (arith, b));
       within = omega (arith, lt);
       leaves = λ k d less. elim (cases_eq k turn) [
-            | inl e ↦ λ none. some (ap (after ps) (sym (ap (λ j. get_or ds j d) e ∙ (turned d).0 ∙ here d)) ∙ none)
-            | inr n ↦
-                let b = h.behind in
-                let before : k < turn = omega (arith, less, n) in
-                λ none. h.leaves k d before (ap (after ps) (sym (stays_put k d n (λ e. omega (arith, e, b, before)))) ∙ none)
-          ];
+        | inl e ↦ λ none. some (ap (after ps) (sym (ap (λ j. get_or ds j d) e ∙ (turned d).0 ∙ here d)) ∙ none)
+        | inr n ↦
+            let b = h.behind in
+            let before : k < turn = omega (arith, less, n) in
+            λ none. h.leaves k d before (ap (after ps) (sym (stays_put k d n (λ e. omega (arith, e, b, before)))) ∙ none)
+      ];
       goes = λ k d past less. elim (cases_eq k i) [
-            | inl e ↦ ap (after ps) (ap (λ j. get_or ds j d) e ∙ (turned d).1) ∙ h.goes turn d (omega arith) (omega (arith, past, e))
-            | inr n ↦ ap (after ps) (stays_put k d (λ e. omega (arith, e, past)) n) ∙ h.goes k d (omega (arith, past)) (omega (arith, less, n))
-          ];
+        | inl e ↦ ap (after ps) (ap (λ j. get_or ds j d) e ∙ (turned d).1) ∙ h.goes turn d (omega arith) (omega (arith, past, e))
+        | inr n ↦ ap (after ps) (stays_put k d (λ e. omega (arith, e, past)) n) ∙ h.goes k d (omega (arith, past)) (omega (arith, less, n))
+      ];
       rest = λ k d past. let b = h.behind in stays_put k d (λ e. omega (arith, e, past, b)) (λ e. omega (arith, e, past)) ∙ h.rest k d (omega (arith, past));
       counts_stay = below_more (CountStays ps) counts count h.counts_stay count_is;
       entries_stay = below_more (EntryStays ps) entries entry h.entries_stay entry_is;

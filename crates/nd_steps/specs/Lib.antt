@@ -1,5 +1,4 @@
 pub mod Places
-pub mod Alike
 pub mod Slots
 pub mod Standing
 pub mod Changes
@@ -14,7 +13,6 @@ pub mod Limits
 pub mod Turns
 pub mod Counted
 pub mod Listed
-pub mod Appended
 pub mod Edits
 pub mod Pairs
 pub mod Stores

@@ -1,7 +1,7 @@
 -- The places of a cluster's state: a key of one of a processor's maps, with the processor, or one of a view.
-use Rattle.std.specs.Prelude.{◌≡◌, ℕ, zero, suc, ℤ, pos, [], refl}
+use Rattle.std.specs.Prelude.{◌≡◌, ℕ, zero, suc, ℤ, pos, Bool, [], refl}
 use Rattle.std.specs.declared.cmp.Ordering.{Ordering}
-use Rattle.std.specs.Ordering.{nat_cmp, int_cmp, ordering_then}
+use Rattle.std.specs.Ordering.{nat_cmp, int_cmp, ordering_then, eq_by_cmp}
 use Rattle.std.specs.Cmp.{IsTotalOrder}
 use Rattle.std.specs.FinMap.{IsAntisymmetric}
 use Rattle.std.proofs.Common.{sym, ap, ◌∙◌}
@@ -10,9 +10,6 @@ use Rattle.std.proofs.lemmas.Cmp.{nat_cmp_total, int_cmp_total, on_total, then_t
 use Rattle.nd_time.specs.Time.{Time}
 use Rattle.nd_paths.specs.Point.{point_cmp, point_total, point_exact}
 use Rattle.nd_paths.specs.declared.point.Pointstamp.{Pointstamp}
-use Rattle.nd_vertex.specs.declared.key.ItemKey.{ItemKey}
-use Rattle.nd_processor.specs.declared.key.ValueAt.{ValueAt}
-use Rattle.nd_processor.specs.declared.key.SinkKey.{SinkKey}
 use Rattle.nd_steps.specs.declared.slot.Slot.{Slot}
 use Rattle.nd_steps.specs.declared.slot.Slot.TheVariants.{Records, Request, Token, State, Sink, Unsent}
 
@@ -96,3 +93,7 @@ parts_exact a b h = exact_pairs nat_cmp in_processor_cmp exact_unsigned in_proce
 -- places that compare alike are one
 pub place_exact : IsAntisymmetric place_cmp
 place_exact a b h = sym (rebuilt-parts a) ∙ ap rebuilt (parts_exact (parts a) (parts b) h) ∙ rebuilt-parts b
+
+-- whether two places are one
+abbrev pub is_place : Place → Place → Bool
+is_place a b = eq_by_cmp place_cmp a b

@@ -1,5 +1,5 @@
 //! A change at one place of a cluster's state: a place, and a number.
-ghost use Rattle.std.specs.Prelude.{◌≡◌};
+ghost use Rattle.std.specs.Prelude.{◌≡◌, pos};
 ghost use Rattle.nd_steps.specs.Changes.{inverse};
 ghost use Rattle.nd_steps.specs.Undone.{IsGain};
 
@@ -12,6 +12,19 @@ pub struct Change {
     pub p: u32,
     pub slot: Slot,
     pub n: i128,
+}
+
+impl Default for Change {
+    /// A change by nothing.
+    fn default() -> Change
+        ensures { result.n ≡ pos 0 }
+    {
+        Change {
+            p: 0,
+            slot: Slot::Token(0),
+            n: 0,
+        }
+    }
 }
 
 impl Change {

@@ -60,7 +60,7 @@ returns-clause-ok g c =
     let k = c.args.key.now in
     let fits : FitsSigned w64 k.item = search rules in
     let sum = now c.vertex_state.result.now (items_at q c.args.vertex) _ k c.vertex_state.ensures (passed k fits) c.get-old.result c.get-old.ensures.value
-        c.unwrap_or.result c.from.result c.args.n c.unwrap_or.ensures c.from.ensures c.ranges.n c.requires.before.ranged c.requires.within.ranged in
+    c.unwrap_or.result c.from.result c.args.n c.unwrap_or.ensures c.from.ensures c.ranges.n c.requires.before.ranged c.requires.within.ranged in
     let key = passed k fits in
     let then = c.item_number-new.ensures.number ∙ sum in
     subst (λ (e : ItemKey × ℤ). OnOk c.set_item.result (c.set_item.new.self ≡ record q { items = slice_set q.items c.args.vertex (set item_total (items_at q c.args.vertex) e.0 e.1) }))

@@ -32,7 +32,7 @@ returns-then-not-limits-2-clause-refused g c = λ s t h.
     let r = c.put_in_order-limits in (
       few_enough ps s t c.args.all.items h (subst (Each (CountStays ps)) c.deref_mut.ensures.value (r.ensures.counts.0 (is_true r.result.counts_stay c.if-not-limits.false))),
       too_much ps s t c.args.all.items h (λ each.
-      is_false r.result.entries_stay c.if-not-limits-2.true (r.ensures.entries.1 (subst (Each (EntryStays ps)) (sym c.deref_mut.ensures.value) each))),
+          is_false r.result.entries_stay c.if-not-limits-2.true (r.ensures.entries.1 (subst (Each (EntryStays ps)) (sym c.deref_mut.ensures.value) each))),
     )
 
 pub returns-clause-leads : goal.returns-clause-leads

@@ -14,14 +14,14 @@ make-requires g c =
     let s : ClusterState = only c.args.processors.now.items in
     let cs : List Change = c.args.changes.now in
     let lt : c.loop-i.i < length cs = omega (arith, c.loop-i-test.true) in
-    fits_now s cs c.requires c.loop-i.i c.index-changes-i.result lt (only c.loop-i.processors.items) c.loop-i.invariant
+    fits_now s cs c.requires c.loop-i.i c.index-changes-i.result c.index-changes-i.is lt (only c.loop-i.processors.items) c.loop-i.invariant
 
 pub loop-i-preserved : goal.loop-i-preserved
 loop-i-preserved g c =
     let s : ClusterState = only c.args.processors.now.items in
     let cs : List Change = c.args.changes.now in
     let lt : c.loop-i.i < length cs = omega (arith, c.loop-i-test.true) in
-    c.in-Ok.ensures.ok ∙ next_here s cs c.requires c.loop-i.i c.index-changes-i.result lt (only c.loop-i.processors.items) c.loop-i.invariant
+    c.in-Ok.ensures.ok ∙ next_here s cs c.requires c.loop-i.i c.index-changes-i.result c.index-changes-i.is lt (only c.loop-i.processors.items) c.loop-i.invariant
 
 pub undo-requires : goal.undo-requires
 undo-requires g c =
@@ -29,7 +29,7 @@ undo-requires g c =
     let cs : List Change = c.args.changes.now in
     let lt : c.loop-j.j - 1 < length cs = omega (arith, c.loop-i-test.true, c.loop-j.invariant.before, c.loop-j-test.true) in
     let above : c.loop-j.j ≡ c.loop-j.j - 1 + 1 = omega (arith, c.loop-j-test.true) in
-    fits_here s cs c.requires (c.loop-j.j - 1) c.index-changes-j.result lt (only c.loop-j.processors.items) c.loop-j.j above c.loop-j.invariant.now
+    fits_here s cs c.requires (c.loop-j.j - 1) c.index-changes-j.result c.index-changes-j.is lt (only c.loop-j.processors.items) c.loop-j.j above c.loop-j.invariant.now
 
 pub loop-j-preserved : goal.loop-j-preserved
 loop-j-preserved g c =
@@ -39,7 +39,7 @@ loop-j-preserved g c =
     let above : c.loop-j.j ≡ c.loop-j.j - 1 + 1 = omega (arith, c.loop-j-test.true) in
     record {
       now = c.in-Ok-undo.ensures.ok
-          ∙ back_here s cs c.requires (c.loop-j.j - 1) c.index-changes-j.result lt (only c.loop-j.processors.items) c.loop-j.j above c.loop-j.invariant.now;
+          ∙ back_here s cs c.requires (c.loop-j.j - 1) c.index-changes-j.result c.index-changes-j.is lt (only c.loop-j.processors.items) c.loop-j.j above c.loop-j.invariant.now;
       before = omega (arith, c.loop-j.invariant.before);
     }
 

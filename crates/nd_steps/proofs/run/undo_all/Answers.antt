@@ -19,7 +19,7 @@ undo-requires g c =
     let cs : List Change = c.args.changes.now in
     let lt : c.loop-i.i - 1 < length cs = omega (arith, c.loop-i.invariant.within, c.loop-i-test.true) in
     let above : c.loop-i.i ≡ c.loop-i.i - 1 + 1 = omega (arith, c.loop-i-test.true) in
-    fits_here c.requires.state cs h.runs (c.loop-i.i - 1) c.index-changes-i.result lt (only c.loop-i.processors.items) c.loop-i.i above (c.loop-i.invariant.now c.requires.state h)
+    fits_here c.requires.state cs h.runs (c.loop-i.i - 1) c.index-changes-i.result c.index-changes-i.is lt (only c.loop-i.processors.items) c.loop-i.i above (c.loop-i.invariant.now c.requires.state h)
 
 pub loop-i-preserved : goal.loop-i-preserved
 loop-i-preserved g c =
@@ -29,7 +29,7 @@ loop-i-preserved g c =
     record {
       within = omega (arith, c.loop-i.invariant.within);
       now = λ s h. c.in-Ok.ensures.ok
-          ∙ back_here s cs h.runs (c.loop-i.i - 1) c.index-changes-i.result lt (only c.loop-i.processors.items) c.loop-i.i above (c.loop-i.invariant.now s h);
+          ∙ back_here s cs h.runs (c.loop-i.i - 1) c.index-changes-i.result c.index-changes-i.is lt (only c.loop-i.processors.items) c.loop-i.i above (c.loop-i.invariant.now s h);
     }
 
 pub make-requires : goal.make-requires
@@ -37,7 +37,7 @@ make-requires g c =
     let h = c.requires.runs in
     let cs : List Change = c.args.changes.now in
     let lt : c.loop-j.j < length cs = omega (arith, c.loop-j-test.true) in
-    fits_now c.requires.state cs h.runs c.loop-j.j c.index-changes-j.result lt (only c.loop-j.processors.items) (c.loop-j.invariant.now c.requires.state h)
+    fits_now c.requires.state cs h.runs c.loop-j.j c.index-changes-j.result c.index-changes-j.is lt (only c.loop-j.processors.items) (c.loop-j.invariant.now c.requires.state h)
 
 pub loop-j-preserved : goal.loop-j-preserved
 loop-j-preserved g c =
@@ -47,7 +47,7 @@ loop-j-preserved g c =
       within = omega (arith, lt);
       past = omega (arith, c.loop-j.invariant.past);
       now = λ s h. c.in-Ok-make.ensures.ok
-          ∙ next_here s cs h.runs c.loop-j.j c.index-changes-j.result lt (only c.loop-j.processors.items) (c.loop-j.invariant.now s h);
+          ∙ next_here s cs h.runs c.loop-j.j c.index-changes-j.result c.index-changes-j.is lt (only c.loop-j.processors.items) (c.loop-j.invariant.now s h);
     }
 
 pub returns-in_default-clause-err : goal.returns-in_default-clause-err

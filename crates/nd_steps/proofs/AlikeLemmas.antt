@@ -1,5 +1,5 @@
 -- When two keys are one, and two places: those of one processor's map when their keys are.
-use Rattle.std.proofs.Common.{◌≡◌, ◌≢◌, ℕ, Bool, true, false, refl, sym, ap, ◌∙◌, true≢false}
+use Rattle.std.proofs.Common.{◌≡◌, ◌≢◌, ℕ, true, false, refl, sym, ap, ◌∙◌, true≢false}
 use Rattle.std.proofs.lemmas.Cmp.{tied_itself, nat_cmp_total}
 use Rattle.std.proofs.lemmas.Map.Views.{tells_apart}
 use Rattle.std.specs.declared.cmp.Ordering.{Ordering}
@@ -14,7 +14,7 @@ use Rattle.nd_vertex.specs.declared.key.ItemKey.{ItemKey}
 use Rattle.nd_processor.specs.Keys.{value_at_cmp, value_at_total, value_at_exact, sink_cmp, sink_total, sink_exact}
 use Rattle.nd_processor.specs.declared.key.ValueAt.{ValueAt}
 use Rattle.nd_processor.specs.declared.key.SinkKey.{SinkKey}
-use Rattle.nd_steps.specs.Places.{Place, place_at, place_cmp, place_total, place_exact}
+use Rattle.nd_steps.specs.Places.{Place, place_at, place_total, place_exact, is_place}
 use Rattle.nd_steps.specs.declared.slot.Slot.TheVariants.{Records, Request, Token, State, Sink, Unsent}
 
 -- ---- keys that compare alike or not
@@ -29,10 +29,6 @@ other_key {R = R} tells q k ne = elim (eq_by_cmp R q k) as (λ b. eq_by_cmp R q 
 ] refl
 
 -- ---- places
-
--- whether two places are one
-abbrev pub is_place : Place → Place → Bool
-is_place a b = eq_by_cmp place_cmp a b
 
 pub same_place : (a b : Place) → is_place a b ≡ true → a ≡ b
 same_place a b t = tells_apart place_exact a b t
