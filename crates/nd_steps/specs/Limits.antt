@@ -4,7 +4,7 @@ use Rattle.nd_processor.specs.State.{ProcessorState}
 use Rattle.nd_protocol.specs.State.{ClusterState}
 use Rattle.nd_protocol.specs.Enabled.{HasLargeCount, HasLargeEntry}
 use Rattle.nd_protocol.specs.declared.refusal.Refusal.{Refusal}
-use Rattle.nd_protocol.specs.declared.refusal.Refusal.TheVariants.{CountFull, DeltaFull, Memory}
+use Rattle.nd_protocol.specs.declared.refusal.Refusal.TheVariants.{CountFull, DeltaFull}
 use Rattle.nd_steps.specs.Slots.{stands, CountWithin, EntryWithin}
 use Rattle.nd_steps.specs.Changes.{own}
 use Rattle.nd_steps.specs.declared.change.Change.{Change}
@@ -24,5 +24,4 @@ EntryStays processors c = EntryWithin c.slot (after processors c)
 abbrev pub LimitFails : ClusterState → Refusal → Type 0
 LimitFails t CountFull = HasLargeCount t
 LimitFails t DeltaFull = (HasLargeCount t → ⊥) × HasLargeEntry t
-LimitFails t Memory = Unit {0}
 LimitFails t _ = ⊥

@@ -5,8 +5,7 @@ ghost use Rattle.nd_steps.specs.Undone.{IsGain};
 
 use crate::Slot;
 
-/// So much more stands at a key of processor p's maps. The numbers that items keep have 64 bits, so what leads from one to
-/// another has more.
+/// `n` more stands at a key of processor `p`'s maps. The difference of two items' numbers, of 64 bits each, needs more bits.
 #[derive(Debug, PartialEq, Eq, Drop)]
 pub struct Change {
     pub p: u32,
@@ -15,7 +14,7 @@ pub struct Change {
 }
 
 impl Default for Change {
-    /// A change by nothing.
+    /// Returns a change by nothing.
     fn default() -> Change
         ensures { result.n ≡ pos 0 }
     {
@@ -28,7 +27,7 @@ impl Default for Change {
 }
 
 impl Change {
-    /// An equal change.
+    /// Returns an equal change.
     pub fn copy(&self) -> Change
         ensures { result ≡ self.now }
     {
@@ -39,7 +38,7 @@ impl Change {
         }
     }
 
-    /// The change that takes this one back.
+    /// Returns the change that takes this one back.
     pub fn inverse(&self) -> Change
         requires { IsGain self.now.n }
         ensures { result ≡ inverse self.now }

@@ -16,7 +16,7 @@ use nd_processor::{CountFault, Processor, SinkKey, ValueAt};
 use nd_vertex::ItemKey;
 use std::alloc::{AllocError, Allocator};
 
-// So many records more of a key, or less if negative. A key that is there takes no memory.
+// Adds `n` records at a key, or takes them if `n` is negative. A key that is there takes no memory.
 fn more_records<A: Allocator + Copy>(
     processor: &mut Processor<A>,
     key: &ValueAt,
@@ -39,7 +39,7 @@ fn more_records<A: Allocator + Copy>(
     }
 }
 
-// A sink counts a value so many times more, or less if negative. A value that it has counted takes no memory.
+// Adds `n` to a sink's count of a value. A value that the sink has counted takes no memory.
 fn count_more<A: Allocator + Copy>(
     processor: &mut Processor<A>,
     key: &SinkKey,
@@ -62,7 +62,7 @@ fn count_more<A: Allocator + Copy>(
     }
 }
 
-// So much more at a pointstamp of what is unsent. A pointstamp that has an entry takes no memory.
+// Adds `n` at a pointstamp of what is unsent. A pointstamp that has an entry takes no memory.
 fn more_unsent<A: Allocator + Copy>(
     processor: &mut Processor<A>,
     point: &Pointstamp,
@@ -80,7 +80,7 @@ fn more_unsent<A: Allocator + Copy>(
     }
 }
 
-// 1 more than a token's epoch, 0 for none.
+// Returns 1 more than a token's epoch, 0 for no token.
 pub(crate) fn epoch_number(epoch: Option<u32>) -> i128
     ensures { result ≡ from_epoch epoch }
 {
@@ -90,7 +90,7 @@ pub(crate) fn epoch_number(epoch: Option<u32>) -> i128
     }
 }
 
-// The epoch of such a number, `None` for 0.
+// Returns the epoch that is 1 less than `n`, `None` for 0.
 fn number_epoch(n: i128) -> Option<u32>
     requires some { pos 0 ≤ℤ n }
     requires within { unsigned_abs n ≤ max_counter + 1 }
@@ -102,7 +102,7 @@ fn number_epoch(n: i128) -> Option<u32>
     Some((n - 1) as u32)
 }
 
-// A token moves so far, comes or goes. Only one that comes takes memory.
+// Adds `n` to the number of a vertex's token. Only a token that comes takes memory.
 fn move_token<A: Allocator + Copy>(
     processor: &mut Processor<A>,
     vertex: usize,
@@ -118,7 +118,7 @@ fn move_token<A: Allocator + Copy>(
     processor.move_token(vertex, old, new)
 }
 
-// An item's number, `None` for 0.
+// Returns `n` as an item's number, `None` for 0.
 fn item_number(n: i128) -> Option<i64>
     requires { IsValue n }
     ensures number { number_of result ≡ n }
@@ -130,7 +130,7 @@ fn item_number(n: i128) -> Option<i64>
     Some(n as i64)
 }
 
-// A vertex keeps so much more for an item. Only an item that comes takes memory.
+// Adds `n` to the number that a vertex keeps for an item. Only an item that comes takes memory.
 fn more_of_item<A: Allocator + Copy>(
     processor: &mut Processor<A>,
     vertex: usize,
@@ -147,7 +147,7 @@ fn more_of_item<A: Allocator + Copy>(
     processor.set_item(vertex, &key.time, key.item, old, new)
 }
 
-// Makes a change. If something stands already it takes no memory.
+// Adds `n` at a key. If something stands there already it takes no memory.
 fn make_in<A: Allocator + Copy>(
     processor: &mut Processor<A>,
     slot: &Slot,

@@ -11,7 +11,7 @@ use nd_delta::LIMIT;
 use nd_processor::Processor;
 use std::alloc::Allocator;
 
-// What stands at a key. It is looked up once.
+// Returns what stands at a key. Looks it up once.
 fn number_at<A: Allocator + Copy>(processor: &Processor<A>, slot: &Slot) -> i128
     requires { SlotIsThere processor.now slot.now }
     ensures value { result ≡ stands processor.now slot.now }
@@ -41,7 +41,7 @@ pub(crate) struct Reading {
     pub(crate) entry_stays: bool,
 }
 
-// What is read of a change that leaves this number at a key.
+// Says of a change that `after` stands at its key then.
 fn reading_after(slot: &Slot, after: i128) -> Reading
     ensures leaves { IsTrue result.leaves ↔ (after ≢ pos 0) }
     ensures count { IsTrue result.count_stays ↔ CountWithin slot.now after }
@@ -68,7 +68,7 @@ fn reading_after(slot: &Slot, after: i128) -> Reading
     }
 }
 
-// What is read of a change in the processor that it is of.
+// Reads a change in its processor.
 pub(crate) fn reading_of<A: Allocator + Copy>(
     processors: &[Processor<A>],
     change: &Change,

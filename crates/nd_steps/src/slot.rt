@@ -5,7 +5,7 @@ use nd_paths::Pointstamp;
 use nd_processor::{SinkKey, ValueAt};
 use nd_vertex::ItemKey;
 
-/// A key of one of a processor's maps. An integer stands there, 0 if the map does not have the key.
+/// A key of one of a processor's maps. An integer stands at each key, 0 if the map does not have it.
 #[derive(Debug, PartialEq, Eq, Drop)]
 pub enum Slot {
     /// A count of records.
@@ -23,7 +23,7 @@ pub enum Slot {
 }
 
 impl Slot {
-    /// An equal key.
+    /// Returns an equal key.
     pub fn copy(&self) -> Slot
         ensures { result ≡ self.now }
     {
