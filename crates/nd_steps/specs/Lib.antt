@@ -17,10 +17,8 @@ pub mod Counted
 pub mod Listed
 pub mod Appended
 pub mod Edits
-pub mod Pairs
-pub mod Stores
-pub mod Sums
 pub mod Drafts
+pub mod Onward
 pub mod Targets
 pub mod Refused
 pub mod Laws
