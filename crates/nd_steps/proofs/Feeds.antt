@@ -8,7 +8,7 @@ use Rattle.std.specs.FinMap as fin
 use Rattle.nd_paths.specs.declared.point.Pointstamp.{Pointstamp}
 use Rattle.nd_delta.specs.Change.{is_point}
 use Rattle.nd_processor.specs.State.{ProcessorState, token_point, one_at, held}
-use Rattle.nd_processor.specs.Held.{held-token, held-closed, Token}
+use Rattle.nd_processor.specs.Held.{held-token, held-closed, token_at}
 use Rattle.nd_protocol.specs.State.{ClusterState, processor}
 use Rattle.nd_protocol.specs.Steps.{moved_token, epoch_of, flat, emitted, fed, stepped}
 use Rattle.nd_protocol.specs.Enabled.{IsFreeBelow}
@@ -16,8 +16,8 @@ use Rattle.nd_protocol.specs.declared.refusal.Refusal.TheVariants.{NoProcessor, 
 use Rattle.nd_protocol.specs.declared.step.Step.TheVariants.{Feed}
 use Rattle.nd_protocol.specs.declared.step.Next.{Next as Afterwards}
 use Rattle.nd_protocol.specs.declared.step.Next.TheVariants as token
-use Rattle.nd_steps.specs.Places.{Place, place_at, Token as token_slot}
-use Rattle.nd_steps.specs.declared.slot.Slot.TheVariants.{Records, Request, State, Sink, Unsent}
+use Rattle.nd_steps.specs.Places.{Place, place_at}
+use Rattle.nd_steps.specs.declared.slot.Slot.TheVariants.{Records, Request, Token as token_slot, State, Sink, Unsent}
 use Rattle.nd_steps.specs.Slots.{from_epoch}
 use Rattle.nd_steps.specs.Totals.{Edit, total_at}
 use Rattle.nd_steps.specs.Edits.{token_edits}
@@ -83,12 +83,12 @@ module _ (p : ℕ) (q : ProcessorState) (vertex epoch : ℕ) (found : fin.get q.
       ∙ ap (λ b. from_epoch (fin.get q.tokens v) +ℤ (cond b (negsuc epoch) (pos 0) +ℤ pos 0)) (sym (token-test p v vertex))
   tokens_move token.Stay v = nothing_more (from_epoch (fin.get q.tokens v)) (pos 0) refl
 
-  token_was : (x : Pointstamp) → Token vertex (fin.get q.tokens vertex) x ≡ one_at (token_point vertex epoch) x
-  token_was x = ap (λ (o : Option ℕ). Token vertex o x) found
+  token_was : (x : Pointstamp) → token_at vertex (fin.get q.tokens vertex) x ≡ one_at (token_point vertex epoch) x
+  token_was x = ap (λ (o : Option ℕ). token_at vertex o x) found
 
   outstanding_moves : (next : Afterwards) (x : Pointstamp) → pos (held (after next) x) ≡ pos (held q x) +ℤ total_at (own next) (place_at p (Unsent x))
   outstanding_moves token.Next x =
-      let a : held (after token.Next) x + Token vertex (fin.get q.tokens vertex) x ≡ held q x + one_at (token_point vertex (epoch + 1)) x = held-token q vertex (epoch + 1) x in
+      let a : held (after token.Next) x + token_at vertex (fin.get q.tokens vertex) x ≡ held q x + one_at (token_point vertex (epoch + 1)) x = held-token q vertex (epoch + 1) x in
       let b = token_was x in
       let rest : List Edit = (place_at p (Unsent (token_point vertex (epoch + 1))), pos 1) ∷ [] in
       let c : total_at ((place_at p (Unsent (token_point vertex epoch)), negsuc 0) ∷ rest) (place_at p (Unsent x)) +ℤ pos (one_at (token_point vertex epoch) x) ≡ total_at rest (place_at p (Unsent x))
@@ -97,7 +97,7 @@ module _ (p : ℕ) (q : ProcessorState) (vertex epoch : ℕ) (found : fin.get q.
       let e : total_at (own token.Next) (place_at p (Unsent x)) ≡ pos 0 +ℤ total_at ((place_at p (Unsent (token_point vertex epoch)), negsuc 0) ∷ rest) (place_at p (Unsent x)) = refl in
       omega (arith, ints)
   outstanding_moves token.Close x =
-      let a : held (after token.Close) x + Token vertex (fin.get q.tokens vertex) x ≡ held q x = held-closed q vertex x in
+      let a : held (after token.Close) x + token_at vertex (fin.get q.tokens vertex) x ≡ held q x = held-closed q vertex x in
       let b = token_was x in
       let c : total_at ((place_at p (Unsent (token_point vertex epoch)), negsuc 0) ∷ []) (place_at p (Unsent x)) +ℤ pos (one_at (token_point vertex epoch) x) ≡ pos 0
       = one_less p (token_point vertex epoch) x [] in

@@ -13,14 +13,15 @@ use Rattle.nd_vertex.specs.Edits.{LeadsTo, edited, item_of as item_found, keys, 
 use Rattle.nd_vertex.specs.declared.key.ItemKey.{ItemKey}
 use Rattle.nd_vertex.specs.declared.effect.ItemEdit.{ItemEdit}
 use Rattle.nd_processor.specs.State.{items_at}
+use Rattle.nd_protocol.specs.Ranges.{IsValue}
 use Rattle.nd_protocol.specs.State.{ClusterState, processor}
 use Rattle.nd_steps.specs.Places.{Place, place_at, view_of}
 use Rattle.nd_steps.specs.declared.slot.Slot.TheVariants.{Records, Request, Token, State, Sink, Unsent}
 use Rattle.nd_steps.specs.Slots.{from_number}
 use Rattle.nd_steps.specs.Totals.{total_at, edits_of}
 use Rattle.nd_steps.specs.Edits.{item_edits}
-use Rattle.nd_steps.specs.Plans.{often, Once, Each}
-use Rattle.nd_steps.specs.Drafts.{IsSound, state_change}
+use Rattle.nd_steps.specs.Plans.{often, Once, Each, StaysRanged}
+use Rattle.nd_steps.specs.Drafts.{item_change, HasValues}
 use Rattle.nd_steps.specs.declared.change.Change.{Change}
 use Rattle.nd_steps.specs.Alike.{is_place, same_place, other_place, item-test}
 use Rattle.nd_steps.proofs.SumsOfSteps.{total_at-map_apart, items-here}
@@ -37,20 +38,6 @@ was (pos zero) = refl
 was (pos (suc n)) = refl
 was (negsuc n) = refl
 
-some_other : (z : ℤ) → cond (is_zero z) None (Some z) ≢ Some (pos 0)
-some_other (pos zero) e = absurd (cc)
-some_other (pos (suc n)) e = absurd (cc)
-some_other (negsuc n) e = absurd (cc)
-
-equal_if : (a b : ℤ) → b -ℤ a ≡ pos 0 → a ≡ b
-equal_if a b e = omega (arith, ints, e)
-
-apart_numbers : (a b : Option ℤ) → a ≢ Some (pos 0) → b ≢ Some (pos 0) → a ≢ b → from_number b -ℤ from_number a ≢ pos 0
-apart_numbers None None h k ne e = ne refl
-apart_numbers None (Some y) h k ne e = k (ap Some (sym (equal_if (pos 0) y e)))
-apart_numbers (Some x) None h k ne e = h (ap Some (equal_if x (pos 0) e))
-apart_numbers (Some x) (Some y) h k ne e = ne (ap Some (equal_if x y e))
-
 -- ---- no item twice
 
 rec_at : {X Y : Type 0} (P : Y → Type 0) (g : X → Y) (xs : List X) (i : ℕ) (d : X) → AllByRecursion P (map g xs) → i < length xs → P (g (get_or xs i d))
@@ -60,7 +47,7 @@ rec_at P g (x ∷ xs) (suc i) d h lt = rec_at P g xs i d h.1 (omega (arith, lt))
 
 module _ (p vertex : ℕ) where
   abbrev pub changes : List ItemEdit → List Change
-  changes es = map (state_change p vertex) es
+  changes es = map (item_change p vertex) es
 
   not_among : (b : ItemKey) (es : List ItemEdit) → AllByRecursion (λ y. eq_by_cmp item_cmp b y ≡ false) (keys es) → often (place_at p (State vertex b)) (changes es) ≡ 0
   not_among b [] h = refl
@@ -142,27 +129,24 @@ module _ (p vertex : ℕ) where
       by (inl e) (inr g) = elsewhere (place_at q (State w key)) (λ x is. g (cc)) m n es
       by (inr g) f = elsewhere (place_at q (State w key)) (λ x is. g (cc)) m n es
 
--- ---- each may be made
+-- ---- their numbers have 64 bits
 
 module _ (s : ClusterState) (p vertex : ℕ) where
   abbrev kept : Items
   kept = items_at (processor s p) vertex
 
-  not_zero : (e : ItemEdit) → item_found kept e.key ≡ e.old → e.old ≢ Some (pos 0)
-  not_zero e old z = some_other (number_at kept e.key) (old ∙ z)
+  one_ranged : (z : ℤ) (e : ItemEdit) → HasValues e → from_number e.old ≡ z → IsValue (z +ℤ (from_number e.new -ℤ from_number e.old))
+  one_ranged z e h old = subst IsValue (then z (from_number e.old) (from_number e.new) old) h.new
+    where
+      then : (z a b : ℤ) → a ≡ z → b ≡ z +ℤ (b -ℤ a)
+      then z a b e = omega (arith, ints, e)
 
-  one_sound : (e : ItemEdit) → item_found kept e.key ≡ e.old → e.new ≢ Some (pos 0) → e.old ≢ e.new → IsSound s (state_change p vertex e)
-  one_sound e old new ne = record {
-    single = tt;
-    some = apart_numbers e.old e.new (not_zero e old) new ne;
-    old = sym (was (number_at kept e.key)) ∙ ap from_number old;
-    numbers = (not_zero e old, new);
-  }
+  each_ranged : (es : List ItemEdit) → All (λ e. item_found kept e.key ≡ e.old) es → All HasValues es → Each (StaysRanged s) (map (item_change p vertex) es)
+  each_ranged [] olds values = tt
+  each_ranged (e ∷ es) olds values = (
+    one_ranged (number_at kept e.key) e (values 0 e (omega arith)) (ap from_number (sym (olds 0 e (omega arith))) ∙ was (number_at kept e.key)),
+    each_ranged es (λ i d lt. olds (suc i) d (omega (arith, lt))) (λ i d lt. values (suc i) d (omega (arith, lt))),
+  )
 
-  each_sound : (es : List ItemEdit) → All (λ e. item_found kept e.key ≡ e.old) es → All (λ e. e.new ≢ Some (pos 0)) es → All (λ e. e.old ≢ e.new) es → Each (IsSound s) (map (state_change p vertex) es)
-  each_sound [] olds news nes = tt
-  each_sound (e ∷ es) olds news nes =
-      (one_sound e (olds 0 e (omega arith)) (news 0 e (omega arith)) (nes 0 e (omega arith)), each_sound es (λ i d lt. olds (suc i) d (omega (arith, lt))) (λ i d lt. news (suc i) d (omega (arith, lt))) (λ i d lt. nes (suc i) d (omega (arith, lt))))
-
-  pub items_sound : (n : Items) (es : List ItemEdit) → LeadsTo kept es n → Each (IsSound s) (map (state_change p vertex) es)
-  items_sound n es leads = each_sound es leads.can_edit.olds leads.can_edit.news leads.changes
+  pub items_ranged : (n : Items) (es : List ItemEdit) → LeadsTo kept es n → All HasValues es → Each (StaysRanged s) (map (item_change p vertex) es)
+  items_ranged n es leads values = each_ranged es leads.can_edit.olds values

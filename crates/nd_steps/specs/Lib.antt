@@ -14,10 +14,8 @@ pub mod Turns
 pub mod Counted
 pub mod Listed
 pub mod Edits
-pub mod Pairs
-pub mod Stores
-pub mod Sums
 pub mod Drafts
+pub mod Onward
 pub mod Targets
 pub mod Refused
 pub mod Laws

@@ -1,18 +1,38 @@
 //! The records that vertices make, and the processors that they go to.
-ghost use Rattle.std.specs.Prelude.{◌≡◌, ◌<◌, ◌≤◌, ◌+◌, ◌*◌, ◌++◌, ℕ, OnOk, IfOk, length};
-ghost use Rattle.std.specs.List.{flat_map};
+ghost use Rattle.std.specs.Prelude.{◌≡◌, ◌<◌, ◌≤◌, ◌+◌, ◌++◌, OnOk, length};
 ghost use Rattle.nd_time.specs.Limits.{max_locations};
-ghost use Rattle.nd_protocol.specs.Steps.{destination as destination_of, made_on};
+ghost use Rattle.nd_protocol.specs.Steps.{destination as destination_of};
+ghost use Rattle.nd_steps.specs.Drafts.{arrivals, made_along, made_by, fed_at, fed_by, emitted_by};
 
-use nd_graph::{Graph, Route};
+use crate::draft::Draft;
+use nd_graph::{Edge, Graph, Route};
 use nd_paths::Pointstamp;
 use nd_processor::ValueAt;
 use nd_time::Timestamp;
 use nd_vertex::Emission;
 use std::alloc::{AllocError, Allocator};
 
+/// Who makes a step: a vertex of processor p, of n, with this graph.
+pub struct Performer<'a, B: Allocator> {
+    pub graph: &'a Graph<B>,
+    pub n: u32,
+    pub p: u32,
+    pub vertex: usize,
+}
+
+impl<'a, B: Allocator> Drop for Performer<'a, B> {
+    fn drop(self) {
+        let Performer {
+            graph: _,
+            n: _,
+            p: _,
+            vertex: _,
+        } = self;
+    }
+}
+
 // The processor, of n, that a record of a value goes to, made by processor p.
-fn destination(route: Route, n: u32, p: u32, value: i64) -> u32
+pub(crate) fn destination(route: Route, n: u32, p: u32, value: i64) -> u32
     requires { p < n }
     ensures value { result ≡ destination_of route n p value }
     ensures there { result < n }
@@ -24,86 +44,96 @@ fn destination(route: Route, n: u32, p: u32, value: i64) -> u32
 }
 
 // The location of the first edge: vertices come before it.
-fn first_edge<B: Allocator>(graph: &Graph<B>) -> usize
+pub(crate) fn first_edge<B: Allocator>(graph: &Graph<B>) -> usize
     ensures first { result ≡ length graph.now.vertices }
     ensures few { length graph.now.vertices + length graph.now.edges ≤ max_locations }
 {
     graph.location_count() - graph.edges().len()
 }
 
-// The records of one emission of processor p's vertex, with their processors: one on each edge that leaves the port.
-pub(crate) fn emit<A: Allocator, B: Allocator>(
-    graph: &Graph<B>,
-    n: u32,
-    p: u32,
-    vertex: usize,
+// The record of an emission on an edge, if it leaves the port.
+fn emit_on<A: Allocator + Copy, B: Allocator>(
+    by: &Performer<'_, B>,
     emission: &Emission,
-    made: &mut Vec<(u32, ValueAt), A>,
+    location: usize,
+    edge: &Edge,
+    draft: &mut Draft<A>,
 ) -> Result<(), AllocError>
-    requires { p < n }
-    ensures made { OnOk result (made.new.items ≡ made.old.items ++ made_on n p vertex emission.now.port emission.now.value emission.now.time (length graph.now.vertices) graph.now.edges) }
-    ensures few { OnOk result (length made.new.items ≤ length made.old.items + max_locations) }
+    requires { by.now.p < by.now.n }
+    ensures p { draft.new.p ≡ draft.old.p }
+    ensures changes { OnOk result (draft.new.changes.items ≡ draft.old.changes.items ++ arrivals draft.old.p (made_along by.now.n by.now.p by.now.vertex emission.now location edge.now)) }
 {
-    let first = first_edge(graph);
-    let edges = graph.edges();
-    for (i, edge) in edges.iter().enumerate() {
-        if edge.from == vertex && edge.port == emission.port {
-            let to = destination(edge.route, n, p, emission.value);
-            let key = ValueAt {
-                point: Pointstamp {
-                    location: first + i,
-                    time: emission.time.copy(),
-                },
-                value: emission.value,
-            };
-            made.push((to, key))?;
-        }
+    if edge.from != by.vertex || edge.port != emission.port {
+        return Ok(());
+    }
+    let to = destination(edge.route, by.n, by.p, emission.value);
+    let key = ValueAt {
+        point: Pointstamp {
+            location,
+            time: emission.time.copy(),
+        },
+        value: emission.value,
+    };
+    draft.add_record(to, key)
+}
+
+// The records of one emission of the vertex: one on each edge that leaves the port.
+fn emit<A: Allocator + Copy, B: Allocator>(
+    by: &Performer<'_, B>,
+    emission: &Emission,
+    draft: &mut Draft<A>,
+) -> Result<(), AllocError>
+    requires { by.now.p < by.now.n }
+    ensures p { draft.new.p ≡ draft.old.p }
+    ensures changes { OnOk result (draft.new.changes.items ≡ draft.old.changes.items ++ arrivals draft.old.p (made_by by.now.graph.now by.now.n by.now.p by.now.vertex emission.now)) }
+{
+    let first = first_edge(by.graph);
+    for (i, edge) in by.graph.edges().iter().enumerate() {
+        emit_on(by, emission, first + i, edge, draft)?;
     }
     Ok(())
 }
 
-// The records of the values that are fed into processor p's input vertex.
-pub(crate) fn fed_records<A: Allocator, B: Allocator>(
-    alloc: A,
-    graph: &Graph<B>,
-    n: u32,
-    p: u32,
-    vertex: usize,
-    time: &Timestamp,
-    values: &[i64],
-) -> Result<Vec<(u32, ValueAt), A>, AllocError>
-    requires { p < n }
-    ensures made { IfOk result (λ r. r.items ≡ flat_map (λ v. made_on n p vertex 0 v time.now (length graph.now.vertices) graph.now.edges) values.now) }
-    ensures few { IfOk result (λ r. length r.items ≤ max_locations * length values.now) }
+// The emission of a value that is fed at a time.
+fn fed(time: &Timestamp, value: &i64) -> Emission
+    ensures { result ≡ fed_at time.now value.now }
 {
-    let mut made = Vec::new(alloc);
-    for value in values {
-        let emission = Emission {
-            port: 0,
-            time: time.copy(),
-            value: *value,
-        };
-        emit(graph, n, p, vertex, &emission, &mut made)?;
+    Emission {
+        port: 0,
+        time: time.copy(),
+        value: *value,
     }
-    Ok(made)
 }
 
-// The records of what processor p's vertex emits.
-pub(crate) fn emitted_records<A: Allocator, B: Allocator>(
-    alloc: A,
-    graph: &Graph<B>,
-    n: u32,
-    p: u32,
-    vertex: usize,
-    emissions: &[Emission],
-) -> Result<Vec<(u32, ValueAt), A>, AllocError>
-    requires { p < n }
-    ensures made { IfOk result (λ r. r.items ≡ flat_map (λ e. made_on n p vertex e.port e.value e.time (length graph.now.vertices) graph.now.edges) emissions.now) }
-    ensures few { IfOk result (λ r. length r.items ≤ max_locations * length emissions.now) }
+// The records of the values that the vertex is fed.
+pub(crate) fn emit_fed<A: Allocator + Copy, B: Allocator>(
+    by: &Performer<'_, B>,
+    time: &Timestamp,
+    values: &[i64],
+    draft: &mut Draft<A>,
+) -> Result<(), AllocError>
+    requires { by.now.p < by.now.n }
+    ensures p { draft.new.p ≡ draft.old.p }
+    ensures changes { OnOk result (draft.new.changes.items ≡ draft.old.changes.items ++ arrivals draft.old.p (fed_by by.now.graph.now by.now.n by.now.p by.now.vertex time.now values.now)) }
 {
-    let mut made = Vec::new(alloc);
-    for emission in emissions {
-        emit(graph, n, p, vertex, emission, &mut made)?;
+    for value in values {
+        emit(by, &fed(time, value), draft)?;
     }
-    Ok(made)
+    Ok(())
+}
+
+// The records of what the vertex emits.
+pub(crate) fn emit_all<A: Allocator + Copy, B: Allocator>(
+    by: &Performer<'_, B>,
+    emissions: &[Emission],
+    draft: &mut Draft<A>,
+) -> Result<(), AllocError>
+    requires { by.now.p < by.now.n }
+    ensures p { draft.new.p ≡ draft.old.p }
+    ensures changes { OnOk result (draft.new.changes.items ≡ draft.old.changes.items ++ arrivals draft.old.p (emitted_by by.now.graph.now by.now.n by.now.p by.now.vertex emissions.now)) }
+{
+    for emission in emissions {
+        emit(by, emission, draft)?;
+    }
+    Ok(())
 }

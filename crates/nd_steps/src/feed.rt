@@ -1,28 +1,32 @@
-//! What a feed adds: its records, and the move of the token (Naiad, SOSP 2013, section 2.2).
-ghost use Rattle.std.specs.Prelude.{◌≡◌, ◌<◌, ◌≤◌, ℕ, IfOk, Some, length};
+//! What a feed changes: its records come, and the token moves (Naiad, SOSP 2013, section 2.2).
+ghost use Rattle.std.specs.Prelude.{◌≡◌, ◌<◌, ◌≤◌, ◌++◌, FitsSigned, IfOk, OnOk, Some, negsuc};
+ghost use Rattle.std.specs.Int.{w128};
 ghost use Rattle.std.specs.FinMap as fin;
-ghost use Rattle.nd_time.specs.Limits.{max_counter, max_values};
+ghost use Rattle.nd_time.specs.Limits.{max_counter};
 ghost use Rattle.nd_graph.specs.Graph.{op_at};
 ghost use Rattle.nd_graph.specs.declared.op.Op.TheVariants as operator;
 ghost use Rattle.nd_processor.specs.State.{token_point as token_point_of};
 ghost use Rattle.nd_protocol.specs.State.{ClusterState, processor};
-ghost use Rattle.nd_protocol.specs.Steps.{stepped};
-ghost use Rattle.nd_protocol.specs.Fitting.{IsState};
-ghost use Rattle.nd_protocol.specs.Enabled.{IsFreeBelow};
+ghost use Rattle.nd_protocol.specs.Steps.{flat};
 ghost use Rattle.nd_protocol.specs.declared.step.Step.TheVariants.{Feed as Feeding};
 ghost use Rattle.nd_protocol.specs.declared.step.Next.TheVariants as token;
-ghost use Rattle.nd_steps.specs.Plans.{Reaches};
-ghost use Rattle.nd_steps.specs.Edits.{token_edits};
-ghost use Rattle.nd_steps.specs.Drafts.{AddsUp, IsSmall, Has, fed_edits};
+ghost use Rattle.nd_steps.specs.Drafts.{Has, Leads, fed_by, fed_changes, token_changes};
 
 use crate::draft::Draft;
-use crate::emit::fed_records;
-use nd_graph::Graph;
+use crate::emit::emit_fed;
+use crate::{Change, Performer, Slot};
 use nd_paths::Pointstamp;
 use nd_protocol::Next;
-use crate::Change;
 use nd_time::Timestamp;
 use std::alloc::{AllocError, Allocator};
+
+/// Values that an input vertex is fed at the epoch of its token, and where the token goes.
+#[derive(Drop)]
+pub struct Fed<'a> {
+    pub epoch: u32,
+    pub values: &'a [i64],
+    pub next: Next,
+}
 
 // The pointstamp of an input vertex's token.
 fn token_point(vertex: usize, epoch: u32) -> Pointstamp
@@ -34,88 +38,69 @@ fn token_point(vertex: usize, epoch: u32) -> Pointstamp
     }
 }
 
-// What the move of processor p's token adds, at a feed by which so many records come.
-fn token_draft<A: Allocator + Copy>(
-    alloc: A,
-    count: usize,
-    p: u32,
+// So much more stands for a token that is given up.
+fn closes(epoch: u32) -> i128
+    ensures value { result ≡ negsuc epoch }
+    ensures fits { FitsSigned w128 result }
+{
+    -1 - i128::from(epoch)
+}
+
+// The move of a token.
+fn add_token<A: Allocator + Copy>(
+    draft: &mut Draft<A>,
     vertex: usize,
     epoch: u32,
     next: Next,
-) -> Result<Draft<A>, AllocError>
+) -> Result<(), AllocError>
     requires { next ≡ token.Next → epoch < max_counter }
-    ensures adds { IfOk result (λ d. (s : ClusterState) → fin.get (processor s p).tokens vertex ≡ Some epoch → AddsUp s (token_edits p vertex epoch next) d) }
-    ensures small { IfOk result (λ d. IsSmall 2 d) }
-    ensures p { IfOk result (λ d. d.sums.p ≡ p) }
+    ensures p { draft.new.p ≡ draft.old.p }
+    ensures changes { OnOk result (draft.new.changes.items ≡ draft.old.changes.items ++ token_changes draft.old.p vertex epoch next) }
+    ensures fits { epoch ≤ max_counter }
 {
-    let mut draft = Draft::new(alloc, p, count);
     match next {
-        Next::Stay => Ok(draft),
+        Next::Stay => Ok(()),
         Next::Close => {
-            draft.push(Change::Token {
-                p,
-                vertex,
-                old: Some(epoch),
-                new: None,
-            })?;
-            draft.add_unsent(&token_point(vertex, epoch), -1)?;
-            Ok(draft)
+            draft.add(Slot::Token(vertex), closes(epoch))?;
+            draft.add(Slot::Unsent(token_point(vertex, epoch)), -1)
         }
         Next::Next => {
-            draft.push(Change::Token {
-                p,
-                vertex,
-                old: Some(epoch),
-                new: Some(epoch + 1),
-            })?;
-            draft.add_unsent(&token_point(vertex, epoch), -1)?;
-            draft.add_unsent(&token_point(vertex, epoch + 1), 1)?;
-            Ok(draft)
+            draft.add(Slot::Token(vertex), 1)?;
+            draft.add(Slot::Unsent(token_point(vertex, epoch)), -1)?;
+            draft.add(Slot::Unsent(token_point(vertex, epoch + 1)), 1)
         }
     }
 }
 
-// What a feed of processor p adds.
+// The changes of a feed, as they are found.
 fn feed_draft<A: Allocator + Copy, B: Allocator>(
     alloc: A,
-    graph: &Graph<B>,
-    n: u32,
-    p: u32,
-    vertex: usize,
-    epoch: u32,
-    values: &[i64],
-    next: Next,
+    by: &Performer<'_, B>,
+    fed: &Fed<'_>,
 ) -> Result<Draft<A>, AllocError>
-    requires there { p < n }
-    requires input { op_at graph.now vertex ≡ operator.Input }
-    requires few { length values.now ≤ max_values }
-    requires goes { next ≡ token.Next → epoch < max_counter }
-    ensures { IfOk result (λ d. (s : ClusterState) → Has graph.now n s → fin.get (processor s p).tokens vertex ≡ Some epoch → AddsUp s (fed_edits s p vertex values.now next) d) }
+    requires there { by.now.p < by.now.n }
+    requires goes { fed.now.next ≡ token.Next → fed.now.epoch < max_counter }
+    ensures changes { IfOk result (λ d. d.changes.items ≡ fed_changes by.now.p by.now.vertex fed.now.epoch fed.now.next (fed_by by.now.graph.now by.now.n by.now.p by.now.vertex (flat fed.now.epoch) fed.now.values.now)) }
+    ensures fits { OnOk result (fed.now.epoch ≤ max_counter) }
 {
-    let time = Timestamp::new(epoch, &[]).unwrap();
-    let come = fed_records(alloc, graph, n, p, vertex, &time, values)?;
-    let mut draft = token_draft(alloc, come.len(), p, vertex, epoch, next)?;
-    draft.add_come(&come)?;
+    let mut draft = Draft::new(alloc, by.p);
+    add_token(&mut draft, by.vertex, fed.epoch, fed.next)?;
+    let time = Timestamp::new(fed.epoch, &[]).unwrap();
+    emit_fed(by, &time, fed.values, &mut draft)?;
     Ok(draft)
 }
 
-/// What a feed of processor p changes, if it passes all tests but those of the limits.
+/// What a feed of a processor changes, if it passes all tests but those of the limits.
 pub fn feed_changes<A: Allocator + Copy, B: Allocator>(
     alloc: A,
-    graph: &Graph<B>,
-    n: u32,
-    p: u32,
-    vertex: usize,
-    epoch: u32,
-    values: &[i64],
-    next: Next,
+    by: &Performer<'_, B>,
+    fed: &Fed<'_>,
 ) -> Result<Vec<Change, A>, AllocError>
-    requires there { p < n }
-    requires input { op_at graph.now vertex ≡ operator.Input }
-    requires few { length values.now ≤ max_values }
-    requires goes { next ≡ token.Next → epoch < max_counter }
-    ensures { IfOk result (λ v. (s : ClusterState) → Has graph.now n s → fin.get (processor s p).tokens vertex ≡ Some epoch → IsState s → IsFreeBelow {A = A} s (Feeding p vertex values.now next) 13 → Reaches s (stepped {A = A} s (Feeding p vertex values.now next)) v.items) }
+    requires there { by.now.p < by.now.n }
+    requires input { op_at by.now.graph.now by.now.vertex ≡ operator.Input }
+    requires goes { fed.now.next ≡ token.Next → fed.now.epoch < max_counter }
+    ensures { IfOk result (λ v. (s : ClusterState) → Has by.now.graph.now by.now.n s → fin.get (processor s by.now.p).tokens by.now.vertex ≡ Some fed.now.epoch → Leads {A = A} s (Feeding by.now.p by.now.vertex fed.now.values.now fed.now.next) v.items) }
 {
-    let mut draft = feed_draft(alloc, graph, n, p, vertex, epoch, values, next)?;
-    draft.join(alloc)
+    let draft = feed_draft(alloc, by, fed)?;
+    draft.join()
 }

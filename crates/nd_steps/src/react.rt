@@ -1,136 +1,111 @@
-//! What a take and a notice add: a record or a request goes, and the vertex does what its operator says.
-ghost use Rattle.std.specs.Prelude.{◌≡◌, ◌<◌, ◌≤◌, [], ℕ, IfOk, OnOk, length};
-ghost use Rattle.nd_time.specs.Limits.{max_values};
+//! What a take and a notice change: a record or a request goes, and the vertex does what its operator says.
+ghost use Rattle.std.specs.Prelude.{◌≡◌, ◌<◌, All, IfOk, OnOk};
 ghost use Rattle.nd_protocol.specs.State.{ClusterState};
-ghost use Rattle.nd_protocol.specs.Steps.{stepped};
-ghost use Rattle.nd_protocol.specs.Fitting.{IsState};
-ghost use Rattle.nd_protocol.specs.Enabled.{IsFreeBelow};
+ghost use Rattle.nd_protocol.specs.Steps.{point_at};
 ghost use Rattle.nd_protocol.specs.declared.step.Step.TheVariants.{Take as Taking, Notice as Noticing};
-ghost use Rattle.nd_steps.specs.Plans.{Reaches};
-ghost use Rattle.nd_steps.specs.Drafts.{AddsUp, IsSmall, Follows, Has, TakesSo, NoticesSo, taken_come, taken_edits, noticed_edits, request_if, sent_if, counted_if};
+ghost use Rattle.nd_steps.specs.Drafts.{Has, Leads, HasValues, TakesSo, NoticesSo, emitted_by, taken_changes, noticed_changes};
 
 use crate::draft::Draft;
-use crate::emit::emitted_records;
-use nd_graph::Graph;
+use crate::emit::emit_all;
+use crate::{Change, Performer, Slot};
 use nd_paths::Pointstamp;
-use nd_processor::ValueAt;
-use crate::Change;
+use nd_processor::{SinkKey, ValueAt};
+use nd_time::Timestamp;
 use nd_vertex::Effect;
 use std::alloc::{AllocError, Allocator};
 
-// The request at a pointstamp, if it is new; then it is to be sent.
-fn ask<A: Allocator + Copy>(
-    draft: &mut Draft<A>,
-    point: &Pointstamp,
-    asks: bool,
-) -> Result<Option<bool>, AllocError>
-    requires { IsSmall 4 draft.old }
-    ensures request { IfOk result (λ r. r ≡ request_if asks) }
-    ensures follows { OnOk result (Follows draft.old (sent_if asks draft.old.sums.p point.now) draft.new) }
-    ensures small { OnOk result (IsSmall 5 draft.new) }
-    ensures singles { draft.new.singles ≡ draft.old.singles }
-{
-    if !asks {
-        return Ok(None);
+/// A record that is taken, the effect that it has, and whether that asks for a notice anew.
+pub struct Taken<'a, A: Allocator> {
+    pub key: &'a ValueAt,
+    pub effect: &'a Effect<A>,
+    pub asks: bool,
+}
+
+impl<'a, A: Allocator> Drop for Taken<'a, A> {
+    fn drop(self) {
+        let Taken {
+            key: _,
+            effect: _,
+            asks: _,
+        } = self;
     }
-    draft.add_unsent(point, 1)?;
-    Ok(Some(true))
 }
 
-// The value that a sink counts.
-fn counted(sink: bool, key: &ValueAt) -> Option<i64>
-    ensures { result ≡ counted_if sink key.now.value }
+// The changes of a take, as they are found: the record goes, and its target has the effect.
+fn take_draft<A: Allocator + Copy, B: Allocator>(
+    alloc: A,
+    by: &Performer<'_, B>,
+    taken: &Taken<'_, A>,
+) -> Result<Draft<A>, AllocError>
+    requires { by.now.p < by.now.n }
+    ensures changes { IfOk result (λ d. d.changes.items ≡ taken_changes by.now.p by.now.vertex taken.now.key.now taken.now.effect.now taken.now.asks (emitted_by by.now.graph.now by.now.n by.now.p by.now.vertex taken.now.effect.now.emits.items)) }
+    ensures values { OnOk result (All HasValues taken.now.effect.now.items.items) }
 {
-    if sink { Some(key.value) } else { None }
-}
-
-// What a take on processor p adds to a draft of nothing: the record goes, its target has this effect, with a request that is new or not, and records come.
-fn take_draft<A: Allocator + Copy>(
-    draft: &mut Draft<A>,
-    p: u32,
-    key: &ValueAt,
-    target: usize,
-    effect: &Effect<A>,
-    asks: bool,
-    come: &[(u32, ValueAt)],
-) -> Result<(), AllocError>
-    requires adds { (s : ClusterState) → AddsUp s [] draft.old }
-    requires small { IsSmall 0 draft.old }
-    requires p { draft.old.sums.p ≡ p }
-    requires singles { draft.old.singles.items ≡ [] }
-    requires few { length come.now ≤ 65536 }
-    ensures { OnOk result ((s : ClusterState) → TakesSo s p target key.now effect.now asks → come.now ≡ taken_come s p key.now.point.location key.now.point.time key.now.value → AddsUp s (taken_edits s p key.now.point.location key.now.point.time key.now.value) draft.new) }
-{
+    let key = taken.key;
     let point = Pointstamp {
-        location: target,
+        location: by.vertex,
         time: key.point.time.copy(),
     };
-    draft.add_record(p, key, -1)?;
-    draft.add_unsent(&key.point, -1)?;
-    let request = ask(draft, &point, asks)?;
-    let counted = counted(effect.sink, key);
-    draft.push_vertex(p, &point, request, &effect.items, counted)?;
-    draft.add_come(come)?;
-    Ok(())
-}
-
-// What a notice on processor p adds: the request goes, and its vertex has this effect.
-fn notice_draft<A: Allocator + Copy, B: Allocator>(
-    alloc: A,
-    graph: &Graph<B>,
-    n: u32,
-    p: u32,
-    point: &Pointstamp,
-    effect: &Effect<A>,
-) -> Result<Draft<A>, AllocError>
-    requires there { p < n }
-    requires few { length effect.now.emits.items ≤ max_values }
-    ensures { IfOk result (λ d. (s : ClusterState) → Has graph.now n s → NoticesSo s p point.now effect.now → AddsUp s (noticed_edits s p point.now.location point.now.time) d) }
-{
-    let come = emitted_records(alloc, graph, n, p, point.location, &effect.emits)?;
-    let mut draft = Draft::new(alloc, p, come.len());
-    draft.add_unsent(point, -1)?;
-    draft.push_vertex(p, point, Some(false), &effect.items, None)?;
-    draft.add_come(&come)?;
+    let sink = SinkKey {
+        vertex: by.vertex,
+        value: key.value,
+    };
+    let mut draft = Draft::new(alloc, by.p);
+    draft.add(Slot::Records(key.copy()), -1)?;
+    draft.add(Slot::Unsent(key.point.copy()), -1)?;
+    draft.ask(&point, taken.asks)?;
+    draft.add_items(by.vertex, &taken.effect.items)?;
+    draft.count(sink, taken.effect.sink)?;
+    emit_all(by, &taken.effect.emits, &mut draft)?;
     Ok(draft)
 }
 
-/// What a take on processor p changes, if it passes all tests but those of the limits.
-pub fn take_changes<A: Allocator + Copy, B: Allocator>(
+// The changes of a notice, as they are found: the request goes, and its vertex has the effect.
+fn notice_draft<A: Allocator + Copy, B: Allocator>(
     alloc: A,
-    graph: &Graph<B>,
-    n: u32,
-    p: u32,
-    key: &ValueAt,
-    target: usize,
+    by: &Performer<'_, B>,
+    time: &Timestamp,
     effect: &Effect<A>,
-    asks: bool,
-) -> Result<Vec<Change, A>, AllocError>
-    requires there { p < n }
-    requires few { length effect.now.emits.items ≤ max_values }
-    ensures { IfOk result (λ v. (s : ClusterState) → Has graph.now n s → TakesSo s p target key.now effect.now asks → IsState s → IsFreeBelow {A = A} s (Taking p key.now.point.location key.now.point.time key.now.value) 13 → Reaches s (stepped {A = A} s (Taking p key.now.point.location key.now.point.time key.now.value)) v.items) }
+) -> Result<Draft<A>, AllocError>
+    requires { by.now.p < by.now.n }
+    ensures changes { IfOk result (λ d. d.changes.items ≡ noticed_changes by.now.p (point_at by.now.vertex time.now) effect.now (emitted_by by.now.graph.now by.now.n by.now.p by.now.vertex effect.now.emits.items)) }
+    ensures values { OnOk result (All HasValues effect.now.items.items) }
 {
-    let come = emitted_records(alloc, graph, n, p, target, &effect.emits)?;
-    let mut draft = Draft::new(alloc, p, come.len());
-    match take_draft(&mut draft, p, key, target, effect, asks, &come) {
-        Ok(()) => draft.join(alloc),
-        Err(AllocError) => Err(AllocError),
-    }
+    let point = Pointstamp {
+        location: by.vertex,
+        time: time.copy(),
+    };
+    let mut draft = Draft::new(alloc, by.p);
+    draft.add(Slot::Request(point.copy()), -1)?;
+    draft.add(Slot::Unsent(point), -1)?;
+    draft.add_items(by.vertex, &effect.items)?;
+    emit_all(by, &effect.emits, &mut draft)?;
+    Ok(draft)
 }
 
-/// What a notice on processor p changes, if it passes all tests but those of the limits.
+/// What a take on a processor changes, if it passes all tests but those of the limits.
+pub fn take_changes<A: Allocator + Copy, B: Allocator>(
+    alloc: A,
+    by: &Performer<'_, B>,
+    taken: &Taken<'_, A>,
+) -> Result<Vec<Change, A>, AllocError>
+    requires { by.now.p < by.now.n }
+    ensures { IfOk result (λ v. (s : ClusterState) → Has by.now.graph.now by.now.n s → TakesSo s by.now.p by.now.vertex taken.now.key.now taken.now.effect.now taken.now.asks → Leads {A = A} s (Taking by.now.p taken.now.key.now.point.location taken.now.key.now.point.time taken.now.key.now.value) v.items) }
+{
+    let draft = take_draft(alloc, by, taken)?;
+    draft.join()
+}
+
+/// What a notice on a processor changes, if it passes all tests but those of the limits.
 pub fn notice_changes<A: Allocator + Copy, B: Allocator>(
     alloc: A,
-    graph: &Graph<B>,
-    n: u32,
-    p: u32,
-    point: &Pointstamp,
+    by: &Performer<'_, B>,
+    time: &Timestamp,
     effect: &Effect<A>,
 ) -> Result<Vec<Change, A>, AllocError>
-    requires there { p < n }
-    requires few { length effect.now.emits.items ≤ max_values }
-    ensures { IfOk result (λ v. (s : ClusterState) → Has graph.now n s → NoticesSo s p point.now effect.now → IsState s → IsFreeBelow {A = A} s (Noticing p point.now.location point.now.time) 13 → Reaches s (stepped {A = A} s (Noticing p point.now.location point.now.time)) v.items) }
+    requires { by.now.p < by.now.n }
+    ensures { IfOk result (λ v. (s : ClusterState) → Has by.now.graph.now by.now.n s → NoticesSo s by.now.p (point_at by.now.vertex time.now) effect.now → Leads {A = A} s (Noticing by.now.p by.now.vertex time.now) v.items) }
 {
-    let mut draft = notice_draft(alloc, graph, n, p, point, effect)?;
-    draft.join(alloc)
+    let draft = notice_draft(alloc, by, time, effect)?;
+    draft.join()
 }
