@@ -17,7 +17,8 @@ use Rattle.nd_steps.specs.Places.{Place, place_at}
 use Rattle.nd_steps.specs.declared.slot.Slot.TheVariants.{Records, Unsent}
 use Rattle.nd_steps.specs.Totals.{total_at}
 use Rattle.nd_steps.specs.Edits.{come_edits}
-use Rattle.nd_steps.specs.Alike.{is_place, other_place, record-test, unsent-test}
+use Rattle.nd_steps.specs.Places.{is_place}
+use Rattle.nd_steps.proofs.AlikeLemmas.{other_place, record-test, unsent-test}
 use Rattle.nd_steps.proofs.SumsOfSteps.{owner, apart_of, total_at-append, total_at-map_apart}
 
 -- each goes to one of n processors

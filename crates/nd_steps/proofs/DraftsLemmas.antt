@@ -16,8 +16,9 @@ use Rattle.nd_steps.specs.Places.{Place, place_cmp, place_total}
 use Rattle.nd_steps.specs.Changes.{place_of}
 use Rattle.nd_steps.specs.Totals.{total_at, edits_of}
 use Rattle.nd_steps.specs.Plans.{often, Once, Each}
-use Rattle.nd_steps.specs.Alike.{is_place, same_place}
-use Rattle.nd_steps.specs.Appended.{often-append, total-append, each-append}
+use Rattle.nd_steps.specs.Places.{is_place}
+use Rattle.nd_steps.proofs.AlikeLemmas.{same_place}
+use Rattle.nd_steps.proofs.EachLemmas.{often-append, total-append, each-append}
 use Rattle.nd_steps.specs.Drafts.{at_key, arrivals, made_along, item_change, some_of, both, joins, joined, AreJoined}
 use Rattle.nd_steps.specs.declared.change.Change.{Change}
 use Rattle.nd_steps.proofs.EachLemmas.{total_moved}

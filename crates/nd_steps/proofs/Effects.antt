@@ -20,7 +20,8 @@ use Rattle.nd_steps.specs.declared.slot.Slot.TheVariants.{Records, Request, Stat
 use Rattle.nd_steps.specs.Slots.{from_request}
 use Rattle.nd_steps.specs.Totals.{Edit, total_at}
 use Rattle.nd_steps.specs.Edits.{item_edits, sink_edits}
-use Rattle.nd_steps.specs.Alike.{is_place, record-test, request-test, sink-test}
+use Rattle.nd_steps.specs.Places.{is_place}
+use Rattle.nd_steps.proofs.AlikeLemmas.{record-test, request-test, sink-test}
 use Rattle.nd_steps.proofs.SumsOfSteps.{AreOf, AreOf-map, total_at-map_apart, items-here, items-of_others}
 use Rattle.nd_steps.proofs.Arrivals.{decided}
 use Rattle.nd_steps.proofs.Feeds.{one_more, nothing_more}

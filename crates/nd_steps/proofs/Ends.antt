@@ -2,9 +2,12 @@
 use Rattle.std.proofs.Common.{◌≡◌, ◌<◌, ℕ, zero, suc, List, [], ◌∷◌, ◌++◌, length, map, get_or, None, slice_get, refl, sym, ap, subst, ◌∙◌, arith}
 use Rattle.std.proofs.lemmas.List.{length-set, length_push}
 use Rattle.nd_delta.specs.Change.{Change}
-use Rattle.nd_mesh.specs.Mesh.{appended, without_newest, row, unpushed, HasQueue, IsVacant}
+use Rattle.nd_mesh.specs.Mesh.{appended, without_newest, row, pushed, unpushed, HasQueue, IsVacant}
 use Rattle.nd_mesh.specs.Laws.{row-pushed}
-use Rattle.nd_steps.specs.Refused.{IsNewest}
+
+-- c is the newest change of each queue from a processor
+abbrev pub IsNewest : List (List (List Change)) → ℕ → Change → Type 0
+IsNewest m from c = pushed (unpushed m from) from c ≡ m
 
 pub without_front : (q : List Change) → slice_get q 0 ≡ None → q ≡ []
 without_front [] e = refl

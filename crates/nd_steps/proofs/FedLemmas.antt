@@ -15,7 +15,7 @@ use Rattle.nd_protocol.specs.declared.step.Next.TheVariants as token
 use Rattle.nd_steps.specs.Places.{Place}
 use Rattle.nd_steps.specs.Totals.{total_at}
 use Rattle.nd_steps.specs.Edits.{token_edits, come, come_edits, edits}
-use Rattle.nd_steps.specs.Appended.{total-append}
+use Rattle.nd_steps.proofs.EachLemmas.{total-append}
 use Rattle.nd_steps.specs.Drafts.{Has, Leads, AreJoined, arrivals, fed_by, token_changes, fed_changes}
 use Rattle.nd_steps.specs.declared.change.Change.{Change}
 use Rattle.nd_steps.proofs.SumsOfSteps.{total_at-append}

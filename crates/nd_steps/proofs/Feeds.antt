@@ -21,7 +21,8 @@ use Rattle.nd_steps.specs.declared.slot.Slot.TheVariants.{Records, Request, Toke
 use Rattle.nd_steps.specs.Slots.{from_epoch}
 use Rattle.nd_steps.specs.Totals.{Edit, total_at}
 use Rattle.nd_steps.specs.Edits.{token_edits}
-use Rattle.nd_steps.specs.Alike.{is_place, token-test, unsent-test}
+use Rattle.nd_steps.specs.Places.{is_place}
+use Rattle.nd_steps.proofs.AlikeLemmas.{token-test, unsent-test}
 use Rattle.nd_steps.proofs.SumsOfSteps.{AreOf}
 use Rattle.nd_steps.proofs.Written.{IsMove}
 use Rattle.nd_steps.proofs.Destinations.{AreTo-flat, emitted-below}

@@ -20,8 +20,8 @@ use Rattle.nd_steps.specs.Changes.{place_of}
 use Rattle.nd_steps.specs.Totals.{Edit, total_at, edits_of}
 use Rattle.nd_steps.specs.Edits.{come_edits, token_edits}
 use Rattle.nd_steps.specs.Plans.{often, Each, StaysRanged}
-use Rattle.nd_steps.specs.Alike.{is_place}
-use Rattle.nd_steps.specs.Appended.{often-append, each-append}
+use Rattle.nd_steps.specs.Places.{is_place}
+use Rattle.nd_steps.proofs.EachLemmas.{often-append, each-append}
 use Rattle.nd_steps.specs.Drafts.{at_key, arrivals, item_change, ask_changes, sink_changes, token_changes, HasValues}
 use Rattle.nd_steps.specs.declared.change.Change.{Change}
 use Rattle.nd_steps.specs.declared.slot.Slot.{Slot}

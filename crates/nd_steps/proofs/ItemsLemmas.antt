@@ -23,7 +23,8 @@ use Rattle.nd_steps.specs.Edits.{item_edits}
 use Rattle.nd_steps.specs.Plans.{often, Once, Each, StaysRanged}
 use Rattle.nd_steps.specs.Drafts.{item_change, HasValues}
 use Rattle.nd_steps.specs.declared.change.Change.{Change}
-use Rattle.nd_steps.specs.Alike.{is_place, same_place, other_place, item-test}
+use Rattle.nd_steps.specs.Places.{is_place}
+use Rattle.nd_steps.proofs.AlikeLemmas.{same_place, other_place, item-test}
 use Rattle.nd_steps.proofs.SumsOfSteps.{total_at-map_apart, items-here}
 use Rattle.nd_steps.proofs.Arrivals.{decided}
 

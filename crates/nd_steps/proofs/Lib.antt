@@ -7,7 +7,6 @@ pub mod FlowLemmas
 pub mod PlansLemmas
 pub mod Edited
 pub mod SeenLemmas
-pub mod ExchangesLemmas
 pub mod LimitsLemmas
 pub mod Differences
 pub mod CountedLemmas
@@ -36,3 +35,5 @@ pub mod Ends
 pub mod Freedom
 pub mod PartsSent
 pub mod TokensHeld
+pub mod ReceivedLemmas
+pub mod SentLemmas

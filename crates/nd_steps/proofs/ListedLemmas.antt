@@ -1,6 +1,7 @@
 -- The entries that are still to come.
-use Rattle.std.proofs.Common.{◌≡◌, ℕ, zero, suc, ◌+◌, ◌^◌, ◌<◌, ◌≤◌, get_or, w64, to_z, of_z, List, [], ◌∷◌, ◌++◌, map, drop, length, Option, Some, None, refl, sym, ap, subst, ◌∙◌, arith, length-append, ℤ}
+use Rattle.std.proofs.Common.{◌≡◌, ℕ, zero, suc, ◌+◌, ◌^◌, ◌<◌, ◌≤◌, get_or, w64, to_z, of_z, neg_ℤ, pos, ◌-ℤ◌, List, [], ◌∷◌, ◌++◌, map, drop, length, Option, Some, None, refl, sym, ap, subst, ◌∙◌, arith, length-append, ℤ}
 use Rattle.std.specs.Prelude.{All, MatchOption, slice_get, unsigned_abs}
+use Rattle.std.specs.Int.{w128}
 use Rattle.nd_time.specs.Limits.{max_count}
 use Rattle.nd_map.specs.Entries.{all_found}
 use Rattle.nd_paths.specs.Point.{point_cmp, point_total}
@@ -8,12 +9,15 @@ use Rattle.nd_paths.specs.declared.point.Pointstamp.{Pointstamp}
 use Rattle.std.specs.Option.{option_map}
 use Rattle.std.proofs.lemmas.List.{length-map}
 use Rattle.std.proofs.lemmas.Option.{slice_get-map, slice_get_past, slice_get_read}
-use Rattle.std.proofs.lemmas.Int.{to_z-of_z, fits_signed_from_abs}
+use Rattle.std.proofs.lemmas.Int.{ints, to_z-of_z, fits_signed_from_abs}
 use Rattle.nd_delta.specs.Change.{Change, entries, IsWithin, at-entries, sorted-entries, or_zero}
-use Rattle.nd_steps.specs.Listed.{leaves, arrives, listed}
-use Rattle.nd_steps.specs.Records.{named}
+use Rattle.nd_protocol.specs.declared.step.Step.{Step}
+use Rattle.nd_steps.specs.Flows.{told_changes}
+use Rattle.nd_steps.specs.Listed.{leaves, arrives, listed_by, listed}
+use Rattle.nd_steps.specs.Records.{named_by, named}
 use Rattle.nd_steps.specs.declared.record.Changes.{Changes}
-use Rattle.nd_steps.specs.declared.record.Changes.TheVariants.{Each, Sent, Received}
+use Rattle.nd_steps.specs.declared.record.Changes.TheVariants.{Each, Flowed, Sent, Received}
+use Rattle.nd_steps.specs.declared.record.Record.{Record}
 use Rattle.nd_steps.specs.declared.listed.Entry.TheVariants.{Key, Back, Front}
 
 pub mapped : {A B : Type 0} (f : A → B) (xs : List A) (i : ℕ) (x : A) → slice_get xs i ≡ Some x → slice_get (map f xs) i ≡ Some (f x)
@@ -62,6 +66,9 @@ entry_within c within es i e is lt read =
 read_back : (z : ℤ) → unsigned_abs z ≤ max_count → to_z w64 (of_z w64 z) ≡ z
 read_back z within = to_z-of_z w64 z (fits_signed_from_abs w64 z (let lt : unsigned_abs z < 2 ^ 63 = omega arith in lt))
 
+read_wide : (z : ℤ) → unsigned_abs z ≤ max_count → to_z w128 (of_z w128 z) ≡ z
+read_wide z within = to_z-of_z w128 z (fits_signed_from_abs w128 z (let lt : unsigned_abs z < 2 ^ 127 = omega arith in lt))
+
 -- ---- what is read of the entries es of a change, which stand before the end of a queue
 
 module _ (c : Change) (within : IsWithin c) (es : List (Pointstamp × ℤ)) (is : es ≡ entries c) (i : ℕ) where
@@ -69,8 +76,13 @@ module _ (c : Change) (within : IsWithin c) (es : List (Pointstamp × ℤ)) (is 
     pub number_is : to_z w64 (of_z w64 e.1) ≡ e.1
     number_is = read_back e.1 (entry_within c within es i e is lt read)
 
-    pub can_turn : unsigned_abs (to_z w64 (of_z w64 e.1)) ≤ max_count + max_count
-    can_turn = let small : unsigned_abs e.1 ≤ max_count = entry_within c within es i e is lt read in subst (λ z. unsigned_abs z ≤ max_count + max_count) (sym number_is) (omega arith)
+    -- its negative, in a type that has room for it
+    pub negative_is : (x : ℤ) → x ≡ to_z w64 (of_z w64 e.1) → to_z w128 (of_z w128 (pos 0 -ℤ to_z w128 (of_z w128 x))) ≡ neg_ℤ e.1
+    negative_is x from =
+        let small : unsigned_abs e.1 ≤ max_count = entry_within c within es i e is lt read in
+        let inner : to_z w128 (of_z w128 x) ≡ e.1 = ap (λ z. to_z w128 (of_z w128 z)) (from ∙ number_is) ∙ read_wide e.1 small in
+        let turned : pos 0 -ℤ e.1 ≡ neg_ℤ e.1 = omega (arith, ints) in
+        ap (λ z. to_z w128 (of_z w128 (pos 0 -ℤ z))) inner ∙ ap (λ z. to_z w128 (of_z w128 z)) turned ∙ read_wide (neg_ℤ e.1) (omega (arith, ints, small))
 
     pub entry_here : {B : Type 0} (f : Pointstamp × ℤ → B) (end : B) → slice_get (map f (entries c) ++ end ∷ []) i ≡ Some (f e)
     entry_here f end =
@@ -86,7 +98,11 @@ module _ (c : Change) (within : IsWithin c) (es : List (Pointstamp × ℤ)) (is 
       past_end (map f (entries c)) end i (omega arith)
 
 -- as many as the changes name
-pub listed-named : {A : Type 0} (c : Changes A) → length (listed c) ≡ named c
-listed-named (Each changes) = length-map changes.items Key
-listed-named (Sent p part) = length-append (map (leaves p) (entries part)) (Back p ∷ []) ∙ ap (λ n. n + 1) (length-map (entries part) (leaves p))
-listed-named (Received from to change) = length-append (map (arrives to) (entries change)) (Front from to ∷ []) ∙ ap (λ n. n + 1) (length-map (entries change) (arrives to))
+named_as_listed : {A : Type 0} (x : Step A) (c : Changes A) → length (listed_by x c) ≡ named_by x c
+named_as_listed x (Each changes) = length-map changes.items Key
+named_as_listed x (Flowed flow) = length-map (told_changes x flow) Key
+named_as_listed x (Sent p part) = length-append (map (leaves p) (entries part)) (Back p ∷ []) ∙ ap (λ n. n + 1) (length-map (entries part) (leaves p))
+named_as_listed x (Received from to change) = length-append (map (arrives to) (entries change)) (Front from to ∷ []) ∙ ap (λ n. n + 1) (length-map (entries change) (arrives to))
+
+pub listed-named : {A : Type 0} (r : Record A) → length (listed r) ≡ named r
+listed-named r = named_as_listed r.step r.changes

@@ -26,7 +26,8 @@ use Rattle.nd_steps.specs.declared.slot.Slot.TheVariants.{Records, Request, Toke
 use Rattle.nd_steps.specs.Slots.{from_request}
 use Rattle.nd_steps.specs.Totals.{Edit, total_at}
 use Rattle.nd_steps.specs.Edits.{item_edits}
-use Rattle.nd_steps.specs.Alike.{is_place, request-test}
+use Rattle.nd_steps.specs.Places.{is_place}
+use Rattle.nd_steps.proofs.AlikeLemmas.{request-test}
 use Rattle.nd_steps.proofs.Destinations.{AreTo-flat, emitted-below}
 use Rattle.nd_steps.proofs.Written.{IsMove}
 use Rattle.nd_steps.proofs.StepMoves.{StepMoves}

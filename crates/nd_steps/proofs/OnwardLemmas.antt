@@ -25,7 +25,8 @@ use Rattle.nd_protocol.specs.declared.step.Step.TheVariants.{Take}
 use Rattle.nd_steps.specs.Places.{place_at}
 use Rattle.nd_steps.specs.Changes.{place_of}
 use Rattle.nd_steps.specs.Plans.{often, Once, Each, Reaches}
-use Rattle.nd_steps.specs.Alike.{is_place, same_place, other_place}
+use Rattle.nd_steps.specs.Places.{is_place}
+use Rattle.nd_steps.proofs.AlikeLemmas.{same_place, other_place}
 use Rattle.nd_steps.specs.Drafts.{Has, Leads, TakesSo, HasValues, AreJoined, arrivals, item_change, ask_changes, sink_changes, taken_changes, made_by, emitted_by}
 use Rattle.nd_steps.specs.Flows.{past_action, come_key, come_changes, more_records, more_unsent, count_more}
 use Rattle.nd_steps.specs.Onward.{leaving, ComesBy}

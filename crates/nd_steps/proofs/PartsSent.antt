@@ -48,14 +48,6 @@ chosen_there (Points ks) m x some = by (has_point x ks) refl
     by true e = sym (at-part m ks x ∙ ap (λ b. cond b (at m x) (pos 0)) e)
     by false e = absurd (some (at-part m ks x ∙ ap (λ b. cond b (at m x) (pos 0)) e))
 
--- what stays once a part is sent is apart from it
-pub part_leaves : (m c : Change) → IsPartOf c m → IsApart c (minus m c)
-part_leaves m c h x some = let e = h x some in let d = at-minus m c x in omega (arith, ints)
-
--- what is put back is a part
-pub part_comes : (m c : Change) → IsApart c m → IsPartOf c (plus m c)
-part_comes m c h x some = let e = h x some in let d = at-plus m c x in omega (arith, ints)
-
 -- ---- a part with as many entries as the whole
 
 not_tied : (r : Ordering) → r ≢ Equal → is_eq r ≡ false

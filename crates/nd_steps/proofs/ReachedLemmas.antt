@@ -13,7 +13,8 @@ use Rattle.nd_steps.specs.Changes.{place_of}
 use Rattle.nd_steps.specs.Totals.{total_at}
 use Rattle.nd_steps.specs.Undone.{IsGain}
 use Rattle.nd_steps.specs.Plans.{often, Each, StaysRanged, Reaches}
-use Rattle.nd_steps.specs.Alike.{is_place, same_place}
+use Rattle.nd_steps.specs.Places.{is_place}
+use Rattle.nd_steps.proofs.AlikeLemmas.{same_place}
 use Rattle.nd_steps.specs.Edits.{edits, Works}
 use Rattle.nd_steps.specs.Drafts.{AreJoined}
 use Rattle.nd_steps.specs.declared.change.Change.{Change}

@@ -21,7 +21,7 @@ use Rattle.nd_steps.specs.declared.slot.Slot.TheVariants.{Records, Request, Unse
 use Rattle.nd_steps.specs.Totals.{Edit, total_at}
 use Rattle.nd_steps.specs.Edits.{ask_edits, item_edits, sink_edits, come, come_edits, edits}
 use Rattle.nd_steps.specs.Plans.{Each}
-use Rattle.nd_steps.specs.Appended.{total-append, each-append}
+use Rattle.nd_steps.proofs.EachLemmas.{total-append, each-append}
 use Rattle.nd_steps.specs.Drafts.{Has, Leads, TakesSo, NoticesSo, HasValues, AreJoined, at_key, arrivals, item_change, ask_changes, sink_changes, taken_changes, noticed_changes, emitted_by}
 use Rattle.nd_steps.specs.declared.change.Change.{Change}
 use Rattle.nd_steps.proofs.SumsOfSteps.{total_at-append}

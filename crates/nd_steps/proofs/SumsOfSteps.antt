@@ -13,7 +13,8 @@ use Rattle.nd_steps.specs.Places.{Place, place_at, view_of}
 use Rattle.nd_steps.specs.declared.slot.Slot.TheVariants.{Records, Request, Token, State, Sink, Unsent}
 use Rattle.nd_steps.specs.Totals.{Edit, total_at}
 use Rattle.nd_steps.specs.Edits.{item_edits}
-use Rattle.nd_steps.specs.Alike.{is_place, same_place, item-test, item_elsewhere}
+use Rattle.nd_steps.specs.Places.{is_place}
+use Rattle.nd_steps.proofs.AlikeLemmas.{same_place, item-test, item_elsewhere}
 
 pub total_at-append : (es fs : List Edit) (k : Place) → total_at (es ++ fs) k ≡ total_at es k +ℤ total_at fs k
 total_at-append [] fs k = omega (arith, ints)

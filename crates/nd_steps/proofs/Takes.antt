@@ -25,7 +25,7 @@ use Rattle.nd_steps.specs.declared.slot.Slot.TheVariants.{Records, Request, Toke
 use Rattle.nd_steps.specs.Slots.{from_request}
 use Rattle.nd_steps.specs.Totals.{Edit, total_at}
 use Rattle.nd_steps.specs.Edits.{item_edits, sink_edits, come_edits, come}
-use Rattle.nd_steps.specs.Alike.{is_place}
+use Rattle.nd_steps.specs.Places.{is_place}
 use Rattle.nd_steps.specs.Targets.{target_there}
 use Rattle.nd_steps.proofs.SumsOfSteps.{AreOf-append, total_at-append}
 use Rattle.nd_steps.proofs.Destinations.{AreTo-flat, emitted-below}

@@ -21,7 +21,7 @@ use Rattle.nd_steps.specs.Slots.{from_request, from_epoch}
 use Rattle.nd_steps.specs.Standing.{standing}
 use Rattle.nd_steps.specs.Totals.{Edit, total_at}
 use Rattle.nd_steps.specs.Edits.{come_edits}
-use Rattle.nd_steps.specs.Alike.{other_place}
+use Rattle.nd_steps.proofs.AlikeLemmas.{other_place}
 use Rattle.nd_steps.proofs.SumsOfSteps.{owner, apart_of, AreOf, total_at-elsewhere}
 use Rattle.nd_steps.proofs.Arrivals.{AreTo, comes, arrives, come-record, come-unsent, come-apart, decided, records-come, count-come}
 

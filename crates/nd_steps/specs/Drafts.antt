@@ -27,7 +27,7 @@ use Rattle.nd_steps.specs.declared.slot.Slot.TheVariants.{Records, Request, Toke
 use Rattle.nd_steps.specs.Slots.{from_number}
 use Rattle.nd_steps.specs.Changes.{place_of}
 use Rattle.nd_steps.specs.Totals.{total_at, edits_of}
-use Rattle.nd_steps.specs.Alike.{is_place}
+use Rattle.nd_steps.specs.Places.{is_place}
 use Rattle.nd_steps.specs.Plans.{Once, Each, Reaches}
 use Rattle.nd_steps.specs.declared.change.Change.{Change}
 

@@ -1,24 +1,24 @@
--- What is kept of what a step changed: enough to tell it again.
-use Rattle.std.specs.Prelude.{◌≡◌, ℕ, ℤ, pos, negsuc, true, List, length, map, take, nat_lt, if◌then◌else◌}
+-- What comes for a record that is taken, and the changes of such a take.
+use Rattle.std.specs.Prelude.{ℕ, ℤ, pos, negsuc, cond, List, [], ◌∷◌, ◌++◌, length, nat_lt, if◌then◌else◌}
 use Rattle.nd_time.specs.Time.{Time, ingress_of, egress_of, feedback_of, last_of}
 use Rattle.nd_time.specs.Limits.{max_depth, max_counter}
 use Rattle.nd_graph.specs.declared.op.Action.{Action}
 use Rattle.nd_graph.specs.declared.op.Action.TheVariants.{Identity, Ingress, Egress, Feedback}
+use Rattle.nd_paths.specs.declared.point.Pointstamp.{Pointstamp}
 use Rattle.nd_processor.specs.declared.key.ValueAt.{ValueAt}
-use Rattle.nd_protocol.specs.State.{ClusterState}
+use Rattle.nd_processor.specs.State.{ProcessorState}
 use Rattle.nd_protocol.specs.Steps.{record_key}
 use Rattle.nd_protocol.specs.declared.step.Step.{Step}
 use Rattle.nd_protocol.specs.declared.step.Step.TheVariants.{Feed, Take, Notice, Broadcast, Receive}
-use Rattle.nd_steps.specs.Changes.{IsRunnable, applied}
-use Rattle.nd_steps.specs.Records.{AreEqual, Makes}
+use Rattle.nd_protocol.specs.declared.refusal.Refusal.{Refusal}
+use Rattle.nd_protocol.specs.declared.refusal.Refusal.TheVariants.{CountFull, DeltaFull}
+use Rattle.nd_steps.specs.Limits.{CountStays, EntryStays}
+use Rattle.nd_steps.specs.Plans.{Each}
 use Rattle.nd_steps.specs.declared.change.Change.{Change}
+use Rattle.nd_steps.specs.declared.slot.Slot.TheVariants.{Records, Sink, Unsent}
 use Rattle.nd_steps.specs.declared.come.Come.{Come}
 use Rattle.nd_steps.specs.declared.come.Come.TheVariants.{Nothing, Record, Count}
-use Rattle.nd_steps.specs.declared.flow.Part.{Part}
-use Rattle.nd_steps.specs.declared.flow.Part.TheVariants.{Goes, GoneUnsent, Comes, ComeUnsent}
 use Rattle.nd_steps.specs.declared.flow.Flow.{Flow}
-use Rattle.nd_steps.specs.declared.kept.Kept.{Kept}
-use Rattle.nd_steps.specs.declared.kept.Kept.TheVariants.{Flowed, Listed}
 
 -- the time past an action, or the same where the action is not taken: by the limits, or outside all loops
 abbrev pub past_action : Action → Time → Time
@@ -33,62 +33,46 @@ come_key gone Nothing = gone
 come_key gone (Record action q edge value) = record_key edge (past_action action gone.point.time) value
 come_key gone (Count vertex) = gone
 
--- so many records of a key more
-abbrev pub records_of : ℕ → ValueAt → ℤ → Change
-records_of p k n = Records p k.point.location k.point.time k.value n
+-- so many records of a key more at processor p, and so much more that it has to send
+abbrev pub more_records : ℕ → ValueAt → ℤ → Change
+more_records p key n = record { p = p; slot = Records key; n = n }
 
--- a record goes from processor p, and that is to be sent
-abbrev pub goes_of : ℕ → ValueAt → Change
-goes_of p gone = records_of p gone (negsuc 0)
+abbrev pub more_unsent : ℕ → Pointstamp → ℤ → Change
+more_unsent p point n = record { p = p; slot = Unsent point; n = n }
 
-abbrev pub gone_unsent : ℕ → ValueAt → Change
-gone_unsent p gone = Unsent p gone.point (negsuc 0)
+-- a sink vertex counts a value once more
+abbrev pub count_more : ℕ → ℕ → ℤ → Change
+count_more p vertex value = record { p = p; slot = Sink (record { vertex = vertex; value = value }); n = pos 1 }
 
--- what comes for it, and that this is to be sent; where nothing does, what goes is told in its place
-abbrev pub comes_of : ℕ → ValueAt → ValueAt → Come → Change
-comes_of p gone key Nothing = goes_of p gone
-comes_of p gone key (Record action q edge value) = records_of q key (pos 1)
-comes_of p gone key (Count vertex) = Sink p vertex gone.value true
+-- what comes for a record that processor p takes
+abbrev pub arriving : ℕ → ValueAt → Come → List Change
+arriving p gone Nothing = []
+arriving p gone (Record action q edge value) =
+    let key : ValueAt = come_key gone (Record action q edge value) in
+    more_records q key (pos 1) ∷ more_unsent p key.point (pos 1) ∷ []
+arriving p gone (Count vertex) = count_more p vertex gone.value ∷ []
 
-abbrev pub come_unsent : ℕ → ValueAt → ValueAt → Come → Change
-come_unsent p gone key Nothing = gone_unsent p gone
-come_unsent p gone key (Record action q edge value) = Unsent p key.point (pos 1)
-come_unsent p gone key (Count vertex) = gone_unsent p gone
+-- the changes of the take of a record by processor p for which this comes, in a fixed order
+abbrev pub come_changes : ℕ → ValueAt → Come → List Change
+come_changes p gone come = more_records p gone (negsuc 0) ∷ more_unsent p gone.point (negsuc 0) ∷ arriving p gone come
 
--- a change of the take of a record by processor p, for which this key comes if a record does
-abbrev pub part_of : ℕ → ValueAt → ValueAt → Come → Part → Change
-part_of p gone key come Goes = goes_of p gone
-part_of p gone key come GoneUnsent = gone_unsent p gone
-part_of p gone key come Comes = comes_of p gone key come
-part_of p gone key come ComeUnsent = come_unsent p gone key come
-
--- those that are the parts of a flow
-abbrev pub told_parts : ℕ → ValueAt → ValueAt → Flow → List Change
-told_parts p gone key f = map (part_of p gone key f.come) (take f.count f.parts)
-
--- the changes that a flow tells of the take of a record by processor p
+-- the same in the order in which they are made: the record goes last, and its pointstamp before all else comes or late
 abbrev pub flow_changes : ℕ → ValueAt → Flow → List Change
-flow_changes p gone f = told_parts p gone (come_key gone f.come) f
+flow_changes p gone f =
+    let unsent : Change = more_unsent p gone.point (negsuc 0) in
+    let goes : List Change = more_records p gone (negsuc 0) ∷ [] in
+    cond f.late (arriving p gone f.come ++ unsent ∷ goes) (unsent ∷ arriving p gone f.come ++ goes)
 
--- the step is a take, of which the flow tells these changes
-abbrev pub Tells : {A : Type 0} → Step A → Flow → List Change → Type 0
-Tells (Feed p vertex values _) f cs = ⊥
-Tells (Take p edge t value) f cs = flow_changes p (record_key edge t value) f ≡ cs
-Tells (Notice p vertex t) f cs = ⊥
-Tells (Broadcast p _) f cs = ⊥
-Tells (Receive from to) f cs = ⊥
+-- the changes that a flow tells of a step, in this order; of a step that is no take, none
+abbrev pub told_changes : {A : Type 0} → Step A → Flow → List Change
+told_changes (Feed p vertex values _) f = []
+told_changes (Take p edge t value) f = flow_changes p (record_key edge t value) f
+told_changes (Notice p vertex t) f = []
+told_changes (Broadcast p part) f = []
+told_changes (Receive from to) f = []
 
--- the step is a take, and the changes that the flow tells of it make t of s
-abbrev pub FlowMakes : {A : Type 0} → ClusterState → Step A → Flow → ClusterState → Type 0
-FlowMakes s x f t = (cs : List Change) × Tells x f cs × IsRunnable s cs × (applied s cs ≡ t)
-
--- what is kept of the step makes t of s
-abbrev pub Recalls : {A : Type 0} → ClusterState → Step A → Kept A → ClusterState → Type 0
-Recalls s x (Flowed f) t = FlowMakes s x f t
-Recalls s x (Listed changes) t = Makes s changes.value t
-
--- the same is kept; how much room a list has is no part of it
-abbrev pub AreAlike : {A : Type 0} → Kept A → Kept A → Type 0
-AreAlike (Flowed f) (Flowed h) = h ≡ f
-AreAlike (Listed changes) (Listed others) = AreEqual changes.value others.value
-AreAlike _ _ = ⊥
+-- which limit a count or an entry passes after these changes: that of counts comes first
+abbrev pub StayFails : List ProcessorState → List Change → Refusal → Type 0
+StayFails processors cs CountFull = Each (CountStays processors) cs → ⊥
+StayFails processors cs DeltaFull = Each (CountStays processors) cs × (Each (EntryStays processors) cs → ⊥)
+StayFails processors cs _ = ⊥

@@ -7,7 +7,6 @@ use Rattle.nd_delta.specs.Change.{Change, none, at, plus, minus, IsTooLarge}
 use Rattle.nd_delta.specs.Least.{IsLeast}
 use Rattle.nd_delta.specs.Upright.{IsUpright, IsUnsupported}
 use Rattle.nd_processor.specs.State.{ProcessorState}
-use Rattle.nd_mesh.specs.Mesh.{pushed, unpushed}
 use Rattle.nd_protocol.specs.Invariant.{HoldsToken}
 use Rattle.nd_protocol.specs.declared.refusal.Refusal.{Refusal}
 use Rattle.nd_protocol.specs.declared.refusal.Refusal.TheVariants.{NothingToSend, NotAdmissible, QueueEmpty, DeltaFull, Memory}
@@ -33,7 +32,3 @@ ReceiveFails v q QueueEmpty = q ≡ []
 ReceiveFails v q DeltaFull = (c : Change) × (slice_get q 0 ≡ Some c) × IsTooLarge (plus v c)
 ReceiveFails v q Memory = (c : Change) × (slice_get q 0 ≡ Some c) × (IsTooLarge (plus v c) → ⊥)
 ReceiveFails v q _ = ⊥
-
--- c is the newest change of each queue from a processor
-abbrev pub IsNewest : List (List (List Change)) → ℕ → Change → Type 0
-IsNewest m from c = pushed (unpushed m from) from c ≡ m

@@ -1,12 +1,14 @@
 //! Broadcasts: a part of what is unsent goes to the back of the queues from a processor.
-ghost use Rattle.std.specs.Prelude.{◌≡◌, ◌≢◌, ◌↔◌, ◌<◌, length, IfErr, IfOk, IfSome, IsNone, IsTrue, OnErr, OnOk};
-ghost use Rattle.nd_delta.specs.Change.{none, plus, minus, part as part_at, IsPartOf, IsApart};
-ghost use Rattle.nd_mesh.specs.Mesh.{row, pushed, unpushed, HasQueue, IsFull, IsMesh};
+ghost use Rattle.std.specs.Prelude.{◌≡◌, ◌≢◌, ◌↔◌, IfErr, IfOk, IfSome, IsNone, IsTrue, OnErr, OnOk};
+ghost use Rattle.nd_delta.specs.Change.{none, part as part_at, IsPartOf};
 ghost use Rattle.nd_protocol.specs.Steps.{chosen};
-ghost use Rattle.nd_steps.specs.Refused.{LeavesUpright, LeavesAlone, SendFails, IsNewest};
+ghost use Rattle.nd_protocol.specs.Exchange.{sent};
+ghost use Rattle.nd_protocol.specs.Fitting.{IsState};
+ghost use Rattle.nd_steps.specs.Refused.{LeavesUpright, LeavesAlone, SendFails};
+ghost use Rattle.nd_steps.specs.Records.{CanSend, Sends, CameFrom, IsBackAt};
 
+use crate::Parts;
 use nd_delta::{Delta, LargeDelta};
-use nd_mesh::Mesh;
 use nd_paths::{Paths, Pointstamp};
 use nd_processor::Processor;
 use nd_protocol::{Part, Refusal};
@@ -101,56 +103,34 @@ pub fn planned_part<A: Allocator + Copy>(
     Ok(change)
 }
 
-/// Sends a part of what is unsent to every processor: first what may be refused, then the rest.
-pub fn sent<A: Allocator + Copy>(
-    processor: &mut Processor<A>,
-    mesh: &mut Mesh<A>,
-    p: usize,
-    part: &Delta<A>,
-) -> Result<(), AllocError>
-    requires sender { p < length mesh.old }
-    requires part { IsPartOf part.now processor.old.unsent }
-    requires room { HasQueue IsFull (row mesh.old p) → ⊥ }
-    ensures processor { OnOk result (processor.new ≡ record processor.old { unsent = minus processor.old.unsent part.now }) }
-    ensures mesh { OnOk result (mesh.new ≡ pushed mesh.old p part.now) }
-    ensures processor_back { OnOk result (record processor.new { unsent = plus processor.new.unsent part.now } ≡ processor.old) }
-    ensures mesh_back { OnOk result (unpushed mesh.new p ≡ mesh.old) }
-    ensures apart { OnOk result (IsApart part.now processor.new.unsent) }
-    ensures newest { OnOk result (IsNewest mesh.new p part.now) }
-    ensures processor_err { OnErr result (processor.new ≡ processor.old) }
-    ensures mesh_err { OnErr result (mesh.new ≡ mesh.old) }
-    ensures is_mesh { OnOk result (IsMesh mesh.new) }
-{
-    let Ok(()) = mesh.push_all(p, part) else {
-        return Err(AllocError);
-    };
-    processor.take_part(part);
-    Ok(())
-}
+impl<A: Allocator + Copy> Parts<A> {
+    // Processor p sends a part of what is unsent to every processor: first what may be refused, then the rest.
+    pub(crate) fn send(&mut self, p: usize, part: &Delta<A>) -> Result<(), AllocError>
+        requires state { IsState self.old }
+        requires sends { CanSend self.old p part.now }
+        ensures ok { OnOk result (self.new ≡ sent self.old p part.now) }
+        ensures err { OnErr result (self.new ≡ self.old) }
+    {
+        let Ok(()) = self.mesh.push_all(p, part) else {
+            return Err(AllocError);
+        };
+        let processor = &mut self.processors[p];
+        processor.take_part(part);
+        Ok(())
+    }
 
-/// Takes back what was sent last: first what may be refused, then the rest.
-pub fn take_back<A: Allocator + Copy>(
-    processor: &mut Processor<A>,
-    mesh: &mut Mesh<A>,
-    p: usize,
-    part: &Delta<A>,
-) -> Result<(), AllocError>
-    requires sender { p < length mesh.old }
-    requires apart { IsApart part.now processor.old.unsent }
-    requires newest { IsNewest mesh.old p part.now }
-    ensures processor { OnOk result (processor.new ≡ record processor.old { unsent = plus processor.old.unsent part.now }) }
-    ensures mesh { OnOk result (mesh.new ≡ unpushed mesh.old p) }
-    ensures processor_back { OnOk result (record processor.new { unsent = minus processor.new.unsent part.now } ≡ processor.old) }
-    ensures mesh_back { OnOk result (pushed mesh.new p part.now ≡ mesh.old) }
-    ensures part { OnOk result (IsPartOf part.now processor.new.unsent) }
-    ensures processor_err { OnErr result (processor.new ≡ processor.old) }
-    ensures mesh_err { OnErr result (mesh.new ≡ mesh.old) }
-    ensures is_mesh { OnOk result (IsMesh mesh.new) }
-{
-    processor.put_part(part)?;
-    // No queue is empty.
-    let Ok(()) = mesh.unpush_all(p) else {
-        return Ok(());
-    };
-    Ok(())
+    // Takes back what p sent last: first what may be refused, then the rest.
+    pub(crate) fn unsend(&mut self, p: usize, part: &Delta<A>) -> Result<(), AllocError>
+        requires { CameFrom (λ s. Sends s p part.now self.old) }
+        ensures ok { OnOk result (IsBackAt (λ s. Sends s p part.now self.old) self.new) }
+        ensures err { OnErr result (self.new ≡ self.old) }
+    {
+        let processor = &mut self.processors[p];
+        processor.put_part(part)?;
+        // No queue is empty.
+        let Ok(()) = self.mesh.unpush_all(p) else {
+            return Ok(());
+        };
+        Ok(())
+    }
 }

@@ -1,140 +1,166 @@
-//! The changes of a take, told by the record that goes and by what comes for it.
-ghost use Rattle.std.specs.Prelude.{◌≡◌, ◌<◌, ◌≤◌, IfSome, OnOk, OnErr, length, map, take, slice_index_or};
+//! Takes of which little need be kept: what comes for the record tells what changes.
+ghost use Rattle.std.specs.Prelude.{◌≡◌, ◌≤◌, IfOk, IfErr, OnOk, length};
 ghost use Rattle.nd_protocol.specs.State.{ClusterState};
-ghost use Rattle.nd_steps.specs.Changes.{IsRunnable, applied};
-ghost use Rattle.nd_steps.specs.Undone.{Limits, Runs, HasRun, only};
-ghost use Rattle.nd_steps.specs.Flows.{come_key, part_of, flow_changes, Tells};
-ghost use Rattle.nd_steps.specs.declared.flow.Part.TheVariants.{Goes};
+ghost use Rattle.nd_protocol.specs.Enabled.{HasLargeCount, HasLargeEntry};
+ghost use Rattle.nd_steps.specs.Plans.{Each, ReachesIn, LeadsTo};
+ghost use Rattle.nd_steps.specs.Turns.{IsReadable};
+ghost use Rattle.nd_steps.specs.Limits.{CountStays, EntryStays, LimitFails};
+ghost use Rattle.nd_steps.specs.Flows.{arriving, come_changes, flow_changes, told_changes, StayFails};
 
-use crate::Change;
 use crate::come::Come;
-use crate::making::value_at;
-use crate::parts::Told;
-use crate::run::{make_run, undo_run};
-use nd_processor::{Processor, ValueAt};
-use nd_protocol::Step;
-use std::alloc::{AllocError, Allocator};
+use crate::reading::reading_of;
+use crate::{Change, Slot};
+use arrayvec::ArrayVec;
+use nd_paths::Pointstamp;
+use nd_processor::{Processor, SinkKey, ValueAt};
+use nd_protocol::{Refusal, Step};
+use std::alloc::Allocator;
 
-/// The most changes that a flow tells.
-pub const MOST: usize = 4;
+// The most changes that a flow tells.
+pub(crate) const MOST: usize = 4;
 
-/// One of the changes of a take: of what goes, or of what comes for it; of records and sinks, or of what is unsent.
+/// What the step does not tell of the changes of a take: what comes for the record, and in which order they are made.
 #[derive(Clone, Copy, Debug, PartialEq, Eq, Drop)]
-pub enum Part {
-    Goes,
-    GoneUnsent,
-    Comes,
-    ComeUnsent,
-}
-
-/// The changes of a take, in their order, but for what the step itself tells: the first `count` of `parts`.
-#[derive(Clone, Copy, Drop)]
 pub struct Flow {
     pub come: Come,
-    pub parts: [Part; MOST],
-    pub count: u8,
+    /// Whether its pointstamp goes out of what is unsent once all else has come.
+    pub late: bool,
 }
 
-// The parts of a take that changes are, if each of them is one and they are few.
-fn parts_of(p: u32, gone: &ValueAt, come: &Come, changes: &[Change]) -> Option<[Part; MOST]>
-    ensures few { IfSome result (λ ps. length changes.now ≤ 4) }
-    ensures parts { IfSome result (λ ps. map (part_of p gone.now (come_key gone.now come.now) come.now) (take (length changes.now) ps) ≡ changes.now) }
+// What comes for a record that processor p takes.
+fn arrivals(come: &Come, p: u32, gone: &ValueAt) -> ArrayVec<Change, MOST>
+    ensures list { result.items ≡ arriving p gone.now come.now }
+    ensures few { length result.items ≤ 2 }
 {
-    if changes.len() > MOST {
-        return None;
+    let mut list = ArrayVec::new();
+    match come {
+        Come::Nothing => list,
+        Come::Record { p: to, .. } => {
+            let key = come.key(gone);
+            let point = key.point.copy();
+            list.push(Change {
+                p: *to,
+                slot: Slot::Records(key),
+                n: 1,
+            });
+            list.push(Change {
+                p,
+                slot: Slot::Unsent(point),
+                n: 1,
+            });
+            list
+        }
+        Come::Count { vertex } => {
+            let key = SinkKey {
+                vertex: *vertex,
+                value: gone.value,
+            };
+            list.push(Change {
+                p,
+                slot: Slot::Sink(key),
+                n: 1,
+            });
+            list
+        }
     }
-    let key = come.key(gone);
-    let mut parts = [Part::Goes; MOST];
-    for i in 0..changes.len() {
-        parts[i] = come.part_with(p, gone, &key, &changes[i])?;
-    }
-    Some(parts)
 }
 
 impl Flow {
-    /// The flow that tells the changes of a step, if one does.
-    pub fn of<A: Allocator>(step: &Step<A>, changes: &[Change]) -> Option<Flow>
-        ensures { IfSome result (λ f. Tells step.now f changes.now) }
+    // The changes of the take of a record by processor p, in order.
+    fn changes(&self, p: u32, gone: &ValueAt) -> ArrayVec<Change, MOST>
+        ensures { result.items ≡ flow_changes p gone.now self.now }
     {
-        let Step::Take {
+        let mut list = arrivals(&self.come, p, gone);
+        let unsent = Change {
             p,
-            edge,
-            time,
-            value,
-        } = step
-        else {
-            return None;
+            slot: Slot::Unsent(gone.point.copy()),
+            n: -1,
         };
-        let gone = value_at(*edge, time, *value);
-        let come = Come::by(&gone, changes)?;
-        let parts = parts_of(*p, &gone, &come, changes)?;
-        Some(Flow {
-            come,
-            parts,
-            count: changes.len() as u8,
-        })
-    }
-
-    /// An equal flow.
-    pub fn copy(&self) -> Flow
-        ensures { result ≡ self.now }
-    {
-        *self
-    }
-
-    // How many parts count.
-    pub(crate) fn many(&self) -> usize
-        ensures { result ≡ length (take self.now.count self.now.parts) }
-    {
-        usize::from(self.count).min(MOST)
-    }
-
-    // One of the parts that count.
-    pub(crate) fn part(&self, i: usize) -> Part
-        requires { i < length (take self.now.count self.now.parts) }
-        ensures { result ≡ slice_index_or self.now.parts i Goes }
-    {
-        self.parts[i]
-    }
-
-    // Makes the changes that it tells of the take of a record.
-    pub(crate) fn make<A: Allocator + Copy>(
-        &self,
-        processors: &mut Vec<Processor<A>, A>,
-        p: u32,
-        gone: &ValueAt,
-    ) -> Result<(), AllocError>
-        requires runs { IsRunnable (only processors.old.items) (flow_changes p gone.now self.now) }
-        requires limits { Limits (only processors.old.items) }
-        ensures ok { OnOk result (only processors.new.items ≡ applied (only processors.old.items) (flow_changes p gone.now self.now)) }
-        ensures err { OnErr result (processors.new.items ≡ processors.old.items) }
-    {
-        let told = Told {
-            flow: self,
+        let goes = Change {
             p,
-            gone,
-            key: &self.come.key(gone),
+            slot: Slot::Records(gone.copy()),
+            n: -1,
         };
-        make_run(processors, &told)
+        if self.late {
+            list.push(unsent);
+            list.push(goes);
+            return list;
+        }
+        list.insert(0, unsent);
+        list.push(goes);
+        list
     }
 
-    // Undoes them.
-    pub(crate) fn undo<A: Allocator + Copy>(
-        &self,
-        processors: &mut Vec<Processor<A>, A>,
-        p: u32,
-        gone: &ValueAt,
-    ) -> Result<(), AllocError>
-        requires { HasRun (only processors.old.items) (flow_changes p gone.now self.now) }
-        ensures ok { OnOk result ((s : ClusterState) → Runs s (only processors.old.items) (flow_changes p gone.now self.now) → only processors.new.items ≡ s) }
-        ensures err { OnErr result (processors.new.items ≡ processors.old.items) }
+    // The changes of a step, in order; of one that is no take, none.
+    pub(crate) fn told<A: Allocator>(&self, step: &Step<A>) -> ArrayVec<Change, MOST>
+        ensures { result.items ≡ told_changes step.now self.now }
     {
-        let told = Told {
-            flow: self,
-            p,
-            gone,
-            key: &self.come.key(gone),
-        };
-        undo_run(processors, &told)
+        match step {
+            Step::Take {
+                p,
+                edge,
+                time,
+                value,
+            } => {
+                let point = Pointstamp {
+                    location: *edge,
+                    time: time.copy(),
+                };
+                let gone = ValueAt {
+                    point,
+                    value: *value,
+                };
+                self.changes(*p, &gone)
+            }
+            Step::Feed { .. } | Step::Notice { .. } => ArrayVec::new(),
+            Step::Broadcast { .. } | Step::Receive { .. } => ArrayVec::new(),
+        }
     }
+}
+
+// Whether all counts and entries are within their limits after changes, or which limit is passed.
+fn stay_within<A: Allocator + Copy>(
+    processors: &[Processor<A>],
+    changes: &[Change],
+) -> Result<(), Refusal>
+    requires { Each (IsReadable processors.now) changes.now }
+    ensures counts { OnOk result (Each (CountStays processors.now) changes.now) }
+    ensures entries { OnOk result (Each (EntryStays processors.now) changes.now) }
+    ensures refused { IfErr result (StayFails processors.now changes.now) }
+{
+    let mut counts_stay = true;
+    let mut entries_stay = true;
+    for change in changes {
+        let reading = reading_of(processors, change);
+        counts_stay &= reading.count_stays;
+        entries_stay &= reading.entry_stays;
+    }
+    if !counts_stay {
+        return Err(Refusal::CountFull);
+    }
+    if !entries_stay {
+        return Err(Refusal::DeltaFull);
+    }
+    Ok(())
+}
+
+/// The flow of the take of a record by processor p for which this comes, in an order in which nothing is taken out
+/// before the last is put in, or the limit for which it is refused: that of counts before that of entries (this project's own rule).
+pub fn ordered_flow<A: Allocator + Copy>(
+    processors: &[Processor<A>],
+    p: u32,
+    gone: &ValueAt,
+    come: Come,
+) -> Result<Flow, Refusal>
+    requires { (s : ClusterState) × (t : ClusterState) × ReachesIn processors.now s t (come_changes p gone.now come) }
+    ensures leads { IfOk result (λ f. (s t : ClusterState) → ReachesIn processors.now s t (come_changes p gone.now come) → LeadsTo s t (flow_changes p gone.now f)) }
+    ensures counts { OnOk result ((s t : ClusterState) → ReachesIn processors.now s t (come_changes p gone.now come) → HasLargeCount t → ⊥) }
+    ensures entries { OnOk result ((s t : ClusterState) → ReachesIn processors.now s t (come_changes p gone.now come) → HasLargeEntry t → ⊥) }
+    ensures refused { IfErr result (λ r. (s t : ClusterState) → ReachesIn processors.now s t (come_changes p gone.now come) → LimitFails t r) }
+{
+    let early = Flow { come, late: false };
+    let changes = early.changes(p, gone);
+    stay_within(processors, &changes)?;
+    let late = !reading_of(processors, &changes[0]).leaves;
+    Ok(Flow { come, late })
 }

@@ -4,7 +4,7 @@ ghost use Rattle.nd_delta.specs.Change.{entries as entries_of};
 ghost use Rattle.nd_steps.specs.Listed.{leaves, arrives, listed};
 ghost use Rattle.nd_steps.specs.Records.{named};
 
-use crate::{Change, Changes};
+use crate::{Change, Changes, Record, Slot};
 use nd_delta::Delta;
 use nd_paths::Pointstamp;
 use std::alloc::{Allocator, Global};
@@ -26,7 +26,7 @@ pub enum Entry {
 /// What a record changes and is still to come, in order.
 #[derive(Drop)]
 pub struct Entries<'a, A: Allocator + Copy = Global> {
-    changes: &'a Changes<A>,
+    source: &'a Record<A>,
     next: usize,
 }
 
@@ -37,7 +37,7 @@ impl<'a, A: Allocator + Copy> Model for Entries<'a, A> {
 
     ghost Value = { List Entry };
 
-    ghost view = { λ a. drop a.next (listed a.changes.now) };
+    ghost view = { λ a. drop a.next (listed a.source.now) };
 }
 
 // One of the changes of a feed, a take or a notice.
@@ -57,12 +57,11 @@ fn of_sent<A: Allocator>(p: u32, part: &Delta<A>, i: usize) -> Option<Entry>
     let entries = part.entries();
     if i < entries.len() {
         let entry = &entries[i];
-        let comes = Change::Unsent {
+        return Some(Entry::Key(Change {
             p,
-            point: entry.0.copy(),
-            n: entry.1,
-        };
-        return Some(Entry::Key(comes.inverse()));
+            slot: Slot::Unsent(entry.0.copy()),
+            n: -i128::from(entry.1),
+        }));
     }
     if i == entries.len() {
         return Some(Entry::Back { p });
@@ -89,13 +88,14 @@ fn of_received<A: Allocator>(from: u32, to: u32, change: &Delta<A>, i: usize) ->
     None
 }
 
-impl<A: Allocator + Copy> Changes<A> {
+impl<A: Allocator + Copy> Record<A> {
     // One of the changes.
     fn entry(&self, i: usize) -> Option<Entry>
         ensures { result ≡ slice_get (listed self.now) i }
     {
-        match self {
+        match &self.changes {
             Changes::Each(changes) => of_step(changes, i),
+            Changes::Flowed(flow) => of_step(&flow.told(&self.step), i),
             Changes::Sent { p, part } => of_sent(*p, part, i),
             Changes::Received { from, to, change } => of_received(*from, *to, change, i),
         }
@@ -107,7 +107,7 @@ impl<A: Allocator + Copy> Changes<A> {
         ensures many { length result ≡ named self.now }
     {
         Entries {
-            changes: self,
+            source: self,
             next: 0,
         }
     }
@@ -123,10 +123,10 @@ impl<'a, A: Allocator + Copy> Iterator for Entries<'a, A> {
     ghost remaining = { item_count (λ s. s) };
 
     fn next(&mut self) -> Option<Entry> {
-        if self.next >= self.changes.entries() {
+        if self.next >= self.source.entries() {
             return None;
         }
-        let entry = self.changes.entry(self.next);
+        let entry = self.source.entry(self.next);
         self.next += 1;
         entry
     }

@@ -1,14 +1,17 @@
 //! Receives: the front of a queue goes into the receiver's view.
 ghost use Rattle.std.specs.Prelude.{◌≡◌, ◌↔◌, ◌<◌, ◌≤◌, ◌*◌, ◌+ℤ◌, unsigned_abs, length, slice_get, Some, IfErr, IfOk, IsTrue, OnErr, OnOk};
 ghost use Rattle.nd_time.specs.Limits.{max_count};
-ghost use Rattle.nd_delta.specs.Change.{at, plus, minus, IsTooLarge};
-ghost use Rattle.nd_view.specs.Kept.{Kept, IsFor};
-ghost use Rattle.nd_mesh.specs.Mesh.{queue, popped, unpopped, IsFull, IsMesh};
+ghost use Rattle.nd_delta.specs.Change.{at, plus, IsTooLarge};
+ghost use Rattle.nd_mesh.specs.Mesh.{queue};
+ghost use Rattle.nd_protocol.specs.Exchange.{received as received};
+ghost use Rattle.nd_protocol.specs.Fitting.{IsState};
 ghost use Rattle.nd_steps.specs.Refused.{ReceiveFails};
+ghost use Rattle.nd_steps.specs.Records.{CanReceive, Receives, CameFrom, IsBackAt};
 
+use crate::Parts;
 use nd_delta::{Delta, LIMIT};
 use nd_mesh::Mesh;
-use nd_paths::{Paths, Pointstamp};
+use nd_paths::Pointstamp;
 use nd_protocol::Refusal;
 use nd_view::View;
 use std::alloc::{AllocError, Allocator};
@@ -69,73 +72,53 @@ pub fn planned_front<A: Allocator + Copy>(
     Ok(change)
 }
 
-/// Takes the front of a queue into the receiver's view: first what may be refused, then the rest.
-pub fn received<A: Allocator + Copy>(
-    view: &mut View<A>,
-    mesh: &mut Mesh<A>,
-    paths: &Paths<A>,
-    from: usize,
-    to: usize,
-    change: &Delta<A>,
-) -> Result<(), AllocError>
-    requires sender { from < length mesh.old }
-    requires receiver { to < length mesh.old }
-    requires paths { IsFor paths.now view.old }
-    requires front { slice_get (queue mesh.old from to) 0 ≡ Some change.now }
-    requires room { IsTooLarge (plus view.old.map change.now) → ⊥ }
-    ensures paths { IsFor paths.now view.new }
-    ensures view { OnOk result (view.new.map ≡ plus view.old.map change.now) }
-    ensures mesh { OnOk result (mesh.new ≡ popped mesh.old from to) }
-    ensures view_back { OnOk result ((v : Kept) → IsFor paths.now v → v.map ≡ minus view.new.map change.now → v ≡ view.old) }
-    ensures mesh_back { OnOk result (unpopped mesh.new from to change.now ≡ mesh.old) }
-    ensures view_err { OnErr result (view.new ≡ view.old) }
-    ensures mesh_err { OnErr result (mesh.new ≡ mesh.old) }
-    ensures is_mesh { OnOk result (IsMesh mesh.new) }
-{
-    let Ok(()) = view.apply(paths, change) else {
-        return Err(AllocError);
-    };
-    // The queue is not empty.
-    let Ok(_front) = mesh.pop(from, to) else {
-        return Ok(());
-    };
-    Ok(())
-}
-
-/// Gives back what was received last, out of the view to the front of its queue. If that is
-/// refused once the change is in the queue, it is taken out again.
-pub fn give_back<A: Allocator + Copy>(
-    alloc: A,
-    view: &mut View<A>,
-    mesh: &mut Mesh<A>,
-    paths: &Paths<A>,
-    from: usize,
-    to: usize,
-    change: &Delta<A>,
-) -> Result<(), AllocError>
-    requires sender { from < length mesh.old }
-    requires receiver { to < length mesh.old }
-    requires paths { IsFor paths.now view.old }
-    requires queue { IsFull (queue mesh.old from to) → ⊥ }
-    requires room { IsTooLarge (minus view.old.map change.now) → ⊥ }
-    ensures paths { IsFor paths.now view.new }
-    ensures view { OnOk result (view.new.map ≡ minus view.old.map change.now) }
-    ensures mesh { OnOk result (mesh.new ≡ unpopped mesh.old from to change.now) }
-    ensures view_back { OnOk result ((v : Kept) → IsFor paths.now v → v.map ≡ plus view.new.map change.now → v ≡ view.old) }
-    ensures mesh_back { OnOk result (popped mesh.new from to ≡ mesh.old) }
-    ensures front { OnOk result (slice_get (queue mesh.new from to) 0 ≡ Some change.now) }
-    ensures view_err { OnErr result (view.new ≡ view.old) }
-    ensures mesh_err { OnErr result (mesh.new ≡ mesh.old) }
-    ensures is_mesh { OnOk result (IsMesh mesh.new) }
-{
-    let copied = change.copy(alloc)?;
-    let Ok(()) = mesh.unpop(from, to, copied) else {
-        return Err(AllocError);
-    };
-    let Ok(()) = view.unapply(paths, change) else {
+impl<A: Allocator + Copy> Parts<A> {
+    // Processor `to` receives the front of the queue from `from`: first what may be refused, then the rest.
+    pub(crate) fn receive(
+        &mut self,
+        from: usize,
+        to: usize,
+        change: &Delta<A>,
+    ) -> Result<(), AllocError>
+        requires state { IsState self.old }
+        requires receives { CanReceive self.old from to change.now }
+        ensures ok { OnOk result (self.new ≡ received self.old from to) }
+        ensures err { OnErr result (self.new ≡ self.old) }
+    {
+        let view = &mut self.views[to];
+        let Ok(()) = view.apply(&self.paths, change) else {
+            return Err(AllocError);
+        };
         // The queue is not empty.
-        let _taken = mesh.pop(from, to);
-        return Err(AllocError);
-    };
-    Ok(())
+        let Ok(_front) = self.mesh.pop(from, to) else {
+            return Ok(());
+        };
+        Ok(())
+    }
+
+    // Gives back what `to` received last, out of the view to the front of its queue. If that is
+    // refused once the change is in the queue, it is taken out again.
+    pub(crate) fn unreceive(
+        &mut self,
+        alloc: A,
+        from: usize,
+        to: usize,
+        change: &Delta<A>,
+    ) -> Result<(), AllocError>
+        requires { CameFrom (λ s. Receives s from to change.now self.old) }
+        ensures ok { OnOk result (IsBackAt (λ s. Receives s from to change.now self.old) self.new) }
+        ensures err { OnErr result (self.new ≡ self.old) }
+    {
+        let copied = change.copy(alloc)?;
+        let Ok(()) = self.mesh.unpop(from, to, copied) else {
+            return Err(AllocError);
+        };
+        let view = &mut self.views[to];
+        let Ok(()) = view.unapply(&self.paths, change) else {
+            // The queue is not empty.
+            let _taken = self.mesh.pop(from, to);
+            return Err(AllocError);
+        };
+        Ok(())
+    }
 }

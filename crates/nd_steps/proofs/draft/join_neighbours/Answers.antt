@@ -3,7 +3,7 @@ use Rattle.std.proofs.lemmas.List.{nil_from_length}
 use Rattle.std.specs.Ordering.{is_eq}
 use Rattle.std.specs.Vec.Iter.{into_iter_items}
 use Rattle.nd_steps.specs.Changes.{place_of}
-use Rattle.nd_steps.specs.Alike.{is_place}
+use Rattle.nd_steps.specs.Places.{is_place}
 use Rattle.nd_steps.specs.Drafts.{joins, joined}
 use Rattle.nd_steps.proofs.DraftsLemmas.{join_same, join_next}
 use Rattle.nd_steps.proofs.draft.join_neighbours.Goals as goal

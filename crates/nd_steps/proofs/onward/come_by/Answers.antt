@@ -4,7 +4,7 @@ use Rattle.nd_time.specs.Limits.{max_depth}
 use Rattle.nd_paths.specs.Point.{point_cmp, point_total}
 use Rattle.nd_processor.specs.declared.key.ValueAt.{ValueAt}
 use Rattle.nd_protocol.specs.Steps.{destination}
-use Rattle.nd_steps.specs.Alike.{same_key}
+use Rattle.nd_steps.proofs.AlikeLemmas.{same_key}
 use Rattle.nd_steps.specs.Onward.{leaving}
 use Rattle.nd_steps.specs.declared.come.Come.TheVariants.{Record}
 use Rattle.nd_steps.proofs.OnwardLemmas.{one_made}

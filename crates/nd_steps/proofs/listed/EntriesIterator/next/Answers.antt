@@ -8,9 +8,9 @@ use Rattle.nd_steps.proofs.listed.EntriesIterator.next.Goals as goal
 
 pub returns-clause-steps : goal.returns-clause-steps
 returns-clause-steps g c =
-    let all : List Entry = listed c.self.inside.changes.now in
+    let all : List Entry = listed c.self.inside.source.now in
     let next = c.self.inside.next in
-    let lt : next < length all = omega (arith, c.if-self-entries.false, c.entries.ensures, listed-named c.self.inside.changes.now) in
+    let lt : next < length all = omega (arith, c.if-self-entries.false, c.entries.ensures, listed-named c.self.inside.source.now) in
     subst (λ (s : List Entry). YieldsFirst (λ (t : List Entry). t) s c.entry-entry.result (drop (next + 1) all)) c.self.view_is
     (yields all next c.entry-entry.result c.entry-entry.ensures lt)
 
