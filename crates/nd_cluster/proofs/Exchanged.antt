@@ -5,7 +5,7 @@ use Rattle.std.proofs.lemmas.Int.{ints}
 use Rattle.std.proofs.lemmas.List.{get_or_past}
 use Rattle.std.specs.Prelude.{slice_get, unsigned_abs}
 use Rattle.nd_time.specs.Limits.{max_count}
-use Rattle.nd_delta.specs.Change.{Change, none, at, at-none, plus, size, IsTooLarge, IsPartOf}
+use Rattle.nd_delta.specs.Delta.{DeltaValue, none, at, at-none, plus, size, IsTooLarge, IsPartOf}
 use Rattle.nd_processor.specs.State.{ProcessorState, idle}
 use Rattle.nd_mesh.specs.Mesh.{row, HasQueue, IsFull}
 use Rattle.nd_protocol.specs.State.{ClusterState, processor, view, queue}
@@ -32,7 +32,7 @@ use Rattle.nd_cluster.specs.Records.{shared, Plans, ComesLast}
 use Rattle.nd_steps.specs.declared.record.Changes.TheVariants.{Each, Sent, Received}
 use Rattle.nd_map.specs.Cases.{zero_or_not}
 
-is_part : (c d : Change) → IsPartOf c d → IsPart c d
+is_part : (c d : DeltaValue) → IsPartOf c d → IsPart c d
 is_part c d h x = elim (zero_or_not (at c x)) [ inl e ↦ inl e | inr some ↦ inr (sym (h x some)) ]
 
 -- ---- a feed, a take or a notice
@@ -61,7 +61,7 @@ comes_last law s (Receive from to) state may = tt
 
 -- ---- a broadcast
 
-module _ {A : Type 0} (s : ClusterState) (p : ℕ) (part : Part A) (c : Change) (state : IsState s) (here : p < length s.processors) (is : c ≡ chosen part (processor s p).unsent) where
+module _ {A : Type 0} (s : ClusterState) (p : ℕ) (part : Part A) (c : DeltaValue) (state : IsState s) (here : p < length s.processors) (is : c ≡ chosen part (processor s p).unsent) where
   module _ (some : c ≢ none) (upright : LeavesUpright s.graph (processor s p) c) (room : HasQueue IsFull (row s.queues p) → ⊥) (numbers : NumbersFit {A = A} (Broadcast p part)) where
     stays : LeavesUpright s.graph (processor s p) (chosen part (processor s p).unsent)
     stays = subst (LeavesUpright s.graph (processor s p)) is upright
@@ -89,7 +89,7 @@ module _ {A : Type 0} (s : ClusterState) (p : ℕ) (part : Part A) (c : Change) 
 -- ---- a receive
 
 -- the reason for which nothing is received, of the state and of what is stored of it
-pub fails_in : (v w : Change) (q r : List Change) (e f : Refusal) → v ≡ w → q ≡ r → e ≡ f → ReceiveFails w q f → ReceiveFails v r e
+pub fails_in : (v w : DeltaValue) (q r : List DeltaValue) (e f : Refusal) → v ≡ w → q ≡ r → e ≡ f → ReceiveFails w q f → ReceiveFails v r e
 fails_in v w q r e f a b c h = subst (λ x. ReceiveFails x r e) (sym a) (subst (λ x. ReceiveFails w x e) b (subst (ReceiveFails w q) (sym c) h))
 
 abbrev error_or : {T E : Type 0} → E → Result T E → E
@@ -110,7 +110,7 @@ small_entries s state (of_unsent p x large) = elim (cases_lt p (length s.process
 ]
 small_entries s state (of_view q x large) = elim (cases_lt q (length s.views)) [
   | inl lt ↦ let l : unsigned_abs (at (view s q) x) ≤ max_count = state.within.views q none lt x in omega (arith, l, large)
-  | inr past ↦ no_entry (at (view s q) x) (ap (λ (c : Change). at c x) (get_or_past s.views q none past) ∙ at-none x) large
+  | inr past ↦ no_entry (at (view s q) x) (ap (λ (c : DeltaValue). at c x) (get_or_past s.views q none past) ∙ at-none x) large
 ]
 
 module _ (A : Type 0) (s : ClusterState) (from to : ℕ) (state : IsState s) (here : from < length s.processors) (there : to < length s.processors) where
@@ -121,7 +121,7 @@ module _ (A : Type 0) (s : ClusterState) (from to : ℕ) (state : IsState s) (he
   view_there : to < length s.views
   view_there = subst (λ n. to < n) (sym state.fits.each_view) there
 
-  module _ (c : Change) (front : slice_get (queue s from to) 0 ≡ Some c) where
+  module _ (c : DeltaValue) (front : slice_get (queue s from to) 0 ≡ Some c) where
     -- the view that receives it, and the other views
     view_now : view (stepped {A = A} s (Receive from to)) to ≡ plus (view s to) c
     unfolding stepped
@@ -136,7 +136,7 @@ module _ (A : Type 0) (s : ClusterState) (from to : ℕ) (state : IsState s) (he
     unsent_now p = ap (λ (t : ClusterState). (processor t p).unsent) (received-front s from to c front)
 
     not_empty : queue s from to ≡ [] → ⊥
-    not_empty e = let none_there : slice_get (queue s from to) 0 ≡ None = ap (λ (cs : List Change). slice_get cs 0) e in absurd (cc)
+    not_empty e = let none_there : slice_get (queue s from to) 0 ≡ None = ap (λ (cs : List DeltaValue). slice_get cs 0) e in absurd (cc)
 
     no_large : (IsTooLarge (plus (view s to) c) → ⊥) → HasLargeEntry (stepped {A = A} s (Receive from to)) → ⊥
     no_large room (of_unsent p x large) = small_entries s state (of_unsent p x (subst (λ d. max_count < unsigned_abs (at d x)) (unsent_now p) large))

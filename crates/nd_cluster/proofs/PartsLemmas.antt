@@ -12,7 +12,7 @@ use Rattle.nd_map.specs.Counts.{Counts, Number, nil, at, entries, at-entries, en
 use Rattle.nd_map.specs.Entries.{all_found, found_all}
 use Rattle.nd_paths.specs.Point.{point_cmp, point_total, point_exact}
 use Rattle.nd_paths.specs.declared.point.Pointstamp.{Pointstamp}
-use Rattle.nd_delta.specs.Change.{Change, or_zero, entries as listed, at-entries as change-entries, sorted-entries, some-entry}
+use Rattle.nd_delta.specs.Delta.{DeltaValue, or_zero, entries as listed, at-entries as change-entries, sorted-entries, some-entry}
 use Rattle.nd_vertex.specs.Items.{item_cmp, item_total, item_exact}
 use Rattle.nd_vertex.specs.declared.key.ItemKey.{ItemKey}
 use Rattle.nd_processor.specs.Keys.{value_at_total, value_at_exact, sink_total, sink_exact}
@@ -22,7 +22,7 @@ use Rattle.nd_processor.specs.declared.key.SinkKey.{SinkKey}
 use Rattle.nd_time.specs.Limits.{max_processors}
 use Rattle.nd_view.specs.Kept.{Kept}
 use Rattle.nd_mesh.specs.Mesh.{IsMesh, queue}
-use Rattle.nd_protocol.specs.Fitting.{ChangeFits, ChangeIsWithin, IsAtVertex, IsAtLocation, ProcessorFits, ProcessorIsWithin, IsOrdered, IsState}
+use Rattle.nd_protocol.specs.Fitting.{DeltaFits, DeltaIsWithin, IsAtVertex, IsAtLocation, ProcessorFits, ProcessorIsWithin, IsOrdered, IsState}
 use Rattle.nd_steps.specs.Seen.{seen}
 use Rattle.nd_cluster.specs.Parts.{IsRecordKey, IsItem, IsSinkKey, ItemsFit, RowFits, RowIsWithin}
 use Rattle.nd_cluster.proofs.ChoiceLemmas.{split}
@@ -66,12 +66,12 @@ integer_of None h = absurd (h refl)
 integer_of (Some v) h = record { value = v; is = refl }
 
 -- what holds of each entry of a change holds where it is not 0
-pub change_from : (g : Dataflow) (c : Change) → All (λ e. IsAtLocation g e.0) (listed c) → ChangeFits g c
+pub change_from : (g : Dataflow) (c : DeltaValue) → All (λ e. IsAtLocation g e.0) (listed c) → DeltaFits g c
 change_from g c all x some =
     let v = integer_of (find point_cmp x (listed c)) (λ z. some (sym (change-entries c x) ∙ z)) in
     found_all point_cmp point_exact (λ k _. IsAtLocation g k) (listed c) all x v.value v.is
 
-pub change_to : (g : Dataflow) (c : Change) → ChangeFits g c → All (λ e. IsAtLocation g e.0) (listed c)
+pub change_to : (g : Dataflow) (c : DeltaValue) → DeltaFits g c → All (λ e. IsAtLocation g e.0) (listed c)
 change_to g c fits = all_found point_cmp point_total (λ k _. IsAtLocation g k) (listed c) (sorted-entries c) (λ k v is. fits k (λ z. some-entry c k v is (sym (ap or_zero is) ∙ change-entries c k ∙ z)))
 
 module _ {K X : Type 0} {R : K → K → Ordering} {N : Number X} (o : IsTotalOrder R) (tells : IsAntisymmetric R) (m : Counts R N) (Q : K → X → Type 0) where
@@ -132,7 +132,7 @@ module _ (g : Dataflow) (q : ProcessorState) where
     | inr past ↦ absurd (some (ap (λ m. at m k) (get_or_past q.items v no_counts past) ∙ at-none item_cmp integers k))
   ]
 
-  pub processor_from : length q.items ≡ length g.vertices → RecordsFit → RequestsFit → TokensFit → AllItemsFit → SinksFit → ChangeFits g q.unsent → ProcessorFits g q
+  pub processor_from : length q.items ≡ length g.vertices → RecordsFit → RequestsFit → TokensFit → AllItemsFit → SinksFit → DeltaFits g q.unsent → ProcessorFits g q
   processor_from vertices records requests tokens items sinks unsent = record {
     records = counts_from value_at_total value_at_exact q.records (λ k _. IsRecordKey g k) records;
     requests = λ x is. map_from point_total point_exact q.requests (λ x _. IsAtVertex g x) requests x tt is;
@@ -166,7 +166,7 @@ pub length_map : {X Y : Type 0} (f : X → Y) (xs : List X) → length (map f xs
 length_map f [] = refl
 length_map f (x ∷ xs) = ap suc (length_map f xs)
 
-module _ (P : Change → Type 0) (m : List (List (List Change))) (mesh : IsMesh m) where
+module _ (P : DeltaValue → Type 0) (m : List (List (List DeltaValue))) (mesh : IsMesh m) where
   pub rows_from : ((p : ℕ) → p < length m → (q : ℕ) → q < length m → All P (queue m p q)) → All (λ row. All (λ changes. All P changes) row) m
   rows_from h p d lt q e in_row =
       subst (All P) (ap (λ row. get_or row q []) (get_or_default m p [] d lt) ∙ get_or_default (get_or m p d) q [] e in_row)
@@ -177,22 +177,22 @@ module _ (P : Change → Type 0) (m : List (List (List Change))) (mesh : IsMesh 
 
 -- ---- a state
 
-module _ (g : Dataflow) (ps : List ProcessorState) (vs : List Kept) (m : List (List (List Change))) (mesh : IsMesh m) where
-  pub views_to : IsState (seen g ps vs m) → All (λ (v : Kept). ChangeFits g v.map) vs
-  views_to s = all_unmap (λ (v : Kept). v.map) (ChangeFits g) vs s.fits.views
+module _ (g : Dataflow) (ps : List ProcessorState) (vs : List Kept) (m : List (List (List DeltaValue))) (mesh : IsMesh m) where
+  pub views_to : IsState (seen g ps vs m) → All (λ (v : Kept). DeltaFits g v.map) vs
+  views_to s = all_unmap (λ (v : Kept). v.map) (DeltaFits g) vs s.fits.views
 
   pub mesh_to : IsState (seen g ps vs m) → (p : ℕ) → p < length m → RowFits g m p
-  mesh_to s = rows_to (ChangeFits g) m mesh s.fits.queues
+  mesh_to s = rows_to (DeltaFits g) m mesh s.fits.queues
 
   pub state_from : IsOrdered g → 0 < length ps → length ps ≤ max_processors → length vs ≡ length ps → length m ≡ length ps
-      → All (ProcessorFits g) ps → All ProcessorIsWithin ps → All (λ (v : Kept). ChangeFits g v.map) vs → All (λ (v : Kept). ChangeIsWithin v.map) vs
+      → All (ProcessorFits g) ps → All ProcessorIsWithin ps → All (λ (v : Kept). DeltaFits g v.map) vs → All (λ (v : Kept). DeltaIsWithin v.map) vs
       → ((p : ℕ) → p < length m → RowFits g m p) → ((p : ℕ) → p < length m → RowIsWithin m p) → IsState (seen g ps vs m)
   state_from order some few each_view each_sender processors processors_within views views_within rows rows_within = record {
     ordered = order;
     fits = record {
       processors = processors;
-      views = all_map (λ (v : Kept). v.map) (ChangeFits g) vs views;
-      queues = rows_from (ChangeFits g) m mesh rows;
+      views = all_map (λ (v : Kept). v.map) (DeltaFits g) vs views;
+      queues = rows_from (DeltaFits g) m mesh rows;
       each_view = length_map (λ (v : Kept). v.map) vs ∙ each_view;
       each_sender = each_sender;
       each_receiver = λ p d lt. mesh.square p d lt ∙ each_sender;
@@ -201,7 +201,7 @@ module _ (g : Dataflow) (ps : List ProcessorState) (vs : List Kept) (m : List (L
       some = some;
       few = few;
       processors = processors_within;
-      views = all_map (λ (v : Kept). v.map) ChangeIsWithin vs views_within;
-      queues = λ p d lt q e in_row. record { few = mesh.within p d lt q e in_row; entries = rows_from ChangeIsWithin m mesh rows_within p d lt q e in_row };
+      views = all_map (λ (v : Kept). v.map) DeltaIsWithin vs views_within;
+      queues = λ p d lt q e in_row. record { few = mesh.within p d lt q e in_row; entries = rows_from DeltaIsWithin m mesh rows_within p d lt q e in_row };
     };
   }

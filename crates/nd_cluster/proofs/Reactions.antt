@@ -20,7 +20,7 @@ use Rattle.nd_graph.specs.Graph.{Dataflow, action_of, depth_past_vertex, locatio
 use Rattle.nd_graph.specs.Checked.{has_bad_port, is_input, is_misplaced, is_too_deep, vertex_depth, misses_depth, has_depth_mismatch, leads_too_deep, is_too_large, fault_of, IsFaultless}
 use Rattle.nd_paths.specs.declared.point.Pointstamp.{Pointstamp}
 use Rattle.nd_delta.specs.Least.{IsLeast}
-use Rattle.nd_delta.specs.Change.{Change, none}
+use Rattle.nd_delta.specs.Delta.{DeltaValue, none}
 use Rattle.nd_view.specs.View.{IsPrecursor}
 use Rattle.nd_view.specs.Kept.{Kept, IsFor}
 use Rattle.nd_view.specs.Views.{maps-get}
@@ -171,7 +171,7 @@ module _ (s : ClusterState) (p : ℕ) (k : ValueAt) (target : ℕ) (is : target 
 -- ---- a notice
 
 -- a processor of the state has a view among those stored
-pub view_there : (g : Dataflow) (ps : List ProcessorState) (vs : List Kept) (queues : List (List (List Change))) (s : ClusterState) (p : ℕ) → IsSeen g ps vs queues → seen g ps vs queues ≡ s → p < length s.processors → p < length vs
+pub view_there : (g : Dataflow) (ps : List ProcessorState) (vs : List Kept) (queues : List (List (List DeltaValue))) (s : ClusterState) (p : ℕ) → IsSeen g ps vs queues → seen g ps vs queues ≡ s → p < length s.processors → p < length vs
 view_there g ps vs queues s p h e lt =
     let n : length (map (λ (w : Kept). w.map) vs) ≡ length ps = h.state.fits.each_view in
     let m : length (map (λ (w : Kept). w.map) vs) ≡ length vs = length-map vs (λ w. w.map) in
@@ -185,7 +185,7 @@ requested_there s p x state here asked =
     omega (arith, (fits.requests x asked).place, fits.vertices)
 
 -- the precursor counts of a view are those of the graph, and its map is the state's view
-pub seen_view : (g : Dataflow) (ps : List ProcessorState) (vs : List Kept) (queues : List (List (List Change))) (s : ClusterState) (p : ℕ) (v : Kept) → IsSeen g ps vs queues → seen g ps vs queues ≡ s → p < length s.processors → v ≡ get_or vs p v → IsFor g v × (view s p ≡ v.map)
+pub seen_view : (g : Dataflow) (ps : List ProcessorState) (vs : List Kept) (queues : List (List (List DeltaValue))) (s : ClusterState) (p : ℕ) (v : Kept) → IsSeen g ps vs queues → seen g ps vs queues ≡ s → p < length s.processors → v ≡ get_or vs p v → IsFor g v × (view s p ≡ v.map)
 seen_view g ps vs queues s p v h e lt is =
     let n : length (map (λ (w : Kept). w.map) vs) ≡ length ps = h.state.fits.each_view in
     let m : length (map (λ (w : Kept). w.map) vs) ≡ length vs = length-map vs (λ w. w.map) in
@@ -197,13 +197,13 @@ module _ (s : ClusterState) (p : ℕ) (x : Pointstamp) (on : NoticePasses s p x.
   pub notice_here : p < length s.processors
   notice_here = lt_of_not-le (on.free s NoProcessor (omega arith))
 
-  pub notice_blocked : (g : Dataflow) (m : Change) → g ≡ s.graph → view s p ≡ m → (blocker : Pointstamp) → IsLeast (IsPrecursor g m x) blocker → NoticeRefused s p x.location x.time (NotYet blocker)
+  pub notice_blocked : (g : Dataflow) (m : DeltaValue) → g ≡ s.graph → view s p ≡ m → (blocker : Pointstamp) → IsLeast (IsPrecursor g m x) blocker → NoticeRefused s p x.location x.time (NotYet blocker)
   notice_blocked g m e f blocker h = record {
     fails = λ new. subst (λ c. IsLeast (IsPrecursor s.graph c x) blocker) (sym f) (subst (λ d. IsLeast (IsPrecursor d m x) blocker) e h);
     least = on;
   }
 
-  pub notice_free : (g : Dataflow) (m : Change) → g ≡ s.graph → view s p ≡ m → ((y : Pointstamp) → IsPrecursor g m x y → ⊥) → NoticePasses s p x.location x.time 13
+  pub notice_free : (g : Dataflow) (m : DeltaValue) → g ≡ s.graph → view s p ≡ m → ((y : Pointstamp) → IsPrecursor g m x y → ⊥) → NoticePasses s p x.location x.time 13
   notice_free g m e f nothing = record { free = passes }
     where
       here : (y : Pointstamp) → IsPrecursor s.graph (view s p) x y → ⊥

@@ -16,7 +16,7 @@ use Rattle.nd_paths.specs.declared.accept.PathFault.{PathFault}
 use Rattle.nd_paths.specs.declared.accept.PathFault.TheVariants as path
 use Rattle.nd_paths.specs.declared.point.Pointstamp.{Pointstamp}
 use Rattle.std.proofs.lemmas.Map.Views.{tells_apart}
-use Rattle.nd_delta.specs.Change.{Change, none, plus, at, set, same, is_point, at-none, at-plus, at-set}
+use Rattle.nd_delta.specs.Delta.{DeltaValue, none, plus, at, set, same, is_point, at-none, at-plus, at-set}
 use Rattle.nd_view.specs.Kept.{Kept}
 use Rattle.nd_processor.specs.State.{ProcessorState, one_at, token_point, held}
 use Rattle.nd_processor.specs.Start.{start_processor}
@@ -33,7 +33,7 @@ add_here true here s n e = rw (e refl) (ap pos (omega arith))
 add_here false here s n e = ap pos (omega arith)
 
 -- one more token is counted n times
-pub tokens_turn : (es : List (ℕ × ℕ)) (i n : ℕ) (z : ℤ) (d : ℕ × ℕ) (m new : Change) (p : Pointstamp) → i < length es → p ≡ token_point (get_or es i d).0 (get_or es i d).1 → z ≡ pos n → new ≡ set m p (at m p +ℤ z)
+pub tokens_turn : (es : List (ℕ × ℕ)) (i n : ℕ) (z : ℤ) (d : ℕ × ℕ) (m new : DeltaValue) (p : Pointstamp) → i < length es → p ≡ token_point (get_or es i d).0 (get_or es i d).1 → z ≡ pos n → new ≡ set m p (at m p +ℤ z)
     → ((x : Pointstamp) → at m x ≡ pos (n * tokens_weigh (take i es) x)) → (x : Pointstamp) → at new x ≡ pos (n * tokens_weigh (take (i + 1) es) x)
 tokens_turn es i n z d m new p lt is number add h x =
     let more : tokens_weigh (take (i + 1) es) x ≡ tokens_weigh (take i es) x + one_at (token_point (get_or es i d).0 (get_or es i d).1) x
@@ -50,7 +50,7 @@ tokens_turn es i n z d m new p lt is number add h x =
 held-start : (g : Dataflow) (x : Pointstamp) → held (start_processor g) x ≡ tokens_weigh (fin.entries (start_processor g).tokens) x
 held-start g x = let r = no_records x in let q = no_requests x in omega arith
 
-pub start_counts : (g : Dataflow) (n : ℕ) (d : Change) (es : List (ℕ × ℕ)) → es ≡ fin.entries (start_processor g).tokens → ((x : Pointstamp) → at d x ≡ pos (n * tokens_weigh es x)) → d ≡ truth (replicate n (start_processor g))
+pub start_counts : (g : Dataflow) (n : ℕ) (d : DeltaValue) (es : List (ℕ × ℕ)) → es ≡ fin.entries (start_processor g).tokens → ((x : Pointstamp) → at d x ≡ pos (n * tokens_weigh es x)) → d ≡ truth (replicate n (start_processor g))
 start_counts g n d es is h =
     same _ _ (λ x.
     h x
@@ -59,19 +59,19 @@ start_counts g n d es is h =
     ∙ sym (truth-count (replicate n (start_processor g)) x))
 
 -- one more view of what is outstanding
-pub from_nothing : (d : Change) → plus none d ≡ d
+pub from_nothing : (d : DeltaValue) → plus none d ≡ d
 from_nothing d = same _ _ (λ x. at-plus none d x ∙ ap (λ z. z +ℤ at d x) (at-none x) ∙ (let e : pos 0 +ℤ at d x ≡ at d x = omega (arith, ints) in e))
 
 pub one : {X : Type 0} (P : X → Type 0) (x : X) → P x → All P (x ∷ [])
 one P x h zero d lt = h
 one P x h (suc k) d lt = absurd (omega arith)
 
-pub views_turn : (vs new : List Kept) (v : Kept) (k : ℕ) (d : Change) → new ≡ vs ++ v ∷ [] → v.map ≡ d → map (λ (w : Kept). w.map) vs ≡ replicate k d → map (λ (w : Kept). w.map) new ≡ replicate (k + 1) d
+pub views_turn : (vs new : List Kept) (v : Kept) (k : ℕ) (d : DeltaValue) → new ≡ vs ++ v ∷ [] → v.map ≡ d → map (λ (w : Kept). w.map) vs ≡ replicate k d → map (λ (w : Kept). w.map) new ≡ replicate (k + 1) d
 views_turn vs new v k d is one all =
     ap (map (λ (w : Kept). w.map)) is ∙ map-append (λ (w : Kept). w.map) vs (v ∷ [])
     ∙ (λ i. all i ++ one i ∷ []) ∙ replicate_more k d
 
-pub seen_start : (g : Dataflow) (n : ℕ) (k : Dataflow) (ps : List ProcessorState) (vs : List Kept) (m : List (List (List Change))) (d : Change) → k ≡ g → ps ≡ replicate n (start_processor g) → map (λ v. v.map) vs ≡ replicate n d → d ≡ truth (replicate n (start_processor g)) → m ≡ replicate n (replicate n [])
+pub seen_start : (g : Dataflow) (n : ℕ) (k : Dataflow) (ps : List ProcessorState) (vs : List Kept) (m : List (List (List DeltaValue))) (d : DeltaValue) → k ≡ g → ps ≡ replicate n (start_processor g) → map (λ v. v.map) vs ≡ replicate n d → d ≡ truth (replicate n (start_processor g)) → m ≡ replicate n (replicate n [])
     → seen k ps vs m ≡ start g n
 unfolding start
 seen_start g n k ps vs m d a b c e f = λ i. record { graph = a i; processors = b i; views = (c ∙ ap (replicate n) e) i; queues = f i }

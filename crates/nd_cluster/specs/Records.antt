@@ -2,7 +2,7 @@
 use Rattle.std.specs.Prelude.{◌≡◌, ℕ, ◌+◌, ◌-◌, pos, length}
 use Rattle.nd_paths.specs.Order.{IsStrictlyBefore}
 use Rattle.nd_paths.specs.declared.point.Pointstamp.{Pointstamp}
-use Rattle.nd_delta.specs.Change.{at}
+use Rattle.nd_delta.specs.Delta.{at}
 use Rattle.nd_protocol.specs.State.{ClusterState, truth}
 use Rattle.nd_protocol.specs.Steps.{point_at, stepped}
 use Rattle.nd_protocol.specs.Fitting.{IsState}

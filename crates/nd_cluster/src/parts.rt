@@ -10,7 +10,7 @@ ghost use Rattle.nd_steps.specs.Seen.{seen};
 ghost use Rattle.nd_mesh.specs.Mesh.{queue};
 ghost use Rattle.nd_view.specs.Kept.{Kept, IsFor};
 ghost use Rattle.nd_protocol.specs.Ranges.{IsValue};
-ghost use Rattle.nd_protocol.specs.Fitting.{IsAtVertex, IsAtEdge, IsAtLocation, ChangeFits, ChangeIsWithin, ProcessorFits, ProcessorIsWithin, IsState};
+ghost use Rattle.nd_protocol.specs.Fitting.{IsAtVertex, IsAtEdge, IsAtLocation, DeltaFits, DeltaIsWithin, ProcessorFits, ProcessorIsWithin, IsState};
 
 use crate::Cluster;
 use crate::refuse::op_at;
@@ -185,15 +185,15 @@ fn entries_fit<A: Allocator>(graph: &Graph<A>, entries: &[(Pointstamp, i64)]) ->
 
 // Whether a change has entries at pointstamps of the graph alone.
 fn change_fits<A: Allocator>(graph: &Graph<A>, change: &Delta<A>) -> bool
-    ensures fits { IsTrue result ↔ ChangeFits graph.now change.now }
-    ensures within { ChangeIsWithin change.now }
+    ensures fits { IsTrue result ↔ DeltaFits graph.now change.now }
+    ensures within { DeltaIsWithin change.now }
 {
     entries_fit(graph, change.entries())
 }
 
 // Whether what a processor has not sent is at pointstamps of the graph alone.
 fn unsent_fits<A: Allocator + Copy>(graph: &Graph<A>, processor: &Processor<A>) -> bool
-    ensures { IsTrue result ↔ ChangeFits graph.now processor.now.unsent }
+    ensures { IsTrue result ↔ DeltaFits graph.now processor.now.unsent }
 {
     for (key, _) in processor.unsent().iter() {
         if !is_at_location(graph, key) {
@@ -253,16 +253,16 @@ fn processors_fit<A: Allocator + Copy>(graph: &Graph<A>, processors: &[Processor
 
 // Whether a view has entries at pointstamps of the graph alone.
 fn view_fits<A: Allocator + Copy>(graph: &Graph<A>, view: &View<A>) -> bool
-    ensures fits { IsTrue result ↔ ChangeFits graph.now view.now.map }
-    ensures within { ChangeIsWithin view.now.map }
+    ensures fits { IsTrue result ↔ DeltaFits graph.now view.now.map }
+    ensures within { DeltaIsWithin view.now.map }
 {
     entries_fit(graph, view.entries())
 }
 
 // Whether all views do.
 fn views_fit<A: Allocator + Copy>(graph: &Graph<A>, views: &[View<A>]) -> bool
-    ensures fits { IsTrue result ↔ All (λ (v : Kept). ChangeFits graph.now v.map) views.now }
-    ensures within { IsTrue result → All (λ (v : Kept). ChangeIsWithin v.map) views.now }
+    ensures fits { IsTrue result ↔ All (λ (v : Kept). DeltaFits graph.now v.map) views.now }
+    ensures within { IsTrue result → All (λ (v : Kept). DeltaIsWithin v.map) views.now }
 {
     for view in views {
         if !view_fits(graph, view) {
@@ -276,8 +276,8 @@ fn views_fit<A: Allocator + Copy>(graph: &Graph<A>, views: &[View<A>]) -> bool
 fn queue_fits<A: Allocator + Copy>(graph: &Graph<A>, mesh: &Mesh<A>, from: usize, to: usize) -> bool
     requires sender { from < length mesh.now }
     requires receiver { to < length mesh.now }
-    ensures fits { IsTrue result ↔ All (ChangeFits graph.now) (queue mesh.now from to) }
-    ensures within { IsTrue result → All ChangeIsWithin (queue mesh.now from to) }
+    ensures fits { IsTrue result ↔ All (DeltaFits graph.now) (queue mesh.now from to) }
+    ensures within { IsTrue result → All DeltaIsWithin (queue mesh.now from to) }
 {
     for i in 0..mesh.len(from, to) {
         let change = mesh.get(from, to, i).unwrap();

@@ -12,7 +12,7 @@ use Rattle.std.specs.FinMap as fin
 use Rattle.nd_map.specs.Counts.{int_at, none as no_counts, at as number_at, size as keys}
 use Rattle.nd_paths.specs.Point.{point_cmp}
 use Rattle.nd_paths.specs.declared.point.Pointstamp.{Pointstamp}
-use Rattle.nd_delta.specs.Change.{Change, none as no_change, at as in_change, plus, minus, at-plus, at-minus, size}
+use Rattle.nd_delta.specs.Delta.{DeltaValue, none as no_change, at as in_change, plus, minus, at-plus, at-minus, size}
 use Rattle.nd_processor.specs.State.{ProcessorState, idle}
 use Rattle.nd_protocol.specs.State.{ClusterState, processor, view, queue}
 use Rattle.nd_protocol.specs.Exchange.{IsPart, sent, received, received_from}
@@ -31,11 +31,11 @@ pub queues_same : (s t : ClusterState) → t.queues ≡ s.queues → queues_chan
 unfolding queues_changed
 queues_same s t e =
     none_below (length s.processors) _ (λ p lt. none_below (length s.processors) _ (λ q below.
-    alike_queues (queue s p q) (queue t p q) (ap (λ (rows : List (List (List Change))). get_or (get_or rows p []) q []) e)))
+    alike_queues (queue s p q) (queue t p q) (ap (λ (rows : List (List (List DeltaValue))). get_or (get_or rows p []) q []) e)))
 
 -- ---- a change that is sent
 
-module _ (s : ClusterState) (p : ℕ) (c : Change) (fits : KeysFit s) (here : p < length s.processors) where
+module _ (s : ClusterState) (p : ℕ) (c : DeltaValue) (fits : KeysFit s) (here : p < length s.processors) where
   abbrev after : ProcessorState
   after = record (processor s p) { unsent = minus (processor s p).unsent c }
 
@@ -67,10 +67,10 @@ module _ (s : ClusterState) (p : ℕ) (c : Change) (fits : KeysFit s) (here : p 
   longer : (q : ℕ) → q < length s.processors → queue (sent s p c) p q ≡ queue s p q ++ c ∷ []
   unfolding sent
   longer q lt =
-      let f = λ (changes : List Change). changes ++ c ∷ [] in
+      let f = λ (changes : List DeltaValue). changes ++ c ∷ [] in
       let row = get_or s.queues p [] in
       let receiver : q < length row = subst (λ n. q < n) (sym (fits.each_receiver p [] sender)) lt in
-      ap (λ (r : List (List Change)). get_or r q []) (get_or-set_same s.queues p (map f row) [] sender)
+      ap (λ (r : List (List DeltaValue)). get_or r q []) (get_or-set_same s.queues p (map f row) [] sender)
       ∙ get_or_default (map f row) q [] (f []) (subst (λ n. q < n) (sym (length-map row f)) receiver)
       ∙ get_or-map f row q []
 
@@ -82,18 +82,18 @@ module _ (s : ClusterState) (p : ℕ) (c : Change) (fits : KeysFit s) (here : p 
       ∙ each_below (length s.processors) _ (λ q lt. unlike_queues (queue s p q) (queue (sent s p c) p q) (λ e. one_more (queue s p q) (e ∙ ap length (longer q lt))))
     where
       as_before : (k q : ℕ) → k ≢ p → queue (sent s p c) k q ≡ queue s k q
-      as_before k q other = ap (λ (r : List (List Change)). get_or r q []) (get_or-set_other s.queues p k _ [] other)
+      as_before k q other = ap (λ (r : List (List DeltaValue)). get_or r q []) (get_or-set_other s.queues p k _ [] other)
 
-      one_more : (cs : List Change) → length cs ≡ length (cs ++ c ∷ []) → ⊥
+      one_more : (cs : List DeltaValue) → length cs ≡ length (cs ++ c ∷ []) → ⊥
       one_more cs e = let l = length-append cs (c ∷ []) in omega (arith, e, l)
 
 -- a change that is sent: a key for each of its entries, and each queue from its sender
-pub sent_changed : (s : ClusterState) (p : ℕ) (c : Change) → KeysFit s → p < length s.processors → IsPart c (processor s p).unsent → changed s (sent s p c) ≡ size c + length s.processors
+pub sent_changed : (s : ClusterState) (p : ℕ) (c : DeltaValue) → KeysFit s → p < length s.processors → IsPart c (processor s p).unsent → changed s (sent s p c) ≡ size c + length s.processors
 sent_changed s p c fits here _ = λ i. sent_keys s p c fits here i + sent_queues s p c fits here i
 
 -- ---- a change that is received
 
-module _ (s : ClusterState) (p q : ℕ) (c : Change) (rest : List Change) (fits : KeysFit s) (here : p < length s.processors) (there : q < length s.processors) where
+module _ (s : ClusterState) (p q : ℕ) (c : DeltaValue) (rest : List DeltaValue) (fits : KeysFit s) (here : p < length s.processors) (there : q < length s.processors) where
   abbrev then_state : ClusterState
   then_state = received_from s p q (c ∷ rest)
 
@@ -122,15 +122,15 @@ module _ (s : ClusterState) (p q : ℕ) (c : Change) (rest : List Change) (fits 
 
   shorter : queue then_state p q ≡ rest
   shorter =
-      ap (λ (r : List (List Change)). get_or r q []) (get_or-set_same s.queues p (set (get_or s.queues p []) q rest) [] row_there)
+      ap (λ (r : List (List DeltaValue)). get_or r q []) (get_or-set_same s.queues p (set (get_or s.queues p []) q rest) [] row_there)
       ∙ get_or-set_same (get_or s.queues p []) q rest [] queue_there
 
   of_other_senders : (k l : ℕ) → k ≢ p → queue then_state k l ≡ queue s k l
-  of_other_senders k l other = ap (λ (r : List (List Change)). get_or r l []) (get_or-set_other s.queues p k (set (get_or s.queues p []) q rest) [] other)
+  of_other_senders k l other = ap (λ (r : List (List DeltaValue)). get_or r l []) (get_or-set_other s.queues p k (set (get_or s.queues p []) q rest) [] other)
 
   to_others : (l : ℕ) → l ≢ q → queue then_state p l ≡ queue s p l
   to_others l other =
-      ap (λ (r : List (List Change)). get_or r l []) (get_or-set_same s.queues p (set (get_or s.queues p []) q rest) [] row_there)
+      ap (λ (r : List (List DeltaValue)). get_or r l []) (get_or-set_same s.queues p (set (get_or s.queues p []) q rest) [] row_there)
       ∙ get_or-set_other (get_or s.queues p []) q l rest [] other
 
   received_queues : queue s p q ≡ c ∷ rest → queues_changed s then_state ≡ 1
@@ -145,11 +145,11 @@ module _ (s : ClusterState) (p q : ℕ) (c : Change) (rest : List Change) (fits 
       one_less e = omega (arith, e)
 
 -- a change that is received: a key for each of its entries, and the queue that it comes from
-pub received_changed : (s : ClusterState) (from to : ℕ) (c : Change) → KeysFit s → from < length s.processors → to < length s.processors → slice_get (queue s from to) 0 ≡ Some c → changed s (received s from to) ≡ size c + 1
+pub received_changed : (s : ClusterState) (from to : ℕ) (c : DeltaValue) → KeysFit s → from < length s.processors → to < length s.processors → slice_get (queue s from to) 0 ≡ Some c → changed s (received s from to) ≡ size c + 1
 unfolding received
 received_changed s from to c fits here there first = by_front (queue s from to) refl first
   where
-    by_front : (cs : List Change) → queue s from to ≡ cs → slice_get cs 0 ≡ Some c → changed s (received_from s from to cs) ≡ size c + 1
+    by_front : (cs : List DeltaValue) → queue s from to ≡ cs → slice_get cs 0 ≡ Some c → changed s (received_from s from to cs) ≡ size c + 1
     by_front [] is e = absurd (cc)
     by_front (d ∷ rest) is e =
         let same_front : d ≡ c = cc in

@@ -4,7 +4,7 @@ use Rattle.std.proofs.lemmas.Bool.{cases_lt}
 use Rattle.std.proofs.lemmas.Int.{ints, to_z-of_z, fits_signed_from_abs}
 use Rattle.nd_time.specs.Limits.{max_count}
 use Rattle.nd_paths.specs.declared.point.Pointstamp.{Pointstamp}
-use Rattle.nd_delta.specs.Change.{Change, at, plus, at-plus, entries, IsTooLarge, IsWithin}
+use Rattle.nd_delta.specs.Delta.{DeltaValue, at, plus, at-plus, entries, IsTooLarge, IsWithin}
 use Rattle.nd_delta.specs.Least.{AllUpTo, at-index, all-points}
 
 -- an integer as the code keeps it
@@ -21,15 +21,15 @@ summed x y x_within y_within =
     (to_z-of_z w64 (x +ℤ y) (fits_signed_from_abs w64 (x +ℤ y) (omega (arith, ints, x_within, y_within))))
 
 -- an entry adds to the count of its point what the change does, and no more than an entry may have
-module _ (n : Change) (i : ℕ) (x : Pointstamp × ℤ) (lt : i < length (entries n)) (is : x ≡ get_or (entries n) i x) where
-  pub added : (m : Change) → at m x.0 +ℤ x.1 ≡ at (plus m n) x.0
+module _ (n : DeltaValue) (i : ℕ) (x : Pointstamp × ℤ) (lt : i < length (entries n)) (is : x ≡ get_or (entries n) i x) where
+  pub added : (m : DeltaValue) → at m x.0 +ℤ x.1 ≡ at (plus m n) x.0
   added m = ap (λ y. at m x.0 +ℤ y) (at-index n i x lt is) ∙ sym (at-plus m n x.0)
 
   pub entry_within : IsWithin n → unsigned_abs x.1 ≤ max_count
   entry_within within = subst (λ y. unsigned_abs y ≤ max_count) (sym (at-index n i x lt is)) (within x.0)
 
 -- the counts at the points of a change's entries are within the limit
-abbrev pub IsFitting : Change → Change → Pointstamp → Type 0
+abbrev pub IsFitting : DeltaValue → DeltaValue → Pointstamp → Type 0
 IsFitting m n x = unsigned_abs (at (plus m n) x) ≤ max_count
 
 pub not_past : (x : ℤ) → (max_count < unsigned_abs x → ⊥) → unsigned_abs x ≤ max_count
@@ -41,7 +41,7 @@ decided (pos (suc n)) = inr (λ e. absurd (cc))
 decided (negsuc n) = inr (λ e. absurd (cc))
 
 -- so are all
-pub not_too_large : (m n : Change) (i : ℕ) → length (entries n) ≤ i → IsWithin m → AllUpTo (IsFitting m n) (entries n) i → IsTooLarge (plus m n) → ⊥
+pub not_too_large : (m n : DeltaValue) (i : ℕ) → length (entries n) ≤ i → IsWithin m → AllUpTo (IsFitting m n) (entries n) i → IsTooLarge (plus m n) → ⊥
 not_too_large m n i past within fit large =
     elim (decided (at n large.0)) [
       | inl nothing ↦ (let e = at-plus m n large.0 in let w = within large.0 in let l = large.1 in omega (arith, ints))

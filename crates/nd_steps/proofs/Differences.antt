@@ -15,7 +15,7 @@ use Rattle.std.specs.FinMap.Entries.{below_all}
 use Rattle.nd_map.specs.Counts.{or_else, integers, entries, of_entries, at-of_entries, entries-of_entries, same, size as keys}
 use Rattle.nd_paths.specs.Point.{point_cmp, point_total}
 use Rattle.nd_paths.specs.declared.point.Pointstamp.{Pointstamp}
-use Rattle.nd_delta.specs.Change.{Change, at as in_change, entries as listed, size, or_zero, at-entries, sorted-entries, some-entry}
+use Rattle.nd_delta.specs.Delta.{DeltaValue, at as in_change, entries as listed, size, or_zero, at-entries, sorted-entries, some-entry}
 use Rattle.nd_protocol.specs.State.{ClusterState}
 use Rattle.nd_steps.specs.Places.{Place, parts, place_cmp, place_total, place_exact}
 use Rattle.nd_steps.specs.Standing.{standing, difference, change_cmp, queue_cmp, sum_below}
@@ -87,7 +87,7 @@ module _ (f : Pointstamp → Place) (alike : (a b : Pointstamp) → place_cmp (f
     | false ↦ λ t. inr (λ x. other_place k (f x) (λ e. true≢false (sym (place_itself k) ∙ ap (is_place k) (e ∙ ap f (sym (ap point_of e ∙ back x))) ∙ t)))
   ] refl
 
-  module _ (nothing : g (pos 0) ≡ pos 0) (something : (z : ℤ) → g z ≡ pos 0 → z ≡ pos 0) (c : Change) where
+  module _ (nothing : g (pos 0) ≡ pos 0) (something : (z : ℤ) → g z ≡ pos 0 → z ≡ pos 0) (c : DeltaValue) where
     found_more : (x : Option ℤ) → or_else (pos 0) (moved x) ≡ g (or_zero x)
     found_more None = sym nothing
     found_more (Some z) = refl
@@ -146,13 +146,13 @@ abbrev from_test : Bool → ℕ
 from_test b = cond b 0 1
 
 -- 1 for queues that differ
-abbrev pub differs : List Change → List Change → ℕ
+abbrev pub differs : List DeltaValue → List DeltaValue → ℕ
 differs a b = from_test (eq_by_cmp queue_cmp a b)
 
-pub alike_queues : (a b : List Change) → b ≡ a → differs a b ≡ 0
+pub alike_queues : (a b : List DeltaValue) → b ≡ a → differs a b ≡ 0
 alike_queues a b e = ap (differs a) e ∙ ap from_test (same_key queue_total a)
 
-pub unlike_queues : (a b : List Change) → length a ≢ length b → differs a b ≡ 1
+pub unlike_queues : (a b : List DeltaValue) → length a ≢ length b → differs a b ≡ 1
 unlike_queues a b apart = elim (eq_by_cmp queue_cmp a b) as (λ t. eq_by_cmp queue_cmp a b ≡ t → from_test t ≡ 1) [
   | true ↦ λ e. absurd (apart (as_long change_cmp a b e))
   | false ↦ λ e. refl

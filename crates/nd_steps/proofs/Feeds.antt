@@ -6,7 +6,7 @@ use Rattle.std.proofs.lemmas.Map.Views.{tells_apart}
 use Rattle.std.specs.Ordering.{nat_cmp, eq_by_cmp}
 use Rattle.std.specs.FinMap as fin
 use Rattle.nd_paths.specs.declared.point.Pointstamp.{Pointstamp}
-use Rattle.nd_delta.specs.Change.{is_point}
+use Rattle.nd_delta.specs.Delta.{is_point}
 use Rattle.nd_processor.specs.State.{ProcessorState, token_point, one_at, held}
 use Rattle.nd_processor.specs.Held.{held-token, held-closed, token_at}
 use Rattle.nd_protocol.specs.State.{ClusterState, processor}

@@ -8,7 +8,7 @@ use Rattle.std.proofs.lemmas.List.{get_or_default}
 use Rattle.nd_graph.specs.Graph.{Dataflow}
 use Rattle.nd_paths.specs.Order.{IsStrictlyBefore}
 use Rattle.nd_paths.specs.declared.point.Pointstamp.{Pointstamp}
-use Rattle.nd_delta.specs.Change.{Change, at, entries, minus}
+use Rattle.nd_delta.specs.Delta.{DeltaValue, at, entries, minus}
 use Rattle.nd_delta.specs.Least.{IsLeast, AllUpTo, all-points, least-index, place_of}
 use Rattle.nd_delta.specs.Upright.{IsSupported, IsUpright, IsUnsupported}
 use Rattle.nd_processor.specs.Edits.{token_points}
@@ -45,7 +45,7 @@ some_below P dec (suc n) =
       ]
     ]
 
-module _ (R : Pointstamp → Pointstamp → Type 0) (decided : (y x : Pointstamp) → Decided (R y x)) (m : Change) (held : List Pointstamp) where
+module _ (R : Pointstamp → Pointstamp → Type 0) (decided : (y x : Pointstamp) → Decided (R y x)) (m : DeltaValue) (held : List Pointstamp) where
   -- a negative point before x is among the entries
   negative : (x : Pointstamp) → Decided ((y : Pointstamp) × R y x × (at m y <ℤ pos 0))
   negative x =

@@ -9,7 +9,7 @@ use Rattle.nd_graph.specs.Graph.{Dataflow}
 use Rattle.nd_map.specs.Cases.{zero_or_not}
 use Rattle.nd_map.specs.Counts.{at as number_at}
 use Rattle.nd_paths.specs.declared.point.Pointstamp.{Pointstamp}
-use Rattle.nd_delta.specs.Change.{at as in_change, none as no_change, at-none as in_no_change}
+use Rattle.nd_delta.specs.Delta.{at as in_change, none as no_change, at-none as in_no_change}
 use Rattle.nd_vertex.specs.declared.key.ItemKey.{ItemKey}
 use Rattle.nd_processor.specs.State.{ProcessorState, idle, items_at}
 use Rattle.nd_protocol.specs.State.{ClusterState, processor, view}

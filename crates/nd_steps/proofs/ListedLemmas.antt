@@ -10,7 +10,7 @@ use Rattle.std.specs.Option.{option_map}
 use Rattle.std.proofs.lemmas.List.{length-map}
 use Rattle.std.proofs.lemmas.Option.{slice_get-map, slice_get_past, slice_get_read}
 use Rattle.std.proofs.lemmas.Int.{ints, to_z-of_z, fits_signed_from_abs}
-use Rattle.nd_delta.specs.Change.{Change, entries, IsWithin, at-entries, sorted-entries, or_zero}
+use Rattle.nd_delta.specs.Delta.{DeltaValue, entries, IsWithin, at-entries, sorted-entries, or_zero}
 use Rattle.nd_protocol.specs.declared.step.Step.{Step}
 use Rattle.nd_steps.specs.Flows.{told_changes}
 use Rattle.nd_steps.specs.Listed.{leaves, arrives, listed_by, listed}
@@ -54,11 +54,11 @@ yields xs i None is lt = absurd (omega (arith, lt, missing xs i (sym is)))
 yields xs i (Some x) is lt = dropped xs i x (sym is)
 
 -- no entry of a change is past the limit
-pub all_within : (c : Change) → IsWithin c → All (λ (e : Pointstamp × ℤ). unsigned_abs e.1 ≤ max_count) (entries c)
+pub all_within : (c : DeltaValue) → IsWithin c → All (λ (e : Pointstamp × ℤ). unsigned_abs e.1 ≤ max_count) (entries c)
 all_within c within = all_found point_cmp point_total (λ k v. unsigned_abs v ≤ max_count) (entries c) (sorted-entries c)
     (λ k v is. subst (λ z. unsigned_abs z ≤ max_count) (sym (at-entries c k) ∙ ap or_zero is) (within k))
 
-entry_within : (c : Change) → IsWithin c → (es : List (Pointstamp × ℤ)) (i : ℕ) (e : Pointstamp × ℤ) → es ≡ entries c → i < length es → e ≡ get_or es i e → unsigned_abs e.1 ≤ max_count
+entry_within : (c : DeltaValue) → IsWithin c → (es : List (Pointstamp × ℤ)) (i : ℕ) (e : Pointstamp × ℤ) → es ≡ entries c → i < length es → e ≡ get_or es i e → unsigned_abs e.1 ≤ max_count
 entry_within c within es i e is lt read =
     let many : length es ≡ length (entries c) = ap length is in
     subst (λ (x : Pointstamp × ℤ). unsigned_abs x.1 ≤ max_count) (sym (read ∙ ap (λ l. get_or l i e) is)) (all_within c within i e (omega arith))
@@ -71,7 +71,7 @@ read_wide z within = to_z-of_z w128 z (fits_signed_from_abs w128 z (let lt : uns
 
 -- ---- what is read of the entries es of a change, which stand before the end of a queue
 
-module _ (c : Change) (within : IsWithin c) (es : List (Pointstamp × ℤ)) (is : es ≡ entries c) (i : ℕ) where
+module _ (c : DeltaValue) (within : IsWithin c) (es : List (Pointstamp × ℤ)) (is : es ≡ entries c) (i : ℕ) where
   module _ (e : Pointstamp × ℤ) (lt : i < length es) (read : e ≡ get_or es i e) where
     pub number_is : to_z w64 (of_z w64 e.1) ≡ e.1
     number_is = read_back e.1 (entry_within c within es i e is lt read)

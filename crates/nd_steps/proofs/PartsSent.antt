@@ -13,19 +13,19 @@ use Rattle.nd_map.specs.Listed.{IsListed}
 use Rattle.nd_map.specs.Entries.{listed-tail, absent_in_tail, find-head, found_at, rises}
 use Rattle.nd_paths.specs.Point.{point_cmp, point_total, point_exact}
 use Rattle.nd_paths.specs.declared.point.Pointstamp.{Pointstamp}
-use Rattle.nd_delta.specs.Change.{Change, none, at, part, plus, minus, size, same, is_point, has_point, or_zero, entries, at-none, at-part, at-plus, at-minus, at-entries, sorted-entries, some-entry, IsPartOf, IsApart}
+use Rattle.nd_delta.specs.Delta.{DeltaValue, none, at, part, plus, minus, size, same, is_point, has_point, or_zero, entries, at-none, at-part, at-plus, at-minus, at-entries, sorted-entries, some-entry, IsPartOf, IsApart}
 use Rattle.nd_protocol.specs.Steps.{chosen}
 use Rattle.nd_protocol.specs.declared.part.Part.{Part}
 use Rattle.nd_protocol.specs.declared.part.Part.TheVariants.{All, Points}
 
 -- an entry at one of the points is in the part
-pub entry_in_part : (m : Change) (ks : List Pointstamp) (i : ℕ) (x : Pointstamp) → i < length ks → x ≡ get_or ks i x → at m x ≢ pos 0 → part m ks ≢ none
+pub entry_in_part : (m : DeltaValue) (ks : List Pointstamp) (i : ℕ) (x : Pointstamp) → i < length ks → x ≡ get_or ks i x → at m x ≢ pos 0 → part m ks ≢ none
 entry_in_part m ks i x lt is some e =
     let has : has_point x ks ≡ true = list_any_at (is_point x) ks i x lt (ap (is_point x) (sym is) ∙ ap is_eq (tied_itself point_total x)) in
     some (sym (at-part m ks x ∙ ap (λ b. cond b (at m x) (pos 0)) has) ∙ ap (λ c. at c x) e ∙ at-none x)
 
 -- with no entry at any of them the part is nothing
-pub part_is_none : (m : Change) (ks : List Pointstamp) (i : ℕ) → length ks ≤ i → ((k : ℕ) → k < i → (d : Pointstamp) → at m (get_or ks k d) ≡ pos 0) → part m ks ≡ none
+pub part_is_none : (m : DeltaValue) (ks : List Pointstamp) (i : ℕ) → length ks ≤ i → ((k : ℕ) → k < i → (d : Pointstamp) → at m (get_or ks k d) ≡ pos 0) → part m ks ≡ none
 part_is_none m ks i past h = same (part m ks) none (λ q. at-part m ks q ∙ by q (has_point q ks) refl ∙ sym (at-none q))
   where
     by : (q : Pointstamp) (b : Bool) → has_point q ks ≡ b → cond b (at m q) (pos 0) ≡ pos 0
@@ -35,12 +35,12 @@ part_is_none m ks i past h = same (part m ks) none (λ q. at-part m ks q ∙ by 
     by q false e = refl
 
 -- a change without entries is nothing
-pub none_of_size : (m : Change) → size m ≡ 0 → m ≡ none
+pub none_of_size : (m : DeltaValue) → size m ≡ 0 → m ≡ none
 none_of_size m e =
     same m none (λ q. sym (at-entries m q) ∙ ap (λ es. or_zero (find point_cmp q es)) (nil_from_length (entries m) e) ∙ sym (at-none q))
 
 -- the chosen part is a part
-pub chosen_there : {A : Type 0} (p : Part A) (m : Change) → IsPartOf (chosen p m) m
+pub chosen_there : {A : Type 0} (p : Part A) (m : DeltaValue) → IsPartOf (chosen p m) m
 chosen_there All m x some = refl
 chosen_there (Points ks) m x some = by (has_point x ks) refl
   where
@@ -108,7 +108,7 @@ module _ {K X : Type 0} (R : K → K → Ordering) (o : IsTotalOrder R) (exact :
             (omega (arith, rest.0), λ same. absurd (omega (arith, rest.0, same)))
       ] refl
 
-pub nothing_stays : (m piece : Change) → IsPartOf piece m → size piece ≡ size m → minus m piece ≡ none
+pub nothing_stays : (m piece : DeltaValue) → IsPartOf piece m → size piece ≡ size m → minus m piece ≡ none
 nothing_stays m piece h e = same (minus m piece) none (λ q. let d = at-minus m piece q in let s : at m q ≡ at piece q = alike q in let z = at-none q in omega (arith, ints))
   where
     found_there : (k : Pointstamp) (v : ℤ) → find point_cmp k (entries piece) ≡ Some v → (o : Option ℤ) → find point_cmp k (entries m) ≡ o → o ≡ Some v

@@ -17,7 +17,7 @@ use Rattle.std.specs.FinMap as fin
 use Rattle.nd_map.specs.Counts.{Counts, Number, natural, at as number_at, set as set_number, at-set, same, none as no_counts, at-none, naturals, integers}
 use Rattle.nd_paths.specs.Point.{point_cmp, point_total, point_exact}
 use Rattle.nd_paths.specs.declared.point.Pointstamp.{Pointstamp}
-use Rattle.nd_delta.specs.Change.{at as in_change, set as with_entry, at-set as in_change-set, same as same_change, none as no_change, at-none as in_no_change}
+use Rattle.nd_delta.specs.Delta.{at as in_change, set as with_entry, at-set as in_change-set, same as same_change, none as no_change, at-none as in_no_change}
 use Rattle.nd_vertex.specs.Items.{Items, item_cmp, item_total, item_exact}
 use Rattle.nd_vertex.specs.Table.{is_zero}
 use Rattle.nd_vertex.specs.declared.key.ItemKey.{ItemKey}

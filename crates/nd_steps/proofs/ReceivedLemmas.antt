@@ -4,7 +4,7 @@ use Rattle.std.proofs.lemmas.List.{set-set, set-get_or, length-drop, length-map}
 use Rattle.std.specs.Prelude.{All, unsigned_abs}
 use Rattle.nd_time.specs.Limits.{max_count, max_queue}
 use Rattle.nd_graph.specs.Graph.{Dataflow}
-use Rattle.nd_delta.specs.Change.{Change, none, at, plus, minus, IsTooLarge, minus-plus}
+use Rattle.nd_delta.specs.Delta.{DeltaValue, none, at, plus, minus, IsTooLarge, minus-plus}
 use Rattle.nd_view.specs.Kept.{Kept, IsFor}
 use Rattle.nd_view.specs.Views.{maps, maps-get, maps-set}
 use Rattle.nd_processor.specs.State.{ProcessorState}
@@ -18,7 +18,7 @@ use Rattle.nd_steps.specs.Records.{CanReceive, Receives}
 use Rattle.nd_steps.specs.Seen.{seen}
 
 -- one of the views that are stored, and all with another in its place
-module _ (t : ClusterState) (g : Dataflow) (ps : List ProcessorState) (vs : List Kept) (m : List (List (List Change))) (is : seen g ps vs m ≡ t) (to : ℕ) where
+module _ (t : ClusterState) (g : Dataflow) (ps : List ProcessorState) (vs : List Kept) (m : List (List (List DeltaValue))) (is : seen g ps vs m ≡ t) (to : ℕ) where
   pub view_there : to < length t.views → to < length vs
   view_there lt =
       let n : length (maps vs) ≡ length vs = length-map vs (λ (v : Kept). v.map) in
@@ -33,11 +33,11 @@ module _ (t : ClusterState) (g : Dataflow) (ps : List ProcessorState) (vs : List
     view_is_for all = subst (IsFor g) (sym here) (all to v lt)
 
     -- the map of the view that takes its place is f of its own
-    pub views_after : (w : Kept) (f : Change → Change) → w.map ≡ f v.map → maps (set vs to w) ≡ set t.views to (f (view t to))
+    pub views_after : (w : Kept) (f : DeltaValue → DeltaValue) → w.map ≡ f v.map → maps (set vs to w) ≡ set t.views to (f (view t to))
     views_after w f e = maps-set vs to w ∙ (λ i. set (ap (λ (t : ClusterState). t.views) is i) to ((e ∙ ap f view_seen) i))
 
 -- what was put into a queue is taken out again
-pub taken_again : {X E : Type 0} (r : Result X E) (m old new : List (List (List Change))) (from to : ℕ) (c : Change) → from < length m → to < length (row m from)
+pub taken_again : {X E : Type 0} (r : Result X E) (m old new : List (List (List DeltaValue))) (from to : ℕ) (c : DeltaValue) → from < length m → to < length (row m from)
     → old ≡ unpopped m from to c → popped old from to ≡ m → (IsErr r → IsVacant (queue_in old from to)) → OnOk r (new ≡ popped old from to) → new ≡ m
 taken_again (Ok x) m old new from to c f t is back empty new_is = new_is ∙ back
 taken_again (Err e) m old new from to c f t is back empty new_is =
@@ -45,10 +45,10 @@ taken_again (Err e) m old new from to c f t is back empty new_is =
     absurd (let none : queue_in old from to ≡ [] = empty refl in cc)
 
 -- where it leads: a view and a queue change
-pub received_leads : (s : ClusterState) (from to : ℕ) (c : Change) → CanReceive s from to c → record s { views = set s.views to (plus (view s to) c); queues = popped s.queues from to } ≡ received s from to
+pub received_leads : (s : ClusterState) (from to : ℕ) (c : DeltaValue) → CanReceive s from to c → record s { views = set s.views to (plus (view s to) c); queues = popped s.queues from to } ≡ received s from to
 received_leads s from to c h = sym (received-front s from to c h.front)
 
-module _ (s t : ClusterState) (from to : ℕ) (c : Change) (state : IsState s) (h : Receives s from to c t) where
+module _ (s t : ClusterState) (from to : ℕ) (c : DeltaValue) (state : IsState s) (h : Receives s from to c t) where
   arrives : record s { views = set s.views to (plus (view s to) c); queues = popped s.queues from to } ≡ t
   arrives = received_leads s from to c h.0 ∙ h.1
 
@@ -68,13 +68,13 @@ module _ (s t : ClusterState) (from to : ℕ) (c : Change) (state : IsState s) (
   received_queues = ap (λ (t : ClusterState). t.queues) arrives
 
   map_now : view t to ≡ plus (view s to) c
-  map_now = ap (λ (cs : List Change). get_or cs to none) (sym received_views) ∙ get_or-set_same s.views to (plus (view s to) c) none viewer
+  map_now = ap (λ (cs : List DeltaValue). get_or cs to none) (sym received_views) ∙ get_or-set_same s.views to (plus (view s to) c) none viewer
 
   viewer_there : to < length t.views
-  viewer_there = let w : length t.views ≡ length s.views = ap (λ (cs : List Change). length cs) (sym received_views) ∙ length-set s.views to _ in omega (arith, w, viewer)
+  viewer_there = let w : length t.views ≡ length s.views = ap (λ (cs : List DeltaValue). length cs) (sym received_views) ∙ length-set s.views to _ in omega (arith, w, viewer)
 
   many_rows : length t.queues ≡ length s.processors
-  many_rows = ap (λ (k : List (List (List Change))). length k) (sym received_queues) ∙ length-set s.queues from _ ∙ state.fits.each_sender
+  many_rows = ap (λ (k : List (List (List DeltaValue))). length k) (sym received_queues) ∙ length-set s.queues from _ ∙ state.fits.each_sender
 
   pub from_row : from < length t.queues
   from_row = let n = many_rows in let l = h.0.from_there in omega arith
@@ -86,7 +86,7 @@ module _ (s t : ClusterState) (from to : ℕ) (c : Change) (state : IsState s) (
   receiver_there =
       let now : row t.queues from ≡ set (row s.queues from) to (without_oldest (queue_in s.queues from to))
       = ap (λ k. row k from) (sym received_queues) ∙ get_or-set_same s.queues from _ [] from_there in
-      let n : length (row t.queues from) ≡ length (row s.queues from) = ap (λ (cs : List (List Change)). length cs) now ∙ length-set (row s.queues from) to _ in
+      let n : length (row t.queues from) ≡ length (row s.queues from) = ap (λ (cs : List (List DeltaValue)). length cs) now ∙ length-set (row s.queues from) to _ in
       omega (arith, n, to_there)
 
   pub received_back : record t { views = set t.views to (minus (view t to) c); queues = unpopped t.queues from to c } ≡ s
@@ -99,5 +99,5 @@ module _ (s t : ClusterState) (from to : ℕ) (c : Change) (state : IsState s) (
       let processors : t.processors ≡ s.processors = ap (λ (t : ClusterState). t.processors) (sym arrives) in
       λ i. record { graph = graph i; processors = processors i; views = views i; queues = queues i }
 
-pub view_stored : (t : ClusterState) (g : Dataflow) (ps : List ProcessorState) (vs : List Kept) (m : List (List (List Change))) → seen g ps vs m ≡ t → (s : ClusterState) (from to : ℕ) (c : Change) → IsState s → Receives s from to c t → to < length vs
+pub view_stored : (t : ClusterState) (g : Dataflow) (ps : List ProcessorState) (vs : List Kept) (m : List (List (List DeltaValue))) → seen g ps vs m ≡ t → (s : ClusterState) (from to : ℕ) (c : DeltaValue) → IsState s → Receives s from to c t → to < length vs
 view_stored t g ps vs m is s from to c state h = view_there t g ps vs m is to (viewer_there s t from to c state h)

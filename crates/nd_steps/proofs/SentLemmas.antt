@@ -3,7 +3,7 @@ use Rattle.std.proofs.Common.{◌≡◌, ℕ, ◌<◌, ◌-ℤ◌, List, length,
 use Rattle.std.proofs.lemmas.Int.{ints}
 use Rattle.std.proofs.lemmas.List.{set-set, set-get_or, get_or_default}
 use Rattle.nd_graph.specs.Graph.{Dataflow}
-use Rattle.nd_delta.specs.Change.{Change, at, plus, minus, at-minus, plus-minus, IsApart}
+use Rattle.nd_delta.specs.Delta.{DeltaValue, at, plus, minus, at-minus, plus-minus, IsApart}
 use Rattle.nd_view.specs.Kept.{Kept}
 use Rattle.nd_processor.specs.State.{ProcessorState, idle}
 use Rattle.nd_mesh.specs.Mesh.{pushed, unpushed}
@@ -21,15 +21,15 @@ on_err (Ok v) h = tt
 on_err (Err e) h = h
 
 -- one of the processors that are stored
-pub processor_seen : (t : ClusterState) (g : Dataflow) (ps : List ProcessorState) (vs : List Kept) (m : List (List (List Change))) → seen g ps vs m ≡ t → (p : ℕ) (q : ProcessorState) → p < length ps → q ≡ get_or ps p q → q ≡ processor t p
+pub processor_seen : (t : ClusterState) (g : Dataflow) (ps : List ProcessorState) (vs : List Kept) (m : List (List (List DeltaValue))) → seen g ps vs m ≡ t → (p : ℕ) (q : ProcessorState) → p < length ps → q ≡ get_or ps p q → q ≡ processor t p
 processor_seen t g ps vs m is p q lt here = here ∙ get_or_default ps p q idle lt ∙ ap (λ (t : ClusterState). processor t p) is
 
 -- where it leads: a processor and the queues from it change
-pub sent_leads : (t : ClusterState) (p : ℕ) (c : Change) → record t { processors = set t.processors p (record (processor t p) { unsent = minus (processor t p).unsent c }); queues = pushed t.queues p c } ≡ sent t p c
+pub sent_leads : (t : ClusterState) (p : ℕ) (c : DeltaValue) → record t { processors = set t.processors p (record (processor t p) { unsent = minus (processor t p).unsent c }); queues = pushed t.queues p c } ≡ sent t p c
 unfolding sent
 sent_leads t p c = refl
 
-module _ (s t : ClusterState) (p : ℕ) (c : Change) (state : IsState s) (h : Sends s p c t) where
+module _ (s t : ClusterState) (p : ℕ) (c : DeltaValue) (state : IsState s) (h : Sends s p c t) where
   sender : p < length s.queues
   sender = subst (λ n. p < n) (sym state.fits.each_sender) h.0.there
 
@@ -56,7 +56,7 @@ module _ (s t : ClusterState) (p : ℕ) (c : Change) (state : IsState s) (h : Se
   sender_there = let n : length t.processors ≡ length s.processors = ap (λ (qs : List ProcessorState). length qs) (sym sent_processors) ∙ length-set s.processors p _ in omega (arith, n, h.0.there)
 
   pub row_there : p < length t.queues
-  row_there = let n : length t.queues ≡ length s.queues = ap (λ (k : List (List (List Change))). length k) (sym sent_queues) ∙ length-set s.queues p _ in omega (arith, n, sender)
+  row_there = let n : length t.queues ≡ length s.queues = ap (λ (k : List (List (List DeltaValue))). length k) (sym sent_queues) ∙ length-set s.queues p _ in omega (arith, n, sender)
 
   pub is_apart : IsApart c (processor t p).unsent
   is_apart x some =
@@ -80,5 +80,5 @@ module _ (s t : ClusterState) (p : ℕ) (c : Change) (state : IsState s) (h : Se
       let views : t.views ≡ s.views = sym sent_views in
       λ i. record { graph = graph i; processors = all i; views = views i; queues = queues i }
 
-pub sender_stored : (t : ClusterState) (g : Dataflow) (ps : List ProcessorState) (vs : List Kept) (m : List (List (List Change))) → seen g ps vs m ≡ t → (s : ClusterState) (p : ℕ) (c : Change) → IsState s → Sends s p c t → p < length ps
+pub sender_stored : (t : ClusterState) (g : Dataflow) (ps : List ProcessorState) (vs : List Kept) (m : List (List (List DeltaValue))) → seen g ps vs m ≡ t → (s : ClusterState) (p : ℕ) (c : DeltaValue) → IsState s → Sends s p c t → p < length ps
 sender_stored t g ps vs m is s p c state h = subst (λ (t : ClusterState). p < length t.processors) (sym is) (sender_there s t p c state h)

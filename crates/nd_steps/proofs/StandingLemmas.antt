@@ -12,7 +12,7 @@ use Rattle.std.specs.FinMap as fin
 use Rattle.nd_map.specs.Counts.{Counts, Number, nil, integers, at as number_at, none as no_counts, entries, keys_of, has_key, at-absent, at-on_keys}
 use Rattle.nd_paths.specs.Point.{point_exact}
 use Rattle.nd_paths.specs.declared.point.Pointstamp.{Pointstamp}
-use Rattle.nd_delta.specs.Change.{Change, none as no_change, at as in_change, entries as listed, points_of, has_point, at-absent as in_absent}
+use Rattle.nd_delta.specs.Delta.{DeltaValue, none as no_change, at as in_change, entries as listed, points_of, has_point, at-absent as in_absent}
 use Rattle.nd_vertex.specs.Items.{item_exact}
 use Rattle.nd_processor.specs.Keys.{value_at_exact, sink_exact}
 use Rattle.nd_processor.specs.State.{ProcessorState, idle, items_at}
@@ -76,7 +76,7 @@ in_entries {R = R} m q some = elim (has_key R q (keys_of (entries m))) as (λ b.
   | false ↦ λ t. absurd (some (at-absent m q t))
 ] refl
 
-in_points : (m : Change) (x : Pointstamp) → in_change m x ≢ pos 0 → has_point x (points_of (listed m)) ≡ true
+in_points : (m : DeltaValue) (x : Pointstamp) → in_change m x ≢ pos 0 → has_point x (points_of (listed m)) ≡ true
 in_points m x some = elim (has_point x (points_of (listed m))) as (λ b. has_point x (points_of (listed m)) ≡ b → b ≡ true) [
   | true ↦ λ t. refl
   | false ↦ λ t. absurd (some (in_absent m x t))
@@ -129,7 +129,7 @@ in_processor p q (Unsent point) some =
 abbrev listed_processor : ℕ × ProcessorState → List Place
 listed_processor i = places_of_processor i.0 i.1
 
-abbrev listed_view : ℕ × Change → List Place
+abbrev listed_view : ℕ × DeltaValue → List Place
 listed_view i = map (λ e. view_of i.0 e.0) (listed i.1)
 
 -- what stands somewhere is listed

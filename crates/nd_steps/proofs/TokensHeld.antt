@@ -8,7 +8,7 @@ use Rattle.nd_graph.specs.Graph.{Dataflow}
 use Rattle.nd_map.specs.Weights.{weight}
 use Rattle.nd_paths.specs.Order.{IsStrictlyBefore}
 use Rattle.nd_paths.specs.declared.point.Pointstamp.{Pointstamp}
-use Rattle.nd_delta.specs.Change.{Change, none, at, minus, at-none}
+use Rattle.nd_delta.specs.Delta.{DeltaValue, none, at, minus, at-none}
 use Rattle.nd_delta.specs.Least.{IsLeast}
 use Rattle.nd_delta.specs.Upright.{IsSupported, IsUpright, IsUnsupported}
 use Rattle.nd_processor.specs.State.{ProcessorState, token_point, one_at}
@@ -61,10 +61,10 @@ module _ (R : Pointstamp → Pointstamp → Type 0) (H K : Pointstamp → Type 0
   }
 
 -- where nothing stays nothing is alone
-pub nothing_alone : (g : Dataflow) (q : ProcessorState) (c : Change) → minus q.unsent c ≡ none → LeavesUpright g q c
+pub nothing_alone : (g : Dataflow) (q : ProcessorState) (c : DeltaValue) → minus q.unsent c ≡ none → LeavesUpright g q c
 nothing_alone g q c e x positive = absurd (let z : at (minus q.unsent c) x ≡ pos 0 = ap (λ m. at m x) e ∙ at-none x in omega (arith, ints, positive, z))
 
-module _ (g : Dataflow) (q : ProcessorState) (c stays : Change) (held : List Pointstamp) (stays_is : stays ≡ minus q.unsent c) (held_is : held ≡ token_points q) where
+module _ (g : Dataflow) (q : ProcessorState) (c stays : DeltaValue) (held : List Pointstamp) (stays_is : stays ≡ minus q.unsent c) (held_is : held ≡ token_points q) where
   to_held : (x : Pointstamp) → Contains held x → HoldsToken q x
   to_held x among = holds q x (subst (λ ks. Contains ks x) held_is among)
 

@@ -6,7 +6,7 @@ use Rattle.std.specs.Ordering.{nat_cmp}
 use Rattle.std.specs.FinMap as fin
 use Rattle.nd_map.specs.Counts.{Counts, naturals, at as number_at, int_at}
 use Rattle.nd_paths.specs.declared.point.Pointstamp.{Pointstamp}
-use Rattle.nd_delta.specs.Change.{Change, at as in_change, plus, at-plus}
+use Rattle.nd_delta.specs.Delta.{DeltaValue, at as in_change, plus, at-plus}
 use Rattle.nd_vertex.specs.declared.key.ItemKey.{ItemKey}
 use Rattle.nd_processor.specs.Keys.{value_at_cmp, sink_cmp}
 use Rattle.nd_processor.specs.State.{ProcessorState, Requests, idle, items_at, held}
@@ -46,7 +46,7 @@ written qs p r rs = with_gain qs p (with_records (slice_set qs p r) rs)
 pub length-written : (qs : List ProcessorState) (p : ℕ) (r : ProcessorState) (rs : List (ℕ × ValueAt)) → length (written qs p r rs) ≡ length qs
 length-written qs p r rs = length-set (with_records (slice_set qs p r) rs) p _ ∙ length-records (slice_set qs p r) rs ∙ length-set qs p r
 
-module _ {X : Type 0} (f : ProcessorState → X) (keeps : (q : ProcessorState) (m : Counts value_at_cmp naturals) → f (record q { records = m }) ≡ f q) (spares : (q : ProcessorState) (c : Change) → f (record q { unsent = c }) ≡ f q) where
+module _ {X : Type 0} (f : ProcessorState → X) (keeps : (q : ProcessorState) (m : Counts value_at_cmp naturals) → f (record q { records = m }) ≡ f q) (spares : (q : ProcessorState) (c : DeltaValue) → f (record q { unsent = c }) ≡ f q) where
   -- what is neither records nor unsent is that of the written performer, and else as it was
   kept-written : (qs : List ProcessorState) (p : ℕ) (r : ProcessorState) (rs : List (ℕ × ValueAt)) (k : ℕ) → f (slice_index_or (written qs p r rs) k idle) ≡ f (slice_index_or (slice_set qs p r) k idle)
   kept-written qs p r rs k =

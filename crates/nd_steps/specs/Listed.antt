@@ -1,7 +1,7 @@
 -- What a record changes, of whatever kind it is, as one list.
 use Rattle.std.specs.Prelude.{ℕ, ℤ, neg_ℤ, List, [], ◌∷◌, ◌++◌, map}
 use Rattle.nd_paths.specs.declared.point.Pointstamp.{Pointstamp}
-use Rattle.nd_delta.specs.Change.{entries}
+use Rattle.nd_delta.specs.Delta.{entries}
 use Rattle.nd_protocol.specs.declared.step.Step.{Step}
 use Rattle.nd_steps.specs.Flows.{more_unsent, told_changes}
 use Rattle.nd_steps.specs.declared.listed.Entry.{Entry}

@@ -1,6 +1,6 @@
 -- What the record of a step names, and what it makes of a cluster's state.
 use Rattle.std.specs.Prelude.{◌≡◌, ◌<◌, ℕ, ◌+◌, List, Some, slice_get, length}
-use Rattle.nd_delta.specs.Change.{Change as Delta, plus, size, IsTooLarge, IsPartOf}
+use Rattle.nd_delta.specs.Delta.{DeltaValue, plus, size, IsTooLarge, IsPartOf}
 use Rattle.nd_mesh.specs.Mesh.{row, HasQueue, IsFull}
 use Rattle.nd_protocol.specs.State.{ClusterState, processor, view, queue}
 use Rattle.nd_protocol.specs.Exchange.{sent, received}
@@ -38,24 +38,24 @@ abbrev pub RunsTo : ClusterState → List Change → ClusterState → Type 0
 RunsTo s cs t = IsRunnable s cs × (applied s cs ≡ t)
 
 -- p can send a part of what is unsent: there is room for it
-pub record CanSend (s : ClusterState) (p : ℕ) (c : Delta) : Type 0 where
+pub record CanSend (s : ClusterState) (p : ℕ) (c : DeltaValue) : Type 0 where
   pub there : p < length s.processors
   pub part : IsPartOf c (processor s p).unsent
   pub room : HasQueue IsFull (row s.queues p) → ⊥
 
 -- it does
-abbrev pub Sends : ClusterState → ℕ → Delta → ClusterState → Type 0
+abbrev pub Sends : ClusterState → ℕ → DeltaValue → ClusterState → Type 0
 Sends s p c t = CanSend s p c × (sent s p c ≡ t)
 
 -- a queue's front can be received into a view: there is room for it
-pub record CanReceive (s : ClusterState) (from to : ℕ) (c : Delta) : Type 0 where
+pub record CanReceive (s : ClusterState) (from to : ℕ) (c : DeltaValue) : Type 0 where
   pub from_there : from < length s.processors
   pub to_there : to < length s.processors
   pub front : slice_get (queue s from to) 0 ≡ Some c
   pub room : IsTooLarge (plus (view s to) c) → ⊥
 
 -- it is
-abbrev pub Receives : ClusterState → ℕ → ℕ → Delta → ClusterState → Type 0
+abbrev pub Receives : ClusterState → ℕ → ℕ → DeltaValue → ClusterState → Type 0
 Receives s from to c t = CanReceive s from to c × (received s from to ≡ t)
 
 -- the changes of a step make t of s

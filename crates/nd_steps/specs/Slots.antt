@@ -5,7 +5,7 @@ use Rattle.std.specs.FinMap as fin
 use Rattle.nd_time.specs.Limits.{max_count, max_counter}
 use Rattle.nd_map.specs.Counts.{natural, at as number_at, int_at, set}
 use Rattle.nd_paths.specs.declared.point.Pointstamp.{Pointstamp}
-use Rattle.nd_delta.specs.Change.{at as in_change, set as with_entry}
+use Rattle.nd_delta.specs.Delta.{at as in_change, set as with_entry}
 use Rattle.nd_vertex.specs.Items.{item_total}
 use Rattle.nd_vertex.specs.Table.{is_zero}
 use Rattle.nd_processor.specs.Keys.{value_at_total, sink_total}

@@ -9,7 +9,7 @@ use Rattle.nd_time.specs.Limits.{max_count}
 use Rattle.nd_map.specs.Counts.{Counts, integers, entries, on_keys, size}
 use Rattle.nd_paths.specs.Point.{point_cmp}
 use Rattle.nd_paths.specs.declared.point.Pointstamp.{Pointstamp}
-use Rattle.nd_delta.specs.Change.{Change, at as in_change, set as with_entry, entries as listed}
+use Rattle.nd_delta.specs.Delta.{DeltaValue, at as in_change, set as with_entry, entries as listed}
 use Rattle.nd_processor.specs.State.{ProcessorState}
 use Rattle.nd_protocol.specs.State.{ClusterState, processor, view, queue}
 use Rattle.nd_steps.specs.Places.{Place, place_at, view_of, place_cmp, place_total}
@@ -75,10 +75,10 @@ abbrev entry_cmp : Pointstamp × ℤ → Pointstamp × ℤ → Ordering
 entry_cmp a b = ordering_then (point_cmp a.0 b.0) (int_cmp a.1 b.1)
 
 -- changes by their entries, and queues by their changes
-abbrev pub change_cmp : Change → Change → Ordering
+abbrev pub change_cmp : DeltaValue → DeltaValue → Ordering
 change_cmp c d = slice_cmp entry_cmp (listed c) (listed d)
 
-abbrev pub queue_cmp : List Change → List Change → Ordering
+abbrev pub queue_cmp : List DeltaValue → List DeltaValue → Ordering
 queue_cmp cs ds = slice_cmp change_cmp cs ds
 
 -- f 0 + .. + f (n - 1)

@@ -1,6 +1,6 @@
 //! Broadcasts: a part of what is unsent goes to the back of the queues from a processor.
 ghost use Rattle.std.specs.Prelude.{◌≡◌, ◌≢◌, ◌↔◌, IfErr, IfOk, IfSome, IsNone, IsTrue, OnErr, OnOk};
-ghost use Rattle.nd_delta.specs.Change.{none, part as part_at, IsPartOf};
+ghost use Rattle.nd_delta.specs.Delta.{none, part as part_at, IsPartOf};
 ghost use Rattle.nd_protocol.specs.Steps.{chosen};
 ghost use Rattle.nd_protocol.specs.Exchange.{sent};
 ghost use Rattle.nd_protocol.specs.Fitting.{IsState};

@@ -1,6 +1,6 @@
 //! What a record changes, of whatever kind it is, one after the other.
 ghost use Rattle.std.specs.Prelude.{◌≡◌, ◌<◌, ◌++◌, ◌∷◌, [], IfSome, length, map, slice_get};
-ghost use Rattle.nd_delta.specs.Change.{entries as entries_of};
+ghost use Rattle.nd_delta.specs.Delta.{entries as entries_of};
 ghost use Rattle.nd_steps.specs.Listed.{leaves, arrives, listed};
 ghost use Rattle.nd_steps.specs.Records.{named};
 

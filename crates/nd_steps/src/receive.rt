@@ -1,7 +1,7 @@
 //! Receives: the front of a queue goes into the receiver's view.
 ghost use Rattle.std.specs.Prelude.{◌≡◌, ◌↔◌, ◌<◌, ◌≤◌, ◌*◌, ◌+ℤ◌, unsigned_abs, length, slice_get, Some, IfErr, IfOk, IsTrue, OnErr, OnOk};
 ghost use Rattle.nd_time.specs.Limits.{max_count};
-ghost use Rattle.nd_delta.specs.Change.{at, plus, IsTooLarge};
+ghost use Rattle.nd_delta.specs.Delta.{at, plus, IsTooLarge};
 ghost use Rattle.nd_mesh.specs.Mesh.{queue};
 ghost use Rattle.nd_protocol.specs.Exchange.{received as received};
 ghost use Rattle.nd_protocol.specs.Fitting.{IsState};

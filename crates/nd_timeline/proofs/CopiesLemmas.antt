@@ -1,6 +1,6 @@
 -- Copies of kept steps: what holds of the steps holds of them.
 use Rattle.std.proofs.Common.{◌≡◌, ◌<◌, ℕ, zero, suc, List, [], ◌∷◌, ◌++◌, length, take, get_or, refl, sym, ap, subst, ◌∙◌, arith}
-use Rattle.nd_delta.specs.Change.{Change as Delta}
+use Rattle.nd_delta.specs.Delta.{DeltaValue}
 use Rattle.nd_protocol.specs.State.{ClusterState}
 use Rattle.nd_protocol.specs.Steps.{after, stepped}
 use Rattle.nd_protocol.specs.Enabled.{IsEnabled}
@@ -23,9 +23,9 @@ module _ {A : Type 0} where
   -- equal changes make the same state
   pub makes : (s t : ClusterState) (cs ds : Changes A) → AreEqual cs ds → Makes s cs t → Makes s ds t
   makes s t (Each cs) (Each ds) is h = subst (λ (xs : List Change). IsRunnable s xs × (applied s xs ≡ t)) (sym is) h
-  makes s t (Sent p c) (Sent q d) is h = subst (λ (q : ℕ). Sends s q d t) (sym is.0) (subst (λ (d : Delta). Sends s p d t) (sym is.1) h)
+  makes s t (Sent p c) (Sent q d) is h = subst (λ (q : ℕ). Sends s q d t) (sym is.0) (subst (λ (d : DeltaValue). Sends s p d t) (sym is.1) h)
   makes s t (Received from to c) (Received k l d) is h =
-      subst (λ (k : ℕ). Receives s k l d t) (sym is.0) (subst (λ (l : ℕ). Receives s from l d t) (sym is.1) (subst (λ (d : Delta). Receives s from to d t) (sym is.2) h))
+      subst (λ (k : ℕ). Receives s k l d t) (sym is.0) (subst (λ (l : ℕ). Receives s from l d t) (sym is.1) (subst (λ (d : DeltaValue). Receives s from to d t) (sym is.2) h))
   makes s t (Each cs) (Sent q d) is h = absurd is
   makes s t (Each cs) (Received k l d) is h = absurd is
   makes s t (Sent p c) (Each ds) is h = absurd is

@@ -1,6 +1,6 @@
 use Rattle.std.proofs.Common.{sym, ap, ◌∙◌}
 use Rattle.std.proofs.lemmas.Bool.{eqb-true, eq-eqb}
-use Rattle.nd_delta.specs.Change.{size, size-none}
+use Rattle.nd_delta.specs.Delta.{size, size-none}
 use Rattle.nd_steps.proofs.PartsSent.{none_of_size}
 use Rattle.nd_steps.proofs.broadcast.is_nothing.Goals as goal
 

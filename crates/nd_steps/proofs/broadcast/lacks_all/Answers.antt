@@ -1,6 +1,6 @@
 use Rattle.std.proofs.Common.{refl, sym, ap, ◌∙◌, below_more, of_z, w64}
 use Rattle.std.proofs.lemmas.List.{get_or_default}
-use Rattle.nd_delta.specs.Change.{at}
+use Rattle.nd_delta.specs.Delta.{at}
 use Rattle.nd_steps.proofs.CountsReceived.{kept_zero}
 use Rattle.nd_steps.proofs.PartsSent.{entry_in_part, part_is_none}
 use Rattle.nd_steps.proofs.broadcast.lacks_all.Goals as goal

@@ -1,6 +1,6 @@
 use Rattle.std.proofs.Common.{◌≡◌, ◌<◌, ℕ, pos, get_or}
 use Rattle.nd_paths.specs.declared.point.Pointstamp.{Pointstamp}
-use Rattle.nd_delta.specs.Change.{at}
+use Rattle.nd_delta.specs.Delta.{at}
 use Rattle.nd_steps.proofs.broadcast.lacks_all.Given as goal
 
 -- none of the points so far has an entry

@@ -1,5 +1,5 @@
 use Rattle.std.proofs.Common.{◌≡◌, sym, ap, subst, ◌∙◌, arith}
-use Rattle.nd_delta.specs.Change.{minus, size, IsPartOf}
+use Rattle.nd_delta.specs.Delta.{minus, size, IsPartOf}
 use Rattle.nd_steps.proofs.PartsSent.{nothing_stays}
 use Rattle.nd_steps.proofs.TokensHeld.{leaves_upright, leaves_alone, nothing_alone}
 use Rattle.nd_steps.proofs.broadcast.left_alone.Goals as goal

@@ -1,5 +1,5 @@
 use Rattle.std.proofs.Common.{sym, ap, subst, ◌∙◌, rules}
-use Rattle.nd_delta.specs.Change.{IsPartOf}
+use Rattle.nd_delta.specs.Delta.{IsPartOf}
 use Rattle.nd_protocol.specs.Steps.{chosen}
 use Rattle.nd_steps.proofs.PartsSent.{chosen_there}
 use Rattle.nd_steps.proofs.broadcast.planned_part.Goals as goal

@@ -1,5 +1,5 @@
 use Rattle.std.proofs.Common.{arith, refl, sym, true≢false}
-use Rattle.nd_delta.specs.Change.{at, plus, entries}
+use Rattle.nd_delta.specs.Delta.{at, plus, entries}
 use Rattle.nd_delta.specs.Least.{all-more}
 use Rattle.nd_steps.proofs.CountsReceived.{IsFitting, kept, added, entry_within, not_past, not_too_large}
 use Rattle.nd_steps.proofs.receive.is_overfull.Goals as goal

@@ -1,5 +1,5 @@
 use Rattle.std.proofs.Common.{◌≡◌}
-use Rattle.nd_delta.specs.Change.{entries}
+use Rattle.nd_delta.specs.Delta.{entries}
 use Rattle.nd_delta.specs.Least.{AllUpTo}
 use Rattle.nd_steps.proofs.CountsReceived.{IsFitting}
 use Rattle.nd_steps.proofs.receive.is_overfull.Given as goal

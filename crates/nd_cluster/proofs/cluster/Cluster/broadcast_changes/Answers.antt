@@ -1,7 +1,7 @@
 use Rattle.std.proofs.Common.{◌≡◌, ◌∙◌, sym, ap, subst, arith}
 use Rattle.nd_graph.specs.Graph.{Dataflow}
 use Rattle.nd_processor.specs.State.{ProcessorState}
-use Rattle.nd_delta.specs.Change.{IsPartOf}
+use Rattle.nd_delta.specs.Delta.{IsPartOf}
 use Rattle.nd_mesh.specs.Mesh.{row, HasQueue, IsFull}
 use Rattle.nd_protocol.specs.State.{ClusterState, processor}
 use Rattle.nd_protocol.specs.Steps.{chosen}

@@ -1,7 +1,7 @@
 use Rattle.std.specs.Prelude.{List}
 use Rattle.std.proofs.Common.{◌≡◌, ◌∙◌, sym, ap, subst}
 use Rattle.nd_graph.specs.Graph.{Dataflow}
-use Rattle.nd_delta.specs.Change.{Change}
+use Rattle.nd_delta.specs.Delta.{DeltaValue}
 use Rattle.nd_processor.specs.State.{ProcessorState}
 use Rattle.nd_view.specs.Kept.{Kept}
 use Rattle.nd_steps.specs.Seen.{IsSeen, seen}
@@ -15,7 +15,7 @@ invariant_of-result g c =
     subst (λ (k : Dataflow). IsSeen k c.in_ok-copied_processors.field-0.items c.in_ok-copied_views.field-0.items c.in_ok-copy-2.field-0) (sym c.in_ok-copy.ensures)
     (subst (λ (ps : List ProcessorState). IsSeen a.paths ps c.in_ok-copied_views.field-0.items c.in_ok-copy-2.field-0) processors
     (subst (λ (vs : List Kept). IsSeen a.paths a.processors.items vs c.in_ok-copy-2.field-0) views
-    (subst (λ (queues : List (List (List Change))). IsSeen a.paths a.processors.items a.views.items queues) (sym c.in_ok-copy-2.ensures.equal) c.self.invariant)))
+    (subst (λ (queues : List (List (List DeltaValue))). IsSeen a.paths a.processors.items a.views.items queues) (sym c.in_ok-copy-2.ensures.equal) c.self.invariant)))
 
 pub returns : goal.returns
 returns g c =
@@ -23,5 +23,5 @@ returns g c =
     ap (λ (k : Dataflow). seen k c.in_ok-copied_processors.field-0.items c.in_ok-copied_views.field-0.items c.in_ok-copy-2.field-0) c.in_ok-copy.ensures
     ∙ ap (λ (ps : List ProcessorState). seen a.paths ps c.in_ok-copied_views.field-0.items c.in_ok-copy-2.field-0) (c.in_ok-copied_processors.ensures ∙ c.deref.ensures.value)
     ∙ ap (λ (vs : List Kept). seen a.paths a.processors.items vs c.in_ok-copy-2.field-0) (c.in_ok-copied_views.ensures ∙ c.deref-2.ensures.value)
-    ∙ ap (λ (queues : List (List (List Change))). seen a.paths a.processors.items a.views.items queues) c.in_ok-copy-2.ensures.equal
+    ∙ ap (λ (queues : List (List (List DeltaValue))). seen a.paths a.processors.items a.views.items queues) c.in_ok-copy-2.ensures.equal
     ∙ c.self.view_is

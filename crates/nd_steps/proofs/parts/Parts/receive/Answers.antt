@@ -1,5 +1,5 @@
 use Rattle.std.proofs.Common.{◌≡◌, ◌<◌, length, sym, ap, subst, ◌∙◌}
-use Rattle.nd_delta.specs.Change.{Change, plus}
+use Rattle.nd_delta.specs.Delta.{DeltaValue, plus}
 use Rattle.nd_view.specs.Views.{for_set}
 use Rattle.nd_mesh.specs.Mesh.{popped}
 use Rattle.nd_protocol.specs.State.{ClusterState}
@@ -27,6 +27,6 @@ returns-clause-ok g c =
     let to = c.args.to in
     let d = c.args.change.now in
     let lt = view_there t a.paths a.processors.items a.views.items a.mesh c.self.view_is to (subst (λ n. to < n) (sym c.requires.state.fits.each_view) c.requires.receives.to_there) in
-    let views = views_after t a.paths a.processors.items a.views.items a.mesh c.self.view_is to c.index_mut-view.result.now lt c.index_mut-view.ensures.value c.apply.new.self (λ (m : Change). plus m d) c.in-Ok.ensures.ok in
+    let views = views_after t a.paths a.processors.items a.views.items a.mesh c.self.view_is to c.index_mut-view.result.now lt c.index_mut-view.ensures.value c.apply.new.self (λ (m : DeltaValue). plus m d) c.in-Ok.ensures.ok in
     (λ i. record (c.self.view_is i) { views = views i; queues = (c.in-Ok-pop.ensures.ok ∙ ap (λ (s : ClusterState). popped s.queues from to) c.self.view_is) i })
     ∙ received_leads t from to d c.requires.receives

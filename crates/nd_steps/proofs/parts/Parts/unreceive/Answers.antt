@@ -1,6 +1,6 @@
 use Rattle.std.proofs.Common.{◌≡◌, ◌<◌, List, length, get_or, set, vec_len, sym, ap, subst, ◌∙◌, arith, length-set, rules}
 use Rattle.std.proofs.lemmas.List.{set-get_or}
-use Rattle.nd_delta.specs.Change.{Change, minus}
+use Rattle.nd_delta.specs.Delta.{DeltaValue, minus}
 use Rattle.nd_view.specs.Kept.{Kept}
 use Rattle.nd_view.specs.Views.{for_set}
 use Rattle.nd_mesh.specs.Mesh.{row, unpopped}
@@ -38,7 +38,7 @@ invariant_of-self-in-Ok-unapply g c = for_set c.self.inside.paths c.self.inside.
 
 pub pop-taken-requires-clause-sender : goal.pop-taken-requires-clause-sender
 pop-taken-requires-clause-sender g c =
-    let n : length c.unpop.new.self ≡ length c.self.inside.mesh = ap (λ (m : List (List (List Change))). length m) c.in-Ok.ensures.ok ∙ length-set c.self.inside.mesh c.args.from _ in
+    let n : length c.unpop.new.self ≡ length c.self.inside.mesh = ap (λ (m : List (List (List DeltaValue))). length m) c.in-Ok.ensures.ok ∙ length-set c.self.inside.mesh c.args.from _ in
     let h = c.requires in
     let lt : c.args.from < length c.self.inside.mesh
     = subst (λ (t : ClusterState). c.args.from < length t.queues) (sym c.self.view_is) (from_row h.0 c.args.self.now c.args.from c.args.to c.args.change.now h.1 h.2) in
@@ -46,7 +46,7 @@ pop-taken-requires-clause-sender g c =
 
 pub pop-taken-requires-clause-receiver : goal.pop-taken-requires-clause-receiver
 pop-taken-requires-clause-receiver g c =
-    let n : length c.unpop.new.self ≡ length c.self.inside.mesh = ap (λ (m : List (List (List Change))). length m) c.in-Ok.ensures.ok ∙ length-set c.self.inside.mesh c.args.from _ in
+    let n : length c.unpop.new.self ≡ length c.self.inside.mesh = ap (λ (m : List (List (List DeltaValue))). length m) c.in-Ok.ensures.ok ∙ length-set c.self.inside.mesh c.args.from _ in
     let h = c.requires in
     let lt : c.args.to < length c.self.inside.mesh
     = subst (λ (t : ClusterState). c.args.to < length t.queues) (sym c.self.view_is) (to_row h.0 c.args.self.now c.args.from c.args.to c.args.change.now h.1 h.2) in
@@ -80,6 +80,6 @@ returns-clause-ok g c = λ s state receives.
     let to = c.args.to in
     let d = c.args.change.now in
     let lt = view_stored t a.paths a.processors.items a.views.items a.mesh c.self.view_is s from to d state receives in
-    let views = views_after t a.paths a.processors.items a.views.items a.mesh c.self.view_is to c.index_mut-view.result.now lt c.index_mut-view.ensures.value c.unapply.new.self (λ (m : Change). minus m d) c.in-Ok-unapply.ensures.ok in
+    let views = views_after t a.paths a.processors.items a.views.items a.mesh c.self.view_is to c.index_mut-view.result.now lt c.index_mut-view.ensures.value c.unapply.new.self (λ (m : DeltaValue). minus m d) c.in-Ok-unapply.ensures.ok in
     (λ i. record (c.self.view_is i) { views = views i; queues = (c.in-Ok.ensures.ok ∙ (λ j. unpopped (c.self.view_is j).queues from to (c.in_ok-copied.ensures.equal j))) i })
     ∙ received_back s t from to d state receives
