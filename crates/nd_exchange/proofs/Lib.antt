@@ -1,5 +1,0 @@
-mod Counts
-mod Ends
-mod Freedom
-mod Parts
-mod Tokens

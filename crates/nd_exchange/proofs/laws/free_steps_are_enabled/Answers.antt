@@ -1,5 +1,0 @@
-use Rattle.nd_exchange.proofs.Freedom.{enabled}
-use Rattle.nd_exchange.proofs.laws.free_steps_are_enabled.Goals as goal
-
-pub returns : goal.returns
-returns g c = enabled c.args.paths.now c.order_is_decided.ensures

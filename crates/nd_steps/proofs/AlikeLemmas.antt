@@ -1,0 +1,94 @@
+-- When two keys are one, and two places: those of one processor's map when their keys are.
+use Rattle.std.proofs.Common.{◌≡◌, ◌≢◌, ℕ, true, false, refl, sym, ap, ◌∙◌, true≢false}
+use Rattle.std.proofs.lemmas.Cmp.{tied_itself, nat_cmp_total}
+use Rattle.std.proofs.lemmas.Map.Views.{tells_apart}
+use Rattle.std.specs.declared.cmp.Ordering.{Ordering}
+use Rattle.std.specs.Ordering.{nat_cmp, eq_by_cmp, is_eq}
+use Rattle.std.specs.Cmp.{IsTotalOrder}
+use Rattle.std.specs.FinMap.{IsAntisymmetric}
+use Rattle.std.specs.FinMap as fin
+use Rattle.nd_paths.specs.Point.{point_cmp, point_total, point_exact}
+use Rattle.nd_paths.specs.declared.point.Pointstamp.{Pointstamp}
+use Rattle.nd_vertex.specs.Items.{item_cmp, item_total, item_exact}
+use Rattle.nd_vertex.specs.declared.key.ItemKey.{ItemKey}
+use Rattle.nd_processor.specs.Keys.{value_at_cmp, value_at_total, value_at_exact, sink_cmp, sink_total, sink_exact}
+use Rattle.nd_processor.specs.declared.key.ValueAt.{ValueAt}
+use Rattle.nd_processor.specs.declared.key.SinkKey.{SinkKey}
+use Rattle.nd_steps.specs.Places.{Place, place_at, place_total, place_exact, is_place}
+use Rattle.nd_steps.specs.declared.slot.Slot.TheVariants.{Records, Request, Token, State, Sink, Unsent}
+
+-- ---- keys that compare alike or not
+
+pub same_key : {K : Type 0} {R : K → K → Ordering} (o : IsTotalOrder R) → (k : K) → eq_by_cmp R k k ≡ true
+same_key o k = ap is_eq (tied_itself o k)
+
+pub other_key : {K : Type 0} {R : K → K → Ordering} (tells : IsAntisymmetric R) → (q k : K) → q ≢ k → eq_by_cmp R q k ≡ false
+other_key {R = R} tells q k ne = elim (eq_by_cmp R q k) as (λ b. eq_by_cmp R q k ≡ b → b ≡ false) [
+  | true ↦ λ t. absurd (ne (tells_apart tells q k t))
+  | false ↦ λ t. refl
+] refl
+
+-- ---- places
+
+pub same_place : (a b : Place) → is_place a b ≡ true → a ≡ b
+same_place a b t = tells_apart place_exact a b t
+
+pub place_itself : (a : Place) → is_place a a ≡ true
+place_itself a = ap is_eq (tied_itself place_total a)
+
+pub other_place : (a b : Place) → (a ≡ b → ⊥) → is_place a b ≡ false
+other_place a b apart = elim (is_place a b) as (λ t. is_place a b ≡ t → t ≡ false) [
+  | true ↦ λ e. absurd (apart (same_place a b e))
+  | false ↦ λ e. refl
+] refl
+
+module _ {K : Type 0} {S : K → K → Ordering} (o : IsTotalOrder S) (tells : IsAntisymmetric S) (f : K → Place) (apart : (a b : K) → f a ≡ f b → a ≡ b) where
+  pub same_test : (a b : K) → is_place (f a) (f b) ≡ eq_by_cmp S a b
+  same_test a b = elim (eq_by_cmp S a b) as (λ t. eq_by_cmp S a b ≡ t → is_place (f a) (f b) ≡ t) [
+    | true ↦ λ e. ap (λ c. is_place (f a) (f c)) (sym (tells_apart tells a b e)) ∙ place_itself (f a)
+    | false ↦ λ e. other_place (f a) (f b) (λ is. true≢false (sym (ap is_eq (tied_itself o a)) ∙ ap (eq_by_cmp S a) (apart a b is) ∙ e))
+  ] refl
+
+-- the key of a place, or d if it has none of the kind
+abbrev point_in : Pointstamp → Place → Pointstamp
+point_in d (place_at p (Request x)) = x
+point_in d (place_at p (Unsent x)) = x
+point_in d _ = d
+
+abbrev record_in : ValueAt → Place → ValueAt
+record_in d (place_at p (Records k)) = k
+record_in d _ = d
+
+abbrev vertex_in : ℕ → Place → ℕ
+vertex_in d (place_at p (Token v)) = v
+vertex_in d (place_at p (State v k)) = v
+vertex_in d _ = d
+
+abbrev item_in : ItemKey → Place → ItemKey
+item_in d (place_at p (State v k)) = k
+item_in d _ = d
+
+abbrev sink_in : SinkKey → Place → SinkKey
+sink_in d (place_at p (Sink k)) = k
+sink_in d _ = d
+
+pub record-test : (p : ℕ) (a b : ValueAt) → is_place (place_at p (Records a)) (place_at p (Records b)) ≡ eq_by_cmp value_at_cmp a b
+record-test p a b = same_test value_at_total value_at_exact (λ k. place_at p (Records k)) (λ c d e. ap (record_in c) e) a b
+
+pub request-test : (p : ℕ) (a b : Pointstamp) → is_place (place_at p (Request a)) (place_at p (Request b)) ≡ eq_by_cmp point_cmp a b
+request-test p a b = same_test point_total point_exact (λ k. place_at p (Request k)) (λ c d e. ap (point_in c) e) a b
+
+pub token-test : (p : ℕ) (a b : ℕ) → is_place (place_at p (Token a)) (place_at p (Token b)) ≡ eq_by_cmp nat_cmp a b
+token-test p a b = same_test nat_cmp_total fin.nat_cmp-IsAntisymmetric (λ k. place_at p (Token k)) (λ c d e. ap (vertex_in c) e) a b
+
+pub item-test : (p v : ℕ) (a b : ItemKey) → is_place (place_at p (State v a)) (place_at p (State v b)) ≡ eq_by_cmp item_cmp a b
+item-test p v a b = same_test item_total item_exact (λ k. place_at p (State v k)) (λ c d e. ap (item_in c) e) a b
+
+pub item_elsewhere : (p v w : ℕ) (a b : ItemKey) → (v ≡ w → ⊥) → is_place (place_at p (State v a)) (place_at p (State w b)) ≡ false
+item_elsewhere p v w a b apart = other_place (place_at p (State v a)) (place_at p (State w b)) (λ e. apart (ap (vertex_in v) e))
+
+pub sink-test : (p : ℕ) (a b : SinkKey) → is_place (place_at p (Sink a)) (place_at p (Sink b)) ≡ eq_by_cmp sink_cmp a b
+sink-test p a b = same_test sink_total sink_exact (λ k. place_at p (Sink k)) (λ c d e. ap (sink_in c) e) a b
+
+pub unsent-test : (p : ℕ) (a b : Pointstamp) → is_place (place_at p (Unsent a)) (place_at p (Unsent b)) ≡ eq_by_cmp point_cmp a b
+unsent-test p a b = same_test point_total point_exact (λ k. place_at p (Unsent k)) (λ c d e. ap (point_in c) e) a b

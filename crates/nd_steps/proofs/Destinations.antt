@@ -1,0 +1,42 @@
+-- Each record that a step makes goes to a processor that there is.
+use Rattle.std.proofs.Common.{ℕ, ◌+◌, ◌<◌, ℤ, pos, negsuc, Bool, true, false, cond, ◌&&◌, List, [], ◌∷◌, ◌++◌, length, flat_map, unsigned_abs, nat_eq, mod-lt, arith}
+use Rattle.std.specs.Int.{int_rem_euclid}
+use Rattle.nd_time.specs.Time.{Time}
+use Rattle.nd_graph.specs.Graph.{Dataflow, op_at}
+use Rattle.nd_graph.specs.declared.op.Route.{Route}
+use Rattle.nd_graph.specs.declared.op.Route.TheVariants.{Local, Exchange}
+use Rattle.nd_graph.specs.declared.graph.Edge.{Edge}
+use Rattle.nd_vertex.specs.Table.{time_past}
+use Rattle.nd_processor.specs.declared.key.ValueAt.{ValueAt}
+use Rattle.nd_protocol.specs.Steps.{destination, record_key, made_on, emitted}
+use Rattle.nd_steps.proofs.Arrivals.{AreTo}
+
+rest_below : (v : ℤ) (n : ℕ) → 0 < n → unsigned_abs (int_rem_euclid v (pos n)) < n
+rest_below (pos a) n some = mod-lt a some
+rest_below (negsuc a) n some = omega arith
+
+destination-below : (route : Route) (n p : ℕ) (v : ℤ) → p < n → destination route n p v < n
+destination-below Local n p v lt = lt
+destination-below Exchange n p v lt = rest_below v n (omega arith)
+
+pub AreTo-append : (n : ℕ) (rs ss : List (ℕ × ValueAt)) → AreTo n rs → AreTo n ss → AreTo n (rs ++ ss)
+AreTo-append n [] ss h k = k
+AreTo-append n (r ∷ rs) ss h k = (h.0, AreTo-append n rs ss h.1 k)
+
+pub AreTo-flat : {X : Type 0} (n : ℕ) (f : X → List (ℕ × ValueAt)) → ((x : X) → AreTo n (f x)) → (xs : List X) → AreTo n (flat_map f xs)
+AreTo-flat n f each [] = tt
+AreTo-flat n f each (x ∷ xs) = AreTo-append n (f x) (flat_map f xs) (each x) (AreTo-flat n f each xs)
+
+one_or_none : (b : Bool) (n : ℕ) (r : ℕ × ValueAt) → r.0 < n → AreTo n (cond b (r ∷ []) [])
+one_or_none true n r lt = (lt, tt)
+one_or_none false n r lt = tt
+
+made_on-below : (n p vertex port : ℕ) (v : ℤ) (t : Time) (l : ℕ) (edges : List Edge) → p < n → AreTo n (made_on n p vertex port v t l edges)
+made_on-below n p vertex port v t l [] lt = tt
+made_on-below n p vertex port v t l (e ∷ edges) lt =
+    AreTo-append n (cond (nat_eq e.from vertex && nat_eq e.port port) ((destination e.route n p v, record_key l t v) ∷ []) []) (made_on n p vertex port v t (l + 1) edges)
+    (one_or_none (nat_eq e.from vertex && nat_eq e.port port) n (destination e.route n p v, record_key l t v) (destination-below e.route n p v lt))
+    (made_on-below n p vertex port v t (l + 1) edges lt)
+
+pub emitted-below : (g : Dataflow) (n p vertex : ℕ) (t : Time) (e : ℕ × ℤ) → p < n → AreTo n (emitted g n p vertex t e)
+emitted-below g n p vertex t e lt = made_on-below n p vertex e.0 e.1 (time_past (op_at g vertex) t) (length g.vertices) g.edges lt

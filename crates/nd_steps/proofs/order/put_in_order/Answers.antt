@@ -1,0 +1,43 @@
+use Rattle.std.proofs.Common.{◌<◌, length, arith}
+use Rattle.nd_steps.specs.Turns.{IsReadable}
+use Rattle.nd_steps.proofs.EachLemmas.{each_at, each_moved}
+use Rattle.nd_steps.proofs.TurnsLemmas.{none_yet, one_goes, one_leaves, in_order, counts_in, entries_in}
+use Rattle.nd_steps.proofs.order.put_in_order.Goals as goal
+use Rattle.nd_steps.proofs.order.put_in_order.Goals.{then-reading, else-reading}
+
+pub loop-i-init : goal.loop-i-init
+loop-i-init g c = none_yet c.args.processors.now c.args.changes.now
+
+pub reading_of-reading-requires : goal.reading_of-reading-requires
+reading_of-reading-requires g c =
+    let P = IsReadable c.args.processors.now in
+    let lt : c.loop-i.i < length c.loop-i.changes = omega (arith, c.loop-i-test.true, c.loop-i.auto.changes) in
+    each_at P c.loop-i.changes c.loop-i.i c.index-changes-i.result (each_moved P c.args.changes.now c.loop-i.changes c.loop-i.invariant.same c.requires) lt
+
+pub loop-i-preserved : goal.loop-i-preserved
+loop-i-preserved g c =
+    let ps = c.args.processors.now in
+    let all = c.args.changes.now in
+    let l = c.loop-i in
+    let r = c.reading_of-reading in
+    let lt : l.i < length all = c.loop-i-test.true in
+    elim c.if-reading.branch [
+      | then-reading w ↦ rw (w.changes-is, w.turn-is)
+          (one_leaves ps all l.changes l.turn l.i l.limits.counts_stay l.limits.entries_stay l.invariant lt c.index-changes-i.result r.result.count_stays r.result.entry_stays r.ensures.count r.ensures.entry
+          (r.ensures.leaves.0 w.if-reading.true) w.swap.new.self w.swap.ensures.permutation w.swap.ensures.after)
+      | else-reading w ↦ rw (w.changes-is, w.turn-is)
+          (one_goes ps all l.changes l.turn l.i l.limits.counts_stay l.limits.entries_stay l.invariant lt c.index-changes-i.result r.result.count_stays r.result.entry_stays r.ensures.count r.ensures.entry
+          (λ some. let t = r.ensures.leaves.1 some in absurd (cc (w.if-reading.false, t))))
+    ]
+
+pub returns-clause-order : goal.returns-clause-order
+returns-clause-order g c =
+    in_order c.args.processors.now c.args.changes.now c.loop-i.changes c.loop-i.turn c.loop-i.i c.loop-i.limits.counts_stay c.loop-i.limits.entries_stay c.loop-i.invariant (omega (arith, c.loop-i-test.false))
+
+pub returns-clause-counts : goal.returns-clause-counts
+returns-clause-counts g c =
+    counts_in c.args.processors.now c.args.changes.now c.loop-i.changes c.loop-i.turn c.loop-i.i c.loop-i.limits.counts_stay c.loop-i.limits.entries_stay c.loop-i.invariant (omega (arith, c.loop-i-test.false))
+
+pub returns-clause-entries : goal.returns-clause-entries
+returns-clause-entries g c =
+    entries_in c.args.processors.now c.args.changes.now c.loop-i.changes c.loop-i.turn c.loop-i.i c.loop-i.limits.counts_stay c.loop-i.limits.entries_stay c.loop-i.invariant (omega (arith, c.loop-i-test.false))

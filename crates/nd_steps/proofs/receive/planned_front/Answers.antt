@@ -1,0 +1,12 @@
+use Rattle.std.proofs.Common.{refl, sym, true≢false}
+use Rattle.nd_steps.proofs.Ends.{without_front}
+use Rattle.nd_steps.proofs.receive.planned_front.Goals as goal
+
+pub returns-in_default-clause-refused : goal.returns-in_default-clause-refused
+returns-in_default-clause-refused g c = without_front _ (sym c.in_default.ensures.value)
+
+pub returns-then-is_overfull-clause-refused : goal.returns-then-is_overfull-clause-refused
+returns-then-is_overfull-clause-refused g c = (c.in-Some.front.now, sym c.in-Some.ensures.value, c.if-is_overfull.ensures.0 refl)
+
+pub returns-in_default-copy-clause-refused : goal.returns-in_default-copy-clause-refused
+returns-in_default-copy-clause-refused g c = (c.in-Some.front.now, sym c.in-Some.ensures.value, λ large. true≢false (sym (c.if-is_overfull.ensures.1 large)))

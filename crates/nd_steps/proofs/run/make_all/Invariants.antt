@@ -1,0 +1,15 @@
+use Rattle.std.proofs.Common.{◌≡◌, ◌≤◌}
+use Rattle.nd_steps.specs.Changes.{state_at}
+use Rattle.nd_steps.specs.Undone.{only}
+use Rattle.nd_steps.proofs.run.make_all.Given as goal
+
+-- the state after the changes so far
+abbrev pub invariant-loop-i : goal.invariant-loop-i
+invariant-loop-i g l = only l.processors.items ≡ state_at (only l.fn.processors.items) l.changes l.i
+
+-- the same, back to the first
+abbrev pub invariant-loop-j : goal.invariant-loop-j
+invariant-loop-j g l = record {
+  now : only l.processors.items ≡ state_at (only l.fn.processors.items) l.changes l.j;
+  before : l.j ≤ l.i;
+}

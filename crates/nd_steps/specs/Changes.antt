@@ -1,0 +1,64 @@
+-- Changes one after the other: what each makes of a cluster's state, and when a list of them can be made.
+use Rattle.std.specs.Prelude.{◌≢◌, ◌<◌, ◌≤◌, ◌+◌, ℕ, ℤ, pos, neg_ℤ, ◌+ℤ◌, List, [], ◌∷◌, take, length, slice_index_or}
+use Rattle.std.proofs.Common.{get_or}
+use Rattle.nd_processor.specs.State.{ProcessorState, idle}
+use Rattle.nd_protocol.specs.State.{ClusterState, processor}
+use Rattle.nd_steps.specs.Places.{Place, place_at}
+use Rattle.nd_steps.specs.Slots.{stands, puts, SlotIsThere, SlotMay, SlotWithin}
+use Rattle.nd_steps.specs.Standing.{standing, put_at}
+use Rattle.nd_steps.specs.declared.change.Change.{Change}
+use Rattle.nd_steps.specs.declared.slot.Slot.{Slot}
+
+-- where in the cluster a change is
+abbrev pub place_of : Change → Place
+place_of c = place_at c.p c.slot
+
+-- the processor that a change is of
+abbrev pub own : List ProcessorState → Change → ProcessorState
+own processors c = slice_index_or processors c.p idle
+
+-- the change that takes it back
+abbrev pub inverse : Change → Change
+inverse c = record c { n = neg_ℤ c.n }
+
+-- the processor with so much more at a key
+abbrev pub made_in : ProcessorState → Slot → ℤ → ProcessorState
+made_in q l n = puts q l (stands q l +ℤ n)
+
+-- the state after a change
+abbrev pub made : ClusterState → Change → ClusterState
+made s c = put_at s (place_of c) (standing s (place_of c) +ℤ c.n)
+
+-- so much more may stand at a key: something more or less, and what stands there is within its limit before and after
+pub record FitsIn (q : ProcessorState) (l : Slot) (n : ℤ) : Type 0 where
+  pub there : SlotIsThere q l
+  pub some : n ≢ pos 0
+  pub before : SlotWithin l (stands q l)
+  pub may : SlotMay l (stands q l +ℤ n)
+  pub within : SlotWithin l (stands q l +ℤ n)
+
+-- it may be made in this state
+pub record Fits (s : ClusterState) (c : Change) : Type 0 where
+  pub owner : c.p < length s.processors
+  pub inside : FitsIn (processor s c.p) c.slot c.n
+
+-- something stands at the place of the change
+abbrev pub Finds : ClusterState → Change → Type 0
+Finds s c = standing s (place_of c) ≢ pos 0
+
+-- the state after a list of changes
+unfoldable pub applied : ClusterState → List Change → ClusterState
+applied s [] = s
+applied s (c ∷ cs) = applied (made s c) cs
+
+-- the state after the first k changes
+unfoldable pub state_at : ClusterState → List Change → ℕ → ClusterState
+state_at s cs k = applied s (take k cs)
+
+-- each change fits in its turn, and nothing is taken out before the last thing is put in:
+-- the first changes leave something at their places, and the others find something at theirs
+pub record IsRunnable (s : ClusterState) (cs : List Change) : Type 0 where
+  pub turn : ℕ
+  pub fits : (k : ℕ) (d : Change) → k < length cs → Fits (state_at s cs k) (get_or cs k d)
+  pub leaves : (k : ℕ) (d : Change) → k < length cs → k < turn → Finds (state_at s cs (k + 1)) (get_or cs k d)
+  pub finds : (k : ℕ) (d : Change) → k < length cs → turn ≤ k → Finds (state_at s cs k) (get_or cs k d)

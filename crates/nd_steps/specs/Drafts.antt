@@ -1,0 +1,154 @@
+-- What a plan drafts of a step: changes as they are found, and the list in which no place stands twice.
+use Rattle.std.specs.Prelude.{◌≡◌, ◌≢◌, ℕ, ◌+◌, ℤ, pos, negsuc, ◌+ℤ◌, ◌-ℤ◌, ◌++◌, List, [], ◌∷◌, map, length, cond, Bool, true, false, Some, is_none, ◌&&◌, nat_eq, if◌then◌else◌}
+use Rattle.std.specs.List.{flat_map}
+use Rattle.std.specs.FinMap as fin
+use Rattle.nd_time.specs.Time.{Time}
+use Rattle.nd_graph.specs.Graph.{Dataflow, op_at}
+use Rattle.nd_graph.specs.declared.graph.Edge.{Edge}
+use Rattle.nd_paths.specs.declared.point.Pointstamp.{Pointstamp}
+use Rattle.nd_vertex.specs.Table.{is_zero}
+use Rattle.nd_vertex.specs.Effects.{IsEffect}
+use Rattle.nd_vertex.specs.declared.effect.Effect.{Effect}
+use Rattle.nd_vertex.specs.declared.effect.Emission.{Emission}
+use Rattle.nd_vertex.specs.declared.effect.ItemEdit.{ItemEdit}
+use Rattle.nd_processor.specs.State.{token_point, items_at}
+use Rattle.nd_processor.specs.declared.key.ValueAt.{ValueAt}
+use Rattle.nd_protocol.specs.Ranges.{IsValue}
+use Rattle.nd_protocol.specs.State.{ClusterState, processor}
+use Rattle.nd_protocol.specs.Steps.{destination, record_key, made_on, target_of, take_outcome, notice_outcome, point_at, stepped}
+use Rattle.nd_protocol.specs.Fitting.{IsState}
+use Rattle.nd_protocol.specs.Enabled.{IsFreeBelow}
+use Rattle.nd_protocol.specs.declared.step.Step.{Step}
+use Rattle.nd_protocol.specs.declared.step.Next.{Next as Afterwards}
+use Rattle.nd_protocol.specs.declared.step.Next.TheVariants as token
+use Rattle.nd_steps.specs.Places.{Place}
+use Rattle.nd_steps.specs.declared.slot.Slot.{Slot}
+use Rattle.nd_steps.specs.declared.slot.Slot.TheVariants.{Records, Request, Token, State, Sink, Unsent}
+use Rattle.nd_steps.specs.Slots.{from_number}
+use Rattle.nd_steps.specs.Changes.{place_of}
+use Rattle.nd_steps.specs.Totals.{total_at, edits_of}
+use Rattle.nd_steps.specs.Places.{is_place}
+use Rattle.nd_steps.specs.Plans.{Once, Each, Reaches}
+use Rattle.nd_steps.specs.declared.change.Change.{Change}
+
+-- ---- changes, as a plan finds them
+
+-- so much more at a key of processor p's maps
+abbrev pub at_key : ℕ → Slot → ℤ → Change
+at_key p slot n = record { p = p; slot = slot; n = n }
+
+-- records that come, each to its processor, and that p has each to send
+abbrev pub arrivals : ℕ → List (ℕ × ValueAt) → List Change
+arrivals p [] = []
+arrivals p (r ∷ rs) = at_key r.0 (Records r.1) (pos 1) ∷ at_key p (Unsent r.1.point) (pos 1) ∷ arrivals p rs
+
+-- another number of one of a vertex's items
+abbrev pub item_change : ℕ → ℕ → ItemEdit → Change
+item_change p vertex e = at_key p (State vertex e.key) (from_number e.new -ℤ from_number e.old)
+
+-- its numbers have 64 bits
+pub record HasValues (e : ItemEdit) : Type 0 where
+  pub old : IsValue (from_number e.old)
+  pub new : IsValue (from_number e.new)
+
+-- ---- no place twice
+
+-- a change, unless it adds nothing
+abbrev pub some_of : Change → List Change
+some_of c = cond (is_zero c.n) [] (c ∷ [])
+
+-- one change for two at one place
+abbrev pub both : Change → Change → Change
+both c d = record c { n = c.n +ℤ d.n }
+
+-- a change and those after it, joined where neighbours are at one place
+abbrev pub joins : Change → List Change → List Change
+joins c [] = some_of c
+joins c (d ∷ ds) = cond (is_place (place_of c) (place_of d)) (joins (both c d) ds) (some_of c ++ joins d ds)
+
+abbrev pub joined : List Change → List Change
+joined [] = []
+joined (c ∷ cs) = joins c cs
+
+-- the second changes add what the first do, with no place twice and none that adds nothing
+pub record AreJoined (cs ds : List Change) : Type 0 where
+  pub once : Once ds
+  pub some : Each (λ c. c.n ≢ pos 0) ds
+  pub totals : (k : Place) → total_at (edits_of ds) k ≡ total_at (edits_of cs) k
+
+-- ---- the records that come
+
+-- the record of an emission of processor p's vertex on an edge at a location, if it leaves the port, with its processor
+abbrev pub made_along : ℕ → ℕ → ℕ → Emission → ℕ → Edge → List (ℕ × ValueAt)
+made_along n p vertex e l edge = if nat_eq edge.from vertex && nat_eq edge.port e.port then (destination edge.route n p e.value, record_key l e.time e.value) ∷ [] else []
+
+-- those of an emission, of the values that the vertex is fed, and of what it emits
+abbrev pub made_by : Dataflow → ℕ → ℕ → ℕ → Emission → List (ℕ × ValueAt)
+made_by g n p vertex e = made_on n p vertex e.port e.value e.time (length g.vertices) g.edges
+
+abbrev pub fed_at : Time → ℤ → Emission
+fed_at t v = record { port = 0; time = t; value = v }
+
+abbrev pub fed_by : Dataflow → ℕ → ℕ → ℕ → Time → List ℤ → List (ℕ × ValueAt)
+fed_by g n p vertex t values = flat_map (λ v. made_by g n p vertex (fed_at t v)) values
+
+abbrev pub emitted_by : Dataflow → ℕ → ℕ → ℕ → List Emission → List (ℕ × ValueAt)
+emitted_by g n p vertex es = flat_map (made_by g n p vertex) es
+
+-- ---- the changes of each kind of step, in the order in which they are found
+
+-- the token's move from an epoch
+abbrev pub token_changes : ℕ → ℕ → ℕ → Afterwards → List Change
+token_changes p vertex epoch token.Stay = []
+token_changes p vertex epoch token.Close = at_key p (Token vertex) (negsuc epoch) ∷ at_key p (Unsent (token_point vertex epoch)) (negsuc 0) ∷ []
+token_changes p vertex epoch token.Next =
+    at_key p (Token vertex) (pos 1) ∷ at_key p (Unsent (token_point vertex epoch)) (negsuc 0) ∷ at_key p (Unsent (token_point vertex (epoch + 1))) (pos 1) ∷ []
+
+abbrev pub fed_changes : ℕ → ℕ → ℕ → Afterwards → List (ℕ × ValueAt) → List Change
+fed_changes p vertex epoch next rs = token_changes p vertex epoch next ++ arrivals p rs
+
+-- a request that was not there
+abbrev pub ask_changes : ℕ → Pointstamp → Bool → List Change
+ask_changes p x true = at_key p (Request x) (pos 1) ∷ at_key p (Unsent x) (pos 1) ∷ []
+ask_changes p x false = []
+
+-- a value that a sink counts
+abbrev pub sink_changes : ℕ → ℕ → ℤ → Bool → List Change
+sink_changes p vertex value true = at_key p (Sink (record { vertex = vertex; value = value })) (pos 1) ∷ []
+sink_changes p vertex value false = []
+
+abbrev pub taken_changes : {A : Type 0} → ℕ → ℕ → ValueAt → Effect A → Bool → List (ℕ × ValueAt) → List Change
+taken_changes p target k effect asks rs =
+    (((at_key p (Records k) (negsuc 0) ∷ at_key p (Unsent k.point) (negsuc 0) ∷ []
+    ++ ask_changes p (point_at target k.point.time) asks)
+    ++ map (item_change p target) effect.items.items)
+    ++ sink_changes p target k.value effect.sink)
+    ++ arrivals p rs
+
+abbrev pub noticed_changes : {A : Type 0} → ℕ → Pointstamp → Effect A → List (ℕ × ValueAt) → List Change
+noticed_changes p x effect rs =
+    (at_key p (Request x) (negsuc 0) ∷ at_key p (Unsent x) (negsuc 0) ∷ []
+    ++ map (item_change p x.location) effect.items.items)
+    ++ arrivals p rs
+
+-- ---- what a feed, a take and a notice go by
+
+-- a step that passes all tests but those of the limits leads where these changes do
+abbrev pub Leads : {A : Type 0} → ClusterState → Step A → List Change → Type 0
+Leads s x cs = IsState s → IsFreeBelow s x 13 → Reaches s (stepped s x) cs
+
+-- a cluster with this graph, of n processors
+pub record Has (g : Dataflow) (n : ℕ) (s : ClusterState) : Type 0 where
+  pub graph : s.graph ≡ g
+  pub count : length s.processors ≡ n
+
+-- the effect of a take on processor p, whose request is new or not
+pub record TakesSo {A : Type 0} (s : ClusterState) (p target : ℕ) (k : ValueAt) (effect : Effect A) (asks : Bool) : Type 0 where
+  pub goes : target ≡ target_of s.graph k.point.location
+  pub does : IsEffect (items_at (processor s p) target) (op_at s.graph target) k.point.time (take_outcome s p k.point.location k.point.time k.value) effect
+  pub anew : asks ≡ (effect.asks && is_none (fin.get (processor s p).requests (point_at target k.point.time)))
+
+-- the effect of a notice on processor p, which was asked for
+pub record NoticesSo {A : Type 0} (s : ClusterState) (p : ℕ) (x : Pointstamp) (effect : Effect A) : Type 0 where
+  pub asked : fin.get (processor s p).requests x ≡ Some tt
+  pub does : IsEffect (items_at (processor s p) x.location) (op_at s.graph x.location) x.time (notice_outcome s p x.location x.time) effect

@@ -1,0 +1,78 @@
+-- What comes for a record that is taken, and the changes of such a take.
+use Rattle.std.specs.Prelude.{ℕ, ℤ, pos, negsuc, cond, List, [], ◌∷◌, ◌++◌, length, nat_lt, if◌then◌else◌}
+use Rattle.nd_time.specs.Time.{Time, ingress_of, egress_of, feedback_of, last_of}
+use Rattle.nd_time.specs.Limits.{max_depth, max_counter}
+use Rattle.nd_graph.specs.declared.op.Action.{Action}
+use Rattle.nd_graph.specs.declared.op.Action.TheVariants.{Identity, Ingress, Egress, Feedback}
+use Rattle.nd_paths.specs.declared.point.Pointstamp.{Pointstamp}
+use Rattle.nd_processor.specs.declared.key.ValueAt.{ValueAt}
+use Rattle.nd_processor.specs.State.{ProcessorState}
+use Rattle.nd_protocol.specs.Steps.{record_key}
+use Rattle.nd_protocol.specs.declared.step.Step.{Step}
+use Rattle.nd_protocol.specs.declared.step.Step.TheVariants.{Feed, Take, Notice, Broadcast, Receive}
+use Rattle.nd_protocol.specs.declared.refusal.Refusal.{Refusal}
+use Rattle.nd_protocol.specs.declared.refusal.Refusal.TheVariants.{CountFull, DeltaFull}
+use Rattle.nd_steps.specs.Limits.{CountStays, EntryStays}
+use Rattle.nd_steps.specs.Plans.{Each}
+use Rattle.nd_steps.specs.declared.change.Change.{Change}
+use Rattle.nd_steps.specs.declared.slot.Slot.TheVariants.{Records, Sink, Unsent}
+use Rattle.nd_steps.specs.declared.come.Come.{Come}
+use Rattle.nd_steps.specs.declared.come.Come.TheVariants.{Nothing, Record, Count}
+use Rattle.nd_steps.specs.declared.flow.Flow.{Flow}
+
+-- the time past an action, or the same where the action is not taken: by the limits, or outside all loops
+abbrev pub past_action : Action → Time → Time
+past_action Identity t = t
+past_action Ingress t = if nat_lt (length t.counters) max_depth then record { epoch = t.epoch; counters = ingress_of t.counters } else t
+past_action Egress t = record { epoch = t.epoch; counters = egress_of t.counters }
+past_action Feedback t = if nat_lt (last_of t.counters) max_counter then record { epoch = t.epoch; counters = feedback_of t.counters } else t
+
+-- the record that comes for one that goes, at its time past the action; that one again if none comes
+abbrev pub come_key : ValueAt → Come → ValueAt
+come_key gone Nothing = gone
+come_key gone (Record action q edge value) = record_key edge (past_action action gone.point.time) value
+come_key gone (Count vertex) = gone
+
+-- so many records of a key more at processor p, and so much more that it has to send
+abbrev pub more_records : ℕ → ValueAt → ℤ → Change
+more_records p key n = record { p = p; slot = Records key; n = n }
+
+abbrev pub more_unsent : ℕ → Pointstamp → ℤ → Change
+more_unsent p point n = record { p = p; slot = Unsent point; n = n }
+
+-- a sink vertex counts a value once more
+abbrev pub count_more : ℕ → ℕ → ℤ → Change
+count_more p vertex value = record { p = p; slot = Sink (record { vertex = vertex; value = value }); n = pos 1 }
+
+-- what comes for a record that processor p takes
+abbrev pub arriving : ℕ → ValueAt → Come → List Change
+arriving p gone Nothing = []
+arriving p gone (Record action q edge value) =
+    let key : ValueAt = come_key gone (Record action q edge value) in
+    more_records q key (pos 1) ∷ more_unsent p key.point (pos 1) ∷ []
+arriving p gone (Count vertex) = count_more p vertex gone.value ∷ []
+
+-- the changes of the take of a record by processor p for which this comes, in a fixed order
+abbrev pub come_changes : ℕ → ValueAt → Come → List Change
+come_changes p gone come = more_records p gone (negsuc 0) ∷ more_unsent p gone.point (negsuc 0) ∷ arriving p gone come
+
+-- the same in the order in which they are made: the record goes last, and its pointstamp before all else comes or late
+abbrev pub flow_changes : ℕ → ValueAt → Flow → List Change
+flow_changes p gone f =
+    let unsent : Change = more_unsent p gone.point (negsuc 0) in
+    let goes : List Change = more_records p gone (negsuc 0) ∷ [] in
+    cond f.late (arriving p gone f.come ++ unsent ∷ goes) (unsent ∷ arriving p gone f.come ++ goes)
+
+-- the changes that a flow tells of a step, in this order; of a step that is no take, none
+abbrev pub told_changes : {A : Type 0} → Step A → Flow → List Change
+told_changes (Feed p vertex values _) f = []
+told_changes (Take p edge t value) f = flow_changes p (record_key edge t value) f
+told_changes (Notice p vertex t) f = []
+told_changes (Broadcast p part) f = []
+told_changes (Receive from to) f = []
+
+-- which limit a count or an entry passes after these changes: that of counts comes first
+abbrev pub StayFails : List ProcessorState → List Change → Refusal → Type 0
+StayFails processors cs CountFull = Each (CountStays processors) cs → ⊥
+StayFails processors cs DeltaFull = Each (CountStays processors) cs × (Each (EntryStays processors) cs → ⊥)
+StayFails processors cs _ = ⊥

@@ -1,0 +1,27 @@
+-- The limits of counts and of entries, where changes are made.
+use Rattle.std.specs.Prelude.{ℤ, ◌+ℤ◌, List}
+use Rattle.nd_processor.specs.State.{ProcessorState}
+use Rattle.nd_protocol.specs.State.{ClusterState}
+use Rattle.nd_protocol.specs.Enabled.{HasLargeCount, HasLargeEntry}
+use Rattle.nd_protocol.specs.declared.refusal.Refusal.{Refusal}
+use Rattle.nd_protocol.specs.declared.refusal.Refusal.TheVariants.{CountFull, DeltaFull}
+use Rattle.nd_steps.specs.Slots.{stands, CountWithin, EntryWithin}
+use Rattle.nd_steps.specs.Changes.{own}
+use Rattle.nd_steps.specs.declared.change.Change.{Change}
+
+-- what stands at the place of a change after it
+unfoldable pub after : List ProcessorState → Change → ℤ
+after processors c = stands (own processors c) c.slot +ℤ c.n
+
+-- it is within the limit of a count, of an entry
+abbrev pub CountStays : List ProcessorState → Change → Type 0
+CountStays processors c = CountWithin c.slot (after processors c)
+
+abbrev pub EntryStays : List ProcessorState → Change → Type 0
+EntryStays processors c = EntryWithin c.slot (after processors c)
+
+-- the limit that t passes, for which changes that lead there are refused: that of counts before that of entries
+abbrev pub LimitFails : ClusterState → Refusal → Type 0
+LimitFails t CountFull = HasLargeCount t
+LimitFails t DeltaFull = (HasLargeCount t → ⊥) × HasLargeEntry t
+LimitFails t _ = ⊥

@@ -1,0 +1,29 @@
+-- What a record changes, of whatever kind it is, as one list.
+use Rattle.std.specs.Prelude.{ℕ, ℤ, neg_ℤ, List, [], ◌∷◌, ◌++◌, map}
+use Rattle.nd_paths.specs.declared.point.Pointstamp.{Pointstamp}
+use Rattle.nd_delta.specs.Delta.{entries}
+use Rattle.nd_protocol.specs.declared.step.Step.{Step}
+use Rattle.nd_steps.specs.Flows.{more_unsent, told_changes}
+use Rattle.nd_steps.specs.declared.listed.Entry.{Entry}
+use Rattle.nd_steps.specs.declared.listed.Entry.TheVariants.{Key, View, Back, Front}
+use Rattle.nd_steps.specs.declared.record.Changes.{Changes}
+use Rattle.nd_steps.specs.declared.record.Changes.TheVariants.{Each, Flowed, Sent, Received}
+use Rattle.nd_steps.specs.declared.record.Record.{Record}
+
+-- an entry of a part that p sends is unsent no longer
+abbrev pub leaves : ℕ → Pointstamp × ℤ → Entry
+leaves p e = Key (more_unsent p e.0 (neg_ℤ e.1))
+
+-- an entry of a change that q receives comes into its view
+abbrev pub arrives : ℕ → Pointstamp × ℤ → Entry
+arrives q e = View q e.0 e.1
+
+-- what the changes of a step name, in order: the keys of maps, and then the end of a queue
+abbrev pub listed_by : {A : Type 0} → Step A → Changes A → List Entry
+listed_by x (Each changes) = map Key changes.items
+listed_by x (Flowed flow) = map Key (told_changes x flow)
+listed_by x (Sent p part) = map (leaves p) (entries part) ++ Back p ∷ []
+listed_by x (Received from to change) = map (arrives to) (entries change) ++ Front from to ∷ []
+
+abbrev pub listed : {A : Type 0} → Record A → List Entry
+listed r = listed_by r.step r.changes

@@ -1,0 +1,55 @@
+-- Lists of changes as a plan makes them: no place twice, and nothing is taken out before the last is put in.
+use Rattle.std.specs.Prelude.{◌≡◌, ◌≢◌, ◌≤◌, ℕ, ◌+◌, pos, ◌+ℤ◌, cond, List, [], ◌∷◌, length}
+use Rattle.std.specs.Ordering.{eq_by_cmp}
+use Rattle.nd_processor.specs.State.{ProcessorState}
+use Rattle.nd_protocol.specs.State.{ClusterState, processor}
+use Rattle.nd_protocol.specs.Fitting.{IsState}
+use Rattle.nd_steps.specs.Places.{Place, place_cmp}
+use Rattle.nd_steps.specs.Standing.{standing, changed}
+use Rattle.nd_steps.specs.Changes.{place_of, IsRunnable, applied}
+use Rattle.nd_steps.specs.Slots.{SlotRanged}
+use Rattle.nd_steps.specs.Undone.{IsGain}
+use Rattle.nd_steps.specs.Totals.{total_at, edits_of}
+use Rattle.nd_steps.specs.declared.change.Change.{Change}
+
+-- how often a place stands in a list of changes
+abbrev pub often : Place → List Change → ℕ
+often k [] = 0
+often k (c ∷ cs) = cond (eq_by_cmp place_cmp k (place_of c)) 1 0 + often k cs
+
+-- no place stands twice
+abbrev pub Once : List Change → Type 0
+Once cs = (k : Place) → often k cs ≤ 1
+
+-- every change of the list has P
+abbrev pub Each : (Change → Type 0) → List Change → Type 0
+Each P [] = Unit {0}
+Each P (c ∷ cs) = P c × Each P cs
+
+-- the epoch or the item's number that stands at its place then has the bits of its type
+abbrev pub StaysRanged : ClusterState → Change → Type 0
+StaysRanged s c = SlotRanged c.slot (standing s (place_of c) +ℤ c.n)
+
+-- in any order, the changes add what t has more than s, a state that a cluster may be in; they change the processors alone
+pub record Reaches (s t : ClusterState) (cs : List Change) : Type 0 where
+  pub state : IsState s
+  pub graph : t.graph ≡ s.graph
+  pub views : t.views ≡ s.views
+  pub queues : t.queues ≡ s.queues
+  pub count : length t.processors ≡ length s.processors
+  pub items : (p : ℕ) → length (processor t p).items ≡ length (processor s p).items
+  pub once : Once cs
+  pub some : Each (λ c. c.n ≢ pos 0) cs
+  pub small : Each (λ c. IsGain c.n) cs
+  pub ranged : Each (StaysRanged s) cs
+  pub totals : (k : Place) → standing t k ≡ standing s k +ℤ total_at (edits_of cs) k
+
+-- the same, of a state with these processors
+abbrev pub ReachesIn : List ProcessorState → ClusterState → ClusterState → List Change → Type 0
+ReachesIn processors s t cs = (s.processors ≡ processors) × Reaches s t cs
+
+-- the list can be run in s, leads to t, and is as long as the number of keys and queues at which the two differ
+pub record LeadsTo (s t : ClusterState) (cs : List Change) : Type 0 where
+  pub runs : IsRunnable s cs
+  pub arrives : applied s cs ≡ t
+  pub small : length cs ≡ changed s t

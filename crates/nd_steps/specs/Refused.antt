@@ -1,0 +1,34 @@
+-- Why a broadcast and a receive are refused, by the parts of a cluster that they are about (this project's own rule).
+use Rattle.std.specs.Prelude.{◌≡◌, ◌≢◌, ℕ, List, [], Some, slice_get}
+use Rattle.nd_graph.specs.Graph.{Dataflow}
+use Rattle.nd_paths.specs.Order.{IsStrictlyBefore}
+use Rattle.nd_paths.specs.declared.point.Pointstamp.{Pointstamp}
+use Rattle.nd_delta.specs.Delta.{DeltaValue, none, at, plus, minus, IsTooLarge}
+use Rattle.nd_delta.specs.Least.{IsLeast}
+use Rattle.nd_delta.specs.Upright.{IsUpright, IsUnsupported}
+use Rattle.nd_processor.specs.State.{ProcessorState}
+use Rattle.nd_protocol.specs.Invariant.{HoldsToken}
+use Rattle.nd_protocol.specs.declared.refusal.Refusal.{Refusal}
+use Rattle.nd_protocol.specs.declared.refusal.Refusal.TheVariants.{NothingToSend, NotAdmissible, QueueEmpty, DeltaFull, Memory}
+
+-- what stays once a processor has sent c is upright, with the tokens that it holds
+abbrev pub LeavesUpright : Dataflow → ProcessorState → DeltaValue → Type 0
+LeavesUpright g q c = IsUpright (IsStrictlyBefore g) (HoldsToken q) (at (minus q.unsent c))
+
+-- x is the least entry that stays without its support
+abbrev pub LeavesAlone : Dataflow → ProcessorState → DeltaValue → Pointstamp → Type 0
+LeavesAlone g q c x = IsLeast (IsUnsupported (IsStrictlyBefore g) (HoldsToken q) (at (minus q.unsent c))) x
+
+-- why c, which is what the part names, is not sent
+abbrev pub SendFails : Dataflow → ProcessorState → DeltaValue → Refusal → Type 0
+SendFails g q c NothingToSend = c ≡ none
+SendFails g q c (NotAdmissible x) = (c ≢ none) × LeavesAlone g q c x
+SendFails g q c Memory = c ≢ none
+SendFails g q c _ = ⊥
+
+-- why nothing is received from a queue into a view
+abbrev pub ReceiveFails : DeltaValue → List DeltaValue → Refusal → Type 0
+ReceiveFails v q QueueEmpty = q ≡ []
+ReceiveFails v q DeltaFull = (c : DeltaValue) × (slice_get q 0 ≡ Some c) × IsTooLarge (plus v c)
+ReceiveFails v q Memory = (c : DeltaValue) × (slice_get q 0 ≡ Some c) × (IsTooLarge (plus v c) → ⊥)
+ReceiveFails v q _ = ⊥

@@ -1,0 +1,136 @@
+//! Broadcasts: a part of what is unsent goes to the back of the queues from a processor.
+ghost use Rattle.std.specs.Prelude.{◌≡◌, ◌≢◌, ◌↔◌, IfErr, IfOk, IfSome, IsNone, IsTrue, OnErr, OnOk};
+ghost use Rattle.nd_delta.specs.Delta.{none, part as part_at, IsPartOf};
+ghost use Rattle.nd_protocol.specs.Steps.{chosen};
+ghost use Rattle.nd_protocol.specs.Exchange.{sent};
+ghost use Rattle.nd_protocol.specs.Fitting.{IsState};
+ghost use Rattle.nd_steps.specs.Refused.{LeavesUpright, LeavesAlone, SendFails};
+ghost use Rattle.nd_steps.specs.Records.{CanSend, Sends, CameFrom, IsBackAt};
+
+use crate::Parts;
+use nd_delta::{Delta, LargeDelta};
+use nd_paths::{Paths, Pointstamp};
+use nd_processor::Processor;
+use nd_protocol::{Part, Refusal};
+use std::alloc::{AllocError, Allocator};
+
+// Whether a change has no entry at any of the pointstamps.
+fn lacks_all<A: Allocator>(change: &LargeDelta<A>, points: &[Pointstamp]) -> bool
+    ensures { IsTrue result ↔ (part_at change.now points.now ≡ none) }
+{
+    for point in points {
+        if change.get(point) != 0 {
+            return false;
+        }
+    }
+    true
+}
+
+// Whether a part of a change has no entry. It takes no memory.
+fn is_nothing<A: Allocator>(change: &LargeDelta<A>, part: &Part<A>) -> bool
+    ensures { IsTrue result ↔ (chosen part.now change.now ≡ none) }
+{
+    match part {
+        Part::All => change.len() == 0,
+        Part::Points(points) => lacks_all(change, points.as_slice()),
+    }
+}
+
+// The part of a change.
+fn part_of<A: Allocator>(
+    alloc: A,
+    change: &LargeDelta<A>,
+    part: &Part<A>,
+) -> Result<Delta<A>, AllocError>
+    ensures { IfOk result (λ c. c ≡ chosen part.now change.now) }
+{
+    match part {
+        Part::All => change.whole(alloc),
+        Part::Points(points) => change.part(alloc, points.as_slice()),
+    }
+}
+
+// The least pointstamp whose entry would stay without its support, once a part is sent.
+fn left_alone<A: Allocator + Copy>(
+    alloc: A,
+    paths: &Paths<A>,
+    processor: &Processor<A>,
+    change: &Delta<A>,
+) -> Result<Option<Pointstamp>, AllocError>
+    requires { IsPartOf change.now processor.now.unsent }
+    ensures upright { IfOk result (λ x. IsNone x → LeavesUpright paths.now processor.now change.now) }
+    ensures least { IfOk result (λ x. IfSome x (LeavesAlone paths.now processor.now change.now)) }
+{
+    let unsent = processor.unsent();
+    // Where all is sent nothing stays.
+    if change.len() == unsent.len() {
+        return Ok(None);
+    }
+    let Ok(stays) = unsent.without(alloc, change) else {
+        return Err(AllocError);
+    };
+    let Ok(tokens) = processor.token_points(alloc) else {
+        return Err(AllocError);
+    };
+    Ok(stays.unsupported_by(paths, &tokens))
+}
+
+/// The change that a broadcast of a part sends, or why it is refused, but for full queues.
+pub fn planned_part<A: Allocator + Copy>(
+    alloc: A,
+    paths: &Paths<A>,
+    processor: &Processor<A>,
+    part: &Part<A>,
+) -> Result<Delta<A>, Refusal>
+    ensures part { IfOk result (λ c. c ≡ chosen part.now processor.now.unsent) }
+    ensures some { IfOk result (λ c. c ≢ none) }
+    ensures upright { IfOk result (LeavesUpright paths.now processor.now) }
+    ensures there { IfOk result (λ c. IsPartOf c processor.now.unsent) }
+    ensures refused { IfErr result (SendFails paths.now processor.now (chosen part.now processor.now.unsent)) }
+{
+    if is_nothing(processor.unsent(), part) {
+        return Err(Refusal::NothingToSend);
+    }
+    let Ok(change) = part_of(alloc, processor.unsent(), part) else {
+        return Err(Refusal::Memory);
+    };
+    let Ok(alone) = left_alone(alloc, paths, processor, &change) else {
+        return Err(Refusal::Memory);
+    };
+    if let Some(point) = alone {
+        return Err(Refusal::NotAdmissible { point });
+    }
+    Ok(change)
+}
+
+impl<A: Allocator + Copy> Parts<A> {
+    // Processor p sends a part of what is unsent to every processor: first what may be refused, then the rest.
+    pub(crate) fn send(&mut self, p: usize, part: &Delta<A>) -> Result<(), AllocError>
+        requires state { IsState self.old }
+        requires sends { CanSend self.old p part.now }
+        ensures ok { OnOk result (self.new ≡ sent self.old p part.now) }
+        ensures err { OnErr result (self.new ≡ self.old) }
+    {
+        let Ok(()) = self.mesh.push_all(p, part) else {
+            return Err(AllocError);
+        };
+        let processor = &mut self.processors[p];
+        processor.take_part(part);
+        Ok(())
+    }
+
+    // Takes back what p sent last: first what may be refused, then the rest.
+    pub(crate) fn unsend(&mut self, p: usize, part: &Delta<A>) -> Result<(), AllocError>
+        requires { CameFrom (λ s. Sends s p part.now self.old) }
+        ensures ok { OnOk result (IsBackAt (λ s. Sends s p part.now self.old) self.new) }
+        ensures err { OnErr result (self.new ≡ self.old) }
+    {
+        let processor = &mut self.processors[p];
+        processor.put_part(part)?;
+        // No queue is empty.
+        let Ok(()) = self.mesh.unpush_all(p) else {
+            return Ok(());
+        };
+        Ok(())
+    }
+}

@@ -1,0 +1,51 @@
+//! A change at one place of a cluster's state: a place, and a number.
+ghost use Rattle.std.specs.Prelude.{◌≡◌, pos};
+ghost use Rattle.nd_steps.specs.Changes.{inverse};
+ghost use Rattle.nd_steps.specs.Undone.{IsGain};
+
+use crate::Slot;
+
+/// `n` more stands at a key of processor `p`'s maps. The difference of two items' numbers, of 64 bits each, needs more bits.
+#[derive(Debug, PartialEq, Eq, Drop)]
+pub struct Change {
+    pub p: u32,
+    pub slot: Slot,
+    pub n: i128,
+}
+
+impl Default for Change {
+    /// Returns a change by nothing.
+    fn default() -> Change
+        ensures { result.n ≡ pos 0 }
+    {
+        Change {
+            p: 0,
+            slot: Slot::Token(0),
+            n: 0,
+        }
+    }
+}
+
+impl Change {
+    /// Returns an equal change.
+    pub fn copy(&self) -> Change
+        ensures { result ≡ self.now }
+    {
+        Change {
+            p: self.p,
+            slot: self.slot.copy(),
+            n: self.n,
+        }
+    }
+
+    /// Returns the change that takes this one back.
+    pub fn inverse(&self) -> Change
+        requires { IsGain self.now.n }
+        ensures { result ≡ inverse self.now }
+    {
+        Change {
+            n: -self.n,
+            ..self.copy()
+        }
+    }
+}

@@ -1,0 +1,231 @@
+//! What a step changes, as it is found: a place may stand more than once, and in no order.
+ghost use Rattle.std.specs.Prelude.{◌≡◌, ◌≤◌, ◌^◌, ◌++◌, ◌∷◌, ◌-ℤ◌, [], All, FitsSigned, IfOk, OnOk, length, map};
+ghost use Rattle.std.specs.Int.{w128};
+ghost use Rattle.std.specs.List.Sorted.{IsPermutation, IsSorted};
+ghost use Rattle.nd_protocol.specs.Steps.{flat, point_at};
+ghost use Rattle.nd_protocol.specs.Ranges.{IsValue};
+ghost use Rattle.nd_steps.specs.Slots.{from_number};
+ghost use Rattle.nd_steps.specs.Places.{parts, place_cmp};
+ghost use Rattle.nd_steps.specs.Changes.{place_of};
+ghost use Rattle.nd_steps.specs.Drafts.{at_key, arrivals, item_change, ask_changes, sink_changes, HasValues, some_of, both, joined, AreJoined};
+
+use crate::{Change, Slot};
+use nd_paths::Pointstamp;
+use nd_processor::{SinkKey, ValueAt};
+use nd_time::Timestamp;
+use nd_vertex::ItemEdit;
+use std::alloc::{AllocError, Allocator};
+use std::cmp::Ordering;
+use std::mem;
+
+// Which map a place is in, whose it is, and where in the map: a pointstamp and a value.
+type Parts = (u8, (u32, (Pointstamp, i64)));
+
+// A vertex, where no time tells more.
+fn timeless(vertex: usize) -> Pointstamp
+    ensures { result ≡ point_at vertex (flat 0) }
+{
+    Pointstamp {
+        location: vertex,
+        time: Timestamp::new(0, &[]).unwrap(),
+    }
+}
+
+// The parts of a change's place.
+fn parts_of(change: &Change) -> Parts
+    ensures { result ≡ parts (place_of change.now) }
+{
+    let (map, point, value) = match &change.slot {
+        Slot::Records(key) => (0, key.point.copy(), key.value),
+        Slot::Request(point) => (1, point.copy(), 0),
+        Slot::Token(vertex) => (2, timeless(*vertex), 0),
+        Slot::State { vertex, key } => {
+            let point = Pointstamp {
+                location: *vertex,
+                time: key.time.copy(),
+            };
+            (3, point, key.item)
+        }
+        Slot::Sink(key) => (4, timeless(key.vertex), key.value),
+        Slot::Unsent(point) => (5, point.copy(), 0),
+    };
+    (map, (change.p, (point, value)))
+}
+
+// The order of places: by map, then by processor, then by key.
+fn by_place(a: &Change, b: &Change) -> Ordering
+    ensures { result ≡ place_cmp (place_of a.now) (place_of b.now) }
+{
+    parts_of(a).cmp(&parts_of(b))
+}
+
+// The changes in the order of their places.
+fn sorted<A: Allocator>(changes: Vec<Change, A>) -> Vec<Change, A>
+    ensures same { IsPermutation changes.items result.items }
+    ensures order { IsSorted (λ a b. place_cmp (place_of a) (place_of b)) result.items }
+{
+    let mut changes = changes;
+    changes.sort_unstable_by(|a, b| by_place(a, b));
+    changes
+}
+
+// One more change, unless it adds nothing.
+fn push_some<A: Allocator>(to: &mut Vec<Change, A>, change: Change) -> Result<(), AllocError>
+    ensures { OnOk result (to.new.items ≡ to.old.items ++ some_of change) }
+{
+    if change.n == 0 {
+        return Ok(());
+    }
+    to.push(change)?;
+    Ok(())
+}
+
+// One change for two at one place. There is no memory for the changes that it takes to pass 128 bits.
+fn add_to(last: &mut Change, change: &Change) -> Result<(), AllocError>
+    ensures { OnOk result (last.new ≡ both last.old change.now) }
+{
+    let Some(n) = last.n.checked_add(change.n) else {
+        return Err(AllocError);
+    };
+    last.n = n;
+    Ok(())
+}
+
+// Neighbours at one place become one change, which goes if it adds nothing.
+fn join_neighbours<A: Allocator + Copy>(
+    sorted: Vec<Change, A>,
+) -> Result<Vec<Change, A>, AllocError>
+    ensures { IfOk result (λ v. v.items ≡ joined sorted.items) }
+{
+    let mut joined = Vec::new(*sorted.allocator());
+    let mut rest = sorted.into_iter();
+    let Some(mut last) = rest.next() else {
+        return Ok(joined);
+    };
+    for change in rest {
+        if by_place(&last, &change).is_eq() {
+            add_to(&mut last, &change)?;
+        } else {
+            let before = mem::replace(&mut last, change);
+            push_some(&mut joined, before)?;
+        }
+    }
+    push_some(&mut joined, last)?;
+    joined.shrink_to_fit();
+    Ok(joined)
+}
+
+// The number of an item, 0 if it is not there.
+fn number(n: Option<i64>) -> i128
+    ensures value { result ≡ from_number n }
+    ensures ranged { IsValue (from_number n) }
+{
+    match n {
+        Some(n) => i128::from(n),
+        None => 0,
+    }
+}
+
+// What leads from an item's old number to the new one.
+fn gain(item: &ItemEdit) -> i128
+    ensures value { result ≡ from_number item.now.new -ℤ from_number item.now.old }
+    ensures values { HasValues item.now }
+    ensures fits { FitsSigned w128 result }
+{
+    number(item.new) - number(item.old)
+}
+
+// The changes of a step of processor p.
+pub(crate) struct Draft<A: Allocator> {
+    pub(crate) p: u32,
+    pub(crate) changes: Vec<Change, A>,
+}
+
+impl<A: Allocator> Drop for Draft<A> {
+    fn drop(self) {
+        let Draft { p: _, changes: _ } = self;
+    }
+}
+
+impl<A: Allocator + Copy> Draft<A> {
+    // No change yet.
+    pub(crate) fn new(alloc: A, p: u32) -> Draft<A>
+        ensures p { result.p ≡ p }
+        ensures changes { result.changes.items ≡ [] }
+    {
+        Draft {
+            p,
+            changes: Vec::new(alloc),
+        }
+    }
+
+    // So much more at a key of p's maps.
+    pub(crate) fn add(&mut self, slot: Slot, n: i128) -> Result<(), AllocError>
+        ensures p { self.new.p ≡ self.old.p }
+        ensures changes { OnOk result (self.new.changes.items ≡ self.old.changes.items ++ at_key self.old.p slot n ∷ []) }
+    {
+        let change = Change { p: self.p, slot, n };
+        self.changes.push(change)?;
+        Ok(())
+    }
+
+    // A record comes to a processor, and p has that to send.
+    pub(crate) fn add_record(&mut self, to: u32, key: ValueAt) -> Result<(), AllocError>
+        ensures p { self.new.p ≡ self.old.p }
+        ensures changes { OnOk result (self.new.changes.items ≡ self.old.changes.items ++ arrivals self.old.p ((to, key) ∷ [])) }
+    {
+        let sent = Slot::Unsent(key.point.copy());
+        let comes = Change {
+            p: to,
+            slot: Slot::Records(key),
+            n: 1,
+        };
+        self.changes.push(comes)?;
+        self.add(sent, 1)
+    }
+
+    // A vertex's items have other numbers.
+    pub(crate) fn add_items(&mut self, vertex: usize, items: &[ItemEdit]) -> Result<(), AllocError>
+        ensures p { self.new.p ≡ self.old.p }
+        ensures changes { OnOk result (self.new.changes.items ≡ self.old.changes.items ++ map (item_change self.old.p vertex) items.now) }
+        ensures values { OnOk result (All HasValues items.now) }
+    {
+        for item in items {
+            let key = item.key.copy();
+            self.add(Slot::State { vertex, key }, gain(item))?;
+        }
+        Ok(())
+    }
+
+    // A request that was not there, if the vertex makes one.
+    pub(crate) fn ask(&mut self, point: &Pointstamp, asks: bool) -> Result<(), AllocError>
+        ensures p { self.new.p ≡ self.old.p }
+        ensures changes { OnOk result (self.new.changes.items ≡ self.old.changes.items ++ ask_changes self.old.p point.now asks) }
+    {
+        if !asks {
+            return Ok(());
+        }
+        self.add(Slot::Request(point.copy()), 1)?;
+        self.add(Slot::Unsent(point.copy()), 1)
+    }
+
+    // A value that a sink counts, if it counts one.
+    pub(crate) fn count(&mut self, key: SinkKey, counts: bool) -> Result<(), AllocError>
+        ensures p { self.new.p ≡ self.old.p }
+        ensures changes { OnOk result (self.new.changes.items ≡ self.old.changes.items ++ sink_changes self.old.p key.vertex key.value counts) }
+    {
+        if !counts {
+            return Ok(());
+        }
+        self.add(Slot::Sink(key), 1)
+    }
+
+    // The changes with no place twice, but for those that add nothing.
+    pub(crate) fn join(self) -> Result<Vec<Change, A>, AllocError>
+        ensures joined { IfOk result (λ v. AreJoined self.changes.items v.items) }
+        ensures few { length self.changes.items ≤ 2 ^ 64 }
+    {
+        let Draft { p: _, changes } = self;
+        join_neighbours(sorted(changes))
+    }
+}

@@ -1,0 +1,139 @@
+//! The records that vertices make, and the processors that they go to.
+ghost use Rattle.std.specs.Prelude.{◌≡◌, ◌<◌, ◌≤◌, ◌+◌, ◌++◌, OnOk, length};
+ghost use Rattle.nd_time.specs.Limits.{max_locations};
+ghost use Rattle.nd_protocol.specs.Steps.{destination as destination_of};
+ghost use Rattle.nd_steps.specs.Drafts.{arrivals, made_along, made_by, fed_at, fed_by, emitted_by};
+
+use crate::draft::Draft;
+use nd_graph::{Edge, Graph, Route};
+use nd_paths::Pointstamp;
+use nd_processor::ValueAt;
+use nd_time::Timestamp;
+use nd_vertex::Emission;
+use std::alloc::{AllocError, Allocator};
+
+/// Who makes a step: a vertex of processor p, of n, with this graph.
+pub struct Performer<'a, B: Allocator> {
+    pub graph: &'a Graph<B>,
+    pub n: u32,
+    pub p: u32,
+    pub vertex: usize,
+}
+
+impl<'a, B: Allocator> Drop for Performer<'a, B> {
+    fn drop(self) {
+        let Performer {
+            graph: _,
+            n: _,
+            p: _,
+            vertex: _,
+        } = self;
+    }
+}
+
+// The processor, of n, that a record of a value goes to, made by processor p.
+pub(crate) fn destination(route: Route, n: u32, p: u32, value: i64) -> u32
+    requires { p < n }
+    ensures value { result ≡ destination_of route n p value }
+    ensures there { result < n }
+{
+    match route {
+        Route::Local => p,
+        Route::Exchange => value.rem_euclid(i64::from(n)) as u32,
+    }
+}
+
+// The location of the first edge: vertices come before it.
+pub(crate) fn first_edge<B: Allocator>(graph: &Graph<B>) -> usize
+    ensures first { result ≡ length graph.now.vertices }
+    ensures few { length graph.now.vertices + length graph.now.edges ≤ max_locations }
+{
+    graph.location_count() - graph.edges().len()
+}
+
+// The record of an emission on an edge, if it leaves the port.
+fn emit_on<A: Allocator + Copy, B: Allocator>(
+    by: &Performer<'_, B>,
+    emission: &Emission,
+    location: usize,
+    edge: &Edge,
+    draft: &mut Draft<A>,
+) -> Result<(), AllocError>
+    requires { by.now.p < by.now.n }
+    ensures p { draft.new.p ≡ draft.old.p }
+    ensures changes { OnOk result (draft.new.changes.items ≡ draft.old.changes.items ++ arrivals draft.old.p (made_along by.now.n by.now.p by.now.vertex emission.now location edge.now)) }
+{
+    if edge.from != by.vertex || edge.port != emission.port {
+        return Ok(());
+    }
+    let to = destination(edge.route, by.n, by.p, emission.value);
+    let key = ValueAt {
+        point: Pointstamp {
+            location,
+            time: emission.time.copy(),
+        },
+        value: emission.value,
+    };
+    draft.add_record(to, key)
+}
+
+// The records of one emission of the vertex: one on each edge that leaves the port.
+fn emit<A: Allocator + Copy, B: Allocator>(
+    by: &Performer<'_, B>,
+    emission: &Emission,
+    draft: &mut Draft<A>,
+) -> Result<(), AllocError>
+    requires { by.now.p < by.now.n }
+    ensures p { draft.new.p ≡ draft.old.p }
+    ensures changes { OnOk result (draft.new.changes.items ≡ draft.old.changes.items ++ arrivals draft.old.p (made_by by.now.graph.now by.now.n by.now.p by.now.vertex emission.now)) }
+{
+    let first = first_edge(by.graph);
+    for (i, edge) in by.graph.edges().iter().enumerate() {
+        emit_on(by, emission, first + i, edge, draft)?;
+    }
+    Ok(())
+}
+
+// The emission of a value that is fed at a time.
+fn fed(time: &Timestamp, value: &i64) -> Emission
+    ensures { result ≡ fed_at time.now value.now }
+{
+    Emission {
+        port: 0,
+        time: time.copy(),
+        value: *value,
+    }
+}
+
+// The records of the values that the vertex is fed.
+pub(crate) fn emit_fed<A: Allocator + Copy, B: Allocator>(
+    by: &Performer<'_, B>,
+    time: &Timestamp,
+    values: &[i64],
+    draft: &mut Draft<A>,
+) -> Result<(), AllocError>
+    requires { by.now.p < by.now.n }
+    ensures p { draft.new.p ≡ draft.old.p }
+    ensures changes { OnOk result (draft.new.changes.items ≡ draft.old.changes.items ++ arrivals draft.old.p (fed_by by.now.graph.now by.now.n by.now.p by.now.vertex time.now values.now)) }
+{
+    for value in values {
+        emit(by, &fed(time, value), draft)?;
+    }
+    Ok(())
+}
+
+// The records of what the vertex emits.
+pub(crate) fn emit_all<A: Allocator + Copy, B: Allocator>(
+    by: &Performer<'_, B>,
+    emissions: &[Emission],
+    draft: &mut Draft<A>,
+) -> Result<(), AllocError>
+    requires { by.now.p < by.now.n }
+    ensures p { draft.new.p ≡ draft.old.p }
+    ensures changes { OnOk result (draft.new.changes.items ≡ draft.old.changes.items ++ arrivals draft.old.p (emitted_by by.now.graph.now by.now.n by.now.p by.now.vertex emissions.now)) }
+{
+    for emission in emissions {
+        emit(by, emission, draft)?;
+    }
+    Ok(())
+}

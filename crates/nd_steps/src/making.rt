@@ -1,0 +1,202 @@
+//! A change made, and undone by its inverse.
+ghost use Rattle.std.specs.Prelude.{◌≡◌, ◌≢◌, ◌≤◌, ◌+◌, ◌≤ℤ◌, ◌+ℤ◌, Some, pos, unsigned_abs, OnOk, OnErr};
+ghost use Rattle.nd_time.specs.Limits.{max_counter};
+ghost use Rattle.nd_vertex.specs.Edits.{number_of};
+ghost use Rattle.nd_protocol.specs.Ranges.{IsValue};
+ghost use Rattle.nd_steps.specs.declared.slot.Slot.TheVariants.{Records, Token, State, Sink, Unsent};
+ghost use Rattle.nd_steps.specs.Slots.{from_epoch, stands};
+ghost use Rattle.nd_steps.specs.Standing.{standing};
+ghost use Rattle.nd_steps.specs.Changes.{place_of, inverse, made_in, made, FitsIn, Fits};
+ghost use Rattle.nd_steps.specs.Undone.{only};
+
+use crate::{Change, Slot};
+use nd_delta::DeltaFault;
+use nd_paths::Pointstamp;
+use nd_processor::{CountFault, Processor, SinkKey, ValueAt};
+use nd_vertex::ItemKey;
+use std::alloc::{AllocError, Allocator};
+
+// Adds `n` records at a key, or takes them if `n` is negative. A key that is there takes no memory.
+fn more_records<A: Allocator + Copy>(
+    processor: &mut Processor<A>,
+    key: &ValueAt,
+    n: i128,
+) -> Result<(), AllocError>
+    requires { FitsIn processor.old (Records key.now) n }
+    ensures ok { OnOk result (processor.new ≡ made_in processor.old (Records key.now) n) }
+    ensures err { OnErr result (processor.new ≡ processor.old) }
+    ensures absent { OnErr result (stands processor.old (Records key.now) ≡ pos 0) }
+{
+    let many = n.unsigned_abs() as u64;
+    if n < 0 {
+        processor.take_records(key, many);
+        return Ok(());
+    }
+    match processor.add_records(key, many) {
+        Ok(()) => Ok(()),
+        Err(CountFault::Memory) => Err(AllocError),
+        Err(CountFault::CountFull) => unreachable!(),
+    }
+}
+
+// Adds `n` to a sink's count of a value. A value that the sink has counted takes no memory.
+fn count_more<A: Allocator + Copy>(
+    processor: &mut Processor<A>,
+    key: &SinkKey,
+    n: i128,
+) -> Result<(), AllocError>
+    requires { FitsIn processor.old (Sink key.now) n }
+    ensures ok { OnOk result (processor.new ≡ made_in processor.old (Sink key.now) n) }
+    ensures err { OnErr result (processor.new ≡ processor.old) }
+    ensures absent { OnErr result (stands processor.old (Sink key.now) ≡ pos 0) }
+{
+    let many = n.unsigned_abs() as u64;
+    if n < 0 {
+        processor.take_sink(key.vertex, key.value, many);
+        return Ok(());
+    }
+    match processor.add_sink(key.vertex, key.value, many) {
+        Ok(()) => Ok(()),
+        Err(CountFault::Memory) => Err(AllocError),
+        Err(CountFault::CountFull) => unreachable!(),
+    }
+}
+
+// Adds `n` at a pointstamp of what is unsent. A pointstamp that has an entry takes no memory.
+fn more_unsent<A: Allocator + Copy>(
+    processor: &mut Processor<A>,
+    point: &Pointstamp,
+    n: i128,
+) -> Result<(), AllocError>
+    requires { FitsIn processor.old (Unsent point.now) n }
+    ensures ok { OnOk result (processor.new ≡ made_in processor.old (Unsent point.now) n) }
+    ensures err { OnErr result (processor.new ≡ processor.old) }
+    ensures absent { OnErr result (stands processor.old (Unsent point.now) ≡ pos 0) }
+{
+    match processor.add_unsent(point, n as i64) {
+        Ok(()) => Ok(()),
+        Err(DeltaFault::Memory) => Err(AllocError),
+        Err(DeltaFault::DeltaFull) => unreachable!(),
+    }
+}
+
+// Returns 1 more than a token's epoch, 0 for no token.
+pub(crate) fn epoch_number(epoch: Option<u32>) -> i128
+    ensures { result ≡ from_epoch epoch }
+{
+    match epoch {
+        None => 0,
+        Some(epoch) => i128::from(epoch) + 1,
+    }
+}
+
+// Returns the epoch that is 1 less than `n`, `None` for 0.
+fn number_epoch(n: i128) -> Option<u32>
+    requires some { pos 0 ≤ℤ n }
+    requires within { unsigned_abs n ≤ max_counter + 1 }
+    ensures { from_epoch result ≡ n }
+{
+    if n == 0 {
+        return None;
+    }
+    Some((n - 1) as u32)
+}
+
+// Adds `n` to the number of a vertex's token. Only a token that comes takes memory.
+fn move_token<A: Allocator + Copy>(
+    processor: &mut Processor<A>,
+    vertex: usize,
+    n: i128,
+) -> Result<(), AllocError>
+    requires { FitsIn processor.old (Token vertex) n }
+    ensures ok { OnOk result (processor.new ≡ made_in processor.old (Token vertex) n) }
+    ensures err { OnErr result (processor.new ≡ processor.old) }
+    ensures absent { OnErr result (stands processor.old (Token vertex) ≡ pos 0) }
+{
+    let old = processor.token(vertex);
+    let new = number_epoch(epoch_number(old) + n);
+    processor.move_token(vertex, old, new)
+}
+
+// Returns `n` as an item's number, `None` for 0.
+fn item_number(n: i128) -> Option<i64>
+    requires { IsValue n }
+    ensures number { number_of result ≡ n }
+    ensures some { result ≢ Some (pos 0) }
+{
+    if n == 0 {
+        return None;
+    }
+    Some(n as i64)
+}
+
+// Adds `n` to the number that a vertex keeps for an item. Only an item that comes takes memory.
+fn more_of_item<A: Allocator + Copy>(
+    processor: &mut Processor<A>,
+    vertex: usize,
+    key: &ItemKey,
+    n: i128,
+) -> Result<(), AllocError>
+    requires { FitsIn processor.old (State vertex key.now) n }
+    ensures ok { OnOk result (processor.new ≡ made_in processor.old (State vertex key.now) n) }
+    ensures err { OnErr result (processor.new ≡ processor.old) }
+    ensures absent { OnErr result (stands processor.old (State vertex key.now) ≡ pos 0) }
+{
+    let old = processor.vertex_state(vertex).get(&key.time, key.item);
+    let new = item_number(i128::from(old.unwrap_or(0)) + n);
+    processor.set_item(vertex, &key.time, key.item, old, new)
+}
+
+// Adds `n` at a key. If something stands there already it takes no memory.
+fn make_in<A: Allocator + Copy>(
+    processor: &mut Processor<A>,
+    slot: &Slot,
+    n: i128,
+) -> Result<(), AllocError>
+    requires { FitsIn processor.old slot.now n }
+    ensures ok { OnOk result (processor.new ≡ made_in processor.old slot.now n) }
+    ensures err { OnErr result (processor.new ≡ processor.old) }
+    ensures absent { OnErr result (stands processor.old slot.now ≡ pos 0) }
+{
+    match slot {
+        Slot::Records(key) => more_records(processor, key, n),
+        Slot::Request(point) => {
+            if n > 0 {
+                return processor.add_request(point);
+            }
+            processor.drop_request(point);
+            Ok(())
+        }
+        Slot::Token(vertex) => move_token(processor, *vertex, n),
+        Slot::State { vertex, key } => more_of_item(processor, *vertex, key, n),
+        Slot::Sink(key) => count_more(processor, key, n),
+        Slot::Unsent(point) => more_unsent(processor, point, n),
+    }
+}
+
+// Makes a change in one of the processors. If something stands already it takes no memory.
+pub(crate) fn make<A: Allocator + Copy>(
+    processors: &mut Vec<Processor<A>, A>,
+    change: &Change,
+) -> Result<(), AllocError>
+    requires { Fits (only processors.old.items) change.now }
+    ensures ok { OnOk result (only processors.new.items ≡ made (only processors.old.items) change.now) }
+    ensures err { OnErr result (processors.new.items ≡ processors.old.items) }
+    ensures absent { OnErr result (standing (only processors.old.items) (place_of change.now) ≡ pos 0) }
+{
+    let processor = &mut processors[change.p as usize];
+    make_in(processor, &change.slot, change.n)
+}
+
+// Undoes a change in one of the processors: makes its inverse. If something stands it takes no memory.
+pub(crate) fn undo<A: Allocator + Copy>(
+    processors: &mut Vec<Processor<A>, A>,
+    change: &Change,
+) -> Result<(), AllocError>
+    requires { Fits (only processors.old.items) (inverse change.now) }
+    ensures ok { OnOk result (only processors.new.items ≡ made (only processors.old.items) (inverse change.now)) }
+    ensures err { OnErr result (processors.new.items ≡ processors.old.items) }
+    ensures absent { OnErr result (standing (only processors.old.items) (place_of change.now) ≡ pos 0) }
+{
+    make(processors, &change.inverse())
+}

@@ -1,0 +1,83 @@
+//! What stands at a key, and what is read of a change before it is made: whether it leaves something at its place, and
+//! whether this is within its limit (this project's own rule).
+ghost use Rattle.std.specs.Prelude.{◌≡◌, ◌≢◌, ◌↔◌, ◌≤◌, ◌^◌, IsTrue, pos, unsigned_abs};
+ghost use Rattle.nd_steps.specs.Slots.{stands, SlotIsThere, CountWithin, EntryWithin};
+ghost use Rattle.nd_steps.specs.Limits.{after, CountStays, EntryStays};
+ghost use Rattle.nd_steps.specs.Turns.{IsReadable};
+
+use crate::making::epoch_number;
+use crate::{Change, Slot};
+use nd_delta::LIMIT;
+use nd_processor::Processor;
+use std::alloc::Allocator;
+
+// Returns what stands at a key. Looks it up once.
+fn number_at<A: Allocator + Copy>(processor: &Processor<A>, slot: &Slot) -> i128
+    requires { SlotIsThere processor.now slot.now }
+    ensures value { result ≡ stands processor.now slot.now }
+    ensures small { unsigned_abs result ≤ 2 ^ 64 }
+{
+    match slot {
+        Slot::Records(key) => i128::from(processor.count_of(key)),
+        Slot::Request(point) => i128::from(processor.has_request(point)),
+        Slot::Token(vertex) => epoch_number(processor.token(*vertex)),
+        Slot::State { vertex, key } => {
+            let number = processor.vertex_state(*vertex).get(&key.time, key.item);
+            i128::from(number.unwrap_or(0))
+        }
+        Slot::Sink(key) => i128::from(processor.sink_count(key.vertex, key.value)),
+        Slot::Unsent(point) => i128::from(processor.unsent().get(point)),
+    }
+}
+
+// What one look-up says of a change.
+#[derive(Drop)]
+pub(crate) struct Reading {
+    // Whether it leaves something at its place.
+    pub(crate) leaves: bool,
+    // Whether the count at its place, if it is one, is within its limit afterwards.
+    pub(crate) count_stays: bool,
+    // Whether the entry at its place, if it is one, is.
+    pub(crate) entry_stays: bool,
+}
+
+// Says of a change that `after` stands at its key then.
+fn reading_after(slot: &Slot, after: i128) -> Reading
+    ensures leaves { IsTrue result.leaves ↔ (after ≢ pos 0) }
+    ensures count { IsTrue result.count_stays ↔ CountWithin slot.now after }
+    ensures entry { IsTrue result.entry_stays ↔ EntryWithin slot.now after }
+{
+    let leaves = after != 0;
+    let stays = after.unsigned_abs() <= LIMIT as u128;
+    match slot {
+        Slot::Records(_) | Slot::Sink(_) => Reading {
+            leaves,
+            count_stays: stays,
+            entry_stays: true,
+        },
+        Slot::Unsent(_) => Reading {
+            leaves,
+            count_stays: true,
+            entry_stays: stays,
+        },
+        Slot::Request(_) | Slot::Token(_) | Slot::State { .. } => Reading {
+            leaves,
+            count_stays: true,
+            entry_stays: true,
+        },
+    }
+}
+
+// Reads a change in its processor.
+pub(crate) fn reading_of<A: Allocator + Copy>(
+    processors: &[Processor<A>],
+    change: &Change,
+) -> Reading
+    requires { IsReadable processors.now change.now }
+    ensures leaves { IsTrue result.leaves ↔ (after processors.now change.now ≢ pos 0) }
+    ensures count { IsTrue result.count_stays ↔ CountStays processors.now change.now }
+    ensures entry { IsTrue result.entry_stays ↔ EntryStays processors.now change.now }
+{
+    let before = number_at(&processors[change.p as usize], &change.slot);
+    reading_after(&change.slot, before + change.n)
+}

@@ -1,0 +1,124 @@
+//! Receives: the front of a queue goes into the receiver's view.
+ghost use Rattle.std.specs.Prelude.{◌≡◌, ◌↔◌, ◌<◌, ◌≤◌, ◌*◌, ◌+ℤ◌, unsigned_abs, length, slice_get, Some, IfErr, IfOk, IsTrue, OnErr, OnOk};
+ghost use Rattle.nd_time.specs.Limits.{max_count};
+ghost use Rattle.nd_delta.specs.Delta.{at, plus, IsTooLarge};
+ghost use Rattle.nd_mesh.specs.Mesh.{queue};
+ghost use Rattle.nd_protocol.specs.Exchange.{received as received};
+ghost use Rattle.nd_protocol.specs.Fitting.{IsState};
+ghost use Rattle.nd_steps.specs.Refused.{ReceiveFails};
+ghost use Rattle.nd_steps.specs.Records.{CanReceive, Receives, CameFrom, IsBackAt};
+
+use crate::Parts;
+use nd_delta::{Delta, LIMIT};
+use nd_mesh::Mesh;
+use nd_paths::Pointstamp;
+use nd_protocol::Refusal;
+use nd_view::View;
+use std::alloc::{AllocError, Allocator};
+
+// Whether a count is past its limit.
+fn passes_limit(n: i64) -> bool
+    ensures { IsTrue result ↔ (max_count < unsigned_abs n) }
+{
+    n > LIMIT || n < -LIMIT
+}
+
+// The count of an entry's pointstamp, were the entry added to a view.
+fn count_after<A: Allocator + Copy>(view: &View<A>, entry: &(Pointstamp, i64)) -> i64
+    requires { unsigned_abs entry.now.1 ≤ max_count }
+    ensures value { result ≡ at view.now.map entry.now.0 +ℤ entry.now.1 }
+    ensures fits { unsigned_abs result ≤ 2 * max_count }
+{
+    view.get(&entry.0) + entry.1
+}
+
+// Whether some count would pass its limit, were a change added to a view. It takes no memory.
+fn is_overfull<A: Allocator + Copy>(view: &View<A>, change: &Delta<A>) -> bool
+    ensures { IsTrue result ↔ IsTooLarge (plus view.now.map change.now) }
+{
+    // The counts as they are do not pass it.
+    let _counts = view.entries();
+    for entry in change.entries() {
+        if passes_limit(count_after(view, entry)) {
+            return true;
+        }
+    }
+    false
+}
+
+/// The change that a receive takes in, or why it is refused.
+pub fn planned_front<A: Allocator + Copy>(
+    alloc: A,
+    view: &View<A>,
+    mesh: &Mesh<A>,
+    from: usize,
+    to: usize,
+) -> Result<Delta<A>, Refusal>
+    requires sender { from < length mesh.now }
+    requires receiver { to < length mesh.now }
+    ensures front { IfOk result (λ c. slice_get (queue mesh.now from to) 0 ≡ Some c) }
+    ensures room { IfOk result (λ c. IsTooLarge (plus view.now.map c) → ⊥) }
+    ensures refused { IfErr result (ReceiveFails view.now.map (queue mesh.now from to)) }
+{
+    let Some(front) = mesh.get(from, to, 0) else {
+        return Err(Refusal::QueueEmpty);
+    };
+    if is_overfull(view, front) {
+        return Err(Refusal::DeltaFull);
+    }
+    let Ok(change) = front.copy(alloc) else {
+        return Err(Refusal::Memory);
+    };
+    Ok(change)
+}
+
+impl<A: Allocator + Copy> Parts<A> {
+    // Processor `to` receives the front of the queue from `from`: first what may be refused, then the rest.
+    pub(crate) fn receive(
+        &mut self,
+        from: usize,
+        to: usize,
+        change: &Delta<A>,
+    ) -> Result<(), AllocError>
+        requires state { IsState self.old }
+        requires receives { CanReceive self.old from to change.now }
+        ensures ok { OnOk result (self.new ≡ received self.old from to) }
+        ensures err { OnErr result (self.new ≡ self.old) }
+    {
+        let view = &mut self.views[to];
+        let Ok(()) = view.apply(&self.paths, change) else {
+            return Err(AllocError);
+        };
+        // The queue is not empty.
+        let Ok(_front) = self.mesh.pop(from, to) else {
+            return Ok(());
+        };
+        Ok(())
+    }
+
+    // Gives back what `to` received last, out of the view to the front of its queue. If that is
+    // refused once the change is in the queue, it is taken out again.
+    pub(crate) fn unreceive(
+        &mut self,
+        alloc: A,
+        from: usize,
+        to: usize,
+        change: &Delta<A>,
+    ) -> Result<(), AllocError>
+        requires { CameFrom (λ s. Receives s from to change.now self.old) }
+        ensures ok { OnOk result (IsBackAt (λ s. Receives s from to change.now self.old) self.new) }
+        ensures err { OnErr result (self.new ≡ self.old) }
+    {
+        let copied = change.copy(alloc)?;
+        let Ok(()) = self.mesh.unpop(from, to, copied) else {
+            return Err(AllocError);
+        };
+        let view = &mut self.views[to];
+        let Ok(()) = view.unapply(&self.paths, change) else {
+            // The queue is not empty.
+            let _taken = self.mesh.pop(from, to);
+            return Err(AllocError);
+        };
+        Ok(())
+    }
+}

@@ -1,0 +1,42 @@
+//! The keys of a processor's maps.
+ghost use Rattle.std.specs.Prelude.{◌≡◌};
+
+use nd_paths::Pointstamp;
+use nd_processor::{SinkKey, ValueAt};
+use nd_vertex::ItemKey;
+
+/// A key of one of a processor's maps. An integer stands at each key, 0 if the map does not have it.
+#[derive(Debug, PartialEq, Eq, Drop)]
+pub enum Slot {
+    /// A count of records.
+    Records(ValueAt),
+    /// 1 for a request, 0 for none.
+    Request(Pointstamp),
+    /// 1 more than the epoch of an input vertex's token, 0 for none.
+    Token(usize),
+    /// The number that a vertex keeps for an item.
+    State { vertex: usize, key: ItemKey },
+    /// A count of a value at a sink.
+    Sink(SinkKey),
+    /// An entry of what is unsent.
+    Unsent(Pointstamp),
+}
+
+impl Slot {
+    /// Returns an equal key.
+    pub fn copy(&self) -> Slot
+        ensures { result ≡ self.now }
+    {
+        match self {
+            Slot::Records(key) => Slot::Records(key.copy()),
+            Slot::Request(point) => Slot::Request(point.copy()),
+            Slot::Token(vertex) => Slot::Token(*vertex),
+            Slot::State { vertex, key } => Slot::State {
+                vertex: *vertex,
+                key: key.copy(),
+            },
+            Slot::Sink(key) => Slot::Sink(*key),
+            Slot::Unsent(point) => Slot::Unsent(point.copy()),
+        }
+    }
+}
