@@ -83,7 +83,7 @@ fn any_before<B: Allocator>(held: &[Pointstamp], paths: &Paths<B>, point: &Point
     false
 }
 
-// Whether the next entry of the first list comes before that of the second.
+// Whether the next entry of one list comes before that of another.
 fn comes_first(
     first: &[(Pointstamp, i64)],
     second: &[(Pointstamp, i64)],
