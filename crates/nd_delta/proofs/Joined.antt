@@ -5,22 +5,22 @@ use Rattle.std.proofs.lemmas.Map.Views.{tells_apart}
 use Rattle.nd_map.specs.Cases.{zero_or_not}
 use Rattle.nd_paths.specs.Point.{point_exact}
 use Rattle.nd_paths.specs.declared.point.Pointstamp.{Pointstamp}
-use Rattle.nd_delta.specs.Change.{Change, none, at, set, combined, entries, is_point, same, at-none, at-set, at-set_same, at-plus, at-minus}
+use Rattle.nd_delta.specs.Delta.{DeltaValue, none, at, set, combined, entries, is_point, same, at-none, at-set, at-set_same, at-plus, at-minus}
 use Rattle.nd_delta.specs.Least.{AllUpTo, all-more, all-points}
 
 -- where neither has anything
-combined_none : (b : Bool) (m n : Change) (q : Pointstamp) → at m q ≡ pos 0 → at n q ≡ pos 0 → at (combined b m n) q ≡ pos 0
+combined_none : (b : Bool) (m n : DeltaValue) (q : Pointstamp) → at m q ≡ pos 0 → at n q ≡ pos 0 → at (combined b m n) q ≡ pos 0
 combined_none true m n q d e = let h = at-minus m n q in omega (arith, ints, h, d, e)
 combined_none false m n q d e = let h = at-plus m n q in omega (arith, ints, h, d, e)
 
-module _ (b : Bool) (m n : Change) where
+module _ (b : Bool) (m n : DeltaValue) where
   -- s is right at the points of the first entries of both, and wherever it is not 0
-  pub record IsJoined (i j : ℕ) (s : Change) : Type 0 where
+  pub record IsJoined (i j : ℕ) (s : DeltaValue) : Type 0 where
     pub some : (q : Pointstamp) → at s q ≢ pos 0 → at s q ≡ at (combined b m n) q
     pub first : AllUpTo (λ q. at s q ≡ at (combined b m n) q) (entries m) i
     pub second : AllUpTo (λ q. at s q ≡ at (combined b m n) q) (entries n) j
 
-  pub joined_none : (s : Change) → s ≡ none → IsJoined 0 0 s
+  pub joined_none : (s : DeltaValue) → s ≡ none → IsJoined 0 0 s
   joined_none s is = record {
     some = λ q other. absurd (other (ap (λ c. at c q) is ∙ at-none q));
     first = λ k lt. absurd (omega (arith, lt));
@@ -28,7 +28,7 @@ module _ (b : Bool) (m n : Change) where
   }
 
   -- a point more, and what is right stays so
-  module _ (s t : Change) (x : Pointstamp) (set_is : t ≡ set s x (at (combined b m n) x)) where
+  module _ (s t : DeltaValue) (x : Pointstamp) (set_is : t ≡ set s x (at (combined b m n) x)) where
     value : (q : Pointstamp) → at t q ≡ cond (is_point q x) (at (combined b m n) x) (at s q)
     value q = ap (λ c. at c q) set_is ∙ at-set s x (at (combined b m n) x) q
 
@@ -67,7 +67,7 @@ module _ (b : Bool) (m n : Change) where
     }
 
   -- after the last entries
-  pub joined_done : (i j : ℕ) (s : Change) → length (entries m) ≤ i → length (entries n) ≤ j → IsJoined i j s → s ≡ combined b m n
+  pub joined_done : (i j : ℕ) (s : DeltaValue) → length (entries m) ≤ i → length (entries n) ≤ j → IsJoined i j s → s ≡ combined b m n
   joined_done i j s first second h = same s (combined b m n) (λ q. elim (zero_or_not (at m q)) [
     | inr some ↦ all-points m (λ p. at s p ≡ at (combined b m n) p) i first h.first q some
     | inl d ↦ elim (zero_or_not (at n q)) [

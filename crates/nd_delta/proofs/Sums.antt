@@ -12,7 +12,7 @@ use Rattle.nd_time.specs.Limits.{max_count}
 use Rattle.nd_map.specs.Entries.{found_all}
 use Rattle.nd_paths.specs.Point.{point_cmp, point_exact}
 use Rattle.nd_paths.specs.declared.point.Pointstamp.{Pointstamp}
-use Rattle.nd_delta.specs.Change.{Change, at, set, plus, minus, combined, entries, points_of, has_point, same, or_zero, is_point, at-set, at-plus, at-minus, at-part, at-entries, at-absent, at-present, at-none, none, part, IsTooLarge, IsWithin, IsPartOf, IsApart}
+use Rattle.nd_delta.specs.Delta.{DeltaValue, at, set, plus, minus, combined, entries, points_of, has_point, same, or_zero, is_point, at-set, at-plus, at-minus, at-part, at-entries, at-absent, at-present, at-none, none, part, IsTooLarge, IsWithin, IsPartOf, IsApart}
 use Rattle.nd_delta.specs.Least.{at-index}
 
 -- ---- point by point
@@ -27,21 +27,21 @@ alone true = refl
 alone false = refl
 
 -- s has f at these points and g elsewhere: so with one point more
-pub one_more : (ks : List Pointstamp) (x : Pointstamp) (f g : Pointstamp → ℤ) (s t : Change) → ((q : Pointstamp) → at s q ≡ cond (has_point q ks) (f q) (g q)) → t ≡ set s x (f x) → (q : Pointstamp) → at t q ≡ cond (has_point q (ks ++ x ∷ [])) (f q) (g q)
+pub one_more : (ks : List Pointstamp) (x : Pointstamp) (f g : Pointstamp → ℤ) (s t : DeltaValue) → ((q : Pointstamp) → at s q ≡ cond (has_point q ks) (f q) (g q)) → t ≡ set s x (f x) → (q : Pointstamp) → at t q ≡ cond (has_point q (ks ++ x ∷ [])) (f q) (g q)
 one_more ks x f g s t h is q =
     ap (λ c. at c q) is ∙ at-set s x (f x) q
     ∙ added (is_point q x) (has_point q ks) (f x) (f q) (g q) (at s q) (λ e. ap f (sym (tells_apart point_exact q x e))) (h q)
     ∙ ap (λ b. cond b (f q) (g q)) (sym (list_any-append (is_point q) ks (x ∷ []) ∙ ap (λ b. has_point q ks || b) (alone (is_point q x))))
 
 -- the same in a loop over points
-pub next_point : (ps : List Pointstamp) (i : ℕ) (x : Pointstamp) → i < length ps → x ≡ get_or ps i x → (f g : Pointstamp → ℤ) (s t : Change)
+pub next_point : (ps : List Pointstamp) (i : ℕ) (x : Pointstamp) → i < length ps → x ≡ get_or ps i x → (f g : Pointstamp → ℤ) (s t : DeltaValue)
     → ((q : Pointstamp) → at s q ≡ cond (has_point q (take i ps)) (f q) (g q)) → t ≡ set s x (f x) → (q : Pointstamp) → at t q ≡ cond (has_point q (take (i + 1) ps)) (f q) (g q)
 next_point ps i x lt is f g s t h set_is q =
     let e : take (i + 1) ps ≡ take i ps ++ x ∷ [] = take_more ps i x lt ∙ ap (λ y. take i ps ++ y ∷ []) (sym is) in
     one_more (take i ps) x f g s t h set_is q ∙ ap (λ ks. cond (has_point q ks) (f q) (g q)) (sym e)
 
 -- and in one over entries
-pub next_entry : (es : List (Pointstamp × ℤ)) (i : ℕ) (x : Pointstamp × ℤ) → i < length es → x ≡ get_or es i x → (f g : Pointstamp → ℤ) (s t : Change)
+pub next_entry : (es : List (Pointstamp × ℤ)) (i : ℕ) (x : Pointstamp × ℤ) → i < length es → x ≡ get_or es i x → (f g : Pointstamp → ℤ) (s t : DeltaValue)
     → ((q : Pointstamp) → at s q ≡ cond (has_point q (points_of (take i es))) (f q) (g q)) → t ≡ set s x.0 (f x.0) → (q : Pointstamp) → at t q ≡ cond (has_point q (points_of (take (i + 1) es))) (f q) (g q)
 next_entry es i x lt is f g s t h set_is q =
     let e : points_of (take (i + 1) es) ≡ points_of (take i es) ++ x.0 ∷ []
@@ -53,13 +53,13 @@ next_entry es i x lt is f g s t h set_is q =
 pub kept : (x : ℤ) → unsigned_abs x ≤ 2 * max_count → to_z w64 (of_z w64 x) ≡ x
 kept x within = to_z-of_z w64 x (fits_signed_from_abs w64 x (omega (arith, within)))
 
-pub summed : (m n : Change) (q : Pointstamp) (x y : ℤ) → x ≡ at m q → y ≡ at n q → unsigned_abs x ≤ max_count → unsigned_abs y ≤ max_count
+pub summed : (m n : DeltaValue) (q : Pointstamp) (x y : ℤ) → x ≡ at m q → y ≡ at n q → unsigned_abs x ≤ max_count → unsigned_abs y ≤ max_count
     → to_z w64 (of_z w64 (to_z w64 (of_z w64 x) +ℤ to_z w64 (of_z w64 y))) ≡ at (plus m n) q
 summed m n q x y x_is y_is x_within y_within =
     rw (kept x (omega (arith, x_within)), kept y (omega (arith, y_within)))
     (to_z-of_z w64 (x +ℤ y) (fits_signed_from_abs w64 (x +ℤ y) (omega (arith, ints, x_within, y_within))) ∙ (λ i. x_is i +ℤ y_is i) ∙ sym (at-plus m n q))
 
-pub lessened : (m n : Change) (q : Pointstamp) (x y : ℤ) → x ≡ at m q → y ≡ at n q → unsigned_abs x ≤ max_count → unsigned_abs y ≤ max_count
+pub lessened : (m n : DeltaValue) (q : Pointstamp) (x y : ℤ) → x ≡ at m q → y ≡ at n q → unsigned_abs x ≤ max_count → unsigned_abs y ≤ max_count
     → to_z w64 (of_z w64 (to_z w64 (of_z w64 x) -ℤ to_z w64 (of_z w64 y))) ≡ at (minus m n) q
 lessened m n q x y x_is y_is x_within y_within =
     rw (kept x (omega (arith, x_within)), kept y (omega (arith, y_within)))
@@ -71,25 +71,25 @@ lessens x y x_within y_within =
     (fits_signed_from_abs w64 (x -ℤ y) (omega (arith, ints, x_within, y_within)))
 
 -- where the second has nothing
-pub combined_alone : (b : Bool) (m n : Change) (q : Pointstamp) → at n q ≡ pos 0 → at (combined b m n) q ≡ at m q
+pub combined_alone : (b : Bool) (m n : DeltaValue) (q : Pointstamp) → at n q ≡ pos 0 → at (combined b m n) q ≡ at m q
 combined_alone true m n q e = let d = at-minus m n q in omega (arith, ints, d, e)
 combined_alone false m n q e = let d = at-plus m n q in omega (arith, ints, d, e)
 
 -- ---- a part that is taken point by point
 -- s has the integers of m at the first points, and nothing elsewhere
-abbrev pub IsTaken : Change → List Pointstamp → ℕ → Change → Type 0
+abbrev pub IsTaken : DeltaValue → List Pointstamp → ℕ → DeltaValue → Type 0
 IsTaken m ps i s = (q : Pointstamp) → at s q ≡ cond (has_point q (take i ps)) (at m q) (pos 0)
 
-module _ (m : Change) (ps : List Pointstamp) where
-  pub taken_first : (s : Change) → s ≡ none → IsTaken m ps 0 s
+module _ (m : DeltaValue) (ps : List Pointstamp) where
+  pub taken_first : (s : DeltaValue) → s ≡ none → IsTaken m ps 0 s
   taken_first s is q = ap (λ c. at c q) is ∙ at-none q
 
   -- one point more, with its integer as the code keeps it
-  pub taken_more : (i : ℕ) (x : Pointstamp) (r : ℤ) (s t : Change) → i < length ps → x ≡ get_or ps i x → r ≡ at m x → unsigned_abs r ≤ max_count
+  pub taken_more : (i : ℕ) (x : Pointstamp) (r : ℤ) (s t : DeltaValue) → i < length ps → x ≡ get_or ps i x → r ≡ at m x → unsigned_abs r ≤ max_count
       → IsTaken m ps i s → t ≡ set s x (to_z w64 (of_z w64 r)) → IsTaken m ps (i + 1) t
   taken_more i x r s t lt is here within h set_is = next_point ps i x lt is (at m) (λ _. pos 0) s t h (set_is ∙ ap (set s x) (kept r (omega (arith, within)) ∙ here))
 
-  pub taken_all : (i : ℕ) (s : Change) → length ps ≤ i → IsTaken m ps i s → s ≡ part m ps
+  pub taken_all : (i : ℕ) (s : DeltaValue) → length ps ≤ i → IsTaken m ps i s → s ≡ part m ps
   taken_all i s past h = same s (part m ps) (λ q. h q ∙ ap (λ ks. cond (has_point q ks) (at m q) (pos 0)) (take_all i ps past) ∙ sym (at-part m ps q))
 
 -- ---- whether it fits
@@ -103,7 +103,7 @@ AllFit f es i = (k : ℕ) → k < i → (d : Pointstamp × ℤ) → unsigned_abs
 pub fits_more : (f : Pointstamp → ℤ) (es : List (Pointstamp × ℤ)) (i : ℕ) (x : Pointstamp × ℤ) → i < length es → x ≡ get_or es i x → unsigned_abs (f x.0) ≤ max_count → AllFit f es i → AllFit f es (i + 1)
 fits_more f es i x lt is fit h = below_more _ _ h (λ d. subst (λ y. unsigned_abs (f y.0) ≤ max_count) (is ∙ get_or_default es i x d lt) fit)
 
-pub not_too_large : (b : Bool) (m n : Change) (i : ℕ) → length (entries n) ≤ i → IsWithin m → AllFit (at (combined b m n)) (entries n) i → IsTooLarge (combined b m n) → ⊥
+pub not_too_large : (b : Bool) (m n : DeltaValue) (i : ℕ) → length (entries n) ≤ i → IsWithin m → AllFit (at (combined b m n)) (entries n) i → IsTooLarge (combined b m n) → ⊥
 not_too_large b m n i past within h large = by (find point_cmp large.0 (entries n)) refl
   where
     by : (o : Option ℤ) → find point_cmp large.0 (entries n) ≡ o → ⊥
@@ -120,16 +120,16 @@ not_too_large b m n i past within h large = by (find point_cmp large.0 (entries 
 
 -- ---- a change that is made from the entries of another, one by one
 -- s has the integers of n at the entries of m that came, and nothing elsewhere; rest are the entries to come
-pub record IsMade (m n : Change) (rest : List (Pointstamp × ℤ)) (s : Change) : Type 0 where
+pub record IsMade (m n : DeltaValue) (rest : List (Pointstamp × ℤ)) (s : DeltaValue) : Type 0 where
   pub came : List (Pointstamp × ℤ)
   pub all : came ++ rest ≡ entries m
   pub made : (q : Pointstamp) → at s q ≡ cond (has_point q (points_of came)) (at n q) (pos 0)
 
-module _ (m n : Change) where
-  pub made_first : (rest : List (Pointstamp × ℤ)) (s : Change) → rest ≡ entries m → s ≡ none → IsMade m n rest s
+module _ (m n : DeltaValue) where
+  pub made_first : (rest : List (Pointstamp × ℤ)) (s : DeltaValue) → rest ≡ entries m → s ≡ none → IsMade m n rest s
   made_first rest s is nothing = record { came = []; all = is; made = λ q. ap (λ c. at c q) nothing ∙ at-none q }
 
-  pub made_more : (rest es : List (Pointstamp × ℤ)) (e : Pointstamp × ℤ) (s t : Change) → rest ≡ e ∷ es → IsMade m n rest s → t ≡ set s e.0 (at n e.0) → IsMade m n es t
+  pub made_more : (rest es : List (Pointstamp × ℤ)) (e : Pointstamp × ℤ) (s t : DeltaValue) → rest ≡ e ∷ es → IsMade m n rest s → t ≡ set s e.0 (at n e.0) → IsMade m n es t
   made_more rest es e s t step h is = record {
     came = h.came ++ e ∷ [];
     all = append_assoc h.came (e ∷ []) es ∙ ap (λ fs. h.came ++ fs) (sym step) ∙ h.all;
@@ -137,14 +137,14 @@ module _ (m n : Change) where
   }
 
   -- the entry that is next has its point's integer
-  pub made_next : (rest es : List (Pointstamp × ℤ)) (e : Pointstamp × ℤ) (s : Change) → rest ≡ e ∷ es → IsMade m n rest s → e.1 ≡ at m e.0
+  pub made_next : (rest es : List (Pointstamp × ℤ)) (e : Pointstamp × ℤ) (s : DeltaValue) → rest ≡ e ∷ es → IsMade m n rest s → e.1 ≡ at m e.0
   made_next rest es e s step h =
       let all : h.came ++ e ∷ es ≡ entries m = ap (λ fs. h.came ++ fs) (sym step) ∙ h.all in
       let lt : length h.came < length (entries m) = subst (λ fs. length h.came < length fs) all (rw (length-append h.came (e ∷ es)) (omega arith)) in
       at-index m (length h.came) e lt (sym (get_or-append_seam h.came e es e) ∙ ap (λ fs. get_or fs (length h.came) e) all)
 
   -- after the last entry, where n has nothing beside the entries of m
-  pub made_last : (rest : List (Pointstamp × ℤ)) (s : Change) → rest ≡ [] → ((q : Pointstamp) → at m q ≡ pos 0 → at n q ≡ pos 0) → IsMade m n rest s → s ≡ n
+  pub made_last : (rest : List (Pointstamp × ℤ)) (s : DeltaValue) → rest ≡ [] → ((q : Pointstamp) → at m q ≡ pos 0 → at n q ≡ pos 0) → IsMade m n rest s → s ≡ n
   made_last rest s end nothing h =
       let all : h.came ≡ entries m = sym (append-nil h.came) ∙ ap (λ fs. h.came ++ fs) (sym end) ∙ h.all in
       same s n (λ q.
@@ -161,7 +161,7 @@ stays_of x (pos zero) h = inl (omega (arith, ints))
 stays_of x (pos (suc k)) h = let e : x ≡ pos (suc k) = h (λ z. absurd (cc)) in inr (omega (arith, ints))
 stays_of x (negsuc k) h = let e : x ≡ negsuc k = h (λ z. absurd (cc)) in inr (omega (arith, ints))
 
-module _ (m piece : Change) (h : IsPartOf piece m) where
+module _ (m piece : DeltaValue) (h : IsPartOf piece m) where
   -- an entry stays whole, or goes
   stays : (q : Pointstamp) → (at (minus m piece) q ≡ at m q) ⊎ (at (minus m piece) q ≡ pos 0)
   stays q = rw at-minus (stays_of (at m q) (at piece q) (h q))
@@ -173,16 +173,16 @@ module _ (m piece : Change) (h : IsPartOf piece m) where
   stays_within q within = elim (stays q) [ inl s ↦ rw s within | inr s ↦ rw s (omega arith) ]
 
 -- ---- a part that goes or comes
-pub entry_within : (m : Change) (i : ℕ) (x : Pointstamp × ℤ) → IsWithin m → i < length (entries m) → x ≡ get_or (entries m) i x → unsigned_abs x.1 ≤ max_count
+pub entry_within : (m : DeltaValue) (i : ℕ) (x : Pointstamp × ℤ) → IsWithin m → i < length (entries m) → x ≡ get_or (entries m) i x → unsigned_abs x.1 ≤ max_count
 entry_within m i x within lt is = rw (at-index m i x lt is) (within x.0)
 
 chosen : (b : Bool) (x y z : ℤ) → (b ≡ true → x ≡ z) → (b ≡ false → y ≡ z) → cond b x y ≡ z
 chosen true x y z f g = f refl
 chosen false x y z f g = g refl
 
-module _ (old piece : Change) where
+module _ (old piece : DeltaValue) where
   -- nothing at its pointstamps
-  pub part_gone : IsPartOf piece old → (s : Change) → ((q : Pointstamp) → at s q ≡ cond (has_point q (points_of (entries piece))) (pos 0) (at old q)) → s ≡ minus old piece
+  pub part_gone : IsPartOf piece old → (s : DeltaValue) → ((q : Pointstamp) → at s q ≡ cond (has_point q (points_of (entries piece))) (pos 0) (at old q)) → s ≡ minus old piece
   part_gone h s is =
       same s (minus old piece) (λ q.
       let d = at-minus old piece q in
@@ -192,7 +192,7 @@ module _ (old piece : Change) where
 
   module _ (h : IsApart piece old) where
     -- its integers at all of its pointstamps
-    pub part_here : (i : ℕ) (s : Change) → length (entries piece) ≤ i → ((q : Pointstamp) → at s q ≡ cond (has_point q (points_of (take i (entries piece)))) (at piece q) (at old q)) → s ≡ plus old piece
+    pub part_here : (i : ℕ) (s : DeltaValue) → length (entries piece) ≤ i → ((q : Pointstamp) → at s q ≡ cond (has_point q (points_of (take i (entries piece)))) (at piece q) (at old q)) → s ≡ plus old piece
     part_here i s past is =
         same s (plus old piece) (λ q.
         let d = at-plus old piece q in
@@ -209,7 +209,7 @@ module _ (old piece : Change) where
         ∙ ap (λ b. b || has_point q (points_of (drop i es))) t
 
     -- those that came go again
-    pub part_back : (i : ℕ) (s t : Change) → ((q : Pointstamp) → at s q ≡ cond (has_point q (points_of (take i (entries piece)))) (at piece q) (at old q))
+    pub part_back : (i : ℕ) (s t : DeltaValue) → ((q : Pointstamp) → at s q ≡ cond (has_point q (points_of (take i (entries piece)))) (at piece q) (at old q))
         → ((q : Pointstamp) → at t q ≡ cond (has_point q (points_of (take i (entries piece)))) (pos 0) (at s q)) → t ≡ old
     part_back i s t is gone =
         same t old (λ q.

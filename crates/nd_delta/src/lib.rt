@@ -7,7 +7,7 @@ ghost use Rattle.nd_paths.specs.Order.{IsStrictlyBefore};
 ghost use Rattle.nd_paths.specs.declared.point.Pointstamp.{Pointstamp};
 ghost use Rattle.nd_delta.specs.Upright.{IsSupported, IsUnsupported, IsUpright, HoldsNothing};
 ghost use Rattle.nd_delta.specs.Least.{IsLeast};
-ghost use Rattle.nd_delta.specs.Change.{none, at, set, size, plus, minus, part, combined, IsTooLarge, IsWithin, entries as listed};
+ghost use Rattle.nd_delta.specs.Delta.{none, at, set, size, plus, minus, part, combined, IsTooLarge, IsWithin, entries as listed};
 
 mod large;
 
@@ -41,12 +41,12 @@ impl<A: Allocator> Drop for Delta<A> {
 }
 
 impl<A: Allocator> Model for Delta<A> {
-    ghost use Rattle.nd_delta.specs.Change.{Change, change_code, of_entries};
+    ghost use Rattle.nd_delta.specs.Delta.{DeltaValue, delta_code, of_entries};
     ghost use Rattle.nd_delta.specs.Kept.{IsKept};
 
-    ghost Value = { Change };
+    ghost Value = { DeltaValue };
 
-    ghost coded = { change_code };
+    ghost coded = { delta_code };
 
     ghost view = { λ a. of_entries a.map };
 

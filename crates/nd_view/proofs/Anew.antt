@@ -8,7 +8,7 @@ use Rattle.nd_map.specs.Maps.{listed-put}
 use Rattle.nd_graph.specs.Graph.{Dataflow}
 use Rattle.nd_paths.specs.Point.{point_cmp, point_total}
 use Rattle.nd_paths.specs.declared.point.Pointstamp.{Pointstamp}
-use Rattle.nd_delta.specs.Change.{Change, at, entries}
+use Rattle.nd_delta.specs.Delta.{DeltaValue, at, entries}
 use Rattle.nd_delta.specs.Least.{at-index, place_of}
 use Rattle.nd_view.specs.View.{IsPrecursor, IsCount}
 use Rattle.nd_view.specs.Kept.{IsKeptAt, AreKept, IsFor, kept_of}
@@ -17,7 +17,7 @@ use Rattle.nd_view.proofs.Parts.{IsAmong, split}
 use Rattle.nd_view.proofs.Shifts.{found_put, found_other}
 use Rattle.nd_map.specs.Cases.{not_zero}
 
-module _ (g : Dataflow) (m : Change) where
+module _ (g : Dataflow) (m : DeltaValue) where
   -- what is stored is right, and it is stored for the positive points among the first entries
   pub record IsCountedUpTo (i : ℕ) (es : List (Pointstamp × ℕ)) : Type 0 where
     pub listed : IsListed point_cmp es
@@ -69,5 +69,5 @@ module _ (g : Dataflow) (m : Change) where
       by q (Some n) e = subst (IsKeptAt g m q) (sym e) (h.kept q n e)
 
 -- each number that is stored in a view of a graph is right
-pub are_kept : (g : Dataflow) (m : Change) (es : List (Pointstamp × ℕ)) → IsFor g (kept_of m es) → AreKept g m es
+pub are_kept : (g : Dataflow) (m : DeltaValue) (es : List (Pointstamp × ℕ)) → IsFor g (kept_of m es) → AreKept g m es
 are_kept g m es h q n found = subst (IsKeptAt g m q) found (h.each q)

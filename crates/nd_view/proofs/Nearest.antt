@@ -9,21 +9,21 @@ use Rattle.nd_map.specs.Listed.{IsListed}
 use Rattle.nd_paths.specs.Order.{HasDepth, IsWalk, effect, CouldResultIn, IsStrictlyBefore}
 use Rattle.nd_paths.specs.Point.{point_cmp, point_total}
 use Rattle.nd_paths.specs.declared.point.Pointstamp.{Pointstamp}
-use Rattle.nd_delta.specs.Change.{Change, none, at, set, at-none, at-set_same, size-set, size-none}
+use Rattle.nd_delta.specs.Delta.{DeltaValue, none, at, set, at-none, at-set_same, size-set, size-none}
 use Rattle.nd_map.specs.Cases.{not_zero, zero_or_not}
 use Rattle.nd_view.specs.View.{IsPrecursor, IsCount}
 use Rattle.nd_view.specs.Kept.{IsKeptAt, AreKept, IsEarlier, IsNear}
 use Rattle.nd_view.proofs.Moves.{alike, apart, at-elsewhere}
 
 -- none has a negative epoch
-pub count_nothing : (g : Dataflow) (m : Change) (t : Pointstamp) → IsCount (IsEarlier g m t 0) m 0
+pub count_nothing : (g : Dataflow) (m : DeltaValue) (t : Pointstamp) → IsCount (IsEarlier g m t 0) m 0
 count_nothing g m t = (
   none,
   record { all = λ q p. absurd (omega (arith, p.early)); only = λ q some. absurd (some (at-none q)) },
   size-none,
 )
 
-module _ (g : Dataflow) (m : Change) (es : List (Pointstamp × ℕ)) (t : Pointstamp) (e : Pointstamp × ℕ) (listed : IsListed point_cmp es) (kept : AreKept g m es) (among : Contains es e) (near : IsNear e.0 t) where
+module _ (g : Dataflow) (m : DeltaValue) (es : List (Pointstamp × ℕ)) (t : Pointstamp) (e : Pointstamp × ℕ) (listed : IsListed point_cmp es) (kept : AreKept g m es) (among : Contains es e) (near : IsNear e.0 t) where
   -- what is stored for it is right
   pub kept_near : IsKeptAt g m e.0 (Some e.1)
   kept_near =

@@ -8,7 +8,7 @@ use Rattle.nd_map.specs.Entries.{find-head, absent_in_tail, listed-tail}
 use Rattle.nd_map.specs.Listed.{IsListed}
 use Rattle.nd_paths.specs.Point.{point_cmp, point_total}
 use Rattle.nd_paths.specs.declared.point.Pointstamp.{Pointstamp}
-use Rattle.nd_delta.specs.Change.{Change, at, set, combined, entries, is_point, or_zero, same, set-at, set-set, at-set_same, at-plus, at-minus, at-entries}
+use Rattle.nd_delta.specs.Delta.{DeltaValue, at, set, combined, entries, is_point, or_zero, same, set-at, set-set, at-set_same, at-plus, at-minus, at-entries}
 use Rattle.nd_view.specs.Room.{IsWithinRoom, AreWithin, IsAdded, among}
 use Rattle.nd_view.proofs.Fors.{signed}
 use Rattle.nd_view.proofs.Moves.{alike, at-elsewhere}
@@ -63,11 +63,11 @@ module _ (e : Pointstamp × ℤ) (es : List (Pointstamp × ℤ)) where
       | inr other ↦ subst (λ z. unsigned_abs z ≤ max_count) (among-there q other) (h q)
     ]
 
-  pub still : (minus : Bool) (m n : Change) → IsListed point_cmp (e ∷ es) → IsAdded minus es m n → at n e.0 ≡ at m e.0
+  pub still : (minus : Bool) (m n : DeltaValue) → IsListed point_cmp (e ∷ es) → IsAdded minus es m n → at n e.0 ≡ at m e.0
   still minus m n listed h = h e.0 ∙ nothing minus (at m e.0) (among es e.0) (among-tail listed)
 
   -- the others, and then the first: whatever stood at its point before
-  pub added_more : (minus : Bool) (m s t u : Change) (x n : ℤ) → s ≡ set m e.0 x → IsAdded minus es s t → u ≡ set t e.0 n → n ≡ moved_by minus (at m e.0) e.1 → IsAdded minus (e ∷ es) m u
+  pub added_more : (minus : Bool) (m s t u : DeltaValue) (x n : ℤ) → s ≡ set m e.0 x → IsAdded minus es s t → u ≡ set t e.0 n → n ≡ moved_by minus (at m e.0) e.1 → IsAdded minus (e ∷ es) m u
   added_more minus m s t u x n s_is h u_is n_is q = elim (alike q e.0) [
     | inl is ↦
         ap (λ c. at c q) u_is ∙ ap (at (set t e.0 n)) is ∙ at-set_same t e.0 n ∙ n_is
@@ -92,26 +92,26 @@ module _ (es : List (Pointstamp × ℤ)) (e : Pointstamp × ℤ) (rest : List (P
   first_within h = subst (λ z. unsigned_abs z ≤ max_count) (ap (λ l. among l e.0) is ∙ among-here e rest e.0 refl) (h e.0)
 
   -- the integer that the first one's point has after the others were added
-  pub rest_still : (minus : Bool) (m n : Change) → IsAdded minus rest m n → at n e.0 ≡ at m e.0
+  pub rest_still : (minus : Bool) (m n : DeltaValue) → IsAdded minus rest m n → at n e.0 ≡ at m e.0
   rest_still minus m n h = still e rest minus m n here h
 
-  pub all_added : (minus : Bool) (m s t u : Change) (x n : ℤ) → s ≡ set m e.0 x → IsAdded minus rest s t → u ≡ set t e.0 n → n ≡ moved_by minus (at m e.0) e.1 → IsAdded minus es m u
+  pub all_added : (minus : Bool) (m s t u : DeltaValue) (x n : ℤ) → s ≡ set m e.0 x → IsAdded minus rest s t → u ≡ set t e.0 n → n ≡ moved_by minus (at m e.0) e.1 → IsAdded minus es m u
   all_added minus m s t u x n s_is h u_is n_is = subst (λ l. IsAdded minus l m u) (sym is) (added_more e rest minus m s t u x n s_is h u_is n_is)
 
   -- where the first one was set before the others were added
-  pub all_after : (minus : Bool) (m s t : Change) (n : ℤ) → s ≡ set m e.0 n → IsAdded minus rest s t → n ≡ moved_by minus (at m e.0) e.1 → IsAdded minus es m t
+  pub all_after : (minus : Bool) (m s t : DeltaValue) (n : ℤ) → s ≡ set m e.0 n → IsAdded minus rest s t → n ≡ moved_by minus (at m e.0) e.1 → IsAdded minus es m t
   all_after minus m s t n s_is h n_is =
       let stays : t ≡ set t e.0 n = sym (ap (set t e.0) (sym (rest_still minus s t h ∙ ap (λ c. at c e.0) s_is ∙ at-set_same m e.0 n)) ∙ set-at t e.0) in
       all_added minus m s t t n n s_is h stays n_is
 
 -- a point that gets another integer, and its own back
-pub set_back : (m s t : Change) (k : Pointstamp) (v w : ℤ) → s ≡ set m k v → t ≡ set s k w → w ≡ at m k → t ≡ m
+pub set_back : (m s t : DeltaValue) (k : Pointstamp) (v w : ℤ) → s ≡ set m k v → t ≡ set s k w → w ≡ at m k → t ≡ m
 set_back m s t k v w s_is t_is w_is = t_is ∙ ap (λ c. set c k w) s_is ∙ set-set m k v w ∙ ap (set m k) w_is ∙ set-at m k
 
 -- all entries of a change
-pub added_all : (minus : Bool) (d m n : Change) → IsAdded minus (entries d) m n → n ≡ combined minus m d
+pub added_all : (minus : Bool) (d m n : DeltaValue) → IsAdded minus (entries d) m n → n ≡ combined minus m d
 added_all true d m n h = same n (combined true m d) (λ q. h q ∙ ap (λ z. at m q -ℤ z) (at-entries d q) ∙ sym (at-minus m d q))
 added_all false d m n h = same n (combined false m d) (λ q. h q ∙ ap (λ z. at m q +ℤ z) (at-entries d q) ∙ sym (at-plus m d q))
 
-pub within_entries : (d : Change) → ((q : Pointstamp) → unsigned_abs (at d q) ≤ max_count) → AreWithin (entries d)
+pub within_entries : (d : DeltaValue) → ((q : Pointstamp) → unsigned_abs (at d q) ≤ max_count) → AreWithin (entries d)
 within_entries d h q = subst (λ z. unsigned_abs z ≤ max_count) (sym (at-entries d q)) (h q)

@@ -13,7 +13,7 @@ use Rattle.nd_graph.specs.Graph.{Dataflow}
 use Rattle.nd_paths.specs.Order.{IsStrictlyBefore}
 use Rattle.nd_paths.specs.Point.{point_cmp, point_total, point_exact}
 use Rattle.nd_paths.specs.declared.point.Pointstamp.{Pointstamp}
-use Rattle.nd_delta.specs.Change.{Change, at, size, is_point}
+use Rattle.nd_delta.specs.Delta.{DeltaValue, at, size, is_point}
 use Rattle.nd_view.specs.View.{IsPrecursor}
 use Rattle.nd_view.specs.Kept.{IsKeptAt, IsMovable, IsReady, moved}
 use Rattle.nd_view.proofs.Fors.{signed}
@@ -62,7 +62,7 @@ same_key es fs i d keys lt =
     let many = many_keys fs (keys_of es) keys ∙ sym (many_keys es (keys_of es) refl) in
     sym (key_at fs (keys_of es) i d d.0 keys (omega (arith, lt, many))) ∙ key_at es (keys_of es) i d d.0 refl lt
 
-module _ (g : Dataflow) (m : Change) (x : Pointstamp) (up : Bool) where
+module _ (g : Dataflow) (m : DeltaValue) (x : Pointstamp) (up : Bool) where
   -- the first keys have their counts, the others theirs but for one if they come after x
   pub record IsShifted (ks : List Pointstamp) (i : ℕ) (es : List (Pointstamp × ℕ)) : Type 0 where
     pub keys : keys_of es ≡ ks

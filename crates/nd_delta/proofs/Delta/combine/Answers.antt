@@ -1,5 +1,5 @@
 use Rattle.std.proofs.Common.{◌≡◌, ◌<◌, length, get_or, refl, ap, arith}
-use Rattle.nd_delta.specs.Change.{at, set, combined, entries}
+use Rattle.nd_delta.specs.Delta.{at, set, combined, entries}
 use Rattle.nd_delta.proofs.Joined.{joined_none, joined_first, joined_second, joined_done}
 use Rattle.nd_delta.proofs.Sums.{kept}
 use Rattle.nd_delta.proofs.Delta.combine.Goals as goal
