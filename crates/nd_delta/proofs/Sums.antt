@@ -75,17 +75,6 @@ pub combined_alone : (b : Bool) (m n : DeltaValue) (q : Pointstamp) → at n q �
 combined_alone true m n q e = let d = at-minus m n q in omega (arith, ints, d, e)
 combined_alone false m n q e = let d = at-plus m n q in omega (arith, ints, d, e)
 
--- after the last entry
-pub combined_done : (b : Bool) (m n s : DeltaValue) (i : ℕ) → length (entries n) ≤ i → ((q : Pointstamp) → at s q ≡ cond (has_point q (points_of (take i (entries n)))) (at (combined b m n) q) (at m q)) → s ≡ combined b m n
-combined_done b m n s i past h =
-    same s (combined b m n) (λ q.
-    h q ∙ ap (λ es. cond (has_point q (points_of es)) (at (combined b m n) q) (at m q)) (take_all i (entries n) past)
-    ∙ by (has_point q (points_of (entries n))) _ _ (λ e. combined_alone b m n q (at-absent n q e)))
-  where
-    by : (c : Bool) (x y : ℤ) → (c ≡ false → x ≡ y) → cond c x y ≡ x
-    by true x y e = refl
-    by false x y e = sym (e refl)
-
 -- ---- a part that is taken point by point
 -- s has the integers of m at the first points, and nothing elsewhere
 abbrev pub IsTaken : DeltaValue → List Pointstamp → ℕ → DeltaValue → Type 0

@@ -1,7 +1,7 @@
 //! Changes: finite maps from pointstamps to integers other than 0 (Naiad, SOSP 2013, section 3.3), stored in sorted lists, or in maps that may grow large.
 #![tactic(auto)]
 
-ghost use Rattle.std.specs.Prelude.{◌≡◌, ◌≢◌, [], ◌↔◌, ◌<◌, ◌≤◌, ◌+ℤ◌, ◌<ℤ◌, ◌*◌, pos, unsigned_abs, OnOk, OnErr, IfOk, IfSome, IsNone, IsTrue, Err, Contains};
+ghost use Rattle.std.specs.Prelude.{◌≡◌, ◌≢◌, [], ◌↔◌, ◌<◌, ◌≤◌, ◌+ℤ◌, ◌<ℤ◌, ◌*◌, pos, unsigned_abs, length, ◌⊎◌, OnOk, OnErr, IfOk, IfSome, IsNone, IsTrue, Err, Contains};
 ghost use Rattle.nd_time.specs.Limits.{max_count};
 ghost use Rattle.nd_paths.specs.Order.{IsStrictlyBefore};
 ghost use Rattle.nd_paths.specs.declared.point.Pointstamp.{Pointstamp};
@@ -81,6 +81,23 @@ fn any_before<B: Allocator>(held: &[Pointstamp], paths: &Paths<B>, point: &Point
         }
     }
     false
+}
+
+// Whether the next entry of one list comes before that of another.
+fn comes_first(
+    first: &[(Pointstamp, i64)],
+    second: &[(Pointstamp, i64)],
+    i: usize,
+    j: usize,
+) -> bool
+    requires { (i < length first.now) ⊎ (j < length second.now) }
+    ensures first { IsTrue result → i < length first.now }
+    ensures second { (IsTrue result → ⊥) → j < length second.now }
+{
+    if i >= first.len() {
+        return false;
+    }
+    j >= second.len() || first[i].0 < second[j].0
 }
 
 impl<A: Allocator> Delta<A> {
@@ -192,7 +209,7 @@ impl<A: Allocator> Delta<A> {
         false
     }
 
-    /// The difference, or the sum, if it fits.
+    /// The difference, or the sum, if it fits: the two lists are joined, each entry after those before it.
     pub fn combine(&self, alloc: A, other: &Delta<A>, minus: bool) -> Result<Delta<A>, DeltaFault>
         ensures ok { IfOk result (λ d. d ≡ combined minus self.now other.now) }
         ensures full { (result ≡ Err (DeltaFault.DeltaFull)) ↔ IsTooLarge (combined minus self.now other.now) }
@@ -201,13 +218,25 @@ impl<A: Allocator> Delta<A> {
         if self.is_overfull(other, minus) {
             return Err(DeltaFault::DeltaFull);
         }
-        let Ok(mut made) = self.copy(alloc) else {
-            return Err(DeltaFault::Memory);
-        };
-        for entry in other.entries() {
-            let Ok(()) = made.put(&entry.0, self.combined_at(other, minus, &entry.0)) else {
-                return Err(DeltaFault::Memory);
-            };
+        let mut made = Delta::new(alloc);
+        let mine = self.entries();
+        let others = other.entries();
+        let mut i = 0;
+        let mut j = 0;
+        while i < mine.len() || j < others.len() {
+            if comes_first(mine, others, i, j) {
+                let point = &mine[i].0;
+                let Ok(()) = made.put(point, self.combined_at(other, minus, point)) else {
+                    return Err(DeltaFault::Memory);
+                };
+                i += 1;
+            } else {
+                let point = &others[j].0;
+                let Ok(()) = made.put(point, self.combined_at(other, minus, point)) else {
+                    return Err(DeltaFault::Memory);
+                };
+                j += 1;
+            }
         }
         Ok(made)
     }

@@ -97,7 +97,8 @@ fn join_neighbours<A: Allocator + Copy>(
 ) -> Result<Vec<Change, A>, AllocError>
     ensures { IfOk result (λ v. v.items ≡ joined sorted.items) }
 {
-    let mut joined = Vec::new(*sorted.allocator());
+    let alloc = *sorted.allocator();
+    let mut joined = Vec::new(alloc);
     let mut rest = sorted.into_iter();
     let Some(mut last) = rest.next() else {
         return Ok(joined);
@@ -111,8 +112,10 @@ fn join_neighbours<A: Allocator + Copy>(
         }
     }
     push_some(&mut joined, last)?;
-    joined.shrink_to_fit();
-    Ok(joined)
+    // (no more room than they take, since a timeline may keep them)
+    let mut exact = Vec::with_capacity(alloc, joined.len())?;
+    exact.append(&mut joined)?;
+    Ok(exact)
 }
 
 // The number of an item, 0 if it is not there.

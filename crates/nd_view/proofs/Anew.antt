@@ -1,5 +1,5 @@
 -- Precursor counts that are counted anew, entry by entry.
-use Rattle.std.proofs.Common.{◌≡◌, ◌≢◌, ◌<◌, ◌≤◌, ◌+◌, ℕ, ℤ, pos, List, [], length, get_or, Option, Some, None, refl, sym, ap, subst, ◌∙◌, inl, inr, arith}
+use Rattle.std.proofs.Common.{◌≡◌, ◌≢◌, ◌<◌, ◌≤◌, ◌+◌, ℕ, ℤ, pos, List, length, get_or, Option, Some, None, refl, sym, ap, subst, ◌∙◌, inl, inr, arith}
 use Rattle.std.specs.Prelude.{◌<ℤ◌}
 use Rattle.std.specs.FinMap.{find, put}
 use Rattle.std.proofs.lemmas.List.{get_or_default}
@@ -23,13 +23,6 @@ module _ (g : Dataflow) (m : DeltaValue) where
     pub listed : IsListed point_cmp es
     pub kept : AreKept g m es
     pub some : (q : Pointstamp) → IsAmong m i q → pos 0 <ℤ at m q → find point_cmp q es ≢ None
-
-  pub counted_none : (es : List (Pointstamp × ℕ)) → es ≡ [] → IsCountedUpTo 0 es
-  counted_none es e = record {
-    listed = subst (IsListed point_cmp) (sym e) tt;
-    kept = λ q n found. absurd (let none = ap (find point_cmp q) e in cc (none, found));
-    some = λ q among. absurd (omega (arith, among.early));
-  }
 
   module _ (i : ℕ) (e : Pointstamp × ℤ) (lt : i < length (entries m)) (is : e ≡ get_or (entries m) i e) where
     positive : pos 0 <ℤ at m e.0 → pos 0 <ℤ e.1

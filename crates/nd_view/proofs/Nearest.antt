@@ -9,11 +9,11 @@ use Rattle.nd_map.specs.Listed.{IsListed}
 use Rattle.nd_paths.specs.Order.{HasDepth, IsWalk, effect, CouldResultIn, IsStrictlyBefore}
 use Rattle.nd_paths.specs.Point.{point_cmp, point_total}
 use Rattle.nd_paths.specs.declared.point.Pointstamp.{Pointstamp}
-use Rattle.nd_delta.specs.Delta.{DeltaValue, none, at, set, size, at-none, at-set_same, size-set, size-none}
+use Rattle.nd_delta.specs.Delta.{DeltaValue, none, at, set, at-none, at-set_same, size-set, size-none}
 use Rattle.nd_map.specs.Cases.{not_zero, zero_or_not}
 use Rattle.nd_view.specs.View.{IsPrecursor, IsCount}
 use Rattle.nd_view.specs.Kept.{IsKeptAt, AreKept, IsEarlier, IsNear}
-use Rattle.nd_view.proofs.Moves.{alike, apart, at-elsewhere, count_small}
+use Rattle.nd_view.proofs.Moves.{alike, apart, at-elsewhere}
 
 -- none has a negative epoch
 pub count_nothing : (g : Dataflow) (m : DeltaValue) (t : Pointstamp) → IsCount (IsEarlier g m t 0) m 0
@@ -58,9 +58,6 @@ module _ (g : Dataflow) (m : DeltaValue) (es : List (Pointstamp × ℕ)) (t : Po
 
   precursor_of : (x : Pointstamp) → (x ≢ e.0) → IsEarlier g m t (e.0.time.epoch + 1) x → IsPrecursor g m e.0 x
   precursor_of x other p = record { positive = p.precursor.positive; before = (down x (omega (arith, p.early)) p.precursor.before.0, other) }
-
-  pub near_few : e.1 ≤ size m
-  near_few = count_small (IsPrecursor g m e.0) m e.1 (λ q p. not_zero _ p.positive) kept_near.1
 
   -- it is a precursor itself
   pub count_with : IsStrictlyBefore g e.0 t → IsCount (IsEarlier g m t (e.0.time.epoch + 1)) m (e.1 + 1)

@@ -1,6 +1,6 @@
 -- Integers that take memory in the place of others, and the entries of a change that are added one by one.
-use Rattle.std.proofs.Common.{◌≡◌, ◌≢◌, ◌≤◌, ◌*◌, ℤ, pos, Bool, true, false, cond, List, [], ◌∷◌, length, Some, refl, sym, ap, subst, ◌∙◌, ◌⊎◌, inl, inr, arith, w64, to_z, of_z, unsigned_abs}
-use Rattle.std.specs.Prelude.{◌<ℤ◌, ◌+ℤ◌, ◌-ℤ◌}
+use Rattle.std.proofs.Common.{◌≡◌, ◌≢◌, ◌≤◌, ◌*◌, ℤ, pos, Bool, true, false, cond, List, ◌∷◌, Some, refl, sym, ap, subst, ◌∙◌, ◌⊎◌, inl, inr, arith, w64, to_z, of_z, unsigned_abs}
+use Rattle.std.specs.Prelude.{◌+ℤ◌, ◌-ℤ◌}
 use Rattle.std.specs.FinMap.{find}
 use Rattle.std.proofs.lemmas.Int.{ints, to_z-of_z, fits_signed_from_abs}
 use Rattle.nd_time.specs.Limits.{max_count}
@@ -32,10 +32,6 @@ within_room old new h = record {
   absent = λ z. elim (zero_or_not new) [ inl e ↦ e | inr some ↦ absurd (h (λ w. some (w.absent z))) ];
   positive = λ up. elim (signed old) [ inl p ↦ p | inr never ↦ absurd (h (λ w. never (w.positive up))) ];
 }
-
--- what takes memory comes where nothing is positive
-pub not_positive : (old new : ℤ) → (IsWithinRoom old new → ⊥) → pos 0 <ℤ old → ⊥
-not_positive old new never p = never (record { absent = λ e. absurd (omega (arith, ints, p, e)); positive = λ _. p })
 
 -- an integer as the code keeps it
 pub small : (z : ℤ) → unsigned_abs z ≤ 2 * max_count → to_z w64 (of_z w64 z) ≡ z
@@ -81,11 +77,6 @@ module _ (e : Pointstamp × ℤ) (es : List (Pointstamp × ℤ)) where
         ∙ (λ j. moved_by minus ((ap (λ c. at c q) s_is ∙ at-elsewhere m e.0 x q other) j) (sym (among-there q other) j))
   ]
 
--- no entries
-pub added_none : (minus : Bool) (es : List (Pointstamp × ℤ)) (m : DeltaValue) → length es ≡ 0 → IsAdded minus es m m
-added_none minus [] m none q = sym (nothing minus (at m q) (pos 0) refl)
-added_none minus (e ∷ es) m none q = absurd (omega (arith, none))
-
 -- entries that are a first one and the others
 module _ (es : List (Pointstamp × ℤ)) (e : Pointstamp × ℤ) (rest : List (Pointstamp × ℤ)) (is : es ≡ e ∷ rest) (listed : IsListed point_cmp es) where
   here : IsListed point_cmp (e ∷ rest)
@@ -97,7 +88,6 @@ module _ (es : List (Pointstamp × ℤ)) (e : Pointstamp × ℤ) (rest : List (P
   pub rest_within : AreWithin es → AreWithin rest
   rest_within h = within-tail e rest here (subst AreWithin is h)
 
-  -- what a call gives that takes them apart
   pub first_within : AreWithin es → unsigned_abs e.1 ≤ max_count
   first_within h = subst (λ z. unsigned_abs z ≤ max_count) (ap (λ l. among l e.0) is ∙ among-here e rest e.0 refl) (h e.0)
 

@@ -26,10 +26,6 @@ found_put q k n es same = find-put point_cmp point_total q k n es ∙ ap (λ b. 
 pub found_other : (q k : Pointstamp) (n : ℕ) (es : List (Pointstamp × ℕ)) → is_point q k ≡ false → find point_cmp q (put point_cmp k n es) ≡ find point_cmp q es
 found_other q k n es other = find-put point_cmp point_total q k n es ∙ ap (λ b. cond b (Some n) (find point_cmp q es)) other
 
--- a key that has a value keeps its position
-pub size_put : (es fs : List (Pointstamp × ℕ)) (k : Pointstamp) (n i : ℕ) → IsListed point_cmp es → find point_cmp k es ≡ Some n → fs ≡ put point_cmp k i es → length fs ≡ length es
-size_put es fs k n i listed found put_is = ap length put_is ∙ length-put point_cmp point_total k i es listed ∙ ap (λ o. cond (is_some o) (length es) (length es + 1)) found
-
 -- at most one entry more
 pub size_grown : (es fs : List (Pointstamp × ℕ)) (k : Pointstamp) (i : ℕ) → IsListed point_cmp es → fs ≡ put point_cmp k i es → length fs ≤ length es + 1
 size_grown es fs k i listed put_is = subst (λ z. z ≤ length es + 1) (sym (ap length put_is ∙ length-put point_cmp point_total k i es listed)) (by (is_some (find point_cmp k es)))

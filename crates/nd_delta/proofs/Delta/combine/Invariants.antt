@@ -1,11 +1,10 @@
-use Rattle.std.proofs.Common.{◌≡◌, cond, take}
-use Rattle.nd_delta.specs.Delta.{at, combined, entries, has_point, points_of}
-use Rattle.nd_paths.specs.declared.point.Pointstamp.{Pointstamp}
+use Rattle.std.proofs.Common.{◌+◌, ◌-◌, length}
+use Rattle.nd_delta.proofs.Joined.{IsJoined}
 use Rattle.nd_delta.proofs.Delta.combine.Given as goal
 
--- what was made so far has the points of the entries so far
-abbrev pub invariant-loop-entry : goal.invariant-loop-entry
-invariant-loop-entry g l = record {
-  items : l.entry-items ≡ entries l.other;
-  made_so_far : (q : Pointstamp) → at l.made q ≡ cond (has_point q (points_of (take l.entry-index (entries l.other)))) (at (combined l.minus l.self l.other) q) (at l.self q);
-}
+-- what was made so far is right at the points of the entries so far
+abbrev pub invariant-loop-i : goal.invariant-loop-i
+invariant-loop-i g l = IsJoined l.minus l.self l.other l.i l.j l.made
+
+abbrev pub decreases-loop-i : goal.decreases-loop-i
+decreases-loop-i g l = (length l.mine - l.i) + (length l.others - l.j)

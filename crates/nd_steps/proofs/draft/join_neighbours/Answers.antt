@@ -34,5 +34,5 @@ loop-change-preserved g c =
 pub returns : goal.returns
 returns g c =
     let none : into_iter_items c.loop-change.change-iterator ≡ [] = nil_from_length _ (omega (arith, c.in-None.ensures.steps.0, c.loop-change.change-iterator.rest.ok.0)) in
-    c.shrink_to_fit.ensures.items ∙ c.in_ok-push_some-2.ensures
+    c.in_ok-append.ensures.items ∙ ap (λ l. l ++ c.push_some-2.new.to.items) c.in_ok-exact.ensures.items ∙ c.in_ok-push_some-2.ensures
     ∙ sym (ap (λ cs. c.loop-change.joined.items ++ joins c.loop-change.last cs) none) ∙ c.loop-change.invariant
