@@ -1,11 +1,11 @@
 //! The state as a JSON value.
 ghost use Rattle.std.specs.Prelude.{◌≡◌, IfOk};
-ghost use Rattle.nd_shown.specs.StateText.{state_data};
+ghost use Rattle.nd_state_json.specs.StateText.{state_data};
 
 use crate::Cluster;
 use nd_json::Json;
 use nd_protocol::NoMemory;
-use nd_shown::state_value;
+use nd_state_json::state_value;
 use std::alloc::{AllocError, Allocator, Global};
 
 // The state, of which a growth may be refused at any place.

@@ -2,7 +2,7 @@
 use Rattle.std.proofs.Common.{◌≡◌, ◌<◌, ◌≤◌, ℕ, zero, suc, ◌+◌, List, [], ◌∷◌, All, refl, Option, Some, None, Vec, map, min, length, slice_get, inl, inr, arith, subst, sym, ap, ◌∙◌}
 use Rattle.std.proofs.lemmas.Bool.{cases_lt}
 use Rattle.nd_time.specs.Limits.{max_workers}
-use Rattle.nd_watch.specs.declared.watch.Break.{Break}
+use Rattle.nd_breaks.specs.declared.watch.Break.{Break}
 use Rattle.nd_timeline.specs.Timeline.{TimelineValue}
 use Rattle.nd_history.specs.Answers.{AreClaims, IsLastClaim, IsMissing, AreCalled, IsCalled, AnswerIsCalled}
 use Rattle.nd_history.proofs.Lists.{map_twice}

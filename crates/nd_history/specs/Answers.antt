@@ -1,7 +1,7 @@
 -- What a search may answer (this project's own rule).
 use Rattle.std.specs.Prelude.{◌≡◌, ℕ, ◌-◌, ◌<◌, ◌≤◌, List, length, map, min, slice_get, All, Option, Some, None}
 use Rattle.nd_time.specs.Limits.{max_workers}
-use Rattle.nd_watch.specs.declared.watch.Break.{Break}
+use Rattle.nd_breaks.specs.declared.watch.Break.{Break}
 use Rattle.nd_timeline.specs.Timeline.{TimelineValue}
 use Rattle.nd_history.specs.Least.{HoldsAt, NoHit}
 use Rattle.nd_history.specs.Pieces.{piece_count, piece_start}

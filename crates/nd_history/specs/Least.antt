@@ -1,8 +1,8 @@
 -- *Least hit*: the least position of a kept list at which a breakpoint holds (this project's own rule).
 use Rattle.std.specs.Prelude.{ℕ, ◌+◌, ◌<◌, ◌≤◌, take, Option, Some, None}
 use Rattle.nd_protocol.specs.Steps.{after}
-use Rattle.nd_watch.specs.Breaks.{Holds}
-use Rattle.nd_watch.specs.declared.watch.Break.{Break}
+use Rattle.nd_breaks.specs.Breaks.{Holds}
+use Rattle.nd_breaks.specs.declared.watch.Break.{Break}
 use Rattle.nd_timeline.specs.Timeline.{TimelineValue}
 
 -- the breakpoint holds at a position: of the cluster that so many of the kept steps make of the base

@@ -8,7 +8,7 @@ ghost use Rattle.nd_history.specs.Works.{IsResult};
 
 use crate::Gate;
 use nd_timeline::{Timeline, Walk};
-use nd_watch::Break;
+use nd_breaks::Break;
 use std::alloc::{AllocError, Allocator};
 
 /// How many positions a piece has.

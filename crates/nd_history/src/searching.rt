@@ -10,7 +10,7 @@ use crate::team::search_all;
 use crate::work::Searched;
 use crate::{Gate, SearchFault, Snapshot};
 use nd_timeline::Timeline;
-use nd_watch::Break;
+use nd_breaks::Break;
 use std::alloc::{AllocError, Allocator};
 use std::thread::Threads;
 

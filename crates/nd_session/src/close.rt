@@ -7,7 +7,7 @@ ghost use Rattle.nd_session.specs.Tested.{IsOther, IsFirstMissing, HasAt, HasInP
 use crate::shared::{Shared, holds};
 use crate::{Client, Receipt};
 use nd_timeline::Timeline;
-use nd_watch::Breaks;
+use nd_breaks::Breaks;
 use std::alloc::{Allocator, Global};
 
 /// What a session leaves.

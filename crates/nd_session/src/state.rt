@@ -15,7 +15,7 @@ use nd_history::Snapshot;
 use nd_map::GrowingMap;
 use nd_protocol::starts_keep_protocol;
 use nd_timeline::{Command, Machine, Reply, Timeline, moves_keep_timelines};
-use nd_watch::Breaks;
+use nd_breaks::Breaks;
 use std::alloc::{AllocError, Allocator, Global};
 use std::marker::Model;
 

@@ -1,37 +1,181 @@
-//! Compares graphs in all that can be read of them.
+//! The graphs of the worked examples, and points and changes by the names of their locations, for tests.
 
-use nd_graph::{Edge, Graph, Vertex};
-use std::alloc::Allocator;
+use nd_delta::Delta;
+use nd_graph::{Action, Graph, GraphDraft};
+use nd_paths::{Paths, Pointstamp};
+use nd_time::Timestamp;
+use serde_json::Value;
+use std::alloc::{Allocator, Global};
 
-fn are_same_vertices(one: &[Vertex], other: &[Vertex]) -> bool {
-    for (vertex, like) in one.iter().zip(other) {
-        if vertex.name != like.name || vertex.op != like.op || vertex.depth != like.depth {
-            return false;
-        }
-    }
-    one.len() == other.len()
+/// The JSON text of a graph: its vertices, each with its operator, its depth and its number, and its
+/// edges, each from a port of a vertex to a vertex.
+macro_rules! graph_text {
+    (
+        $vertex:ident $op:ident $depth:literal $(k $k:literal)?
+        $(, $next:ident $next_op:ident $next_depth:literal $(k $next_k:literal)?)*;
+        $edge:ident: $from:ident $port:literal -> $to:ident $route:ident
+        $(, $more:ident: $more_from:ident $more_port:literal -> $more_to:ident $more_route:ident)*
+    ) => {
+        concat!(
+            "{\"vertices\":[{\"name\":\"", stringify!($vertex), "\",\"op\":\"", stringify!($op),
+            "\",\"depth\":", $depth, $(",\"k\":", $k,)?
+            $(
+                "},{\"name\":\"", stringify!($next), "\",\"op\":\"", stringify!($next_op),
+                "\",\"depth\":", $next_depth, $(",\"k\":", $next_k,)?
+            )*
+            "}],\"edges\":[{\"name\":\"", stringify!($edge), "\",\"from\":\"", stringify!($from),
+            "\",\"port\":", $port, ",\"to\":\"", stringify!($to), "\",\"route\":\"", stringify!($route),
+            $(
+                "\"},{\"name\":\"", stringify!($more), "\",\"from\":\"", stringify!($more_from),
+                "\",\"port\":", $more_port, ",\"to\":\"", stringify!($more_to),
+                "\",\"route\":\"", stringify!($more_route),
+            )*
+            "\"}]}"
+        )
+    };
 }
 
-fn are_same_edges(one: &[Edge], other: &[Edge]) -> bool {
-    for (edge, like) in one.iter().zip(other) {
-        let is_between = edge.from == like.from && edge.to == like.to && edge.port == like.port;
-        if edge.name != like.name || edge.route != like.route || !is_between {
-            return false;
-        }
-    }
-    one.len() == other.len()
+pub const EMPTY: &str = r#"{"vertices":[],"edges":[]}"#;
+
+pub const LINE: &str = graph_text!(a input 0, z sink 0; az: a 0 -> z local);
+
+pub const EXCHANGE: &str = graph_text!(a input 0, z sink 0; az: a 0 -> z exchange);
+
+pub const UNGUARDED_LOOP: &str = graph_text!(
+    a input 0, i ingress 0, m add 1 k 0, j ingress 1, f feedback 2, e egress 2;
+    ai: a 0 -> i local, im: i 0 -> m local, mj: m 0 -> j local, jf: j 0 -> f local, fe: f 0 -> e local,
+    em: e 0 -> m local
+);
+
+pub const NESTED_LOOP: &str = graph_text!(
+    a input 0, i ingress 0, m add 1 k 0, j ingress 1, f feedback 2, e egress 2, g feedback 1;
+    ai: a 0 -> i local, im: i 0 -> m local, mj: m 0 -> j local, jf: j 0 -> f local, fe: f 0 -> e local,
+    eg: e 0 -> g local, gm: g 0 -> m local
+);
+
+pub const DEEP: &str = graph_text!(
+    a input 0, b ingress 0, c ingress 1, d ingress 2, e ingress 3, f ingress 4, z sink 5;
+    ab: a 0 -> b local, bc: b 0 -> c local, cd: c 0 -> d local, de: d 0 -> e local, ef: e 0 -> f local,
+    fz: f 0 -> z local
+);
+
+pub const TWO_WAYS: &str = graph_text!(
+    a input 0, i ingress 0, x add 1 k 0, e egress 1, j ingress 0, f feedback 1, z sink 1;
+    ai: a 0 -> i local, ix: i 0 -> x local, xz: x 0 -> z local, xe: x 0 -> e local, ej: e 0 -> j local,
+    jf: j 0 -> f local, fz: f 0 -> z local
+);
+
+pub const SUM: &str = graph_text!(
+    a input 0, s sum 0, z sink 0; as: a 0 -> s local, sz: s 0 -> z local
+);
+
+pub const ADD: &str = graph_text!(
+    a input 0, m add 0 k 1, z sink 0; am: a 0 -> m local, mz: m 0 -> z local
+);
+
+pub const LOOP: &str = graph_text!(
+    a input 0, i ingress 0, m add 1 k 1, s split 1 k 3, f feedback 1, e egress 1, z sink 0;
+    ai: a 0 -> i local, im: i 0 -> m local, ms: m 0 -> s local, sf: s 0 -> f local, fm: f 0 -> m local,
+    se: s 1 -> e local, ez: e 0 -> z local
+);
+
+pub const DISTINCT: &str = graph_text!(
+    a input 0, d distinct 0, z sink 0; ad: a 0 -> d local, dz: d 0 -> z local
+);
+
+pub const SPLIT: &str = graph_text!(
+    a input 0, p split 0 k 0, y sink 0, z sink 0; ap: a 0 -> p local, py: p 0 -> y local, pz: p 1 -> z local
+);
+
+pub const FILTER: &str = graph_text!(
+    a input 0, m mul 0 k 2, b below 0 k 5, z sink 0;
+    am: a 0 -> m local, mb: m 0 -> b local, bz: b 0 -> z local
+);
+
+/// A loop that goes through no feedback.
+pub const CYCLE: &str = graph_text!(a input 0, m add 0 k 0; am: a 0 -> m local, mm: m 0 -> m local);
+
+/// A line of 32 vertices, with an edge more to the last: 64 locations.
+pub const LONG: &str = graph_text!(
+            v0 input 0, v1 add 0 k 0, v2 add 0 k 0, v3 add 0 k 0, v4 add 0 k 0, v5 add 0 k 0,
+            v6 add 0 k 0, v7 add 0 k 0, v8 add 0 k 0, v9 add 0 k 0, v10 add 0 k 0, v11 add 0 k 0,
+            v12 add 0 k 0, v13 add 0 k 0, v14 add 0 k 0, v15 add 0 k 0, v16 add 0 k 0, v17 add 0 k 0,
+            v18 add 0 k 0, v19 add 0 k 0, v20 add 0 k 0, v21 add 0 k 0, v22 add 0 k 0, v23 add 0 k 0,
+            v24 add 0 k 0, v25 add 0 k 0, v26 add 0 k 0, v27 add 0 k 0, v28 add 0 k 0, v29 add 0 k 0,
+            v30 add 0 k 0, v31 add 0 k 0;
+            e1: v0 0 -> v1 local, e2: v1 0 -> v2 local, e3: v2 0 -> v3 local, e4: v3 0 -> v4 local,
+            e5: v4 0 -> v5 local, e6: v5 0 -> v6 local, e7: v6 0 -> v7 local, e8: v7 0 -> v8 local,
+            e9: v8 0 -> v9 local, e10: v9 0 -> v10 local, e11: v10 0 -> v11 local,
+            e12: v11 0 -> v12 local, e13: v12 0 -> v13 local, e14: v13 0 -> v14 local,
+            e15: v14 0 -> v15 local, e16: v15 0 -> v16 local, e17: v16 0 -> v17 local,
+            e18: v17 0 -> v18 local, e19: v18 0 -> v19 local, e20: v19 0 -> v20 local,
+            e21: v20 0 -> v21 local, e22: v21 0 -> v22 local, e23: v22 0 -> v23 local,
+            e24: v23 0 -> v24 local, e25: v24 0 -> v25 local, e26: v25 0 -> v26 local,
+            e27: v26 0 -> v27 local, e28: v27 0 -> v28 local, e29: v28 0 -> v29 local,
+            e30: v29 0 -> v30 local, e31: v30 0 -> v31 local,
+            e: v30 0 -> v31 exchange
+);
+
+/// The graph of a JSON text.
+pub fn graph_of<A: Allocator + Copy>(json: Global, alloc: A, text: &str) -> Option<Graph<A>> {
+    let value = Value::from_str(json, text).ok()?;
+    let draft = GraphDraft::from_value(alloc, &value).ok()?;
+    draft.check(alloc).ok()
 }
 
-/// Returns whether two graphs have the same vertices, edges, depths and arcs, and the same location under each name.
-pub fn are_same<A: Allocator, B: Allocator>(one: &Graph<A>, other: &Graph<B>) -> bool {
-    for location in 0..one.location_count() {
-        let name = one.location_name(location);
-        if other.location_of(name) != Some(location) {
+/// The order of the pointstamps of a graph.
+pub fn paths_of<A: Allocator + Copy>(json: Global, alloc: A, text: &str) -> Option<Paths<A>> {
+    let graph = graph_of(json, alloc, text)?;
+    Paths::of(alloc, &graph).ok()
+}
+
+/// The time of a list: the epoch and then the counters.
+pub fn time(list: &[u32]) -> Option<Timestamp> {
+    let (epoch, counters) = list.split_first()?;
+    Timestamp::new(*epoch, counters)
+}
+
+/// The pointstamp at the location of a name.
+pub fn point<A: Allocator>(graph: &Graph<A>, name: &str, list: &[u32]) -> Option<Pointstamp> {
+    Pointstamp::new(graph, graph.location_of(name)?, time(list)?)
+}
+
+/// An entry of a change outside all loops: a location's name, an epoch and a number.
+pub type Entry = (&'static str, u32, i64);
+
+/// The change of these entries.
+pub fn change<A: Allocator + Copy>(
+    alloc: A,
+    graph: &Graph<A>,
+    entries: &[Entry],
+) -> Option<Delta<A>> {
+    let mut change = Delta::new(alloc);
+    for (name, epoch, n) in entries {
+        let point = point(graph, name, &[*epoch])?;
+        change.add(&point, *n).ok()?;
+    }
+    Some(change)
+}
+
+// Whether the point and the number are those of the entry.
+fn is_entry<A: Allocator>(graph: &Graph<A>, found: &(Pointstamp, i64), entry: &Entry) -> bool {
+    let (name, epoch, n) = entry;
+    match point(graph, name, &[*epoch]) {
+        Some(point) => found.0 == point && found.1 == *n,
+        None => false,
+    }
+}
+
+/// Whether these entries were found, in this order.
+pub fn are_entries<A: Allocator>(
+    graph: &Graph<A>,
+    found: &[(Pointstamp, i64)],
+    entries: &[Entry],
+) -> bool {
+    for (found, entry) in found.iter().zip(entries) {
+        if !is_entry(graph, found, entry) {
             return false;
         }
     }
-    are_same_vertices(one.vertices(), other.vertices())
-        && are_same_edges(one.edges(), other.edges())
-        && one.depths() == other.depths()
-        && one.all_arcs() == other.all_arcs()
+    found.len() == entries.len()
 }

@@ -3,7 +3,7 @@
 ghost use Rattle.std.specs.Prelude.{IfSome};
 ghost use Rattle.nd_delta.specs.Delta.{IsApart};
 
-use crate::drawn::time;
+use crate::graphs::time;
 use nd_delta::Delta;
 use nd_processor::Processor;
 use nd_time::Timestamp;

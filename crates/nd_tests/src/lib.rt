@@ -5,17 +5,17 @@
 #![tactic(auto)]
 
 #[cfg(test)]
-mod ample;
+mod succeeds;
 #[cfg(test)]
 mod clusters;
 #[cfg(test)]
-mod drawn;
-#[cfg(test)]
 mod graphs;
+#[cfg(test)]
+mod equal_graphs;
 #[cfg(test)]
 mod holdings;
 #[cfg(test)]
-mod kept;
+mod precursor_counts;
 #[cfg(test)]
 mod kinds;
 #[cfg(test)]
@@ -33,9 +33,9 @@ mod sessions;
 #[cfg(test)]
 mod timelines;
 #[cfg(test)]
-mod told;
+mod scripts;
 #[cfg(test)]
-mod unasked;
+mod allocates_nothing;
 #[cfg(test)]
 mod views;
 #[cfg(test)]

@@ -1,12 +1,12 @@
 //! Sessions and commands that the tests begin with.
 
-use crate::drawn::graph_of;
-use crate::told::{Told, step_of};
+use crate::graphs::graph_of;
+use crate::scripts::{Told, step_of};
 use nd_cluster::{Cluster, Next};
 use nd_graph::Graph;
 use nd_session::{Session, State};
 use nd_timeline::{Command, Timeline};
-use nd_watch::Break;
+use nd_breaks::Break;
 use std::alloc::{Allocator, Global};
 
 /// A command, its step by the names of locations.

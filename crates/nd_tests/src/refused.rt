@@ -3,7 +3,7 @@
 
 ghost use Rattle.nd_vertex.specs.Edits.{CanEdit};
 
-use crate::drawn::{DISTINCT, LINE, LOOP, change, graph_of, paths_of, point, time};
+use crate::graphs::{DISTINCT, LINE, LOOP, change, graph_of, paths_of, point, time};
 use crate::holdings::{move_token, set, set_item, take_all};
 use crate::queues::{len, push, unpop};
 use crate::views::view;

@@ -1,12 +1,12 @@
 //! Searches of timelines and of snapshots: the worked ones, how the pieces are claimed, and each request for memory refused in turn.
 
-use crate::drawn::{LINE, point};
-use crate::told::{Told, start, step_of};
+use crate::graphs::{LINE, point};
+use crate::scripts::{Told, start, step_of};
 use nd_cluster::Next;
 use nd_history::{Gate, OpenGate, SearchFault, Snapshot, search, search_in};
 use nd_testing::{MANY, Refusing, Sign, in_turn, met};
 use nd_timeline::Timeline;
-use nd_watch::Break;
+use nd_breaks::Break;
 use std::alloc::{AllocError, Allocator, Global};
 use std::rt::Clock;
 use std::sync::atomic::{AtomicBool, AtomicU64, Ordering};

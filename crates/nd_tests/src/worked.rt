@@ -1,6 +1,6 @@
 //! The worked examples, by their names.
 
-use crate::drawn::{
+use crate::graphs::{
     CYCLE, DEEP, Entry, LINE, LOOP, NESTED_LOOP, TWO_WAYS, UNGUARDED_LOOP, are_entries, change,
     graph_of, paths_of, point, time,
 };

@@ -6,7 +6,7 @@ use Rattle.nd_protocol.specs.State.{ClusterState}
 use Rattle.nd_protocol.specs.Steps.{after, stepped}
 use Rattle.nd_protocol.specs.Enabled.{IsEnabled, AreEnabled}
 use Rattle.nd_protocol.specs.declared.step.Step.{Step}
-use Rattle.nd_watch.specs.Breaks.{BreakMap}
+use Rattle.nd_breaks.specs.Breaks.{BreakMap}
 use Rattle.nd_timeline.specs.Timeline.{TimelineValue, IsTimeline, cluster_of, extended, moved_to}
 use Rattle.nd_timeline.specs.Moves.{ForwardMoves, BackMoves, RedoMoves, IsOnTheWay, JumpMoves, HasRun, StopsAt, RunMoves}
 use Rattle.nd_timeline.specs.Laws.{MovesKeepBase, MovesKeepTimelines}

@@ -1,8 +1,8 @@
 -- The reply to a command tells the machine after it.
 use Rattle.std.proofs.Common.{◌≡◌, ℕ, zero, suc, sym, ap, subst, ◌∙◌, arith}
 use Rattle.nd_protocol.specs.declared.step.Step.{Step}
-use Rattle.nd_watch.specs.Breaks.{BreakMap}
-use Rattle.nd_watch.specs.declared.watch.Break.{Break}
+use Rattle.nd_breaks.specs.Breaks.{BreakMap}
+use Rattle.nd_breaks.specs.declared.watch.Break.{Break}
 use Rattle.nd_timeline.specs.Timeline.{TimelineValue, cluster_of, extended}
 use Rattle.nd_timeline.specs.Moves.{MachineValue, ForwardMoves, BackMoves, RedoMoves, JumpMoves, Goes, HasRun, StopsAt, RunMoves, SetMoves, ClearMoves}
 use Rattle.nd_timeline.specs.Laws.{RepliesTellMachines}

@@ -3,7 +3,7 @@ use Rattle.std.proofs.Common.{◌≡◌, ℕ, ◌+◌, refl, sym, subst, add-one
 use Rattle.nd_protocol.specs.State.{ClusterState}
 use Rattle.nd_protocol.specs.declared.step.Step.{Step}
 use Rattle.nd_cluster.specs.Choice.{IsChosen}
-use Rattle.nd_watch.specs.Breaks.{BreakMap, NoHit}
+use Rattle.nd_breaks.specs.Breaks.{BreakMap, NoHit}
 use Rattle.nd_timeline.specs.Timeline.{TimelineValue, cluster_of, extended}
 use Rattle.nd_timeline.specs.Moves.{HasRun, Goes}
 

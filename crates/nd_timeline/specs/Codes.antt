@@ -10,8 +10,8 @@ use Rattle.nd_protocol.specs.Refusals.{number_of as refusal_number}
 use Rattle.nd_protocol.specs.declared.step.Step.{Step as ClusterStep}
 use Rattle.nd_protocol.specs.declared.refusal.Refusal.{Refusal}
 use Rattle.nd_protocol.specs.declared.refusal.Refusal.TheVariants as refusal
-use Rattle.nd_watch.specs.Breaks.{break_code}
-use Rattle.nd_watch.specs.declared.watch.Break.{Break as Breakpoint}
+use Rattle.nd_breaks.specs.Breaks.{break_code}
+use Rattle.nd_breaks.specs.declared.watch.Break.{Break as Breakpoint}
 use Rattle.nd_timeline.specs.declared.command.Command.{Command}
 use Rattle.nd_timeline.specs.declared.command.Command.TheVariants.{Forward, Back, Redo, Jump, Run, SetBreak, ClearBreak}
 use Rattle.nd_timeline.specs.declared.fault.Fault.{Fault}

@@ -6,8 +6,8 @@ use Rattle.nd_time.specs.Limits.{max_kept}
 use Rattle.nd_protocol.specs.Enabled.{IsEnabled, IsRefused, MayWantMemory}
 use Rattle.nd_protocol.specs.declared.step.Step.{Step}
 use Rattle.nd_cluster.specs.Choice.{IsChosen, IsIdle}
-use Rattle.nd_watch.specs.Breaks.{BreakMap, NoHit, FirstHit, IsLeastFree, IsFull}
-use Rattle.nd_watch.specs.declared.watch.Break.{Break}
+use Rattle.nd_breaks.specs.Breaks.{BreakMap, NoHit, FirstHit, IsLeastFree, IsFull}
+use Rattle.nd_breaks.specs.declared.watch.Break.{Break}
 use Rattle.nd_timeline.specs.Timeline.{TimelineValue, cluster_of, extended, moved_to}
 use Rattle.nd_timeline.specs.declared.fault.Fault.{Fault}
 use Rattle.nd_timeline.specs.declared.fault.Fault.TheVariants.{Step as of_step, Memory, AtStart, AtEnd, NoSuchPoint, TimelineFull, TooManyBreaks, NoBreak}

@@ -10,7 +10,7 @@ use Rattle.nd_protocol.specs.declared.step.Step.{Step}
 use Rattle.nd_record.specs.Flows.{AreAlike}
 use Rattle.nd_cluster.specs.Made.{IsMade}
 use Rattle.nd_cluster.specs.declared.made.Made.{Made}
-use Rattle.nd_watch.specs.Breaks.{break_code}
+use Rattle.nd_breaks.specs.Breaks.{break_code}
 use Rattle.nd_timeline.specs.Timeline.{TimelineValue}
 use Rattle.nd_timeline.specs.Moves.{MachineValue}
 

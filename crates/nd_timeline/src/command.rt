@@ -2,7 +2,7 @@
 ghost use Rattle.std.specs.Prelude.{◌≡◌, ◌≢◌, IfOk, MatchBool};
 
 use nd_protocol::Step;
-use nd_watch::Break;
+use nd_breaks::Break;
 use std::alloc::{AllocError, Allocator, Global};
 
 /// What the machine is asked for.

@@ -3,7 +3,7 @@ ghost use Rattle.std.specs.Prelude.{◌≡◌};
 ghost use Rattle.nd_timeline.specs.Moves.{Moves, moved_reply, without_breaks};
 
 use crate::{Command, Fault, Ran, Reply, Timeline};
-use nd_watch::Breaks;
+use nd_breaks::Breaks;
 use std::alloc::{Allocator, Global};
 use std::marker::Model;
 

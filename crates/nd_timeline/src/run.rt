@@ -4,7 +4,7 @@ ghost use Rattle.nd_timeline.specs.Moves.{ran_reply, RunMoves};
 
 use crate::timeline::MAX_KEPT;
 use crate::{Fault, Ran, Stop, Timeline};
-use nd_watch::Breaks;
+use nd_breaks::Breaks;
 use std::alloc::Allocator;
 
 impl<A: Allocator + Copy> Timeline<A> {

@@ -16,7 +16,7 @@ use Rattle.nd_delta.specs.Least.{IsLeast}
 use Rattle.nd_paths.specs.declared.point.Pointstamp.{Pointstamp}
 use Rattle.nd_view.specs.View.{IsBlocker, IsOnFrontier, IsPartWhere}
 use Rattle.nd_protocol.specs.State.{ClusterState, view as view_in}
-use Rattle.nd_shown.specs.StateText.{entries_data, point_data}
+use Rattle.nd_state_json.specs.StateText.{entries_data, point_data}
 use Rattle.nd_cluster.specs.Starting.{IsStartFault, start_code}
 use Rattle.nd_cluster.specs.declared.start.StartFault.TheVariants as start_fault
 use Rattle.rewind_forms.specs.declared.version.Version.{Version}

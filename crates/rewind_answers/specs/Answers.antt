@@ -18,7 +18,7 @@ use Rattle.nd_delta.specs.Least.{IsLeast}
 use Rattle.nd_view.specs.View.{IsPassed, IsBlocker, IsOnFrontier, IsPartWhere}
 use Rattle.nd_protocol.specs.State.{ClusterState, truth, view}
 use Rattle.nd_protocol.specs.Invariant.{IsFinished}
-use Rattle.nd_shown.specs.StateText.{state_data, entries_data, point_data}
+use Rattle.nd_state_json.specs.StateText.{state_data, entries_data, point_data}
 use Rattle.nd_protocol.specs.Start.{start}
 use Rattle.nd_cluster.specs.Starting.{IsStartFault, CanStart, start_code}
 use Rattle.nd_cluster.specs.declared.start.StartFault.TheVariants as start_fault

@@ -9,7 +9,7 @@ use Rattle.nd_view.specs.View.{IsPassed}
 use Rattle.nd_protocol.specs.State.{ClusterState, view}
 use Rattle.nd_protocol.specs.Invariant.{IsFinished}
 use Rattle.nd_protocol.specs.declared.step.Step.{Step}
-use Rattle.nd_shown.specs.StateText.{row}
+use Rattle.nd_state_json.specs.StateText.{row}
 use Rattle.nd_timeline.specs.Timeline.{TimelineValue, cluster_of}
 use Rattle.nd_timeline.specs.Faults.{code_of}
 use Rattle.nd_timeline.specs.declared.fault.Fault.TheVariants.{NoSuchPoint}

@@ -1,7 +1,7 @@
 //! The replies to queries.
 ghost use Rattle.std.specs.Prelude.{◌≡◌, Some, IfOk};
 ghost use Rattle.nd_protocol.specs.Invariant.{IsSettled, KeepsProtocol};
-ghost use Rattle.nd_shown.specs.StateText.{state_data};
+ghost use Rattle.nd_state_json.specs.StateText.{state_data};
 ghost use Rattle.rewind_forms.specs.Replies.{count as count_data, state};
 ghost use Rattle.rewind_answers.specs.Answers.{QueryReply, BeforeReply, ViewReply, FrontierReply, PassedReply, SearchReply, search_fault, true_count};
 
@@ -13,7 +13,7 @@ use nd_json::Json;
 use nd_paths::Pointstamp;
 use nd_history::{OpenGate, SearchFault, search_in};
 use nd_session::State;
-use nd_shown::{counts_value, point_value};
+use nd_state_json::{counts_value, point_value};
 use rewind_forms::{Query, Search, replies};
 use std::alloc::{AllocError, Global};
 use std::thread::Threads;

@@ -12,7 +12,7 @@ use Rattle.nd_time.specs.Time.{Time}
 use Rattle.nd_graph.specs.Graph.{Dataflow, names, depths, depth_past_vertex, location_count}
 use Rattle.nd_graph.specs.Checked.{has_double}
 use Rattle.nd_paths.specs.declared.point.Pointstamp.{Pointstamp}
-use Rattle.nd_shown.specs.StateText.{name_at}
+use Rattle.nd_state_json.specs.StateText.{name_at}
 use Rattle.rewind_forms.specs.Places.{location_named, vertex_named, edge_named, time_of, point_named}
 use Rattle.rewind_forms.specs.Fitting.{HasDepth}
 

@@ -8,7 +8,7 @@ use Rattle.nd_time.specs.Time.{Time}
 use Rattle.nd_graph.specs.Graph.{Dataflow, names}
 use Rattle.nd_graph.specs.Checked.{has_double}
 use Rattle.nd_paths.specs.declared.point.Pointstamp.{Pointstamp}
-use Rattle.nd_shown.specs.StateText.{natural, whole, name_at, point_data}
+use Rattle.nd_state_json.specs.StateText.{natural, whole, name_at, point_data}
 use Rattle.nd_protocol.specs.declared.step.Step.{Step}
 use Rattle.nd_protocol.specs.declared.step.Step.TheVariants.{Feed, Take, Notice, Broadcast, Receive}
 use Rattle.nd_protocol.specs.declared.part.Part.TheVariants.{All, Points}

@@ -9,7 +9,7 @@ use Rattle.nd_json.specs.Forms.{small, whole as whole_of, integer, list, listed,
 use Rattle.nd_time.specs.Time.{Time}
 use Rattle.nd_graph.specs.Graph.{Dataflow}
 use Rattle.nd_paths.specs.declared.point.Pointstamp.{Pointstamp}
-use Rattle.nd_shown.specs.StateText.{row, natural, whole, name_at, place, time_data, point_data}
+use Rattle.nd_state_json.specs.StateText.{row, natural, whole, name_at, place, time_data, point_data}
 use Rattle.nd_graph.specs.Draft.{every}
 use Rattle.rewind_forms.specs.Forms.{numbers_of, point_of, listed_point, named_time}
 use Rattle.nd_protocol.specs.Ranges.{IsSmall, TimeIsSmall}

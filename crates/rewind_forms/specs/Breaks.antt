@@ -3,8 +3,8 @@ use Rattle.std.specs.Prelude.{[], ◌∷◌, codes, Result, Ok, Err}
 use Rattle.serde_json.specs.Data.{Data}
 use Rattle.nd_json.specs.Forms.{text_at, small_at, whole_at, integer_at}
 use Rattle.nd_graph.specs.Graph.{Dataflow}
-use Rattle.nd_watch.specs.declared.watch.Break.{Break}
-use Rattle.nd_watch.specs.declared.watch.Break.TheVariants.{Passed, Count, Queue, Sink}
+use Rattle.nd_breaks.specs.declared.watch.Break.{Break}
+use Rattle.nd_breaks.specs.declared.watch.Break.TheVariants.{Passed, Count, Queue, Sink}
 use Rattle.rewind_forms.specs.Forms.{given, after, within, inner}
 use Rattle.rewind_forms.specs.Places.{vertex_named, point_there}
 use Rattle.rewind_forms.specs.declared.fault.LineFault.{LineFault}

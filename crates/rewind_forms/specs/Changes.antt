@@ -1,7 +1,7 @@
 -- The changes of a view as a JSON value (this project's own rule).
 use Rattle.std.specs.Prelude.{List, [], ◌∷◌, map}
 use Rattle.serde_json.specs.Data.{Data}
-use Rattle.nd_shown.specs.StateText.{row, natural, whole}
+use Rattle.nd_state_json.specs.StateText.{row, natural, whole}
 use Rattle.nd_history.specs.declared.told.Changed.{Changed}
 
 -- [position,n], n being the entry there

@@ -2,7 +2,7 @@
 use Rattle.std.specs.Prelude.{ℕ, true, List, map, codes}
 use Rattle.serde_json.specs.Data.{Data, boolean, object, no_members, member}
 use Rattle.nd_graph.specs.Graph.{Dataflow}
-use Rattle.nd_shown.specs.StateText.{row, natural, whole, place, point_data}
+use Rattle.nd_state_json.specs.StateText.{row, natural, whole, place, point_data}
 use Rattle.nd_why.specs.Account.{Account}
 use Rattle.nd_why.specs.declared.answer.Held.{Held}
 use Rattle.nd_why.specs.declared.answer.Held.TheVariants.{Records, Request, Token}

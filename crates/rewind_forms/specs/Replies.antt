@@ -4,7 +4,7 @@ use Rattle.serde_json.specs.Data.{Data, null, boolean, number, string, object, u
 use Rattle.nd_time.specs.Code.{Code}
 use Rattle.nd_graph.specs.Graph.{Dataflow}
 use Rattle.nd_protocol.specs.Refusals.{code_of}
-use Rattle.nd_shown.specs.StateText.{point_data}
+use Rattle.nd_state_json.specs.StateText.{point_data}
 use Rattle.nd_protocol.specs.declared.refusal.Refusal.{Refusal}
 use Rattle.nd_protocol.specs.declared.refusal.Refusal.TheVariants.{NoProcessor, NotYet, NotAdmissible}
 use Rattle.nd_timeline.specs.Faults.{code_of as code_of_fault}

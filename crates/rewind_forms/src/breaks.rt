@@ -9,7 +9,7 @@ use crate::places::vertex_named;
 use crate::points::point_there;
 use nd_graph::Graph;
 use nd_json::{has_keys, integer_at, small_at, text_at, whole_at};
-use nd_watch::Break;
+use nd_breaks::Break;
 use serde_json::Value;
 use std::alloc::Global;
 

@@ -1,11 +1,11 @@
 //! What is held at a pointstamp.
 ghost use Rattle.std.specs.Prelude.{◌≡◌, map, IfOk};
-ghost use Rattle.nd_shown.specs.StateText.{row};
+ghost use Rattle.nd_state_json.specs.StateText.{row};
 ghost use Rattle.rewind_forms.specs.Reasons.{held_data};
 
 use nd_graph::Graph;
 use nd_json::{Json, JsonList, reply};
-use nd_shown::name_value;
+use nd_state_json::name_value;
 use nd_why::Held;
 use std::alloc::{AllocError, Allocator, Global};
 

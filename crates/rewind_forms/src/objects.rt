@@ -1,13 +1,13 @@
 //! A step as the object of its command line.
 ghost use Rattle.std.specs.Prelude.{◌≡◌, map, IfOk};
-ghost use Rattle.nd_shown.specs.StateText.{row, point_data};
+ghost use Rattle.nd_state_json.specs.StateText.{row, point_data};
 ghost use Rattle.rewind_forms.specs.Objects.{next_word as word_of, feed_object, take_object, notice_object, all_object, part_object, receive_object, object_of};
 
 use nd_graph::Graph;
 use nd_json::{Json, JsonList, list_of, reply};
 use nd_paths::Pointstamp;
 use nd_protocol::{Next, Part, Step};
-use nd_shown::{name_value, point_value, time_value};
+use nd_state_json::{name_value, point_value, time_value};
 use nd_time::Timestamp;
 use std::alloc::{AllocError, Global};
 

@@ -12,7 +12,7 @@ use crate::{LineFault, QueryForm};
 use nd_graph::Graph;
 use nd_json::{small_at, whole_at};
 use nd_paths::Pointstamp;
-use nd_watch::Break;
+use nd_breaks::Break;
 use serde_json::Value;
 use std::alloc::Global;
 

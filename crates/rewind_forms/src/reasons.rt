@@ -6,7 +6,7 @@ use crate::held::held_value;
 use crate::unheard::unheard_value;
 use nd_graph::Graph;
 use nd_json::{Json, JsonList, reply};
-use nd_shown::point_value;
+use nd_state_json::point_value;
 use nd_why::{Reason, Reasons};
 use std::alloc::{AllocError, Allocator, Global};
 

@@ -9,7 +9,7 @@ use crate::LineFault;
 use nd_graph::Graph;
 use nd_json::{Json, reply};
 use nd_protocol::Refusal;
-use nd_shown::point_value;
+use nd_state_json::point_value;
 use nd_time::Code;
 use nd_timeline::{Reply, Stop};
 use std::alloc::{AllocError, Allocator, Global};

@@ -1,6 +1,6 @@
 //! What a processor has not heard of a pointstamp.
 ghost use Rattle.std.specs.Prelude.{◌≡◌, map, IfOk};
-ghost use Rattle.nd_shown.specs.StateText.{row};
+ghost use Rattle.nd_state_json.specs.StateText.{row};
 ghost use Rattle.rewind_forms.specs.Reasons.{unheard_data};
 
 use nd_json::{Json, JsonList, reply};

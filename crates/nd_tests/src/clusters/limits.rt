@@ -3,8 +3,8 @@ ghost use Rattle.std.specs.Prelude.{◌≡◌, All, IfSome};
 ghost use Rattle.nd_view.specs.Kept.{IsFor};
 
 use crate::clusters::memory::Heap;
-use crate::drawn::{LINE, LOOP, graph_of, point};
-use crate::told::{Told, is_state, make, step_of};
+use crate::graphs::{LINE, LOOP, graph_of, point};
+use crate::scripts::{Told, is_state, make, step_of};
 use nd_cluster::{Cluster, Next};
 use nd_graph::Graph;
 use nd_mesh::Mesh;

@@ -1,7 +1,7 @@
 //! Each request for memory of a call refused in turn.
 
-use crate::drawn::{LINE, LOOP, SUM, point};
-use crate::told::{
+use crate::graphs::{LINE, LOOP, SUM, point};
+use crate::scripts::{
     SUM_NOTIFIED, Script, Told, is_state, make, reach, state_text, step_of, values_of,
 };
 use nd_cluster::{Cluster, Next, NoMemory, Refusal, StartFault, Step};

@@ -1,8 +1,8 @@
 //! The worked examples, by their names, and the changes that a record lists.
 
 use crate::clusters::limits::{ROWS, closes, number_of};
-use crate::drawn::{ADD, EXCHANGE, LINE, LOOP, SUM, graph_of, time};
-use crate::told::{Told, reach, start, step_of};
+use crate::graphs::{ADD, EXCHANGE, LINE, LOOP, SUM, graph_of, time};
+use crate::scripts::{Told, reach, start, step_of};
 use nd_cluster::{Change, Changes, Cluster, Entry, Next, StartFault};
 use nd_paths::Pointstamp;
 use nd_record::Kept;

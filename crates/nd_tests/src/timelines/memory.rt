@@ -1,11 +1,11 @@
 //! Each request for memory of a move refused in turn.
 
-use crate::drawn::{EXCHANGE, LINE};
-use crate::told::{SUM_NOTIFIED, Script, Told, is_state, reach, start, state_text, step_of};
+use crate::graphs::{EXCHANGE, LINE};
+use crate::scripts::{SUM_NOTIFIED, Script, Told, is_state, reach, start, state_text, step_of};
 use nd_cluster::{Cluster, Next};
 use nd_testing::{Refusing, in_turn, met};
 use nd_timeline::{Fault, Timeline};
-use nd_watch::Breaks;
+use nd_breaks::Breaks;
 use std::alloc::{AllocError, Allocator, Global};
 
 /// The allocator of these tests.

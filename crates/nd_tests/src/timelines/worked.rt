@@ -1,6 +1,6 @@
 //! A worked example, by its name.
 
-use nd_watch::{Break, Breaks, NoBreak, TooManyBreaks};
+use nd_breaks::{Break, Breaks, NoBreak, TooManyBreaks};
 
 /// A breakpoint that holds of each cluster.
 fn always() -> Break {

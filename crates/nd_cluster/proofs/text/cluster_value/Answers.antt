@@ -1,7 +1,7 @@
 use Rattle.std.proofs.Common.{◌≡◌, ap, sym, ◌∙◌}
 use Rattle.std.proofs.lemmas.Result.{IfOk-weaker}
 use Rattle.nd_protocol.specs.State.{ClusterState}
-use Rattle.nd_shown.specs.StateText.{state_data}
+use Rattle.nd_state_json.specs.StateText.{state_data}
 use Rattle.nd_record.specs.Seen.{seen}
 use Rattle.nd_cluster.proofs.text.cluster_value.Goals as goal
 

@@ -2,7 +2,7 @@ use Rattle.std.proofs.Common.{◌≡◌, map, get_or, ap, sym, ◌∙◌, arith}
 use Rattle.std.proofs.lemmas.List.{take_all}
 use Rattle.std.proofs.lemmas.Option.{get_or_from_slice_get}
 use Rattle.nd_json.specs.Shows.{shows-more}
-use Rattle.nd_shown.specs.StateText.{row}
+use Rattle.nd_state_json.specs.StateText.{row}
 use Rattle.rewind_forms.specs.Objects.{object_of}
 use Rattle.rewind_answers.proofs.kept.steps_value.Goals as goal
 

@@ -1,6 +1,6 @@
 use Rattle.std.proofs.Common.{◌∙◌, arith, length}
 use Rattle.std.specs.Prelude.{◌<◌}
-use Rattle.nd_shown.specs.StateText.{entries_data}
+use Rattle.nd_state_json.specs.StateText.{entries_data}
 use Rattle.rewind_answers.proofs.AnswerLaws.{frontier_replies}
 use Rattle.rewind_answers.proofs.query.answer_frontier.Goals as goal
 

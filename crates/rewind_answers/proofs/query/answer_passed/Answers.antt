@@ -1,5 +1,5 @@
 use Rattle.std.proofs.Common.{◌<◌, ◌∙◌, ap, arith, length}
-use Rattle.nd_shown.specs.StateText.{point_data}
+use Rattle.nd_state_json.specs.StateText.{point_data}
 use Rattle.rewind_answers.proofs.AnswerLaws.{blocked_replies}
 use Rattle.rewind_answers.proofs.query.answer_passed.Goals as goal
 

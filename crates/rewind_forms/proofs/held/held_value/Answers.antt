@@ -1,5 +1,5 @@
 use Rattle.std.proofs.Common.{ap, ◌∙◌}
-use Rattle.nd_shown.specs.StateText.{row}
+use Rattle.nd_state_json.specs.StateText.{row}
 use Rattle.rewind_forms.specs.Reasons.{held_data}
 use Rattle.rewind_forms.proofs.ReasonsLemmas.{shows_read, shows_all}
 use Rattle.rewind_forms.proofs.held.held_value.Goals as goal

@@ -1,7 +1,7 @@
 use Rattle.std.proofs.Common.{◌∙◌, ap, map}
 use Rattle.std.proofs.lemmas.List.{take_all}
 use Rattle.nd_json.specs.Shows.{shows-more}
-use Rattle.nd_shown.specs.StateText.{row, point_data}
+use Rattle.nd_state_json.specs.StateText.{row, point_data}
 use Rattle.rewind_forms.proofs.objects.points_value.Goals as goal
 
 pub loop-point-preserved : goal.loop-point-preserved

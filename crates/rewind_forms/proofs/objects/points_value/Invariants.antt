@@ -1,5 +1,5 @@
 use Rattle.std.proofs.Common.{◌≡◌, map, take}
-use Rattle.nd_shown.specs.StateText.{point_data}
+use Rattle.nd_state_json.specs.StateText.{point_data}
 use Rattle.rewind_forms.proofs.objects.points_value.Given as goal
 
 abbrev pub invariant-loop-point : goal.invariant-loop-point

@@ -1,6 +1,6 @@
 use Rattle.std.proofs.Common.{◌≡◌, ap, map, ◌∙◌, rules}
 use Rattle.std.proofs.lemmas.Result.{IfOk-weaker}
-use Rattle.nd_shown.specs.StateText.{row, whole, point_data}
+use Rattle.nd_state_json.specs.StateText.{row, whole, point_data}
 use Rattle.rewind_forms.specs.Reasons.{held_data, unheard_data, reason_members}
 use Rattle.rewind_forms.proofs.reasons.reason_value.Goals as goal
 

@@ -1,6 +1,6 @@
 use Rattle.std.proofs.Common.{ap, ◌∙◌, map}
 use Rattle.nd_json.specs.Shows.{shows-more}
-use Rattle.nd_shown.specs.StateText.{row}
+use Rattle.nd_state_json.specs.StateText.{row}
 use Rattle.rewind_forms.specs.Reasons.{reason_data}
 use Rattle.rewind_forms.proofs.ReasonsLemmas.{shows_all}
 use Rattle.rewind_forms.proofs.reasons.reasons_value.Goals as goal

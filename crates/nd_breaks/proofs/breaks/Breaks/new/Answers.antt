@@ -1,0 +1,5 @@
+use Rattle.std.proofs.Common.{rules}
+use Rattle.nd_breaks.proofs.breaks.Breaks.new.Goals as goal
+
+pub returns : goal.returns
+returns c = search rules

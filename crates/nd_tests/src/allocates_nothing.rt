@@ -1,0 +1,200 @@
+//! Calls that take no memory, made while none is given.
+
+ghost use Rattle.nd_delta.specs.Delta.{IsPartOf};
+ghost use Rattle.nd_view.specs.Kept.{IsFor};
+
+use crate::graphs::{DISTINCT, LINE, change, graph_of, paths_of, point, time};
+use crate::holdings::{item, move_token, set, set_item};
+use crate::kinds::{KINDS, Kind};
+use crate::queues::{len, pop, push, unpush};
+use crate::refused::{Heap, many};
+use crate::views::view;
+use nd_delta::Delta;
+use nd_graph::Graph;
+use nd_mesh::Mesh;
+use nd_paths::Paths;
+use nd_processor::{Processor, ValueAt};
+use nd_testing::{Refusing, unasked};
+use nd_time::Timestamp;
+use nd_vertex::VertexState;
+use nd_view::View;
+use std::alloc::{Allocator, Global};
+
+/// Whether a change of -1 at a and 2 at z tells them, and takes what is added at a.
+fn change_tells<A: Allocator + Copy>(paths: &Paths<A>, change: &mut Delta<A>) -> Option<bool> {
+    let graph = paths.graph();
+    let (a, az) = (point(graph, "a", &[0])?, point(graph, "az", &[0])?);
+    let is_told = (change.get(&a), change.get(&az), change.len()) == (-1, 0, 2)
+        && change.entries().len() == 2
+        && change.unsupported(paths) == None;
+    change.add(&a, 2).ok()?;
+    let is_more = change.unsupported_by(paths, &[az.copy()]) == change.unsupported(paths);
+    change.add(&a, -1).ok()?;
+    change.add(&az, 0).ok()?;
+    Some(is_told && is_more && change.len() == 1)
+}
+
+fn changes_tell<A: Allocator + Copy>(heap: &Heap, alloc: A, json: Global) -> Option<bool> {
+    let paths = paths_of(json, alloc, LINE)?;
+    let mut change = change(alloc, paths.graph(), &[("a", 0, -1), ("z", 0, 2)])?;
+    let is_told = unasked!(heap: change_tells(&paths, &mut change)?);
+    let part = unasked!(heap: change.part(alloc, &[]).ok()?);
+    Some(is_told && part.len() == 0)
+}
+
+/// Whether a view of 3 at a and -1 at az tells what it holds.
+fn view_tells<A: Allocator + Copy>(paths: &Paths<A>, view: &View<A>) -> Option<bool>
+    requires { IsFor paths.now view.now }
+{
+    let graph = paths.graph();
+    let (a, z) = (point(graph, "a", &[0])?, point(graph, "z", &[0])?);
+    Some(
+        (view.get(&a), view.entries().len()) == (3, 2)
+            && !view.passed(paths, &z)
+            && view.blocker_before(paths, &a) == None
+            && view.precursors(paths, &z) == 1
+            && (view.kept(&a), view.kept(&z)) == (Some(0), None)
+            && view.blocker(paths, &z) == Some(a),
+    )
+}
+
+fn views_tell<A: Allocator + Copy>(heap: &Heap, alloc: A, json: Global) -> Option<bool> {
+    let paths = paths_of(json, alloc, LINE)?;
+    let entries = change(alloc, paths.graph(), &[("a", 0, 3), ("az", 0, -1)])?;
+    let held = view(alloc, &paths, &entries)?;
+    let is_told = unasked!(heap: view_tells(&paths, &held)?);
+    let entry = change(alloc, paths.graph(), &[("a", 0, -1)])?;
+    let less = view(alloc, &paths, &entry)?;
+    let frontier = unasked!(heap: less.frontier(alloc, &paths).ok()?);
+    Some(is_told && frontier.len() == 0)
+}
+
+/// Gives items from 0 on other numbers, and then takes them out: how many are left.
+fn left_of<A: Allocator + Copy>(
+    state: &mut VertexState<A>,
+    time: &Timestamp,
+    count: i64,
+) -> Option<usize> {
+    for number in [Some(2), None] {
+        for item in 0..count {
+            set(state, time, item, number)?.ok()?;
+        }
+    }
+    Some(state.entries().count())
+}
+
+fn vertices_tell<A: Allocator + Copy>(heap: &Heap, alloc: A) -> Option<bool> {
+    let mut state = many(alloc, 100)?;
+    let time = time(&[0])?;
+    let left = unasked!(heap: left_of(&mut state, &time, 100)?);
+    Some(left == 0)
+}
+
+/// Whether two queues from 1, each with one change twice, give it back from both ends.
+fn queues_give<A: Allocator + Copy>(mesh: &mut Mesh<A>) -> Option<bool> {
+    let is_there = len(mesh, 1, 0) == Some(2);
+    let oldest = pop(mesh, 1, 0)?;
+    let is_newest = unpush(mesh, 1)?;
+    let is_empty = !unpush(mesh, 1)? && pop(mesh, 1, 0).is_none();
+    Some(oldest.len() == 2 && is_there && is_newest && is_empty && len(mesh, 1, 1) == Some(1))
+}
+
+fn queues_tell<A: Allocator + Copy>(heap: &Heap, alloc: A, json: Global) -> Option<bool> {
+    let graph = graph_of(json, alloc, LINE)?;
+    let change = change(alloc, &graph, &[("a", 0, 1), ("z", 0, 1)])?;
+    let mut mesh = Mesh::new(alloc, 2).ok()?;
+    push(&mut mesh, 1, &change)?.ok()?;
+    push(&mut mesh, 1, &change)?.ok()?;
+    unasked!(heap: queues_give(&mut mesh))
+}
+
+/// Adds a record, a request, an item, a count of a sink and an unsent entry, and moves the token.
+fn adds<A: Allocator + Copy>(processor: &mut Processor<A>, key: &ValueAt) -> Option<()> {
+    processor.add_records(key, 1).ok()?;
+    processor.add_request(&key.point).ok()?;
+    set_item(processor, Some(3))?.ok()?;
+    processor.add_sink(2, 7, 1).ok()?;
+    processor.add_unsent(&key.point, -1).ok()?;
+    move_token(processor, Some(1)).ok()
+}
+
+/// A processor with a record, a request, an item, a count of a sink and two unsent entries.
+fn holding<A: Allocator + Copy>(alloc: A, graph: &Graph<A>, key: &ValueAt) -> Option<Processor<A>> {
+    let mut processor = Processor::start(alloc, graph).ok()?;
+    adds(&mut processor, key)?;
+    processor.add_unsent(&point(graph, "z", &[0])?, 2).ok()?;
+    Some(processor)
+}
+
+/// Whether a processor tells that it holds these, of records and counts two.
+fn processor_tells<A: Allocator + Copy>(processor: &Processor<A>, key: &ValueAt) -> bool {
+    let counts = (
+        processor.records().count(),
+        processor.requests().count(),
+        processor.sinks().count(),
+        processor.tokens().len(),
+        processor.unsent().len(),
+        processor.vertex_count(),
+    );
+    counts == (1, 1, 1, 1, 2, 3)
+        && processor.records_at(&key.point) == 2
+        && processor.has_request(&key.point)
+        && processor.first_record().is_some()
+        && processor.first_request().is_some()
+        && (processor.token(0), item(processor)) == (Some(1), Some(3))
+}
+
+/// Takes all of it: whether nothing is left but an entry of what is unsent.
+fn gives_up<A: Allocator + Copy>(
+    processor: &mut Processor<A>,
+    key: &ValueAt,
+    part: &Delta<A>,
+) -> Option<bool>
+    requires { IsPartOf part.now processor.old.unsent }
+{
+    processor.take_part(part);
+    if processor.count_of(key) != 2 || processor.sink_count(2, 7) != 2 {
+        return None;
+    }
+    processor.take_records(key, 2);
+    processor.take_sink(2, 7, 2);
+    processor.drop_request(&key.point);
+    set_item(processor, None)?.ok()?;
+    Some(processor.first_record().is_none() && processor.unsent().len() == 1)
+}
+
+#[tactic(auto, using(crate::proofs::Parts::is_part))]
+fn processors_tell<A: Allocator + Copy>(heap: &Heap, alloc: A, json: Global) -> Option<bool> {
+    let graph = graph_of(json, alloc, DISTINCT)?;
+    let point = point(&graph, "ad", &[0])?;
+    let key = ValueAt { point, value: 7 };
+    let mut processor = holding(alloc, &graph, &key)?;
+    unasked!(heap: adds(&mut processor, &key)?);
+    let is_told = unasked!(heap: processor_tells(&processor, &key));
+    let Ok(part) = processor.unsent().part(alloc, &[key.point.copy()]) else {
+        return None;
+    };
+    let is_given = unasked!(heap: gives_up(&mut processor, &key, &part)?);
+    Some(is_told && is_given)
+}
+
+/// Whether the calls of a kind that take no memory answer as they should while none is given.
+fn answers<A: Allocator + Copy>(heap: &Heap, alloc: A, json: Global, kind: Kind) -> Option<bool> {
+    match kind {
+        Kind::Changes => changes_tell(heap, alloc, json),
+        Kind::Views => views_tell(heap, alloc, json),
+        Kind::Vertices => vertices_tell(heap, alloc),
+        Kind::Queues => queues_tell(heap, alloc, json),
+        Kind::Processors => processors_tell(heap, alloc, json),
+    }
+}
+
+#[test]
+fn calls_that_take_none(rt: HostRuntime) {
+    let heap = Refusing::new(rt.alloc());
+    for kind in KINDS {
+        let answers = answers(&heap, &heap, rt.alloc(), kind);
+        assert_eq!(rt; answers, Some(true), "of {kind:?}");
+        assert_eq!(rt; heap.live(), 0, "of {kind:?}");
+    }
+}

@@ -1,0 +1,146 @@
+//! Clusters and steps told by the names of locations, for tests.
+
+use crate::graphs::{SUM, graph_of, point, time};
+use nd_cluster::{Cluster, Next, Part, Points, Step, Values};
+use nd_graph::Graph;
+use std::alloc::{Allocator, Global};
+
+/// A step: the processor, and the name of the vertex or the edge.
+#[derive(Drop)]
+pub enum Told {
+    /// The values that are fed, and what becomes of the token.
+    Feed(u32, &'static str, &'static [i64], Next),
+    /// The time and the value of the record that is taken.
+    Take(u32, &'static str, &'static [u32], i64),
+    /// The time of the notice.
+    Notice(u32, &'static str, &'static [u32]),
+    /// The broadcast of all that is unsent.
+    All(u32),
+    /// The points whose entries are broadcast.
+    Points(u32, &'static [Named]),
+    /// From whom and to whom a change is received.
+    Receive(u32, u32),
+}
+
+/// A point: the name of its location, and its time.
+pub type Named = (&'static str, &'static [u32]);
+
+/// A graph, the number of processors, and steps from the start on.
+pub type Script = (&'static str, u32, &'static [Told]);
+
+/// A sum whose notice is enabled after two receives.
+pub const SUM_NOTIFIED: Script = (
+    SUM,
+    1,
+    &[
+        Told::Feed(0, "a", &[2, 3], Next::Close),
+        Told::Take(0, "as", &[0], 2),
+        Told::All(0),
+        Told::Receive(0, 0),
+        Told::Take(0, "as", &[0], 3),
+        Told::All(0),
+        Told::Receive(0, 0),
+        Told::Notice(0, "s", &[0]),
+        Told::Take(0, "sz", &[0], 5),
+    ],
+);
+
+/// The start of a cluster of n processors.
+pub fn start<A: Allocator + Copy>(
+    json: Global,
+    alloc: A,
+    text: &str,
+    n: u32,
+) -> Option<Cluster<A>> {
+    let graph = graph_of(json, alloc, text)?;
+    Cluster::start(alloc, graph, n).ok()
+}
+
+/// The list of these values.
+pub fn values_of<A: Allocator>(alloc: A, list: &[i64]) -> Option<Values<A>> {
+    let mut values = Values::new(alloc);
+    for value in list {
+        values.push(*value).ok()?;
+    }
+    Some(values)
+}
+
+/// The part at these points.
+fn part_of<A: Allocator + Copy>(alloc: A, graph: &Graph<A>, list: &[Named]) -> Option<Part<A>> {
+    let mut points = Points::new(alloc);
+    for (name, time) in list {
+        points.push(point(graph, name, time)?).ok()?;
+    }
+    Some(Part::Points(points))
+}
+
+/// The step that is told.
+pub fn step_of<A: Allocator + Copy>(alloc: A, graph: &Graph<A>, told: &Told) -> Option<Step<A>> {
+    match told {
+        Told::Feed(p, name, list, next) => Some(Step::Feed {
+            p: *p,
+            vertex: graph.location_of(name)?,
+            values: values_of(alloc, list)?,
+            next: *next,
+        }),
+        Told::Take(p, name, list, value) => Some(Step::Take {
+            p: *p,
+            edge: graph.location_of(name)?,
+            time: time(list)?,
+            value: *value,
+        }),
+        Told::Notice(p, name, list) => Some(Step::Notice {
+            p: *p,
+            vertex: graph.location_of(name)?,
+            time: time(list)?,
+        }),
+        Told::All(p) => Some(Step::Broadcast {
+            p: *p,
+            part: Part::All,
+        }),
+        Told::Points(p, list) => Some(Step::Broadcast {
+            p: *p,
+            part: part_of(alloc, graph, list)?,
+        }),
+        Told::Receive(from, to) => Some(Step::Receive {
+            from: *from,
+            to: *to,
+        }),
+    }
+}
+
+/// Makes a step.
+pub fn make<A: Allocator + Copy>(cluster: &mut Cluster<A>, step: &Step<A>) -> Option<()> {
+    let record = cluster.plan(step).ok()?;
+    cluster.commit(&record).ok()
+}
+
+/// The cluster after these steps.
+pub fn reach<A: Allocator + Copy>(
+    json: Global,
+    alloc: A,
+    text: &str,
+    n: u32,
+    steps: &[Told],
+) -> Option<Cluster<A>> {
+    let mut cluster = start(json, alloc, text, n)?;
+    for told in steps {
+        let step = step_of(alloc, cluster.graph(), told)?;
+        make(&mut cluster, &step)?;
+    }
+    Some(cluster)
+}
+
+/// The text of the state.
+pub fn state_text<A: Allocator + Copy>(json: Global, cluster: &Cluster<A>) -> Option<String> {
+    let text = cluster.state_value(json).ok()?.to_bytes(json).ok()?;
+    String::from_utf8(text).ok()
+}
+
+/// Whether the state has this text.
+pub fn is_state<A: Allocator + Copy>(json: Global, cluster: &Cluster<A>, text: &str) -> bool {
+    match state_text(json, cluster) {
+        Some(found) => found.as_str() == text,
+        None => false,
+    }
+}

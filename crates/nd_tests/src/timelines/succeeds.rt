@@ -1,0 +1,107 @@
+//! Calls of timelines that take no memory, made while none is given, copies, which grow in memory of their own, and
+//! timelines at their far ends, which do not run out of memory if there is enough.
+
+use crate::graphs::{EMPTY, LINE, point};
+use crate::timelines::memory::{ALL, Heap, ONE, kept};
+use crate::scripts::{Told, start, step_of};
+use nd_cluster::Next;
+use nd_testing::{Refusing, unasked};
+use nd_timeline::{Ran, Stop, Timeline};
+use nd_breaks::Breaks;
+use std::alloc::{Allocator, Global};
+
+/// Whether a timeline of four steps, of which the last lets z pass, tells where it is, and stays there.
+fn tells<A: Allocator + Copy>(timeline: &mut Timeline<A>, at: u64) -> Option<bool> {
+    let z = point(timeline.base().graph(), "z", &[0])?;
+    timeline.jump(at).ok()?;
+    timeline.run(0, &Breaks::new()).ok()?;
+    let has_steps = timeline.step(3).is_some() && timeline.step(4).is_none();
+    let is_there = (timeline.at(), timeline.kept()) == (at, 4);
+    let _ = timeline.cluster().n();
+    Some(has_steps && is_there && timeline.passed(0, &z) == (at == 4))
+}
+
+/// Whether it does so at a position while no memory is given.
+fn stays<A: Allocator + Copy>(heap: &Heap, json: Global, alloc: A, at: u64) -> Option<bool> {
+    let mut timeline = kept(json, alloc, &ALL)?;
+    timeline.jump(at).ok()?;
+    Some(unasked!(heap: tells(&mut timeline, at)?))
+}
+
+#[test]
+fn staying_takes_no_memory(rt: HostRuntime) {
+    let heap = Refusing::new(rt.alloc());
+    for at in 0..5 {
+        assert_eq!(rt; stays(&heap, rt.alloc(), &heap, at), Some(true), "at {at}");
+    }
+    assert_eq!(rt; heap.live(), 0);
+}
+
+/// A copy of a timeline that has run on, gone back and again, and then another way.
+fn more<A: Allocator + Copy>(alloc: A, base: &Timeline<A>) -> Option<Timeline<A>> {
+    let mut copy = base.copy(alloc).ok()?;
+    copy.run(10, &Breaks::new()).ok()?;
+    copy.jump(0).ok()?;
+    copy.jump(2).ok()?;
+    copy.back().ok()?;
+    copy.redo().ok()?;
+    let step = step_of(alloc, copy.cluster().graph(), &Told::All(0))?;
+    copy.forward(&step).ok()?;
+    Some(copy)
+}
+
+/// Whether a copy is made of a timeline in the first heap, and moves, without that heap.
+fn is_apart<A: Allocator + Copy>(first: &Heap, here: A, there: A, json: Global) -> Option<bool> {
+    let base = kept(json, here, &ONE)?;
+    let copy = unasked!(first: more(there, &base)?);
+    Some((copy.at(), copy.kept()) == (3, 3))
+}
+
+#[test]
+fn copies_have_their_own_memory(rt: HostRuntime) {
+    let (first, second) = (Refusing::new(rt.alloc()), Refusing::new(rt.alloc()));
+    let is_apart = is_apart(&first, &first, &second, rt.alloc());
+    assert_eq!(rt; is_apart, Some(true));
+    assert_eq!(rt; (first.live(), second.live()), (0, 0));
+}
+
+/// A timeline on a line that keeps so many feeds of nothing.
+fn fed<A: Allocator + Copy>(json: Global, alloc: A, times: u64) -> Option<Timeline<A>> {
+    let mut timeline = Timeline::new(alloc, start(json, alloc, LINE, 1)?).ok()?;
+    let told = Told::Feed(0, "a", &[], Next::Next);
+    let step = step_of(alloc, timeline.cluster().graph(), &told)?;
+    for _ in 0..times {
+        timeline.forward(&step).ok()?;
+    }
+    Some(timeline)
+}
+
+/// Whether a copy of a timeline of so many feeds goes from end to end.
+fn goes<A: Allocator + Copy>(json: Global, alloc: A, times: u64) -> Option<bool> {
+    let mut copy = fed(json, alloc, times)?.copy(alloc).ok()?;
+    copy.jump(0).ok()?;
+    copy.jump(times).ok()?;
+    Some((copy.at(), copy.kept()) == (times, times))
+}
+
+/// Whether a timeline on the graph without vertices has nothing to do.
+fn is_idle<A: Allocator + Copy>(json: Global, alloc: A) -> Option<bool> {
+    let base = Timeline::new(alloc, start(json, alloc, EMPTY, 8)?).ok()?;
+    let mut copy = base.copy(alloc).ok()?;
+    let ran = copy.run(1_000_000, &Breaks::new()).ok()?;
+    let idle = Ran {
+        ran: 0,
+        stop: Stop::Idle,
+    };
+    Some(ran == idle && copy.kept() == 0)
+}
+
+#[test]
+fn timelines_at_the_ends(rt: HostRuntime) {
+    let heap = Refusing::new(rt.alloc());
+    for times in [0, 3000] {
+        assert_eq!(rt; goes(rt.alloc(), &heap, times), Some(true), "of {times}");
+    }
+    assert_eq!(rt; is_idle(rt.alloc(), &heap), Some(true));
+    assert_eq!(rt; heap.live(), 0);
+}

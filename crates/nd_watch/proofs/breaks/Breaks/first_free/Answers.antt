@@ -1,5 +1,0 @@
-use Rattle.std.proofs.Common.{rules}
-use Rattle.nd_watch.proofs.breaks.Breaks.first_free.Goals as goal
-
-pub returns-clause-none : goal.returns-clause-none
-returns-clause-none c = search rules

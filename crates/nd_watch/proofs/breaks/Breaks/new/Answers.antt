@@ -1,5 +1,0 @@
-use Rattle.std.proofs.Common.{rules}
-use Rattle.nd_watch.proofs.breaks.Breaks.new.Goals as goal
-
-pub returns : goal.returns
-returns c = search rules
