@@ -1,11 +1,10 @@
-pub mod Exchanged
+pub mod Exchanges
 pub mod Reactions
-pub mod Started
-pub mod Counted
-pub mod TestedLemmas
-pub mod Passed
+pub mod Starts
+pub mod Tallies
+pub mod Tests
+pub mod FreeSteps
 pub mod ChoiceLemmas
 pub mod SinksLemmas
 pub mod PartsLemmas
-pub mod SeenLemmas
-pub mod Reasoned
+pub mod States

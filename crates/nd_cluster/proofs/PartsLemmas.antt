@@ -1,4 +1,4 @@
--- A property of all entries of a list, tested one by one; and of all keys of a map.
+-- What fits a graph entry by entry fits it as a map, and parts that fit make a state.
 use Rattle.std.proofs.Common.{◌≡◌, ◌≢◌, ◌<◌, ◌≤◌, ◌+◌, inl, inr, ℕ, zero, suc, ℤ, pos, List, [], ◌∷◌, map, length, get_or, Option, Some, None, refl, sym, ap, subst, ◌∙◌, arith, Ordering}
 use Rattle.std.specs.Prelude.{All}
 use Rattle.std.specs.Cmp.{IsTotalOrder}
@@ -23,37 +23,10 @@ use Rattle.nd_time.specs.Limits.{max_processors}
 use Rattle.nd_view.specs.Kept.{Kept}
 use Rattle.nd_mesh.specs.Mesh.{IsMesh, queue}
 use Rattle.nd_protocol.specs.Fitting.{DeltaFits, DeltaIsWithin, IsAtVertex, IsAtLocation, ProcessorFits, ProcessorIsWithin, IsOrdered, IsState}
-use Rattle.nd_record.specs.Seen.{seen}
+use Rattle.nd_steps.specs.Seen.{seen}
 use Rattle.nd_cluster.specs.Parts.{IsRecordKey, IsItem, IsSinkKey, ItemsFit, RowFits, RowIsWithin}
 use Rattle.nd_cluster.proofs.ChoiceLemmas.{split}
 use Rattle.std.proofs.lemmas.Bool.{cases_lt}
-
--- ---- the entries that are left
-
-module _ {X : Type 0} (P : X → Type 0) where
-  -- the whole list has the property just when the rest of it has
-  pub record IsRest (whole rest : List X) : Type 0 where
-    pub on : All P rest → All P whole
-    pub back : All P whole → All P rest
-
-  all_first : (e : X) (es : List X) → P e → All P es → All P (e ∷ es)
-  all_first e es p all zero d lt = p
-  all_first e es p all (suc k) d lt = all k d (omega arith)
-
-  pub rest_first : (whole rest : List X) → rest ≡ whole → IsRest whole rest
-  rest_first whole rest is = record { on = subst (All P) is; back = subst (All P) (sym is) }
-
-  pub rest_next : (whole rest : List X) (e : X) (es : List X) → rest ≡ e ∷ es → P e → IsRest whole rest → IsRest whole es
-  rest_next whole rest e es is p r = record {
-    on = λ all. r.on (subst (All P) (sym is) (all_first e es p all));
-    back = λ all k d lt. subst (All P) is (r.back all) (suc k) d (omega arith);
-  }
-
-  pub rest_fails : (whole rest : List X) (e : X) (es : List X) → rest ≡ e ∷ es → (P e → ⊥) → IsRest whole rest → All P whole → ⊥
-  rest_fails whole rest e es is not r all = not (subst (All P) is (r.back all) zero e (omega arith))
-
-  pub rest_done : (whole rest : List X) → rest ≡ [] → IsRest whole rest → All P whole
-  rest_done whole rest is r = r.on (subst (All P) (sym is) (λ k d lt. absurd (omega (arith, lt))))
 
 -- ---- the keys of a map
 

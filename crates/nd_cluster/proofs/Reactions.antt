@@ -1,7 +1,6 @@
 -- What the tests of a take and of a notice have shown lets their vertices act; and what remains to be refused.
 use Rattle.std.proofs.Common.{inl, inr, ◌≡◌, ℕ, zero, suc, ◌-◌, ◌<◌, ◌≤◌, Bool, true, false, cond, not, get_or, ◌&&◌, ◌||◌, ◌==◌, List, [], ◌∷◌, ◌++◌, map, length, Option, Some, None, refl, sym, ap, subst, ◌∙◌, arith, lt_of_not-le}
 use Rattle.std.proofs.lemmas.Bool.Decides.{nat_tests}
-use Rattle.std.proofs.lemmas.List.{length-map}
 use Rattle.std.specs.Prelude.{nat_lt, slice_get}
 use Rattle.std.specs.Option.{option_map_or}
 use Rattle.std.specs.List.{list_any}
@@ -22,8 +21,6 @@ use Rattle.nd_paths.specs.declared.point.Pointstamp.{Pointstamp}
 use Rattle.nd_delta.specs.Least.{IsLeast}
 use Rattle.nd_delta.specs.Delta.{DeltaValue, none}
 use Rattle.nd_view.specs.View.{IsPrecursor}
-use Rattle.nd_view.specs.Kept.{Kept, IsFor}
-use Rattle.nd_view.specs.Views.{maps-get}
 use Rattle.nd_vertex.specs.Items.{Items}
 use Rattle.nd_vertex.specs.Table.{Outcome, on_record}
 use Rattle.nd_vertex.specs.Effects.{IsCounterFull, IsInRange, MayActAt}
@@ -33,13 +30,12 @@ use Rattle.nd_processor.specs.declared.key.ValueAt.{ValueAt}
 use Rattle.nd_protocol.specs.State.{ClusterState, processor, view}
 use Rattle.nd_protocol.specs.Steps.{target_of}
 use Rattle.nd_protocol.specs.Fitting.{IsState, ProcessorFits, IsAtEdge}
-use Rattle.nd_protocol.specs.Enabled.{TakeFails, NoticeFails}
+use Rattle.nd_protocol.specs.Enabled.{Fails, IsFreeBelow, IsRefused}
 use Rattle.nd_protocol.specs.Refusals.{number_of}
 use Rattle.nd_protocol.specs.declared.refusal.Refusal.{Refusal}
 use Rattle.nd_protocol.specs.declared.refusal.Refusal.TheVariants.{NoProcessor, NoEdge, NoRecord, NotYet, CounterFull, ValueRange}
-use Rattle.nd_record.specs.Seen.{seen, IsSeen}
-use Rattle.nd_cluster.specs.Tested.{TakePasses, TakeRefused, NoticePasses, NoticeRefused}
-use Rattle.nd_work.specs.Targets.{target_there}
+use Rattle.nd_cluster.specs.Drafted.{take_of, notice_of}
+use Rattle.nd_steps.specs.Targets.{target_there}
 use Rattle.std.proofs.lemmas.Bool.{or_parts}
 use Rattle.nd_map.specs.Cases.{at_least}
 
@@ -103,13 +99,13 @@ pub record TakeStands (s : ClusterState) (p : ℕ) (k : ValueAt) (target : ℕ) 
   pub vertex : target < length (processor s p).items
   pub may : MayActAt (action_of (op_at s.graph target)) (length k.point.time.counters)
 
-pub take_stands : (s : ClusterState) (p : ℕ) (k : ValueAt) (target : ℕ) → IsState s → IsFaultless s.graph → target ≡ target_of s.graph k.point.location → TakePasses s p k.point.location k.point.time k.value 11 → TakeStands s p k target
-take_stands s p k target state sound is on =
-    let here : p < length s.processors = lt_of_not-le (on.free s NoProcessor (omega arith)) in
-    let low : length s.graph.vertices ≤ k.point.location = at_least k.point.location (length s.graph.vertices) (λ lt. on.free s NoEdge (omega arith) (inl lt)) in
-    let high : k.point.location < location_count s.graph = lt_of_not-le (λ le. on.free s NoEdge (omega arith) (inr le)) in
+pub take_stands : {A : Type 0} (s : ClusterState) (p : ℕ) (k : ValueAt) (target : ℕ) → IsState s → IsFaultless s.graph → target ≡ target_of s.graph k.point.location → IsFreeBelow {A = A} s (take_of {A = A} p k) 11 → TakeStands s p k target
+take_stands {A} s p k target state sound is on =
+    let here : p < length s.processors = lt_of_not-le (on.free NoProcessor (omega arith)) in
+    let low : length s.graph.vertices ≤ k.point.location = at_least k.point.location (length s.graph.vertices) (λ lt. on.free NoEdge (omega arith) (inl lt)) in
+    let high : k.point.location < location_count s.graph = lt_of_not-le (λ le. on.free NoEdge (omega arith) (inr le)) in
     let fits : ProcessorFits s.graph (processor s p) = state.fits.processors p idle here in
-    let at_edge : IsAtEdge s.graph k.point = (fits.records k (on.free s NoRecord (omega arith))).0 in
+    let at_edge : IsAtEdge s.graph k.point = (fits.records k (on.free NoRecord (omega arith))).0 in
     let there : target_of s.graph k.point.location < length s.graph.vertices = target_there s.graph k.point.location sound.joined low high in
     record {
       here = here;
@@ -117,7 +113,7 @@ take_stands s p k target state sound is on =
       may = subst (λ t. MayActAt (action_of (op_at s.graph t)) (length k.point.time.counters)) (sym is) (may_target s.graph k.point.location (length k.point.time.counters) sound low at_edge.fits.depth);
     }
 
-module _ (s : ClusterState) (p : ℕ) (k : ValueAt) (target : ℕ) (is : target ≡ target_of s.graph k.point.location) (on : TakePasses s p k.point.location k.point.time k.value 11) where
+module _ {A : Type 0} (s : ClusterState) (p : ℕ) (k : ValueAt) (target : ℕ) (is : target ≡ target_of s.graph k.point.location) (on : IsFreeBelow {A = A} s (take_of {A = A} p k) 11) where
   -- the operator of the target, and what it does with the record
   abbrev target_op : Op
   target_op = op_at s.graph (target_of s.graph k.point.location)
@@ -126,12 +122,12 @@ module _ (s : ClusterState) (p : ℕ) (k : ValueAt) (target : ℕ) (is : target 
   not_full h f =
       h (subst (λ t. IsCounterFull (op_at s.graph t) k.point.time) (sym is) (record { feedback = ap action_of f.0; full = f.1 }))
 
-  past_full : (IsCounterFull (op_at s.graph target) k.point.time → ⊥) → TakePasses s p k.point.location k.point.time k.value 12
+  past_full : (IsCounterFull (op_at s.graph target) k.point.time → ⊥) → IsFreeBelow {A = A} s (take_of {A = A} p k) 12
   past_full h = record { free = passes }
     where
-      passes : (new : ClusterState) (r : Refusal) → number_of r < 12 → TakeFails s p k.point.location k.point.time k.value new r → ⊥
-      passes new CounterFull lt f = not_full h f
-      passes new r lt f = on.free new r (omega (arith, lt)) f
+      passes : (r : Refusal) → number_of r < 12 → Fails {A = A} s (take_of {A = A} p k) r → ⊥
+      passes CounterFull lt f = not_full h f
+      passes r lt f = on.free r (omega (arith, lt)) f
 
   -- what the target does with the record
   abbrev outcome : Outcome
@@ -140,16 +136,16 @@ module _ (s : ClusterState) (p : ℕ) (k : ValueAt) (target : ℕ) (is : target 
   abbrev Fits : ℕ → Type 0
   Fits t = IsInRange (on_record (op_at s.graph t) (items_at (processor s p) t) k.point.time k.value)
 
-  take_range : (IsCounterFull (op_at s.graph target) k.point.time → ⊥) → (IsInRange outcome → ⊥) → TakeRefused s p k.point.location k.point.time k.value ValueRange
-  take_range h far = record { fails = λ new r. far (subst Fits (sym is) (record { emissions = r.emissions; items = r.items })); least = past_full h }
+  take_range : (IsCounterFull (op_at s.graph target) k.point.time → ⊥) → (IsInRange outcome → ⊥) → IsRefused {A = A} s (take_of {A = A} p k) ValueRange
+  take_range h far = record { fails = λ r. far (subst Fits (sym is) (record { emissions = r.emissions; items = r.items })); least = past_full h }
 
-  take_free : (IsCounterFull (op_at s.graph target) k.point.time → ⊥) → ((IsInRange outcome → ⊥) → ⊥) → TakePasses s p k.point.location k.point.time k.value 13
+  take_free : (IsCounterFull (op_at s.graph target) k.point.time → ⊥) → ((IsInRange outcome → ⊥) → ⊥) → IsFreeBelow {A = A} s (take_of {A = A} p k) 13
   take_free h near = record { free = passes }
     where
-      passes : (new : ClusterState) (r : Refusal) → number_of r < 13 → TakeFails s p k.point.location k.point.time k.value new r → ⊥
-      passes new CounterFull lt f = not_full h f
-      passes new ValueRange lt f = near (λ r. (let u : Fits (target_of s.graph k.point.location) = subst Fits is r in f (record { emissions = u.emissions; items = u.items })))
-      passes new r lt f = on.free new r (omega (arith, lt)) f
+      passes : (r : Refusal) → number_of r < 13 → Fails {A = A} s (take_of {A = A} p k) r → ⊥
+      passes CounterFull lt f = not_full h f
+      passes ValueRange lt f = near (λ r. (let u : Fits (target_of s.graph k.point.location) = subst Fits is r in f (record { emissions = u.emissions; items = u.items })))
+      passes r lt f = on.free r (omega (arith, lt)) f
 
   -- the same for the operator and the items as they are read
   module _ (o : Op) (m : Items) (o_is : o ≡ op_at s.graph target) (m_is : m ≡ items_at (processor s p) target) where
@@ -162,21 +158,13 @@ module _ (s : ClusterState) (p : ℕ) (k : ValueAt) (target : ℕ) (is : target 
     of_outcome : IsInRange outcome → Read
     of_outcome r = subst (λ x. IsInRange (on_record x m k.point.time k.value)) (sym o_is) (subst (λ x. IsInRange (on_record (op_at s.graph target) x k.point.time k.value)) (sym m_is) r)
 
-    pub read_range : (IsCounterFull o k.point.time → ⊥) → (Read → ⊥) → TakeRefused s p k.point.location k.point.time k.value ValueRange
+    pub read_range : (IsCounterFull o k.point.time → ⊥) → (Read → ⊥) → IsRefused {A = A} s (take_of {A = A} p k) ValueRange
     read_range h far = take_range (λ f. h (subst (λ x. IsCounterFull x k.point.time) (sym o_is) f)) (λ r. far (of_outcome r))
 
-    pub read_free : (IsCounterFull o k.point.time → ⊥) → ((Read → ⊥) → ⊥) → TakePasses s p k.point.location k.point.time k.value 13
+    pub read_free : (IsCounterFull o k.point.time → ⊥) → ((Read → ⊥) → ⊥) → IsFreeBelow {A = A} s (take_of {A = A} p k) 13
     read_free h near = take_free (λ f. h (subst (λ x. IsCounterFull x k.point.time) (sym o_is) f)) (λ far. near (λ r. far (to_outcome r)))
 
 -- ---- a notice
-
--- a processor of the state has a view among those stored
-pub view_there : (g : Dataflow) (ps : List ProcessorState) (vs : List Kept) (queues : List (List (List DeltaValue))) (s : ClusterState) (p : ℕ) → IsSeen g ps vs queues → seen g ps vs queues ≡ s → p < length s.processors → p < length vs
-view_there g ps vs queues s p h e lt =
-    let n : length (map (λ (w : Kept). w.map) vs) ≡ length ps = h.state.fits.each_view in
-    let m : length (map (λ (w : Kept). w.map) vs) ≡ length vs = length-map vs (λ w. w.map) in
-    let k : length s.processors ≡ length ps = ap (λ (t : ClusterState). length t.processors) (sym e) in
-    omega (arith, n, m, k, lt)
 
 -- a request is of a vertex, which has items
 pub requested_there : (s : ClusterState) (p : ℕ) (x : Pointstamp) → IsState s → p < length s.processors → fin.get (processor s p).requests x ≡ Some tt → x.location < length (processor s p).items
@@ -184,33 +172,24 @@ requested_there s p x state here asked =
     let fits : ProcessorFits s.graph (processor s p) = state.fits.processors p idle here in
     omega (arith, (fits.requests x asked).place, fits.vertices)
 
--- the precursor counts of a view are those of the graph, and its map is the state's view
-pub seen_view : (g : Dataflow) (ps : List ProcessorState) (vs : List Kept) (queues : List (List (List DeltaValue))) (s : ClusterState) (p : ℕ) (v : Kept) → IsSeen g ps vs queues → seen g ps vs queues ≡ s → p < length s.processors → v ≡ get_or vs p v → IsFor g v × (view s p ≡ v.map)
-seen_view g ps vs queues s p v h e lt is =
-    let n : length (map (λ (w : Kept). w.map) vs) ≡ length ps = h.state.fits.each_view in
-    let m : length (map (λ (w : Kept). w.map) vs) ≡ length vs = length-map vs (λ w. w.map) in
-    let k : length s.processors ≡ length ps = ap (λ (t : ClusterState). length t.processors) (sym e) in
-    let here : p < length vs = omega arith in
-    (subst (IsFor g) (sym is) (h.kept p v here), ap (λ (t : ClusterState). view t p) (sym e) ∙ maps-get vs p v none here is)
-
-module _ (s : ClusterState) (p : ℕ) (x : Pointstamp) (on : NoticePasses s p x.location x.time 10) where
+module _ {A : Type 0} (s : ClusterState) (p : ℕ) (x : Pointstamp) (on : IsFreeBelow {A = A} s (notice_of {A = A} p x) 10) where
   pub notice_here : p < length s.processors
-  notice_here = lt_of_not-le (on.free s NoProcessor (omega arith))
+  notice_here = lt_of_not-le (on.free NoProcessor (omega arith))
 
-  pub notice_blocked : (g : Dataflow) (m : DeltaValue) → g ≡ s.graph → view s p ≡ m → (blocker : Pointstamp) → IsLeast (IsPrecursor g m x) blocker → NoticeRefused s p x.location x.time (NotYet blocker)
+  pub notice_blocked : (g : Dataflow) (m : DeltaValue) → g ≡ s.graph → view s p ≡ m → (blocker : Pointstamp) → IsLeast (IsPrecursor g m x) blocker → IsRefused {A = A} s (notice_of {A = A} p x) (NotYet blocker)
   notice_blocked g m e f blocker h = record {
-    fails = λ new. subst (λ c. IsLeast (IsPrecursor s.graph c x) blocker) (sym f) (subst (λ d. IsLeast (IsPrecursor d m x) blocker) e h);
+    fails = subst (λ c. IsLeast (IsPrecursor s.graph c x) blocker) (sym f) (subst (λ d. IsLeast (IsPrecursor d m x) blocker) e h);
     least = on;
   }
 
-  pub notice_free : (g : Dataflow) (m : DeltaValue) → g ≡ s.graph → view s p ≡ m → ((y : Pointstamp) → IsPrecursor g m x y → ⊥) → NoticePasses s p x.location x.time 13
+  pub notice_free : (g : Dataflow) (m : DeltaValue) → g ≡ s.graph → view s p ≡ m → ((y : Pointstamp) → IsPrecursor g m x y → ⊥) → IsFreeBelow {A = A} s (notice_of {A = A} p x) 13
   notice_free g m e f nothing = record { free = passes }
     where
       here : (y : Pointstamp) → IsPrecursor s.graph (view s p) x y → ⊥
       here y h = nothing y (subst (λ d. IsPrecursor d m x y) (sym e) (subst (λ c. IsPrecursor s.graph c x y) f h))
 
-      passes : (new : ClusterState) (r : Refusal) → number_of r < 13 → NoticeFails s p x.location x.time new r → ⊥
-      passes new (NotYet blocker) lt f = here blocker f.is_one
-      passes new CounterFull lt f = f
-      passes new ValueRange lt f = f
-      passes new r lt f = on.free new r (omega (arith, lt)) f
+      passes : (r : Refusal) → number_of r < 13 → Fails {A = A} s (notice_of {A = A} p x) r → ⊥
+      passes (NotYet blocker) lt f = here blocker f.is_one
+      passes CounterFull lt f = f
+      passes ValueRange lt f = f
+      passes r lt f = on.free r (omega (arith, lt)) f

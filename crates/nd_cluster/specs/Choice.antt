@@ -11,7 +11,7 @@ use Rattle.nd_protocol.specs.declared.step.Step.TheVariants.{Feed, Take, Notice,
 use Rattle.nd_protocol.specs.declared.part.Part.{Part}
 use Rattle.nd_protocol.specs.declared.part.Part.TheVariants.{All, Points}
 use Rattle.nd_cluster.specs.Records.{IsPlanned}
-use Rattle.nd_record.specs.declared.record.Record.{Record}
+use Rattle.nd_steps.specs.declared.record.Record.{Record}
 
 -- all that is unsent
 abbrev pub IsWhole : {A : Type 0} → Part A → Type 0

@@ -1,6 +1,5 @@
 pub mod Records
-pub mod Made
-pub mod Tested
+pub mod Drafted
 pub mod Starting
 pub mod Choice
 pub mod Sinks

@@ -7,13 +7,13 @@ use Rattle.nd_protocol.specs.State.{ClusterState, truth}
 use Rattle.nd_protocol.specs.Steps.{point_at, stepped}
 use Rattle.nd_protocol.specs.Fitting.{IsState}
 use Rattle.nd_protocol.specs.Enabled.{IsEnabled}
-use Rattle.nd_protocol.specs.Invariant.{KeepsProtocol}
+use Rattle.nd_protocol.specs.Invariant.{KeepsProtocol, IsFinished}
 use Rattle.nd_protocol.specs.declared.step.Step.{Step}
 use Rattle.nd_protocol.specs.declared.step.Step.TheVariants.{Notice, Broadcast}
-use Rattle.nd_record.specs.Standing.{changed}
-use Rattle.nd_record.specs.Records.{named, Makes}
-use Rattle.nd_record.specs.declared.record.Changes.{Changes}
-use Rattle.nd_record.specs.declared.record.Record.{Record}
+use Rattle.nd_steps.specs.Standing.{changed}
+use Rattle.nd_steps.specs.Records.{named, named_by, Makes, MakesBy}
+use Rattle.nd_steps.specs.declared.record.Changes.{Changes}
+use Rattle.nd_steps.specs.declared.record.Record.{Record}
 
 -- how many ends of queues a step changes beyond those that are named
 abbrev pub shared : {A : Type 0} → ClusterState → Step A → ℕ
@@ -23,8 +23,8 @@ shared s _ = 0
 -- the changes are those of a step that is enabled, as few as can be
 pub record Plans {A : Type 0} (s : ClusterState) (x : Step A) (cs : Changes A) : Type 0 where
   pub enabled : IsEnabled s x
-  pub makes : Makes s cs (stepped s x)
-  pub small : named cs + shared s x ≡ changed s (stepped s x)
+  pub makes : MakesBy s x cs (stepped s x)
+  pub small : named_by x cs + shared s x ≡ changed s (stepped s x)
 
 -- if the step is a notice, and the cluster has the protocol invariant, nothing outstanding is strictly before it
 abbrev pub ComesLast : {A : Type 0} → ClusterState → Step A → Type 0
@@ -36,8 +36,8 @@ ComesLast s _ = Unit {0}
 pub record IsPlanned {A : Type 0} (r : Record A) (s : ClusterState) : Type 0 where
   pub state : IsState s
   pub enabled : IsEnabled s r.step
-  pub makes : Makes s r.changes (stepped s r.step)
-  pub small : named r.changes + shared s r.step ≡ changed s (stepped s r.step)
+  pub makes : Makes s r (stepped s r.step)
+  pub small : named r + shared s r.step ≡ changed s (stepped s r.step)
 
 -- the record was planned in s, and its step leads to t
 pub record Leads {A : Type 0} (r : Record A) (s t : ClusterState) : Type 0 where
@@ -48,3 +48,7 @@ pub record Leads {A : Type 0} (r : Record A) (s t : ClusterState) : Type 0 where
 pub record IsCommitted {A : Type 0} (r : Record A) (t : ClusterState) : Type 0 where
   pub state : ClusterState
   pub leads : Leads r state t
+
+-- what is finished stays finished
+abbrev pub StaysFinished : ClusterState → ClusterState → Type 0
+StaysFinished s t = (x : Pointstamp) → IsFinished s x → IsFinished t x

@@ -5,8 +5,9 @@ ghost use Rattle.nd_time.specs.Limits.{max_counter, max_values};
 ghost use Rattle.nd_time.specs.Time.{last_of};
 ghost use Rattle.nd_protocol.specs.State.{processor};
 ghost use Rattle.nd_protocol.specs.Steps.{target_of};
-ghost use Rattle.nd_work.specs.Drafts.{TakesSo, NoticesSo};
-ghost use Rattle.nd_cluster.specs.Tested.{TakePasses, TakeRefused, NoticePasses, NoticeRefused};
+ghost use Rattle.nd_steps.specs.Drafts.{TakesSo, NoticesSo};
+ghost use Rattle.nd_protocol.specs.Enabled.{IsFreeBelow, IsRefused};
+ghost use Rattle.nd_cluster.specs.Drafted.{take_of, notice_of};
 
 use crate::refuse::op_at;
 use crate::{Cluster, Refusal};
@@ -42,12 +43,12 @@ impl<A: Allocator + Copy> Cluster<A> {
         target: usize,
     ) -> Result<(Effect<A>, bool), Refusal>
         requires target { target ≡ target_of self.now.graph key.now.point.location }
-        requires free { TakePasses self.now p key.now.point.location key.now.point.time key.now.value 11 }
+        requires free { IsFreeBelow {A = A} self.now (take_of p key.now) 11 }
         ensures does { IfOk result (λ r. TakesSo self.now p target key.now r.0 r.1) }
         ensures few { IfOk result (λ r. length r.0.emits.items ≤ max_values) }
-        ensures free { OnOk result (TakePasses self.now p key.now.point.location key.now.point.time key.now.value 13) }
-        ensures refused { IfErr result (λ r. r ≢ Refusal.Memory → TakeRefused self.now p key.now.point.location key.now.point.time key.now.value r) }
-        ensures memory { result ≡ Err Refusal.Memory → TakePasses self.now p key.now.point.location key.now.point.time key.now.value 13 }
+        ensures free { OnOk result (IsFreeBelow {A = A} self.now (take_of p key.now) 13) }
+        ensures refused { IfErr result (λ r. r ≢ Refusal.Memory → IsRefused {A = A} self.now (take_of p key.now) r) }
+        ensures memory { result ≡ Err Refusal.Memory → IsFreeBelow {A = A} self.now (take_of p key.now) 13 }
     {
         let alloc = self.alloc;
         innermost_counter_fits(&key.point.time);
@@ -72,15 +73,16 @@ impl<A: Allocator + Copy> Cluster<A> {
     // What a vertex does on a notice that was asked for, or why it is refused, but for the limits.
     pub(crate) fn notice_effect(&self, p: u32, point: &Pointstamp) -> Result<Effect<A>, Refusal>
         requires asked { fin.get (processor self.now p).requests point.now ≡ Some tt }
-        requires free { NoticePasses self.now p point.now.location point.now.time 10 }
+        requires free { IsFreeBelow {A = A} self.now (notice_of p point.now) 10 }
         ensures does { IfOk result (NoticesSo self.now p point.now) }
         ensures few { IfOk result (λ e. length e.emits.items ≤ max_values) }
-        ensures free { OnOk result (NoticePasses self.now p point.now.location point.now.time 13) }
-        ensures refused { IfErr result (λ r. r ≢ Refusal.Memory → NoticeRefused self.now p point.now.location point.now.time r) }
-        ensures memory { result ≡ Err Refusal.Memory → NoticePasses self.now p point.now.location point.now.time 13 }
+        ensures free { OnOk result (IsFreeBelow {A = A} self.now (notice_of p point.now) 13) }
+        ensures refused { IfErr result (λ r. r ≢ Refusal.Memory → IsRefused {A = A} self.now (notice_of p point.now) r) }
+        ensures memory { result ≡ Err Refusal.Memory → IsFreeBelow {A = A} self.now (notice_of p point.now) 13 }
     {
-        let view = &self.views[p as usize];
-        if let Some(blocker) = view.blocker_before(&self.paths, point) {
+        let _ = self.processor_count();
+        let view = self.view(p as usize);
+        if let Some(blocker) = view.blocker_before(self.paths(), point) {
             return Err(Refusal::NotYet { blocker });
         }
         let op = op_at(self.graph(), point.location);

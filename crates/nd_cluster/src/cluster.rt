@@ -1,8 +1,9 @@
 //! A cluster of processors, and its readers.
-ghost use Rattle.std.specs.Prelude.{◌≡◌, ◌<◌, ◌↔◌, length, IfSome, IsNone, IsTrue};
+ghost use Rattle.std.specs.Prelude.{◌≡◌, ◌<◌, ◌↔◌, All, length, IfSome, IsNone, IsTrue};
 ghost use Rattle.nd_delta.specs.Least.{IsLeast};
 ghost use Rattle.nd_view.specs.View.{IsPassed, IsBlocker};
 ghost use Rattle.nd_view.specs.Kept.{IsFor};
+ghost use Rattle.nd_view.specs.Views.{maps};
 ghost use Rattle.nd_protocol.specs.State.{processor, view, queue};
 ghost use Rattle.nd_protocol.specs.Fitting.{IsState};
 ghost use Rattle.nd_protocol.specs.Invariant.{KeepsProtocol, IsFinished};
@@ -12,6 +13,7 @@ use nd_mesh::Mesh;
 use nd_paths::{Paths, Pointstamp};
 use nd_processor::Processor;
 use nd_protocol::protocol_is_safe;
+use nd_steps::Parts;
 use nd_view::View;
 use std::alloc::{Allocator, Global};
 use std::marker::Model;
@@ -19,35 +21,26 @@ use std::marker::Model;
 /// A cluster of processors that run a dataflow graph (Naiad, SOSP 2013, section 3.3).
 pub struct Cluster<A: Allocator + Copy = Global> {
     pub(crate) alloc: A,
-    pub(crate) paths: Paths<A>,
-    pub(crate) processors: Vec<Processor<A>, A>,
-    pub(crate) views: Vec<View<A>, A>,
-    pub(crate) mesh: Mesh<A>,
+    pub(crate) parts: Parts<A>,
 }
 
 impl<A: Allocator + Copy> Drop for Cluster<A> {
     fn drop(self) {
-        let Cluster {
-            alloc: _,
-            paths: _,
-            processors: _,
-            views: _,
-            mesh: _,
-        } = self;
+        let Cluster { alloc: _, parts: _ } = self;
     }
 }
 
 impl<A: Allocator + Copy> Model for Cluster<A> {
     ghost use Rattle.nd_protocol.specs.State.{ClusterState, cluster_code};
-    ghost use Rattle.nd_record.specs.Seen.{seen, IsSeen};
+    ghost use Rattle.nd_protocol.specs.Fitting.{IsState};
 
     ghost Value = { ClusterState };
 
     ghost coded = { cluster_code };
 
-    ghost view = { λ a. seen a.paths a.processors.items a.views.items a.mesh };
+    ghost view = { λ a. a.parts };
 
-    ghost invariant = { λ a. IsSeen a.paths a.processors.items a.views.items a.mesh };
+    ghost invariant = { λ a. IsState a.parts };
 }
 
 impl<A: Allocator + Copy> Cluster<A> {
@@ -57,21 +50,21 @@ impl<A: Allocator + Copy> Cluster<A> {
         ensures value { result ≡ length self.now.processors }
         ensures state { IsState self.now }
     {
-        self.processors.len()
+        self.parts.n()
     }
 
     /// The graph that it runs.
     pub fn graph(&self) -> &Graph<A>
         ensures { result.now ≡ self.now.graph }
     {
-        self.paths.graph()
+        self.parts.graph()
     }
 
     /// The paths of its graph.
     pub fn paths(&self) -> &Paths<A>
         ensures { result.now ≡ self.now.graph }
     {
-        &self.paths
+        self.parts.paths()
     }
 
     /// One of its processors.
@@ -79,7 +72,15 @@ impl<A: Allocator + Copy> Cluster<A> {
         requires { p < length self.now.processors }
         ensures { result.now ≡ processor self.now p }
     {
-        &self.processors[p]
+        self.parts.processor(p)
+    }
+
+    // Its processors.
+    pub(crate) fn processors(&self) -> &[Processor<A>]
+        ensures value { result.now ≡ self.now.processors }
+        ensures state { IsState self.now }
+    {
+        self.parts.processors()
     }
 
     /// What processor q knows of the outstanding pointstamps.
@@ -88,7 +89,7 @@ impl<A: Allocator + Copy> Cluster<A> {
         ensures map { result.now.map ≡ view self.now q }
         ensures paths { IsFor self.now.graph result.now }
     {
-        &self.views[q]
+        self.parts.view(q)
     }
 
     /// Whether processor q's view holds nothing positive at or before a pointstamp (FORTE 2013).
@@ -98,7 +99,8 @@ impl<A: Allocator + Copy> Cluster<A> {
         ensures finished { IsTrue result → KeepsProtocol self.now → IsFinished self.now point.now }
     {
         protocol_is_safe::<A>();
-        self.view(q).passed(&self.paths, point)
+        let _ = self.n();
+        self.view(q).passed(self.paths(), point)
     }
 
     /// The least pointstamp at or before one at which processor q's view is positive.
@@ -109,7 +111,25 @@ impl<A: Allocator + Copy> Cluster<A> {
         ensures finished { IsNone result → KeepsProtocol self.now → IsFinished self.now point.now }
     {
         protocol_is_safe::<A>();
-        self.view(q).blocker(&self.paths, point)
+        let _ = self.n();
+        self.view(q).blocker(self.paths(), point)
+    }
+
+    // Its views.
+    pub(crate) fn views(&self) -> &[View<A>]
+        ensures maps { maps result.now ≡ self.now.views }
+        ensures paths { All (IsFor self.now.graph) result.now }
+        ensures state { IsState self.now }
+    {
+        self.parts.views()
+    }
+
+    // Its queues.
+    pub(crate) fn mesh(&self) -> &Mesh<A>
+        ensures value { result.now ≡ self.now.queues }
+        ensures state { IsState self.now }
+    {
+        self.parts.mesh()
     }
 
     /// How many changes are on their way from one processor to another.
@@ -118,6 +138,6 @@ impl<A: Allocator + Copy> Cluster<A> {
         requires receiver { to < length self.now.processors }
         ensures { result ≡ length (queue self.now from to) }
     {
-        self.mesh.len(from, to)
+        self.mesh().len(from, to)
     }
 }

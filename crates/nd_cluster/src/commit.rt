@@ -2,13 +2,12 @@
 ghost use Rattle.std.specs.Prelude.{◌≡◌, OnOk, OnErr};
 ghost use Rattle.nd_protocol.specs.State.{ClusterState};
 ghost use Rattle.nd_protocol.specs.Steps.{stepped};
-ghost use Rattle.nd_protocol.specs.Invariant.{IsSettled, KeepsProtocol, IsFinished};
-ghost use Rattle.nd_paths.specs.declared.point.Pointstamp.{Pointstamp};
-ghost use Rattle.nd_cluster.specs.Records.{IsPlanned, Leads, IsCommitted};
+ghost use Rattle.nd_protocol.specs.Invariant.{IsSettled, KeepsProtocol};
+ghost use Rattle.nd_cluster.specs.Records.{IsPlanned, Leads, IsCommitted, StaysFinished};
 
 use crate::Cluster;
 use nd_protocol::{NoMemory, protocol_is_safe, steps_keep_protocol};
-use nd_record::Record;
+use nd_steps::Record;
 use std::alloc::Allocator;
 
 impl<A: Allocator + Copy> Cluster<A> {
@@ -20,18 +19,12 @@ impl<A: Allocator + Copy> Cluster<A> {
         ensures leads { OnOk result (Leads planned.now self.old self.new) }
         ensures settled { OnOk result (IsSettled self.old → IsSettled self.new) }
         ensures protocol { OnOk result (KeepsProtocol self.old → KeepsProtocol self.new) }
-        ensures finished { OnOk result (KeepsProtocol self.old → (x : Pointstamp) → IsFinished self.old x → IsFinished self.new x) }
+        ensures finished { OnOk result (KeepsProtocol self.old → StaysFinished self.old self.new) }
         ensures err { OnErr result (self.new ≡ self.old) }
     {
         protocol_is_safe::<A>();
         steps_keep_protocol::<A>();
-        let Ok(()) = planned.changes.make(
-            &mut self.processors,
-            &mut self.views,
-            &mut self.mesh,
-            &self.paths,
-        )
-        else {
+        let Ok(()) = self.parts.commit(planned) else {
             return Err(NoMemory);
         };
         Ok(())
@@ -43,14 +36,7 @@ impl<A: Allocator + Copy> Cluster<A> {
         ensures ok { OnOk result ((s : ClusterState) → Leads made.now s self.old → self.new ≡ s) }
         ensures err { OnErr result (self.new ≡ self.old) }
     {
-        let Ok(()) = made.changes.undo(
-            self.alloc,
-            &mut self.processors,
-            &mut self.views,
-            &mut self.mesh,
-            &self.paths,
-        )
-        else {
+        let Ok(()) = self.parts.back(self.alloc, made) else {
             return Err(NoMemory);
         };
         Ok(())

@@ -5,7 +5,6 @@ mod acting;
 mod choice;
 mod cluster;
 mod commit;
-mod made;
 mod parts;
 mod plan;
 mod readers;
@@ -17,8 +16,7 @@ mod text;
 mod work;
 
 pub use cluster::Cluster;
-pub use made::Made;
 pub use nd_protocol::{Next, NoMemory, Part, Points, Refusal, Step, Values};
-pub use nd_record::{Change, Changes, Entries, Entry, Record};
+pub use nd_steps::{Change, Changes, Entries, Entry, Record, Slot};
 pub use nd_why::{Held, Reason, Reasons, Unheard};
 pub use start::StartFault;

@@ -4,9 +4,10 @@ ghost use Rattle.std.specs.FinMap as fin;
 ghost use Rattle.nd_graph.specs.Graph.{op_at as operator_at};
 ghost use Rattle.nd_graph.specs.declared.op.Op.TheVariants as operator;
 ghost use Rattle.nd_map.specs.Counts.{entries as counts_of};
+ghost use Rattle.nd_delta.specs.Delta.{entries as entries_of};
 ghost use Rattle.nd_processor.specs.State.{items_at, token_point as point_of_token};
 ghost use Rattle.nd_cluster.specs.Parts.{IsRecordKey, IsItem, IsSinkKey, ItemsFit, RowFits, RowIsWithin};
-ghost use Rattle.nd_record.specs.Seen.{seen};
+ghost use Rattle.nd_steps.specs.Seen.{seen};
 ghost use Rattle.nd_mesh.specs.Mesh.{queue};
 ghost use Rattle.nd_view.specs.Kept.{Kept, IsFor};
 ghost use Rattle.nd_protocol.specs.Ranges.{IsValue};
@@ -21,6 +22,7 @@ use nd_mesh::Mesh;
 use nd_paths::{Paths, Pointstamp};
 use nd_processor::{Processor, SinkKey, ValueAt};
 use nd_protocol::times_are_small;
+use nd_steps::Parts;
 use nd_vertex::{ItemKey, VertexState};
 use nd_view::View;
 use std::alloc::Allocator;
@@ -103,60 +105,46 @@ fn item_fits<A: Allocator>(graph: &Graph<A>, vertex: usize, key: &ItemKey, numbe
 fn records_fit<A: Allocator + Copy>(graph: &Graph<A>, processor: &Processor<A>) -> bool
     ensures { IsTrue result ↔ All (λ e. e.1 ≢ 0 → IsRecordKey graph.now e.0) (counts_of processor.now.records) }
 {
-    for (key, count) in processor.records() {
-        if !record_fits(graph, key, count) {
-            return false;
-        }
-    }
-    true
+    processor
+        .records()
+        .all(|e: (&ValueAt, &u64)| record_fits(graph, e.0, e.1))
 }
 
 // Whether its requests are at vertices.
 fn requests_fit<A: Allocator + Copy>(graph: &Graph<A>, processor: &Processor<A>) -> bool
     ensures { IsTrue result ↔ All (λ e. IsAtVertex graph.now e.0) (fin.entries processor.now.requests) }
 {
-    for (key, _) in processor.requests() {
-        if !is_at_vertex(graph, key) {
-            return false;
-        }
-    }
-    true
+    processor
+        .requests()
+        .all(|e: (&Pointstamp, &())| is_at_vertex(graph, e.0))
 }
 
 // Whether its tokens are those of input vertices.
 fn tokens_fit<A: Allocator + Copy>(graph: &Graph<A>, processor: &Processor<A>) -> bool
     ensures { IsTrue result ↔ All (λ e. (operator_at graph.now e.0 ≡ operator.Input) × IsAtVertex graph.now (point_of_token e.0 e.1)) (fin.entries processor.now.tokens) }
 {
-    for token in processor.tokens() {
-        if !token_fits(graph, token.0, token.1) {
-            return false;
-        }
-    }
-    true
+    processor
+        .tokens()
+        .iter()
+        .all(|e: &(usize, u32)| token_fits(graph, e.0, e.1))
 }
 
 // Whether its sinks are sinks.
 fn sinks_fit<A: Allocator + Copy>(graph: &Graph<A>, processor: &Processor<A>) -> bool
     ensures { IsTrue result ↔ All (λ e. e.1 ≢ 0 → IsSinkKey graph.now e.0) (counts_of processor.now.sinks) }
 {
-    for (key, count) in processor.sinks() {
-        if !sink_fits(graph, key, count) {
-            return false;
-        }
-    }
-    true
+    processor
+        .sinks()
+        .all(|e: (&SinkKey, &u64)| sink_fits(graph, e.0, e.1))
 }
 
 // Whether a vertex keeps items at its own times.
 fn state_fits<A: Allocator + Copy>(graph: &Graph<A>, vertex: usize, state: &VertexState<A>) -> bool
     ensures { IsTrue result ↔ ItemsFit graph.now vertex state.now }
 {
-    for (key, number) in state.entries() {
-        if !item_fits(graph, vertex, key, number) {
-            return false;
-        }
-    }
-    true
+    state
+        .entries()
+        .all(|e: (&ItemKey, &i64)| item_fits(graph, vertex, e.0, e.1))
 }
 
 // Whether each vertex of a processor does.
@@ -175,12 +163,9 @@ fn items_fit<A: Allocator + Copy>(graph: &Graph<A>, processor: &Processor<A>) ->
 fn entries_fit<A: Allocator>(graph: &Graph<A>, entries: &[(Pointstamp, i64)]) -> bool
     ensures { IsTrue result ↔ All (λ e. IsAtLocation graph.now e.0) entries.now }
 {
-    for entry in entries {
-        if !is_at_location(graph, &entry.0) {
-            return false;
-        }
-    }
-    true
+    entries
+        .iter()
+        .all(|e: &(Pointstamp, i64)| is_at_location(graph, &e.0))
 }
 
 // Whether a change has entries at pointstamps of the graph alone.
@@ -193,14 +178,12 @@ fn change_fits<A: Allocator>(graph: &Graph<A>, change: &Delta<A>) -> bool
 
 // Whether what a processor has not sent is at pointstamps of the graph alone.
 fn unsent_fits<A: Allocator + Copy>(graph: &Graph<A>, processor: &Processor<A>) -> bool
-    ensures { IsTrue result ↔ DeltaFits graph.now processor.now.unsent }
+    ensures { IsTrue result ↔ All (λ e. IsAtLocation graph.now e.0) (entries_of processor.now.unsent) }
 {
-    for (key, _) in processor.unsent().iter() {
-        if !is_at_location(graph, key) {
-            return false;
-        }
-    }
-    true
+    processor
+        .unsent()
+        .iter()
+        .all(|e: (&Pointstamp, &i64)| is_at_location(graph, e.0))
 }
 
 // The types keep the counts of a processor within their limits.
@@ -358,7 +341,7 @@ impl<A: Allocator + Copy> Cluster<A> {
         requires views { All (IsFor graph.now) views.items }
         ensures some { IfSome result (λ c. c ≡ seen graph.now processors.items views.items mesh) }
         ensures state { IfSome result IsState }
-        ensures none { IsNone result → IsState (seen graph.now processors.items views.items mesh) → ⊥ }
+        ensures none { IsNone result → ¬ IsState (seen graph.now processors.items views.items mesh) }
     {
         let _ = graph;
         if !parts_fit(&paths, &processors, &views, &mesh) {
@@ -366,10 +349,7 @@ impl<A: Allocator + Copy> Cluster<A> {
         }
         Some(Cluster {
             alloc,
-            paths,
-            processors,
-            views,
-            mesh,
+            parts: Parts::new(paths, processors, views, mesh),
         })
     }
 }

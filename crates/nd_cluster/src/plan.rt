@@ -3,30 +3,18 @@ ghost use Rattle.std.specs.Prelude.{◌≡◌, ◌≢◌, ◌+◌, Err, IfOk, If
 ghost use Rattle.nd_protocol.specs.Steps.{stepped};
 ghost use Rattle.nd_protocol.specs.Ranges.{NumbersFit};
 ghost use Rattle.nd_protocol.specs.Enabled.{IsEnabled, IsRefused, MayWantMemory};
-ghost use Rattle.nd_work.specs.Edits.{Works};
-ghost use Rattle.nd_record.specs.Standing.{changed};
-ghost use Rattle.nd_record.specs.Records.{named};
+ghost use Rattle.nd_steps.specs.Standing.{changed};
+ghost use Rattle.nd_steps.specs.Records.{named};
 ghost use Rattle.nd_cluster.specs.Records.{shared, Plans, ComesLast, IsPlanned};
 ghost use Rattle.nd_protocol.specs.declared.step.Step.TheVariants.{Broadcast as Sending, Receive as Receiving};
 ghost use Rattle.nd_protocol.specs.declared.refusal.Refusal.TheVariants.{Memory};
 
 use crate::{Changes, Cluster, Part, Record, Refusal, Step};
-use nd_exchange::{planned_front, planned_part};
 use nd_protocol::protocol_is_safe;
-use nd_record::changes_are_counted;
+use nd_steps::{changes_are_counted, planned_front, planned_part};
 use std::alloc::Allocator;
 
 impl<A: Allocator + Copy> Cluster<A> {
-    // What a feed, a take or a notice changes, or why it is refused.
-    fn work_plan(&self, step: &Step<A>) -> Result<Changes<A>, Refusal>
-        requires { Works step.now }
-        ensures ok { IfOk result (Plans self.now step.now) }
-        ensures refused { IfErr result (λ r. r ≢ Memory → IsRefused self.now step.now r) }
-        ensures memory { result ≡ Err Memory → MayWantMemory self.now step.now }
-    {
-        Ok(Changes::Each(self.work_changes(step)?))
-    }
-
     // What a broadcast changes, or why it is refused.
     fn broadcast_changes(&self, p: u32, part: &Part<A>) -> Result<Changes<A>, Refusal>
         requires { NumbersFit {A = A} (Sending p part.now) }
@@ -40,8 +28,8 @@ impl<A: Allocator + Copy> Cluster<A> {
         if sender >= self.n() {
             return Err(Refusal::NoProcessor);
         }
-        let change = planned_part(self.alloc, &self.paths, self.processor(sender), part)?;
-        if self.mesh.is_full(sender) {
+        let change = planned_part(self.alloc, self.paths(), self.processor(sender), part)?;
+        if self.mesh().is_full(sender) {
             return Err(Refusal::QueueFull);
         }
         Ok(Changes::Sent { p, part: change })
@@ -60,8 +48,8 @@ impl<A: Allocator + Copy> Cluster<A> {
         if sender >= self.n() || receiver >= self.n() {
             return Err(Refusal::NoProcessor);
         }
-        let view = &self.views[receiver];
-        let change = planned_front(self.alloc, view, &self.mesh, sender, receiver)?;
+        let view = self.view(receiver);
+        let change = planned_front(self.alloc, view, self.mesh(), sender, receiver)?;
         Ok(Changes::Received { from, to, change })
     }
 
@@ -75,7 +63,7 @@ impl<A: Allocator + Copy> Cluster<A> {
         match step {
             Step::Broadcast { p, part } => self.broadcast_changes(*p, part),
             Step::Receive { from, to } => self.receive_changes(*from, *to),
-            Step::Feed { .. } | Step::Take { .. } | Step::Notice { .. } => self.work_plan(step),
+            Step::Feed { .. } | Step::Take { .. } | Step::Notice { .. } => self.work_changes(step),
         }
     }
 
@@ -101,7 +89,7 @@ impl<A: Allocator + Copy> Cluster<A> {
         ensures last { OnOk result (ComesLast self.now step.now) }
         ensures step { IfOk result (λ r. r.step ≡ step.now) }
         ensures planned { IfOk result (λ r. IsPlanned r self.now) }
-        ensures small { IfOk result (λ r. named r.changes + shared self.now step.now ≡ changed self.now (stepped self.now step.now)) }
+        ensures small { IfOk result (λ r. named r + shared self.now step.now ≡ changed self.now (stepped self.now step.now)) }
         ensures refused { IfErr result (λ r. r ≢ Memory → IsRefused self.now step.now r) }
         ensures memory { result ≡ Err Memory → MayWantMemory self.now step.now }
     {

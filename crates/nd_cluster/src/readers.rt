@@ -11,7 +11,6 @@ use crate::start::token_point;
 use nd_paths::Pointstamp;
 use nd_processor::Processor;
 use nd_protocol::truth_is_small;
-use nd_view::View;
 use std::alloc::{AllocError, Allocator};
 
 // How many requests a processor has at a pointstamp: one or none.
@@ -54,34 +53,6 @@ fn count_all<A: Allocator + Copy>(processors: &[Processor<A>], point: &Pointstam
     total
 }
 
-// Equal processors.
-fn copied_processors<A: Allocator + Copy>(
-    alloc: A,
-    processors: &[Processor<A>],
-) -> Result<Vec<Processor<A>, A>, AllocError>
-    ensures { IfOk result (λ v. v.items ≡ processors.now) }
-{
-    let mut copied = Vec::with_capacity(alloc, processors.len())?;
-    for processor in processors {
-        copied.push(processor.copy(alloc)?)?;
-    }
-    Ok(copied)
-}
-
-// Equal views.
-fn copied_views<A: Allocator + Copy>(
-    alloc: A,
-    views: &[View<A>],
-) -> Result<Vec<View<A>, A>, AllocError>
-    ensures { IfOk result (λ v. v.items ≡ views.now) }
-{
-    let mut copied = Vec::with_capacity(alloc, views.len())?;
-    for view in views {
-        copied.push(view.copy(alloc)?)?;
-    }
-    Ok(copied)
-}
-
 impl<A: Allocator + Copy> Cluster<A> {
     /// How many records, requests and tokens there are at a pointstamp, over all processors.
     pub fn count(&self, point: &Pointstamp) -> u128
@@ -89,7 +60,7 @@ impl<A: Allocator + Copy> Cluster<A> {
         ensures small { IsSettled self.now → result < 2 ^ 63 }
     {
         truth_is_small();
-        count_all(&self.processors, point)
+        count_all(self.processors(), point)
     }
 
     /// An equal cluster.
@@ -98,10 +69,7 @@ impl<A: Allocator + Copy> Cluster<A> {
     {
         Ok(Cluster {
             alloc,
-            paths: self.paths.copy(alloc)?,
-            processors: copied_processors(alloc, &self.processors)?,
-            views: copied_views(alloc, &self.views)?,
-            mesh: self.mesh.copy(alloc)?,
+            parts: self.parts.copy(alloc)?,
         })
     }
 }

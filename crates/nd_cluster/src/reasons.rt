@@ -32,10 +32,10 @@ impl<A: Allocator + Copy> Cluster<A> {
     {
         let told = why(
             alloc,
-            &self.paths,
-            &self.processors,
-            &self.views,
-            &self.mesh,
+            self.paths(),
+            self.processors(),
+            self.views(),
+            self.mesh(),
             q,
             point,
         );
@@ -49,6 +49,8 @@ impl<A: Allocator + Copy> Cluster<A> {
     pub fn finished(&self, point: &Pointstamp) -> bool
         ensures { IsTrue result ↔ IsFinished self.now point.now }
     {
-        finished(&self.paths, &self.processors, point)
+        let _ = self.views();
+        let _ = self.mesh();
+        finished(self.paths(), self.processors(), point)
     }
 }

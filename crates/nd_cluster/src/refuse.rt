@@ -6,7 +6,9 @@ ghost use Rattle.nd_graph.specs.Graph.{op_at as operator_at};
 ghost use Rattle.nd_graph.specs.declared.op.Op.TheVariants as operator;
 ghost use Rattle.nd_protocol.specs.State.{processor};
 ghost use Rattle.nd_protocol.specs.Steps.{target_of};
-ghost use Rattle.nd_cluster.specs.Tested.{FeedPasses, FeedRefused, TakePasses, TakeRefused, NoticePasses, NoticeRefused};
+ghost use Rattle.nd_protocol.specs.Enabled.{IsFreeBelow, IsRefused};
+ghost use Rattle.nd_protocol.specs.declared.step.Step.TheVariants.{Feed as Feeding};
+ghost use Rattle.nd_cluster.specs.Drafted.{take_of, notice_of};
 
 use crate::{Cluster, Next, Refusal};
 use nd_graph::{Graph, Op};
@@ -44,8 +46,8 @@ impl<A: Allocator + Copy> Cluster<A> {
         next: Next,
     ) -> Result<u32, Refusal>
         ensures epoch { IfOk result (λ e. fin.get (processor self.now p).tokens vertex ≡ Some e) }
-        ensures free { OnOk result (FeedPasses self.now p vertex values.now next 13) }
-        ensures refused { IfErr result (FeedRefused self.now p vertex values.now next) }
+        ensures free { OnOk result (IsFreeBelow {A = A} self.now (Feeding p vertex values.now next) 13) }
+        ensures refused { IfErr result (IsRefused {A = A} self.now (Feeding p vertex values.now next)) }
     {
         if p as usize >= self.n() {
             return Err(Refusal::NoProcessor);
@@ -72,8 +74,8 @@ impl<A: Allocator + Copy> Cluster<A> {
     // The vertex that an edge enters, or why the take of a record off it is refused before the vertex is asked.
     pub(crate) fn take_target(&self, p: u32, key: &ValueAt) -> Result<usize, Refusal>
         ensures target { IfOk result (λ v. v ≡ target_of self.now.graph key.now.point.location) }
-        ensures free { OnOk result (TakePasses self.now p key.now.point.location key.now.point.time key.now.value 11) }
-        ensures refused { IfErr result (TakeRefused self.now p key.now.point.location key.now.point.time key.now.value) }
+        ensures free { OnOk result (IsFreeBelow {A = A} self.now (take_of p key.now) 11) }
+        ensures refused { IfErr result (IsRefused {A = A} self.now (take_of p key.now)) }
     {
         if p as usize >= self.n() {
             return Err(Refusal::NoProcessor);
@@ -96,8 +98,8 @@ impl<A: Allocator + Copy> Cluster<A> {
     // Whether a notice was asked for on a processor, and why it is refused.
     pub(crate) fn notice_asked(&self, p: u32, point: &Pointstamp) -> Result<(), Refusal>
         ensures asked { OnOk result (fin.get (processor self.now p).requests point.now ≡ Some tt) }
-        ensures free { OnOk result (NoticePasses self.now p point.now.location point.now.time 10) }
-        ensures refused { IfErr result (NoticeRefused self.now p point.now.location point.now.time) }
+        ensures free { OnOk result (IsFreeBelow {A = A} self.now (notice_of p point.now) 10) }
+        ensures refused { IfErr result (IsRefused {A = A} self.now (notice_of p point.now)) }
     {
         if p as usize >= self.n() {
             return Err(Refusal::NoProcessor);

@@ -24,6 +24,6 @@ impl<A: Allocator + Copy> Cluster<A> {
     pub fn sink_count(&self, vertex: usize, value: i64) -> u64
         ensures { result ≡ sunk self.now.processors vertex value }
     {
-        count_sinks(&self.processors, vertex, value)
+        count_sinks(self.processors(), vertex, value)
     }
 }

@@ -17,6 +17,7 @@ use nd_mesh::Mesh;
 use nd_paths::{PathFault, Paths, Pointstamp};
 use nd_processor::Processor;
 use nd_protocol::starts_keep_protocol;
+use nd_steps::Parts;
 use nd_time::{Code, Timestamp};
 use nd_view::View;
 use std::alloc::{AllocError, Allocator};
@@ -169,10 +170,7 @@ impl<A: Allocator + Copy> Cluster<A> {
         };
         Ok(Cluster {
             alloc,
-            paths,
-            processors,
-            views,
-            mesh,
+            parts: Parts::new(paths, processors, views, mesh),
         })
     }
 }

@@ -19,9 +19,9 @@ fn cluster_value<A: Allocator + Copy>(
     state_value(
         alloc,
         graph,
-        &cluster.processors,
-        &cluster.views,
-        &cluster.mesh,
+        cluster.processors(),
+        cluster.views(),
+        cluster.mesh(),
     )
 }
 

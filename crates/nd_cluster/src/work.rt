@@ -2,19 +2,30 @@
 ghost use Rattle.std.specs.Prelude.{◌≡◌, ◌≢◌, Err, IfOk, IfErr, OnOk, length};
 ghost use Rattle.nd_protocol.specs.Steps.{stepped};
 ghost use Rattle.nd_protocol.specs.Fitting.{IsState};
-ghost use Rattle.nd_protocol.specs.Enabled.{IsEnabled, IsFreeBelow, IsRefused, MayWantMemory};
-ghost use Rattle.nd_work.specs.Edits.{Works};
-ghost use Rattle.nd_record.specs.Plans.{Reaches, LeadsTo};
-ghost use Rattle.nd_cluster.specs.Tested.{FeedPasses, FeedRefused, TakePasses, TakeRefused, NoticePasses, NoticeRefused};
-ghost use Rattle.nd_protocol.specs.declared.step.Step.TheVariants.{Feed as Feeding, Take as Taking, Notice as Noticing};
+ghost use Rattle.nd_protocol.specs.Enabled.{IsFreeBelow, IsRefused, MayWantMemory};
+ghost use Rattle.nd_steps.specs.Edits.{Works};
+ghost use Rattle.nd_steps.specs.Plans.{Reaches};
+ghost use Rattle.nd_cluster.specs.Records.{Plans};
+ghost use Rattle.nd_cluster.specs.Drafted.{take_of, notice_of, IsDraft};
+ghost use Rattle.nd_protocol.specs.declared.step.Step.TheVariants.{Feed as Feeding};
 ghost use Rattle.nd_protocol.specs.declared.refusal.Refusal.TheVariants.{Memory};
 
-use crate::{Change, Cluster, Next, Refusal, Step};
+use crate::{Change, Changes, Cluster, Next, Refusal, Step};
 use nd_paths::Pointstamp;
 use nd_processor::ValueAt;
-use nd_record::planned_changes;
-use nd_work::{feed_changes, notice_changes, take_changes};
+use nd_steps::{
+    Come, Fed, Performer, Taken, feed_changes, notice_changes, ordered_flow, planned_changes,
+    take_changes, take_flow,
+};
 use std::alloc::Allocator;
+
+// What a feed, a take or a notice changes, before the limits are tested and the order is known.
+#[derive(Drop)]
+pub(crate) enum Drafted<A: Allocator + Copy> {
+    Each(Vec<Change, A>),
+    // What comes for a record that processor p takes: nothing else changes.
+    Flow { p: u32, gone: ValueAt, come: Come },
+}
 
 impl<A: Allocator + Copy> Cluster<A> {
     // How many processors it has; it is a state.
@@ -35,56 +46,89 @@ impl<A: Allocator + Copy> Cluster<A> {
         next: Next,
     ) -> Result<Vec<Change, A>, Refusal>
         ensures reaches { IfOk result (λ v. Reaches self.now (stepped {A = A} self.now (Feeding p vertex values.now next)) v.items) }
-        ensures free { OnOk result (FeedPasses self.now p vertex values.now next 13) }
-        ensures refused { IfErr result (λ r. r ≢ Memory → FeedRefused self.now p vertex values.now next r) }
-        ensures memory { result ≡ Err Memory → FeedPasses self.now p vertex values.now next 13 }
+        ensures free { OnOk result (IsFreeBelow {A = A} self.now (Feeding p vertex values.now next) 13) }
+        ensures refused { IfErr result (λ r. r ≢ Memory → IsRefused {A = A} self.now (Feeding p vertex values.now next) r) }
+        ensures memory { result ≡ Err Memory → IsFreeBelow {A = A} self.now (Feeding p vertex values.now next) 13 }
     {
         let epoch = self.feed_epoch(p, vertex, values, next)?;
+        let graph = self.graph();
         let n = self.processor_count();
-        let Ok(all) = feed_changes(self.alloc, self.graph(), n, p, vertex, epoch, values, next)
-        else {
+        let by = Performer {
+            graph,
+            n,
+            p,
+            vertex,
+        };
+        let fed = Fed {
+            epoch,
+            values,
+            next,
+        };
+        let Ok(all) = feed_changes(self.alloc, &by, &fed) else {
             return Err(Refusal::Memory);
         };
         Ok(all)
     }
 
-    // What a take changes, or why it is refused, but for the limits.
-    fn take_parts(&self, p: u32, key: &ValueAt) -> Result<Vec<Change, A>, Refusal>
-        ensures reaches { IfOk result (λ v. Reaches self.now (stepped {A = A} self.now (Taking p key.now.point.location key.now.point.time key.now.value)) v.items) }
-        ensures free { OnOk result (TakePasses self.now p key.now.point.location key.now.point.time key.now.value 13) }
-        ensures refused { IfErr result (λ r. r ≢ Memory → TakeRefused self.now p key.now.point.location key.now.point.time key.now.value r) }
-        ensures memory { result ≡ Err Memory → TakePasses self.now p key.now.point.location key.now.point.time key.now.value 13 }
+    // What a take changes, or why it is refused, but for the limits: if it can be kept in little, what comes.
+    fn take_parts(&self, p: u32, key: &ValueAt) -> Result<Drafted<A>, Refusal>
+        ensures drafted { IfOk result (IsDraft self.now (take_of p key.now)) }
+        ensures free { OnOk result (IsFreeBelow {A = A} self.now (take_of p key.now) 13) }
+        ensures refused { IfErr result (λ r. r ≢ Memory → IsRefused {A = A} self.now (take_of p key.now) r) }
+        ensures memory { result ≡ Err Memory → IsFreeBelow {A = A} self.now (take_of p key.now) 13 }
     {
         let target = self.take_target(p, key)?;
         let (effect, asks) = self.take_effect(p, key, target)?;
+        let graph = self.graph();
         let n = self.processor_count();
-        let Ok(all) = take_changes(self.alloc, self.graph(), n, p, key, target, &effect, asks)
-        else {
+        let by = Performer {
+            graph,
+            n,
+            p,
+            vertex: target,
+        };
+        let taken = Taken {
+            key,
+            effect: &effect,
+            asks,
+        };
+        if let Some(come) = take_flow(&by, &taken) {
+            let gone = key.copy();
+            return Ok(Drafted::Flow { p, gone, come });
+        }
+        let Ok(all) = take_changes(self.alloc, &by, &taken) else {
             return Err(Refusal::Memory);
         };
-        Ok(all)
+        Ok(Drafted::Each(all))
     }
 
     // What a notice changes, or why it is refused, but for the limits.
     fn notice_parts(&self, p: u32, point: &Pointstamp) -> Result<Vec<Change, A>, Refusal>
-        ensures reaches { IfOk result (λ v. Reaches self.now (stepped {A = A} self.now (Noticing p point.now.location point.now.time)) v.items) }
-        ensures free { OnOk result (NoticePasses self.now p point.now.location point.now.time 13) }
-        ensures refused { IfErr result (λ r. r ≢ Memory → NoticeRefused self.now p point.now.location point.now.time r) }
-        ensures memory { result ≡ Err Memory → NoticePasses self.now p point.now.location point.now.time 13 }
+        ensures reaches { IfOk result (λ v. Reaches self.now (stepped {A = A} self.now (notice_of p point.now)) v.items) }
+        ensures free { OnOk result (IsFreeBelow {A = A} self.now (notice_of p point.now) 13) }
+        ensures refused { IfErr result (λ r. r ≢ Memory → IsRefused {A = A} self.now (notice_of p point.now) r) }
+        ensures memory { result ≡ Err Memory → IsFreeBelow {A = A} self.now (notice_of p point.now) 13 }
     {
         self.notice_asked(p, point)?;
         let effect = self.notice_effect(p, point)?;
+        let graph = self.graph();
         let n = self.processor_count();
-        let Ok(all) = notice_changes(self.alloc, self.graph(), n, p, point, &effect) else {
+        let by = Performer {
+            graph,
+            n,
+            p,
+            vertex: point.location,
+        };
+        let Ok(all) = notice_changes(self.alloc, &by, &point.time, &effect) else {
             return Err(Refusal::Memory);
         };
         Ok(all)
     }
 
     // What a feed, a take or a notice changes, or why it is refused, but for the limits.
-    fn parts(&self, step: &Step<A>) -> Result<Vec<Change, A>, Refusal>
+    fn drafted(&self, step: &Step<A>) -> Result<Drafted<A>, Refusal>
         requires { Works step.now }
-        ensures reaches { IfOk result (λ v. Reaches self.now (stepped self.now step.now) v.items) }
+        ensures drafted { IfOk result (IsDraft self.now step.now) }
         ensures free { OnOk result (IsFreeBelow self.now step.now 13) }
         ensures refused { IfErr result (λ r. r ≢ Memory → IsRefused self.now step.now r) }
         ensures memory { result ≡ Err Memory → IsFreeBelow self.now step.now 13 }
@@ -95,7 +139,10 @@ impl<A: Allocator + Copy> Cluster<A> {
                 vertex,
                 values,
                 next,
-            } => self.feed_parts(*p, *vertex, values.as_slice(), *next),
+            } => {
+                let all = self.feed_parts(*p, *vertex, values.as_slice(), *next)?;
+                Ok(Drafted::Each(all))
+            }
             Step::Take {
                 p,
                 edge,
@@ -117,24 +164,31 @@ impl<A: Allocator + Copy> Cluster<A> {
                     location: *vertex,
                     time: time.copy(),
                 };
-                self.notice_parts(*p, &point)
+                let all = self.notice_parts(*p, &point)?;
+                Ok(Drafted::Each(all))
             }
             Step::Broadcast { .. } | Step::Receive { .. } => unreachable!(),
         }
     }
 
     // The changes of a feed, a take or a notice, in the order in which they are made, or why it is refused.
-    pub(crate) fn work_changes(&self, step: &Step<A>) -> Result<Vec<Change, A>, Refusal>
+    pub(crate) fn work_changes(&self, step: &Step<A>) -> Result<Changes<A>, Refusal>
         requires { Works step.now }
-        ensures enabled { OnOk result (IsEnabled self.now step.now) }
-        ensures leads { IfOk result (λ v. LeadsTo self.now (stepped self.now step.now) v.items) }
+        ensures ok { IfOk result (Plans self.now step.now) }
         ensures refused { IfErr result (λ r. r ≢ Memory → IsRefused self.now step.now r) }
         ensures memory { result ≡ Err Memory → MayWantMemory self.now step.now }
     {
         let _ = self.processor_count();
         step.numbers_fit();
-        let all = self.parts(step)?;
-        let changes = planned_changes(self.alloc, &self.processors, all)?;
-        Ok(changes)
+        match self.drafted(step)? {
+            Drafted::Each(all) => {
+                let changes = planned_changes(self.processors(), all)?;
+                Ok(Changes::Each(changes))
+            }
+            Drafted::Flow { p, gone, come } => {
+                let flow = ordered_flow(self.processors(), p, &gone, come)?;
+                Ok(Changes::Flowed(flow))
+            }
+        }
     }
 }

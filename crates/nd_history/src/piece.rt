@@ -7,8 +7,8 @@ ghost use Rattle.nd_history.specs.Pieces.{IsRange, piece_count};
 ghost use Rattle.nd_history.specs.Works.{IsResult};
 
 use crate::Gate;
-use nd_timeline::{Timeline, Walk};
 use nd_breaks::Break;
+use nd_timeline::{Timeline, Walk};
 use std::alloc::{AllocError, Allocator};
 
 /// How many positions a piece has.

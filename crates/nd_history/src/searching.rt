@@ -9,8 +9,8 @@ use crate::table::{first, results};
 use crate::team::search_all;
 use crate::work::Searched;
 use crate::{Gate, SearchFault, Snapshot};
-use nd_timeline::Timeline;
 use nd_breaks::Break;
+use nd_timeline::Timeline;
 use std::alloc::{AllocError, Allocator};
 use std::thread::Threads;
 

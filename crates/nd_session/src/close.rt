@@ -6,8 +6,8 @@ ghost use Rattle.nd_session.specs.Tested.{IsOther, IsFirstMissing, HasAt, HasInP
 
 use crate::shared::{Shared, holds};
 use crate::{Client, Receipt};
-use nd_timeline::Timeline;
 use nd_breaks::Breaks;
+use nd_timeline::Timeline;
 use std::alloc::{Allocator, Global};
 
 /// What a session leaves.

@@ -11,11 +11,11 @@ ghost use Rattle.nd_session.specs.Clients.{IsHistory};
 ghost use Rattle.nd_session.specs.Faults.{ApplyFails};
 
 use crate::{Receipt, SessionFault};
+use nd_breaks::Breaks;
 use nd_history::Snapshot;
 use nd_map::GrowingMap;
 use nd_protocol::starts_keep_protocol;
 use nd_timeline::{Command, Machine, Reply, Timeline, moves_keep_timelines};
-use nd_breaks::Breaks;
 use std::alloc::{AllocError, Allocator, Global};
 use std::marker::Model;
 

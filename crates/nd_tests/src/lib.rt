@@ -5,17 +5,15 @@
 #![tactic(auto)]
 
 #[cfg(test)]
-mod succeeds;
+mod allocates_nothing;
 #[cfg(test)]
 mod clusters;
 #[cfg(test)]
-mod graphs;
-#[cfg(test)]
 mod equal_graphs;
 #[cfg(test)]
-mod holdings;
+mod graphs;
 #[cfg(test)]
-mod precursor_counts;
+mod holdings;
 #[cfg(test)]
 mod kinds;
 #[cfg(test)]
@@ -23,19 +21,21 @@ mod memory;
 #[cfg(test)]
 mod opened;
 #[cfg(test)]
+mod precursor_counts;
+#[cfg(test)]
 mod queues;
 #[cfg(test)]
 mod refused;
+#[cfg(test)]
+mod scripts;
 #[cfg(test)]
 mod searches;
 #[cfg(test)]
 mod sessions;
 #[cfg(test)]
+mod succeeds;
+#[cfg(test)]
 mod timelines;
-#[cfg(test)]
-mod scripts;
-#[cfg(test)]
-mod allocates_nothing;
 #[cfg(test)]
 mod views;
 #[cfg(test)]

@@ -2,11 +2,11 @@
 
 use crate::graphs::graph_of;
 use crate::scripts::{Told, step_of};
+use nd_breaks::Break;
 use nd_cluster::{Cluster, Next};
 use nd_graph::Graph;
 use nd_session::{Session, State};
 use nd_timeline::{Command, Timeline};
-use nd_breaks::Break;
 use std::alloc::{Allocator, Global};
 
 /// A command, its step by the names of locations.

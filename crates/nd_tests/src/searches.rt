@@ -2,11 +2,11 @@
 
 use crate::graphs::{LINE, point};
 use crate::scripts::{Told, start, step_of};
+use nd_breaks::Break;
 use nd_cluster::Next;
 use nd_history::{Gate, OpenGate, SearchFault, Snapshot, search, search_in};
 use nd_testing::{MANY, Refusing, Sign, in_turn, met};
 use nd_timeline::Timeline;
-use nd_breaks::Break;
 use std::alloc::{AllocError, Allocator, Global};
 use std::rt::Clock;
 use std::sync::atomic::{AtomicBool, AtomicU64, Ordering};

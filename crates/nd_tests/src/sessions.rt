@@ -1,12 +1,13 @@
 //! Sessions: clients in threads, strangers, openings, and a search beside a command.
 
+use crate::equal_graphs::are_same;
 use crate::graphs::{
     ADD, DISTINCT, EMPTY, EXCHANGE, FILTER, LINE, LOOP, NESTED_LOOP, SPLIT, SUM, TWO_WAYS,
     graph_of, point, time,
 };
-use crate::equal_graphs::are_same;
 use crate::opened::{NOTHING, command_of, opened, session_of};
 use crate::scripts::{start, state_text};
+use nd_breaks::Break;
 use nd_cluster::Cluster;
 use nd_history::{Gate, search};
 use nd_mesh::Mesh;
@@ -16,7 +17,6 @@ use nd_testing::Sign;
 use nd_timeline::{Command, Fault, Reply};
 use nd_vertex::VertexState;
 use nd_view::View;
-use nd_breaks::Break;
 use std::alloc::Global;
 use std::rt::Clock;
 use std::sync::Wait;

@@ -3,8 +3,8 @@
 
 ghost use Rattle.nd_view.specs.Kept.{IsFor};
 
-use crate::graphs::{EMPTY, LINE, LONG, LOOP, change, graph_of, paths_of, point, time};
 use crate::equal_graphs::are_same;
+use crate::graphs::{EMPTY, LINE, LONG, LOOP, change, graph_of, paths_of, point, time};
 use crate::holdings::{set, take_all};
 use crate::kinds::{KINDS, Kind};
 use crate::queues::{len, pop, push, unpop};

@@ -8,10 +8,10 @@ use Rattle.nd_protocol.specs.Enabled.{AreEnabled}
 use Rattle.nd_protocol.specs.Invariant.{KeepsProtocol}
 use Rattle.nd_protocol.specs.Laws.{StepKeepsProtocol}
 use Rattle.nd_protocol.specs.declared.step.Step.{Step}
-use Rattle.nd_cluster.specs.Made.{IsMade, Joins}
-use Rattle.nd_cluster.specs.declared.made.Made.{Made}
+use Rattle.nd_steps.specs.declared.record.Record.{Record}
+use Rattle.nd_cluster.specs.Records.{IsPlanned, Leads}
 use Rattle.nd_timeline.specs.Timeline.{TimelineValue, cluster_of, moved_to, IsTimeline}
-use Rattle.nd_timeline.specs.Reached.{steps_of, AreMade, IsReached}
+use Rattle.nd_timeline.specs.Reached.{steps_of, ArePlanned, IsReached}
 use Rattle.nd_timeline.specs.Walks.{timeline_at, IsOn}
 use Rattle.nd_timeline.specs.declared.walk.Kept.{Kept}
 use Rattle.nd_timeline.specs.declared.walk.Walk.{Walk}
@@ -22,67 +22,67 @@ module _ {A : Type 0} where
   after-push s [] x = refl
   after-push s (y ∷ xs) x = after-push (stepped s y) xs x
 
-  pub steps_of-push : (rs : List (Made A)) (r : Made A) → steps_of (rs ++ r ∷ []) ≡ steps_of rs ++ r.step ∷ []
+  pub steps_of-push : (rs : List (Record A)) (r : Record A) → steps_of (rs ++ r ∷ []) ≡ steps_of rs ++ r.step ∷ []
   steps_of-push rs r = map-append (λ x. x.step) rs (r ∷ [])
 
-  pub steps_of-take : (n : ℕ) (rs : List (Made A)) → steps_of (take n rs) ≡ take n (steps_of rs)
+  pub steps_of-take : (n : ℕ) (rs : List (Record A)) → steps_of (take n rs) ≡ take n (steps_of rs)
   steps_of-take n rs = sym (take-map (λ x. x.step) n rs)
 
-  pub made-take : (s : ClusterState) (n : ℕ) (rs : List (Made A)) → AreMade s rs → AreMade s (take n rs)
-  made-take s zero rs h = tt
-  made-take s (suc n) [] h = tt
-  made-take s (suc n) (r ∷ rs) h = (h.0, made-take (stepped s r.step) n rs h.1)
+  pub planned-take : (s : ClusterState) (n : ℕ) (rs : List (Record A)) → ArePlanned s rs → ArePlanned s (take n rs)
+  planned-take s zero rs h = tt
+  planned-take s (suc n) [] h = tt
+  planned-take s (suc n) (r ∷ rs) h = (h.0, planned-take (stepped s r.step) n rs h.1)
 
-  pub made-push : (s : ClusterState) (rs : List (Made A)) (r : Made A) → AreMade s rs → IsMade r (after s (steps_of rs)) → AreMade s (rs ++ r ∷ [])
+  pub planned-push : (s : ClusterState) (rs : List (Record A)) (r : Record A) → ArePlanned s rs → IsPlanned r (after s (steps_of rs)) → ArePlanned s (rs ++ r ∷ [])
   unfolding after
-  made-push s [] r h p = (p, tt)
-  made-push s (q ∷ rs) r h p = (h.0, made-push (stepped s q.step) rs r h.1 p)
+  planned-push s [] r h p = (p, tt)
+  planned-push s (q ∷ rs) r h p = (h.0, planned-push (stepped s q.step) rs r h.1 p)
 
-  -- a step was made where the steps before it lead
-  pub made-at : (s : ClusterState) (rs : List (Made A)) (i : ℕ) (d : Made A) → i < length rs → AreMade s rs → IsMade (get_or rs i d) (after s (take i (steps_of rs)))
+  -- a step was planned where the steps before it lead
+  pub planned-at : (s : ClusterState) (rs : List (Record A)) (i : ℕ) (d : Record A) → i < length rs → ArePlanned s rs → IsPlanned (get_or rs i d) (after s (take i (steps_of rs)))
   unfolding after
-  made-at s [] i d lt h = absurd (omega arith)
-  made-at s (r ∷ rs) zero d lt h = h.0
-  made-at s (r ∷ rs) (suc i) d lt h = made-at (stepped s r.step) rs i d (omega arith) h.1
+  planned-at s [] i d lt h = absurd (omega arith)
+  planned-at s (r ∷ rs) zero d lt h = h.0
+  planned-at s (r ∷ rs) (suc i) d lt h = planned-at (stepped s r.step) rs i d (omega arith) h.1
 
   -- one kept step more
-  pub after-take : (s : ClusterState) (rs : List (Made A)) (i : ℕ) (d : Made A) → i < length rs → after s (take (suc i) (steps_of rs)) ≡ stepped (after s (take i (steps_of rs))) (get_or rs i d).step
+  pub after-take : (s : ClusterState) (rs : List (Record A)) (i : ℕ) (d : Record A) → i < length rs → after s (take (suc i) (steps_of rs)) ≡ stepped (after s (take i (steps_of rs))) (get_or rs i d).step
   unfolding after
   after-take s [] i d lt = absurd (omega arith)
   after-take s (r ∷ rs) zero d lt = refl
   after-take s (r ∷ rs) (suc i) d lt = after-take (stepped s r.step) rs i d (omega arith)
 
   -- steps that were made keep the protocol invariant
-  pub protocol-after : StepKeepsProtocol A → (s : ClusterState) (n : ℕ) (rs : List (Made A)) → KeepsProtocol s → AreMade s rs → KeepsProtocol (after s (take n (steps_of rs)))
+  pub protocol-after : StepKeepsProtocol A → (s : ClusterState) (n : ℕ) (rs : List (Record A)) → KeepsProtocol s → ArePlanned s rs → KeepsProtocol (after s (take n (steps_of rs)))
   unfolding after
   protocol-after law s zero rs was h = was
   protocol-after law s (suc n) [] was h = was
   protocol-after law s (suc n) (r ∷ rs) was h = protocol-after law (stepped s r.step) n rs (law s r.step h.0.state h.0.enabled was) h.1
 
   -- steps that were made are enabled in their turn
-  pub enabled-steps : (s : ClusterState) (rs : List (Made A)) → AreMade s rs → AreEnabled s (steps_of rs)
+  pub enabled-steps : (s : ClusterState) (rs : List (Record A)) → ArePlanned s rs → AreEnabled s (steps_of rs)
   enabled-steps s [] h = tt
   enabled-steps s (r ∷ rs) h = (h.0.enabled, enabled-steps (stepped s r.step) rs h.1)
 
   -- ---- what the calls of a timeline keep
 
-  pub still_kept : StepKeepsProtocol A → (base cluster : ClusterState) (rs : List (Made A)) (n : ℕ) → IsReached base cluster rs n → KeepsProtocol base → KeepsProtocol cluster
-  still_kept law base cluster rs n was protocol = subst KeepsProtocol (sym was.reached) (protocol-after law base n rs protocol was.made)
+  pub still_kept : StepKeepsProtocol A → (base cluster : ClusterState) (rs : List (Record A)) (n : ℕ) → IsReached base cluster rs n → KeepsProtocol base → KeepsProtocol cluster
+  still_kept law base cluster rs n was protocol = subst KeepsProtocol (sym was.reached) (protocol-after law base n rs protocol was.planned)
 
-  pub is_timeline : (base cluster : ClusterState) (rs : List (Made A)) (n : ℕ) → IsReached base cluster rs n → IsTimeline (record { base = base; kept = steps_of rs; cursor = n })
+  pub is_timeline : (base cluster : ClusterState) (rs : List (Record A)) (n : ℕ) → IsReached base cluster rs n → IsTimeline (record { base = base; kept = steps_of rs; cursor = n })
   is_timeline base cluster rs n was =
       let same : length (steps_of rs) ≡ length rs = length-map rs (λ r. r.step) in
-      record { within = omega (arith, same, was.within); few = omega (arith, same, was.few); enabled = enabled-steps base rs was.made }
+      record { within = omega (arith, same, was.within); few = omega (arith, same, was.few); enabled = enabled-steps base rs was.planned }
 
-  pub begun : (s : ClusterState) (rs : List (Made A)) → rs ≡ [] → (b : ClusterState) → b ≡ s → IsReached b s rs 0
+  pub begun : (s : ClusterState) (rs : List (Record A)) → rs ≡ [] → (b : ClusterState) → b ≡ s → IsReached b s rs 0
   unfolding after
-  begun s rs is b same = rw is (record { within = omega arith; few = omega arith; reached = sym same; made = tt })
+  begun s rs is b same = rw is (record { within = omega arith; few = omega arith; reached = sym same; planned = tt })
 
   -- a step that is made at the cursor
-  pub extends : (base cluster next : ClusterState) (rs : List (Made A)) (n : ℕ) (r : Made A) → IsReached base cluster rs n → n < max_kept → IsMade r cluster → next ≡ stepped cluster r.step
+  pub extends : (base cluster next : ClusterState) (rs : List (Record A)) (n : ℕ) (r : Record A) → IsReached base cluster rs n → n < max_kept → IsPlanned r cluster → next ≡ stepped cluster r.step
       → IsReached base next (take n rs ++ r ∷ []) (n + 1)
   extends base cluster next rs n r was room made leads =
-      let front : List (Made A) = take n rs in
+      let front : List (Record A) = take n rs in
       let count : length front ≡ n = length-take-le n rs was.within in
       let more : length (front ++ r ∷ []) ≡ n + 1 = omega (arith, length-append front (r ∷ []), count) in
       let steps : steps_of front ≡ take n (steps_of rs) = steps_of-take n rs in
@@ -92,18 +92,18 @@ module _ {A : Type 0} where
         within = omega (arith, more);
         few = omega (arith, more);
         reached = leads ∙ ap (λ s. stepped s r.step) at_cursor ∙ sym (after-push base (steps_of front) r.step) ∙ ap (after base) (sym (steps_of-push front r)) ∙ ap (after base) (sym all);
-        made = made-push base front r (made-take base n rs was.made) (subst (λ (s : ClusterState). IsMade r s) at_cursor made);
+        planned = planned-push base front r (planned-take base n rs was.planned) (subst (λ (s : ClusterState). IsPlanned r s) at_cursor made);
       }
 
   -- the cluster is the one that the timeline is seen to have
-  pub seen : (base cluster : ClusterState) (rs : List (Made A)) (n : ℕ) (m : TimelineValue A) → IsReached base cluster rs n → record { base = base; kept = steps_of rs; cursor = n } ≡ m → cluster ≡ cluster_of m
+  pub seen : (base cluster : ClusterState) (rs : List (Record A)) (n : ℕ) (m : TimelineValue A) → IsReached base cluster rs n → record { base = base; kept = steps_of rs; cursor = n } ≡ m → cluster ≡ cluster_of m
   seen base cluster rs n m was is = was.reached ∙ ap cluster_of is
 
   -- a kept step leads from where those before it have led
-  pub kept_at : (base : ClusterState) (rs : List (Made A)) (i : ℕ) (d : Made A) → i < length rs → AreMade base rs
-      → Joins (get_or rs i d) (after base (take i (steps_of rs))) (after base (take (i + 1) (steps_of rs)))
-  kept_at base rs i d lt made =
-      record { made = made-at base rs i d lt made; after = ap (λ k. after base (take k (steps_of rs))) (add-one i) ∙ after-take base rs i d lt }
+  pub kept_at : (base : ClusterState) (rs : List (Record A)) (i : ℕ) (d : Record A) → i < length rs → ArePlanned base rs
+      → Leads (get_or rs i d) (after base (take i (steps_of rs))) (after base (take (i + 1) (steps_of rs)))
+  kept_at base rs i d lt planned =
+      record { planned = planned-at base rs i d lt planned; after = ap (λ k. after base (take k (steps_of rs))) (add-one i) ∙ after-take base rs i d lt }
 
   -- ---- walks
 
@@ -112,7 +112,7 @@ module _ {A : Type 0} where
       → IsReached k.base w.cluster k.steps.items w.at
   walk_reached k cluster n m w was is on =
       let here : IsOn (timeline_at k n) w = subst (λ (m : TimelineValue A). IsOn m w) (sym is) on in
-      record { within = omega (arith, here.within, length-map k.steps.items (λ r. r.step)); few = was.few; reached = here.cluster; made = was.made }
+      record { within = omega (arith, here.within, length-map k.steps.items (λ r. r.step)); few = was.few; reached = here.cluster; planned = was.planned }
 
   pub walk_is_on : (k : Kept A) (n : ℕ) (m : TimelineValue A) (w : Walk A) → timeline_at k n ≡ m → IsReached k.base w.cluster k.steps.items w.at → IsOn m w
   walk_is_on k n m w is was =

@@ -7,9 +7,8 @@ use Rattle.nd_protocol.specs.State.{ClusterState, cluster_code}
 use Rattle.nd_protocol.specs.Steps.{after, stepped}
 use Rattle.nd_protocol.specs.Codes.{step_code}
 use Rattle.nd_protocol.specs.declared.step.Step.{Step}
-use Rattle.nd_record.specs.Flows.{AreAlike}
-use Rattle.nd_cluster.specs.Made.{IsMade}
-use Rattle.nd_cluster.specs.declared.made.Made.{Made}
+use Rattle.nd_steps.specs.declared.record.Record.{Record}
+use Rattle.nd_cluster.specs.Records.{IsPlanned}
 use Rattle.nd_breaks.specs.Breaks.{break_code}
 use Rattle.nd_timeline.specs.Timeline.{TimelineValue}
 use Rattle.nd_timeline.specs.Moves.{MachineValue}
@@ -28,29 +27,30 @@ machine_code A =
 
 -- ---- what holds of a timeline
 
--- the steps that were kept
-abbrev pub steps_of : {A : Type 0} → List (Made A) → List (Step A)
-steps_of made = map (λ m. m.step) made
+-- the steps of the records that are kept
+abbrev pub steps_of : {A : Type 0} → List (Record A) → List (Step A)
+steps_of records = map (λ r. r.step) records
 
--- each was made where those before it lead
-abbrev pub AreMade : {A : Type 0} → ClusterState → List (Made A) → Type 0
-AreMade s [] = Unit {0}
-AreMade s (m ∷ ms) = IsMade m s × AreMade (stepped s m.step) ms
+-- each was planned where those before it lead
+abbrev pub ArePlanned : {A : Type 0} → ClusterState → List (Record A) → Type 0
+ArePlanned s [] = Unit {0}
+ArePlanned s (r ∷ rs) = IsPlanned r s × ArePlanned (stepped s r.step) rs
 
 -- the cluster was reached from the base by the steps up to the cursor, and each leads on from where those before it lead
-pub record IsReached {A : Type 0} (base cluster : ClusterState) (steps : List (Made A)) (cursor : ℕ) : Type 0 where
+pub record IsReached {A : Type 0} (base cluster : ClusterState) (steps : List (Record A)) (cursor : ℕ) : Type 0 where
   pub within : cursor ≤ length steps
   pub few : length steps ≤ max_kept
   pub reached : cluster ≡ after base (take cursor (steps_of steps))
-  pub made : AreMade base steps
+  pub planned : ArePlanned base steps
 
 -- ---- copies
 
--- the same step, of whose changes the same is kept
-abbrev pub IsCopy : {A : Type 0} → Made A → Made A → Type 0
-IsCopy m n = (n.step ≡ m.step) × AreAlike m.kept n.kept
+-- a record of the same step, which is planned where the other is
+pub record IsCopy {A : Type 0} (r q : Record A) : Type 0 where
+  pub step : q.step ≡ r.step
+  pub planned : (s : ClusterState) → IsPlanned r s → IsPlanned q s
 
-abbrev pub AreCopies : {A : Type 0} → List (Made A) → List (Made A) → Type 0
+abbrev pub AreCopies : {A : Type 0} → List (Record A) → List (Record A) → Type 0
 AreCopies [] [] = Unit {0}
-AreCopies (m ∷ ms) (n ∷ ns) = IsCopy m n × AreCopies ms ns
+AreCopies (r ∷ rs) (q ∷ qs) = IsCopy r q × AreCopies rs qs
 AreCopies _ _ = ⊥

@@ -1,8 +1,8 @@
 //! What the machine is asked for.
 ghost use Rattle.std.specs.Prelude.{◌≡◌, ◌≢◌, IfOk, MatchBool};
 
-use nd_protocol::Step;
 use nd_breaks::Break;
+use nd_protocol::Step;
 use std::alloc::{AllocError, Allocator, Global};
 
 /// What the machine is asked for.

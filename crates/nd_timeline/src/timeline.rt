@@ -11,7 +11,7 @@ ghost use Rattle.nd_timeline.specs.Moves.{moved_reply, StepFails, ForwardMoves, 
 
 use crate::walk::Kept;
 use crate::{Fault, Walk};
-use nd_cluster::{Cluster, Made, Record};
+use nd_cluster::{Cluster, Record};
 use nd_paths::Pointstamp;
 use nd_protocol::{NoMemory, Refusal, Step, steps_keep_protocol};
 use std::alloc::{AllocError, Allocator, Global};
@@ -46,16 +46,16 @@ impl<A: Allocator + Copy> Drop for Timeline<A> {
     }
 }
 
-// Equal steps, of which the same is kept.
+// Records of equal steps.
 fn copied_steps<A: Allocator + Copy>(
     alloc: A,
-    steps: &[Made<A>],
-) -> Result<Vec<Made<A>, A>, AllocError>
+    steps: &[Record<A>],
+) -> Result<Vec<Record<A>, A>, AllocError>
     ensures { IfOk result (λ v. AreCopies steps.now v.items) }
 {
     let mut list = Vec::with_capacity(alloc, steps.len())?;
-    for kept in steps {
-        list.push(kept.copy(alloc)?)?;
+    for record in steps {
+        list.push(record.copy(alloc)?)?;
     }
     Ok(list)
 }
@@ -166,11 +166,11 @@ impl<A: Allocator + Copy> Timeline<A> {
         let Ok(()) = self.kept.steps.reserve(1) else {
             return Err(NoMemory);
         };
-        let Ok(made) = self.walk.cluster.keep(planned) else {
+        let Ok(()) = self.walk.cluster.commit(&planned) else {
             return Err(NoMemory);
         };
         self.kept.steps.truncate(self.walk.at as usize);
-        self.kept.steps.push_reserved(made);
+        self.kept.steps.push_reserved(planned);
         self.walk.at += 1;
         Ok(())
     }

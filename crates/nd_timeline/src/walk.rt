@@ -1,14 +1,14 @@
 //! What a timeline keeps, and walks over it: the timeline's own, and those of others.
 ghost use Rattle.std.specs.Prelude.{◌≡◌, ◌+◌, ◌-◌, ◌<◌, take, length, IfOk, OnOk, OnErr};
 ghost use Rattle.nd_protocol.specs.Steps.{after};
-ghost use Rattle.nd_cluster.specs.Made.{Joins};
+ghost use Rattle.nd_cluster.specs.Records.{Leads};
 ghost use Rattle.nd_timeline.specs.Timeline.{moved_to};
-ghost use Rattle.nd_timeline.specs.Reached.{steps_of, AreMade, IsReached};
+ghost use Rattle.nd_timeline.specs.Reached.{steps_of, ArePlanned, IsReached};
 ghost use Rattle.nd_timeline.specs.Moves.{moved_reply, JumpMoves};
 ghost use Rattle.nd_timeline.specs.Walks.{BeginsNear, IsOn, timeline_at};
 
 use crate::{Fault, Timeline};
-use nd_cluster::{Cluster, Made};
+use nd_cluster::{Cluster, Record};
 use nd_protocol::NoMemory;
 use std::alloc::{AllocError, Allocator, Global};
 
@@ -25,15 +25,15 @@ pub struct Walk<A: Allocator + Copy = Global> {
 #[derive(Drop)]
 pub(crate) struct Kept<A: Allocator + Copy> {
     pub(crate) base: Cluster<A>,
-    pub(crate) steps: Vec<Made<A>, A>,
+    pub(crate) steps: Vec<Record<A>, A>,
 }
 
 impl<A: Allocator + Copy> Kept<A> {
-    // A kept step.
-    fn made(&self, i: u64) -> &Made<A>
-        requires made { AreMade self.now.base self.now.steps.items }
+    // The record of a kept step.
+    fn record(&self, i: u64) -> &Record<A>
+        requires planned { ArePlanned self.now.base self.now.steps.items }
         requires there { i < length self.now.steps.items }
-        ensures { Joins result.now (after self.now.base (take i (steps_of self.now.steps.items))) (after self.now.base (take (i + 1) (steps_of self.now.steps.items))) }
+        ensures { Leads result.now (after self.now.base (take i (steps_of self.now.steps.items))) (after self.now.base (take (i + 1) (steps_of self.now.steps.items))) }
     {
         &self.steps[i as usize]
     }
@@ -46,7 +46,7 @@ impl<A: Allocator + Copy> Kept<A> {
         ensures ok { OnOk result (walk.new.at ≡ walk.old.at + 1) }
         ensures err { OnErr result (walk.new.at ≡ walk.old.at) }
     {
-        let Ok(()) = walk.cluster.make_again(self.made(walk.at)) else {
+        let Ok(()) = walk.cluster.commit(self.record(walk.at)) else {
             return Err(NoMemory);
         };
         walk.at += 1;
@@ -62,7 +62,7 @@ impl<A: Allocator + Copy> Kept<A> {
         ensures err { OnErr result (walk.new.at ≡ walk.old.at) }
     {
         let last = walk.at - 1;
-        let Ok(()) = walk.cluster.take_back(self.made(last)) else {
+        let Ok(()) = walk.cluster.back(self.record(last)) else {
             return Err(NoMemory);
         };
         walk.at = last;

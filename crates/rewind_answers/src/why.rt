@@ -2,8 +2,8 @@
 ghost use Rattle.std.specs.Prelude.{◌≡◌, Some, IfOk};
 ghost use Rattle.rewind_answers.specs.Explained.{WhyReply, ChangesReply, changes_fault};
 
-use nd_history::{ChangesFault, changes};
 use nd_cluster::Cluster;
+use nd_history::{ChangesFault, changes};
 use nd_json::Json;
 use nd_paths::Pointstamp;
 use nd_timeline::Timeline;

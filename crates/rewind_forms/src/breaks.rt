@@ -7,9 +7,9 @@ ghost use Rattle.rewind_forms.specs.Breaks.{passed_of as passed_in, count_of as 
 use crate::LineFault;
 use crate::places::vertex_named;
 use crate::points::point_there;
+use nd_breaks::Break;
 use nd_graph::Graph;
 use nd_json::{has_keys, integer_at, small_at, text_at, whole_at};
-use nd_breaks::Break;
 use serde_json::Value;
 use std::alloc::Global;
 

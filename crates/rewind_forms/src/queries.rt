@@ -9,10 +9,10 @@ use crate::breaks::break_of;
 use crate::places::{location_named, time_of};
 use crate::points::{point_at, point_there};
 use crate::{LineFault, QueryForm};
+use nd_breaks::Break;
 use nd_graph::Graph;
 use nd_json::{small_at, whole_at};
 use nd_paths::Pointstamp;
-use nd_breaks::Break;
 use serde_json::Value;
 use std::alloc::Global;
 

@@ -3,11 +3,12 @@
 use crate::clusters::limits::{ROWS, closes, number_of};
 use crate::graphs::{ADD, EXCHANGE, LINE, LOOP, SUM, graph_of, time};
 use crate::scripts::{Told, reach, start, step_of};
-use nd_cluster::{Change, Changes, Cluster, Entry, Next, StartFault};
+use nd_cluster::{Change, Changes, Cluster, Entry, Next, Record, Slot, StartFault};
 use nd_paths::Pointstamp;
-use nd_record::Kept;
+use nd_processor::ValueAt;
 use nd_testing::Refusing;
 use std::alloc::Global;
+use std::mem::size_of;
 
 /// Why a cluster of n processors does not start on a line, if so.
 fn fault_of(alloc: Global, n: u32) -> Option<StartFault> {
@@ -48,10 +49,10 @@ fn number_limits(rt: HostRuntime) {
 fn kinds(changes: &[Change]) -> (usize, usize, usize) {
     let mut kinds: (usize, usize, usize) = (0, 0, 0);
     for change in changes {
-        match change {
-            Change::Token { .. } => kinds.0 = kinds.0.saturating_add(1),
-            Change::Records { n, .. } if *n == 2 => kinds.1 = kinds.1.saturating_add(1),
-            Change::Unsent { .. } => kinds.2 = kinds.2.saturating_add(1),
+        match &change.slot {
+            Slot::Token(_) => kinds.0 = kinds.0.saturating_add(1),
+            Slot::Records(_) if change.n == 2 => kinds.1 = kinds.1.saturating_add(1),
+            Slot::Unsent(_) => kinds.2 = kinds.2.saturating_add(1),
             _ => {}
         }
     }
@@ -100,7 +101,12 @@ fn inverse_records(rt: HostRuntime) {
 fn entries_of(alloc: Global, made: &[Told], told: &Told) -> Option<Vec<Entry>> {
     let cluster = reach(alloc, alloc, LINE, 1, made)?;
     let record = cluster.plan(&step_of(alloc, cluster.graph(), told)?).ok()?;
-    record.changes.iter().collect(alloc).ok()
+    record.iter().collect(alloc).ok()
+}
+
+/// So much more at a key of the first processor.
+fn more(slot: Slot, n: i128) -> Entry {
+    Entry::Key(Change { p: 0, slot, n })
 }
 
 /// The pointstamp of a location in the first epoch.
@@ -114,18 +120,12 @@ fn at(location: usize) -> Option<Pointstamp> {
 /// Whether the changes of a feed on *line* are told in order: the record before what is unsent.
 fn tells_feed(alloc: Global) -> Option<bool> {
     let told = entries_of(alloc, &[], &Told::Feed(0, "a", &[7], Next::Stay))?;
-    let record = Entry::Key(Change::Records {
-        p: 0,
-        edge: 2,
-        time: time(&[0])?,
-        value: 7,
-        n: 1,
-    });
-    let unsent = Entry::Key(Change::Unsent {
-        p: 0,
+    let key = ValueAt {
         point: at(2)?,
-        n: 1,
-    });
+        value: 7,
+    };
+    let record = more(Slot::Records(key), 1);
+    let unsent = more(Slot::Unsent(at(2)?), 1);
     Some(told.as_slice() == [record, unsent].as_slice())
 }
 
@@ -135,29 +135,21 @@ fn tells_exchange(alloc: Global) -> Option<bool> {
     let sent = entries_of(alloc, &[feed], &Told::All(0))?;
     let feed = Told::Feed(0, "a", &[7], Next::Close);
     let received = entries_of(alloc, &[feed, Told::All(0)], &Told::Receive(0, 0))?;
-    let goes = Entry::Key(Change::Unsent {
-        p: 0,
-        point: at(0)?,
-        n: 1,
-    });
-    let comes = Entry::Key(Change::Unsent {
-        p: 0,
-        point: at(2)?,
-        n: -1,
-    });
+    let goes = more(Slot::Unsent(at(0)?), 1);
+    let comes = more(Slot::Unsent(at(2)?), -1);
     let less = Entry::View {
         q: 0,
         point: at(0)?,
         n: -1,
     };
-    let more = Entry::View {
+    let grown = Entry::View {
         q: 0,
         point: at(2)?,
         n: 1,
     };
     let is_sent = sent.as_slice() == [goes, comes, Entry::Back { p: 0 }].as_slice();
     let is_received = received.as_slice()
-        == [less, more, Entry::Front { from: 0, to: 0 }].as_slice();
+        == [less, grown, Entry::Front { from: 0, to: 0 }].as_slice();
     Some(is_sent && is_received)
 }
 
@@ -167,15 +159,16 @@ fn entries_of_records(rt: HostRuntime) {
     assert_eq!(rt; tells_exchange(rt.alloc()), Some(true));
 }
 
-/// Whether a flow is kept of a step after others.
+/// Whether the record of a step after others holds a flow.
 fn keeps_flow(alloc: Global, text: &str, before: &[Told], told: &Told) -> Option<bool> {
-    let mut cluster = reach(alloc, alloc, text, 1, before)?;
-    let step = step_of(alloc, cluster.graph(), told)?;
-    let Ok(record) = cluster.plan(&step) else {
-        return None;
-    };
-    let made = cluster.keep(record).ok()?;
-    Some(matches!(made.kept, Kept::Flowed(_)))
+    let cluster = reach(alloc, alloc, text, 1, before)?;
+    let record = cluster.plan(&step_of(alloc, cluster.graph(), told)?).ok()?;
+    Some(matches!(record.changes, Changes::Flowed(_)))
+}
+
+#[test]
+fn records_are_small(rt: HostRuntime) {
+    assert!(rt; size_of::<Record>() <= 104);
 }
 
 #[test]

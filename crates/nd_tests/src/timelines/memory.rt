@@ -2,10 +2,10 @@
 
 use crate::graphs::{EXCHANGE, LINE};
 use crate::scripts::{SUM_NOTIFIED, Script, Told, is_state, reach, start, state_text, step_of};
+use nd_breaks::Breaks;
 use nd_cluster::{Cluster, Next};
 use nd_testing::{Refusing, in_turn, met};
 use nd_timeline::{Fault, Timeline};
-use nd_breaks::Breaks;
 use std::alloc::{AllocError, Allocator, Global};
 
 /// The allocator of these tests.

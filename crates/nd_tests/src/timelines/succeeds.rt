@@ -2,12 +2,12 @@
 //! timelines at their far ends, which do not run out of memory if there is enough.
 
 use crate::graphs::{EMPTY, LINE, point};
-use crate::timelines::memory::{ALL, Heap, ONE, kept};
 use crate::scripts::{Told, start, step_of};
+use crate::timelines::memory::{ALL, Heap, ONE, kept};
+use nd_breaks::Breaks;
 use nd_cluster::Next;
 use nd_testing::{Refusing, unasked};
 use nd_timeline::{Ran, Stop, Timeline};
-use nd_breaks::Breaks;
 use std::alloc::{Allocator, Global};
 
 /// Whether a timeline of four steps, of which the last lets z pass, tells where it is, and stays there.

@@ -1,8 +1,8 @@
 //! Walks over a timeline's kept steps, and what is told of them, each request for memory refused in turn.
 
 use crate::graphs::point;
-use crate::timelines::memory::{ALL, Heap, TEN, is_after, kept};
 use crate::scripts::{SUM_NOTIFIED, Script};
+use crate::timelines::memory::{ALL, Heap, TEN, is_after, kept};
 use nd_history::{ChangesFault, changes};
 use nd_testing::{Refusing, in_turn, met};
 use nd_timeline::Fault;

@@ -6,7 +6,7 @@ use Rattle.nd_paths.specs.Order.{IsAccepted}
 use Rattle.nd_view.specs.Kept.{Kept}
 use Rattle.nd_protocol.specs.Fitting.{IsOrdered, ProcessorFits, DeltaFits}
 use Rattle.nd_cluster.specs.Parts.{RowFits}
-use Rattle.nd_cluster.proofs.Started.{ordered}
+use Rattle.nd_cluster.proofs.Starts.{ordered}
 use Rattle.nd_cluster.proofs.PartsLemmas.{views_to, mesh_to, state_from}
 use Rattle.nd_cluster.proofs.parts.parts_fit.Goals as goal
 

@@ -1,5 +1,5 @@
 use Rattle.std.proofs.Common.{◌≡◌, length, refl, ap, arith}
-use Rattle.nd_cluster.proofs.PartsLemmas.{records_to, requests_to, tokens_to, items_to, sinks_to, processor_from}
+use Rattle.nd_cluster.proofs.PartsLemmas.{change_from, change_to, records_to, requests_to, tokens_to, items_to, sinks_to, processor_from}
 use Rattle.nd_cluster.proofs.parts.processor_fits.Goals as goal
 
 pub returns-then-not-records_fit : goal.returns-then-not-records_fit
@@ -23,6 +23,6 @@ returns g c =
     let q = c.args.processor.now in
     let vertices : length q.items ≡ length gr.vertices = omega (arith, c.if-vertex_count-vertices.false, c.vertex_count.ensures, ap length c.vertices.ensures.vertices) in (
       λ t. processor_from gr q vertices (c.if-not-records_fit.ensures.0 refl) (c.if-not-requests_fit.ensures.0 refl) (c.if-not-tokens_fit.ensures.0 refl)
-          (c.if-not-items_fit.ensures.0 refl) (c.if-not-sinks_fit.ensures.0 refl) (c.unsent_fits.ensures.0 t),
-      λ fits. c.unsent_fits.ensures.1 fits.unsent,
+          (c.if-not-items_fit.ensures.0 refl) (c.if-not-sinks_fit.ensures.0 refl) (change_from gr q.unsent (c.unsent_fits.ensures.0 t)),
+      λ fits. c.unsent_fits.ensures.1 (change_to gr q.unsent fits.unsent),
     )

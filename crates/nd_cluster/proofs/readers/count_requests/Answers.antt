@@ -1,5 +1,5 @@
 use Rattle.std.proofs.Common.{◌≡◌, true, false, refl, sym}
-use Rattle.nd_cluster.proofs.Counted.{one_request, missing_request}
+use Rattle.nd_cluster.proofs.Tallies.{one_request, missing_request}
 use Rattle.nd_cluster.proofs.readers.count_requests.Goals as goal
 
 pub returns-then-has_request-clause-value : goal.returns-then-has_request-clause-value

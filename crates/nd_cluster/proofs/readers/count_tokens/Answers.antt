@@ -3,7 +3,7 @@ use Rattle.std.specs.Ordering.{is_eq}
 use Rattle.nd_delta.specs.Delta.{is_point}
 use Rattle.nd_processor.specs.State.{token_point}
 use Rattle.nd_processor.specs.Held.{token_at}
-use Rattle.nd_cluster.proofs.Counted.{one_token}
+use Rattle.nd_cluster.proofs.Tallies.{one_token}
 use Rattle.nd_cluster.proofs.readers.count_tokens.Goals as goal
 
 pub returns-in_default-clause-value : goal.returns-in_default-clause-value

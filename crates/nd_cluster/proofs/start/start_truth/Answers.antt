@@ -2,7 +2,7 @@ use Rattle.std.proofs.Common.{ap, ◌∙◌}
 use Rattle.std.proofs.lemmas.Result.{IfOk-weaker}
 use Rattle.std.specs.FinMap.{entries}
 use Rattle.nd_processor.specs.State.{ProcessorState}
-use Rattle.nd_cluster.proofs.Started.{start_counts}
+use Rattle.nd_cluster.proofs.Starts.{start_counts}
 use Rattle.nd_cluster.proofs.start.start_truth.Goals as goal
 
 pub returns : goal.returns

@@ -3,7 +3,7 @@ use Rattle.std.specs.Prelude.{All}
 use Rattle.std.proofs.lemmas.List.Elements.{All-append}
 use Rattle.nd_view.specs.Kept.{IsFor}
 use Rattle.nd_delta.specs.Delta.{plus}
-use Rattle.nd_cluster.proofs.Started.{one, from_nothing, views_turn}
+use Rattle.nd_cluster.proofs.Starts.{one, from_nothing, views_turn}
 use Rattle.nd_cluster.proofs.start.start_views.Goals as goal
 
 pub apply-requires : goal.apply-requires

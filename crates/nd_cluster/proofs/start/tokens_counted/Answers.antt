@@ -3,7 +3,7 @@ use Rattle.std.proofs.lemmas.Int.{ints}
 use Rattle.std.proofs.lemmas.List.{take_all}
 use Rattle.nd_delta.specs.Delta.{at, at-none}
 use Rattle.nd_cluster.specs.Starting.{tokens_weigh}
-use Rattle.nd_cluster.proofs.Started.{tokens_turn}
+use Rattle.nd_cluster.proofs.Starts.{tokens_turn}
 use Rattle.nd_cluster.proofs.start.tokens_counted.Goals as goal
 
 pub loop-token-init : goal.loop-token-init

@@ -1,19 +1,17 @@
 use Rattle.std.proofs.Common.{sym, subst, ◌∙◌}
-use Rattle.nd_record.specs.Records.{Makes}
-use Rattle.nd_cluster.proofs.SeenLemmas.{is_seen}
+use Rattle.nd_protocol.specs.Fitting.{IsState}
+use Rattle.nd_steps.specs.Records.{Makes}
 use Rattle.nd_cluster.proofs.cluster.Cluster.back.Goals as goal
 
-pub undo-requires-clause-made : goal.undo-requires-clause-made
-undo-requires-clause-made g c =
+pub back-requires : goal.back-requires
+back-requires g c =
     let s = c.requires.state in
     let h = c.requires.leads in
-    (s, h.planned.state, subst (λ t. Makes s c.args.made.now.changes t) (sym h.after ∙ sym c.self.view_is) h.planned.makes)
+    (s, h.planned.state, subst (λ t. Makes s c.args.made.now t) (sym h.after ∙ sym c.self.view_is) h.planned.makes)
 
 pub returns-clause-ok : goal.returns-clause-ok
 returns-clause-ok g c = λ s leads.
-    c.in-Ok.ensures.ok s leads.planned.state (subst (λ t. Makes s c.args.made.now.changes t) (sym leads.after ∙ sym c.self.view_is) leads.planned.makes)
+    c.in-Ok.ensures.ok s leads.planned.state (subst (λ t. Makes s c.args.made.now t) (sym leads.after ∙ sym c.self.view_is) leads.planned.makes)
 
 pub invariant_of-self-2 : goal.invariant_of-self-2
-invariant_of-self-2 g c =
-    is_seen c.self.inside.paths c.undo.new.processors.items c.undo.new.views.items c.undo.new.mesh c.requires.state (returns-clause-ok g c c.requires.state c.requires.leads)
-    c.requires.leads.planned.state c.undo.ensures.paths
+invariant_of-self-2 g c = subst IsState (sym (returns-clause-ok g c c.requires.state c.requires.leads)) c.requires.leads.planned.state

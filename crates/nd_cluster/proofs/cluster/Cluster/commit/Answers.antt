@@ -4,8 +4,8 @@ use Rattle.nd_protocol.specs.State.{ClusterState}
 use Rattle.nd_protocol.specs.Steps.{stepped, after}
 use Rattle.nd_protocol.specs.declared.step.Step.{Step}
 use Rattle.nd_protocol.specs.Invariant.{IsSettled, KeepsProtocol, IsFinished}
-use Rattle.nd_record.specs.Records.{Makes}
-use Rattle.nd_cluster.proofs.SeenLemmas.{is_seen}
+use Rattle.nd_steps.specs.Records.{Makes}
+use Rattle.nd_protocol.specs.Fitting.{IsState}
 use Rattle.nd_cluster.proofs.cluster.Cluster.commit.Goals as goal
 
 -- after the one step of a list
@@ -13,20 +13,19 @@ finished_after : {A : Type 0} (s : ClusterState) (x : Step A) (p : Pointstamp) �
 unfolding after
 finished_after s x p h = h
 
-pub make-requires-clause-makes : goal.make-requires-clause-makes
-make-requires-clause-makes g c =
+pub commit-requires-clause-makes : goal.commit-requires-clause-makes
+commit-requires-clause-makes g c =
     let r = c.args.planned.now in
-    (stepped c.args.self.now r.step, subst (λ s. Makes s r.changes (stepped c.args.self.now r.step)) (sym c.self.view_is) c.requires.makes)
+    (stepped c.args.self.now r.step, subst (λ s. Makes s r (stepped c.args.self.now r.step)) (sym c.self.view_is) c.requires.makes)
 
 pub returns-clause-step : goal.returns-clause-step
 returns-clause-step g c =
     let r = c.args.planned.now in
-    c.in-Ok.ensures.ok (stepped c.args.self.now r.step) (subst (λ s. Makes s r.changes (stepped c.args.self.now r.step)) (sym c.self.view_is) c.requires.makes)
+    c.in-Ok.ensures.ok (stepped c.args.self.now r.step) (subst (λ s. Makes s r (stepped c.args.self.now r.step)) (sym c.self.view_is) c.requires.makes)
 
 pub invariant_of-self-2 : goal.invariant_of-self-2
 invariant_of-self-2 g c =
-    is_seen c.self.inside.paths c.make.new.processors.items c.make.new.views.items c.make.new.mesh (stepped c.args.self.now c.args.planned.now.step) (returns-clause-step g c)
-    (c.steps_keep_protocol.ensures.state c.args.self.now c.args.planned.now.step c.requires.state c.requires.enabled) c.make.ensures.paths
+    subst IsState (sym (returns-clause-step g c)) (c.steps_keep_protocol.ensures.state c.args.self.now c.args.planned.now.step c.requires.state c.requires.enabled)
 
 pub returns-clause-leads : goal.returns-clause-leads
 returns-clause-leads g c = record { planned = c.requires; after = returns-clause-step g c }

@@ -1,9 +1,12 @@
-use Rattle.std.proofs.Common.{refl, IsTrue, ◌↔◌}
+use Rattle.std.proofs.Common.{refl, IsTrue, ◌↔◌, [], ◌≡◌, subst}
+use Rattle.nd_protocol.specs.State.{ClusterState}
 use Rattle.nd_protocol.specs.Invariant.{IsFinished}
-use Rattle.nd_cluster.proofs.Reasoned.{of_cluster}
+use Rattle.nd_why.specs.Why.{state_of}
+use Rattle.nd_cluster.proofs.States.{of_parts}
 use Rattle.nd_cluster.proofs.cluster.Cluster.finished.Goals as goal
 
 pub returns : goal.returns
 returns g c =
-    of_cluster (λ s. IsTrue c.finished.result ↔ IsFinished s c.args.point.now) _ _ _ _ _ _ _ c.deref.ensures.value refl c.self.view_is
-    (c.finished.ensures c.self.inside.views.items c.self.inside.mesh)
+    let is : state_of c.paths.result.now c.processors.result.now c.views.result.now c.mesh.result.now ≡ c.args.self.now
+    = of_parts _ _ _ _ _ c.paths.ensures c.processors.ensures.value c.views.ensures.maps c.mesh.ensures.value in
+    subst (λ (s : ClusterState). IsTrue c.finished.result ↔ IsFinished s c.args.point.now) is (c.finished.ensures c.views.result.now c.mesh.result.now)

@@ -1,4 +1,4 @@
-use Rattle.nd_cluster.proofs.Exchanged.{comes_last}
+use Rattle.nd_cluster.proofs.Exchanges.{comes_last}
 use Rattle.nd_cluster.proofs.cluster.Cluster.plan.Goals as goal
 
 pub returns-clause-last : goal.returns-clause-last

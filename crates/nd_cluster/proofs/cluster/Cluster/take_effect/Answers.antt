@@ -12,13 +12,13 @@ use Rattle.nd_cluster.proofs.cluster.Cluster.take_effect.Goals as goal
 pub vertex_state-vertex-requires : goal.vertex_state-vertex-requires
 vertex_state-vertex-requires g c =
     let a = c.args in
-    let stands = take_stands a.self.now a.p a.key.now a.target (subst IsState c.self.view_is c.self.invariant.state) (subst IsFaultless c.graph.ensures c.op_at-op.ensures.sound) c.requires.target c.requires.free in
+    let stands = take_stands a.self.now a.p a.key.now a.target (subst IsState c.self.view_is c.self.invariant) (subst IsFaultless c.graph.ensures c.op_at-op.ensures.sound) c.requires.target c.requires.free in
     subst (λ (q : ProcessorState). a.target < length q.items) (sym c.processor-processor.ensures) stands.vertex
 
 pub on_record-requires : goal.on_record-requires
 on_record-requires g c =
     let a = c.args in
-    let stands = take_stands a.self.now a.p a.key.now a.target (subst IsState c.self.view_is c.self.invariant.state) (subst IsFaultless c.graph.ensures c.op_at-op.ensures.sound) c.requires.target c.requires.free in
+    let stands = take_stands a.self.now a.p a.key.now a.target (subst IsState c.self.view_is c.self.invariant) (subst IsFaultless c.graph.ensures c.op_at-op.ensures.sound) c.requires.target c.requires.free in
     let op : c.op_at-op.result ≡ op_at a.self.now.graph a.target = c.op_at-op.ensures.op ∙ ap (λ (d : Dataflow). op_at d a.target) c.graph.ensures in
     subst (λ (o : Op). MayActAt (action_of o) (length a.key.now.point.time.counters)) (sym op) stands.may
 

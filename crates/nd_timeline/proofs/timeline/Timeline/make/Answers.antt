@@ -1,22 +1,21 @@
-use Rattle.std.proofs.Common.{◌<◌, take, sym, ap, subst, refl, ◌∙◌}
+use Rattle.std.proofs.Common.{◌<◌, take, sym, subst, refl}
 use Rattle.nd_time.specs.Limits.{max_kept}
-use Rattle.nd_protocol.specs.Steps.{stepped}
 use Rattle.nd_cluster.specs.Records.{IsPlanned}
 use Rattle.nd_timeline.specs.Timeline.{TimelineValue}
 use Rattle.nd_timeline.proofs.KeptSteps.{extends, seen, steps_of-push, steps_of-take}
 use Rattle.nd_timeline.proofs.timeline.Timeline.make.Goals as goal
 
-pub keep-requires : goal.keep-requires
-keep-requires g c = subst (IsPlanned c.args.planned) (sym (seen c.self.inside.kept.base c.self.inside.walk.cluster c.self.inside.kept.steps.items c.self.inside.walk.at _ c.self.invariant c.self.view_is)) c.requires.planned
+pub commit-requires : goal.commit-requires
+commit-requires g c = subst (IsPlanned c.args.planned) (sym (seen c.self.inside.kept.base c.self.inside.walk.cluster c.self.inside.kept.steps.items c.self.inside.walk.at _ c.self.invariant c.self.view_is)) c.requires.planned
 
 pub invariant_of-self-2 : goal.invariant_of-self-2
 invariant_of-self-2 g c =
     let room : c.self.inside.walk.at < max_kept = subst (λ (m : TimelineValue g.row.A.Denot). m.cursor < max_kept) (sym c.self.view_is) c.requires.room in
     rw (c.push_reserved.ensures.items, c.truncate.ensures.items, c.reserve.ensures.items)
-    (extends c.self.inside.kept.base c.self.inside.walk.cluster c.keep.new.self c.self.inside.kept.steps.items c.self.inside.walk.at c.in-Ok-keep.made c.self.invariant room c.in-Ok-keep.ensures.made
-    (c.in-Ok-keep.ensures.step ∙ ap (stepped c.self.inside.walk.cluster) (sym c.in-Ok-keep.ensures.kept)))
+    (extends c.self.inside.kept.base c.self.inside.walk.cluster c.commit.new.self c.self.inside.kept.steps.items c.self.inside.walk.at c.args.planned c.self.invariant room
+    (commit-requires g c) c.in-Ok-commit.ensures.step)
 
 pub returns-clause-ok : goal.returns-clause-ok
 returns-clause-ok g c =
     rw (c.push_reserved.ensures.items, c.truncate.ensures.items, c.reserve.ensures.items, ← c.self.view_is)
-    (rw (steps_of-push (take c.self.inside.walk.at c.self.inside.kept.steps.items) c.in-Ok-keep.made, steps_of-take c.self.inside.walk.at c.self.inside.kept.steps.items, c.in-Ok-keep.ensures.kept) refl)
+    (rw (steps_of-push (take c.self.inside.walk.at c.self.inside.kept.steps.items) c.args.planned, steps_of-take c.self.inside.walk.at c.self.inside.kept.steps.items) refl)

@@ -11,8 +11,8 @@ use Rattle.nd_protocol.specs.declared.step.Step.TheVariants.{Feed, Take, Notice,
 use Rattle.nd_protocol.specs.declared.step.Next.{Next as Afterwards}
 use Rattle.nd_protocol.specs.declared.refusal.Refusal.{Refusal}
 use Rattle.nd_protocol.specs.declared.refusal.Refusal.TheVariants.{CountFull, DeltaFull, NothingToSend, NotAdmissible, QueueEmpty, QueueFull, Memory}
-use Rattle.nd_work.specs.Edits.{Works}
-use Rattle.nd_record.specs.Limits.{LimitFails}
+use Rattle.nd_steps.specs.Edits.{Works}
+use Rattle.nd_steps.specs.Limits.{LimitFails}
 
 module _ (s : ClusterState) where
   -- a feed, a take or a notice is refused for nothing that a broadcast or a receive is

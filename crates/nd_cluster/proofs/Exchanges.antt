@@ -21,15 +21,19 @@ use Rattle.nd_protocol.specs.declared.step.Step.{Step}
 use Rattle.nd_protocol.specs.declared.step.Step.TheVariants.{Feed, Take, Notice, Broadcast, Receive}
 use Rattle.nd_protocol.specs.declared.refusal.Refusal.{Refusal}
 use Rattle.nd_protocol.specs.declared.refusal.Refusal.TheVariants.{NoProcessor, DeltaFull, NothingToSend, NotAdmissible, QueueEmpty, QueueFull, Memory}
-use Rattle.nd_exchange.specs.Exchanges.{LeavesUpright, ReceiveFails}
-use Rattle.nd_record.specs.Standing.{changed}
-use Rattle.nd_record.specs.Counted.{SentChanges, ReceivedChanges}
-use Rattle.nd_record.specs.Exchanges.{received-front}
-use Rattle.nd_work.specs.Edits.{Works}
-use Rattle.nd_record.specs.Plans.{LeadsTo}
-use Rattle.nd_record.specs.declared.change.Change.{Change as Single}
+use Rattle.nd_steps.specs.Refused.{LeavesUpright, ReceiveFails}
+use Rattle.nd_steps.specs.Standing.{changed}
+use Rattle.nd_steps.specs.Counted.{SentChanges, ReceivedChanges}
+use Rattle.nd_steps.specs.Stored.{received-front}
+use Rattle.nd_steps.specs.Edits.{Works}
+use Rattle.nd_steps.specs.Plans.{LeadsTo}
+use Rattle.nd_steps.specs.declared.change.Change.{Change as Single}
 use Rattle.nd_cluster.specs.Records.{shared, Plans, ComesLast}
-use Rattle.nd_record.specs.declared.record.Changes.TheVariants.{Each, Sent, Received}
+use Rattle.nd_steps.specs.Flows.{flow_changes}
+use Rattle.nd_steps.specs.declared.flow.Flow.{Flow}
+use Rattle.nd_steps.specs.declared.record.Changes.TheVariants.{Each, Flowed, Sent, Received}
+use Rattle.nd_processor.specs.declared.key.ValueAt.{ValueAt}
+use Rattle.nd_cluster.specs.Drafted.{take_of}
 use Rattle.nd_map.specs.Cases.{zero_or_not}
 
 is_part : (c d : DeltaValue) → IsPartOf c d → IsPart c d
@@ -49,6 +53,18 @@ module _ {A : Type 0} (s : ClusterState) where
   work_plans x changes works may leads =
       let all : length changes.items + shared s x ≡ changed s (stepped s x) = omega (arith, leads.small, none_shared x works) in
       record { enabled = may; makes = (leads.runs, leads.arrives); small = all }
+
+  module _ (p : ℕ) (gone : ValueAt) (f : Flow) where
+    take_plans : IsEnabled {A = A} s (take_of p gone) → LeadsTo s (stepped {A = A} s (take_of p gone)) (flow_changes p gone f) → Plans {A = A} s (take_of p gone) (Flowed f)
+    take_plans may leads =
+        let all : length (flow_changes p gone f) + 0 ≡ changed s (stepped {A = A} s (take_of p gone)) = omega (arith, leads.small) in
+        record { enabled = may; makes = (leads.runs, leads.arrives); small = all }
+
+    -- of a take of which what comes tells the changes
+    pub flow_plans : (x : Step A) → x ≡ take_of p gone → IsEnabled s x → LeadsTo s (stepped s x) (flow_changes p gone f) → Plans s x (Flowed f)
+    flow_plans x is may leads =
+        subst (λ (y : Step A). Plans s y (Flowed f)) (sym is)
+        (take_plans (subst (IsEnabled s) is may) (subst (λ (y : Step A). LeadsTo s (stepped s y) (flow_changes p gone f)) is leads))
 
 -- ---- a notice
 
@@ -84,7 +100,7 @@ module _ {A : Type 0} (s : ClusterState) (p : ℕ) (part : Part A) (c : DeltaVal
         let to : sent s p c ≡ stepped {A = A} s (Broadcast p part) = ap (sent s p) is in
         let many : changed s (sent s p c) ≡ size c + length s.processors = law s p c state.fits here (is_part c (processor s p).unsent there) in
         let count : size c + 1 + (length s.processors - 1) ≡ changed s (sent s p c) = omega (arith, many, here) in
-        record { enabled = enabled; makes = record { there = here; part = there; room = room; arrives = to }; small = count ∙ ap (changed s) to }
+        record { enabled = enabled; makes = (record { there = here; part = there; room = room }, to); small = count ∙ ap (changed s) to }
 
 -- ---- a receive
 
@@ -152,7 +168,7 @@ module _ (A : Type 0) (s : ClusterState) (from to : ℕ) (state : IsState s) (he
         let count : size c + 1 + 0 ≡ changed s (received s from to) = omega (arith, many) in
         record {
           enabled = record { free = by; admissible = tt; numbers = numbers };
-          makes = record { from_there = here; to_there = there; front = front; room = room; arrives = refl };
+          makes = (record { from_there = here; to_there = there; front = front; room = room }, refl);
           small = count;
         }
       where
