@@ -16,11 +16,14 @@ fn depths_of<A: Allocator>(
 ) -> Result<Vec<usize, A>, AllocError>
     ensures { IfOk result (λ v. v.items ≡ all_depths (graph_of vertices.now edges.now)) }
 {
-    vertices
-        .iter()
-        .map(|vertex: &Vertex| vertex.depth as usize)
-        .chain(edges.iter().map(|edge: &Edge| edge_depth(vertices, edge)))
-        .collect(alloc)
+    let mut depths = Vec::new(alloc);
+    for vertex in vertices {
+        depths.push(vertex.depth as usize)?;
+    }
+    for edge in edges {
+        depths.push(edge_depth(vertices, edge))?;
+    }
+    Ok(depths)
 }
 
 // The action of the vertex that the edge leaves.

@@ -103,16 +103,21 @@ fn copied_vertices<A: Allocator>(
 ) -> Result<Vec<Vertex, A>, AllocError>
     ensures { IfOk result (λ v. v.items ≡ vertices.now) }
 {
-    vertices
-        .iter()
-        .map(|vertex: &Vertex| vertex.copy())
-        .collect(alloc)
+    let mut copied = Vec::with_capacity(alloc, vertices.len())?;
+    for vertex in vertices {
+        copied.push(vertex.copy())?;
+    }
+    Ok(copied)
 }
 
 fn copied_edges<A: Allocator>(alloc: A, edges: &[Edge]) -> Result<Vec<Edge, A>, AllocError>
     ensures { IfOk result (λ v. v.items ≡ edges.now) }
 {
-    edges.iter().map(|edge: &Edge| edge.copy()).collect(alloc)
+    let mut copied = Vec::with_capacity(alloc, edges.len())?;
+    for edge in edges {
+        copied.push(edge.copy())?;
+    }
+    Ok(copied)
 }
 
 impl<A: Allocator> Graph<A> {

@@ -54,10 +54,11 @@ impl<A: Allocator> Points<A> {
     pub fn copy(&self, alloc: A) -> Result<Points<A>, AllocError>
         ensures { IfOk result (λ v. v ≡ self.now) }
     {
-        let items = self.items.iter().map(|point: &Pointstamp| point.copy());
-        Ok(Points {
-            items: items.collect(alloc)?,
-        })
+        let mut items = Vec::with_capacity(alloc, self.items.len())?;
+        for point in &self.items {
+            items.push(point.copy())?;
+        }
+        Ok(Points { items })
     }
 
     // Whether both name the same pointstamps, in one order.
