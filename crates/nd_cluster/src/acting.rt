@@ -47,8 +47,10 @@ impl<A: Allocator + Copy> Cluster<A> {
         ensures does { IfOk result (λ r. TakesSo self.now p target key.now r.0 r.1) }
         ensures few { IfOk result (λ r. length r.0.emits.items ≤ max_values) }
         ensures free { OnOk result (IsFreeBelow {A = A} self.now (take_of p key.now) 13) }
-        ensures refused { IfErr result (λ r. r ≢ Refusal.Memory → IsRefused {A = A} self.now (take_of p key.now) r) }
-        ensures memory { result ≡ Err Refusal.Memory → IsFreeBelow {A = A} self.now (take_of p key.now) 13 }
+        ensures refused { IfErr result (λ r. r ≢ Refusal.Memory
+            → IsRefused {A = A} self.now (take_of p key.now) r) }
+        ensures memory { result ≡ Err Refusal.Memory
+            → IsFreeBelow {A = A} self.now (take_of p key.now) 13 }
     {
         let alloc = self.alloc;
         innermost_counter_fits(&key.point.time);
@@ -77,8 +79,10 @@ impl<A: Allocator + Copy> Cluster<A> {
         ensures does { IfOk result (NoticesSo self.now p point.now) }
         ensures few { IfOk result (λ e. length e.emits.items ≤ max_values) }
         ensures free { OnOk result (IsFreeBelow {A = A} self.now (notice_of p point.now) 13) }
-        ensures refused { IfErr result (λ r. r ≢ Refusal.Memory → IsRefused {A = A} self.now (notice_of p point.now) r) }
-        ensures memory { result ≡ Err Refusal.Memory → IsFreeBelow {A = A} self.now (notice_of p point.now) 13 }
+        ensures refused { IfErr result (λ r. r ≢ Refusal.Memory
+            → IsRefused {A = A} self.now (notice_of p point.now) r) }
+        ensures memory { result ≡ Err Refusal.Memory
+            → IsFreeBelow {A = A} self.now (notice_of p point.now) 13 }
     {
         let _ = self.processor_count();
         let view = self.view(p as usize);

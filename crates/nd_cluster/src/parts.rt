@@ -103,7 +103,8 @@ fn item_fits<A: Allocator>(graph: &Graph<A>, vertex: usize, key: &ItemKey, numbe
 
 // Whether the records of a processor are on edges.
 fn records_fit<A: Allocator + Copy>(graph: &Graph<A>, processor: &Processor<A>) -> bool
-    ensures { IsTrue result ↔ All (λ e. e.1 ≢ 0 → IsRecordKey graph.now e.0) (counts_of processor.now.records) }
+    ensures { IsTrue result ↔ All (λ e. e.1 ≢ 0
+        → IsRecordKey graph.now e.0) (counts_of processor.now.records) }
 {
     processor
         .records()
@@ -131,7 +132,8 @@ fn tokens_fit<A: Allocator + Copy>(graph: &Graph<A>, processor: &Processor<A>) -
 
 // Whether its sinks are sinks.
 fn sinks_fit<A: Allocator + Copy>(graph: &Graph<A>, processor: &Processor<A>) -> bool
-    ensures { IsTrue result ↔ All (λ e. e.1 ≢ 0 → IsSinkKey graph.now e.0) (counts_of processor.now.sinks) }
+    ensures { IsTrue result ↔ All (λ e. e.1 ≢ 0
+        → IsSinkKey graph.now e.0) (counts_of processor.now.sinks) }
 {
     processor
         .sinks()
@@ -149,7 +151,8 @@ fn state_fits<A: Allocator + Copy>(graph: &Graph<A>, vertex: usize, state: &Vert
 
 // Whether each vertex of a processor does.
 fn items_fit<A: Allocator + Copy>(graph: &Graph<A>, processor: &Processor<A>) -> bool
-    ensures { IsTrue result ↔ ((v : ℕ) → v < length processor.now.items → ItemsFit graph.now v (items_at processor.now v)) }
+    ensures { IsTrue result ↔ ((v : ℕ) → v < length processor.now.items
+        → ItemsFit graph.now v (items_at processor.now v)) }
 {
     for vertex in 0..processor.vertex_count() {
         if !state_fits(graph, vertex, processor.vertex_state(vertex)) {

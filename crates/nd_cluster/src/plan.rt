@@ -19,7 +19,8 @@ impl<A: Allocator + Copy> Cluster<A> {
     fn broadcast_changes(&self, p: u32, part: &Part<A>) -> Result<Changes<A>, Refusal>
         requires { NumbersFit {A = A} (Sending p part.now) }
         ensures ok { IfOk result (Plans {A = A} self.now (Sending p part.now)) }
-        ensures refused { IfErr result (λ r. r ≢ Memory → IsRefused self.now (Sending p part.now) r) }
+        ensures refused { IfErr result (λ r. r ≢ Memory
+            → IsRefused self.now (Sending p part.now) r) }
         ensures memory { result ≡ Err Memory → MayWantMemory self.now (Sending p part.now) }
     {
         changes_are_counted();
@@ -39,7 +40,8 @@ impl<A: Allocator + Copy> Cluster<A> {
     fn receive_changes(&self, from: u32, to: u32) -> Result<Changes<A>, Refusal>
         requires { NumbersFit {A = A} (Receiving from to) }
         ensures ok { IfOk result (Plans {A = A} self.now (Receiving from to)) }
-        ensures refused { IfErr result (λ r. r ≢ Memory → IsRefused {A = A} self.now (Receiving from to) r) }
+        ensures refused { IfErr result (λ r. r ≢ Memory
+            → IsRefused {A = A} self.now (Receiving from to) r) }
         ensures memory { result ≡ Err Memory → MayWantMemory {A = A} self.now (Receiving from to) }
     {
         changes_are_counted();

@@ -23,9 +23,12 @@ impl<A: Allocator + Copy> Cluster<A> {
     pub fn why(&self, alloc: A, q: usize, point: &Pointstamp) -> Result<Reasons<A>, NoMemory>
         requires { q < length self.now.processors }
         ensures whole { IfOk result (IsWhy self.now q point.now) }
-        ensures passed { IfOk result (λ w. (w ≡ []) ↔ IsPassed self.now.graph (view self.now q) point.now) }
+        ensures passed { IfOk result (λ w. (w ≡ [])
+            ↔ IsPassed self.now.graph (view self.now q) point.now) }
         ensures before { IfOk result (All (λ a. CouldResultIn self.now.graph a.point point.now)) }
-        ensures covered { IfOk result (λ w. (x : Point) → IsBlocker self.now.graph (view self.now q) point.now x → HasReasonBefore self.now.graph w x) }
+        ensures covered { IfOk result (λ w. (x : Point)
+            → IsBlocker self.now.graph (view self.now q) point.now x
+            → HasReasonBefore self.now.graph w x) }
         ensures counted { IfOk result (All (IsCounted self.now)) }
         ensures balanced { KeepsProtocol self.now → IfOk result (All IsBalanced) }
         ensures finished { IsFinished self.now point.now → IfOk result (All (λ a. a.held ≡ [])) }

@@ -47,8 +47,10 @@ impl<A: Allocator + Copy> Cluster<A> {
     ) -> Result<Vec<Change, A>, Refusal>
         ensures reaches { IfOk result (λ v. Reaches self.now (stepped {A = A} self.now (Feeding p vertex values.now next)) v.items) }
         ensures free { OnOk result (IsFreeBelow {A = A} self.now (Feeding p vertex values.now next) 13) }
-        ensures refused { IfErr result (λ r. r ≢ Memory → IsRefused {A = A} self.now (Feeding p vertex values.now next) r) }
-        ensures memory { result ≡ Err Memory → IsFreeBelow {A = A} self.now (Feeding p vertex values.now next) 13 }
+        ensures refused { IfErr result (λ r. r ≢ Memory
+            → IsRefused {A = A} self.now (Feeding p vertex values.now next) r) }
+        ensures memory { result ≡ Err Memory
+            → IsFreeBelow {A = A} self.now (Feeding p vertex values.now next) 13 }
     {
         let epoch = self.feed_epoch(p, vertex, values, next)?;
         let graph = self.graph();
@@ -74,7 +76,8 @@ impl<A: Allocator + Copy> Cluster<A> {
     fn take_parts(&self, p: u32, key: &ValueAt) -> Result<Drafted<A>, Refusal>
         ensures drafted { IfOk result (IsDraft self.now (take_of p key.now)) }
         ensures free { OnOk result (IsFreeBelow {A = A} self.now (take_of p key.now) 13) }
-        ensures refused { IfErr result (λ r. r ≢ Memory → IsRefused {A = A} self.now (take_of p key.now) r) }
+        ensures refused { IfErr result (λ r. r ≢ Memory
+            → IsRefused {A = A} self.now (take_of p key.now) r) }
         ensures memory { result ≡ Err Memory → IsFreeBelow {A = A} self.now (take_of p key.now) 13 }
     {
         let target = self.take_target(p, key)?;
@@ -106,8 +109,10 @@ impl<A: Allocator + Copy> Cluster<A> {
     fn notice_parts(&self, p: u32, point: &Pointstamp) -> Result<Vec<Change, A>, Refusal>
         ensures reaches { IfOk result (λ v. Reaches self.now (stepped {A = A} self.now (notice_of p point.now)) v.items) }
         ensures free { OnOk result (IsFreeBelow {A = A} self.now (notice_of p point.now) 13) }
-        ensures refused { IfErr result (λ r. r ≢ Memory → IsRefused {A = A} self.now (notice_of p point.now) r) }
-        ensures memory { result ≡ Err Memory → IsFreeBelow {A = A} self.now (notice_of p point.now) 13 }
+        ensures refused { IfErr result (λ r. r ≢ Memory
+            → IsRefused {A = A} self.now (notice_of p point.now) r) }
+        ensures memory { result ≡ Err Memory
+            → IsFreeBelow {A = A} self.now (notice_of p point.now) 13 }
     {
         self.notice_asked(p, point)?;
         let effect = self.notice_effect(p, point)?;

@@ -11,9 +11,11 @@ commit-requires g c = subst (IsPlanned c.args.planned) (sym (seen c.self.inside.
 pub invariant_of-self-2 : goal.invariant_of-self-2
 invariant_of-self-2 g c =
     let room : c.self.inside.walk.at < max_kept = subst (λ (m : TimelineValue g.row.A.Denot). m.cursor < max_kept) (sym c.self.view_is) c.requires.room in
+    let here : IsPlanned c.args.planned c.self.inside.walk.cluster
+    = subst (IsPlanned c.args.planned) (sym (seen c.self.inside.kept.base c.self.inside.walk.cluster c.self.inside.kept.steps.items c.self.inside.walk.at _ c.self.invariant c.self.view_is)) c.requires.planned in
     rw (c.push_reserved.ensures.items, c.truncate.ensures.items, c.reserve.ensures.items)
     (extends c.self.inside.kept.base c.self.inside.walk.cluster c.commit.new.self c.self.inside.kept.steps.items c.self.inside.walk.at c.args.planned c.self.invariant room
-    (commit-requires g c) c.in-Ok-commit.ensures.step)
+    here c.in-Ok-commit.ensures.step)
 
 pub returns-clause-ok : goal.returns-clause-ok
 returns-clause-ok g c =
