@@ -144,7 +144,7 @@ fn mixed(alloc: Global, paths: &Paths, times: usize) -> Option<usize> {
 }
 
 #[test]
-fn thousand_history(rt: HostRuntime) -> Result<(), Fail> {
+fn thousand_changes(rt: HostRuntime) -> Result<(), Fail> {
     let paths = paths_of(rt.alloc(), rt.alloc(), LOOP).ok_or("no paths")?;
     assert_eq!(rt; mixed(rt.alloc(), &paths, 1000), Some(1000));
     Ok(())
