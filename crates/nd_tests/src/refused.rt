@@ -175,11 +175,16 @@ fn views<A: Allocator + Copy>(
     n: u64,
 ) -> Option<bool> {
     let paths = paths_of(json, alloc, LINE)?;
-    let news = change(
-        alloc,
-        paths.graph(),
-        &[("a", 0, -2), ("z", 0, 1), ("az", 0, -1)],
-    )?;
+    let entries = [
+        ("a", 0, -2),
+        ("z", 0, 1),
+        ("z", 1, 1),
+        ("z", 2, 1),
+        ("az", 0, -1),
+        ("az", 1, 1),
+        ("az", 2, 1),
+    ];
+    let news = change(alloc, paths.graph(), &entries)?;
     let a = point(paths.graph(), "a", &[0])?;
     let olds = change(alloc, paths.graph(), &[("a", 0, 1)])?;
     let mut view = view(alloc, &paths, &olds)?;

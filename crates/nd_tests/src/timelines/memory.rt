@@ -147,7 +147,7 @@ fn jump_out_of_memory(rt: HostRuntime) {
     let heap = Refusing::new(rt.alloc());
     assert!(rt; meets_each_way(&heap, rt.alloc(), &TEN, 0));
     assert!(rt; meets_each_way(&heap, rt.alloc(), &EXCHANGED, 3));
-    assert!(rt; meets_each_way(&heap, rt.alloc(), &SUM_NOTIFIED, 3));
+    assert!(rt; meets_each_way(&heap, rt.alloc(), &SUM_NOTIFIED, 1));
     assert!(rt; meets_each_way(&heap, rt.alloc(), &ALL, 1));
     assert_eq!(rt; heap.live(), 0);
 }
