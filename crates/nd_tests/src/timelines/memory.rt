@@ -31,7 +31,7 @@ pub static TEN: Script = (
 
 /// Two processors take the records that they exchange, and hear of one another's steps.
 ///
-/// Each broadcast that is made again and each receive that is taken back asks for memory.
+/// Each broadcast that is redone and each receive that is undone asks for memory.
 static EXCHANGED: Script = (
     EXCHANGE,
     2,
