@@ -1,4 +1,4 @@
--- What is outstanding at a pointstamp: so many of a key, and what a token counts.
+-- How much is outstanding at a pointstamp: n of a key, and an input token.
 use Rattle.std.specs.Prelude.{ℕ, cond, Option, Some, None}
 use Rattle.nd_paths.specs.declared.point.Pointstamp.{Pointstamp}
 use Rattle.nd_delta.specs.Delta.{is_point}

@@ -111,7 +111,7 @@ in_requests-insert s k x absent =
 pub in_requests-insert_le : (s : Requests) (k x : Pointstamp) → in_requests (fin.insert s k tt) x ≤ in_requests s x + one_at k x
 in_requests-insert_le s k x = let c = requested s k x in omega arith
 
--- one that is there is made again
+-- asking again for a notice that was asked for adds nothing
 pub in_requests-again : (s : Requests) (k x : Pointstamp) → fin.get s k ≡ Some tt → in_requests (fin.insert s k tt) x ≡ in_requests s x
 in_requests-again s k x found =
     let c = requested s k x in

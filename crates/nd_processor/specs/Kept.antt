@@ -38,7 +38,7 @@ number R es k = or_else 0 (find R k es)
 abbrev pub put_count : {K : Type 0} → (K → K → Ordering) → K → ℕ → List (K × ℕ) → List (K × ℕ)
 put_count R k n es = cond (nat_eq n 0) (without R k es) (put R k n es)
 
--- so many more of a key, and so many fewer
+-- the entries with n more of a key, and with n fewer
 abbrev pub put_more : {K : Type 0} → (K → K → Ordering) → K → ℕ → List (K × ℕ) → List (K × ℕ)
 put_more R k n es = put_count R k (number R es k + n) es
 

@@ -31,7 +31,7 @@ pub(crate) fn make_all<A: Allocator + Copy>(
     Ok(())
 }
 
-// Undoes changes, from the last to the first. What a refused growth interrupts is made again.
+// Undoes changes, from the last to the first. If memory is refused midway, it redoes those that it has undone.
 pub(crate) fn undo_all<A: Allocator + Copy>(
     processors: &mut Vec<Processor<A>, A>,
     changes: &[Change],
