@@ -4,15 +4,15 @@ use Rattle.std.specs.FinMap as fin
 use Rattle.std.specs.Option.{unwrap_or}
 use Rattle.std.proofs.lemmas.Bool.{cases_lt}
 use Rattle.nd_protocol.specs.State.{ClusterState}
-use Rattle.nd_breaks.specs.Breaks.{BreakMap, NoneFrom, Holds, HitAt, NoHitBelow, NoHit}
-use Rattle.nd_breaks.specs.declared.watch.Break.{Break}
+use Rattle.nd_breaks.specs.Breaks.{BreakMap, NoneFrom, HitAt, NoHitBelow, NoHit}
+use Rattle.nd_breaks.specs.Conditions.{ConditionValue, Holds}
 
 -- an id that is not set
 pub no_hit_none : (m : BreakMap) (s : ClusterState) (id : ℕ) → fin.get m id ≡ None → HitAt m s id → ⊥
 no_hit_none m s id is h = let hit : fin.get m id ≡ Some h.0 = h.1 in cc
 
 -- a breakpoint that does not hold
-pub no_hit_some : (m : BreakMap) (s : ClusterState) (id : ℕ) (b : Break) → fin.get m id ≡ Some b → (Holds s b → ⊥) → HitAt m s id → ⊥
+pub no_hit_some : (m : BreakMap) (s : ClusterState) (id : ℕ) (b : ConditionValue) → fin.get m id ≡ Some b → (Holds s b → ⊥) → HitAt m s id → ⊥
 no_hit_some m s id b is not_held h = not_held (subst (Holds s) (ap (λ o. unwrap_or o b) (sym h.1 ∙ is)) h.2)
 
 -- one id more

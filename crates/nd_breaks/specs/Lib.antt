@@ -1,2 +1,3 @@
 pub mod Breaks
+pub mod Conditions
 pub mod Slots

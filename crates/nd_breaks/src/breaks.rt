@@ -1,13 +1,12 @@
 //! The breakpoints that are set.
-ghost use Rattle.std.specs.Prelude.{◌≡◌, ◌≢◌, ◌<◌, ◌≤◌, IfSome, IfOk, OnOk, OnErr, Some, None, length, slice_set};
+ghost use Rattle.std.specs.Prelude.{◌≡◌, ◌≢◌, ◌<◌, ◌≤◌, IfSome, IfOk, OnOk, OnErr, None, length, Some, slice_set};
 ghost use Rattle.std.specs.FinMap as fin;
 ghost use Rattle.nd_time.specs.Limits.{max_breaks};
 ghost use Rattle.nd_breaks.specs.Breaks.{NoneFrom, NoHit, FirstHit, IsLeastFree, IsFull};
 
-use crate::Break;
-use arrayvec::ArrayVec;
+use crate::Condition;
 use nd_cluster::Cluster;
-use std::alloc::Allocator;
+use std::alloc::{AllocError, Allocator, Global};
 use std::marker::Model;
 use thiserror::Error;
 
@@ -24,46 +23,51 @@ pub struct TooManyBreaks;
 #[error("no such breakpoint is set")]
 pub struct NoBreak;
 
-/// The breakpoints that are set, by their ids, which are below `MAX_BREAKS`. No call takes memory.
+/// The conditions that are set as breakpoints, by their ids, which are below `MAX_BREAKS`.
+///
+/// `new` takes memory for all of them, and no other call takes any.
 #[derive(Drop)]
-pub struct Breaks {
-    // The breakpoint of each id; no id past the last slot is set.
-    slots: ArrayVec<Option<Break>, MAX_BREAKS>,
+pub struct Breaks<A: Allocator = Global> {
+    // The breakpoint of each id, with room for all; no id past the last slot is set.
+    slots: Vec<Option<Condition>, A>,
 }
 
-impl Model for Breaks {
-    ghost use Rattle.nd_breaks.specs.Breaks.{BreakMap, break_code};
-    ghost use Rattle.nd_breaks.specs.Slots.{from_slots};
+impl<A: Allocator> Model for Breaks<A> {
+    ghost use Rattle.nd_breaks.specs.Conditions.{condition_code};
+    ghost use Rattle.nd_breaks.specs.Breaks.{BreakMap};
+    ghost use Rattle.nd_breaks.specs.Slots.{from_slots, HasRoom};
     ghost use Rattle.std.specs.FinMap.{code};
     ghost use Rattle.std.specs.Coded.{coded_ℕ};
 
     ghost Value = { BreakMap };
 
-    ghost coded = { code coded_ℕ break_code };
+    ghost coded = { code coded_ℕ condition_code };
 
     ghost view = { λ a. from_slots 0 a.slots.items };
+
+    ghost invariant = { λ a. HasRoom a.slots };
 }
 
 // Puts a breakpoint, or none, into a slot.
-fn write(slots: &mut [Option<Break>], id: usize, slot: Option<Break>)
+fn write(slots: &mut [Option<Condition>], id: usize, slot: Option<Condition>)
     requires { id < length slots.old }
     ensures { slots.new ≡ slice_set slots.old id slot }
 {
     slots[id] = slot;
 }
 
-impl Breaks {
-    /// None is set.
-    pub fn new() -> Breaks
-        ensures { result ≡ fin.empty }
+impl<A: Allocator> Breaks<A> {
+    /// Takes memory for all breakpoints, of which none is set.
+    pub fn new(alloc: A) -> Result<Breaks<A>, AllocError>
+        ensures { IfOk result (λ b. b ≡ fin.empty) }
     {
-        Breaks {
-            slots: ArrayVec::new(),
-        }
+        Ok(Breaks {
+            slots: Vec::with_capacity(alloc, MAX_BREAKS)?,
+        })
     }
 
-    /// The breakpoint of an id.
-    pub fn get(&self, id: u64) -> Option<&Break>
+    /// Returns the breakpoint of the id.
+    pub fn get(&self, id: u64) -> Option<&Condition>
         ensures none { result ≡ None → fin.get self.now id ≡ None }
         ensures some { IfSome result (λ b. fin.get self.now id ≡ Some b.now) }
         ensures few { NoneFrom self.now max_breaks }
@@ -78,8 +82,8 @@ impl Breaks {
         }
     }
 
-    /// The least id of those whose breakpoints hold.
-    pub fn first_hit<A: Allocator + Copy>(&self, cluster: &Cluster<A>) -> Option<u8>
+    /// Returns the least id of those whose breakpoints hold.
+    pub fn first_hit<B: Allocator + Copy>(&self, cluster: &Cluster<B>) -> Option<u8>
         ensures none { result ≡ None → NoHit self.now cluster.now }
         ensures some { IfSome result (λ id. FirstHit self.now cluster.now id) }
         ensures within { IfSome result (λ id. id < max_breaks) }
@@ -94,8 +98,8 @@ impl Breaks {
         None
     }
 
-    /// Sets a breakpoint under the least id that is free.
-    pub fn set(&mut self, b: Break) -> Result<u8, TooManyBreaks>
+    /// Sets the condition as a breakpoint, under the least id that is free.
+    pub fn set(&mut self, b: Condition) -> Result<u8, TooManyBreaks>
         ensures ok { IfOk result (λ id. self.new ≡ fin.insert self.old id b) }
         ensures least { IfOk result (λ id. IsLeastFree self.old id) }
         ensures err { OnErr result (self.new ≡ self.old) }
@@ -110,7 +114,7 @@ impl Breaks {
         }
     }
 
-    /// Takes the breakpoint of an id out.
+    /// Clears the breakpoint of the id.
     pub fn clear(&mut self, id: u64) -> Result<(), NoBreak>
         ensures ok { OnOk result (self.new ≡ fin.remove self.old id) }
         ensures was { OnOk result (fin.get self.old id ≢ None) }
@@ -146,7 +150,7 @@ impl Breaks {
     }
 
     // Puts a breakpoint where none is.
-    fn put(&mut self, id: u8, b: Break)
+    fn put(&mut self, id: u8, b: Condition)
         requires { IsLeastFree self.old id }
         ensures { self.new ≡ fin.insert self.old id b }
     {
@@ -154,7 +158,7 @@ impl Breaks {
         if id < self.slots.len() {
             write(self.slots.as_mut_slice(), id, Some(b));
         } else {
-            self.slots.push(Some(b));
+            self.slots.push_reserved(Some(b));
         }
     }
 }

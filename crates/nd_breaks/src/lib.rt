@@ -2,7 +2,7 @@
 #![tactic(auto)]
 
 mod breaks;
-mod watch;
+mod condition;
 
 pub use breaks::{Breaks, NoBreak, TooManyBreaks};
-pub use watch::Break;
+pub use condition::{Atom, BoxedCondition, Condition, Literal, Quantifier, TooManyLiterals};

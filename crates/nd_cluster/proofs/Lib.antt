@@ -5,6 +5,8 @@ pub mod Tallies
 pub mod Tests
 pub mod FreeSteps
 pub mod ChoiceLemmas
+pub mod CandidatesLemmas
 pub mod SinksLemmas
 pub mod PartsLemmas
 pub mod States
+pub mod Sizes

@@ -76,31 +76,7 @@ pub record IsChosen {A : Type 0} (s : ClusterState) (turn : ℕ) (x : Step A) : 
 pub record IsIdle (A : Type 0) (s : ClusterState) : Type 0 where
   pub none : (y : Step A) → IsCandidate y → IsEnabled s y → ⊥
 
--- ---- a part of the choice
-
--- the first of the enabled candidates of a kind
-pub record IsFirst {A : Type 0} (s : ClusterState) (Kind : Step A → Type 0) (x : Step A) : Type 0 where
-  pub candidate : IsCandidate x
-  pub kind : Kind x
-  pub enabled : IsEnabled s x
-  pub first : (y : Step A) → IsCandidate y → Kind y → ComesFirst y x → IsEnabled s y → ⊥
-
-abbrev pub HasNone : {A : Type 0} → ClusterState → (Step A → Type 0) → Type 0
-HasNone {A} s Kind = (y : Step A) → IsCandidate y → Kind y → IsEnabled s y → ⊥
-
--- the record of the first of a kind, or none if none is enabled
-abbrev pub Finds : {A : Type 0} → ClusterState → (Step A → Type 0) → Option (Record A) → Type 0
-Finds s Kind None = HasNone s Kind
-Finds s Kind (Some r) = IsFirst s Kind r.step × IsPlanned r s
-
 -- the record of a step, or none if it is refused
 abbrev pub Tries : {A : Type 0} → ClusterState → Step A → Option (Record A) → Type 0
 Tries s x None = IsEnabled s x → ⊥
 Tries s x (Some r) = IsEnabled s x × (r.step ≡ x) × IsPlanned r s
-
--- a processor's steps, and those of one kind
-abbrev pub IsOf : {A : Type 0} → ℕ → Step A → Type 0
-IsOf p x = performer x ≡ p
-
-abbrev pub IsOfRank : {A : Type 0} → ℕ → ℕ → Step A → Type 0
-IsOfRank p r x = (performer x ≡ p) × (rank x ≡ r)

@@ -2,5 +2,8 @@ pub mod Records
 pub mod Drafted
 pub mod Starting
 pub mod Choice
+pub mod Candidates
 pub mod Sinks
 pub mod Parts
+pub mod Saved
+pub mod Size

@@ -5,12 +5,21 @@ use Rattle.nd_graph.specs.Graph.{Dataflow, op_at}
 use Rattle.nd_graph.specs.declared.op.Op.TheVariants as op
 use Rattle.nd_vertex.specs.Items.{Items}
 use Rattle.nd_vertex.specs.declared.key.ItemKey.{ItemKey}
+use Rattle.nd_processor.specs.State.{token_point}
 use Rattle.nd_processor.specs.declared.key.ValueAt.{ValueAt}
 use Rattle.nd_processor.specs.declared.key.SinkKey.{SinkKey}
 use Rattle.nd_delta.specs.Delta.{DeltaValue}
 use Rattle.nd_mesh.specs.Mesh.{queue}
 use Rattle.nd_protocol.specs.Ranges.{IsValue}
 use Rattle.nd_protocol.specs.Fitting.{IsAtVertex, IsAtEdge, DeltaFits, DeltaIsWithin}
+
+-- an input vertex may have a token at the epoch
+abbrev pub IsToken : Dataflow → ℕ → ℕ → Type 0
+IsToken g vertex epoch = (op_at g vertex ≡ op.Input) × IsAtVertex g (token_point vertex epoch)
+
+-- the vertex is a sink
+abbrev pub IsSink : Dataflow → ℕ → Type 0
+IsSink g vertex = (op_at g vertex ≡ op.Sink) × (vertex < length g.vertices)
 
 -- a record may be at the key's pointstamp, with the key's value
 abbrev pub IsRecordKey : Dataflow → ValueAt → Type 0

@@ -20,6 +20,10 @@ abbrev pub shared : {A : Type 0} → ClusterState → Step A → ℕ
 shared s (Broadcast p part) = length s.processors - 1
 shared s _ = 0
 
+-- a record names as many keys and ends of queues as a step changes, the end that all queues of a broadcast have in common once
+abbrev pub NamesAll : {A : Type 0} → ClusterState → Step A → Record A → Type 0
+NamesAll s x r = named r + shared s x ≡ changed s (stepped s x)
+
 -- the changes are those of a step that is enabled, as few as can be
 pub record Plans {A : Type 0} (s : ClusterState) (x : Step A) (cs : Changes A) : Type 0 where
   pub enabled : IsEnabled s x

@@ -107,7 +107,8 @@ impl<A: Allocator + Copy> Cluster<A> {
     pub fn blocker(&self, q: usize, point: &Pointstamp) -> Option<Pointstamp>
         requires { q < length self.now.processors }
         ensures passed { IsNone result ↔ IsPassed self.now.graph (view self.now q) point.now }
-        ensures least { IfSome result (IsLeast (IsBlocker self.now.graph (view self.now q) point.now)) }
+        ensures least { IfSome result
+            (IsLeast (IsBlocker self.now.graph (view self.now q) point.now)) }
         ensures finished { IsNone result → KeepsProtocol self.now → IsFinished self.now point.now }
     {
         protocol_is_safe::<A>();

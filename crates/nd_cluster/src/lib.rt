@@ -2,21 +2,30 @@
 #![tactic(auto)]
 
 mod acting;
+mod arrivals;
+mod candidate;
+mod candidate_steps;
 mod choice;
 mod cluster;
 mod commit;
+mod effect;
 mod parts;
 mod plan;
 mod readers;
 mod reasons;
 mod refuse;
+mod saved;
 mod sinks;
+mod size;
 mod start;
 mod text;
 mod work;
 
+pub use candidate::{Candidate, CandidateList, Candidates};
 pub use cluster::Cluster;
+pub use nd_paths::ArrivalTime;
 pub use nd_protocol::{Next, NoMemory, Part, Points, Refusal, Step, Values};
-pub use nd_steps::{Change, Changes, Entries, Entry, Record, Slot};
+pub use nd_steps::{Altered, Change, Changes, Effect, Entries, Entry, ItemAt, Record, Slot};
 pub use nd_why::{Held, Reason, Reasons, Unheard};
+pub use saved::Saved;
 pub use start::StartFault;

@@ -1,12 +1,10 @@
 //! A cluster from its parts, for tests and laws: whether the keys of its maps fit its graph.
 ghost use Rattle.std.specs.Prelude.{◌≡◌, ◌≢◌, ◌<◌, ◌↔◌, ℕ, pos, All, IfSome, IsNone, IsTrue, length};
 ghost use Rattle.std.specs.FinMap as fin;
-ghost use Rattle.nd_graph.specs.Graph.{op_at as operator_at};
-ghost use Rattle.nd_graph.specs.declared.op.Op.TheVariants as operator;
 ghost use Rattle.nd_map.specs.Counts.{entries as counts_of};
 ghost use Rattle.nd_delta.specs.Delta.{entries as entries_of};
-ghost use Rattle.nd_processor.specs.State.{items_at, token_point as point_of_token};
-ghost use Rattle.nd_cluster.specs.Parts.{IsRecordKey, IsItem, IsSinkKey, ItemsFit, RowFits, RowIsWithin};
+ghost use Rattle.nd_processor.specs.State.{items_at};
+ghost use Rattle.nd_cluster.specs.Parts.{IsToken, IsSink, IsRecordKey, IsItem, IsSinkKey, ItemsFit, RowFits, RowIsWithin};
 ghost use Rattle.nd_steps.specs.Seen.{seen};
 ghost use Rattle.nd_mesh.specs.Mesh.{queue};
 ghost use Rattle.nd_view.specs.Kept.{Kept, IsFor};
@@ -60,14 +58,14 @@ fn is_value(value: i64)
 
 // Whether an input vertex may have a token at an epoch.
 fn token_fits<A: Allocator>(graph: &Graph<A>, vertex: usize, epoch: u32) -> bool
-    ensures { IsTrue result ↔ ((operator_at graph.now vertex ≡ operator.Input) × IsAtVertex graph.now (point_of_token vertex epoch)) }
+    ensures { IsTrue result ↔ IsToken graph.now vertex epoch }
 {
     matches!(op_at(graph, vertex), Op::Input) && is_at_vertex(graph, &token_point(vertex, epoch))
 }
 
 // Whether a vertex is a sink.
 fn is_sink<A: Allocator>(graph: &Graph<A>, vertex: usize) -> bool
-    ensures { IsTrue result ↔ ((operator_at graph.now vertex ≡ operator.Sink) × (vertex < length graph.now.vertices)) }
+    ensures { IsTrue result ↔ IsSink graph.now vertex }
 {
     vertex < graph.vertices().len() && matches!(op_at(graph, vertex), Op::Sink)
 }
@@ -113,7 +111,8 @@ fn records_fit<A: Allocator + Copy>(graph: &Graph<A>, processor: &Processor<A>) 
 
 // Whether its requests are at vertices.
 fn requests_fit<A: Allocator + Copy>(graph: &Graph<A>, processor: &Processor<A>) -> bool
-    ensures { IsTrue result ↔ All (λ e. IsAtVertex graph.now e.0) (fin.entries processor.now.requests) }
+    ensures { IsTrue result
+        ↔ All (λ e. IsAtVertex graph.now e.0) (fin.entries processor.now.requests) }
 {
     processor
         .requests()
@@ -122,7 +121,8 @@ fn requests_fit<A: Allocator + Copy>(graph: &Graph<A>, processor: &Processor<A>)
 
 // Whether its tokens are those of input vertices.
 fn tokens_fit<A: Allocator + Copy>(graph: &Graph<A>, processor: &Processor<A>) -> bool
-    ensures { IsTrue result ↔ All (λ e. (operator_at graph.now e.0 ≡ operator.Input) × IsAtVertex graph.now (point_of_token e.0 e.1)) (fin.entries processor.now.tokens) }
+    ensures { IsTrue result
+        ↔ All (λ e. IsToken graph.now e.0 e.1) (fin.entries processor.now.tokens) }
 {
     processor
         .tokens()
@@ -181,7 +181,8 @@ fn change_fits<A: Allocator>(graph: &Graph<A>, change: &Delta<A>) -> bool
 
 // Whether what a processor has not sent is at pointstamps of the graph alone.
 fn unsent_fits<A: Allocator + Copy>(graph: &Graph<A>, processor: &Processor<A>) -> bool
-    ensures { IsTrue result ↔ All (λ e. IsAtLocation graph.now e.0) (entries_of processor.now.unsent) }
+    ensures { IsTrue result
+        ↔ All (λ e. IsAtLocation graph.now e.0) (entries_of processor.now.unsent) }
 {
     processor
         .unsent()
@@ -344,7 +345,8 @@ impl<A: Allocator + Copy> Cluster<A> {
         requires views { All (IsFor graph.now) views.items }
         ensures some { IfSome result (λ c. c ≡ seen graph.now processors.items views.items mesh) }
         ensures state { IfSome result IsState }
-        ensures none { IsNone result → ¬ IsState (seen graph.now processors.items views.items mesh) }
+        ensures none { IsNone result
+            → ¬ IsState (seen graph.now processors.items views.items mesh) }
     {
         let _ = graph;
         if !parts_fit(&paths, &processors, &views, &mesh) {

@@ -1,11 +1,8 @@
 //! Plans: the record of a step, or why the step is refused.
-ghost use Rattle.std.specs.Prelude.{◌≡◌, ◌≢◌, ◌+◌, Err, IfOk, IfErr, OnOk, length};
-ghost use Rattle.nd_protocol.specs.Steps.{stepped};
+ghost use Rattle.std.specs.Prelude.{◌≡◌, ◌≢◌, Err, IfOk, IfErr, OnOk};
 ghost use Rattle.nd_protocol.specs.Ranges.{NumbersFit};
 ghost use Rattle.nd_protocol.specs.Enabled.{IsEnabled, IsRefused, MayWantMemory};
-ghost use Rattle.nd_steps.specs.Standing.{changed};
-ghost use Rattle.nd_steps.specs.Records.{named};
-ghost use Rattle.nd_cluster.specs.Records.{shared, Plans, ComesLast, IsPlanned};
+ghost use Rattle.nd_cluster.specs.Records.{NamesAll, Plans, ComesLast, IsPlanned};
 ghost use Rattle.nd_protocol.specs.declared.step.Step.TheVariants.{Broadcast as Sending, Receive as Receiving};
 ghost use Rattle.nd_protocol.specs.declared.refusal.Refusal.TheVariants.{Memory};
 
@@ -56,7 +53,7 @@ impl<A: Allocator + Copy> Cluster<A> {
     }
 
     // What a step changes, or why it is refused.
-    fn changes_of(&self, step: &Step<A>) -> Result<Changes<A>, Refusal>
+    pub(crate) fn changes_of(&self, step: &Step<A>) -> Result<Changes<A>, Refusal>
         ensures ok { IfOk result (Plans self.now step.now) }
         ensures refused { IfErr result (λ r. r ≢ Memory → IsRefused self.now step.now r) }
         ensures memory { result ≡ Err Memory → MayWantMemory self.now step.now }
@@ -91,7 +88,7 @@ impl<A: Allocator + Copy> Cluster<A> {
         ensures last { OnOk result (ComesLast self.now step.now) }
         ensures step { IfOk result (λ r. r.step ≡ step.now) }
         ensures planned { IfOk result (λ r. IsPlanned r self.now) }
-        ensures small { IfOk result (λ r. named r + shared self.now step.now ≡ changed self.now (stepped self.now step.now)) }
+        ensures small { IfOk result (NamesAll self.now step.now) }
         ensures refused { IfErr result (λ r. r ≢ Memory → IsRefused self.now step.now r) }
         ensures memory { result ≡ Err Memory → MayWantMemory self.now step.now }
     {

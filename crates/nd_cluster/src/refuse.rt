@@ -8,7 +8,7 @@ ghost use Rattle.nd_protocol.specs.State.{processor};
 ghost use Rattle.nd_protocol.specs.Steps.{target_of};
 ghost use Rattle.nd_protocol.specs.Enabled.{IsFreeBelow, IsRefused};
 ghost use Rattle.nd_protocol.specs.declared.step.Step.TheVariants.{Feed as Feeding};
-ghost use Rattle.nd_cluster.specs.Drafted.{take_of, notice_of};
+ghost use Rattle.nd_cluster.specs.Drafted.{take_of, notice_of, IsWithinRules};
 
 use crate::{Cluster, Next, Refusal};
 use nd_graph::{Graph, Op};
@@ -46,8 +46,9 @@ impl<A: Allocator + Copy> Cluster<A> {
         next: Next,
     ) -> Result<u32, Refusal>
         ensures epoch { IfOk result (λ e. fin.get (processor self.now p).tokens vertex ≡ Some e) }
-        ensures free { OnOk result (IsFreeBelow {A = A} self.now (Feeding p vertex values.now next) 13) }
-        ensures refused { IfErr result (IsRefused {A = A} self.now (Feeding p vertex values.now next)) }
+        ensures free { OnOk result (IsWithinRules A self.now (Feeding p vertex values.now next)) }
+        ensures refused { IfErr result
+            (IsRefused {A = A} self.now (Feeding p vertex values.now next)) }
     {
         if p as usize >= self.n() {
             return Err(Refusal::NoProcessor);

@@ -1,12 +1,10 @@
 //! The changes of a feed, a take or a notice, or why it is refused.
 ghost use Rattle.std.specs.Prelude.{◌≡◌, ◌≢◌, Err, IfOk, IfErr, OnOk, length};
-ghost use Rattle.nd_protocol.specs.Steps.{stepped};
 ghost use Rattle.nd_protocol.specs.Fitting.{IsState};
-ghost use Rattle.nd_protocol.specs.Enabled.{IsFreeBelow, IsRefused, MayWantMemory};
+ghost use Rattle.nd_protocol.specs.Enabled.{IsRefused, MayWantMemory};
 ghost use Rattle.nd_steps.specs.Edits.{Works};
-ghost use Rattle.nd_steps.specs.Plans.{Reaches};
 ghost use Rattle.nd_cluster.specs.Records.{Plans};
-ghost use Rattle.nd_cluster.specs.Drafted.{take_of, notice_of, IsDraft};
+ghost use Rattle.nd_cluster.specs.Drafted.{take_of, notice_of, LeadOn, IsWithinRules, IsDraft};
 ghost use Rattle.nd_protocol.specs.declared.step.Step.TheVariants.{Feed as Feeding};
 ghost use Rattle.nd_protocol.specs.declared.refusal.Refusal.TheVariants.{Memory};
 
@@ -15,7 +13,7 @@ use nd_paths::Pointstamp;
 use nd_processor::ValueAt;
 use nd_steps::{
     Come, Fed, Performer, Taken, feed_changes, notice_changes, ordered_flow, planned_changes,
-    take_changes, take_flow,
+    record_at, take_changes, take_flow,
 };
 use std::alloc::Allocator;
 
@@ -45,12 +43,13 @@ impl<A: Allocator + Copy> Cluster<A> {
         values: &[i64],
         next: Next,
     ) -> Result<Vec<Change, A>, Refusal>
-        ensures reaches { IfOk result (λ v. Reaches self.now (stepped {A = A} self.now (Feeding p vertex values.now next)) v.items) }
-        ensures free { OnOk result (IsFreeBelow {A = A} self.now (Feeding p vertex values.now next) 13) }
+        ensures reaches { IfOk result (λ v.
+            LeadOn A self.now (Feeding p vertex values.now next) v.items) }
+        ensures free { OnOk result (IsWithinRules A self.now (Feeding p vertex values.now next)) }
         ensures refused { IfErr result (λ r. r ≢ Memory
             → IsRefused {A = A} self.now (Feeding p vertex values.now next) r) }
         ensures memory { result ≡ Err Memory
-            → IsFreeBelow {A = A} self.now (Feeding p vertex values.now next) 13 }
+            → IsWithinRules A self.now (Feeding p vertex values.now next) }
     {
         let epoch = self.feed_epoch(p, vertex, values, next)?;
         let graph = self.graph();
@@ -75,10 +74,10 @@ impl<A: Allocator + Copy> Cluster<A> {
     // What a take changes, or why it is refused, but for the limits: if it can be kept in little, what comes.
     fn take_parts(&self, p: u32, key: &ValueAt) -> Result<Drafted<A>, Refusal>
         ensures drafted { IfOk result (IsDraft self.now (take_of p key.now)) }
-        ensures free { OnOk result (IsFreeBelow {A = A} self.now (take_of p key.now) 13) }
+        ensures free { OnOk result (IsWithinRules A self.now (take_of p key.now)) }
         ensures refused { IfErr result (λ r. r ≢ Memory
             → IsRefused {A = A} self.now (take_of p key.now) r) }
-        ensures memory { result ≡ Err Memory → IsFreeBelow {A = A} self.now (take_of p key.now) 13 }
+        ensures memory { result ≡ Err Memory → IsWithinRules A self.now (take_of p key.now) }
     {
         let target = self.take_target(p, key)?;
         let (effect, asks) = self.take_effect(p, key, target)?;
@@ -107,12 +106,11 @@ impl<A: Allocator + Copy> Cluster<A> {
 
     // What a notice changes, or why it is refused, but for the limits.
     fn notice_parts(&self, p: u32, point: &Pointstamp) -> Result<Vec<Change, A>, Refusal>
-        ensures reaches { IfOk result (λ v. Reaches self.now (stepped {A = A} self.now (notice_of p point.now)) v.items) }
-        ensures free { OnOk result (IsFreeBelow {A = A} self.now (notice_of p point.now) 13) }
+        ensures reaches { IfOk result (λ v. LeadOn A self.now (notice_of p point.now) v.items) }
+        ensures free { OnOk result (IsWithinRules A self.now (notice_of p point.now)) }
         ensures refused { IfErr result (λ r. r ≢ Memory
             → IsRefused {A = A} self.now (notice_of p point.now) r) }
-        ensures memory { result ≡ Err Memory
-            → IsFreeBelow {A = A} self.now (notice_of p point.now) 13 }
+        ensures memory { result ≡ Err Memory → IsWithinRules A self.now (notice_of p point.now) }
     {
         self.notice_asked(p, point)?;
         let effect = self.notice_effect(p, point)?;
@@ -134,9 +132,9 @@ impl<A: Allocator + Copy> Cluster<A> {
     fn drafted(&self, step: &Step<A>) -> Result<Drafted<A>, Refusal>
         requires { Works step.now }
         ensures drafted { IfOk result (IsDraft self.now step.now) }
-        ensures free { OnOk result (IsFreeBelow self.now step.now 13) }
+        ensures free { OnOk result (IsWithinRules A self.now step.now) }
         ensures refused { IfErr result (λ r. r ≢ Memory → IsRefused self.now step.now r) }
-        ensures memory { result ≡ Err Memory → IsFreeBelow self.now step.now 13 }
+        ensures memory { result ≡ Err Memory → IsWithinRules A self.now step.now }
     {
         match step {
             Step::Feed {
@@ -154,14 +152,7 @@ impl<A: Allocator + Copy> Cluster<A> {
                 time,
                 value,
             } => {
-                let point = Pointstamp {
-                    location: *edge,
-                    time: time.copy(),
-                };
-                let key = ValueAt {
-                    point,
-                    value: *value,
-                };
+                let key = record_at(*edge, time, *value);
                 self.take_parts(*p, &key)
             }
             Step::Notice { p, vertex, time } => {

@@ -1,9 +1,9 @@
 //! Changes: finite maps from pointstamps to integers other than 0 (Naiad, SOSP 2013, section 3.3), stored in sorted lists, or in maps that may grow large.
 #![tactic(auto)]
 
-ghost use Rattle.std.specs.Prelude.{◌≡◌, ◌≢◌, [], ◌↔◌, ◌<◌, ◌≤◌, ◌+ℤ◌, ◌<ℤ◌, ◌*◌, pos, unsigned_abs, length, ◌⊎◌, OnOk, OnErr, IfOk, IfSome, IsNone, IsTrue, Err, Contains};
+ghost use Rattle.std.specs.Prelude.{◌≡◌, ◌≢◌, [], ◌↔◌, ◌<◌, ◌≤◌, ◌+ℤ◌, ◌<ℤ◌, ◌*◌, pos, unsigned_abs, length, ◌⊎◌, OnOk, OnErr, IfOk, IfSome, IsSomeAnd, IsNone, IsTrue, Err, Contains};
 ghost use Rattle.nd_time.specs.Limits.{max_count};
-ghost use Rattle.nd_paths.specs.Order.{IsStrictlyBefore};
+ghost use Rattle.nd_paths.specs.Order.{CouldResultIn, IsStrictlyBefore};
 ghost use Rattle.nd_paths.specs.declared.point.Pointstamp.{Pointstamp};
 ghost use Rattle.nd_delta.specs.Upright.{IsSupported, IsUnsupported, IsUpright, HoldsNothing};
 ghost use Rattle.nd_delta.specs.Least.{IsLeast};
@@ -81,6 +81,16 @@ fn any_before<B: Allocator>(held: &[Pointstamp], paths: &Paths<B>, point: &Point
         }
     }
     false
+}
+
+// Whether there is a pointstamp, and it is at or before another.
+fn is_after<B: Allocator>(paths: &Paths<B>, first: Option<&Pointstamp>, point: &Pointstamp) -> bool
+    ensures { IsTrue result ↔ IsSomeAnd first.entry (λ x. CouldResultIn paths.now x.now point.now) }
+{
+    match first {
+        Some(x) => paths.before(x, point),
+        None => false,
+    }
 }
 
 // Whether the next entry of one list comes before that of another.
@@ -276,7 +286,7 @@ impl<A: Allocator> Delta<A> {
         Ok(kept)
     }
 
-    // Whether there is a negative entry, or a pointstamp that is held, strictly before a pointstamp.
+    // Whether a pointstamp that is held, or a negative entry, is strictly before a pointstamp.
     fn supports<B: Allocator>(
         &self,
         paths: &Paths<B>,
@@ -285,25 +295,15 @@ impl<A: Allocator> Delta<A> {
     ) -> bool
         ensures { IsTrue result ↔ IsSupported (IsStrictlyBefore paths.now) (Contains held.now) (at self.now) point.now }
     {
+        if any_before(held, paths, point) {
+            return true;
+        }
         for entry in self.entries() {
             if is_negative_before(entry, paths, point) {
                 return true;
             }
         }
-        any_before(held, paths, point)
-    }
-
-    // Whether an entry is positive, and nothing negative or held is strictly before it.
-    fn leaves_alone<B: Allocator>(
-        &self,
-        paths: &Paths<B>,
-        held: &[Pointstamp],
-        entry: &(Pointstamp, i64),
-    ) -> bool
-        ensures alone { IsTrue result → (pos 0 <ℤ entry.now.1) × (IsSupported (IsStrictlyBefore paths.now) (Contains held.now) (at self.now) entry.now.0 → ⊥) }
-        ensures supported { (IsTrue result → ⊥) → pos 0 <ℤ entry.now.1 → IsSupported (IsStrictlyBefore paths.now) (Contains held.now) (at self.now) entry.now.0 }
-    {
-        entry.1 > 0 && !self.supports(paths, held, &entry.0)
+        false
     }
 
     /// The least pointstamp with a positive integer and nothing negative strictly before it,
@@ -325,9 +325,15 @@ impl<A: Allocator> Delta<A> {
         ensures upright { IsNone result ↔ IsUpright (IsStrictlyBefore paths.now) (Contains held.now) (at self.now) }
         ensures least { IfSome result (IsLeast (IsUnsupported (IsStrictlyBefore paths.now) (Contains held.now) (at self.now))) }
     {
+        // What supports a pointstamp supports each that is not before it, so most entries need one comparison.
+        paths.order_is_partial();
+        let mut supported = None;
         for entry in self.entries() {
-            if self.leaves_alone(paths, held, entry) {
-                return Some(entry.0.copy());
+            if entry.1 > 0 && !is_after(paths, supported, &entry.0) {
+                if !self.supports(paths, held, &entry.0) {
+                    return Some(entry.0.copy());
+                }
+                supported = Some(&entry.0);
             }
         }
         None

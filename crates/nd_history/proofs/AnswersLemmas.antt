@@ -2,7 +2,7 @@
 use Rattle.std.proofs.Common.{◌≡◌, ◌<◌, ◌≤◌, ℕ, zero, suc, ◌+◌, List, [], ◌∷◌, All, refl, Option, Some, None, Vec, map, min, length, slice_get, inl, inr, arith, subst, sym, ap, ◌∙◌}
 use Rattle.std.proofs.lemmas.Bool.{cases_lt}
 use Rattle.nd_time.specs.Limits.{max_workers}
-use Rattle.nd_breaks.specs.declared.watch.Break.{Break}
+use Rattle.nd_breaks.specs.Conditions.{ConditionValue}
 use Rattle.nd_timeline.specs.Timeline.{TimelineValue}
 use Rattle.nd_history.specs.Answers.{AreClaims, IsLastClaim, IsMissing, AreCalled, IsCalled, AnswerIsCalled}
 use Rattle.nd_history.proofs.Lists.{map_twice}
@@ -64,9 +64,9 @@ module _ {A : Type 0} where
 
 -- ---- pieces in their order
 
-module _ {A : Type 0} (m : TimelineValue A) (b : Break) (Called : ℕ → ℕ → Type 0) (lo hi workers : ℕ) (works : List (Searched A)) (rs : List (Option (Option ℕ))) (survey : IsSurvey (HoldsAt m b) Called lo hi workers works rs) where
+module _ {A : Type 0} (m : TimelineValue A) (c : ConditionValue) (Called : ℕ → ℕ → Type 0) (lo hi workers : ℕ) (works : List (Searched A)) (rs : List (Option (Option ℕ))) (survey : IsSurvey (HoldsAt m c) Called lo hi workers works rs) where
   abbrev Hit : ℕ → Type 0
-  Hit = HoldsAt m b
+  Hit = HoldsAt m c
 
   right : (j : ℕ) (r : Option ℕ) → slice_get rs j ≡ Some (Some r) → IsResult Hit lo hi j r
   right j r at =
@@ -124,7 +124,7 @@ module _ {A : Type 0} (m : TimelineValue A) (b : Break) (Called : ℕ → ℕ �
     fault_called = subst (AreCalled Called) (sym lists) survey.all.called
 
     -- the first piece without a result
-    pub gap : (j : ℕ) → IsFirstGap rs j → IsMissing m b lo hi workers j (map (λ l. l.items) claimed)
+    pub gap : (j : ℕ) → IsFirstGap rs j → IsMissing m c lo hi workers j (map (λ l. l.items) claimed)
     gap j first =
         let within_range : j < piece_count lo hi = omega (arith, survey.len, get_below rs j None first.gap) in
         let started : length works ≡ min workers max_workers = sym (length_of (λ (s : Searched A). s.claimed.items) works) ∙ survey.all.claims.started in record {

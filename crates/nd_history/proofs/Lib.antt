@@ -11,3 +11,5 @@ pub mod Totals
 pub mod WalkLemmas
 pub mod ToldLemmas
 pub mod EntryLemmas
+pub mod TurnsLemmas
+pub mod EffectedLemmas

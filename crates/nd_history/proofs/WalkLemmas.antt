@@ -1,9 +1,8 @@
 -- A walk over a timeline's positions.
-use Rattle.std.proofs.Common.{◌≡◌, ℕ, ◌+◌, inl, inr, sym, subst, arith}
+use Rattle.std.proofs.Common.{◌≡◌, ◌↔◌, ℕ, ◌+◌, Bool, IsTrue, inl, inr, sym, subst, arith}
 use Rattle.std.proofs.lemmas.Bool.{cases_lt}
 use Rattle.nd_protocol.specs.State.{ClusterState}
-use Rattle.nd_breaks.specs.Breaks.{Holds}
-use Rattle.nd_breaks.specs.declared.watch.Break.{Break}
+use Rattle.nd_breaks.specs.Conditions.{ConditionValue, Holds}
 use Rattle.nd_timeline.specs.Timeline.{TimelineValue}
 use Rattle.nd_timeline.specs.Walks.{IsOn}
 use Rattle.nd_timeline.specs.declared.walk.Walk.{Walk}
@@ -19,5 +18,9 @@ no_hit_more Hit from i none here k le lt hit =
 
 module _ {A : Type 0} (m : TimelineValue A) (w : Walk A) (i : ℕ) where
   -- if it does not hold of the walk's cluster, its position is no hit
-  pub not_here : (b : Break) → IsOn m w → w.at ≡ i → (Holds w.cluster b → ⊥) → HoldsAt m b i → ⊥
-  not_here b on is fails hit = fails (subst (λ (s : ClusterState). Holds s b) (sym on.cluster) (subst (HoldsAt m b) (sym is) hit))
+  pub not_here : (c : ConditionValue) → IsOn m w → w.at ≡ i → (Holds w.cluster c → ⊥) → HoldsAt m c i → ⊥
+  not_here c on is fails hit = fails (subst (λ (s : ClusterState). Holds s c) (sym on.cluster) (subst (HoldsAt m c) (sym is) hit))
+
+  -- whether it holds of the walk's cluster is whether its position is a hit
+  pub held_here : (c : ConditionValue) (b : Bool) → IsOn m w → w.at ≡ i → (IsTrue b ↔ Holds w.cluster c) → IsTrue b ↔ HoldsAt m c i
+  held_here c b on is held = subst (λ n. IsTrue b ↔ HoldsAt m c n) is (subst (λ (s : ClusterState). IsTrue b ↔ Holds s c) on.cluster held)

@@ -1,7 +1,7 @@
 -- What a search may answer (this project's own rule).
 use Rattle.std.specs.Prelude.{◌≡◌, ℕ, ◌-◌, ◌<◌, ◌≤◌, List, length, map, min, slice_get, All, Option, Some, None}
 use Rattle.nd_time.specs.Limits.{max_workers}
-use Rattle.nd_breaks.specs.declared.watch.Break.{Break}
+use Rattle.nd_breaks.specs.Conditions.{ConditionValue}
 use Rattle.nd_timeline.specs.Timeline.{TimelineValue}
 use Rattle.nd_history.specs.Least.{HoldsAt, NoHit}
 use Rattle.nd_history.specs.Pieces.{piece_count, piece_start}
@@ -38,9 +38,9 @@ pub record IsLastClaim (piece : ℕ) (lists : List (List ℕ)) : Type 0 where
   pub last : slice_get list (length list - 1) ≡ Some piece
 
 -- a piece is missing: a worker stopped in it, and those before it were searched without a hit
-pub record IsMissing {A : Type 0} (m : TimelineValue A) (b : Break) (lo hi workers piece : ℕ) (lists : List (List ℕ)) : Type 0 where
+pub record IsMissing {A : Type 0} (m : TimelineValue A) (c : ConditionValue) (lo hi workers piece : ℕ) (lists : List (List ℕ)) : Type 0 where
   pub one_of_them : piece < piece_count lo hi
-  pub before : NoHit (HoldsAt m b) lo (piece_start lo piece)
+  pub before : NoHit (HoldsAt m c) lo (piece_start lo piece)
   pub claims : AreClaims (piece_count lo hi) workers lists
   pub stopped : IsLastClaim piece lists
 
@@ -72,8 +72,8 @@ FaultIsCalled Called Memory = Unit {0}
 FaultIsCalled Called (Missing piece claimed) = AreCalled Called (map (λ l. l.items) claimed.items)
 
 -- why a search answers nothing
-abbrev pub SearchFails : {A : Type 0} → TimelineValue A → Break → ℕ → ℕ → ℕ → SearchFault A → Type 0
-SearchFails m b lo hi workers Memory = MaySearch (length m.kept) lo hi workers
-SearchFails m b lo hi workers (Missing piece claimed) =
-    MaySearch (length m.kept) lo hi workers × IsMissing m b lo hi workers piece (map (λ l. l.items) claimed.items)
-SearchFails m b lo hi workers fault = CannotSearch (length m.kept) lo hi workers fault
+abbrev pub SearchFails : {A : Type 0} → TimelineValue A → ConditionValue → ℕ → ℕ → ℕ → SearchFault A → Type 0
+SearchFails m c lo hi workers Memory = MaySearch (length m.kept) lo hi workers
+SearchFails m c lo hi workers (Missing piece claimed) =
+    MaySearch (length m.kept) lo hi workers × IsMissing m c lo hi workers piece (map (λ l. l.items) claimed.items)
+SearchFails m c lo hi workers fault = CannotSearch (length m.kept) lo hi workers fault

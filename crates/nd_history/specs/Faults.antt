@@ -1,4 +1,4 @@
--- The number and the name under which each fault of a search, and of a question for changes, is answered (this project's own rule).
+-- The number and the name under which each fault of a search, of a question for changes and of one for turns, is answered (this project's own rule).
 use Rattle.std.specs.Prelude.{codes}
 use Rattle.nd_time.specs.Code.{Code, coded}
 use Rattle.nd_protocol.specs.Refusals as refusals
@@ -9,6 +9,8 @@ use Rattle.nd_history.specs.declared.fault.SearchFault.{SearchFault}
 use Rattle.nd_history.specs.declared.fault.SearchFault.TheVariants.{BadRange, NoWorkers, NoSuchPoint, Memory, Missing}
 use Rattle.nd_history.specs.declared.fault.ChangesFault.{ChangesFault}
 use Rattle.nd_history.specs.declared.fault.ChangesFault.TheVariants as changes
+use Rattle.nd_history.specs.declared.fault.TurnsFault.{TurnsFault}
+use Rattle.nd_history.specs.declared.fault.TurnsFault.TheVariants as turns
 
 -- of a search
 abbrev pub code_of_search : {A : Type 0} → SearchFault A → Code
@@ -24,3 +26,9 @@ code_of_changes changes.NoProcessor = refusals.code_of refusal.NoProcessor
 code_of_changes changes.BadRange = coded 50 (codes "BadRange")
 code_of_changes changes.NoSuchPoint = faults.code_of fault.NoSuchPoint
 code_of_changes changes.Memory = refusals.code_of refusal.Memory
+
+-- of a question for turns
+abbrev pub code_of_turns : TurnsFault → Code
+code_of_turns turns.BadRange = coded 50 (codes "BadRange")
+code_of_turns turns.NoSuchPoint = faults.code_of fault.NoSuchPoint
+code_of_turns turns.Memory = refusals.code_of refusal.Memory

@@ -1,13 +1,12 @@
--- *Least hit*: the least position of a kept list at which a breakpoint holds (this project's own rule).
+-- *Least hit*: the least position of a kept list at which a condition holds (this project's own rule).
 use Rattle.std.specs.Prelude.{ℕ, ◌+◌, ◌<◌, ◌≤◌, take, Option, Some, None}
 use Rattle.nd_protocol.specs.Steps.{after}
-use Rattle.nd_breaks.specs.Breaks.{Holds}
-use Rattle.nd_breaks.specs.declared.watch.Break.{Break}
+use Rattle.nd_breaks.specs.Conditions.{ConditionValue, Holds}
 use Rattle.nd_timeline.specs.Timeline.{TimelineValue}
 
--- the breakpoint holds at a position: of the cluster that so many of the kept steps make of the base
-abbrev pub HoldsAt : {A : Type 0} → TimelineValue A → Break → ℕ → Type 0
-HoldsAt m b i = Holds (after m.base (take i m.kept)) b
+-- the condition holds at a position: of the cluster that so many of the kept steps make of the base
+abbrev pub HoldsAt : {A : Type 0} → TimelineValue A → ConditionValue → ℕ → Type 0
+HoldsAt m c i = Holds (after m.base (take i m.kept)) c
 
 -- there is no hit from one position on and before another
 abbrev pub NoHit : (ℕ → Type 0) → ℕ → ℕ → Type 0

@@ -9,3 +9,5 @@ pub mod Works
 pub mod Changes
 pub mod Told
 pub mod ViewChanges
+pub mod Turns
+pub mod Effected

@@ -1,5 +1,5 @@
 -- What is told of a list of changes (this project's own rule).
-use Rattle.std.specs.Prelude.{◌≡◌, ◌↔◌, ◌<◌, ℕ, List, length, take, IsTrue}
+use Rattle.std.specs.Prelude.{◌≡◌, ◌↔◌, ◌<◌, List, length, take, IsTrue}
 use Rattle.nd_time.specs.Limits.{max_told}
 use Rattle.nd_history.specs.declared.told.Changed.{Changed}
 use Rattle.nd_history.specs.declared.told.Told.{Told}

@@ -1,6 +1,6 @@
-//! Why a search answers nothing, and why no changes are told.
+//! Why a search answers nothing, why no changes are told, and why no turns are listed.
 ghost use Rattle.std.specs.Prelude.{◌≡◌};
-ghost use Rattle.nd_history.specs.Faults.{code_of_changes, code_of_search};
+ghost use Rattle.nd_history.specs.Faults.{code_of_changes, code_of_search, code_of_turns};
 
 use nd_protocol::Refusal;
 use nd_time::Code;
@@ -89,6 +89,41 @@ impl ChangesFault {
             ChangesFault::BadRange => Code::new(50, "BadRange"),
             ChangesFault::NoSuchPoint => Fault::NoSuchPoint.code(),
             ChangesFault::Memory => Refusal::Memory.code(),
+        }
+    }
+}
+
+/// Why no turns are listed (this project's own rule).
+#[derive(Clone, Copy, Debug, Drop, PartialEq, Eq)]
+pub enum TurnsFault {
+    /// The first position is above the last.
+    BadRange,
+    /// Fewer steps are kept.
+    NoSuchPoint,
+    /// A growth was refused.
+    Memory,
+}
+
+impl From<AllocError> for TurnsFault {
+    ghost use Rattle.std.specs.Prelude.{◌≡◌};
+    ghost use Rattle.nd_history.specs.declared.fault.TurnsFault.TheVariants.{Memory};
+
+    ghost from_gives = { λ _ r. r ≡ Memory };
+
+    fn from(_: AllocError) -> TurnsFault {
+        TurnsFault::Memory
+    }
+}
+
+impl TurnsFault {
+    /// Returns the number and the name of the fault.
+    pub fn code(&self) -> Code
+        ensures { result ≡ code_of_turns self.now }
+    {
+        match self {
+            TurnsFault::BadRange => Code::new(50, "BadRange"),
+            TurnsFault::NoSuchPoint => Fault::NoSuchPoint.code(),
+            TurnsFault::Memory => Refusal::Memory.code(),
         }
     }
 }

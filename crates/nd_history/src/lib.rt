@@ -1,8 +1,9 @@
 //! Questions about the kept steps of a timeline: snapshots of it, a search of its positions by many
-//! workers, and the changes of a processor's view.
+//! workers, the changes of a processor's view, what a step changed, and where a condition turns.
 #![tactic(auto)]
 
 mod board;
+mod effected;
 mod fault;
 mod gate;
 mod hand;
@@ -13,11 +14,16 @@ mod table;
 mod team;
 mod telling;
 mod told;
+mod turned;
+mod turning;
 mod work;
 
-pub use fault::{ChangesFault, SearchFault};
+pub use effected::{EffectFault, StepEffect, effect};
+pub use fault::{ChangesFault, SearchFault, TurnsFault};
 pub use gate::{Gate, OpenGate};
 pub use searching::{search, search_in};
 pub use snapshot::Snapshot;
 pub use telling::changes;
 pub use told::{Changed, Changes, Told};
+pub use turned::{PositionList, Turns};
+pub use turning::turns;

@@ -7,7 +7,7 @@ ghost use Rattle.nd_history.specs.Pieces.{IsRange, piece_count};
 ghost use Rattle.nd_history.specs.Works.{IsResult};
 
 use crate::Gate;
-use nd_breaks::Break;
+use nd_breaks::Condition;
 use nd_timeline::{Timeline, Walk};
 use std::alloc::{AllocError, Allocator};
 
@@ -32,18 +32,18 @@ impl Positions {
 }
 
 /// What the workers of a search share: the positions of a timeline that they search for a
-/// breakpoint, and the gate that they call before each piece.
+/// condition, and the gate that they call before each piece.
 #[derive(Drop)]
 pub(crate) struct Scan<'a, A: Allocator + Copy, G> {
     pub(crate) timeline: &'a Timeline<A>,
-    pub(crate) b: &'a Break,
+    pub(crate) condition: &'a Condition,
     pub(crate) positions: Positions,
     pub(crate) gate: &'a G,
 }
 
 impl<A: Allocator + Copy, G: Gate> Scan<'_, A, G> {
     /// Searches a piece, for which worker `who` has called the gate: the least of its positions
-    /// at which the breakpoint holds.
+    /// at which the condition holds.
     ///
     /// The walk goes there from where it stands by the shorter way.
     pub(crate) fn search_piece(
@@ -56,34 +56,34 @@ impl<A: Allocator + Copy, G: Gate> Scan<'_, A, G> {
         requires range { IsRange self.now.positions.lo self.now.positions.hi }
         requires piece { piece < piece_count self.now.positions.lo self.now.positions.hi }
         requires on { IsOn self.now.timeline.now walk.old }
-        ensures found { IfOk result (IsResult (HoldsAt self.now.timeline.now self.now.b.now)
+        ensures found { IfOk result (IsResult (HoldsAt self.now.timeline.now self.now.condition.now)
             self.now.positions.lo self.now.positions.hi piece) }
         ensures on { IsOn self.now.timeline.now walk.new }
     {
         let start = self.positions.lo + PIECE_LENGTH * piece;
         let end = self.positions.hi.min(start + (PIECE_LENGTH - 1));
-        first_hit(self.timeline, walk, self.b, start, end)
+        first_hit(self.timeline, walk, self.condition, start, end)
     }
 }
 
-// Goes from one position to another, and stops at the first at which the breakpoint holds.
+// Goes from one position to another, and stops at the first at which the condition holds.
 fn first_hit<A: Allocator + Copy>(
     timeline: &Timeline<A>,
     walk: &mut Walk<A>,
-    b: &Break,
+    condition: &Condition,
     from: u64,
     to: u64,
 ) -> Result<Option<u64>, AllocError>
     requires few { to ≤ max_kept }
     requires on { IsOn timeline.now walk.old }
-    ensures found { IfOk result (IsLeast (HoldsAt timeline.now b.now) from to) }
+    ensures found { IfOk result (IsLeast (HoldsAt timeline.now condition.now) from to) }
     ensures on { IsOn timeline.now walk.new }
 {
     for i in from..to + 1 {
         let Ok(()) = timeline.walk_to(walk, i) else {
             return Err(AllocError);
         };
-        if b.holds(&walk.cluster) {
+        if condition.holds(&walk.cluster) {
             return Ok(Some(i));
         }
     }

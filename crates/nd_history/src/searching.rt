@@ -9,7 +9,7 @@ use crate::table::{first, results};
 use crate::team::search_all;
 use crate::work::Searched;
 use crate::{Gate, SearchFault, Snapshot};
-use nd_breaks::Break;
+use nd_breaks::Condition;
 use nd_timeline::Timeline;
 use std::alloc::{AllocError, Allocator};
 use std::thread::Threads;
@@ -54,7 +54,7 @@ fn claims<A: Allocator + Copy>(
     Ok(lists)
 }
 
-/// The least position from `lo` to `hi`, both included, at which the breakpoint holds.
+/// The least position from `lo` to `hi`, both included, at which the condition holds.
 ///
 /// At most 64 workers are started, each on a thread of its own and with a cluster of its own that
 /// walks over the kept steps (this project's own rule). They claim pieces of 16 positions, one
@@ -64,21 +64,21 @@ pub fn search_in<A: Allocator + Copy + Send + Sync, R: Threads + Sync, G: Gate>(
     rt: &R,
     alloc: A,
     timeline: &Timeline<A>,
-    b: &Break,
+    condition: &Condition,
     lo: u64,
     hi: u64,
     workers: u64,
     gate: &G,
 ) -> Result<Option<u64>, SearchFault<A>>
-    ensures found { IfOk result (IsLeast (HoldsAt timeline.now b.now) lo hi) }
+    ensures found { IfOk result (IsLeast (HoldsAt timeline.now condition.now) lo hi) }
     ensures may { OnOk result (MaySearch (length timeline.now.kept) lo hi workers) }
-    ensures fails { IfErr result (SearchFails timeline.now b.now lo hi workers) }
+    ensures fails { IfErr result (SearchFails timeline.now condition.now lo hi workers) }
     ensures called { IfOk result (AnswerIsCalled (G.called gate.now) lo hi workers) }
     ensures fault_called { IfErr result (FaultIsCalled (G.called gate.now)) }
 {
     let scan = Scan {
         timeline: &*timeline,
-        b: &*b,
+        condition: &*condition,
         positions: positions(timeline, lo, hi, workers)?,
         gate: &*gate,
     };
@@ -93,23 +93,32 @@ pub fn search_in<A: Allocator + Copy + Send + Sync, R: Threads + Sync, G: Gate>(
     }
 }
 
-/// The least position of a snapshot from `lo` to `hi`, both included, at which the breakpoint
+/// The least position of a snapshot from `lo` to `hi`, both included, at which the condition
 /// holds, as `search_in` returns it.
 pub fn search<A: Allocator + Copy + Send + Sync, R: Threads + Sync, G: Gate>(
     rt: &R,
     alloc: A,
     snapshot: &Snapshot<A>,
-    b: &Break,
+    condition: &Condition,
     lo: u64,
     hi: u64,
     workers: u64,
     gate: &G,
 ) -> Result<Option<u64>, SearchFault<A>>
-    ensures found { IfOk result (IsLeast (HoldsAt snapshot.now.timeline b.now) lo hi) }
+    ensures found { IfOk result (IsLeast (HoldsAt snapshot.now.timeline condition.now) lo hi) }
     ensures may { OnOk result (MaySearch (length snapshot.now.timeline.kept) lo hi workers) }
-    ensures fails { IfErr result (SearchFails snapshot.now.timeline b.now lo hi workers) }
+    ensures fails { IfErr result (SearchFails snapshot.now.timeline condition.now lo hi workers) }
     ensures called { IfOk result (AnswerIsCalled (G.called gate.now) lo hi workers) }
     ensures fault_called { IfErr result (FaultIsCalled (G.called gate.now)) }
 {
-    search_in(rt, alloc, snapshot.timeline(), b, lo, hi, workers, gate)
+    search_in(
+        rt,
+        alloc,
+        snapshot.timeline(),
+        condition,
+        lo,
+        hi,
+        workers,
+        gate,
+    )
 }

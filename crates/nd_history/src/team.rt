@@ -98,7 +98,7 @@ pub(crate) fn search_all<A: Allocator + Copy + Send + Sync, R: Threads + Sync, G
     workers: u64,
 ) -> Result<Vec<Searched<A>, A>, AllocError>
     requires range { IsRange scan.now.positions.lo scan.now.positions.hi }
-    ensures { IfOk result (λ v. AreSearched (HoldsAt scan.now.timeline.now scan.now.b.now)
+    ensures { IfOk result (λ v. AreSearched (HoldsAt scan.now.timeline.now scan.now.condition.now)
         (G.called scan.now.gate.now) scan.now.positions.lo scan.now.positions.hi workers v.items) }
 {
     let pieces = scan.positions.pieces();
@@ -114,7 +114,7 @@ pub(crate) fn search_all<A: Allocator + Copy + Send + Sync, R: Threads + Sync, G
         requires { IsTeam team.scan.now.positions.lo team.scan.now.positions.hi
             team.pieces team.word.now.table_id
             × IsReady team.scan.now.timeline.now team.word.now.table_id team.pieces job }
-        ensures { IsWork (HoldsAt team.entry.scan.now.timeline.now team.entry.scan.now.b.now)
+        ensures { IsWork (HoldsAt team.entry.scan.now.timeline.now team.entry.scan.now.condition.now)
             (G.called team.entry.scan.now.gate.now job.number)
             team.entry.scan.now.positions.lo team.entry.scan.now.positions.hi
             team.entry.word.now.table_id team.entry.pieces result }

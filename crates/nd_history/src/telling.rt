@@ -45,7 +45,7 @@ fn entry<A: Allocator + Copy>(cluster: &Cluster<A>, q: usize, point: &Pointstamp
 }
 
 // Goes to a position on a walk.
-fn go<A: Allocator + Copy>(
+pub(crate) fn go<A: Allocator + Copy>(
     timeline: &Timeline<A>,
     walk: &mut Walk<A>,
     n: u64,

@@ -49,7 +49,7 @@ impl<A: Allocator + Copy> Job<A> {
             team.now.pieces team.now.word.now.table_id }
         requires job { IsReady team.now.scan.now.timeline.now team.now.word.now.table_id
             team.now.pieces self }
-        ensures { IsWork (HoldsAt team.now.scan.now.timeline.now team.now.scan.now.b.now)
+        ensures { IsWork (HoldsAt team.now.scan.now.timeline.now team.now.scan.now.condition.now)
             (G.called team.now.scan.now.gate.now self.number)
             team.now.scan.now.positions.lo team.now.scan.now.positions.hi
             team.now.word.now.table_id team.now.pieces result }

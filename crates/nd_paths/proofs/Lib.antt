@@ -20,3 +20,4 @@ pub mod Algebra
 pub mod Unique
 pub mod Held
 pub mod SummaryLemmas
+mod Arrivals

@@ -5,3 +5,4 @@ pub mod Inside
 pub mod Table
 pub mod Fault
 pub mod Laws
+pub mod Arrival

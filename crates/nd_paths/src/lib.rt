@@ -2,6 +2,7 @@
 #![tactic(auto)]
 
 mod accept;
+mod arrival;
 mod compose;
 mod order;
 mod paths;
@@ -10,6 +11,7 @@ mod summary;
 mod table;
 
 pub use accept::PathFault;
+pub use arrival::{ArrivalTime, arrival_times_are_listed};
 pub use order::order_is_transitive;
 pub use paths::Paths;
 pub use point::{Pointstamp, pointstamps_are_listed};

@@ -1,5 +1,6 @@
 //! The order of pointstamps.
-ghost use Rattle.std.specs.Prelude.{◌≡◌, ◌<◌, ◌↔◌, ◌⊎◌, IsTrue, IfOk, IfErr, List, ◌∷◌};
+ghost use Rattle.std.specs.Prelude.{◌≡◌, ◌<◌, ◌↔◌, ◌⊎◌, All, IsTrue, IfOk, IfErr, List, ◌∷◌};
+ghost use Rattle.nd_time.specs.Time.{Time};
 ghost use Rattle.nd_paths.specs.declared.point.Pointstamp.{Pointstamp};
 ghost use Rattle.nd_paths.specs.Order.{CouldResultIn, Fits, IsAccepted, IsStrictlyBefore, IsWalk};
 ghost use Rattle.nd_paths.specs.Laws.{IsMinimalAmong};
@@ -8,8 +9,10 @@ ghost use Rattle.nd_graph.specs.Graph.{location_count};
 ghost use Rattle.nd_paths.specs.Summary.{AreLeastSummaries};
 ghost use Rattle.nd_paths.specs.Fault.{IsFault};
 ghost use Rattle.nd_paths.specs.Table.{IsTable};
+ghost use Rattle.nd_paths.specs.Arrival.{TurnsInto, HasAtOrBefore};
 
 use crate::accept::{PathFault, rows_of};
+use crate::arrival::{ArrivalTime, turned_by};
 use crate::table::{KEEPS, copied_rows, holds_any, leads_among, listed};
 use crate::{Pointstamp, Summary};
 use arrayvec::ArrayVec;
@@ -99,6 +102,19 @@ impl<A: Allocator> Paths<A> {
         listed(&self.rows[from], to)
     }
 
+    /// Returns the times into which walks from `point` to the location `to` turn its time: for each number of counters
+    /// that some walk keeps the least one. There is none if `point` does not fit the graph or `to` is not there.
+    pub fn reached(&self, point: &Pointstamp, to: usize) -> ArrayVec<ArrivalTime, KEEPS>
+        ensures each { All (TurnsInto self.now point.now to) result.items }
+        ensures least { (t : Time) → CouldResultIn self.now point.now (record { location = to; time = t })
+            → HasAtOrBefore result.items t }
+    {
+        if !point.fits(&self.graph) || to >= self.graph.location_count() {
+            return ArrayVec::new();
+        }
+        turned_by(&self.rows[point.location], to, &point.time)
+    }
+
     /// Whether some walk leads from one location to another.
     pub fn leads(&self, from: usize, to: usize) -> bool
         requires from { from < location_count self.now }
@@ -119,6 +135,13 @@ impl<A: Allocator> Paths<A> {
             → IsStrictlyBefore self.now s u }
         ensures minimal { (p : Pointstamp) (ps : List Pointstamp)
             → (m : Pointstamp) × IsMinimalAmong self.now (p ∷ ps) m }
+    {
+        let _ = &self.rows;
+    }
+
+    /// A pointstamp could result in each time into which a walk turns its time, at the walk's end.
+    pub fn walks_lead_on(&self)
+        ensures { (s : Pointstamp) (x : _) (t : Time) → TurnsInto self.now s x t → CouldResultIn self.now s (record { location = x; time = t }) }
     {
         let _ = &self.rows;
     }

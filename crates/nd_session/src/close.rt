@@ -18,7 +18,7 @@ pub struct Log<A: Allocator + Copy = Global> {
     /// How many clients have entered.
     pub entered: u64,
     pub timeline: Timeline<A>,
-    pub breaks: Breaks,
+    pub breaks: Breaks<A>,
 }
 
 /// What is wrong with the clients that a session is closed with.

@@ -54,11 +54,11 @@ impl<A: Allocator + Copy> Drop for State<A> {
 }
 
 impl<A: Allocator + Copy> State<A> {
-    /// The `State` of a timeline that keeps nothing yet, and begins at a start.
-    pub fn new(alloc: A, timeline: Timeline<A>) -> State<A>
+    /// Makes the `State` of a timeline that keeps nothing yet, and begins at a start.
+    pub fn new(alloc: A, timeline: Timeline<A>) -> Result<State<A>, AllocError>
         requires fresh { timeline.kept ≡ [] }
         requires start { IsStart timeline.base }
-        ensures { result ≡ record { machine = without_breaks timeline; log = [] } }
+        ensures { IfOk result (λ s. s ≡ record { machine = without_breaks timeline; log = [] }) }
     {
         // The clauses of these three say that the cursor stands within what is kept, that edges
         // join vertices, and that depths agree along the arcs.
@@ -67,11 +67,11 @@ impl<A: Allocator + Copy> State<A> {
         let _ = graph.vertices();
         let _ = graph.all_arcs();
         starts_keep_protocol();
-        State {
-            machine: Machine::new(timeline),
+        Ok(State {
+            machine: Machine::new(alloc, timeline)?,
             log: Vec::new(alloc),
             counts: GrowingMap::new(alloc),
-        }
+        })
     }
 
     /// Its timeline.
@@ -85,7 +85,7 @@ impl<A: Allocator + Copy> State<A> {
     }
 
     /// Its breakpoints.
-    pub fn breaks(&self) -> &Breaks
+    pub fn breaks(&self) -> &Breaks<A>
         ensures { result.now ≡ self.now.machine.breaks }
     {
         self.machine.breaks()
@@ -196,7 +196,7 @@ impl<A: Allocator + Copy> State<A> {
     }
 
     // What it was made of.
-    pub(crate) fn into_parts(self) -> (Timeline<A>, Breaks, Vec<Receipt<A>, A>)
+    pub(crate) fn into_parts(self) -> (Timeline<A>, Breaks<A>, Vec<Receipt<A>, A>)
         ensures timeline { result.0 ≡ self.machine.timeline }
         ensures breaks { result.1 ≡ self.machine.breaks }
         ensures log { result.2.items ≡ self.log }

@@ -1,6 +1,7 @@
 -- Records that come to their processors: what they make of the cluster's processors, and what their edits add.
-use Rattle.std.proofs.Common.{◌≡◌, ◌⊎◌, inl, inr, ℕ, zero, suc, ◌+◌, ◌<◌, ℤ, pos, ◌+ℤ◌, Bool, true, false, cond, List, [], ◌∷◌, map, length, refl, sym, ap, subst, ◌∙◌, arith, length-set, get_or-set_same, get_or-set_other}
+use Rattle.std.proofs.Common.{◌≡◌, inl, inr, ℕ, ◌+◌, ◌<◌, ℤ, pos, ◌+ℤ◌, Bool, true, false, cond, List, [], ◌∷◌, map, length, refl, sym, ap, subst, ◌∙◌, arith, length-set, get_or-set_same, get_or-set_other}
 use Rattle.std.proofs.lemmas.Int.{ints}
+use Rattle.std.proofs.lemmas.Bool.{cases_eq}
 use Rattle.std.proofs.lemmas.Map.Views.{tells_apart}
 use Rattle.std.specs.Prelude.{slice_index_or}
 use Rattle.std.specs.Ordering.{eq_by_cmp}
@@ -72,13 +73,6 @@ module _ (p : ℕ) (rs : List (ℕ × ValueAt)) where
 
 -- ---- the processors with them
 
--- a number is another, or not
-pub decided : (a b : ℕ) → (a ≡ b) ⊎ (a ≡ b → ⊥)
-decided zero zero = inl refl
-decided zero (suc b) = inr (λ e. absurd (cc))
-decided (suc a) zero = inr (λ e. absurd (cc))
-decided (suc a) (suc b) = elim (decided a b) [ inl e ↦ inl (ap suc e) | inr h ↦ inr (λ e. h (cc)) ]
-
 one_more : (b : Bool) (n m : ℕ) → (b ≡ true → n ≡ m) → cond b (natural (pos n +ℤ pos 1)) m ≡ m + cond b 1 0
 one_more true n m e = ap (λ i. i + 1) (e refl)
 one_more false n m e = omega arith
@@ -96,7 +90,7 @@ one_comes : (qs : List ProcessorState) (r : ℕ × ValueAt) → r.0 < length qs 
 one_comes qs r lt q key =
     let w : ProcessorState = slice_index_or qs r.0 idle in
     let m : Counts value_at_cmp naturals = added value_at_total w.records r.1 (pos 1) in
-    elim (decided q r.0) [
+    elim (cases_eq q r.0) [
       | inl e ↦ subst (λ i. number (with_record qs r) i key ≡ number qs i key + cond (is_place (place_at i (Records key)) (place_at r.0 (Records r.1))) 1 0) (sym e)
           (ap (λ (v : ProcessorState). number_at v.records key) (get_or-set_same qs r.0 (record w { records = m }) idle lt)
           ∙ number-added w.records r.1 key ∙ ap (λ b. number qs r.0 key + cond b 1 0) (sym (record-test r.0 key r.1)))

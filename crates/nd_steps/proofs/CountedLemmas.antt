@@ -39,14 +39,14 @@ module _ (s : ClusterState) (p : ℕ) (c : DeltaValue) (fits : KeysFit s) (here 
   abbrev after : ProcessorState
   after = record (processor s p) { unsent = minus (processor s p).unsent c }
 
-  sent_here : (x : Pointstamp) → standing (sent s p c) (place_at p (Unsent x)) ≡ standing s (place_at p (Unsent x)) +ℤ neg_ℤ (in_change c x)
+  pub sent_here : (x : Pointstamp) → standing (sent s p c) (place_at p (Unsent x)) ≡ standing s (place_at p (Unsent x)) +ℤ neg_ℤ (in_change c x)
   unfolding sent
   sent_here x = ap (λ (q : ProcessorState). in_change q.unsent x) (get_or-set_same s.processors p after idle here) ∙ at-minus (processor s p).unsent c x ∙ less_is (in_change (processor s p).unsent x) (in_change c x)
     where
       less_is : (a b : ℤ) → a -ℤ b ≡ a +ℤ neg_ℤ b
       less_is a b = omega (arith, ints)
 
-  sent_others : (k : Place) → IsNone (λ k. place_at p (Unsent k)) k → standing (sent s p c) k ≡ standing s k
+  pub sent_others : (k : Place) → IsNone (λ k. place_at p (Unsent k)) k → standing (sent s p c) k ≡ standing s k
   unfolding sent
   sent_others (place_at n (Records key)) apart = ap (λ m. int_at m key) (kept-set (λ q. q.records) s.processors p after refl n)
   sent_others (place_at n (Request x)) apart = ap (λ m. from_request (fin.get m x)) (kept-set (λ q. q.requests) s.processors p after refl n)
@@ -64,7 +64,7 @@ module _ (s : ClusterState) (p : ℕ) (c : DeltaValue) (fits : KeysFit s) (here 
   sender : p < length s.queues
   sender = subst (λ n. p < n) (sym fits.each_sender) here
 
-  longer : (q : ℕ) → q < length s.processors → queue (sent s p c) p q ≡ queue s p q ++ c ∷ []
+  pub longer : (q : ℕ) → q < length s.processors → queue (sent s p c) p q ≡ queue s p q ++ c ∷ []
   unfolding sent
   longer q lt =
       let f = λ (changes : List DeltaValue). changes ++ c ∷ [] in
@@ -97,19 +97,14 @@ module _ (s : ClusterState) (p q : ℕ) (c : DeltaValue) (rest : List DeltaValue
   abbrev then_state : ClusterState
   then_state = received_from s p q (c ∷ rest)
 
-  received_here : (x : Pointstamp) → standing then_state (view_of q x) ≡ standing s (view_of q x) +ℤ in_change c x
+  pub received_here : (x : Pointstamp) → standing then_state (view_of q x) ≡ standing s (view_of q x) +ℤ in_change c x
   received_here x = ap (λ v. in_change v x) (get_or-set_same s.views q (plus (view s q) c) no_change (subst (λ n. q < n) (sym fits.each_view) there)) ∙ at-plus (view s q) c x
 
-  received_others : (k : Place) → IsNone (view_of q) k → standing then_state k ≡ standing s k
+  pub received_others : (k : Place) → IsNone (view_of q) k → standing then_state k ≡ standing s k
   received_others (view_of n x) apart =
       ap (λ v. in_change v x)
       (get_or-set_other s.views q n (plus (view s q) c) no_change (λ e. true≢false (sym (place_itself (view_of n x)) ∙ ap (λ m. is_place (view_of n x) (view_of m x)) e ∙ apart x)))
-  received_others (place_at n (Records key)) apart = refl
-  received_others (place_at n (Request x)) apart = refl
-  received_others (place_at n (Token v)) apart = refl
-  received_others (place_at n (State v key)) apart = refl
-  received_others (place_at n (Sink key)) apart = refl
-  received_others (place_at n (Unsent x)) apart = refl
+  received_others (place_at n slot) apart = refl
 
   received_keys : keys (difference s then_state) ≡ size c
   received_keys = keys_changed (view_of q) (λ a b. of_one_map q (point_cmp a b)) (λ x. refl) (λ z. z) refl (λ z e. e) c s then_state received_here received_others
@@ -120,15 +115,15 @@ module _ (s : ClusterState) (p q : ℕ) (c : DeltaValue) (rest : List DeltaValue
   queue_there : q < length (get_or s.queues p [])
   queue_there = subst (λ n. q < n) (sym (fits.each_receiver p [] row_there)) there
 
-  shorter : queue then_state p q ≡ rest
+  pub shorter : queue then_state p q ≡ rest
   shorter =
       ap (λ (r : List (List DeltaValue)). get_or r q []) (get_or-set_same s.queues p (set (get_or s.queues p []) q rest) [] row_there)
       ∙ get_or-set_same (get_or s.queues p []) q rest [] queue_there
 
-  of_other_senders : (k l : ℕ) → k ≢ p → queue then_state k l ≡ queue s k l
+  pub of_other_senders : (k l : ℕ) → k ≢ p → queue then_state k l ≡ queue s k l
   of_other_senders k l other = ap (λ (r : List (List DeltaValue)). get_or r l []) (get_or-set_other s.queues p k (set (get_or s.queues p []) q rest) [] other)
 
-  to_others : (l : ℕ) → l ≢ q → queue then_state p l ≡ queue s p l
+  pub to_others : (l : ℕ) → l ≢ q → queue then_state p l ≡ queue s p l
   to_others l other =
       ap (λ (r : List (List DeltaValue)). get_or r l []) (get_or-set_same s.queues p (set (get_or s.queues p []) q rest) [] row_there)
       ∙ get_or-set_other (get_or s.queues p []) q l rest [] other

@@ -1,8 +1,9 @@
 -- The counts of a view, were a change added.
-use Rattle.std.proofs.Common.{◌≡◌, ◌≢◌, ◌≤◌, ◌<◌, ◌*◌, ℕ, zero, suc, ℤ, pos, negsuc, ◌+ℤ◌, length, get_or, w64, to_z, of_z, unsigned_abs, refl, sym, ap, subst, ◌∙◌, ◌⊎◌, inl, inr, arith}
+use Rattle.std.proofs.Common.{◌≡◌, ◌≤◌, ◌<◌, ◌*◌, ℕ, ℤ, pos, ◌+ℤ◌, length, get_or, w64, to_z, of_z, unsigned_abs, sym, ap, subst, ◌∙◌, inl, inr, arith}
 use Rattle.std.proofs.lemmas.Bool.{cases_lt}
 use Rattle.std.proofs.lemmas.Int.{ints, to_z-of_z, fits_signed_from_abs}
 use Rattle.nd_time.specs.Limits.{max_count}
+use Rattle.nd_map.specs.Cases.{zero_or_not}
 use Rattle.nd_paths.specs.declared.point.Pointstamp.{Pointstamp}
 use Rattle.nd_delta.specs.Delta.{DeltaValue, at, plus, at-plus, entries, IsTooLarge, IsWithin}
 use Rattle.nd_delta.specs.Least.{AllUpTo, at-index, all-points}
@@ -35,15 +36,10 @@ IsFitting m n x = unsigned_abs (at (plus m n) x) ≤ max_count
 pub not_past : (x : ℤ) → (max_count < unsigned_abs x → ⊥) → unsigned_abs x ≤ max_count
 not_past x h = elim (cases_lt max_count (unsigned_abs x)) [ inl lt ↦ absurd (h lt) | inr le ↦ le ]
 
-decided : (z : ℤ) → (z ≡ pos 0) ⊎ (z ≢ pos 0)
-decided (pos zero) = inl refl
-decided (pos (suc n)) = inr (λ e. absurd (cc))
-decided (negsuc n) = inr (λ e. absurd (cc))
-
 -- so are all
 pub not_too_large : (m n : DeltaValue) (i : ℕ) → length (entries n) ≤ i → IsWithin m → AllUpTo (IsFitting m n) (entries n) i → IsTooLarge (plus m n) → ⊥
 not_too_large m n i past within fit large =
-    elim (decided (at n large.0)) [
+    elim (zero_or_not (at n large.0)) [
       | inl nothing ↦ (let e = at-plus m n large.0 in let w = within large.0 in let l = large.1 in omega (arith, ints))
       | inr some ↦ (let f : IsFitting m n large.0 = all-points n (IsFitting m n) i past fit large.0 some in let l = large.1 in omega arith)
     ]

@@ -58,10 +58,6 @@ module _ (f : Pointstamp → Place) (alike : (a b : Pointstamp) → place_cmp (f
   sorted_alike [] = refl
   sorted_alike (e ∷ es) = λ i. below_alike e.0 es i && sorted_alike es i
 
-  length_alike : (es : List (Pointstamp × ℤ)) → length (at_places es) ≡ length es
-  unfolding at_places
-  length_alike es = length-map es _
-
   abbrev moved : Option ℤ → Option ℤ
   moved None = None
   moved (Some z) = Some (g z)
@@ -117,17 +113,22 @@ module _ (f : Pointstamp → Place) (alike : (a b : Pointstamp) → place_cmp (f
         | inr apart ↦ ap (or_else (pos 0)) (found_elsewhere (listed c) k apart) ∙ less_none (standing s k) (standing t k) (others k apart)
       ]
 
-      -- the states differ at one key for each entry
-      pub keys_changed : keys (difference s t) ≡ size c
-      keys_changed =
+      -- they are the difference of the states
+      pub entries_changed : entries (difference s t) ≡ map (λ e. (f e.0, g e.1)) (listed c)
+      unfolding at_places
+      entries_changed =
           let sorted : T (is_sorted place_cmp (at_places (listed c))) = subst T (sym (sorted_alike (listed c))) (sorted-entries c) in
           let e : of_entries {N = integers} place_total (at_places (listed c)) ≡ difference s t
           = same place_total place_exact _ _ (λ k. at-of_entries integers place_total place_exact (at_places (listed c)) k ∙ found k ∙ sym (at-difference s t k)) in
-          sym (ap (λ m. length (entries m)) e) ∙ ap length (entries-of_entries integers place_total place_exact (at_places (listed c)) sorted no_zero) ∙ length_alike (listed c)
+          sym (ap entries e) ∙ entries-of_entries integers place_total place_exact (at_places (listed c)) sorted no_zero
+
+      -- the states differ at one key for each entry
+      pub keys_changed : keys (difference s t) ≡ size c
+      keys_changed = ap length entries_changed ∙ length-map (listed c) _
 
 -- ---- queues
 
-queue_total : IsTotalOrder queue_cmp
+pub queue_total : IsTotalOrder queue_cmp
 queue_total = lists_total (on_total listed (lists_total (then_total (on_total (λ (e : Pointstamp × ℤ). e.0) point_total) (on_total (λ e. e.1) int_cmp_total))))
 
 then_second : (a b : Ordering) → is_eq (ordering_then a b) ≡ true → is_eq b ≡ true

@@ -29,7 +29,7 @@ order a b = place_cmp (place_of a) (place_of b)
 -- ---- lists in the order of places
 
 -- each is at the place of the one before it, or after that
-abbrev Rises : Change → List Change → Type 0
+abbrev pub Rises : Change → List Change → Type 0
 Rises c [] = Unit {0}
 Rises c (d ∷ ds) = (is_lt (order d c) ≡ false) × Rises d ds
 
@@ -38,7 +38,7 @@ later c cs h k e low high =
     let one : suc k + 1 ≡ suc (k + 1) = omega arith in
     subst (λ n. is_lt (order (get_or (c ∷ cs) n e) (get_or cs k e)) ≡ false) one (h (suc k) e (omega arith) (omega (arith, high)))
 
-rises : (c : Change) (cs : List Change) → IsSorted order (c ∷ cs) → Rises c cs
+pub rises : (c : Change) (cs : List Change) → IsSorted order (c ∷ cs) → Rises c cs
 rises c [] h = tt
 rises c (d ∷ ds) h = (h 0 c (omega arith) (omega arith), rises d ds (later c (d ∷ ds) h))
 
@@ -47,7 +47,7 @@ rises_as c d e [] h = tt
 rises_as c d e (x ∷ xs) h = (ap (λ p. is_lt (place_cmp (place_of x) p)) e ∙ h.0, h.1)
 
 -- what is before a change is before what is not before that change
-less_on : (c d e : Change) → order c d ≡ Less → is_lt (order e d) ≡ false → order c e ≡ Less
+pub less_on : (c d e : Change) → order c d ≡ Less → is_lt (order e d) ≡ false → order c e ≡ Less
 less_on c d e less up = elim (order d e) as (λ r. order d e ≡ r → order c e ≡ Less) [
   | Less ↦ λ r. place_total.trans (place_of c) (place_of d) (place_of e) less r
   | Equal ↦ λ r.
@@ -60,7 +60,7 @@ less_on c d e less up = elim (order d e) as (λ r. order d e ≡ r → order c e
       absurd (true≢false (sym is ∙ up))
 ] refl
 
-first_less : (c d : Change) → is_lt (order d c) ≡ false → is_place (place_of c) (place_of d) ≡ false → order c d ≡ Less
+pub first_less : (c d : Change) → is_lt (order d c) ≡ false → is_place (place_of c) (place_of d) ≡ false → order c d ≡ Less
 first_less c d up other = elim (order c d) as (λ r. order c d ≡ r → order c d ≡ Less) [
   | Less ↦ λ r. r
   | Equal ↦ λ r. absurd (true≢false (sym (ap is_eq r) ∙ other))
@@ -255,8 +255,3 @@ module _ (p q : ℕ) (now new all : List Change) (same : q ≡ p) where
         (ap (λ k. now ++ arrivals p (made_along n m vertex e (l + i) edge ++ those k (drop (i + 1) edges))) (sym on)
         ∙ ap (λ es. now ++ arrivals p (those (l + i) es)) (sym step)
         ∙ so_far)
-
-pub default_free : {X : Type 0} (xs : List X) (i : ℕ) (d e : X) → i < length xs → get_or xs i d ≡ get_or xs i e
-default_free [] i d e lt = absurd (omega (arith, lt))
-default_free (x ∷ xs) zero d e lt = refl
-default_free (x ∷ xs) (suc i) d e lt = default_free xs i d e (omega (arith, lt))

@@ -1,6 +1,7 @@
 -- What a vertex does: the items that it keeps then, the request that it makes and the value that it counts, each by its edits.
 use Rattle.std.proofs.Common.{◌≡◌, inl, inr, ℕ, ◌+◌, ◌-◌, ◌<◌, ◌≤◌, ℤ, pos, negsuc, ◌+ℤ◌, Bool, true, false, cond, ◌&&◌, is_none, Option, Some, None, List, [], ◌∷◌, length, refl, sym, ap, subst, ◌∙◌, arith, get_or-set_same, get_or-set_other}
 use Rattle.std.proofs.lemmas.Int.{ints}
+use Rattle.std.proofs.lemmas.Bool.{cases_eq}
 use Rattle.std.proofs.lemmas.Map.Views.{tells_apart}
 use Rattle.std.specs.Prelude.{slice_index_or, slice_set}
 use Rattle.std.specs.Ordering.{eq_by_cmp}
@@ -23,7 +24,6 @@ use Rattle.nd_steps.specs.Edits.{item_edits, sink_edits}
 use Rattle.nd_steps.specs.Places.{is_place}
 use Rattle.nd_steps.proofs.AlikeLemmas.{record-test, request-test, sink-test}
 use Rattle.nd_steps.proofs.SumsOfSteps.{AreOf, AreOf-map, total_at-map_apart, items-here, items-of_others}
-use Rattle.nd_steps.proofs.Arrivals.{decided}
 use Rattle.nd_steps.proofs.Feeds.{one_more, nothing_more}
 
 -- ---- items
@@ -33,7 +33,7 @@ kept_at kept v = slice_index_or kept v no_counts
 
 pub items-move : (p vertex : ℕ) (kept : List Items) (items : Items) → vertex < length kept → (v : ℕ) (key : ItemKey)
     → number_at (slice_index_or (slice_set kept vertex items) v no_counts) key ≡ number_at (slice_index_or kept v no_counts) key +ℤ total_at (item_edits p vertex (slice_index_or kept vertex no_counts) items) (place_at p (State v key))
-items-move p vertex kept items lt v key = elim (decided v vertex) [
+items-move p vertex kept items lt v key = elim (cases_eq v vertex) [
   | inl e ↦
       subst (λ w. number_at (kept_at (slice_set kept vertex items) w) key ≡ number_at (kept_at kept w) key +ℤ total_at (item_edits p vertex (kept_at kept vertex) items) (place_at p (State w key))) (sym e)
       (ap (λ (m : Items). number_at m key) (get_or-set_same kept vertex items no_counts lt) ∙ items-here p vertex (kept_at kept vertex) items key)

@@ -1,59 +1,26 @@
 -- The changes of a take in the order of a flow: they reach the same state, and nothing is taken out before the last is put in.
-use Rattle.std.proofs.Common.{◌≡◌, ◌≢◌, ◌<◌, ◌≤◌, ◌+◌, ◌-◌, ◌⊎◌, ℕ, suc, ℤ, pos, negsuc, ◌+ℤ◌, Bool, true, false, not, List, [], ◌∷◌, ◌++◌, take, length, get_or, refl, sym, ap, subst, ◌∙◌, arith, inl, inr}
-use Rattle.std.specs.Prelude.{◌↔◌, ◌&&◌, IsTrue}
+use Rattle.std.proofs.Common.{◌≡◌, ◌≢◌, ◌<◌, ◌-◌, ℕ, ℤ, pos, negsuc, ◌+ℤ◌, Bool, true, false, not, List, [], ◌∷◌, ◌++◌, length, refl, sym, ap, subst, ◌∙◌, arith, inl, inr}
+use Rattle.std.specs.Prelude.{◌↔◌, IsTrue}
 use Rattle.std.specs.List.Sorted.{IsPermutation}
 use Rattle.std.proofs.lemmas.Int.{ints}
-use Rattle.std.proofs.lemmas.List.{take_more, take_all, get_or_append_left, get_or-append_right, length-append}
+use Rattle.std.proofs.lemmas.List.{get_or_append_left, get_or-append_right, length-append}
 use Rattle.std.proofs.lemmas.List.Sorted.{IsPermutation-append_comm, IsPermutation-append_right, IsPermutation-trans}
 use Rattle.nd_map.specs.Cases.{zero_or_not}
-use Rattle.nd_graph.specs.declared.op.Action.{Action}
 use Rattle.nd_processor.specs.State.{ProcessorState}
 use Rattle.nd_processor.specs.declared.key.ValueAt.{ValueAt}
 use Rattle.nd_protocol.specs.State.{ClusterState}
-use Rattle.nd_protocol.specs.Enabled.{HasLargeCount, HasLargeEntry}
-use Rattle.nd_protocol.specs.declared.refusal.Refusal.{Refusal}
-use Rattle.nd_protocol.specs.declared.refusal.Refusal.TheVariants.{CountFull, DeltaFull}
 use Rattle.nd_steps.specs.Standing.{standing}
 use Rattle.nd_steps.specs.Changes.{place_of}
-use Rattle.nd_steps.specs.Limits.{after, CountStays, EntryStays, LimitFails}
+use Rattle.nd_steps.specs.Limits.{after, CountStays, EntryStays}
 use Rattle.nd_steps.specs.Plans.{Each, Reaches, ReachesIn, LeadsTo}
-use Rattle.nd_steps.specs.Turns.{IsReadable}
-use Rattle.nd_steps.specs.Flows.{arriving, come_changes, come_key, flow_changes, more_records, more_unsent, count_more, StayFails}
+use Rattle.nd_steps.specs.Ordered.{StayWithin, IsOrderedFlow}
+use Rattle.nd_steps.specs.Flows.{arriving, come_changes, come_key, flow_changes, more_records, more_unsent, count_more}
 use Rattle.nd_steps.specs.declared.change.Change.{Change}
 use Rattle.nd_steps.specs.declared.come.Come.{Come}
 use Rattle.nd_steps.specs.declared.come.Come.TheVariants.{Nothing, Record, Count}
-use Rattle.nd_steps.specs.declared.flow.Flow.{Flow}
 use Rattle.nd_steps.proofs.EachLemmas.{each_at, gain_alone}
-use Rattle.nd_steps.proofs.PlansLemmas.{planned_so, reaches_moved}
-use Rattle.nd_steps.proofs.ReachesLemmas.{readable, too_many, too_much, few_enough, little_enough}
-
--- ---- one more change is read
-
-each_push : (P : Change → Type 0) (cs : List Change) (c : Change) → Each P (cs ++ c ∷ []) ↔ (Each P cs × P c)
-each_push P [] c = (λ h. (tt, h.0), λ h. (h.1, tt))
-each_push P (d ∷ cs) c =
-    let rest = each_push P cs c in
-    (λ h. let r = rest.0 h.1 in ((h.0, r.0), r.1), λ h. (h.0.0, rest.1 (h.0.1, h.1)))
-
-both_true : (a b : Bool) (P Q : Type 0) → (IsTrue a ↔ P) → (IsTrue b ↔ Q) → IsTrue (a && b) ↔ (P × Q)
-both_true true b P Q h k = (λ t. (h.0 refl, k.0 t), λ t. k.1 t.1)
-both_true false b P Q h k = (λ t. absurd (cc (t)), λ t. absurd (let f = h.1 t.0 in cc (f)))
-
-pub each_more : (P : Change → Type 0) (cs : List Change) (i : ℕ) (x : Change) → i < length cs → x ≡ get_or cs i x → (a b : Bool)
-    → (IsTrue a ↔ Each P (take i cs)) → (IsTrue b ↔ P x) → IsTrue (a && b) ↔ Each P (take (i + 1) cs)
-each_more P cs i x lt is a b h k =
-    let both = both_true a b (Each P (take i cs)) (P x) h k in
-    let push = each_push P (take i cs) x in
-    let more : take (i + 1) cs ≡ take i cs ++ x ∷ [] = take_more cs i x lt ∙ ap (λ c. take i cs ++ c ∷ []) (sym is) in
-    subst (λ ds. IsTrue (a && b) ↔ Each P ds) (sym more) (λ t. push.1 (both.0 t), λ e. both.1 (push.0 e))
-
--- all are read, and each has P, or not each has
-module _ (P : Change → Type 0) (cs : List Change) (i : ℕ) (past : length cs ≤ i) (b : Bool) (h : IsTrue b ↔ Each P (take i cs)) where
-  pub all_hold : b ≡ true → Each P cs
-  all_hold e = subst (Each P) (take_all i cs past) (h.0 e)
-
-  pub not_all : b ≡ false → Each P cs → ⊥
-  not_all e each = let t = h.1 (subst (Each P) (sym (take_all i cs past)) each) in absurd (cc (t, e))
+use Rattle.nd_steps.proofs.PlansLemmas.{after_is, planned_so, reaches_moved}
+use Rattle.nd_steps.proofs.ReachesLemmas.{few_enough, little_enough}
 
 -- ---- any order reaches the same state
 
@@ -96,10 +63,6 @@ one_more x n e z = absurd (omega (arith, ints, e, z))
 
 last_of : (x n : ℤ) → n ≢ pos 0 → x +ℤ n ≡ pos 0 → x ≢ pos 0
 last_of x n some e z = some (omega (arith, ints, e, z))
-
-after_is : (s : ClusterState) (c : Change) → after s.processors c ≡ standing s (place_of c) +ℤ c.n
-unfolding after
-after_is s c = refl
 
 leads_late : (s t : ClusterState) (p : ℕ) (gone : ValueAt) (come : Come) → Reaches s t (flow_changes p gone (record { come = come; late = true }))
     → Each (CountStays s.processors) (flow_changes p gone (record { come = come; late = true })) → Each (EntryStays s.processors) (flow_changes p gone (record { come = come; late = true }))
@@ -156,40 +119,25 @@ module _ (ps : List ProcessorState) (p : ℕ) (gone : ValueAt) (come : Come) whe
   abbrev pub early : List Change
   early = flow_changes p gone (record { come = come; late = false })
 
-  -- they can be read
-  pub readable_so : (s t : ClusterState) → ReachesIn ps s t (come_changes p gone come) → Each (IsReadable ps) early
-  readable_so s t h = readable ps s t early (reached ps s t p gone come false h)
+  pub early_reached : (s t : ClusterState) → ReachesIn ps s t (come_changes p gone come) → ReachesIn ps s t early
+  early_reached s t h = reached ps s t p gone come false h
 
-  -- within the limits, or past one of them
-  pub counts_so : (s t : ClusterState) → ReachesIn ps s t (come_changes p gone come) → Each (CountStays ps) early → HasLargeCount t → ⊥
-  counts_so s t h = few_enough ps s t early (reached ps s t p gone come false h)
-
-  pub entries_so : (s t : ClusterState) → ReachesIn ps s t (come_changes p gone come) → Each (EntryStays ps) early → HasLargeEntry t → ⊥
-  entries_so s t h = little_enough ps s t early (reached ps s t p gone come false h)
-
-  pub refused : (s t : ClusterState) → ReachesIn ps s t (come_changes p gone come) → (r : Refusal) → StayFails ps early r → LimitFails t r
-  refused s t h CountFull fails = too_many ps s t early (reached ps s t p gone come false h) fails
-  refused s t h DeltaFull fails =
-      let there = reached ps s t p gone come false h in
-      (few_enough ps s t early there fails.0, too_much ps s t early there fails.1)
-  refused s t h r fails = absurd (fails)
-
-  pub ordered : (s t : ClusterState) → ReachesIn ps s t (come_changes p gone come) → Each (CountStays ps) early → Each (EntryStays ps) early
-      → (b : Bool) → (IsTrue b ↔ (after ps (more_unsent p gone.point (negsuc 0)) ≢ pos 0)) → LeadsTo s t (flow_changes p gone (record { come = come; late = not b }))
-  ordered s t h counts entries b reads =
+  leads : (s t : ClusterState) → ReachesIn ps s t (come_changes p gone come) → Each (CountStays s.processors) early → Each (EntryStays s.processors) early
+      → (b : Bool) → (IsTrue b ↔ (after s.processors (more_unsent p gone.point (negsuc 0)) ≢ pos 0)) → LeadsTo s t (flow_changes p gone (record { come = come; late = not b }))
+  leads s t h counts entries true here =
+      leads_early s t p gone come (early_reached s t h).1 counts entries (record_there s t p gone come h.1) (λ none. here.0 refl (after_is s (more_unsent p gone.point (negsuc 0)) ∙ none))
+  leads s t h counts entries false here =
       let unsent : Change = more_unsent p gone.point (negsuc 0) in
-      let here : (IsTrue b ↔ (after s.processors unsent ≢ pos 0)) = subst (λ qs. IsTrue b ↔ (after qs unsent ≢ pos 0)) (sym h.0) reads in
-      let counts_here : Each (CountStays s.processors) early = subst (λ qs. Each (CountStays qs) early) (sym h.0) counts in
-      let entries_here : Each (EntryStays s.processors) early = subst (λ qs. Each (EntryStays qs) early) (sym h.0) entries in
-      by b here counts_here entries_here
-    where
-      by : (b : Bool) → (IsTrue b ↔ (after s.processors (more_unsent p gone.point (negsuc 0)) ≢ pos 0)) → Each (CountStays s.processors) early → Each (EntryStays s.processors) early
-          → LeadsTo s t (flow_changes p gone (record { come = come; late = not b }))
-      by true here counts entries =
-          leads_early s t p gone come (reached ps s t p gone come false h).1 counts entries (record_there s t p gone come h.1)
-          (λ none. here.0 refl (after_is s (more_unsent p gone.point (negsuc 0)) ∙ none))
-      by false here counts entries =
-          let unsent : Change = more_unsent p gone.point (negsuc 0) in
-          let finds_it : finds s unsent = λ none. absurd (let t : false ≡ true = here.1 (λ e. absurd (omega (arith, ints, none, sym (after_is s unsent) ∙ e))) in cc (t)) in
-          leads_late s t p gone come (reached ps s t p gone come true h).1 (each_late (CountStays s.processors) p gone come counts) (each_late (EntryStays s.processors) p gone come entries)
-          (record_there s t p gone come h.1) finds_it
+      let finds_it : finds s unsent = λ none. absurd (let t : false ≡ true = here.1 (λ e. absurd (omega (arith, ints, none, sym (after_is s unsent) ∙ e))) in cc (t)) in
+      leads_late s t p gone come (reached ps s t p gone come true h).1 (each_late (CountStays s.processors) p gone come counts) (each_late (EntryStays s.processors) p gone come entries)
+      (record_there s t p gone come h.1) finds_it
+
+  -- within the limits, the pointstamp that goes is late if nothing is left there
+  pub ordered : StayWithin ps early → (b : Bool) → (IsTrue b ↔ (after ps (more_unsent p gone.point (negsuc 0)) ≢ pos 0)) → IsOrderedFlow ps p gone come (record { come = come; late = not b })
+  ordered within b reads = record {
+    leads = λ s t h.
+        leads s t h (subst (λ qs. Each (CountStays qs) early) (sym h.0) within.0) (subst (λ qs. Each (EntryStays qs) early) (sym h.0) within.1)
+        b (subst (λ qs. IsTrue b ↔ (after qs (more_unsent p gone.point (negsuc 0)) ≢ pos 0)) (sym h.0) reads);
+    counts = λ s t h. few_enough ps s t early (early_reached s t h) within.0;
+    entries = λ s t h. little_enough ps s t early (early_reached s t h) within.1;
+  }

@@ -62,37 +62,20 @@ PlainAt (Unsent x) z = unsigned_abs z ≤ 1
 abbrev pub IsPlain : Change → Type 0
 IsPlain c = PlainAt c.slot c.n
 
-plain_one : (p : ℕ) (l : Slot) (z : ℤ) → PlainAt l z → IsOne (place_at p l) z
-plain_one p (Records key) z h = h
-plain_one p (Request x) z h = h
-plain_one p (Token v) z h = absurd h
-plain_one p (State v key) z h = absurd h
-plain_one p (Sink key) z h = h
-plain_one p (Unsent x) z h = h
+-- each is by one more or less, keeps every range, and is at no token and at no item
+record StandsApart (p : ℕ) (l : Slot) (z : ℤ) : Type 0 where
+  one : IsOne (place_at p l) z
+  ranged : (w : ℤ) → SlotRanged l w
+  token : (q v : ℕ) → is_place (place_at q (Token v)) (place_at p l) ≡ false
+  item : (q v : ℕ) (k : ItemKey) → is_place (place_at q (State v k)) (place_at p l) ≡ false
 
-plain_ranged : (l : Slot) (z w : ℤ) → PlainAt l z → SlotRanged l w
-plain_ranged (Records key) z w h = tt
-plain_ranged (Request x) z w h = tt
-plain_ranged (Token v) z w h = absurd h
-plain_ranged (State v key) z w h = absurd h
-plain_ranged (Sink key) z w h = tt
-plain_ranged (Unsent x) z w h = tt
-
-no_token : (q v p : ℕ) (l : Slot) (z : ℤ) → PlainAt l z → is_place (place_at q (Token v)) (place_at p l) ≡ false
-no_token q v p (Records key) z h = refl
-no_token q v p (Request x) z h = refl
-no_token q v p (Token w) z h = absurd h
-no_token q v p (State w key) z h = absurd h
-no_token q v p (Sink key) z h = refl
-no_token q v p (Unsent x) z h = refl
-
-no_item : (q v : ℕ) (k : ItemKey) (p : ℕ) (l : Slot) (z : ℤ) → PlainAt l z → is_place (place_at q (State v k)) (place_at p l) ≡ false
-no_item q v k p (Records key) z h = refl
-no_item q v k p (Request x) z h = refl
-no_item q v k p (Token w) z h = absurd h
-no_item q v k p (State w key) z h = absurd h
-no_item q v k p (Sink key) z h = refl
-no_item q v k p (Unsent x) z h = refl
+apart : (p : ℕ) (l : Slot) (z : ℤ) → PlainAt l z → StandsApart p l z
+apart p (Records key) z h = record { one = h; ranged = λ w. tt; token = λ q v. refl; item = λ q v k. refl }
+apart p (Request x) z h = record { one = h; ranged = λ w. tt; token = λ q v. refl; item = λ q v k. refl }
+apart p (Token v) z h = absurd h
+apart p (State v key) z h = absurd h
+apart p (Sink key) z h = record { one = h; ranged = λ w. tt; token = λ q v. refl; item = λ q v k. refl }
+apart p (Unsent x) z h = record { one = h; ranged = λ w. tt; token = λ q v. refl; item = λ q v k. refl }
 
 never : (P : Change → Type 0) (k : Place) → ((c : Change) → P c → is_place k (place_of c) ≡ false) → (cs : List Change) → Each P cs → often k cs ≡ 0
 never P k other [] h = refl
@@ -101,18 +84,18 @@ never P k other (c ∷ cs) h = ap (λ b. cond b 1 0 + often k cs) (other c h.0) 
 module _ (s : ClusterState) where
   pub sound_more : (cs ds : List Change) → IsSound s cs → Each IsPlain ds → IsSound s (cs ++ ds)
   sound_more cs ds h plain = record {
-    ones = each-append (λ c. IsOne (place_of c) c.n) cs ds h.ones (each_through IsPlain (λ c. IsOne (place_of c) c.n) (λ c i. plain_one c.p c.slot c.n i) ds plain);
-    ranged = each-append (StaysRanged s) cs ds h.ranged (each_through IsPlain (StaysRanged s) (λ c i. plain_ranged c.slot c.n (standing s (place_of c) +ℤ c.n) i) ds plain);
+    ones = each-append (λ c. IsOne (place_of c) c.n) cs ds h.ones (each_through IsPlain (λ c. IsOne (place_of c) c.n) (λ c i. (apart c.p c.slot c.n i).one) ds plain);
+    ranged = each-append (StaysRanged s) cs ds h.ranged (each_through IsPlain (StaysRanged s) (λ c i. (apart c.p c.slot c.n i).ranged (standing s (place_of c) +ℤ c.n)) ds plain);
     tokens = λ p v.
         let k = place_at p (Token v) in
         let a = often-append k cs ds in
-        let n = never IsPlain k (λ c i. no_token p v c.p c.slot c.n i) ds plain in
+        let n = never IsPlain k (λ c i. (apart c.p c.slot c.n i).token p v) ds plain in
         let t = h.tokens p v in
         omega (arith, a, n, t);
     items = λ p v key.
         let k = place_at p (State v key) in
         let a = often-append k cs ds in
-        let n = never IsPlain k (λ c i. no_item p v key c.p c.slot c.n i) ds plain in
+        let n = never IsPlain k (λ c i. (apart c.p c.slot c.n i).item p v key) ds plain in
         let t = h.items p v key in
         omega (arith, a, n, t);
   }
@@ -129,13 +112,13 @@ module _ (s : ClusterState) where
     tokens = λ q v.
         let k = place_at q (Token v) in
         let a = often-append k cs (map (item_change p vertex) es) in
-        let m = never IsPlain k (λ c i. no_token q v c.p c.slot c.n i) cs plain in
+        let m = never IsPlain k (λ c i. (apart c.p c.slot c.n i).token q v) cs plain in
         let o = item_tokens q v es in
         omega (arith, a, m, o);
     items = λ q v key.
         let k = place_at q (State v key) in
         let a = often-append k cs (map (item_change p vertex) es) in
-        let m = never IsPlain k (λ c i. no_item q v key c.p c.slot c.n i) cs plain in
+        let m = never IsPlain k (λ c i. (apart c.p c.slot c.n i).item q v key) cs plain in
         let o = items_once p vertex es leads.can_edit.once k in
         omega (arith, a, m, o);
   }

@@ -17,7 +17,7 @@ use Rattle.nd_protocol.specs.Steps.{chosen}
 use Rattle.nd_protocol.specs.Ranges.{NumbersFit}
 use Rattle.nd_protocol.specs.Enabled.{Fails, IsEnabled}
 use Rattle.nd_protocol.specs.declared.step.Step.{Step}
-use Rattle.nd_protocol.specs.declared.step.Step.TheVariants.{Feed, Take, Notice, Broadcast, Receive}
+use Rattle.nd_protocol.specs.declared.step.Step.TheVariants.{Broadcast}
 use Rattle.nd_protocol.specs.declared.refusal.Refusal.{Refusal}
 use Rattle.nd_protocol.specs.declared.refusal.Refusal.TheVariants.{NotAdmissible}
 use Rattle.nd_steps.proofs.TokensHeld.{leaves_upright, leaves_alone}
@@ -105,10 +105,6 @@ module _ (R : Pointstamp → Pointstamp → Type 0) (decided : (y x : Pointstamp
       ]
 
 pub enabled : {A : Type 0} (g : Dataflow) → ((s t : Pointstamp) → Decided (IsStrictlyBefore g s t)) → (s : ClusterState) (x : Step A) → s.graph ≡ g → NumbersFit x → ((r : Refusal) → Fails s x r → ⊥) → IsEnabled s x
-enabled g decided s (Feed p vertex values _) is numbers free = record { free = free; admissible = tt; numbers = numbers }
-enabled g decided s (Take p edge t value) is numbers free = record { free = free; admissible = tt; numbers = numbers }
-enabled g decided s (Notice p vertex t) is numbers free = record { free = free; admissible = tt; numbers = numbers }
-enabled g decided s (Receive from to) is numbers free = record { free = free; admissible = tt; numbers = numbers }
 enabled g decided s (Broadcast p part) is numbers free =
     let q = processor s p in
     let c = chosen part q.unsent in
@@ -120,3 +116,4 @@ enabled g decided s (Broadcast p part) is numbers free =
           (λ x l. free (NotAdmissible x) (leaves_alone s.graph q c (minus q.unsent c) (token_points q) refl refl (Some x) l)));
       numbers = numbers;
     }
+enabled g decided s x is numbers free = record { free = free; admissible = tt; numbers = numbers }

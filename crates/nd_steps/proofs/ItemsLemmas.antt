@@ -1,6 +1,7 @@
 -- The changes of a vertex's items, each once, add what the items gain.
 use Rattle.std.proofs.Common.{◌≡◌, ◌≢◌, ◌<◌, ◌≤◌, ◌+◌, ℕ, zero, suc, ℤ, pos, negsuc, ◌+ℤ◌, ◌-ℤ◌, All, Bool, true, false, cond, List, [], ◌∷◌, map, length, get_or, Option, Some, None, ◌⊎◌, inl, inr, refl, sym, ap, subst, ◌∙◌, arith}
 use Rattle.std.proofs.lemmas.Int.{ints}
+use Rattle.std.proofs.lemmas.Bool.{cases_eq}
 use Rattle.std.proofs.lemmas.Map.Keys.{IsDistinct-head, IsDistinct-tail}
 use Rattle.std.specs.List.{IsDistinct, AllByRecursion}
 use Rattle.std.specs.Ordering.{eq_by_cmp}
@@ -15,8 +16,8 @@ use Rattle.nd_vertex.specs.declared.effect.ItemEdit.{ItemEdit}
 use Rattle.nd_processor.specs.State.{items_at}
 use Rattle.nd_protocol.specs.Ranges.{IsValue}
 use Rattle.nd_protocol.specs.State.{ClusterState, processor}
-use Rattle.nd_steps.specs.Places.{Place, place_at, view_of}
-use Rattle.nd_steps.specs.declared.slot.Slot.TheVariants.{Records, Request, Token, State, Sink, Unsent}
+use Rattle.nd_steps.specs.Places.{Place, place_at}
+use Rattle.nd_steps.specs.declared.slot.Slot.TheVariants.{State}
 use Rattle.nd_steps.specs.Slots.{from_number}
 use Rattle.nd_steps.specs.Totals.{total_at, edits_of}
 use Rattle.nd_steps.specs.Edits.{item_edits}
@@ -26,7 +27,6 @@ use Rattle.nd_steps.specs.declared.change.Change.{Change}
 use Rattle.nd_steps.specs.Places.{is_place}
 use Rattle.nd_steps.proofs.AlikeLemmas.{same_place, other_place, item-test}
 use Rattle.nd_steps.proofs.SumsOfSteps.{total_at-map_apart, items-here}
-use Rattle.nd_steps.proofs.Arrivals.{decided}
 
 -- ---- numbers of items
 
@@ -34,7 +34,7 @@ same_number : (n : Option ℤ) → number_of n ≡ from_number n
 same_number None = refl
 same_number (Some z) = refl
 
-was : (z : ℤ) → from_number (cond (is_zero z) None (Some z)) ≡ z
+pub was : (z : ℤ) → from_number (cond (is_zero z) None (Some z)) ≡ z
 was (pos zero) = refl
 was (pos (suc n)) = refl
 was (negsuc n) = refl
@@ -110,13 +110,7 @@ module _ (p vertex : ℕ) where
 
   -- they add what the edits of the step say
   pub items_total : (m n : Items) (es : List ItemEdit) → LeadsTo m es n → (k : Place) → total_at (edits_of (changes es)) k ≡ total_at (item_edits p vertex m n) k
-  items_total m n es leads (place_at q (Records key)) = elsewhere (place_at q (Records key)) (λ x e. cc) m n es
-  items_total m n es leads (place_at q (Request x)) = elsewhere (place_at q (Request x)) (λ y e. cc) m n es
-  items_total m n es leads (place_at q (Token v)) = elsewhere (place_at q (Token v)) (λ x e. cc) m n es
-  items_total m n es leads (place_at q (Sink key)) = elsewhere (place_at q (Sink key)) (λ x e. cc) m n es
-  items_total m n es leads (place_at q (Unsent x)) = elsewhere (place_at q (Unsent x)) (λ y e. cc) m n es
-  items_total m n es leads (view_of q x) = elsewhere (view_of q x) (λ y e. cc) m n es
-  items_total m n es leads (place_at q (State w key)) = by (decided q p) (decided w vertex)
+  items_total m n es leads (place_at q (State w key)) = by (cases_eq q p) (cases_eq w vertex)
     where
       here : total_at (edits_of (changes es)) (place_at p (State vertex key)) ≡ total_at (item_edits p vertex m n) (place_at p (State vertex key))
       here =
@@ -129,6 +123,7 @@ module _ (p vertex : ℕ) where
       by (inl e) (inl f) = subst (λ (t : ℕ × ℕ). total_at (edits_of (changes es)) (place_at t.0 (State t.1 key)) ≡ total_at (item_edits p vertex m n) (place_at t.0 (State t.1 key))) (λ i. (sym e i, sym f i)) here
       by (inl e) (inr g) = elsewhere (place_at q (State w key)) (λ x is. g (cc)) m n es
       by (inr g) f = elsewhere (place_at q (State w key)) (λ x is. g (cc)) m n es
+  items_total m n es leads k = elsewhere k (λ x e. cc) m n es
 
 -- ---- their numbers have 64 bits
 

@@ -5,8 +5,6 @@ pub mod RunsLemmas
 pub mod EachLemmas
 pub mod FlowLemmas
 pub mod PlansLemmas
-pub mod Edited
-pub mod SeenLemmas
 pub mod LimitsLemmas
 pub mod Differences
 pub mod CountedLemmas
@@ -37,3 +35,8 @@ pub mod PartsSent
 pub mod TokensHeld
 pub mod ReceivedLemmas
 pub mod SentLemmas
+pub mod EffectLemmas
+pub mod NamedLemmas
+pub mod AlteredLemmas
+pub mod ExchangedLemmas
+pub mod CountLemmas

@@ -99,20 +99,12 @@ at_most n m = elim (cases_lt m n) [ inl lt ↦ inr (not_past m n lt) | inr le �
 count_test : (k : Place) (z : ℤ) → CountAt k z ⊎ (CountAt k z → ⊥)
 count_test (place_at p (Records key)) z = at_most (unsigned_abs z) max_count
 count_test (place_at p (Sink key)) z = at_most (unsigned_abs z) max_count
-count_test (place_at p (Request point)) z = inl tt
-count_test (place_at p (Token vertex)) z = inl tt
-count_test (place_at p (State vertex key)) z = inl tt
-count_test (place_at p (Unsent point)) z = inl tt
-count_test (view_of q point) z = inl tt
+count_test k z = inl tt
 
 entry_test : (k : Place) (z : ℤ) → EntryAt k z ⊎ (EntryAt k z → ⊥)
 entry_test (place_at p (Unsent point)) z = at_most (unsigned_abs z) max_count
 entry_test (view_of q point) z = at_most (unsigned_abs z) max_count
-entry_test (place_at p (Records key)) z = inl tt
-entry_test (place_at p (Request point)) z = inl tt
-entry_test (place_at p (Token vertex)) z = inl tt
-entry_test (place_at p (State vertex key)) z = inl tt
-entry_test (place_at p (Sink key)) z = inl tt
+entry_test k z = inl tt
 
 -- ---- states past the limits
 
@@ -122,20 +114,12 @@ past n h = elim (cases_lt max_count n) [ inl lt ↦ lt | inr le ↦ absurd (h le
 large_count : (t : ClusterState) (k : Place) → (CountAt k (standing t k) → ⊥) → HasLargeCount t
 large_count t (place_at p (Records key)) h = of_record p key (past _ h)
 large_count t (place_at p (Sink key)) h = of_sink p key (past _ h)
-large_count t (place_at p (Request point)) h = absurd (h tt)
-large_count t (place_at p (Token vertex)) h = absurd (h tt)
-large_count t (place_at p (State vertex key)) h = absurd (h tt)
-large_count t (place_at p (Unsent point)) h = absurd (h tt)
-large_count t (view_of q point) h = absurd (h tt)
+large_count t k h = absurd (h tt)
 
 large_entry : (t : ClusterState) (k : Place) → (EntryAt k (standing t k) → ⊥) → HasLargeEntry t
 large_entry t (place_at p (Unsent point)) h = of_unsent p point (past _ h)
 large_entry t (view_of q point) h = of_view q point (past _ h)
-large_entry t (place_at p (Records key)) h = absurd (h tt)
-large_entry t (place_at p (Request point)) h = absurd (h tt)
-large_entry t (place_at p (Token vertex)) h = absurd (h tt)
-large_entry t (place_at p (State vertex key)) h = absurd (h tt)
-large_entry t (place_at p (Sink key)) h = absurd (h tt)
+large_entry t k h = absurd (h tt)
 
 small_counts : (t : ClusterState) → ((k : Place) → CountAt k (standing t k)) → HasLargeCount t → ⊥
 small_counts t h (of_record p k lt) = not_past _ _ lt (h (place_at p (Records k)))

@@ -2,6 +2,7 @@
 use Rattle.std.proofs.Common.{◌≡◌, ◌≢◌, ◌<◌, ◌≤◌, ◌+◌, ◌^◌, ℕ, ℤ, pos, negsuc, All, Bool, true, false, cond, ◌&&◌, List, [], ◌∷◌, ◌++◌, map, length, get_or, nat_eq, nat_lt, inl, inr, lit<, length-append, refl, sym, ap, subst, ◌∙◌, arith}
 use Rattle.std.specs.Prelude.{if◌then◌else◌}
 use Rattle.std.proofs.lemmas.Bool.{cases_lt, lt-ltb}
+use Rattle.std.proofs.lemmas.List.{length-map}
 use Rattle.nd_paths.specs.declared.point.Pointstamp.{Pointstamp}
 use Rattle.nd_time.specs.Time.{Time, ingress_of, feedback_of, last_of}
 use Rattle.nd_time.specs.Limits.{max_depth, max_counter}
@@ -52,14 +53,28 @@ made_leaving n p vertex port v t l i (e ∷ es) =
       | false ↦ rest
     ]
 
-pub one_made : (g : Dataflow) (n p vertex : ℕ) (e : Emission) (r : ℕ × Route) → leaving vertex e.port 0 g.edges ≡ r ∷ [] → (to edge : ℕ) → to ≡ destination r.1 n p e.value → edge ≡ length g.vertices + r.0
-    → made_by g n p vertex e ≡ (to, record_key edge e.time e.value) ∷ []
-one_made g n p vertex e r only to edge to_is edge_is =
-    let start : length g.vertices ≡ length g.vertices + 0 = omega arith in
-    ap (λ k. made_on n p vertex e.port e.value e.time k g.edges) start
-    ∙ made_leaving n p vertex e.port e.value e.time (length g.vertices) 0 g.edges
-    ∙ ap (map (λ (r : ℕ × Route). (destination r.1 n p e.value, record_key (length g.vertices + r.0) e.time e.value))) only
-    ∙ (λ i. (sym to_is i, record_key (sym edge_is i) e.time e.value) ∷ [])
+-- the record of an emission on an edge that leaves its port, by the edge's number and route
+abbrev on_edge : Dataflow → ℕ → ℕ → Emission → ℕ × Route → ℕ × ValueAt
+on_edge g n p e r = (destination r.1 n p e.value, record_key (length g.vertices + r.0) e.time e.value)
+
+module _ (g : Dataflow) (n p vertex : ℕ) (e : Emission) where
+  abbrev leave : List (ℕ × Route)
+  leave = leaving vertex e.port 0 g.edges
+
+  all_made : made_by g n p vertex e ≡ map (on_edge g n p e) leave
+  all_made =
+      let start : length g.vertices ≡ length g.vertices + 0 = omega arith in
+      ap (λ k. made_on n p vertex e.port e.value e.time k g.edges) start ∙ made_leaving n p vertex e.port e.value e.time (length g.vertices) 0 g.edges
+
+  pub one_made : (r : ℕ × Route) → leave ≡ r ∷ [] → (to edge : ℕ) → to ≡ destination r.1 n p e.value → edge ≡ length g.vertices + r.0 → made_by g n p vertex e ≡ (to, record_key edge e.time e.value) ∷ []
+  one_made r only to edge to_is edge_is = all_made ∙ ap (map (on_edge g n p e)) only ∙ (λ i. (sym to_is i, record_key (sym edge_is i) e.time e.value) ∷ [])
+
+  -- where one record is made, one edge leaves the port, and the record is on it
+  pub left_once : (r : ℕ × ValueAt) → made_by g n p vertex e ≡ r ∷ [] → length leave ≡ 1
+  left_once r made = sym (length-map leave (on_edge g n p e)) ∙ ap length (sym all_made ∙ made)
+
+  pub made_at : (r : ℕ × ValueAt) (l : ℕ × Route) → made_by g n p vertex e ≡ r ∷ [] → leave ≡ l ∷ [] → r.1.point.location ≡ length g.vertices + l.0
+  made_at r l made only = ap (λ (rs : List (ℕ × ValueAt)). (get_or rs 0 r).1.point.location) (sym made ∙ all_made ∙ ap (map (on_edge g n p e)) only)
 
 -- ---- the time of what comes
 
@@ -76,17 +91,8 @@ past_is action.Feedback t room rises =
     ap (λ b. if b then record { epoch = t.epoch; counters = feedback_of t.counters } else t) (sym (below_is (last_of t.counters) max_counter (rises refl)))
 
 feeds_back : (o : Op) → action_of o ≡ action.Feedback → o ≡ op.Feedback
-feeds_back op.Input e = absurd (cc)
-feeds_back op.Ingress e = absurd (cc)
-feeds_back op.Egress e = absurd (cc)
 feeds_back op.Feedback e = refl
-feeds_back (op.Add k) e = absurd (cc)
-feeds_back (op.Mul k) e = absurd (cc)
-feeds_back (op.Below k) e = absurd (cc)
-feeds_back (op.Split k) e = absurd (cc)
-feeds_back op.Sum e = absurd (cc)
-feeds_back op.Distinct e = absurd (cc)
-feeds_back op.Sink e = absurd (cc)
+feeds_back o e = absurd (cc)
 
 when_emitted : (t : Time) (os : List (ℕ × ℤ)) (es : List Emission) (e : Emission) → es ≡ emissions_of t os → es ≡ e ∷ [] → e.time ≡ t
 when_emitted t [] es e is one = absurd (let none : e ∷ [] ≡ [] = sym one ∙ is in cc)

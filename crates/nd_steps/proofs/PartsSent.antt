@@ -13,7 +13,7 @@ use Rattle.nd_map.specs.Listed.{IsListed}
 use Rattle.nd_map.specs.Entries.{listed-tail, absent_in_tail, find-head, found_at, rises}
 use Rattle.nd_paths.specs.Point.{point_cmp, point_total, point_exact}
 use Rattle.nd_paths.specs.declared.point.Pointstamp.{Pointstamp}
-use Rattle.nd_delta.specs.Delta.{DeltaValue, none, at, part, plus, minus, size, same, is_point, has_point, or_zero, entries, at-none, at-part, at-plus, at-minus, at-entries, sorted-entries, some-entry, IsPartOf, IsApart}
+use Rattle.nd_delta.specs.Delta.{DeltaValue, none, at, part, minus, size, same, is_point, has_point, or_zero, entries, at-none, at-part, at-minus, at-entries, sorted-entries, some-entry, IsPartOf}
 use Rattle.nd_protocol.specs.Steps.{chosen}
 use Rattle.nd_protocol.specs.declared.part.Part.{Part}
 use Rattle.nd_protocol.specs.declared.part.Part.TheVariants.{All, Points}

@@ -202,11 +202,7 @@ shape-put s (view_of q x) z = record {
 -- the maps are there alike
 slot_alike : (q r : ProcessorState) (l : Slot) → length q.items ≡ length r.items → SlotIsThere q l → SlotIsThere r l
 slot_alike q r (State vertex key) e there = rw (sym e) there
-slot_alike q r (Records key) e there = tt
-slot_alike q r (Request point) e there = tt
-slot_alike q r (Token vertex) e there = tt
-slot_alike q r (Sink key) e there = tt
-slot_alike q r (Unsent point) e there = tt
+slot_alike q r l e there = tt
 
 pub there_alike : (s t : ClusterState) (k : Place) → SameShape s t → IsThere s k → IsThere t k
 there_alike s t (place_at p l) h there = (rw (sym h.processors) there.0, slot_alike (processor s p) (processor t p) l (h.items p) there.1)

@@ -35,7 +35,7 @@ shape_of s t cs h = record { graph = sym h.graph; processors = sym h.count; item
 
 -- ---- a list that can be run
 
-after_is : (s : ClusterState) (c : Change) → after s.processors c ≡ standing s (place_of c) +ℤ c.n
+pub after_is : (s : ClusterState) (c : Change) → after s.processors c ≡ standing s (place_of c) +ℤ c.n
 unfolding after
 after_is s c = refl
 
@@ -142,14 +142,14 @@ less_often : (b : Bool) (n : ℕ) → cond b 1 0 + n ≤ 1 → n ≤ 1
 less_often true n h = omega (arith, h)
 less_often false n h = omega (arith, h)
 
-once_tail : (c : Change) (cs : List Change) → Once (c ∷ cs) → Once cs
+pub once_tail : (c : Change) (cs : List Change) → Once (c ∷ cs) → Once cs
 once_tail c cs once k = less_often (eq_by_cmp place_cmp k (place_of c)) (often k cs) (once k)
 
-alone_there : (b : Bool) (n : ℕ) → b ≡ true → cond b 1 0 + n ≤ 1 → n ≡ 0
+pub alone_there : (b : Bool) (n : ℕ) → b ≡ true → cond b 1 0 + n ≤ 1 → n ≡ 0
 alone_there true n e h = omega (arith, h)
 alone_there false n e h = absurd (true≢false (sym e))
 
-by_found : (b : Bool) (g w : ℤ) (x : Option ℤ) → (b ≡ true → w ≡ pos 0) → or_else (pos 0) x ≡ w → or_else (pos 0) (cond b (Some g) x) ≡ cond b g (pos 0) +ℤ w
+pub by_found : (b : Bool) (g w : ℤ) (x : Option ℤ) → (b ≡ true → w ≡ pos 0) → or_else (pos 0) x ≡ w → or_else (pos 0) (cond b (Some g) x) ≡ cond b g (pos 0) +ℤ w
 by_found true g w x e h = sym (ap (λ z. g +ℤ z) (e refl) ∙ plus_none g)
 by_found false g w x e h = h ∙ sym (none_plus w)
 
@@ -163,7 +163,7 @@ sorted_found (c ∷ cs) once k =
     (λ e. never_added k cs (alone_there (eq_by_cmp place_cmp k (place_of c)) (often k cs) e (once k)))
     (sorted_found cs (once_tail c cs once) k)
 
-kept_some : (b : Bool) (v : ℤ) (x : Option ℤ) → v ≢ pos 0 → x ≢ Some (pos 0) → cond b (Some v) x ≢ Some (pos 0)
+pub kept_some : (b : Bool) (v : ℤ) (x : Option ℤ) → v ≢ pos 0 → x ≢ Some (pos 0) → cond b (Some v) x ≢ Some (pos 0)
 kept_some true v x p q e = p (ap (or_else (pos 0)) e)
 kept_some false v x p q e = q e
 
@@ -184,7 +184,7 @@ sorted_length (c ∷ cs) once =
     ∙ ap (λ x. cond (is_some x) (length (sorted cs)) (length (sorted cs) + 1)) (sorted_without cs (place_of c) none)
     ∙ ap (λ n. n + 1) (sorted_length cs (once_tail c cs once)) ∙ more
 
-less_by : (x y z : ℤ) → y ≡ x +ℤ z → z ≡ y -ℤ x
+pub less_by : (x y z : ℤ) → y ≡ x +ℤ z → z ≡ y -ℤ x
 less_by x y z e = omega (arith, ints, e)
 
 pub as_many : (s t : ClusterState) (cs : List Change) → Once cs → Each (λ c. c.n ≢ pos 0) cs → ((k : Place) → standing t k ≡ standing s k +ℤ total_at (edits_of cs) k) → length cs ≡ size (difference s t)

@@ -19,7 +19,7 @@ use Rattle.nd_steps.specs.Edits.{edits, Works}
 use Rattle.nd_steps.specs.Drafts.{AreJoined}
 use Rattle.nd_steps.specs.declared.change.Change.{Change}
 use Rattle.nd_steps.specs.declared.slot.Slot.{Slot}
-use Rattle.nd_steps.specs.declared.slot.Slot.TheVariants.{Records, Request, Token, State, Sink, Unsent}
+use Rattle.nd_steps.specs.declared.slot.Slot.TheVariants.{Token, State}
 use Rattle.nd_steps.proofs.EachLemmas.{each_from, each_through, never_added, gain_alone, total}
 use Rattle.nd_steps.proofs.LimitsLemmas.{slot_within}
 use Rattle.nd_steps.proofs.StepMoves.{StepMoves}
@@ -72,20 +72,15 @@ module _ (s : ClusterState) (state : IsState s) (cs : List Change) (sound : IsSo
       (subst (SlotRanged l) (still (standing s k)) (slot_within s state p l).ranged)
 
   pub ranged_then : (p : ℕ) (l : Slot) → SlotRanged l (standing s (place_at p l) +ℤ total (place_at p l) cs)
-  ranged_then p (Records key) = tt
-  ranged_then p (Request x) = tt
   ranged_then p (Token v) = ranged_at p (Token v) (sound.tokens p v)
   ranged_then p (State v key) = ranged_at p (State v key) (sound.items p v key)
-  ranged_then p (Sink key) = tt
-  ranged_then p (Unsent x) = tt
+  ranged_then p l = tt
 
   module _ (few : length cs ≤ 2 ^ 64) where
     by_ones : (k : Place) → ((z : ℤ) → IsOne k z → unsigned_abs z ≤ 1) → IsGain (total k cs)
     by_ones k one = let h = ones_total k one cs sound.ones in omega (arith, few, h)
 
     pub gains : (p : ℕ) (l : Slot) → IsGain (total (place_at p l) cs)
-    gains p (Records key) = by_ones (place_at p (Records key)) (λ z h. h)
-    gains p (Request x) = by_ones (place_at p (Request x)) (λ z h. h)
     gains p (Token v) =
         let a = (slot_within s state p (Token v)).ranged in
         let b = ranged_then p (Token v) in
@@ -94,8 +89,7 @@ module _ (s : ClusterState) (state : IsState s) (cs : List Change) (sound : IsSo
         let a = (slot_within s state p (State v key)).ranged in
         let b = ranged_then p (State v key) in
         omega (arith, ints, a, b)
-    gains p (Sink key) = by_ones (place_at p (Sink key)) (λ z h. h)
-    gains p (Unsent x) = by_ones (place_at p (Unsent x)) (λ z h. h)
+    gains p l = by_ones (place_at p l) (λ z h. h)
 
 -- ---- the whole
 

@@ -3,7 +3,10 @@ use Rattle.std.proofs.Common.{List, sym, subst}
 use Rattle.nd_processor.specs.State.{ProcessorState}
 use Rattle.nd_protocol.specs.State.{ClusterState}
 use Rattle.nd_protocol.specs.Enabled.{HasLargeCount, HasLargeEntry}
-use Rattle.nd_steps.specs.Limits.{CountStays, EntryStays}
+use Rattle.nd_protocol.specs.declared.refusal.Refusal.{Refusal}
+use Rattle.nd_protocol.specs.declared.refusal.Refusal.TheVariants.{CountFull, DeltaFull}
+use Rattle.nd_steps.specs.Limits.{CountStays, EntryStays, LimitFails}
+use Rattle.nd_steps.specs.Ordered.{StayWithin, StayFails}
 use Rattle.nd_steps.specs.Plans.{Each, Reaches, ReachesIn, LeadsTo}
 use Rattle.nd_steps.specs.Turns.{IsReadable, IsInOrder}
 use Rattle.nd_steps.specs.Undone.{IsGain}
@@ -25,18 +28,17 @@ module _ (ps : List ProcessorState) (s t : ClusterState) (all : List Change) (h 
   in_state : (P : List ProcessorState → Type 0) → P ps → P s.processors
   in_state P x = subst P (sym h.0) x
 
-  pub too_many : (Each (CountStays ps) all → ⊥) → HasLargeCount t
-  too_many fails = counts_pass s all t h.1 (in_state (λ qs. Each (CountStays qs) all → ⊥) fails)
-
-  pub too_much : (Each (EntryStays ps) all → ⊥) → HasLargeEntry t
-  too_much fails = entries_pass s all t h.1 (in_state (λ qs. Each (EntryStays qs) all → ⊥) fails)
-
   pub few_enough : Each (CountStays ps) all → HasLargeCount t → ⊥
   few_enough each = counts_fit s all t h.1 (in_state (λ qs. Each (CountStays qs) all) each)
 
   pub little_enough : Each (EntryStays ps) all → HasLargeEntry t → ⊥
   little_enough each = entries_fit s all t h.1 (in_state (λ qs. Each (EntryStays qs) all) each)
 
-  pub leads : (cs : List Change) → IsInOrder ps all cs → Each (CountStays ps) all → Each (EntryStays ps) all → LeadsTo s t cs
-  leads cs order counts entries =
-      planned s t all cs h.1 (in_state (λ qs. IsInOrder qs all cs) order) (in_state (λ qs. Each (CountStays qs) all) counts) (in_state (λ qs. Each (EntryStays qs) all) entries)
+  pub passes : (r : Refusal) → StayFails ps all r → LimitFails t r
+  passes CountFull fails = counts_pass s all t h.1 (in_state (λ qs. Each (CountStays qs) all → ⊥) fails)
+  passes DeltaFull fails = (few_enough fails.0, entries_pass s all t h.1 (in_state (λ qs. Each (EntryStays qs) all → ⊥) fails.1))
+  passes r fails = absurd (fails)
+
+  pub leads : (cs : List Change) → IsInOrder ps all cs → StayWithin ps all → LeadsTo s t cs
+  leads cs order within =
+      planned s t all cs h.1 (in_state (λ qs. IsInOrder qs all cs) order) (in_state (λ qs. Each (CountStays qs) all) within.0) (in_state (λ qs. Each (EntryStays qs) all) within.1)

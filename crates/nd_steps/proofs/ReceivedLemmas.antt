@@ -1,18 +1,17 @@
 -- A receive in what is stored of a cluster: where it leads, and where undoing it leads back to.
-use Rattle.std.proofs.Common.{◌≡◌, ℕ, ◌<◌, ◌≤◌, ◌-◌, List, [], ◌∷◌, Result, Ok, Err, IsErr, OnOk, refl, length, get_or, set, drop, sym, ap, subst, ◌∙◌, arith, length-set, get_or-set_same}
-use Rattle.std.proofs.lemmas.List.{set-set, set-get_or, length-drop, length-map}
-use Rattle.std.specs.Prelude.{All, unsigned_abs}
-use Rattle.nd_time.specs.Limits.{max_count, max_queue}
+use Rattle.std.proofs.Common.{◌≡◌, ℕ, ◌<◌, List, [], ◌∷◌, Result, Ok, Err, IsErr, OnOk, refl, length, get_or, set, sym, ap, subst, ◌∙◌, arith, length-set, get_or-set_same}
+use Rattle.std.proofs.lemmas.List.{set-set, set-get_or, length-map}
+use Rattle.std.specs.Prelude.{All}
 use Rattle.nd_graph.specs.Graph.{Dataflow}
-use Rattle.nd_delta.specs.Delta.{DeltaValue, none, at, plus, minus, IsTooLarge, minus-plus}
+use Rattle.nd_delta.specs.Delta.{DeltaValue, none, plus, minus, minus-plus}
 use Rattle.nd_view.specs.Kept.{Kept, IsFor}
 use Rattle.nd_view.specs.Views.{maps, maps-get, maps-set}
 use Rattle.nd_processor.specs.State.{ProcessorState}
-use Rattle.nd_mesh.specs.Mesh.{row, popped, unpopped, without_oldest, IsFull, IsVacant, queue as queue_in}
+use Rattle.nd_mesh.specs.Mesh.{row, popped, unpopped, without_oldest, IsVacant, queue as queue_in}
 use Rattle.nd_mesh.specs.Laws.{queue-with_queue, unpopped-popped}
-use Rattle.nd_protocol.specs.State.{ClusterState, view, queue}
+use Rattle.nd_protocol.specs.State.{ClusterState, view}
 use Rattle.nd_protocol.specs.Exchange.{received}
-use Rattle.nd_protocol.specs.Fitting.{QueueIsWithin, IsState}
+use Rattle.nd_protocol.specs.Fitting.{IsState}
 use Rattle.nd_steps.specs.Stored.{received-front}
 use Rattle.nd_steps.specs.Records.{CanReceive, Receives}
 use Rattle.nd_steps.specs.Seen.{seen}

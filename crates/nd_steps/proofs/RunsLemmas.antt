@@ -10,7 +10,6 @@ use Rattle.nd_steps.specs.Places.{Place, place_cmp, place_exact}
 use Rattle.nd_steps.specs.Slots.{SlotMay, SlotWithin}
 use Rattle.nd_steps.specs.Standing.{standing, put_at, IsThere}
 use Rattle.nd_steps.specs.Changes.{place_of, inverse, made, Fits, applied, state_at, IsRunnable}
-use Rattle.nd_steps.specs.Undone.{Runs, only}
 use Rattle.nd_steps.specs.declared.change.Change.{Change}
 use Rattle.nd_steps.proofs.PlacesLemmas.{SameShape, shape-itself, shape-turned, shape-through, shape-put, there_alike, same_state, standing-put, standing-put_at, may_stand}
 
@@ -112,48 +111,3 @@ module _ (s : ClusterState) (cs : List Change) (runs : IsRunnable s cs) (k : ℕ
 
     pub back_here : made t (inverse c) ≡ state_at s cs k
     back_here = ap (λ u. made u (inverse c)) from_above ∙ made_back (state_at s cs k) c fits_there_now
-
--- ---- the same over a list of processors alone
-
-abbrev pub alone : ClusterState → ClusterState
-alone s = only s.processors
-
-pub made-alone : (s : ClusterState) (c : Change) → made (alone s) c ≡ alone (made s c)
-made-alone s c = refl
-
-pub applied-alone : (s : ClusterState) (cs : List Change) → applied (alone s) cs ≡ alone (applied s cs)
-unfolding applied
-applied-alone s [] = refl
-applied-alone s (c ∷ cs) = ap (λ t. applied t cs) (made-alone s c) ∙ applied-alone (made s c) cs
-
-fits-alone : (s : ClusterState) (c : Change) → Fits s c → Fits (alone s) c
-fits-alone s c h = record { owner = h.owner; inside = h.inside }
-
-state-alone : (s : ClusterState) (cs : List Change) (k : ℕ) → state_at (alone s) cs k ≡ alone (state_at s cs k)
-unfolding state_at
-state-alone s cs k = applied-alone s (take k cs)
-
-runnable-alone : (s : ClusterState) (cs : List Change) → IsRunnable s cs → IsRunnable (alone s) cs
-runnable-alone s cs runs = record {
-  turn = runs.turn;
-  fits = λ k d lt. subst (λ t. Fits t (get_or cs k d)) (sym (state-alone s cs k)) (fits-alone (state_at s cs k) (get_or cs k d) (runs.fits k d lt));
-  leaves = λ k d lt first none. runs.leaves k d lt first (ap (λ t. standing t (place_of (get_or cs k d))) (sym (state-alone s cs (k + 1))) ∙ none);
-  finds = λ k d lt past none. runs.finds k d lt past (ap (λ t. standing t (place_of (get_or cs k d))) (sym (state-alone s cs k)) ∙ none);
-}
-
-pub runs-alone : (s t : ClusterState) (cs : List Change) → Runs s t cs → Runs (alone s) (alone t) cs
-runs-alone s t cs h = record { runs = runnable-alone s cs h.runs; arrives = applied-alone s cs ∙ ap alone h.arrives }
-
--- changes touch the processors alone
-pub others_kept : (s : ClusterState) (cs : List Change) → applied s cs ≡ record s { processors = (applied s cs).processors }
-unfolding applied
-others_kept s [] = refl
-others_kept s (c ∷ cs) = others_kept (made s c) cs
-
--- a list of changes that can be made, for its processors alone
-pub runs_only : (s : ClusterState) (cs : List Change) → IsRunnable s cs → Runs (alone s) (alone (applied s cs)) cs
-runs_only s cs runs = runs-alone s (applied s cs) cs (record { runs = runs; arrives = refl })
-
--- the changes have led here from a state that leads here
-pub led : (s now here : ClusterState) (cs ds : List Change) → Runs (alone s) (alone now) cs → now ≡ here → ds ≡ cs → Runs (alone s) (alone here) ds
-led s now here cs ds h e d = subst (λ (xs : List Change). Runs (alone s) (alone here) xs) (sym d) (subst (λ (t : ClusterState). Runs (alone s) (alone t) cs) e h)

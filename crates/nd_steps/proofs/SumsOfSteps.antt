@@ -10,7 +10,7 @@ use Rattle.nd_map.specs.Counts.{entries, difference, or_else, at as number_at, a
 use Rattle.nd_vertex.specs.Items.{Items, item_cmp, item_total, item_exact}
 use Rattle.nd_vertex.specs.declared.key.ItemKey.{ItemKey}
 use Rattle.nd_steps.specs.Places.{Place, place_at, view_of}
-use Rattle.nd_steps.specs.declared.slot.Slot.TheVariants.{Records, Request, Token, State, Sink, Unsent}
+use Rattle.nd_steps.specs.declared.slot.Slot.TheVariants.{State}
 use Rattle.nd_steps.specs.Totals.{Edit, total_at}
 use Rattle.nd_steps.specs.Edits.{item_edits}
 use Rattle.nd_steps.specs.Places.{is_place}
@@ -32,12 +32,7 @@ total_at-map_apart f g k apart (x ∷ xs) = without_it (is_place k (f x)) (g x) 
 
 -- whose map a place is in
 abbrev pub owner : Place → Option ℕ
-owner (place_at p (Records key)) = Some p
-owner (place_at p (Request point)) = Some p
-owner (place_at p (Token vertex)) = Some p
-owner (place_at p (State vertex key)) = Some p
-owner (place_at p (Sink key)) = Some p
-owner (place_at p (Unsent point)) = Some p
+owner (place_at p slot) = Some p
 owner (view_of q point) = None
 
 pub apart_of : (k p : ℕ) → (k ≡ p → ⊥) → Some k ≡ Some p → ⊥

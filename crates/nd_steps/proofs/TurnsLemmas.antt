@@ -9,9 +9,11 @@ use Rattle.std.proofs.lemmas.List.Edits.{Swapped, swapped_from_swap}
 use Rattle.std.proofs.lemmas.List.Sorted.{IsPermutation-refl, IsPermutation-trans, length_permutation}
 use Rattle.nd_map.specs.Cases.{zero_or_not}
 use Rattle.nd_processor.specs.State.{ProcessorState}
+use Rattle.nd_protocol.specs.declared.refusal.Refusal.TheVariants.{CountFull, DeltaFull}
 use Rattle.nd_steps.specs.Plans.{Each}
 use Rattle.nd_steps.specs.Limits.{after, CountStays, EntryStays}
 use Rattle.nd_steps.specs.Turns.{IsInOrder}
+use Rattle.nd_steps.specs.Ordered.{StayWithin, StayFails}
 use Rattle.nd_steps.specs.declared.change.Change.{Change}
 use Rattle.nd_steps.proofs.EachLemmas.{each_at, each_from}
 
@@ -125,7 +127,7 @@ module _ (ps : List ProcessorState) (all cs : List Change) (turn i : ℕ) (count
 
 -- ---- all
 
-module _ (ps : List ProcessorState) (all cs : List Change) (turn i : ℕ) (counts entries : Bool) (h : IsPutInOrder ps all cs turn i counts entries) (past : length all ≤ i) where
+module _ {ps : List ProcessorState} {all cs : List Change} {turn i : ℕ} {counts entries : Bool} (h : IsPutInOrder ps all cs turn i counts entries) (past : length all ≤ i) where
   pub in_order : IsInOrder ps all cs
   in_order =
       let e = length_permutation all cs h.same in
@@ -137,8 +139,14 @@ module _ (ps : List ProcessorState) (all cs : List Change) (turn i : ℕ) (count
     λ each. is.1 (λ k d less. each_at P all k d each (let w = h.within in omega (arith, less, w))),
   )
 
-  pub counts_in : IsTrue counts ↔ Each (CountStays ps) all
-  counts_in = each_below (CountStays ps) counts h.counts_stay
+  all_few : counts ≡ true → Each (CountStays ps) all
+  all_few e = (each_below (CountStays ps) counts h.counts_stay).0 e
 
-  pub entries_in : IsTrue entries ↔ Each (EntryStays ps) all
-  entries_in = each_below (EntryStays ps) entries h.entries_stay
+  pub all_within : counts ≡ true → entries ≡ true → StayWithin ps all
+  all_within e f = (all_few e, (each_below (EntryStays ps) entries h.entries_stay).0 f)
+
+  pub count_fails : counts ≡ false → StayFails ps all CountFull
+  count_fails e each = let t = (each_below (CountStays ps) counts h.counts_stay).1 each in absurd (cc (t, e))
+
+  pub entry_fails : counts ≡ true → entries ≡ false → StayFails ps all DeltaFull
+  entry_fails e f = (all_few e, λ each. (let t = (each_below (EntryStays ps) entries h.entries_stay).1 each in absurd (cc (t, f))))

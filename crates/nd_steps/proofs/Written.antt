@@ -1,6 +1,7 @@
 -- A step that writes its performer and lets records come adds what the edits of both say.
 use Rattle.std.proofs.Common.{◌≡◌, inl, inr, ℕ, ◌+◌, ◌<◌, ℤ, pos, ◌+ℤ◌, List, length, refl, sym, ap, subst, ◌∙◌, arith, length-set, get_or-set_same, get_or-set_other}
 use Rattle.std.proofs.lemmas.Int.{ints}
+use Rattle.std.proofs.lemmas.Bool.{cases_eq}
 use Rattle.std.specs.Prelude.{slice_index_or, slice_set}
 use Rattle.std.specs.Ordering.{nat_cmp}
 use Rattle.std.specs.FinMap as fin
@@ -23,7 +24,7 @@ use Rattle.nd_steps.specs.Totals.{Edit, total_at}
 use Rattle.nd_steps.specs.Edits.{come_edits}
 use Rattle.nd_steps.proofs.AlikeLemmas.{other_place}
 use Rattle.nd_steps.proofs.SumsOfSteps.{owner, apart_of, AreOf, total_at-elsewhere}
-use Rattle.nd_steps.proofs.Arrivals.{AreTo, comes, arrives, come-record, come-unsent, come-apart, decided, records-come, count-come}
+use Rattle.nd_steps.proofs.Arrivals.{AreTo, comes, arrives, come-record, come-unsent, come-apart, records-come, count-come}
 
 -- processor p, written anew, has more by its edits at each of its places; what is outstanding in it moves as its edits of the unsent change say
 pub record IsMove (p : ℕ) (q r : ProcessorState) (own : List Edit) : Type 0 where
@@ -66,7 +67,7 @@ module _ (qs : List ProcessorState) (p : ℕ) (r : ProcessorState) (own : List E
   -- a number of one processor, by its place's edits
   one_moves : (m : ProcessorState → ℤ) (there : ℕ → Place) → m r ≡ m (slice_index_or qs p idle) +ℤ total_at own (there p) → ((k : ℕ) → (k ≡ p → ⊥) → total_at own (there k) ≡ pos 0)
       → (k : ℕ) → m (slice_index_or (slice_set qs p r) k idle) ≡ m (slice_index_or qs k idle) +ℤ total_at own (there k)
-  one_moves m there here others k = elim (decided k p) [
+  one_moves m there here others k = elim (cases_eq k p) [
     | inl e ↦ subst (λ i. m (slice_index_or (slice_set qs p r) i idle) ≡ m (slice_index_or qs i idle) +ℤ total_at own (there i)) (sym e) (ap m (get_or-set_same qs p r idle lt) ∙ here)
     | inr apart ↦
         let a : m (slice_index_or (slice_set qs p r) k idle) ≡ m (slice_index_or qs k idle) = ap m (get_or-set_other qs p k r idle apart) in
@@ -148,7 +149,7 @@ module _ (qs : List ProcessorState) (p : ℕ) (r : ProcessorState) (own : List E
     unsent_now k x =
         let q : ProcessorState = slice_index_or done p idle in
         let last : ProcessorState = record q { unsent = plus q.unsent (gain qs done) } in
-        elim (decided k p) [
+        elim (cases_eq k p) [
           | inl e ↦ subst (λ i. in_change (now i).unsent x ≡ in_change (before i).unsent x +ℤ added_at (place_at i (Unsent x))) (sym e)
               (ap (λ (w : ProcessorState). in_change w.unsent x) (get_or-set_same done p last idle (subst (λ n. p < n) (sym (length-records (slice_set qs p r) rs ∙ length-set qs p r)) lt))
               ∙ at-plus q.unsent (gain qs done) x

@@ -1,5 +1,5 @@
 -- Changes one after the other: what each makes of a cluster's state, and when a list of them can be made.
-use Rattle.std.specs.Prelude.{◌≢◌, ◌<◌, ◌≤◌, ◌+◌, ℕ, ℤ, pos, neg_ℤ, ◌+ℤ◌, List, [], ◌∷◌, take, length, slice_index_or}
+use Rattle.std.specs.Prelude.{◌≡◌, ◌≢◌, ◌<◌, ◌≤◌, ◌+◌, ℕ, ℤ, pos, neg_ℤ, ◌+ℤ◌, List, [], ◌∷◌, take, length, slice_index_or}
 use Rattle.std.proofs.Common.{get_or}
 use Rattle.nd_processor.specs.State.{ProcessorState, idle}
 use Rattle.nd_protocol.specs.State.{ClusterState, processor}
@@ -45,6 +45,10 @@ pub record Fits (s : ClusterState) (c : Change) : Type 0 where
 -- something stands at the place of the change
 abbrev pub Finds : ClusterState → Change → Type 0
 Finds s c = standing s (place_of c) ≢ pos 0
+
+-- nothing does
+abbrev pub FindsNothing : ClusterState → Change → Type 0
+FindsNothing s c = standing s (place_of c) ≡ pos 0
 
 -- the state after a list of changes
 unfoldable pub applied : ClusterState → List Change → ClusterState

@@ -6,14 +6,9 @@ use Rattle.nd_graph.specs.declared.op.Action.{Action}
 use Rattle.nd_graph.specs.declared.op.Action.TheVariants.{Identity, Ingress, Egress, Feedback}
 use Rattle.nd_paths.specs.declared.point.Pointstamp.{Pointstamp}
 use Rattle.nd_processor.specs.declared.key.ValueAt.{ValueAt}
-use Rattle.nd_processor.specs.State.{ProcessorState}
 use Rattle.nd_protocol.specs.Steps.{record_key}
 use Rattle.nd_protocol.specs.declared.step.Step.{Step}
 use Rattle.nd_protocol.specs.declared.step.Step.TheVariants.{Feed, Take, Notice, Broadcast, Receive}
-use Rattle.nd_protocol.specs.declared.refusal.Refusal.{Refusal}
-use Rattle.nd_protocol.specs.declared.refusal.Refusal.TheVariants.{CountFull, DeltaFull}
-use Rattle.nd_steps.specs.Limits.{CountStays, EntryStays}
-use Rattle.nd_steps.specs.Plans.{Each}
 use Rattle.nd_steps.specs.declared.change.Change.{Change}
 use Rattle.nd_steps.specs.declared.slot.Slot.TheVariants.{Records, Sink, Unsent}
 use Rattle.nd_steps.specs.declared.come.Come.{Come}
@@ -70,9 +65,3 @@ told_changes (Take p edge t value) f = flow_changes p (record_key edge t value) 
 told_changes (Notice p vertex t) f = []
 told_changes (Broadcast p part) f = []
 told_changes (Receive from to) f = []
-
--- which limit a count or an entry passes after these changes: that of counts comes first
-abbrev pub StayFails : List ProcessorState → List Change → Refusal → Type 0
-StayFails processors cs CountFull = Each (CountStays processors) cs → ⊥
-StayFails processors cs DeltaFull = Each (CountStays processors) cs × (Each (EntryStays processors) cs → ⊥)
-StayFails processors cs _ = ⊥

@@ -11,11 +11,15 @@ pub mod Records
 pub mod Flows
 pub mod Limits
 pub mod Turns
+pub mod Ordered
 pub mod Counted
 pub mod Listed
 pub mod Edits
 pub mod Drafts
 pub mod Onward
+pub mod Performers
 pub mod Targets
 pub mod Refused
 pub mod Laws
+pub mod Effect
+pub mod Altering

@@ -1,5 +1,5 @@
 -- The limits of counts and of entries, where changes are made.
-use Rattle.std.specs.Prelude.{ℤ, ◌+ℤ◌, List}
+use Rattle.std.specs.Prelude.{◌≢◌, ◌↔◌, IsTrue, ℤ, pos, ◌+ℤ◌, List}
 use Rattle.nd_processor.specs.State.{ProcessorState}
 use Rattle.nd_protocol.specs.State.{ClusterState}
 use Rattle.nd_protocol.specs.Enabled.{HasLargeCount, HasLargeEntry}
@@ -8,6 +8,8 @@ use Rattle.nd_protocol.specs.declared.refusal.Refusal.TheVariants.{CountFull, De
 use Rattle.nd_steps.specs.Slots.{stands, CountWithin, EntryWithin}
 use Rattle.nd_steps.specs.Changes.{own}
 use Rattle.nd_steps.specs.declared.change.Change.{Change}
+use Rattle.nd_steps.specs.declared.reading.Reading.{Reading}
+use Rattle.nd_steps.specs.declared.slot.Slot.{Slot}
 
 -- what stands at the place of a change after it
 unfoldable pub after : List ProcessorState → Change → ℤ
@@ -25,3 +27,9 @@ abbrev pub LimitFails : ClusterState → Refusal → Type 0
 LimitFails t CountFull = HasLargeCount t
 LimitFails t DeltaFull = (HasLargeCount t → ⊥) × HasLargeEntry t
 LimitFails t _ = ⊥
+
+-- what is read of a key at which this stands then: whether something does, and whether it is within the limit of a count, of an entry
+pub record ReadsAs (r : Reading) (l : Slot) (z : ℤ) : Type 0 where
+  pub leaves : IsTrue r.leaves ↔ (z ≢ pos 0)
+  pub count : IsTrue r.count_stays ↔ CountWithin l z
+  pub entry : IsTrue r.entry_stays ↔ EntryWithin l z

@@ -1,7 +1,7 @@
 -- What a record changes, of whatever kind it is, as one list.
 use Rattle.std.specs.Prelude.{ℕ, ℤ, neg_ℤ, List, [], ◌∷◌, ◌++◌, map}
 use Rattle.nd_paths.specs.declared.point.Pointstamp.{Pointstamp}
-use Rattle.nd_delta.specs.Delta.{entries}
+use Rattle.nd_delta.specs.Delta.{DeltaValue, entries}
 use Rattle.nd_protocol.specs.declared.step.Step.{Step}
 use Rattle.nd_steps.specs.Flows.{more_unsent, told_changes}
 use Rattle.nd_steps.specs.declared.listed.Entry.{Entry}
@@ -18,12 +18,20 @@ leaves p e = Key (more_unsent p e.0 (neg_ℤ e.1))
 abbrev pub arrives : ℕ → Pointstamp × ℤ → Entry
 arrives q e = View q e.0 e.1
 
+-- what a broadcast names: the entries of its part, and then the back of the queues
+abbrev pub listed_sent : ℕ → DeltaValue → List Entry
+listed_sent p part = map (leaves p) (entries part) ++ Back p ∷ []
+
+-- what a receive names: the entries of the change, and then the front of the queue
+abbrev pub listed_received : ℕ → ℕ → DeltaValue → List Entry
+listed_received from to change = map (arrives to) (entries change) ++ Front from to ∷ []
+
 -- what the changes of a step name, in order: the keys of maps, and then the end of a queue
 abbrev pub listed_by : {A : Type 0} → Step A → Changes A → List Entry
 listed_by x (Each changes) = map Key changes.items
 listed_by x (Flowed flow) = map Key (told_changes x flow)
-listed_by x (Sent p part) = map (leaves p) (entries part) ++ Back p ∷ []
-listed_by x (Received from to change) = map (arrives to) (entries change) ++ Front from to ∷ []
+listed_by x (Sent p part) = listed_sent p part
+listed_by x (Received from to change) = listed_received from to change
 
 abbrev pub listed : {A : Type 0} → Record A → List Entry
 listed r = listed_by r.step r.changes

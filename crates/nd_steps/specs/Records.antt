@@ -69,6 +69,14 @@ MakesBy s x (Received from to change) t = Receives s from to change t
 abbrev pub Makes : {A : Type 0} → ClusterState → Record A → ClusterState → Type 0
 Makes s r t = MakesBy s r.step r.changes t
 
+-- t is the state that has P
+abbrev pub IsWhere : (ClusterState → Type 0) → ClusterState → Type 0
+IsWhere P t = (u : ClusterState) → P u → t ≡ u
+
+-- the second record makes what the first does
+abbrev pub MakesWhat : {A : Type 0} → Record A → Record A → Type 0
+MakesWhat r q = (s t : ClusterState) → Makes s r t → Makes s q t
+
 -- ---- back to where it was made
 
 -- a state that a cluster may be in has P, from which was led here

@@ -1,5 +1,5 @@
 -- Why a broadcast and a receive are refused, by the parts of a cluster that they are about (this project's own rule).
-use Rattle.std.specs.Prelude.{◌≡◌, ◌≢◌, ℕ, List, [], Some, slice_get}
+use Rattle.std.specs.Prelude.{◌≡◌, ◌≢◌, List, [], Some, slice_get}
 use Rattle.nd_graph.specs.Graph.{Dataflow}
 use Rattle.nd_paths.specs.Order.{IsStrictlyBefore}
 use Rattle.nd_paths.specs.declared.point.Pointstamp.{Pointstamp}
@@ -8,6 +8,8 @@ use Rattle.nd_delta.specs.Least.{IsLeast}
 use Rattle.nd_delta.specs.Upright.{IsUpright, IsUnsupported}
 use Rattle.nd_processor.specs.State.{ProcessorState}
 use Rattle.nd_protocol.specs.Invariant.{HoldsToken}
+use Rattle.nd_protocol.specs.Steps.{chosen}
+use Rattle.nd_protocol.specs.declared.part.Part.{Part}
 use Rattle.nd_protocol.specs.declared.refusal.Refusal.{Refusal}
 use Rattle.nd_protocol.specs.declared.refusal.Refusal.TheVariants.{NothingToSend, NotAdmissible, QueueEmpty, DeltaFull, Memory}
 
@@ -25,6 +27,10 @@ SendFails g q c NothingToSend = c ≡ none
 SendFails g q c (NotAdmissible x) = (c ≢ none) × LeavesAlone g q c x
 SendFails g q c Memory = c ≢ none
 SendFails g q c _ = ⊥
+
+-- why a part of what a processor has to send is not sent
+abbrev pub PartFails : {A : Type 0} → Dataflow → ProcessorState → Part A → Refusal → Type 0
+PartFails g q part r = SendFails g q (chosen part q.unsent) r
 
 -- why nothing is received from a queue into a view
 abbrev pub ReceiveFails : DeltaValue → List DeltaValue → Refusal → Type 0

@@ -4,7 +4,7 @@ ghost use Rattle.nd_delta.specs.Delta.{none, part as part_at, IsPartOf};
 ghost use Rattle.nd_protocol.specs.Steps.{chosen};
 ghost use Rattle.nd_protocol.specs.Exchange.{sent};
 ghost use Rattle.nd_protocol.specs.Fitting.{IsState};
-ghost use Rattle.nd_steps.specs.Refused.{LeavesUpright, LeavesAlone, SendFails};
+ghost use Rattle.nd_steps.specs.Refused.{LeavesUpright, LeavesAlone, PartFails};
 ghost use Rattle.nd_steps.specs.Records.{CanSend, Sends, CameFrom, IsBackAt};
 
 use crate::Parts;
@@ -14,7 +14,7 @@ use nd_processor::Processor;
 use nd_protocol::{Part, Refusal};
 use std::alloc::{AllocError, Allocator};
 
-// Whether a change has no entry at any of the pointstamps.
+// Returns whether `change` has no entry at any of the pointstamps.
 fn lacks_all<A: Allocator>(change: &LargeDelta<A>, points: &[Pointstamp]) -> bool
     ensures { IsTrue result ↔ (part_at change.now points.now ≡ none) }
 {
@@ -26,7 +26,7 @@ fn lacks_all<A: Allocator>(change: &LargeDelta<A>, points: &[Pointstamp]) -> boo
     true
 }
 
-// Whether a part of a change has no entry. It takes no memory.
+// Returns whether a part of `change` has no entry. It takes no memory.
 fn is_nothing<A: Allocator>(change: &LargeDelta<A>, part: &Part<A>) -> bool
     ensures { IsTrue result ↔ (chosen part.now change.now ≡ none) }
 {
@@ -36,7 +36,7 @@ fn is_nothing<A: Allocator>(change: &LargeDelta<A>, part: &Part<A>) -> bool
     }
 }
 
-// The part of a change.
+// Returns the part of `change`.
 fn part_of<A: Allocator>(
     alloc: A,
     change: &LargeDelta<A>,
@@ -50,7 +50,7 @@ fn part_of<A: Allocator>(
     }
 }
 
-// The least pointstamp whose entry would stay without its support, once a part is sent.
+// Returns the least pointstamp whose entry would stay without its support, once `change` is sent.
 fn left_alone<A: Allocator + Copy>(
     alloc: A,
     paths: &Paths<A>,
@@ -58,7 +58,8 @@ fn left_alone<A: Allocator + Copy>(
     change: &Delta<A>,
 ) -> Result<Option<Pointstamp>, AllocError>
     requires { IsPartOf change.now processor.now.unsent }
-    ensures upright { IfOk result (λ x. IsNone x → LeavesUpright paths.now processor.now change.now) }
+    ensures upright { IfOk result (λ x. IsNone x
+        → LeavesUpright paths.now processor.now change.now) }
     ensures least { IfOk result (λ x. IfSome x (LeavesAlone paths.now processor.now change.now)) }
 {
     let unsent = processor.unsent();
@@ -75,7 +76,7 @@ fn left_alone<A: Allocator + Copy>(
     Ok(stays.unsupported_by(paths, &tokens))
 }
 
-/// The change that a broadcast of a part sends, or why it is refused, but for full queues.
+/// Returns the change that a broadcast of `part` sends, or why the broadcast is refused. It doesn't test whether the queues are full.
 pub fn planned_part<A: Allocator + Copy>(
     alloc: A,
     paths: &Paths<A>,
@@ -86,7 +87,7 @@ pub fn planned_part<A: Allocator + Copy>(
     ensures some { IfOk result (λ c. c ≢ none) }
     ensures upright { IfOk result (LeavesUpright paths.now processor.now) }
     ensures there { IfOk result (λ c. IsPartOf c processor.now.unsent) }
-    ensures refused { IfErr result (SendFails paths.now processor.now (chosen part.now processor.now.unsent)) }
+    ensures refused { IfErr result (PartFails paths.now processor.now part.now) }
 {
     if is_nothing(processor.unsent(), part) {
         return Err(Refusal::NothingToSend);

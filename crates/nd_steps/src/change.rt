@@ -5,7 +5,7 @@ ghost use Rattle.nd_steps.specs.Undone.{IsGain};
 
 use crate::Slot;
 
-/// `n` more stands at a key of processor `p`'s maps. The difference of two items' numbers, of 64 bits each, needs more bits.
+/// Adds `n` at a key of processor `p`'s maps. The difference of two items' numbers, of 64 bits each, needs more bits.
 #[derive(Debug, PartialEq, Eq, Drop)]
 pub struct Change {
     pub p: u32,

@@ -10,7 +10,7 @@ use nd_time::Timestamp;
 #[derive(Clone, Copy, Debug, PartialEq, Eq, Drop)]
 pub enum Come {
     Nothing,
-    /// A record on an edge, at processor p. Its time is that of the record that goes, past the action.
+    /// A record on an edge, at processor `p`. Its time is that of the record that goes, past the action.
     Record {
         action: Action,
         p: u32,
@@ -40,7 +40,7 @@ fn pass(action: Action, time: &mut Timestamp)
 }
 
 impl Come {
-    // The record that comes for one that goes, which is that one again if none comes.
+    // Returns the record that comes for `gone`; `gone` itself if no record comes.
     pub(crate) fn key(&self, gone: &ValueAt) -> ValueAt
         ensures { result ≡ come_key gone.now self.now }
     {

@@ -1,14 +1,15 @@
 //! What a step changes, as it is found: a place may stand more than once, and in no order.
-ghost use Rattle.std.specs.Prelude.{◌≡◌, ◌≤◌, ◌^◌, ◌++◌, ◌∷◌, ◌-ℤ◌, [], All, FitsSigned, IfOk, OnOk, length, map};
+ghost use Rattle.std.specs.Prelude.{◌≡◌, ◌≤◌, ◌^◌, ◌++◌, ◌∷◌, ◌-ℤ◌, [], All, FitsSigned, IfOk, OnOk, length};
 ghost use Rattle.std.specs.Int.{w128};
 ghost use Rattle.std.specs.List.Sorted.{IsPermutation, IsSorted};
 ghost use Rattle.nd_protocol.specs.Steps.{flat, point_at};
-ghost use Rattle.nd_protocol.specs.Ranges.{IsValue};
 ghost use Rattle.nd_steps.specs.Slots.{from_number};
 ghost use Rattle.nd_steps.specs.Places.{parts, place_cmp};
 ghost use Rattle.nd_steps.specs.Changes.{place_of};
-ghost use Rattle.nd_steps.specs.Drafts.{at_key, arrivals, item_change, ask_changes, sink_changes, HasValues, some_of, both, joined, AreJoined};
+ghost use Rattle.nd_steps.specs.Drafts.{at_key, ask_changes, HasValues, some_of, both, joined, AreJoined};
+ghost use Rattle.nd_steps.specs.Performers.{Adds, AddsRecords, items_changes, count_changes};
 
+use crate::making::number;
 use crate::{Change, Slot};
 use nd_paths::Pointstamp;
 use nd_processor::{SinkKey, ValueAt};
@@ -31,7 +32,7 @@ fn timeless(vertex: usize) -> Pointstamp
     }
 }
 
-// The parts of a change's place.
+// Returns the parts of a change's place.
 fn parts_of(change: &Change) -> Parts
     ensures { result ≡ parts (place_of change.now) }
 {
@@ -52,15 +53,15 @@ fn parts_of(change: &Change) -> Parts
     (map, (change.p, (point, value)))
 }
 
-// The order of places: by map, then by processor, then by key.
+// Compares places: by map, then by processor, then by key.
 fn by_place(a: &Change, b: &Change) -> Ordering
     ensures { result ≡ place_cmp (place_of a.now) (place_of b.now) }
 {
     parts_of(a).cmp(&parts_of(b))
 }
 
-// The changes in the order of their places.
-fn sorted<A: Allocator>(changes: Vec<Change, A>) -> Vec<Change, A>
+// Sorts changes by their places.
+pub(crate) fn sorted<A: Allocator>(changes: Vec<Change, A>) -> Vec<Change, A>
     ensures same { IsPermutation changes.items result.items }
     ensures order { IsSorted (λ a b. place_cmp (place_of a) (place_of b)) result.items }
 {
@@ -69,7 +70,7 @@ fn sorted<A: Allocator>(changes: Vec<Change, A>) -> Vec<Change, A>
     changes
 }
 
-// One more change, unless it adds nothing.
+// Appends a change, unless it adds nothing.
 fn push_some<A: Allocator>(to: &mut Vec<Change, A>, change: Change) -> Result<(), AllocError>
     ensures { OnOk result (to.new.items ≡ to.old.items ++ some_of change) }
 {
@@ -80,7 +81,7 @@ fn push_some<A: Allocator>(to: &mut Vec<Change, A>, change: Change) -> Result<()
     Ok(())
 }
 
-// One change for two at one place. There is no memory for the changes that it takes to pass 128 bits.
+// Joins two changes at one place. No memory holds the changes that it takes to pass 128 bits.
 fn add_to(last: &mut Change, change: &Change) -> Result<(), AllocError>
     ensures { OnOk result (last.new ≡ both last.old change.now) }
 {
@@ -91,7 +92,7 @@ fn add_to(last: &mut Change, change: &Change) -> Result<(), AllocError>
     Ok(())
 }
 
-// Neighbours at one place become one change, which goes if it adds nothing.
+// Joins neighbours at one place to one change, and drops changes that add nothing.
 fn join_neighbours<A: Allocator + Copy>(
     sorted: Vec<Change, A>,
 ) -> Result<Vec<Change, A>, AllocError>
@@ -118,18 +119,7 @@ fn join_neighbours<A: Allocator + Copy>(
     Ok(exact)
 }
 
-// The number of an item, 0 if it is not there.
-fn number(n: Option<i64>) -> i128
-    ensures value { result ≡ from_number n }
-    ensures ranged { IsValue (from_number n) }
-{
-    match n {
-        Some(n) => i128::from(n),
-        None => 0,
-    }
-}
-
-// What leads from an item's old number to the new one.
+// Returns the difference between an item's new number and its old one.
 fn gain(item: &ItemEdit) -> i128
     ensures value { result ≡ from_number item.now.new -ℤ from_number item.now.old }
     ensures values { HasValues item.now }
@@ -151,7 +141,7 @@ impl<A: Allocator> Drop for Draft<A> {
 }
 
 impl<A: Allocator + Copy> Draft<A> {
-    // No change yet.
+    // Returns an empty draft.
     pub(crate) fn new(alloc: A, p: u32) -> Draft<A>
         ensures p { result.p ≡ p }
         ensures changes { result.changes.items ≡ [] }
@@ -162,20 +152,18 @@ impl<A: Allocator + Copy> Draft<A> {
         }
     }
 
-    // So much more at a key of p's maps.
+    // Adds `n` at a key of `p`'s maps.
     pub(crate) fn add(&mut self, slot: Slot, n: i128) -> Result<(), AllocError>
-        ensures p { self.new.p ≡ self.old.p }
-        ensures changes { OnOk result (self.new.changes.items ≡ self.old.changes.items ++ at_key self.old.p slot n ∷ []) }
+        ensures { OnOk result (Adds self.old self.new (at_key self.old.p slot n ∷ [])) }
     {
         let change = Change { p: self.p, slot, n };
         self.changes.push(change)?;
         Ok(())
     }
 
-    // A record comes to a processor, and p has that to send.
+    // Adds a record at processor `to`, and its pointstamp to what `p` has to send.
     pub(crate) fn add_record(&mut self, to: u32, key: ValueAt) -> Result<(), AllocError>
-        ensures p { self.new.p ≡ self.old.p }
-        ensures changes { OnOk result (self.new.changes.items ≡ self.old.changes.items ++ arrivals self.old.p ((to, key) ∷ [])) }
+        ensures { OnOk result (AddsRecords self.old self.new ((to, key) ∷ [])) }
     {
         let sent = Slot::Unsent(key.point.copy());
         let comes = Change {
@@ -187,10 +175,10 @@ impl<A: Allocator + Copy> Draft<A> {
         self.add(sent, 1)
     }
 
-    // A vertex's items have other numbers.
+    // Gives a vertex's items other numbers.
     pub(crate) fn add_items(&mut self, vertex: usize, items: &[ItemEdit]) -> Result<(), AllocError>
-        ensures p { self.new.p ≡ self.old.p }
-        ensures changes { OnOk result (self.new.changes.items ≡ self.old.changes.items ++ map (item_change self.old.p vertex) items.now) }
+        ensures adds { OnOk result (Adds self.old self.new
+            (items_changes self.old.p vertex items.now)) }
         ensures values { OnOk result (All HasValues items.now) }
     {
         for item in items {
@@ -200,10 +188,9 @@ impl<A: Allocator + Copy> Draft<A> {
         Ok(())
     }
 
-    // A request that was not there, if the vertex makes one.
+    // Adds a request that was not there, if `asks`.
     pub(crate) fn ask(&mut self, point: &Pointstamp, asks: bool) -> Result<(), AllocError>
-        ensures p { self.new.p ≡ self.old.p }
-        ensures changes { OnOk result (self.new.changes.items ≡ self.old.changes.items ++ ask_changes self.old.p point.now asks) }
+        ensures { OnOk result (Adds self.old self.new (ask_changes self.old.p point.now asks)) }
     {
         if !asks {
             return Ok(());
@@ -212,10 +199,9 @@ impl<A: Allocator + Copy> Draft<A> {
         self.add(Slot::Unsent(point.copy()), 1)
     }
 
-    // A value that a sink counts, if it counts one.
+    // Adds one to a sink's count of a value, if `counts`.
     pub(crate) fn count(&mut self, key: SinkKey, counts: bool) -> Result<(), AllocError>
-        ensures p { self.new.p ≡ self.old.p }
-        ensures changes { OnOk result (self.new.changes.items ≡ self.old.changes.items ++ sink_changes self.old.p key.vertex key.value counts) }
+        ensures { OnOk result (Adds self.old self.new (count_changes self.old.p key counts)) }
     {
         if !counts {
             return Ok(());
@@ -223,7 +209,7 @@ impl<A: Allocator + Copy> Draft<A> {
         self.add(Slot::Sink(key), 1)
     }
 
-    // The changes with no place twice, but for those that add nothing.
+    // Returns the changes with each place once, without those that add nothing.
     pub(crate) fn join(self) -> Result<Vec<Change, A>, AllocError>
         ensures joined { IfOk result (λ v. AreJoined self.changes.items v.items) }
         ensures few { length self.changes.items ≤ 2 ^ 64 }

@@ -1,18 +1,18 @@
 //! The records that vertices make, and the processors that they go to.
-ghost use Rattle.std.specs.Prelude.{◌≡◌, ◌<◌, ◌≤◌, ◌+◌, ◌++◌, OnOk, length};
+ghost use Rattle.std.specs.Prelude.{◌≡◌, ◌<◌, ◌≤◌, ◌+◌, OnOk, length};
 ghost use Rattle.nd_time.specs.Limits.{max_locations};
 ghost use Rattle.nd_protocol.specs.Steps.{destination as destination_of};
-ghost use Rattle.nd_steps.specs.Drafts.{arrivals, made_along, made_by, fed_at, fed_by, emitted_by};
+ghost use Rattle.nd_steps.specs.Drafts.{fed_at};
+ghost use Rattle.nd_steps.specs.Performers.{AddsRecords, records_along, records_by, all_records_by, fed_records_by};
 
 use crate::draft::Draft;
+use crate::record_at;
 use nd_graph::{Edge, Graph, Route};
-use nd_paths::Pointstamp;
-use nd_processor::ValueAt;
 use nd_time::Timestamp;
 use nd_vertex::Emission;
 use std::alloc::{AllocError, Allocator};
 
-/// Who makes a step: a vertex of processor p, of n, with this graph.
+/// The performer of a step: a vertex of processor `p` out of `n`, with the graph.
 pub struct Performer<'a, B: Allocator> {
     pub graph: &'a Graph<B>,
     pub n: u32,
@@ -31,7 +31,7 @@ impl<'a, B: Allocator> Drop for Performer<'a, B> {
     }
 }
 
-// The processor, of n, that a record of a value goes to, made by processor p.
+// Returns the processor out of `n` to which a record of `value` from processor `p` goes.
 pub(crate) fn destination(route: Route, n: u32, p: u32, value: i64) -> u32
     requires { p < n }
     ensures value { result ≡ destination_of route n p value }
@@ -43,7 +43,7 @@ pub(crate) fn destination(route: Route, n: u32, p: u32, value: i64) -> u32
     }
 }
 
-// The location of the first edge: vertices come before it.
+// Returns the location of the first edge. The vertices come before it.
 pub(crate) fn first_edge<B: Allocator>(graph: &Graph<B>) -> usize
     ensures first { result ≡ length graph.now.vertices }
     ensures few { length graph.now.vertices + length graph.now.edges ≤ max_locations }
@@ -51,7 +51,7 @@ pub(crate) fn first_edge<B: Allocator>(graph: &Graph<B>) -> usize
     graph.location_count() - graph.edges().len()
 }
 
-// The record of an emission on an edge, if it leaves the port.
+// Adds the record of an emission on an edge, if the edge leaves the emission's port.
 fn emit_on<A: Allocator + Copy, B: Allocator>(
     by: &Performer<'_, B>,
     emission: &Emission,
@@ -60,32 +60,24 @@ fn emit_on<A: Allocator + Copy, B: Allocator>(
     draft: &mut Draft<A>,
 ) -> Result<(), AllocError>
     requires { by.now.p < by.now.n }
-    ensures p { draft.new.p ≡ draft.old.p }
-    ensures changes { OnOk result (draft.new.changes.items ≡ draft.old.changes.items ++ arrivals draft.old.p (made_along by.now.n by.now.p by.now.vertex emission.now location edge.now)) }
+    ensures { OnOk result (AddsRecords draft.old draft.new
+        (records_along by.now emission.now location edge.now)) }
 {
     if edge.from != by.vertex || edge.port != emission.port {
         return Ok(());
     }
     let to = destination(edge.route, by.n, by.p, emission.value);
-    let key = ValueAt {
-        point: Pointstamp {
-            location,
-            time: emission.time.copy(),
-        },
-        value: emission.value,
-    };
-    draft.add_record(to, key)
+    draft.add_record(to, record_at(location, &emission.time, emission.value))
 }
 
-// The records of one emission of the vertex: one on each edge that leaves the port.
+// Adds the records of one emission of the vertex: one on each edge that leaves the port.
 fn emit<A: Allocator + Copy, B: Allocator>(
     by: &Performer<'_, B>,
     emission: &Emission,
     draft: &mut Draft<A>,
 ) -> Result<(), AllocError>
     requires { by.now.p < by.now.n }
-    ensures p { draft.new.p ≡ draft.old.p }
-    ensures changes { OnOk result (draft.new.changes.items ≡ draft.old.changes.items ++ arrivals draft.old.p (made_by by.now.graph.now by.now.n by.now.p by.now.vertex emission.now)) }
+    ensures { OnOk result (AddsRecords draft.old draft.new (records_by by.now emission.now)) }
 {
     let first = first_edge(by.graph);
     for (i, edge) in by.graph.edges().iter().enumerate() {
@@ -94,7 +86,7 @@ fn emit<A: Allocator + Copy, B: Allocator>(
     Ok(())
 }
 
-// The emission of a value that is fed at a time.
+// Returns the emission of a value that is fed at a time.
 fn fed(time: &Timestamp, value: &i64) -> Emission
     ensures { result ≡ fed_at time.now value.now }
 {
@@ -105,7 +97,7 @@ fn fed(time: &Timestamp, value: &i64) -> Emission
     }
 }
 
-// The records of the values that the vertex is fed.
+// Adds the records of the values that the vertex is fed.
 pub(crate) fn emit_fed<A: Allocator + Copy, B: Allocator>(
     by: &Performer<'_, B>,
     time: &Timestamp,
@@ -113,8 +105,8 @@ pub(crate) fn emit_fed<A: Allocator + Copy, B: Allocator>(
     draft: &mut Draft<A>,
 ) -> Result<(), AllocError>
     requires { by.now.p < by.now.n }
-    ensures p { draft.new.p ≡ draft.old.p }
-    ensures changes { OnOk result (draft.new.changes.items ≡ draft.old.changes.items ++ arrivals draft.old.p (fed_by by.now.graph.now by.now.n by.now.p by.now.vertex time.now values.now)) }
+    ensures { OnOk result (AddsRecords draft.old draft.new
+        (fed_records_by by.now time.now values.now)) }
 {
     for value in values {
         emit(by, &fed(time, value), draft)?;
@@ -122,15 +114,15 @@ pub(crate) fn emit_fed<A: Allocator + Copy, B: Allocator>(
     Ok(())
 }
 
-// The records of what the vertex emits.
+// Adds the records of what the vertex emits.
 pub(crate) fn emit_all<A: Allocator + Copy, B: Allocator>(
     by: &Performer<'_, B>,
     emissions: &[Emission],
     draft: &mut Draft<A>,
 ) -> Result<(), AllocError>
     requires { by.now.p < by.now.n }
-    ensures p { draft.new.p ≡ draft.old.p }
-    ensures changes { OnOk result (draft.new.changes.items ≡ draft.old.changes.items ++ arrivals draft.old.p (emitted_by by.now.graph.now by.now.n by.now.p by.now.vertex emissions.now)) }
+    ensures { OnOk result (AddsRecords draft.old draft.new
+        (all_records_by by.now emissions.now)) }
 {
     for emission in emissions {
         emit(by, emission, draft)?;

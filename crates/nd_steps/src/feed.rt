@@ -1,15 +1,12 @@
 //! What a feed changes: its records come, and the token moves (Naiad, SOSP 2013, section 2.2).
-ghost use Rattle.std.specs.Prelude.{◌≡◌, ◌<◌, ◌≤◌, ◌++◌, FitsSigned, IfOk, OnOk, Some, negsuc};
+ghost use Rattle.std.specs.Prelude.{◌≡◌, ◌<◌, ◌≤◌, FitsSigned, IfOk, OnOk, negsuc};
 ghost use Rattle.std.specs.Int.{w128};
-ghost use Rattle.std.specs.FinMap as fin;
 ghost use Rattle.nd_time.specs.Limits.{max_counter};
 ghost use Rattle.nd_graph.specs.Graph.{op_at};
 ghost use Rattle.nd_graph.specs.declared.op.Op.TheVariants as operator;
-ghost use Rattle.nd_protocol.specs.State.{ClusterState, processor};
-ghost use Rattle.nd_protocol.specs.Steps.{flat};
-ghost use Rattle.nd_protocol.specs.declared.step.Step.TheVariants.{Feed as Feeding};
 ghost use Rattle.nd_protocol.specs.declared.step.Next.TheVariants as token;
-ghost use Rattle.nd_steps.specs.Drafts.{Has, Leads, fed_by, fed_changes, token_changes};
+ghost use Rattle.nd_steps.specs.Drafts.{token_changes};
+ghost use Rattle.nd_steps.specs.Performers.{Adds, found_fed, FeedLeads};
 
 use crate::draft::Draft;
 use crate::emit::emit_fed;
@@ -27,7 +24,7 @@ pub struct Fed<'a> {
     pub next: Next,
 }
 
-// So much more stands for a token that is given up.
+// Returns what giving up a token adds.
 fn closes(epoch: u32) -> i128
     ensures value { result ≡ negsuc epoch }
     ensures fits { FitsSigned w128 result }
@@ -35,7 +32,7 @@ fn closes(epoch: u32) -> i128
     -1 - i128::from(epoch)
 }
 
-// The move of a token.
+// Moves the token.
 fn add_token<A: Allocator + Copy>(
     draft: &mut Draft<A>,
     vertex: usize,
@@ -43,8 +40,8 @@ fn add_token<A: Allocator + Copy>(
     next: Next,
 ) -> Result<(), AllocError>
     requires { next ≡ token.Next → epoch < max_counter }
-    ensures p { draft.new.p ≡ draft.old.p }
-    ensures changes { OnOk result (draft.new.changes.items ≡ draft.old.changes.items ++ token_changes draft.old.p vertex epoch next) }
+    ensures adds { OnOk result (Adds draft.old draft.new
+        (token_changes draft.old.p vertex epoch next)) }
     ensures fits { epoch ≤ max_counter }
 {
     match next {
@@ -61,7 +58,7 @@ fn add_token<A: Allocator + Copy>(
     }
 }
 
-// The changes of a feed, as they are found.
+// Lists the changes of a feed, as they are found.
 fn feed_draft<A: Allocator + Copy, B: Allocator>(
     alloc: A,
     by: &Performer<'_, B>,
@@ -69,7 +66,7 @@ fn feed_draft<A: Allocator + Copy, B: Allocator>(
 ) -> Result<Draft<A>, AllocError>
     requires there { by.now.p < by.now.n }
     requires goes { fed.now.next ≡ token.Next → fed.now.epoch < max_counter }
-    ensures changes { IfOk result (λ d. d.changes.items ≡ fed_changes by.now.p by.now.vertex fed.now.epoch fed.now.next (fed_by by.now.graph.now by.now.n by.now.p by.now.vertex (flat fed.now.epoch) fed.now.values.now)) }
+    ensures changes { IfOk result (λ d. d.changes.items ≡ found_fed by.now fed.now) }
     ensures fits { OnOk result (fed.now.epoch ≤ max_counter) }
 {
     let mut draft = Draft::new(alloc, by.p);
@@ -79,7 +76,7 @@ fn feed_draft<A: Allocator + Copy, B: Allocator>(
     Ok(draft)
 }
 
-/// What a feed of a processor changes, if it passes all tests but those of the limits.
+/// Returns the changes of a feed, if it passes all tests but those of the limits.
 pub fn feed_changes<A: Allocator + Copy, B: Allocator>(
     alloc: A,
     by: &Performer<'_, B>,
@@ -88,7 +85,7 @@ pub fn feed_changes<A: Allocator + Copy, B: Allocator>(
     requires there { by.now.p < by.now.n }
     requires input { op_at by.now.graph.now by.now.vertex ≡ operator.Input }
     requires goes { fed.now.next ≡ token.Next → fed.now.epoch < max_counter }
-    ensures { IfOk result (λ v. (s : ClusterState) → Has by.now.graph.now by.now.n s → fin.get (processor s by.now.p).tokens by.now.vertex ≡ Some fed.now.epoch → Leads {A = A} s (Feeding by.now.p by.now.vertex fed.now.values.now fed.now.next) v.items) }
+    ensures { IfOk result (λ v. FeedLeads A by.now fed.now v.items) }
 {
     let draft = feed_draft(alloc, by, fed)?;
     draft.join()

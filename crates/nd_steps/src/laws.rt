@@ -4,7 +4,7 @@ ghost use Rattle.nd_steps.specs.Laws.{FreeMeansEnabled};
 use nd_paths::Paths;
 use std::alloc::Allocator;
 
-/// On a cluster of this graph a step is enabled if no condition of a refusal holds: that what stays of a broadcast is
+/// Proves that on a cluster of this graph a step is enabled if no condition of a refusal holds: that the rest of a broadcast is
 /// supported adds nothing to it.
 pub fn free_steps_are_enabled<A: Allocator, B: Allocator>(paths: &Paths<A>)
     ensures { FreeMeansEnabled B paths.now }

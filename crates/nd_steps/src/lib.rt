@@ -1,12 +1,15 @@
 //! Steps of a cluster: what each changes, in which order, and how that is made and undone.
 #![tactic(auto)]
 
+mod altering;
 mod broadcast;
 mod change;
 mod come;
 mod commit;
 mod counted;
 mod draft;
+mod effect;
+mod effected;
 mod emit;
 mod feed;
 mod flow;
@@ -27,6 +30,7 @@ pub use broadcast::planned_part;
 pub use change::Change;
 pub use come::Come;
 pub use counted::changes_are_counted;
+pub use effect::{Altered, Effect, ItemAt};
 pub use emit::Performer;
 pub use feed::{Fed, feed_changes};
 pub use flow::{Flow, ordered_flow};
@@ -38,4 +42,4 @@ pub use parts::Parts;
 pub use react::{Taken, notice_changes, take_changes};
 pub use receive::planned_front;
 pub use record::{Changes, Record};
-pub use slot::Slot;
+pub use slot::{Slot, record_at};

@@ -1,7 +1,6 @@
 //! What a record changes, of whatever kind it is, one after the other.
-ghost use Rattle.std.specs.Prelude.{◌≡◌, ◌<◌, ◌++◌, ◌∷◌, [], IfSome, length, map, slice_get};
-ghost use Rattle.nd_delta.specs.Delta.{entries as entries_of};
-ghost use Rattle.nd_steps.specs.Listed.{leaves, arrives, listed};
+ghost use Rattle.std.specs.Prelude.{◌≡◌, length, map, slice_get};
+ghost use Rattle.nd_steps.specs.Listed.{listed_sent, listed_received, listed};
 ghost use Rattle.nd_steps.specs.Records.{named};
 
 use crate::{Change, Changes, Record, Slot};
@@ -10,20 +9,20 @@ use nd_paths::Pointstamp;
 use std::alloc::{Allocator, Global};
 use std::marker::Model;
 
-/// What a record changes at one key of a map, or at one end of a queue.
+/// A change of a record at one key of a map, or at one end of a queue.
 #[derive(Debug, PartialEq, Eq, Drop)]
 pub enum Entry {
     /// A key of a processor's maps.
     Key(Change),
-    /// So much is added at a pointstamp of processor q's view.
+    /// Adds `n` at a pointstamp of processor `q`'s view.
     View { q: u32, point: Pointstamp, n: i64 },
-    /// A part of what was unsent comes to the back of every queue from p.
+    /// Appends a part of what was unsent to every queue from `p`.
     Back { p: u32 },
-    /// The front of a queue goes.
+    /// Takes the front of a queue.
     Front { from: u32, to: u32 },
 }
 
-/// What a record changes and is still to come, in order.
+/// The remaining entries of a record, in order.
 #[derive(Drop)]
 pub struct Entries<'a, A: Allocator + Copy = Global> {
     source: &'a Record<A>,
@@ -40,7 +39,7 @@ impl<'a, A: Allocator + Copy> Model for Entries<'a, A> {
     ghost view = { λ a. drop a.next (listed a.source.now) };
 }
 
-// One of the changes of a feed, a take or a notice.
+// Returns change `i` of a feed, a take or a notice.
 fn of_step(changes: &[Change], i: usize) -> Option<Entry>
     ensures { result ≡ slice_get (map Entry.Key changes.now) i }
 {
@@ -50,9 +49,9 @@ fn of_step(changes: &[Change], i: usize) -> Option<Entry>
     }
 }
 
-// One of the changes of a broadcast: the entries of its part, and then the ends of the queues.
+// Returns change `i` of a broadcast: first the entries of its part, and then the ends of the queues.
 fn of_sent<A: Allocator>(p: u32, part: &Delta<A>, i: usize) -> Option<Entry>
-    ensures { result ≡ slice_get (map (leaves p) (entries_of part.now) ++ Entry.Back p ∷ []) i }
+    ensures { result ≡ slice_get (listed_sent p part.now) i }
 {
     let entries = part.entries();
     if i < entries.len() {
@@ -69,9 +68,9 @@ fn of_sent<A: Allocator>(p: u32, part: &Delta<A>, i: usize) -> Option<Entry>
     None
 }
 
-// One of the changes of a receive: the entries of the change, and then the front of the queue.
+// Returns change `i` of a receive: first the entries of the change, and then the front of the queue.
 fn of_received<A: Allocator>(from: u32, to: u32, change: &Delta<A>, i: usize) -> Option<Entry>
-    ensures { result ≡ slice_get (map (arrives to) (entries_of change.now) ++ Entry.Front from to ∷ []) i }
+    ensures { result ≡ slice_get (listed_received from to change.now) i }
 {
     let entries = change.entries();
     if i < entries.len() {
@@ -89,7 +88,7 @@ fn of_received<A: Allocator>(from: u32, to: u32, change: &Delta<A>, i: usize) ->
 }
 
 impl<A: Allocator + Copy> Record<A> {
-    // One of the changes.
+    // Returns change `i`.
     fn entry(&self, i: usize) -> Option<Entry>
         ensures { result ≡ slice_get (listed self.now) i }
     {
@@ -101,7 +100,7 @@ impl<A: Allocator + Copy> Record<A> {
         }
     }
 
-    /// The changes one after the other, in order: the keys that they are at, and then the end of a queue.
+    /// Returns the changes as entries, in order: one per key, and then the end of a queue.
     pub fn iter(&self) -> Entries<'_, A>
         ensures listed { result ≡ listed self.now }
         ensures many { length result ≡ named self.now }

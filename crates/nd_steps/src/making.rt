@@ -1,15 +1,13 @@
-//! A change made, and undone by its inverse.
+//! So much more at a key of a processor's maps.
 ghost use Rattle.std.specs.Prelude.{◌≡◌, ◌≢◌, ◌≤◌, ◌+◌, ◌≤ℤ◌, ◌+ℤ◌, Some, pos, unsigned_abs, OnOk, OnErr};
 ghost use Rattle.nd_time.specs.Limits.{max_counter};
 ghost use Rattle.nd_vertex.specs.Edits.{number_of};
 ghost use Rattle.nd_protocol.specs.Ranges.{IsValue};
 ghost use Rattle.nd_steps.specs.declared.slot.Slot.TheVariants.{Records, Token, State, Sink, Unsent};
-ghost use Rattle.nd_steps.specs.Slots.{from_epoch, stands};
-ghost use Rattle.nd_steps.specs.Standing.{standing};
-ghost use Rattle.nd_steps.specs.Changes.{place_of, inverse, made_in, made, FitsIn, Fits};
-ghost use Rattle.nd_steps.specs.Undone.{only};
+ghost use Rattle.nd_steps.specs.Slots.{from_epoch, from_number, stands};
+ghost use Rattle.nd_steps.specs.Changes.{made_in, FitsIn};
 
-use crate::{Change, Slot};
+use crate::Slot;
 use nd_delta::DeltaFault;
 use nd_paths::Pointstamp;
 use nd_processor::{CountFault, Processor, SinkKey, ValueAt};
@@ -91,7 +89,7 @@ pub(crate) fn epoch_number(epoch: Option<u32>) -> i128
 }
 
 // Returns the epoch that is 1 less than `n`, `None` for 0.
-fn number_epoch(n: i128) -> Option<u32>
+pub(crate) fn number_epoch(n: i128) -> Option<u32>
     requires some { pos 0 ≤ℤ n }
     requires within { unsigned_abs n ≤ max_counter + 1 }
     ensures { from_epoch result ≡ n }
@@ -118,8 +116,19 @@ fn move_token<A: Allocator + Copy>(
     processor.move_token(vertex, old, new)
 }
 
+// Returns the number of an item, 0 if it is not there.
+pub(crate) fn number(n: Option<i64>) -> i128
+    ensures value { result ≡ from_number n }
+    ensures ranged { IsValue (from_number n) }
+{
+    match n {
+        Some(n) => i128::from(n),
+        None => 0,
+    }
+}
+
 // Returns `n` as an item's number, `None` for 0.
-fn item_number(n: i128) -> Option<i64>
+pub(crate) fn item_number(n: i128) -> Option<i64>
     requires { IsValue n }
     ensures number { number_of result ≡ n }
     ensures some { result ≢ Some (pos 0) }
@@ -143,12 +152,12 @@ fn more_of_item<A: Allocator + Copy>(
     ensures absent { OnErr result (stands processor.old (State vertex key.now) ≡ pos 0) }
 {
     let old = processor.vertex_state(vertex).get(&key.time, key.item);
-    let new = item_number(i128::from(old.unwrap_or(0)) + n);
+    let new = item_number(number(old) + n);
     processor.set_item(vertex, &key.time, key.item, old, new)
 }
 
 // Adds `n` at a key. If something stands there already it takes no memory.
-fn make_in<A: Allocator + Copy>(
+pub(crate) fn make_in<A: Allocator + Copy>(
     processor: &mut Processor<A>,
     slot: &Slot,
     n: i128,
@@ -172,31 +181,4 @@ fn make_in<A: Allocator + Copy>(
         Slot::Sink(key) => count_more(processor, key, n),
         Slot::Unsent(point) => more_unsent(processor, point, n),
     }
-}
-
-// Makes a change in one of the processors. If something stands already it takes no memory.
-pub(crate) fn make<A: Allocator + Copy>(
-    processors: &mut Vec<Processor<A>, A>,
-    change: &Change,
-) -> Result<(), AllocError>
-    requires { Fits (only processors.old.items) change.now }
-    ensures ok { OnOk result (only processors.new.items ≡ made (only processors.old.items) change.now) }
-    ensures err { OnErr result (processors.new.items ≡ processors.old.items) }
-    ensures absent { OnErr result (standing (only processors.old.items) (place_of change.now) ≡ pos 0) }
-{
-    let processor = &mut processors[change.p as usize];
-    make_in(processor, &change.slot, change.n)
-}
-
-// Undoes a change in one of the processors: makes its inverse. If something stands it takes no memory.
-pub(crate) fn undo<A: Allocator + Copy>(
-    processors: &mut Vec<Processor<A>, A>,
-    change: &Change,
-) -> Result<(), AllocError>
-    requires { Fits (only processors.old.items) (inverse change.now) }
-    ensures ok { OnOk result (only processors.new.items ≡ made (only processors.old.items) (inverse change.now)) }
-    ensures err { OnErr result (processors.new.items ≡ processors.old.items) }
-    ensures absent { OnErr result (standing (only processors.old.items) (place_of change.now) ≡ pos 0) }
-{
-    make(processors, &change.inverse())
 }

@@ -47,7 +47,7 @@ impl<A: Allocator + Copy> Model for Parts<A> {
     ghost invariant = { λ a. All (IsFor a.paths) a.views.items };
 }
 
-// Equal processors.
+// Copies the processors.
 fn copied_processors<A: Allocator + Copy>(
     alloc: A,
     processors: &[Processor<A>],
@@ -61,7 +61,7 @@ fn copied_processors<A: Allocator + Copy>(
     Ok(copied)
 }
 
-// Equal views.
+// Copies the views.
 fn copied_views<A: Allocator + Copy>(
     alloc: A,
     views: &[View<A>],
@@ -76,7 +76,7 @@ fn copied_views<A: Allocator + Copy>(
 }
 
 impl<A: Allocator + Copy> Parts<A> {
-    /// A cluster of these parts, of which the views are of the graph.
+    /// Returns a cluster of these parts. The views are those of the graph.
     pub fn new(
         paths: Paths<A>,
         processors: Vec<Processor<A>, A>,
@@ -94,7 +94,7 @@ impl<A: Allocator + Copy> Parts<A> {
         }
     }
 
-    /// Equal parts.
+    /// Returns equal parts.
     pub fn copy(&self, alloc: A) -> Result<Parts<A>, AllocError>
         ensures { IfOk result (λ c. c ≡ self.now) }
     {
@@ -106,35 +106,35 @@ impl<A: Allocator + Copy> Parts<A> {
         })
     }
 
-    /// How many processors there are.
+    /// Returns the number of processors.
     pub fn n(&self) -> usize
         ensures { result ≡ length self.now.processors }
     {
         self.processors.len()
     }
 
-    /// The graph.
+    /// Returns the graph.
     pub fn graph(&self) -> &Graph<A>
         ensures { result.now ≡ self.now.graph }
     {
         self.paths.graph()
     }
 
-    /// The paths of the graph.
+    /// Returns the paths of the graph.
     pub fn paths(&self) -> &Paths<A>
         ensures { result.now ≡ self.now.graph }
     {
         &self.paths
     }
 
-    /// The processors.
+    /// Returns the processors.
     pub fn processors(&self) -> &[Processor<A>]
         ensures { result.now ≡ self.now.processors }
     {
         &self.processors
     }
 
-    /// One of the processors.
+    /// Returns processor `p`.
     pub fn processor(&self, p: usize) -> &Processor<A>
         requires { p < length self.now.processors }
         ensures { result.now ≡ processor self.now p }
@@ -142,7 +142,7 @@ impl<A: Allocator + Copy> Parts<A> {
         &self.processors[p]
     }
 
-    /// The views of the processors.
+    /// Returns the views of the processors.
     pub fn views(&self) -> &[View<A>]
         ensures maps { maps result.now ≡ self.now.views }
         ensures paths { All (IsFor self.now.graph) result.now }
@@ -150,7 +150,7 @@ impl<A: Allocator + Copy> Parts<A> {
         &self.views
     }
 
-    /// What processor q knows of the outstanding pointstamps.
+    /// Returns what processor `q` knows of the outstanding pointstamps.
     pub fn view(&self, q: usize) -> &View<A>
         requires { q < length self.now.views }
         ensures map { result.now.map ≡ view self.now q }
@@ -159,7 +159,7 @@ impl<A: Allocator + Copy> Parts<A> {
         &self.views[q]
     }
 
-    /// The queues.
+    /// Returns the queues.
     pub fn mesh(&self) -> &Mesh<A>
         ensures { result.now ≡ self.now.queues }
     {

@@ -1,8 +1,8 @@
 //! What stands at a key, and what is read of a change before it is made: whether it leaves something at its place, and
 //! whether this is within its limit (this project's own rule).
-ghost use Rattle.std.specs.Prelude.{◌≡◌, ◌≢◌, ◌↔◌, ◌≤◌, ◌^◌, IsTrue, pos, unsigned_abs};
-ghost use Rattle.nd_steps.specs.Slots.{stands, SlotIsThere, CountWithin, EntryWithin};
-ghost use Rattle.nd_steps.specs.Limits.{after, CountStays, EntryStays};
+ghost use Rattle.std.specs.Prelude.{◌≡◌, ◌≤◌, ◌^◌, unsigned_abs};
+ghost use Rattle.nd_steps.specs.Slots.{stands, SlotIsThere};
+ghost use Rattle.nd_steps.specs.Limits.{after, ReadsAs};
 ghost use Rattle.nd_steps.specs.Turns.{IsReadable};
 
 use crate::making::epoch_number;
@@ -41,11 +41,9 @@ pub(crate) struct Reading {
     pub(crate) entry_stays: bool,
 }
 
-// Says of a change that `after` stands at its key then.
+// Reads a change after which `after` stands at its key.
 fn reading_after(slot: &Slot, after: i128) -> Reading
-    ensures leaves { IsTrue result.leaves ↔ (after ≢ pos 0) }
-    ensures count { IsTrue result.count_stays ↔ CountWithin slot.now after }
-    ensures entry { IsTrue result.entry_stays ↔ EntryWithin slot.now after }
+    ensures { ReadsAs result slot.now after }
 {
     let leaves = after != 0;
     let stays = after.unsigned_abs() <= LIMIT as u128;
@@ -74,9 +72,7 @@ pub(crate) fn reading_of<A: Allocator + Copy>(
     change: &Change,
 ) -> Reading
     requires { IsReadable processors.now change.now }
-    ensures leaves { IsTrue result.leaves ↔ (after processors.now change.now ≢ pos 0) }
-    ensures count { IsTrue result.count_stays ↔ CountStays processors.now change.now }
-    ensures entry { IsTrue result.entry_stays ↔ EntryStays processors.now change.now }
+    ensures { ReadsAs result change.now.slot (after processors.now change.now) }
 {
     let before = number_at(&processors[change.p as usize], &change.slot);
     reading_after(&change.slot, before + change.n)

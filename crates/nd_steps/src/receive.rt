@@ -16,15 +16,15 @@ use nd_protocol::Refusal;
 use nd_view::View;
 use std::alloc::{AllocError, Allocator};
 
-// Whether a count is past its limit.
+// Returns whether a count is past its limit.
 fn passes_limit(n: i64) -> bool
     ensures { IsTrue result ↔ (max_count < unsigned_abs n) }
 {
     n > LIMIT || n < -LIMIT
 }
 
-// The count of an entry's pointstamp, were the entry added to a view.
-fn count_after<A: Allocator + Copy>(view: &View<A>, entry: &(Pointstamp, i64)) -> i64
+// Returns the count of an entry's pointstamp if the entry were added to a view.
+pub(crate) fn count_after<A: Allocator + Copy>(view: &View<A>, entry: &(Pointstamp, i64)) -> i64
     requires { unsigned_abs entry.now.1 ≤ max_count }
     ensures value { result ≡ at view.now.map entry.now.0 +ℤ entry.now.1 }
     ensures fits { unsigned_abs result ≤ 2 * max_count }
@@ -32,7 +32,7 @@ fn count_after<A: Allocator + Copy>(view: &View<A>, entry: &(Pointstamp, i64)) -
     view.get(&entry.0) + entry.1
 }
 
-// Whether some count would pass its limit, were a change added to a view. It takes no memory.
+// Returns whether some count would pass its limit if `change` were added to a view. It takes no memory.
 fn is_overfull<A: Allocator + Copy>(view: &View<A>, change: &Delta<A>) -> bool
     ensures { IsTrue result ↔ IsTooLarge (plus view.now.map change.now) }
 {
@@ -46,7 +46,7 @@ fn is_overfull<A: Allocator + Copy>(view: &View<A>, change: &Delta<A>) -> bool
     false
 }
 
-/// The change that a receive takes in, or why it is refused.
+/// Returns the change that a receive takes in, or why the receive is refused.
 pub fn planned_front<A: Allocator + Copy>(
     alloc: A,
     view: &View<A>,
@@ -106,7 +106,8 @@ impl<A: Allocator + Copy> Parts<A> {
         change: &Delta<A>,
     ) -> Result<(), AllocError>
         requires { CameFrom (λ s. Receives s from to change.now self.old) }
-        ensures ok { OnOk result (IsBackAt (λ s. Receives s from to change.now self.old) self.new) }
+        ensures ok { OnOk result (IsBackAt
+            (λ s. Receives s from to change.now self.old) self.new) }
         ensures err { OnErr result (self.new ≡ self.old) }
     {
         let copied = change.copy(alloc)?;

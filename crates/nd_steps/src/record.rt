@@ -1,21 +1,20 @@
 //! Records of steps: what each changes.
 ghost use Rattle.std.specs.Prelude.{◌≡◌, IfOk};
-ghost use Rattle.nd_protocol.specs.State.{ClusterState};
-ghost use Rattle.nd_steps.specs.Records.{named, AreEqual, Makes};
+ghost use Rattle.nd_steps.specs.Records.{named, AreEqual, MakesWhat};
 
 use crate::{Change, Flow};
 use nd_delta::Delta;
 use nd_protocol::Step;
 use std::alloc::{AllocError, Allocator, Global};
 
-/// What the record of a step changes.
+/// The changes of the record of a step.
 #[derive(Drop)]
 pub enum Changes<A: Allocator + Copy = Global> {
     /// Changes of a feed, a take or a notice: one for each key of a map.
     Each(Vec<Change, A>),
-    /// Those of a take, as far as the step does not tell them: so little that many steps can be kept.
+    /// The part of a take's changes that the step doesn't determine: so small that many steps can be kept.
     Flowed(Flow),
-    /// A part of what is unsent goes to the back of every queue from p.
+    /// A part of what is unsent goes to the back of every queue from `p`.
     Sent {
         p: u32,
         part: Delta<A>,
@@ -28,7 +27,7 @@ pub enum Changes<A: Allocator + Copy = Global> {
     },
 }
 
-/// A step that a cluster can make, and what it changes.
+/// A step that a cluster can execute, and its changes.
 pub struct Record<A: Allocator + Copy = Global> {
     pub step: Step<A>,
     pub changes: Changes<A>,
@@ -43,8 +42,11 @@ impl<A: Allocator + Copy> Drop for Record<A> {
     }
 }
 
-// Equal changes.
-fn copied<A: Allocator + Copy>(alloc: A, changes: &[Change]) -> Result<Vec<Change, A>, AllocError>
+// Copies changes.
+pub(crate) fn copied<A: Allocator + Copy>(
+    alloc: A,
+    changes: &[Change],
+) -> Result<Vec<Change, A>, AllocError>
     ensures { IfOk result (λ v. v.items ≡ changes.now) }
 {
     let mut list = Vec::with_capacity(alloc, changes.len())?;
@@ -55,7 +57,7 @@ fn copied<A: Allocator + Copy>(alloc: A, changes: &[Change]) -> Result<Vec<Chang
 }
 
 impl<A: Allocator + Copy> Changes<A> {
-    // Equal changes.
+    // Returns equal changes.
     fn copy(&self, alloc: A) -> Result<Changes<A>, AllocError>
         ensures { IfOk result (AreEqual self.now) }
     {
@@ -76,8 +78,8 @@ impl<A: Allocator + Copy> Changes<A> {
 }
 
 impl<A: Allocator + Copy> Record<A> {
-    /// How many keys of maps and ends of queues the changes name; the end that all queues of a broadcast
-    /// have in common counts once.
+    /// Returns the number of entries: the keys of maps and the ends of queues that the changes name. The common end of a broadcast's
+    /// queues counts once.
     pub fn entries(&self) -> usize
         ensures { result ≡ named self.now }
     {
@@ -93,7 +95,7 @@ impl<A: Allocator + Copy> Record<A> {
         }
     }
 
-    /// The step alone.
+    /// Returns the step alone.
     pub fn into_step(self) -> Step<A>
         ensures { result ≡ self.step }
     {
@@ -101,11 +103,11 @@ impl<A: Allocator + Copy> Record<A> {
         step
     }
 
-    /// An equal record, which makes what this one makes.
+    /// Returns an equal record, which makes the same changes.
     pub fn copy(&self, alloc: A) -> Result<Record<A>, AllocError>
         ensures step { IfOk result (λ r. r.step ≡ self.now.step) }
         ensures changes { IfOk result (λ r. AreEqual self.now.changes r.changes) }
-        ensures makes { IfOk result (λ r. (s t : ClusterState) → Makes s self.now t → Makes s r t) }
+        ensures makes { IfOk result (MakesWhat self.now) }
     {
         Ok(Record {
             step: self.step.copy(alloc)?,

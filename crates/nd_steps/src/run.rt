@@ -1,55 +1,70 @@
-//! Changes made one after the other, and undone.
+//! Changes made in the parts of a cluster, one after the other, and undone.
 ghost use Rattle.std.specs.Prelude.{◌≡◌, OnOk, OnErr};
-ghost use Rattle.nd_steps.specs.Changes.{IsRunnable, applied};
-ghost use Rattle.nd_steps.specs.Undone.{Runs, HasRun, only};
-ghost use Rattle.nd_protocol.specs.State.{ClusterState};
+ghost use Rattle.nd_steps.specs.Changes.{inverse, made, applied, Fits, FindsNothing, IsRunnable};
+ghost use Rattle.nd_steps.specs.Records.{RunsTo, CameFrom, IsBackAt};
 
-use crate::Change;
-use crate::making::{make, undo};
-use nd_processor::Processor;
+use crate::making::make_in;
+use crate::{Change, Parts};
 use std::alloc::{AllocError, Allocator};
 
-// Makes changes, one after the other. What a refused growth interrupts is taken back by removals.
-pub(crate) fn make_all<A: Allocator + Copy>(
-    processors: &mut Vec<Processor<A>, A>,
-    changes: &[Change],
-) -> Result<(), AllocError>
-    requires { IsRunnable (only processors.old.items) changes.now }
-    ensures ok { OnOk result (only processors.new.items ≡ applied (only processors.old.items) changes.now) }
-    ensures err { OnErr result (processors.new.items ≡ processors.old.items) }
-{
-    for i in 0..changes.len() {
-        let Ok(()) = make(processors, &changes[i]) else {
-            for j in (0..i).rev() {
-                let Ok(()) = undo(processors, &changes[j]) else {
-                    return Err(AllocError);
-                };
-            }
-            return Err(AllocError);
-        };
+impl<A: Allocator + Copy> Parts<A> {
+    // Makes a change. If something stands at its place already it takes no memory.
+    fn make(&mut self, change: &Change) -> Result<(), AllocError>
+        requires { Fits self.old change.now }
+        ensures ok { OnOk result (self.new ≡ made self.old change.now) }
+        ensures err { OnErr result (self.new ≡ self.old) }
+        ensures absent { OnErr result (FindsNothing self.old change.now) }
+    {
+        let processor = &mut self.processors[change.p as usize];
+        make_in(processor, &change.slot, change.n)
     }
-    Ok(())
-}
 
-// Undoes changes, from the last to the first. If memory is refused midway, it redoes those that it has undone.
-pub(crate) fn undo_all<A: Allocator + Copy>(
-    processors: &mut Vec<Processor<A>, A>,
-    changes: &[Change],
-) -> Result<(), AllocError>
-    requires { HasRun (only processors.old.items) changes.now }
-    ensures ok { OnOk result ((s : ClusterState) → Runs s (only processors.old.items) changes.now → only processors.new.items ≡ s) }
-    ensures err { OnErr result (processors.new.items ≡ processors.old.items) }
-{
-    let count = changes.len();
-    for i in (0..count).rev() {
-        let Ok(()) = undo(processors, &changes[i]) else {
-            for j in i + 1..count {
-                let Ok(()) = make(processors, &changes[j]) else {
-                    return Err(AllocError);
-                };
-            }
-            return Err(AllocError);
-        };
+    // Undoes a change: makes its inverse. If something stands at its place it takes no memory.
+    fn undo(&mut self, change: &Change) -> Result<(), AllocError>
+        requires { Fits self.old (inverse change.now) }
+        ensures ok { OnOk result (self.new ≡ made self.old (inverse change.now)) }
+        ensures err { OnErr result (self.new ≡ self.old) }
+        ensures absent { OnErr result (FindsNothing self.old change.now) }
+    {
+        self.make(&change.inverse())
     }
-    Ok(())
+
+    // Makes changes, one after the other. What a refused growth interrupts is taken back by removals.
+    pub(crate) fn make_all(&mut self, changes: &[Change]) -> Result<(), AllocError>
+        requires { IsRunnable self.old changes.now }
+        ensures ok { OnOk result (self.new ≡ applied self.old changes.now) }
+        ensures err { OnErr result (self.new ≡ self.old) }
+    {
+        for i in 0..changes.len() {
+            let Ok(()) = self.make(&changes[i]) else {
+                for j in (0..i).rev() {
+                    let Ok(()) = self.undo(&changes[j]) else {
+                        return Err(AllocError);
+                    };
+                }
+                return Err(AllocError);
+            };
+        }
+        Ok(())
+    }
+
+    // Undoes changes, from the last to the first. If memory is refused midway, it redoes those that it has undone.
+    pub(crate) fn undo_all(&mut self, changes: &[Change]) -> Result<(), AllocError>
+        requires { CameFrom (λ s. RunsTo s changes.now self.old) }
+        ensures ok { OnOk result (IsBackAt (λ s. RunsTo s changes.now self.old) self.new) }
+        ensures err { OnErr result (self.new ≡ self.old) }
+    {
+        let count = changes.len();
+        for i in (0..count).rev() {
+            let Ok(()) = self.undo(&changes[i]) else {
+                for j in i + 1..count {
+                    let Ok(()) = self.make(&changes[j]) else {
+                        return Err(AllocError);
+                    };
+                }
+                return Err(AllocError);
+            };
+        }
+        Ok(())
+    }
 }

@@ -1,11 +1,13 @@
 //! The keys of a processor's maps.
 ghost use Rattle.std.specs.Prelude.{◌≡◌};
+ghost use Rattle.nd_protocol.specs.Steps.{record_key};
 
 use nd_paths::Pointstamp;
 use nd_processor::{SinkKey, ValueAt};
+use nd_time::Timestamp;
 use nd_vertex::ItemKey;
 
-/// A key of one of a processor's maps. An integer stands at each key, 0 if the map does not have it.
+/// A key of one of a processor's maps. An integer stands at each key; 0, if the map does not have the key.
 #[derive(Debug, PartialEq, Eq, Drop)]
 pub enum Slot {
     /// A count of records.
@@ -20,6 +22,17 @@ pub enum Slot {
     Sink(SinkKey),
     /// An entry of what is unsent.
     Unsent(Pointstamp),
+}
+
+/// Returns the key of the records of `value` at `time` on the edge at a location.
+pub fn record_at(edge: usize, time: &Timestamp, value: i64) -> ValueAt
+    ensures { result ≡ record_key edge time.now value }
+{
+    let point = Pointstamp {
+        location: edge,
+        time: time.copy(),
+    };
+    ValueAt { point, value }
 }
 
 impl Slot {

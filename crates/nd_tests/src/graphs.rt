@@ -79,6 +79,13 @@ pub const LOOP: &str = graph_text!(
     se: s 1 -> e local, ez: e 0 -> z local
 );
 
+/// A loop that a value leaves after a million turns.
+pub const ENDLESS: &str = graph_text!(
+    a input 0, i ingress 0, m add 1 k 1, s split 1 k 1000000, f feedback 1, e egress 1, z sink 0;
+    ai: a 0 -> i local, im: i 0 -> m local, ms: m 0 -> s local, sf: s 0 -> f local, fm: f 0 -> m local,
+    se: s 1 -> e local, ez: e 0 -> z local
+);
+
 pub const DISTINCT: &str = graph_text!(
     a input 0, d distinct 0, z sink 0; ad: a 0 -> d local, dz: d 0 -> z local
 );

@@ -7,9 +7,13 @@
 #[cfg(test)]
 mod allocates_nothing;
 #[cfg(test)]
+mod candidates;
+#[cfg(test)]
 mod clusters;
 #[cfg(test)]
 mod equal_graphs;
+#[cfg(test)]
+mod frontiers;
 #[cfg(test)]
 mod graphs;
 #[cfg(test)]

@@ -2,7 +2,7 @@
 
 use crate::graphs::graph_of;
 use crate::scripts::{Told, step_of};
-use nd_breaks::Break;
+use nd_breaks::{Atom, BoxedCondition, Condition, Literal, Quantifier};
 use nd_cluster::{Cluster, Next};
 use nd_graph::Graph;
 use nd_session::{Session, State};
@@ -25,6 +25,11 @@ pub enum Asked {
 /// A feed of nothing.
 pub const NOTHING: Asked = Asked::Forward(Told::Feed(0, "a", &[], Next::Next));
 
+/// The condition that an atom holds.
+pub fn only(atom: Atom) -> Condition {
+    Condition::new(Quantifier::All, Literal::Is(atom))
+}
+
 /// The command that is told.
 pub fn command_of<A: Allocator + Copy>(
     alloc: A,
@@ -37,11 +42,14 @@ pub fn command_of<A: Allocator + Copy>(
         Asked::Redo => Some(Command::Redo),
         Asked::Jump(to) => Some(Command::Jump(*to)),
         Asked::Run(limit) => Some(Command::Run(*limit)),
-        Asked::Sink(name, value) => Some(Command::SetBreak(Break::Sink {
-            vertex: graph.location_of(name)?,
-            value: *value,
-            at_least: 1,
-        })),
+        Asked::Sink(name, value) => {
+            let condition = only(Atom::Sink {
+                vertex: graph.location_of(name)?,
+                value: *value,
+                at_least: 1,
+            });
+            Some(Command::SetBreak(BoxedCondition::new(alloc, condition).ok()?))
+        }
         Asked::Clear(id) => Some(Command::ClearBreak(*id)),
     }
 }
@@ -55,7 +63,10 @@ pub fn opened<A: Allocator + Copy>(json: Global, alloc: A, text: &str, n: u32) -
     let Ok(timeline) = Timeline::new(alloc, cluster) else {
         return None;
     };
-    Some(State::new(alloc, timeline))
+    let Ok(state) = State::new(alloc, timeline) else {
+        return None;
+    };
+    Some(state)
 }
 
 /// A session of a start.

@@ -1,8 +1,9 @@
 //! Searches of timelines and of snapshots: the worked ones, how the pieces are claimed, and each request for memory refused in turn.
 
 use crate::graphs::{LINE, point};
+use crate::opened::only;
 use crate::scripts::{Told, start, step_of};
-use nd_breaks::Break;
+use nd_breaks::{Atom, Condition};
 use nd_cluster::Next;
 use nd_history::{Gate, OpenGate, SearchFault, Snapshot, search, search_in};
 use nd_testing::{MANY, Refusing, Sign, in_turn, met};
@@ -64,21 +65,21 @@ fn fed<A: Allocator + Copy>(
     Snapshot::of(alloc, &timeline, 0).ok()
 }
 
-/// The break that holds if a location has a count of 1 at least at an epoch.
-fn count<A: Allocator + Copy>(snapshot: &Snapshot<A>, name: &str, epoch: u32) -> Option<Break> {
-    Some(Break::Count {
+/// The condition that holds if a location has a count of 1 at least at an epoch.
+fn count<A: Allocator + Copy>(snapshot: &Snapshot<A>, name: &str, epoch: u32) -> Option<Condition> {
+    Some(only(Atom::Count {
         point: point(snapshot.cluster().graph(), name, &[epoch])?,
         at_least: 1,
-    })
+    }))
 }
 
-/// The break that holds if the sink has counted a value.
-fn sink<A: Allocator + Copy>(snapshot: &Snapshot<A>, value: i64) -> Option<Break> {
-    Some(Break::Sink {
+/// The condition that holds if the sink has counted a value.
+fn sink<A: Allocator + Copy>(snapshot: &Snapshot<A>, value: i64) -> Option<Condition> {
+    Some(only(Atom::Sink {
         vertex: snapshot.cluster().graph().location_of("z")?,
         value,
         at_least: 1,
-    })
+    }))
 }
 
 #[test]
@@ -277,7 +278,7 @@ fn searched<A: Allocator + Copy + Send + Sync, R: Threads + Sync>(
     heap: &Heap,
     json: Global,
     alloc: A,
-    asked: (&Snapshot<A>, &Break, Option<u64>),
+    asked: (&Snapshot<A>, &Condition, Option<u64>),
     n: u64,
 ) -> Option<(bool, bool)> {
     let (snapshot, b, wanted) = asked;
@@ -310,7 +311,7 @@ fn searched_in_turn<A: Allocator + Copy + Send + Sync, R: Threads + Sync>(
     heap: &Heap,
     json: Global,
     alloc: A,
-    asked: (&Snapshot<A>, &Break, Option<u64>),
+    asked: (&Snapshot<A>, &Condition, Option<u64>),
 ) -> Option<(u64, u64)> {
     let mut walks = 0;
     for n in 0..MANY {

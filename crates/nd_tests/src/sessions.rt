@@ -5,9 +5,9 @@ use crate::graphs::{
     ADD, DISTINCT, EMPTY, EXCHANGE, FILTER, LINE, LOOP, NESTED_LOOP, SPLIT, SUM, TWO_WAYS,
     graph_of, point, time,
 };
-use crate::opened::{NOTHING, command_of, opened, session_of};
+use crate::opened::{NOTHING, command_of, only, opened, session_of};
 use crate::scripts::{start, state_text};
-use nd_breaks::Break;
+use nd_breaks::{Atom, Condition};
 use nd_cluster::Cluster;
 use nd_history::{Gate, search};
 use nd_mesh::Mesh;
@@ -338,11 +338,11 @@ fn found<R: Wait + Threads + Sync, G: Gate>(
     alloc: Global,
     session: &Session,
     client: &Client,
-    b: &Break,
+    condition: &Condition,
     gate: &G,
 ) -> Option<Option<u64>> {
     let snapshot = session.copy(rt, alloc, client).ok()?;
-    search(rt, alloc, &snapshot, b, 0, snapshot.kept(), 2, gate).ok()
+    search(rt, alloc, &snapshot, condition, 0, snapshot.kept(), 2, gate).ok()
 }
 
 /// A command of another client, once the search has begun.
@@ -368,17 +368,17 @@ fn at_the_same_time(rt: HostRuntime) -> Result<(), Fail> {
     let three = feeds(alloc, 3).ok_or("no commands")?;
     let first = serve(&rt, alloc, &session, first, three);
     let graph = graph_of(alloc, alloc, LINE).ok_or("no graph")?;
-    let b = Break::Count {
+    let condition = only(Atom::Count {
         point: point(&graph, "a", &[2]).ok_or("no point")?,
         at_least: 1,
-    };
+    });
     let gate = Between {
         begun: Sign::new(&rt),
         answered: Sign::new(&rt),
     };
     let (hit, reply) = thread::join(
         &rt,
-        || found(&rt, alloc, &session, &first.client, &b, &gate),
+        || found(&rt, alloc, &session, &first.client, &condition, &gate),
         || answered(&rt, alloc, &session, &mut second, &gate),
     );
     assert_eq!(rt; reply, Some(Reply::Moved { at: 2, kept: 3 }));

@@ -80,3 +80,7 @@ max_input = 268435456
 -- the most changes that are told of a view
 abbrev pub max_told : ℕ
 max_told = 1000
+
+-- the most literals of a condition
+abbrev pub max_literals : ℕ
+max_literals = 8

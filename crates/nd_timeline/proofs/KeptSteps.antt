@@ -1,5 +1,5 @@
 -- Kept steps: one more at the end, the front of them, and the step at a position.
-use Rattle.std.proofs.Common.{◌≡◌, ◌<◌, ℕ, zero, suc, ◌+◌, List, [], ◌∷◌, ◌++◌, length, take, get_or, refl, sym, ap, subst, ◌∙◌, arith, add-one, length-append}
+use Rattle.std.proofs.Common.{◌≡◌, ◌<◌, ◌≤◌, ℕ, zero, suc, ◌+◌, List, [], ◌∷◌, ◌++◌, length, take, get_or, refl, sym, ap, subst, ◌∙◌, arith, add-one, length-append}
 use Rattle.std.proofs.lemmas.List.{length-map, length-take-le, map-append, take-map, take_all}
 use Rattle.nd_time.specs.Limits.{max_kept}
 use Rattle.nd_protocol.specs.State.{ClusterState}
@@ -12,7 +12,9 @@ use Rattle.nd_steps.specs.declared.record.Record.{Record}
 use Rattle.nd_cluster.specs.Records.{IsPlanned, Leads}
 use Rattle.nd_timeline.specs.Timeline.{TimelineValue, cluster_of, moved_to, IsTimeline}
 use Rattle.nd_timeline.specs.Reached.{steps_of, ArePlanned, IsReached}
+use Rattle.nd_timeline.specs.Moves.{JumpMoves}
 use Rattle.nd_timeline.specs.Walks.{timeline_at, IsOn}
+use Rattle.nd_timeline.specs.declared.reply.Reply.TheVariants.{Moved}
 use Rattle.nd_timeline.specs.declared.walk.Kept.{Kept}
 use Rattle.nd_timeline.specs.declared.walk.Walk.{Walk}
 
@@ -117,6 +119,20 @@ module _ {A : Type 0} where
   pub walk_is_on : (k : Kept A) (n : ℕ) (m : TimelineValue A) (w : Walk A) → timeline_at k n ≡ m → IsReached k.base w.cluster k.steps.items w.at → IsOn m w
   walk_is_on k n m w is was =
       subst (λ (m : TimelineValue A). IsOn m w) is (record { within = omega (arith, was.within, length-map k.steps.items (λ r. r.step)); cluster = was.reached })
+
+  -- a timeline whose cursor stands where a walk has gone has jumped there
+  pub landed_moves : (k : Kept A) (at n : ℕ) (m : TimelineValue A) (w : Walk A) → timeline_at k at ≡ m → IsOn m w → w.at ≡ n
+      → JumpMoves m n (Moved w.at (length (steps_of k.steps.items))) (timeline_at k w.at)
+  landed_moves k at n m w is on there =
+      let here : IsOn (timeline_at k at) w = subst (λ (m : TimelineValue A). IsOn m w) (sym is) on in
+      let within : n ≤ length (steps_of k.steps.items) = omega (arith, here.within, there) in
+      let new : TimelineValue A = timeline_at k w.at in
+      subst (λ (m : TimelineValue A). JumpMoves m n (Moved w.at (length (steps_of k.steps.items))) new) is (within, there, refl, ap (timeline_at k) there)
+
+  -- a walk that begins at a checkpoint of a timeline stands on it
+  pub begins_on : (k : Kept A) (n : ℕ) (m : TimelineValue A) (w : Walk A) → timeline_at k n ≡ m → w.at ≤ length k.steps.items → w.cluster ≡ after k.base (take w.at (steps_of k.steps.items)) → IsOn m w
+  begins_on k n m w is within cluster =
+      subst (λ (m : TimelineValue A). IsOn m w) is (record { within = omega (arith, within, length-map k.steps.items (λ r. r.step)); cluster = cluster })
 
   -- no kept step has been made at the start
   pub at_start : (m : TimelineValue A) → cluster_of (moved_to m 0) ≡ m.base

@@ -2,7 +2,7 @@
 use Rattle.std.proofs.Common.{◌≡◌, ℕ, zero, suc, sym, ap, subst, ◌∙◌, arith}
 use Rattle.nd_protocol.specs.declared.step.Step.{Step}
 use Rattle.nd_breaks.specs.Breaks.{BreakMap}
-use Rattle.nd_breaks.specs.declared.watch.Break.{Break}
+use Rattle.nd_breaks.specs.Conditions.{ConditionValue}
 use Rattle.nd_timeline.specs.Timeline.{TimelineValue, cluster_of, extended}
 use Rattle.nd_timeline.specs.Moves.{MachineValue, ForwardMoves, BackMoves, RedoMoves, JumpMoves, Goes, HasRun, StopsAt, RunMoves, SetMoves, ClearMoves}
 use Rattle.nd_timeline.specs.Laws.{RepliesTellMachines}
@@ -77,10 +77,10 @@ module _ {A : Type 0} where
 
 -- ---- the breakpoints
 
-one_set : (m new other : BreakMap) (b : Break) (r : Reply) → SetMoves m b r new → SetMoves m b r other → new ≡ other
-one_set m new other b (reply.Refused fault.TooManyBreaks) h k = h.1 ∙ sym k.1
-one_set m new other b (reply.Set id) h k = h.1 ∙ sym k.1
-one_set m new other b _ h k = absurd h
+one_set : (m new other : BreakMap) (c : ConditionValue) (r : Reply) → SetMoves m c r new → SetMoves m c r other → new ≡ other
+one_set m new other c (reply.Refused fault.TooManyBreaks) h k = h.1 ∙ sym k.1
+one_set m new other c (reply.Set id) h k = h.1 ∙ sym k.1
+one_set m new other c _ h k = absurd h
 
 one_clear : (m new other : BreakMap) (id : ℕ) (r : Reply) → ClearMoves m id r new → ClearMoves m id r other → new ≡ other
 one_clear m new other id (reply.Refused fault.NoBreak) h k = h.1 ∙ sym k.1
@@ -102,7 +102,7 @@ replies_tell A m new other (command.Jump n) r h k =
     one_machine new other (one_jump m.timeline new.timeline other.timeline n r h.0 k.0) (h.1 ∙ sym k.1)
 replies_tell A m new other (command.Run limit) r h k =
     one_machine new other (one_ran m.timeline new.timeline other.timeline limit m.breaks r h.0 k.0) (h.1 ∙ sym k.1)
-replies_tell A m new other (command.SetBreak b) r h k =
-    one_machine new other (h.1 ∙ sym k.1) (one_set m.breaks new.breaks other.breaks b r h.0 k.0)
+replies_tell A m new other (command.SetBreak c) r h k =
+    one_machine new other (h.1 ∙ sym k.1) (one_set m.breaks new.breaks other.breaks c r h.0 k.0)
 replies_tell A m new other (command.ClearBreak id) r h k =
     one_machine new other (h.1 ∙ sym k.1) (one_clear m.breaks new.breaks other.breaks id r h.0 k.0)

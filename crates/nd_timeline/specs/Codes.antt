@@ -10,8 +10,7 @@ use Rattle.nd_protocol.specs.Refusals.{number_of as refusal_number}
 use Rattle.nd_protocol.specs.declared.step.Step.{Step as ClusterStep}
 use Rattle.nd_protocol.specs.declared.refusal.Refusal.{Refusal}
 use Rattle.nd_protocol.specs.declared.refusal.Refusal.TheVariants as refusal
-use Rattle.nd_breaks.specs.Breaks.{break_code}
-use Rattle.nd_breaks.specs.declared.watch.Break.{Break as Breakpoint}
+use Rattle.nd_breaks.specs.Conditions.{ConditionValue, condition_code}
 use Rattle.nd_timeline.specs.declared.command.Command.{Command}
 use Rattle.nd_timeline.specs.declared.command.Command.TheVariants.{Forward, Back, Redo, Jump, Run, SetBreak, ClearBreak}
 use Rattle.nd_timeline.specs.declared.fault.Fault.{Fault}
@@ -25,7 +24,7 @@ use Rattle.nd_timeline.specs.declared.reply.Reply.TheVariants as reply
 
 -- a command as its parts
 abbrev pub CommandParts : Type 0 → Type 0
-CommandParts A = (ClusterStep A ⊎ (Unit {0} ⊎ Unit {0})) ⊎ ((ℕ ⊎ ℕ) ⊎ (Breakpoint ⊎ ℕ))
+CommandParts A = (ClusterStep A ⊎ (Unit {0} ⊎ Unit {0})) ⊎ ((ℕ ⊎ ℕ) ⊎ (ConditionValue ⊎ ℕ))
 
 module _ {A : Type 0} where
   abbrev pub command_parts : Command A → CommandParts A
@@ -58,7 +57,7 @@ module _ {A : Type 0} where
   abbrev pub command_code : Coded (Command A)
   command_code =
       code_by (CommandParts A)
-      (coded⊎ (coded⊎ step_code (coded⊎ coded_unit coded_unit)) (coded⊎ (coded⊎ coded_ℕ coded_ℕ) (coded⊎ break_code coded_ℕ)))
+      (coded⊎ (coded⊎ step_code (coded⊎ coded_unit coded_unit)) (coded⊎ (coded⊎ coded_ℕ coded_ℕ) (coded⊎ condition_code coded_ℕ)))
       command_parts command_of command_back
 
 -- ---- refusals, by their numbers

@@ -5,3 +5,4 @@ pub mod Moves
 pub mod Laws
 pub mod Reached
 pub mod Codes
+pub mod Checkpoints

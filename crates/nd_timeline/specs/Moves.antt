@@ -7,7 +7,7 @@ use Rattle.nd_protocol.specs.Enabled.{IsEnabled, IsRefused, MayWantMemory}
 use Rattle.nd_protocol.specs.declared.step.Step.{Step}
 use Rattle.nd_cluster.specs.Choice.{IsChosen, IsIdle}
 use Rattle.nd_breaks.specs.Breaks.{BreakMap, NoHit, FirstHit, IsLeastFree, IsFull}
-use Rattle.nd_breaks.specs.declared.watch.Break.{Break}
+use Rattle.nd_breaks.specs.Conditions.{ConditionValue}
 use Rattle.nd_timeline.specs.Timeline.{TimelineValue, cluster_of, extended, moved_to}
 use Rattle.nd_timeline.specs.declared.fault.Fault.{Fault}
 use Rattle.nd_timeline.specs.declared.fault.Fault.TheVariants.{Step as of_step, Memory, AtStart, AtEnd, NoSuchPoint, TimelineFull, TooManyBreaks, NoBreak}
@@ -117,10 +117,10 @@ RunMoves m limit breaks _ new = ⊥
 
 -- ---- breakpoints
 
-abbrev pub SetMoves : BreakMap → Break → Reply → BreakMap → Type 0
-SetMoves m b (Refused TooManyBreaks) new = IsFull m × (new ≡ m)
-SetMoves m b (Set id) new = IsLeastFree m id × (new ≡ fin.insert m id b)
-SetMoves m b _ new = ⊥
+abbrev pub SetMoves : BreakMap → ConditionValue → Reply → BreakMap → Type 0
+SetMoves m c (Refused TooManyBreaks) new = IsFull m × (new ≡ m)
+SetMoves m c (Set id) new = IsLeastFree m id × (new ≡ fin.insert m id c)
+SetMoves m c _ new = ⊥
 
 abbrev pub ClearMoves : BreakMap → ℕ → Reply → BreakMap → Type 0
 ClearMoves m id (Refused NoBreak) new = (fin.get m id ≡ None) × (new ≡ m)
@@ -136,7 +136,7 @@ Moves m command.Back reply new = BackMoves m.timeline reply new.timeline × (new
 Moves m command.Redo reply new = RedoMoves m.timeline reply new.timeline × (new.breaks ≡ m.breaks)
 Moves m (command.Jump n) reply new = JumpMoves m.timeline n reply new.timeline × (new.breaks ≡ m.breaks)
 Moves m (command.Run limit) reply new = RunMoves m.timeline limit m.breaks reply new.timeline × (new.breaks ≡ m.breaks)
-Moves m (command.SetBreak b) reply new = SetMoves m.breaks b reply new.breaks × (new.timeline ≡ m.timeline)
+Moves m (command.SetBreak c) reply new = SetMoves m.breaks c reply new.breaks × (new.timeline ≡ m.timeline)
 Moves m (command.ClearBreak id) reply new = ClearMoves m.breaks id reply new.breaks × (new.timeline ≡ m.timeline)
 
 -- ---- the replies of a timeline's calls

@@ -9,7 +9,7 @@ use Rattle.nd_protocol.specs.Codes.{step_code}
 use Rattle.nd_protocol.specs.declared.step.Step.{Step}
 use Rattle.nd_steps.specs.declared.record.Record.{Record}
 use Rattle.nd_cluster.specs.Records.{IsPlanned}
-use Rattle.nd_breaks.specs.Breaks.{break_code}
+use Rattle.nd_breaks.specs.Conditions.{condition_code}
 use Rattle.nd_timeline.specs.Timeline.{TimelineValue}
 use Rattle.nd_timeline.specs.Moves.{MachineValue}
 
@@ -22,7 +22,7 @@ timeline_code A =
 
 abbrev pub machine_code : (A : Type 0) → Coded (MachineValue A)
 machine_code A =
-    code_by _ (coded× (timeline_code A) (fin.code coded_ℕ break_code))
+    code_by _ (coded× (timeline_code A) (fin.code coded_ℕ condition_code))
     (λ m. (m.timeline, m.breaks)) (λ t. record { timeline = t.0; breaks = t.1 }) (λ _. refl)
 
 -- ---- what holds of a timeline

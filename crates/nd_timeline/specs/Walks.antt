@@ -1,7 +1,14 @@
 -- Walks over the kept steps of a timeline (this project's own rule).
-use Rattle.std.specs.Prelude.{ℕ, ◌≡◌, ◌+◌, ◌<◌, ◌≤◌, length}
+use Rattle.std.specs.Prelude.{ℕ, ◌≡◌, ◌+◌, ◌≤◌, List, Result, length, take}
+use Rattle.std.specs.Int.{abs_diff}
+use Rattle.nd_protocol.specs.State.{ClusterState}
+use Rattle.nd_protocol.specs.Steps.{after}
+use Rattle.nd_steps.specs.declared.record.Record.{Record}
+use Rattle.nd_cluster.specs.Records.{Leads}
 use Rattle.nd_timeline.specs.Timeline.{TimelineValue, cluster_of, moved_to}
+use Rattle.nd_timeline.specs.Moves.{moved_reply, JumpMoves}
 use Rattle.nd_timeline.specs.Reached.{steps_of}
+use Rattle.nd_timeline.specs.declared.fault.Fault.{Fault}
 use Rattle.nd_timeline.specs.declared.walk.Kept.{Kept}
 use Rattle.nd_timeline.specs.declared.walk.Walk.{Walk}
 
@@ -14,7 +21,19 @@ pub record IsOn {A : Type 0} (m : TimelineValue A) (w : Walk A) : Type 0 where
   pub within : w.at ≤ length m.kept
   pub cluster : w.cluster ≡ cluster_of (moved_to m w.at)
 
--- a walk begins at the start or at the cursor, whichever is nearer to a position, and at the start if both are as near
+-- neither the start nor the cursor is nearer to a position than where the walk begins
 pub record BeginsNear {A : Type 0} (m : TimelineValue A) (n : ℕ) (w : Walk A) : Type 0 where
-  pub start : n + n ≤ m.cursor → w.at ≡ 0
-  pub cursor : m.cursor < n + n → w.at ≡ m.cursor
+  pub start : abs_diff w.at n ≤ n
+  pub cursor : abs_diff w.at n ≤ abs_diff m.cursor n
+
+-- a walk goes from a position of a timeline to another as a jump would
+abbrev pub WalksTo : {A : Type 0} → TimelineValue A → ℕ → ℕ → Result (Unit {0}) Fault → ℕ → Type 0
+WalksTo m from n result to = JumpMoves (moved_to m from) n (moved_reply result (moved_to m to)) (moved_to m to)
+
+-- the cluster that the kept steps up to a position make
+abbrev pub cluster_at : {A : Type 0} → Kept A → ℕ → ClusterState
+cluster_at k i = after k.base (take i (steps_of k.steps.items))
+
+-- a record leads on from the position of a kept step
+abbrev pub LeadsFrom : {A : Type 0} → Kept A → ℕ → Record A → Type 0
+LeadsFrom k i r = Leads r (cluster_at k i) (cluster_at k (i + 1))

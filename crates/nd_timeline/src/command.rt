@@ -1,7 +1,7 @@
 //! What the machine is asked for.
 ghost use Rattle.std.specs.Prelude.{◌≡◌, ◌≢◌, IfOk, MatchBool};
 
-use nd_breaks::Break;
+use nd_breaks::BoxedCondition;
 use nd_protocol::Step;
 use std::alloc::{AllocError, Allocator, Global};
 
@@ -18,8 +18,8 @@ pub enum Command<A: Allocator = Global> {
     Jump(u64),
     /// Makes at most so many steps, each the first that is enabled, until a breakpoint holds.
     Run(u64),
-    /// Sets a breakpoint.
-    SetBreak(Break),
+    /// Sets the condition as a breakpoint.
+    SetBreak(BoxedCondition<A>),
     /// Takes the breakpoint of this id out.
     ClearBreak(u64),
 }
@@ -35,7 +35,7 @@ impl<A: Allocator> Command<A> {
             Command::Redo => Ok(Command::Redo),
             Command::Jump(n) => Ok(Command::Jump(*n)),
             Command::Run(limit) => Ok(Command::Run(*limit)),
-            Command::SetBreak(b) => Ok(Command::SetBreak(b.copy())),
+            Command::SetBreak(b) => Ok(Command::SetBreak(b.copy(alloc)?)),
             Command::ClearBreak(id) => Ok(Command::ClearBreak(*id)),
         }
     }
@@ -50,7 +50,7 @@ impl<A: Allocator> Command<A> {
             (Command::Redo, Command::Redo) => true,
             (Command::Jump(n), Command::Jump(m)) => *n == *m,
             (Command::Run(limit), Command::Run(most)) => *limit == *most,
-            (Command::SetBreak(b), Command::SetBreak(another)) => b.same(another),
+            (Command::SetBreak(b), Command::SetBreak(another)) => b.get().same(another.get()),
             (Command::ClearBreak(id), Command::ClearBreak(another)) => *id == *another,
             _ => false,
         }

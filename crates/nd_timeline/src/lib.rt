@@ -1,10 +1,12 @@
 //! The debugger's timeline, and the machine that it and the breakpoints are.
 #![tactic(auto)]
 
+mod checkpoint;
 mod command;
 mod fault;
 mod laws;
 mod machine;
+mod records;
 mod reply;
 mod run;
 mod timeline;

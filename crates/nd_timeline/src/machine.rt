@@ -1,16 +1,16 @@
 //! The debugger machine: a timeline, and breakpoints by their ids.
-ghost use Rattle.std.specs.Prelude.{◌≡◌};
+ghost use Rattle.std.specs.Prelude.{◌≡◌, IfOk};
 ghost use Rattle.nd_timeline.specs.Moves.{Moves, moved_reply, without_breaks};
 
 use crate::{Command, Fault, Ran, Reply, Timeline};
 use nd_breaks::Breaks;
-use std::alloc::{Allocator, Global};
+use std::alloc::{AllocError, Allocator, Global};
 use std::marker::Model;
 
 /// A timeline, and breakpoints.
 pub struct Machine<A: Allocator + Copy = Global> {
     timeline: Timeline<A>,
-    breaks: Breaks,
+    breaks: Breaks<A>,
 }
 
 impl<A: Allocator + Copy> Model for Machine<A> {
@@ -34,14 +34,12 @@ impl<A: Allocator + Copy> Drop for Machine<A> {
 }
 
 impl<A: Allocator + Copy> Machine<A> {
-    /// A machine on which no breakpoint is set.
-    pub fn new(timeline: Timeline<A>) -> Machine<A>
-        ensures { result ≡ without_breaks timeline }
+    /// Makes a machine on which no breakpoint is set, with room for all that may be.
+    pub fn new(alloc: A, timeline: Timeline<A>) -> Result<Machine<A>, AllocError>
+        ensures { IfOk result (λ m. m ≡ without_breaks timeline) }
     {
-        Machine {
-            timeline,
-            breaks: Breaks::new(),
-        }
+        let breaks = Breaks::new(alloc)?;
+        Ok(Machine { timeline, breaks })
     }
 
     /// Its timeline.
@@ -52,14 +50,14 @@ impl<A: Allocator + Copy> Machine<A> {
     }
 
     /// Its breakpoints.
-    pub fn breaks(&self) -> &Breaks
+    pub fn breaks(&self) -> &Breaks<A>
         ensures { result.now ≡ self.now.breaks }
     {
         &self.breaks
     }
 
     /// What it was made of.
-    pub fn into_parts(self) -> (Timeline<A>, Breaks)
+    pub fn into_parts(self) -> (Timeline<A>, Breaks<A>)
         ensures timeline { result.0 ≡ self.timeline }
         ensures breaks { result.1 ≡ self.breaks }
     {
@@ -110,7 +108,7 @@ impl<A: Allocator + Copy> Machine<A> {
                 },
                 Err(fault) => Reply::Refused(fault),
             },
-            Command::SetBreak(b) => match self.breaks.set(b.copy()) {
+            Command::SetBreak(b) => match self.breaks.set(b.get().copy()) {
                 Ok(id) => Reply::Set { id },
                 Err(_) => Reply::Refused(Fault::TooManyBreaks),
             },

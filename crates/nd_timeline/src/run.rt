@@ -9,7 +9,7 @@ use std::alloc::Allocator;
 
 impl<A: Allocator + Copy> Timeline<A> {
     /// Makes at most `limit` steps, each the first that is enabled, until a breakpoint holds.
-    pub fn run(&mut self, limit: u64, breaks: &Breaks) -> Result<Ran, Fault>
+    pub fn run(&mut self, limit: u64, breaks: &Breaks<A>) -> Result<Ran, Fault>
         ensures { RunMoves self.old limit breaks.now (ran_reply result self.new) self.new }
     {
         if limit > MAX_KEPT as u64 - self.at() {

@@ -8,7 +8,9 @@ ghost use Rattle.nd_cluster.specs.Records.{IsPlanned};
 ghost use Rattle.nd_timeline.specs.Timeline.{opened, cluster_of, extended, moved_to, IsTimeline};
 ghost use Rattle.nd_timeline.specs.Reached.{AreCopies};
 ghost use Rattle.nd_timeline.specs.Moves.{moved_reply, StepFails, ForwardMoves, BackMoves, RedoMoves, JumpMoves};
+ghost use Rattle.nd_timeline.specs.Walks.{IsOn};
 
+use crate::checkpoint::{SPACING, Start};
 use crate::walk::Kept;
 use crate::{Fault, Walk};
 use nd_cluster::{Cluster, Record};
@@ -29,7 +31,8 @@ pub struct Timeline<A: Allocator + Copy = Global> {
 
 impl<A: Allocator + Copy> Model for Timeline<A> {
     ghost use Rattle.nd_timeline.specs.Timeline.{TimelineValue};
-    ghost use Rattle.nd_timeline.specs.Reached.{timeline_code, steps_of, IsReached};
+    ghost use Rattle.nd_timeline.specs.Reached.{timeline_code, steps_of};
+    ghost use Rattle.nd_timeline.specs.Checkpoints.{IsKept};
 
     ghost Value = { TimelineValue A };
 
@@ -37,7 +40,8 @@ impl<A: Allocator + Copy> Model for Timeline<A> {
 
     ghost view = { λ a. record { base = a.kept.base; kept = steps_of a.kept.steps.items; cursor = a.walk.at } };
 
-    ghost invariant = { λ a. IsReached a.kept.base a.walk.cluster a.kept.steps.items a.walk.at };
+    ghost invariant = { λ a.
+        IsKept a.kept.base a.walk.cluster a.kept.steps.items a.kept.checkpoints.items a.walk.at };
 }
 
 impl<A: Allocator + Copy> Drop for Timeline<A> {
@@ -67,20 +71,29 @@ impl<A: Allocator + Copy> Timeline<A> {
     {
         let base = cluster.copy(alloc)?;
         let steps = Vec::new(alloc);
+        let checkpoints = Vec::new(alloc);
         Ok(Timeline {
-            kept: Kept { base, steps },
+            kept: Kept {
+                base,
+                steps,
+                checkpoints,
+                due: SPACING,
+            },
             walk: Walk { at: 0, cluster },
         })
     }
 
-    /// An equal timeline.
+    /// An equal timeline. It has no checkpoints, so that it takes no more memory than its steps and clusters.
     pub fn copy(&self, alloc: A) -> Result<Timeline<A>, AllocError>
         ensures { IfOk result (λ m. m ≡ self.now) }
     {
+        let checkpoints = Vec::new(alloc);
         Ok(Timeline {
             kept: Kept {
                 base: self.kept.base.copy(alloc)?,
                 steps: copied_steps(alloc, &self.kept.steps)?,
+                checkpoints,
+                due: self.kept.due,
             },
             walk: Walk {
                 at: self.walk.at,
@@ -109,8 +122,10 @@ impl<A: Allocator + Copy> Timeline<A> {
     /// (FORTE 2013).
     pub fn passed(&self, q: usize, point: &Pointstamp) -> bool
         requires { q < length (cluster_of self.now).processors }
-        ensures passed { IsTrue result ↔ IsPassed (cluster_of self.now).graph (view (cluster_of self.now) q) point.now }
-        ensures finished { IsTrue result → KeepsProtocol self.now.base → IsFinished (cluster_of self.now) point.now }
+        ensures passed { IsTrue result ↔ IsPassed (cluster_of self.now).graph
+            (view (cluster_of self.now) q) point.now }
+        ensures finished { IsTrue result → KeepsProtocol self.now.base
+            → IsFinished (cluster_of self.now) point.now }
     {
         self.cluster().passed(q, point)
     }
@@ -169,9 +184,9 @@ impl<A: Allocator + Copy> Timeline<A> {
         let Ok(()) = self.walk.cluster.commit(&planned) else {
             return Err(NoMemory);
         };
-        self.kept.steps.truncate(self.walk.at as usize);
-        self.kept.steps.push_reserved(planned);
+        self.kept.keep(self.walk.at, planned);
         self.walk.at += 1;
+        self.kept.save_if_due(&self.walk);
         Ok(())
     }
 
@@ -218,10 +233,38 @@ impl<A: Allocator + Copy> Timeline<A> {
         }
     }
 
-    /// Goes to a position, step by step.
+    // A walk that has gone to a position from the base or a checkpoint. There is none if the cursor is as near or near
+    // enough, if no such position is kept, or if memory is refused.
+    fn landed(&self, n: u64) -> Option<Walk<A>>
+        ensures on { IfSome result (IsOn self.now) }
+        ensures there { IfSome result (λ w. w.at ≡ n) }
+    {
+        let at = self.at();
+        if n > self.kept() || at.abs_diff(n) <= SPACING {
+            return None;
+        }
+        if let Start::Cursor = self.kept.start_near(at, n) {
+            return None;
+        }
+        let alloc = *self.kept.steps.allocator();
+        let Ok(mut walk) = self.walk_near(alloc, n) else {
+            return None;
+        };
+        let Ok(()) = self.walk_to(&mut walk, n) else {
+            return None;
+        };
+        Some(walk)
+    }
+
+    /// Goes to position `n`: step by step from the cursor, or, if that is far, from a copy of the nearest of the base
+    /// and the checkpoints. If memory for that is refused, it goes from the cursor.
     pub fn jump(&mut self, n: u64) -> Result<(), Fault>
         ensures { JumpMoves self.old n (moved_reply result self.new) self.new }
     {
+        if let Some(walk) = self.landed(n) {
+            self.walk = walk;
+            return Ok(());
+        }
         self.kept.walk_to(&mut self.walk, n)
     }
 }

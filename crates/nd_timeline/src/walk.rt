@@ -1,12 +1,9 @@
 //! What a timeline keeps, and walks over it: the timeline's own, and those of others.
-ghost use Rattle.std.specs.Prelude.{◌≡◌, ◌+◌, ◌-◌, ◌<◌, take, length, IfOk, OnOk, OnErr};
-ghost use Rattle.nd_protocol.specs.Steps.{after};
-ghost use Rattle.nd_cluster.specs.Records.{Leads};
-ghost use Rattle.nd_timeline.specs.Timeline.{moved_to};
-ghost use Rattle.nd_timeline.specs.Reached.{steps_of, ArePlanned, IsReached};
-ghost use Rattle.nd_timeline.specs.Moves.{moved_reply, JumpMoves};
-ghost use Rattle.nd_timeline.specs.Walks.{BeginsNear, IsOn, timeline_at};
+ghost use Rattle.std.specs.Prelude.{◌≡◌, ◌+◌, ◌-◌, ◌<◌, length, IfOk, OnOk, OnErr};
+ghost use Rattle.nd_timeline.specs.Reached.{ArePlanned, IsReached};
+ghost use Rattle.nd_timeline.specs.Walks.{BeginsNear, IsOn, LeadsFrom, WalksTo, timeline_at};
 
+use crate::checkpoint::{Checkpoint, Start};
 use crate::{Fault, Timeline};
 use nd_cluster::{Cluster, Record};
 use nd_protocol::NoMemory;
@@ -21,19 +18,22 @@ pub struct Walk<A: Allocator + Copy = Global> {
     pub cluster: Cluster<A>,
 }
 
-/// The kept steps of a timeline, and the cluster where it began.
+/// The kept steps of a timeline, the cluster where it began, and its checkpoints.
 #[derive(Drop)]
 pub(crate) struct Kept<A: Allocator + Copy> {
     pub(crate) base: Cluster<A>,
     pub(crate) steps: Vec<Record<A>, A>,
+    pub(crate) checkpoints: Vec<Checkpoint<A>, A>,
+    /// No checkpoint is due before this position.
+    pub(crate) due: u64,
 }
 
 impl<A: Allocator + Copy> Kept<A> {
     // The record of a kept step.
-    fn record(&self, i: u64) -> &Record<A>
+    pub(crate) fn record(&self, i: u64) -> &Record<A>
         requires planned { ArePlanned self.now.base self.now.steps.items }
         requires there { i < length self.now.steps.items }
-        ensures { Leads result.now (after self.now.base (take i (steps_of self.now.steps.items))) (after self.now.base (take (i + 1) (steps_of self.now.steps.items))) }
+        ensures { LeadsFrom self.now i result.now }
     {
         &self.steps[i as usize]
     }
@@ -73,7 +73,7 @@ impl<A: Allocator + Copy> Kept<A> {
     pub(crate) fn walk_to(&self, walk: &mut Walk<A>, n: u64) -> Result<(), Fault>
         requires { IsReached self.now.base walk.old.cluster self.now.steps.items walk.old.at }
         ensures on { IsReached self.now.base walk.new.cluster self.now.steps.items walk.new.at }
-        ensures jump { JumpMoves (timeline_at self.now walk.old.at) n (moved_reply result (timeline_at self.now walk.new.at)) (timeline_at self.now walk.new.at) }
+        ensures jump { WalksTo (timeline_at self.now 0) walk.old.at n result walk.new.at }
     {
         if n > self.steps.len() as u64 {
             return Err(Fault::NoSuchPoint);
@@ -97,21 +97,24 @@ impl<A: Allocator + Copy> Kept<A> {
 }
 
 impl<A: Allocator + Copy> Timeline<A> {
-    /// A walk that is to go to a position: it begins at the start or at the cursor, whichever is nearer.
+    /// Returns a walk that is to go to position `n`. It begins at the nearest of the start, the cursor and the checkpoints.
     pub fn walk_near(&self, alloc: A, n: u64) -> Result<Walk<A>, AllocError>
         ensures on { IfOk result (IsOn self.now) }
         ensures near { IfOk result (BeginsNear self.now n) }
     {
-        if n <= self.at() / 2 {
-            Ok(Walk {
+        match self.kept.start_near(self.at(), n) {
+            Start::Base => Ok(Walk {
                 at: 0,
                 cluster: self.base().copy(alloc)?,
-            })
-        } else {
-            Ok(Walk {
+            }),
+            Start::Cursor => Ok(Walk {
                 at: self.at(),
                 cluster: self.cluster().copy(alloc)?,
-            })
+            }),
+            Start::Checkpoint(checkpoint) => Ok(Walk {
+                at: checkpoint.at,
+                cluster: self.kept.restored(alloc, checkpoint)?,
+            }),
         }
     }
 
@@ -119,7 +122,7 @@ impl<A: Allocator + Copy> Timeline<A> {
     pub fn walk_to(&self, walk: &mut Walk<A>, n: u64) -> Result<(), Fault>
         requires { IsOn self.now walk.old }
         ensures on { IsOn self.now walk.new }
-        ensures jump { JumpMoves (moved_to self.now walk.old.at) n (moved_reply result (moved_to self.now walk.new.at)) (moved_to self.now walk.new.at) }
+        ensures jump { WalksTo self.now walk.old.at n result walk.new.at }
     {
         self.kept.walk_to(walk, n)
     }

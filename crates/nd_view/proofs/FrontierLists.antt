@@ -53,11 +53,3 @@ module _ (es : List (Pointstamp × ℕ)) where
     only = h.only;
     enough = enough;
   }
-
--- the same list of the same entries, with no less room
-pub still_listed : (es fs : List (Pointstamp × ℕ)) (a b : List Pointstamp) (r s : ℕ) → fs ≡ es → b ≡ a → r ≤ s → IsFrontierList es a r → IsFrontierList fs b s
-still_listed es fs a b r s fs_is b_is le h = record {
-  all = λ q e. subst (λ l. Contains l q) (sym b_is) (h.all q (sym (ap (find point_cmp q) fs_is) ∙ e));
-  only = λ q among. ap (find point_cmp q) fs_is ∙ h.only q (subst (λ l. Contains l q) b_is among);
-  enough = let many = ap length fs_is in omega (arith, h.enough, many, le);
-}

@@ -73,10 +73,6 @@ passed_by_frontier g order v h strictly t none x b = by (find point_cmp x v.coun
         let least = frontier_before g order v.map x n kept.0 kept.1 in
         none least.0 least.1 (through g order strictly least.0 x t least.2 b.before)
 
--- the list that a view keeps is that of its frontier
-pub frontier_list : (v : Kept) (es : List (Pointstamp × ℕ)) (frontier ps : List Pointstamp) (room : ℕ) → es ≡ v.counts → ps ≡ frontier → IsFrontierList es frontier room → IsFrontierList v.counts ps room
-frontier_list v es frontier ps room es_is ps_is listed = subst (λ l. IsFrontierList v.counts l room) (sym ps_is) (subst (λ l. IsFrontierList l frontier room) es_is listed)
-
 -- the part at the listed points is the part on the frontier
 pub frontier_part : (g : Dataflow) (v : Kept) → IsFor g v → (m : DeltaValue) → m ≡ v.map → (frontier : List Pointstamp) (room : ℕ) → IsFrontierList v.counts frontier room → (f : DeltaValue) → f ≡ part m frontier → IsPartWhere (IsOnFrontier g v.map) v.map f
 frontier_part g v h m m_is frontier room listed f f_is = record {

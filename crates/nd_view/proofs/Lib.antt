@@ -10,3 +10,8 @@ mod Parts
 mod Points
 mod Runs
 mod Shifts
+mod TimeOrder
+mod MinimalTimes
+mod ReachedTimes
+mod ArrivalLemmas
+mod Zeros

@@ -1,5 +1,5 @@
 -- A view with its precursor counts, and when they are those of a graph.
-use Rattle.std.specs.Prelude.{◌≡◌, ◌≤◌, ◌<◌, ◌-◌, ◌+◌, ℕ, pos, ◌<ℤ◌, List, [], length, Contains, Bool, true, false, Option, Some, None, refl}
+use Rattle.std.specs.Prelude.{◌≡◌, ◌≢◌, ◌≤◌, ◌<◌, ◌-◌, ◌+◌, ℕ, pos, ◌<ℤ◌, List, [], length, Contains, Bool, true, false, Option, Some, None, refl}
 use Rattle.std.specs.Coded.{Coded, code_by, coded×, coded_ℕ, coded_list}
 use Rattle.std.specs.FinMap.{find}
 use Rattle.nd_graph.specs.Graph.{Dataflow}
@@ -37,6 +37,11 @@ pub record IsFrontierList (counts : List (Pointstamp × ℕ)) (frontier : List P
   pub all : (q : Pointstamp) → find point_cmp q counts ≡ Some 0 → Contains frontier q
   pub only : (q : Pointstamp) → Contains frontier q → find point_cmp q counts ≡ Some 0
   pub enough : length counts ≤ room
+
+-- the list is right but for what it says of x
+pub record IsFrontierBut (counts : List (Pointstamp × ℕ)) (frontier : List Pointstamp) (x : Pointstamp) : Type 0 where
+  pub all : (q : Pointstamp) → q ≢ x → find point_cmp q counts ≡ Some 0 → Contains frontier q
+  pub only : (q : Pointstamp) → q ≢ x → Contains frontier q → find point_cmp q counts ≡ Some 0
 
 -- ---- what a stored count says of another point's precursors
 -- each number that is stored is right

@@ -34,6 +34,11 @@ pub record IsPositiveBefore (g : Dataflow) (v : DeltaValue) (strictly : Bool) (t
   pub positive : pos 0 <ℤ at v x
   pub before : IsBefore g strictly x t
 
+-- nothing positive is strictly before t, or at or before it
+abbrev pub IsPassedBefore : Dataflow → Bool → DeltaValue → Pointstamp → Type 0
+IsPassedBefore g true v t = (x : Pointstamp) → IsPrecursor g v t x → ⊥
+IsPassedBefore g false v t = IsPassed g v t
+
 -- f is the part of v at the points of the kind P
 pub record IsPartWhere (P : Pointstamp → Type 0) (v f : DeltaValue) : Type 0 where
   pub all : (x : Pointstamp) → P x → at f x ≡ at v x

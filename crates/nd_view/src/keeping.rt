@@ -1,16 +1,15 @@
 //! What is stored beside a map: counted anew, and moved when a pointstamp came or went.
 
-ghost use Rattle.std.specs.Prelude.{◌≡◌, ◌↔◌, ◌≤◌, ◌+◌, ◌<◌, ◌^◌, Contains, IsTrue, IfOk, IfSome, length, vec_capacity};
-ghost use Rattle.std.specs.FinMap.{find};
+ghost use Rattle.std.specs.Prelude.{◌≡◌, ◌↔◌, ◌≤◌, ◌+◌, ◌<◌, ◌^◌, Contains, IsTrue, IfOk, IfSome, length};
 ghost use Rattle.nd_map.specs.Listed.{IsListed};
-ghost use Rattle.nd_paths.specs.declared.point.Pointstamp.{Pointstamp};
 ghost use Rattle.nd_paths.specs.Point.{point_cmp};
 ghost use Rattle.nd_view.specs.View.{IsPrecursor, IsCount};
-ghost use Rattle.nd_view.specs.Kept.{IsKeptAt, AreKept, IsEarlier, IsNear, IsReady, IsFor, IsFrontierList, kept_of, moved};
+ghost use Rattle.nd_view.specs.Counting.{AreCounted, AreEarlier, AreReady};
+ghost use Rattle.nd_view.specs.Kept.{AreKept, IsNear, IsFor, kept_of, moved};
 
 use crate::links::{epoch_from, is_epochal, is_outside, is_strictly_before, leads, run_end};
+use crate::precursor_counts::PrecursorCounts;
 use nd_delta::Delta;
-use nd_map::SortedMap;
 use nd_paths::{Paths, Pointstamp};
 use std::alloc::{AllocError, Allocator};
 
@@ -56,7 +55,7 @@ fn known_before<A: Allocator, B: Allocator>(
 ) -> Known
     requires listed { IsListed point_cmp kept.now }
     requires kept { AreKept paths.now counts.now kept.now }
-    ensures { IsCount (IsEarlier paths.now counts.now point.now result.below) counts.now result.count }
+    ensures { AreEarlier paths.now counts.now point.now result.below result.count }
 {
     // No count is greater than the number of entries, which is a `usize`.
     let _ = counts.len();
@@ -86,7 +85,7 @@ fn count_from<A: Allocator, B: Allocator>(
     point: &Pointstamp,
     known: &Known,
 ) -> u64
-    requires { IsCount (IsEarlier paths.now counts.now point.now known.now.below) counts.now known.now.count }
+    requires { AreEarlier paths.now counts.now point.now known.now.below known.now.count }
     ensures { IsCount (IsPrecursor paths.now counts.now point.now) counts.now result }
 {
     // No count is greater than the number of entries, which is a `usize`.
@@ -151,17 +150,16 @@ fn moved_by_one(n: u64, up: bool) -> u64
 /// Of each location to which a walk leads it passes over the entries with smaller epochs by a logarithm of their number.
 /// Without counters it moves each of the others; with counters it tests each.
 pub fn shift<A: Allocator, B: Allocator>(
-    precursor_counts: &mut SortedMap<Pointstamp, u64, A>,
+    precursor_counts: &mut PrecursorCounts<A>,
     counts: &Delta<A>,
     paths: &Paths<B>,
     point: &Pointstamp,
     up: bool,
 )
     requires listed { IsListed point_cmp precursor_counts.old }
-    requires ready { (q : Pointstamp) → IsReady paths.now counts.now point.now up q (find point_cmp q precursor_counts.old) }
+    requires ready { AreReady paths.now counts.now point.now up precursor_counts.old }
     ensures listed { IsListed point_cmp precursor_counts.new }
-    ensures kept { (q : Pointstamp) → IsKeptAt paths.now counts.now q (find point_cmp q precursor_counts.new) }
-    ensures size { length precursor_counts.new ≡ length precursor_counts.old }
+    ensures kept { AreCounted paths.now counts.now precursor_counts.new }
 {
     // No count is greater than the number of entries, which is a `usize`.
     let _ = counts.len();
@@ -185,31 +183,15 @@ pub fn shift<A: Allocator, B: Allocator>(
     }
 }
 
-/// Lists the pointstamps whose precursor count is 0. It takes no memory.
-pub fn list_zeros<A: Allocator>(kept: &[(Pointstamp, u64)], frontier: &mut Vec<Pointstamp, A>)
-    requires listed { IsListed point_cmp kept.now }
-    requires room { length kept.now ≤ vec_capacity frontier.old }
-    ensures { IsFrontierList kept.now frontier.new.items (vec_capacity frontier.new) }
-{
-    frontier.clear();
-    for entry in kept {
-        if entry.1 == 0 {
-            let Ok(()) = frontier.push(entry.0.copy()) else {
-                return;
-            };
-        }
-    }
-}
-
 /// Counts for each positive pointstamp those strictly before it.
-pub fn counted_anew<A: Allocator, B: Allocator>(
+pub fn counted_anew<A: Allocator + Copy, B: Allocator>(
     alloc: A,
     counts: &Delta<A>,
     paths: &Paths<B>,
-) -> Result<SortedMap<Pointstamp, u64, A>, AllocError>
+) -> Result<PrecursorCounts<A>, AllocError>
     ensures { IfOk result (λ es. IsFor paths.now (kept_of counts.now es)) }
 {
-    let mut precursor_counts = SortedMap::new(alloc);
+    let mut precursor_counts = PrecursorCounts::new(alloc);
     for entry in counts.entries() {
         if entry.1 > 0 {
             let count = count_before(counts, precursor_counts.entries(), paths, &entry.0);

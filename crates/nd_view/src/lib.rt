@@ -2,9 +2,11 @@
 //! number of positive ones strictly before it (Naiad, SOSP 2013, section 3.3).
 #![tactic(auto)]
 
+mod arrivals;
 mod entry_tests;
 mod keeping;
 mod links;
+mod precursor_counts;
 mod stored;
 
 ghost use Rattle.std.specs.Prelude.{◌≡◌, ◌↔◌, ◌≤◌, unsigned_abs, OnOk, OnErr, IfOk, IfSome, IsNone, IsTrue, Err};
@@ -17,7 +19,8 @@ ghost use Rattle.nd_delta.specs.Least.{IsLeast};
 ghost use Rattle.nd_view.specs.View.{IsPassed, IsBlocker, IsPrecursor, IsOnFrontier, IsCount, IsPartWhere, IsPositiveBefore};
 ghost use Rattle.nd_view.specs.Kept.{Kept, IsKeptAt, IsFor};
 
-use entry_tests::{is_before, is_positive_before};
+pub use entry_tests::is_before;
+use entry_tests::is_positive_before;
 use nd_delta::{Delta, DeltaFault};
 use nd_paths::{Paths, Pointstamp};
 use std::alloc::{AllocError, Allocator, Global};
@@ -25,13 +28,12 @@ use std::marker::Model;
 use stored::Stored;
 
 // A change with more entries has the whole view made anew: the lists are joined, and each count is counted once.
-const MANY: usize = 64;
+const MANY: usize = 200;
 
 /// A finite map from pointstamps to counts other than 0, which may be negative for a while.
 /// Beside it stands for each positive pointstamp the number of positive ones strictly before it.
 pub struct View<A: Allocator + Copy = Global> {
     stored: Stored<A>,
-    frontier: Vec<Pointstamp, A>,
     alloc: A,
 }
 
@@ -39,23 +41,19 @@ impl<A: Allocator + Copy> Drop for View<A> {
     fn drop(self) {
         let View {
             stored: _,
-            frontier: _,
             alloc: _,
         } = self;
     }
 }
 
 impl<A: Allocator + Copy> Model for View<A> {
-    ghost use Rattle.std.specs.Prelude.{vec_capacity};
-    ghost use Rattle.nd_view.specs.Kept.{Kept, kept_code, IsFrontierList};
+    ghost use Rattle.nd_view.specs.Kept.{Kept, kept_code};
 
     ghost Value = { Kept };
 
     ghost coded = { kept_code };
 
     ghost view = { λ a. a.stored };
-
-    ghost invariant = { λ a. IsFrontierList a.stored.counts a.frontier.items (vec_capacity a.frontier) };
 }
 
 impl<A: Allocator + Copy> View<A> {
@@ -66,7 +64,6 @@ impl<A: Allocator + Copy> View<A> {
     {
         View {
             stored: Stored::new(alloc),
-            frontier: Vec::new(alloc),
             alloc,
         }
     }
@@ -106,18 +103,8 @@ impl<A: Allocator + Copy> View<A> {
     pub fn copy(&self, alloc: A) -> Result<View<A>, AllocError>
         ensures { IfOk result (λ v. v ≡ self.now) }
     {
-        View::with(alloc, self.stored.copy(alloc)?)
-    }
-
-    // The view with these counts.
-    fn with(alloc: A, stored: Stored<A>) -> Result<View<A>, AllocError>
-        ensures { IfOk result (λ v. v ≡ stored) }
-    {
-        let mut frontier = Vec::with_capacity(alloc, stored.positive())?;
-        stored.list_frontier(&mut frontier);
         Ok(View {
-            stored,
-            frontier,
+            stored: self.stored.copy(alloc)?,
             alloc,
         })
     }
@@ -139,10 +126,7 @@ impl<A: Allocator + Copy> View<A> {
         let Ok(stored) = Stored::of(self.alloc, counts, paths) else {
             return Err(DeltaFault::Memory);
         };
-        let Ok(view) = View::with(self.alloc, stored) else {
-            return Err(DeltaFault::Memory);
-        };
-        *self = view;
+        self.stored = stored;
         Ok(())
     }
 
@@ -162,17 +146,11 @@ impl<A: Allocator + Copy> View<A> {
         if delta.len() > MANY {
             return self.change_anew(paths, delta, minus);
         }
-        let most = self.stored.positive().saturating_add(delta.len());
-        let missing = most.saturating_sub(self.frontier.len());
-        let Ok(()) = self.frontier.reserve(missing) else {
-            return Err(self.stored.refusal(delta, minus));
-        };
         if !self.stored.add(paths, delta.entries(), minus) {
             return Err(self.stored.refusal(delta, minus));
         }
         // What is there is within the limit.
         let _ = self.stored.counts().entries();
-        self.stored.list_frontier(&mut self.frontier);
         Ok(())
     }
 
@@ -219,7 +197,7 @@ impl<A: Allocator + Copy> View<A> {
         ensures { IsTrue result ↔ ((x : Pointstamp) × IsPositiveBefore paths.now self.now.map strictly point.now x) }
     {
         paths.order_is_partial();
-        for member in &self.frontier {
+        for member in self.stored.frontier() {
             if is_before(member, paths, point, strictly) {
                 return true;
             }
@@ -301,6 +279,6 @@ impl<A: Allocator + Copy> View<A> {
         ensures value { IfOk result (IsPartWhere (IsOnFrontier _paths.now self.now.map) self.now.map) }
         ensures some { OnErr result ((x : Pointstamp) × IsOnFrontier _paths.now self.now.map x) }
     {
-        self.stored.counts().part(alloc, &self.frontier)
+        self.stored.counts().part(alloc, self.stored.frontier())
     }
 }

@@ -1,6 +1,6 @@
 //! The counts of pointstamps, and beside them what is stored of the positive ones, changed together.
 
-ghost use Rattle.std.specs.Prelude.{◌≡◌, ◌≢◌, [], ◌∷◌, ◌↔◌, ◌≤◌, ◌<ℤ◌, ◌+◌, ◌*◌, ◌+ℤ◌, ◌-ℤ◌, cond, pos, length, unsigned_abs, vec_capacity, OnOk, OnErr, IfOk, IfSome, IsNone, IsTrue};
+ghost use Rattle.std.specs.Prelude.{◌≡◌, ◌≢◌, [], ◌∷◌, ◌↔◌, ◌≤◌, ◌<ℤ◌, ◌+◌, ◌*◌, ◌+ℤ◌, ◌-ℤ◌, cond, pos, length, unsigned_abs, OnOk, OnErr, IfOk, IfSome, IsNone, IsTrue};
 ghost use Rattle.nd_time.specs.Limits.{max_count};
 ghost use Rattle.nd_graph.specs.Graph.{Dataflow};
 ghost use Rattle.nd_map.specs.Listed.{IsListed};
@@ -12,9 +12,9 @@ ghost use Rattle.nd_view.specs.Kept.{IsKeptAt, IsFor, IsFrontierList};
 ghost use Rattle.nd_view.specs.Room.{IsWithinRoom, AreWithin, IsAdded};
 
 use crate::entry_tests::takes_room;
-use crate::keeping::{count_before, counted_anew, list_zeros, shift};
+use crate::keeping::{count_before, counted_anew, shift};
+use crate::precursor_counts::PrecursorCounts;
 use nd_delta::{Delta, DeltaFault, LIMIT};
-use nd_map::SortedMap;
 use nd_paths::{Paths, Pointstamp};
 use std::alloc::{AllocError, Allocator, Global};
 use std::marker::Model;
@@ -22,7 +22,7 @@ use std::marker::Model;
 /// The counts of pointstamps, and for each positive one the number of positive ones strictly before it.
 pub struct Stored<A: Allocator = Global> {
     counts: Delta<A>,
-    precursor_counts: SortedMap<Pointstamp, u64, A>,
+    precursor_counts: PrecursorCounts<A>,
 }
 
 impl<A: Allocator> Drop for Stored<A> {
@@ -90,7 +90,7 @@ impl<A: Allocator> Stored<A> {
     {
         Stored {
             counts: Delta::new(alloc),
-            precursor_counts: SortedMap::new(alloc),
+            precursor_counts: PrecursorCounts::new(alloc),
         }
     }
 
@@ -100,6 +100,8 @@ impl<A: Allocator> Stored<A> {
         counts: Delta<A>,
         paths: &Paths<B>,
     ) -> Result<Stored<A>, AllocError>
+    where
+        A: Copy,
         ensures map { IfOk result (λ s. s.map ≡ counts) }
         ensures paths { IfOk result (IsFor paths.now) }
     {
@@ -124,19 +126,11 @@ impl<A: Allocator> Stored<A> {
         self.precursor_counts.get(point)
     }
 
-    /// The number of positive entries.
-    pub fn positive(&self) -> usize
-        ensures { result ≡ length self.now.counts }
+    /// The pointstamps whose precursor count is 0.
+    pub fn frontier(&self) -> &[Pointstamp]
+        ensures { IsFrontierList self.now.counts result.now (length self.now.counts) }
     {
-        self.precursor_counts.len()
-    }
-
-    /// Lists the pointstamps whose precursor count is 0. It takes no memory.
-    pub fn list_frontier(&self, frontier: &mut Vec<Pointstamp, A>)
-        requires { length self.now.counts ≤ vec_capacity frontier.old }
-        ensures { IsFrontierList self.now.counts frontier.new.items (vec_capacity frontier.new) }
-    {
-        list_zeros(self.precursor_counts.entries(), frontier);
+        self.precursor_counts.frontier()
     }
 
     /// The same in another place.
@@ -198,7 +192,6 @@ impl<A: Allocator> Stored<A> {
         ensures ok { OnOk result (self.new.map ≡ set self.old.map point.now n) }
         ensures paths { IsFor paths.now self.new }
         ensures err { OnErr result (self.new.map ≡ self.old.map) }
-        ensures size { length self.new.counts ≤ length self.old.counts + 1 }
     {
         let count = self.count_before(paths, point);
         self.precursor_counts.put(point, count)?;
@@ -218,7 +211,6 @@ impl<A: Allocator> Stored<A> {
         requires is { pos 0 <ℤ n → ⊥ }
         ensures ok { self.new.map ≡ set self.old.map point.now n }
         ensures paths { IsFor paths.now self.new }
-        ensures size { length self.new.counts ≤ length self.old.counts }
     {
         let Ok(()) = self.counts.put(point, n) else {
             return;
@@ -246,7 +238,6 @@ impl<A: Allocator> Stored<A> {
         ensures ok { OnOk result (self.new.map ≡ set self.old.map point.now n) }
         ensures paths { IsFor paths.now self.new }
         ensures err { OnErr result (self.new.map ≡ self.old.map) }
-        ensures size { length self.new.counts ≤ length self.old.counts + 1 }
     {
         if n > 0 {
             self.come(paths, point, n)
@@ -263,7 +254,6 @@ impl<A: Allocator> Stored<A> {
         requires room { IsWithinRoom was n }
         ensures ok { self.new.map ≡ set self.old.map point.now n }
         ensures paths { IsFor paths.now self.new }
-        ensures size { length self.new.counts ≤ length self.old.counts }
     {
         if was > 0 && n <= 0 {
             self.go(paths, point, n);
@@ -288,7 +278,6 @@ impl<A: Allocator> Stored<A> {
         ensures added { IsTrue result → IsAdded minus entries.now self.old.map self.new.map }
         ensures none { (IsTrue result → ⊥) → self.new.map ≡ self.old.map }
         ensures paths { IsFor paths.now self.new }
-        ensures size { length self.new.counts ≤ length self.old.counts + length entries.now }
     {
         let Some((entry, others)) = first_and_rest(entries) else {
             return true;

@@ -1,5 +1,5 @@
 -- At or before a positive pointstamp of a view there is one on its frontier.
-use Rattle.std.proofs.Common.{◌≡◌, ◌≢◌, ◌<◌, ◌⊎◌, ℕ, zero, suc, ℤ, pos, List, ◌∷◌, length, get_or, Option, Some, None, inl, inr, ap, sym, subst, ◌∙◌, arith}
+use Rattle.std.proofs.Common.{◌≡◌, ◌≢◌, ◌<◌, ◌⊎◌, ℕ, zero, suc, ℤ, pos, Bool, true, false, List, ◌∷◌, length, get_or, Option, Some, None, inl, inr, ap, sym, subst, ◌∙◌, arith}
 use Rattle.std.specs.Prelude.{◌<ℤ◌, Contains, slice_index_or}
 use Rattle.std.proofs.lemmas.List.{get_or-map, length-map}
 use Rattle.std.specs.FinMap.{find}
@@ -12,7 +12,7 @@ use Rattle.nd_paths.specs.declared.point.Pointstamp.{Pointstamp}
 use Rattle.nd_delta.specs.Delta.{DeltaValue, at, entries, points_of, or_zero, at-entries, sorted-entries, some-entry}
 use Rattle.nd_delta.specs.Least.{place_of}
 use Rattle.nd_view.specs.Kept.{Kept, IsKeptAt, IsFor}
-use Rattle.nd_view.specs.View.{IsBlocker, IsCount, IsOnFrontier, IsPrecursor}
+use Rattle.nd_view.specs.View.{IsBefore, IsCount, IsOnFrontier, IsPrecursor}
 use Rattle.nd_map.specs.Cases.{not_zero}
 
 -- what the order of an accepted graph is, as the paths tell it
@@ -61,21 +61,34 @@ module _ (g : Dataflow) (order : IsOrder g) (m : DeltaValue) where
             get_or-map (λ e. e.0) (entries f) place.index (z, at f z) z place.in_range ∙ place.is,
           )
 
--- one on the frontier, at or before x
+-- one on the frontier, which is x or strictly before it
 pub record HasFrontierBefore (g : Dataflow) (m : DeltaValue) (x : Pointstamp) : Type 0 where
   pub point : Pointstamp
   pub frontier : IsOnFrontier g m point
-  pub before : CouldResultIn g point x
+  pub near : (point ≡ x) ⊎ IsStrictlyBefore g point x
 
-pub frontier_before : (g : Dataflow) → IsOrder g → (v : Kept) → IsFor g v → (t x : Pointstamp) → IsBlocker g v.map t x → HasFrontierBefore g v.map x
-frontier_before g order v kept t x b = by (find point_cmp x v.counts) (kept.each x)
+pub frontier_before : (g : Dataflow) → IsOrder g → (v : Kept) → IsFor g v → (x : Pointstamp) → pos 0 <ℤ at v.map x → HasFrontierBefore g v.map x
+frontier_before g order v kept x positive = by (find point_cmp x v.counts) (kept.each x)
   where
     by : (o : Option ℕ) → IsKeptAt g v.map x o → HasFrontierBefore g v.map x
-    by None never = absurd (never b.positive)
+    by None never = absurd (never positive)
     by (Some n) here =
         let (y, on, near) = frontier_by g order v.map x n here.0 here.1 in
-        record {
-          point = y;
-          frontier = on;
-          before = elim near [ inl same ↦ subst (λ z. CouldResultIn g z x) (sym same) (order.reflexive x b.before.fits_s) | inr less ↦ less.0 ];
-        }
+        record { point = y; frontier = on; near = near }
+
+-- what is before t fits the graph
+pub fits_before : (g : Dataflow) (strictly : Bool) (x t : Pointstamp) → IsBefore g strictly x t → Fits g x
+fits_before g true x t h = h.0.fits_s
+fits_before g false x t h = h.fits_s
+
+module _ (g : Dataflow) (order : IsOrder g) where
+  -- what is near x could result in it
+  pub near_could : (y x : Pointstamp) → Fits g x → (y ≡ x) ⊎ IsStrictlyBefore g y x → CouldResultIn g y x
+  near_could y x fits (inl same) = subst (λ z. CouldResultIn g z x) (sym same) (order.reflexive x fits)
+  near_could y x fits (inr less) = less.0
+
+  -- and is before all that x is before
+  pub near_before : (strictly : Bool) (y x t : Pointstamp) → (y ≡ x) ⊎ IsStrictlyBefore g y x → IsBefore g strictly x t → IsBefore g strictly y t
+  near_before strictly y x t (inl same) h = subst (λ z. IsBefore g strictly z t) (sym same) h
+  near_before true y x t (inr less) h = order.strict y x t less h
+  near_before false y x t (inr less) h = order.transitive y x t less.0 h

@@ -1,6 +1,6 @@
 -- What the accounts of the reasons tell.
-use Rattle.std.proofs.Common.{◌≡◌, ◌≢◌, ◌<◌, ℕ, ℤ, pos, List, [], ◌∷◌, map, length, get_or, refl, ap, sym, subst, ◌∙◌, arith}
-use Rattle.std.specs.Prelude.{All, Contains, ◌↔◌}
+use Rattle.std.proofs.Common.{◌≡◌, ◌≢◌, ◌<◌, ℕ, ℤ, pos, Bool, true, false, List, [], ◌∷◌, map, length, get_or, refl, ap, sym, subst, ◌∙◌, arith}
+use Rattle.std.specs.Prelude.{All, Contains, ◌↔◌, ◌<ℤ◌}
 use Rattle.std.proofs.lemmas.List.{get_or-map, length-map}
 use Rattle.std.proofs.lemmas.List.Elements.{All-map}
 use Rattle.nd_graph.specs.Graph.{Dataflow}
@@ -8,14 +8,14 @@ use Rattle.nd_paths.specs.declared.point.Pointstamp.{Pointstamp}
 use Rattle.nd_delta.specs.Delta.{DeltaValue, none, at, entries}
 use Rattle.nd_delta.specs.Least.{place_of}
 use Rattle.nd_view.specs.Kept.{Kept, IsFor}
-use Rattle.nd_view.specs.View.{IsBlocker, IsOnFrontier, IsPartWhere, IsPassed}
+use Rattle.nd_view.specs.View.{IsPositiveBefore, IsOnFrontier, IsPartWhere, IsPassedBefore}
 use Rattle.nd_view.specs.Views.{AreFor, maps-get}
 use Rattle.nd_processor.specs.State.{ProcessorState}
 use Rattle.nd_protocol.specs.State.{ClusterState, view}
 use Rattle.nd_protocol.specs.Fitting.{IsState}
 use Rattle.nd_why.specs.Account.{Account}
-use Rattle.nd_why.specs.Why.{state_of, account, account_of, IsReason, IsWhy, HasReasonBefore}
-use Rattle.nd_why.proofs.Order.{IsOrder, index_some, frontier_before}
+use Rattle.nd_why.specs.Why.{state_of, account, account_of, IsReason, IsWhyBefore, HasReasonBefore}
+use Rattle.nd_why.proofs.Order.{IsOrder, index_some, frontier_before, fits_before, near_could, near_before}
 use Rattle.nd_map.specs.Cases.{not_zero}
 
 -- the view of q, as it is stored
@@ -26,24 +26,24 @@ seen g ps vs m state kept q lt v is =
     (sym (maps-get vs q v none short is), subst (IsFor g) (sym is) (kept q v short))
 
 -- what the parts tell is the account of each reason
-pub whole_of : (s : ClusterState) (q : ℕ) (t : Pointstamp) (known : DeltaValue) → known ≡ view s q → (points : DeltaValue) → IsPartWhere (IsReason s.graph known t) known points → (accounts : List Account)
-    → accounts ≡ map (λ e. account_of s.processors s.queues q known e.0) (entries points) → IsWhy s q t accounts
-whole_of s q t known is points part accounts told = (
+pub whole_of : (s : ClusterState) (strictly : Bool) (q : ℕ) (t : Pointstamp) (known : DeltaValue) → known ≡ view s q → (points : DeltaValue) → IsPartWhere (IsReason s.graph known strictly t) known points → (accounts : List Account)
+    → accounts ≡ map (λ e. account_of s.processors s.queues q known e.0) (entries points) → IsWhyBefore s strictly q t accounts
+whole_of s strictly q t known is points part accounts told = (
   points,
-  subst (λ m. IsPartWhere (IsReason s.graph m t) m points) is part,
+  subst (λ m. IsPartWhere (IsReason s.graph m strictly t) m points) is part,
   told ∙ ap (λ m. map (λ (e : Pointstamp × ℤ). account_of s.processors s.queues q m e.0) (entries points)) is,
 )
 
-module _ (s : ClusterState) (q : ℕ) (t : Pointstamp) (accounts : List Account) (why : IsWhy s q t accounts) where
+module _ (s : ClusterState) (strictly : Bool) (q : ℕ) (t : Pointstamp) (accounts : List Account) (why : IsWhyBefore s strictly q t accounts) where
   -- what holds of the account of each reason
-  pub each_account : (P : Account → Type 0) → ((b : Pointstamp) → IsReason s.graph (view s q) t b → P (account s q b)) → All P accounts
+  pub each_account : (P : Account → Type 0) → ((b : Pointstamp) → IsReason s.graph (view s q) strictly t b → P (account s q b)) → All P accounts
   each_account P holds =
       subst (All P) (sym why.2) (All-map P (λ e. account s q e.0) (entries why.0) (λ k d lt.
       let b = (get_or (entries why.0) k d).0 in
       holds b (why.1.only b (index_some why.0 k d lt))))
 
   -- each reason has an account
-  pub has_account : (b : Pointstamp) → IsReason s.graph (view s q) t b → Contains accounts (account s q b)
+  pub has_account : (b : Pointstamp) → IsReason s.graph (view s q) strictly t b → Contains accounts (account s q b)
   has_account b reason =
       let some : at why.0 b ≢ pos 0 = λ e. not_zero (at (view s q) b) reason.frontier.positive (sym (why.1.all b reason) ∙ e) in
       let place = place_of why.0 b some in
@@ -55,18 +55,26 @@ module _ (s : ClusterState) (q : ℕ) (t : Pointstamp) (accounts : List Account)
       )
 
   module _ (order : IsOrder s.graph) (v : Kept) (is : v.map ≡ view s q) (kept : IsFor s.graph v) where
-    pub covered : (x : Pointstamp) → IsBlocker s.graph (view s q) t x → HasReasonBefore s.graph accounts x
+    pub covered : (x : Pointstamp) → IsPositiveBefore s.graph (view s q) strictly t x → HasReasonBefore s.graph accounts x
     covered x b =
-        let near = frontier_before s.graph order v kept t x (subst (λ m. IsBlocker s.graph m t x) (sym is) b) in
-        let reason : IsReason s.graph (view s q) t near.point = record { frontier = subst (λ m. IsOnFrontier s.graph m near.point) is near.frontier; before = order.transitive near.point x t near.before b.before } in
-        record { reason = account s q near.point; among = has_account near.point reason; before = near.before }
+        let near = frontier_before s.graph order v kept x (subst (λ m. pos 0 <ℤ at m x) (sym is) b.positive) in
+        let reason : IsReason s.graph (view s q) strictly t near.point = record { frontier = subst (λ m. IsOnFrontier s.graph m near.point) is near.frontier; before = near_before s.graph order strictly near.point x t near.near b.before } in
+        record { reason = account s q near.point; among = has_account near.point reason; before = near_could s.graph order near.point x (fits_before s.graph strictly x t b.before) near.near }
 
-    pub passed_by : (accounts ≡ []) ↔ IsPassed s.graph (view s q) t
+    none_of : (xs : List Account) → All (λ a. ⊥) xs → xs ≡ []
+    none_of [] h = refl
+    none_of (a ∷ rest) h = absurd (h 0 a (omega arith))
+
+    pub passed_by : (accounts ≡ []) ↔ IsPassedBefore s.graph strictly (view s q) t
     passed_by = (
-      λ e x b. let found = (covered x b).among in absurd (omega (arith, found.1, ap length e)),
-      λ passed. none_of accounts (each_account (λ a. ⊥) (λ b reason. passed b (record { positive = reason.frontier.positive; before = reason.before }))),
+      λ e. none_passed strictly t (λ x b. let found = (covered x b).among in absurd (omega (arith, found.1, ap length e))),
+      λ passed. none_of accounts (each_account (λ a. ⊥) (λ b reason. passed_none strictly t passed b (record { positive = reason.frontier.positive; before = reason.before }))),
     )
       where
-        none_of : (xs : List Account) → All (λ a. ⊥) xs → xs ≡ []
-        none_of [] h = refl
-        none_of (a ∷ rest) h = absurd (h 0 a (omega arith))
+        none_passed : (strict : Bool) (u : Pointstamp) → ((x : Pointstamp) → IsPositiveBefore s.graph (view s q) strict u x → ⊥) → IsPassedBefore s.graph strict (view s q) u
+        none_passed true u never = λ x p. never x (record { positive = p.positive; before = p.before })
+        none_passed false u never = λ x p. never x (record { positive = p.positive; before = p.before })
+
+        passed_none : (strict : Bool) (u : Pointstamp) → IsPassedBefore s.graph strict (view s q) u → (x : Pointstamp) → IsPositiveBefore s.graph (view s q) strict u x → ⊥
+        passed_none true u passed x p = passed x (record { positive = p.positive; before = p.before })
+        passed_none false u passed x p = passed x (record { positive = p.positive; before = p.before })

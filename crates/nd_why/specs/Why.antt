@@ -1,5 +1,5 @@
 -- Why a processor does not consider a pointstamp finished (this project's own rule, on FORTE 2013).
-use Rattle.std.specs.Prelude.{◌≡◌, ◌<◌, ◌+ℤ◌, ℕ, zero, suc, ℤ, pos, negsuc, cond, List, [], ◌∷◌, ◌++◌, Contains, length, map, slice_index_or, sum_by}
+use Rattle.std.specs.Prelude.{◌≡◌, ◌<◌, ◌+ℤ◌, Bool, false, ℕ, zero, suc, ℤ, pos, negsuc, cond, List, [], ◌∷◌, ◌++◌, Contains, length, map, slice_index_or, sum_by}
 use Rattle.std.specs.List.{flat_map, Any}
 use Rattle.std.specs.FinMap as fin
 use Rattle.nd_graph.specs.Graph.{Dataflow}
@@ -8,7 +8,7 @@ use Rattle.nd_paths.specs.Order.{CouldResultIn}
 use Rattle.nd_paths.specs.declared.point.Pointstamp.{Pointstamp}
 use Rattle.nd_delta.specs.Delta.{DeltaValue, none, at, is_point, entries}
 use Rattle.nd_view.specs.Kept.{Kept}
-use Rattle.nd_view.specs.View.{IsOnFrontier, IsPartWhere}
+use Rattle.nd_view.specs.View.{IsBefore, IsOnFrontier, IsPartWhere}
 use Rattle.nd_processor.specs.State.{ProcessorState, idle, token_point}
 use Rattle.nd_processor.specs.declared.key.ValueAt.{ValueAt}
 use Rattle.nd_mesh.specs.Mesh.{queue}
@@ -80,21 +80,25 @@ unheard_at processors queues q b = in_turn (length processors) (λ p. unheard_fr
 
 -- ---- what is outstanding
 
--- at or before t the number of some pointstamp is not 0
-pub record HasBefore (g : Dataflow) (t : Pointstamp) (count : Pointstamp → ℕ) : Type 0 where
+-- before t, strictly or not, the number of some pointstamp is not 0
+pub record HasBefore (g : Dataflow) (strictly : Bool) (t : Pointstamp) (count : Pointstamp → ℕ) : Type 0 where
   pub point : Pointstamp
-  pub before : CouldResultIn g point t
+  pub before : IsBefore g strictly point t
   pub some : 0 < count point
 
--- a processor has a record, a request, a token at or before t
-abbrev pub RecordBefore : Dataflow → Pointstamp → ProcessorState → Type 0
-RecordBefore g t q = Any (λ (e : ValueAt × ℕ). CouldResultIn g e.0.point t) (numbers q.records)
+-- a processor has a record, a request, a token before t
+abbrev pub RecordBefore : Dataflow → Bool → Pointstamp → ProcessorState → Type 0
+RecordBefore g strictly t q = Any (λ (e : ValueAt × ℕ). IsBefore g strictly e.0.point t) (numbers q.records)
 
-abbrev pub RequestBefore : Dataflow → Pointstamp → ProcessorState → Type 0
-RequestBefore g t q = Any (λ (e : Pointstamp × Unit {0}). CouldResultIn g e.0 t) (fin.entries q.requests)
+abbrev pub RequestBefore : Dataflow → Bool → Pointstamp → ProcessorState → Type 0
+RequestBefore g strictly t q = Any (λ (e : Pointstamp × Unit {0}). IsBefore g strictly e.0 t) (fin.entries q.requests)
 
-abbrev pub TokenBefore : Dataflow → Pointstamp → ProcessorState → Type 0
-TokenBefore g t q = Any (λ (e : ℕ × ℕ). CouldResultIn g (token_point e.0 e.1) t) (fin.entries q.tokens)
+abbrev pub TokenBefore : Dataflow → Bool → Pointstamp → ProcessorState → Type 0
+TokenBefore g strictly t q = Any (λ (e : ℕ × ℕ). IsBefore g strictly (token_point e.0 e.1) t) (fin.entries q.tokens)
+
+-- nothing outstanding is before t, strictly or not
+abbrev pub IsFinishedBefore : ClusterState → Bool → Pointstamp → Type 0
+IsFinishedBefore s strictly t = (x : Pointstamp) → IsBefore s.graph strictly x t → at (truth s.processors) x ≡ pos 0
 
 -- ---- the reasons
 
@@ -106,14 +110,19 @@ account_of processors queues q known b = record { point = b; held = held_at proc
 abbrev pub account : ClusterState → ℕ → Pointstamp → Account
 account s q b = account_of s.processors s.queues q (view s q) b
 
--- b is on the frontier of the view v, and at or before t
-pub record IsReason (g : Dataflow) (v : DeltaValue) (t b : Pointstamp) : Type 0 where
+-- b is on the frontier of the view v, and before t: strictly before it, or at or before it
+pub record IsReason (g : Dataflow) (v : DeltaValue) (strictly : Bool) (t b : Pointstamp) : Type 0 where
   pub frontier : IsOnFrontier g v b
-  pub before : CouldResultIn g b t
+  pub before : IsBefore g strictly b t
 
--- these are the accounts of the reasons for which q does not consider t finished, in the order of listing
+-- these are the accounts of the reasons for which q does not consider all that is before t finished, in the order of listing
+abbrev pub IsWhyBefore : ClusterState → Bool → ℕ → Pointstamp → List Account → Type 0
+IsWhyBefore s strictly q t accounts =
+    (reasons : DeltaValue) × IsPartWhere (IsReason s.graph (view s q) strictly t) (view s q) reasons × (accounts ≡ map (λ e. account s q e.0) (entries reasons))
+
+-- the same for t itself and what is before it
 abbrev pub IsWhy : ClusterState → ℕ → Pointstamp → List Account → Type 0
-IsWhy s q t accounts = (reasons : DeltaValue) × IsPartWhere (IsReason s.graph (view s q) t) (view s q) reasons × (accounts ≡ map (λ e. account s q e.0) (entries reasons))
+IsWhy s q t accounts = IsWhyBefore s false q t accounts
 
 -- one of them is of a pointstamp at or before x
 pub record HasReasonBefore (g : Dataflow) (accounts : List Account) (x : Pointstamp) : Type 0 where

@@ -10,4 +10,4 @@ mod query;
 
 pub use answer::{Held, Reason, Reasons, Unheard};
 pub use outstanding::finished;
-pub use query::why;
+pub use query::{Question, why};

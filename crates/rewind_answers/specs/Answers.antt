@@ -39,15 +39,16 @@ use Rattle.rewind_forms.specs.Versions.{number_of as number_of_version, version_
 use Rattle.rewind_forms.specs.Replies.{version, fault, location_fault, piece_fault, graph, reply_data, faulty, line_fault, count, before, state, known, frontier, passed, not_passed, no_processor, found}
 use Rattle.rewind_forms.specs.LineFaults.{code_of as code_of_line}
 use Rattle.rewind_forms.specs.declared.version.Version.{Version}
-use Rattle.rewind_forms.specs.declared.version.Version.TheVariants.{First, Second, Third}
+use Rattle.rewind_forms.specs.declared.version.Version.TheVariants.{First, Second, Third, Fourth}
 use Rattle.rewind_forms.specs.declared.fault.LineFault.{LineFault}
 use Rattle.rewind_forms.specs.declared.fault.LineFault.TheVariants.{LineTooLong, BadLine}
 use Rattle.rewind_forms.specs.declared.asked.Asked.{Asked}
 use Rattle.rewind_forms.specs.declared.asked.Asked.TheVariants.{Do, Tell}
 use Rattle.rewind_forms.specs.declared.queries.Search.{Search as Searching}
 use Rattle.rewind_forms.specs.declared.queries.Query.{Query}
-use Rattle.rewind_forms.specs.declared.queries.Query.TheVariants.{State, Count, Before, View, Frontier, Passed, Search, Export, Why, Changes, Step}
-use Rattle.rewind_answers.specs.Explained.{WhyReply, ChangesReply, ExportReply, StepReply}
+use Rattle.rewind_forms.specs.declared.queries.Query.TheVariants.{State, Count, Before, View, Frontier, Passed, Search, Export, Why, Changes, Step, Candidates, Effect, Turns, FrontierAt, WhyBefore}
+use Rattle.rewind_answers.specs.Ahead.{CandidatesReply, FrontierAtReply}
+use Rattle.rewind_answers.specs.Explained.{WhyReply, WhyBeforeReply, ChangesReply, ExportReply, StepReply, EffectReply, TurnsReply}
 
 -- a machine, and how many commands it has answered that were logged
 pub record Logged : Type 0 where
@@ -69,6 +70,7 @@ abbrev pub checked_in : Version → Draft → Result Dataflow GraphFault
 checked_in First draft = checked_v1 draft
 checked_in Second draft = checked draft
 checked_in Third draft = checked draft
+checked_in Fourth draft = checked draft
 
 -- the graph of a draft, or the reply to one that is refused
 abbrev pub graph_of_draft : Version → Option Draft → Result Dataflow GraphFault
@@ -84,6 +86,7 @@ abbrev pub most_processors : Version → ℕ
 most_processors First = max_processors_v1
 most_processors Second = max_processors
 most_processors Third = max_processors
+most_processors Fourth = max_processors
 
 -- why no cluster starts on a graph, and the reply: there are more processors than the version has, or the cluster refuses
 pub data RefusedReply (v : Version) (processors : ℕ) (g : Dataflow) (reply : Data) : Type 0 where
@@ -152,7 +155,7 @@ search_fault search.Memory = None
 search_fault (search.Missing piece claimed) = Some (piece_fault (code_of_search (search.Missing piece claimed)) piece)
 search_fault e = Some (fault (code_of_search e))
 
--- A search is answered by the least position at which the breakpoint holds, or by null if it holds at none; or by the first of the faults
+-- A search is answered by the least position at which the condition holds, or by null if it holds at none; or by the first of the faults
 -- whose condition holds; or by a piece that is missing, before which there is no such position.
 pub data SearchReply (m : TimelineValue Global) (s : Searching) (reply : Data) : Type 0 where
   searched : (least : Option ℕ) → MaySearch (length m.kept) s.lo s.hi s.workers → IsLeastHit (HoldsAt m s.when) s.lo s.hi least
@@ -172,6 +175,11 @@ QueryReply m Export reply = ExportReply m reply
 QueryReply m (Why q x) reply = WhyReply (cluster_of m) q x reply
 QueryReply m (Changes asked) reply = ChangesReply m asked reply
 QueryReply m (Step to) reply = StepReply m to reply
+QueryReply m Candidates reply = CandidatesReply (cluster_of m) reply
+QueryReply m (Effect to) reply = EffectReply m to reply
+QueryReply m (Turns asked) reply = TurnsReply m asked reply
+QueryReply m (FrontierAt q l) reply = FrontierAtReply (cluster_of m) q l reply
+QueryReply m (WhyBefore q x) reply = WhyBeforeReply (cluster_of m) q x reply
 
 -- A command is answered by a move of the machine, shown with the names of the graph, and is logged; or, exactly if the log is full, by that; or by out of memory.
 pub data CommandReply (m : Logged) (asked : Command Global) (reply : Data) (new : Logged) : Type 0 where

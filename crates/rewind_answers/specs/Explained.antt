@@ -1,31 +1,43 @@
--- What may be answered when all kept steps are asked for, or one of them, or why a processor does not consider a pointstamp finished, or
--- when its view changed (this project's own rule).
-use Rattle.std.specs.Prelude.{◌≡◌, ◌-◌, ◌↔◌, IsTrue, Bool, ℕ, ◌<◌, ◌≤◌, ◌⊎◌, List, map, length, Option, Some, None, slice_get}
+-- What may be answered when all kept steps are asked for, or one of them, or what it changed; why a processor does not consider a
+-- pointstamp finished, or what is strictly before it; when its view changed, and when a condition turned (this project's own rule).
+use Rattle.std.specs.Prelude.{◌≡◌, ◌-◌, ◌↔◌, IsTrue, Bool, true, ℕ, ◌<◌, ◌≤◌, ◌⊎◌, List, map, length, Option, Some, None, slice_get}
 use Rattle.std.specs.declared.alloc.Global.{Global}
 use Rattle.serde_json.specs.Data.{Data}
 use Rattle.nd_graph.specs.Graph.{Dataflow}
 use Rattle.nd_paths.specs.declared.point.Pointstamp.{Pointstamp}
-use Rattle.nd_view.specs.View.{IsPassed}
+use Rattle.nd_view.specs.View.{IsPassed, IsPassedBefore}
 use Rattle.nd_protocol.specs.State.{ClusterState, view}
 use Rattle.nd_protocol.specs.Invariant.{IsFinished}
 use Rattle.nd_protocol.specs.declared.step.Step.{Step}
-use Rattle.nd_state_json.specs.StateText.{row}
+use Rattle.nd_state_json.specs.StateText.{row, natural}
 use Rattle.nd_timeline.specs.Timeline.{TimelineValue, cluster_of}
 use Rattle.nd_timeline.specs.Faults.{code_of}
 use Rattle.nd_timeline.specs.declared.fault.Fault.TheVariants.{NoSuchPoint}
 use Rattle.nd_why.specs.Account.{Account}
-use Rattle.nd_why.specs.Why.{IsWhy}
+use Rattle.nd_why.specs.Why.{IsWhy, IsWhyBefore, IsFinishedBefore}
+use Rattle.nd_steps.specs.Effect.{lists_of}
 use Rattle.nd_history.specs.Told.{IsTold}
 use Rattle.nd_history.specs.ViewChanges.{changes_of, MayTell, CannotTell}
-use Rattle.nd_history.specs.Faults.{code_of_changes}
+use Rattle.nd_history.specs.Faults.{code_of_changes, code_of_turns}
+use Rattle.nd_history.specs.Effected.{IsEffect, HasNoEffect, IsLedTo, code_of_effect}
+use Rattle.nd_history.specs.Least.{HoldsAt}
+use Rattle.nd_history.specs.Turns.{AreListed, MayTurn, CannotTurn}
+use Rattle.nd_history.specs.declared.effected.StepEffect.{StepEffect}
+use Rattle.nd_history.specs.declared.effected.EffectFault.{EffectFault}
+use Rattle.nd_history.specs.declared.effected.EffectFault.TheVariants as effects
+use Rattle.nd_history.specs.declared.turned.Turns.{Turns}
+use Rattle.nd_history.specs.declared.fault.TurnsFault.{TurnsFault}
+use Rattle.nd_history.specs.declared.fault.TurnsFault.TheVariants as turned
 use Rattle.nd_history.specs.declared.told.Told.{Told}
 use Rattle.nd_history.specs.declared.fault.ChangesFault.{ChangesFault}
 use Rattle.nd_history.specs.declared.fault.ChangesFault.TheVariants as changes
-use Rattle.rewind_forms.specs.Replies.{fault, no_processor, exported, kept_step, changed, why}
+use Rattle.rewind_forms.specs.Replies.{fault, no_processor, exported, kept_step, changed, why, effect, turns}
 use Rattle.rewind_forms.specs.Objects.{object_of}
 use Rattle.rewind_forms.specs.Reasons.{reasons_data}
 use Rattle.rewind_forms.specs.Changes.{changes_data}
+use Rattle.rewind_forms.specs.Effects.{effect_data}
 use Rattle.rewind_forms.specs.declared.queries.ViewChanges.{ViewChanges}
+use Rattle.rewind_forms.specs.declared.queries.Turns.{Turns as Turning}
 
 -- ---- kept steps
 
@@ -42,6 +54,20 @@ abbrev pub StepReply : TimelineValue Global → ℕ → Data → Type 0
 StepReply m to reply =
     (((to ≡ 0) ⊎ (length m.kept < to)) × (reply ≡ fault (code_of NoSuchPoint)))
     ⊎ ((0 < to) × ((x : Step Global) × (slice_get m.kept (to - 1) ≡ Some x) × (reply ≡ kept_step (object_of (cluster_of m).graph x))))
+
+-- ---- what a step changed
+
+-- the reply to a question for what a step changed that has no answer; running out of memory is none
+abbrev pub effect_fault : EffectFault → Option Data
+effect_fault effects.Memory = None
+effect_fault effects.NoSuchPoint = Some (fault (code_of_effect effects.NoSuchPoint))
+
+-- The kept step that leads to a position is told, with each key and each queue at which the clusters before and after it differ;
+-- or that no step leads there.
+pub data EffectReply (m : TimelineValue Global) (to : ℕ) (reply : Data) : Type 0 where
+  effected : (e : StepEffect Global) → IsLedTo m to → IsEffect m to e
+      → reply ≡ effect (effect_data (cluster_of m).graph (lists_of e.changed)) (object_of (cluster_of m).graph e.step) → EffectReply m to reply
+  uneffected : (e : EffectFault) → HasNoEffect m to e → Some reply ≡ effect_fault e → EffectReply m to reply
 
 -- ---- why
 
@@ -60,6 +86,22 @@ WhyReply s q t reply =
     ((length s.processors ≤ q) × (reply ≡ no_processor))
     ⊎ ((q < length s.processors) × TellsWhy s q t reply)
 
+-- the reasons for which q does not consider all that is strictly before t finished; whether its view has passed all of that; and
+-- whether all of that is finished
+pub record TellsWhyBefore (s : ClusterState) (q : ℕ) (t : Pointstamp) (reply : Data) : Type 0 where
+  pub accounts : List Account
+  pub whole : IsWhyBefore s true q t accounts
+  pub passed : Bool
+  pub has_passed : IsTrue passed ↔ IsPassedBefore s.graph true (view s q) t
+  pub finished : Bool
+  pub is_finished : IsTrue finished ↔ IsFinishedBefore s true t
+  pub told : reply ≡ why finished passed (reasons_data s.graph accounts)
+
+abbrev pub WhyBeforeReply : ClusterState → ℕ → Pointstamp → Data → Type 0
+WhyBeforeReply s q t reply =
+    ((length s.processors ≤ q) × (reply ≡ no_processor))
+    ⊎ ((q < length s.processors) × TellsWhyBefore s q t reply)
+
 -- ---- changes
 
 -- the reply to a question for changes that has no answer; running out of memory is none
@@ -73,3 +115,17 @@ pub data ChangesReply (m : TimelineValue Global) (c : ViewChanges) (reply : Data
   told : (telling : Told Global) → MayTell m c.q c.lo c.hi → IsTold (changes_of m c.q c.point c.lo c.hi) telling
       → reply ≡ changed (changes_data telling.changes) telling.more → ChangesReply m c reply
   untold : (e : ChangesFault) → CannotTell m c.q c.lo c.hi e → Some reply ≡ changes_fault e → ChangesReply m c reply
+
+-- ---- turns
+
+-- the reply to a question for turns that has no answer; running out of memory is none
+abbrev pub turns_fault : TurnsFault → Option Data
+turns_fault turned.Memory = None
+turns_fault e = Some (fault (code_of_turns e))
+
+-- The turns that were asked for are told, the first of them and whether there are more, with whether the condition holds where they
+-- begin; or the first of the faults whose condition holds.
+pub data TurnsReply (m : TimelineValue Global) (c : Turning) (reply : Data) : Type 0 where
+  listed : (listing : Turns Global) → MayTurn m c.lo c.hi → AreListed (HoldsAt m c.when) c.lo c.hi listing
+      → reply ≡ turns listing.at_lo (row (map natural listing.positions)) listing.more → TurnsReply m c reply
+  unlisted : (e : TurnsFault) → CannotTurn m c.lo c.hi e → Some reply ≡ turns_fault e → TurnsReply m c reply

@@ -1,3 +1,4 @@
 pub mod Answers
+pub mod Ahead
 pub mod Explained
 pub mod Stages

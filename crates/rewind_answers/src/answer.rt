@@ -28,7 +28,7 @@ fn judged(alloc: Global, version: Version, draft: GraphDraft) -> Result<Graph, G
 {
     match version {
         Version::First => draft.check_v1(alloc),
-        Version::Second | Version::Third => draft.check(alloc),
+        Version::Second | Version::Third | Version::Fourth => draft.check(alloc),
     }
 }
 
@@ -49,7 +49,7 @@ fn most_processors(version: Version) -> u8
 {
     match version {
         Version::First => 8,
-        Version::Second | Version::Third => 16,
+        Version::Second | Version::Third | Version::Fourth => 16,
     }
 }
 
@@ -71,7 +71,8 @@ fn start_on(
             let locations = names.location_count() as u64;
             let reply = replies::graph(alloc, locations, u64::from(processors))?;
             let timeline = Timeline::new(alloc, cluster)?;
-            Ok((reply, Some(State::new(alloc, timeline))))
+            let state = State::new(alloc, timeline)?;
+            Ok((reply, Some(state)))
         }
         Err(StartFault::BadCount) => {
             Ok((replies::fault(alloc, StartFault::BadCount.code())?, None))

@@ -1,14 +1,15 @@
-//! The replies that tell kept steps.
-ghost use Rattle.std.specs.Prelude.{◌≡◌, IfOk};
+//! The replies that tell kept steps, and what one of them changed.
+ghost use Rattle.std.specs.Prelude.{◌≡◌, Some, IfOk};
 ghost use Rattle.rewind_forms.specs.Replies.{fault as fault_data};
-ghost use Rattle.rewind_answers.specs.Explained.{steps_data, ExportReply, StepReply};
+ghost use Rattle.rewind_answers.specs.Explained.{steps_data, ExportReply, StepReply, EffectReply, effect_fault};
 ghost use Rattle.nd_timeline.specs.Faults.{code_of};
 ghost use Rattle.nd_timeline.specs.declared.fault.Fault.TheVariants.{NoSuchPoint};
 
 use nd_graph::Graph;
+use nd_history::{EffectFault, effect};
 use nd_json::{Json, JsonList};
 use nd_timeline::{Fault, Timeline};
-use rewind_forms::{replies, step_value};
+use rewind_forms::{effect_value, replies, step_value};
 use std::alloc::{AllocError, Global};
 
 // All kept steps, each as the object of its command line.
@@ -52,4 +53,29 @@ pub(crate) fn answer_step(alloc: Global, timeline: &Timeline, to: u64) -> Result
     };
     let shown = step_value(alloc, timeline.cluster().graph(), step)?;
     replies::kept_step(alloc, shown)
+}
+
+// Replies to a question for what a step changed that has no answer; running out of memory is none.
+fn refuse_effect(alloc: Global, fault: EffectFault) -> Result<Json, AllocError>
+    ensures reply { IfOk result (λ j. Some j ≡ effect_fault fault) }
+{
+    match fault {
+        EffectFault::Memory => Err(AllocError),
+        EffectFault::NoSuchPoint => replies::fault(alloc, fault.code()),
+    }
+}
+
+/// Replies with the kept step that leads to a position, and what it changed.
+pub(crate) fn answer_effect(alloc: Global, timeline: &Timeline, to: u64) -> Result<Json, AllocError>
+    ensures reply { IfOk result (λ v. EffectReply timeline.now to v) }
+{
+    match effect(alloc, timeline, to) {
+        Ok(effected) => {
+            let graph = timeline.cluster().graph();
+            let shown = effect_value(alloc, graph, &effected.changed)?;
+            let step = step_value(alloc, graph, &effected.step)?;
+            replies::effect(alloc, shown, step)
+        }
+        Err(fault) => refuse_effect(alloc, fault),
+    }
 }

@@ -2,6 +2,7 @@
 //! sources or of sinks.
 #![tactic(auto)]
 
+mod ahead;
 mod answer;
 mod kept;
 mod query;

@@ -5,9 +5,10 @@ ghost use Rattle.nd_state_json.specs.StateText.{state_data};
 ghost use Rattle.rewind_forms.specs.Replies.{count as count_data, state};
 ghost use Rattle.rewind_answers.specs.Answers.{QueryReply, BeforeReply, ViewReply, FrontierReply, PassedReply, SearchReply, search_fault, true_count};
 
+use crate::ahead::{answer_candidates, answer_frontier_at};
 use crate::answer::cluster;
-use crate::kept::{answer_export, answer_step};
-use crate::why::{answer_changes, answer_why};
+use crate::kept::{answer_effect, answer_export, answer_step};
+use crate::why::{answer_changes, answer_turns, answer_why, answer_why_before};
 use nd_cluster::Cluster;
 use nd_history::{OpenGate, SearchFault, search_in};
 use nd_json::Json;
@@ -112,7 +113,7 @@ fn refuse_search(alloc: Global, fault: &SearchFault) -> Result<Json, AllocError>
     }
 }
 
-// Replies with the least position at which a breakpoint holds. No kept step is copied for it.
+// Replies with the least position at which a condition holds. No kept step is copied for it.
 fn answer_search<R: Threads + Sync>(
     rt: &R,
     alloc: Global,
@@ -156,5 +157,10 @@ pub fn answer_query<R: Threads + Sync>(
         Query::Why(q, point) => answer_why(alloc, cluster, *q, point),
         Query::Changes(asked) => answer_changes(alloc, state.timeline(), asked),
         Query::Step(to) => answer_step(alloc, state.timeline(), *to),
+        Query::Candidates => answer_candidates(alloc, cluster),
+        Query::Effect(to) => answer_effect(alloc, state.timeline(), *to),
+        Query::Turns(asked) => answer_turns(alloc, state.timeline(), asked),
+        Query::FrontierAt(q, location) => answer_frontier_at(alloc, cluster, *q, *location),
+        Query::WhyBefore(q, point) => answer_why_before(alloc, cluster, *q, point),
     }
 }

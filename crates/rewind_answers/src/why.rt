@@ -1,13 +1,13 @@
-//! The replies that tell why a processor does not consider a pointstamp finished, and when its view changed.
+//! The replies that tell why a processor does not consider a pointstamp finished, when its view changed, and when a condition turned.
 ghost use Rattle.std.specs.Prelude.{◌≡◌, Some, IfOk};
-ghost use Rattle.rewind_answers.specs.Explained.{WhyReply, ChangesReply, changes_fault};
+ghost use Rattle.rewind_answers.specs.Explained.{WhyReply, WhyBeforeReply, ChangesReply, changes_fault, TurnsReply, turns_fault};
 
 use nd_cluster::Cluster;
-use nd_history::{ChangesFault, changes};
-use nd_json::Json;
+use nd_history::{ChangesFault, TurnsFault, changes, turns};
+use nd_json::{Json, list_of};
 use nd_paths::Pointstamp;
 use nd_timeline::Timeline;
-use rewind_forms::{ViewChanges, changes_value, reasons_value, replies};
+use rewind_forms::{Turns, ViewChanges, changes_value, reasons_value, replies};
 use std::alloc::{AllocError, Global};
 
 /// Replies with the reasons for which a processor does not consider a pointstamp finished, and whether it is.
@@ -30,6 +30,29 @@ pub(crate) fn answer_why(
     let passed = cluster.passed(q, point);
     let finished = cluster.finished(point);
     replies::why(alloc, finished, passed, shown)
+}
+
+/// Replies with the reasons for which a processor does not consider all that is strictly before a pointstamp finished, and
+/// whether it is.
+pub(crate) fn answer_why_before(
+    alloc: Global,
+    cluster: &Cluster,
+    q: u32,
+    point: &Pointstamp,
+) -> Result<Json, AllocError>
+    ensures reply { IfOk result (λ v. WhyBeforeReply cluster.now q point.now v) }
+{
+    let q = q as usize;
+    if q >= cluster.n() {
+        return replies::no_processor(alloc);
+    }
+    let Ok(reasons) = cluster.why_before(alloc, q, point) else {
+        return Err(AllocError);
+    };
+    let shown = reasons_value(alloc, cluster.graph(), &reasons)?;
+    let has_passed = cluster.passed_before(q, point);
+    let is_finished = cluster.finished_before(point);
+    replies::why(alloc, is_finished, has_passed, shown)
 }
 
 // Replies to a question for changes that has no answer; running out of memory is none.
@@ -57,5 +80,33 @@ pub(crate) fn answer_changes(
             replies::changed(alloc, shown, told.more)
         }
         Err(fault) => refuse_changes(alloc, fault),
+    }
+}
+
+// Replies to a question for turns that has no answer; running out of memory is none.
+fn refuse_turns(alloc: Global, fault: TurnsFault) -> Result<Json, AllocError>
+    ensures reply { IfOk result (λ j. Some j ≡ turns_fault fault) }
+{
+    match fault {
+        TurnsFault::Memory => Err(AllocError),
+        other => replies::fault(alloc, other.code()),
+    }
+}
+
+/// Replies with the positions at which a condition began or ceased to hold.
+pub(crate) fn answer_turns(
+    alloc: Global,
+    timeline: &Timeline,
+    asked: &Turns,
+) -> Result<Json, AllocError>
+    ensures reply { IfOk result (λ v. TurnsReply timeline.now asked.now v) }
+{
+    let Turns { when, lo, hi } = asked;
+    match turns(alloc, timeline, when, *lo, *hi) {
+        Ok(listed) => {
+            let shown = list_of(alloc, listed.positions.as_slice())?;
+            replies::turns(alloc, listed.at_lo, shown, listed.more)
+        }
+        Err(fault) => refuse_turns(alloc, fault),
     }
 }

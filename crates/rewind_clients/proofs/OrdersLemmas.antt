@@ -24,7 +24,7 @@ pub form_asks : (v : Version) (g : Dataflow) (d : Data) (a : Asked) → asked_of
 unfolding asked_of
 form_asks v g d a is = by (form_of v d) is
   where
-    by : (o : Option Form) → given BadShape o (asked_as g d) ≡ Ok a → is_query o ≡ asks_query a
+    by : (o : Option Form) → given BadShape o (asked_as v g d) ≡ Ok a → is_query o ≡ asks_query a
     by None h = absurd (cc h)
     by (Some (Step form)) h = after_asks false _ _ a (λ x. refl) h
     by (Some (Command form)) h = after_asks false _ _ a (λ x. refl) h

@@ -3,3 +3,4 @@ pub mod Values
 pub mod ReadBack
 pub mod Fits
 pub mod ReasonsLemmas
+pub mod ConditionsLemmas

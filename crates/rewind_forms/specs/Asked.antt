@@ -17,11 +17,11 @@ use Rattle.rewind_forms.specs.declared.fault.LineFault.{LineFault}
 use Rattle.rewind_forms.specs.declared.fault.LineFault.TheVariants.{BadShape}
 
 -- what a line of a form asks for, against a graph
-abbrev pub asked_as : Dataflow → Data → Form → Result Asked LineFault
-asked_as g d (Step form) = after (step_of g form d) (λ step. Ok (Do (Forward step)))
-asked_as g d (Command form) = after (command_of g form d) (λ command. Ok (Do command))
-asked_as g d (Query form) = after (query_of g form d) (λ query. Ok (Tell query))
+abbrev pub asked_as : Version → Dataflow → Data → Form → Result Asked LineFault
+asked_as v g d (Step form) = after (step_of g form d) (λ step. Ok (Do (Forward step)))
+asked_as v g d (Command form) = after (command_of v g form d) (λ command. Ok (Do command))
+asked_as v g d (Query form) = after (query_of v g form d) (λ query. Ok (Tell query))
 
 -- what a line of a script of this version asks for, against a graph
 unfoldable pub asked_of : Version → Dataflow → Data → Result Asked LineFault
-asked_of v g d = given BadShape (form_of v d) (asked_as g d)
+asked_of v g d = given BadShape (form_of v d) (asked_as v g d)

@@ -8,7 +8,8 @@ use Rattle.nd_graph.specs.Graph.{Dataflow}
 use Rattle.nd_timeline.specs.declared.command.Command.{Command}
 use Rattle.nd_timeline.specs.declared.command.Command.TheVariants.{Back, Redo, Jump, Run, SetBreak, ClearBreak}
 use Rattle.rewind_forms.specs.Forms.{given, after}
-use Rattle.rewind_forms.specs.Breaks.{break_of}
+use Rattle.rewind_forms.specs.Conditions.{condition_of}
+use Rattle.rewind_forms.specs.declared.version.Version.{Version}
 use Rattle.rewind_forms.specs.declared.form.CommandForm.{CommandForm}
 use Rattle.rewind_forms.specs.declared.form.CommandForm.TheVariants as form
 use Rattle.rewind_forms.specs.declared.fault.LineFault.{LineFault}
@@ -20,20 +21,20 @@ jump_of d = given BadShape (whole_at (codes "to") d) (λ to. Ok (Jump to))
 unfoldable pub run_of : Data → Result (Command Global) LineFault
 run_of d = given BadShape (whole_at (codes "limit") d) (λ limit. Ok (Run limit))
 
-unfoldable pub set_of : Dataflow → Data → Result (Command Global) LineFault
-set_of g d =
+unfoldable pub set_of : Version → Dataflow → Data → Result (Command Global) LineFault
+set_of v g d =
     given BadShape (get (codes "when") d) (λ when.
-    after (break_of g when) (λ condition.
+    after (condition_of v g when) (λ condition.
     Ok (SetBreak condition)))
 
 unfoldable pub clear_of : Data → Result (Command Global) LineFault
 clear_of d = given BadShape (whole_at (codes "id") d) (λ id. Ok (ClearBreak id))
 
 -- the command of a form
-abbrev pub command_of : Dataflow → CommandForm → Data → Result (Command Global) LineFault
-command_of g form.Back d = Ok Back
-command_of g form.Redo d = Ok Redo
-command_of g form.Jump d = jump_of d
-command_of g form.Run d = run_of d
-command_of g form.Break d = set_of g d
-command_of g form.Unbreak d = clear_of d
+abbrev pub command_of : Version → Dataflow → CommandForm → Data → Result (Command Global) LineFault
+command_of v g form.Back d = Ok Back
+command_of v g form.Redo d = Ok Redo
+command_of v g form.Jump d = jump_of d
+command_of v g form.Run d = run_of d
+command_of v g form.Break d = set_of v g d
+command_of v g form.Unbreak d = clear_of d

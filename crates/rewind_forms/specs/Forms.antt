@@ -1,7 +1,7 @@
 -- The shapes of a line's values, and of what is read from them.
-use Rattle.std.specs.Prelude.{◌≡◌, ◌≢◌, ℕ, ℤ, ◌&&◌, List, [], ◌∷◌, if◌then◌else◌, Option, Some, None, codes, option_map, option_and_then, Result, Ok, Err}
+use Rattle.std.specs.Prelude.{◌≡◌, ◌≢◌, ℕ, ℤ, Bool, ◌&&◌, List, [], ◌∷◌, if◌then◌else◌, Option, Some, None, codes, option_map, option_and_then, Result, Ok, Err}
 use Rattle.serde_json.specs.Data.{Data}
-use Rattle.serde_json.specs.Find.{get}
+use Rattle.serde_json.specs.Find.{get, as_bool}
 use Rattle.nd_json.specs.Forms.{has_keys, text, list, small, integer, text_at, list_at}
 use Rattle.nd_graph.specs.Draft.{every}
 use Rattle.rewind_forms.specs.declared.fault.LineFault.{LineFault}
@@ -30,6 +30,10 @@ abbrev pub FailsWith : {B : Type 0} → Result B LineFault → LineFault → Typ
 FailsWith reading e = e ≢ Memory → reading ≡ Err e
 
 -- ---- values
+
+-- true or false, whichever stands at the key
+unfoldable pub boolean_at : List ℕ → Data → Option Bool
+boolean_at key d = option_and_then as_bool (get key d)
 
 -- the numbers of a time: at least one
 abbrev pub numbers_of : List Data → Option (List ℕ)
@@ -80,6 +84,10 @@ unfoldable pub named_at : List ℕ → Data → Option (List ℕ × List ℕ)
 named_at key d = option_and_then (λ name. option_map (λ numbers. (name, numbers)) (numbers_at (codes "time") d)) (text_at key d)
 
 -- ---- objects
+
+-- what stands under the only key of an object
+unfoldable pub alone : List ℕ → Data → Option Data
+alone key d = if has_keys (key ∷ []) d then get key d else None
 
 -- the object with exactly these keys that stands under the only key of an object
 unfoldable pub inner : List ℕ → List (List ℕ) → Data → Option Data

@@ -5,7 +5,7 @@ use Rattle.serde_json.specs.Data.{Data}
 use Rattle.nd_json.specs.Forms.{has_keys, text_at}
 use Rattle.rewind_forms.specs.Versions.{includes}
 use Rattle.rewind_forms.specs.declared.version.Version.{Version}
-use Rattle.rewind_forms.specs.declared.version.Version.TheVariants.{First, Second, Third}
+use Rattle.rewind_forms.specs.declared.version.Version.TheVariants.{First, Second, Third, Fourth}
 use Rattle.rewind_forms.specs.declared.form.Form.{Form}
 use Rattle.rewind_forms.specs.declared.form.Form.TheVariants.{Step, Command, Query}
 use Rattle.rewind_forms.specs.declared.form.StepForm.{StepForm}
@@ -50,6 +50,11 @@ queries =
     ∷ (codes "why", codes "at" ∷ codes "do" ∷ codes "q" ∷ codes "time" ∷ [], query.Why)
     ∷ (codes "changes", codes "at" ∷ codes "do" ∷ codes "hi" ∷ codes "lo" ∷ codes "q" ∷ codes "time" ∷ [], query.Changes)
     ∷ (codes "step", codes "do" ∷ codes "to" ∷ [], query.Step)
+    ∷ (codes "candidates", codes "do" ∷ [], query.Candidates)
+    ∷ (codes "effect", codes "do" ∷ codes "to" ∷ [], query.Effect)
+    ∷ (codes "turns", codes "do" ∷ codes "hi" ∷ codes "lo" ∷ codes "when" ∷ [], query.Turns)
+    ∷ (codes "frontier", codes "at" ∷ codes "do" ∷ codes "q" ∷ [], query.FrontierAt)
+    ∷ (codes "why", codes "at" ∷ codes "before" ∷ codes "do" ∷ codes "q" ∷ codes "time" ∷ [], query.WhyBefore)
     ∷ []
 
 -- the first version whose scripts have a query
@@ -65,6 +70,11 @@ since query.Export = Second
 since query.Why = Third
 since query.Changes = Third
 since query.Step = Third
+since query.Candidates = Fourth
+since query.Effect = Fourth
+since query.Turns = Fourth
+since query.FrontierAt = Fourth
+since query.WhyBefore = Fourth
 
 -- ---- the form of a line
 

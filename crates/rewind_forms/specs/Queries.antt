@@ -1,18 +1,19 @@
 -- The query that a line is: the shapes of its values, then the names, then the times.
-use Rattle.std.specs.Prelude.{codes, Result, Ok}
+use Rattle.std.specs.Prelude.{codes, if◌then◌else◌, Result, Ok}
 use Rattle.serde_json.specs.Data.{Data}
 use Rattle.serde_json.specs.Find.{get}
-use Rattle.nd_json.specs.Forms.{small_at, whole_at}
+use Rattle.nd_json.specs.Forms.{text_at, small_at, whole_at}
 use Rattle.nd_graph.specs.Graph.{Dataflow}
-use Rattle.rewind_forms.specs.Forms.{given, after, point_at}
+use Rattle.rewind_forms.specs.Forms.{given, after, point_at, boolean_at}
 use Rattle.rewind_forms.specs.Places.{location_named, time_of, point_there}
-use Rattle.rewind_forms.specs.Breaks.{break_of}
+use Rattle.rewind_forms.specs.Conditions.{condition_of}
+use Rattle.rewind_forms.specs.declared.version.Version.{Version}
 use Rattle.rewind_forms.specs.declared.form.QueryForm.{QueryForm}
 use Rattle.rewind_forms.specs.declared.form.QueryForm.TheVariants as form
 use Rattle.rewind_forms.specs.declared.fault.LineFault.{LineFault}
 use Rattle.rewind_forms.specs.declared.fault.LineFault.TheVariants.{BadShape, UnknownName, BadTime}
 use Rattle.rewind_forms.specs.declared.queries.Query.{Query}
-use Rattle.rewind_forms.specs.declared.queries.Query.TheVariants.{State, Count, Before, View, Frontier, Passed, Search, Export, Why, Changes, Step}
+use Rattle.rewind_forms.specs.declared.queries.Query.TheVariants.{State, Count, Before, View, Frontier, Passed, Search, Export, Why, Changes, Step, Candidates, Effect, Turns, FrontierAt, WhyBefore}
 
 unfoldable pub count_of : Dataflow → Data → Result Query LineFault
 count_of g d = after (point_there g d) (λ point. Ok (Count point))
@@ -40,13 +41,13 @@ passed_of g d =
     after (point_there g d) (λ point.
     Ok (Passed q point)))
 
-unfoldable pub search_of : Dataflow → Data → Result Query LineFault
-search_of g d =
+unfoldable pub search_of : Version → Dataflow → Data → Result Query LineFault
+search_of v g d =
     given BadShape (whole_at (codes "lo") d) (λ lo.
     given BadShape (whole_at (codes "hi") d) (λ hi.
     given BadShape (whole_at (codes "workers") d) (λ workers.
     given BadShape (get (codes "when") d) (λ when.
-    after (break_of g when) (λ condition.
+    after (condition_of v g when) (λ condition.
     Ok (Search (record { when = condition; lo = lo; hi = hi; workers = workers })))))))
 
 unfoldable pub why_of : Dataflow → Data → Result Query LineFault
@@ -66,16 +67,47 @@ changes_of g d =
 unfoldable pub kept_step_of : Data → Result Query LineFault
 kept_step_of d = given BadShape (whole_at (codes "to") d) (λ to. Ok (Step to))
 
+unfoldable pub effect_of : Data → Result Query LineFault
+effect_of d = given BadShape (whole_at (codes "to") d) (λ to. Ok (Effect to))
+
+unfoldable pub turns_of : Version → Dataflow → Data → Result Query LineFault
+turns_of v g d =
+    given BadShape (whole_at (codes "lo") d) (λ lo.
+    given BadShape (whole_at (codes "hi") d) (λ hi.
+    given BadShape (get (codes "when") d) (λ when.
+    after (condition_of v g when) (λ condition.
+    Ok (Turns (record { when = condition; lo = lo; hi = hi }))))))
+
+unfoldable pub frontier_at_of : Dataflow → Data → Result Query LineFault
+frontier_at_of g d =
+    given BadShape (small_at (codes "q") d) (λ q.
+    given BadShape (text_at (codes "at") d) (λ name.
+    given UnknownName (location_named g name) (λ l.
+    Ok (FrontierAt q l))))
+
+-- {"before":false} asks the same as no such key
+unfoldable pub why_before_of : Dataflow → Data → Result Query LineFault
+why_before_of g d =
+    given BadShape (small_at (codes "q") d) (λ q.
+    given BadShape (boolean_at (codes "before") d) (λ strictly.
+    after (point_there g d) (λ point.
+    Ok (if strictly then WhyBefore q point else Why q point))))
+
 -- the query of a form
-abbrev pub query_of : Dataflow → QueryForm → Data → Result Query LineFault
-query_of g form.State d = Ok State
-query_of g form.Count d = count_of g d
-query_of g form.Before d = before_of g d
-query_of g form.View d = view_of d
-query_of g form.Frontier d = frontier_of d
-query_of g form.Passed d = passed_of g d
-query_of g form.Search d = search_of g d
-query_of g form.Export d = Ok Export
-query_of g form.Why d = why_of g d
-query_of g form.Changes d = changes_of g d
-query_of g form.Step d = kept_step_of d
+abbrev pub query_of : Version → Dataflow → QueryForm → Data → Result Query LineFault
+query_of v g form.State d = Ok State
+query_of v g form.Count d = count_of g d
+query_of v g form.Before d = before_of g d
+query_of v g form.View d = view_of d
+query_of v g form.Frontier d = frontier_of d
+query_of v g form.Passed d = passed_of g d
+query_of v g form.Search d = search_of v g d
+query_of v g form.Export d = Ok Export
+query_of v g form.Why d = why_of g d
+query_of v g form.Changes d = changes_of g d
+query_of v g form.Step d = kept_step_of d
+query_of v g form.Candidates d = Ok Candidates
+query_of v g form.Effect d = effect_of d
+query_of v g form.Turns d = turns_of v g d
+query_of v g form.FrontierAt d = frontier_at_of g d
+query_of v g form.WhyBefore d = why_before_of g d

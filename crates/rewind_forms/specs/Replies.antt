@@ -160,6 +160,25 @@ abbrev pub changed : Data → Bool → Data
 changed shown false = object (member (codes "changes") shown (member (codes "ok") (boolean true) no_members))
 changed shown true = object (member (codes "changes") shown (member (codes "more") (boolean true) (member (codes "ok") (boolean true) no_members)))
 
+-- {"candidates":shown,"ok":true}, and "more":true among the keys if there are more
+abbrev pub candidates : Data → Bool → Data
+candidates shown false = object (member (codes "candidates") shown (member (codes "ok") (boolean true) no_members))
+candidates shown true = object (member (codes "candidates") shown (member (codes "more") (boolean true) (member (codes "ok") (boolean true) no_members)))
+
+-- {"changed":shown,"ok":true,"step":step}
+abbrev pub effect : Data → Data → Data
+effect shown step = object (member (codes "changed") shown (member (codes "ok") (boolean true) (member (codes "step") step no_members)))
+
+-- {"at_lo":b,"ok":true,"turns":shown}, and "more":true among the keys if there are more
+abbrev pub turns : Bool → Data → Bool → Data
+turns at_lo shown false = object (member (codes "at_lo") (boolean at_lo) (member (codes "ok") (boolean true) (member (codes "turns") shown no_members)))
+turns at_lo shown true = object (member (codes "at_lo") (boolean at_lo)
+    (member (codes "more") (boolean true) (member (codes "ok") (boolean true) (member (codes "turns") shown no_members))))
+
+-- {"ok":true,"times":shown}
+abbrev pub times : Data → Data
+times shown = object (member (codes "ok") (boolean true) (member (codes "times") shown no_members))
+
 -- {"finished":f,"ok":true,"passed":p,"reasons":shown}
 abbrev pub why : Bool → Bool → Data → Data
 why finished passed shown = object (member (codes "finished") (boolean finished)

@@ -41,11 +41,11 @@ pub fn asked_of(
             Ok(Asked::Do(Command::Forward(step)))
         }
         Form::Command(form) => {
-            let command = command_of(alloc, graph, form, value)?;
+            let command = command_of(alloc, version, graph, form, value)?;
             Ok(Asked::Do(command))
         }
         Form::Query(form) => {
-            let query = query_of(alloc, graph, form, value)?;
+            let query = query_of(alloc, version, graph, form, value)?;
             Ok(Asked::Tell(query))
         }
     }

@@ -4,8 +4,9 @@ ghost use Rattle.serde_json.specs.View.{view};
 ghost use Rattle.rewind_forms.specs.Forms.{FailsWith};
 ghost use Rattle.rewind_forms.specs.Commands.{jump_of as jump_in, run_of as run_in, set_of as set_in, clear_of as clear_in, command_of as command_in};
 
-use crate::breaks::break_of;
-use crate::{CommandForm, LineFault};
+use crate::conditions::condition_of;
+use crate::{CommandForm, LineFault, Version};
+use nd_breaks::BoxedCondition;
 use nd_graph::Graph;
 use nd_json::whole_at;
 use nd_timeline::Command;
@@ -29,13 +30,19 @@ fn run_of(value: &Value) -> Result<Command, LineFault>
 }
 
 #[tactic(auto, unfolding(crate::specs::Commands::set_of))]
-fn set_of(alloc: Global, graph: &Graph, value: &Value) -> Result<Command, LineFault>
-    ensures ok { IfOk result (λ c. set_in graph.now (view value.now) ≡ Ok c) }
-    ensures err { IfErr result (FailsWith (set_in graph.now (view value.now))) }
+fn set_of(
+    alloc: Global,
+    version: Version,
+    graph: &Graph,
+    value: &Value,
+) -> Result<Command, LineFault>
+    ensures ok { IfOk result (λ c. set_in version graph.now (view value.now) ≡ Ok c) }
+    ensures err { IfErr result (FailsWith (set_in version graph.now (view value.now))) }
 {
     let when = value.get("when").ok_or(LineFault::BadShape)?;
-    let condition = break_of(alloc, graph, when)?;
-    Ok(Command::SetBreak(condition))
+    let condition = condition_of(alloc, version, graph, when)?;
+    let boxed = BoxedCondition::new(alloc, condition)?;
+    Ok(Command::SetBreak(boxed))
 }
 
 #[tactic(auto, unfolding(crate::specs::Commands::clear_of))]
@@ -49,19 +56,20 @@ fn clear_of(value: &Value) -> Result<Command, LineFault>
 /// The command of this form that the value asks for, against the graph.
 pub fn command_of(
     alloc: Global,
+    version: Version,
     graph: &Graph,
     form: CommandForm,
     value: &Value,
 ) -> Result<Command, LineFault>
-    ensures ok { IfOk result (λ c. command_in graph.now form (view value.now) ≡ Ok c) }
-    ensures err { IfErr result (FailsWith (command_in graph.now form (view value.now))) }
+    ensures ok { IfOk result (λ c. command_in version graph.now form (view value.now) ≡ Ok c) }
+    ensures err { IfErr result (FailsWith (command_in version graph.now form (view value.now))) }
 {
     match form {
         CommandForm::Back => Ok(Command::Back),
         CommandForm::Redo => Ok(Command::Redo),
         CommandForm::Jump => jump_of(value),
         CommandForm::Run => run_of(value),
-        CommandForm::Break => set_of(alloc, graph, value),
+        CommandForm::Break => set_of(alloc, version, graph, value),
         CommandForm::Unbreak => clear_of(value),
     }
 }

@@ -53,6 +53,13 @@ pub enum QueryForm {
     Why,
     Changes,
     Step,
+    Candidates,
+    Effect,
+    Turns,
+    /// The frontier at a location.
+    FrontierAt,
+    /// Why nothing strictly before a pointstamp is known to be finished, if `before` says so.
+    WhyBefore,
 }
 
 impl QueryForm {
@@ -70,6 +77,11 @@ impl QueryForm {
             | QueryForm::Search => Version::First,
             QueryForm::Export => Version::Second,
             QueryForm::Why | QueryForm::Changes | QueryForm::Step => Version::Third,
+            QueryForm::Candidates
+            | QueryForm::Effect
+            | QueryForm::Turns
+            | QueryForm::FrontierAt
+            | QueryForm::WhyBefore => Version::Fourth,
         }
     }
 }
@@ -147,6 +159,13 @@ fn query_form(word: &str, value: &Value) -> Option<QueryForm>
             Some(QueryForm::Changes)
         }
         "step" if has_keys(value, &["do", "to"]) => Some(QueryForm::Step),
+        "candidates" if has_keys(value, &["do"]) => Some(QueryForm::Candidates),
+        "effect" if has_keys(value, &["do", "to"]) => Some(QueryForm::Effect),
+        "turns" if has_keys(value, &["do", "hi", "lo", "when"]) => Some(QueryForm::Turns),
+        "frontier" if has_keys(value, &["at", "do", "q"]) => Some(QueryForm::FrontierAt),
+        "why" if has_keys(value, &["at", "before", "do", "q", "time"]) => {
+            Some(QueryForm::WhyBefore)
+        }
         _ => None,
     }
 }

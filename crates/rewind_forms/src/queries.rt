@@ -4,25 +4,35 @@ ghost use Rattle.serde_json.specs.View.{view};
 ghost use Rattle.rewind_forms.specs.Forms.{FailsWith};
 ghost use Rattle.rewind_forms.specs.Queries.{count_of as count_in, before_of as before_in, view_of as view_in, frontier_of as frontier_in, passed_of as passed_in, search_of as search_in, query_of as query_in};
 ghost use Rattle.rewind_forms.specs.Queries.{why_of as why_in, changes_of as changes_in, kept_step_of as kept_step_in};
+ghost use Rattle.rewind_forms.specs.Forms.{boolean_at as boolean_in};
+ghost use Rattle.rewind_forms.specs.Queries.{effect_of as effect_in, turns_of as turns_in, frontier_at_of as frontier_at_in, why_before_of as why_before_in};
 
-use crate::breaks::break_of;
+use crate::conditions::condition_of;
 use crate::places::{location_named, time_of};
 use crate::points::{point_at, point_there};
-use crate::{LineFault, QueryForm};
-use nd_breaks::Break;
+use crate::{LineFault, QueryForm, Version};
+use nd_breaks::Condition;
 use nd_graph::Graph;
-use nd_json::{small_at, whole_at};
+use nd_json::{small_at, text_at, whole_at};
 use nd_paths::Pointstamp;
 use serde_json::Value;
 use std::alloc::Global;
 
-/// A search of the positions from `lo` to `hi`, which both count, for the least at which a breakpoint holds.
+/// A search of the positions from `lo` to `hi`, which both count, for the least at which a condition holds.
 #[derive(Drop)]
 pub struct Search {
-    pub when: Break,
+    pub when: Condition,
     pub lo: u64,
     pub hi: u64,
     pub workers: u64,
+}
+
+/// The positions after `lo` and up to `hi` at which a condition began or ceased to hold.
+#[derive(Drop)]
+pub struct Turns {
+    pub when: Condition,
+    pub lo: u64,
+    pub hi: u64,
 }
 
 /// The changes of processor `q`'s view of a pointstamp, at the positions after `lo` and up to `hi`.
@@ -49,7 +59,7 @@ pub enum Query {
     Frontier(u32),
     /// Whether a processor's view has passed a pointstamp.
     Passed(u32, Pointstamp),
-    /// The least of some positions at which a breakpoint holds.
+    /// The least of some positions at which a condition holds.
     Search(Search),
     /// All kept steps.
     Export,
@@ -59,6 +69,16 @@ pub enum Query {
     Changes(ViewChanges),
     /// The kept step that leads to a position.
     Step(u64),
+    /// The steps that a run could try at the cursor.
+    Candidates,
+    /// What the kept step that leads to a position changed.
+    Effect(u64),
+    /// The positions at which a condition began or ceased to hold.
+    Turns(Turns),
+    /// The times that can still arrive at a location, as far as a processor knows.
+    FrontierAt(u32, usize),
+    /// The reasons why a processor's view counts something strictly before a pointstamp.
+    WhyBefore(u32, Pointstamp),
 }
 
 #[tactic(auto, unfolding(crate::specs::Queries::count_of))]
@@ -120,15 +140,20 @@ fn passed_of(alloc: Global, graph: &Graph, value: &Value) -> Result<Query, LineF
 }
 
 #[tactic(auto, unfolding(crate::specs::Queries::search_of))]
-fn search_of(alloc: Global, graph: &Graph, value: &Value) -> Result<Query, LineFault>
-    ensures ok { IfOk result (λ c. search_in graph.now (view value.now) ≡ Ok c) }
-    ensures err { IfErr result (FailsWith (search_in graph.now (view value.now))) }
+fn search_of(
+    alloc: Global,
+    version: Version,
+    graph: &Graph,
+    value: &Value,
+) -> Result<Query, LineFault>
+    ensures ok { IfOk result (λ c. search_in version graph.now (view value.now) ≡ Ok c) }
+    ensures err { IfErr result (FailsWith (search_in version graph.now (view value.now))) }
 {
     let lo = whole_at(value, "lo").ok_or(LineFault::BadShape)?;
     let hi = whole_at(value, "hi").ok_or(LineFault::BadShape)?;
     let workers = whole_at(value, "workers").ok_or(LineFault::BadShape)?;
     let shown = value.get("when").ok_or(LineFault::BadShape)?;
-    let when = break_of(alloc, graph, shown)?;
+    let when = condition_of(alloc, version, graph, shown)?;
     Ok(Query::Search(Search {
         when,
         lo,
@@ -167,15 +192,74 @@ fn kept_step_of(value: &Value) -> Result<Query, LineFault>
     Ok(Query::Step(to))
 }
 
+#[tactic(auto, unfolding(crate::specs::Queries::effect_of))]
+fn effect_of(value: &Value) -> Result<Query, LineFault>
+    ensures { result ≡ effect_in (view value.now) }
+{
+    let to = whole_at(value, "to").ok_or(LineFault::BadShape)?;
+    Ok(Query::Effect(to))
+}
+
+#[tactic(auto, unfolding(crate::specs::Queries::turns_of))]
+fn turns_of(
+    alloc: Global,
+    version: Version,
+    graph: &Graph,
+    value: &Value,
+) -> Result<Query, LineFault>
+    ensures ok { IfOk result (λ c. turns_in version graph.now (view value.now) ≡ Ok c) }
+    ensures err { IfErr result (FailsWith (turns_in version graph.now (view value.now))) }
+{
+    let lo = whole_at(value, "lo").ok_or(LineFault::BadShape)?;
+    let hi = whole_at(value, "hi").ok_or(LineFault::BadShape)?;
+    let shown = value.get("when").ok_or(LineFault::BadShape)?;
+    let when = condition_of(alloc, version, graph, shown)?;
+    Ok(Query::Turns(Turns { when, lo, hi }))
+}
+
+#[tactic(auto, unfolding(crate::specs::Queries::frontier_at_of))]
+fn frontier_at_of(graph: &Graph, value: &Value) -> Result<Query, LineFault>
+    ensures { result ≡ frontier_at_in graph.now (view value.now) }
+{
+    let q = small_at(value, "q").ok_or(LineFault::BadShape)?;
+    let name = text_at(value, "at").ok_or(LineFault::BadShape)?;
+    let location = location_named(graph, name).ok_or(LineFault::UnknownName)?;
+    Ok(Query::FrontierAt(q, location))
+}
+
+// Whether `true` or `false` stands at the key, if one of them does.
+#[tactic(auto, unfolding(crate::specs::Forms::boolean_at))]
+fn boolean_at(value: &Value, key: &str) -> Option<bool>
+    ensures { result ≡ boolean_in key.now (view value.now) }
+{
+    value.get(key)?.as_bool()
+}
+
+#[tactic(auto, unfolding(crate::specs::Queries::why_before_of))]
+fn why_before_of(alloc: Global, graph: &Graph, value: &Value) -> Result<Query, LineFault>
+    ensures ok { IfOk result (λ c. why_before_in graph.now (view value.now) ≡ Ok c) }
+    ensures err { IfErr result (FailsWith (why_before_in graph.now (view value.now))) }
+{
+    let q = small_at(value, "q").ok_or(LineFault::BadShape)?;
+    let strictly = boolean_at(value, "before").ok_or(LineFault::BadShape)?;
+    let point = point_there(alloc, graph, value)?;
+    if strictly {
+        Ok(Query::WhyBefore(q, point))
+    } else {
+        Ok(Query::Why(q, point))
+    }
+}
+
 /// The query of this form that the value is, against the graph.
 pub fn query_of(
     alloc: Global,
+    version: Version,
     graph: &Graph,
     form: QueryForm,
     value: &Value,
 ) -> Result<Query, LineFault>
-    ensures ok { IfOk result (λ c. query_in graph.now form (view value.now) ≡ Ok c) }
-    ensures err { IfErr result (FailsWith (query_in graph.now form (view value.now))) }
+    ensures ok { IfOk result (λ c. query_in version graph.now form (view value.now) ≡ Ok c) }
+    ensures err { IfErr result (FailsWith (query_in version graph.now form (view value.now))) }
 {
     match form {
         QueryForm::State => Ok(Query::State),
@@ -184,10 +268,15 @@ pub fn query_of(
         QueryForm::View => view_of(value),
         QueryForm::Frontier => frontier_of(value),
         QueryForm::Passed => passed_of(alloc, graph, value),
-        QueryForm::Search => search_of(alloc, graph, value),
+        QueryForm::Search => search_of(alloc, version, graph, value),
         QueryForm::Export => Ok(Query::Export),
         QueryForm::Why => why_of(alloc, graph, value),
         QueryForm::Changes => changes_of(alloc, graph, value),
         QueryForm::Step => kept_step_of(value),
+        QueryForm::Candidates => Ok(Query::Candidates),
+        QueryForm::Effect => effect_of(value),
+        QueryForm::Turns => turns_of(alloc, version, graph, value),
+        QueryForm::FrontierAt => frontier_at_of(graph, value),
+        QueryForm::WhyBefore => why_before_of(alloc, graph, value),
     }
 }

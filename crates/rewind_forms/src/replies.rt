@@ -4,6 +4,7 @@ ghost use Rattle.rewind_forms.specs.Replies.{fault as fault_data, location_fault
 ghost use Rattle.rewind_forms.specs.Replies.{point_fault as point_fault_data, fault_at as fault_at_data, step_refused as step_refused_data, refused as refused_data, before as before_data, faulty as faulty_data, line_fault as line_fault_data, count as count_data, state as state_data};
 ghost use Rattle.rewind_forms.specs.Replies.{known as known_data, frontier as frontier_data, passed as passed_data, not_passed as not_passed_data, no_processor as no_processor_data, piece_fault as piece_fault_data, found as found_data};
 ghost use Rattle.rewind_forms.specs.Replies.{version as version_data, exported as exported_data, kept_step as kept_step_data, changed as changed_data, why as why_data};
+ghost use Rattle.rewind_forms.specs.Replies.{candidates as candidates_data, effect as effect_data, turns as turns_data, times as times_data};
 
 use crate::LineFault;
 use nd_graph::Graph;
@@ -76,7 +77,7 @@ fn point_fault(alloc: Global, code: Code, point: Json) -> Result<Json, AllocErro
 }
 
 // The reply to a step that the cluster refused.
-fn step_refused<A: Allocator>(
+pub(crate) fn step_refused<A: Allocator>(
     alloc: Global,
     graph: &Graph<A>,
     refusal: &Refusal,
@@ -259,4 +260,41 @@ pub fn why(alloc: Global, finished: bool, passed: bool, shown: Json) -> Result<J
     ensures reply { IfOk result (λ j. j ≡ why_data finished passed shown) }
 {
     reply!(in alloc; {"finished": finished, "ok": true, "passed": passed, "reasons": shown})
+}
+
+/// The reply to a query for the steps that a run could try, which the value shows, and whether there are more than it shows.
+pub fn candidates(alloc: Global, shown: Json, more: bool) -> Result<Json, AllocError>
+    ensures reply { IfOk result (λ j. j ≡ candidates_data shown more) }
+{
+    if more {
+        reply!(in alloc; {"candidates": shown, "more": true, "ok": true})
+    } else {
+        reply!(in alloc; {"candidates": shown, "ok": true})
+    }
+}
+
+/// The reply to a query for what a kept step changed, which the value shows; `step` shows the step.
+pub fn effect(alloc: Global, shown: Json, step: Json) -> Result<Json, AllocError>
+    ensures reply { IfOk result (λ j. j ≡ effect_data shown step) }
+{
+    reply!(in alloc; {"changed": shown, "ok": true, "step": step})
+}
+
+/// The reply to a query for the positions at which a condition turned, which the value shows: whether it holds at the
+/// first, and whether there are more turns than the value shows.
+pub fn turns(alloc: Global, at_lo: bool, shown: Json, more: bool) -> Result<Json, AllocError>
+    ensures reply { IfOk result (λ j. j ≡ turns_data at_lo shown more) }
+{
+    if more {
+        reply!(in alloc; {"at_lo": at_lo, "more": true, "ok": true, "turns": shown})
+    } else {
+        reply!(in alloc; {"at_lo": at_lo, "ok": true, "turns": shown})
+    }
+}
+
+/// The reply to a query for the frontier at a location, whose times the value shows.
+pub fn times(alloc: Global, shown: Json) -> Result<Json, AllocError>
+    ensures reply { IfOk result (λ j. j ≡ times_data shown) }
+{
+    reply!(in alloc; {"ok": true, "times": shown})
 }

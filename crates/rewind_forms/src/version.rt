@@ -15,6 +15,9 @@ pub enum Version {
     Second,
     /// As the second; and it may be asked why a time has not passed, and when a view changed.
     Third,
+    /// As the third; and it may be asked what can happen next, what a step changed and when a condition turned, and conditions
+    /// may be put together.
+    Fourth,
 }
 
 impl Version {
@@ -26,6 +29,7 @@ impl Version {
             Version::First => 1,
             Version::Second => 2,
             Version::Third => 3,
+            Version::Fourth => 4,
         }
     }
 
@@ -46,6 +50,8 @@ fn numbered(number: u64) -> Option<Version>
         Some(Version::Second)
     } else if number == 3 {
         Some(Version::Third)
+    } else if number == 4 {
+        Some(Version::Fourth)
     } else {
         None
     }

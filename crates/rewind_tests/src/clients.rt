@@ -203,6 +203,8 @@ const SECOND_REPLY: &str = "{\"ok\":true,\"version\":2}\n";
 
 const THIRD: &str = "{\"version\":3}\n";
 
+const FOURTH: &str = "{\"version\":4}\n";
+
 #[test]
 fn clients_of_a_later_version(rt: HostRuntime) -> Result<(), Fail> {
     let (wrote, ended) = run_of(&rt, &[" \n", SECOND, "\n"])?;
@@ -216,7 +218,7 @@ fn clients_of_a_later_version(rt: HostRuntime) -> Result<(), Fail> {
 }
 
 /// What follows a version line or none, up to its graph, and the fault that it is answered with alone.
-static FAULTS: [(&str, &str, &str); 4] = [
+static FAULTS: [(&str, &str, &str); 6] = [
     (
         "",
         r#"{"client":0,"do":"export"}"#,
@@ -235,6 +237,16 @@ static FAULTS: [(&str, &str, &str); 4] = [
     (
         THIRD,
         r#"{"at":"none","client":0,"do":"why","q":0,"time":[0]}"#,
+        "{\"code\":36,\"error\":\"OneClientOnly\",\"line\":3}\n",
+    ),
+    (
+        THIRD,
+        r#"{"client":0,"do":"candidates"}"#,
+        "{\"code\":31,\"error\":\"BadShape\",\"line\":3}\n",
+    ),
+    (
+        FOURTH,
+        r#"{"client":0,"do":"candidates"}"#,
         "{\"code\":36,\"error\":\"OneClientOnly\",\"line\":3}\n",
     ),
 ];

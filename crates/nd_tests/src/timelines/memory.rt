@@ -203,7 +203,8 @@ fn meets<A: Allocator + Copy>(
                 is_after(json, whole.cluster(), &ALL, 1)?)
         }
         Move::Run => {
-            let met = met!(heap, n: timeline.run(10, &Breaks::new());
+            let breaks = Breaks::new(alloc).ok()?;
+            let met = met!(heap, n: timeline.run(10, &breaks);
                 Fault::Memory { at: timeline.at() }, true)?;
             let (at, kept) = (timeline.at(), timeline.kept());
             let is_there = is_after(json, timeline.cluster(), &ALL, at)?;

@@ -11,10 +11,14 @@ use nd_timeline::{Ran, Stop, Timeline};
 use std::alloc::{Allocator, Global};
 
 /// Whether a timeline of four steps, of which the last lets z pass, tells where it is, and stays there.
-fn tells<A: Allocator + Copy>(timeline: &mut Timeline<A>, at: u64) -> Option<bool> {
+fn tells<A: Allocator + Copy>(
+    timeline: &mut Timeline<A>,
+    breaks: &Breaks<A>,
+    at: u64,
+) -> Option<bool> {
     let z = point(timeline.base().graph(), "z", &[0])?;
     timeline.jump(at).ok()?;
-    timeline.run(0, &Breaks::new()).ok()?;
+    timeline.run(0, breaks).ok()?;
     let has_steps = timeline.step(3).is_some() && timeline.step(4).is_none();
     let is_there = (timeline.at(), timeline.kept()) == (at, 4);
     let _ = timeline.cluster().n();
@@ -24,8 +28,9 @@ fn tells<A: Allocator + Copy>(timeline: &mut Timeline<A>, at: u64) -> Option<boo
 /// Whether it does so at a position while no memory is given.
 fn stays<A: Allocator + Copy>(heap: &Heap, json: Global, alloc: A, at: u64) -> Option<bool> {
     let mut timeline = kept(json, alloc, &ALL)?;
+    let breaks = Breaks::new(alloc).ok()?;
     timeline.jump(at).ok()?;
-    Some(unasked!(heap: tells(&mut timeline, at)?))
+    Some(unasked!(heap: tells(&mut timeline, &breaks, at)?))
 }
 
 #[test]
@@ -40,7 +45,7 @@ fn staying_takes_no_memory(rt: HostRuntime) {
 /// A copy of a timeline that has run on, gone back and again, and then another way.
 fn more<A: Allocator + Copy>(alloc: A, base: &Timeline<A>) -> Option<Timeline<A>> {
     let mut copy = base.copy(alloc).ok()?;
-    copy.run(10, &Breaks::new()).ok()?;
+    copy.run(10, &Breaks::new(alloc).ok()?).ok()?;
     copy.jump(0).ok()?;
     copy.jump(2).ok()?;
     copy.back().ok()?;
@@ -88,7 +93,7 @@ fn goes<A: Allocator + Copy>(json: Global, alloc: A, times: u64) -> Option<bool>
 fn is_idle<A: Allocator + Copy>(json: Global, alloc: A) -> Option<bool> {
     let base = Timeline::new(alloc, start(json, alloc, EMPTY, 8)?).ok()?;
     let mut copy = base.copy(alloc).ok()?;
-    let ran = copy.run(1_000_000, &Breaks::new()).ok()?;
+    let ran = copy.run(1_000_000, &Breaks::new(alloc).ok()?).ok()?;
     let idle = Ran {
         ran: 0,
         stop: Stop::Idle,

@@ -1,4 +1,5 @@
-use Rattle.std.proofs.Common.{◌≡◌, ◌<◌, ◌≤◌, ℕ, length, refl, sym, subst, arith}
+use Rattle.std.proofs.Common.{◌≡◌, ◌<◌, ◌≤◌, ℕ, length, map, refl, sym, subst, arith}
+use Rattle.std.proofs.lemmas.List.{length-map}
 use Rattle.std.specs.Prelude.{All}
 use Rattle.nd_time.specs.Limits.{max_processors}
 use Rattle.nd_graph.specs.Graph.{Dataflow}
@@ -9,6 +10,7 @@ use Rattle.nd_cluster.specs.Parts.{RowFits}
 use Rattle.nd_cluster.proofs.Starts.{ordered}
 use Rattle.nd_cluster.proofs.PartsLemmas.{views_to, mesh_to, state_from}
 use Rattle.nd_cluster.proofs.parts.parts_fit.Goals as goal
+use Rattle.nd_cluster.proofs.parts.parts_fit.Goals.{then-views-n-via-then-views-n, then-views-n-via-else-views-n+then-n-2}
 
 pub returns-then-not-processors_fit : goal.returns-then-not-processors_fit
 returns-then-not-processors_fit g c = (
@@ -46,3 +48,16 @@ returns g c =
           (c.mesh_fits.ensures.within t),
       λ s. c.mesh_fits.ensures.fits.1 (subst (λ (k : Dataflow). (p : ℕ) → p < length m → RowFits k m p) (sym is) (mesh_to k ps vs m c.n.ensures.mesh s)),
     )
+
+pub returns-then-views-n : goal.returns-then-views-n
+returns-then-views-n g c = (
+  λ t. absurd (cc (t)),
+  λ s.
+      let vs = c.args.views.now in
+      let each_view : length (map (λ (v : Kept). v.map) vs) ≡ length c.args.processors.now = s.fits.each_view in
+      let count : length (map (λ (v : Kept). v.map) vs) ≡ length vs = length-map vs (λ (v : Kept). v.map) in
+      elim c.then-views-n.branch [
+        | then-views-n-via-then-views-n w ↦ absurd (omega (arith, w.if-views-n, each_view, count))
+        | then-views-n-via-else-views-n+then-n-2 w ↦ absurd (omega (arith, w.if-n-2, w.n.ensures.value, s.fits.each_sender))
+      ],
+)

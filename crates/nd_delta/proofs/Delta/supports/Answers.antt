@@ -33,13 +33,16 @@ returns-then-is_negative_before g c =
     let found = c.if-is_negative_before.ensures.0 refl in
     (λ _. (x.0, found.1, inl (subst (λ z. z <ℤ pos 0) (at-index m i x lt is) found.0)), λ _. refl)
 
+pub returns-then-any_before : goal.returns-then-any_before
+returns-then-any_before g c =
+    (λ _. (let found = c.if-any_before.ensures.0 refl in (found.0, found.2, inr found.1)), λ _. refl)
+
 pub returns : goal.returns
 returns g c =
-    let m = c.args.self.now in
-    let beyond = c.any_before.ensures in (
-      λ e. (let found = beyond.0 e in (found.0, found.2, inr found.1)),
+    let m = c.args.self.now in (
+      λ e. absurd (true≢false (sym e)),
       λ support. elim support.2 [
         | inl negative ↦ absurd (all-points m (λ y. at m y <ℤ pos 0 → IsStrictlyBefore c.args.paths.now y c.args.point.now → ⊥) c.loop-entry.entry-index (rw c.loop-entry.invariant.items at c.loop-entry-test.false) c.loop-entry.invariant.others support.0 (not_zero_below (at m support.0) negative) negative support.1)
-        | inr held ↦ beyond.1 (support.0, held, support.1)
+        | inr held ↦ absurd (true≢false (sym (c.if-any_before.ensures.1 (support.0, held, support.1))))
       ],
     )

@@ -9,8 +9,8 @@ loop-i-preserved g c =
     let on = c.walk_to.ensures.on in
     let there : c.walk_to.new.walk.at ≡ c.loop-i.i = ap (λ t. t.cursor) c.in-Ok.ensures.jump.3 in record {
       on = on;
-      none = no_hit_more (HoldsAt m c.args.b.now) c.args.from c.loop-i.i c.loop-i.invariant.none
-          (not_here m c.walk_to.new.walk c.loop-i.i c.args.b.now on there
+      none = no_hit_more (HoldsAt m c.args.condition.now) c.args.from c.loop-i.i c.loop-i.invariant.none
+          (not_here m c.walk_to.new.walk c.loop-i.i c.args.condition.now on there
           (λ h. let yes : c.holds.result ≡ true = c.holds.ensures.1 h in let no : c.holds.result ≡ false = c.if-holds.false in cc));
     }
 

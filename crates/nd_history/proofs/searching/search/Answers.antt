@@ -6,7 +6,7 @@ use Rattle.nd_history.proofs.searching.search.Goals as goal
 
 pub returns-clause-found : goal.returns-clause-found
 returns-clause-found g c =
-    subst (λ (m : TimelineValue g.row.A.Denot). IfOk c.search_in.result (IsLeast (HoldsAt m c.args.b.now) c.args.lo c.args.hi)) c.timeline.ensures c.search_in.ensures.found
+    subst (λ (m : TimelineValue g.row.A.Denot). IfOk c.search_in.result (IsLeast (HoldsAt m c.args.condition.now) c.args.lo c.args.hi)) c.timeline.ensures c.search_in.ensures.found
 
 pub returns-clause-may : goal.returns-clause-may
 returns-clause-may g c =
@@ -14,4 +14,4 @@ returns-clause-may g c =
 
 pub returns-clause-fails : goal.returns-clause-fails
 returns-clause-fails g c =
-    subst (λ (m : TimelineValue g.row.A.Denot). IfErr c.search_in.result (SearchFails m c.args.b.now c.args.lo c.args.hi c.args.workers)) c.timeline.ensures c.search_in.ensures.fails
+    subst (λ (m : TimelineValue g.row.A.Denot). IfErr c.search_in.result (SearchFails m c.args.condition.now c.args.lo c.args.hi c.args.workers)) c.timeline.ensures c.search_in.ensures.fails

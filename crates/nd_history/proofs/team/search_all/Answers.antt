@@ -23,7 +23,7 @@ gathered-requires-clause-all g c κs within =
     let table = c.in_ok-board.board.shared.table_id in
     let p : ℕ = c.pieces-pieces.result in
     let works : List (Work g.row.A.Denot) = c.in_ok-works.works.items in
-    let each = each_work _ _ (HoldsAt c.args.scan.now.timeline.now c.args.scan.now.b.now) (g.G.Gate.called c.args.scan.now.gate.now) c.args.scan.now.positions.lo c.args.scan.now.positions.hi table p c.in_ok-jobs.jobs.items works (search rules) c.in_ok-works.ensures.each (λ job w met. met) c.in_ok-jobs.ensures.numbered in
+    let each = each_work _ _ (HoldsAt c.args.scan.now.timeline.now c.args.scan.now.condition.now) (g.G.Gate.called c.args.scan.now.gate.now) c.args.scan.now.positions.lo c.args.scan.now.positions.hi table p c.in_ok-jobs.jobs.items works (search rules) c.in_ok-works.ensures.each (λ job w met. met) c.in_ok-jobs.ensures.numbered in
     let all : All (HasDrawn table p) works = all_of (HasDrawn table p) works (λ who w at. (each who w at).drawn) in
     λ k d lt. all k d lt
 
@@ -41,7 +41,7 @@ returns g c =
     let p : ℕ = c.pieces-pieces.result in
     let lo : ℕ = c.args.scan.now.positions.lo in
     let hi : ℕ = c.args.scan.now.positions.hi in
-    let Hit : ℕ → Type 0 = HoldsAt c.args.scan.now.timeline.now c.args.scan.now.b.now in
+    let Hit : ℕ → Type 0 = HoldsAt c.args.scan.now.timeline.now c.args.scan.now.condition.now in
     let Called : ℕ → ℕ → Type 0 = g.G.Gate.called c.args.scan.now.gate.now in
     let works : List (Work A) = c.in_ok-works.works.items in
     let list : List (Searched A) = c.in_ok-list.list.items in

@@ -1,6 +1,7 @@
 use Rattle.std.proofs.Common.{◌++◌, ◌∙◌, ap}
 use Rattle.nd_steps.specs.Drafts.{arrivals, made_by, fed_at, fed_by}
-use Rattle.nd_steps.proofs.DraftsLemmas.{flat_more, default_free}
+use Rattle.std.proofs.lemmas.List.{get_or_default}
+use Rattle.nd_steps.proofs.DraftsLemmas.{flat_more}
 use Rattle.nd_steps.proofs.emit.emit_fed.Goals as goal
 
 pub loop-value-preserved : goal.loop-value-preserved
@@ -11,6 +12,6 @@ loop-value-preserved g c =
       p = c.in_ok-emit.ensures.p ∙ c.loop-value.invariant.p;
       made = flat_more a.draft.now.p c.loop-value.draft.p c.loop-value.draft.changes.items c.emit.new.draft.changes.items
           (a.draft.now.changes.items ++ arrivals a.draft.now.p (fed_by by.graph.now by.n by.p by.vertex a.time.now a.values.now)) c.loop-value.invariant.p
-          (λ v. made_by by.graph.now by.n by.p by.vertex (fed_at a.time.now v)) a.values.now c.loop-value.value-index _ c.loop-value-test.true (default_free a.values.now c.loop-value.value-index _ _ c.loop-value-test.true)
+          (λ v. made_by by.graph.now by.n by.p by.vertex (fed_at a.time.now v)) a.values.now c.loop-value.value-index _ c.loop-value-test.true (get_or_default a.values.now c.loop-value.value-index _ _ c.loop-value-test.true)
           (c.in_ok-emit.ensures.changes ∙ ap (λ e. c.loop-value.draft.changes.items ++ arrivals c.loop-value.draft.p (made_by by.graph.now by.n by.p by.vertex e)) c.fed.ensures) c.loop-value.invariant.made;
     }

@@ -1,40 +1,32 @@
-use Rattle.std.proofs.Common.{◌≡◌, ℤ, pos, zero, suc, negsuc, ◌+ℤ◌, Option, Some, None, OnOk, FitsSigned, w64, to_z, of_z, refl, sym, ap, subst, ◌∙◌, rules}
+use Rattle.std.proofs.Common.{◌≡◌, ℤ, ◌+ℤ◌, Option, OnOk, FitsSigned, w64, to_z, of_z, sym, ap, subst, ◌∙◌, rules}
 use Rattle.std.specs.Int.{w128}
-use Rattle.std.specs.Option.{unwrap_or}
-use Rattle.std.specs.Prelude.{slice_set, cond}
+use Rattle.std.specs.Prelude.{slice_set}
 use Rattle.std.proofs.Math.Facts.{sfits_widen}
 use Rattle.std.proofs.lemmas.Int.{to_z-of_z}
 use Rattle.std.proofs.lemmas.Result.{on_err_weaker}
 use Rattle.nd_map.specs.Counts.{at, set}
 use Rattle.nd_vertex.specs.Edits.{item_of}
 use Rattle.nd_vertex.specs.Items.{Items, item_key, item_total}
-use Rattle.nd_vertex.specs.Table.{is_zero}
 use Rattle.nd_vertex.specs.declared.key.ItemKey.{ItemKey}
 use Rattle.nd_processor.specs.State.{items_at}
 use Rattle.nd_protocol.specs.Ranges.{IsValue}
+use Rattle.nd_steps.specs.Slots.{from_number}
+use Rattle.nd_steps.proofs.ItemsLemmas.{was}
 use Rattle.nd_steps.proofs.making.more_of_item.Goals as goal
-
-number : (z : ℤ) → unwrap_or (cond (is_zero z) None (Some z)) (pos 0) ≡ z
-number (pos zero) = refl
-number (pos (suc n)) = refl
-number (negsuc n) = refl
 
 stored : ℤ → ℤ
 stored z = to_z w128 (of_z w128 z)
 
 -- what stood, and what stands then
 module _ (m n : Items) (j k : ItemKey) (is : m ≡ n) (same : j ≡ k) (old : Option ℤ) (found : old ≡ item_of m j) where
-  old_is : unwrap_or old (pos 0) ≡ at n k
-  old_is = ap (λ o. unwrap_or o (pos 0)) (found ∙ (λ i. item_of (is i) (same i))) ∙ number (at n k)
+  old_is : from_number old ≡ at n k
+  old_is = ap from_number (found ∙ (λ i. item_of (is i) (same i))) ∙ was (at n k)
 
-  absent : old ≡ None → at n k ≡ pos 0
-  absent none = sym old_is ∙ ap (λ o. unwrap_or o (pos 0)) none
-
-  module _ (u x y : ℤ) (u_is : u ≡ unwrap_or old (pos 0)) (x_is : x ≡ to_z w64 (of_z w64 u)) (fits : FitsSigned w128 y) (before : IsValue (at n k)) (after : IsValue (at n k +ℤ y)) where
+  module _ (x y : ℤ) (x_is : x ≡ from_number old) (fits : FitsSigned w128 y) (before : IsValue (at n k)) (after : IsValue (at n k +ℤ y)) where
     now : stored (stored x +ℤ stored y) ≡ at n k +ℤ y
     unfolding stored
     now =
-        ap (λ z. stored (stored z +ℤ stored y)) (x_is ∙ ap (λ z. to_z w64 (of_z w64 z)) (u_is ∙ old_is) ∙ to_z-of_z w64 (at n k) before)
+        ap (λ z. stored (stored z +ℤ stored y)) (x_is ∙ old_is)
         ∙ (λ i. stored (to_z-of_z w128 (at n k) (sfits_widen tt before) i +ℤ to_z-of_z w128 y fits i))
         ∙ to_z-of_z w128 (at n k +ℤ y) (sfits_widen tt after)
 
@@ -50,7 +42,7 @@ item_number-new-requires g c =
     let fits : FitsSigned w64 k.item = search rules in
     subst IsValue
     (sym (now c.vertex_state.result.now (items_at q c.args.vertex) _ k c.vertex_state.ensures (passed k fits) c.get-old.result c.get-old.ensures.value
-    c.unwrap_or.result c.from.result c.args.n c.unwrap_or.ensures c.from.ensures c.ranges.n c.requires.before.ranged c.requires.within.ranged))
+    c.number.result c.args.n c.number.ensures.value c.ranges.n c.requires.before.ranged c.requires.within.ranged))
     c.requires.within.ranged
 
 pub returns-clause-ok : goal.returns-clause-ok
@@ -60,7 +52,7 @@ returns-clause-ok g c =
     let k = c.args.key.now in
     let fits : FitsSigned w64 k.item = search rules in
     let sum = now c.vertex_state.result.now (items_at q c.args.vertex) _ k c.vertex_state.ensures (passed k fits) c.get-old.result c.get-old.ensures.value
-    c.unwrap_or.result c.from.result c.args.n c.unwrap_or.ensures c.from.ensures c.ranges.n c.requires.before.ranged c.requires.within.ranged in
+    c.number.result c.args.n c.number.ensures.value c.ranges.n c.requires.before.ranged c.requires.within.ranged in
     let key = passed k fits in
     let then = c.item_number-new.ensures.number ∙ sum in
     subst (λ (e : ItemKey × ℤ). OnOk c.set_item.result (c.set_item.new.self ≡ record q { items = slice_set q.items c.args.vertex (set item_total (items_at q c.args.vertex) e.0 e.1) }))
@@ -71,4 +63,4 @@ returns-clause-absent g c =
     let k = c.args.key.now in
     let fits : FitsSigned w64 k.item = search rules in
     on_err_weaker c.set_item.result
-    (absent c.vertex_state.result.now (items_at c.args.processor.now c.args.vertex) _ k c.vertex_state.ensures (passed k fits) c.get-old.result c.get-old.ensures.value) c.set_item.ensures.absent
+    (λ none. sym (old_is c.vertex_state.result.now (items_at c.args.processor.now c.args.vertex) _ k c.vertex_state.ensures (passed k fits) c.get-old.result c.get-old.ensures.value) ∙ ap from_number none) c.set_item.ensures.absent

@@ -1,7 +1,7 @@
 use Rattle.std.proofs.Common.{◌<◌, length, arith}
 use Rattle.nd_steps.specs.Turns.{IsReadable}
 use Rattle.nd_steps.proofs.EachLemmas.{each_at, each_moved}
-use Rattle.nd_steps.proofs.TurnsLemmas.{none_yet, one_goes, one_leaves, in_order, counts_in, entries_in}
+use Rattle.nd_steps.proofs.TurnsLemmas.{none_yet, one_goes, one_leaves, in_order, all_within, count_fails, entry_fails}
 use Rattle.nd_steps.proofs.order.put_in_order.Goals as goal
 use Rattle.nd_steps.proofs.order.put_in_order.Goals.{then-reading, else-reading}
 
@@ -23,21 +23,27 @@ loop-i-preserved g c =
     let lt : l.i < length all = c.loop-i-test.true in
     elim c.if-reading.branch [
       | then-reading w ↦ rw (w.changes-is, w.turn-is)
-          (one_leaves ps all l.changes l.turn l.i l.limits.counts_stay l.limits.entries_stay l.invariant lt c.index-changes-i.result r.result.count_stays r.result.entry_stays r.ensures.count r.ensures.entry
+          (one_leaves ps all l.changes l.turn l.i l.counts_stay l.entries_stay l.invariant lt c.index-changes-i.result r.result.count_stays r.result.entry_stays r.ensures.count r.ensures.entry
           (r.ensures.leaves.0 w.if-reading.true) w.swap.new.self w.swap.ensures.permutation w.swap.ensures.after)
       | else-reading w ↦ rw (w.changes-is, w.turn-is)
-          (one_goes ps all l.changes l.turn l.i l.limits.counts_stay l.limits.entries_stay l.invariant lt c.index-changes-i.result r.result.count_stays r.result.entry_stays r.ensures.count r.ensures.entry
+          (one_goes ps all l.changes l.turn l.i l.counts_stay l.entries_stay l.invariant lt c.index-changes-i.result r.result.count_stays r.result.entry_stays r.ensures.count r.ensures.entry
           (λ some. let t = r.ensures.leaves.1 some in absurd (cc (w.if-reading.false, t))))
     ]
 
+pub returns-then-not-counts_stay-clause-order : goal.returns-then-not-counts_stay-clause-order
+returns-then-not-counts_stay-clause-order g c = in_order c.loop-i.invariant c.loop-i-test.false
+
+pub returns-then-not-counts_stay-clause-refused : goal.returns-then-not-counts_stay-clause-refused
+returns-then-not-counts_stay-clause-refused g c = count_fails c.loop-i.invariant c.loop-i-test.false c.if-not-counts_stay.true
+
+pub returns-then-not-entries_stay-clause-order : goal.returns-then-not-entries_stay-clause-order
+returns-then-not-entries_stay-clause-order g c = in_order c.loop-i.invariant c.loop-i-test.false
+
+pub returns-then-not-entries_stay-clause-refused : goal.returns-then-not-entries_stay-clause-refused
+returns-then-not-entries_stay-clause-refused g c = entry_fails c.loop-i.invariant c.loop-i-test.false c.if-not-counts_stay.false c.if-not-entries_stay.true
+
 pub returns-clause-order : goal.returns-clause-order
-returns-clause-order g c =
-    in_order c.args.processors.now c.args.changes.now c.loop-i.changes c.loop-i.turn c.loop-i.i c.loop-i.limits.counts_stay c.loop-i.limits.entries_stay c.loop-i.invariant (omega (arith, c.loop-i-test.false))
+returns-clause-order g c = in_order c.loop-i.invariant c.loop-i-test.false
 
-pub returns-clause-counts : goal.returns-clause-counts
-returns-clause-counts g c =
-    counts_in c.args.processors.now c.args.changes.now c.loop-i.changes c.loop-i.turn c.loop-i.i c.loop-i.limits.counts_stay c.loop-i.limits.entries_stay c.loop-i.invariant (omega (arith, c.loop-i-test.false))
-
-pub returns-clause-entries : goal.returns-clause-entries
-returns-clause-entries g c =
-    entries_in c.args.processors.now c.args.changes.now c.loop-i.changes c.loop-i.turn c.loop-i.i c.loop-i.limits.counts_stay c.loop-i.limits.entries_stay c.loop-i.invariant (omega (arith, c.loop-i-test.false))
+pub returns-clause-within : goal.returns-clause-within
+returns-clause-within g c = all_within c.loop-i.invariant c.loop-i-test.false c.if-not-counts_stay.false c.if-not-entries_stay.false

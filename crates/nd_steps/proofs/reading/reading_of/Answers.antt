@@ -1,11 +1,10 @@
-use Rattle.std.proofs.Common.{◌≡◌, ◌≢◌, ◌≤◌, ◌^◌, ℤ, pos, ◌+ℤ◌, unsigned_abs, List, get_or, FitsSigned, to_z, of_z, arith, sym, ap, subst, ◌∙◌}
+use Rattle.std.proofs.Common.{◌≡◌, ◌≤◌, ◌^◌, ℤ, ◌+ℤ◌, unsigned_abs, List, get_or, FitsSigned, to_z, of_z, arith, sym, ap, subst, ◌∙◌}
 use Rattle.std.specs.Int.{w128}
-use Rattle.std.specs.Prelude.{◌↔◌, IsTrue}
 use Rattle.std.proofs.lemmas.Int.{ints, to_z-of_z, fits_signed_from_abs}
 use Rattle.std.proofs.lemmas.List.{get_or_default}
 use Rattle.nd_processor.specs.State.{ProcessorState, idle}
-use Rattle.nd_steps.specs.Slots.{stands, CountWithin, EntryWithin}
-use Rattle.nd_steps.specs.Limits.{after}
+use Rattle.nd_steps.specs.Slots.{stands}
+use Rattle.nd_steps.specs.Limits.{after, ReadsAs}
 use Rattle.nd_steps.specs.Turns.{IsReadable}
 use Rattle.nd_steps.specs.declared.change.Change.{Change}
 use Rattle.nd_steps.proofs.reading.reading_of.Goals as goal
@@ -36,23 +35,9 @@ pub overflow_add-before : goal.overflow_add-before
 unfolding stored
 overflow_add-before g c = sum_fits c.args.processors.now c.args.change.now c.requires c.index-processors-change.result c.index-processors-change.is c.number_at-before.result c.number_at-before.ensures.value c.number_at-before.ensures.small
 
-pub returns-clause-leaves : goal.returns-clause-leaves
+pub returns : goal.returns
 unfolding stored
-returns-clause-leaves g c =
-    subst (λ z. IsTrue c.reading_after.result.leaves ↔ (z ≢ pos 0))
+returns g c =
+    subst (ReadsAs c.reading_after.result c.args.change.now.slot)
     (read_after c.args.processors.now c.args.change.now c.requires c.index-processors-change.result c.index-processors-change.is c.number_at-before.result c.number_at-before.ensures.value c.number_at-before.ensures.small)
-    c.reading_after.ensures.leaves
-
-pub returns-clause-count : goal.returns-clause-count
-unfolding stored
-returns-clause-count g c =
-    subst (λ z. IsTrue c.reading_after.result.count_stays ↔ CountWithin c.args.change.now.slot z)
-    (read_after c.args.processors.now c.args.change.now c.requires c.index-processors-change.result c.index-processors-change.is c.number_at-before.result c.number_at-before.ensures.value c.number_at-before.ensures.small)
-    c.reading_after.ensures.count
-
-pub returns-clause-entry : goal.returns-clause-entry
-unfolding stored
-returns-clause-entry g c =
-    subst (λ z. IsTrue c.reading_after.result.entry_stays ↔ EntryWithin c.args.change.now.slot z)
-    (read_after c.args.processors.now c.args.change.now c.requires c.index-processors-change.result c.index-processors-change.is c.number_at-before.result c.number_at-before.ensures.value c.number_at-before.ensures.small)
-    c.reading_after.ensures.entry
+    c.reading_after.ensures

@@ -1,12 +1,10 @@
-use Rattle.std.proofs.Common.{◌≡◌, ◌≤◌, refl, sym, ap, subst, ◌∙◌, arith, true≢false, unsigned_abs, vec_capacity}
+use Rattle.std.proofs.Common.{◌≡◌, ◌≤◌, refl, sym, ap, subst, ◌∙◌, arith, true≢false, unsigned_abs}
 use Rattle.nd_time.specs.Limits.{max_count}
 use Rattle.nd_map.specs.Listed.{IsListed}
 use Rattle.nd_paths.specs.Point.{point_cmp}
 use Rattle.nd_delta.specs.Delta.{at, combined, sorted-entries}
-use Rattle.nd_view.specs.Kept.{IsFor}
 use Rattle.nd_view.specs.Room.{AreWithin, IsAdded}
 use Rattle.nd_view.specs.Settled.{same_views}
-use Rattle.nd_view.proofs.FrontierLists.{still_listed}
 use Rattle.nd_view.proofs.Points.{added_all, within_entries}
 use Rattle.nd_view.proofs.View.change.Goals as goal
 
@@ -15,14 +13,6 @@ add-requires-clause-listed g c = subst (IsListed point_cmp) (sym c.entries.ensur
 
 pub add-requires-clause-within : goal.add-requires-clause-within
 add-requires-clause-within g c = subst AreWithin (sym c.entries.ensures.listed) (within_entries c.args.delta.now c.entries.ensures.within)
-
-pub invariant_of-self-then-not-add : goal.invariant_of-self-then-not-add
-invariant_of-self-then-not-add g c =
-    let old = c.self.inside.stored in
-    let same : c.add.new.self ≡ old
-    = same_views c.args.paths.now c.add.new.self old c.add.ensures.paths (subst (IsFor c.args.paths.now) (sym c.self.view_is) c.requires) (c.if-not-add.ensures.none (λ yes. true≢false (sym yes))) in
-    still_listed old.counts c.add.new.self.counts c.self.inside.frontier.items c.reserve.new.self.items (vec_capacity c.self.inside.frontier) (vec_capacity c.reserve.new.self)
-    (ap (λ v. v.counts) same) c.reserve.ensures.items c.reserve.ensures.capacity c.self.invariant
 
 pub returns-then-not-add-clause-err : goal.returns-then-not-add-clause-err
 returns-then-not-add-clause-err g c =

@@ -4,14 +4,14 @@ use Rattle.nd_delta.specs.Delta.{entries}
 use Rattle.nd_why.proofs.Taken.{IsTaken, within_limit, taken_none, taken_skip, taken_one, taken_all}
 use Rattle.nd_why.proofs.Turns.{small}
 use Rattle.nd_why.proofs.query.frontier_before.Goals as goal
-use Rattle.nd_why.proofs.query.frontier_before.Goals.{then-before+in_ok-put, else-before}
+use Rattle.nd_why.proofs.query.frontier_before.Goals.{then-is_before+in_ok-put, else-is_before}
 
 pub loop-entry-init : goal.loop-entry-init
 loop-entry-init g c = record {
   frontier = c.in_ok-frontier.frontier;
   part = c.in_ok-frontier.ensures.value;
   items = c.entries-entry-items.ensures.listed;
-  taken = taken_none c.args.paths.now c.args.point.now c.in_ok-frontier.frontier c.new-before.result c.new-before.ensures;
+  taken = taken_none c.args.paths.now c.args.question.now.strictly c.args.question.now.point c.in_ok-frontier.frontier c.new-before.result c.new-before.ensures;
 }
 
 pub put-requires : goal.put-requires
@@ -31,24 +31,24 @@ loop-entry-preserved g c =
     let is : x ≡ get_or (entries v.frontier) i x = rw v.items at c.entry-item.is in
     let listed = c.entries-entry-items.ensures.listed in
     let within : unsigned_abs x.1 ≤ max_count = within_limit c.in_ok-frontier.frontier i x c.entries-entry-items.ensures.within (rw listed at c.loop-entry-test.true) (rw listed at c.entry-item.is) in
-    elim c.if-before.branch [
-      | then-before+in_ok-put w ↦ record {
+    elim c.if-is_before.branch [
+      | then-is_before+in_ok-put w ↦ record {
         frontier = v.frontier;
         part = v.part;
         items = v.items;
-        taken = subst (λ d. IsTaken c.args.paths.now c.args.point.now v.frontier d (i + 1)) (sym w.before-is)
-            (taken_one c.args.paths.now c.args.point.now v.frontier c.loop-entry.before w.put.new.self i x lt is (w.if-before.ensures.0 refl) (rw (small x.1 within) at w.in_ok-put.ensures.ok) v.taken);
+        taken = subst (λ d. IsTaken c.args.paths.now c.args.question.now.strictly c.args.question.now.point v.frontier d (i + 1)) (sym w.before-is)
+            (taken_one c.args.paths.now c.args.question.now.strictly c.args.question.now.point v.frontier c.loop-entry.before w.put.new.self i x lt is (w.if-is_before.ensures.0 refl) (rw (small x.1 within) at w.in_ok-put.ensures.ok) v.taken);
       }
-      | else-before w ↦ record {
+      | else-is_before w ↦ record {
         frontier = v.frontier;
         part = v.part;
         items = v.items;
-        taken = subst (λ d. IsTaken c.args.paths.now c.args.point.now v.frontier d (i + 1)) (sym w.before-is)
-            (taken_skip c.args.paths.now c.args.point.now v.frontier c.loop-entry.before i x lt is (λ could. true≢false (sym (w.if-before.ensures.1 could))) v.taken);
+        taken = subst (λ d. IsTaken c.args.paths.now c.args.question.now.strictly c.args.question.now.point v.frontier d (i + 1)) (sym w.before-is)
+            (taken_skip c.args.paths.now c.args.question.now.strictly c.args.question.now.point v.frontier c.loop-entry.before i x lt is (λ could. true≢false (sym (w.if-is_before.ensures.1 could))) v.taken);
       }
     ]
 
 pub returns : goal.returns
 returns g c =
     let v = c.loop-entry.invariant in
-    taken_all c.args.paths.now c.args.point.now v.frontier c.args.known.now.map c.loop-entry.before c.loop-entry.entry-index (rw v.items at c.loop-entry-test.false) v.part v.taken
+    taken_all c.args.paths.now c.args.question.now.strictly c.args.question.now.point v.frontier c.args.known.now.map c.loop-entry.before c.loop-entry.entry-index (rw v.items at c.loop-entry-test.false) v.part v.taken

@@ -9,5 +9,5 @@ invariant-loop-entry g l = record {
   frontier : DeltaValue;
   part : IsPartWhere (IsOnFrontier l.paths l.known.map) l.known.map frontier;
   items : l.entry-items ≡ entries frontier;
-  taken : IsTaken l.paths l.point frontier l.before l.entry-index;
+  taken : IsTaken l.paths l.question.strictly l.question.point frontier l.before l.entry-index;
 }

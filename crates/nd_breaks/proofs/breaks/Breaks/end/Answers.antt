@@ -3,4 +3,4 @@ use Rattle.nd_breaks.proofs.Slots.{none_from}
 use Rattle.nd_breaks.proofs.breaks.Breaks.end.Goals as goal
 
 pub returns-clause-past : goal.returns-clause-past
-returns-clause-past c = none_from c.self.inside.slots.items c.self.inside.slots.items c.args.self.now c.len.result refl c.self.view_is (omega arith)
+returns-clause-past g c = none_from c.self.inside.slots.items c.self.inside.slots.items c.args.self.now c.len.result refl c.self.view_is (omega arith)

@@ -3,4 +3,4 @@ use Rattle.std.specs.FinMap as fin
 use Rattle.nd_breaks.proofs.breaks.Breaks.first_free.Given as goal
 
 abbrev pub invariant-loop-id : goal.invariant-loop-id
-invariant-loop-id l = (k : ℕ) → k < l.id → fin.get l.self k ≢ None
+invariant-loop-id g l = (k : ℕ) → k < l.id → fin.get l.self k ≢ None

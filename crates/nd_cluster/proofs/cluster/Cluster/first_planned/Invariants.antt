@@ -1,5 +1,7 @@
 use Rattle.std.proofs.Common.{◌≡◌, ◌<◌, ◌≤◌, ◌%◌, length}
+use Rattle.std.specs.List.{flat_map, range_with_len}
 use Rattle.nd_time.specs.Limits.{max_processors}
+use Rattle.nd_cluster.specs.Candidates.{AreRefused, candidates_after}
 use Rattle.nd_cluster.proofs.ChoiceLemmas.{NoneWaits}
 use Rattle.nd_cluster.proofs.cluster.Cluster.first_planned.Given as goal
 
@@ -10,4 +12,5 @@ invariant-loop-i g l = record {
   few : l.n ≤ max_processors;
   first : l.first ≡ l.turn % l.n;
   none : NoneWaits g.row.A.Denot l.self l.turn l.i;
+  refused : AreRefused {A = g.row.A.Denot} l.self (flat_map (candidates_after l.self l.turn) (range_with_len 0 l.i));
 }

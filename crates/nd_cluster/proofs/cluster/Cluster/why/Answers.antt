@@ -1,69 +1,27 @@
-use Rattle.std.proofs.Common.{◌≡◌, ◌↔◌, [], length, sym, ap, subst, arith}
-use Rattle.std.specs.Prelude.{All}
+use Rattle.std.proofs.Common.{◌≡◌, ◌↔◌, [], subst}
+use Rattle.std.specs.Prelude.{All, IfOk}
+use Rattle.std.proofs.lemmas.Result.{IfOk-weaker}
 use Rattle.nd_paths.specs.Order.{CouldResultIn}
 use Rattle.nd_paths.specs.declared.point.Pointstamp.{Pointstamp}
-use Rattle.nd_graph.specs.Graph.{Dataflow}
-use Rattle.nd_view.specs.Views.{AreFor}
 use Rattle.nd_view.specs.View.{IsBlocker, IsPassed}
-use Rattle.nd_protocol.specs.State.{ClusterState, view}
-use Rattle.nd_protocol.specs.Invariant.{KeepsProtocol, IsFinished}
-use Rattle.nd_protocol.specs.Fitting.{IsState}
-use Rattle.nd_why.specs.Why.{state_of, IsWhy, HasReasonBefore, IsCounted, IsBalanced}
-use Rattle.nd_cluster.proofs.States.{of_parts}
+use Rattle.nd_protocol.specs.State.{view}
+use Rattle.nd_protocol.specs.Invariant.{IsFinished}
+use Rattle.nd_why.specs.Why.{HasReasonBefore}
 use Rattle.nd_cluster.proofs.cluster.Cluster.why.Goals as goal
-
-pub why-told-requires-clause-state : goal.why-told-requires-clause-state
-why-told-requires-clause-state g c =
-    let is : state_of c.paths.result.now c.processors.result.now c.views.result.now c.mesh.result.now ≡ c.args.self.now
-    = of_parts _ _ _ _ _ c.paths.ensures c.processors.ensures.value c.views.ensures.maps c.mesh.ensures.value in
-    subst IsState (sym is) c.processors.ensures.state
-
-pub why-told-requires-clause-kept : goal.why-told-requires-clause-kept
-why-told-requires-clause-kept g c = subst (λ (k : Dataflow). AreFor k c.views.result.now) (sym c.paths.ensures) c.views.ensures.paths
-
-pub why-told-requires-clause-q : goal.why-told-requires-clause-q
-why-told-requires-clause-q g c =
-    let many : length c.processors.result.now ≡ length c.args.self.now.processors = ap length c.processors.ensures.value in
-    omega (arith, many, c.requires)
-
-pub returns-clause-whole : goal.returns-clause-whole
-returns-clause-whole g c =
-    let is : state_of c.paths.result.now c.processors.result.now c.views.result.now c.mesh.result.now ≡ c.args.self.now
-    = of_parts _ _ _ _ _ c.paths.ensures c.processors.ensures.value c.views.ensures.maps c.mesh.ensures.value in
-    subst (λ (s : ClusterState). IsWhy s c.args.q c.args.point.now c.in-Ok.reasons) is c.in-Ok.ensures.whole
 
 pub returns-clause-passed : goal.returns-clause-passed
 returns-clause-passed g c =
-    let is : state_of c.paths.result.now c.processors.result.now c.views.result.now c.mesh.result.now ≡ c.args.self.now
-    = of_parts _ _ _ _ _ c.paths.ensures c.processors.ensures.value c.views.ensures.maps c.mesh.ensures.value in
-    subst (λ (s : ClusterState). (c.in-Ok.reasons ≡ []) ↔ IsPassed s.graph (view s c.args.q) c.args.point.now) is c.in-Ok.ensures.passed
+    subst (λ (p : Pointstamp). IfOk c.reasons.result (λ w. (w ≡ []) ↔ IsPassed c.args.self.now.graph (view c.args.self.now c.args.q) p)) c.copy.ensures c.reasons.ensures.passed
 
 pub returns-clause-before : goal.returns-clause-before
 returns-clause-before g c =
-    let is : state_of c.paths.result.now c.processors.result.now c.views.result.now c.mesh.result.now ≡ c.args.self.now
-    = of_parts _ _ _ _ _ c.paths.ensures c.processors.ensures.value c.views.ensures.maps c.mesh.ensures.value in
-    subst (λ (s : ClusterState). All (λ a. CouldResultIn s.graph a.point c.args.point.now) c.in-Ok.reasons) is c.in-Ok.ensures.before
+    subst (λ (p : Pointstamp). IfOk c.reasons.result (All (λ a. CouldResultIn c.args.self.now.graph a.point p))) c.copy.ensures c.reasons.ensures.before
 
 pub returns-clause-covered : goal.returns-clause-covered
 returns-clause-covered g c =
-    let is : state_of c.paths.result.now c.processors.result.now c.views.result.now c.mesh.result.now ≡ c.args.self.now
-    = of_parts _ _ _ _ _ c.paths.ensures c.processors.ensures.value c.views.ensures.maps c.mesh.ensures.value in
-    subst (λ (s : ClusterState). (x : Pointstamp) → IsBlocker s.graph (view s c.args.q) c.args.point.now x → HasReasonBefore s.graph c.in-Ok.reasons x) is c.in-Ok.ensures.covered
-
-pub returns-clause-counted : goal.returns-clause-counted
-returns-clause-counted g c =
-    let is : state_of c.paths.result.now c.processors.result.now c.views.result.now c.mesh.result.now ≡ c.args.self.now
-    = of_parts _ _ _ _ _ c.paths.ensures c.processors.ensures.value c.views.ensures.maps c.mesh.ensures.value in
-    subst (λ (s : ClusterState). All (IsCounted s) c.in-Ok.reasons) is c.in-Ok.ensures.counted
-
-pub returns-clause-balanced : goal.returns-clause-balanced
-returns-clause-balanced g c =
-    let is : state_of c.paths.result.now c.processors.result.now c.views.result.now c.mesh.result.now ≡ c.args.self.now
-    = of_parts _ _ _ _ _ c.paths.ensures c.processors.ensures.value c.views.ensures.maps c.mesh.ensures.value in
-    subst (λ (s : ClusterState). KeepsProtocol s → All IsBalanced c.in-Ok.reasons) is c.in-Ok.ensures.balanced
+    subst (λ (p : Pointstamp). IfOk c.reasons.result (λ w. (x : Pointstamp) → IsBlocker c.args.self.now.graph (view c.args.self.now c.args.q) p x → HasReasonBefore c.args.self.now.graph w x)) c.copy.ensures
+    (IfOk-weaker c.reasons.result _ _ (λ w h x b. h x (record { positive = b.positive; before = b.before })) c.reasons.ensures.covered)
 
 pub returns-clause-finished : goal.returns-clause-finished
 returns-clause-finished g c =
-    let is : state_of c.paths.result.now c.processors.result.now c.views.result.now c.mesh.result.now ≡ c.args.self.now
-    = of_parts _ _ _ _ _ c.paths.ensures c.processors.ensures.value c.views.ensures.maps c.mesh.ensures.value in
-    subst (λ (s : ClusterState). IsFinished s c.args.point.now → All (λ a. a.held ≡ []) c.in-Ok.reasons) is c.in-Ok.ensures.finished
+    subst (λ (p : Pointstamp). IsFinished c.args.self.now p → IfOk c.reasons.result (All (λ a. a.held ≡ []))) c.copy.ensures c.reasons.ensures.finished

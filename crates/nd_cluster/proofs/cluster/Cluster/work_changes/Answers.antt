@@ -37,7 +37,7 @@ returns-in_ok-changes-in-Each-clause-ok g c =
     let t = stepped s x in
     let draft = subst (λ (d : Drafted g.row.A.Denot). IsDraft s x d) c.in-Each.is c.in_ok-all.ensures.drafted in
     let made : ReachesIn c.processors.result.now s t c.in-Each.all.items = (sym c.processors.ensures.value, draft) in
-    let told = c.in_ok-changes-in-Each.ensures in
+    let told = c.in_ok-changes-in-Each.ensures.ok in
     work_plans s x c.in_ok-changes-in-Each.changes c.requires
     (enabled s x c.requires c.in_ok-all.ensures.free (told.counts s t made) (told.entries s t made) c.numbers_fit.ensures) (told.leads s t made)
 
@@ -48,6 +48,6 @@ returns-in_ok-flow-in-Flow-clause-ok g c =
     let t = stepped s x in
     let draft = subst (λ (d : Drafted g.row.A.Denot). IsDraft s x d) c.in-Flow.is c.in_ok-all.ensures.drafted in
     let made : ReachesIn c.processors-in-Flow.result.now s t (come_changes c.in-Flow.p c.in-Flow.gone c.in-Flow.come) = (sym c.processors-in-Flow.ensures.value, draft.1) in
-    let told = c.in_ok-flow-in-Flow.ensures in
+    let told = c.in_ok-flow-in-Flow.ensures.ok in
     flow_plans s c.in-Flow.p c.in-Flow.gone c.in_ok-flow-in-Flow.flow x draft.0
     (enabled s x c.requires c.in_ok-all.ensures.free (told.counts s t made) (told.entries s t made) c.numbers_fit.ensures) (told.leads s t made)

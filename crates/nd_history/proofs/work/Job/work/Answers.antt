@@ -31,7 +31,7 @@ loop-init g c =
       found_room = job.empty.found_room;
       on = job.on;
       called = all_none (g.G.Gate.called c.args.team.now.scan.now.gate.now c.args.self.number) s.claimed.items job.empty.nothing_claimed;
-      right = starts (HoldsAt c.args.team.now.scan.now.timeline.now c.args.team.now.scan.now.b.now) c.args.team.now.scan.now.positions.lo c.args.team.now.scan.now.positions.hi s.claimed.items s.found.items job.empty.nothing_claimed job.empty.nothing_found;
+      right = starts (HoldsAt c.args.team.now.scan.now.timeline.now c.args.team.now.scan.now.condition.now) c.args.team.now.scan.now.positions.lo c.args.team.now.scan.now.positions.hi s.claimed.items s.found.items job.empty.nothing_claimed job.empty.nothing_found;
     }
 
 pub loop-preserved : goal.loop-preserved
@@ -50,7 +50,7 @@ loop-preserved g c =
       found_room = search rules;
       on = c.search_piece.ensures.on;
       called = all_more (g.G.Gate.called c.args.team.now.scan.now.gate.now c.args.self.number) claimed c.push_reserved.new.self.items piece c.push_reserved.ensures.items at.called c.call.ensures;
-      right = ends (HoldsAt m c.args.team.now.scan.now.b.now) c.args.team.now.scan.now.positions.lo c.args.team.now.scan.now.positions.hi claimed c.push_reserved.new.self.items c.loop.searched.found.items c.push_reserved-in-loop.new.self.items piece c.in-Ok.found at.right at.even c.in-Ok.ensures.found c.push_reserved.ensures.items c.push_reserved-in-loop.ensures.items;
+      right = ends (HoldsAt m c.args.team.now.scan.now.condition.now) c.args.team.now.scan.now.positions.lo c.args.team.now.scan.now.positions.hi claimed c.push_reserved.new.self.items c.loop.searched.found.items c.push_reserved-in-loop.new.self.items piece c.in-Ok.found at.right at.even c.in-Ok.ensures.found c.push_reserved.ensures.items c.push_reserved-in-loop.ensures.items;
     }
 
 pub returns : goal.returns
@@ -59,7 +59,7 @@ returns g c =
     let k : ℕ = c.loop.counter in
     let at = c.loop.invariant in
     let table = c.args.team.now.word.now.table_id in
-    let Hit : ℕ → Type 0 = HoldsAt c.args.team.now.scan.now.timeline.now c.args.team.now.scan.now.b.now in
+    let Hit : ℕ → Type 0 = HoldsAt c.args.team.now.scan.now.timeline.now c.args.team.now.scan.now.condition.now in
     let Called : ℕ → Type 0 = g.G.Gate.called c.args.team.now.scan.now.gate.now c.args.self.number in
     let lo : ℕ = c.args.team.now.scan.now.positions.lo in
     let hi : ℕ = c.args.team.now.scan.now.positions.hi in

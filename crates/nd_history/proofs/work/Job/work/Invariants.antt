@@ -16,5 +16,5 @@ invariant-loop g l = record {
   found_room : l.team.pieces < vec_capacity l.searched.found;
   on : IsOn l.team.scan.now.timeline.now l.walk;
   called : All (g.G.Gate.called l.team.scan.now.gate.now l.fn.self.number) l.searched.claimed.items;
-  right : IsSearched (HoldsAt l.team.scan.now.timeline.now l.team.scan.now.b.now) l.team.scan.now.positions.lo l.team.scan.now.positions.hi l.searched;
+  right : IsSearched (HoldsAt l.team.scan.now.timeline.now l.team.scan.now.condition.now) l.team.scan.now.positions.lo l.team.scan.now.positions.hi l.searched;
 }

@@ -12,6 +12,6 @@ invariant_of-result g c =
     let same : c.graph-graph.result.now ≡ base.graph = c.graph-graph.ensures ∙ ap (λ s. s.graph) c.base.ensures in
     let sound : IsFaultless base.graph = subst IsFaultless same c.vertices.ensures.sound in
     let agree : All (ArcAgrees (depths base.graph)) (arcs base.graph) = subst (λ (d : Dataflow). All (ArcAgrees (depths d)) (arcs d)) same c.all_arcs.ensures.agree in
-    rw (c.new.ensures, c.new-2.ensures.items, c.new-3.ensures)
+    rw (c.in_ok-new.ensures, c.new-2.ensures.items, c.new-3.ensures)
     (kept_new c.args.timeline c.requires.fresh c.at.ensures.timeline start
     (is_state base start sound agree c.starts_keep_protocol.ensures.state) (keeps_protocol base start sound agree c.starts_keep_protocol.ensures.protocol))

@@ -1,25 +1,62 @@
-use Rattle.std.proofs.Common.{List, sym, ap, subst, ◌∙◌}
+use Rattle.std.proofs.Common.{◌≡◌, ◌<◌, ℤ, List, length, set, vec_len, FitsSigned, to_z, of_z, sym, ap, subst, ◌∙◌, rules}
+use Rattle.std.specs.Int.{w128}
+use Rattle.std.proofs.lemmas.Int.{to_z-of_z}
+use Rattle.std.proofs.lemmas.List.{set-get_or}
 use Rattle.std.proofs.lemmas.Result.{IfOk-weaker, IfErr-weaker}
 use Rattle.nd_processor.specs.State.{ProcessorState}
-use Rattle.nd_protocol.specs.State.{ClusterState}
-use Rattle.nd_steps.specs.Changes.{IsRunnable, applied}
+use Rattle.nd_protocol.specs.State.{ClusterState, processor}
+use Rattle.nd_steps.specs.Changes.{FitsIn, made_in}
+use Rattle.nd_steps.specs.Slots.{stands}
 use Rattle.nd_steps.specs.Seen.{seen}
-use Rattle.nd_steps.proofs.RunsLemmas.{alone, runs_only}
-use Rattle.nd_steps.proofs.SeenLemmas.{seen_after}
+use Rattle.nd_steps.proofs.SentLemmas.{processor_seen}
 use Rattle.nd_steps.proofs.parts.Parts.make.Goals as goal
 
-pub make_all-requires : goal.make_all-requires
-make_all-requires g c =
-    subst (λ (s : ClusterState). IsRunnable (alone s) c.args.changes.now) (sym c.self.view_is) (runs_only c.args.self.now c.args.changes.now c.requires).runs
+-- the number as it is passed on
+kept : (n : ℤ) → FitsSigned w128 n → to_z w128 (of_z w128 n) ≡ n
+kept n fits = to_z-of_z w128 n fits
+
+pub index_mut-processor-requires : goal.index_mut-processor-requires
+index_mut-processor-requires g c =
+    let a = c.self.inside in
+    let p = c.args.change.now.p in
+    let counted : length a.processors.items ≡ vec_len a.processors = search rules in
+    subst (λ n. p < n) counted (subst (λ (t : ClusterState). p < length t.processors) (sym c.self.view_is) c.requires.owner)
+
+pub make_in-requires : goal.make_in-requires
+make_in-requires g c =
+    let a = c.self.inside in
+    let d = c.args.change.now in
+    let lt : d.p < length a.processors.items = subst (λ (t : ClusterState). d.p < length t.processors) (sym c.self.view_is) c.requires.owner in
+    let is = processor_seen c.args.self.now a.paths a.processors.items a.views.items a.mesh c.self.view_is d.p c.index_mut-processor.result.now lt c.index_mut-processor.ensures.value in
+    subst (λ (q : ProcessorState). FitsIn q d.slot (to_z w128 (of_z w128 d.n))) (sym is) (subst (FitsIn (processor c.args.self.now d.p) d.slot) (sym (kept d.n (search rules))) c.requires.inside)
 
 pub returns-clause-ok : goal.returns-clause-ok
 returns-clause-ok g c =
     let a = c.self.inside in
-    let cs = c.args.changes.now in
-    IfOk-weaker c.make_all.result _ _ (λ _ e.
-    seen_after a.paths a.processors.items c.make_all.new.processors.items a.views.items a.mesh cs e ∙ ap (λ s. applied s cs) c.self.view_is) c.make_all.ensures.ok
+    let t = c.args.self.now in
+    let d = c.args.change.now in
+    let q = c.index_mut-processor.result.now in
+    let lt : d.p < length a.processors.items = subst (λ (t : ClusterState). d.p < length t.processors) (sym c.self.view_is) c.requires.owner in
+    let is : q ≡ processor t d.p = processor_seen t a.paths a.processors.items a.views.items a.mesh c.self.view_is d.p q lt c.index_mut-processor.ensures.value in
+    IfOk-weaker c.make_in.result _ _ (λ _ e.
+    (λ i. seen a.paths (set a.processors.items d.p ((e ∙ ap (made_in q d.slot) (kept d.n (search rules))) i)) a.views.items a.mesh)
+    ∙ (λ i. record (c.self.view_is i) { processors = set (c.self.view_is i).processors d.p (made_in (is i) d.slot d.n) })) c.make_in.ensures.ok
 
 pub returns-clause-err : goal.returns-clause-err
 returns-clause-err g c =
     let a = c.self.inside in
-    IfErr-weaker c.make_all.result _ _ (λ _ e. ap (λ (ps : List ProcessorState). seen a.paths ps a.views.items a.mesh) e ∙ c.self.view_is) c.make_all.ensures.err
+    let p = c.args.change.now.p in
+    let q = c.index_mut-processor.result.now in
+    IfErr-weaker c.make_in.result _ _ (λ _ e.
+    (λ i. seen a.paths (set a.processors.items p ((e ∙ c.index_mut-processor.ensures.value) i)) a.views.items a.mesh)
+    ∙ ap (λ (ps : List ProcessorState). seen a.paths ps a.views.items a.mesh) (set-get_or a.processors.items p q) ∙ c.self.view_is) c.make_in.ensures.err
+
+pub returns-clause-absent : goal.returns-clause-absent
+returns-clause-absent g c =
+    let a = c.self.inside in
+    let t = c.args.self.now in
+    let d = c.args.change.now in
+    let q = c.index_mut-processor.result.now in
+    let lt : d.p < length a.processors.items = subst (λ (t : ClusterState). d.p < length t.processors) (sym c.self.view_is) c.requires.owner in
+    let is : q ≡ processor t d.p = processor_seen t a.paths a.processors.items a.views.items a.mesh c.self.view_is d.p q lt c.index_mut-processor.ensures.value in
+    IfErr-weaker c.make_in.result _ _ (λ _ e. sym (ap (λ r. stands r d.slot) is) ∙ e) c.make_in.ensures.absent

@@ -1,4 +1,4 @@
-use Rattle.std.proofs.Common.{◌≡◌, ◌<◌, length, sym, ap, subst, ◌∙◌}
+use Rattle.std.proofs.Common.{◌<◌, sym, ap, subst, ◌∙◌}
 use Rattle.nd_delta.specs.Delta.{DeltaValue, plus}
 use Rattle.nd_view.specs.Views.{for_set}
 use Rattle.nd_mesh.specs.Mesh.{popped}

@@ -1,5 +1,5 @@
-use Rattle.std.proofs.Common.{◌≡◌, ◌<◌, length, set, sym, ap, subst, ◌∙◌}
-use Rattle.nd_delta.specs.Delta.{DeltaValue, minus, IsPartOf}
+use Rattle.std.proofs.Common.{◌≡◌, ◌<◌, length, set, sym, subst, ◌∙◌}
+use Rattle.nd_delta.specs.Delta.{minus, IsPartOf}
 use Rattle.nd_processor.specs.State.{ProcessorState}
 use Rattle.nd_mesh.specs.Mesh.{pushed}
 use Rattle.nd_protocol.specs.State.{ClusterState, processor}

@@ -1,6 +1,6 @@
 use Rattle.std.proofs.Common.{◌≡◌, ◌<◌, List, length, get_or, set, vec_len, refl, sym, ap, subst, ◌∙◌, rules}
 use Rattle.std.proofs.lemmas.List.{set-get_or}
-use Rattle.nd_delta.specs.Delta.{DeltaValue, plus, IsApart}
+use Rattle.nd_delta.specs.Delta.{plus, IsApart}
 use Rattle.nd_processor.specs.State.{ProcessorState, idle}
 use Rattle.nd_mesh.specs.Mesh.{unpushed}
 use Rattle.nd_protocol.specs.State.{ClusterState, processor}

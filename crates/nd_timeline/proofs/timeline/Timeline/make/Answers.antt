@@ -1,23 +1,48 @@
-use Rattle.std.proofs.Common.{◌<◌, take, sym, subst, refl}
+use Rattle.std.proofs.Common.{◌≡◌, ◌<◌, ◌+◌, [], ◌∷◌, ◌++◌, length, take, sym, ap, subst, refl, arith, length-append}
+use Rattle.std.proofs.lemmas.List.{length-take-le}
 use Rattle.nd_time.specs.Limits.{max_kept}
 use Rattle.nd_cluster.specs.Records.{IsPlanned}
 use Rattle.nd_timeline.specs.Timeline.{TimelineValue}
+use Rattle.nd_timeline.specs.Reached.{IsReached}
 use Rattle.nd_timeline.proofs.KeptSteps.{extends, seen, steps_of-push, steps_of-take}
 use Rattle.nd_timeline.proofs.timeline.Timeline.make.Goals as goal
 
 pub commit-requires : goal.commit-requires
-commit-requires g c = subst (IsPlanned c.args.planned) (sym (seen c.self.inside.kept.base c.self.inside.walk.cluster c.self.inside.kept.steps.items c.self.inside.walk.at _ c.self.invariant c.self.view_is)) c.requires.planned
+commit-requires g c = subst (IsPlanned c.args.planned) (sym (seen c.self.inside.kept.base c.self.inside.walk.cluster c.self.inside.kept.steps.items c.self.inside.walk.at _ c.self.invariant.reached c.self.view_is)) c.requires.planned
+
+pub keep-requires-clause-within : goal.keep-requires-clause-within
+keep-requires-clause-within g c = rw c.reserve.ensures.items c.self.invariant.reached.within
+
+pub keep-requires-clause-checkpoints : goal.keep-requires-clause-checkpoints
+keep-requires-clause-checkpoints g c = rw c.reserve.ensures.items c.self.invariant.checkpoints
+
+pub save_if_due-requires-clause-on : goal.save_if_due-requires-clause-on
+save_if_due-requires-clause-on g c =
+    let room : c.self.inside.walk.at < max_kept = subst (λ (m : TimelineValue g.row.A.Denot). m.cursor < max_kept) (sym c.self.view_is) c.requires.room in
+    let here : IsPlanned c.args.planned c.self.inside.walk.cluster
+    = subst (IsPlanned c.args.planned) (sym (seen c.self.inside.kept.base c.self.inside.walk.cluster c.self.inside.kept.steps.items c.self.inside.walk.at _ c.self.invariant.reached c.self.view_is)) c.requires.planned in
+    rw (c.keep.ensures.base, c.keep.ensures.steps, c.reserve.ensures.items)
+    (extends c.self.inside.kept.base c.self.inside.walk.cluster c.commit.new.self c.self.inside.kept.steps.items c.self.inside.walk.at c.args.planned c.self.invariant.reached room
+    here c.in-Ok-commit.ensures.step)
+
+pub save_if_due-requires-clause-last : goal.save_if_due-requires-clause-last
+save_if_due-requires-clause-last g c =
+    rw (c.keep.ensures.steps, c.reserve.ensures.items)
+    (omega (arith, length-append (take c.self.inside.walk.at c.self.inside.kept.steps.items) (c.args.planned ∷ []), length-take-le c.self.inside.walk.at c.self.inside.kept.steps.items c.self.invariant.reached.within))
 
 pub invariant_of-self-2 : goal.invariant_of-self-2
 invariant_of-self-2 g c =
     let room : c.self.inside.walk.at < max_kept = subst (λ (m : TimelineValue g.row.A.Denot). m.cursor < max_kept) (sym c.self.view_is) c.requires.room in
     let here : IsPlanned c.args.planned c.self.inside.walk.cluster
-    = subst (IsPlanned c.args.planned) (sym (seen c.self.inside.kept.base c.self.inside.walk.cluster c.self.inside.kept.steps.items c.self.inside.walk.at _ c.self.invariant c.self.view_is)) c.requires.planned in
-    rw (c.push_reserved.ensures.items, c.truncate.ensures.items, c.reserve.ensures.items)
-    (extends c.self.inside.kept.base c.self.inside.walk.cluster c.commit.new.self c.self.inside.kept.steps.items c.self.inside.walk.at c.args.planned c.self.invariant room
-    here c.in-Ok-commit.ensures.step)
+    = subst (IsPlanned c.args.planned) (sym (seen c.self.inside.kept.base c.self.inside.walk.cluster c.self.inside.kept.steps.items c.self.inside.walk.at _ c.self.invariant.reached c.self.view_is)) c.requires.planned in
+    record {
+      reached = rw (c.save_if_due.ensures.base, c.save_if_due.ensures.steps, c.keep.ensures.base, c.keep.ensures.steps, c.reserve.ensures.items)
+          (extends c.self.inside.kept.base c.self.inside.walk.cluster c.commit.new.self c.self.inside.kept.steps.items c.self.inside.walk.at c.args.planned c.self.invariant.reached room
+          here c.in-Ok-commit.ensures.step);
+      checkpoints = c.save_if_due.ensures.checkpoints;
+    }
 
 pub returns-clause-ok : goal.returns-clause-ok
 returns-clause-ok g c =
-    rw (c.push_reserved.ensures.items, c.truncate.ensures.items, c.reserve.ensures.items, ← c.self.view_is)
+    rw (c.save_if_due.ensures.base, c.save_if_due.ensures.steps, c.keep.ensures.base, c.keep.ensures.steps, c.reserve.ensures.items, ← c.self.view_is)
     (rw (steps_of-push (take c.self.inside.walk.at c.self.inside.kept.steps.items) c.args.planned, steps_of-take c.self.inside.walk.at c.self.inside.kept.steps.items) refl)

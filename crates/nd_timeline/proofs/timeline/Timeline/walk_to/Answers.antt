@@ -5,7 +5,7 @@ use Rattle.nd_timeline.proofs.KeptSteps.{walk_reached, walk_is_on}
 use Rattle.nd_timeline.proofs.timeline.Timeline.walk_to.Goals as goal
 
 pub walk_to-requires : goal.walk_to-requires
-walk_to-requires g c = walk_reached c.self.inside.kept c.self.inside.walk.cluster c.self.inside.walk.at c.args.self.now c.args.walk.now c.self.invariant c.self.view_is c.requires
+walk_to-requires g c = walk_reached c.self.inside.kept c.self.inside.walk.cluster c.self.inside.walk.at c.args.self.now c.args.walk.now c.self.invariant.reached c.self.view_is c.requires
 
 pub returns-clause-on : goal.returns-clause-on
 returns-clause-on g c = walk_is_on c.self.inside.kept c.self.inside.walk.at c.args.self.now c.walk_to.new.walk c.self.view_is c.walk_to.ensures.on

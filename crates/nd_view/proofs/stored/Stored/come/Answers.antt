@@ -1,4 +1,4 @@
-use Rattle.std.proofs.Common.{◌≡◌, length, sym, ap, subst, ◌∙◌, w64, true, arith}
+use Rattle.std.proofs.Common.{◌≡◌, sym, ap, subst, ◌∙◌, w64, true}
 use Rattle.std.proofs.lemmas.Int.{to_z-of_z}
 use Rattle.std.specs.FinMap.{find, put}
 use Rattle.nd_map.specs.Listed.{without}
@@ -7,7 +7,6 @@ use Rattle.nd_delta.specs.Delta.{set}
 use Rattle.nd_view.specs.Kept.{IsFor, IsReady, kept_of}
 use Rattle.nd_view.proofs.Fors.{taken_out}
 use Rattle.nd_view.proofs.Moves.{ready_up}
-use Rattle.nd_view.proofs.Shifts.{size_grown}
 use Rattle.nd_view.proofs.stored.Stored.come.Given.{Over}
 use Rattle.nd_view.proofs.stored.Stored.come.Goals as goal
 
@@ -34,14 +33,3 @@ returns-in_default-clause-paths g c =
     let same : c.put-2.new.self ≡ c.args.self.now.map = c.in_default.ensures.err ∙ ap (λ k. k.map) c.self.view_is in
     let gone = out g c in
     subst (IsFor c.args.paths.now) (λ j. kept_of (sym same j) (sym gone j)) c.requires.paths
-
-pub returns-in_default-clause-size : goal.returns-in_default-clause-size
-returns-in_default-clause-size g c = let same = ap length (out g c) in omega (arith, same)
-
-pub returns-clause-size : goal.returns-clause-size
-returns-clause-size g c =
-    let x = c.args.point.now in
-    let v = c.args.self.now in
-    let put_is : c.put.new.self ≡ put point_cmp x c.count_before-count.result v.counts = rw (ap (λ k. k.counts) c.self.view_is) at c.in_ok-put.ensures.ok in
-    let more = size_grown v.counts c.put.new.self x c.count_before-count.result c.requires.paths.listed put_is in
-    omega (arith, more, c.shift.ensures.size)

@@ -1,5 +1,0 @@
-use Rattle.std.proofs.Common.{rules}
-use Rattle.nd_breaks.proofs.watch.Break.copy.Goals as goal
-
-pub returns-in-Queue : goal.returns-in-Queue
-returns-in-Queue c = search rules

@@ -1,0 +1,366 @@
+//! Conditions on a cluster: atoms, their negations, and several of these put together.
+ghost use Rattle.std.specs.Prelude.{◌≡◌, ◌≢◌, ◌↔◌, ◌<◌, ◌≤◌, IsTrue, IsOk, OnOk, OnErr, IfOk, MatchBool, [], ◌∷◌, All, Any, length};
+ghost use Rattle.nd_time.specs.Limits.{max_literals};
+ghost use Rattle.nd_graph.specs.Graph.{location_count};
+ghost use Rattle.nd_breaks.specs.Conditions.{AtomHolds, LiteralHolds, Holds, HoldsAs, condition_of, with_literal};
+
+use arrayvec::ArrayVec;
+use nd_cluster::Cluster;
+use nd_paths::Pointstamp;
+use std::alloc::{AllocError, Allocator, Global};
+use std::marker::Model;
+use thiserror::Error;
+
+/// The most literals of a condition.
+const MAX_LITERALS: usize = 8;
+
+/// The condition has `MAX_LITERALS` literals already.
+#[derive(Clone, Copy, Debug, PartialEq, Eq, Drop, Error)]
+#[error("a condition has at most 8 literals")]
+pub struct TooManyLiterals;
+
+/// A condition on a cluster that is not put together of others.
+///
+/// An atom that names a processor, a vertex or a location that is not there does not hold.
+#[derive(Debug, PartialEq, Eq, Drop)]
+pub enum Atom {
+    /// The view of processor `q` has passed the pointstamp.
+    Passed {
+        q: u32,
+        point: Pointstamp,
+    },
+    /// The true count of the pointstamp is at least `at_least`.
+    Count {
+        point: Pointstamp,
+        at_least: u64,
+    },
+    /// At least `at_least` changes stand in the queue.
+    Queue {
+        from: u32,
+        to: u32,
+        at_least: u64,
+    },
+    /// The sinks of the vertex, over all processors, have counted the value at least `at_least` times.
+    Sink {
+        vertex: usize,
+        value: i64,
+        at_least: u64,
+    },
+    /// Nothing outstanding is at or before the pointstamp, whatever the views say.
+    Finished {
+        point: Pointstamp,
+    },
+    /// The entry of processor `q`'s view at the pointstamp, 0 if there is none, is at least `at_least`.
+    View {
+        q: u32,
+        point: Pointstamp,
+        at_least: i64,
+    },
+}
+
+// Whether the graph has the location of a pointstamp.
+fn has_place<A: Allocator + Copy>(cluster: &Cluster<A>, point: &Pointstamp) -> bool
+    ensures { IsTrue result ↔ (point.now.location < location_count cluster.now.graph) }
+{
+    point.location < cluster.graph().location_count()
+}
+
+impl Atom {
+    /// Returns whether the atom holds of the cluster.
+    pub fn holds<A: Allocator + Copy>(&self, cluster: &Cluster<A>) -> bool
+        ensures { IsTrue result ↔ AtomHolds cluster.now self.now }
+    {
+        match self {
+            Atom::Passed { q, point } => {
+                let q = *q as usize;
+                q < cluster.n() && has_place(cluster, point) && cluster.passed(q, point)
+            }
+            Atom::Count { point, at_least } => {
+                has_place(cluster, point) && u128::from(*at_least) <= cluster.count(point)
+            }
+            Atom::Queue { from, to, at_least } => {
+                let from = *from as usize;
+                let to = *to as usize;
+                from < cluster.n()
+                    && to < cluster.n()
+                    && *at_least <= cluster.queue_len(from, to) as u64
+            }
+            Atom::Sink {
+                vertex,
+                value,
+                at_least,
+            } => {
+                *vertex < cluster.graph().vertices().len()
+                    && *at_least <= cluster.sink_count(*vertex, *value)
+            }
+            Atom::Finished { point } => has_place(cluster, point) && cluster.finished(point),
+            Atom::View { q, point, at_least } => {
+                let q = *q as usize;
+                q < cluster.n()
+                    && has_place(cluster, point)
+                    && *at_least <= cluster.view(q).get(point)
+            }
+        }
+    }
+
+    /// Returns an equal atom.
+    pub fn copy(&self) -> Atom
+        ensures { result ≡ self.now }
+    {
+        match self {
+            Atom::Passed { q, point } => Atom::Passed {
+                q: *q,
+                point: point.copy(),
+            },
+            Atom::Count { point, at_least } => Atom::Count {
+                point: point.copy(),
+                at_least: *at_least,
+            },
+            Atom::Queue { from, to, at_least } => Atom::Queue {
+                from: *from,
+                to: *to,
+                at_least: *at_least,
+            },
+            Atom::Sink {
+                vertex,
+                value,
+                at_least,
+            } => Atom::Sink {
+                vertex: *vertex,
+                value: *value,
+                at_least: *at_least,
+            },
+            Atom::Finished { point } => Atom::Finished {
+                point: point.copy(),
+            },
+            Atom::View { q, point, at_least } => Atom::View {
+                q: *q,
+                point: point.copy(),
+                at_least: *at_least,
+            },
+        }
+    }
+}
+
+/// An atom, or its negation.
+#[derive(Debug, PartialEq, Eq, Drop)]
+pub enum Literal {
+    /// The atom holds.
+    Is(Atom),
+    /// The atom does not hold.
+    Not(Atom),
+}
+
+impl Default for Literal {
+    /// Returns what an `ArrayVec` fills its free room with.
+    fn default() -> Literal {
+        Literal::Is(Atom::Queue {
+            from: 0,
+            to: 0,
+            at_least: 0,
+        })
+    }
+}
+
+impl Literal {
+    /// Returns whether the literal holds of the cluster.
+    pub fn holds<A: Allocator + Copy>(&self, cluster: &Cluster<A>) -> bool
+        ensures { IsTrue result ↔ LiteralHolds cluster.now self.now }
+    {
+        match self {
+            Literal::Is(atom) => atom.holds(cluster),
+            Literal::Not(atom) => !atom.holds(cluster),
+        }
+    }
+
+    /// Returns an equal literal.
+    pub fn copy(&self) -> Literal
+        ensures { result ≡ self.now }
+    {
+        match self {
+            Literal::Is(atom) => Literal::Is(atom.copy()),
+            Literal::Not(atom) => Literal::Not(atom.copy()),
+        }
+    }
+
+    // Whether both are one literal.
+    fn same(&self, other: &Literal) -> bool
+        ensures { MatchBool result (self.now ≡ other.now) (self.now ≢ other.now) }
+    {
+        *self == *other
+    }
+}
+
+/// How many of a condition's literals are to hold.
+#[derive(Clone, Copy, Debug, PartialEq, Eq, Drop)]
+pub enum Quantifier {
+    /// Each of them.
+    All,
+    /// At least one of them.
+    Any,
+}
+
+/// All or any of 1 to 8 literals. No call takes memory.
+#[derive(Drop)]
+pub struct Condition {
+    quantifier: Quantifier,
+    literals: ArrayVec<Literal, MAX_LITERALS>,
+}
+
+impl Model for Condition {
+    ghost use Rattle.std.specs.Prelude.{◌<◌, length};
+    ghost use Rattle.nd_breaks.specs.Conditions.{ConditionValue, condition_code};
+
+    ghost Value = { ConditionValue };
+
+    ghost coded = { condition_code };
+
+    ghost view = { λ a. record { quantifier = a.quantifier; literals = a.literals.items } };
+
+    ghost invariant = { λ a. 0 < length a.literals.items };
+}
+
+// Whether each literal holds of the cluster.
+fn all_hold<A: Allocator + Copy>(literals: &[Literal], cluster: &Cluster<A>) -> bool
+    ensures { IsTrue result ↔ All (LiteralHolds cluster.now) literals.now }
+{
+    literals.iter().all(|literal| literal.holds(cluster))
+}
+
+// Whether a literal holds of the cluster.
+fn any_holds<A: Allocator + Copy>(literals: &[Literal], cluster: &Cluster<A>) -> bool
+    ensures { IsTrue result ↔ Any (LiteralHolds cluster.now) literals.now }
+{
+    literals.iter().any(|literal| literal.holds(cluster))
+}
+
+// Whether both are the same literals, in one order.
+fn are_same(these: &[Literal], those: &[Literal]) -> bool
+    ensures { MatchBool result (these.now ≡ those.now) (these.now ≢ those.now) }
+{
+    if these.len() != those.len() {
+        return false;
+    }
+    for k in 0..these.len() {
+        if !these[k].same(&those[k]) {
+            return false;
+        }
+    }
+    true
+}
+
+impl Condition {
+    /// Returns the condition of one literal, to which others may be added.
+    pub fn new(quantifier: Quantifier, literal: Literal) -> Condition
+        ensures value { result ≡ condition_of quantifier literal }
+        ensures alone { HoldsAs result literal }
+    {
+        let mut literals = ArrayVec::new();
+        literals.push(literal);
+        Condition {
+            quantifier,
+            literals,
+        }
+    }
+
+    /// Adds the literal at the end.
+    pub fn push(&mut self, literal: Literal) -> Result<(), TooManyLiterals>
+        ensures ok { OnOk result (self.new ≡ with_literal self.old literal) }
+        ensures room { IsOk result ↔ (length self.old.literals < max_literals) }
+        ensures err { OnErr result (self.new ≡ self.old) }
+    {
+        if self.literals.is_full() {
+            return Err(TooManyLiterals);
+        }
+        self.literals.push(literal);
+        Ok(())
+    }
+
+    /// Returns how many of the literals are to hold.
+    pub fn quantifier(&self) -> Quantifier
+        ensures { result ≡ self.now.quantifier }
+    {
+        self.quantifier
+    }
+
+    /// Returns the literals, in order.
+    pub fn literals(&self) -> &[Literal]
+        ensures value { result.now ≡ self.now.literals }
+        ensures some { 0 < length self.now.literals }
+        ensures few { length self.now.literals ≤ max_literals }
+    {
+        self.literals.as_slice()
+    }
+
+    /// Returns whether the condition holds of the cluster.
+    pub fn holds<A: Allocator + Copy>(&self, cluster: &Cluster<A>) -> bool
+        ensures { IsTrue result ↔ Holds cluster.now self.now }
+    {
+        match self.quantifier {
+            Quantifier::All => all_hold(self.literals(), cluster),
+            Quantifier::Any => any_holds(self.literals(), cluster),
+        }
+    }
+
+    /// Returns an equal condition.
+    pub fn copy(&self) -> Condition
+        ensures { result ≡ self.now }
+    {
+        let mut literals = ArrayVec::new();
+        for literal in self.literals() {
+            literals.push(literal.copy());
+        }
+        Condition {
+            quantifier: self.quantifier,
+            literals,
+        }
+    }
+
+    /// Returns whether both are one condition.
+    pub fn same(&self, other: &Condition) -> bool
+        ensures { MatchBool result (self.now ≡ other.now) (self.now ≢ other.now) }
+    {
+        self.quantifier == other.quantifier && are_same(self.literals(), other.literals())
+    }
+}
+
+/// A condition in memory of its own, which keeps small what holds it.
+#[derive(Drop)]
+pub struct BoxedCondition<A: Allocator = Global> {
+    boxed: Box<Condition, A>,
+}
+
+impl<A: Allocator> Model for BoxedCondition<A> {
+    ghost use Rattle.nd_breaks.specs.Conditions.{ConditionValue, condition_code};
+
+    ghost Value = { ConditionValue };
+
+    ghost coded = { condition_code };
+
+    ghost view = { λ a. a.boxed.value };
+}
+
+impl<A: Allocator> BoxedCondition<A> {
+    /// Puts the condition into memory of its own.
+    pub fn new(alloc: A, condition: Condition) -> Result<BoxedCondition<A>, AllocError>
+        ensures { IfOk result (λ b. b ≡ condition) }
+    {
+        Ok(BoxedCondition {
+            boxed: Box::new(alloc, condition)?,
+        })
+    }
+
+    /// Returns the condition.
+    pub fn get(&self) -> &Condition
+        ensures { result.now ≡ self.now }
+    {
+        &self.boxed
+    }
+
+    /// Returns an equal condition, in memory of its own.
+    pub fn copy(&self, alloc: A) -> Result<BoxedCondition<A>, AllocError>
+        ensures { IfOk result (λ b. b ≡ self.now) }
+    {
+        BoxedCondition::new(alloc, self.get().copy())
+    }
+}

@@ -1,0 +1,76 @@
+//! What steps change of a cluster, kept without its graph.
+ghost use Rattle.std.specs.Prelude.{◌≡◌, IfOk};
+ghost use Rattle.nd_cluster.specs.Saved.{state_in, FitsIn, IsSaved};
+
+use crate::Cluster;
+use nd_mesh::Mesh;
+use nd_processor::Processor;
+use nd_steps::Parts;
+use nd_view::View;
+use std::alloc::{AllocError, Allocator, Global};
+
+/// What steps change of a cluster: its processors, the view of each, and the queues between them.
+///
+/// The graph and its paths, which no step changes, are not part of it.
+#[derive(Drop)]
+pub struct Saved<A: Allocator + Copy = Global> {
+    pub(crate) processors: Vec<Processor<A>, A>,
+    pub(crate) views: Vec<View<A>, A>,
+    pub(crate) mesh: Mesh<A>,
+}
+
+// Equal processors.
+fn copied_processors<A: Allocator + Copy>(
+    alloc: A,
+    processors: &[Processor<A>],
+) -> Result<Vec<Processor<A>, A>, AllocError>
+    ensures { IfOk result (λ v. v.items ≡ processors.now) }
+{
+    let mut copied = Vec::with_capacity(alloc, processors.len())?;
+    for processor in processors {
+        copied.push(processor.copy(alloc)?)?;
+    }
+    Ok(copied)
+}
+
+// Equal views.
+fn copied_views<A: Allocator + Copy>(
+    alloc: A,
+    views: &[View<A>],
+) -> Result<Vec<View<A>, A>, AllocError>
+    ensures { IfOk result (λ v. v.items ≡ views.now) }
+{
+    let mut copied = Vec::with_capacity(alloc, views.len())?;
+    for view in views {
+        copied.push(view.copy(alloc)?)?;
+    }
+    Ok(copied)
+}
+
+impl<A: Allocator + Copy> Cluster<A> {
+    /// Returns a copy of what steps change.
+    pub fn saved(&self, alloc: A) -> Result<Saved<A>, AllocError>
+        ensures { IfOk result (IsSaved self.now) }
+    {
+        Ok(Saved {
+            processors: copied_processors(alloc, self.processors())?,
+            views: copied_views(alloc, self.views())?,
+            mesh: self.mesh().copy(alloc)?,
+        })
+    }
+
+    /// Returns a cluster that runs the same graph and has what is `saved`.
+    pub fn restored(&self, alloc: A, saved: &Saved<A>) -> Result<Cluster<A>, AllocError>
+        requires { FitsIn self.now.graph saved.now }
+        ensures { IfOk result (λ c. c ≡ state_in self.now.graph saved.now) }
+    {
+        let paths = self.paths().copy(alloc)?;
+        let processors = copied_processors(alloc, &saved.processors)?;
+        let views = copied_views(alloc, &saved.views)?;
+        let mesh = saved.mesh.copy(alloc)?;
+        Ok(Cluster {
+            alloc,
+            parts: Parts::new(paths, processors, views, mesh),
+        })
+    }
+}

@@ -1,0 +1,41 @@
+-- The times into which walks turn the time of a pointstamp.
+use Rattle.std.specs.Prelude.{◌≡◌, ℕ, ◌≤◌, All, Contains, List, Option, Some}
+use Rattle.nd_time.specs.Limits.{max_depth}
+use Rattle.nd_time.specs.Time.{Time, IsAtOrBefore}
+use Rattle.nd_graph.specs.declared.graph.Arc.{Arc}
+use Rattle.nd_graph.specs.Graph.{Dataflow}
+use Rattle.nd_paths.specs.declared.point.Pointstamp.{Pointstamp}
+use Rattle.nd_paths.specs.declared.summary.Summary.{Summary}
+use Rattle.nd_paths.specs.Order.{IsWalk, effect, Fits}
+use Rattle.nd_paths.specs.Summary.{applied, left_by}
+use Rattle.nd_paths.specs.Table.{held}
+
+-- some walk from the location of s, which fits the graph, to the location x turns s's time into t
+pub record TurnsInto (g : Dataflow) (s : Pointstamp) (x : ℕ) (t : Time) : Type 0 where
+  pub fits : Fits g s
+  pub walk : List Arc
+  pub leads : IsWalk g s.location walk x
+  pub time : t ≡ record { epoch = s.time.epoch; counters = effect walk s.time.counters }
+
+-- one of these times is at or before t
+abbrev pub HasAtOrBefore : List Time → Time → Type 0
+HasAtOrBefore times t = (u : Time) × Contains times u × IsAtOrBefore u t
+
+-- ---- by the table
+
+-- what a summary makes of a time
+abbrev pub turned : Summary → Time → Time
+turned s t = record { epoch = t.epoch; counters = applied s t.counters }
+
+-- what is held at b keeps at most d counters, and leaves no more than there may be
+abbrev pub HoldsFew : List (Option Summary) → ℕ → ℕ → Type 0
+HoldsFew row b d = (r : ℕ) (s : Summary) → held row b r ≡ Some s → (s.keep ≤ d) × (left_by s ≤ max_depth)
+
+-- something held at b turns t into u
+abbrev pub HoldsTurning : List (Option Summary) → ℕ → Time → Time → Type 0
+HoldsTurning row b t u = (r : ℕ) × (s : Summary) × (held row b r ≡ Some s) × (u ≡ turned s t)
+
+-- these are the times into which what is held at b turns t
+pub record AreTurned (row : List (Option Summary)) (b : ℕ) (t : Time) (times : List Time) : Type 0 where
+  pub each : All (HoldsTurning row b t) times
+  pub all : (r : ℕ) (s : Summary) → held row b r ≡ Some s → Contains times (turned s t)

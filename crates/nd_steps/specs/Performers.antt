@@ -1,0 +1,122 @@
+-- What a step of a performer changes, as it is found, and where its changes lead.
+use Rattle.std.specs.Prelude.{◌≡◌, ◌≢◌, ℕ, ℤ, ◌++◌, Bool, false, List, [], ◌∷◌, Some, map, ⊤}
+use Rattle.std.specs.FinMap as fin
+use Rattle.nd_time.specs.Time.{Time}
+use Rattle.nd_graph.specs.declared.graph.Edge.{Edge}
+use Rattle.nd_graph.specs.declared.op.Action.{Action}
+use Rattle.nd_graph.specs.declared.op.Route.{Route}
+use Rattle.nd_vertex.specs.declared.effect.Effect.{Effect}
+use Rattle.nd_vertex.specs.declared.effect.Emission.{Emission}
+use Rattle.nd_vertex.specs.declared.effect.ItemEdit.{ItemEdit}
+use Rattle.nd_processor.specs.declared.key.SinkKey.{SinkKey}
+use Rattle.nd_processor.specs.declared.key.ValueAt.{ValueAt}
+use Rattle.nd_protocol.specs.State.{ClusterState, processor}
+use Rattle.nd_protocol.specs.Steps.{destination, flat, point_at}
+use Rattle.nd_protocol.specs.declared.step.Step.TheVariants.{Feed, Take, Notice}
+use Rattle.nd_steps.specs.Drafts.{Has, Leads, TakesSo, NoticesSo, arrivals, item_change, sink_changes, made_along, made_by, emitted_by, fed_by, fed_changes, taken_changes, noticed_changes}
+use Rattle.nd_steps.specs.Flows.{come_changes}
+use Rattle.nd_steps.specs.Onward.{ComesBy}
+use Rattle.nd_steps.specs.declared.change.Change.{Change}
+use Rattle.nd_steps.specs.declared.come.Come.{Come}
+use Rattle.nd_steps.specs.declared.come.Come.TheVariants.{Record}
+use Rattle.nd_steps.specs.declared.draft.Draft.{Draft}
+use Rattle.nd_steps.specs.declared.emit.Performer.{Performer}
+use Rattle.nd_steps.specs.declared.feed.Fed.{Fed}
+use Rattle.nd_steps.specs.declared.react.Taken.{Taken}
+
+-- ---- a draft that grows
+
+-- a draft of the same processor, with these changes after its own
+pub record Adds {A : Type 0} (old new : Draft A) (cs : List Change) : Type 0 where
+  pub p : new.p ≡ old.p
+  pub changes : new.changes.items ≡ old.changes.items ++ cs
+
+-- with records that come, each to its processor, and that the draft's processor has to send
+abbrev pub AddsRecords : {A : Type 0} → Draft A → Draft A → List (ℕ × ValueAt) → Type 0
+AddsRecords old new rs = Adds old new (arrivals old.p rs)
+
+-- a vertex's items get other numbers
+abbrev pub items_changes : ℕ → ℕ → List ItemEdit → List Change
+items_changes p vertex items = map (item_change p vertex) items
+
+-- a sink counts a value, or not
+abbrev pub count_changes : ℕ → SinkKey → Bool → List Change
+count_changes p key counts = sink_changes p key.vertex key.value counts
+
+-- ---- the records that the performer's vertex makes
+
+-- of an emission, on an edge at a location
+abbrev pub records_along : {B : Type 0} → Performer B → Emission → ℕ → Edge → List (ℕ × ValueAt)
+records_along by e location edge = made_along by.n by.p by.vertex e location edge
+
+-- of an emission, of several, and of values that it is fed at a time
+abbrev pub records_by : {B : Type 0} → Performer B → Emission → List (ℕ × ValueAt)
+records_by by e = made_by by.graph.now by.n by.p by.vertex e
+
+abbrev pub all_records_by : {B : Type 0} → Performer B → List Emission → List (ℕ × ValueAt)
+all_records_by by es = emitted_by by.graph.now by.n by.p by.vertex es
+
+abbrev pub fed_records_by : {B : Type 0} → Performer B → Time → List ℤ → List (ℕ × ValueAt)
+fed_records_by by t values = fed_by by.graph.now by.n by.p by.vertex t values
+
+-- ---- the changes that are found
+
+-- of its feed, of its take, and of its notice
+abbrev pub found_fed : {B : Type 0} → Performer B → Fed → List Change
+found_fed by fed = fed_changes by.p by.vertex fed.epoch fed.next (fed_records_by by (flat fed.epoch) fed.values.now)
+
+abbrev pub found_taken : {A B : Type 0} → Performer B → Taken A → List Change
+found_taken by taken = taken_changes by.p by.vertex taken.key.now taken.effect.now taken.asks (all_records_by by taken.effect.now.emits.items)
+
+abbrev pub found_noticed : {A B : Type 0} → Performer B → Time → Effect A → List Change
+found_noticed by t effect = noticed_changes by.p (point_at by.vertex t) effect (all_records_by by effect.emits.items)
+
+-- ---- where changes lead
+
+-- in each cluster of the performer, where its vertex has the token of this epoch, they are those of its feed
+abbrev pub FeedLeads : (A : Type 0) {B : Type 0} → Performer B → Fed → List Change → Type 0
+FeedLeads A by fed cs =
+    (s : ClusterState) → Has by.graph.now by.n s → fin.get (processor s by.p).tokens by.vertex ≡ Some fed.epoch
+    → Leads {A = A} s (Feed by.p by.vertex fed.values.now fed.next) cs
+
+-- where the record has this effect, they are those of its take
+abbrev pub TakeLeads : {A B : Type 0} → Performer B → Taken A → List Change → Type 0
+TakeLeads {A} by taken cs =
+    (s : ClusterState) → Has by.graph.now by.n s → TakesSo s by.p by.vertex taken.key.now taken.effect.now taken.asks
+    → Leads {A = A} s (Take by.p taken.key.now.point.location taken.key.now.point.time taken.key.now.value) cs
+
+-- where the request has this effect, they are those of its notice
+abbrev pub NoticeLeads : {A B : Type 0} → Performer B → Time → Effect A → List Change → Type 0
+NoticeLeads {A} by t effect cs =
+    (s : ClusterState) → Has by.graph.now by.n s → NoticesSo s by.p (point_at by.vertex t) effect
+    → Leads {A = A} s (Notice by.p by.vertex t) cs
+
+-- ---- what comes for a record that is taken
+
+-- a record of an emission comes past an action, on the edge at a location that has a route
+abbrev pub coming : {B : Type 0} → Performer B → Action → ℕ → Route → Emission → Come
+coming by action edge route e = Record action (destination route by.n by.p e.value) edge e.value
+
+-- this comes for a record that goes, by the one emission of the vertex
+abbrev pub ComesFor : {B : Type 0} → Performer B → ValueAt → Emission → Come → Type 0
+ComesFor by gone e come = ComesBy by.graph.now by.n by.p by.vertex gone e come
+
+-- the changes of the take are those of the record that goes and of what comes for it
+abbrev pub FlowLeads : {A B : Type 0} → Performer B → Taken A → Come → Type 0
+FlowLeads by taken come = TakeLeads by taken (come_changes by.p taken.key.now come)
+
+-- an emission makes one record, on another edge than that of the record that goes
+abbrev pub PassesOn : {B : Type 0} → Performer B → ValueAt → Emission → Type 0
+PassesOn by gone e = (r : ℕ × ValueAt) × (records_by by e ≡ r ∷ []) × (r.1.point.location ≢ gone.point.location)
+
+-- nothing is emitted, or one emission passes the record on and no sink counts it
+abbrev pub ComesAlone : {B : Type 0} → Performer B → ValueAt → Bool → List Emission → Type 0
+ComesAlone by gone sink [] = ⊤
+ComesAlone by gone false (e ∷ []) = PassesOn by gone e
+ComesAlone by gone _ _ = ⊥
+
+-- a take that makes no request and changes no item, by which at most one thing comes
+pub record IsPlainTake {A B : Type 0} (by : Performer B) (taken : Taken A) : Type 0 where
+  pub asks : taken.asks ≡ false
+  pub still : taken.effect.now.items.items ≡ []
+  pub alone : ComesAlone by taken.key.now taken.effect.now.sink taken.effect.now.emits.items

@@ -1,0 +1,214 @@
+//! The effect of a record, whatever it changes.
+ghost use Rattle.std.specs.Prelude.{◌≡◌, ◌<◌, ◌≤◌, IfOk, length, map, unsigned_abs};
+ghost use Rattle.std.specs.List.Sorted.{IsPermutation, IsSorted};
+ghost use Rattle.nd_time.specs.Limits.{max_count, max_processors};
+ghost use Rattle.nd_delta.specs.Delta.{entries};
+ghost use Rattle.nd_mesh.specs.Mesh.{queue};
+ghost use Rattle.nd_protocol.specs.State.{ClusterState};
+ghost use Rattle.nd_protocol.specs.Exchange.{sent, received};
+ghost use Rattle.nd_protocol.specs.Fitting.{IsState};
+ghost use Rattle.nd_steps.specs.Places.{place_cmp};
+ghost use Rattle.nd_steps.specs.Standing.{changed};
+ghost use Rattle.nd_steps.specs.Changes.{place_of};
+ghost use Rattle.nd_steps.specs.Records.{RunsTo, CanSend, CanReceive, Makes};
+ghost use Rattle.nd_steps.specs.Effect.{lists_of, effect_of, altered_count, MakesExactly};
+ghost use Rattle.nd_steps.specs.Altering.{sent_row, longer_row, longer_rows, received_row, shorter_row, RunsExactly};
+
+use crate::draft::sorted;
+use crate::receive::count_after;
+use crate::record::copied;
+use crate::{Altered, Change, Changes, Effect, Parts, Record};
+use nd_delta::Delta;
+use nd_mesh::Mesh;
+use nd_paths::Pointstamp;
+use nd_view::View;
+use std::alloc::{AllocError, Allocator};
+
+// Returns the changes in the order of their places.
+fn in_order<A: Allocator + Copy>(alloc: A, changes: &[Change]) -> Result<Vec<Change, A>, AllocError>
+    ensures same { IfOk result (λ v. IsPermutation changes.now v.items) }
+    ensures order { IfOk result (λ v. IsSorted (λ a b. place_cmp (place_of a) (place_of b)) v.items) }
+{
+    Ok(sorted(copied(alloc, changes)?))
+}
+
+// Returns what an entry of a part that `p` sends changes: it is unsent no longer.
+fn sent_altered(p: u32, entry: &(Pointstamp, i64)) -> Altered<Pointstamp, i64>
+    ensures { result ≡ sent_row p entry.now }
+{
+    Altered {
+        p,
+        key: entry.0.copy(),
+        old: entry.1,
+        new: 0,
+    }
+}
+
+// Lists what a part that `p` sends changes.
+fn sent_list<A: Allocator + Copy>(
+    alloc: A,
+    p: u32,
+    part: &Delta<A>,
+) -> Result<Vec<Altered<Pointstamp, i64>, A>, AllocError>
+    ensures { IfOk result (λ v. v.items ≡ map (sent_row p) (entries part.now)) }
+{
+    let mut rows = Vec::new(alloc);
+    for entry in part.entries() {
+        rows.push(sent_altered(p, entry))?;
+    }
+    Ok(rows)
+}
+
+// Returns what changes of the queue from `p` to another when it gets a change more.
+fn longer<A: Allocator + Copy>(mesh: &Mesh<A>, p: u32, to: usize) -> Altered<u32, usize>
+    requires sender { p < length mesh.now }
+    requires receiver { to < length mesh.now }
+    requires few { length mesh.now ≤ max_processors }
+    ensures { result ≡ longer_row mesh.now p to }
+{
+    let old = mesh.len(p as usize, to);
+    Altered {
+        p,
+        key: to as u32,
+        old,
+        new: old + 1,
+    }
+}
+
+// Lists the queues from `p`, each with a change more.
+fn longer_list<A: Allocator + Copy>(
+    alloc: A,
+    mesh: &Mesh<A>,
+    p: u32,
+) -> Result<Vec<Altered<u32, usize>, A>, AllocError>
+    requires there { p < length mesh.now }
+    requires few { length mesh.now ≤ max_processors }
+    ensures { IfOk result (λ v. v.items ≡ longer_rows mesh.now p (length mesh.now)) }
+{
+    let mut rows = Vec::new(alloc);
+    for to in 0..mesh.n() {
+        rows.push(longer(mesh, p, to))?;
+    }
+    Ok(rows)
+}
+
+// Returns what an entry of a change that `q` receives adds to its view.
+fn received_altered<A: Allocator + Copy>(
+    q: u32,
+    view: &View<A>,
+    entry: &(Pointstamp, i64),
+) -> Altered<Pointstamp, i64>
+    requires { unsigned_abs entry.now.1 ≤ max_count }
+    ensures { result ≡ received_row q view.now.map entry.now }
+{
+    Altered {
+        p: q,
+        key: entry.0.copy(),
+        old: view.get(&entry.0),
+        new: count_after(view, entry),
+    }
+}
+
+// Lists what a change that `q` receives adds to its view.
+fn received_list<A: Allocator + Copy>(
+    alloc: A,
+    q: u32,
+    view: &View<A>,
+    change: &Delta<A>,
+) -> Result<Vec<Altered<Pointstamp, i64>, A>, AllocError>
+    ensures { IfOk result (λ v. v.items ≡ map (received_row q view.now.map) (entries change.now)) }
+{
+    let mut rows = Vec::new(alloc);
+    for entry in change.entries() {
+        rows.push(received_altered(q, view, entry))?;
+    }
+    Ok(rows)
+}
+
+// Returns what changes of a queue when its front goes.
+fn shorter<A: Allocator + Copy>(mesh: &Mesh<A>, from: u32, to: u32) -> Altered<u32, usize>
+    requires sender { from < length mesh.now }
+    requires receiver { to < length mesh.now }
+    requires some { 0 < length (queue mesh.now from to) }
+    ensures { result ≡ shorter_row mesh.now from to }
+{
+    let old = mesh.len(from as usize, to as usize);
+    Altered {
+        p: from,
+        key: to,
+        old,
+        new: old - 1,
+    }
+}
+
+impl<A: Allocator + Copy> Parts<A> {
+    // Returns the effect of changes of the processors.
+    fn changes_effect(&self, alloc: A, changes: &[Change]) -> Result<Effect<A>, AllocError>
+        requires { (t : ClusterState) × RunsExactly self.now changes.now t }
+        ensures { IfOk result (λ e. (t : ClusterState) → RunsTo self.now changes.now t → lists_of e ≡ effect_of self.now t) }
+    {
+        let changes = in_order(alloc, changes)?;
+        let mut effect = Effect::new(alloc);
+        effect.add_all(self.processors(), &changes)?;
+        Ok(effect)
+    }
+
+    // Returns the effect of a part that processor `p` sends.
+    fn sent_effect(&self, alloc: A, p: u32, part: &Delta<A>) -> Result<Effect<A>, AllocError>
+        requires state { IsState self.now }
+        requires sends { CanSend self.now p part.now }
+        ensures { IfOk result (λ e. lists_of e ≡ effect_of self.now (sent self.now p part.now)) }
+    {
+        let mut effect = Effect::new(alloc);
+        effect.unsent = sent_list(alloc, p, part)?;
+        effect.queues = longer_list(alloc, self.mesh(), p)?;
+        Ok(effect)
+    }
+
+    // Returns the effect of the change that processor `to` receives from the front of a queue.
+    fn received_effect(
+        &self,
+        alloc: A,
+        from: u32,
+        to: u32,
+        change: &Delta<A>,
+    ) -> Result<Effect<A>, AllocError>
+        requires state { IsState self.now }
+        requires receives { CanReceive self.now from to change.now }
+        ensures { IfOk result (λ e. lists_of e ≡ effect_of self.now (received self.now from to)) }
+    {
+        let mut effect = Effect::new(alloc);
+        effect.views = received_list(alloc, to, self.view(to as usize), change)?;
+        effect.queues.push(shorter(self.mesh(), from, to))?;
+        Ok(effect)
+    }
+
+    // Returns the effect of a record.
+    fn record_effect(&self, alloc: A, planned: &Record<A>) -> Result<Effect<A>, AllocError>
+        requires state { IsState self.now }
+        requires makes { (t : ClusterState) × MakesExactly self.now planned.now t }
+        ensures { IfOk result (λ e. (t : ClusterState) → Makes self.now planned.now t → lists_of e ≡ effect_of self.now t) }
+    {
+        match &planned.changes {
+            Changes::Each(changes) => self.changes_effect(alloc, changes),
+            Changes::Flowed(flow) => self.changes_effect(alloc, &flow.told(&planned.step)),
+            Changes::Sent { p, part } => self.sent_effect(alloc, *p, part),
+            Changes::Received { from, to, change } => {
+                self.received_effect(alloc, *from, *to, change)
+            }
+        }
+    }
+
+    /// Returns what a record that names no more than it changes does to these parts: each key and each queue
+    /// at which the states before and after it differ, with the values in both.
+    pub fn effect(&self, alloc: A, planned: &Record<A>) -> Result<Effect<A>, AllocError>
+        requires state { IsState self.now }
+        requires makes { (t : ClusterState) × MakesExactly self.now planned.now t }
+        ensures effect { IfOk result (λ e. (t : ClusterState)
+            → Makes self.now planned.now t → lists_of e ≡ effect_of self.now t) }
+        ensures count { IfOk result (λ e. (t : ClusterState)
+            → Makes self.now planned.now t → altered_count (lists_of e) ≡ changed self.now t) }
+    {
+        self.record_effect(alloc, planned)
+    }
+}

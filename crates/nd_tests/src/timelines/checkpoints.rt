@@ -1,0 +1,226 @@
+//! Far jumps over long runs: where they land, after a cut too, while memory is refused, and how many checkpoints there are.
+
+use crate::graphs::ENDLESS;
+use crate::scripts::{Told, is_state, start, state_text, step_of};
+use crate::timelines::memory::Heap;
+use nd_breaks::Breaks;
+use nd_cluster::{Next, Step, Values};
+use nd_testing::{MANY, Refusing};
+use nd_timeline::{Fault, Timeline};
+use std::alloc::{Allocator, Global};
+
+/// A timeline on a loop that never ends, with a record in it.
+fn looped<A: Allocator + Copy>(json: Global, alloc: A) -> Option<Timeline<A>> {
+    let mut timeline = Timeline::new(alloc, start(json, alloc, ENDLESS, 1)?).ok()?;
+    for value in [&[1_i64], &[2]] {
+        let told = Told::Feed(0, "a", value, Next::Next);
+        let step = step_of(alloc, timeline.cluster().graph(), &told)?;
+        timeline.forward(&step).ok()?;
+    }
+    Some(timeline)
+}
+
+/// Whether the timeline has the state to which its kept steps up to the cursor lead from its base.
+fn is_led_to<A: Allocator + Copy>(json: Global, alloc: A, timeline: &Timeline<A>) -> Option<bool> {
+    let mut other = Timeline::new(alloc, timeline.base().copy(alloc).ok()?).ok()?;
+    for i in 0..timeline.at() {
+        other.forward(timeline.step(i)?).ok()?;
+    }
+    let wanted = state_text(json, other.cluster())?;
+    Some(is_state(json, timeline.cluster(), wanted.as_str()))
+}
+
+/// Whether jumps to all of these positions land there.
+fn lands<A: Allocator + Copy>(
+    json: Global,
+    alloc: A,
+    timeline: &mut Timeline<A>,
+    positions: &[u64],
+) -> Option<bool> {
+    for n in positions {
+        timeline.jump(*n).ok()?;
+        if timeline.at() != *n || !is_led_to(json, alloc, timeline)? {
+            return Some(false);
+        }
+    }
+    Some(true)
+}
+
+/// Positions around those of checkpoints, far apart from one another.
+static AROUND: [u64; 12] = [
+    5000, 0, 4999, 1024, 4096, 1, 1023, 3072, 1025, 4998, 2049, 2047,
+];
+
+/// Whether far jumps over a run of 5,000 steps land, and still do once others take the place of most of them.
+fn jumps<A: Allocator + Copy>(json: Global, alloc: A) -> Option<bool> {
+    let mut timeline = looped(json, alloc)?;
+    timeline.run(4998, &Breaks::new(alloc).ok()?).ok()?;
+    let first = lands(json, alloc, &mut timeline, &AROUND)?;
+    timeline.jump(1500).ok()?;
+    let told = Told::Feed(0, "a", &[7, 8, 9], Next::Next);
+    let step = step_of(alloc, timeline.cluster().graph(), &told)?;
+    timeline.forward(&step).ok()?;
+    timeline.run(3499, &Breaks::new(alloc).ok()?).ok()?;
+    Some(first && lands(json, alloc, &mut timeline, &AROUND)?)
+}
+
+#[test]
+fn far_jumps_land(rt: HostRuntime) {
+    let heap = Refusing::new(rt.alloc());
+    assert_eq!(rt; jumps(rt.alloc(), &heap), Some(true));
+    assert_eq!(rt; heap.live(), 0);
+}
+
+/// Whether a run over a position where a checkpoint is due met the request that was refused, and whether it went on.
+///
+/// `None` if the timeline is not where it says, or gave up although it met no refusal.
+fn meets_run<A: Allocator + Copy>(
+    heap: &Heap,
+    json: Global,
+    alloc: A,
+    n: u64,
+) -> Option<(bool, bool)> {
+    let mut timeline = looped(json, alloc)?;
+    timeline.run(1020, &Breaks::new(alloc).ok()?).ok()?;
+    let breaks = Breaks::new(alloc).ok()?;
+    heap.refuse(n);
+    let ran = timeline.run(10, &breaks);
+    let met = heap.relent(n);
+    let goes_on = ran.is_ok();
+    let is_said = match ran {
+        Ok(_) => timeline.at() == 1032,
+        Err(fault) => met && fault == Fault::Memory { at: timeline.at() },
+    };
+    if is_said && is_led_to(json, alloc, &timeline)? {
+        Some((met, goes_on))
+    } else {
+        None
+    }
+}
+
+/// How many refusals were unnoticed before the first of such runs that met none.
+fn unnoticed_in_runs<A: Allocator + Copy>(heap: &Heap, json: Global, alloc: A) -> Option<u64> {
+    let mut count: u64 = 0;
+    for n in 0..MANY {
+        let (met, goes_on) = meets_run(heap, json, alloc, n)?;
+        if !met {
+            return Some(count);
+        }
+        if goes_on {
+            count = count.saturating_add(1);
+        }
+    }
+    None
+}
+
+/// The same of jumps over 1,500 steps of one timeline, which begin at a checkpoint.
+fn unnoticed_in_jumps<A: Allocator + Copy>(heap: &Heap, json: Global, alloc: A) -> Option<u64> {
+    let mut timeline = looped(json, alloc)?;
+    timeline.run(2598, &Breaks::new(alloc).ok()?).ok()?;
+    timeline.jump(1100).ok()?;
+    if !is_led_to(json, alloc, &timeline)? {
+        return None;
+    }
+    let wanted = state_text(json, timeline.cluster())?;
+    let mut count: u64 = 0;
+    for n in 0..MANY {
+        timeline.jump(2600).ok()?;
+        heap.refuse(n);
+        let jumped = timeline.jump(1100);
+        let met = heap.relent(n);
+        match jumped {
+            Ok(()) => {
+                if timeline.at() != 1100 || !is_state(json, timeline.cluster(), wanted.as_str()) {
+                    return None;
+                }
+                count = count.saturating_add(u64::from(met));
+            }
+            Err(fault) => {
+                if !met || fault != (Fault::Memory { at: timeline.at() }) {
+                    return None;
+                }
+            }
+        }
+        if !met {
+            return Some(count);
+        }
+    }
+    None
+}
+
+#[test]
+fn checkpoints_out_of_memory(rt: HostRuntime) {
+    let heap = Refusing::new(rt.alloc());
+    let count = unnoticed_in_runs(&heap, rt.alloc(), &heap);
+    assert!(rt; matches!(count, Some(n) if n > 3), "{count:?}");
+    assert_eq!(rt; heap.live(), 0);
+}
+
+#[test]
+fn far_jumps_out_of_memory(rt: HostRuntime) {
+    let heap = Refusing::new(rt.alloc());
+    let count = unnoticed_in_jumps(&heap, rt.alloc(), &heap);
+    assert!(rt; matches!(count, Some(n) if n > 3), "{count:?}");
+    assert_eq!(rt; heap.live(), 0);
+}
+
+/// Feeds as many values at once, each another, and all of the epoch 0.
+fn fill<A: Allocator + Copy>(alloc: A, timeline: &mut Timeline<A>, count: i64) -> Option<()> {
+    let mut values = Values::new(alloc);
+    for value in 0..count {
+        values.push(value).ok()?;
+    }
+    let step = Step::Feed {
+        p: 0,
+        vertex: 0,
+        values,
+        next: Next::Stay,
+    };
+    timeline.forward(&step).ok()
+}
+
+/// How many blocks the checkpoints of a run of 20,000 steps have, and how many what is saved at its end, with as many
+/// records in the loop.
+fn blocks<A: Allocator + Copy>(
+    heap: &Heap,
+    json: Global,
+    alloc: A,
+    records: i64,
+) -> Option<(u64, u64)> {
+    let mut timeline = Timeline::new(alloc, start(json, alloc, ENDLESS, 1)?).ok()?;
+    fill(alloc, &mut timeline, records)?;
+    timeline.run(20_000, &Breaks::new(alloc).ok()?).ok()?;
+    let with = heap.live();
+    let saved = timeline.cluster().saved(alloc).ok()?;
+    let one = heap.live().saturating_sub(with);
+    drop(saved);
+    let copy = timeline.copy(alloc).ok()?;
+    drop(timeline);
+    let without = heap.live();
+    drop(copy);
+    Some((with.saturating_sub(without), one))
+}
+
+/// Whether there are as many checkpoints, by their blocks, or at most one more or less.
+fn has_about<A: Allocator + Copy>(
+    heap: &Heap,
+    json: Global,
+    alloc: A,
+    records: i64,
+    count: u64,
+) -> Option<bool> {
+    let (all, one) = blocks(heap, json, alloc, records)?;
+    let least = one.saturating_mul(count.saturating_sub(1));
+    let most = one.saturating_mul(count.saturating_add(1));
+    Some(one > 0 && least <= all && all <= most)
+}
+
+#[test]
+fn checkpoints_are_few(rt: HostRuntime) {
+    let heap = Refusing::new(rt.alloc());
+    for (records, count) in [(2, 19), (300, 9), (1000, 4)] {
+        let has = has_about(&heap, rt.alloc(), &heap, records, count);
+        assert_eq!(rt; has, Some(true), "with {records} records");
+    }
+    assert_eq!(rt; heap.live(), 0);
+}

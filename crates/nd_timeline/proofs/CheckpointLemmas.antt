@@ -1,0 +1,149 @@
+-- Checkpoints: they stay what they are while steps are kept behind them, and lead to the clusters that they are of.
+use Rattle.std.proofs.Common.{◌≡◌, ◌<◌, ◌≤◌, ◌⊎◌, inl, inr, ℕ, zero, suc, ◌+◌, ◌-◌, List, [], ◌∷◌, ◌++◌, length, take, get_or, refl, sym, ap, subst, ◌∙◌, arith, length-append}
+use Rattle.std.specs.Prelude.{All, Contains}
+use Rattle.std.proofs.lemmas.List.{length-take-le, get_or-take, get_or_append_left, get_or_push, take-append-le, length-map}
+use Rattle.std.proofs.lemmas.Bool.{cases_lt}
+use Rattle.nd_delta.specs.Delta.{DeltaValue}
+use Rattle.nd_protocol.specs.State.{ClusterState, queue}
+use Rattle.nd_protocol.specs.Steps.{after, stepped}
+use Rattle.nd_protocol.specs.Exchange.{sent, received, received_from}
+use Rattle.nd_protocol.specs.declared.step.Step.{Step}
+use Rattle.nd_protocol.specs.declared.step.Step.TheVariants.{Feed, Take, Notice, Broadcast, Receive}
+use Rattle.nd_steps.specs.declared.record.Record.{Record}
+use Rattle.nd_cluster.specs.Saved.{state_in, FitsIn, IsSaved}
+use Rattle.nd_timeline.specs.Reached.{steps_of, IsReached}
+use Rattle.nd_timeline.specs.Checkpoints.{IsCheckpoint, IsAscending, AreCheckpoints, IsLast}
+use Rattle.nd_timeline.specs.declared.checkpoint.Checkpoint.{Checkpoint}
+use Rattle.nd_timeline.proofs.KeptSteps.{steps_of-take, steps_of-push}
+
+-- the first of a front that is no shorter are the first
+take_again : {X : Type 0} (k n : ℕ) (xs : List X) → k ≤ n → take k (take n xs) ≡ take k xs
+take_again zero n xs h = refl
+take_again (suc k) zero xs h = absurd (omega (arith, h))
+take_again (suc k) (suc n) [] h = refl
+take_again (suc k) (suc n) (x ∷ xs) h = ap (λ ys. x ∷ ys) (take_again k n xs (omega (arith, h)))
+
+-- ---- no step changes the graph
+
+received_graph : (s : ClusterState) (p q : ℕ) (cs : List DeltaValue) → (received_from s p q cs).graph ≡ s.graph
+received_graph s p q [] = refl
+received_graph s p q (c ∷ rest) = refl
+
+module _ {A : Type 0} where
+  stepped_graph : (s : ClusterState) (x : Step A) → (stepped s x).graph ≡ s.graph
+  unfolding stepped sent received
+  stepped_graph s (Feed p vertex values _) = refl
+  stepped_graph s (Take p edge t value) = refl
+  stepped_graph s (Notice p vertex t) = refl
+  stepped_graph s (Broadcast p part) = refl
+  stepped_graph s (Receive from to) = received_graph s from to (queue s from to)
+
+  after_graph : (s : ClusterState) (xs : List (Step A)) → (after s xs).graph ≡ s.graph
+  unfolding after
+  after_graph s [] = refl
+  after_graph s (x ∷ xs) = after_graph (stepped s x) xs ∙ stepped_graph s x
+
+  -- ---- a checkpoint leads to the cluster that it is of
+
+  pub fits_base : (base : ClusterState) (rs : List (Record A)) (c : Checkpoint A) → IsCheckpoint base rs c → FitsIn base.graph c.saved
+  fits_base base rs c h = subst (λ g. FitsIn g c.saved) (after_graph base (take c.at (steps_of rs))) h.saved.fits
+
+  pub leads_back : (base : ClusterState) (rs : List (Record A)) (c : Checkpoint A) → IsCheckpoint base rs c → state_in base.graph c.saved ≡ after base (take c.at (steps_of rs))
+  leads_back base rs c h =
+      subst (λ g. state_in g c.saved ≡ after base (take c.at (steps_of rs))) (after_graph base (take c.at (steps_of rs))) h.saved.value
+
+  -- ---- steps that go, and steps that come
+
+  still_after_cut : (base : ClusterState) (rs : List (Record A)) (n : ℕ) (c : Checkpoint A) → IsCheckpoint base rs c → c.at ≤ n → n ≤ length rs → IsCheckpoint base (take n rs) c
+  still_after_cut base rs n c h near within =
+      let same : take c.at (steps_of (take n rs)) ≡ take c.at (steps_of rs) = ap (take c.at) (steps_of-take n rs) ∙ take_again c.at n (steps_of rs) near in
+      record {
+        within = omega (arith, near, length-take-le n rs within);
+        saved = subst (λ (xs : List (Step A)). IsSaved (after base xs) c.saved) (sym same) h.saved;
+      }
+
+  still_after_push : (base : ClusterState) (rs : List (Record A)) (r : Record A) (c : Checkpoint A) → IsCheckpoint base rs c → IsCheckpoint base (rs ++ r ∷ []) c
+  still_after_push base rs r c h =
+      let count : length (steps_of rs) ≡ length rs = length-map rs (λ r. r.step) in
+      let near : c.at ≤ length (steps_of rs) = omega (arith, count, h.within) in
+      let same : take c.at (steps_of (rs ++ r ∷ [])) ≡ take c.at (steps_of rs) = ap (take c.at) (steps_of-push rs r) ∙ take-append-le c.at (steps_of rs) (r.step ∷ []) near in
+      record {
+        within = omega (arith, h.within, length-append rs (r ∷ []));
+        saved = subst (λ (xs : List (Step A)). IsSaved (after base xs) c.saved) (sym same) h.saved;
+      }
+
+  -- ---- all of them
+
+  pub no_checkpoints : (base : ClusterState) (rs : List (Record A)) (cs : List (Checkpoint A)) → cs ≡ [] → AreCheckpoints base rs cs
+  no_checkpoints base rs cs is = rw is (record { each = λ k d lt. absurd (omega (arith, lt)); ascending = λ i j d before lt. absurd (omega (arith, lt)) })
+
+  -- the last is at no later position, so none is
+  none_is_past : (cs : List (Checkpoint A)) (last n : ℕ) → IsAscending cs → IsLast cs last → last ≤ n → (k : ℕ) (d : Checkpoint A) → k < length cs → (get_or cs k d).at ≤ n
+  none_is_past cs last n ascending is near k d lt =
+      let end : last ≡ (get_or cs (length cs - 1) d).at = is.some d (omega (arith, lt)) in
+      elim (cases_lt k (length cs - 1)) [
+        | inl before ↦
+            let up : (get_or cs k d).at ≤ (get_or cs (length cs - 1) d).at = ascending k (length cs - 1) d before (omega (arith, lt)) in
+            omega (arith, up, end, near)
+        | inr h ↦
+            let e : k ≡ length cs - 1 = omega (arith, h, lt) in
+            let same : (get_or cs k d).at ≡ (get_or cs (length cs - 1) d).at = ap (λ k. (get_or cs k d).at) e in
+            omega (arith, same, end, near)
+      ]
+
+  pub are_after_cut : (base : ClusterState) (rs : List (Record A)) (cs : List (Checkpoint A)) (last n : ℕ) → AreCheckpoints base rs cs → IsLast cs last → last ≤ n → n ≤ length rs → AreCheckpoints base (take n rs) cs
+  are_after_cut base rs cs last n h is near within = record {
+    each = λ k d lt. still_after_cut base rs n (get_or cs k d) (h.each k d lt) (none_is_past cs last n h.ascending is near k d lt) within;
+    ascending = h.ascending;
+  }
+
+  pub are_after_push : (base : ClusterState) (rs : List (Record A)) (r : Record A) (cs : List (Checkpoint A)) → AreCheckpoints base rs cs → AreCheckpoints base (rs ++ r ∷ []) cs
+  are_after_push base rs r cs h = record { each = λ k d lt. still_after_push base rs r (get_or cs k d) (h.each k d lt); ascending = h.ascending }
+
+  -- without those behind a front of them
+  pub are_front : (base : ClusterState) (rs : List (Record A)) (cs : List (Checkpoint A)) (n : ℕ) → AreCheckpoints base rs cs → n ≤ length cs → AreCheckpoints base rs (take n cs)
+  are_front base rs cs n h within =
+      let count : length (take n cs) ≡ n = length-take-le n cs within in
+      record {
+        each = λ k d lt.
+            let there : k < n = omega (arith, lt, count) in
+            subst (IsCheckpoint base rs) (sym (get_or-take n cs k d there)) (h.each k d (omega (arith, there, within)));
+        ascending = λ i j d before lt.
+            let there : j < n = omega (arith, lt, count) in
+            let first : (get_or (take n cs) i d).at ≡ (get_or cs i d).at = ap (λ (c : Checkpoint A). c.at) (get_or-take n cs i d (omega (arith, before, there))) in
+            let second : (get_or (take n cs) j d).at ≡ (get_or cs j d).at = ap (λ (c : Checkpoint A). c.at) (get_or-take n cs j d there) in
+            let up : (get_or cs i d).at ≤ (get_or cs j d).at = h.ascending i j d before (omega (arith, there, within)) in
+            omega (arith, first, second, up);
+      }
+
+  -- a cluster is saved where all kept steps have been made
+  pub is_checkpoint : (base cluster : ClusterState) (rs : List (Record A)) (c : Checkpoint A) → IsReached base cluster rs c.at → IsSaved cluster c.saved → IsCheckpoint base rs c
+  is_checkpoint base cluster rs c was saved = record { within = was.within; saved = subst (λ (s : ClusterState). IsSaved s c.saved) was.reached saved }
+
+  pub are_more : (base : ClusterState) (rs : List (Record A)) (cs : List (Checkpoint A)) (c : Checkpoint A) → AreCheckpoints base rs cs → IsCheckpoint base rs c → c.at ≡ length rs → AreCheckpoints base rs (cs ++ c ∷ [])
+  are_more base rs cs c h is last = record {
+    each = λ k d lt. elim (cases_lt k (length cs)) [
+      | inl there ↦ subst (IsCheckpoint base rs) (sym (get_or_append_left cs (c ∷ []) d k there)) (h.each k d there)
+      | inr past ↦
+          let e : length cs ≡ k = omega (arith, past, lt, length-append cs (c ∷ [])) in
+          subst (IsCheckpoint base rs) (sym (get_or_push cs c d k e)) is
+    ];
+    ascending = λ i j d before lt.
+        let there : i < length cs = omega (arith, before, lt, length-append cs (c ∷ [])) in
+        let first : (get_or (cs ++ c ∷ []) i d).at ≡ (get_or cs i d).at = ap (λ (c : Checkpoint A). c.at) (get_or_append_left cs (c ∷ []) d i there) in
+        elim (cases_lt j (length cs)) [
+          | inl near ↦
+              let second : (get_or (cs ++ c ∷ []) j d).at ≡ (get_or cs j d).at = ap (λ (c : Checkpoint A). c.at) (get_or_append_left cs (c ∷ []) d j near) in
+              let up : (get_or cs i d).at ≤ (get_or cs j d).at = h.ascending i j d before near in
+              omega (arith, first, second, up)
+          | inr past ↦
+              let e : length cs ≡ j = omega (arith, past, lt, length-append cs (c ∷ [])) in
+              let second : (get_or (cs ++ c ∷ []) j d).at ≡ c.at = ap (λ (c : Checkpoint A). c.at) (get_or_push cs c d j e) in
+              let within : (get_or cs i d).at ≤ length rs = (h.each i d there).within in
+              omega (arith, first, second, within, last)
+        ];
+  }
+
+  -- one of them is a checkpoint
+  pub is_among : (base : ClusterState) (rs : List (Record A)) (cs : List (Checkpoint A)) (c : Checkpoint A) → AreCheckpoints base rs cs → Contains cs c → IsCheckpoint base rs c
+  is_among base rs cs c h at = subst (IsCheckpoint base rs) at.2 (h.each at.0 c at.1)

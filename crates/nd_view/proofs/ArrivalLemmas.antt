@@ -1,0 +1,100 @@
+-- The minimal times into which walks turn those of a view's frontier are the minimal ones that can arrive.
+use Rattle.std.proofs.Common.{◌≡◌, ◌≢◌, ◌<◌, ℕ, ℤ, pos, List, [], length, get_or, Option, Some, None, refl, sym, ap, subst, ◌∙◌, inl, inr}
+use Rattle.std.specs.Prelude.{◌<ℤ◌, Contains, IsPermutation}
+use Rattle.std.specs.FinMap.{find}
+use Rattle.std.proofs.lemmas.List.{get_or_default}
+use Rattle.std.proofs.lemmas.List.Sorted.{IsPermutation-sym, Contains-permutation}
+use Rattle.nd_time.specs.Time.{Time, IsAtOrBefore}
+use Rattle.nd_graph.specs.Graph.{Dataflow}
+use Rattle.nd_paths.specs.Order.{HasDepth, CouldResultIn}
+use Rattle.nd_paths.specs.Arrival.{TurnsInto, HasAtOrBefore}
+use Rattle.nd_paths.specs.Point.{point_cmp}
+use Rattle.nd_paths.specs.declared.point.Pointstamp.{Pointstamp}
+use Rattle.nd_delta.specs.Delta.{DeltaValue, at, entries}
+use Rattle.nd_delta.specs.Least.{place_of}
+use Rattle.nd_map.specs.Cases.{not_zero}
+use Rattle.nd_view.specs.View.{IsOnFrontier, IsPartWhere}
+use Rattle.nd_view.specs.Kept.{Kept, IsKeptAt, IsFor}
+use Rattle.nd_view.specs.Arrivals.{CanArrive, AreArrivals, AreExact, AreReached, AreMinimal, HaveOneDepth}
+use Rattle.nd_view.proofs.Frontiers.{IsOrder, frontier_before}
+use Rattle.nd_view.proofs.Moves.{index_some}
+use Rattle.nd_view.proofs.TimeOrder.{before_through, before_both}
+
+-- a pointstamp could result in what a walk makes of it
+abbrev pub LeadOn : Dataflow → Type 0
+LeadOn g = (s : Pointstamp) (x : ℕ) (t : Time) → TurnsInto g s x t → CouldResultIn g s (record { location = x; time = t })
+
+some_same : (a b : ℕ) → Some a ≡ Some b → a ≡ b
+some_same a b e = cc (e)
+
+-- times that walks to one location lead to have one depth
+pub one_depth : (g : Dataflow) → LeadOn g → (es : List (Pointstamp × ℤ)) (x : ℕ) (times : List Time) → AreReached g es x times → HaveOneDepth times
+one_depth g on es x times reached s t (i, li, is_s) (j, lj, is_t) =
+    let of : (u : Time) (k : ℕ) → k < length times → get_or times k u ≡ u → HasDepth g x (length u.counters) = λ u k lt is.
+    let (e, among, turns) = reached.each k u lt in
+    (on e.0 x u (subst (TurnsInto g e.0 x) is turns)).fits_t.depth in
+    some_same (length s.counters) (length t.counters) (sym (of s i li is_s) ∙ of t j lj is_t)
+
+module _ (g : Dataflow) (order : IsOrder g) (on : LeadOn g) (v : Kept) (kept_for : IsFor g v) (f : DeltaValue) (part : IsPartWhere (IsOnFrontier g v.map) v.map f) (x : ℕ)
+    (times sorted : List Time) (reached : AreReached g (entries f) x times) (permuted : IsPermutation times sorted) (least : List Time) (minimal : AreMinimal sorted least) where
+  -- something on the frontier could result in all that a positive point could result in
+  near : (s t : Pointstamp) → pos 0 <ℤ at v.map s → CouldResultIn g s t → (y : Pointstamp) × IsOnFrontier g v.map y × CouldResultIn g y t
+  near s t positive could = by (find point_cmp s v.counts) (kept_for.each s)
+    where
+      by : (o : Option ℕ) → IsKeptAt g v.map s o → (y : Pointstamp) × IsOnFrontier g v.map y × CouldResultIn g y t
+      by None never = absurd (never positive)
+      by (Some n) here =
+          let (y, front, close) = frontier_before g order v.map s n here.0 here.1 in
+          (y, front, elim close [ inl same ↦ subst (λ z. CouldResultIn g z t) (sym same) could | inr less ↦ order.transitive y s t less.0 could ])
+
+  -- at or before each time that a positive point could result in there is one
+  found : (s : Pointstamp) (t : Time) → pos 0 <ℤ at v.map s → CouldResultIn g s (record { location = x; time = t }) → HasAtOrBefore least t
+  found s t positive could =
+      let (y, front, close) = near s (record { location = x; time = t }) positive could in
+      let some : at f y ≢ pos 0 = λ e. not_zero (at v.map y) front.positive (sym (part.all y front) ∙ e) in
+      let place = place_of f y some in
+      let e = get_or (entries f) place.index (y, at f y) in
+      let there : CouldResultIn g e.0 (record { location = x; time = t }) = subst (λ z. CouldResultIn g z (record { location = x; time = t })) (sym place.is) close in
+      let (u, among, before) = reached.least e (place.index, place.in_range, get_or_default (entries f) place.index e (y, at f y) place.in_range) t there in
+      let (w, chosen, first) = minimal.covers u (Contains-permutation times sorted u permuted among) in
+      (w, chosen, before_through w u t first before)
+
+  -- each of them can arrive
+  arrives : (t : Time) → Contains least t → CanArrive g v.map x t
+  arrives t (k, lt, is) =
+      let (n, inside, at') = Contains-permutation sorted times t (IsPermutation-sym times sorted permuted) (subst (Contains sorted) is (minimal.among k t lt)) in
+      let (e, (i, li, is_e), turns) = reached.each n t inside in
+      let some : at f e.0 ≢ pos 0 = subst (λ z. at f z.0 ≢ pos 0) is_e (index_some f i e li) in
+      record { source = e.0; positive = (part.only e.0 some).positive; turns = subst (TurnsInto g e.0 x) at' turns }
+
+  -- and at or before each that can arrive there is one
+  covers : (t : Time) → CanArrive g v.map x t → HasAtOrBefore least t
+  covers t can = found can.source t can.positive (on can.source x t can.turns)
+
+  pub are_arrivals : AreArrivals g v.map x least
+  are_arrivals = record {
+    each = λ k d lt. record {
+      arrives = arrives (get_or least k d) (k, lt, get_or_default least k (get_or least k d) d lt);
+      first = λ u can before.
+          let t : Time = get_or least k d in
+          let (w, (j, lj, is), first) = covers u can in
+          let here : get_or least j d ≡ w = get_or_default least j d w lj ∙ is in
+          let same : j ≡ k = minimal.apart j k d lj lt (subst (λ s. IsAtOrBefore s t) (sym here) (before_through w u t first before)) in
+          let one : w ≡ t = sym here ∙ ap (λ i. get_or least i d) same in
+          before_both u t before (subst (λ s. IsAtOrBefore s u) one first);
+    };
+    all = λ t one.
+        let (w, among, before) = covers t one.arrives in
+        subst (Contains least) (one.first w (arrives w among) before) among;
+    rising = minimal.rising;
+  }
+
+  pub are_exact : AreExact g v.map x least
+  are_exact t depth = (
+    λ passed (u, among, before).
+        let can = arrives u among in
+        let could = on can.source x u can.turns in
+        let here : CouldResultIn g (record { location = x; time = u }) (record { location = x; time = t }) = record { fits_s = could.fits_t; fits_t = record { depth = depth }; walk = []; leads = refl; before = before } in
+        passed can.source (record { positive = can.positive; before = order.transitive can.source (record { location = x; time = u }) (record { location = x; time = t }) could here }),
+    λ none s b. none (found s t b.positive b.before),
+  )

@@ -1,0 +1,58 @@
+-- Which times can still arrive at a location, by a view (this project's own rule; a probe's frontier in timely dataflow).
+use Rattle.std.specs.Prelude.{◌≡◌, ◌<◌, ℕ, ℤ, pos, ◌<ℤ◌, All, Contains, List, length, slice_index_or, ◌↔◌}
+use Rattle.std.specs.declared.cmp.Ordering.TheVariants.{Less}
+use Rattle.nd_time.specs.Time.{Time, IsAtOrBefore}
+use Rattle.nd_time.specs.Listing.{time_cmp}
+use Rattle.nd_graph.specs.Graph.{Dataflow}
+use Rattle.nd_paths.specs.Order.{HasDepth, CouldResultIn}
+use Rattle.nd_paths.specs.Arrival.{TurnsInto, HasAtOrBefore}
+use Rattle.nd_paths.specs.declared.point.Pointstamp.{Pointstamp}
+use Rattle.nd_delta.specs.Delta.{DeltaValue, at}
+use Rattle.nd_view.specs.View.{IsPassed}
+
+-- some walk turns the time of a point at which v is positive into t at the location x
+pub record CanArrive (g : Dataflow) (v : DeltaValue) (x : ℕ) (t : Time) : Type 0 where
+  pub source : Pointstamp
+  pub positive : pos 0 <ℤ at v source
+  pub turns : TurnsInto g source x t
+
+-- t can arrive at x, and no other time at or before it can
+pub record IsFirstArrival (g : Dataflow) (v : DeltaValue) (x : ℕ) (t : Time) : Type 0 where
+  pub arrives : CanArrive g v x t
+  pub first : (u : Time) → CanArrive g v x u → IsAtOrBefore u t → u ≡ t
+
+-- each time is listed before those that follow it: by epoch, then by counters
+abbrev pub AreRising : List Time → Type 0
+AreRising times = (i j : ℕ) (d : Time) → i < j → j < length times → time_cmp (slice_index_or times i d) (slice_index_or times j d) ≡ Less
+
+-- these are the minimal times that can arrive at x, each once, in the order of listing
+pub record AreArrivals (g : Dataflow) (v : DeltaValue) (x : ℕ) (times : List Time) : Type 0 where
+  pub each : All (IsFirstArrival g v x) times
+  pub all : (t : Time) → IsFirstArrival g v x t → Contains times t
+  pub rising : AreRising times
+
+-- a time of the location's depth is passed there exactly if none of these times is at or before it
+abbrev pub AreExact : Dataflow → DeltaValue → ℕ → List Time → Type 0
+AreExact g v x times = (t : Time) → HasDepth g x (length t.counters) → IsPassed g v (record { location = x; time = t }) ↔ (HasAtOrBefore times t → ⊥)
+
+-- none of these times is at or before another
+abbrev pub AreApart : List Time → Type 0
+AreApart times = (i j : ℕ) (d : Time) → i < length times → j < length times → IsAtOrBefore (slice_index_or times i d) (slice_index_or times j d) → i ≡ j
+
+-- ---- how they are found
+
+-- of each of these entries each time into which some walk turns its own has one of these at or before it, and these are such times
+pub record AreReached (g : Dataflow) (es : List (Pointstamp × ℤ)) (x : ℕ) (times : List Time) : Type 0 where
+  pub each : All (λ t. (e : Pointstamp × ℤ) × Contains es e × TurnsInto g e.0 x t) times
+  pub least : (e : Pointstamp × ℤ) → Contains es e → (t : Time) → CouldResultIn g e.0 (record { location = x; time = t }) → HasAtOrBefore times t
+
+-- their counters are equally many
+abbrev pub HaveOneDepth : List Time → Type 0
+HaveOneDepth times = (s t : Time) → Contains times s → Contains times t → length s.counters ≡ length t.counters
+
+-- the minimal ones of these times, each once, in the order of listing
+pub record AreMinimal (times minimal : List Time) : Type 0 where
+  pub among : All (Contains times) minimal
+  pub covers : (t : Time) → Contains times t → HasAtOrBefore minimal t
+  pub apart : AreApart minimal
+  pub rising : AreRising minimal

@@ -1,0 +1,85 @@
+//! Which times can still arrive at a location, by a view.
+ghost use Rattle.std.specs.Prelude.{◌≡◌, ◌++◌, IfOk, IsSorted, OnOk};
+ghost use Rattle.nd_time.specs.Listing.{time_cmp};
+ghost use Rattle.nd_view.specs.Kept.{IsFor};
+ghost use Rattle.nd_view.specs.Arrivals.{AreArrivals, AreExact, AreApart, AreReached, AreMinimal, HaveOneDepth};
+
+use crate::View;
+use nd_paths::{ArrivalTime, Paths, Pointstamp, arrival_times_are_listed};
+use std::alloc::{AllocError, Allocator};
+
+// Appends more times.
+fn push_all<A: Allocator>(
+    times: &mut Vec<ArrivalTime, A>,
+    more: &[ArrivalTime],
+) -> Result<(), AllocError>
+    ensures { OnOk result (times.new.items ≡ times.old.items ++ more.now) }
+{
+    for time in more {
+        times.push(time.copy())?;
+    }
+    Ok(())
+}
+
+// Returns the times into which walks to a location turn those of the entries: of each entry the least ones.
+fn reached_from<A: Allocator, B: Allocator>(
+    alloc: A,
+    paths: &Paths<B>,
+    entries: &[(Pointstamp, i64)],
+    location: usize,
+) -> Result<Vec<ArrivalTime, A>, AllocError>
+    ensures { IfOk result (λ v. AreReached paths.now entries.now location v.items) }
+{
+    let mut times = Vec::new(alloc);
+    for entry in entries {
+        let reached = paths.reached(&entry.0, location);
+        push_all(&mut times, reached.as_slice())?;
+    }
+    Ok(times)
+}
+
+// Returns the minimal ones of some times, which are listed by epoch and then by counters: as the counters of what is kept
+// fall, a time that has one of them at or before it has the last one there.
+fn minimal<A: Allocator>(alloc: A, times: &[ArrivalTime]) -> Result<Vec<ArrivalTime, A>, AllocError>
+    requires depth { HaveOneDepth times.now }
+    requires sorted { IsSorted time_cmp times.now }
+    ensures { IfOk result (λ v. AreMinimal times.now v.items) }
+{
+    let mut kept: Vec<ArrivalTime, A> = Vec::new(alloc);
+    for time in times {
+        let is_covered = match kept.last() {
+            Some(last) => last.at_or_before(time),
+            None => false,
+        };
+        if !is_covered {
+            kept.push(time.copy())?;
+        }
+    }
+    Ok(kept)
+}
+
+impl<A: Allocator + Copy> View<A> {
+    /// Returns the times that can still arrive at a location, by epoch and then by counters: the minimal ones of those
+    /// into which walks to `location` turn the times of the positive pointstamps. There is none if it is not there.
+    ///
+    /// A time is passed there exactly if none of them is at or before it, and none of them is at or before another.
+    pub fn arrivals<B: Allocator>(
+        &self,
+        alloc: A,
+        paths: &Paths<B>,
+        location: usize,
+    ) -> Result<Vec<ArrivalTime, A>, AllocError>
+        requires { IsFor paths.now self.now }
+        ensures value { IfOk result (λ v. AreArrivals paths.now self.now.map location v.items) }
+        ensures exact { IfOk result (λ v. AreExact paths.now self.now.map location v.items) }
+        ensures apart { IfOk result (λ v. AreApart v.items) }
+    {
+        paths.order_is_partial();
+        paths.walks_lead_on();
+        arrival_times_are_listed();
+        let frontier = self.frontier(alloc, paths)?;
+        let mut times = reached_from(alloc, paths, frontier.entries(), location)?;
+        times.sort_unstable();
+        minimal(alloc, &times)
+    }
+}

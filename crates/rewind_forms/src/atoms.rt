@@ -1,0 +1,127 @@
+//! What one atom of a condition says.
+ghost use Rattle.std.specs.Prelude.{◌≡◌, Ok, IfOk, IfErr, map, option_map};
+ghost use Rattle.serde_json.specs.View.{view};
+ghost use Rattle.rewind_forms.specs.Forms.{FailsWith, inner as inner_in};
+ghost use Rattle.rewind_forms.specs.Atoms.{passed_of as passed_in, count_of as count_in, queue_of as queue_in, sink_of as sink_in, first_atom_of as first_in, finished_of as finished_in, view_of as view_in, atom_of as atom_in};
+
+use crate::LineFault;
+use crate::places::vertex_named;
+use crate::points::point_there;
+use nd_breaks::Atom;
+use nd_graph::Graph;
+use nd_json::{has_keys, integer_at, small_at, text_at, whole_at};
+use serde_json::Value;
+use std::alloc::Global;
+
+// The object with these keys that stands under the only key of the value.
+#[tactic(auto, unfolding(crate::specs::Forms::inner))]
+fn inner<'v>(value: &'v Value, key: &str, keys: &[&str]) -> Option<&'v Value>
+    ensures { option_map (λ v. view v.now) result
+        ≡ inner_in key.now (map (λ k. k.now) keys.now) (view value.now) }
+{
+    let found = value.get(key)?;
+    if has_keys(value, &[key]) && has_keys(found, keys) {
+        Some(found)
+    } else {
+        None
+    }
+}
+
+#[tactic(auto, unfolding(crate::specs::Atoms::passed_of))]
+fn passed_of(alloc: Global, graph: &Graph, value: &Value) -> Result<Atom, LineFault>
+    ensures ok { IfOk result (λ c. passed_in graph.now (view value.now) ≡ Ok c) }
+    ensures err { IfErr result (FailsWith (passed_in graph.now (view value.now))) }
+{
+    let q = small_at(value, "q").ok_or(LineFault::BadShape)?;
+    let point = point_there(alloc, graph, value)?;
+    Ok(Atom::Passed { q, point })
+}
+
+#[tactic(auto, unfolding(crate::specs::Atoms::count_of))]
+fn count_of(alloc: Global, graph: &Graph, value: &Value) -> Result<Atom, LineFault>
+    ensures ok { IfOk result (λ c. count_in graph.now (view value.now) ≡ Ok c) }
+    ensures err { IfErr result (FailsWith (count_in graph.now (view value.now))) }
+{
+    let at_least = whole_at(value, "at_least").ok_or(LineFault::BadShape)?;
+    let point = point_there(alloc, graph, value)?;
+    Ok(Atom::Count { point, at_least })
+}
+
+#[tactic(auto, unfolding(crate::specs::Atoms::queue_of))]
+fn queue_of(value: &Value) -> Result<Atom, LineFault>
+    ensures { result ≡ queue_in (view value.now) }
+{
+    let at_least = whole_at(value, "at_least").ok_or(LineFault::BadShape)?;
+    let from = small_at(value, "from").ok_or(LineFault::BadShape)?;
+    let to = small_at(value, "to").ok_or(LineFault::BadShape)?;
+    Ok(Atom::Queue { from, to, at_least })
+}
+
+#[tactic(auto, unfolding(crate::specs::Atoms::sink_of))]
+fn sink_of(graph: &Graph, value: &Value) -> Result<Atom, LineFault>
+    ensures { result ≡ sink_in graph.now (view value.now) }
+{
+    let at_least = whole_at(value, "at_least").ok_or(LineFault::BadShape)?;
+    let number = integer_at(value, "value").ok_or(LineFault::BadShape)?;
+    let name = text_at(value, "vertex").ok_or(LineFault::BadShape)?;
+    let vertex = vertex_named(graph, name).ok_or(LineFault::UnknownName)?;
+    Ok(Atom::Sink {
+        vertex,
+        value: number,
+        at_least,
+    })
+}
+
+#[tactic(auto, unfolding(crate::specs::Atoms::finished_of))]
+fn finished_of(alloc: Global, graph: &Graph, value: &Value) -> Result<Atom, LineFault>
+    ensures ok { IfOk result (λ c. finished_in graph.now (view value.now) ≡ Ok c) }
+    ensures err { IfErr result (FailsWith (finished_in graph.now (view value.now))) }
+{
+    let point = point_there(alloc, graph, value)?;
+    Ok(Atom::Finished { point })
+}
+
+#[tactic(auto, unfolding(crate::specs::Atoms::view_of))]
+fn view_of(alloc: Global, graph: &Graph, value: &Value) -> Result<Atom, LineFault>
+    ensures ok { IfOk result (λ c. view_in graph.now (view value.now) ≡ Ok c) }
+    ensures err { IfErr result (FailsWith (view_in graph.now (view value.now))) }
+{
+    let at_least = integer_at(value, "at_least").ok_or(LineFault::BadShape)?;
+    let q = small_at(value, "q").ok_or(LineFault::BadShape)?;
+    let point = point_there(alloc, graph, value)?;
+    Ok(Atom::View { q, point, at_least })
+}
+
+/// Reads the atom that the value is, of the kinds that each version has, against the graph.
+#[tactic(auto, unfolding(crate::specs::Atoms::first_atom_of))]
+pub fn first_atom_of(alloc: Global, graph: &Graph, value: &Value) -> Result<Atom, LineFault>
+    ensures ok { IfOk result (λ c. first_in graph.now (view value.now) ≡ Ok c) }
+    ensures err { IfErr result (FailsWith (first_in graph.now (view value.now))) }
+{
+    if let Some(shown) = inner(value, "passed", &["at", "q", "time"]) {
+        passed_of(alloc, graph, shown)
+    } else if let Some(shown) = inner(value, "count", &["at", "at_least", "time"]) {
+        count_of(alloc, graph, shown)
+    } else if let Some(shown) = inner(value, "queue", &["at_least", "from", "to"]) {
+        queue_of(shown)
+    } else if let Some(shown) = inner(value, "sink", &["at_least", "value", "vertex"]) {
+        sink_of(graph, shown)
+    } else {
+        Err(LineFault::BadShape)
+    }
+}
+
+/// Reads the atom that the value is, of any kind, against the graph.
+#[tactic(auto, unfolding(crate::specs::Atoms::atom_of))]
+pub fn atom_of(alloc: Global, graph: &Graph, value: &Value) -> Result<Atom, LineFault>
+    ensures ok { IfOk result (λ c. atom_in graph.now (view value.now) ≡ Ok c) }
+    ensures err { IfErr result (FailsWith (atom_in graph.now (view value.now))) }
+{
+    if let Some(shown) = inner(value, "finished", &["at", "time"]) {
+        finished_of(alloc, graph, shown)
+    } else if let Some(shown) = inner(value, "view", &["at", "at_least", "q", "time"]) {
+        view_of(alloc, graph, shown)
+    } else {
+        first_atom_of(alloc, graph, value)
+    }
+}

@@ -1,0 +1,167 @@
+//! The condition that a line names.
+ghost use Rattle.std.specs.Prelude.{◌≡◌, ◌<◌, ◌≤◌, Ok, IfOk, IfErr, map, length, option_map};
+ghost use Rattle.serde_json.specs.View.{view};
+ghost use Rattle.nd_time.specs.Limits.{max_literals};
+ghost use Rattle.rewind_forms.specs.Forms.{FailsWith, alone as alone_in};
+ghost use Rattle.rewind_forms.specs.Conditions.{literal_of as literal_in, lesser as lesser_in, literals_of as literals_in, several_of as several_in, combined_of as combined_in, condition_of as condition_in};
+ghost use Rattle.rewind_forms.specs.Conditions.{literals_read, with_literal, with_fault, HasRoom, IsOf, MakeUp};
+
+use crate::atoms::{atom_of, first_atom_of};
+use crate::{LineFault, Version};
+use nd_breaks::{Condition, Literal, Quantifier};
+use nd_graph::Graph;
+use nd_json::{has_keys, list};
+use serde_json::Value;
+use std::alloc::Global;
+
+/// The most literals of a condition.
+const MAX_LITERALS: usize = 8;
+
+// What stands under the key, if it is the value's only one.
+#[tactic(auto, unfolding(crate::specs::Forms::alone))]
+fn alone<'v>(value: &'v Value, key: &str) -> Option<&'v Value>
+    ensures { option_map (λ v. view v.now) result ≡ alone_in key.now (view value.now) }
+{
+    if has_keys(value, &[key]) {
+        value.get(key)
+    } else {
+        None
+    }
+}
+
+// The literal that the value is.
+#[tactic(auto, unfolding(crate::specs::Conditions::literal_of))]
+fn literal_of(alloc: Global, graph: &Graph, value: &Value) -> Result<Literal, LineFault>
+    ensures ok { IfOk result (λ c. literal_in graph.now (view value.now) ≡ Ok c) }
+    ensures err { IfErr result (FailsWith (literal_in graph.now (view value.now))) }
+{
+    if let Some(shown) = alone(value, "not") {
+        let atom = atom_of(alloc, graph, shown)?;
+        Ok(Literal::Not(atom))
+    } else {
+        let atom = atom_of(alloc, graph, value)?;
+        Ok(Literal::Is(atom))
+    }
+}
+
+// Of two faults that of lesser number.
+#[tactic(auto, unfolding(crate::specs::Conditions::lesser))]
+fn lesser(first: LineFault, second: LineFault) -> LineFault
+    ensures { result ≡ lesser_in first second }
+{
+    if first.code().number() <= second.code().number() {
+        first
+    } else {
+        second
+    }
+}
+
+// What was read of the first literals of a list: the condition that they make, none before the first; or their fault of
+// least number.
+type Read = Result<Option<Condition>, LineFault>;
+
+// What was read, and one literal more.
+fn and_literal(read: Read, quantifier: Quantifier, literal: Literal) -> Read
+    requires { HasRoom read }
+    ensures literals { literals_read result ≡ with_literal (literals_read read) literal }
+    ensures quantifier { IsOf quantifier read → IsOf quantifier result }
+{
+    let Some(mut condition) = read? else {
+        return Ok(Some(Condition::new(quantifier, literal)));
+    };
+    if condition.push(literal).is_err() {
+        unreachable!()
+    }
+    Ok(Some(condition))
+}
+
+// The fault of what was read and of one faulty literal more.
+fn and_fault(read: &Read, fault: LineFault) -> LineFault
+    ensures { result ≡ with_fault (literals_read read.now) fault }
+{
+    match read {
+        Ok(_) => fault,
+        Err(first) => lesser(*first, fault),
+    }
+}
+
+// The literals that the items are, all or any of which are to hold.
+fn literals_of(
+    alloc: Global,
+    graph: &Graph,
+    quantifier: Quantifier,
+    items: &[Value],
+) -> Result<Condition, LineFault>
+    requires some { 0 < length items.now }
+    requires few { length items.now ≤ max_literals }
+    ensures ok { IfOk result (MakeUp quantifier (literals_in graph.now (map view items.now))) }
+    ensures err { IfErr result (FailsWith (literals_in graph.now (map view items.now))) }
+{
+    let mut read: Read = Ok(None);
+    for item in items {
+        read = match literal_of(alloc, graph, item) {
+            Ok(literal) => and_literal(read, quantifier, literal),
+            Err(LineFault::Memory) => return Err(LineFault::Memory),
+            Err(fault) => Err(and_fault(&read, fault)),
+        };
+    }
+    let Some(condition) = read? else {
+        unreachable!()
+    };
+    Ok(condition)
+}
+
+// All or any of the literals of the list that the value is.
+#[tactic(auto, unfolding(crate::specs::Conditions::several_of))]
+fn several_of(
+    alloc: Global,
+    graph: &Graph,
+    quantifier: Quantifier,
+    value: &Value,
+) -> Result<Condition, LineFault>
+    ensures ok { IfOk result (λ c. several_in graph.now quantifier (view value.now) ≡ Ok c) }
+    ensures err { IfErr result (FailsWith (several_in graph.now quantifier (view value.now))) }
+{
+    let items = list(value).ok_or(LineFault::BadShape)?;
+    if items.is_empty() || items.len() > MAX_LITERALS {
+        return Err(LineFault::BadShape);
+    }
+    literals_of(alloc, graph, quantifier, items)
+}
+
+// The condition that the value is: a literal, or all or any of several.
+#[tactic(auto, unfolding(crate::specs::Conditions::combined_of))]
+fn combined_of(alloc: Global, graph: &Graph, value: &Value) -> Result<Condition, LineFault>
+    ensures ok { IfOk result (λ c. combined_in graph.now (view value.now) ≡ Ok c) }
+    ensures err { IfErr result (FailsWith (combined_in graph.now (view value.now))) }
+{
+    if let Some(shown) = alone(value, "all") {
+        several_of(alloc, graph, Quantifier::All, shown)
+    } else if let Some(shown) = alone(value, "any") {
+        several_of(alloc, graph, Quantifier::Any, shown)
+    } else {
+        let literal = literal_of(alloc, graph, value)?;
+        Ok(Condition::new(Quantifier::All, literal))
+    }
+}
+
+/// Reads the condition that the value is in a script of this version, against the graph.
+///
+/// `BadShape` comes before `UnknownName`, and this before `BadTime`, in whichever literal each stands. `Memory` comes
+/// only if there was no memory for a list of the condition.
+#[tactic(auto, unfolding(crate::specs::Conditions::condition_of))]
+pub fn condition_of(
+    alloc: Global,
+    version: Version,
+    graph: &Graph,
+    value: &Value,
+) -> Result<Condition, LineFault>
+    ensures ok { IfOk result (λ c. condition_in version graph.now (view value.now) ≡ Ok c) }
+    ensures err { IfErr result (FailsWith (condition_in version graph.now (view value.now))) }
+{
+    if version.includes(Version::Fourth) {
+        return combined_of(alloc, graph, value);
+    }
+    let atom = first_atom_of(alloc, graph, value)?;
+    Ok(Condition::new(Quantifier::All, Literal::Is(atom)))
+}

@@ -1,0 +1,184 @@
+//! What a step changed.
+ghost use Rattle.std.specs.Prelude.{◌≡◌, map, IfOk};
+ghost use Rattle.serde_json.specs.Data.{Data};
+ghost use Rattle.nd_graph.specs.Graph.{Dataflow};
+ghost use Rattle.nd_state_json.specs.StateText.{row};
+ghost use Rattle.nd_steps.specs.Effect.{lists_of};
+ghost use Rattle.rewind_forms.specs.Effects.{whole_or_null, natural_or_null as natural_or_null_data, item_altered, queue_altered, record_altered, request_altered, sink_altered, token_altered, entry_altered, lists_data, effect_data};
+
+use nd_cluster::{Altered, Effect, ItemAt};
+use nd_graph::Graph;
+use nd_json::{Json, JsonList, reply};
+use nd_paths::Pointstamp;
+use nd_processor::{SinkKey, ValueAt};
+use nd_state_json::{name_value, time_value};
+use std::alloc::{AllocError, Global};
+
+// The number, or null.
+fn integer_or_null(number: Option<i64>) -> Json
+    ensures { result ≡ whole_or_null number }
+{
+    match number {
+        Some(number) => Json::integer(number),
+        None => Json::null(),
+    }
+}
+
+// The number, or null.
+fn natural_or_null(number: Option<u32>) -> Json
+    ensures { result ≡ natural_or_null_data number }
+{
+    match number {
+        Some(number) => Json::natural(u64::from(number)),
+        None => Json::null(),
+    }
+}
+
+// What an effect lists, which the names of a graph's locations show.
+trait Shown {
+    ghost shown: { Dataflow → Self → Data };
+
+    // Where the value changed, the value before, and the value after.
+    fn value(&self, alloc: Global, graph: &Graph) -> Result<Json, AllocError>
+        ensures reply { IfOk result (λ j. j ≡ shown graph.now self.now) };
+}
+
+impl Shown for Altered<ItemAt, Option<i64>> {
+    ghost shown = { item_altered };
+
+    fn value(&self, alloc: Global, graph: &Graph) -> Result<Json, AllocError> {
+        let time = time_value(alloc, &self.key.key.time)?;
+        let name = name_value(alloc, graph, self.key.vertex)?;
+        let old = integer_or_null(self.old);
+        let new = integer_or_null(self.new);
+        reply!(in alloc; [self.p, name, time, self.key.key.item, old, new])
+    }
+}
+
+impl Shown for Altered<u32, usize> {
+    ghost shown = { λ g a. queue_altered a };
+
+    fn value(&self, alloc: Global, _graph: &Graph) -> Result<Json, AllocError> {
+        reply!(in alloc; [self.p, self.key, self.old as u64, self.new as u64])
+    }
+}
+
+impl Shown for Altered<ValueAt, u64> {
+    ghost shown = { record_altered };
+
+    fn value(&self, alloc: Global, graph: &Graph) -> Result<Json, AllocError> {
+        let time = time_value(alloc, &self.key.point.time)?;
+        let name = name_value(alloc, graph, self.key.point.location)?;
+        reply!(in alloc; [self.p, name, time, self.key.value, self.old, self.new])
+    }
+}
+
+impl Shown for Altered<Pointstamp, bool> {
+    ghost shown = { request_altered };
+
+    fn value(&self, alloc: Global, graph: &Graph) -> Result<Json, AllocError> {
+        let time = time_value(alloc, &self.key.time)?;
+        let name = name_value(alloc, graph, self.key.location)?;
+        reply!(in alloc; [self.p, name, time, self.old, self.new])
+    }
+}
+
+impl Shown for Altered<SinkKey, u64> {
+    ghost shown = { sink_altered };
+
+    fn value(&self, alloc: Global, graph: &Graph) -> Result<Json, AllocError> {
+        let name = name_value(alloc, graph, self.key.vertex)?;
+        reply!(in alloc; [self.p, name, self.key.value, self.old, self.new])
+    }
+}
+
+impl Shown for Altered<usize, Option<u32>> {
+    ghost shown = { token_altered };
+
+    fn value(&self, alloc: Global, graph: &Graph) -> Result<Json, AllocError> {
+        let name = name_value(alloc, graph, self.key)?;
+        let old = natural_or_null(self.old);
+        let new = natural_or_null(self.new);
+        reply!(in alloc; [self.p, name, old, new])
+    }
+}
+
+impl Shown for Altered<Pointstamp, i64> {
+    ghost shown = { entry_altered };
+
+    fn value(&self, alloc: Global, graph: &Graph) -> Result<Json, AllocError> {
+        let time = time_value(alloc, &self.key.time)?;
+        let name = name_value(alloc, graph, self.key.location)?;
+        reply!(in alloc; [self.p, name, time, self.old, self.new])
+    }
+}
+
+// All elements of a list, in their order.
+fn list_value<T: Shown>(alloc: Global, graph: &Graph, items: &[T]) -> Result<Json, AllocError>
+    ensures reply { IfOk result (λ j. j ≡ row (map (T.shown graph.now) items.now)) }
+{
+    let mut list = JsonList::new(alloc);
+    for item in items {
+        list.push(item.value(alloc, graph)?)?;
+    }
+    Ok(list.into_json())
+}
+
+// The lists of an effect, as they are shown.
+#[derive(Drop)]
+pub(crate) struct Lists {
+    items: Json,
+    queues: Json,
+    records: Json,
+    requests: Json,
+    sinks: Json,
+    tokens: Json,
+    unsent: Json,
+    views: Json,
+}
+
+// The object of these lists.
+fn lists_object(alloc: Global, lists: Lists) -> Result<Json, AllocError>
+    ensures reply { IfOk result (λ j. j ≡ lists_data lists) }
+{
+    let Lists {
+        items,
+        queues,
+        records,
+        requests,
+        sinks,
+        tokens,
+        unsent,
+        views,
+    } = lists;
+    reply!(in alloc; {
+        "items": items, "queues": queues, "records": records, "requests": requests,
+        "sinks": sinks, "tokens": tokens, "unsent": unsent, "views": views
+    })
+}
+
+/// Makes the object of what a step changed, with the names of the graph's locations: eight lists, each element with the
+/// value before and the value after.
+pub fn effect_value(alloc: Global, graph: &Graph, effect: &Effect) -> Result<Json, AllocError>
+    ensures reply { IfOk result (λ j. j ≡ effect_data graph.now (lists_of effect.now)) }
+{
+    let items = list_value(alloc, graph, &effect.items)?;
+    let queues = list_value(alloc, graph, &effect.queues)?;
+    let records = list_value(alloc, graph, &effect.records)?;
+    let requests = list_value(alloc, graph, &effect.requests)?;
+    let sinks = list_value(alloc, graph, &effect.sinks)?;
+    let tokens = list_value(alloc, graph, &effect.tokens)?;
+    let unsent = list_value(alloc, graph, &effect.unsent)?;
+    let views = list_value(alloc, graph, &effect.views)?;
+    let lists = Lists {
+        items,
+        queues,
+        records,
+        requests,
+        sinks,
+        tokens,
+        unsent,
+        views,
+    };
+    lists_object(alloc, lists)
+}

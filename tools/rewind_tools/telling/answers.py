@@ -1,0 +1,266 @@
+"""The program's replies in words, with what a script's earlier replies told: the cursor, the kept steps, the breakpoints."""
+from rewind_tools.script import literals_in
+from rewind_tools.telling.commands import at, command_words, condition, counted, some_of, time_in
+from rewind_tools.telling.effects import effect_words
+from rewind_tools.telling.forms import listed
+from rewind_tools.telling.reasons import why_words
+
+MOST_STEPS = 40
+
+
+class Teller:
+    """Tells one reply after the other, and keeps what they tell of the timeline."""
+
+    def __init__(self, graph, processors, has_clients, version=1):
+        self.graph, self.processors, self.has_clients, self.version = graph, processors, has_clients, version
+        self.kept, self.breaks = 0, {}
+
+    def told(self, value, reply, before):
+        """The answer to a command or query, in a list of sentences; 'before' is the state at which it was asked, or None."""
+        self.keep(value, reply)
+        if "error" in reply:
+            return self.refused(value, reply, before)
+        return ANSWERS[value["do"]](self, value, reply) + self.warnings(value)
+
+    def keep(self, value, reply):
+        """Keeps what a reply tells of the timeline and the breakpoints."""
+        self.kept = reply.get("kept", self.kept)
+        if value["do"] == "run" and reply.get("error") == "Memory" and "at" in reply:
+            self.kept = None
+        if value["do"] == "break" and "id" in reply:
+            self.breaks[reply["id"]] = condition(value["when"])
+
+    def moved(self, value, reply):
+        return [f"done: {cursor(reply)}"]
+
+    def ran(self, value, reply):
+        stop = reply["stop"]
+        if stop == "idle":
+            why = "nothing is enabled"
+        elif stop == "limit":
+            why = "that is the limit"
+        else:
+            why = f"breakpoint {stop['break']} holds: {self.breaks.get(stop['break'], 'set by a line that is not told')}"
+        return [f"ran {counted(reply['ran'], 'step')}, then stopped: {why}", cursor(reply)]
+
+    def cleared(self, value, reply):
+        return [f"done: it was {self.breaks.pop(value['id'], 'set by a line that is not told')}"]
+
+    def refused(self, value, reply, before):
+        """A refusal: its name, and what stands in the way."""
+        why = REFUSALS.get(reply["error"])
+        said = why(self, value, reply, before) if why else ""
+        return [f"refused, {reply['code']} {reply['error']}" + (f": {said}" if said else "")]
+
+    def kept_positions(self):
+        if self.kept is None:
+            return "how many are kept was not told"
+        return f"kept are the positions 0 to {self.kept}" if self.kept else "no step is kept, so position 0 is the only one"
+
+    def absent_processors(self, value):
+        """Which of the processors that an object names is none, and which there are; an empty text if all are there."""
+        asked = [value[key] for key in ("p", "q", "from", "to") if isinstance(value.get(key), int)]
+        absent = sorted({it for it in asked if self.processors is not None and it >= self.processors})
+        there = "is processor 0 alone" if self.processors == 1 else f"are the processors 0 to {(self.processors or 0) - 1}"
+        return f"there is no processor {listed(map(str, absent), 'or')}; there {there}" if absent else ""
+
+    def no_processor(self, value, reply, before):
+        return self.absent_processors(value)
+
+    def warnings(self, value):
+        """That a condition names a processor that is not there: what that means for the breakpoint, the search or the turns."""
+        literals = literals_in(value["when"]) if "when" in value else []
+        absent = {self.absent_processors(inner): is_negated for is_negated, _, inner in literals}
+        absent.pop("", None)
+        if absent and len(literals) == 1 and not any(absent.values()):
+            never = "this breakpoint never triggers" if value["do"] == "break" else "this holds at no position"
+            return [f"warning: {never}: {next(iter(absent))}"]
+        return [f"warning: what is said of it {'always' if is_negated else 'never'} holds: {it}" for it, is_negated in absent.items()]
+
+    def not_input(self, value, reply, before):
+        inputs = [name for name, it in self.graph.vertices.items() if it["op"] == "input"]
+        return f"{value['vertex']} is {self.graph.kind(value['vertex'])}; inputs: {some_of(inputs)}"
+
+    def no_break(self, value, reply, before):
+        return f"there is no breakpoint {value['id']}; set: {some_of(sorted(self.breaks))}"
+
+    def no_such_point(self, value, reply, before):
+        if value["do"] in ("step", "effect") and value["to"] == 0:
+            return f"no step leads to position 0, where the script begins; {self.kept_positions()}"
+        return f"position {value.get('hi', value.get('to'))} is past the last kept step; {self.kept_positions()}"
+
+
+def cursor(reply):
+    return f"the cursor is at {reply['at']} of {counted(reply['kept'], 'kept step')}"
+
+
+def not_yet(teller, value, reply, before):
+    there = at(value["vertex"], value["time"])
+    return f"processor {value['p']}'s view has {at(*reply['point'])} strictly before {there}"
+
+
+def inadmissible(teller, value, reply, before):
+    place = at(*reply["point"])
+    return f"{place} would stay behind positive, with neither a fall that stays nor a token of processor {value['p']} strictly before"
+
+
+def no_record(teller, value, reply, before):
+    """What records there are instead: the processor's on that edge, and the same of other processors."""
+    wanted = [value["edge"], value["time"], value["value"]]
+    said = f"processor {value['p']} has no record {value['value']} at {at(*wanted[:2])}"
+    if before is None:
+        return said
+    own = [it for it in before["processors"][value["p"]]["records"] if it[0] == wanted[0]]
+    others = [p for p, it in enumerate(before["processors"]) if any(record[:3] == wanted for record in it["records"])]
+    there = some_of(f"{it[2]} at {at(*it[:2])}" for it in own)
+    elsewhere = f"; processor {listed(map(str, others))} has one" if others else ""
+    return f"{said}; on {value['edge']} it has {there}{elsewhere}"
+
+
+def no_request(teller, value, reply, before):
+    said = f"on processor {value['p']} {value['vertex']} has not asked for a notice at {time_in(value['time'])}"
+    if before is None:
+        return said
+    asked = before["processors"][value["p"]]["requests"]
+    return f"{said}; asked for there: {some_of(at(*it) for it in asked)}"
+
+
+def queue_empty(teller, value, reply, before):
+    said = f"nothing is on its way from processor {value['from']} to {value['to']}"
+    if before is None:
+        return said
+    senders = [p for p, row in enumerate(before["queues"]) if row[value["to"]]]
+    return f"{said}; to {value['to']} something is on its way from {some_of(senders)}" if senders else f"{said}, nor from others"
+
+
+def timeline_full(teller, value, reply, before):
+    if value["do"] == "run":
+        return f"the limit, {value['limit']}, is above 1000000 less the cursor"
+    return "the cursor is at 1000000, where no step is made; going back makes room"
+
+
+def sentence(words):
+    return lambda teller, value, reply, before: words
+
+
+REFUSALS = {
+    "NoProcessor": Teller.no_processor,
+    "NotInput": Teller.not_input,
+    "InputClosed": lambda teller, value, reply, before: f"processor {value['p']} has given up its token of {value['vertex']}",
+    "TooManyValues": lambda teller, value, reply, before: f"there are {len(value['values'])} values; at most 1024 may be",
+    "EpochFull": sentence('the token is at the last epoch, 4294967295; "close" and "stay" are left'),
+    "NoRecord": no_record,
+    "NoRequest": no_request,
+    "NotYet": not_yet,
+    "CounterFull": lambda teller, value, reply, before: f"{teller.graph.worker(value)} would raise a counter past 4294967295",
+    "ValueRange": lambda teller, value, reply, before: f"{teller.graph.worker(value)} would make a number past 64 bits",
+    "CountFull": sentence("a record's or a sink's count would pass 1099511627776"),
+    "DeltaFull": sentence("an unsent entry or one of a view would pass 1099511627776"),
+    "NothingToSend": sentence("nothing of this is unsent"),
+    "NotAdmissible": inadmissible,
+    "QueueEmpty": queue_empty,
+    "QueueFull": sentence("a queue from the processor holds 65536 changes; receives make room"),
+    "Memory": lambda teller, value, reply, before: "no memory was left" + (f"; {stopped(reply)}" if "at" in reply else ""),
+    "AtStart": sentence("no step is kept before the cursor"),
+    "AtEnd": sentence("no step is kept behind the cursor"),
+    "NoSuchPoint": Teller.no_such_point,
+    "TimelineFull": timeline_full,
+    "TooManyBreaks": sentence("32 breakpoints are set; at most 32 may be"),
+    "NoBreak": Teller.no_break,
+    "LogFull": sentence("1000000 commands are logged, and no more are made"),
+    "BadRange": lambda teller, value, reply, before: f"lo, {value['lo']}, is above hi, {value['hi']}",
+    "NoWorkers": sentence("workers is 0; at least 1 is needed"),
+    "Missing": lambda teller, value, reply, before: f"no memory was left for piece {reply['piece']} of the positions",
+}
+
+
+def stopped(reply):
+    return f"the cursor is at {reply['at']}"
+
+
+def points(entries):
+    """Entries of a view in words, by place, time and number."""
+    items = [f"{at(*it[:2])}: {it[2]}" for it in entries]
+    return ", ".join(items) if items else "nothing"
+
+
+def frontier(teller, value, reply):
+    """The frontier of a view, or the times that can still arrive at a location."""
+    if "times" not in reply:
+        return [points(reply["frontier"])]
+    if not reply["times"]:
+        return ["none: nothing can arrive there any more"]
+    return [f"{some_of(map(time_in, reply['times']))}, and all that are later"]
+
+
+def candidates(teller, value, reply):
+    """Each step that may be executed, and of each other one what stands in the way."""
+    told = [candidate(teller, it) for it in reply["candidates"]]
+    count = sum("refused" not in it for it in reply["candidates"])
+    more = "; there are more than these" if reply.get("more") else ""
+    rest = [f".. ({len(told)} in all)"] if len(told) > MOST_STEPS else []
+    first = f"{counted(count, 'step')} of {len(told)} may be executed{more}" if told else "no step is left but a feed"
+    return [first, *told[:MOST_STEPS], *rest]
+
+
+def candidate(teller, it):
+    if "refused" not in it:
+        return f"enabled: {command_words(it['step'])}"
+    return f"{command_words(it['step'])}: {teller.refused(it['step'], it['refused'], None)[0]}"
+
+
+def effect(teller, value, reply):
+    """The step, and each place that it changed."""
+    return [command_words(reply["step"]), *effect_words(reply["changed"])]
+
+
+def turns(teller, value, reply):
+    """Whether the condition holds at first, and the positions at which that changes."""
+    first = f"at position {value['lo']} it {'holds' if reply['at_lo'] else 'does not hold'}"
+    holds, told = reply["at_lo"], []
+    for position in reply["turns"]:
+        holds = not holds
+        told.append(f"{'begins' if holds else 'ceases'} to hold at {position}")
+    more = ", and there are more" if reply.get("more") else ""
+    return [first, f"it {some_of(told)}{more}" if told else "and that stays so"]
+
+
+def passed(teller, value, reply):
+    return ["yes" if reply["passed"] else f"no: its view has {at(*reply['point'])} at or before it"]
+
+
+def changed(teller, value, reply):
+    """At which positions a view changed, each with the entry there."""
+    told = [f"at position {position} to {entry}" for position, entry in reply["changes"]]
+    more = ", and there are more" if reply.get("more") else ""
+    return [some_of(told) + more if told else "at none"]
+
+
+def exported(teller, value, reply):
+    """The kept steps, a sentence each if they are few, and which of them are made."""
+    steps = reply["steps"]
+    told = [f"{position}. {command_words(it)}" for position, it in enumerate(steps, 1)]
+    rest = [f".. ({len(steps)} in all)"] if len(told) > MOST_STEPS else []
+    return [f"{counted(len(steps), 'kept step')}, and the cursor is at {reply['at']}", *told[:MOST_STEPS], *rest]
+
+
+ANSWERS = {
+    **{word: Teller.moved for word in ("feed", "take", "notice", "broadcast", "receive", "back", "redo", "jump")},
+    "run": Teller.ran,
+    "break": lambda teller, value, reply: [f"done: it is breakpoint {reply['id']}"],
+    "unbreak": Teller.cleared,
+    "state": lambda teller, value, reply: ["told by the table, with all its points"],
+    "count": lambda teller, value, reply: [str(reply["count"])],
+    "before": lambda teller, value, reply: ["yes" if reply["before"] else "no"],
+    "view": lambda teller, value, reply: [points(reply["view"])],
+    "frontier": frontier,
+    "passed": passed,
+    "search": lambda teller, value, reply: ["at none" if reply["found"] is None else f"at position {reply['found']}"],
+    "export": exported,
+    "why": lambda teller, value, reply: why_words(value["q"], value["at"], value["time"], reply, value.get("before", False)),
+    "changes": changed,
+    "step": lambda teller, value, reply: [command_words(reply["step"])],
+    "candidates": candidates,
+    "effect": effect,
+    "turns": turns,
+}

@@ -1,0 +1,145 @@
+"""The commands and queries of a script in words."""
+from rewind_tools.script import literals_in
+from rewind_tools.telling.forms import listed
+from rewind_tools.telling.values import shown
+
+MOST = 8
+# A space at which no line is broken; what is printed has a plain one.
+FIRM = "\N{NO-BREAK SPACE}"
+NEXT = {"next": "goes on to the next epoch", "close": "gives up its token", "stay": "stays at its epoch"}
+
+
+def time_in(time):
+    return "(" + ",".join(map(str, time)) + ")"
+
+
+def at(place, time):
+    """A location and a time, which a line does not part."""
+    return f"{place}{FIRM}{time_in(time)}"
+
+
+def counted(count, thing):
+    return f"{count} {thing}" + "s" * (count != 1)
+
+
+def some_of(items):
+    """The items in a list of words, cut if there are many."""
+    items = list(map(str, items))
+    if len(items) <= MOST:
+        return listed(items) if items else "nothing"
+    return ", ".join(items[:MOST]) + f", .. ({len(items)} in all)"
+
+
+def feed(it):
+    return f"processor {it['p']} feeds {some_of(it['values'])} into {it['vertex']} and {NEXT[it['next']]}"
+
+
+def broadcast(it):
+    part = "all that is unsent" if "part" not in it else f"what is unsent at {some_of(at(*point) for point in it['part'])}"
+    return f"processor {it['p']} broadcasts {part}"
+
+
+def search(it):
+    where = f"at which of the positions {it['lo']} to {it['hi']} first: {condition(it['when'])}?"
+    return f"{where} ({counted(it['workers'], 'worker')})"
+
+
+def turns(it):
+    return f"at which of the positions {it['lo']} to {it['hi']} does it begin or cease to hold that {condition(it['when'])}?"
+
+
+def why(it):
+    there = at(it["at"], it["time"])
+    what = f"all that is strictly before {there}" if it.get("before") else there
+    return f"why does processor {it['q']} not consider {what} finished?"
+
+
+def frontier(it):
+    if "at" in it:
+        return f"which times can still arrive at {it['at']}, as far as processor {it['q']} knows?"
+    return f"what is the frontier of processor {it['q']}'s view?"
+
+
+def condition(when):
+    """What a breakpoint, a search or a query for turns waits for."""
+    name = next(iter(when))
+    joint = {"all": " and ", "any": " or "}.get(name, "")
+    return joint.join(literal(*it) for it in literals_in(when))
+
+
+def literal(is_negated, name, it):
+    return f"not ({atom(name, it)})" if is_negated else atom(name, it)
+
+
+def atom(name, it):
+    there = at(it["at"], it["time"]) if "at" in it else ""
+    if name == "passed":
+        return f"processor {it['q']} has passed {there}"
+    if name == "finished":
+        return f"{there} is finished"
+    least = f"at least {it['at_least']}"
+    if name == "view":
+        return f"processor {it['q']}'s view has {least} at {there}"
+    if name == "count":
+        return f"{least} of records, requests and tokens at {there}"
+    if name == "queue":
+        return f"{least} of changes on their way from processor {it['from']} to {it['to']}"
+    return f"{it['vertex']} has counted the value {it['value']} at least {counted(it['at_least'], 'time')}"
+
+
+WORDS = {
+    "feed": feed,
+    "take": lambda it: f"processor {it['p']} takes {it['value']} off {at(it['edge'], it['time'])}",
+    "notice": lambda it: f"processor {it['p']} runs the notice of {at(it['vertex'], it['time'])}",
+    "broadcast": broadcast,
+    "receive": lambda it: f"processor {it['to']} receives the first change on its way from processor {it['from']}",
+    "back": lambda it: "back over the last step",
+    "redo": lambda it: "make the kept step behind the cursor again",
+    "jump": lambda it: f"jump to position {it['to']}",
+    "run": lambda it: f"run, at most {counted(it['limit'], 'step')}",
+    "break": lambda it: f"set a breakpoint: {condition(it['when'])}",
+    "unbreak": lambda it: f"take breakpoint {it['id']} out",
+    "state": lambda it: "what is the state?",
+    "count": lambda it: f"how many records, requests and tokens are at {at(it['at'], it['time'])}?",
+    "before": lambda it: f"could something at {at(*it['from'])} result in something at {at(*it['to'])}?",
+    "view": lambda it: f"what does processor {it['q']} view?",
+    "frontier": frontier,
+    "passed": lambda it: f"has processor {it['q']} passed {at(it['at'], it['time'])}?",
+    "search": search,
+    "export": lambda it: "what are the kept steps?",
+    "why": why,
+    "changes": lambda it: f"when did processor {it['q']}'s view of {at(it['at'], it['time'])} change, from position {it['lo']} to {it['hi']}?",
+    "step": lambda it: f"which step leads to position {it['to']}?",
+    "candidates": lambda it: "which steps may be executed now, and what stands in the way of the others?",
+    "effect": lambda it: f"what did the step that leads to position {it['to']} change?",
+    "turns": turns,
+}
+
+
+def vertex_words(it):
+    number = f" {it['k']}" if "k" in it else ""
+    return f"{it['name']} ({it['op']}{number}{', depth ' + str(it['depth']) if it['depth'] else ''})"
+
+
+def edge_words(it):
+    port = f" port {it['port']}" if it["port"] else ""
+    return f"{it['name']} from {it['from']}{port} to {it['to']} ({it['route']})"
+
+
+def graph_words(graph):
+    """What a graph has, a sentence each for its vertices and its edges."""
+    vertices = ", ".join(map(vertex_words, graph["vertices"])) or "none"
+    edges = ", ".join(map(edge_words, graph["edges"])) or "none"
+    return [f"vertices: {vertices}", f"edges: {edges}"]
+
+
+def command_words(value):
+    """A line that the program has read, in words."""
+    return WORDS[value["do"]](value)
+
+
+def unread(text):
+    """A line that is no command, by its own text."""
+    shown_text = text.decode(errors="backslashreplace").strip()
+    cut = shown_text if len(shown_text) <= 70 else shown_text[:67] + "..."
+    return "".join(it if it.isprintable() and it.isascii() else shown(it)[1:-1] for it in cut)

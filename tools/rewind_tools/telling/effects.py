@@ -1,0 +1,50 @@
+"""What a step changed, in words: each entry of the reply to the query 'effect'."""
+from rewind_tools.telling.commands import at, counted, time_in
+
+
+def turned(old, new):
+    return f"from {old} to {new}"
+
+
+def token(it):
+    p, vertex, old, new = it
+    given_up = f"processor {p} gives up its token of {vertex}, which was at epoch {old}"
+    return given_up if new is None else f"processor {p}'s token of {vertex} goes from epoch {old} to {new}"
+
+
+def request(it):
+    p, vertex, time, _, new = it
+    there = at(vertex, time)
+    return f"processor {p} asks for a notice at {there}" if new else f"processor {p} asks for no notice at {there} any more"
+
+
+def item(it):
+    p, vertex, time, number, old, new = it
+    kept = f"{vertex} of processor {p} keeps {{}} for {number} at {time_in(time)}"
+    if new is None:
+        return f"{vertex} of processor {p} keeps nothing for {number} at {time_in(time)} any more; it was {old}"
+    return kept.format(new) + ("" if old is None else f" in place of {old}")
+
+
+def queue(it):
+    sender, receiver, old, new = it
+    word = "longer" if new > old else "shorter"
+    return f"the queue from processor {sender} to {receiver} gets {word}: {counted(old, 'change')}, then {new}"
+
+
+KINDS = {
+    "tokens": token,
+    "records": lambda it: f"records {it[3]} of processor {it[0]} at {at(*it[1:3])}: {turned(*it[4:])}",
+    "requests": request,
+    "items": item,
+    "sinks": lambda it: f"{it[1]} of processor {it[0]} has counted {it[2]}: {turned(*it[3:])}",
+    "unsent": lambda it: f"unsent of processor {it[0]} at {at(*it[1:3])}: {turned(*it[3:])}",
+    "queues": queue,
+    "views": lambda it: f"the view of processor {it[0]} at {at(*it[1:3])}: {turned(*it[3:])}",
+}
+
+
+def effect_words(changed):
+    """A sentence for each place that the step changed, the tokens, records and requests first."""
+    said = [words(it) for kind, words in KINDS.items() for it in changed[kind]]
+    return said or ["nothing"]

@@ -1,0 +1,192 @@
+"""What is wrong with a graph that the program has refused, by the number of its answer: where in the line, and what is right."""
+from rewind_tools.script import LAST
+from rewind_tools.telling import habits, values
+from rewind_tools.telling.forms import keys_faults, listed, nearest, value_faults
+from rewind_tools.telling.forms import SIGNED, SMALL
+from rewind_tools.telling.values import shown
+
+PLAIN = ("input", "ingress", "egress", "feedback", "sum", "distinct", "sink")
+NUMBERED = ("add", "mul", "below", "split")
+MOST = 64
+BEYOND = {"ingress": 1, "egress": -1}
+
+
+def name_fault(value):
+    if values.text(value):
+        return values.text(value)
+    if not 1 <= len(value.encode()) <= 32:
+        return f"has {len(value.encode())} bytes"
+    odd = next((it for it in value if not "!" <= it <= "~"), None)
+    return f"has {shown(odd)} in it" if odd else None
+
+
+NAME = ("a text of 1 to 32 bytes, each from ! to ~", name_fault)
+REFERRED = ("the name of a vertex, a text", values.text)
+OP = values.one_of(*PLAIN, *NUMBERED)
+ROUTE = values.one_of("local", "exchange")
+VERTEX = {"name": NAME, "op": OP, "depth": SMALL}
+EDGE = {"name": NAME, "from": REFERRED, "port": SMALL, "to": REFERRED, "route": ROUTE}
+ANY_LIST = values.list_of(lambda it: None)
+GRAPH = {"vertices": ("a list of vertices", ANY_LIST), "edges": ("a list of edges", ANY_LIST)}
+
+
+def deepest(version):
+    """The greatest depth in a script of a version."""
+    return 4 if version == 1 else 6
+
+
+def graph_first(version):
+    """Where a script of a version has its graph."""
+    place = "the first line" if version == 1 else "the first line after the version line"
+    return f'{place} must be the graph, as {{"vertices":[{{"name":"a","op":"input","depth":0}}],"edges":[]}}'
+
+
+def form_faults(value, version):
+    """What keeps a value in the graph's place from having a graph's form; that the graph comes first, if it has nothing of one."""
+    if isinstance(value, dict) and (has_version(value) or GRAPH.keys() & value.keys()):
+        return shape_faults(value)
+    if isinstance(value, dict) and "do" not in value:
+        return [graph_first(version), *shape_faults(value)]
+    word = value["do"] if isinstance(value, dict) else value
+    said = "commands and queries come after it" if isinstance(value, dict) else f"{shown(value)} {values.kind_of(value)}"
+    return [graph_first(version), said, *(habits.instead(word, version, False) if isinstance(word, str) else [])]
+
+
+def has_version(value):
+    return any(key.lower() == "version" for key in value)
+
+
+def shape_faults(graph):
+    """What keeps a value from having a graph's form: the faults of its keys, or those of its first wrong vertex or edge."""
+    if has_version(graph):
+        return [f'a version line is {{"version":N}} alone, N from 2 to {LAST}, as the first line, and the graph is the next']
+    faults = keys_faults(graph, GRAPH) + value_faults(graph, GRAPH)
+    if faults:
+        return faults
+    for key in GRAPH:
+        for at, it in enumerate(graph[key]):
+            faults = part_faults(it, key == "vertices")
+            if faults:
+                return [f"{part_shown(key, at, it)}: {wrong}" for wrong in faults]
+    return []
+
+
+def part_faults(value, is_vertex):
+    if not isinstance(value, dict):
+        return [f"it {values.kind_of(value)}, and is to be an object"]
+    form = form_of_vertex(value) if is_vertex else EDGE
+    return keys_faults(value, form) + value_faults(value, form) + (op_hint(value.get("op")) if is_vertex else [])
+
+
+def op_hint(op):
+    """The nearest op of a text that is none."""
+    is_wrong = isinstance(op, str) and op not in PLAIN + NUMBERED
+    near = nearest(op, PLAIN + NUMBERED) if is_wrong else None
+    return [f"the nearest op is {shown(near)}"] if near else []
+
+
+def form_of_vertex(value):
+    """The form of a vertex of this op; if the op is none, a number k may be there."""
+    op = value.get("op")
+    if op in PLAIN:
+        return VERTEX
+    is_there = op in NUMBERED or "k" in value
+    return {**VERTEX, "k": SIGNED} if is_there else VERTEX
+
+
+def part_shown(key, at, value):
+    name = value.get("name") if isinstance(value, dict) else None
+    return f"{key}[{at}]" + (f" ({name})" if name and not name_fault(name) else "")
+
+
+def double_names(graph):
+    """The names that two vertices or edges have."""
+    seen, faults = {}, []
+    for key in GRAPH:
+        for at, it in enumerate(graph[key]):
+            here = f"{key}[{at}]"
+            if it["name"] in seen:
+                faults.append(f"{shown(it['name'])} is the name of {seen[it['name']]} and of {here}")
+            seen.setdefault(it["name"], here)
+    return faults
+
+
+def unknown_names(graph):
+    """The ends of edges that are no vertices."""
+    vertices = [it["name"] for it in graph["vertices"]]
+    edges = [it["name"] for it in graph["edges"]]
+    faults = []
+    for edge in graph["edges"]:
+        for key in ("from", "to"):
+            if edge[key] not in vertices:
+                near = nearest(edge[key], vertices)
+                hint = f"; the nearest vertex is {shown(near)}" if near else f"; the vertices are {listed(map(shown, vertices))}"
+                what = "is an edge and no vertex" if edge[key] in edges else "is no vertex"
+                faults.append(f"the edge {shown(edge['name'])}: {shown(key)}:{shown(edge[key])} {what}{hint}")
+    return faults
+
+
+def bad_ports(graph):
+    """The edges that leave a vertex on a port that it has not, or enter an input."""
+    ops = {it["name"]: it["op"] for it in graph["vertices"]}
+    faults = []
+    for edge in graph["edges"]:
+        ports = {"sink": 0, "split": 2}.get(ops[edge["from"]], 1)
+        if edge["port"] >= ports:
+            has = ("no port", "port 0 alone", "the ports 0 and 1")[ports]
+            start = f"the edge {shown(edge['name'])} leaves the {ops[edge['from']]} {shown(edge['from'])}"
+            faults.append(f"{start} on port {edge['port']}, which has {has}")
+        if ops[edge["to"]] == "input":
+            faults.append(f"the edge {shown(edge['name'])} enters {shown(edge['to'])}, which is an input")
+    return faults
+
+
+def wrong_depths(graph):
+    """The vertices that cannot be at their depth, and the edges whose depth is not that of the vertex that they enter."""
+    vertices = {it["name"]: it for it in graph["vertices"]}
+    faults = []
+    for name, it in vertices.items():
+        if it["op"] == "input" and it["depth"] != 0:
+            faults.append(f"the input {shown(name)} is at depth {it['depth']}; inputs are at depth 0")
+        if it["op"] in ("egress", "feedback") and it["depth"] == 0:
+            faults.append(f"the {it['op']} {shown(name)} is at depth 0, where there is no loop")
+    for edge in graph["edges"]:
+        start, end = vertices[edge["from"]], vertices[edge["to"]]
+        depth = start["depth"] + BEYOND.get(start["op"], 0)
+        if depth != end["depth"]:
+            leaves = f"leaves the {start['op']} {shown(start['name'])} of depth {start['depth']} with depth {depth}"
+            enters = f"enters {shown(end['name'])}, which is at depth {end['depth']}"
+            faults.append(f"the edge {shown(edge['name'])} {leaves} and {enters}")
+    return faults
+
+
+def too_large(graph, version):
+    """What passes the limits of a version."""
+    count = len(graph["vertices"]) + len(graph["edges"])
+    faults = [f"there are {count} vertices and edges; at most {MOST} may be"] if count > MOST else []
+    most, later = deepest(version), "; in later versions at most 6" if version == 1 else ""
+    for it in graph["vertices"]:
+        if it["depth"] > most:
+            faults.append(f"{shown(it['name'])} is at depth {it['depth']}; at most {most} may be{later}")
+        elif it["depth"] == most and it["op"] == "ingress":
+            faults.append(f"the ingress {shown(it['name'])} is at depth {most}, the greatest, and enters a loop{later}")
+    return faults
+
+
+FAULTS = {41: double_names, 42: unknown_names, 43: bad_ports, 44: wrong_depths}
+
+
+def graph_faults(value, reply, version=1):
+    """What is wrong with a graph that was refused by this reply in a script of a version, each fault in words."""
+    if reply["code"] == 40:
+        return form_faults(value, version)
+    if reply["code"] == 45:
+        return too_large(value, version)
+    if reply["code"] == 48:
+        return ['a script of version 1 has at most 8 processors; with the first line {"version":2} there may be 16']
+    if "location" in reply:
+        place = shown(reply["location"])
+        walk = f"a walk from {place} comes back to {place} and does not move every time strictly on"
+        return [f"{walk}: no feedback is on it, or an egress on it drops again what was added"]
+    of_code = FAULTS.get(reply["code"])
+    return of_code(value) if of_code else []

@@ -1,0 +1,127 @@
+"""A state as a table of points by processors: the true count, and each processor's view and unsent change."""
+from rewind_tools.telling.commands import time_in
+
+WIDTH = 100
+LONG = 12
+NOTHING = "."
+
+
+class Points:
+    """The points of a state that stand anywhere, each with its true count and what each processor views and has unsent."""
+
+    def __init__(self, state, order):
+        self.processors = range(len(state["processors"]))
+        self.order = order
+        self.truth, self.cells = {}, {}
+        for p, it in enumerate(state["processors"]):
+            self.add_truth(it)
+            for kind in ("view", "unsent"):
+                for place, time, number in it[kind]:
+                    self.cells[place, tuple(time), kind, p] = number
+
+    def add_truth(self, processor):
+        """Adds a processor's records, requests and tokens to the true counts."""
+        there = [(place, time, number) for place, time, _, number in processor["records"]]
+        there += [(place, time, 1) for place, time in processor["requests"]]
+        there += [(place, [epoch], 1) for place, epoch in processor["tokens"]]
+        for place, time, number in there:
+            point = place, tuple(time)
+            self.truth[point] = self.truth.get(point, 0) + number
+
+    def all(self):
+        """The points, in the order of listing."""
+        points = set(self.truth) | {key[:2] for key in self.cells}
+        return sorted(points, key=self.place)
+
+    def place(self, point):
+        return self.order[point[0]], point[1]
+
+    def numbers(self, point):
+        """What stands at a point, by the columns of the table."""
+        views = {(kind, p): self.cells.get((*point, kind, p), 0) for kind in ("view", "unsent") for p in self.processors}
+        return {("truth", None): self.truth.get(point, 0), **views}
+
+
+def rows_of(now, before):
+    """The rows: a point, its numbers, and which of them changed. One that fell to nothing stands there once more."""
+    points = sorted({*now.all(), *(before.all() if before else [])}, key=now.place)
+    rows = []
+    for point in points:
+        numbers, old = now.numbers(point), before.numbers(point) if before else None
+        rows.append((point, numbers, {key for key, it in numbers.items() if old and old[key] != it}))
+    return rows
+
+
+def table(state, before, order, is_whole=False):
+    """The lines of a state's table: what differs from the state before has a '*', and a long table is cut to such rows.
+    'order' has a number for each place, 'before' is None at the start, and 'is_whole' keeps all rows."""
+    rows = rows_of(Points(state, order), Points(before, order) if before else None)
+    changed = [row for row in rows if row[2]]
+    is_cut = before is not None and len(rows) > LONG and not is_whole
+    shown = changed if is_cut else rows
+    if not shown:
+        return ["nothing is anywhere" if not rows else f"all {len(rows)} points as before"]
+    lines = []
+    for processors in blocks(shown, len(state["processors"])):
+        lines += block(shown, processors)
+    kept = len(rows) - len(changed)
+    return lines + ([f"and {kept} points as before"] if is_cut and kept else [])
+
+
+def cell(number, is_changed):
+    return (str(number) if number else NOTHING) + ("*" if is_changed else " ")
+
+
+def columns(rows, processors):
+    """The groups of columns; of each column its head and its cells."""
+    groups = [[("truth", ("truth", None))]]
+    for kind in ("view", "unsent"):
+        groups.append([(str(p), (kind, p)) for p in processors])
+        groups[-1][0] = (f"{kind} {processors[0]}", groups[-1][0][1])
+    return [[(head, [cell(row[1][key], key in row[2]) for row in rows]) for head, key in group] for group in groups]
+
+
+def block(rows, processors):
+    """The table's lines for some of the processors."""
+    names = ["point"] + [f"{place} {time_in(time)}" for (place, time), _, _ in rows]
+    lines = [[name.ljust(max(map(len, names)))] for name in names]
+    for group in columns(rows, processors):
+        texts = [[head + " ", *cells] for head, cells in group]
+        widths = [max(map(len, it)) for it in texts]
+        for at, line in enumerate(lines):
+            line.append(" ".join(it[at].rjust(width) for it, width in zip(texts, widths)))
+    return [" | ".join(line).rstrip() for line in lines]
+
+
+def blocks(rows, count):
+    """The processors in as few blocks as the width allows, in their order."""
+    left = list(range(count))
+    while left:
+        fitting = next((n for n in range(len(left), 1, -1) if width_of(block(rows, left[:n])) <= WIDTH - 4), 1)
+        yield left[:fitting]
+        left = left[fitting:]
+
+
+def width_of(lines):
+    return max(map(len, lines))
+
+
+def queues_and_sinks(state, before, is_whole=False):
+    """What is on its way, and what the sinks have counted if that differs from before, a sentence each if there is any."""
+    queues = [
+        f"{len(changes)} from {p} to {q}" for p, row in enumerate(state["queues"]) for q, changes in enumerate(row) if changes
+    ]
+    now, old = sink_counts(state), sink_counts(before) if before and not is_whole else {}
+    changed = {key: now.get(key, 0) for key in [*now, *old] if now.get(key) != old.get(key)}
+    sinks = [f"{vertex} {value}" + (f" ({number} times)" if number != 1 else "") for (vertex, value), number in changed.items()]
+    on_way = [f"changes on their way: {', '.join(queues)}"] if queues else []
+    return on_way + ([f"sinks have counted: {', '.join(sinks)}"] if sinks else [])
+
+
+def sink_counts(state):
+    """How often the sinks of all processors have counted each value."""
+    counts = {}
+    for it in state["processors"]:
+        for vertex, value, number in it["sinks"]:
+            counts[vertex, value] = counts.get((vertex, value), 0) + number
+    return counts
