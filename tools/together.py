@@ -1,16 +1,21 @@
 """The must-fail edits of a crate, tried together: one check of one copy with all of them.
 
-A function's proof rests on the contracts of what it calls and on no other body. So of bodies that are turned in different
-functions of one copy each is refused, or not, as it would be alone. An edit counts as refused only if the prover's line of a
-function that it changes gives a reason of its own, and names a place in that function or in its folder of answers, for its
-meaning: not a name that went, and not another function that is not proved. The check is asked for the edited functions alone, so
-that what stands above them is not read; and each other function of the copy has an empty proof and, unless a trait asks for it,
-a body that calls nothing, so that what stands below is not proved once more. An edit of a function that another edit changes is
-made in a function of its own: the same once more under another name, with its contract and its answers. What was not refused so
-is tried again with the rest, and at last alone, by the toolchain's own trial, over what the earlier checks of this run proved and
-then from nothing."""
+A function's proof rests on the contracts of what it calls and on no other body. So of bodies that are turned
+in different functions of one copy each is refused, or not, as it would be alone. An edit counts as refused
+only if the prover's line of a function that it changes gives a reason of its own, and names a place in that
+function or in its folder of answers, for its meaning: not a name that went, and not another function that is
+not proved. The check is asked for the edited functions alone, so that what stands above them is not read;
+and each other function of the copy has an empty proof and, unless a trait asks for it, a body that calls
+nothing, so that what stands below is not proved once more. An edit of a function that another edit changes
+is made in a function of its own: the same once more under another name, with its contract and its answers.
+If all that is said against a function is that its own proof files name what the edit took away, the edit is
+refused with the words that the toolchain has for that: its own trial, of the whole crate, reads the same
+files and refuses it for the same lines. What was not refused so is tried again with the rest, and at last
+alone, by the toolchain's own trial, over what the earlier checks of this run proved and then from
+nothing."""
 import collections
 import copy
+import functools
 import glob
 import os
 import re
@@ -21,13 +26,24 @@ import threading
 FUNCTION = re.compile(r"\s*(?:pub(?:\([^)]*\))?\s+)?(?:const\s+)?(?:unsafe\s+)?fn\s+(\w+)")
 TYPE = re.compile(r"^(?:pub(?:\([^)]*\))?\s+)?(?:struct|enum)\s+(\w+)", re.MULTILINE)
 # a proof file that names what an edit took away, and what cites a proof that another edit broke
-OF_NAMES = re.compile(r"(\./)?proofs/.*(has no field|is not in scope|has no `|was not admitted|was not checked)")
+OF_NAMES = re.compile(
+    r"(\./)?proofs/.*(has no field|is not in scope|has no `|was not admitted|was not checked)"
+)
+# a function's own proof file that names what an edit of it took away
+TAKEN_AWAY = re.compile(r"(\./)?proofs/.*(has no field|is not in scope|has no `)")
+# what the toolchain says of an edit that is refused so
+ONLY_NAMES = (
+    " (only because a proof file names what the edit took away, so this says little of the contract:"
+    " change a value and keep the names)"
+)
 # an error, or a goal that is left open
 AGAINST = re.compile(r"(?:\./)?\S+?:\d+:\d+: error|note: (?:\./)?\S+?:\d+:\d+: it is not proved that ")
 PLACE = re.compile(r"(?:note: )?(?:\./)?(\S+?):(\d+):\d+: ")
 VERDICT = re.compile(r"fn (\S+): (.*)")
-# what follows a function's name where it stands once more
+# what follows a function's name where it stands once more, as often as it does so
 AGAIN = "_again"
+# how often a function may stand once more
+MOST_AGAIN = 3
 
 # A function: its file, the last names that the prover has for it, its first line and its last.
 Function = collections.namedtuple("Function", "file names first last")
@@ -61,7 +77,8 @@ def without_angles(text):
 
 
 def short(path):
-    """The last name of a path, as the prover writes it: with a capital, without what stands between < and >."""
+    """The last name of a path, as the prover writes it: with a capital, without what stands between < and
+    >."""
     name = without_angles(path).strip().rpartition("::")[2]
     return name[:1].upper() + name[1:]
 
@@ -85,7 +102,8 @@ def given_to(path):
 
 
 def named(path, own):
-    """A type or a trait with what it is given, as the prover names it in an impl, without what the impl itself is given."""
+    """A type or a trait with what it is given, as the prover names it in an impl, without what the impl
+    itself is given."""
     if path == "()":
         return "Unit"
     if path.startswith("&"):
@@ -97,11 +115,18 @@ def named(path, own):
 
 
 def owner(lines, at):
-    """The type around a line, and after it the trait with what it is given, as the prover names an impl; none if there is no impl."""
+    """The type around a line, and after it the trait with what it is given, as the prover names an impl;
+    none if there is no impl."""
     first = next((i for i in range(at, -1, -1) if lines[i].startswith(("impl", "unsafe impl", "}"))), None)
     if first is None or lines[first].startswith("}"):
         return None
-    head = " ".join(lines[first : at + 1]).partition("{")[0].removeprefix("unsafe ").removeprefix("impl").strip()
+    head = (
+        " ".join(lines[first : at + 1])
+        .partition("{")[0]
+        .removeprefix("unsafe ")
+        .removeprefix("impl")
+        .strip()
+    )
     own = ""
     if head.startswith("<"):
         deep = 0
@@ -126,8 +151,14 @@ def function_at(file, source, at):
     first = top
     while first and re.match(r"\s*(#\[|///)", lines[first - 1]):
         first -= 1
-    around = owner(lines, top) if indent else file.removeprefix("src/").removesuffix(".rt").rpartition("/")[2]
-    names = FUNCTION.match(lines[top])[1] if around in ("lib", "main") else f"{around}::{FUNCTION.match(lines[top])[1]}"
+    around = (
+        owner(lines, top) if indent else file.removeprefix("src/").removesuffix(".rt").rpartition("/")[2]
+    )
+    names = (
+        FUNCTION.match(lines[top])[1]
+        if around in ("lib", "main")
+        else f"{around}::{FUNCTION.match(lines[top])[1]}"
+    )
     return Function(file, names, first + 1, last + 1) if last >= line and around else None
 
 
@@ -149,7 +180,9 @@ def made(edit, folder, texts):
 
 def of_trait(lines, function):
     """Whether the function is of an impl of a trait."""
-    around = next((it for it in reversed(lines[: function.first]) if it.startswith(("impl", "unsafe impl", "}"))), "")
+    around = next(
+        (it for it in reversed(lines[: function.first]) if it.startswith(("impl", "unsafe impl", "}"))), ""
+    )
     return lines[function.last - 1].startswith(" ") and " for " in around
 
 
@@ -161,35 +194,38 @@ def impl_around(lines, function):
     return lines[first : next(it for it in range(first, function.first) if lines[it].endswith("{")) + 1]
 
 
-def again(edit, folder, texts):
-    """The functions that an edit changes, each once more under another name at the end of its file, and the texts with them; or
-    nothing, if one of them is of an impl of a trait or of a ring of calls."""
+def again(edit, folder, texts, ending):
+    """The function that an edit changes, once more at the end of its file under its name with this ending,
+    and the texts with it; or nothing, if it is of an impl of a trait or of a ring of calls, or if there are
+    several: these call one another by their names, and their answers know no others."""
     functions, changed = made(edit, folder, {})
-    names = {it.names.rpartition("::")[2] for it in functions or ()}
-    texts, found = dict(texts), set()
-    for function in functions or ():
-        lines = changed[function.file].split("\n")
-        own = "\n".join(lines[function.first - 1 : function.last])
-        if of_trait(lines, function) or "#[cycle" in own:
-            return None, None
-        # its own name in its head, and those of the others where they are called
-        for name in names:
-            own = re.sub(rf"\bfn {name}\b|(?<![.:\w]){name}(?=\()", rf"\g<0>{AGAIN}", own)
-        around = impl_around(lines, function)
-        if function.file not in texts:
-            with open(f"{folder}/{function.file}", encoding="utf-8") as it:
-                texts[function.file] = it.read()
-        first = texts[function.file].count("\n") + 2 + len(around)
-        texts[function.file] += "\n".join(["", *around, own, *["}"] * bool(around), ""])
-        found.add(Function(function.file, function.names + AGAIN, first, first + function.last - function.first))
-    return found, texts
+    if not functions or len(functions) > 1:
+        return None, None
+    (function,), texts = functions, dict(texts)
+    lines = changed[function.file].split("\n")
+    own = "\n".join(lines[function.first - 1 : function.last])
+    if of_trait(lines, function) or "#[cycle" in own:
+        return None, None
+    own = re.sub(rf"\bfn {function.names.rpartition('::')[2]}\b", rf"\g<0>{ending}", own)
+    around = impl_around(lines, function)
+    if function.file not in texts:
+        with open(f"{folder}/{function.file}", encoding="utf-8") as it:
+            texts[function.file] = it.read()
+    first = texts[function.file].count("\n") + 2 + len(around)
+    texts[function.file] += "\n".join(["", *around, own, *["}"] * bool(around), ""])
+    return {
+        Function(function.file, function.names + ending, first, first + function.last - function.first)
+    }, texts
 
 
 def chosen(folder, left):
-    """Those edits that change different functions, each with its functions, and the texts with all of them. An edit that changes a
-    function which another changes gets a function of its own, with the same contract and the same proof."""
+    """Those edits that change different functions, each with its functions, and the texts with all of them.
+    An edit that changes a function which another changes gets a function of its own, with the same contract
+    and the same proof."""
     taken, found, texts = set(), {}, {}
-    for make in made, again:
+    for make in made, *(
+        functools.partial(again, ending=AGAIN * times) for times in range(1, MOST_AGAIN + 1)
+    ):
         for edit in left:
             functions, more = make(edit, folder, texts) if edit not in found else (None, None)
             names = {(it.file, it.names) for it in functions or ()}
@@ -231,8 +267,8 @@ def module_of(file):
 
 
 def functions_of(folder):
-    """The functions of a crate that have a proof of their own, each with its folder, which stands under the module of its type: not
-    those that call one another, nor those that take a value apart."""
+    """The functions of a crate that have a proof of their own, each with its folder, which stands under the
+    module of its type: not those that call one another, nor those that take a value apart."""
     sources = {}
     for path in glob.glob(f"{folder}/src/**/*.rt", recursive=True):
         with open(path, encoding="utf-8") as it:
@@ -242,7 +278,11 @@ def functions_of(folder):
         place = 0
         for line in source.split("\n"):
             at = function_at(file, source, place) if FUNCTION.match(line) else None
-            if at and not at.names.endswith("Drop::drop") and "#[cycle" not in "\n".join(source.split("\n")[at.first - 1 : at.last]):
+            if (
+                at
+                and not at.names.endswith("Drop::drop")
+                and "#[cycle" not in "\n".join(source.split("\n")[at.first - 1 : at.last])
+            ):
                 owner, _, name = at.names.rpartition("::")
                 owner = owner if line.startswith(" ") else ""
                 yield at, "/".join(filter(None, ["proofs", types.get(owner, module_of(file)), owner, name]))
@@ -250,11 +290,16 @@ def functions_of(folder):
 
 
 def without_body(lines, function):
-    """The lines with a body that calls nothing in place of the function's, on as many lines; as they are where the body cannot be told."""
+    """The lines with a body that calls nothing in place of the function's, on as many lines; as they are
+    where the body cannot be told."""
     indent = re.match(" *", lines[function.last - 1])[0]
     head = next(it for it in range(function.first - 1, function.last) if FUNCTION.match(lines[it]))
     begins = [it for it in range(head, function.last) if lines[it] == indent + "{"]
-    begins = begins or [it for it in range(head, function.last) if lines[it].startswith((indent + "fn ", indent + "pub", indent + ")")) and lines[it].endswith(" {")]
+    begins = begins or [
+        it
+        for it in range(head, function.last)
+        if lines[it].startswith((indent + "fn ", indent + "pub", indent + ")")) and lines[it].endswith(" {")
+    ]
     first, last = (begins or [function.last])[0] + 1, function.last - 1
     if "const fn" in lines[head] or first >= last:
         return lines
@@ -265,20 +310,21 @@ def give_proofs_again(crate, edited, room):
     """Gives each function that stands once more in the copy the proof of the one that it is made of."""
     proofs = {(at.file, at.names): proof for at, proof in functions_of(crate.folder)}
     for function in edited:
-        proof = proofs.get((function.file, function.names.removesuffix(AGAIN)), "")
-        if function.names.endswith(AGAIN) and os.path.isdir(f"{room}/{proof}"):
-            shutil.copytree(f"{room}/{proof}", f"{room}/{proof}{AGAIN}")
+        name, ending = re.fullmatch(rf"(.*?)((?:{AGAIN})*)", function.names).groups()
+        proof = proofs.get((function.file, name), "")
+        if ending and os.path.isdir(f"{room}/{proof}"):
+            shutil.copytree(f"{room}/{proof}", f"{room}/{proof}{ending}")
             path = proof.replace("/", ".")
-            for file in glob.glob(f"{glob.escape(f'{room}/{proof}{AGAIN}')}/*.antt"):
+            for file in glob.glob(f"{glob.escape(f'{room}/{proof}{ending}')}/*.antt"):
                 with open(file, encoding="utf-8") as it:
                     text = it.read()
                 with open(file, "w", encoding="utf-8") as it:
-                    it.write(text.replace(f"{path}.", f"{path}{AGAIN}."))
+                    it.write(text.replace(f"{path}.", f"{path}{ending}."))
 
 
 def alone(crate, edited, texts, room):
-    """A copy of the crate in the room with these texts, where each function that is not edited has an empty proof and calls nothing,
-    and the texts that it has then."""
+    """A copy of the crate in the room with these texts, where each function that is not edited has an empty
+    proof and calls nothing, and the texts that it has then."""
     for part in ("src", "specs", "proofs"):
         if os.path.isdir(f"{crate.folder}/{part}"):
             shutil.copytree(f"{crate.folder}/{part}", f"{room}/{part}")
@@ -302,7 +348,8 @@ def alone(crate, edited, texts, room):
 
 
 def refused_together(rt, crate, edits, texts, flags, kept):
-    """What one check with all these edits says against each that it refuses, and the edits that keep it from judging.
+    """What one check with all these edits says against each that it refuses, and the edits that keep it from
+    judging. What is said only of names that an edit took away has the toolchain's words for that before it.
 
     The check is asked for the edited functions alone, and proves none that they call."""
     only = [word for functions in edits.values() for it in functions for word in ("--only", it.names)]
@@ -310,33 +357,53 @@ def refused_together(rt, crate, edits, texts, flags, kept):
         copied, texts = alone(crate, [it for functions in edits.values() for it in functions], texts, room)
         ran = rt.checked(copied, texts, [*flags, *only], kept)
     lines = ran.stdout.rstrip("\n").split("\n")
-    is_judged = ran.returncode == 1 and lines[-1].startswith("only=") and not rt.rtlib.STALE.search(ran.stdout)
+    is_judged = (
+        ran.returncode == 1 and lines[-1].startswith("only=") and not rt.rtlib.STALE.search(ran.stdout)
+    )
     unread = [it for it in lines if (rt.unread(it, texts) if is_judged else ": error" in it)]
     nowhere = set(re.findall(r"has no function `([^`]+)`", ran.stdout)) if not is_judged else set()
     if unread or not is_judged:
-        is_barred = lambda at: at.names in nowhere or any(is_in(line, at) for line in unread)
+
+        def is_barred(at):
+            return at.names in nowhere or any(is_in(line, at) for line in unread)
+
         return {}, [it for it, functions in edits.items() if any(map(is_barred, functions))]
     verdicts = dict(it.groups() for it in map(VERDICT.match, lines) if it)
-    told = [it for it in whole(lines) if AGAINST.match(it) and not OF_NAMES.match(it)]
-    said = {it: [reason(verdicts, told, at) for at in functions] for it, functions in edits.items()}
-    found = {it: next(filter(None, why), None) for it, why in said.items()}
-    return {it: why for it, why in found.items() if why}, []
+    told = [it for it in whole(lines) if AGAINST.match(it)]
+
+    def against(it, told):
+        return next(filter(None, [reason(verdicts, told, at) for at in edits[it]]), None)
+
+    found = {it: against(it, [line for line in told if not OF_NAMES.match(line)]) for it in edits}
+    names = {
+        it: against(it, [line for line in told if TAKEN_AWAY.match(line)])
+        for it, why in found.items()
+        if not why
+    }
+    return {it: f": {why[:160]}" for it, why in found.items() if why} | {
+        it: f"{ONLY_NAMES}: {why[:160]}" for it, why in names.items() if why
+    }, []
 
 
 def must_fail_all(rt, crate, edits, flags, is_settled, refusal):
-    """For each edit what a try of the crate with it comes to, and what to say, as the toolchain's own trial of one edit; that
-    trial's word for a refusal is handed in, and whether a word of its ends the matter."""
+    """For each edit what a try of the crate with it comes to, and what to say, as the toolchain's own trial
+    of one edit; that trial's word for a refusal is handed in, and whether a word of its ends the matter."""
     left, refused = [it for it in edits if not rt.read_edit(it, crate.folder)[1]], {}
     with tempfile.TemporaryDirectory(prefix="rt-together-") as kept:
         while left:
             together, texts = chosen(crate.folder, left)
-            said, barred = refused_together(rt, crate, together, texts, flags, kept) if together else ({}, [])
+            said, barred = (
+                refused_together(rt, crate, together, texts, flags, kept) if together else ({}, [])
+            )
             if not said and not barred:
                 break
             refused.update(said)
             left = [it for it in left if it not in said and it not in barred]
         label = f"must-fail {crate.name}/"
-        given = {it: (refusal, f"{label}{os.path.basename(it)}: refused, as it must be: {why[:160]}") for it, why in refused.items()}
+        given = {
+            it: (refusal, f"{label}{os.path.basename(it)}: refused, as it must be{why}")
+            for it, why in refused.items()
+        }
         for edit in [it for it in edits if it not in refused]:
             given[edit] = rt.must_fail(crate, edit, flags, kept)
             if not is_settled(given[edit][0]):
@@ -345,8 +412,9 @@ def must_fail_all(rt, crate, edits, flags, is_settled, refusal):
 
 
 def add_edits(rt, tasks, crate, edits, first, waits, is_well, kept, start=None, in_ci=True):
-    """Adds the task that tries a crate's edits, and returns what gives their results, in the edits' order, and what gives those of
-    earlier runs, by the edits' numbers; in place of the toolchain's function of this name, which adds a task for each edit."""
+    """Adds the task that tries a crate's edits, and returns what gives their results, in the edits' order,
+    and what gives those of earlier runs, by the edits' numbers; in place of the toolchain's function of this
+    name, which adds a task for each edit."""
     key, alone, begun = (crate.name, "edits"), threading.Lock(), {}
 
     def known():
@@ -363,7 +431,9 @@ def add_edits(rt, tasks, crate, edits, first, waits, is_well, kept, start=None, 
             return None
         left = [number for number in range(len(edits)) if number not in known()]
         chosen = [edits[it] for it in left]
-        tried = dict(zip(left, must_fail_all(rt, crate, chosen, ["--jobs", "1"], rt.SETTLED.__contains__, rt.REFUSED)))
+        tried = dict(
+            zip(left, must_fail_all(rt, crate, chosen, ["--jobs", "1"], rt.SETTLED.__contains__, rt.REFUSED))
+        )
         read = [crate] if in_ci else [crate, *crate.below()]
         for number, (kind, text) in tried.items():
             if kind in rt.SETTLED and all(kept.is_untouched(it) for it in read):

@@ -14,7 +14,14 @@ import urllib.error
 import urllib.request
 
 ELEMENT = "element-6066-11e4-a52e-4f735466cecf"
-KEYS = {"left": "\ue012", "right": "\ue014", "home": "\ue011", "end": "\ue010", "enter": "\ue007", "tab": "\ue004"}
+KEYS = {
+    "left": "\ue012",
+    "right": "\ue014",
+    "home": "\ue011",
+    "end": "\ue010",
+    "enter": "\ue007",
+    "tab": "\ue004",
+}
 PATIENCE = 20
 
 
@@ -37,12 +44,26 @@ class Browser:
     def __enter__(self):
         self.base = f"http://127.0.0.1:{free_port()}"
         port = self.base.rsplit(":", 1)[1]
-        self.driver = subprocess.Popen(["chromedriver", f"--port={port}"], stdout=subprocess.DEVNULL, stderr=subprocess.DEVNULL)
+        self.driver = subprocess.Popen(
+            ["chromedriver", f"--port={port}"], stdout=subprocess.DEVNULL, stderr=subprocess.DEVNULL
+        )
         self.wait(self.is_ready, "the driver")
-        args = ["--headless=new", "--no-sandbox", "--disable-gpu", f"--window-size={self.width},{self.height}", "--disable-dev-shm-usage"]
+        args = [
+            "--headless=new",
+            "--no-sandbox",
+            "--disable-gpu",
+            f"--window-size={self.width},{self.height}",
+            "--disable-dev-shm-usage",
+        ]
         if self.is_dark:
             args.append("--blink-settings=preferredColorScheme=0")
-        options = {"browserName": "chrome", "goog:chromeOptions": {"args": args, "binary": shutil.which("chromium") or shutil.which("google-chrome")}}
+        options = {
+            "browserName": "chrome",
+            "goog:chromeOptions": {
+                "args": args,
+                "binary": shutil.which("chromium") or shutil.which("google-chrome"),
+            },
+        }
         self.session = self.send("POST", "/session", {"capabilities": {"alwaysMatch": options}})["sessionId"]
         return self
 
@@ -61,7 +82,9 @@ class Browser:
 
     def send(self, method, path, value=None):
         data = None if value is None and method != "POST" else json.dumps(value or {}).encode()
-        asked = urllib.request.Request(self.base + path, data, {"Content-Type": "application/json"}, method=method)
+        asked = urllib.request.Request(
+            self.base + path, data, {"Content-Type": "application/json"}, method=method
+        )
         try:
             with urllib.request.urlopen(asked, timeout=60) as answer:
                 return json.load(answer)["value"]
@@ -95,6 +118,23 @@ class Browser:
         found = self.of_session("POST", "/elements", {"using": "css selector", "value": selector})
         return next((it[ELEMENT] for it in found if part in self.text(it[ELEMENT])), None)
 
+    def click_text(self, selector, part):
+        """Clicks the first element of a selector that has a part in its text, as soon as it is there. The
+        page may draw it anew between the look and the click, so a stale one is looked for again."""
+
+        def clicks():
+            try:
+                element = self.find_text(selector, part)
+                if element:
+                    self.click(element)
+                return element
+            except AssertionError as fault:
+                if "stale element" not in str(fault):
+                    raise
+                return None
+
+        self.wait(clicks, part)
+
     def text(self, element):
         return self.of_session("GET", f"/element/{element}/text")
 
@@ -103,7 +143,9 @@ class Browser:
 
     def press(self, *keys):
         """Presses keys, each by its name or as it is."""
-        actions = [{"type": kind, "value": KEYS.get(key, key)} for key in keys for kind in ("keyDown", "keyUp")]
+        actions = [
+            {"type": kind, "value": KEYS.get(key, key)} for key in keys for kind in ("keyDown", "keyUp")
+        ]
         self.of_session("POST", "/actions", {"actions": [{"type": "key", "id": "keys", "actions": actions}]})
 
     def new_tab(self):

@@ -1,4 +1,5 @@
-"""Lays out a graph in layers by the depth of walks, loops included; the same graph gives the same numbers everywhere.
+"""Lays out a graph in layers by the depth of walks, loops included; the same graph gives the same numbers
+everywhere.
 
     drawn = layout({"a": (60, 30), ..}, [Edge("az", "a", "z", (40, 20)), ..])
     drawn.width, drawn.height      the size of the drawing, from (0, 0)
@@ -6,8 +7,9 @@
     drawn.labels["az"]             the middle of an edge's label, if the edge has one
     drawn.paths["az"]              the edge as the points of cubic curves, as SVG's 'M' and 'C' take them
 
-Layers go from left to right, or downwards if 'down' is set. An edge that closes a loop goes against that direction. An
-edge's label is laid out as a node of its own, in a layer between, so no two labels meet; the edge passes below it."""
+Layers go from left to right, or downwards if 'down' is set. An edge that closes a loop goes against that
+direction. An edge's label is laid out as a node of its own, in a layer between, so no two labels meet; the
+edge passes below it."""
 from typing import NamedTuple
 
 SWEEPS = 24
@@ -55,7 +57,11 @@ def closing_edges(nodes, edges):
 def layers_of(nodes, edges, closing):
     """The layer of each node: the length of the longest walk to it, edges that close loops turned round."""
     step = 2 if any(it.label for it in edges) else 1
-    ahead = [(it.end, it.start) if it.name in closing else (it.start, it.end) for it in edges if it.start != it.end]
+    ahead = [
+        (it.end, it.start) if it.name in closing else (it.start, it.end)
+        for it in edges
+        if it.start != it.end
+    ]
     layers = {node: 0 for node in nodes}
     for _ in nodes:
         for start, end in ahead:
@@ -72,7 +78,8 @@ class Chain(NamedTuple):
 
 
 class Room:
-    """The nodes of a layout with those that edges pass through: each has a layer, a width along it and a height across."""
+    """The nodes of a layout with those that edges pass through: each has a layer, a width along it and a
+    height across."""
 
     def __init__(self, sizes, edges, down):
         self.down = down
@@ -127,19 +134,31 @@ def crossings(room, columns):
     place = {node: at for column in columns for at, node in enumerate(column)}
     total = 0
     for column in columns:
-        pairs = [(place[it], place[to]) for it in column for to in room.neighbours[it] if room.layer[to] == room.layer[it] + 1]
+        pairs = [
+            (place[it], place[to])
+            for it in column
+            for to in room.neighbours[it]
+            if room.layer[to] == room.layer[it] + 1
+        ]
         total += sum((a - c) * (b - d) < 0 for at, (a, b) in enumerate(pairs) for c, d in pairs[:at])
     return total
 
 
 def ordered(room):
-    """The columns in an order with few crossings: each node by the mean of its neighbours, back and forth."""
+    """The columns in an order with few crossings: each node by the mean of its neighbours, back and
+    forth."""
     columns = room.columns()
     best, fewest = [list(it) for it in columns], crossings(room, columns)
     for sweep in range(SWEEPS):
         ahead = sweep % 2 == 0
         for at in range(len(columns)) if ahead else reversed(range(len(columns))):
-            beside = columns[at - 1] if ahead and at else columns[at + 1] if not ahead and at + 1 < len(columns) else []
+            beside = (
+                columns[at - 1]
+                if ahead and at
+                else columns[at + 1]
+                if not ahead and at + 1 < len(columns)
+                else []
+            )
             place = {node: index for index, node in enumerate(beside)}
             own = {node: index for index, node in enumerate(columns[at])}
 
@@ -155,7 +174,8 @@ def ordered(room):
 
 
 def spread(wishes, weights, gaps):
-    """The numbers nearest to the wishes, by weighted squares, in which each is at least a gap behind the one before."""
+    """The numbers nearest to the wishes, by weighted squares, in which each is at least a gap behind the one
+    before."""
     offsets = [0.0]
     for gap in gaps:
         offsets.append(offsets[-1] + gap)
@@ -185,7 +205,10 @@ def across(room, columns, gap):
         for column, between in order if sweep % 2 == 0 else reversed(order):
             wishes, weights = [], []
             for node in column:
-                near = [(pull(room, node, it), where[it] + below[it] - below[node]) for it in room.neighbours[node]]
+                near = [
+                    (pull(room, node, it), where[it] + below[it] - below[node])
+                    for it in room.neighbours[node]
+                ]
                 near = near or [(1, where[node])]
                 weights.append(sum(weight for weight, _ in near))
                 wishes.append(sum(weight * it for weight, it in near) / weights[-1])
@@ -247,7 +270,9 @@ def layout(sizes, edges, gap=24, layer_gap=28, down=False):
 
     nodes = {node: middle(node) for node in sizes}
     labels = {name: middle(stop) for name, stop in room.label_of.items()}
-    paths = {it.edge.name: [tidy(flip(*point)) for point in path_of(room, it, where, spans)] for it in room.chains}
+    paths = {
+        it.edge.name: [tidy(flip(*point)) for point in path_of(room, it, where, spans)] for it in room.chains
+    }
     for at, it in enumerate(room.loops):
         count = sum(other.start == it.start for other in room.loops[: at + 1])
         (x, y), (_, high) = nodes[it.start], sizes[it.start]

@@ -30,14 +30,21 @@ OWN = {
 MEANS = {"back": "undo N steps, 1 if not given", "redo": "execute N undone steps again, 1 if not given"}
 KINDS = {
     "feed": "give values to an input", "take": "consume a record; alone, the first that is enabled",
-    "notice": "deliver a notification; alone, the first that is enabled", "run": f"execute at most N steps, {LIMIT} if not given",
+    "notice": "deliver a notification; alone, the first that is enabled",
+    "run": f"execute at most N steps, {LIMIT} if not given",
     "broadcast": "send progress updates; alone, the first that is enabled", "jump": "go to position N",
-    "receive": "receive the first update of a queue; alone, the first that is enabled", "break": "set a breakpoint",
-    "unbreak": "remove a breakpoint", "state": "the complete state", "why": "why a processor does not consider a time finished",
-    "turns": "where a condition begins and ceases to hold", "search": "the first position at which a condition holds",
-    "frontier": "the frontier of a view, or the times that can still arrive", "passed": "whether a view has passed a time",
-    "changes": "when a view changed", "step": "the step that leads to position N", "export": "the kept steps",
-    "candidates": "as 'can'", "effect": "as 'changed'", "view": "a processor's view", "count": "what is really at a time",
+    "receive": "receive the first update of a queue; alone, the first that is enabled",
+    "break": "set a breakpoint",
+    "unbreak": "remove a breakpoint", "state": "the complete state",
+    "why": "why a processor does not consider a time finished",
+    "turns": "where a condition begins and ceases to hold",
+    "search": "the first position at which a condition holds",
+    "frontier": "the frontier of a view, or the times that can still arrive",
+    "passed": "whether a view has passed a time",
+    "changes": "when a view changed", "step": "the step that leads to position N",
+    "export": "the kept steps",
+    "candidates": "as 'can'", "effect": "as 'changed'", "view": "a processor's view",
+    "count": "what is really at a time",
     "before": "whether one point could result in another",
 }  # fmt: skip
 
@@ -47,7 +54,8 @@ class Done(Exception):
 
 
 class Prompt:
-    """A session with what its prompt has to remember: the cursor, the kept steps, the last list of candidates."""
+    """A session with what its prompt has to remember: the cursor, the kept steps, the last list of
+    candidates."""
 
     def __init__(self, session, say, is_raw=False):
         self.session, self.say, self.is_raw = session, say, is_raw
@@ -104,11 +112,16 @@ class Prompt:
         if "line" in reply and "error" in reply:
             text = json.dumps(value).encode()
             return faults.faulty(reply, faults.line_faults(text, reply, self.teller))
-        state = self.session.ask({"do": "state"})["state"] if "error" in reply and value["do"] in STEPS else None
+        state = (
+            self.session.ask({"do": "state"})["state"] if "error" in reply and value["do"] in STEPS else None
+        )
         return self.teller.told(value, reply, state)
 
     def show_state(self, state):
-        for line in [*table(state, None, self.teller.graph.order, True), *queues_and_sinks(state, None, True)]:
+        for line in [
+            *table(state, None, self.teller.graph.order, True),
+            *queues_and_sinks(state, None, True),
+        ]:
             self.say(line)
 
     def first_of(self, kind):
@@ -138,7 +151,9 @@ class Prompt:
         candidates = self.candidates()
         number = int(rest[0]) if len(rest) == 1 and rest[0].isdigit() else -1
         if not 0 <= number < len(candidates):
-            raise NotTyped(f"do needs the number of a step from the list of 'can', 0 to {len(candidates) - 1}")
+            raise NotTyped(
+                f"do needs the number of a step from the list of 'can', 0 to {len(candidates) - 1}"
+            )
         return self.ask(candidates[number]["step"])
 
     def own_next(self, rest):
@@ -148,7 +163,9 @@ class Prompt:
         return self.ask({"do": "jump", "to": max(0, self.at - self.count(rest))} if rest else {"do": "back"})
 
     def own_redo(self, rest):
-        return self.ask({"do": "jump", "to": min(self.kept, self.at + self.count(rest))} if rest else {"do": "redo"})
+        return self.ask(
+            {"do": "jump", "to": min(self.kept, self.at + self.count(rest))} if rest else {"do": "redo"}
+        )
 
     def count(self, rest):
         if len(rest) > 1 or (rest and not rest[0].isdigit()):
@@ -158,7 +175,9 @@ class Prompt:
     def own_until(self, rest):
         """Runs until a condition holds, by a breakpoint that is removed afterwards."""
         line = line_of(["break", *rest])
-        if self.session.ask({"do": "turns", "when": line["when"], "lo": self.at, "hi": self.at}).get("at_lo"):
+        if self.session.ask({"do": "turns", "when": line["when"], "lo": self.at, "hi": self.at}).get(
+            "at_lo"
+        ):
             return self.say(f"it holds already at position {self.at}")
         made = self.session.ask(line)
         if "id" not in made:
@@ -177,7 +196,11 @@ class Prompt:
         reply = self.session.ask({"do": "effect", "to": position})
         if self.is_raw:
             return self.say(json.dumps(reply, separators=(",", ":"), ensure_ascii=False))
-        sentences = effect_words(reply["changed"]) if "changed" in reply else self.answer({"do": "effect", "to": position}, reply)
+        sentences = (
+            effect_words(reply["changed"])
+            if "changed" in reply
+            else self.answer({"do": "effect", "to": position}, reply)
+        )
         for sentence in sentences:
             self.say(f"  {sentence.replace(FIRM, ' ')}")
         return None
@@ -191,7 +214,9 @@ class Prompt:
         with open(rest[0], "rb") as it:
             _, commands, left_out = read_script(it.read())
         refused = self.execute(commands)
-        self.say(f"{len(commands)} commands executed, {refused} of them refused; {left_out} other lines left out")
+        self.say(
+            f"{len(commands)} commands executed, {refused} of them refused; {left_out} other lines left out"
+        )
         self.own_where([])
 
     def execute(self, commands):
@@ -222,7 +247,10 @@ class Prompt:
         self.say("The prompt's own:")
         for word, (form, meaning) in OWN.items():
             self.say(f"  {word} {form}".ljust(46) + meaning)
-        return self.say("A TIME is its numbers with commas, as 0 or 0,1. A line that begins with { is a script's line; # begins a comment.")
+        return self.say(
+            "A TIME is its numbers with commas, as 0 or 0,1. A line that begins with { is a script's line; #"
+            " begins a comment."
+        )
 
     def help_of(self, word):
         if word in OWN:
@@ -247,7 +275,11 @@ def completions(prompt, before, part):
         return sorted(it for it in {*FORMS, *OWN} if it.startswith(part))
     graph = prompt.teller.graph
     word = before.split()[0]
-    known = [*graph.order, *(["next", "close", "stay"] if word == "feed" else []), *(["before"] if word == "why" else [])]
+    known = [
+        *graph.order,
+        *(["next", "close", "stay"] if word == "feed" else []),
+        *(["before"] if word == "why" else []),
+    ]
     if word in ("until", "break", "search", "turns"):
         known += ["passed", "count", "queue", "sink", "finished", "view", "not", "and", "or"]
     return sorted(it for it in known if it.startswith(part))

@@ -6,23 +6,25 @@
     told.version              the version that the script's first line tells, else 1
     told.status, told.error   the program's exit status, and what it wrote to standard error
     told.entries              an Entry a reply, in the order of the replies, the graph's first:
-        entry.line            the Line that it answers: line.number from 1, line.text as bytes without its newline,
-                              line.value as JSON, None if it is none
+        entry.line            the Line that it answers: line.number from 1, line.text as bytes without its
+                              newline, line.value as JSON, None if it is none
         entry.reply           the reply as the program gives it to the script alone
         entry.client          with several clients whose command it was, else None
         entry.answers         the replies to the queries that were put in after it; [] if none could be
         entry.state           of those replies the state after the line, or None
 
-The queries are '{"do":"state"}' alone if no others are given, and change nothing; lines before the graph's, a version line or
-others whose reply counts no locations, are followed by none. A callable gives the queries after each line, by its number from
-0 among those that are not blank. They move the lines that follow, so a faulty line's number is put back.
-If the program does not answer all of that with status 0 (queries are not allowed with several clients, a graph may be
-refused), the script runs alone as well: its replies and status are those given, and entries have answers up to the first
-reply in which the two runs differ.
+The queries are '{"do":"state"}' alone if no others are given, and change nothing; lines before the graph's,
+a version line or others whose reply counts no locations, are followed by none. A callable gives the queries
+after each line, by its number from 0 among those that are not blank. They move the lines that follow, so a
+faulty line's number is put back. If the program does not answer all of that with status 0 (queries are not
+allowed with several clients, a graph may be refused), the script runs alone as well: its replies and status
+are those given, and entries have answers up to the first reply in which the two runs differ.
 
-The program is ./rewind, or what REWIND_PROGRAM names in the environment, as the tests do to run the built one alone.
+The program is ./rewind, or what REWIND_PROGRAM names in the environment, as the tests do to run the built
+one alone.
 
-    answers_after(script, 7, ['{"do":"back"}'], words)      the replies to lines that follow the line 7 of a copy"""
+    answers_after(script, 7, ['{"do":"back"}'], words)      the replies to lines that follow the line 7 of a
+                                                            copy"""
 import json
 import os
 import subprocess
@@ -65,6 +67,15 @@ class Run(NamedTuple):
     output: bytes
 
 
+def without_clients(words):
+    """The program's words without the number of clients, for a copy that one client drives."""
+    return [
+        it
+        for at, it in enumerate(words)
+        if "--clients" not in (it.split("=")[0], words[at - 1] if at else "")
+    ]
+
+
 def json_of(text):
     """The JSON value of a text, or None if Python reads none."""
     try:
@@ -105,7 +116,8 @@ def replies_of(output):
 
 
 def graph_of(lines, entries):
-    """The graph's value: that of the line whose reply counts locations; if none does, of the first with vertices."""
+    """The graph's value: that of the line whose reply counts locations; if none does, of the first with
+    vertices."""
     read = [it.line for it in entries if "locations" in it.reply and it.line]
     values = [it.value for it in read or lines[:2]]
     return next((it for it in values if isinstance(it, dict) and (read or "vertices" in it)), None)
@@ -142,10 +154,13 @@ def with_line(reply, number):
 
 
 def entries_asked(lines, queries, before, words):
-    """The entries of a run with the queries after each line but so many before the graph's, and how the program ended."""
+    """The entries of a run with the queries after each line but so many before the graph's, and how the
+    program ended."""
     given, widths = [], []
     for at, line in enumerate(lines):
-        put_in = [] if at < before else [it.encode() for it in (queries(at) if callable(queries) else queries)]
+        put_in = (
+            [] if at < before else [it.encode() for it in (queries(at) if callable(queries) else queries)]
+        )
         given += [line.text, *put_in]
         widths.append(1 + len(put_in))
     status, output, error = run_bytes(b"".join(it + b"\n" for it in given), words)
@@ -179,7 +194,8 @@ def run_script(script, words=(), queries=(STATE,)):
 
 
 def answers_after(script, number, texts, words=()):
-    """The replies to lines that are given to a copy of the script after its line of that number, in place of the rest."""
+    """The replies to lines that are given to a copy of the script after its line of that number, in place of
+    the rest."""
     lines = [it for it in lines_of(script) if it.number <= number]
     given = [it.text for it in lines] + [it.encode() for it in texts]
     _, output, _ = run_bytes(b"".join(it + b"\n" for it in given), list(words))

@@ -1,7 +1,9 @@
-"""The grammar of scripts, for every tool: the words, the keys of each with what stands there, the version with which a word or a
-key came, the conditions, and the errors by their numbers. docs/SCRIPT.md has it in words.
+"""The grammar of scripts, for every tool: the words, the keys of each with what stands there, the version
+with which a word or a key came, the conditions, and the errors by their numbers. docs/SCRIPT.md has it in
+words.
 
-'tools/test_tell' compares the grammar with the program, on each form and on thousands of lines with one change."""
+'tools/test_tell' compares the grammar with the program, on each form and on thousands of lines with one
+change."""
 import json
 
 STEPS = {
@@ -50,22 +52,29 @@ ATOMS = {
     "finished": {"at": "place", "time": "time"},
     "view": {"at": "place", "at_least": "signed", "q": "small", "time": "time"},
 }
-# The version with which an atom came, if it is not the first, and that with which "not", "all" and "any" came.
+# The version with which an atom came, if it is not the first, and that with which "not", "all" and "any"
+# came.
 ATOMS_SINCE, LITERALS_SINCE = {"finished": 4, "view": 4}, 4
 # The most literals under "all" and "any".
 MOST_LITERALS = 8
 ERRORS = {
-    1: "NoProcessor", 2: "NoVertex", 3: "NoEdge", 4: "NotInput", 5: "InputClosed", 6: "TooManyValues", 7: "EpochFull", 8: "NoRecord",
-    9: "NoRequest", 10: "NotYet", 11: "CounterFull", 12: "ValueRange", 13: "CountFull", 14: "DeltaFull", 15: "NothingToSend",
-    16: "NotAdmissible", 17: "QueueEmpty", 18: "QueueFull", 19: "Memory", 20: "AtStart", 21: "AtEnd", 22: "NoSuchPoint",
-    23: "TimelineFull", 24: "TooManyBreaks", 25: "NoBreak", 27: "LogFull", 29: "Memory", 30: "BadLine", 31: "BadShape",
-    32: "UnknownName", 33: "LineTooLong", 34: "BadTime", 35: "BadClient", 36: "OneClientOnly", 50: "BadRange", 51: "NoWorkers",
+    1: "NoProcessor", 2: "NoVertex", 3: "NoEdge", 4: "NotInput", 5: "InputClosed", 6: "TooManyValues",
+    7: "EpochFull", 8: "NoRecord",
+    9: "NoRequest", 10: "NotYet", 11: "CounterFull", 12: "ValueRange", 13: "CountFull", 14: "DeltaFull",
+    15: "NothingToSend",
+    16: "NotAdmissible", 17: "QueueEmpty", 18: "QueueFull", 19: "Memory", 20: "AtStart", 21: "AtEnd",
+    22: "NoSuchPoint",
+    23: "TimelineFull", 24: "TooManyBreaks", 25: "NoBreak", 27: "LogFull", 29: "Memory", 30: "BadLine",
+    31: "BadShape",
+    32: "UnknownName", 33: "LineTooLong", 34: "BadTime", 35: "BadClient", 36: "OneClientOnly",
+    50: "BadRange", 51: "NoWorkers",
     52: "Missing",
 }  # fmt: skip
 
 
 def line(word, *values, **others):
-    """The line of a word: its values in the order of the keys above, of which the last may be left out, and other members."""
+    """The line of a word: its values in the order of the keys above, of which the last may be left out, and
+    other members."""
     return json.dumps({**others, "do": word, **dict(zip(FORMS[word], values))}, separators=(",", ":"))
 
 
@@ -86,7 +95,8 @@ def atoms_of(version):
 
 
 def literals_in(when):
-    """The literals of a condition of right shape: of each whether it is negated, its atom's name, and what stands under it."""
+    """The literals of a condition of right shape: of each whether it is negated, its atom's name, and what
+    stands under it."""
     name, inner = next(iter(when.items()))
     if name in ("all", "any"):
         return [it for literal in inner for it in literals_in(literal)]

@@ -93,9 +93,12 @@ def without_comments(script):
 
 
 def read_script(script):
-    """A script's graph, None if it has none, and its other lines: the commands, and how many other lines are left out.
+    """A script's graph, None if it has none, and its other lines: the commands, and how many other lines are
+    left out.
 
-    Queries, faulty lines and the key "client" are left out, since a session asks its own queries for one client."""
+    Queries, faulty lines and the key "client" are left out, since a session asks its own queries for one
+    client.
+    """
     values = [it.value for it in lines_of(without_comments(script))]
     if values and isinstance(values[0], dict) and values[0].keys() == {"version"}:
         values = values[1:]

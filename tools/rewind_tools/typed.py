@@ -1,9 +1,11 @@
 """Commands as they are typed at the prompt: words and numbers in place of a JSON line.
 
-    line_of("feed 0 words 2 3 next", FORMS)      {"do": "feed", "p": 0, "vertex": "words", "values": [2, 3], "next": "next"}
+    line_of("feed 0 words 2 3 next", FORMS)      {"do": "feed", "p": 0, "vertex": "words", "values": [2, 3],
+                                                 "next": "next"}
 
-Values stand in the order of the grammar's keys. A time is its numbers with commas and no spaces, as 0 or 0,1; a point is a
-location and a time; values end at the first word that is no number. NotTyped says what is missing or wrong, in words."""
+Values stand in the order of the grammar's keys. A time is its numbers with commas and no spaces, as 0 or
+0,1; a point is a location and a time; values end at the first word that is no number. NotTyped says what is
+missing or wrong, in words."""
 import shlex
 
 from rewind_tools.script import ATOMS, FORMS, OPTIONAL
@@ -11,8 +13,10 @@ from rewind_tools.script import ATOMS, FORMS, OPTIONAL
 JOINTS = {"and": "all", "or": "any"}
 # What stands for a kind of value in the form that help shows.
 SHOWN = {
-    "small": "P", "whole": "N", "signed": "N", "vertex": "VERTEX", "edge": "EDGE", "place": "LOCATION", "time": "TIME",
-    "point": "LOCATION TIME", "points": "LOCATION TIME ..", "values": "VALUE ..", "next": "next|close|stay", "when": "CONDITION",
+    "small": "P", "whole": "N", "signed": "N", "vertex": "VERTEX", "edge": "EDGE", "place": "LOCATION",
+    "time": "TIME",
+    "point": "LOCATION TIME", "points": "LOCATION TIME ..", "values": "VALUE ..", "next": "next|close|stay",
+    "when": "CONDITION",
     "flag": "before",
 }  # fmt: skip
 
@@ -48,7 +52,8 @@ class Words:
 
     def take(self, kind):
         if not self.words:
-            raise NotTyped(f"{self.of} needs {SHOWN.get(kind, kind)} here; its form is: {self.of} {usage(self.of)}".rstrip())
+            form = f"{self.of} {usage(self.of)}".rstrip()
+            raise NotTyped(f"{self.of} needs {SHOWN.get(kind, kind)} here; its form is: {form}")
         return self.words.pop(0)
 
     def while_numbers(self):
@@ -85,7 +90,11 @@ class Words:
             return {"not": self.atom()}
         if name not in ATOMS:
             raise NotTyped(f"{name} is no condition; the conditions are {', '.join(ATOMS)}")
-        order = {"count": ["at", "time", "at_least"], "queue": ["from", "to", "at_least"], "sink": ["vertex", "value", "at_least"]}
+        order = {
+            "count": ["at", "time", "at_least"],
+            "queue": ["from", "to", "at_least"],
+            "sink": ["vertex", "value", "at_least"],
+        }
         order["view"] = ["q", "at", "time", "at_least"]
         return {name: {key: self.value(ATOMS[name][key]) for key in order.get(name, ATOMS[name])}}
 

@@ -1,4 +1,4 @@
--- Breakpoints in slots, as the map of them by their ids.
+-- The map of the breakpoints in slots.
 use Rattle.std.proofs.Common.{◌≡◌, ◌≢◌, ◌<◌, ◌≤◌, ℕ, zero, suc, ◌+◌, List, [], ◌∷◌, ◌++◌, Option, Some, None, true, false, cond, Less, Equal, Greater, inl, inr, length, get_or, drop, length-set, refl, sym, ap, subst, ◌∙◌, arith}
 use Rattle.std.specs.Prelude.{slice_set}
 use Rattle.std.specs.List.{refill}
@@ -11,7 +11,7 @@ use Rattle.nd_breaks.specs.Breaks.{BreakMap, NoneFrom, IsLeastFree}
 use Rattle.nd_breaks.specs.Slots.{from_slots}
 use Rattle.nd_breaks.specs.Conditions.{ConditionValue}
 
--- what stands in a slot, or None past the last
+-- the content of a slot, `None` past the last
 abbrev pub slot_at : List (Option ConditionValue) → ℕ → Option ConditionValue
 slot_at [] i = None
 slot_at (o ∷ os) zero = o
@@ -34,14 +34,14 @@ other q k ne =
 same : (k : ℕ) → eq_by_cmp nat_cmp k k ≡ true
 same k = ap is_eq (tied_itself nat_cmp_total k)
 
--- no id before the first slot's is set
+-- no id before that of the first slot is set
 get-before : (k : ℕ) (os : List (Option ConditionValue)) (q : ℕ) → q < k → fin.get (from_slots k os) q ≡ None
 get-before k [] q lt = fin.get-empty nat_cmp q
 get-before k (None ∷ os) q lt = get-before (suc k) os q (omega arith)
 get-before k (Some b ∷ os) q lt =
     fin.get-insert nat_cmp_total (from_slots (suc k) os) k b q ∙ ap (λ t. cond t (Some b) (fin.get (from_slots (suc k) os) q)) (other q k (omega arith)) ∙ get-before (suc k) os q (omega arith)
 
--- an id is that of its slot
+-- the map at an id is the content of its slot
 get-slot : (k : ℕ) (os : List (Option ConditionValue)) (i q : ℕ) → q ≡ k + i → fin.get (from_slots k os) q ≡ slot_at os i
 get-slot k [] i q is = fin.get-empty nat_cmp q
 get-slot k (None ∷ os) zero q is = get-before (suc k) os q (omega arith)
@@ -62,7 +62,7 @@ slot_past [] i le = refl
 slot_past (p ∷ os) zero le = absurd (omega arith)
 slot_past (p ∷ os) (suc i) le = slot_past os i (omega arith)
 
--- ---- one slot another
+-- ---- one slot changes
 
 put-same : (os : List (Option ConditionValue)) (i : ℕ) (o : Option ConditionValue) → i < length os → slot_at (slice_set os i o) i ≡ o
 put-same [] i o lt = absurd (omega arith)
@@ -102,15 +102,15 @@ inserted os ps i b here others =
     get-slot 0 ps q q (omega arith) ∙ differ os ps i (Some b) here others q
     ∙ sym (fin.get-insert nat_cmp_total (from_slots 0 os) i b q ∙ ap (cond (eq_by_cmp nat_cmp q i) (Some b)) (get-slot 0 os q q (omega arith))))
 
--- a slot is given a breakpoint
+-- a breakpoint is written to a slot
 set_put : (os : List (Option ConditionValue)) (i : ℕ) (b : ConditionValue) → i < length os → from_slots 0 (slice_set os i (Some b)) ≡ fin.insert (from_slots 0 os) i b
 set_put os i b lt = inserted os (slice_set os i (Some b)) i b (put-same os i (Some b) lt) (λ q ne. put-other os i q (Some b) ne)
 
--- a slot comes at the end
+-- a slot is added at the end
 set_push : (os : List (Option ConditionValue)) (i : ℕ) (b : ConditionValue) → i ≡ length os → from_slots 0 (os ++ Some b ∷ []) ≡ fin.insert (from_slots 0 os) i b
 set_push os i b is = inserted os (os ++ Some b ∷ []) i b (push-same os i (Some b) is) (λ q ne. push-other os q (Some b) (λ e. ne (e ∙ sym is)))
 
--- a slot becomes free
+-- a slot is cleared
 cleared : (os : List (Option ConditionValue)) (i : ℕ) → i < length os → from_slots 0 (slice_set os i None) ≡ fin.remove (from_slots 0 os) i
 cleared os i lt =
     fin.same_map nat_cmp_total fin.nat_cmp-IsAntisymmetric _ _ (λ q.
@@ -129,7 +129,7 @@ got os items m i o same view at = sym (ap (λ m. fin.get m i) view) ∙ slot_got
 pub none_from : (os items : List (Option ConditionValue)) (m : BreakMap) (n : ℕ) → os ≡ items → from_slots 0 items ≡ m → length os ≤ n → NoneFrom m n
 none_from os items m n same view le id more = got os items m id None same view (slot_past os id (omega (arith, le, more)))
 
--- what is set has its slot
+-- an id that is set has a slot
 pub within : (os items : List (Option ConditionValue)) (m : BreakMap) (i : ℕ) → os ≡ items → from_slots 0 items ≡ m → fin.get m i ≢ None → i < length os
 within os items m i same view set =
     elim (cases_lt i (length os)) [
@@ -137,7 +137,7 @@ within os items m i same view set =
       | inr more ↦ absurd (set (none_from os items m i same view more i (omega arith)))
     ]
 
--- the least id that is free is that of a slot, or of the next
+-- if the least free id has no slot, it is the number of slots
 pub next_at_most : (items : List (Option ConditionValue)) (m : BreakMap) (i : ℕ) → from_slots 0 items ≡ m → IsLeastFree m i → length items ≤ i → i ≡ length items
 next_at_most items m i view free le =
     elim (cases_lt (length items) i) [

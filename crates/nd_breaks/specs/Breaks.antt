@@ -1,4 +1,4 @@
--- Breakpoints: the finite map of those that are set, and which of them hold of a cluster (this project's own rule).
+-- Breakpoints: the map of those that are set, and which of them hold of a cluster (this project's own rule).
 use Rattle.std.specs.Prelude.{◌≡◌, ◌≢◌, ℕ, ◌<◌, ◌≤◌, Some, None}
 use Rattle.std.specs.Ordering.{nat_cmp}
 use Rattle.std.specs.FinMap as fin
@@ -10,17 +10,17 @@ use Rattle.nd_breaks.specs.Conditions.{ConditionValue, Holds}
 abbrev pub BreakMap : Type 0
 BreakMap = fin.FinMap nat_cmp ConditionValue
 
--- no id from this one on is set
+-- neither this id nor any greater id is set
 abbrev pub NoneFrom : BreakMap → ℕ → Type 0
 NoneFrom m first = (id : ℕ) → first ≤ id → fin.get m id ≡ None
 
--- ---- those that hold
+-- ---- breakpoints that hold
 
--- a breakpoint of this id is set and holds
+-- a breakpoint with this id is set and holds
 abbrev pub HitAt : BreakMap → ClusterState → ℕ → Type 0
 HitAt m s id = (c : ConditionValue) × (fin.get m id ≡ Some c) × Holds s c
 
--- none holds whose id is below this
+-- no breakpoint with a lesser id holds
 abbrev pub NoHitBelow : BreakMap → ClusterState → ℕ → Type 0
 NoHitBelow m s id = (k : ℕ) → k < id → HitAt m s k → ⊥
 
@@ -28,19 +28,19 @@ NoHitBelow m s id = (k : ℕ) → k < id → HitAt m s k → ⊥
 pub record NoHit (m : BreakMap) (s : ClusterState) : Type 0 where
   pub none : (id : ℕ) → HitAt m s id → ⊥
 
--- the least id of those that hold
+-- the least id whose breakpoint holds
 pub record FirstHit (m : BreakMap) (s : ClusterState) (id : ℕ) : Type 0 where
   pub hit : HitAt m s id
   pub least : NoHitBelow m s id
 
 -- ---- ids
 
--- the least id that is free
+-- the least free id
 pub record IsLeastFree (m : BreakMap) (id : ℕ) : Type 0 where
   pub within : id < max_breaks
   pub free : fin.get m id ≡ None
   pub least : (k : ℕ) → k < id → fin.get m k ≢ None
 
--- each id is given out
+-- all ids are in use
 pub record IsFull (m : BreakMap) : Type 0 where
   pub taken : (k : ℕ) → k < max_breaks → fin.get m k ≢ None

@@ -1,4 +1,5 @@
--- Conditions: when an atom, a literal and several literals put together hold of a cluster (this project's own rule).
+-- Conditions: when an atom, a literal and a condition of several literals hold of a cluster (this project's own
+-- rule).
 use Rattle.std.specs.Prelude.{◌≡◌, ◌↔◌, ℕ, ◌<◌, ◌≤◌, ◌⊎◌, ℤ, pos, ◌≤ℤ◌, List, [], ◌∷◌, ◌++◌, length, All, Any, refl}
 use Rattle.std.proofs.Common.{inl, inr}
 use Rattle.std.specs.Coded.{Coded, code_by, coded×, coded⊎, coded_ℕ, coded_ℤ, coded_list}
@@ -20,22 +21,23 @@ use Rattle.nd_breaks.specs.declared.condition.Quantifier.TheVariants as quantifi
 
 -- ---- conditions
 
--- all or any of some literals
+-- a quantifier and a list of literals
 pub record ConditionValue : Type 0 where
   pub quantifier : Quantifier
   pub literals : List Literal
 
--- the condition of one literal
+-- the condition with one literal
 abbrev pub condition_of : Quantifier → Literal → ConditionValue
 condition_of quantifier literal = record { quantifier = quantifier; literals = literal ∷ [] }
 
--- the condition with one literal more, at the end
+-- the condition with one more literal at the end
 abbrev pub with_literal : ConditionValue → Literal → ConditionValue
 with_literal c literal = record { quantifier = c.quantifier; literals = c.literals ++ literal ∷ [] }
 
 -- ---- when they hold
 
--- an atom holds of a cluster: the processors, the vertex or the location that it names are there, and it is met
+-- an atom holds of a cluster: the processors, the vertex and the location that it names exist, and what it
+-- states is true
 abbrev pub AtomHolds : ClusterState → Atom → Type 0
 AtomHolds s (Passed q point) = (q < length s.processors) × (point.location < location_count s.graph) × IsPassed s.graph (view s q) point
 AtomHolds s (Count point at_least) = (point.location < location_count s.graph) × (pos at_least ≤ℤ at (truth s.processors) point)
@@ -44,12 +46,12 @@ AtomHolds s (Sink vertex value at_least) = (vertex < length s.graph.vertices) ×
 AtomHolds s (Finished point) = (point.location < location_count s.graph) × IsFinished s point
 AtomHolds s (View q point at_least) = (q < length s.processors) × (point.location < location_count s.graph) × (at_least ≤ℤ at (view s q) point)
 
--- a literal holds: its atom does, or does not
+-- `Is` holds if its atom holds, `Not` if its atom does not
 abbrev pub LiteralHolds : ClusterState → Literal → Type 0
 LiteralHolds s (Is atom) = AtomHolds s atom
 LiteralHolds s (Not atom) = AtomHolds s atom → ⊥
 
--- each of the literals holds, or one of them
+-- all of the literals hold, or at least one does
 abbrev pub AreMet : ClusterState → Quantifier → List Literal → Type 0
 AreMet s quantifier.All literals = All (LiteralHolds s) literals
 AreMet s quantifier.Any literals = Any (LiteralHolds s) literals
@@ -58,13 +60,13 @@ AreMet s quantifier.Any literals = Any (LiteralHolds s) literals
 abbrev pub Holds : ClusterState → ConditionValue → Type 0
 Holds s c = AreMet s c.quantifier c.literals
 
--- the condition holds of the clusters of which the literal does, and of no others
+-- the condition holds of exactly those clusters of which the literal holds
 abbrev pub HoldsAs : ConditionValue → Literal → Type 0
 HoldsAs c literal = (s : ClusterState) → Holds s c ↔ LiteralHolds s literal
 
 -- ---- codes
 
--- what an atom is made of, by its kind
+-- the parts of an atom, by its kind
 abbrev pub AtomParts : Type 0
 AtomParts = (((ℕ × Pointstamp) ⊎ (Pointstamp × ℕ)) ⊎ ((ℕ × (ℕ × ℕ)) ⊎ (ℕ × (ℤ × ℕ)))) ⊎ (Pointstamp ⊎ (ℕ × (Pointstamp × ℤ)))
 

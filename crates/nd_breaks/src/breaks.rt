@@ -10,25 +10,25 @@ use std::alloc::{AllocError, Allocator, Global};
 use std::marker::Model;
 use thiserror::Error;
 
-/// The most breakpoints that are set at once.
+/// The maximum number of breakpoints that are set at the same time.
 const MAX_BREAKS: usize = 32;
 
-/// Each id is given out.
+/// All ids are in use.
 #[derive(Clone, Copy, Debug, PartialEq, Eq, Drop, Error)]
 #[error("32 breakpoints are set")]
 pub struct TooManyBreaks;
 
-/// No breakpoint of this id is set.
+/// No breakpoint with this id is set.
 #[derive(Clone, Copy, Debug, PartialEq, Eq, Drop, Error)]
 #[error("no such breakpoint is set")]
 pub struct NoBreak;
 
-/// The conditions that are set as breakpoints, by their ids, which are below `MAX_BREAKS`.
+/// The breakpoints that are set: conditions by id. All ids are below `MAX_BREAKS`.
 ///
-/// `new` takes memory for all of them, and no other call takes any.
+/// `new` allocates the memory for `MAX_BREAKS` breakpoints. No other call allocates any.
 #[derive(Drop)]
 pub struct Breaks<A: Allocator = Global> {
-    // The breakpoint of each id, with room for all; no id past the last slot is set.
+    // The breakpoint of each id. There is capacity for all ids, and no id past the last slot is set.
     slots: Vec<Option<Condition>, A>,
 }
 
@@ -48,7 +48,7 @@ impl<A: Allocator> Model for Breaks<A> {
     ghost invariant = { λ a. HasRoom a.slots };
 }
 
-// Puts a breakpoint, or none, into a slot.
+// Writes a breakpoint, or `None`, to a slot.
 fn write(slots: &mut [Option<Condition>], id: usize, slot: Option<Condition>)
     requires { id < length slots.old }
     ensures { slots.new ≡ slice_set slots.old id slot }
@@ -57,7 +57,7 @@ fn write(slots: &mut [Option<Condition>], id: usize, slot: Option<Condition>)
 }
 
 impl<A: Allocator> Breaks<A> {
-    /// Takes memory for all breakpoints, of which none is set.
+    /// Allocates the memory for all breakpoints, and sets none.
     pub fn new(alloc: A) -> Result<Breaks<A>, AllocError>
         ensures { IfOk result (λ b. b ≡ fin.empty) }
     {
@@ -66,7 +66,7 @@ impl<A: Allocator> Breaks<A> {
         })
     }
 
-    /// Returns the breakpoint of the id.
+    /// Returns the breakpoint with the id.
     pub fn get(&self, id: u64) -> Option<&Condition>
         ensures none { result ≡ None → fin.get self.now id ≡ None }
         ensures some { IfSome result (λ b. fin.get self.now id ≡ Some b.now) }
@@ -82,7 +82,7 @@ impl<A: Allocator> Breaks<A> {
         }
     }
 
-    /// Returns the least id of those whose breakpoints hold.
+    /// Returns the least id whose breakpoint holds of the cluster.
     pub fn first_hit<B: Allocator + Copy>(&self, cluster: &Cluster<B>) -> Option<u8>
         ensures none { result ≡ None → NoHit self.now cluster.now }
         ensures some { IfSome result (λ id. FirstHit self.now cluster.now id) }
@@ -98,7 +98,7 @@ impl<A: Allocator> Breaks<A> {
         None
     }
 
-    /// Sets the condition as a breakpoint, under the least id that is free.
+    /// Sets the condition as a breakpoint, and returns its id, the least free one.
     pub fn set(&mut self, b: Condition) -> Result<u8, TooManyBreaks>
         ensures ok { IfOk result (λ id. self.new ≡ fin.insert self.old id b) }
         ensures least { IfOk result (λ id. IsLeastFree self.old id) }
@@ -114,7 +114,7 @@ impl<A: Allocator> Breaks<A> {
         }
     }
 
-    /// Clears the breakpoint of the id.
+    /// Clears the breakpoint with the id.
     pub fn clear(&mut self, id: u64) -> Result<(), NoBreak>
         ensures ok { OnOk result (self.new ≡ fin.remove self.old id) }
         ensures was { OnOk result (fin.get self.old id ≢ None) }
@@ -128,7 +128,7 @@ impl<A: Allocator> Breaks<A> {
         Ok(())
     }
 
-    // No id from this one on is set.
+    // Returns an id such that neither it nor any greater id is set.
     fn end(&self) -> u8
         ensures few { result ≤ max_breaks }
         ensures past { NoneFrom self.now result }
@@ -136,7 +136,7 @@ impl<A: Allocator> Breaks<A> {
         self.slots.len() as u8
     }
 
-    // The least id that is free.
+    // Returns the least free id.
     fn first_free(&self) -> Option<u8>
         ensures some { IfSome result (λ id. IsLeastFree self.now id) }
         ensures none { result ≡ None → IsFull self.now }
@@ -149,7 +149,7 @@ impl<A: Allocator> Breaks<A> {
         None
     }
 
-    // Puts a breakpoint where none is.
+    // Sets a breakpoint under the least free id.
     fn put(&mut self, id: u8, b: Condition)
         requires { IsLeastFree self.old id }
         ensures { self.new ≡ fin.insert self.old id b }

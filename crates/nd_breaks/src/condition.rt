@@ -1,4 +1,4 @@
-//! Conditions on a cluster: atoms, their negations, and several of these put together.
+//! Conditions on a cluster: atoms, negated atoms, and all or any of up to eight of these.
 ghost use Rattle.std.specs.Prelude.{◌≡◌, ◌≢◌, ◌↔◌, ◌<◌, ◌≤◌, IsTrue, IsOk, OnOk, OnErr, IfOk, MatchBool, [], ◌∷◌, All, Any, length};
 ghost use Rattle.nd_time.specs.Limits.{max_literals};
 ghost use Rattle.nd_graph.specs.Graph.{location_count};
@@ -11,17 +11,17 @@ use std::alloc::{AllocError, Allocator, Global};
 use std::marker::Model;
 use thiserror::Error;
 
-/// The most literals of a condition.
+/// The maximum number of literals in a condition.
 const MAX_LITERALS: usize = 8;
 
-/// The condition has `MAX_LITERALS` literals already.
+/// The condition already has `MAX_LITERALS` literals.
 #[derive(Clone, Copy, Debug, PartialEq, Eq, Drop, Error)]
 #[error("a condition has at most 8 literals")]
 pub struct TooManyLiterals;
 
-/// A condition on a cluster that is not put together of others.
+/// A condition on a cluster that has no conditions as parts.
 ///
-/// An atom that names a processor, a vertex or a location that is not there does not hold.
+/// An atom does not hold if it names a processor, a vertex or a location that does not exist.
 #[derive(Debug, PartialEq, Eq, Drop)]
 pub enum Atom {
     /// The view of processor `q` has passed the pointstamp.
@@ -34,19 +34,19 @@ pub enum Atom {
         point: Pointstamp,
         at_least: u64,
     },
-    /// At least `at_least` changes stand in the queue.
+    /// The queue holds at least `at_least` changes.
     Queue {
         from: u32,
         to: u32,
         at_least: u64,
     },
-    /// The sinks of the vertex, over all processors, have counted the value at least `at_least` times.
+    /// The sink has counted the value at least `at_least` times, summed over all processors.
     Sink {
         vertex: usize,
         value: i64,
         at_least: u64,
     },
-    /// Nothing outstanding is at or before the pointstamp, whatever the views say.
+    /// Nothing outstanding is at or before the pointstamp, whatever the processors' views contain.
     Finished {
         point: Pointstamp,
     },
@@ -58,7 +58,7 @@ pub enum Atom {
     },
 }
 
-// Whether the graph has the location of a pointstamp.
+// Returns whether the graph has the pointstamp's location.
 fn has_place<A: Allocator + Copy>(cluster: &Cluster<A>, point: &Pointstamp) -> bool
     ensures { IsTrue result ↔ (point.now.location < location_count cluster.now.graph) }
 {
@@ -152,7 +152,7 @@ pub enum Literal {
 }
 
 impl Default for Literal {
-    /// Returns what an `ArrayVec` fills its free room with.
+    /// Returns the literal with which an `ArrayVec` fills its unused slots.
     fn default() -> Literal {
         Literal::Is(Atom::Queue {
             from: 0,
@@ -183,7 +183,7 @@ impl Literal {
         }
     }
 
-    // Whether both are one literal.
+    // Returns whether the two literals are equal.
     fn same(&self, other: &Literal) -> bool
         ensures { MatchBool result (self.now ≡ other.now) (self.now ≢ other.now) }
     {
@@ -191,16 +191,16 @@ impl Literal {
     }
 }
 
-/// How many of a condition's literals are to hold.
+/// How many of a condition's literals must hold.
 #[derive(Clone, Copy, Debug, PartialEq, Eq, Drop)]
 pub enum Quantifier {
-    /// Each of them.
+    /// All of them.
     All,
     /// At least one of them.
     Any,
 }
 
-/// All or any of 1 to 8 literals. No call takes memory.
+/// A condition that requires all, or any, of its 1 to 8 literals. No call allocates memory.
 #[derive(Drop)]
 pub struct Condition {
     quantifier: Quantifier,
@@ -220,21 +220,21 @@ impl Model for Condition {
     ghost invariant = { λ a. 0 < length a.literals.items };
 }
 
-// Whether each literal holds of the cluster.
+// Returns whether every literal holds of the cluster.
 fn all_hold<A: Allocator + Copy>(literals: &[Literal], cluster: &Cluster<A>) -> bool
     ensures { IsTrue result ↔ All (LiteralHolds cluster.now) literals.now }
 {
     literals.iter().all(|literal| literal.holds(cluster))
 }
 
-// Whether a literal holds of the cluster.
+// Returns whether at least one literal holds of the cluster.
 fn any_holds<A: Allocator + Copy>(literals: &[Literal], cluster: &Cluster<A>) -> bool
     ensures { IsTrue result ↔ Any (LiteralHolds cluster.now) literals.now }
 {
     literals.iter().any(|literal| literal.holds(cluster))
 }
 
-// Whether both are the same literals, in one order.
+// Returns whether the two lists have the same literals in the same order.
 fn are_same(these: &[Literal], those: &[Literal]) -> bool
     ensures { MatchBool result (these.now ≡ those.now) (these.now ≢ those.now) }
 {
@@ -250,7 +250,7 @@ fn are_same(these: &[Literal], those: &[Literal]) -> bool
 }
 
 impl Condition {
-    /// Returns the condition of one literal, to which others may be added.
+    /// Returns a condition with one literal. `push` adds more.
     pub fn new(quantifier: Quantifier, literal: Literal) -> Condition
         ensures value { result ≡ condition_of quantifier literal }
         ensures alone { HoldsAs result literal }
@@ -276,7 +276,7 @@ impl Condition {
         Ok(())
     }
 
-    /// Returns how many of the literals are to hold.
+    /// Returns how many of the literals must hold.
     pub fn quantifier(&self) -> Quantifier
         ensures { result ≡ self.now.quantifier }
     {
@@ -316,7 +316,7 @@ impl Condition {
         }
     }
 
-    /// Returns whether both are one condition.
+    /// Returns whether the two conditions have the same quantifier and the same literals in the same order.
     pub fn same(&self, other: &Condition) -> bool
         ensures { MatchBool result (self.now ≡ other.now) (self.now ≢ other.now) }
     {
@@ -324,7 +324,7 @@ impl Condition {
     }
 }
 
-/// A condition in memory of its own, which keeps small what holds it.
+/// A condition on the heap, so that the value that holds it stays small.
 #[derive(Drop)]
 pub struct BoxedCondition<A: Allocator = Global> {
     boxed: Box<Condition, A>,
@@ -341,7 +341,7 @@ impl<A: Allocator> Model for BoxedCondition<A> {
 }
 
 impl<A: Allocator> BoxedCondition<A> {
-    /// Puts the condition into memory of its own.
+    /// Moves the condition to the heap.
     pub fn new(alloc: A, condition: Condition) -> Result<BoxedCondition<A>, AllocError>
         ensures { IfOk result (λ b. b ≡ condition) }
     {
@@ -357,7 +357,7 @@ impl<A: Allocator> BoxedCondition<A> {
         &self.boxed
     }
 
-    /// Returns an equal condition, in memory of its own.
+    /// Returns an equal condition on the heap.
     pub fn copy(&self, alloc: A) -> Result<BoxedCondition<A>, AllocError>
         ensures { IfOk result (λ b. b ≡ self.now) }
     {

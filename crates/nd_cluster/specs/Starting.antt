@@ -14,6 +14,7 @@ use Rattle.nd_processor.specs.State.{one_at, token_point}
 use Rattle.nd_cluster.specs.declared.start.StartFault.{StartFault}
 use Rattle.nd_cluster.specs.declared.start.StartFault.TheVariants.{BadCount, LoopNotStrict, Memory}
 
+-- the number and the name with which a start is refused
 abbrev pub start_code : StartFault → Code
 start_code BadCount = coded 48 (codes "BadCount")
 start_code (LoopNotStrict l) = coded 46 (codes "LoopNotStrict")

@@ -17,7 +17,7 @@ use nd_time::Timestamp;
 use nd_vertex::{Effect, VertexFault};
 use std::alloc::Allocator;
 
-// The innermost loop counter of a timestamp, 0 outside all loops: 32 bits.
+// Returns the innermost loop counter of a timestamp, 0 outside all loops. It has 32 bits.
 fn innermost_counter(time: &Timestamp) -> u32
     ensures { result ≡ last_of time.now.counters }
 {
@@ -35,7 +35,8 @@ fn innermost_counter_fits(time: &Timestamp)
 }
 
 impl<A: Allocator + Copy> Cluster<A> {
-    // What the target of a record's edge does with it, and whether a request is new then, or why the take is refused, but for the limits.
+    // Returns what the target of a record's edge does with the record, and whether it makes a new request, or why the take is
+    // refused, but for the limits.
     pub(crate) fn take_effect(
         &self,
         p: u32,
@@ -72,7 +73,7 @@ impl<A: Allocator + Copy> Cluster<A> {
         }
     }
 
-    // What a vertex does on a notice that was asked for, or why it is refused, but for the limits.
+    // Returns what a vertex does on a notice that was asked for, or why the notice is refused, but for the limits.
     pub(crate) fn notice_effect(&self, p: u32, point: &Pointstamp) -> Result<Effect<A>, Refusal>
         requires asked { fin.get (processor self.now p).requests point.now ≡ Some tt }
         requires free { IsFreeBelow {A = A} self.now (notice_of p point.now) 10 }

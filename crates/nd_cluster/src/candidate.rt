@@ -38,7 +38,7 @@ impl<A: Allocator> Model for CandidateList<A> {
 }
 
 impl<A: Allocator> CandidateList<A> {
-    // No candidates.
+    // Returns an empty list.
     fn new(alloc: A) -> CandidateList<A>
         ensures { result ≡ [] }
     {
@@ -47,14 +47,14 @@ impl<A: Allocator> CandidateList<A> {
         }
     }
 
-    /// The candidates.
+    /// Returns the candidates.
     pub fn as_slice(&self) -> &[Candidate<A>]
         ensures { result.now ≡ self.now }
     {
         &self.items
     }
 
-    // Puts one more candidate at the end.
+    // Appends a candidate.
     fn push(&mut self, candidate: Candidate<A>) -> Result<(), AllocError>
         ensures { OnOk result (self.new ≡ self.old ++ candidate ∷ []) }
     {
@@ -73,7 +73,7 @@ pub struct Candidates<A: Allocator = Global> {
 }
 
 impl<A: Allocator> Candidates<A> {
-    // Nothing is listed of no steps.
+    // Returns the list of no steps.
     fn new(alloc: A) -> Candidates<A>
         ensures { (s : ClusterState) → AreListed s [] result }
     {
@@ -85,7 +85,7 @@ impl<A: Allocator> Candidates<A> {
 }
 
 impl<A: Allocator + Copy> Cluster<A> {
-    // The refusal of a step, or none if it is enabled.
+    // Returns the refusal of a step, or none if the step is enabled.
     fn refusal_of(&self, step: &Step<A>) -> Result<Option<Refusal>, NoMemory>
         ensures { IfOk result (IsAnswer self.now step.now) }
     {
@@ -98,7 +98,7 @@ impl<A: Allocator + Copy> Cluster<A> {
         Ok(Some(refusal))
     }
 
-    // A step with the answer of a plan.
+    // Returns a step with the answer of a plan.
     fn answered(&self, step: Step<A>) -> Result<Candidate<A>, NoMemory>
         ensures step { IfOk result (λ c. c.step ≡ step) }
         ensures answered { IfOk result (IsAnswered self.now) }
@@ -107,7 +107,7 @@ impl<A: Allocator + Copy> Cluster<A> {
         Ok(Candidate { step, refusal })
     }
 
-    // Lists one step more, or that there are more than are listed.
+    // Lists one more step, or records that there are more steps than are listed.
     fn list_step(&self, listed: &mut Candidates<A>, step: Step<A>) -> Result<(), NoMemory>
         ensures { OnOk result (Lists self.now (step ∷ []) listed.old listed.new) }
     {
@@ -122,7 +122,7 @@ impl<A: Allocator + Copy> Cluster<A> {
         Ok(())
     }
 
-    // Lists the candidates of a processor. It stops once there are more than are listed.
+    // Lists the candidates of a processor. Stops once there are more than are listed.
     fn list_on(&self, listed: &mut Candidates<A>, p: u32) -> Result<(), NoMemory>
         requires { p < length self.now.processors }
         ensures { OnOk result (Lists self.now (candidates_of self.now p) listed.old listed.new) }

@@ -36,7 +36,7 @@ impl<'a, A: Allocator + Copy> Model for CandidateSteps<'a, A> {
     ghost invariant = { λ a. a.p < length a.cluster.now.processors };
 }
 
-// The take of the record of a key by processor p.
+// Returns the take of the record of a key by processor `p`.
 fn take_step<A: Allocator>(p: u32, key: &ValueAt) -> Step<A>
     ensures { result ≡ take_of p key.now }
 {
@@ -48,7 +48,7 @@ fn take_step<A: Allocator>(p: u32, key: &ValueAt) -> Step<A>
     }
 }
 
-// The notice of processor p at a pointstamp.
+// Returns the notice of processor `p` at a pointstamp.
 fn notice_step<A: Allocator>(p: u32, point: &Pointstamp) -> Step<A>
     ensures { result ≡ notice_of p point.now }
 {
@@ -60,7 +60,7 @@ fn notice_step<A: Allocator>(p: u32, point: &Pointstamp) -> Step<A>
 }
 
 impl<A: Allocator + Copy> Cluster<A> {
-    // The first processor from this one on that has something on its way to p.
+    // Returns the first processor, from `from` on, whose queue to `p` is not empty.
     fn next_sender(&self, from: u32, p: u32) -> Option<u32>
         requires { p < length self.now.processors }
         ensures next { IsNextSender A self.now p from result }
@@ -74,7 +74,7 @@ impl<A: Allocator + Copy> Cluster<A> {
         None
     }
 
-    // The candidates of a processor.
+    // Returns the candidates of a processor.
     pub(crate) fn candidates_of(&self, p: u32) -> CandidateSteps<'_, A>
         requires { p < length self.now.processors }
         ensures { result ≡ candidates_of self.now p }

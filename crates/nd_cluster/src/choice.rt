@@ -8,7 +8,7 @@ use crate::{Cluster, NoMemory, Record, Refusal, Step};
 use std::alloc::Allocator;
 
 impl<A: Allocator + Copy> Cluster<A> {
-    // The record of a step, or none if the step is refused.
+    // Returns the record of a step, or none if the step is refused.
     fn tried(&self, step: Step<A>) -> Result<Option<Record<A>>, NoMemory>
         ensures { IfOk result (Tries self.now step) }
     {
@@ -19,7 +19,7 @@ impl<A: Allocator + Copy> Cluster<A> {
         }
     }
 
-    // The first enabled candidate of a processor.
+    // Returns the record of the first enabled candidate of a processor.
     fn first_on(&self, p: u32) -> Result<Option<Record<A>>, NoMemory>
         requires { p < length self.now.processors }
         ensures { IfOk result (FindsFirst {A = A} self.now (candidates_of self.now p)) }
@@ -32,11 +32,11 @@ impl<A: Allocator + Copy> Cluster<A> {
         Ok(None)
     }
 
-    /// The record of the first enabled step from the turn's processor on: of each processor a
-    /// receive, else a take, else a notice, else the broadcast of all that is unsent.
+    /// Returns the record of the first enabled step, from the turn's processor on: of each processor a receive, else a take,
+    /// else a notice, else the broadcast of all that is unsent.
     ///
-    /// It is the first enabled one of the candidates, if processors are gone through from this turn on; none exactly if no
-    /// candidate is enabled.
+    /// The step is the first enabled candidate if the processors are gone through from this turn on. There is none exactly
+    /// if no candidate is enabled.
     pub fn first_planned(&self, turn: u64) -> Result<Option<Record<A>>, NoMemory>
         ensures chosen { IfOk result (λ r. IfSome r (λ r. IsChosen self.now turn r.step)) }
         ensures first { IfOk result (λ r. IfSome r (λ r.
@@ -57,7 +57,7 @@ impl<A: Allocator + Copy> Cluster<A> {
         Ok(None)
     }
 
-    /// The step of that record.
+    /// Returns the step of the record that `first_planned` returns.
     pub fn first_enabled(&self, turn: u64) -> Result<Option<Step<A>>, NoMemory>
         ensures chosen { IfOk result (λ x. IfSome x (IsChosen self.now turn)) }
         ensures first { IfOk result (λ x. IfSome x

@@ -44,8 +44,7 @@ impl<A: Allocator + Copy> Model for Cluster<A> {
 }
 
 impl<A: Allocator + Copy> Cluster<A> {
-    /// How many processors it has: 1 to 16. What a cluster is, its keys, its counts and its depths, is
-    /// within the limits, whoever made it.
+    /// Returns the number of processors, 1 to 16. The keys, counts and depths of every cluster are within the limits.
     pub fn n(&self) -> usize
         ensures value { result ≡ length self.now.processors }
         ensures state { IsState self.now }
@@ -53,21 +52,21 @@ impl<A: Allocator + Copy> Cluster<A> {
         self.parts.n()
     }
 
-    /// The graph that it runs.
+    /// Returns the graph that the processors run.
     pub fn graph(&self) -> &Graph<A>
         ensures { result.now ≡ self.now.graph }
     {
         self.parts.graph()
     }
 
-    /// The paths of its graph.
+    /// Returns the paths of the graph.
     pub fn paths(&self) -> &Paths<A>
         ensures { result.now ≡ self.now.graph }
     {
         self.parts.paths()
     }
 
-    /// One of its processors.
+    /// Returns processor `p`.
     pub fn processor(&self, p: usize) -> &Processor<A>
         requires { p < length self.now.processors }
         ensures { result.now ≡ processor self.now p }
@@ -75,7 +74,7 @@ impl<A: Allocator + Copy> Cluster<A> {
         self.parts.processor(p)
     }
 
-    // Its processors.
+    // Returns the processors.
     pub(crate) fn processors(&self) -> &[Processor<A>]
         ensures value { result.now ≡ self.now.processors }
         ensures state { IsState self.now }
@@ -83,7 +82,7 @@ impl<A: Allocator + Copy> Cluster<A> {
         self.parts.processors()
     }
 
-    /// What processor q knows of the outstanding pointstamps.
+    /// Returns what processor `q` knows of the outstanding pointstamps.
     pub fn view(&self, q: usize) -> &View<A>
         requires { q < length self.now.processors }
         ensures map { result.now.map ≡ view self.now q }
@@ -92,7 +91,7 @@ impl<A: Allocator + Copy> Cluster<A> {
         self.parts.view(q)
     }
 
-    /// Whether processor q's view holds nothing positive at or before a pointstamp (FORTE 2013).
+    /// Returns whether processor `q`'s view is positive at no pointstamp at or before `point` (FORTE 2013).
     pub fn passed(&self, q: usize, point: &Pointstamp) -> bool
         requires { q < length self.now.processors }
         ensures passed { IsTrue result ↔ IsPassed self.now.graph (view self.now q) point.now }
@@ -103,7 +102,7 @@ impl<A: Allocator + Copy> Cluster<A> {
         self.view(q).passed(self.paths(), point)
     }
 
-    /// The least pointstamp at or before one at which processor q's view is positive.
+    /// Returns the least pointstamp at or before `point` at which processor `q`'s view is positive.
     pub fn blocker(&self, q: usize, point: &Pointstamp) -> Option<Pointstamp>
         requires { q < length self.now.processors }
         ensures passed { IsNone result ↔ IsPassed self.now.graph (view self.now q) point.now }
@@ -116,7 +115,7 @@ impl<A: Allocator + Copy> Cluster<A> {
         self.view(q).blocker(self.paths(), point)
     }
 
-    // Its views.
+    // Returns the views.
     pub(crate) fn views(&self) -> &[View<A>]
         ensures maps { maps result.now ≡ self.now.views }
         ensures paths { All (IsFor self.now.graph) result.now }
@@ -125,7 +124,7 @@ impl<A: Allocator + Copy> Cluster<A> {
         self.parts.views()
     }
 
-    // Its queues.
+    // Returns the queues.
     pub(crate) fn mesh(&self) -> &Mesh<A>
         ensures value { result.now ≡ self.now.queues }
         ensures state { IsState self.now }
@@ -133,7 +132,7 @@ impl<A: Allocator + Copy> Cluster<A> {
         self.parts.mesh()
     }
 
-    /// How many changes are on their way from one processor to another.
+    /// Returns the number of changes in the queue from one processor to another.
     pub fn queue_len(&self, from: usize, to: usize) -> usize
         requires sender { from < length self.now.processors }
         requires receiver { to < length self.now.processors }

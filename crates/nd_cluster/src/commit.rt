@@ -11,8 +11,8 @@ use nd_steps::Record;
 use std::alloc::Allocator;
 
 impl<A: Allocator + Copy> Cluster<A> {
-    /// Makes the step of a record that was planned in this state. If the cluster has the protocol
-    /// invariant, what is finished stays finished (FORTE 2013).
+    /// Executes the step of a record that was planned in this state. If the cluster has the protocol
+    /// invariant, what is finished stays finished (FORTE 2013). After an error the cluster is as it was.
     pub fn commit(&mut self, planned: &Record<A>) -> Result<(), NoMemory>
         requires { IsPlanned planned.now self.old }
         ensures step { OnOk result (self.new ≡ stepped self.old planned.now.step) }
@@ -30,7 +30,7 @@ impl<A: Allocator + Copy> Cluster<A> {
         Ok(())
     }
 
-    /// Undoes the step of a record, in the state that its commit left.
+    /// Undoes the step of a record, in the state that its commit left. After an error the cluster is as it was.
     pub fn back(&mut self, made: &Record<A>) -> Result<(), NoMemory>
         requires { IsCommitted made.now self.old }
         ensures ok { OnOk result ((s : ClusterState) → Leads made.now s self.old → self.new ≡ s) }

@@ -13,19 +13,19 @@ ghost use Rattle.nd_protocol.specs.Fitting.{IsAtVertex, IsAtEdge, IsAtLocation, 
 
 use crate::Cluster;
 use crate::refuse::op_at;
-use crate::start::{MAX_PROCESSORS, token_point};
+use crate::start::MAX_PROCESSORS;
 use nd_delta::Delta;
 use nd_graph::{Graph, Op};
 use nd_mesh::Mesh;
 use nd_paths::{Paths, Pointstamp};
-use nd_processor::{Processor, SinkKey, ValueAt};
+use nd_processor::{Processor, SinkKey, ValueAt, token_point};
 use nd_protocol::times_are_small;
 use nd_steps::Parts;
 use nd_vertex::{ItemKey, VertexState};
 use nd_view::View;
 use std::alloc::Allocator;
 
-// Whether a pointstamp is one of a vertex.
+// Returns whether a pointstamp is one of a vertex.
 fn is_at_vertex<A: Allocator>(graph: &Graph<A>, point: &Pointstamp) -> bool
     ensures { IsTrue result ↔ IsAtVertex graph.now point.now }
 {
@@ -33,7 +33,7 @@ fn is_at_vertex<A: Allocator>(graph: &Graph<A>, point: &Pointstamp) -> bool
     point.location < graph.vertices().len() && point.fits(graph)
 }
 
-// Whether a pointstamp is one of an edge.
+// Returns whether a pointstamp is one of an edge.
 fn is_at_edge<A: Allocator>(graph: &Graph<A>, point: &Pointstamp) -> bool
     ensures { IsTrue result ↔ IsAtEdge graph.now point.now }
 {
@@ -41,7 +41,7 @@ fn is_at_edge<A: Allocator>(graph: &Graph<A>, point: &Pointstamp) -> bool
     point.location >= graph.vertices().len() && point.fits(graph)
 }
 
-// Whether a pointstamp is one of the graph.
+// Returns whether a pointstamp is one of the graph.
 fn is_at_location<A: Allocator>(graph: &Graph<A>, point: &Pointstamp) -> bool
     ensures { IsTrue result ↔ IsAtLocation graph.now point.now }
 {
@@ -49,28 +49,28 @@ fn is_at_location<A: Allocator>(graph: &Graph<A>, point: &Pointstamp) -> bool
     point.fits(graph)
 }
 
-// The type of a value keeps it in its range.
+// Proves that a value is in the range of its type.
 fn is_value(value: i64)
     ensures { IsValue value }
 {
     let _value = value;
 }
 
-// Whether an input vertex may have a token at an epoch.
+// Returns whether an input vertex may have a token at an epoch.
 fn token_fits<A: Allocator>(graph: &Graph<A>, vertex: usize, epoch: u32) -> bool
     ensures { IsTrue result ↔ IsToken graph.now vertex epoch }
 {
     matches!(op_at(graph, vertex), Op::Input) && is_at_vertex(graph, &token_point(vertex, epoch))
 }
 
-// Whether a vertex is a sink.
+// Returns whether a vertex is a sink.
 fn is_sink<A: Allocator>(graph: &Graph<A>, vertex: usize) -> bool
     ensures { IsTrue result ↔ IsSink graph.now vertex }
 {
     vertex < graph.vertices().len() && matches!(op_at(graph, vertex), Op::Sink)
 }
 
-// Whether a record may have a count: any may have none.
+// Returns whether a record may have a count. Any may have the count 0.
 fn record_fits<A: Allocator>(graph: &Graph<A>, key: &ValueAt, count: &u64) -> bool
     ensures { IsTrue result ↔ (count.now ≢ 0 → IsRecordKey graph.now key.now) }
 {
@@ -78,7 +78,7 @@ fn record_fits<A: Allocator>(graph: &Graph<A>, key: &ValueAt, count: &u64) -> bo
     *count == 0 || is_at_edge(graph, &key.point)
 }
 
-// Whether a sink vertex may have counted a value so often: any may have none.
+// Returns whether a sink vertex may have a count of a value. Any may have the count 0.
 fn sink_fits<A: Allocator>(graph: &Graph<A>, key: &SinkKey, count: &u64) -> bool
     ensures { IsTrue result ↔ (count.now ≢ 0 → IsSinkKey graph.now key.now) }
 {
@@ -86,7 +86,7 @@ fn sink_fits<A: Allocator>(graph: &Graph<A>, key: &SinkKey, count: &u64) -> bool
     *count == 0 || is_sink(graph, key.vertex)
 }
 
-// Whether a vertex may keep a number at a time: any may keep none.
+// Returns whether a vertex may keep a number at a time. Any may keep 0.
 fn item_fits<A: Allocator>(graph: &Graph<A>, vertex: usize, key: &ItemKey, number: &i64) -> bool
     ensures { IsTrue result ↔ (number.now ≢ pos 0 → IsItem graph.now vertex key.now number.now) }
 {
@@ -99,7 +99,7 @@ fn item_fits<A: Allocator>(graph: &Graph<A>, vertex: usize, key: &ItemKey, numbe
     *number == 0 || is_at_vertex(graph, &point)
 }
 
-// Whether the records of a processor are on edges.
+// Returns whether the records of a processor are on edges.
 fn records_fit<A: Allocator + Copy>(graph: &Graph<A>, processor: &Processor<A>) -> bool
     ensures { IsTrue result ↔ All (λ e. e.1 ≢ 0
         → IsRecordKey graph.now e.0) (counts_of processor.now.records) }
@@ -109,7 +109,7 @@ fn records_fit<A: Allocator + Copy>(graph: &Graph<A>, processor: &Processor<A>) 
         .all(|e: (&ValueAt, &u64)| record_fits(graph, e.0, e.1))
 }
 
-// Whether its requests are at vertices.
+// Returns whether the requests of a processor are at vertices.
 fn requests_fit<A: Allocator + Copy>(graph: &Graph<A>, processor: &Processor<A>) -> bool
     ensures { IsTrue result
         ↔ All (λ e. IsAtVertex graph.now e.0) (fin.entries processor.now.requests) }
@@ -119,7 +119,7 @@ fn requests_fit<A: Allocator + Copy>(graph: &Graph<A>, processor: &Processor<A>)
         .all(|e: (&Pointstamp, &())| is_at_vertex(graph, e.0))
 }
 
-// Whether its tokens are those of input vertices.
+// Returns whether the tokens of a processor are those of input vertices.
 fn tokens_fit<A: Allocator + Copy>(graph: &Graph<A>, processor: &Processor<A>) -> bool
     ensures { IsTrue result
         ↔ All (λ e. IsToken graph.now e.0 e.1) (fin.entries processor.now.tokens) }
@@ -130,7 +130,7 @@ fn tokens_fit<A: Allocator + Copy>(graph: &Graph<A>, processor: &Processor<A>) -
         .all(|e: &(usize, u32)| token_fits(graph, e.0, e.1))
 }
 
-// Whether its sinks are sinks.
+// Returns whether the sink counts of a processor are those of sink vertices.
 fn sinks_fit<A: Allocator + Copy>(graph: &Graph<A>, processor: &Processor<A>) -> bool
     ensures { IsTrue result ↔ All (λ e. e.1 ≢ 0
         → IsSinkKey graph.now e.0) (counts_of processor.now.sinks) }
@@ -140,7 +140,7 @@ fn sinks_fit<A: Allocator + Copy>(graph: &Graph<A>, processor: &Processor<A>) ->
         .all(|e: (&SinkKey, &u64)| sink_fits(graph, e.0, e.1))
 }
 
-// Whether a vertex keeps items at its own times.
+// Returns whether a vertex keeps items at its own times.
 fn state_fits<A: Allocator + Copy>(graph: &Graph<A>, vertex: usize, state: &VertexState<A>) -> bool
     ensures { IsTrue result ↔ ItemsFit graph.now vertex state.now }
 {
@@ -149,7 +149,7 @@ fn state_fits<A: Allocator + Copy>(graph: &Graph<A>, vertex: usize, state: &Vert
         .all(|e: (&ItemKey, &i64)| item_fits(graph, vertex, e.0, e.1))
 }
 
-// Whether each vertex of a processor does.
+// Returns whether each vertex of a processor keeps items at its own times.
 fn items_fit<A: Allocator + Copy>(graph: &Graph<A>, processor: &Processor<A>) -> bool
     ensures { IsTrue result ↔ ((v : ℕ) → v < length processor.now.items
         → ItemsFit graph.now v (items_at processor.now v)) }
@@ -162,7 +162,7 @@ fn items_fit<A: Allocator + Copy>(graph: &Graph<A>, processor: &Processor<A>) ->
     true
 }
 
-// Whether pointstamps fit the graph.
+// Returns whether the pointstamps of entries fit the graph.
 fn entries_fit<A: Allocator>(graph: &Graph<A>, entries: &[(Pointstamp, i64)]) -> bool
     ensures { IsTrue result ↔ All (λ e. IsAtLocation graph.now e.0) entries.now }
 {
@@ -171,7 +171,7 @@ fn entries_fit<A: Allocator>(graph: &Graph<A>, entries: &[(Pointstamp, i64)]) ->
         .all(|e: &(Pointstamp, i64)| is_at_location(graph, &e.0))
 }
 
-// Whether a change has entries at pointstamps of the graph alone.
+// Returns whether a change has entries at pointstamps of the graph alone.
 fn change_fits<A: Allocator>(graph: &Graph<A>, change: &Delta<A>) -> bool
     ensures fits { IsTrue result ↔ DeltaFits graph.now change.now }
     ensures within { DeltaIsWithin change.now }
@@ -179,7 +179,7 @@ fn change_fits<A: Allocator>(graph: &Graph<A>, change: &Delta<A>) -> bool
     entries_fit(graph, change.entries())
 }
 
-// Whether what a processor has not sent is at pointstamps of the graph alone.
+// Returns whether what a processor has not sent is at pointstamps of the graph alone.
 fn unsent_fits<A: Allocator + Copy>(graph: &Graph<A>, processor: &Processor<A>) -> bool
     ensures { IsTrue result
         ↔ All (λ e. IsAtLocation graph.now e.0) (entries_of processor.now.unsent) }
@@ -190,7 +190,7 @@ fn unsent_fits<A: Allocator + Copy>(graph: &Graph<A>, processor: &Processor<A>) 
         .all(|e: (&Pointstamp, &i64)| is_at_location(graph, e.0))
 }
 
-// The types keep the counts of a processor within their limits.
+// Proves that the counts of a processor are within their limits, by their types.
 fn is_within<A: Allocator + Copy>(processor: &Processor<A>)
     ensures { ProcessorIsWithin processor.now }
 {
@@ -199,7 +199,7 @@ fn is_within<A: Allocator + Copy>(processor: &Processor<A>)
     let _ = processor.unsent().iter();
 }
 
-// Whether each key of a processor is one of the graph.
+// Returns whether each key of a processor is one of the graph.
 fn processor_fits<A: Allocator + Copy>(graph: &Graph<A>, processor: &Processor<A>) -> bool
     ensures { IsTrue result ↔ ProcessorFits graph.now processor.now }
 {
@@ -224,7 +224,7 @@ fn processor_fits<A: Allocator + Copy>(graph: &Graph<A>, processor: &Processor<A
     unsent_fits(graph, processor)
 }
 
-// Whether each key of some processors is one of the graph.
+// Returns whether each key of some processors is one of the graph.
 fn processors_fit<A: Allocator + Copy>(graph: &Graph<A>, processors: &[Processor<A>]) -> bool
     ensures fits { IsTrue result ↔ All (ProcessorFits graph.now) processors.now }
     ensures within { IsTrue result → All ProcessorIsWithin processors.now }
@@ -238,7 +238,7 @@ fn processors_fit<A: Allocator + Copy>(graph: &Graph<A>, processors: &[Processor
     true
 }
 
-// Whether a view has entries at pointstamps of the graph alone.
+// Returns whether a view has entries at pointstamps of the graph alone.
 fn view_fits<A: Allocator + Copy>(graph: &Graph<A>, view: &View<A>) -> bool
     ensures fits { IsTrue result ↔ DeltaFits graph.now view.now.map }
     ensures within { DeltaIsWithin view.now.map }
@@ -246,7 +246,7 @@ fn view_fits<A: Allocator + Copy>(graph: &Graph<A>, view: &View<A>) -> bool
     entries_fit(graph, view.entries())
 }
 
-// Whether all views do.
+// Returns whether all views have entries at pointstamps of the graph alone.
 fn views_fit<A: Allocator + Copy>(graph: &Graph<A>, views: &[View<A>]) -> bool
     ensures fits { IsTrue result ↔ All (λ (v : Kept). DeltaFits graph.now v.map) views.now }
     ensures within { IsTrue result → All (λ (v : Kept). DeltaIsWithin v.map) views.now }
@@ -259,7 +259,7 @@ fn views_fit<A: Allocator + Copy>(graph: &Graph<A>, views: &[View<A>]) -> bool
     true
 }
 
-// Whether the changes of a queue do.
+// Returns whether the changes of a queue have entries at pointstamps of the graph alone.
 fn queue_fits<A: Allocator + Copy>(graph: &Graph<A>, mesh: &Mesh<A>, from: usize, to: usize) -> bool
     requires sender { from < length mesh.now }
     requires receiver { to < length mesh.now }
@@ -275,7 +275,7 @@ fn queue_fits<A: Allocator + Copy>(graph: &Graph<A>, mesh: &Mesh<A>, from: usize
     true
 }
 
-// Whether the changes of all queues from a processor do.
+// Returns whether the changes of all queues from a processor have entries at pointstamps of the graph alone.
 fn row_fits<A: Allocator + Copy>(graph: &Graph<A>, mesh: &Mesh<A>, from: usize) -> bool
     requires { from < length mesh.now }
     ensures fits { IsTrue result ↔ RowFits graph.now mesh.now from }
@@ -289,7 +289,7 @@ fn row_fits<A: Allocator + Copy>(graph: &Graph<A>, mesh: &Mesh<A>, from: usize) 
     true
 }
 
-// Whether the changes of all queues do.
+// Returns whether the changes of all queues have entries at pointstamps of the graph alone.
 fn mesh_fits<A: Allocator + Copy>(graph: &Graph<A>, mesh: &Mesh<A>) -> bool
     ensures fits { IsTrue result ↔ ((p : ℕ) → p < length mesh.now → RowFits graph.now mesh.now p) }
     ensures within { IsTrue result → (p : ℕ) → p < length mesh.now → RowIsWithin mesh.now p }
@@ -302,7 +302,7 @@ fn mesh_fits<A: Allocator + Copy>(graph: &Graph<A>, mesh: &Mesh<A>) -> bool
     true
 }
 
-// Whether parts are those of a state that a cluster may be in.
+// Returns whether parts are those of a state that a cluster may be in.
 fn parts_fit<A: Allocator + Copy>(
     paths: &Paths<A>,
     processors: &[Processor<A>],
@@ -332,7 +332,7 @@ fn parts_fit<A: Allocator + Copy>(
 }
 
 impl<A: Allocator + Copy> Cluster<A> {
-    /// The cluster of these parts, `None` if their sizes, keys, counts or depths do not fit.
+    /// Returns the cluster of these parts, `None` if their sizes, keys, counts or depths do not fit.
     pub fn of_parts(
         alloc: A,
         graph: &Graph<A>,

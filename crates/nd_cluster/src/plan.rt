@@ -12,7 +12,7 @@ use nd_steps::{changes_are_counted, planned_front, planned_part};
 use std::alloc::Allocator;
 
 impl<A: Allocator + Copy> Cluster<A> {
-    // What a broadcast changes, or why it is refused.
+    // Returns what a broadcast changes, or why it is refused.
     fn broadcast_changes(&self, p: u32, part: &Part<A>) -> Result<Changes<A>, Refusal>
         requires { NumbersFit {A = A} (Sending p part.now) }
         ensures ok { IfOk result (Plans {A = A} self.now (Sending p part.now)) }
@@ -33,7 +33,7 @@ impl<A: Allocator + Copy> Cluster<A> {
         Ok(Changes::Sent { p, part: change })
     }
 
-    // What a receive changes, or why it is refused.
+    // Returns what a receive changes, or why it is refused.
     fn receive_changes(&self, from: u32, to: u32) -> Result<Changes<A>, Refusal>
         requires { NumbersFit {A = A} (Receiving from to) }
         ensures ok { IfOk result (Plans {A = A} self.now (Receiving from to)) }
@@ -52,7 +52,7 @@ impl<A: Allocator + Copy> Cluster<A> {
         Ok(Changes::Received { from, to, change })
     }
 
-    // What a step changes, or why it is refused.
+    // Returns what a step changes, or why it is refused.
     pub(crate) fn changes_of(&self, step: &Step<A>) -> Result<Changes<A>, Refusal>
         ensures ok { IfOk result (Plans self.now step.now) }
         ensures refused { IfErr result (λ r. r ≢ Memory → IsRefused self.now step.now r) }
@@ -66,7 +66,7 @@ impl<A: Allocator + Copy> Cluster<A> {
         }
     }
 
-    // The record of a step, which it keeps, or why the step is refused.
+    // Returns the record of a step, which owns the step, or why the step is refused.
     pub(crate) fn plan_of(&self, step: Step<A>) -> Result<Record<A>, Refusal>
         ensures enabled { OnOk result (IsEnabled self.now step) }
         ensures step { IfOk result (λ r. r.step ≡ step) }
@@ -78,11 +78,11 @@ impl<A: Allocator + Copy> Cluster<A> {
         Ok(Record { step, changes })
     }
 
-    /// The record of a step, or why the step is refused (this project's own rule).
+    /// Returns the record of a step, or why the step is refused (this project's own rule).
     ///
-    /// Nothing changes. Out of memory may come in place of a refusal numbered 13 or more, but for
-    /// those of nothing to send and nothing to receive. If the cluster has the protocol
-    /// invariant, nothing outstanding is strictly before a notice that is planned (FORTE 2013).
+    /// Changes nothing. The refusal may be out of memory in place of one that is numbered 13 or more, but for an empty part
+    /// and an empty queue. If the cluster has the protocol invariant, nothing outstanding is strictly before a notice that
+    /// is planned (FORTE 2013).
     pub fn plan(&self, step: &Step<A>) -> Result<Record<A>, Refusal>
         ensures enabled { OnOk result (IsEnabled self.now step.now) }
         ensures last { OnOk result (ComesLast self.now step.now) }

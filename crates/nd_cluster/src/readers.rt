@@ -7,13 +7,12 @@ ghost use Rattle.nd_protocol.specs.State.{truth};
 ghost use Rattle.nd_protocol.specs.Invariant.{IsSettled};
 
 use crate::Cluster;
-use crate::start::token_point;
 use nd_paths::Pointstamp;
-use nd_processor::Processor;
+use nd_processor::{Processor, token_point};
 use nd_protocol::truth_is_small;
 use std::alloc::{AllocError, Allocator};
 
-// How many requests a processor has at a pointstamp: one or none.
+// Returns the number of requests that a processor has at a pointstamp: one or none.
 fn count_requests<A: Allocator + Copy>(processor: &Processor<A>, point: &Pointstamp) -> u128
     ensures value { result ≡ in_requests processor.now.requests point.now }
     ensures fits { result ≤ 1 }
@@ -21,7 +20,7 @@ fn count_requests<A: Allocator + Copy>(processor: &Processor<A>, point: &Pointst
     if processor.has_request(point) { 1 } else { 0 }
 }
 
-// How many tokens a processor has at a pointstamp: one or none.
+// Returns the number of tokens that a processor has at a pointstamp: one or none.
 fn count_tokens<A: Allocator + Copy>(processor: &Processor<A>, point: &Pointstamp) -> u128
     ensures value { result ≡ in_tokens processor.now.tokens point.now }
     ensures fits { result ≤ 1 }
@@ -33,7 +32,7 @@ fn count_tokens<A: Allocator + Copy>(processor: &Processor<A>, point: &Pointstam
     if point.cmp(&token).is_eq() { 1 } else { 0 }
 }
 
-// How much a processor has outstanding at a pointstamp.
+// Returns the number of records, requests and tokens that a processor has at a pointstamp.
 fn count_held<A: Allocator + Copy>(processor: &Processor<A>, point: &Pointstamp) -> u128
     ensures value { result ≡ held processor.now point.now }
     ensures fits { result < 2 ^ 121 }
@@ -41,7 +40,7 @@ fn count_held<A: Allocator + Copy>(processor: &Processor<A>, point: &Pointstamp)
     processor.records_at(point) + count_requests(processor, point) + count_tokens(processor, point)
 }
 
-// How much processors have outstanding at a pointstamp.
+// Returns the number of records, requests and tokens at a pointstamp, over some processors.
 fn count_all<A: Allocator + Copy>(processors: &[Processor<A>], point: &Pointstamp) -> u128
     requires { length processors.now ≤ max_processors }
     ensures { result ≡ sum_by (λ q. held q point.now) processors.now }
@@ -54,7 +53,7 @@ fn count_all<A: Allocator + Copy>(processors: &[Processor<A>], point: &Pointstam
 }
 
 impl<A: Allocator + Copy> Cluster<A> {
-    /// How many records, requests and tokens there are at a pointstamp, over all processors.
+    /// Returns the number of records, requests and tokens at a pointstamp, over all processors.
     pub fn count(&self, point: &Pointstamp) -> u128
         ensures value { pos result ≡ at (truth self.now.processors) point.now }
         ensures small { IsSettled self.now → result < 2 ^ 63 }
@@ -63,7 +62,7 @@ impl<A: Allocator + Copy> Cluster<A> {
         count_all(self.processors(), point)
     }
 
-    /// An equal cluster.
+    /// Returns an equal cluster.
     pub fn copy(&self, alloc: A) -> Result<Cluster<A>, AllocError>
         ensures { IfOk result (λ c. c ≡ self.now) }
     {

@@ -47,12 +47,12 @@ impl<A: Allocator + Copy> Cluster<A> {
         Ok(reasons)
     }
 
-    /// Why processor q does not consider a pointstamp finished: the pointstamps on the frontier of its view that are at or
-    /// before this one, each with all that is held there and all that q has not heard of it (this project's own rule, on
-    /// FORTE 2013).
+    /// Returns why processor `q` does not consider a pointstamp finished: the pointstamps on the frontier of its view that
+    /// are at or before `point`, each with all that is held there and all that `q` has not heard of it (this project's own
+    /// rule, on FORTE 2013).
     ///
-    /// There is none exactly if q's view has passed the pointstamp. If the protocol was kept, what the view counts and what
-    /// was not heard are together what is held; and if nothing outstanding is at or before the pointstamp, nothing is held.
+    /// There is none exactly if `q`'s view has passed `point`. If the protocol was kept, what the view counts and what was
+    /// not heard are together what is held; and if nothing outstanding is at or before `point`, nothing is held.
     pub fn why(&self, alloc: A, q: usize, point: &Pointstamp) -> Result<Reasons<A>, NoMemory>
         requires { q < length self.now.processors }
         ensures whole { IfOk result (IsWhy self.now q point.now) }
@@ -104,7 +104,7 @@ impl<A: Allocator + Copy> Cluster<A> {
         self.reasons(alloc, &question)
     }
 
-    // Whether nothing outstanding is at or before a pointstamp, or strictly before it.
+    // Returns whether nothing outstanding is at or before a pointstamp, or strictly before it if `strictly`.
     fn is_finished(&self, point: &Pointstamp, strictly: bool) -> bool
         ensures { IsTrue result ↔ IsFinishedBefore self.now strictly point.now }
     {
@@ -113,7 +113,7 @@ impl<A: Allocator + Copy> Cluster<A> {
         finished(self.paths(), self.processors(), point, strictly)
     }
 
-    /// Whether nothing outstanding is at or before a pointstamp.
+    /// Returns whether nothing outstanding is at or before a pointstamp.
     pub fn finished(&self, point: &Pointstamp) -> bool
         ensures { IsTrue result ↔ IsFinished self.now point.now }
     {

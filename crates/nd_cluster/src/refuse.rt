@@ -19,7 +19,7 @@ use std::alloc::Allocator;
 /// The most values of one feed.
 pub(crate) const MAX_VALUES: usize = 1024;
 
-// The operator at a vertex's location; an edge's location counts as a sink.
+// Returns the operator at a vertex's location, and that of a sink at an edge's location.
 pub(crate) fn op_at<B: Allocator>(graph: &Graph<B>, location: usize) -> Op
     ensures op { result ≡ operator_at graph.now location }
     ensures sound { IsFaultless graph.now }
@@ -37,7 +37,7 @@ fn is_input(op: Op) -> bool
 }
 
 impl<A: Allocator + Copy> Cluster<A> {
-    // The epoch at which a feed emits its values, or why it is refused, but for the limits.
+    // Returns the epoch at which a feed emits its values, or why it is refused, but for the limits.
     pub(crate) fn feed_epoch(
         &self,
         p: u32,
@@ -72,7 +72,7 @@ impl<A: Allocator + Copy> Cluster<A> {
         Ok(epoch)
     }
 
-    // The vertex that an edge enters, or why the take of a record off it is refused before the vertex is asked.
+    // Returns the vertex that an edge enters, or why the take of a record off the edge is refused before the vertex is asked.
     pub(crate) fn take_target(&self, p: u32, key: &ValueAt) -> Result<usize, Refusal>
         ensures target { IfOk result (λ v. v ≡ target_of self.now.graph key.now.point.location) }
         ensures free { OnOk result (IsFreeBelow {A = A} self.now (take_of p key.now) 11) }
@@ -96,7 +96,7 @@ impl<A: Allocator + Copy> Cluster<A> {
         Ok(graph.edges()[edge - first].to)
     }
 
-    // Whether a notice was asked for on a processor, and why it is refused.
+    // Returns an error unless a notice was asked for on a processor: why the notice is refused.
     pub(crate) fn notice_asked(&self, p: u32, point: &Pointstamp) -> Result<(), Refusal>
         ensures asked { OnOk result (fin.get (processor self.now p).requests point.now ≡ Some tt) }
         ensures free { OnOk result (IsFreeBelow {A = A} self.now (notice_of p point.now) 10) }

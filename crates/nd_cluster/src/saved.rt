@@ -5,7 +5,7 @@ ghost use Rattle.nd_cluster.specs.Saved.{state_in, FitsIn, IsSaved};
 use crate::Cluster;
 use nd_mesh::Mesh;
 use nd_processor::Processor;
-use nd_steps::Parts;
+use nd_steps::{Parts, copied_processors, copied_views};
 use nd_view::View;
 use std::alloc::{AllocError, Allocator, Global};
 
@@ -17,34 +17,6 @@ pub struct Saved<A: Allocator + Copy = Global> {
     pub(crate) processors: Vec<Processor<A>, A>,
     pub(crate) views: Vec<View<A>, A>,
     pub(crate) mesh: Mesh<A>,
-}
-
-// Equal processors.
-fn copied_processors<A: Allocator + Copy>(
-    alloc: A,
-    processors: &[Processor<A>],
-) -> Result<Vec<Processor<A>, A>, AllocError>
-    ensures { IfOk result (λ v. v.items ≡ processors.now) }
-{
-    let mut copied = Vec::with_capacity(alloc, processors.len())?;
-    for processor in processors {
-        copied.push(processor.copy(alloc)?)?;
-    }
-    Ok(copied)
-}
-
-// Equal views.
-fn copied_views<A: Allocator + Copy>(
-    alloc: A,
-    views: &[View<A>],
-) -> Result<Vec<View<A>, A>, AllocError>
-    ensures { IfOk result (λ v. v.items ≡ views.now) }
-{
-    let mut copied = Vec::with_capacity(alloc, views.len())?;
-    for view in views {
-        copied.push(view.copy(alloc)?)?;
-    }
-    Ok(copied)
 }
 
 impl<A: Allocator + Copy> Cluster<A> {

@@ -7,7 +7,7 @@ use crate::Cluster;
 use nd_processor::Processor;
 use std::alloc::Allocator;
 
-// How often the sinks of a vertex counted a value, over processors.
+// Returns how often a sink vertex has counted a value, over some processors.
 fn count_sinks<A: Allocator + Copy>(processors: &[Processor<A>], vertex: usize, value: i64) -> u64
     requires { length processors.now ≤ max_processors }
     ensures { result ≡ sunk processors.now vertex value }
@@ -20,7 +20,7 @@ fn count_sinks<A: Allocator + Copy>(processors: &[Processor<A>], vertex: usize, 
 }
 
 impl<A: Allocator + Copy> Cluster<A> {
-    /// How often the sinks of a vertex counted a value, over all processors.
+    /// Returns how often a sink vertex has counted a value, over all processors.
     pub fn sink_count(&self, vertex: usize, value: i64) -> u64
         ensures { result ≡ sunk self.now.processors vertex value }
     {

@@ -14,14 +14,14 @@ use nd_processor::Processor;
 use nd_view::View;
 use std::alloc::Allocator;
 
-// What is left of a number after so many, if it is not less.
+// Returns what is left of `left` after `n`, or none if `n` is more.
 fn less(left: u64, n: usize) -> Option<u64>
     ensures { Leaves left n result }
 {
     left.checked_sub(n as u64)
 }
 
-// What is left after the entries of a map. No more are counted than there are left.
+// Returns what is left after the entries of a map. Counts at most one entry more than `left`.
 fn after_map<K, V>(mut left: u64, entries: Iter<'_, K, V>) -> Option<u64>
     ensures { Leaves left (length entries.entry) result }
 {
@@ -31,7 +31,7 @@ fn after_map<K, V>(mut left: u64, entries: Iter<'_, K, V>) -> Option<u64>
     Some(left)
 }
 
-// What is left after what a processor's vertices keep.
+// Returns what is left after the items that a processor's vertices keep.
 fn after_items<A: Allocator + Copy>(mut left: u64, processor: &Processor<A>) -> Option<u64>
     ensures { Leaves left (sum_by (λ m. length (counts_of m)) processor.now.items) result }
 {
@@ -41,7 +41,7 @@ fn after_items<A: Allocator + Copy>(mut left: u64, processor: &Processor<A>) -> 
     Some(left)
 }
 
-// What is left after a processor.
+// Returns what is left after a processor.
 fn after_processor<A: Allocator + Copy>(left: u64, processor: &Processor<A>) -> Option<u64>
     ensures { Leaves left (processor_size processor.now) result }
 {
@@ -54,7 +54,7 @@ fn after_processor<A: Allocator + Copy>(left: u64, processor: &Processor<A>) -> 
     after_items(rest, processor)
 }
 
-// What is left after processors.
+// Returns what is left after processors.
 fn after_processors<A: Allocator + Copy>(mut left: u64, processors: &[Processor<A>]) -> Option<u64>
     ensures { Leaves left (sum_by processor_size processors.now) result }
 {
@@ -64,7 +64,7 @@ fn after_processors<A: Allocator + Copy>(mut left: u64, processors: &[Processor<
     Some(left)
 }
 
-// What is left after views.
+// Returns what is left after views.
 fn after_views<A: Allocator + Copy>(mut left: u64, views: &[View<A>]) -> Option<u64>
     ensures { Leaves left (sum_by (λ v. size v.map) views.now) result }
 {
@@ -74,7 +74,7 @@ fn after_views<A: Allocator + Copy>(mut left: u64, views: &[View<A>]) -> Option<
     Some(left)
 }
 
-// How many entries the change at a position of a queue has.
+// Returns the number of entries of the change at a position of a queue.
 fn change_len<A: Allocator + Copy>(mesh: &Mesh<A>, from: usize, to: usize, i: usize) -> usize
     requires sender { from < length mesh.now }
     requires receiver { to < length mesh.now }
@@ -84,7 +84,7 @@ fn change_len<A: Allocator + Copy>(mesh: &Mesh<A>, from: usize, to: usize, i: us
     mesh.get(from, to, i).unwrap().len()
 }
 
-// What is left after a queue.
+// Returns what is left after a queue.
 fn after_queue<A: Allocator + Copy>(
     left: u64,
     mesh: &Mesh<A>,
@@ -103,7 +103,7 @@ fn after_queue<A: Allocator + Copy>(
     Some(rest)
 }
 
-// What is left after the queues from a processor.
+// Returns what is left after the queues from a processor.
 fn after_row<A: Allocator + Copy>(left: u64, mesh: &Mesh<A>, from: usize) -> Option<u64>
     requires { from < length mesh.now }
     ensures { Leaves left
@@ -117,7 +117,7 @@ fn after_row<A: Allocator + Copy>(left: u64, mesh: &Mesh<A>, from: usize) -> Opt
     Some(rest)
 }
 
-// What is left after all queues.
+// Returns what is left after all queues.
 fn after_mesh<A: Allocator + Copy>(mut left: u64, mesh: &Mesh<A>) -> Option<u64>
     ensures { Leaves left (queues_size mesh.now) result }
 {
@@ -127,7 +127,7 @@ fn after_mesh<A: Allocator + Copy>(mut left: u64, mesh: &Mesh<A>) -> Option<u64>
     Some(left)
 }
 
-// What is left after all that steps change of a cluster.
+// Returns what is left after all that steps change of a cluster.
 fn after_cluster<A: Allocator + Copy>(left: u64, cluster: &Cluster<A>) -> Option<u64>
     ensures { Leaves left (size_of cluster.now) result }
 {
@@ -137,8 +137,8 @@ fn after_cluster<A: Allocator + Copy>(left: u64, cluster: &Cluster<A>) -> Option
 }
 
 impl<A: Allocator + Copy> Cluster<A> {
-    /// Whether all that steps change has at most `limit` entries. It takes no memory, and counts at most
-    /// one entry more than `limit`.
+    /// Returns whether all that steps change has at most `limit` entries. Takes no memory, and counts at most one entry
+    /// more than `limit`.
     pub fn has_at_most(&self, limit: u64) -> bool
         ensures { IsTrue result ↔ (size_of self.now ≤ limit) }
     {

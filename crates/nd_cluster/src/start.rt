@@ -3,7 +3,6 @@ ghost use Rattle.std.specs.Prelude.{◌≡◌, ◌*◌, pos, All, IfOk, IfErr, O
 ghost use Rattle.nd_paths.specs.declared.point.Pointstamp.{Pointstamp as Point};
 ghost use Rattle.nd_delta.specs.Delta.{at};
 ghost use Rattle.nd_view.specs.Kept.{IsFor};
-ghost use Rattle.nd_processor.specs.State.{token_point as point_of};
 ghost use Rattle.nd_processor.specs.Start.{start_processor};
 ghost use Rattle.nd_protocol.specs.State.{truth};
 ghost use Rattle.nd_protocol.specs.Start.{start as started};
@@ -14,11 +13,11 @@ use crate::Cluster;
 use nd_delta::Delta;
 use nd_graph::{Graph, GraphFault};
 use nd_mesh::Mesh;
-use nd_paths::{PathFault, Paths, Pointstamp};
-use nd_processor::Processor;
+use nd_paths::{PathFault, Paths};
+use nd_processor::{Processor, token_point};
 use nd_protocol::starts_keep_protocol;
 use nd_steps::Parts;
-use nd_time::{Code, Timestamp};
+use nd_time::Code;
 use nd_view::View;
 use std::alloc::{AllocError, Allocator};
 use thiserror::Error;
@@ -38,7 +37,7 @@ pub enum StartFault {
 }
 
 impl StartFault {
-    /// The number and the name under which the fault is answered.
+    /// Returns the code and the name of the error.
     pub fn code(self) -> Code
         ensures { result ≡ start_code self }
     {
@@ -50,7 +49,7 @@ impl StartFault {
     }
 }
 
-// The same fault, of a start.
+// Returns the fault of a graph without an order, as one of a start.
 fn start_fault(fault: PathFault) -> StartFault
     ensures { result ≡ fault_of fault }
 {
@@ -60,17 +59,7 @@ fn start_fault(fault: PathFault) -> StartFault
     }
 }
 
-// The pointstamp of an input vertex's token.
-pub(crate) fn token_point(vertex: usize, epoch: u32) -> Pointstamp
-    ensures { result ≡ point_of vertex epoch }
-{
-    Pointstamp {
-        location: vertex,
-        time: Timestamp::new(epoch, &[]).unwrap(),
-    }
-}
-
-// So many processors at their start.
+// Returns `n` processors at their start.
 fn start_processors<A: Allocator + Copy>(
     alloc: A,
     graph: &Graph<A>,
@@ -85,7 +74,7 @@ fn start_processors<A: Allocator + Copy>(
     Ok(processors)
 }
 
-// The change that counts each token so many times.
+// Returns the change that counts each token `n` times.
 fn tokens_counted<A: Allocator>(
     alloc: A,
     tokens: &[(usize, u32)],
@@ -102,7 +91,7 @@ fn tokens_counted<A: Allocator>(
     Ok(counted)
 }
 
-// So many views of what a change counts.
+// Returns `n` views that count what a change counts.
 fn start_views<A: Allocator + Copy>(
     alloc: A,
     paths: &Paths<A>,
@@ -123,7 +112,7 @@ fn start_views<A: Allocator + Copy>(
     Ok(views)
 }
 
-// What is outstanding if so many processors start.
+// Returns what is outstanding at the start of `n` processors.
 fn start_truth<A: Allocator + Copy>(
     alloc: A,
     graph: &Graph<A>,
@@ -136,9 +125,9 @@ fn start_truth<A: Allocator + Copy>(
 }
 
 impl<A: Allocator + Copy> Cluster<A> {
-    /// The start of a cluster of n processors: each token at epoch 0, each view what is outstanding.
+    /// Starts a cluster of `n` processors: each token is at epoch 0, and each view counts what is outstanding.
     ///
-    /// The graph is given up if the cluster does not start.
+    /// Drops the graph if the cluster does not start.
     pub fn start(alloc: A, graph: Graph<A>, n: u32) -> Result<Cluster<A>, StartFault>
         ensures ok { IfOk result (λ c. c ≡ started graph n) }
         ensures can { OnOk result (CanStart graph n) }

@@ -8,7 +8,7 @@ use nd_protocol::NoMemory;
 use nd_state_json::state_value;
 use std::alloc::{AllocError, Allocator, Global};
 
-// The state, of which a growth may be refused at any place.
+// Returns the state; a growth may be refused at any place.
 fn cluster_value<A: Allocator + Copy>(
     alloc: Global,
     cluster: &Cluster<A>,
@@ -26,7 +26,7 @@ fn cluster_value<A: Allocator + Copy>(
 }
 
 impl<A: Allocator + Copy> Cluster<A> {
-    /// The state as a JSON value, with the names of locations: each list in the order of listing.
+    /// Returns the state as a JSON value, with the names of locations. Each list is in the order of listing.
     pub fn state_value(&self, alloc: Global) -> Result<Json, NoMemory>
         ensures state { IfOk result (λ j. j ≡ state_data self.now) }
     {

@@ -26,7 +26,7 @@ pub(crate) enum Drafted<A: Allocator + Copy> {
 }
 
 impl<A: Allocator + Copy> Cluster<A> {
-    // How many processors it has; it is a state.
+    // Returns the number of processors.
     pub(crate) fn processor_count(&self) -> u32
         ensures value { result ≡ length self.now.processors }
         ensures state { IsState self.now }
@@ -35,7 +35,7 @@ impl<A: Allocator + Copy> Cluster<A> {
         self.n() as u32
     }
 
-    // What a feed changes, or why it is refused, but for the limits.
+    // Returns what a feed changes, or why it is refused, but for the limits.
     fn feed_parts(
         &self,
         p: u32,
@@ -71,7 +71,8 @@ impl<A: Allocator + Copy> Cluster<A> {
         Ok(all)
     }
 
-    // What a take changes, or why it is refused, but for the limits: if it can be kept in little, what comes.
+    // Returns what a take changes, or why it is refused, but for the limits. For a take of which little is kept, returns what
+    // comes for the record.
     fn take_parts(&self, p: u32, key: &ValueAt) -> Result<Drafted<A>, Refusal>
         ensures drafted { IfOk result (IsDraft self.now (take_of p key.now)) }
         ensures free { OnOk result (IsWithinRules A self.now (take_of p key.now)) }
@@ -104,7 +105,7 @@ impl<A: Allocator + Copy> Cluster<A> {
         Ok(Drafted::Each(all))
     }
 
-    // What a notice changes, or why it is refused, but for the limits.
+    // Returns what a notice changes, or why it is refused, but for the limits.
     fn notice_parts(&self, p: u32, point: &Pointstamp) -> Result<Vec<Change, A>, Refusal>
         ensures reaches { IfOk result (λ v. LeadOn A self.now (notice_of p point.now) v.items) }
         ensures free { OnOk result (IsWithinRules A self.now (notice_of p point.now)) }
@@ -128,7 +129,7 @@ impl<A: Allocator + Copy> Cluster<A> {
         Ok(all)
     }
 
-    // What a feed, a take or a notice changes, or why it is refused, but for the limits.
+    // Returns what a feed, a take or a notice changes, or why it is refused, but for the limits.
     fn drafted(&self, step: &Step<A>) -> Result<Drafted<A>, Refusal>
         requires { Works step.now }
         ensures drafted { IfOk result (IsDraft self.now step.now) }
@@ -167,7 +168,7 @@ impl<A: Allocator + Copy> Cluster<A> {
         }
     }
 
-    // The changes of a feed, a take or a notice, in the order in which they are made, or why it is refused.
+    // Returns the changes of a feed, a take or a notice, in the order in which they are made, or why the step is refused.
     pub(crate) fn work_changes(&self, step: &Step<A>) -> Result<Changes<A>, Refusal>
         requires { Works step.now }
         ensures ok { IfOk result (Plans self.now step.now) }

@@ -54,6 +54,7 @@ set m k v = counts.set point_total m k v
 unfoldable pub entries : DeltaValue → List (Pointstamp × ℤ)
 entries m = counts.entries m
 
+-- how many entries a change has
 abbrev pub size : DeltaValue → ℕ
 size m = length (entries m)
 

@@ -14,8 +14,8 @@ use std::marker::Model;
 
 /// The same as a [`Delta`], for a change that may have many entries.
 ///
-/// A look-up and an edit each take a logarithm of the number of entries, where a `Delta` moves those after an entry
-/// that comes or goes.
+/// A look-up or an edit takes time logarithmic in the number of entries. A `Delta` moves all entries after
+/// one that is added or removed.
 pub struct LargeDelta<A: Allocator = Global> {
     map: GrowingMap<Pointstamp, i64, A>,
 }
@@ -39,11 +39,12 @@ impl<A: Allocator> Model for LargeDelta<A> {
     ghost invariant = { λ a. IsKept a.map };
 }
 
-// An integer and what is added to it, if that is within the limit; of 0 there is no entry.
+// Returns the edit that adds `n` to an integer: none if the sum passes the limit, and no entry for a sum of 0.
 fn summed(held: i64, n: i64) -> Edit<i64>
     ensures full { max_count < unsigned_abs (held +ℤ n) → result ≡ Keep }
     ensures none { held +ℤ n ≡ pos 0 → result ≡ Remove }
-    ensures some { unsigned_abs (held +ℤ n) ≤ max_count → held +ℤ n ≢ pos 0 → result ≡ Put (held +ℤ n) }
+    ensures some { unsigned_abs (held +ℤ n) ≤ max_count → held +ℤ n ≢ pos 0
+        → result ≡ Put (held +ℤ n) }
 {
     let Some(sum) = held.checked_add(n) else {
         return Edit::Keep;
@@ -57,7 +58,7 @@ fn summed(held: i64, n: i64) -> Edit<i64>
     Edit::Put(sum)
 }
 
-// What came of an addition, by what was said of the integer that stood there.
+// Returns the result of an addition, by the edit of the integer that was there.
 fn outcome_of(said: Option<Edit<i64>>) -> Result<(), DeltaFault>
     ensures full { said ≡ Some Keep → result ≡ Err (DeltaFault.DeltaFull) }
     ensures ok { said ≢ Some Keep → result ≡ Ok tt }
@@ -69,7 +70,7 @@ fn outcome_of(said: Option<Edit<i64>>) -> Result<(), DeltaFault>
 }
 
 impl<A: Allocator> LargeDelta<A> {
-    /// The integer of a pointstamp, 0 if it has none.
+    /// Returns the integer of a pointstamp, 0 if it has none.
     pub fn get(&self, point: &Pointstamp) -> i64
         ensures value { result ≡ at self.now point.now }
         ensures within { unsigned_abs result ≤ max_count }
@@ -80,7 +81,7 @@ impl<A: Allocator> LargeDelta<A> {
         }
     }
 
-    /// The entries in the order of listing, one by one.
+    /// Returns an iterator over the entries in the order of listing.
     pub fn iter(&self) -> Iter<'_, Pointstamp, i64>
         ensures rest { result ≡ listed self.now }
         ensures runs { ShowsInOrder (deref_pair {K = Point} {X = ℤ}) }
@@ -90,7 +91,7 @@ impl<A: Allocator> LargeDelta<A> {
         self.map.iter()
     }
 
-    // Whether there is nothing to which `n` is added, and it passes the limit alone.
+    // Returns whether the pointstamp has no integer and `n` alone passes the limit.
     fn is_past_limit_alone(&self, point: &Pointstamp, n: i64) -> bool
         ensures past { IsTrue result → max_count < unsigned_abs (at self.now point.now +ℤ n) }
         ensures fits { result ≡ false → at self.now point.now ≡ pos 0 → unsigned_abs n ≤ max_count }
@@ -98,23 +99,24 @@ impl<A: Allocator> LargeDelta<A> {
         passes_limit(n) && self.get(point) == 0
     }
 
-    // No integer any longer at a pointstamp.
+    // Removes the integer of a pointstamp.
     fn remove(&mut self, point: &Pointstamp)
         ensures { self.new ≡ set self.old point.now (pos 0) }
     {
         self.map.remove(point);
     }
 
-    // No integers any longer at the pointstamps of some entries.
+    // Removes the integers of the pointstamps of these entries.
     fn clear(&mut self, entries: &[(Pointstamp, i64)])
-        ensures { (q : Point) → at self.new q ≡ cond (has_point q (points_of entries.now)) (pos 0) (at self.old q) }
+        ensures { (q : Point) → at self.new q
+            ≡ cond (has_point q (points_of entries.now)) (pos 0) (at self.old q) }
     {
         for entry in entries {
             self.remove(&entry.0);
         }
     }
 
-    /// The entries of a part go. It takes no memory.
+    /// Removes the entries of a part. It takes no memory.
     pub fn take_part(&mut self, part: &Delta<A>)
         requires { IsPartOf part.now self.old }
         ensures { self.new ≡ minus self.old part.now }
@@ -122,14 +124,14 @@ impl<A: Allocator> LargeDelta<A> {
         self.clear(part.entries());
     }
 
-    /// The number of entries.
+    /// Returns the number of entries.
     pub fn len(&self) -> usize
         ensures { result ≡ size self.now }
     {
         self.map.len()
     }
 
-    /// An equal change as a `Delta`.
+    /// Returns an equal change as a `Delta`.
     pub fn whole(&self, alloc: A) -> Result<Delta<A>, AllocError>
         ensures equal { IfOk result (λ d. d ≡ self.now) }
         ensures within { IsWithin self.now }
@@ -141,8 +143,8 @@ impl<A: Allocator> LargeDelta<A> {
         Ok(made)
     }
 
-    /// The entries at these pointstamps. A repeated one counts once, and one without an entry adds nothing.
-    /// No pointstamps take no memory.
+    /// Returns the entries at these pointstamps. A repeated pointstamp counts once, and one without an entry
+    /// adds nothing. It takes no memory if there are no pointstamps.
     pub fn part(&self, alloc: A, points: &[Pointstamp]) -> Result<Delta<A>, AllocError>
         ensures ok { IfOk result (λ d. d ≡ part self.now points.now) }
         ensures within { IsWithin self.now }
@@ -158,7 +160,7 @@ impl<A: Allocator> LargeDelta<A> {
         Ok(kept)
     }
 
-    /// What stays without a part of it.
+    /// Returns the change without a part of it.
     pub fn without(&self, alloc: A, part: &Delta<A>) -> Result<Delta<A>, AllocError>
         requires { IsPartOf part.now self.now }
         ensures ok { IfOk result (λ d. d ≡ minus self.now part.now) }
@@ -173,7 +175,7 @@ impl<A: Allocator> LargeDelta<A> {
 }
 
 impl<A: Allocator + Copy> LargeDelta<A> {
-    /// The change with no entry. It takes no memory.
+    /// Returns the change with no entry. It takes no memory.
     pub fn new(alloc: A) -> LargeDelta<A>
         ensures { result ≡ none }
     {
@@ -182,7 +184,7 @@ impl<A: Allocator + Copy> LargeDelta<A> {
         }
     }
 
-    /// Gives a pointstamp this integer. Only a pointstamp that has none takes memory.
+    /// Sets the integer of a pointstamp to `n`. It takes memory only if the pointstamp has no integer.
     pub fn put(&mut self, point: &Pointstamp, n: i64) -> Result<(), AllocError>
         requires { unsigned_abs n ≤ max_count }
         ensures ok { OnOk result (self.new ≡ set self.old point.now n) }
@@ -200,11 +202,12 @@ impl<A: Allocator + Copy> LargeDelta<A> {
         Ok(())
     }
 
-    /// Adds `n` to the integer of a pointstamp. A pointstamp that has one takes no memory, nor does adding 0.
+    /// Adds `n` to the integer of a pointstamp. It takes no memory if the pointstamp has an integer or `n` is 0.
     pub fn add(&mut self, point: &Pointstamp, n: i64) -> Result<(), DeltaFault>
         ensures ok { OnOk result (self.new ≡ set self.old point.now (at self.old point.now +ℤ n)) }
         ensures err { OnErr result (self.new ≡ self.old) }
-        ensures full { (result ≡ Err (DeltaFault.DeltaFull)) ↔ (max_count < unsigned_abs (at self.old point.now +ℤ n)) }
+        ensures full { (result ≡ Err (DeltaFault.DeltaFull))
+            ↔ (max_count < unsigned_abs (at self.old point.now +ℤ n)) }
         ensures no_growth { at self.old point.now ≢ pos 0 → result ≢ Err (DeltaFault.Memory) }
         ensures nothing { n ≡ pos 0 → result ≢ Err (DeltaFault.Memory) }
         ensures within { unsigned_abs (at self.old point.now) ≤ max_count }
@@ -222,7 +225,8 @@ impl<A: Allocator + Copy> LargeDelta<A> {
         outcome_of(said)
     }
 
-    /// The entries of another change come, at whose pointstamps there are none: all of them or, if memory is refused, none.
+    /// Adds the entries of another change, at pointstamps that have none: all entries or, if memory is
+    /// refused, none.
     pub fn put_part(&mut self, part: &Delta<A>) -> Result<(), AllocError>
         requires { IsApart part.now self.old }
         ensures ok { OnOk result (self.new ≡ plus self.old part.now) }
@@ -239,7 +243,7 @@ impl<A: Allocator + Copy> LargeDelta<A> {
         Ok(())
     }
 
-    /// An equal change.
+    /// Returns an equal change.
     pub fn copy(&self, alloc: A) -> Result<LargeDelta<A>, AllocError>
         ensures equal { IfOk result (λ d. d ≡ self.now) }
         ensures within { IsWithin self.now }

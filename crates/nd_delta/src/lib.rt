@@ -1,4 +1,5 @@
-//! Changes: finite maps from pointstamps to integers other than 0 (Naiad, SOSP 2013, section 3.3), stored in sorted lists, or in maps that may grow large.
+//! Changes: finite maps from pointstamps to integers other than 0 (Naiad, SOSP 2013, section 3.3).
+//! A `Delta` stores them in a sorted list, a `LargeDelta` in a map that becomes a tree as it grows.
 #![tactic(auto)]
 
 ghost use Rattle.std.specs.Prelude.{◌≡◌, ◌≢◌, [], ◌↔◌, ◌<◌, ◌≤◌, ◌+ℤ◌, ◌<ℤ◌, ◌*◌, pos, unsigned_abs, length, ◌⊎◌, OnOk, OnErr, IfOk, IfSome, IsSomeAnd, IsNone, IsTrue, Err, Contains};
@@ -53,27 +54,29 @@ impl<A: Allocator> Model for Delta<A> {
     ghost invariant = { λ a. IsKept a.map };
 }
 
-// Whether a number is greater than `LIMIT` in absolute value.
+// Returns whether a number is greater than `LIMIT` in absolute value.
 fn passes_limit(n: i64) -> bool
     ensures { IsTrue result ↔ (max_count < unsigned_abs n) }
 {
     n > LIMIT || n < -LIMIT
 }
 
-// Whether an entry is negative, and strictly before a pointstamp.
+// Returns whether an entry is negative and strictly before a pointstamp.
 fn is_negative_before<B: Allocator>(
     entry: &(Pointstamp, i64),
     paths: &Paths<B>,
     point: &Pointstamp,
 ) -> bool
-    ensures { IsTrue result ↔ ((entry.now.1 <ℤ pos 0) × IsStrictlyBefore paths.now entry.now.0 point.now) }
+    ensures { IsTrue result
+        ↔ ((entry.now.1 <ℤ pos 0) × IsStrictlyBefore paths.now entry.now.0 point.now) }
 {
     entry.1 < 0 && paths.strictly_before(&entry.0, point)
 }
 
-// Whether one of the pointstamps is strictly before another.
+// Returns whether one of the pointstamps `held` is strictly before `point`.
 fn any_before<B: Allocator>(held: &[Pointstamp], paths: &Paths<B>, point: &Pointstamp) -> bool
-    ensures { IsTrue result ↔ ((x : Pointstamp) × Contains held.now x × IsStrictlyBefore paths.now x point.now) }
+    ensures { IsTrue result
+        ↔ ((x : Pointstamp) × Contains held.now x × IsStrictlyBefore paths.now x point.now) }
 {
     for one in held {
         if paths.strictly_before(one, point) {
@@ -83,7 +86,7 @@ fn any_before<B: Allocator>(held: &[Pointstamp], paths: &Paths<B>, point: &Point
     false
 }
 
-// Whether there is a pointstamp, and it is at or before another.
+// Returns whether there is a pointstamp `first` and it is at or before `point`.
 fn is_after<B: Allocator>(paths: &Paths<B>, first: Option<&Pointstamp>, point: &Pointstamp) -> bool
     ensures { IsTrue result ↔ IsSomeAnd first.entry (λ x. CouldResultIn paths.now x.now point.now) }
 {
@@ -93,7 +96,7 @@ fn is_after<B: Allocator>(paths: &Paths<B>, first: Option<&Pointstamp>, point: &
     }
 }
 
-// Whether the next entry of one list comes before that of another.
+// Returns whether the next entry of the first list comes before that of the second.
 fn comes_first(
     first: &[(Pointstamp, i64)],
     second: &[(Pointstamp, i64)],
@@ -111,7 +114,7 @@ fn comes_first(
 }
 
 impl<A: Allocator> Delta<A> {
-    /// The delta with no entry. It takes no memory.
+    /// Returns the delta with no entry. It takes no memory.
     pub fn new(alloc: A) -> Delta<A>
         ensures { result ≡ none }
     {
@@ -120,7 +123,7 @@ impl<A: Allocator> Delta<A> {
         }
     }
 
-    /// The integer of a pointstamp, 0 if it has none.
+    /// Returns the integer of a pointstamp, 0 if it has none.
     pub fn get(&self, point: &Pointstamp) -> i64
         ensures value { result ≡ at self.now point.now }
         ensures within { unsigned_abs result ≤ max_count }
@@ -131,7 +134,7 @@ impl<A: Allocator> Delta<A> {
         }
     }
 
-    /// The entries in the order of listing.
+    /// Returns the entries in the order of listing.
     pub fn entries(&self) -> &[(Pointstamp, i64)]
         ensures listed { result.now ≡ listed self.now }
         ensures within { IsWithin self.now }
@@ -139,14 +142,14 @@ impl<A: Allocator> Delta<A> {
         self.map.entries()
     }
 
-    /// The number of entries.
+    /// Returns the number of entries.
     pub fn len(&self) -> usize
         ensures { result ≡ size self.now }
     {
         self.entries().len()
     }
 
-    /// Gives a pointstamp this integer. Only a pointstamp that has none takes memory.
+    /// Sets the integer of a pointstamp to `n`. It takes memory only if the pointstamp has no integer.
     pub fn put(&mut self, point: &Pointstamp, n: i64) -> Result<(), AllocError>
         requires { unsigned_abs n ≤ max_count }
         ensures ok { OnOk result (self.new ≡ set self.old point.now n) }
@@ -164,11 +167,12 @@ impl<A: Allocator> Delta<A> {
         Ok(())
     }
 
-    /// Adds `n` to the integer of a pointstamp. A pointstamp that has one takes no memory, nor does adding 0.
+    /// Adds `n` to the integer of a pointstamp. It takes no memory if the pointstamp has an integer or `n` is 0.
     pub fn add(&mut self, point: &Pointstamp, n: i64) -> Result<(), DeltaFault>
         ensures ok { OnOk result (self.new ≡ set self.old point.now (at self.old point.now +ℤ n)) }
         ensures err { OnErr result (self.new ≡ self.old) }
-        ensures full { (result ≡ Err (DeltaFault.DeltaFull)) ↔ (max_count < unsigned_abs (at self.old point.now +ℤ n)) }
+        ensures full { (result ≡ Err (DeltaFault.DeltaFull))
+            ↔ (max_count < unsigned_abs (at self.old point.now +ℤ n)) }
         ensures no_growth { at self.old point.now ≢ pos 0 → result ≢ Err (DeltaFault.Memory) }
         ensures nothing { n ≡ pos 0 → result ≢ Err (DeltaFault.Memory) }
         ensures within { unsigned_abs (at self.old point.now) ≤ max_count }
@@ -185,7 +189,7 @@ impl<A: Allocator> Delta<A> {
         Ok(())
     }
 
-    /// An equal delta.
+    /// Returns an equal delta.
     pub fn copy(&self, alloc: A) -> Result<Delta<A>, AllocError>
         ensures equal { IfOk result (λ d. d ≡ self.now) }
         ensures within { IsWithin self.now }
@@ -195,7 +199,7 @@ impl<A: Allocator> Delta<A> {
         })
     }
 
-    /// The integer of a pointstamp in the difference of two deltas, or in their sum.
+    /// Returns the integer of a pointstamp in the difference of two deltas, or in their sum.
     pub fn combined_at(&self, other: &Delta<A>, minus: bool, point: &Pointstamp) -> i64
         ensures value { result ≡ at (combined minus self.now other.now) point.now }
         ensures fits { unsigned_abs result ≤ 2 * max_count }
@@ -205,7 +209,7 @@ impl<A: Allocator> Delta<A> {
         if minus { here - there } else { here + there }
     }
 
-    /// Whether some entry of the difference, or of the sum, passes `LIMIT`.
+    /// Returns whether some entry of the difference, or of the sum, passes `LIMIT`.
     pub fn is_overfull(&self, other: &Delta<A>, minus: bool) -> bool
         ensures passes { IsTrue result ↔ IsTooLarge (combined minus self.now other.now) }
         ensures within { IsWithin self.now × IsWithin other.now }
@@ -219,10 +223,11 @@ impl<A: Allocator> Delta<A> {
         false
     }
 
-    /// The difference, or the sum, if it fits: the two lists are joined, each entry after those before it.
+    /// Returns the difference, or the sum, if it fits. It merges the two sorted lists.
     pub fn combine(&self, alloc: A, other: &Delta<A>, minus: bool) -> Result<Delta<A>, DeltaFault>
         ensures ok { IfOk result (λ d. d ≡ combined minus self.now other.now) }
-        ensures full { (result ≡ Err (DeltaFault.DeltaFull)) ↔ IsTooLarge (combined minus self.now other.now) }
+        ensures full { (result ≡ Err (DeltaFault.DeltaFull))
+            ↔ IsTooLarge (combined minus self.now other.now) }
         ensures within { IsWithin self.now × IsWithin other.now }
     {
         if self.is_overfull(other, minus) {
@@ -251,26 +256,28 @@ impl<A: Allocator> Delta<A> {
         Ok(made)
     }
 
-    /// The pointwise sum, without zeros.
+    /// Returns the pointwise sum, without zeros.
     pub fn plus(&self, alloc: A, other: &Delta<A>) -> Result<Delta<A>, DeltaFault>
         ensures ok { IfOk result (λ d. d ≡ plus self.now other.now) }
-        ensures full { (result ≡ Err (DeltaFault.DeltaFull)) ↔ IsTooLarge (plus self.now other.now) }
+        ensures full { (result ≡ Err (DeltaFault.DeltaFull))
+            ↔ IsTooLarge (plus self.now other.now) }
         ensures within { IsWithin self.now × IsWithin other.now }
     {
         self.combine(alloc, other, false)
     }
 
-    /// The pointwise difference, without zeros.
+    /// Returns the pointwise difference, without zeros.
     pub fn minus(&self, alloc: A, other: &Delta<A>) -> Result<Delta<A>, DeltaFault>
         ensures ok { IfOk result (λ d. d ≡ minus self.now other.now) }
-        ensures full { (result ≡ Err (DeltaFault.DeltaFull)) ↔ IsTooLarge (minus self.now other.now) }
+        ensures full { (result ≡ Err (DeltaFault.DeltaFull))
+            ↔ IsTooLarge (minus self.now other.now) }
         ensures within { IsWithin self.now × IsWithin other.now }
     {
         self.combine(alloc, other, true)
     }
 
-    /// The entries at these pointstamps. A repeated one counts once, and one without an entry adds nothing.
-    /// No pointstamps take no memory.
+    /// Returns the entries at these pointstamps. A repeated pointstamp counts once, and one without an entry
+    /// adds nothing. It takes no memory if there are no pointstamps.
     pub fn part(&self, alloc: A, points: &[Pointstamp]) -> Result<Delta<A>, AllocError>
         ensures ok { IfOk result (λ d. d ≡ part self.now points.now) }
         ensures within { IsWithin self.now }
@@ -286,14 +293,15 @@ impl<A: Allocator> Delta<A> {
         Ok(kept)
     }
 
-    // Whether a pointstamp that is held, or a negative entry, is strictly before a pointstamp.
+    // Returns whether a pointstamp in `held`, or a negative entry, is strictly before `point`.
     fn supports<B: Allocator>(
         &self,
         paths: &Paths<B>,
         held: &[Pointstamp],
         point: &Pointstamp,
     ) -> bool
-        ensures { IsTrue result ↔ IsSupported (IsStrictlyBefore paths.now) (Contains held.now) (at self.now) point.now }
+        ensures { IsTrue result
+            ↔ IsSupported (IsStrictlyBefore paths.now) (Contains held.now) (at self.now) point.now }
     {
         if any_before(held, paths, point) {
             return true;
@@ -306,26 +314,32 @@ impl<A: Allocator> Delta<A> {
         false
     }
 
-    /// The least pointstamp with a positive integer and nothing negative strictly before it,
-    /// or `None` if the change is upright (this project's own rule).
+    /// Returns the least pointstamp with a positive integer and nothing negative strictly before it, or
+    /// `None` if the change is upright (this project's own rule).
     pub fn unsupported<B: Allocator>(&self, paths: &Paths<B>) -> Option<Pointstamp>
-        ensures upright { IsNone result ↔ IsUpright (IsStrictlyBefore paths.now) HoldsNothing (at self.now) }
-        ensures least { IfSome result (IsLeast (IsUnsupported (IsStrictlyBefore paths.now) HoldsNothing (at self.now))) }
+        ensures upright { IsNone result
+            ↔ IsUpright (IsStrictlyBefore paths.now) HoldsNothing (at self.now) }
+        ensures least { IfSome result
+            (IsLeast (IsUnsupported (IsStrictlyBefore paths.now) HoldsNothing (at self.now))) }
     {
         self.unsupported_by(paths, &[])
     }
 
-    /// The least pointstamp with a positive integer and strictly before it neither anything negative
-    /// nor a pointstamp of the list, or `None` if there is none (this project's own rule).
+    /// Returns the least pointstamp with a positive integer and, strictly before it, neither a negative
+    /// entry nor a pointstamp in `held`; or `None` if there is none (this project's own rule).
     pub fn unsupported_by<B: Allocator>(
         &self,
         paths: &Paths<B>,
         held: &[Pointstamp],
     ) -> Option<Pointstamp>
-        ensures upright { IsNone result ↔ IsUpright (IsStrictlyBefore paths.now) (Contains held.now) (at self.now) }
-        ensures least { IfSome result (IsLeast (IsUnsupported (IsStrictlyBefore paths.now) (Contains held.now) (at self.now))) }
+        ensures upright { IsNone result
+            ↔ IsUpright (IsStrictlyBefore paths.now) (Contains held.now) (at self.now) }
+        ensures least { IfSome result
+            (IsLeast
+            (IsUnsupported (IsStrictlyBefore paths.now) (Contains held.now) (at self.now))) }
     {
-        // What supports a pointstamp supports each that is not before it, so most entries need one comparison.
+        // What supports a pointstamp also supports every pointstamp after it, so most entries need only one
+        // comparison.
         paths.order_is_partial();
         let mut supported = None;
         for entry in self.entries() {

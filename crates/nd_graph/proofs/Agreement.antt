@@ -1,4 +1,4 @@
--- A graph without a fault has depths that agree along its arcs.
+-- In a graph without errors the depths agree along its arcs.
 use Rattle.std.proofs.Common.{◌≡◌, ◌∙◌, ℕ, ◌+◌, ◌<◌, ◌≤◌, zero, suc, Bool, true, false, not, ◌&&◌, ◌||◌, ◌==◌, eqb, ltb, nat_lt, List, [], ◌∷◌, ◌++◌, length, get_or, map, refl, sym, ap, subst, arith, if◌then◌else◌, append_assoc, Some, None}
 use Rattle.std.proofs.lemmas.List.{length-map, length-append}
 use Rattle.std.proofs.lemmas.List.Elements.{All-nil, All-cons, All-head, All-tail, All-append, All-map, All-weaker}
@@ -34,7 +34,7 @@ arcs_from-push vertices l (x ∷ edges) e here at =
     ap (λ more. record { from = x.from; action = action_at vertices x.from; to = l } ∷ record { from = l; action = Identity; to = x.to } ∷ more)
     (arcs_from-push vertices (l + 1) edges e here (omega arith))
 
--- ---- what no fault means
+-- ---- what the absence of an error means
 
 none_of : {X : Type 0} (test : X → Bool) (xs : List X) → list_any test xs ≡ false → All (λ x. test x ≡ false) xs
 none_of test [] h = All-nil (λ x. test x ≡ false)
@@ -54,7 +54,7 @@ tests : (most : ℕ) (g : Dataflow) → fault_of most g ≡ None
 unfolding fault_of
 tests most g h = all_pass (list_any (has_bad_port g.vertices) g.edges) (has_depth_mismatch g) (is_too_large most g) BadPort DepthMismatch TooLarge h
 
--- ---- a lower limit of depths
+-- ---- a lower limit of depth
 
 none_more : {X : Type 0} (test more : X → Bool) → ((x : X) → test x ≡ false → more x ≡ false) → (xs : List X) → list_any test xs ≡ false → list_any more xs ≡ false
 none_more test more weaker [] h = refl
@@ -85,14 +85,14 @@ smaller most least g h e =
     (none_more (is_too_deep most) (is_too_deep least) (λ v. less_deep most least v.depth (leads_in (action_of v.op)) h) g.vertices flat.0)
     (none_more (leads_too_deep most g.vertices) (leads_too_deep least g.vertices) (λ x. lower most least (depth_past_vertex g.vertices x.from) h) g.edges flat.1))
 
--- a graph without a fault has none by a higher limit
+-- a graph without errors has none with a higher limit
 pub fewer_faults : (most least : ℕ) (g : Dataflow) → most ≤ least → fault_of most g ≡ None → fault_of least g ≡ None
 unfolding fault_of
 fewer_faults most least g h e = no_fault (list_any (has_bad_port g.vertices) g.edges) (has_depth_mismatch g) (is_too_large most g) (is_too_large least g) e (smaller most least g h)
 
 -- ---- depths
 
--- a vertex that is not misplaced leads to the depth past it
+-- a vertex that is not misplaced leads to the depth after it
 leads : (operator : Op) (depth : ℕ) → is_misplaced_at operator depth ≡ false → LeadsTo (action_of operator) depth (depth_past (action_of operator) depth)
 leads op.Egress zero h = cc
 leads op.Egress (suc depth) h = omega arith
@@ -113,7 +113,7 @@ vertex_at [] rest l within = absurd (omega arith)
 vertex_at (v ∷ vertices) rest zero within = refl
 vertex_at (v ∷ vertices) rest (suc l) within = vertex_at vertices rest l (omega arith)
 
--- the depths of edges stand from l on
+-- the depths of edges begin at position l
 abbrev EdgesAt : List Vertex → List ℕ → ℕ → List Edge → Type 0
 EdgesAt vertices ds l [] = Unit {0}
 EdgesAt vertices ds l (e ∷ edges) = (l < length ds) × (get_or ds l 0 ≡ depth_past_vertex vertices e.from) × EdgesAt vertices ds (l + 1) edges
@@ -165,14 +165,14 @@ agree vertices ds l (e ∷ edges) long at from_here joined placed met =
     })
     (agree vertices ds (l + 1) edges long at from_here.2 (All-tail (JoinsVertices vertices) e edges joined) placed both.1))
 
--- ---- what a graph's readers tell
+-- ---- what the readers of a graph return
 
--- no input lies in a loop, and no egress and no feedback lies outside one
+-- no input is in a loop, and no egress or feedback is outside all loops
 pub placed : (g : Dataflow) → IsFaultless g → All (λ v. is_misplaced v ≡ false) g.vertices
 unfolding has_depth_mismatch
 placed g h = none_of is_misplaced g.vertices (or_parts (list_any is_misplaced g.vertices) (list_any (misses_depth g.vertices) g.edges) (tests max_depth g h.faultless).1).0
 
--- ---- the whole
+-- ---- the graph as a whole
 
 pub is_graph : (g : Dataflow) → IsFaultless g → IsGraph g (depths g) (arcs g)
 unfolding has_depth_mismatch is_too_large leads_too_deep

@@ -1,4 +1,4 @@
--- What the check of a graph finds, phase by phase.
+-- The results of checking a graph, phase by phase.
 use Rattle.std.proofs.Common.{◌≡◌, ◌∙◌, ℕ, ◌<◌, ◌≤◌, Bool, true, false, List, [], ◌∷◌, ◌++◌, length, map, refl, sym, ap, Option, Some, None, option_map, option_and_then, Ok, Err, ok_or, if◌then◌else◌}
 use Rattle.std.proofs.lemmas.List.Elements.{All-nil, All-cons}
 use Rattle.std.proofs.lemmas.List.Quantifiers.{position-Some}
@@ -15,7 +15,7 @@ use Rattle.nd_graph.specs.Draft.{Draft, every}
 use Rattle.nd_graph.specs.Checked.{has_double, written_names, end_of, located, edges_between, fault_of, judged, judged_with, checked_within, JoinsVertices, IsFaultless}
 use Rattle.nd_graph.proofs.Agreement.{fewer_faults}
 
--- ---- edges whose ends are found
+-- ---- edges whose ends are resolved
 
 record Made (first second : Option ℕ) (make : ℕ → ℕ → Edge) (x : Edge) : Type 0 where
   from : ℕ
@@ -36,7 +36,7 @@ within vertices None l h = cc
 within [] (Some name) l h = cc
 within (v ∷ vertices) (Some name) l h = (position-Some (λ w. bytes_eq name w.name) (v ∷ vertices) l v h).0
 
--- an edge that is located joins vertices, and keeps its name
+-- an edge with its ends as locations joins vertices, and keeps its name
 located_joins : (vertices : List Vertex) (e : DraftEdge) (x : Edge) → located vertices e ≡ Some x → JoinsVertices vertices x × (x.name ≡ e.name)
 unfolding located
 located_joins vertices e x h =

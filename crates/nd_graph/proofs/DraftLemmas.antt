@@ -3,7 +3,7 @@ use Rattle.std.proofs.Common.{◌≡◌, ◌∙◌, ℕ, ◌+◌, ◌<◌, zero,
 use Rattle.std.proofs.lemmas.List.{take_more}
 use Rattle.nd_graph.specs.Draft.{every}
 
--- an item in front of those that were read
+-- an item before those that were read
 abbrev in_front : {X : Type 0} → Option X → Option (List X) → Option (List X)
 in_front first rest = option_and_then (λ x. option_map (λ xs. x ∷ xs) rest) first
 
@@ -23,7 +23,7 @@ every-push read [] d xs x e h =
 every-push read (c ∷ ds) d xs x e h =
     in_front-more (read c) (every read ds) (every read (ds ++ d ∷ [])) xs x (λ ys f. every-push read ds d ys x f h) e
 
--- one item more was read
+-- one more item was read
 pub every-next : {D X : Type 0} (read : D → Option X) (ds : List D) (d : D) (i : ℕ) (xs : List X) (x : X)
     → i < length ds → d ≡ get_or ds i d → every read (take i ds) ≡ Some xs → read d ≡ Some x
     → every read (take (i + 1) ds) ≡ Some (xs ++ x ∷ [])
@@ -34,7 +34,7 @@ in_front-none : {X : Type 0} (first : Option X) → in_front first None ≡ None
 in_front-none None = refl
 in_front-none (Some x) = refl
 
--- an item is refused, and so the list is
+-- if an item cannot be read, the list cannot
 pub every-refused : {D X : Type 0} (read : D → Option X) (ds : List D) (d : D) (i : ℕ)
     → i < length ds → d ≡ get_or ds i d → read d ≡ None → every read ds ≡ None
 every-refused read [] d i within at h = absurd (omega arith)
@@ -42,7 +42,7 @@ every-refused read (c ∷ ds) d zero within at h = rw (sym at, h) refl
 every-refused read (c ∷ ds) d (suc i) within at h =
     rw (every-refused read ds d i (omega arith) at h) (in_front-none (read c))
 
--- the same if the items are seen as others
+-- the same if the items are seen as other values
 every-map : {V D X : Type 0} (seen : V → D) (read : D → Option X) (vs : List V) → every read (map seen vs) ≡ every (λ v. read (seen v)) vs
 every-map seen read [] = refl
 every-map seen read (v ∷ vs) = ap (in_front (read (seen v))) (every-map seen read vs)

@@ -1,4 +1,4 @@
--- Names that stand twice, and the positions of names.
+-- Names that occur twice, and the positions of names.
 use Rattle.std.proofs.Common.{◌≡◌, ◌∙◌, inl, inr, ℕ, ◌+◌, ◌<◌, ◌≤◌, zero, suc, Bool, true, false, cond, List, [], ◌∷◌, ◌++◌, length, take, drop, get_or, map, refl, sym, ap, arith, append_assoc, Some, None}
 use Rattle.std.proofs.lemmas.List.{take_more, map-append, take-append-drop}
 use Rattle.std.proofs.lemmas.Bool.{le-ltb, lt-ltb, or_cases, or_left, or_right, or_parts, or_from}
@@ -12,9 +12,9 @@ use Rattle.nd_graph.specs.Checked.{has_double}
 
 -- ---- tests
 
--- ---- names that stand twice
+-- ---- names that occur twice
 
--- a name that is there already
+-- a name that was there before
 pub has_double-again : (ks rest : List (List ℕ)) (k : List ℕ) → list_any (bytes_eq k) ks ≡ true → has_double (ks ++ k ∷ rest) ≡ true
 has_double-again [] rest k e = cc
 has_double-again (x ∷ ks) rest k e =
@@ -32,9 +32,9 @@ has_double-new (x ∷ ks) k h e =
     or_from _ _ (list_any-append (bytes_eq x) ks (k ∷ []) ∙ or_from _ _ before.0 (or_from _ _ (nat_list_eq_equiv.symm x k ∙ here.0) refl))
     (has_double-new ks k before.1 here.1)
 
--- ---- lists that are gone through
+-- ---- loops over lists
 
--- a list at one of its elements
+-- a list, split at one of its elements
 pub map-at : {X Y : Type 0} (f : X → Y) (xs : List X) (x : X) (i : ℕ) → i < length xs → x ≡ get_or xs i x
     → map f xs ≡ map f (take i xs) ++ f x ∷ map f (drop (suc i) xs)
 map-at f [] x i within at = absurd (omega arith)
@@ -109,7 +109,7 @@ module _ {V K : Type 0} (name : V → K) (test : K → Bool) where
       position_from-zero (λ v. test (name v)) vs
       ∙ nowhere vs (drop (length vs) ks) 0 (ap (position_from test 0) (sym (whole vs ks front)) ∙ sym (position_from-zero test ks) ∙ e)
 
--- a name that stands already among the first
+-- an element of vs whose name occurs before it
 pub has_double-first : {V : Type 0} (name : V → List ℕ) (vs : List V) (v : V) (i : ℕ) (ks more : List (List ℕ)) → i < length vs → v ≡ get_or vs i v
     → ks ≡ map name (take i vs) → list_any (bytes_eq (name v)) ks ≡ true → has_double (map name vs ++ more) ≡ true
 has_double-first name vs v i ks more within at all h =
@@ -117,7 +117,7 @@ has_double-first name vs v i ks more within at all h =
     ∙ ap has_double (append_assoc (map name (take i vs)) (name v ∷ map name (drop (suc i) vs)) more)
     ∙ has_double-again (map name (take i vs)) (map name (drop (suc i) vs) ++ more) (name v) (ap (list_any (bytes_eq (name v))) (sym all) ∙ h)
 
--- a name that stands already, found among the second
+-- an element after the first names whose name occurs before it
 pub has_double-second : {V : Type 0} (name : V → List ℕ) (first : List (List ℕ)) (vs : List V) (v : V) (i : ℕ) (ks : List (List ℕ)) → i < length vs → v ≡ get_or vs i v
     → ks ≡ first ++ map name (take i vs) → list_any (bytes_eq (name v)) ks ≡ true → has_double (first ++ map name vs) ≡ true
 has_double-second name first vs v i ks within at all h =

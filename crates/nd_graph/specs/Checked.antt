@@ -1,4 +1,4 @@
--- Which graphs are refused, and as what (this project's own rule).
+-- Which graphs are rejected, and with which error (this project's own rule).
 use Rattle.std.specs.Prelude.{◌≡◌, ℕ, ◌<◌, All, Bool, false, not, ◌==◌, ◌&&◌, ◌||◌, nat_lt, nat_le, List, [], ◌∷◌, ◌++◌, length, map, if◌then◌else◌, Option, Some, None, ok_or, option_map, option_and_then, Result, Ok, Err, slice_get}
 use Rattle.std.specs.Option.{option_map_or}
 use Rattle.std.specs.List.{list_any, position}
@@ -16,12 +16,12 @@ use Rattle.nd_graph.specs.Draft.{Draft, every}
 
 -- ---- names
 
--- a name stands twice
+-- two names are equal
 abbrev pub has_double : List (List ℕ) → Bool
 has_double [] = false
 has_double (name ∷ names) = list_any (bytes_eq name) names || has_double names
 
--- vertices and edges share one space of names
+-- all names of a graph as it is written; vertices and edges share one namespace
 abbrev pub written_names : List Vertex → List DraftEdge → List (List ℕ)
 written_names vertices edges = map (λ v. v.name) vertices ++ map (λ e. e.name) edges
 
@@ -32,14 +32,14 @@ has_double_name vertices edges = has_double (written_names vertices edges)
 unfoldable pub end_of : List Vertex → Option (List ℕ) → Option ℕ
 end_of vertices end = option_and_then (λ name. position (λ v. bytes_eq name v.name) vertices) end
 
--- the edge that is written, if its ends are vertices
+-- the edge with its ends as locations, if they are vertices
 unfoldable pub located : List Vertex → DraftEdge → Option Edge
 located vertices e =
     option_and_then (λ from. option_map
     (λ to. record { name = e.name; from = from; port = e.port; to = to; route = e.route })
     (end_of vertices e.to)) (end_of vertices e.from)
 
--- the edges that are written, if no name stands twice and each end is a vertex
+-- the edges with their ends as locations, or the error that a name occurs twice or that an end is not a vertex
 unfoldable pub edges_between : List Vertex → List DraftEdge → Result (List Edge) GraphFault
 edges_between vertices edges =
     if has_double_name vertices edges then Err DoubleName
@@ -47,19 +47,19 @@ edges_between vertices edges =
 
 -- ---- ports
 
--- how many ports an operator has
+-- the number of output ports of an operator
 abbrev pub ports : Op → ℕ
 ports o = (facts o).ports
 
--- an operator that is fed from outside
+-- the operator receives values from outside
 abbrev pub is_input : Op → Bool
 is_input o = (facts o).fed
 
--- how many ports the vertex at a location has
+-- the number of output ports of the vertex at a location
 abbrev pub ports_at : List Vertex → ℕ → ℕ
 ports_at vertices l = option_map_or (λ v. ports v.op) (slice_get vertices l) 0
 
--- an input is at the location
+-- the vertex at a location is an input
 abbrev pub is_input_at : List Vertex → ℕ → Bool
 is_input_at vertices l = option_map_or (λ v. is_input v.op) (slice_get vertices l) false
 
@@ -69,7 +69,7 @@ has_bad_port vertices e = nat_le (ports_at vertices e.from) e.port || is_input_a
 
 -- ---- depths
 
--- an input not at depth 0, an egress or a feedback at depth 0
+-- an input inside a loop, or an egress or a feedback outside all loops
 abbrev pub is_misplaced_at : Op → ℕ → Bool
 is_misplaced_at o depth = (is_input o && nat_lt 0 depth) || (stands_in_loop (action_of o) && depth == 0)
 
@@ -80,7 +80,7 @@ is_misplaced v = is_misplaced_at v.op v.depth
 abbrev pub vertex_depth : List Vertex → ℕ → ℕ
 vertex_depth vertices l = option_map_or (λ v. v.depth) (slice_get vertices l) 0
 
--- an edge's depth is not its target's
+-- the depth of an edge differs from that of its target
 unfoldable pub misses_depth : List Vertex → Edge → Bool
 misses_depth vertices e = not (depth_past_vertex vertices e.from == vertex_depth vertices e.to)
 
@@ -89,57 +89,58 @@ has_depth_mismatch g = list_any is_misplaced g.vertices || list_any (misses_dept
 
 -- ---- sizes
 
--- a vertex past a depth, or an ingress at it
+-- a vertex above the limit of depth, or an ingress at the limit
 abbrev pub is_too_deep : ℕ → Vertex → Bool
 is_too_deep most v = nat_lt most v.depth || (leads_in (action_of v.op) && v.depth == most)
 
--- an edge past a depth
+-- an edge above the limit of depth
 unfoldable pub leads_too_deep : ℕ → List Vertex → Edge → Bool
 leads_too_deep most vertices e = nat_lt most (depth_past_vertex vertices e.from)
 
--- too many locations, or a location too deep
+-- too many locations, or a location above the limit of depth
 unfoldable pub is_too_large : ℕ → Dataflow → Bool
 is_too_large most g =
     nat_lt max_locations (location_count g)
     || (list_any (is_too_deep most) g.vertices || list_any (leads_too_deep most g.vertices) g.edges)
 
--- ---- all
+-- ---- all checks
 
--- the first fault of a graph whose names are found, and whose depths may be at most this
+-- the first error of a graph whose names are resolved, with this limit of depth
 unfoldable pub fault_of : ℕ → Dataflow → Option GraphFault
 fault_of most g =
     if list_any (has_bad_port g.vertices) g.edges then Some BadPort else
     (if has_depth_mismatch g then Some DepthMismatch else
     (if is_too_large most g then Some TooLarge else None))
 
--- the graph, or its fault if it has one
+-- the graph, or its first error
 unfoldable pub judged : ℕ → Dataflow → Result Dataflow GraphFault
 judged most g = option_map_or (λ e. Err e) (fault_of most g) (Ok g)
 
--- the judgement of the edges that were found
+-- the same once the ends of the edges are looked up
 abbrev pub judged_with : ℕ → List Vertex → Result (List Edge) GraphFault → Result Dataflow GraphFault
 judged_with most vertices (Ok edges) = judged most (graph_of vertices edges)
 judged_with most vertices (Err e) = Err e
 
--- the graph that is written, or the fault of least number, if depths may be at most this
+-- the graph that is written, or the error of least number, with this limit of depth
 unfoldable pub checked_within : ℕ → Draft → Result Dataflow GraphFault
 checked_within most d = judged_with most d.vertices (edges_between d.vertices d.edges)
 
--- the same by the depth that a graph may have, and that a graph of version 1 may have
+-- the same with the current limit of depth
 abbrev pub checked : Draft → Result Dataflow GraphFault
 checked = checked_within max_depth
 
+-- the same with the limit of depth of version 1
 abbrev pub checked_v1 : Draft → Result Dataflow GraphFault
 checked_v1 = checked_within max_depth_v1
 
--- ---- what holds of a graph that was checked
+-- ---- what holds of a checked graph
 
--- an edge's ends are vertices
+-- both ends of an edge are vertices
 pub record JoinsVertices (vertices : List Vertex) (e : Edge) : Type 0 where
   pub from : e.from < length vertices
   pub to : e.to < length vertices
 
--- no name stands twice, each end is a vertex, and there is no fault
+-- no two names are equal, each end is a vertex, and there is no error
 pub record IsFaultless (g : Dataflow) : Type 0 where
   pub once : has_double (names g) ≡ false
   pub joined : All (JoinsVertices g.vertices) g.edges

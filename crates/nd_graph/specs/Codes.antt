@@ -1,4 +1,4 @@
--- Graphs as numbers, so that a model's value can hold one.
+-- Graphs encoded as numbers, so that the value of a model can contain a graph.
 use Rattle.std.specs.Prelude.{◌≡◌, ℕ, ℤ, pos, Bool, true, false, List, [], ◌∷◌, slice_index_or, refl}
 use Rattle.std.specs.Coded.{Coded, code_by, coded×, coded_ℕ, coded_ℤ, coded_bool, coded_list}
 use Rattle.nd_graph.specs.Graph.{Dataflow}
@@ -9,7 +9,7 @@ use Rattle.nd_graph.specs.declared.op.Route.TheVariants.{Local, Exchange}
 use Rattle.nd_graph.specs.declared.graph.Vertex.{Vertex}
 use Rattle.nd_graph.specs.declared.graph.Edge.{Edge}
 
--- an operator as its position among all, and its number
+-- an operator as its position among all operators, and its constant
 abbrev pub op_parts : Op → ℕ × ℤ
 op_parts Input = (0, pos 0)
 op_parts Ingress = (1, pos 0)

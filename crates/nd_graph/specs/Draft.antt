@@ -1,4 +1,4 @@
--- The form in which a graph is written, as JSON (this project's own rule).
+-- The JSON form of a graph (this project's own rule).
 use Rattle.std.specs.Prelude.{ℕ, ℤ, List, [], ◌∷◌, if◌then◌else◌, Option, Some, None, option_map, option_and_then, codes}
 use Rattle.std.specs.Str.{bytes_eq}
 use Rattle.serde_json.specs.Data.{Data}
@@ -11,12 +11,12 @@ use Rattle.nd_graph.specs.declared.op.Route.TheVariants.{Local, Exchange}
 use Rattle.nd_graph.specs.declared.graph.Vertex.{Vertex}
 use Rattle.nd_graph.specs.declared.draft.DraftEdge.{DraftEdge}
 
--- a graph as it is written: its edges' ends are names
+-- a graph as it is written: the ends of its edges are names
 pub record Draft : Type 0 where
   pub vertices : List Vertex
   pub edges : List DraftEdge
 
--- each item read, if each can be
+-- all items, if each of them can be read
 abbrev pub every : {D X : Type 0} → (D → Option X) → List D → Option (List X)
 every read [] = Some []
 every read (d ∷ ds) = option_and_then (λ x. option_map (λ xs. x ∷ xs) (every read ds)) (read d)
@@ -25,7 +25,7 @@ every read (d ∷ ds) = option_and_then (λ x. option_map (λ xs. x ∷ xs) (eve
 abbrev pub name_of : List ℕ → Option (List ℕ)
 name_of text = if is_name text then Some text else None
 
--- the operators that take no number
+-- the operators without a constant
 unfoldable pub plain_op : List ℕ → Option Op
 plain_op text =
     if bytes_eq text (codes "input") then Some op.Input else
@@ -36,7 +36,7 @@ plain_op text =
     (if bytes_eq text (codes "distinct") then Some op.Distinct else
     (if bytes_eq text (codes "sink") then Some op.Sink else None))))))
 
--- the operators that take a number
+-- the operators with a constant
 unfoldable pub numbered_op : List ℕ → ℤ → Option Op
 numbered_op text k =
     if bytes_eq text (codes "add") then Some (op.Add k) else
@@ -49,7 +49,7 @@ route_of text =
     if bytes_eq text (codes "local") then Some Local else
     (if bytes_eq text (codes "exchange") then Some Exchange else None)
 
--- a vertex's operator, whose number stands under "k"
+-- the operator of a vertex; its constant is under "k"
 unfoldable pub op_of : Data → Option Op
 op_of d =
     if has_keys (codes "depth" ∷ codes "name" ∷ codes "op" ∷ []) d
@@ -68,7 +68,7 @@ vertex_of d =
     (λ depth. record { name = name; op = operator; depth = depth })
     (small_at (codes "depth") d)) (op_of d)) (name_in d)
 
--- an edge's end is any text; one that is no name names nothing
+-- an edge; its ends may be any strings, and one that does not have the form of a name names nothing
 unfoldable pub edge_of : Data → Option DraftEdge
 edge_of d =
     if has_keys (codes "from" ∷ codes "name" ∷ codes "port" ∷ codes "route" ∷ codes "to" ∷ []) d
@@ -88,7 +88,7 @@ vertices_in d = every_at (codes "vertices") vertex_of d
 abbrev pub edges_in : Data → Option (List DraftEdge)
 edges_in d = every_at (codes "edges") edge_of d
 
--- the graph that a value is
+-- the graph that a JSON value describes
 unfoldable pub draft_of : Data → Option Draft
 draft_of d =
     if has_keys (codes "edges" ∷ codes "vertices" ∷ []) d

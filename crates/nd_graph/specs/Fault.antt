@@ -1,9 +1,10 @@
--- The faults of a graph, as replies tell them (this project's own rule).
+-- The errors of a graph, as replies report them (this project's own rule).
 use Rattle.std.specs.Prelude.{◌≡◌, ◌⊎◌, codes, Result, Ok, Err}
 use Rattle.nd_time.specs.Code.{Code, coded}
 use Rattle.nd_graph.specs.declared.fault.GraphFault.{GraphFault}
 use Rattle.nd_graph.specs.declared.fault.GraphFault.TheVariants.{Shape, DoubleName, UnknownName, BadPort, DepthMismatch, TooLarge, Memory}
 
+-- the number and the name with which a graph is rejected
 abbrev pub code_of : GraphFault → Code
 code_of Shape = coded 40 (codes "Shape")
 code_of DoubleName = coded 41 (codes "DoubleName")
@@ -13,7 +14,7 @@ code_of DepthMismatch = coded 44 (codes "DepthMismatch")
 code_of TooLarge = coded 45 (codes "TooLarge")
 code_of Memory = coded 47 (codes "Memory")
 
--- a call answers what it is to answer, unless it found no memory
+-- a call returns the wanted result, or runs out of memory
 abbrev pub IsUnlessMemory : {X : Type 0} → Result X GraphFault → Result X GraphFault → Type 0
 IsUnlessMemory wanted (Ok x) = wanted ≡ Ok x
 IsUnlessMemory wanted (Err e) = (wanted ≡ Err e) ⊎ (e ≡ Memory)

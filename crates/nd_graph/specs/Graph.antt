@@ -21,7 +21,7 @@ pub record Dataflow : Type 0 where
 abbrev pub graph_of : List Vertex → List Edge → Dataflow
 graph_of vertices edges = record { vertices = vertices; edges = edges }
 
--- what a vertex does to the times that pass it
+-- what a vertex does to times that pass it
 abbrev pub action_of : Op → Action
 action_of o = (facts o).action
 
@@ -32,17 +32,18 @@ acted Ingress counters = ingress_of counters
 acted Egress counters = egress_of counters
 acted Feedback counters = feedback_of counters
 
--- the depth past an action
+-- the depth after an action
 abbrev pub depth_past : Action → ℕ → ℕ
 depth_past Identity depth = depth
 depth_past Ingress depth = depth + 1
 depth_past Egress depth = depth - 1
 depth_past Feedback depth = depth
 
--- locations are numbered: vertices, then edges
+-- the number of locations; vertices are numbered first, then edges
 abbrev pub location_count : Dataflow → ℕ
 location_count g = length g.vertices + length g.edges
 
+-- the names of all locations: those of the vertices, then those of the edges
 abbrev pub names : Dataflow → List (List ℕ)
 names g = map (λ v. v.name) g.vertices ++ map (λ e. e.name) g.edges
 
@@ -50,7 +51,7 @@ names g = map (λ v. v.name) g.vertices ++ map (λ e. e.name) g.edges
 abbrev pub action_at : List Vertex → ℕ → Action
 action_at vertices l = option_map_or (λ v. action_of v.op) (slice_get vertices l) Identity
 
--- the depth past the vertex at a location, which is that of the edges that leave it
+-- the depth after the vertex at a location, which is the depth of the edges that leave it
 abbrev pub depth_past_vertex : List Vertex → ℕ → ℕ
 depth_past_vertex vertices l = option_map_or (λ v. depth_past (action_of v.op) v.depth) (slice_get vertices l) 0
 
@@ -58,7 +59,7 @@ depth_past_vertex vertices l = option_map_or (λ v. depth_past (action_of v.op) 
 abbrev pub depths : Dataflow → List ℕ
 depths g = map (λ v. v.depth) g.vertices ++ map (λ e. depth_past_vertex g.vertices e.from) g.edges
 
--- the arcs of edges, of which the first is the location l: from the source with its action, and to the target
+-- the arcs of edges, the first of which is location l: from the source with its action, and to the target
 abbrev pub arcs_from : List Vertex → ℕ → List Edge → List Arc
 arcs_from vertices l [] = []
 arcs_from vertices l (e ∷ edges) =
@@ -66,23 +67,24 @@ arcs_from vertices l (e ∷ edges) =
     ∷ record { from = l; action = Identity; to = e.to }
     ∷ arcs_from vertices (l + 1) edges
 
+-- two arcs per edge: from its source to the edge, with the source's action, and from the edge to its target, with no action
 abbrev pub arcs : Dataflow → List Arc
 arcs g = arcs_from g.vertices (length g.vertices) g.edges
 
--- an action leads from this depth to that one
+-- an action leads from depth d to depth e
 abbrev pub LeadsTo : Action → ℕ → ℕ → Type 0
 LeadsTo Identity d e = e ≡ d
 LeadsTo Ingress d e = e ≡ d + 1
 LeadsTo Egress d e = d ≡ e + 1
 LeadsTo Feedback d e = (0 < d) × (e ≡ d)
 
--- an arc joins two locations, and its action leads from the depth of the one to that of the other
+-- an arc joins two locations, and its action leads from the depth of the first to the depth of the second
 pub record ArcAgrees (depths : List ℕ) (arc : Arc) : Type 0 where
   pub from : arc.from < length depths
   pub to : arc.to < length depths
   pub depth : LeadsTo arc.action (slice_index depths arc.from) (slice_index depths arc.to)
 
--- what holds of a graph that was checked, and of the depths and arcs that are stored with it
+-- what holds of a checked graph, and of the depths and arcs stored with it
 pub record IsGraph (g : Dataflow) (kept_depths : List ℕ) (kept_arcs : List Arc) : Type 0 where
   pub depths_kept : kept_depths ≡ depths g
   pub arcs_kept : kept_arcs ≡ arcs g

@@ -6,21 +6,23 @@ use Rattle.nd_graph.specs.declared.op.Action.{Action}
 use Rattle.nd_graph.specs.declared.op.Action.TheVariants.{Identity, Ingress, Egress, Feedback}
 
 pub record Facts : Type 0 where
-  -- what its vertices do to the times that pass them
+  -- what its vertices do to times that pass them
   pub action : Action
-  -- how many ports they have
+  -- how many output ports they have
   pub ports : ℕ
-  -- whether they are fed from outside
+  -- whether they receive values from outside
   pub fed : Bool
-  -- whether they may ask for notices
+  -- whether they may request notifications
   pub asks : Bool
   -- whether they count the values that reach them
   pub counts : Bool
 
--- what most operators are: one port, and nothing else
+-- the facts of most operators: one port, and nothing else
 abbrev pub plain : Action → Facts
 plain a = record { action = a; ports = 1; fed = false; asks = false; counts = false }
 
+-- of each operator: its action, its number of ports, and whether it receives values from outside, requests notifications
+-- and counts values
 abbrev pub facts : Op → Facts
 facts op.Input = record { action = Identity; ports = 1; fed = true; asks = false; counts = false }
 facts op.Ingress = plain Ingress
@@ -34,14 +36,14 @@ facts op.Sum = record { action = Identity; ports = 1; fed = false; asks = true; 
 facts op.Distinct = record { action = Identity; ports = 1; fed = false; asks = true; counts = false }
 facts op.Sink = record { action = Identity; ports = 0; fed = false; asks = false; counts = true }
 
--- an egress or a feedback stands in a loop
+-- an egress or a feedback is inside a loop
 abbrev pub stands_in_loop : Action → Bool
 stands_in_loop Identity = false
 stands_in_loop Ingress = false
 stands_in_loop Egress = true
 stands_in_loop Feedback = true
 
--- an ingress leads one loop further in
+-- an ingress leads one loop deeper
 abbrev pub leads_in : Action → Bool
 leads_in Identity = false
 leads_in Ingress = true

@@ -6,7 +6,7 @@ use crate::{Arc, Graph};
 use std::alloc::Allocator;
 use std::marker::Model;
 
-/// The arcs that leave a location and are still to come, in the order of their edges.
+/// An iterator over the arcs that leave a location, in the order of their edges.
 #[derive(Drop)]
 pub struct ArcsFrom<'a> {
     rest: &'a [Arc],
@@ -43,7 +43,7 @@ impl<'a> Iterator for ArcsFrom<'a> {
 }
 
 impl<A: Allocator> Graph<A> {
-    /// The arcs that leave a location.
+    /// Returns an iterator over the arcs that leave `location`.
     pub fn arcs(&self, location: usize) -> ArcsFrom<'_>
         ensures { result ≡ filter (λ arc. arc.from == location) (arcs_of self.now) }
     {

@@ -1,4 +1,4 @@
-//! A graph made of vertices and edges that were found to have no fault.
+//! Builds a graph from vertices and edges that were checked.
 ghost use Rattle.std.specs.Prelude.{◌≡◌, ◌+◌, ◌≤◌, IfOk, length};
 ghost use Rattle.nd_time.specs.Limits.{max_locations};
 ghost use Rattle.nd_graph.specs.Graph.{graph_of, depths as all_depths, arcs as all_arcs, action_at};
@@ -8,7 +8,7 @@ use crate::check::edge_depth;
 use crate::{Action, Arc, Edge, Graph, Vertex};
 use std::alloc::{AllocError, Allocator};
 
-// The depth of each location.
+// Returns the depth of each location.
 fn depths_of<A: Allocator>(
     alloc: A,
     vertices: &[Vertex],
@@ -26,7 +26,7 @@ fn depths_of<A: Allocator>(
     Ok(depths)
 }
 
-// The action of the vertex that the edge leaves.
+// Returns the action of the vertex that the edge leaves.
 fn source_action(vertices: &[Vertex], edge: &Edge) -> Action
     ensures { result ≡ action_at vertices.now edge.now.from }
 {
@@ -36,7 +36,7 @@ fn source_action(vertices: &[Vertex], edge: &Edge) -> Action
     }
 }
 
-// The arcs of each edge in turn.
+// Returns the arcs of each edge in turn.
 fn arcs_of<A: Allocator>(
     alloc: A,
     vertices: &[Vertex],
@@ -62,7 +62,7 @@ fn arcs_of<A: Allocator>(
     Ok(arcs)
 }
 
-/// The graph of these vertices and edges.
+/// Returns the graph of these vertices and edges.
 pub(crate) fn built<A: Allocator + Copy>(
     alloc: A,
     vertices: Vec<Vertex, A>,

@@ -1,4 +1,4 @@
-//! The faults of a graph whose names are found: its ports, its depths and its size.
+//! Checks a graph whose names are resolved: its ports, its depths and its size.
 ghost use Rattle.std.specs.Prelude.{◌≡◌, ◌+◌, nat_lt};
 ghost use Rattle.std.specs.List.{list_any};
 ghost use Rattle.nd_time.specs.Limits.{max_locations};
@@ -7,7 +7,7 @@ ghost use Rattle.nd_graph.specs.Checked as rule;
 
 use crate::{Action, Edge, GraphFault, Vertex};
 
-/// The most locations of a graph (this project's own rule).
+/// The maximum number of locations of a graph (this project's own rule).
 const MAX_LOCATIONS: usize = 64;
 
 #[tactic(auto, unfolding(crate::specs::Checked::has_bad_port))]
@@ -35,7 +35,7 @@ fn is_misplaced(vertex: &Vertex) -> bool
     (vertex.op.is_input() && 0 < vertex.depth) || (stands_in_loop && vertex.depth == 0)
 }
 
-// The depth of the edges that leave the vertex.
+// Returns the depth of the edges that leave the vertex.
 fn depth_past(vertex: &Vertex) -> usize
     ensures { result ≡ past_depth (action_of vertex.now.op) vertex.now.depth }
 {
@@ -139,7 +139,7 @@ fn is_too_large(most: usize, vertices: &[Vertex], edges: &[Edge]) -> bool
         || some_leads_too_deep(most, vertices, edges)
 }
 
-/// The first fault of a graph whose names are found, and whose depths may be at most this.
+/// Returns the first error of a graph whose names are resolved, if depths may be at most `most`.
 #[tactic(auto, unfolding(crate::specs::Checked::fault_of))]
 pub(crate) fn fault_of(most: usize, vertices: &[Vertex], edges: &[Edge]) -> Option<GraphFault>
     ensures { result ≡ rule.fault_of most (graph_of vertices.now edges.now) }

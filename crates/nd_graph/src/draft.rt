@@ -1,4 +1,4 @@
-//! A graph as it is written, before its names are looked up.
+//! A graph as it is written, before its names are resolved.
 ghost use Rattle.std.specs.Prelude.{◌≡◌, ◌≤◌, ◌⊎◌, IfOk, IfErr, Some, None, ok_or};
 ghost use Rattle.serde_json.specs.View.{view};
 ghost use Rattle.nd_graph.specs.Draft as form;
@@ -17,23 +17,23 @@ use serde_json::Value;
 use std::alloc::{Allocator, Global};
 use std::marker::Model;
 
-/// The most loops that may lie within one another in a graph of version 1.
+/// The maximum nesting of loops in a graph of version 1.
 const MAX_DEPTH_V1: usize = 4;
 
 /// An edge as it is written.
 #[derive(Debug, Drop)]
 pub struct DraftEdge {
     pub name: Name,
-    /// The name of the vertex that it leaves; `None` for a text that names nothing.
+    /// The name of the vertex that the edge leaves; `None` for a text that is not a name.
     pub from: Option<Name>,
     /// The port of that vertex.
     pub port: u32,
-    /// The name of the vertex that it enters; `None` for a text that names nothing.
+    /// The name of the vertex that the edge enters; `None` for a text that is not a name.
     pub to: Option<Name>,
     pub route: Route,
 }
 
-/// A graph as it is written: nothing is known of its names, ports and depths.
+/// A graph as it is written: its names, ports and depths are not checked yet.
 #[derive(Drop)]
 pub struct GraphDraft<A: Allocator = Global> {
     vertices: Vec<Vertex, A>,
@@ -49,8 +49,8 @@ impl<A: Allocator> Model for GraphDraft<A> {
 }
 
 impl<A: Allocator> GraphDraft<A> {
-    /// The graph that a value is: `Shape` if it does not have a graph's form (this project's own rule), and no other fault
-    /// but `Memory`.
+    /// Reads a graph from a JSON value. Returns `Shape` if the value does not have the form of a graph (this project's own
+    /// rule), and no other error but `Memory`.
     #[tactic(auto, unfolding(crate::specs::Draft::draft_of))]
     pub fn from_value(alloc: A, value: &Value) -> Result<GraphDraft<A>, GraphFault>
     where
@@ -65,8 +65,8 @@ impl<A: Allocator> GraphDraft<A> {
         Ok(GraphDraft { vertices, edges })
     }
 
-    /// The graph that is written, with its edges' ends as locations. Of several faults the one of least number is answered,
-    /// and never `Shape`. A location may lie within 6 loops.
+    /// Checks the graph, and replaces the names of its edges' ends by locations. Of several errors it returns the one of least
+    /// number, and never `Shape`. A location may be in at most 6 nested loops.
     pub fn check(self, alloc: A) -> Result<Graph<A>, GraphFault>
     where
         A: Copy,
@@ -75,7 +75,7 @@ impl<A: Allocator> GraphDraft<A> {
         self.check_within(alloc, MAX_DEPTH)
     }
 
-    /// The same for a graph of version 1: a location may lie within 4 loops.
+    /// Does the same for a graph of version 1: a location may be in at most 4 nested loops.
     pub fn check_v1(self, alloc: A) -> Result<Graph<A>, GraphFault>
     where
         A: Copy,
@@ -84,7 +84,7 @@ impl<A: Allocator> GraphDraft<A> {
         self.check_within(alloc, MAX_DEPTH_V1)
     }
 
-    // The graph that is written, if a location may lie within so many loops.
+    // Checks the graph, if a location may be in at most `most` nested loops.
     #[tactic(auto, unfolding(crate::specs::Checked::checked_within))]
     fn check_within(self, alloc: A, most: usize) -> Result<Graph<A>, GraphFault>
     where

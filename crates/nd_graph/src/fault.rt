@@ -1,4 +1,4 @@
-//! Why a graph is refused.
+//! Why a graph is rejected.
 ghost use Rattle.std.specs.Prelude.{◌≡◌};
 ghost use Rattle.nd_graph.specs.Fault.{code_of};
 
@@ -6,7 +6,7 @@ use nd_time::Code;
 use std::alloc::{AllocError, AllocFailed};
 use thiserror::Error;
 
-/// Why a value is no graph. Of several faults the one of least number is answered (this project's own rule).
+/// An error of a graph. Of several errors the one of least number is returned (this project's own rule).
 #[derive(Clone, Copy, Debug, Drop, PartialEq, Eq, Error)]
 pub enum GraphFault {
     #[error("the value does not have a graph's form")]
@@ -26,7 +26,7 @@ pub enum GraphFault {
 }
 
 impl GraphFault {
-    /// The number and the name under which the fault is answered.
+    /// Returns the number and the name of the error.
     pub fn code(self) -> Code
         ensures { result ≡ code_of self }
     {

@@ -1,4 +1,4 @@
-//! A graph whose ends, ports and depths agree.
+//! A graph with consistent ends, ports and depths.
 ghost use Rattle.std.specs.Prelude.{◌≡◌, ◌<◌, ◌≤◌, Some, All, IfOk, length, slice_get};
 ghost use Rattle.nd_time.specs.Limits.{max_depth, max_locations};
 ghost use Rattle.nd_graph.specs.Graph.{arcs as arcs_of, depths as depths_of, location_count as count_of, ArcAgrees};
@@ -12,12 +12,12 @@ use std::marker::Model;
 pub struct Vertex {
     pub name: Name,
     pub op: Op,
-    /// How many loops lie around it.
+    /// The number of loops that enclose the vertex.
     pub depth: u32,
 }
 
 impl Vertex {
-    /// An equal vertex.
+    /// Returns a copy of the vertex.
     pub fn copy(&self) -> Vertex
         ensures { result ≡ self.now }
     {
@@ -33,17 +33,17 @@ impl Vertex {
 #[derive(Debug, Drop)]
 pub struct Edge {
     pub name: Name,
-    /// The location of the vertex that it leaves.
+    /// The location of the vertex that the edge leaves.
     pub from: usize,
     /// The port of that vertex.
     pub port: u32,
-    /// The location of the vertex that it enters.
+    /// The location of the vertex that the edge enters.
     pub to: usize,
     pub route: Route,
 }
 
 impl Edge {
-    /// An equal edge.
+    /// Returns a copy of the edge.
     pub fn copy(&self) -> Edge
         ensures { result ≡ self.now }
     {
@@ -57,11 +57,11 @@ impl Edge {
     }
 }
 
-/// A way that a time can take from one location to the next (this project's own rule).
+/// One step that a time can take, from one location to the next (this project's own rule).
 #[derive(Clone, Copy, Debug, Drop, PartialEq, Eq)]
 pub struct Arc {
     pub from: usize,
-    /// What happens to the time on the way.
+    /// What the step does to the time.
     pub action: Action,
     pub to: usize,
 }
@@ -124,7 +124,7 @@ impl<A: Allocator> Graph<A> {
     ghost use Rattle.nd_graph.specs.Graph.{IsGraph, graph_of};
     ghost use Rattle.nd_graph.specs.Checked.{IsFaultless};
 
-    /// The graph of these parts.
+    /// Returns the graph of these parts.
     pub(crate) fn from_parts(
         vertices: Vec<Vertex, A>,
         edges: Vec<Edge, A>,
@@ -143,7 +143,7 @@ impl<A: Allocator> Graph<A> {
         }
     }
 
-    /// The vertices, in order of appearance.
+    /// Returns the vertices, in order of appearance.
     pub fn vertices(&self) -> &[Vertex]
         ensures vertices { result.now ≡ self.now.vertices }
         ensures sound { IsFaultless self.now }
@@ -151,7 +151,7 @@ impl<A: Allocator> Graph<A> {
         self.vertices.as_slice()
     }
 
-    /// The edges, in order of appearance.
+    /// Returns the edges, in order of appearance.
     pub fn edges(&self) -> &[Edge]
         ensures edges { result.now ≡ self.now.edges }
         ensures sound { IsFaultless self.now }
@@ -159,7 +159,7 @@ impl<A: Allocator> Graph<A> {
         self.edges.as_slice()
     }
 
-    /// The number of locations: vertices, then edges.
+    /// Returns the number of locations: vertices and edges.
     pub fn location_count(&self) -> usize
         ensures count { result ≡ count_of self.now }
         ensures few { count_of self.now ≤ max_locations }
@@ -167,7 +167,7 @@ impl<A: Allocator> Graph<A> {
         self.vertices.len() + self.edges.len()
     }
 
-    /// How many loops lie around a location.
+    /// Returns the number of loops that enclose `location`.
     pub fn location_depth(&self, location: usize) -> usize
         requires { location < count_of self.now }
         ensures depth { slice_get (depths_of self.now) location ≡ Some result }
@@ -176,7 +176,7 @@ impl<A: Allocator> Graph<A> {
         self.depths[location]
     }
 
-    /// How many loops lie around each location, in the order of locations.
+    /// Returns the number of loops that enclose each location, in the order of locations.
     pub fn depths(&self) -> &[usize]
         ensures depths { result.now ≡ depths_of self.now }
         ensures shallow { All (λ d. d ≤ max_depth) (depths_of self.now) }
@@ -186,7 +186,7 @@ impl<A: Allocator> Graph<A> {
         self.depths.as_slice()
     }
 
-    /// All arcs: of each edge in turn, the one that enters it and the one that leaves it.
+    /// Returns all arcs: for each edge in turn, the arc into the edge and the arc out of it.
     pub fn all_arcs(&self) -> &[Arc]
         ensures arcs { result.now ≡ arcs_of self.now }
         ensures agree { All (ArcAgrees (depths_of self.now)) (arcs_of self.now) }
@@ -196,7 +196,7 @@ impl<A: Allocator> Graph<A> {
         self.arcs.as_slice()
     }
 
-    /// An equal graph.
+    /// Returns a copy of the graph.
     pub fn copy(&self, alloc: A) -> Result<Graph<A>, AllocError>
     where
         A: Copy,

@@ -1,4 +1,4 @@
-//! Dataflow graphs: vertices with operators, edges between them, and the arcs along which times move.
+//! Dataflow graphs: vertices with operators, edges between them, and the arcs that times take.
 #![tactic(auto)]
 
 mod arcs;

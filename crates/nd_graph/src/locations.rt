@@ -7,7 +7,7 @@ use crate::Graph;
 use std::alloc::Allocator;
 
 impl<A: Allocator> Graph<A> {
-    /// The name of the vertex or edge at a location.
+    /// Returns the name of the vertex or edge at `location`.
     pub fn location_name(&self, location: usize) -> &str
         requires { location < count_of self.now }
         ensures { slice_get (names self.now) location ≡ Some result.now }
@@ -20,7 +20,7 @@ impl<A: Allocator> Graph<A> {
         }
     }
 
-    /// The location of the vertex or edge of this name.
+    /// Returns the location of the vertex or edge with this name, or `None` if there is none.
     pub fn location_of(&self, name: &str) -> Option<usize>
         ensures { result ≡ position (bytes_eq name.now) (names self.now) }
     {

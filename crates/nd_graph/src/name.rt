@@ -13,7 +13,7 @@ use std::fmt;
 use std::hash::{Hash, Hasher};
 use std::marker::Model;
 
-// The most bytes of a name.
+// The maximum number of bytes of a name.
 const MAX_NAME: usize = 32;
 
 /// A name: 1 to 32 bytes, each from `!` to `~`.
@@ -33,14 +33,14 @@ impl Model for Name {
     ghost invariant = { λ a. IsTrue (is_name a.text.bytes) };
 }
 
-// Whether each byte is one that a name may have.
+// Returns whether a name may contain each of the bytes.
 fn are_plain(bytes: &[u8]) -> bool
     ensures { result ≡ list_all is_plain bytes.now }
 {
     bytes.iter().all(|byte| b'!' <= *byte && *byte <= b'~')
 }
 
-// Whether the text has a name's form.
+// Returns whether the text has the form of a name.
 fn has_name_form(text: &str) -> bool
     ensures { result ≡ is_name text.now }
 {
@@ -52,7 +52,7 @@ fn has_name_form(text: &str) -> bool
 }
 
 impl Name {
-    /// The name of this text, or `None` if it is none.
+    /// Returns the name with this text, or `None` if the text does not have the form of a name.
     pub fn new(text: &str) -> Option<Name>
         ensures named { IsSome result ↔ IsTrue (is_name text.now) }
         ensures value { IfSome result (λ n. n ≡ text.now) }
@@ -66,7 +66,7 @@ impl Name {
         }
     }
 
-    /// The name's text.
+    /// Returns the text of the name.
     pub fn as_str(&self) -> &str
         ensures text { result.now ≡ self.now }
         ensures named { IsTrue (is_name self.now) }
@@ -74,7 +74,7 @@ impl Name {
         self.text.as_str()
     }
 
-    /// An equal name.
+    /// Returns a copy of the name.
     pub fn copy(&self) -> Name
         ensures { result ≡ self.now }
     {

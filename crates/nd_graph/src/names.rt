@@ -13,7 +13,7 @@ use std::hash::{BuildHasherDefault, FoldHasher};
 
 type Names<A> = IndexSet<Name, BuildHasherDefault<FoldHasher>, A>;
 
-// Gives the name the next number.
+// Gives `name` the next number. Returns `DoubleName` if the name has a number already.
 fn add_name<A: Allocator + Copy>(names: &mut Names<A>, name: &Name) -> Result<(), GraphFault>
     ensures added { OnOk result (names.new.keys ≡ names.old.keys ++ name.now ∷ []) }
     ensures new { OnOk result (list_any (bytes_eq name.now) names.old.keys ≡ false) }
@@ -28,7 +28,7 @@ fn add_name<A: Allocator + Copy>(names: &mut Names<A>, name: &Name) -> Result<()
     }
 }
 
-// All names in order of appearance: those of the vertices, then those of the edges.
+// Numbers all names in order of appearance: those of the vertices, then those of the edges.
 fn numbered<A: Allocator + Copy>(
     alloc: A,
     vertices: &[Vertex],
@@ -49,7 +49,7 @@ fn numbered<A: Allocator + Copy>(
     Ok(names)
 }
 
-// The location of the vertex that an end of an edge names.
+// Returns the location of the vertex that `end` names, or `None` if no vertex has that name.
 #[tactic(auto, unfolding(crate::specs::Checked::end_of))]
 fn end_of<A: Allocator>(names: &Names<A>, vertices: &[Vertex], end: &Option<Name>) -> Option<usize>
     requires { take (length vertices.now) names.now.keys ≡ map (λ v. v.name) vertices.now }
@@ -99,8 +99,8 @@ fn all_located<A: Allocator>(
     Ok(found)
 }
 
-/// The written edges with their ends as locations: `DoubleName` if a name of the graph stands twice, `UnknownName` if
-/// an end is no vertex.
+/// Replaces the names of the edges' ends by locations. Returns `DoubleName` if two vertices or edges have the same name, and
+/// `UnknownName` if an end is not a vertex.
 #[tactic(auto, unfolding(crate::specs::Checked::edges_between))]
 pub(crate) fn edges_between<A: Allocator + Copy>(
     alloc: A,

@@ -1,42 +1,42 @@
-//! What a vertex does to values, and to times.
+//! What a vertex does to values and to times.
 ghost use Rattle.std.specs.Prelude.{◌≡◌};
 ghost use Rattle.nd_graph.specs.Operators.{facts};
 ghost use Rattle.nd_graph.specs.Graph.{action_of};
 ghost use Rattle.nd_graph.specs.Checked.{ports as ports_of, is_input as is_fed};
 
-/// The operator of a vertex, over whole numbers (this project's own rule).
+/// The operator of a vertex, over integers (this project's own rule).
 #[derive(Clone, Copy, Debug, Drop, PartialEq, Eq)]
 pub enum Op {
-    /// Is fed from outside, epoch by epoch.
+    /// Receives values from outside, epoch by epoch.
     Input,
     /// Enters a loop.
     Ingress,
     /// Leaves a loop.
     Egress,
-    /// Goes round a loop.
+    /// Goes around a loop.
     Feedback,
-    /// Adds its number to each value.
+    /// Adds a constant to each value.
     Add(i64),
-    /// Multiplies each value by its number.
+    /// Multiplies each value by a constant.
     Mul(i64),
-    /// Lets the values below its number through.
+    /// Emits the values below a constant, and drops the others.
     Below(i64),
-    /// Emits the values below its number on port 0 and the others on port 1.
+    /// Emits the values below a constant on port 0 and the others on port 1.
     Split(i64),
-    /// Emits the sum of a time's values once the time is finished.
+    /// Emits the sum of the values of a time, once that time is complete.
     Sum,
-    /// Emits each value of a time once.
+    /// Emits each distinct value of a time once.
     Distinct,
     /// Counts the values that reach it.
     Sink,
 }
 
-/// What a vertex does to the loop counters of the times that pass it (Naiad, SOSP 2013, section 2.1).
+/// What a vertex does to the loop counters of times that pass it (Naiad, SOSP 2013, section 2.1).
 #[derive(Clone, Copy, Debug, Drop, PartialEq, Eq)]
 pub enum Action {
-    /// Leaves them as they are.
+    /// Leaves the counters as they are.
     Identity,
-    /// Appends a counter at 0.
+    /// Appends a counter with value 0.
     Ingress,
     /// Drops the innermost counter.
     Egress,
@@ -44,17 +44,17 @@ pub enum Action {
     Feedback,
 }
 
-/// Which processor a record on an edge goes to (this project's own rule).
+/// Which processor a record on an edge is sent to (this project's own rule).
 #[derive(Clone, Copy, Debug, Drop, PartialEq, Eq)]
 pub enum Route {
-    /// The processor that made it.
+    /// The processor that produced the record.
     Local,
     /// The processor whose number is the value modulo the number of processors.
     Exchange,
 }
 
 impl Op {
-    /// What a vertex of this operator does to times.
+    /// Returns what a vertex with this operator does to times.
     pub fn action(self) -> Action
         ensures { result ≡ action_of self }
     {
@@ -66,7 +66,7 @@ impl Op {
         }
     }
 
-    /// How many ports a vertex of this operator has. They are numbered from 0.
+    /// Returns how many output ports a vertex with this operator has. Ports are numbered from 0.
     pub fn ports(self) -> u32
         ensures { result ≡ ports_of self }
     {
@@ -77,21 +77,21 @@ impl Op {
         }
     }
 
-    /// Whether a vertex of this operator is fed from outside.
+    /// Returns whether a vertex with this operator receives values from outside.
     pub fn is_input(self) -> bool
         ensures { result ≡ is_fed self }
     {
         matches!(self, Op::Input)
     }
 
-    /// Whether a vertex of this operator may ask for notices.
+    /// Returns whether a vertex with this operator may request notifications.
     pub fn asks_for_notices(self) -> bool
         ensures { result ≡ (facts self).asks }
     {
         matches!(self, Op::Sum | Op::Distinct)
     }
 
-    /// Whether a vertex of this operator counts the values that reach it.
+    /// Returns whether a vertex with this operator counts the values that reach it.
     pub fn counts_values(self) -> bool
         ensures { result ≡ (facts self).counts }
     {

@@ -1,4 +1,4 @@
--- The answer, read off the table of results.
+-- The result of a search, read from the table of results.
 use Rattle.std.proofs.Common.{◌≡◌, ◌<◌, ◌≤◌, ℕ, zero, suc, ◌+◌, List, [], ◌∷◌, All, refl, Option, Some, None, Vec, map, min, length, slice_get, inl, inr, arith, subst, sym, ap, ◌∙◌}
 use Rattle.std.proofs.lemmas.Bool.{cases_lt}
 use Rattle.nd_time.specs.Limits.{max_workers}
@@ -31,7 +31,7 @@ found-map f [] i y at = absurd cc
 found-map f (x ∷ xs) zero y at = (x, refl, cc)
 found-map f (x ∷ xs) (suc i) y at = found-map f xs i y at
 
--- the work of a search and the table of its results, for the range that it was asked for
+-- the work of a search and the table of its results, for the positions to search
 pub record IsSurvey {A : Type 0} (Hit : ℕ → Type 0) (Called : ℕ → ℕ → Type 0) (lo hi workers : ℕ) (works : List (Searched A)) (rs : List (Option (Option ℕ))) : Type 0 where
   pub in_order : lo ≤ hi
   pub some : 0 < workers

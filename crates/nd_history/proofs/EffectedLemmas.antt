@@ -1,4 +1,4 @@
--- The effect of a record, planned where a walk stands, is that of the kept step.
+-- The effect of a record at a walk's cluster is that of the kept step.
 use Rattle.std.proofs.Common.{◌≡◌, ◌<◌, ◌+◌, ◌-◌, ℕ, sym, ap, subst, ◌∙◌, arith}
 use Rattle.nd_protocol.specs.State.{ClusterState}
 use Rattle.nd_protocol.specs.Steps.{stepped}

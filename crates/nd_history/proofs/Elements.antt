@@ -50,6 +50,6 @@ module _ {X : Type 0} where
   pub length_twice : {Y Z : Type 0} (f : X → Y) (h : Y → Z) (xs : List X) (ys : List Y) → ys ≡ map f xs → length (map h ys) ≡ length xs
   length_twice f h xs ys is = length_of h ys ∙ (ap length is ∙ length_of f xs)
 
-  -- what was lent whole comes back
+  -- what was borrowed completely comes back
   pub refilled : (n : ℕ) (xs ws : List X) → n ≡ length xs → length ws ≡ length xs → take n (ws ++ drop (length ws) xs) ≡ ws
   refilled n xs ws is same = take-append-le n ws (drop (length ws) xs) (omega (arith, is, same)) ∙ take_all n ws (omega (arith, is, same))

@@ -1,4 +1,4 @@
--- What a worker has found, one piece further.
+-- What a worker has found, with one more piece.
 use Rattle.std.proofs.Common.{◌≡◌, ℕ, List, [], ◌∷◌, ◌++◌, Option, inl, inr, length, length-append, sym, ap, subst, arith}
 use Rattle.nd_history.specs.Works.{IsResult, AreFound}
 use Rattle.nd_history.proofs.Elements.{slice_get-snoc}

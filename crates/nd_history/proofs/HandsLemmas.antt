@@ -22,7 +22,7 @@ module _ {A : Type 0} (table : TableId) (p k : ℕ) (work : Work A) (table_is : 
         drawn = drawn ∙ sym (append-nil work.searched.claimed.items);
       }
 
-  -- the last was none
+  -- the last number was no piece
   pub one_over : (n : ℕ) → p ≤ n → work.ticket.me ≡ (hand (p + 1) (p + 1 - (k + 1)) (work.searched.claimed.items ++ n ∷ []), []) → length work.searched.claimed.items ≡ k → k < p + 1 → All (λ x. x < p) work.searched.claimed.items → HasDrawn table p work
   one_over n over me_is count within below =
       let drawn : work.ticket.me.0.drawn ≡ work.searched.claimed.items ++ n ∷ [] = ap (λ m. m.0.drawn) me_is in

@@ -1,11 +1,11 @@
--- What the workers leave, once all are joined.
+-- What the workers return, after all are joined.
 use Rattle.std.proofs.Common.{◌≡◌, ◌∙◌, ◌<◌, ℕ, List, [], ◌∷◌, ◌++◌, All, Some, get_or, length, slice_get, inl, inr, arith, sym, ap, subst}
 use Rattle.std.proofs.lemmas.Option.{slice_get_cases, slice_get-get_or}
 use Rattle.std.specs.Fork.{GivesJobs}
 use denote.Param.Members.{Shared}
-use Rattle.atomic_table.specs.Seated.{TableId}
 use Rattle.nd_history.specs.Works.{IsWork, AreNumbered}
 use Rattle.nd_history.specs.declared.work.Job.{Job}
+use Rattle.nd_history.specs.declared.work.Team.{Team}
 use Rattle.nd_history.specs.declared.work.Work.{Work}
 use Rattle.nd_history.proofs.Elements.{slice_get-snoc}
 
@@ -39,15 +39,15 @@ module _ {A : Type 0} where
   pub all_of : (P : Work A → Type 0) (works : List (Work A)) → ((who : ℕ) (w : Work A) → slice_get works who ≡ Some w → P w) → All P works
   all_of P works each k d lt = each k (get_or works k d) (slice_get-get_or works k d lt)
 
--- each worker's work, with the number of its place
-module _ {A F : Type 0} (call : Shared F (Job A × Unit {0}) (Work A)) (f : F) (Hit : ℕ → Type 0) (Called : ℕ → ℕ → Type 0) (lo hi : ℕ) (table : TableId) (pieces : ℕ) where
+-- each worker's work, with the worker's index as its number
+module _ {A F G : Type 0} (call : Shared F (Job A × Unit {0}) (Work A)) (f : F) (team : Team A G) (Called : ℕ → ℕ → Type 0) where
   pub each_work : (jobs : List (Job A)) (works : List (Work A)) → length works ≡ length jobs → GivesJobs call f jobs works
-      → ((job : Job A) (w : Work A) → call.post f (job, tt) w → IsWork Hit (Called job.number) lo hi table pieces w)
-      → AreNumbered jobs → (who : ℕ) (w : Work A) → slice_get works who ≡ Some w → IsWork Hit (Called who) lo hi table pieces w
+      → ((job : Job A) (w : Work A) → call.post f (job, tt) w → IsWork team (Called job.number) w)
+      → AreNumbered jobs → (who : ℕ) (w : Work A) → slice_get works who ≡ Some w → IsWork team (Called who) w
   each_work jobs works same gives ensures numbered who w at =
       let here = found works who w at in
       let lt : who < length jobs = omega (arith, same, here.0) in
       let given = (gives who w lt).1 in
       let number : given.job.number ≡ who = numbered who given.job (placed jobs who given.job lt given.job_is) in
-      let made : IsWork Hit (Called given.job.number) lo hi table pieces (get_or works who w) = ensures given.job _ given.call.met in
-      subst (λ (n : ℕ). IsWork Hit (Called n) lo hi table pieces w) number (subst (λ (x : Work A). IsWork Hit (Called given.job.number) lo hi table pieces x) here.1 made)
+      let made : IsWork team (Called given.job.number) (get_or works who w) = ensures given.job _ given.call.met in
+      subst (λ (n : ℕ). IsWork team (Called n) w) number (subst (λ (x : Work A). IsWork team (Called given.job.number) x) here.1 made)

@@ -17,7 +17,7 @@ none_left k n p is here = rw (is, here) (omega arith)
 no_share : (n p : ℕ) → n ≡ 0 → n * p ≡ 0
 no_share n p is = rw is (omega arith)
 
--- a share less
+-- one share less
 less : (workers number p : ℕ) → (workers - number) * p - p ≡ (workers - (number + 1)) * p
 less workers number p =
     elim (cases_lt number workers) [
@@ -25,7 +25,7 @@ less workers number p =
       | inr ge ↦ none_left (workers - (number + 1)) (workers - number) p (omega (arith, ge)) (omega (arith, ge))
     ]
 
--- what a seat is seen as: its hand, and the slots that it holds
+-- the value of a seat: its hand, and the slots that it holds
 abbrev Me : Type 0 → Type 0
 Me X = Hand × List X
 

@@ -76,7 +76,7 @@ module _ {S : Type 0} (all : ℕ) where
       let none : (w : Hand) → weight_of w ≡ 0 → times_in x w ≡ 0 = (λ w e. times_none x w.drawn (omega arith)) in
       subst Q word_is (sym (only_one (times_in x) weight_of none s.views id v at weight) ∙ h.drawn x)
 
-  -- it has drawn as many numbers as the word tells
+  -- it has drawn as many numbers as the word says
   pub counts : (id : ℕ) (v : Hand) (words : List ℕ) (slots : List S) (word : ℕ) → Final (Seen (λ (s : State S Hand). IsClaimed all s.words s.views) id v) words slots → get_elem? words 0 ≡ some word → v.allowance + length v.drawn ≡ all
       → word ≡ length v.drawn
   counts id v words slots word (s, (h, at), same, homes, rest) at_word whole =

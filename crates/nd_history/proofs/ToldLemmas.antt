@@ -1,4 +1,4 @@
--- Lists of changes: one position more, and what is told of them.
+-- Lists of changes: one more position, and what is listed.
 use Rattle.std.proofs.Common.{◌≡◌, ◌≢◌, ◌<◌, ◌≤◌, ℕ, zero, suc, ◌+◌, ◌-◌, ℤ, Bool, true, false, not, cond, List, [], ◌∷◌, ◌++◌, map, filter, length, refl, sym, ap, subst, ◌∙◌, arith, length-append}
 use Rattle.std.specs.List.{range_with_len}
 use Rattle.std.specs.Ordering.{int_eq}
@@ -23,7 +23,7 @@ differ x y other = by (int_eq x y) refl
 agree : (x y : ℤ) → x ≡ y → not (int_eq x y) ≡ false
 agree x y same = ap not ((Decides-int_eq x y).1 same)
 
--- a range in two
+-- a range, split in two
 ranges : (a n k : ℕ) → range_with_len a (n + k) ≡ range_with_len a n ++ range_with_len (a + n) k
 ranges a zero k =
     let none : zero + k ≡ k = omega arith in
@@ -41,7 +41,7 @@ module _ (entry : ℕ → ℤ) where
       let on : lo + 1 + (mid - lo) ≡ mid + 1 = omega arith in
       ap (range_with_len (lo + 1)) all ∙ ranges (lo + 1) (mid - lo) (hi - mid) ∙ ap (λ b. positions lo mid ++ range_with_len b (hi - mid)) on
 
-  -- the changes between two positions are those up to one in between and those from there on
+  -- the changes between two positions are those up to a position in between, and those after it
   pub in_two : (lo mid hi : ℕ) → lo ≤ mid → mid ≤ hi → changes_between entry lo hi ≡ changes_between entry lo mid ++ changes_between entry mid hi
   unfolding changes_between
   in_two lo mid hi le more =
@@ -72,23 +72,23 @@ module _ (entry : ℕ → ℤ) where
   before : (i : ℕ) → entry (i + 1 - 1) ≡ entry i
   before i = let back : i + 1 - 1 ≡ i = omega arith in ap entry back
 
-  -- at the next position the entry is another
+  -- the entry at the next position differs
   pub one_more : (lo i : ℕ) → lo ≤ i → entry (i + 1) ≢ entry i → changes_between entry lo (i + 1) ≡ changes_between entry lo i ++ changed entry (i + 1) ∷ []
   one_more lo i le other =
       in_two lo i (i + 1) le (omega arith)
       ∙ ap (λ cs. changes_between entry lo i ++ cs) (next i true (differ (entry (i + 1)) (entry (i + 1 - 1)) (λ same. other (same ∙ before i))))
 
-  -- at the next position it is the same
+  -- the entry at the next position is the same
   pub no_more : (lo i : ℕ) → lo ≤ i → entry (i + 1) ≡ entry i → changes_between entry lo (i + 1) ≡ changes_between entry lo i
   no_more lo i le same =
       in_two lo i (i + 1) le (omega arith)
       ∙ ap (λ cs. changes_between entry lo i ++ cs) (next i false (agree (entry (i + 1)) (entry (i + 1 - 1)) (same ∙ sym (before i))))
       ∙ append-nil (changes_between entry lo i)
 
--- ---- what is told
+-- ---- what is listed
 
 module _ {A : Type 0} (all : List Changed) where
-  -- there is room for one change more
+  -- there is room for one more change
   pub with_room : (x : Changed) (old new : Told A) → IsTold all old → length old.changes < max_told → new.changes ≡ old.changes ++ x ∷ [] → new.more ≡ old.more → IsTold (all ++ x ∷ []) new
   with_room x old new is room pushed same =
       let fewer : length all < max_told = omega (arith, room, ap length is.changes, length-take max_told all) in
@@ -97,7 +97,7 @@ module _ {A : Type 0} (all : List Changed) where
         more = (λ some. absurd (let lt : max_told < length all = is.more.0 (sym same ∙ some) in omega (arith, lt, fewer)), λ lt. absurd (omega (arith, lt, count, fewer)));
       }
 
-  -- there is none
+  -- there is no room
   pub without_room : (x : Changed) (old new : Told A) → IsTold all old → max_told ≤ length old.changes → new.changes ≡ old.changes → new.more ≡ true → IsTold (all ++ x ∷ []) new
   without_room x old new is full same some =
       let many : max_told ≤ length all = omega (arith, full, ap length is.changes, length-take max_told all) in record {
@@ -105,7 +105,7 @@ module _ {A : Type 0} (all : List Changed) where
         more = (λ _. omega (arith, length-append all (x ∷ []), many), λ _. some);
       }
 
-  -- there are more than are told already
+  -- there are already more than are listed
   pub more_already : (rest : List Changed) (told : Told A) → IsTold all told → told.more ≡ true → IsTold (all ++ rest) told
   more_already rest told is some =
       let many : max_told < length all = is.more.0 some in record {
@@ -113,10 +113,10 @@ module _ {A : Type 0} (all : List Changed) where
         more = (λ _. omega (arith, length-append all rest, many), λ _. some);
       }
 
--- ---- a change more, or none
+-- ---- one more change, or none
 
 module _ {A : Type 0} (entry : ℕ → ℤ) (lo i : ℕ) (le : lo ≤ i) where
-  -- the next position's entry is another, and one change more is told
+  -- the next position's entry differs, and one more change is listed
   pub told_other : (before after n : ℤ) (old new : Told A) → before ≡ entry i → after ≡ entry (i + 1) → after ≢ before → n ≡ after
       → IsTold (changes_between entry lo i) old → ((all : List Changed) → IsTold all old → IsTold (all ++ record { position = i + 1; entry = n } ∷ []) new) → IsTold (changes_between entry lo (i + 1)) new
   told_other before after n old new was is other same told more =
@@ -128,7 +128,7 @@ module _ {A : Type 0} (entry : ℕ → ℤ) (lo i : ℕ) (le : lo ≤ i) where
   pub told_same : (before after : ℤ) (told : Told A) → before ≡ entry i → after ≡ entry (i + 1) → after ≡ before → IsTold (changes_between entry lo i) told → IsTold (changes_between entry lo (i + 1)) told
   told_same before after told was is same tells = subst (λ cs. IsTold cs told) (sym (no_more entry lo i le (sym is ∙ same ∙ was))) tells
 
-  -- there are more already, whatever comes
+  -- there are already more, whatever comes
   pub told_enough : (hi : ℕ) (told : Told A) → i ≤ hi → IsTold (changes_between entry lo i) told → told.more ≡ true → IsTold (changes_between entry lo hi) told
   told_enough hi told on tells some = subst (λ cs. IsTold cs told) (sym (in_two entry lo i hi le on)) (more_already (changes_between entry lo i) (changes_between entry i hi) told tells some)
 

@@ -40,7 +40,7 @@ module _ (f g : Hand → ℕ) (none : (v : Hand) → g v ≡ 0 → f v ≡ 0) wh
       let rest : total g views ≡ 0 = omega arith in
       omega (arith, none u here, all_none views rest)
 
-  -- who has all of g has all of f
+  -- a hand that has all of g has all of f
   pub only_one : (views : List Hand) (i : ℕ) (v : Hand) → get_elem? views i ≡ some v → total g views ≡ g v → total f views ≡ f v
   only_one [] i v at e = absurd (some-ne-none v (sym at))
   only_one (u ∷ views) zero v at e =

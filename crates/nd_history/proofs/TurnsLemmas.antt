@@ -1,4 +1,4 @@
--- Turns: one position more, and the least hit that they tell.
+-- Turns: one more position, and the least hit.
 use Rattle.std.proofs.Common.{◌≡◌, ◌≢◌, ◌↔◌, ◌<◌, ◌≤◌, ℕ, zero, suc, ◌+◌, ◌-◌, Bool, true, false, cond, List, [], ◌∷◌, ◌++◌, length, get_or, Some, inl, inr, refl, sym, subst, ◌∙◌, arith, length-append}
 use Rattle.std.specs.Prelude.{slice_get, Contains, IsTrue, MatchBool}
 use Rattle.std.proofs.lemmas.Bool.{cases_lt}
@@ -10,7 +10,7 @@ use Rattle.nd_history.specs.Turns.{Differs, IsTurn, AreTurns, AreFirstTurns, Are
 use Rattle.nd_history.specs.declared.turned.Turns.{Turns}
 
 module _ (Hit : ℕ → Type 0) where
-  -- ---- one position more
+  -- ---- one more position
 
   -- a turn of a range is one of a longer range
   wider : (lo hi end k : ℕ) → hi ≤ end → IsTurn Hit lo hi k → IsTurn Hit lo end k
@@ -37,7 +37,7 @@ module _ (Hit : ℕ → Type 0) where
             | inr more ↦ let within : k ≤ i + 1 = t.within in let here : k ≡ i + 1 = omega (arith, within, more) in absurd (same (subst (Differs Hit) here t.differs))
           ]
 
-  -- the next position is one
+  -- the next position is a turn
   pub one_more : (lo i : ℕ) (ks : List ℕ) → lo ≤ i → AreTurns Hit lo i ks → Differs Hit (i + 1) → AreTurns Hit lo (i + 1) (ks ++ (i + 1) ∷ [])
   one_more lo i ks le are other = record {
     ascending = all_pairs_push (λ j k. j < k) ks (i + 1) are.ascending before;
@@ -103,7 +103,7 @@ module _ (Hit : ℕ → Type 0) where
           differs (inl d) = d.1 (subst Hit (sym here) (was.0 (sym same ∙ is.1 d.0)))
           differs (inr d) = d.0 (is.0 (same ∙ was.1 (subst Hit here d.1)))
 
-      -- it does not, and there is room for one turn more
+      -- the condition turns, and there is room for one more turn
       listed_room : (old new : Turns A) → after ≢ before → old.more ≡ false → AreListed Hit lo i old → IsAdded old (i + 1) new → length old.positions < max_told → AreListed Hit lo (i + 1) new
       listed_room old new other none listed added room =
           let all = all_of lo i old listed none in
@@ -112,7 +112,7 @@ module _ (Hit : ℕ → Type 0) where
           as_all lo (i + 1) new (subst (λ b. IsTrue b ↔ Hit lo) (sym added.at_lo) listed.at_lo) ((added.room room).1 ∙ none)
           (subst (AreAllTurns Hit lo (i + 1)) (sym longer) (record { few = omega (arith, count, room); all = one_more lo i old.positions le all.all (turned other) }))
 
-      -- there is none
+      -- there is no room
       pub listed_more : (hi : ℕ) (old new : Turns A) → i + 1 ≤ hi → after ≢ before → old.more ≡ false → AreListed Hit lo i old → IsAdded old (i + 1) new → new.more ≡ true → AreListed Hit lo hi new
       listed_more hi old new on other none listed added some =
           elim (cases_lt (length old.positions) max_told) [
@@ -128,7 +128,7 @@ module _ (Hit : ℕ → Type 0) where
                 }
           ]
 
-      -- one turn more is listed
+      -- one more turn is listed
       pub listed_other : (old new : Turns A) → after ≢ before → old.more ≡ false → AreListed Hit lo i old → IsAdded old (i + 1) new → new.more ≡ false → AreListed Hit lo (i + 1) new
       listed_other old new other none listed added not_more =
           elim (cases_lt (length old.positions) max_told) [
@@ -138,7 +138,7 @@ module _ (Hit : ℕ → Type 0) where
 
   -- ---- the least hit
 
-  -- without a hit at first there is none before a turn
+  -- without a hit at the first position there is none before the first turn
   stays : (lo n : ℕ) → (Hit lo → ⊥) → ((k : ℕ) → IsTurn Hit lo (lo + n) k → ⊥) → Hit (lo + n) → ⊥
   stays lo zero none without hit = let same : lo + zero ≡ lo = omega arith in none (subst Hit same hit)
   stays lo (suc n) none without hit =

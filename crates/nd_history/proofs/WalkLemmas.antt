@@ -8,7 +8,7 @@ use Rattle.nd_timeline.specs.Walks.{IsOn}
 use Rattle.nd_timeline.specs.declared.walk.Walk.{Walk}
 use Rattle.nd_history.specs.Least.{HoldsAt, NoHit}
 
--- no hit here either
+-- no hit at the next position
 pub no_hit_more : (Hit : ℕ → Type 0) (from i : ℕ) → NoHit Hit from i → (Hit i → ⊥) → NoHit Hit from (i + 1)
 no_hit_more Hit from i none here k le lt hit =
     elim (cases_lt k i) [
@@ -17,10 +17,10 @@ no_hit_more Hit from i none here k le lt hit =
     ]
 
 module _ {A : Type 0} (m : TimelineValue A) (w : Walk A) (i : ℕ) where
-  -- if it does not hold of the walk's cluster, its position is no hit
+  -- if the condition does not hold of the walk's cluster, the walk's position is no hit
   pub not_here : (c : ConditionValue) → IsOn m w → w.at ≡ i → (Holds w.cluster c → ⊥) → HoldsAt m c i → ⊥
   not_here c on is fails hit = fails (subst (λ (s : ClusterState). Holds s c) (sym on.cluster) (subst (HoldsAt m c) (sym is) hit))
 
-  -- whether it holds of the walk's cluster is whether its position is a hit
+  -- the condition holds of the walk's cluster exactly if the walk's position is a hit
   pub held_here : (c : ConditionValue) (b : Bool) → IsOn m w → w.at ≡ i → (IsTrue b ↔ Holds w.cluster c) → IsTrue b ↔ HoldsAt m c i
   held_here c b on is held = subst (λ n. IsTrue b ↔ HoldsAt m c n) is (subst (λ (s : ClusterState). IsTrue b ↔ Holds s c) on.cluster held)

@@ -29,7 +29,7 @@ only_below x n some = grind (arith, nat_tests)
 each_below : (x n : ℕ) → x < n → once_below x n ≡ 1
 each_below x n lt = grind (arith, nat_tests)
 
--- what stands in a list is counted
+-- an element of a list is counted
 in_one : (x : ℕ) (ys : List ℕ) (i : ℕ) → slice_get ys i ≡ Some x → 0 < times x ys
 in_one x [] i at = absurd cc
 in_one x (y ∷ ys) zero at = let same : y ≡ x = cc in omega (arith, here_once x y same)
@@ -39,7 +39,7 @@ in_one x (y ∷ ys) (suc i) at = omega (arith, in_one x ys i at)
 pub just_drawn : (n : ℕ) (ns drawn : List ℕ) → drawn ≡ ns ++ n ∷ [] → 0 < times n drawn
 just_drawn n ns drawn is = omega (arith, ap (times n) is, times-append n ns (n ∷ []), here_once n n refl)
 
--- what is counted stands there
+-- a number that is counted is an element
 find_in : (x : ℕ) (ys : List ℕ) → 0 < times x ys → (i : ℕ) × (slice_get ys i ≡ Some x)
 find_in x [] some = absurd (omega (arith, some))
 find_in x (y ∷ ys) some =
@@ -48,7 +48,7 @@ find_in x (y ∷ ys) some =
       | inr none ↦ (zero, ap Some (is_here x y (times x ys) (omega (arith, some)) none))
     ]
 
--- at one position, if it is counted once
+-- a number that is counted once has one index
 one_place : (x : ℕ) (ys : List ℕ) (i j : ℕ) → slice_get ys i ≡ Some x → slice_get ys j ≡ Some x → times x ys ≤ 1 → i ≡ j
 one_place x [] i j at there few = absurd cc
 one_place x (y ∷ ys) zero zero at there few = refl
@@ -61,7 +61,7 @@ get_some [] i lt = absurd (omega (arith, lt))
 get_some (x ∷ xs) zero lt = (x, refl)
 get_some (x ∷ xs) (suc i) lt = get_some xs i (omega (arith, lt))
 
--- all are so, or one is not
+-- P holds of all, or Q of one
 all_or_one : {X : Type 0} (P Q : X → Type 0) (xs : List X) → All (λ x. P x ⊎ Q x) xs → All P xs ⊎ ((k : ℕ) × (x : X) × (slice_get xs k ≡ Some x) × Q x)
 all_or_one P Q [] each = inl (λ k d lt. absurd (omega (arith, lt)))
 all_or_one {X} P Q (x ∷ xs) each =
@@ -78,7 +78,7 @@ all_or_one {X} P Q (x ∷ xs) each =
     more here rest (suc k) d lt = rest k d (omega (arith, lt))
 
 module _ {A : Type 0} where
-  -- ---- what all drew
+  -- ---- what all workers drew
 
   pub drawn_more : (ws : List (Work A)) (w : Work A) → all_drawn (ws ++ w ∷ []) ≡ all_drawn ws ++ w.ticket.me.0.drawn
   drawn_more [] w = append-nil w.ticket.me.0.drawn
@@ -142,7 +142,7 @@ module _ {A : Type 0} where
   is_counted x (u ∷ works) zero s place at there = let same : u ≡ s = cc in omega (arith, ap (λ (v : Searched A). times x v.claimed.items) same, in_one x s.claimed.items place there)
   is_counted x (u ∷ works) (suc who) s place at there = omega (arith, is_counted x works who s place at there)
 
-  -- the first worker's claim is no other's, and stands at one position
+  -- the first worker's claim is no other worker's, and has one index
   no_other : (x : ℕ) (s : Searched A) (works : List (Searched A)) (place : ℕ) → slice_get s.claimed.items place ≡ Some x → times_all x (lists_of (s ∷ works)) ≤ 1
       → (who : ℕ) (t : Searched A) (there : ℕ) → slice_get (s ∷ works) who ≡ Some t → slice_get t.claimed.items there ≡ Some x → (s ≡ t) × (place ≡ there)
   no_other x s works place mine few zero t there at its =
@@ -152,7 +152,7 @@ module _ {A : Type 0} where
   no_other x s works place mine few (suc who) t there at its = absurd (omega (arith, few, in_one x s.claimed.items place mine, is_counted x works who t there at its))
 
   module _ (rs : List (Option (Option ℕ))) (j : ℕ) (gap : IsFirstGap rs j) where
-    -- a claimed piece without a result is its worker's last
+    -- a claimed piece without a result is the last of its worker
     ends_with : (works : List (Searched A)) → AreIn works rs → All (λ s. IsCutOff s ⊎ IsComplete s) works → 0 < times_all j (lists_of works) → IsLastClaim j (lists_of works)
     ends_with works all_in each some =
         let claim = find_claim j works some in
@@ -175,7 +175,7 @@ module _ {A : Type 0} where
           ]
         ]
 
-    -- if all were cut off, the first one's last piece is without a result, so no piece behind all claims is the first gap
+    -- if all were cut off, the first worker's last piece has no result, so no piece after all claims is the first gap
     not_behind : (works : List (Searched A)) → AreTold works rs → All IsCutOff works → 0 < length works → (count : ℕ) → AreTheNumbersBelow count (lists_of works) → count ≤ j → ⊥
     not_behind [] told cut some count once le = absurd (omega (arith, some))
     not_behind (s ∷ works) told cut some count once le =

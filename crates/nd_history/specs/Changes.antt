@@ -5,7 +5,7 @@ use Rattle.std.specs.List.{range_with_len}
 use Rattle.std.specs.Ordering.{int_eq}
 use Rattle.nd_history.specs.declared.told.Changed.{Changed}
 
--- the entry at a position is another than at the one before
+-- the entry at a position differs from the entry at the position before
 abbrev pub is_other : (ℕ → ℤ) → ℕ → Bool
 is_other entry i = not (int_eq (entry i) (entry (i - 1)))
 
@@ -17,7 +17,7 @@ positions lo hi = range_with_len (lo + 1) (hi - lo)
 abbrev pub changed : (ℕ → ℤ) → ℕ → Changed
 changed entry i = record { position = i; entry = entry i }
 
--- the changes between two positions: where the entry is another, in order, each with the entry there
+-- the changes between two positions: where the entry differs, in order, each with the entry there
 unfoldable pub changes_between : (ℕ → ℤ) → ℕ → ℕ → List Changed
 changes_between entry lo hi = map (changed entry) (filter (is_other entry) (positions lo hi))
 

@@ -1,12 +1,13 @@
--- Which pieces the workers of a search claim: the claim word's numbers, each drawn once (this project's own rule).
+-- Which pieces the workers of a search claim: the numbers of the claim word, each drawn once (this project's
+-- own rule).
 use Rattle.std.specs.Prelude.{◌≡◌, ℕ, ◌+◌, ◌==◌, nat_lt, cond, List, [], ◌∷◌}
 
--- how often a number stands in a list
+-- how often a number occurs in a list
 abbrev pub times : ℕ → List ℕ → ℕ
 times x [] = 0
 times x (y ∷ ys) = cond (y == x) 1 0 + times x ys
 
--- how often it stands in several
+-- how often it occurs in several lists
 abbrev pub times_all : ℕ → List (List ℕ) → ℕ
 times_all x [] = 0
 times_all x (l ∷ ls) = times x l + times_all x ls

@@ -1,4 +1,5 @@
--- The number and the name under which each fault of a search, of a question for changes and of one for turns, is answered (this project's own rule).
+-- The number and the name that a reply gives each fault of a search, a query for changes and a query for turns (this
+-- project's own rule).
 use Rattle.std.specs.Prelude.{codes}
 use Rattle.nd_time.specs.Code.{Code, coded}
 use Rattle.nd_protocol.specs.Refusals as refusals
@@ -20,14 +21,14 @@ code_of_search NoSuchPoint = faults.code_of fault.NoSuchPoint
 code_of_search Memory = refusals.code_of refusal.Memory
 code_of_search (Missing piece claimed) = coded 52 (codes "Missing")
 
--- of a question for changes
+-- of a query for changes
 abbrev pub code_of_changes : ChangesFault → Code
 code_of_changes changes.NoProcessor = refusals.code_of refusal.NoProcessor
 code_of_changes changes.BadRange = coded 50 (codes "BadRange")
 code_of_changes changes.NoSuchPoint = faults.code_of fault.NoSuchPoint
 code_of_changes changes.Memory = refusals.code_of refusal.Memory
 
--- of a question for turns
+-- of a query for turns
 abbrev pub code_of_turns : TurnsFault → Code
 code_of_turns turns.BadRange = coded 50 (codes "BadRange")
 code_of_turns turns.NoSuchPoint = faults.code_of fault.NoSuchPoint

@@ -4,27 +4,28 @@ use Rattle.atomic_table.specs.Seated.{TableId}
 use Rattle.nd_history.specs.declared.hand.Hand.{Hand}
 use Rattle.nd_history.specs.Claims.{times, once_below}
 
--- a seat's hand: what a worker's seat is given, what is left of it, and the numbers that were drawn
+-- a seat's hand: the allowance of each worker, what is left of the seat's own, and the numbers that the seat
+-- has drawn
 abbrev pub hand : ℕ → ℕ → List ℕ → Hand
 hand each allowance drawn = record { each = each; allowance = allowance; drawn = drawn }
 
--- a hand that has drawn one number more
+-- a hand that has drawn one more number
 abbrev pub drew : Hand → ℕ → Hand
 drew v n = hand v.each (v.allowance - 1) (v.drawn ++ n ∷ [])
 
--- a hand that has given a worker's share of its allowance away
+-- a hand that has given away a worker's share of its allowance
 abbrev pub dealt : Hand → Hand
 dealt v = hand v.each (v.allowance - v.each) v.drawn
 
--- the share that it gave
+-- the share that it gave away
 abbrev pub share_of : Hand → Hand
 share_of v = hand v.each v.each []
 
--- two hands in one
+-- two hands joined
 abbrev pub joined : Hand → Hand → Hand
 joined v w = hand v.each (v.allowance + w.allowance) (v.drawn ++ w.drawn)
 
--- the weights of the hands, added up
+-- the sum of a function over hands
 abbrev pub total : (Hand → ℕ) → List Hand → ℕ
 total f [] = 0
 total f (v ∷ vs) = f v + total f vs
@@ -32,7 +33,7 @@ total f (v ∷ vs) = f v + total f vs
 abbrev pub allowance_of : Hand → ℕ
 allowance_of v = v.allowance
 
--- what a hand was given, of which it has drawn some
+-- what a hand was given: what is left of it and what was drawn
 abbrev pub weight_of : Hand → ℕ
 weight_of v = v.allowance + length v.drawn
 
@@ -44,8 +45,8 @@ pub record IsOneWord (table : TableId) : Type 0 where
   pub words : table.words ≡ 1
   pub slots : table.slots ≡ 0
 
--- the hands' lists are together the numbers below the word, each once; the word plus the hands' allowances is all that
--- was given, so the word never wraps
+-- the hands' lists are together the numbers below the word, each once; the word and the hands' allowances add
+-- up to what was given, so the word never wraps
 pub record IsClaimed (all : ℕ) (words : List ℕ) (views : List Hand) : Type 0 where
   pub one_word : words ≡ slice_index words 0 ∷ []
   pub allowed : slice_index words 0 + total allowance_of views ≡ all

@@ -1,13 +1,13 @@
--- The positions of a search, from lo to hi, in pieces (this project's own rule).
+-- The positions of a search, from lo to hi, divided into pieces (this project's own rule).
 use Rattle.std.specs.Prelude.{ℕ, ◌+◌, ◌-◌, ◌*◌, ◌/◌, ◌≤◌, min}
 use Rattle.nd_time.specs.Limits.{max_kept, piece_length}
 
--- a range of positions: in order, and no more than can be kept
+-- a range of positions: in order, and within the maximum number of kept steps
 pub record IsRange (lo hi : ℕ) : Type 0 where
   pub in_order : lo ≤ hi
   pub few : hi ≤ max_kept
 
--- how many pieces there are
+-- the number of pieces
 abbrev pub piece_count : ℕ → ℕ → ℕ
 piece_count lo hi = (hi - lo) / piece_length + 1
 
@@ -15,6 +15,6 @@ piece_count lo hi = (hi - lo) / piece_length + 1
 abbrev pub piece_start : ℕ → ℕ → ℕ
 piece_start lo j = lo + piece_length * j
 
--- its last position, cut at hi
+-- the last position of piece j, at most hi
 abbrev pub piece_end : ℕ → ℕ → ℕ → ℕ
 piece_end lo hi j = min hi (lo + piece_length * j + (piece_length - 1))

@@ -4,7 +4,7 @@ use Rattle.nd_time.specs.Limits.{max_told}
 use Rattle.nd_history.specs.declared.told.Changed.{Changed}
 use Rattle.nd_history.specs.declared.told.Told.{Told}
 
--- the first of them, in order, and whether there are more
+-- the first changes, in order, and whether there are more
 pub record IsTold {A : Type 0} (all : List Changed) (told : Told A) : Type 0 where
   pub changes : told.changes ≡ take max_told all
   pub more : IsTrue told.more ↔ (max_told < length all)

@@ -1,4 +1,5 @@
--- *Turns*: the positions at which a condition begins or ceases to hold, and what is listed of them (this project's own rule).
+-- *Turns*: the positions at which a condition begins or ceases to hold, and what is listed of them (this
+-- project's own rule).
 use Rattle.std.specs.Prelude.{◌≡◌, ◌↔◌, ℕ, ◌-◌, ◌<◌, ◌≤◌, ◌⊎◌, List, [], ◌∷◌, ◌++◌, length, slice_get, Contains, AllPairs, Option, Some, cond, true, IsTrue, MatchBool}
 use Rattle.nd_time.specs.Limits.{max_told}
 use Rattle.nd_timeline.specs.Timeline.{TimelineValue}
@@ -6,11 +7,11 @@ use Rattle.nd_history.specs.declared.turned.Turns.{Turns}
 use Rattle.nd_history.specs.declared.fault.TurnsFault.{TurnsFault}
 use Rattle.nd_history.specs.declared.fault.TurnsFault.TheVariants.{BadRange, NoSuchPoint, Memory}
 
--- there is a hit at a position and none at the one before it, or the other way round
+-- there is a hit at a position and none at the position before it, or the other way round
 abbrev pub Differs : (ℕ → Type 0) → ℕ → Type 0
 Differs Hit k = (Hit k × (Hit (k - 1) → ⊥)) ⊎ ((Hit k → ⊥) × Hit (k - 1))
 
--- a turn in a range: a position above the first and up to the last at which it is so
+-- a turn in a range: a position above the first and up to the last that differs from the one before it
 pub record IsTurn (Hit : ℕ → Type 0) (lo hi k : ℕ) : Type 0 where
   pub above : lo < k
   pub within : k ≤ hi
@@ -21,28 +22,28 @@ pub record AreTurns (Hit : ℕ → Type 0) (lo hi : ℕ) (ks : List ℕ) : Type 
   pub ascending : AllPairs (λ j k. j < k) ks
   pub exact : (k : ℕ) → Contains ks k ↔ IsTurn Hit lo hi k
 
--- there are more turns than are listed: these are the first, 1,000 of them, and another comes next
+-- there are more turns than are listed: these are the first 1,000, and there is another
 pub record AreFirstTurns (Hit : ℕ → Type 0) (lo hi : ℕ) (ks : List ℕ) : Type 0 where
   pub count : length ks ≡ max_told
   pub next : ℕ
   pub more : IsTurn Hit lo hi next
   pub first : AreTurns Hit lo (next - 1) ks
 
--- all are listed, which are not more than 1,000
+-- all turns are listed, at most 1,000
 pub record AreAllTurns (Hit : ℕ → Type 0) (lo hi : ℕ) (ks : List ℕ) : Type 0 where
   pub few : length ks ≤ max_told
   pub all : AreTurns Hit lo hi ks
 
--- what is listed of the turns of a range, and whether there is a hit where it begins
+-- what is listed of the turns of a range, and whether there is a hit at its first position
 pub record AreListed {A : Type 0} (Hit : ℕ → Type 0) (lo hi : ℕ) (turns : Turns A) : Type 0 where
   pub at_lo : IsTrue turns.at_lo ↔ Hit lo
   pub listed : MatchBool turns.more (AreFirstTurns Hit lo hi turns.positions) (AreAllTurns Hit lo hi turns.positions)
 
--- the least hit of the range as the turns tell it: its first position, or else the first turn
+-- the least hit of the range by its turns: its first position if there is a hit, otherwise the first turn
 abbrev pub first_hit_of : {A : Type 0} → ℕ → Turns A → Option ℕ
 first_hit_of lo turns = cond turns.at_lo (Some lo) (slice_get turns.positions 0)
 
--- one turn more is listed, or that there are more than are listed
+-- one more turn is listed, or it is noted that there are more than are listed
 pub record IsAdded {A : Type 0} (old : Turns A) (k : ℕ) (new : Turns A) : Type 0 where
   pub at_lo : new.at_lo ≡ old.at_lo
   pub room : length old.positions < max_told → (new.positions ≡ old.positions ++ k ∷ []) × (new.more ≡ old.more)

@@ -1,4 +1,5 @@
--- The changes of a processor's view over the kept steps of a timeline, and why none are told (this project's own rule).
+-- The changes of a processor's view over the kept steps of a timeline, and why none are listed (this project's
+-- own rule).
 use Rattle.std.specs.Prelude.{ℕ, ◌<◌, ◌≤◌, ℤ, List, length, take}
 use Rattle.nd_paths.specs.declared.point.Pointstamp.{Pointstamp}
 use Rattle.nd_delta.specs.Delta.{at}
@@ -10,12 +11,12 @@ use Rattle.nd_history.specs.declared.told.Changed.{Changed}
 use Rattle.nd_history.specs.declared.fault.ChangesFault.{ChangesFault}
 use Rattle.nd_history.specs.declared.fault.ChangesFault.TheVariants.{NoProcessor, BadRange, NoSuchPoint, Memory}
 
--- the entry of q's view at a pointstamp in the cluster after the first i kept steps, 0 if there is none
+-- the entry of q's view at a pointstamp at position i, 0 if there is none
 abbrev pub entry_after : {A : Type 0} → TimelineValue A → ℕ → Pointstamp → ℕ → ℤ
 entry_after m q x i = at (view (after m.base (take i m.kept)) q) x
 
--- the changes of q's view at a pointstamp: the positions i with lo < i and i at most hi at which the entry after the
--- first i kept steps is another than after the first i - 1, in order, each with the entry after
+-- the changes of q's view at a pointstamp: the positions i with lo < i and i at most hi at which the entry
+-- differs from the entry at position i - 1, in order, each with the entry there
 abbrev pub changes_of : {A : Type 0} → TimelineValue A → ℕ → Pointstamp → ℕ → ℕ → List Changed
 changes_of m q x lo hi = changes_between (entry_after m q x) lo hi
 
@@ -25,7 +26,7 @@ pub record MayTell {A : Type 0} (m : TimelineValue A) (q lo hi : ℕ) : Type 0 w
   pub range : lo ≤ hi
   pub within : hi ≤ length m.kept
 
--- why no changes are told
+-- why no changes are listed
 abbrev pub CannotTell : {A : Type 0} → TimelineValue A → ℕ → ℕ → ℕ → ChangesFault → Type 0
 CannotTell m q lo hi NoProcessor = length (cluster_of m).processors ≤ q
 CannotTell m q lo hi BadRange = (q < length (cluster_of m).processors) × (hi < lo)

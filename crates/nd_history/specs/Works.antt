@@ -1,9 +1,8 @@
--- What a worker is given, what it does, and the table of all results; for the contracts of this crate's own functions.
+-- What a worker is given, what it does, and the table of all results. Only private contracts use these definitions.
 use Rattle.std.specs.Prelude.{◌≡◌, ℕ, ◌+◌, ◌*◌, ◌<◌, ◌≤◌, ◌⊎◌, List, [], ◌∷◌, ◌++◌, length, map, All, Option, Some, None, slice_get, vec_capacity, nat_lt, cond}
 use Rattle.atomic_table.specs.Seated.{TableId}
-use Rattle.nd_timeline.specs.Timeline.{TimelineValue}
 use Rattle.nd_timeline.specs.Walks.{IsOn}
-use Rattle.nd_history.specs.Least.{IsLeast}
+use Rattle.nd_history.specs.Least.{HoldsAt, IsLeast}
 use Rattle.nd_history.specs.Pieces.{IsRange, piece_count, piece_start, piece_end}
 use Rattle.nd_history.specs.Claims.{times, times_all, AreTheNumbersBelow}
 use Rattle.nd_history.specs.Hands.{hand}
@@ -12,14 +11,15 @@ use Rattle.nd_history.specs.declared.hand.Hand.{Hand}
 use Rattle.nd_history.specs.declared.work.Job.{Job}
 use Rattle.nd_history.specs.declared.work.Work.{Work}
 use Rattle.nd_history.specs.declared.work.Searched.{Searched}
+use Rattle.nd_history.specs.declared.work.Team.{Team}
 
 -- ---- results
 
--- what is told of piece j is right
+-- a result of piece j is right: the least hit in it, or none
 abbrev pub IsResult : (ℕ → Type 0) → ℕ → ℕ → ℕ → Option ℕ → Type 0
 IsResult Hit lo hi j r = IsLeast Hit (piece_start lo j) (piece_end lo hi j) r
 
--- each result is that of the piece that was claimed at its position
+-- each result is that of the piece claimed at the same index
 pub record AreFound (Hit : ℕ → Type 0) (lo hi : ℕ) (claimed : List ℕ) (found : List (Option ℕ)) : Type 0 where
   pub within : length found ≤ length claimed
   pub results : (k : ℕ) → k < length found → (j : ℕ) (r : Option ℕ) → slice_get claimed k ≡ Some j → slice_get found k ≡ Some r → IsResult Hit lo hi j r
@@ -27,51 +27,55 @@ pub record AreFound (Hit : ℕ → Type 0) (lo hi : ℕ) (claimed : List ℕ) (f
 abbrev pub IsSearched : {A : Type 0} → (ℕ → Type 0) → ℕ → ℕ → Searched A → Type 0
 IsSearched Hit lo hi s = AreFound Hit lo hi s.claimed.items s.found.items
 
--- the worker tells this of piece j
+-- the worker has this result of piece j
 pub record IsToldBy {A : Type 0} (s : Searched A) (j : ℕ) (r : Option ℕ) : Type 0 where
   pub place : ℕ
   pub piece : slice_get s.claimed.items place ≡ Some j
   pub result : slice_get s.found.items place ≡ Some r
 
--- it claimed at least as many pieces as it tells of
+-- it has no more results than claimed pieces
 abbrev pub IsEven : {A : Type 0} → Searched A → Type 0
 IsEven s = length s.found.items ≤ length s.claimed.items
 
--- it tells of each piece that it claimed
+-- it has a result of each claimed piece
 abbrev pub IsComplete : {A : Type 0} → Searched A → Type 0
 IsComplete s = length s.found.items ≡ length s.claimed.items
 
--- it tells of each but the last, in which it was refused memory
+-- it has a result of each claimed piece but the last, in which an allocation failed
 abbrev pub IsCutOff : {A : Type 0} → Searched A → Type 0
 IsCutOff s = length s.claimed.items ≡ length s.found.items + 1
 
 -- ---- workers
 
--- what all workers share: a range of positions, the number of its pieces, and a claim word
-pub record IsTeam (lo hi pieces : ℕ) (table : TableId) : Type 0 where
-  pub range : IsRange lo hi
-  pub count : pieces ≡ piece_count lo hi
-  pub word : 0 < table.words
+-- the positions at which the condition that a team searches for holds
+abbrev pub hits_of : {A G : Type 0} → Team A G → ℕ → Type 0
+hits_of team = HoldsAt team.scan.now.timeline.now team.scan.now.condition.now
 
--- nothing yet, and room for the pieces
+-- what all workers share: a range of positions, the number of its pieces, and a claim word
+pub record IsTeam {A G : Type 0} (team : Team A G) : Type 0 where
+  pub range : IsRange team.scan.now.positions.lo team.scan.now.positions.hi
+  pub count : team.pieces ≡ piece_count team.scan.now.positions.lo team.scan.now.positions.hi
+  pub word : 0 < team.word.now.table_id.words
+
+-- no claims and no results yet, and capacity for all pieces
 pub record IsEmpty {A : Type 0} (pieces : ℕ) (s : Searched A) : Type 0 where
   pub nothing_claimed : s.claimed.items ≡ []
   pub nothing_found : s.found.items ≡ []
   pub claimed_room : pieces < vec_capacity s.claimed
   pub found_room : pieces < vec_capacity s.found
 
--- a walk over the timeline, a seat that may draw each piece once, and one number more, and room for the pieces
-pub record IsReady {A : Type 0} (m : TimelineValue A) (table : TableId) (pieces : ℕ) (job : Job A) : Type 0 where
-  pub on : IsOn m job.walk
-  pub table_is : job.ticket.table_id ≡ table
-  pub me_is : job.ticket.me ≡ (hand (pieces + 1) (pieces + 1) [], [])
-  pub empty : IsEmpty pieces job.searched
+-- a walk over the timeline, a seat that may draw each piece and one more number, and memory for the results
+pub record IsReady {A G : Type 0} (team : Team A G) (job : Job A) : Type 0 where
+  pub on : IsOn team.scan.now.timeline.now job.walk
+  pub table_is : job.ticket.table_id ≡ team.word.now.table_id
+  pub me_is : job.ticket.me ≡ (hand (team.pieces + 1) (team.pieces + 1) [], [])
+  pub empty : IsEmpty team.pieces job.searched
 
--- each has the number of its place
+-- each job has its index as its number
 abbrev pub AreNumbered : {A : Type 0} → List (Job A) → Type 0
 AreNumbered jobs = (i : ℕ) (job : Job _) → slice_get jobs i ≡ Some job → job.number ≡ i
 
--- what was drawn are the pieces that were claimed, and then numbers that are no pieces
+-- what was drawn are the claimed pieces, and then numbers that are no pieces
 pub record HasDrawn {A : Type 0} (table : TableId) (pieces : ℕ) (work : Work A) : Type 0 where
   pub table_is : work.ticket.table_id ≡ table
   pub no_slots : work.ticket.me.1 ≡ []
@@ -87,39 +91,41 @@ pub record HasNoPiece (pieces : ℕ) (drawn : List ℕ) : Type 0 where
   pub no_piece : pieces ≤ number
   pub there : 0 < times number drawn
 
--- no piece is left: a number that is none was drawn, or more numbers than there are pieces
+-- no piece is left: a number that is no piece was drawn, or more numbers than there are pieces
 abbrev pub NoneIsLeft : ℕ → List ℕ → Type 0
 NoneIsLeft pieces drawn = HasNoPiece pieces drawn ⊎ (pieces < length drawn)
 
--- a worker stops if it is refused memory in a piece, or tells of all its pieces and none is left
+-- a worker stops if an allocation fails in a piece, or if it has all its results and no piece is left
 abbrev pub HasStopped : {A : Type 0} → ℕ → Work A → Type 0
 HasStopped pieces work = IsCutOff work.searched ⊎ (IsComplete work.searched × NoneIsLeft pieces work.ticket.me.0.drawn)
 
--- a worker's work: what it drew and found, where it stopped, and that it called the gate for each piece that it claimed
-pub record IsWork {A : Type 0} (Hit Called : ℕ → Type 0) (lo hi : ℕ) (table : TableId) (pieces : ℕ) (work : Work A) : Type 0 where
-  pub drawn : HasDrawn table pieces work
-  pub searched : IsSearched Hit lo hi work.searched
-  pub stopped : HasStopped pieces work
+-- a worker's work: what it drew and found, where it stopped, and that it called the gate for each piece that it
+-- claimed
+pub record IsWork {A G : Type 0} (team : Team A G) (Called : ℕ → Type 0) (work : Work A) : Type 0 where
+  pub drawn : HasDrawn team.word.now.table_id team.pieces work
+  pub searched : IsSearched (hits_of team) team.scan.now.positions.lo team.scan.now.positions.hi work.searched
+  pub stopped : HasStopped team.pieces work
   pub called : All Called work.searched.claimed.items
 
--- what all drew, one worker after the other
+-- what all workers drew, one worker after the other
 abbrev pub all_drawn : {A : Type 0} → List (Work A) → List ℕ
 all_drawn [] = []
 all_drawn (w ∷ ws) = w.ticket.me.0.drawn ++ all_drawn ws
 
--- the hand that took all others in: what it drew are the claims of all workers, and then numbers that are no pieces
+-- the hand that joined all others has drawn what all workers drew; of that, the pieces are what they claimed
 pub record AreGathered {A : Type 0} (pieces : ℕ) (works : List (Work A)) (all : Hand) (list : List (Searched A)) : Type 0 where
   pub weight : all.allowance + length all.drawn ≡ length works * (pieces + 1)
   pub drawn : all.drawn ≡ all_drawn works
   pub each : list ≡ map (λ w. w.searched) works
   pub claimed : (x : ℕ) → times_all x (map (λ s. s.claimed.items) list) ≡ cond (nat_lt x pieces) (times x all.drawn) 0
 
--- each worker was cut off or tells of all its pieces; and all were cut off, or each piece was claimed
+-- each worker was cut off or has all its results; and all were cut off, or each piece was claimed
 pub record HaveStopped {A : Type 0} (pieces : ℕ) (works : List (Searched A)) : Type 0 where
   pub each : All (λ s. IsCutOff s ⊎ IsComplete s) works
   pub all : All IsCutOff works ⊎ AreTheNumbersBelow pieces (map (λ s. s.claimed.items) works)
 
--- the work of all workers of a search: what they found and claimed, where they stopped, and for what they called the gate
+-- the work of all workers of a search: what they found and claimed, where they stopped, and for what they
+-- called the gate
 pub record AreSearched {A : Type 0} (Hit : ℕ → Type 0) (Called : ℕ → ℕ → Type 0) (lo hi workers : ℕ) (works : List (Searched A)) : Type 0 where
   pub found : All (IsSearched Hit lo hi) works
   pub claims : AreClaims (piece_count lo hi) workers (map (λ s. s.claimed.items) works)
@@ -128,14 +134,14 @@ pub record AreSearched {A : Type 0} (Hit : ℕ → Type 0) (Called : ℕ → ℕ
 
 -- ---- the table of results, by piece
 
--- a worker tells this of piece j
+-- some worker has this result of piece j
 pub record IsTold {A : Type 0} (works : List (Searched A)) (j : ℕ) (r : Option ℕ) : Type 0 where
   pub who : ℕ
   pub work : Searched A
   pub there : slice_get works who ≡ Some work
   pub by : IsToldBy work j r
 
--- each result in the new table stood in the old one, or the worker tells it
+-- each result in the new table was in the old one, or the worker has it
 abbrev pub AreOldOrToldBy : {A : Type 0} → Searched A → List (Option (Option ℕ)) → List (Option (Option ℕ)) → Type 0
 AreOldOrToldBy s old new = (j : ℕ) (r : Option ℕ) → slice_get new j ≡ Some (Some r) → (slice_get old j ≡ Some (Some r)) ⊎ IsToldBy s j r
 
@@ -143,23 +149,23 @@ AreOldOrToldBy s old new = (j : ℕ) (r : Option ℕ) → slice_get new j ≡ So
 abbrev pub WereEmpty : List (Option (Option ℕ)) → List (Option (Option ℕ)) → Type 0
 WereEmpty old new = (j : ℕ) → slice_get new j ≡ Some None → slice_get old j ≡ Some None
 
--- no piece that the worker tells of is without a result in the table
+-- no piece of which the worker has a result is without a result in the table
 abbrev pub AreInBy : {A : Type 0} → Searched A → List (Option (Option ℕ)) → Type 0
 AreInBy s rs = (j : ℕ) (r : Option ℕ) → IsToldBy s j r → slice_get rs j ≡ Some None → ⊥
 
--- each result in the table is told by a worker
+-- each result in the table is one that a worker has
 abbrev pub AreTold : {A : Type 0} → List (Searched A) → List (Option (Option ℕ)) → Type 0
 AreTold works rs = (j : ℕ) (r : Option ℕ) → slice_get rs j ≡ Some (Some r) → IsTold works j r
 
--- no piece that a worker tells of is without a result in the table
+-- no piece of which some worker has a result is without a result in the table
 abbrev pub AreIn : {A : Type 0} → List (Searched A) → List (Option (Option ℕ)) → Type 0
 AreIn works rs = (j : ℕ) (r : Option ℕ) → IsTold works j r → slice_get rs j ≡ Some None → ⊥
 
--- the pieces before j have results, and no hit
+-- the pieces before j have results, and no hits
 abbrev pub NoneBefore : List (Option (Option ℕ)) → ℕ → Type 0
 NoneBefore rs j = (k : ℕ) → k < j → slice_get rs k ≡ Some (Some None)
 
--- the first piece with a hit, all before having none
+-- the first piece with a hit; the pieces before it have results without hits
 pub record IsFirstHit (rs : List (Option (Option ℕ))) (i : ℕ) : Type 0 where
   pub piece : ℕ
   pub hit : slice_get rs piece ≡ Some (Some (Some i))
@@ -170,7 +176,7 @@ abbrev pub IsFirst : List (Option (Option ℕ)) → Option ℕ → Type 0
 IsFirst rs None = NoneBefore rs (length rs)
 IsFirst rs (Some i) = IsFirstHit rs i
 
--- the first piece without a result, before which there is no hit
+-- the first piece without a result; the pieces before it have results without hits
 pub record IsFirstGap (rs : List (Option (Option ℕ))) (j : ℕ) : Type 0 where
   pub gap : slice_get rs j ≡ Some None
   pub before : NoneBefore rs j

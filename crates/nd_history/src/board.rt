@@ -1,4 +1,4 @@
-//! The claim word: one number, from which each worker draws the piece that it searches next.
+//! The claim word: one shared number from which each worker draws the piece that it searches next.
 ghost use Rattle.std.specs.Prelude.{◌≡◌, ◌+◌, ◌*◌, ◌<◌, ◌≤◌, ℕ, [], length, IfOk};
 ghost use Rattle.nd_time.specs.Limits.{max_kept, max_workers};
 ghost use Rattle.nd_history.specs.Claims.{times, once_below};
@@ -11,7 +11,7 @@ use std::alloc::{AllocError, Allocator};
 /// The rule of the claim word.
 pub(crate) struct Claims;
 
-// The key is what each worker's seat is given, and what all are.
+// The key has the allowance of each worker's seat, and that of all seats.
 impl TableRule<u8, Hand, (u64, u64)> for Claims {
     ghost holds = { λ k s. IsClaimed k.1 s.words s.views };
 
@@ -25,7 +25,7 @@ impl Play<u8, Hand> for Draws {
     ghost then = { λ _ me n after. after ≡ (drew me.0 n, me.1) };
 }
 
-/// A seat gives a worker's share of its allowance away.
+/// A seat gives away a worker's share of its allowance.
 pub(crate) struct Deals;
 
 impl Split<Hand> for Deals {
@@ -34,7 +34,7 @@ impl Split<Hand> for Deals {
     ghost right = { λ v. share_of v };
 }
 
-/// A seat takes in what another has drawn and what it has left.
+/// A seat takes over the drawn numbers and the allowance of another.
 pub(crate) struct Merges;
 
 impl Join<Hand> for Merges {
@@ -49,7 +49,7 @@ pub(crate) type Word = Shared<u8, Hand, (u64, u64), Claims>;
 
 pub(crate) type Ticket = Seat<u8, Hand>;
 
-/// A word at 0, and the seat that has the allowance of all workers.
+/// Opens a claim word at 0, and returns it with a seat that has the allowance of all workers.
 pub(crate) fn open_board<A: Allocator>(
     alloc: A,
     workers: u64,
@@ -64,7 +64,7 @@ pub(crate) fn open_board<A: Allocator>(
     Board::of_words(alloc, &[0], &(each, workers * each))
 }
 
-/// Draws the next number.
+/// Draws the next number from the claim word.
 pub(crate) fn draw(word: &Word, ticket: &mut Ticket) -> u64
     requires word { (ticket.old.table_id ≡ word.now.table_id) × (0 < word.now.table_id.words) }
     requires allowed { 0 < ticket.old.me.0.allowance }
@@ -74,7 +74,7 @@ pub(crate) fn draw(word: &Word, ticket: &mut Ticket) -> u64
     word.fetch_add::<Draws>(ticket, 0, 1)
 }
 
-/// A seat for a worker.
+/// Splits off a seat for a worker.
 pub(crate) fn share(word: &Word, ticket: &mut Ticket) -> Ticket
     requires word { (ticket.old.table_id ≡ word.now.table_id) × (0 < word.now.table_id.words) }
     requires allowed { ticket.old.me.0.each ≤ ticket.old.me.0.allowance }
@@ -86,7 +86,7 @@ pub(crate) fn share(word: &Word, ticket: &mut Ticket) -> Ticket
     word.split_seat::<Deals>(ticket)
 }
 
-/// Takes a worker's seat in.
+/// Joins a worker's seat to this one.
 pub(crate) fn gather(word: &Word, ticket: &mut Ticket, other: Ticket)
     requires word { (ticket.old.table_id ≡ word.now.table_id) × (0 < word.now.table_id.words) }
     requires other { (other.table_id ≡ word.now.table_id) × (other.me.1 ≡ []) }
@@ -96,8 +96,8 @@ pub(crate) fn gather(word: &Word, ticket: &mut Ticket, other: Ticket)
     word.join_seat::<Merges>(ticket, other);
 }
 
-/// Ends the word. The numbers below the answer were drawn, each once, by the seat that took all
-/// others in.
+/// Closes the claim word, and returns how many numbers were drawn: those below the result, each once. The
+/// seat must have joined all others.
 pub(crate) fn end_board<A: Allocator>(board: Board<A>, ticket: Ticket) -> u64
     requires seat { ticket.table_id ≡ board.shared.table_id }
     requires word { IsOneWord board.shared.table_id }

@@ -24,12 +24,12 @@ impl<A: Allocator + Copy> Drop for StepEffect<A> {
     }
 }
 
-/// Why no effect of a step is returned (this project's own rule).
+/// Why `effect` returns nothing (this project's own rule).
 #[derive(Clone, Copy, Debug, Drop, PartialEq, Eq)]
 pub enum EffectFault {
     /// No kept step leads to the position.
     NoSuchPoint,
-    /// A growth was refused.
+    /// An allocation failed.
     Memory,
 }
 
@@ -45,7 +45,7 @@ impl From<AllocError> for EffectFault {
 }
 
 impl EffectFault {
-    /// Returns the number and the name under which the fault is answered.
+    /// Returns the number and the name that a reply gives the fault.
     pub fn code(&self) -> Code
         ensures { result ≡ code_of_effect self.now }
     {
@@ -56,8 +56,9 @@ impl EffectFault {
     }
 }
 
-/// Returns the kept step that leads to position `i` with what it changed: each key of a map and each queue
-/// that has another value after it, with both values (this project's own rule). The timeline stays as it is.
+/// Returns the kept step that leads to position `i`, and what it changed: each map key and each queue whose
+/// value differs before and after the step, with both values (this project's own rule). The timeline does not
+/// change.
 pub fn effect<A: Allocator + Copy>(
     alloc: A,
     timeline: &Timeline<A>,

@@ -1,4 +1,4 @@
-//! Why a search answers nothing, why no changes are told, and why no turns are listed.
+//! Why a search, a query for changes or a query for turns returns nothing.
 ghost use Rattle.std.specs.Prelude.{◌≡◌};
 ghost use Rattle.nd_history.specs.Faults.{code_of_changes, code_of_search, code_of_turns};
 
@@ -7,19 +7,19 @@ use nd_time::Code;
 use nd_timeline::Fault;
 use std::alloc::{AllocError, Allocator, Global};
 
-/// Why a search answers nothing (this project's own rule).
+/// Why a search returns nothing (this project's own rule).
 #[derive(Drop)]
 pub enum SearchFault<A: Allocator = Global> {
     /// The first position is above the last.
     BadRange,
-    /// No worker is to search.
+    /// The number of workers is 0.
     NoWorkers,
-    /// Fewer steps are kept.
+    /// The last position is greater than the number of kept steps.
     NoSuchPoint,
-    /// A growth was refused before the workers walked, or after.
+    /// An allocation failed before the workers started or after they stopped.
     Memory,
-    /// A worker was refused memory in its walk. The least piece without a result, and the pieces
-    /// that each worker has claimed.
+    /// An allocation failed in a worker's walk. `piece` is the least piece without a result, `claimed`
+    /// has the pieces that each worker has claimed.
     Missing {
         piece: u64,
         claimed: Vec<Vec<u64, A>, A>,
@@ -38,7 +38,7 @@ impl<A: Allocator> From<AllocError> for SearchFault<A> {
 }
 
 impl<A: Allocator> SearchFault<A> {
-    /// The number and the name under which the fault is answered.
+    /// Returns the number and the name that a reply gives the fault.
     pub fn code(&self) -> Code
         ensures { result ≡ code_of_search self.now }
     {
@@ -55,16 +55,16 @@ impl<A: Allocator> SearchFault<A> {
     }
 }
 
-/// Why no changes are told (this project's own rule).
+/// Why `changes` returns nothing (this project's own rule).
 #[derive(Clone, Copy, Debug, Drop, PartialEq, Eq)]
 pub enum ChangesFault {
     /// The cluster has no such processor.
     NoProcessor,
     /// The first position is above the last.
     BadRange,
-    /// Fewer steps are kept.
+    /// The last position is greater than the number of kept steps.
     NoSuchPoint,
-    /// A growth was refused.
+    /// An allocation failed.
     Memory,
 }
 
@@ -80,7 +80,7 @@ impl From<AllocError> for ChangesFault {
 }
 
 impl ChangesFault {
-    /// The number and the name under which the fault is answered.
+    /// Returns the number and the name that a reply gives the fault.
     pub fn code(&self) -> Code
         ensures { result ≡ code_of_changes self.now }
     {
@@ -93,14 +93,14 @@ impl ChangesFault {
     }
 }
 
-/// Why no turns are listed (this project's own rule).
+/// Why `turns` returns nothing (this project's own rule).
 #[derive(Clone, Copy, Debug, Drop, PartialEq, Eq)]
 pub enum TurnsFault {
     /// The first position is above the last.
     BadRange,
-    /// Fewer steps are kept.
+    /// The last position is greater than the number of kept steps.
     NoSuchPoint,
-    /// A growth was refused.
+    /// An allocation failed.
     Memory,
 }
 
@@ -116,7 +116,7 @@ impl From<AllocError> for TurnsFault {
 }
 
 impl TurnsFault {
-    /// Returns the number and the name of the fault.
+    /// Returns the number and the name that a reply gives the fault.
     pub fn code(&self) -> Code
         ensures { result ≡ code_of_turns self.now }
     {

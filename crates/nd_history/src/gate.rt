@@ -1,19 +1,19 @@
 //! A call that a worker makes before each piece, and a client before each command.
 ghost use Rattle.std.specs.Prelude.{ℕ};
 
-/// What a search calls before each piece, and what a run of several clients calls before each
-/// command, by which a test can hold a worker or a client (this project's own rule).
+/// A search calls its gate before each piece, and a run of several clients calls its gate before each
+/// command, so that a test can delay a worker or a client (this project's own rule).
 ///
-/// No answer depends on it.
+/// No result depends on the gate.
 pub trait Gate: Sync {
-    /// States what a call with these two numbers leaves known. By default that is nothing.
+    /// States what a call with these two numbers guarantees. By default that is nothing.
     ///
-    /// Searches and runs are proved for every meaning of `called`, so only a call gives it to
-    /// them: what requires `called` can only be done after a call with the same numbers.
+    /// Searches and runs are proved for every meaning of `called`, so only a call can establish it:
+    /// what requires `called` can only be done after a call with the same numbers.
     ghost called: { Self → ℕ → ℕ → Type 0 } = { λ _ _ _. Unit {0} };
 
-    /// Worker or client `who`, counted from 0, is about to search this piece or make its command
-    /// of this number.
+    /// Is called before worker `who` searches piece `number`, or before client `who` issues its
+    /// command `number`; all are counted from 0.
     fn call(&self, who: u64, number: u64)
         ensures { called self.now who number };
 }

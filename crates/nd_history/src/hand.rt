@@ -1,12 +1,12 @@
-//! What a worker's seat at the claim word knows.
+//! What is known of a worker's seat at the claim word.
 
 use std::collections::LinkedList;
 
-/// How many numbers a seat may draw, and those that it has drawn. It stands in proofs alone.
+/// How many numbers a seat may still draw, and those that it has drawn. Only proofs use it.
 pub(crate) struct Hand {
-    /// What a worker's seat is given.
+    /// How many numbers each worker's seat may draw at first.
     pub(crate) each: u64,
-    /// What is left of it.
+    /// How many numbers this seat may still draw.
     pub(crate) allowance: u64,
     pub(crate) drawn: LinkedList<u64>,
 }

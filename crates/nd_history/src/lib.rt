@@ -1,5 +1,6 @@
-//! Questions about the kept steps of a timeline: snapshots of it, a search of its positions by many
-//! workers, the changes of a processor's view, what a step changed, and where a condition turns.
+//! Queries about the kept steps of a timeline: a search of its positions by several workers, the changes
+//! of a processor's view, what a step changed, and where a condition begins and ceases to hold; and
+//! snapshots of a timeline.
 #![tactic(auto)]
 
 mod board;

@@ -1,4 +1,4 @@
-//! The positions of a search, in pieces.
+//! The positions of a search, divided into pieces.
 ghost use Rattle.std.specs.Prelude.{◌≡◌, ◌+◌, ◌*◌, ◌<◌, ◌≤◌, IfOk};
 ghost use Rattle.nd_time.specs.Limits.{max_kept, piece_length};
 ghost use Rattle.nd_timeline.specs.Walks.{IsOn};
@@ -11,10 +11,10 @@ use nd_breaks::Condition;
 use nd_timeline::{Timeline, Walk};
 use std::alloc::{AllocError, Allocator};
 
-/// How many positions a piece has.
+/// The number of positions in a piece.
 const PIECE_LENGTH: u64 = 16;
 
-/// The positions from one to another, which both count.
+/// The positions from `lo` to `hi`, both included.
 #[derive(Clone, Copy, Drop)]
 pub(crate) struct Positions {
     pub(crate) lo: u64,
@@ -22,7 +22,7 @@ pub(crate) struct Positions {
 }
 
 impl Positions {
-    /// How many pieces they make.
+    /// Returns the number of pieces.
     pub(crate) fn pieces(self) -> u64
         requires { self.lo ≤ self.hi }
         ensures { result ≡ piece_count self.lo self.hi }
@@ -31,8 +31,8 @@ impl Positions {
     }
 }
 
-/// What the workers of a search share: the positions of a timeline that they search for a
-/// condition, and the gate that they call before each piece.
+/// What the workers of a search share: the timeline, the condition, the positions to search, and the gate
+/// that they call before each piece.
 #[derive(Drop)]
 pub(crate) struct Scan<'a, A: Allocator + Copy, G> {
     pub(crate) timeline: &'a Timeline<A>,
@@ -42,10 +42,10 @@ pub(crate) struct Scan<'a, A: Allocator + Copy, G> {
 }
 
 impl<A: Allocator + Copy, G: Gate> Scan<'_, A, G> {
-    /// Searches a piece, for which worker `who` has called the gate: the least of its positions
-    /// at which the condition holds.
+    /// Searches a piece for which worker `who` has called the gate, and returns the least position in it at
+    /// which the condition holds.
     ///
-    /// The walk goes there from where it stands by the shorter way.
+    /// The walk goes to the piece from its current position, forward or backward.
     pub(crate) fn search_piece(
         &self,
         walk: &mut Walk<A>,
@@ -66,7 +66,7 @@ impl<A: Allocator + Copy, G: Gate> Scan<'_, A, G> {
     }
 }
 
-// Goes from one position to another, and stops at the first at which the condition holds.
+// Moves the walk over the positions from `from` to `to`, and returns the first at which the condition holds.
 fn first_hit<A: Allocator + Copy>(
     timeline: &Timeline<A>,
     walk: &mut Walk<A>,

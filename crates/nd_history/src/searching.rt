@@ -14,7 +14,7 @@ use nd_timeline::Timeline;
 use std::alloc::{AllocError, Allocator};
 use std::thread::Threads;
 
-// The positions, or why there is nothing to search.
+// Returns the positions, or why there is nothing to search.
 fn positions<A: Allocator + Copy>(
     timeline: &Timeline<A>,
     lo: u64,
@@ -32,7 +32,7 @@ fn positions<A: Allocator + Copy>(
     if workers == 0 {
         return Err(SearchFault::NoWorkers);
     }
-    // This call's clause says that few steps are kept.
+    // A clause of this call says that no more than `max_kept` steps are kept.
     let _ = timeline.at();
     if hi > timeline.kept() {
         return Err(SearchFault::NoSuchPoint);
@@ -40,7 +40,7 @@ fn positions<A: Allocator + Copy>(
     Ok(Positions { lo, hi })
 }
 
-// The lists of all workers.
+// Returns the lists of the pieces that the workers have claimed.
 fn claims<A: Allocator + Copy>(
     alloc: A,
     works: Vec<Searched<A>, A>,
@@ -54,12 +54,12 @@ fn claims<A: Allocator + Copy>(
     Ok(lists)
 }
 
-/// The least position from `lo` to `hi`, both included, at which the condition holds.
+/// Returns the least position from `lo` to `hi`, both included, at which the condition holds.
 ///
-/// At most 64 workers are started, each on a thread of its own and with a cluster of its own that
-/// walks over the kept steps (this project's own rule). They claim pieces of 16 positions, one
-/// after the other, and call the gate before each. One that is refused memory in its walk stops,
-/// and the others go on.
+/// At most 64 workers are started, each in its own thread and with its own cluster that walks over
+/// the kept steps (this project's own rule). The workers claim pieces of 16 positions, one after the
+/// other, and call the gate before each. A worker stops if an allocation fails in its walk, and the
+/// others continue.
 pub fn search_in<A: Allocator + Copy + Send + Sync, R: Threads + Sync, G: Gate>(
     rt: &R,
     alloc: A,
@@ -93,8 +93,8 @@ pub fn search_in<A: Allocator + Copy + Send + Sync, R: Threads + Sync, G: Gate>(
     }
 }
 
-/// The least position of a snapshot from `lo` to `hi`, both included, at which the condition
-/// holds, as `search_in` returns it.
+/// Returns the least position of a snapshot from `lo` to `hi`, both included, at which the condition
+/// holds, as `search_in` does.
 pub fn search<A: Allocator + Copy + Send + Sync, R: Threads + Sync, G: Gate>(
     rt: &R,
     alloc: A,

@@ -1,4 +1,4 @@
-//! A snapshot: a timeline of one's own, and the number of log entries that led to it.
+//! A snapshot: a copy of a timeline, and the number of log entries that led to it.
 ghost use Rattle.std.specs.Prelude.{◌≡◌, ◌<◌, ◌↔◌, length, IfOk, IsTrue};
 ghost use Rattle.nd_view.specs.View.{IsPassed};
 ghost use Rattle.nd_protocol.specs.State.{view};
@@ -41,7 +41,7 @@ impl<A: Allocator + Copy> Drop for Snapshot<A> {
 }
 
 impl<A: Allocator + Copy> Snapshot<A> {
-    /// A copy of a timeline, under an index.
+    /// Copies a timeline, with `index` as the index of the snapshot.
     pub fn of(alloc: A, timeline: &Timeline<A>, index: u64) -> Result<Snapshot<A>, AllocError>
         ensures { IfOk result (λ s. s ≡ snapshot_of timeline.now index) }
     {
@@ -51,21 +51,21 @@ impl<A: Allocator + Copy> Snapshot<A> {
         })
     }
 
-    /// The index that it was made under.
+    /// Returns the index.
     pub fn index(&self) -> u64
         ensures { result ≡ self.now.index }
     {
         self.index
     }
 
-    /// Its timeline.
+    /// Returns the timeline.
     pub(crate) fn timeline(&self) -> &Timeline<A>
         ensures { result.now ≡ self.now.timeline }
     {
         &self.timeline
     }
 
-    /// How many of the kept steps the cluster has made.
+    /// Returns the position of the cursor: how many of the kept steps lead to the cluster.
     pub fn at(&self) -> u64
         ensures value { result ≡ self.now.timeline.cursor }
         ensures timeline { IsTimeline self.now.timeline }
@@ -73,14 +73,14 @@ impl<A: Allocator + Copy> Snapshot<A> {
         self.timeline.at()
     }
 
-    /// How many steps are kept.
+    /// Returns the number of kept steps.
     pub fn kept(&self) -> u64
         ensures { result ≡ length self.now.timeline.kept }
     {
         self.timeline.kept()
     }
 
-    /// The cluster at the cursor.
+    /// Returns the cluster at the cursor.
     pub fn cluster(&self) -> &Cluster<A>
         ensures value { result.now ≡ cluster_of self.now.timeline }
         ensures protocol { KeepsProtocol self.now.timeline.base → KeepsProtocol result.now }
@@ -88,7 +88,7 @@ impl<A: Allocator + Copy> Snapshot<A> {
         self.timeline.cluster()
     }
 
-    /// Whether processor q's view at the cursor holds nothing positive at or before a pointstamp
+    /// Returns whether processor `q`'s view at the cursor has no positive entry at or before the pointstamp
     /// (FORTE 2013).
     pub fn passed(&self, q: usize, point: &Pointstamp) -> bool
         requires { q < length (cluster_of self.now.timeline).processors }
@@ -100,7 +100,7 @@ impl<A: Allocator + Copy> Snapshot<A> {
         self.timeline.passed(q, point)
     }
 
-    /// An equal snapshot.
+    /// Returns an equal snapshot.
     pub fn copy(&self, alloc: A) -> Result<Snapshot<A>, AllocError>
         ensures { IfOk result (λ s. s ≡ self.now) }
     {

@@ -5,7 +5,7 @@ ghost use Rattle.nd_history.specs.Works.{IsEven, AreOldOrToldBy, WereEmpty, AreI
 use crate::work::Searched;
 use std::alloc::{AllocError, Allocator};
 
-// Puts what a worker has found to its pieces.
+// Enters a worker's results in the table, each at its piece.
 fn put<A: Allocator>(searched: &Searched<A>, results: &mut [Option<Option<u64>>])
     requires { IsEven searched.now }
     ensures len { length results.new ≡ length results.old }
@@ -21,7 +21,7 @@ fn put<A: Allocator>(searched: &Searched<A>, results: &mut [Option<Option<u64>>]
     }
 }
 
-/// What was found in each piece: none if it has no result.
+/// Returns the result of each piece, `None` for a piece without a result.
 pub(crate) fn results<A: Allocator + Copy>(
     alloc: A,
     works: &[Searched<A>],
@@ -42,7 +42,8 @@ pub(crate) fn results<A: Allocator + Copy>(
     Ok(results)
 }
 
-/// The first hit of the pieces in their order, or the first piece without a result.
+/// Returns the hit of the first piece that has one, `None` if no piece has one. The error is the first piece
+/// without a result, if no hit comes before it.
 pub(crate) fn first(results: &[Option<Option<u64>>]) -> Result<Option<u64>, u64>
     ensures { MatchResult result (IsFirst results.now) (IsFirstGap results.now) }
 {

@@ -1,4 +1,4 @@
-//! The workers of a search: each with a walk over the timeline, and on a thread of its own.
+//! The workers of a search: each has its own walk over the timeline, and its own thread.
 ghost use Rattle.std.specs.Prelude.{◌≡◌, ◌+◌, ◌*◌, ◌≤◌, [], All, IfOk, vec_len};
 ghost use Rattle.nd_time.specs.Limits.{max_kept, max_workers};
 ghost use Rattle.nd_history.specs.Least.{HoldsAt};
@@ -14,10 +14,10 @@ use std::alloc::{AllocError, Allocator};
 use std::thread;
 use std::thread::Threads;
 
-/// The most workers that are started.
+/// The maximum number of workers that are started.
 pub(crate) const MAX_WORKERS: u64 = 64;
 
-// Room for what a worker claims and finds.
+// Allocates the memory for what a worker claims and finds.
 fn room<A: Allocator + Copy>(alloc: A, pieces: u64) -> Result<Searched<A>, AllocError>
     requires { pieces ≤ max_kept + 1 }
     ensures { IfOk result (IsEmpty pieces) }
@@ -28,21 +28,19 @@ fn room<A: Allocator + Copy>(alloc: A, pieces: u64) -> Result<Searched<A>, Alloc
     })
 }
 
-// A walk, a seat and room for each worker.
+// Prepares the job of each worker: a walk, a seat, and memory for its results.
 fn jobs<A: Allocator + Copy, G: Gate>(
     alloc: A,
     team: &Team<A, G>,
     ticket: &mut Ticket,
     workers: u64,
 ) -> Result<Vec<Job<A>, A>, AllocError>
-    requires team { IsTeam team.now.scan.now.positions.lo team.now.scan.now.positions.hi
-        team.now.pieces team.now.word.now.table_id }
+    requires team { IsTeam team.now }
     requires seat { ticket.old.table_id ≡ team.now.word.now.table_id }
     requires hand { ticket.old.me ≡
         (hand (team.now.pieces + 1) (workers * (team.now.pieces + 1)) [], []) }
     requires few { workers ≤ max_workers }
-    ensures all { IfOk result (λ v. All (IsReady team.now.scan.now.timeline.now
-        team.now.word.now.table_id team.now.pieces) v.items) }
+    ensures all { IfOk result (λ v. All (IsReady team.now) v.items) }
     ensures len { IfOk result (λ v. vec_len v ≡ workers) }
     ensures numbered { IfOk result (λ v. AreNumbered v.items) }
     ensures seat { IfOk result (λ _. ticket.new.table_id ≡ team.now.word.now.table_id) }
@@ -62,15 +60,14 @@ fn jobs<A: Allocator + Copy, G: Gate>(
     Ok(jobs)
 }
 
-// Takes the seats in, and keeps what was claimed and found.
+// Joins the seats of all workers, and returns what each has claimed and found.
 fn gathered<A: Allocator + Copy, G: Gate>(
     alloc: A,
     team: &Team<A, G>,
     ticket: &mut Ticket,
     works: Vec<Work<A>, A>,
 ) -> Result<Vec<Searched<A>, A>, AllocError>
-    requires team { IsTeam team.now.scan.now.positions.lo team.now.scan.now.positions.hi
-        team.now.pieces team.now.word.now.table_id }
+    requires team { IsTeam team.now }
     requires seat { ticket.old.table_id ≡ team.now.word.now.table_id }
     requires hand { ticket.old.me ≡ (hand (team.now.pieces + 1) 0 [], []) }
     requires all { All (HasDrawn team.now.word.now.table_id team.now.pieces) works.items }
@@ -90,7 +87,7 @@ fn gathered<A: Allocator + Copy, G: Gate>(
     Ok(list)
 }
 
-/// What each worker claims and finds. All are joined.
+/// Runs the workers, joins their threads, and returns what each has claimed and found.
 pub(crate) fn search_all<A: Allocator + Copy + Send + Sync, R: Threads + Sync, G: Gate>(
     rt: &R,
     alloc: A,
@@ -111,13 +108,8 @@ pub(crate) fn search_all<A: Allocator + Copy + Send + Sync, R: Threads + Sync, G
     };
     let jobs = jobs(alloc, &team, &mut ticket, workers)?;
     let worker = |job: Job<A>| -> Work<A>
-        requires { IsTeam team.scan.now.positions.lo team.scan.now.positions.hi
-            team.pieces team.word.now.table_id
-            × IsReady team.scan.now.timeline.now team.word.now.table_id team.pieces job }
-        ensures { IsWork (HoldsAt team.entry.scan.now.timeline.now team.entry.scan.now.condition.now)
-            (G.called team.entry.scan.now.gate.now job.number)
-            team.entry.scan.now.positions.lo team.entry.scan.now.positions.hi
-            team.entry.word.now.table_id team.entry.pieces result }
+        requires { IsTeam team × IsReady team job }
+        ensures { IsWork team.entry (G.called team.entry.scan.now.gate.now job.number) result }
     { job.work(&team) };
     let works = thread::map_vec(rt, jobs, &worker)?;
     let list = gathered(alloc, &team, &mut ticket, works)?;

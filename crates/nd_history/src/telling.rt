@@ -12,7 +12,7 @@ use nd_paths::Pointstamp;
 use nd_timeline::{Timeline, Walk};
 use std::alloc::{AllocError, Allocator};
 
-// Whether there is such a processor, and such a range of kept steps.
+// Checks that there is such a processor, and that the range is one of kept steps.
 fn check<A: Allocator + Copy>(
     timeline: &Timeline<A>,
     q: usize,
@@ -34,7 +34,7 @@ fn check<A: Allocator + Copy>(
     Ok(())
 }
 
-// The entry of processor q's view at a pointstamp, 0 if there is none.
+// Returns the entry of processor `q`'s view at the pointstamp, 0 if there is none.
 fn entry<A: Allocator + Copy>(cluster: &Cluster<A>, q: usize, point: &Pointstamp) -> i64
     ensures { result ≡ at (view cluster.now q) point.now }
 {
@@ -44,7 +44,7 @@ fn entry<A: Allocator + Copy>(cluster: &Cluster<A>, q: usize, point: &Pointstamp
     cluster.view(q).get(point)
 }
 
-// Goes to a position on a walk.
+// Moves the walk to position `n`.
 pub(crate) fn go<A: Allocator + Copy>(
     timeline: &Timeline<A>,
     walk: &mut Walk<A>,
@@ -61,8 +61,8 @@ pub(crate) fn go<A: Allocator + Copy>(
     Ok(())
 }
 
-// Goes forward to a position step by step, and lists the changes on the way. It stops once there
-// are more than are listed.
+// Moves the walk forward to position `hi` step by step, and lists the changes on the way. It stops after the
+// first change that is not listed.
 fn follow<A: Allocator + Copy>(
     alloc: A,
     timeline: &Timeline<A>,
@@ -95,11 +95,11 @@ fn follow<A: Allocator + Copy>(
     Ok(told)
 }
 
-/// Lists the positions above `lo` and up to `hi` at which the entry of processor q's view at a
-/// pointstamp is another than one kept step before, in order, each with the entry there (this
+/// Lists the positions above `lo` and up to `hi` at which the entry of processor `q`'s view at the
+/// pointstamp differs from the entry one kept step before, in order, each with the entry there (this
 /// project's own rule).
 ///
-/// At most 1,000 are listed; if there are more, the first 1,000 and that there are more.
+/// At most 1,000 are listed. If there are more, `more` is true.
 pub fn changes<A: Allocator + Copy>(
     alloc: A,
     timeline: &Timeline<A>,

@@ -1,4 +1,4 @@
-//! What is told of the changes of an entry.
+//! Lists of the changes of an entry.
 ghost use Rattle.std.specs.Prelude.{◌≡◌, List, [], ◌∷◌, ◌++◌, OnOk, OnErr};
 ghost use Rattle.nd_history.specs.declared.told.Changed.{Changed};
 ghost use Rattle.nd_history.specs.Told.{IsTold};
@@ -6,10 +6,10 @@ ghost use Rattle.nd_history.specs.Told.{IsTold};
 use std::alloc::{AllocError, Allocator, Global};
 use std::marker::Model;
 
-/// The most changes that are told.
+/// The maximum number of changes that are listed.
 const MAX_TOLD: usize = 1_000;
 
-/// A position at which an entry is another than at the one before.
+/// A position at which an entry differs from the entry at the position before.
 #[derive(Clone, Copy, Drop)]
 pub struct Changed {
     /// How many kept steps lead there.
@@ -38,7 +38,7 @@ impl<A: Allocator> Model for Changes<A> {
 }
 
 impl<A: Allocator> Changes<A> {
-    // No changes.
+    // Returns an empty list.
     fn new(alloc: A) -> Changes<A>
         ensures { result ≡ [] }
     {
@@ -47,14 +47,14 @@ impl<A: Allocator> Changes<A> {
         }
     }
 
-    /// The changes.
+    /// Returns the changes.
     pub fn as_slice(&self) -> &[Changed]
         ensures { result.now ≡ self.now }
     {
         &self.items
     }
 
-    // Puts one more change at the end.
+    // Adds a change at the end.
     fn push(&mut self, changed: Changed) -> Result<(), AllocError>
         ensures { OnOk result (self.new ≡ self.old ++ changed ∷ []) }
     {
@@ -63,17 +63,17 @@ impl<A: Allocator> Changes<A> {
     }
 }
 
-/// What is told of the changes in a range of positions (this project's own rule).
+/// What is listed of the changes in a range of positions (this project's own rule).
 #[derive(Drop)]
 pub struct Told<A: Allocator = Global> {
-    /// The first 1,000 of them, or all if there are no more.
+    /// The first 1,000 changes, or all if there are no more.
     pub changes: Changes<A>,
     /// Whether there are more.
     pub more: bool,
 }
 
 impl<A: Allocator> Told<A> {
-    /// Nothing is told of no changes.
+    /// Returns an empty list without more changes.
     pub(crate) fn new(alloc: A) -> Told<A>
         ensures { IsTold [] result }
     {
@@ -83,7 +83,7 @@ impl<A: Allocator> Told<A> {
         }
     }
 
-    /// Tells one change more, or that there are more than are told.
+    /// Lists one more change, or sets `more` if the list is full.
     pub(crate) fn add(&mut self, changed: Changed) -> Result<(), AllocError>
         ensures { OnOk result ((all : List Changed)
             → IsTold all self.old → IsTold (all ++ changed ∷ []) self.new) }

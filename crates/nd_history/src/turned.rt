@@ -5,7 +5,7 @@ ghost use Rattle.nd_history.specs.Turns.{IsAdded};
 use std::alloc::{AllocError, Allocator, Global};
 use std::marker::Model;
 
-/// The most turns that are listed.
+/// The maximum number of turns that are listed.
 const MAX_LISTED: usize = 1_000;
 
 /// A list of positions.
@@ -23,7 +23,7 @@ impl<A: Allocator> Model for PositionList<A> {
 }
 
 impl<A: Allocator> PositionList<A> {
-    // No positions.
+    // Returns an empty list.
     pub(crate) fn new(alloc: A) -> PositionList<A>
         ensures { result ≡ [] }
     {
@@ -39,7 +39,7 @@ impl<A: Allocator> PositionList<A> {
         &self.items
     }
 
-    // Puts one more position at the end.
+    // Adds a position at the end.
     pub(crate) fn push(&mut self, position: u64) -> Result<(), AllocError>
         ensures { OnOk result (self.new ≡ self.old ++ position ∷ []) }
     {
@@ -51,16 +51,17 @@ impl<A: Allocator> PositionList<A> {
 /// Where a condition begins and ceases to hold in a range of positions (this project's own rule).
 #[derive(Drop)]
 pub struct Turns<A: Allocator = Global> {
-    /// Whether it holds at the first position of the range.
+    /// Whether the condition holds at the first position of the range.
     pub at_lo: bool,
-    /// The positions at which it turns, in order: the first 1,000, or all if there are no more.
+    /// The turns, the positions at which it begins or ceases to hold, in order: the first 1,000, or all
+    /// if there are no more.
     pub positions: PositionList<A>,
     /// Whether there are more.
     pub more: bool,
 }
 
 impl<A: Allocator> Turns<A> {
-    // None are listed yet.
+    // Returns an empty list without more turns.
     pub(crate) fn new(alloc: A, at_lo: bool) -> Turns<A>
         ensures at_lo { result.at_lo ≡ at_lo }
         ensures positions { result.positions ≡ [] }
@@ -73,7 +74,7 @@ impl<A: Allocator> Turns<A> {
         }
     }
 
-    // Lists one turn more, or that there are more than are listed.
+    // Lists one more turn, or sets `more` if the list is full.
     pub(crate) fn add(&mut self, position: u64) -> Result<(), AllocError>
         ensures { OnOk result (IsAdded self.old position self.new) }
     {

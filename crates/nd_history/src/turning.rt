@@ -10,7 +10,7 @@ use nd_breaks::Condition;
 use nd_timeline::{Timeline, Walk};
 use std::alloc::{AllocError, Allocator};
 
-// Whether there is such a range of kept steps.
+// Checks that the range is one of kept steps.
 fn check<A: Allocator + Copy>(timeline: &Timeline<A>, lo: u64, hi: u64) -> Result<(), TurnsFault>
     ensures may { OnOk result (MayTurn timeline.now lo hi) }
     ensures cannot { IfErr result (CannotTurn timeline.now lo hi) }
@@ -24,8 +24,8 @@ fn check<A: Allocator + Copy>(timeline: &Timeline<A>, lo: u64, hi: u64) -> Resul
     Ok(())
 }
 
-// Goes forward to a position step by step, and lists the turns on the way. It stops once there are
-// more than are listed.
+// Moves the walk forward to position `hi` step by step, and lists the turns on the way. It stops after
+// the first turn that is not listed.
 fn follow<A: Allocator + Copy>(
     alloc: A,
     timeline: &Timeline<A>,
@@ -54,12 +54,12 @@ fn follow<A: Allocator + Copy>(
     Ok(turns)
 }
 
-/// Lists the positions above `lo` and up to `hi` at which the condition holds and did not one kept
-/// step before, or the other way round, in order (this project's own rule).
+/// Lists the turns of the condition above `lo` and up to `hi` in order: the positions at which it holds
+/// and did not hold one kept step before, or the other way round (this project's own rule).
 ///
-/// At most 1,000 are listed; if there are more, the first 1,000 and that there are more. The least
-/// position from `lo` to `hi` at which the condition holds, which `search` finds, is `lo` or else
-/// the first of them.
+/// At most 1,000 are listed. If there are more, `more` is true. The least position from `lo` to `hi` at
+/// which the condition holds, which `search` finds, is `lo` if the condition holds there, and otherwise
+/// the first turn.
 pub fn turns<A: Allocator + Copy>(
     alloc: A,
     timeline: &Timeline<A>,

@@ -1,6 +1,4 @@
 //! One worker of a search.
-ghost use Rattle.std.specs.Prelude.{◌≡◌};
-ghost use Rattle.nd_history.specs.Least.{HoldsAt};
 ghost use Rattle.nd_history.specs.Works.{IsTeam, IsReady, IsWork};
 
 use crate::Gate;
@@ -9,15 +7,15 @@ use crate::piece::Scan;
 use nd_timeline::Walk;
 use std::alloc::Allocator;
 
-/// The pieces that a worker has claimed, and what it has found in them. If it was refused
-/// memory, there is nothing of the last.
+/// The pieces that a worker has claimed, and their results in the same order. If an allocation failed, the
+/// last piece has no result.
 #[derive(Drop)]
 pub(crate) struct Searched<A: Allocator> {
     pub(crate) claimed: Vec<u64, A>,
     pub(crate) found: Vec<Option<u64>, A>,
 }
 
-/// What a worker begins with.
+/// What a worker starts with.
 #[derive(Drop)]
 pub(crate) struct Job<A: Allocator + Copy> {
     pub(crate) number: u64,
@@ -26,7 +24,7 @@ pub(crate) struct Job<A: Allocator + Copy> {
     pub(crate) searched: Searched<A>,
 }
 
-/// What it leaves.
+/// What a worker returns.
 #[derive(Drop)]
 pub(crate) struct Work<A: Allocator> {
     pub(crate) ticket: Ticket,
@@ -42,17 +40,12 @@ pub(crate) struct Team<'t, 's, A: Allocator + Copy, G> {
 }
 
 impl<A: Allocator + Copy> Job<A> {
-    /// Claims piece after piece, calls the gate and searches it, until a number is no piece or
-    /// memory is refused.
+    /// Claims piece after piece, calls the gate for it and searches it, until a number is no piece or an
+    /// allocation fails.
     pub(crate) fn work<G: Gate>(self, team: &Team<A, G>) -> Work<A>
-        requires team { IsTeam team.now.scan.now.positions.lo team.now.scan.now.positions.hi
-            team.now.pieces team.now.word.now.table_id }
-        requires job { IsReady team.now.scan.now.timeline.now team.now.word.now.table_id
-            team.now.pieces self }
-        ensures { IsWork (HoldsAt team.now.scan.now.timeline.now team.now.scan.now.condition.now)
-            (G.called team.now.scan.now.gate.now self.number)
-            team.now.scan.now.positions.lo team.now.scan.now.positions.hi
-            team.now.word.now.table_id team.now.pieces result }
+        requires team { IsTeam team.now }
+        requires job { IsReady team.now self }
+        ensures { IsWork team.now (G.called team.now.scan.now.gate.now self.number) result }
     {
         let Job {
             number,

@@ -1,4 +1,4 @@
--- An object's keys, and a list's items.
+-- The keys of an object, and the items of a list.
 use Rattle.std.proofs.Common.{◌≡◌, ℕ, List, [], ◌∷◌, map, refl, ap, Some, None, false, String, Global, string_bytes}
 use Rattle.serde_json.specs.View.{members_view, items_of}
 use Rattle.serde_json.specs.declared.value.Value.{Value}

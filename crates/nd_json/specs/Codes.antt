@@ -1,4 +1,5 @@
--- How the logic stores a JSON value: as the steps of a machine that builds it on three stacks, of values, of lists and of objects.
+-- How the logic encodes a JSON value: as the steps of a machine that builds it on three stacks,
+-- of values, of lists and of objects.
 use Rattle.std.specs.Prelude.{◌≡◌, ℕ, ℤ, pos, List, [], ◌∷◌, true, false, cond, ◌==◌, refl}
 use Rattle.std.specs.Float.{Float, nan}
 use Rattle.std.specs.Coded.{Coded, code_by, coded×, coded_ℕ, coded_ℤ, coded_list}
@@ -8,7 +9,7 @@ use Rattle.serde_json.specs.Data.{Data, null, boolean, number, string, array, ob
 
 -- ---- the machine
 
--- a step's kind, and what it puts into the value
+-- the kind of a step, and what it adds to the value
 abbrev Step : Type 0
 Step = ℕ × (ℕ × (List ℕ × (ℤ × Float)))
 
@@ -55,7 +56,7 @@ abbrev run : List Step → Stacks → Stacks
 run [] s = s
 run (p ∷ ps) s = run ps (made_by p s)
 
--- ---- the steps of a value, before those that follow
+-- ---- the steps that build a value, followed by other steps
 
 abbrev plain : ℕ → Step
 plain kind = (kind, (0, ([], (pos 0, nan))))
@@ -80,7 +81,7 @@ abbrev mutual
   members_steps no_members ps = plain 10 ∷ ps
   members_steps (member key d ms) ps = members_steps ms (steps d ((11, (0, (key, (pos 0, nan)))) ∷ ps))
 
--- they leave the value on its stack
+-- the steps leave the value on its stack
 mutual
   pub run-steps : (d : Data) (ps : List Step) (s : Stacks) → run (steps d ps) s ≡ run ps (value_on d s)
   run-steps null ps s = refl
@@ -128,6 +129,6 @@ members_in (string s) = no_members
 members_in (array ds) = no_members
 members_in (object ms) = ms
 
--- members are stored as their object
+-- members are encoded as their object
 abbrev pub members_code : Coded Members
 members_code = code_by Data data_code (λ ms. object ms) members_in (λ _. refl)

@@ -1,4 +1,4 @@
-//! Arrays and objects that are built piece by piece.
+//! Arrays and objects that are built item by item.
 ghost use Rattle.std.specs.Prelude.{◌≡◌, ◌++◌, ◌∷◌, [], IfOk, OnOk, OnErr};
 ghost use Rattle.serde_json.specs.Data.{array, object, no_members, put};
 ghost use Rattle.serde_json.specs.View.{items_of};
@@ -8,7 +8,7 @@ use serde_json::{Map, Value};
 use std::alloc::{AllocError, Global};
 use std::marker::Model;
 
-/// The items of an array that is being built.
+/// The items of an array under construction.
 pub struct JsonList {
     items: Vec<Value>,
 }
@@ -38,7 +38,7 @@ impl Drop for JsonList {
 }
 
 impl JsonList {
-    /// Makes an empty array.
+    /// Returns an empty array.
     pub fn new(alloc: Global) -> JsonList
         ensures { result ≡ [] }
     {
@@ -56,7 +56,7 @@ impl JsonList {
         Ok(())
     }
 
-    /// Appends `item` and returns the array.
+    /// Appends `item`, and returns the array.
     pub fn with(self, item: Json) -> Result<JsonList, AllocError>
         ensures { IfOk result (λ l. l ≡ self ++ item ∷ []) }
     {
@@ -65,7 +65,7 @@ impl JsonList {
         Ok(list)
     }
 
-    /// Returns the array as a reply.
+    /// Returns the array as a JSON value.
     pub fn into_json(self) -> Json
         ensures { result ≡ array (items_of self) }
     {
@@ -74,7 +74,7 @@ impl JsonList {
     }
 }
 
-/// The members of an object that is being built.
+/// The members of an object under construction.
 pub struct JsonObject {
     alloc: Global,
     members: Map<String, Value>,
@@ -107,7 +107,7 @@ impl Drop for JsonObject {
 }
 
 impl JsonObject {
-    /// Makes an empty object.
+    /// Returns an empty object.
     pub fn new(alloc: Global) -> JsonObject
         ensures { result ≡ no_members }
     {
@@ -117,7 +117,7 @@ impl JsonObject {
         }
     }
 
-    /// Puts `value` at `key` and returns the object.
+    /// Puts `value` at `key`, and returns the object.
     pub fn with(self, key: &str, value: Json) -> Result<JsonObject, AllocError>
         ensures { IfOk result (λ o. o ≡ put key.now value self) }
     {
@@ -126,7 +126,7 @@ impl JsonObject {
         Ok(JsonObject { alloc, members })
     }
 
-    /// Returns the object as a reply.
+    /// Returns the object as a JSON value.
     pub fn into_json(self) -> Json
         ensures { result ≡ object self }
     {

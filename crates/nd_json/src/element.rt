@@ -1,11 +1,11 @@
-//! What one JSON value is: a text, a number or a list.
+//! Reads a JSON value as a string, a number or an array.
 ghost use Rattle.std.specs.Prelude.{◌≡◌, map, option_map};
 ghost use Rattle.serde_json.specs.View.{view};
 ghost use Rattle.nd_json.specs.Forms as form;
 
 use serde_json::Value;
 
-/// The text that the value is.
+/// Returns the string, or `None` if the value is not a string.
 #[tactic(auto, unfolding(crate::specs::Forms::text))]
 pub fn text(value: &Value) -> Option<&str>
     ensures { option_map (λ s. s.now) result ≡ form.text (view value.now) }
@@ -13,7 +13,7 @@ pub fn text(value: &Value) -> Option<&str>
     value.as_str()
 }
 
-/// The number that the value is, if it is a whole one from 0 to 2^64 - 1.
+/// Returns the number, or `None` if the value is not an integer from 0 to 2^64 - 1.
 #[tactic(auto, unfolding(crate::specs::Forms::whole))]
 pub fn whole(value: &Value) -> Option<u64>
     ensures { result ≡ form.whole (view value.now) }
@@ -21,7 +21,7 @@ pub fn whole(value: &Value) -> Option<u64>
     value.as_u64()
 }
 
-/// The number that the value is, if it is a whole one from 0 to 2^32 - 1.
+/// Returns the number, or `None` if the value is not an integer from 0 to 2^32 - 1.
 #[tactic(auto, unfolding(crate::specs::Forms::small))]
 pub fn small(value: &Value) -> Option<u32>
     ensures { result ≡ form.small (view value.now) }
@@ -34,7 +34,7 @@ pub fn small(value: &Value) -> Option<u32>
     }
 }
 
-/// The number that the value is, if it is a whole one from -2^63 to 2^63 - 1.
+/// Returns the number, or `None` if the value is not an integer from -2^63 to 2^63 - 1.
 #[tactic(auto, unfolding(crate::specs::Forms::integer))]
 pub fn integer(value: &Value) -> Option<i64>
     ensures { result ≡ form.integer (view value.now) }
@@ -42,7 +42,7 @@ pub fn integer(value: &Value) -> Option<i64>
     value.as_i64()
 }
 
-/// The items of the list that the value is.
+/// Returns the items, or `None` if the value is not an array.
 pub fn list(value: &Value) -> Option<&[Value]>
     ensures { option_map (λ vs. map view vs.now) result ≡ form.list (view value.now) }
 {

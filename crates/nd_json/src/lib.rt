@@ -1,5 +1,5 @@
-//! Reads JSON values by their exact form: objects by their keys, and members by their types; and builds replies, values of `serde_json` that
-//! hold no float, so that their text is known.
+//! Reads JSON values of an exact form, objects by their keys and members by their types, and builds replies: values of
+//! `serde_json` without floats, so that their text is known.
 #![tactic(auto)]
 
 mod builders;

@@ -1,4 +1,4 @@
-//! What can be a member of a reply, and the macro that builds replies.
+//! The types that a member of a reply can have, and the macro that builds replies.
 ghost use Rattle.std.specs.Prelude.{◌≡◌, Some, None, option_map, unwrap_or, IfOk};
 ghost use Rattle.serde_json.specs.Data.{Data, null, boolean, number, string, unsigned};
 ghost use Rattle.serde_json.specs.Find.{of_integer};
@@ -6,11 +6,11 @@ ghost use Rattle.serde_json.specs.Find.{of_integer};
 use crate::Json;
 use std::alloc::{AllocError, Global};
 
-/// What can be a member of a reply.
+/// A type that a member of a reply can have.
 pub trait IntoJson {
     ghost told: { Self → Data };
 
-    /// Converts `self` into a reply. Only a string takes memory.
+    /// Converts `self` into a JSON value. Only a string allocates.
     fn json(self, alloc: Global) -> Result<Json, AllocError>
         ensures { IfOk result (λ j. j ≡ told self) };
 }
@@ -74,7 +74,7 @@ impl IntoJson for Option<u64> {
     }
 }
 
-/// Builds an object or an array that is written as in JSON. The caller's function returns if memory runs out.
+/// Builds an object or an array from a form written like JSON. If memory runs out, the calling function returns the error.
 #[macro_export]
 macro_rules! reply {
     (in $alloc:expr; {$($key:tt : $member:expr),*}) => {

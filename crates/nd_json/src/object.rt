@@ -1,4 +1,4 @@
-//! What an object has under its keys.
+//! Reads the members of a JSON object by key.
 ghost use Rattle.std.specs.Prelude.{◌≡◌, map, option_map};
 ghost use Rattle.serde_json.specs.View.{view};
 ghost use Rattle.nd_json.specs.Forms as form;
@@ -6,7 +6,7 @@ ghost use Rattle.nd_json.specs.Forms as form;
 use crate::element;
 use serde_json::Value;
 
-/// Whether the value is an object with exactly these keys, which are given in the order of their bytes.
+/// Returns whether the value is an object with exactly these keys, given in the order of their bytes.
 pub fn has_keys(value: &Value, keys: &[&str]) -> bool
     ensures { result ≡ form.has_keys (map (λ k. k.now) keys.now) (view value.now) }
 {
@@ -27,7 +27,7 @@ pub fn has_keys(value: &Value, keys: &[&str]) -> bool
     wanted.next().is_none()
 }
 
-/// Whether the value is an object with this text at the key.
+/// Returns whether the value is an object whose member at `key` is the string `text`.
 #[tactic(auto, unfolding(crate::specs::Forms::has_text))]
 pub fn has_text(value: &Value, key: &str, text: &str) -> bool
     ensures { result ≡ form.has_text key.now text.now (view value.now) }
@@ -38,35 +38,35 @@ pub fn has_text(value: &Value, key: &str, text: &str) -> bool
     }
 }
 
-/// The text at the key.
+/// Returns the string at `key`, or `None` if there is none.
 pub fn text_at<'v>(value: &'v Value, key: &str) -> Option<&'v str>
     ensures { option_map (λ s. s.now) result ≡ form.text_at key.now (view value.now) }
 {
     value.get(key).and_then(element::text)
 }
 
-/// The whole number from 0 to 2^64 - 1 at the key.
+/// Returns the number at `key`, or `None` if there is no integer from 0 to 2^64 - 1 there.
 pub fn whole_at(value: &Value, key: &str) -> Option<u64>
     ensures { result ≡ form.whole_at key.now (view value.now) }
 {
     value.get(key).and_then(element::whole)
 }
 
-/// The whole number from 0 to 2^32 - 1 at the key.
+/// Returns the number at `key`, or `None` if there is no integer from 0 to 2^32 - 1 there.
 pub fn small_at(value: &Value, key: &str) -> Option<u32>
     ensures { result ≡ form.small_at key.now (view value.now) }
 {
     value.get(key).and_then(element::small)
 }
 
-/// The whole number from -2^63 to 2^63 - 1 at the key.
+/// Returns the number at `key`, or `None` if there is no integer from -2^63 to 2^63 - 1 there.
 pub fn integer_at(value: &Value, key: &str) -> Option<i64>
     ensures { result ≡ form.integer_at key.now (view value.now) }
 {
     value.get(key).and_then(element::integer)
 }
 
-/// The items of the list at the key.
+/// Returns the items of the array at `key`, or `None` if there is none.
 pub fn list_at<'v>(value: &'v Value, key: &str) -> Option<&'v [Value]>
     ensures { option_map (λ vs. map view vs.now) result ≡ form.list_at key.now (view value.now) }
 {

@@ -1,4 +1,4 @@
-//! What can be shown as a JSON value, and arrays of it.
+//! The types that can be written as a JSON value, and arrays of them.
 ghost use Rattle.std.specs.Prelude.{◌≡◌, ◌≢◌, [], Bool, false, true, map, IfOk, OnErr};
 ghost use Rattle.serde_json.specs.Data.{Data, array, number, unsigned};
 ghost use Rattle.serde_json.specs.Find.{of_integer};
@@ -7,13 +7,13 @@ ghost use Rattle.serde_json.specs.View.{items_of};
 use crate::{Json, JsonList};
 use std::alloc::{AllocError, Global};
 
-/// What a reply shows as one JSON value.
+/// A type whose values a reply writes as one JSON value.
 pub trait ToJson {
     ghost shown: { Self → Data };
 
     ghost takes_memory: { Bool };
 
-    /// Makes the JSON value of `self`. A number takes no memory.
+    /// Returns the JSON value of `self`. A number does not allocate.
     fn to_json(&self, alloc: Global) -> Result<Json, AllocError>
         ensures reply { IfOk result (λ j. j ≡ shown self.now) }
         ensures memory { OnErr result (takes_memory ≡ true) };
@@ -59,7 +59,7 @@ impl<T: ToJson> ToJson for Vec<T> {
     }
 }
 
-/// Makes the array of what `items` show, in their order.
+/// Returns the array of the JSON values of `items`, in their order.
 pub fn list_of<T: ToJson>(alloc: Global, items: &[T]) -> Result<Json, AllocError>
     ensures reply { IfOk result (λ j. j ≡ array (items_of (map T.shown items.now))) }
     ensures some { OnErr result (items.now ≢ []) }

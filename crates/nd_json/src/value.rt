@@ -9,7 +9,7 @@ use serde_json::Value;
 use std::alloc::{AllocError, Global};
 use std::marker::Model;
 
-/// A JSON value that holds no float, so that its text is known.
+/// A JSON value without floats, so that its text is known.
 pub struct Json {
     value: Value,
 }
@@ -38,14 +38,14 @@ impl Drop for Json {
 }
 
 impl Json {
-    /// Makes `null`.
+    /// Returns `null`.
     pub fn null() -> Json
         ensures { result ≡ null }
     {
         Json { value: Value::Null }
     }
 
-    // Makes the reply of `value`.
+    // Returns `value`, which has no float.
     pub(crate) fn of(value: Value) -> Json
         requires { has_float (data_of value) ≡ false }
         ensures { result ≡ data_of value }
@@ -53,7 +53,7 @@ impl Json {
         Json { value }
     }
 
-    /// Makes `true` or `false`.
+    /// Returns `true` or `false`.
     pub fn boolean(is_so: bool) -> Json
         ensures { result ≡ boolean is_so }
     {
@@ -62,7 +62,7 @@ impl Json {
         }
     }
 
-    /// Makes the number `n`.
+    /// Returns the number `n`.
     pub fn natural(n: u64) -> Json
         ensures { result ≡ number (unsigned n) }
     {
@@ -71,14 +71,14 @@ impl Json {
         }
     }
 
-    /// Makes the number `n`, which may be negative.
+    /// Returns the number `n`, which may be negative.
     pub fn integer(n: i64) -> Json
         ensures { result ≡ number (of_integer n) }
     {
         Json { value: n.into() }
     }
 
-    /// Makes a string of a copy of `text`.
+    /// Returns a string with a copy of `text`.
     pub fn text(alloc: Global, text: &str) -> Result<Json, AllocError>
         ensures { IfOk result (λ j. j ≡ string text.now) }
     {
@@ -88,7 +88,7 @@ impl Json {
         })
     }
 
-    // Takes the value out.
+    // Returns the value inside.
     pub(crate) fn into_value(self) -> Value
         ensures value { data_of result ≡ self }
         ensures text { has_float self ≡ false }
@@ -97,7 +97,7 @@ impl Json {
         value
     }
 
-    /// Writes the value as compact JSON text.
+    /// Returns the value as compact JSON text.
     pub fn to_bytes(&self, alloc: Global) -> Result<Vec<u8>, AllocError>
         ensures { IfOk result (λ b. b.items ≡ compact_text self.now) }
     {

@@ -1,4 +1,4 @@
--- A sorted list of entries cut at a key.
+-- A sorted list of entries, cut at a key.
 use Rattle.std.proofs.Common.{◌≡◌, ◌≤◌, ◌-◌, ◌+◌, ℕ, zero, suc, Bool, true, false, cond, not, ◌&&◌, T, List, [], ◌∷◌, length, take, drop, length-drop, Ordering, Less, Equal, refl, sym, ap, subst, ◌∙◌, add-one, arith}
 use Rattle.std.specs.Ordering.{is_le, is_lt}
 use Rattle.std.specs.Cmp.{IsTotalOrder}
@@ -15,11 +15,11 @@ whole [] (suc n) le = refl
 whole (e ∷ es) zero le = absurd (omega (arith, le))
 whole (e ∷ es) (suc n) le = ap (λ fs. e ∷ fs) (whole es n (omega (arith, le)))
 
--- what is left after some entries is in order
+-- what is left after some entries is sorted
 pub listed_rest : {K X : Type 0} (R : K → K → Ordering) (es : List (K × X)) (i n : ℕ) → n ≡ length es - i → IsListed R es → IsListed R (take n (drop i es))
 listed_rest R es i n is h = subst (IsListed R) (sym (whole (drop i es) n (omega (arith, is, length-drop i es)))) (listed-drop R es i h)
 
--- what passes two tests
+-- filtering by two tests in turn is filtering by both
 pub both : {E : Type 0} (p q : E → Bool) (es : List E) → filter q (filter p es) ≡ filter (λ e. p e && q e) es
 both p q [] = refl
 both p q (e ∷ es) = elim (p e) as (λ b. filter q (cond b (e ∷ filter p es) (filter p es)) ≡ cond (b && q e) (e ∷ filter (λ e. p e && q e) es) (filter (λ e. p e && q e) es)) [
@@ -35,14 +35,14 @@ module _ {K : Type 0} (R : K → K → Ordering) (o : IsTotalOrder R) (p : K) wh
   after_equal x h y lt = o.congr p x y h ∙ lt
 
 module _ {K X : Type 0} (R : K → K → Ordering) (o : IsTotalOrder R) (p : K) where
-  -- the entries from p on, and those up to p
+  -- the entries at or above p, and those at or below p
   abbrev from_p : List (K × X) → List (K × X)
   from_p es = filter (λ e. is_le (R p e.0)) es
 
   abbrev up_to_p : List (K × X) → List (K × X)
   up_to_p es = filter (λ e. not (is_lt (R p e.0))) es
 
-  -- p is below all entries after one that it is not above
+  -- if every key above x is also above p, all entries after x are above p
   all_from : (x : K) (es : List (K × X)) → ((y : K) → R x y ≡ Less → R p y ≡ Less) → T (below_all R x es) → from_p es ≡ es
   all_from x [] above h = refl
   all_from x (e ∷ es) above h = rw (above e.0 (less _ (first (is_lt (R x e.0)) _ h))) (ap (λ fs. e ∷ fs) (all_from x es above (second _ _ h)))
@@ -62,7 +62,7 @@ module _ {K X : Type 0} (R : K → K → Ordering) (o : IsTotalOrder R) (p : K) 
   drop_gap (e ∷ es) zero s h = rw h (ap (λ fs. e ∷ fs) (sym (all_from e.0 es (after_less R o p e.0 h) (first _ _ s))))
   drop_gap (e ∷ es) (suc i) s h = rw h.0 (drop_gap es i (second _ _ s) h.1)
 
-  -- the same by the number of those that are left
+  -- the same by the number of entries left
   pub rest_at : (es : List (K × X)) (i n : ℕ) → n ≡ length es - i → IsListed R es → IsAt R p es i → take n (drop i es) ≡ from_p es
   rest_at es i n is s h = whole (drop i es) n (omega (arith, is, length-drop i es)) ∙ drop_at es i s h
 

@@ -1,4 +1,4 @@
--- A sorted list of entries under a search and the edits of a vector.
+-- A sorted list of entries: searches in its vector and edits of it.
 use Rattle.std.proofs.Common.{◌≡◌, ◌≤◌, ◌<◌, ℕ, zero, suc, cond, not, T, List, [], ◌∷◌, length, get_or, set, Some, None, Ordering, Less, Equal, Greater, refl, sym, ap, ◌∙◌, arith, inl, inr}
 use Rattle.std.proofs.lemmas.Bool.{cases_lt}
 use Rattle.std.specs.List.{insert, remove}
@@ -14,11 +14,11 @@ use Rattle.nd_map.specs.Maps.{none_below}
 use Rattle.nd_map.specs.Place.{IsAt, IsGap}
 use Rattle.nd_map.specs.Cases.{first, second, less}
 
--- what is left when a key is taken out is in order
+-- the entries without a key are sorted
 pub listed_without : {K X : Type 0} (R : K → K → Ordering) (k : K) (es : List (K × X)) → IsListed R es → IsListed R (without R k es)
 listed_without R k es h = is_sorted-where_key R (λ q. not (eq_by_cmp R k q)) es h
 
--- the keys stay if a value is written over
+-- replacing a value leaves the keys as they are
 pub keys_over : {K X : Type 0} (v : X) (es : List (K × X)) (i : ℕ) (e : K × X) → e ≡ get_or es i e → keys_of (set es i (e.0, v)) ≡ keys_of es
 keys_over v [] i e is = refl
 keys_over v (f ∷ es) zero e is = ap (λ k. k ∷ keys_of es) (ap (λ x. x.0) is)
@@ -40,7 +40,7 @@ module _ {K : Type 0} (R : K → K → Ordering) (o : IsTotalOrder R) where
       by Greater e = rw (greater p y (o.trans p x y (smaller x p e) lt)) (omega arith)
 
 module _ {K X : Type 0} (R : K → K → Ordering) (o : IsTotalOrder R) where
-  -- the answers of a comparison with p rise along the list
+  -- the results of comparing keys with p increase along the list
   pub answers_rise : (es : List (K × X)) → T (is_sorted R es) → (p : K) (i j : ℕ) (d : K × X) → i ≤ j → j < length es → ordering_index (R (get_or es i d).0 p) ≤ ordering_index (R (get_or es j d).0 p)
   answers_rise es h p i j d le in_range = elim (cases_lt i j) [
     | inl lt ↦ index_rises R o _ _ p (rises R o es h i j d lt in_range)
@@ -74,7 +74,7 @@ module _ {K X : Type 0} (R : K → K → Ordering) (o : IsTotalOrder R) where
   find_gap p (e ∷ es) zero s h = ap (λ r. cond (is_eq r) (Some e.1) (find R p es)) h ∙ none_below R o p es e.0 h (first _ _ s)
   find_gap p (e ∷ es) (suc i) s h = ap (λ r. cond (is_eq r) (Some e.1) (find R p es)) h.0 ∙ find_gap p es i (second _ _ s) h.1
 
-  -- a write over the entry's value
+  -- the value of the entry is replaced
   put_at : (p : K) (v : X) (es : List (K × X)) (i : ℕ) (d : K × X) → IsAt R p es i → set es i ((get_or es i d).0, v) ≡ put R p v es
   put_at p v [] i d h = absurd h
   put_at p v (e ∷ es) zero d h = rw h refl
@@ -84,11 +84,11 @@ module _ {K X : Type 0} (R : K → K → Ordering) (o : IsTotalOrder R) where
   pub put_over : (p : K) (v : X) (es : List (K × X)) (i : ℕ) (d : K × X) → d ≡ get_or es i d → IsAt R p es i → set es i (d.0, v) ≡ put R p v es
   put_over p v es i d is h = ap (λ e. set es i (e.0, v)) is ∙ put_at p v es i d h
 
-  -- a write over the value of an entry
+  -- the value of an entry is replaced
   pub put_there : (v : X) (es : List (K × X)) (i : ℕ) (e d : K × X) → IsListed R es → i < length es → e ≡ get_or es i e → set es i (e.0, v) ≡ put R (get_or es i d).0 v es
   put_there v es i e d h lt is = put_over (get_or es i d).0 v es i e is (at_from (get_or es i d).0 es i d h lt (tied_itself o (get_or es i d).0))
 
-  -- a new entry
+  -- a new entry is inserted
   pub put_gap : (p : K) (v : X) (es : List (K × X)) (i : ℕ) → IsGap R p es i → insert es i (p, v) ≡ put R p v es
   put_gap p v [] zero h = refl
   put_gap p v [] (suc i) h = absurd h
@@ -107,13 +107,13 @@ module _ {K X : Type 0} (R : K → K → Ordering) (o : IsTotalOrder R) where
       let rest = where_key R (λ k. not (eq_by_cmp R p k)) es in
       ap (λ r. cond (not (is_eq r)) (f ∷ rest) rest) (o.trans p x f.0 lt (less _ (first _ _ h))) ∙ ap (λ fs. f ∷ fs) (passes p es x lt (second _ _ h))
 
-  -- an entry that is taken out
+  -- an entry is removed
   pub without_at : (p : K) (es : List (K × X)) (i : ℕ) → T (is_sorted R es) → IsAt R p es i → remove es i ≡ where_key R (λ k. not (eq_by_cmp R p k)) es
   without_at p [] i s h = absurd h
   without_at p (e ∷ es) zero s h = rw h (sym (keeps p es e.0 h (first _ _ s)))
   without_at p (e ∷ es) (suc i) s h = rw h.0 (ap (λ fs. e ∷ fs) (without_at p es i (second _ _ s) h.1))
 
-  -- where the key is not
+  -- the key to remove is not there
   pub without_gap : (p : K) (es : List (K × X)) (i : ℕ) → T (is_sorted R es) → IsGap R p es i → es ≡ where_key R (λ k. not (eq_by_cmp R p k)) es
   without_gap p [] i s h = refl
   without_gap p (e ∷ es) zero s h = sym (ap (λ r. let rest = where_key R (λ k. not (eq_by_cmp R p k)) es in cond (not (is_eq r)) (e ∷ rest) rest) h ∙ ap (λ fs. e ∷ fs) (passes p es e.0 h (first _ _ s)))

@@ -1,4 +1,4 @@
--- The words of std's tree are those of lists in the order of their keys.
+-- The words of std's tree, as those of lists in the order of their keys.
 use Rattle.std.proofs.Common.{◌≡◌, ◌<◌, ◌+◌, ℕ, suc, true, false, cond, not, T, List, [], ◌∷◌, ◌++◌, length, get_or, drop, Option, Some, None, Result, Ok, IfOk, Ordering, Less, Equal, Greater, refl, sym, ap, subst, ◌∙◌, append_assoc, add-one}
 use Rattle.std.specs.Ordering.{eq_by_cmp, is_lt, match_ordering, ordering_reverse}
 use Rattle.std.specs.Cmp.{IsTotalOrder}
@@ -42,7 +42,7 @@ module _ {K X : Type 0} (R : K → K → Ordering) where
     above x k v [] fs h = less _ (first (is_lt (R x k)) _ h)
     above x k v (e ∷ es) fs h = above x k v es fs (second (is_lt (R x e.0)) _ h)
 
-    -- an entry whose key is past all others comes last
+    -- an entry whose key is above all others comes last
     pub put_last : (k : K) (v : X) (es fs : List (K × X)) → IsListed R (es ++ (k, v) ∷ fs) → put R k v es ≡ es ++ (k, v) ∷ []
     put_last k v [] fs h = refl
     put_last k v (e ∷ es) fs h =
@@ -55,11 +55,11 @@ module _ {K X : Type 0} (R : K → K → Ordering) where
     listed_edited k v (Some (Put w)) es h = listed-put R o k w es h
     listed_edited k v (Some Remove) es h = listed-without R k es h
 
-    -- entries are in order after an edit too
+    -- entries are still sorted after an edit
     pub listed_after : {E : Type 0} (r : Result (Option (Edit X)) E) (k : K) (v : X) (es fs : List (K × X)) (said : Option (Edit X)) → r ≡ Ok said → IfOk r (λ e. fs ≡ edited R k v e es) → IsListed R es → IsListed R fs
     listed_after r k v es fs said is done h = subst (IsListed R) (sym (subst (λ x. IfOk x (λ e. fs ≡ edited R k v e es)) is done)) (listed_edited k v said es h)
 
-    -- the next of some entries comes last, too
+    -- the entry after some entries comes last when it is put
     pub put_next : (k : K) (v : X) (so_far es : List (K × X)) (i : ℕ) → i < length es → (k, v) ≡ get_or es i (k, v) → IsListed R es → so_far ++ drop i es ≡ es → put R k v so_far ++ drop (i + 1) es ≡ es
     put_next k v so_far es i lt is h whole =
         let rest : List (K × X) = drop (suc i) es in

@@ -1,15 +1,15 @@
--- A finite map of numbers in which no key has 0, generic in its keys and in its numbers.
---     Number, naturals, integers     the numbers that a map may have, as some of the integers
---     none, at, set             no key; the number of a key; the map with another number at one key
---     added                     an integer more at one key
---     only                      the map cut to the keys of a kind
---     merged                    two maps as one, number by number
---     entries, size             the keys that have a number, with it, in the order of listing; how many
---     same                      maps that answer alike are equal
+-- A finite map to numbers in which no key has 0, generic in its keys and its numbers.
+--     Number, naturals, integers     the numbers that a map may have, each an integer
+--     none, at, set             the empty map; the number at a key; the map with another number at one key
+--     added                     an integer added to the number at one key
+--     only                      the map restricted to the keys that pass a test
+--     merged                    two maps combined number by number
+--     entries, size             the keys that have a number, each with its number, in the order of listing; how many they are
+--     same                      maps with the same number at each key are equal
 --     changed                   at how many keys two maps differ
---     set-back, added-back      a number that is set back, or taken away again, leaves the map as it was
---     size-set                  a key more is an entry more
---     weight-differs, -set      what the entries weigh moves with one number
+--     set-back, added-back      setting a number back, or subtracting what was added, restores the map
+--     size-set                  a new key makes one entry more
+--     weight-differs, -set      how one number changes the weight of the entries
 use Rattle.std.specs.Prelude.{◌≡◌, ◌≢◌, ℕ, zero, suc, ◌+◌, ℤ, pos, negsuc, ◌+ℤ◌, ◌-ℤ◌, neg_ℤ, Bool, true, false, cond, ◌||◌, List, [], ◌∷◌, ◌++◌, map, length, Option, Some, None, is_some, refl}
 use Rattle.std.proofs.Common.{T, sym, ap, ◌∙◌, arith}
 use Rattle.std.proofs.lemmas.Int.{ints}
@@ -29,7 +29,7 @@ use Rattle.std.proofs.lemmas.Map.Views.{tells_apart}
 use Rattle.nd_map.specs.Weights.{weight, weight_at}
 use Rattle.nd_map.specs.WeightsLaws.{weight_moves}
 
--- numbers that are some of the integers
+-- a type of numbers, each of which stands for an integer
 pub record Number (X : Type 0) : Type 0 where
   pub int : X → ℤ
   pub of_int : ℤ → X
@@ -86,11 +86,11 @@ either z true x p = refl
 either z false x p = sym (p refl)
 
 module _ {K X : Type 0} {R : K → K → Ordering} {N : Number X} where
-  -- the number of a key
+  -- the number at a key
   pub at : Counts R N → K → X
   at m q = or_else (nil N) (get m.map q)
 
-  -- the same as an integer
+  -- the number at a key as an integer
   abbrev pub int_at : Counts R N → K → ℤ
   int_at m q = N.int (at m q)
 
@@ -106,11 +106,11 @@ module _ {K X : Type 0} {R : K → K → Ordering} {N : Number X} where
   abbrev pub code : Coded K → Coded X → Coded (Counts R N)
   code k x = coded_via (fin.code k x) map_of same_maps
 
-  -- no key
+  -- the map without keys
   pub none : Counts R N
   none = record { map = fin.empty; nonzero = λ q e. absurd (cc (get-empty {X = X} R q, e)) }
 
-  -- the keys that have a number, and it, in the order of listing
+  -- the keys that have a number, each with its number, in the order of listing
   pub entries : Counts R N → List (K × X)
   entries m = fin.entries m.map
 
@@ -121,6 +121,7 @@ pub at-none : {K X : Type 0} (R : K → K → Ordering) (N : Number X) (q : K) �
 unfolding at none
 at-none R N q = ap (or_else (nil N)) (get-empty R q)
 
+-- the keys of a list of entries, in the same order
 abbrev pub keys_of : {K X : Type 0} → List (K × X) → List K
 keys_of es = map (λ e. e.0) es
 
@@ -129,7 +130,7 @@ abbrev pub has_key : {K : Type 0} → (K → K → Ordering) → K → List K �
 has_key R q ks = list_any (eq_by_cmp R q) ks
 
 module _ {K X : Type 0} {R : K → K → Ordering} {N : Number X} where
-  -- what has no entry has no number
+  -- a key without an entry has no number
   pub at-absent : (m : Counts R N) (q : K) → has_key R q (keys_of (entries m)) ≡ false → at m q ≡ nil N
   unfolding at entries
   at-absent m q e = nothing (get m.map q) (contains_key-keys m.map q ∙ e)
@@ -138,7 +139,7 @@ module _ {K X : Type 0} {R : K → K → Ordering} {N : Number X} where
       nothing None e = refl
       nothing (Some z) e = absurd (cc)
 
-  -- what has an entry has a number
+  -- a key with an entry has a number
   pub at-present : (m : Counts R N) (q : K) → has_key R q (keys_of (entries m)) ≡ true → at m q ≢ nil N
   unfolding at entries
   at-present m q e = some (get m.map q) (contains_key-keys m.map q ∙ e) (m.nonzero q)
@@ -147,7 +148,7 @@ module _ {K X : Type 0} {R : K → K → Ordering} {N : Number X} where
       some None e n z = absurd (cc)
       some (Some v) e n z = n (ap Some z)
 
-  -- an entry's number is not nil
+  -- the number of an entry is not nil
   pub some-entry : (m : Counts R N) (q : K) (v : X) → find R q (entries m) ≡ Some v → v ≢ nil N
   unfolding entries
   some-entry m q v e z = m.nonzero q (get-entries m.map q ∙ e ∙ ap Some z)
@@ -170,7 +171,7 @@ module _ {K X : Type 0} {R : K → K → Ordering} {N : Number X} (o : IsTotalOr
   set_by m k v (pos (suc n)) e = put_in m k v (λ s. absurd (cc (e, ap N.int s, N.kept_zero)))
   set_by m k v (negsuc n) e = put_in m k v (λ s. absurd (cc (e, ap N.int s, N.kept_zero)))
 
-  -- the same but for one key
+  -- the map with another number at one key
   pub set : Counts R N → K → X → Counts R N
   set m k v = set_by m k v (N.int v) refl
 
@@ -190,11 +191,11 @@ module _ {K X : Type 0} {R : K → K → Ordering} {N : Number X} (o : IsTotalOr
   unfolding set
   at-set m k v q = at-set_by m k v (N.int v) refl q
 
-  -- an integer more at one key
+  -- the map with an integer added at one key
   abbrev pub added : Counts R N → K → ℤ → Counts R N
   added m k n = set m k (N.of_int (int_at m k +ℤ n))
 
-  -- the function f at the keys of the list, and no number elsewhere
+  -- the map of f at the keys of the list, and no number at other keys
   pub on_keys : List K → (K → X) → Counts R N
   on_keys [] f = none
   on_keys (k ∷ ks) f = set (on_keys ks f) k (f k)
@@ -227,7 +228,7 @@ module _ {K X : Type 0} {R : K → K → Ordering} (N : Number X) (o : IsTotalOr
   unfolding at
   same_at tells es q = at-of_entries tells es q
 
-  -- entries in order and without zeros are those of their map
+  -- sorted entries without zeros are the entries of their map
   pub entries-of_entries : IsAntisymmetric R → (es : List (K × X)) → T (is_sorted R es) → ((q : K) → find R q es ≢ Some (nil N)) → entries (of_entries {N = N} o es) ≡ es
   unfolding entries
   entries-of_entries tells es sorted some =
@@ -244,7 +245,7 @@ cut z false true x p = sym (p refl)
 cut z false false x p = refl
 
 module _ {K X : Type 0} {R : K → K → Ordering} {N : Number X} (o : IsTotalOrder R) where
-  -- the map cut to the keys of a kind
+  -- the map restricted to the keys that pass p
   pub only : (K → Bool) → Counts R N → Counts R N
   only p m = on_keys o (keys_of (entries m)) (λ q. cond (p q) (at m q) (nil N))
 
@@ -260,7 +261,7 @@ merged_list f false true x y e p q = refl
 merged_list f false false x y e p q = rw (p refl, q refl, e) refl
 
 module _ {K X : Type 0} {R : K → K → Ordering} {N : Number X} (o : IsTotalOrder R) where
-  -- what f makes of the numbers of two maps at each key, as their sum or their difference
+  -- f of the two maps' numbers at each key, for example their sum or their difference
   pub merged : (ℤ → ℤ → ℤ) → Counts R N → Counts R N → Counts R integers
   merged f m n = on_keys o (keys_of (entries m) ++ keys_of (entries n)) (λ q. f (int_at m q) (int_at n q))
 
@@ -271,7 +272,7 @@ module _ {K X : Type 0} {R : K → K → Ordering} {N : Number X} (o : IsTotalOr
       ∙ ap (λ b. cond b (f (int_at m q) (int_at n q)) (pos 0)) (list_any-append (eq_by_cmp R q) (keys_of (entries m)) (keys_of (entries n)))
       ∙ merged_list f _ _ (int_at m q) (int_at n q) e (λ t. ap N.int (at-absent m q t) ∙ N.kept_zero) (λ t. ap N.int (at-absent n q t) ∙ N.kept_zero)
 
-  -- by how much the second map has more, at the keys at which the two differ
+  -- by how much the second map has more, at each key where the two differ
   pub difference : Counts R N → Counts R N → Counts R integers
   difference = merged (λ x y. y -ℤ x)
 
@@ -283,7 +284,7 @@ module _ {K X : Type 0} {R : K → K → Ordering} {N : Number X} (o : IsTotalOr
   unfolding difference
   at-difference tells m n q = at-merged tells (λ x y. y -ℤ x) refl m n q
 
--- ---- there and back
+-- ---- setting a number and setting it back
 
 twice : {X : Type 0} (b : Bool) (v w x : X) → cond b w (cond b v x) ≡ cond b w x
 twice true v w x = refl
@@ -297,22 +298,22 @@ module _ {K X : Type 0} {R : K → K → Ordering} {N : Number X} (o : IsTotalOr
   pub at-set_here : (m : Counts R N) (k : K) (v : X) → at (set o m k v) k ≡ v
   at-set_here m k v = at-set o m k v k ∙ ap (λ r. cond (is_eq r) v (at m k)) (tied_itself o k)
 
-  -- the last number that is set stays
+  -- of two numbers set at a key, the last one stays
   pub set-set : (m : Counts R N) (k : K) (v w : X) → set o (set o m k v) k w ≡ set o m k w
   set-set m k v w =
       same o tells _ _ (λ q.
       at-set o (set o m k v) k w q ∙ ap (cond (eq_by_cmp R q k) w) (at-set o m k v q)
       ∙ twice (eq_by_cmp R q k) v w (at m q) ∙ sym (at-set o m k w q))
 
-  -- the number that is there is set
+  -- setting the number that a key has changes nothing
   pub set-at : (m : Counts R N) (k : K) → set o m k (at m k) ≡ m
   set-at m k = same o tells _ _ (λ q. at-set o m k (at m k) q ∙ itself (eq_by_cmp R q k) (at m k) (at m q) (λ e. ap (at m) (tells_apart tells q k e)))
 
-  -- the old number is set again
+  -- setting the old number again restores the map
   pub set-back : (m : Counts R N) (k : K) (v w : X) → w ≡ at m k → set o (set o m k v) k w ≡ m
   set-back m k v w is = set-set m k v w ∙ ap (set o m k) is ∙ set-at m k
 
-  -- what was added is taken away
+  -- subtracting what was added restores the map
   pub added-back : (m : Counts R N) (k : K) (n : ℤ) → N.int (N.of_int (int_at m k +ℤ n)) ≡ int_at m k +ℤ n → added o (added o m k n) k (neg_ℤ n) ≡ m
   added-back m k n fits =
       set-back m k (N.of_int (int_at m k +ℤ n)) (N.of_int (int_at (added o m k n) k +ℤ neg_ℤ n))
@@ -350,14 +351,14 @@ module _ {K X : Type 0} {R : K → K → Ordering} {N : Number X} (o : IsTotalOr
   unfolding set
   size-set m k v some absent = size-set_by m k v (N.int v) refl some absent
 
--- ---- what the entries weigh
+-- ---- the weight of the entries
 
 found_weighs : {K X : Type 0} (f : K → X → ℕ) (k : K) (z : X) → f k z ≡ 0 → (x : Option X) → weight_at f k x ≡ f k (or_else z x)
 found_weighs f k z e None = sym e
 found_weighs f k z e (Some v) = refl
 
 module _ {K X : Type 0} {R : K → K → Ordering} {N : Number X} (o : IsTotalOrder R) (tells : IsAntisymmetric R) (f : K → X → ℕ) where
-  -- two maps that differ at one key alone
+  -- two maps that differ at one key only
   pub weight-differs : (m n : Counts R N) (k : K) → f k (nil N) ≡ 0 → ((q : K) → q ≢ k → at n q ≡ at m q) → weight f (entries n) + f k (at m k) ≡ weight f (entries m) + f k (at n k)
   unfolding at entries
   weight-differs m n k e others =
@@ -374,7 +375,7 @@ module _ {K X : Type 0} {R : K → K → Ordering} {N : Number X} (o : IsTotalOr
       ∙ ap (λ x. weight f (entries m) + f k x) (at-set_here o tells m k v)
 
 module _ {K X : Type 0} {R : K → K → Ordering} {N : Number X} where
-  -- the number of a key, among the entries
+  -- the number at a key, found among the entries
   pub at-entries : (m : Counts R N) (q : K) → at m q ≡ or_else (nil N) (find R q (entries m))
   unfolding at entries
   at-entries m q = ap (or_else (nil N)) (get-entries m.map q)

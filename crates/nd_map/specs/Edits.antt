@@ -1,4 +1,4 @@
--- An edit of the value of a key.
+-- An edit of the value at a key.
 use Rattle.std.specs.Prelude.{List, Option, None, Some}
 use Rattle.std.specs.declared.cmp.Ordering.{Ordering}
 use Rattle.std.specs.FinMap.{put}
@@ -6,14 +6,14 @@ use Rattle.nd_map.specs.Listed.{without}
 use Rattle.nd_map.specs.declared.tree.Edit.{Edit}
 use Rattle.nd_map.specs.declared.tree.Edit.TheVariants.{Keep, Put, Remove}
 
--- something was said of a value, if there is one, and P of the two
+-- there is an edit exactly if there is a value, and P holds of the two
 abbrev pub IsSaid : {X : Type 0} → (X → Edit X → Type 0) → Option X → Option (Edit X) → Type 0
 IsSaid P None None = Unit {0}
 IsSaid P None (Some e) = ⊥
 IsSaid P (Some v) None = ⊥
 IsSaid P (Some v) (Some e) = P v e
 
--- the entries afterwards, where a key of which nothing is said gets this value
+-- the entries after an edit; a key without a value, for which there is no edit, gets the value v
 abbrev pub edited : {K X : Type 0} → (K → K → Ordering) → K → X → Option (Edit X) → List (K × X) → List (K × X)
 edited R k v None es = put R k v es
 edited R k v (Some Keep) es = es

@@ -1,8 +1,8 @@
--- Entries in order, one by one:
---     listed-drop, drop-at          what is left after some entries;  it begins with the next
---     find-head, absent_in_tail     an entry's key finds it, and not in the entries after it
+-- Lists of entries in the order of their keys, entry by entry:
+--     listed-drop, drop-at          what is left after some entries; what is left begins with the next entry
+--     find-head, absent_in_tail     the first entry is found at its key, and no later entry has that key
 --     rises                         a later entry has a greater key
---     find-index, all_found, found_all      each entry is found at its key, and each that is found is an entry
+--     find-index, all_found, found_all      each entry is found at its key, and what is found at a key is an entry
 use Rattle.std.specs.Prelude.{◌≡◌, ◌<◌, ℕ, true, false, cond, T, List, [], ◌∷◌, All, Some, None, length, refl}
 use Rattle.std.proofs.Common.{zero, suc, drop, get_or, sym, ap, subst, ◌∙◌, arith, drop-cons, Ordering, Less, Greater}
 use Rattle.std.specs.Option.{unwrap_or}
@@ -33,7 +33,7 @@ module _ {K X : Type 0} (R : K → K → Ordering) where
   pub absent_in_tail : (e : K × X) (es : List (K × X)) → IsListed R (e ∷ es) → find R e.0 es ≡ None
   absent_in_tail e es h = not_below e.0 es (first (below_all R e.0 es) _ h)
 
--- what is left at an entry that a loop has read
+-- what is left at an entry that a loop has read begins with that entry
 pub drop-at : {E : Type 0} (es : List E) (i : ℕ) (x : E) → i < length es → x ≡ get_or es i x → drop i es ≡ x ∷ drop (suc i) es
 drop-at es i x lt is = drop-cons es i x lt ∙ ap (λ y. y ∷ drop (suc i) es) (sym is)
 
@@ -46,7 +46,7 @@ module _ {K X : Type 0} (R : K → K → Ordering) (o : IsTotalOrder R) where
   below_at k (e ∷ es) zero d h lt = less _ (first _ _ h)
   below_at k (e ∷ es) (suc i) d h lt = below_at k es i d (second _ _ h) (omega arith)
 
-  -- the keys rise along the list
+  -- keys increase along the list
   pub rises : (es : List (K × X)) → IsListed R es → (i j : ℕ) (d : K × X) → i < j → j < length es → R (get_or es i d).0 (get_or es j d).0 ≡ Less
   rises [] h i j d lt in_range = absurd (omega arith)
   rises (e ∷ es) h i zero d lt in_range = absurd (omega arith)
@@ -61,7 +61,7 @@ module _ {K X : Type 0} (R : K → K → Ordering) (o : IsTotalOrder R) where
       ap (λ r. cond (is_eq r) (Some e.1) (find R (get_or es i d).0 es)) (greater R o _ _ (below_at e.0 es i d (first (below_all R e.0 es) _ h) (omega arith)))
       ∙ find-index es i d (listed-tail R e es h) (omega arith)
 
-  -- what holds at each key that is found holds of each entry
+  -- what holds of whatever is found at a key holds of each entry
   pub all_found : (P : K → X → Type 0) (es : List (K × X)) → IsListed R es → ((k : K) (v : X) → find R k es ≡ Some v → P k v) → All (λ e. P e.0 e.1) es
   all_found P es h holds i d lt = holds (get_or es i d).0 (get_or es i d).1 (find-index es i d h lt)
 
@@ -69,7 +69,7 @@ same_some : {A : Type 0} (x y : A) → Some x ≡ Some y → x ≡ y
 same_some x y e = ap (λ r. unwrap_or r x) e
 
 module _ {K X : Type 0} (R : K → K → Ordering) (same : IsAntisymmetric R) where
-  -- a key that is found is that of an entry
+  -- what is found at a key is an entry
   pub found_at : (es : List (K × X)) (k : K) (v : X) → find R k es ≡ Some v → record { index : ℕ; in_range : index < length es; is : get_or es index (k, v) ≡ (k, v) }
   found_at [] k v e = absurd (cc)
   found_at (f ∷ es) k v e =
@@ -78,7 +78,7 @@ module _ {K X : Type 0} (R : K → K → Ordering) (same : IsAntisymmetric R) wh
         | false ↦ λ t s. let at = found_at es k v s in record { index = suc at.index; in_range = omega (arith, at.in_range); is = at.is }
       ] refl e
 
-  -- what holds of each entry holds at each key that is found
+  -- what holds of each entry holds of whatever is found at a key
   pub found_all : (P : K → X → Type 0) (es : List (K × X)) → All (λ e. P e.0 e.1) es → (k : K) (v : X) → find R k es ≡ Some v → P k v
   found_all P es all k v e =
       let at = found_at es k v e in

@@ -1,11 +1,11 @@
--- Laws of entries as a store keeps them for a map without zeros.
---     each_put, _without     each number is of a kind, and after an edit too
---     kept_put, _without     so are entries in the order of listing
---     found-put, -without            the number that a look-up finds after an edit
---     number_is                      what a look-up finds is of the kind, or nil
+-- Laws of entries as they are stored for a map without zeros.
+--     each_put, _without     each number satisfies P; it still does after an edit
+--     kept_put, _without     the same, with the order of listing
+--     found-put, -without            the number that a lookup finds after an edit
+--     number_is                      what a lookup finds satisfies P, or is nil
 --     of_put, _without               an edit of the entries is that edit of their map
---     at_found                       the number that a look-up finds is that of their map
---     listed                         if nothing of the kind is nil, the entries are those of their map
+--     at_found                       the number that a lookup finds is that of their map
+--     listed                         if nil does not satisfy P, the entries are those of their map
 use Rattle.std.specs.Prelude.{◌≡◌, ◌≢◌, Bool, true, false, cond, List, Option, Some, None, IfSome, refl}
 use Rattle.std.proofs.Common.{sym, ap, subst, ◌∙◌}
 use Rattle.std.specs.declared.cmp.Ordering.{Ordering}
@@ -49,13 +49,13 @@ module _ {K X : Type 0} (R : K → K → Ordering) (o : IsTotalOrder R) (es : Li
   pub found-without : (z : X) (q : K) → or_else z (find R q (without R k es)) ≡ cond (eq_by_cmp R q k) z (or_else z (find R q es))
   found-without z q = ap (or_else z) (find-without R o q k es) ∙ or_else-cond z (eq_by_cmp R q k) None (find R q es)
 
--- what holds of all numbers of the kind at a key, and of z, holds of what a look-up finds there, or z
+-- what holds of all numbers that P allows at a key, and of z, holds of what a lookup finds there, with z if it finds nothing
 pub number_is : {K X : Type 0} (R : K → K → Ordering) (P : K → X → Type 0) (es : List (K × X)) → EachIs R P es → (Q : X → Type 0) (z : X) (k : K) → ((v : X) → P k v → Q v) → Q z → Q (or_else z (find R k es))
 number_is R P es each Q z k all here = either (P k) Q z all here (find R k es) (each k)
 
--- entries, and the map m that they make
+-- entries, and the map m of these entries
 module _ {K X : Type 0} {R : K → K → Ordering} (N : Number X) (o : IsTotalOrder R) (tells : IsAntisymmetric R) (es : List (K × X)) (m : Counts R N) (is_m : of_entries o es ≡ m) where
-  -- what a look-up finds
+  -- what a lookup finds
   pub at_found : (k : K) → or_else (nil N) (find R k es) ≡ at m k
   at_found k = sym (at-of_entries N o tells es k) ∙ ap (λ (c : Counts R N). at c k) is_m
 
@@ -71,15 +71,15 @@ module _ {K X : Type 0} {R : K → K → Ordering} (N : Number X) (o : IsTotalOr
   of_without k fs is = ap (of_entries {N = N} o) is ∙ edited k (nil N) (without R k es) (found-without R o es k (nil N))
 
   module _ (P : K → X → Type 0) (kept : IsKept R P es) where
-    -- what holds of all numbers of the kind, and of nil
+    -- what holds of all numbers that P allows at a key, and of nil, holds of the number at that key
     pub at_is : (Q : X → Type 0) (k : K) → ((v : X) → P k v → Q v) → Q (nil N) → Q (at m k)
     at_is Q k all here = subst Q (at_found k) (number_is R P es kept.numbers Q (nil N) k all here)
 
-    -- nothing of the kind is nil
+    -- if nil does not satisfy P
     module _ (other : (q : K) (v : X) → P q v → v ≢ nil N) where
       pub not_nil : (k : K) → find R k es ≢ Some (nil N)
       not_nil k = some (P k) (nil N) (other k) (find R k es) (kept.numbers k)
 
-      -- the entries that are stored are those of their map
+      -- then the stored entries are those of their map
       pub listed : es ≡ entries m
       listed = sym (entries-of_entries N o tells es kept.listed not_nil) ∙ ap entries is_m

@@ -1,10 +1,10 @@
--- Entries in order and the finite maps that they are:
---     find-without                  what is found after a key was taken out
---     none_below                    nothing is found at a key below all others
---     put-same, without-none        what is there is put again, what is not there is taken out
+-- Lists of entries in the order of their keys, and the finite maps of these entries:
+--     find-without                  what is found after a key was removed
+--     none_below                    nothing is found at a key that is below all others
+--     put-same, without-none        putting what is there, or removing what is not there, changes nothing
 --     from_entries-put, -without    an edit of the entries is that edit of their map
 --     entries-from_entries          the entries of their map are the entries themselves
--- Two finite maps that answer alike are equal by `same_map` of std, two lists of entries by `same_entries`.
+-- Finite maps with equal lookups are equal by `same_map` of std; lists of entries are, by `same_entries`.
 use Rattle.std.specs.Prelude.{◌≡◌, Bool, true, false, cond, not, List, [], ◌∷◌, T, None, Some, unwrap_or, refl}
 use Rattle.std.proofs.Common.{sym, ap, ◌∙◌}
 use Rattle.std.specs.declared.cmp.Ordering.{Ordering}

@@ -1,4 +1,4 @@
-//! Finite maps that may grow large: lists while they are small, trees from then on.
+//! Finite maps that may grow large: sorted lists while they are small, trees from then on.
 ghost use Rattle.std.specs.Prelude.{◌≡◌, ◌↔◌, ◌<◌, ◌^◌, [], OnOk, OnErr, IfOk, IsTrue, None, length, slice_get};
 ghost use Rattle.std.specs.Option.{ForSome, option_map};
 ghost use Rattle.std.specs.FinMap.{find, put};
@@ -15,10 +15,10 @@ use std::alloc::{AllocError, Allocator, Global};
 use std::collections::btree_map;
 use std::marker::Model;
 
-// So many entries are held in a list, in which an edit moves those after it.
+// The largest number of entries held in a list, in which an edit moves the entries after it.
 const FEW: usize = 16;
 
-// The entries in one of the two.
+// The entries, in a list or in a tree.
 #[derive(Drop)]
 pub(crate) enum Held<K: Key, V: Copy, A: Allocator> {
     Few(SortedMap<K, V, A>),
@@ -27,8 +27,8 @@ pub(crate) enum Held<K: Key, V: Copy, A: Allocator> {
 
 /// A finite map that may grow large, seen as the list of its entries in the order of their keys.
 ///
-/// It is a sorted list while it has few entries, and a tree from then on: a look-up and an edit each take a logarithm of
-/// the number of entries.
+/// A map with few entries is a sorted list; a larger one is a tree. A lookup and an edit each take time logarithmic in the
+/// number of entries.
 #[derive(Drop)]
 pub struct GrowingMap<K: Key, V: Copy, A: Allocator = Global> {
     alloc: A,
@@ -47,14 +47,14 @@ impl<K: Key, V: Copy, A: Allocator> Model for GrowingMap<K, V, A> {
     ghost invariant = { λ a. IsListed K.cmp (held_in a.held) };
 }
 
-// What an iterator has left.
+// The entries that an iterator has not yet returned.
 #[derive(Drop)]
 pub(crate) enum Left<'a, K, V> {
     Few(&'a [(K, V)]),
     Many(btree_map::Iter<'a, K, V>),
 }
 
-/// The entries of a map, one by one.
+/// An iterator over the entries of a map, in the order of their keys.
 #[derive(Drop)]
 pub struct Iter<'a, K, V> {
     left: Left<'a, K, V>,
@@ -88,14 +88,14 @@ impl<'a, K, V> Iterator for Iter<'a, K, V> {
     }
 }
 
-// What an iterator over a part has left.
+// The entries that an iterator over a range of keys has not yet returned.
 #[derive(Drop)]
 pub(crate) enum LeftBetween<'a, K, V> {
     Few(&'a [(K, V)]),
     Many(btree_map::Range<'a, K, V>),
 }
 
-/// The entries of a part of a map, one by one.
+/// An iterator over the entries in a range of keys, in the order of their keys.
 #[derive(Drop)]
 pub struct Between<'a, K, V> {
     left: LeftBetween<'a, K, V>,
@@ -130,7 +130,7 @@ impl<'a, K, V> Iterator for Between<'a, K, V> {
 }
 
 impl<K: Key, V: Copy, A: Allocator> GrowingMap<K, V, A> {
-    /// The value at a key.
+    /// Returns the value at `key`, if there is one.
     pub fn get(&self, key: &K) -> Option<V>
         ensures value { result ≡ find K.cmp key.now self.now }
         ensures listed { IsListed K.cmp self.now }
@@ -141,7 +141,7 @@ impl<K: Key, V: Copy, A: Allocator> GrowingMap<K, V, A> {
         }
     }
 
-    /// The entries in the order of their keys, one by one.
+    /// Returns an iterator over the entries, in the order of their keys.
     pub fn iter(&self) -> Iter<'_, K, V>
         ensures rest { result ≡ self.now }
         ensures runs { ShowsInOrder (deref_pair {K = K} {X = V}) }
@@ -155,9 +155,9 @@ impl<K: Key, V: Copy, A: Allocator> GrowingMap<K, V, A> {
         Iter { left }
     }
 
-    /// The entries from one key to another, both included, in the order of their keys, one by one.
+    /// Returns an iterator over the entries from the key `first` to the key `last`, both included, in the order of their keys.
     ///
-    /// To come to the first takes a logarithm of the number of entries.
+    /// Finding the first entry takes time logarithmic in the number of entries.
     pub fn between(&self, first: &K, last: &K) -> Between<'_, K, V>
         requires { IsLeBy K.cmp first.now last.now }
         ensures rest { result ≡ entries_between K.cmp (Included first.now) (Included last.now) self.now }
@@ -172,7 +172,7 @@ impl<K: Key, V: Copy, A: Allocator> GrowingMap<K, V, A> {
         Between { left }
     }
 
-    /// The entry of the least key.
+    /// Returns the entry with the least key, or `None` if the map is empty.
     pub fn first(&self) -> Option<(&K, V)>
         ensures value { option_map (λ e. (e.0.now, e.1)) result ≡ slice_get self.now 0 }
         ensures listed { IsListed K.cmp self.now }
@@ -183,7 +183,7 @@ impl<K: Key, V: Copy, A: Allocator> GrowingMap<K, V, A> {
         }
     }
 
-    /// The number of entries.
+    /// Returns the number of entries.
     pub fn len(&self) -> usize
         ensures { result ≡ length self.now }
     {
@@ -193,14 +193,14 @@ impl<K: Key, V: Copy, A: Allocator> GrowingMap<K, V, A> {
         }
     }
 
-    /// Whether there is no entry.
+    /// Returns whether the map has no entries.
     pub fn is_empty(&self) -> bool
         ensures { IsTrue result ↔ (self.now ≡ []) }
     {
         self.len() == 0
     }
 
-    /// Takes a key and its value out, if it is there.
+    /// Removes `key` and its value, if the key is there.
     pub fn remove(&mut self, key: &K)
         ensures value { self.new ≡ without K.cmp key.now self.old }
         ensures listed { IsListed K.cmp self.new }
@@ -214,7 +214,7 @@ impl<K: Key, V: Copy, A: Allocator> GrowingMap<K, V, A> {
 }
 
 impl<K: Key, V: Copy, A: Allocator + Copy> GrowingMap<K, V, A> {
-    /// The map with no entry. It takes no memory.
+    /// Returns an empty map. It does not allocate.
     pub fn new(alloc: A) -> GrowingMap<K, V, A>
         ensures { result ≡ [] }
     {
@@ -224,7 +224,7 @@ impl<K: Key, V: Copy, A: Allocator + Copy> GrowingMap<K, V, A> {
         }
     }
 
-    // Makes a tree of a list that has no room for this key.
+    // Turns a list that has no room for `key` into a tree.
     fn make_room(&mut self, key: &K) -> Result<(), AllocError>
         ensures same { self.new ≡ self.old }
         ensures absent { OnErr result (find K.cmp key.now self.old ≡ None) }
@@ -238,7 +238,7 @@ impl<K: Key, V: Copy, A: Allocator + Copy> GrowingMap<K, V, A> {
         Ok(())
     }
 
-    /// Gives a key a value. A key that has one takes no memory.
+    /// Sets the value at `key`. It does not allocate if the key has a value.
     pub fn put(&mut self, key: &K, value: V) -> Result<(), AllocError>
         ensures ok { OnOk result (self.new ≡ put K.cmp key.now value self.old) }
         ensures err { OnErr result (self.new ≡ self.old) }
@@ -253,8 +253,8 @@ impl<K: Key, V: Copy, A: Allocator + Copy> GrowingMap<K, V, A> {
         }
     }
 
-    /// Gives a key that has no value this one, and does to the value of another key what `edit` says: one search for both.
-    /// It returns what was said. A key that has a value takes no memory.
+    /// Puts `value` at `key` if the key has no value, and otherwise applies what `edit` returns for the value there. It searches
+    /// once, returns what `edit` returned, and does not allocate if the key has a value.
     pub fn put_or_edit<F: FnOnce(V) -> Edit<V>>(
         &mut self,
         key: &K,
@@ -276,7 +276,7 @@ impl<K: Key, V: Copy, A: Allocator + Copy> GrowingMap<K, V, A> {
         }
     }
 
-    /// An equal map.
+    /// Returns a copy of the map.
     pub fn copy(&self, alloc: A) -> Result<GrowingMap<K, V, A>, AllocError>
         ensures equal { IfOk result (λ m. m ≡ self.now) }
         ensures listed { IsListed K.cmp self.now }
@@ -289,7 +289,7 @@ impl<K: Key, V: Copy, A: Allocator + Copy> GrowingMap<K, V, A> {
     }
 }
 
-// The tree of these entries.
+// Returns a tree of these entries.
 fn as_tree<K: Key, V: Copy, A: Allocator + Copy>(
     alloc: A,
     entries: &[(K, V)],

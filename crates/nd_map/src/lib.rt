@@ -1,4 +1,4 @@
-//! Finite maps as lists of entries in the order of their keys, the storage of the maps above: sorted lists, and trees.
+//! Finite maps, seen as lists of entries in the order of their keys: sorted lists, and trees.
 #![tactic(auto)]
 
 ghost use Rattle.std.specs.Prelude.{◌≡◌, ◌<◌, ◌≤◌, ◌↔◌, ◌^◌, [], OnOk, OnErr, IfOk, IfErr, IsTrue, None, length, not, slice_get};
@@ -22,9 +22,9 @@ use std::cmp::Ordering;
 use std::marker::Model;
 pub use tree::Edit;
 
-/// What the keys of a map are: ordered, and copied without memory.
+/// The keys of a map: ordered, and copied without allocating.
 pub trait Key: Ord + Drop {
-    /// An equal key.
+    /// Returns an equal key.
     fn duplicate(&self) -> Self
         ensures { result ≡ self.now };
 }
@@ -37,8 +37,8 @@ impl Key for usize {
 
 /// A finite map, seen as the list of its entries in the order of their keys.
 ///
-/// A look-up takes a logarithm of the number of entries, an edit that adds or takes out an entry
-/// moves those after it.
+/// A lookup takes time logarithmic in the number of entries. An edit that adds or removes an entry moves the entries
+/// after it.
 #[derive(Drop)]
 pub struct SortedMap<K: Key, V: Copy, A: Allocator = Global> {
     entries: Vec<(K, V), A>,
@@ -55,7 +55,7 @@ impl<K: Key, V: Copy, A: Allocator> Model for SortedMap<K, V, A> {
     ghost invariant = { λ a. IsListed K.cmp a.entries.items };
 }
 
-// Where a key stands among the entries, or would stand.
+// Returns the index of the entry at `key`, or as an error the index at which it would be inserted.
 fn place<K: Key, V>(entries: &[(K, V)], key: &K) -> Result<usize, usize>
     requires { IsListed K.cmp entries.now }
     ensures in_range { IfOk result (λ i. i < length entries.now) }
@@ -70,7 +70,7 @@ fn place<K: Key, V>(entries: &[(K, V)], key: &K) -> Result<usize, usize>
     )
 }
 
-// The entries from a key on.
+// Returns the entries from `key` to the end.
 fn from<'a, K: Key, V>(entries: &'a [(K, V)], key: &K) -> &'a [(K, V)]
     requires { IsListed K.cmp entries.now }
     ensures value { result.now ≡ filter (λ e. is_from_start K.cmp (Included key.now) e.0) entries.now }
@@ -83,7 +83,7 @@ fn from<'a, K: Key, V>(entries: &'a [(K, V)], key: &K) -> &'a [(K, V)]
     }
 }
 
-// The entries up to a key, included.
+// Returns the entries up to `key`, included.
 fn up_to<'a, K: Key, V>(entries: &'a [(K, V)], key: &K) -> &'a [(K, V)]
     requires { IsListed K.cmp entries.now }
     ensures value { result.now ≡ filter (λ e. not (is_past_end K.cmp (Included key.now) e.0)) entries.now }
@@ -96,7 +96,7 @@ fn up_to<'a, K: Key, V>(entries: &'a [(K, V)], key: &K) -> &'a [(K, V)]
 }
 
 impl<K: Key, V: Copy, A: Allocator> SortedMap<K, V, A> {
-    /// The map with no entry. It takes no memory.
+    /// Returns an empty map. It does not allocate.
     pub fn new(alloc: A) -> SortedMap<K, V, A>
         ensures { result ≡ [] }
     {
@@ -105,7 +105,7 @@ impl<K: Key, V: Copy, A: Allocator> SortedMap<K, V, A> {
         }
     }
 
-    /// The value at a key.
+    /// Returns the value at `key`, if there is one.
     pub fn get(&self, key: &K) -> Option<V>
         ensures value { result ≡ find K.cmp key.now self.now }
         ensures listed { IsListed K.cmp self.now }
@@ -116,7 +116,7 @@ impl<K: Key, V: Copy, A: Allocator> SortedMap<K, V, A> {
         }
     }
 
-    /// The entries in the order of their keys.
+    /// Returns the entries, in the order of their keys.
     pub fn entries(&self) -> &[(K, V)]
         ensures value { result.now ≡ self.now }
         ensures listed { IsListed K.cmp self.now }
@@ -124,21 +124,21 @@ impl<K: Key, V: Copy, A: Allocator> SortedMap<K, V, A> {
         &self.entries
     }
 
-    /// The number of entries.
+    /// Returns the number of entries.
     pub fn len(&self) -> usize
         ensures { result ≡ length self.now }
     {
         self.entries().len()
     }
 
-    /// Whether there is no entry.
+    /// Returns whether the map has no entries.
     pub fn is_empty(&self) -> bool
         ensures { IsTrue result ↔ (self.now ≡ []) }
     {
         self.len() == 0
     }
 
-    /// Gives a key a value. A key that has one takes no memory.
+    /// Sets the value at `key`. It does not allocate if the key has a value.
     pub fn put(&mut self, key: &K, value: V) -> Result<(), AllocError>
         ensures ok { OnOk result (self.new ≡ put K.cmp key.now value self.old) }
         ensures err { OnErr result (self.new ≡ self.old) }
@@ -160,7 +160,7 @@ impl<K: Key, V: Copy, A: Allocator> SortedMap<K, V, A> {
         }
     }
 
-    /// Gives the key of an entry, by its number in the order of the keys, another value. It takes no memory.
+    /// Replaces the value of the entry at `index`, in the order of the keys. It does not allocate.
     pub fn put_at(&mut self, index: usize, value: V)
         requires { index < length self.old }
         ensures value { (d : K × V) → self.new ≡ put K.cmp (get_or self.old index d).0 value self.old }
@@ -171,7 +171,7 @@ impl<K: Key, V: Copy, A: Allocator> SortedMap<K, V, A> {
         self.entries[index].1 = value;
     }
 
-    /// Takes a key and its value out, if it is there.
+    /// Removes `key` and its value, if the key is there.
     pub fn remove(&mut self, key: &K)
         ensures value { self.new ≡ without K.cmp key.now self.old }
         ensures listed { IsListed K.cmp self.new }
@@ -182,7 +182,7 @@ impl<K: Key, V: Copy, A: Allocator> SortedMap<K, V, A> {
         }
     }
 
-    // The entry of the least key.
+    // Returns the entry with the least key, or `None` if the map is empty.
     pub(crate) fn first(&self) -> Option<(&K, V)>
         ensures value { option_map (λ e. (e.0.now, e.1)) result ≡ slice_get self.now 0 }
         ensures listed { IsListed K.cmp self.now }
@@ -193,7 +193,7 @@ impl<K: Key, V: Copy, A: Allocator> SortedMap<K, V, A> {
         }
     }
 
-    // The entries, of which there are not too many for an iterator.
+    // Returns the entries; their number is within what an iterator can count.
     pub(crate) fn listed(&self) -> &[(K, V)]
         ensures value { result.now ≡ self.now }
         ensures fits { length self.now < 2 ^ 63 }
@@ -202,7 +202,7 @@ impl<K: Key, V: Copy, A: Allocator> SortedMap<K, V, A> {
         self.entries.as_slice()
     }
 
-    // The entries from one key to another, both included.
+    // Returns the entries from the key `first` to the key `last`, both included.
     pub(crate) fn between(&self, first: &K, last: &K) -> &[(K, V)]
         requires { IsLeBy K.cmp first.now last.now }
         ensures value { result.now ≡ entries_between K.cmp (Included first.now) (Included last.now) self.now }
@@ -212,7 +212,7 @@ impl<K: Key, V: Copy, A: Allocator> SortedMap<K, V, A> {
         up_to(from(self.listed(), first), last)
     }
 
-    // As `GrowingMap::put_or_edit`.
+    // Does what `GrowingMap::put_or_edit` does.
     pub(crate) fn put_or_edit<F: FnOnce(V) -> Edit<V>>(
         &mut self,
         key: &K,
@@ -251,7 +251,7 @@ impl<K: Key, V: Copy, A: Allocator> SortedMap<K, V, A> {
         }
     }
 
-    /// An equal map.
+    /// Returns a copy of the map.
     pub fn copy(&self, alloc: A) -> Result<SortedMap<K, V, A>, AllocError>
         ensures equal { IfOk result (λ m. m ≡ self.now) }
         ensures listed { IsListed K.cmp self.now }
@@ -262,7 +262,7 @@ impl<K: Key, V: Copy, A: Allocator> SortedMap<K, V, A> {
     }
 }
 
-// Equal entries.
+// Returns a copy of the entries.
 fn copy_entries<K: Key, V: Copy, A: Allocator>(
     alloc: A,
     entries: &[(K, V)],

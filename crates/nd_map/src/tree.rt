@@ -1,4 +1,4 @@
-//! Finite maps stored in a tree, the storage of maps that have grown large.
+//! Finite maps stored in a tree, for maps that have grown large.
 ghost use Rattle.std.specs.Prelude.{◌≡◌, ◌<◌, ◌^◌, [], OnOk, OnErr, IfOk, None, length, slice_get};
 ghost use Rattle.std.specs.Option.{ForSome, option_map};
 ghost use Rattle.std.specs.FinMap.{find, put};
@@ -14,20 +14,20 @@ use std::collections::BTreeMap;
 use std::collections::btree_map::{Entry, Iter, Range};
 use std::marker::Model;
 
-/// What is done to the value of a key.
+/// What to do with the value at a key.
 #[derive(Clone, Copy)]
 pub enum Edit<V: Copy> {
-    /// It stays.
+    /// Keep the value.
     Keep,
-    /// It becomes this one.
+    /// Replace the value by this one.
     Put(V),
-    /// The key goes, with its value.
+    /// Remove the key and its value.
     Remove,
 }
 
 // A finite map, seen as the list of its entries in the order of their keys.
 //
-// A look-up, an edit and the first entry each take a logarithm of the number of entries.
+// A lookup, an edit and finding the first entry each take time logarithmic in the number of entries.
 #[derive(Drop)]
 pub(crate) struct TreeMap<K: Key, V: Copy, A: Allocator = Global> {
     tree: BTreeMap<K, V, A>,
@@ -45,7 +45,7 @@ impl<K: Key, V: Copy, A: Allocator> Model for TreeMap<K, V, A> {
 }
 
 impl<K: Key, V: Copy, A: Allocator> TreeMap<K, V, A> {
-    // The map with no entry. It takes no memory.
+    // Returns an empty map. It does not allocate.
     pub(crate) fn new(alloc: A) -> TreeMap<K, V, A>
         ensures { result ≡ [] }
     {
@@ -54,7 +54,7 @@ impl<K: Key, V: Copy, A: Allocator> TreeMap<K, V, A> {
         }
     }
 
-    // The value at a key.
+    // Returns the value at `key`, if there is one.
     pub(crate) fn get(&self, key: &K) -> Option<V>
         ensures value { result ≡ find K.cmp key.now self.now }
         ensures listed { IsListed K.cmp self.now }
@@ -62,7 +62,7 @@ impl<K: Key, V: Copy, A: Allocator> TreeMap<K, V, A> {
         self.tree.get(key).copied()
     }
 
-    // The entries in the order of their keys, one by one.
+    // Returns an iterator over the entries, in the order of their keys.
     pub(crate) fn iter(&self) -> Iter<'_, K, V>
         ensures rest { result ≡ self.now }
         ensures runs { ShowsInOrder (deref_pair {K = K} {X = V}) }
@@ -72,9 +72,9 @@ impl<K: Key, V: Copy, A: Allocator> TreeMap<K, V, A> {
         self.tree.iter()
     }
 
-    // The entries from one key to another, both included, in the order of their keys, one by one.
+    // Returns an iterator over the entries from the key `first` to the key `last`, both included, in the order of their keys.
     //
-    // To come to the first takes a logarithm of the number of entries.
+    // Finding the first entry takes time logarithmic in the number of entries.
     pub(crate) fn between(&self, first: &K, last: &K) -> Range<'_, K, V>
         requires { IsLeBy K.cmp first.now last.now }
         ensures rest { result ≡ entries_between K.cmp (Included first.now) (Included last.now) self.now }
@@ -85,7 +85,7 @@ impl<K: Key, V: Copy, A: Allocator> TreeMap<K, V, A> {
         self.tree.range(first..=last)
     }
 
-    // The entry of the least key.
+    // Returns the entry with the least key, or `None` if the map is empty.
     pub(crate) fn first(&self) -> Option<(&K, V)>
         ensures value { option_map (λ e. (e.0.now, e.1)) result ≡ slice_get self.now 0 }
         ensures listed { IsListed K.cmp self.now }
@@ -96,14 +96,14 @@ impl<K: Key, V: Copy, A: Allocator> TreeMap<K, V, A> {
         }
     }
 
-    // The number of entries.
+    // Returns the number of entries.
     pub(crate) fn len(&self) -> usize
         ensures { result ≡ length self.now }
     {
         self.tree.len()
     }
 
-    // Takes a key and its value out, if it is there.
+    // Removes `key` and its value, if the key is there.
     pub(crate) fn remove(&mut self, key: &K)
         ensures value { self.new ≡ without K.cmp key.now self.old }
         ensures listed { IsListed K.cmp self.new }
@@ -114,7 +114,7 @@ impl<K: Key, V: Copy, A: Allocator> TreeMap<K, V, A> {
 }
 
 impl<K: Key, V: Copy, A: Allocator + Clone> TreeMap<K, V, A> {
-    // Gives a key a value. A key that has one takes no memory.
+    // Sets the value at `key`. It does not allocate if the key has a value.
     pub(crate) fn put(&mut self, key: &K, value: V) -> Result<(), AllocError>
         ensures ok { OnOk result (self.new ≡ put K.cmp key.now value self.old) }
         ensures err { OnErr result (self.new ≡ self.old) }
@@ -128,8 +128,8 @@ impl<K: Key, V: Copy, A: Allocator + Clone> TreeMap<K, V, A> {
         Ok(())
     }
 
-    // Gives a key that has no value this one, and does to the value of another key what `edit` says: one search for both.
-    // It returns what was said. A key that has a value takes no memory.
+    // Puts `value` at `key` if the key has no value, and otherwise applies what `edit` returns for the value there. It searches
+    // once, returns what `edit` returned, and does not allocate if the key has a value.
     pub(crate) fn put_or_edit<F: FnOnce(V) -> Edit<V>>(
         &mut self,
         key: &K,
@@ -166,7 +166,7 @@ impl<K: Key, V: Copy, A: Allocator + Clone> TreeMap<K, V, A> {
         }
     }
 
-    // An equal map.
+    // Returns a copy of the map.
     pub(crate) fn copy(&self, alloc: A) -> Result<TreeMap<K, V, A>, AllocError>
         ensures equal { IfOk result (λ m. m ≡ self.now) }
         ensures listed { IsListed K.cmp self.now }

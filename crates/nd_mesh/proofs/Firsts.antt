@@ -1,4 +1,4 @@
--- A function of the first elements of a list, one after another.
+-- A function applied to the first elements of a list, one after another.
 use Rattle.std.proofs.Common.{◌≡◌, ℕ, ◌<◌, zero, suc, List, [], ◌∷◌, length, map, get_or, ap, ◌∙◌, refl, arith}
 use Rattle.std.proofs.Math.ListN.{set}
 use Rattle.nd_mesh.specs.Mesh.{first_mapped}
@@ -8,7 +8,7 @@ length-first_mapped f zero xs = refl
 length-first_mapped f (suc k) [] = refl
 length-first_mapped f (suc k) (x ∷ xs) = ap suc (length-first_mapped f k xs)
 
--- one more
+-- one more element
 pub set-first_mapped : {X : Type 0} (f : X → X) (k : ℕ) (xs : List X) (d : X) → k < length xs → set (first_mapped f k xs) k (f (get_or (first_mapped f k xs) k d)) ≡ first_mapped f (suc k) xs
 set-first_mapped f k [] d lt = absurd (omega arith)
 set-first_mapped f zero (x ∷ xs) d lt = refl
@@ -18,11 +18,11 @@ first_mapped-all : {X : Type 0} (f : X → X) (xs : List X) → first_mapped f (
 first_mapped-all f [] = refl
 first_mapped-all f (x ∷ xs) = ap (λ ys. f x ∷ ys) (first_mapped-all f xs)
 
--- the whole list, once the first are all
+-- the complete list, once the first elements are all
 pub first_mapped-end : {X : Type 0} (f : X → X) (k : ℕ) (xs ys : List X) → ys ≡ first_mapped f k xs → k ≡ length xs → ys ≡ map f xs
 first_mapped-end f k xs ys e all = e ∙ ap (λ n. first_mapped f n xs) all ∙ first_mapped-all f xs
 
--- what undoes f undoes it on the first
+-- what undoes f undoes it on the first elements
 pub first_mapped-back : {X : Type 0} (f h : X → X) → ((x : X) → h (f x) ≡ x) → (k : ℕ) (xs : List X) → first_mapped h k (first_mapped f k xs) ≡ xs
 first_mapped-back f h back zero xs = refl
 first_mapped-back f h back (suc k) [] = refl

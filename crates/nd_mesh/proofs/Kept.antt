@@ -1,4 +1,4 @@
--- Each change of the queues leaves a mesh.
+-- Each operation on the queues leaves a mesh.
 use Rattle.std.proofs.Common.{◌≡◌, ℕ, ◌<◌, ◌≤◌, ◌-◌, List, [], ◌∷◌, length, map, get_or, subst, sym, ◌∙◌, inl, inr, arith}
 use Rattle.std.proofs.Math.ListN.{set}
 use Rattle.std.specs.List.{All}
@@ -13,7 +13,7 @@ use Rattle.nd_mesh.specs.Mesh.{appended, without_newest, without_oldest, row, qu
 abbrev pub AreWithin : List (List DeltaValue) → Type 0
 AreWithin queues = All (λ q. length q ≤ max_queue) queues
 
--- another row of the same length, within the limit
+-- another row of the same length, each queue within the limit
 mesh_set : (m : List (List (List DeltaValue))) (from : ℕ) (queues : List (List DeltaValue)) → IsMesh m → length queues ≡ length m → AreWithin queues → IsMesh (set m from queues)
 mesh_set m from queues mesh long within = record {
   square = subst (λ n. All (λ r. length r ≡ n) (set m from queues)) (sym (length-set m from queues)) (All-set (λ r. length r ≡ length m) m from queues long mesh.square);

@@ -24,11 +24,11 @@ module _ (m : List (List (List DeltaValue))) (from : ℕ) (f : from < length m) 
   pub not_full : (HasQueue IsFull old → ⊥) → HasQueue IsFull (row m from) → ⊥
   not_full free = subst (λ r. HasQueue IsFull r → ⊥) is_row free
 
-  -- a queue of the row
+  -- the row has a queue to each processor
   pub there : (to : ℕ) → IsMesh m → to < length m → to < length (row m from)
   there to mesh t = subst (λ n. to < n) (sym (mesh.square from [] f)) t
 
-  -- what is read of one queue of the row
+  -- the change read at the front of one queue of the row
   pub front_is : (to : ℕ) (c : DeltaValue) → Some c ≡ slice_get (get_or old to []) 0 → slice_get (queue m from to) 0 ≡ Some c
   front_is to c e = ap (λ r. slice_get (get_or r to []) 0) (sym is_row) ∙ sym e
 

@@ -1,4 +1,4 @@
--- Laws of the queues as lists: what is read after each change, and that each is undone by its inverse.
+-- Laws of the queues as lists: what is read after each operation, and that the inverse of each operation undoes it.
 use Rattle.std.specs.Prelude.{◌≡◌, ℕ, ◌<◌, ◌-◌, List, [], ◌∷◌, ◌++◌, length, map, Some, slice_get, slice_index_or as get_or, slice_set as set, refl}
 use Rattle.std.proofs.Common.{ap, ◌∙◌, arith}
 use Rattle.std.proofs.lemmas.List.{length-append, get_or-set_same, set-set, set-get_or, take_at}
@@ -10,7 +10,7 @@ use Rattle.nd_mesh.specs.Mesh.{appended, without_newest, without_oldest, row, qu
 pub without_newest-appended : (c : DeltaValue) (q : List DeltaValue) → without_newest (appended c q) ≡ q
 without_newest-appended c q = take_at q (c ∷ []) (length (q ++ c ∷ []) - 1) (let e = length-append q (c ∷ []) in omega arith)
 
--- ---- one queue among all
+-- ---- one of many queues
 
 pub queue-with_queue : (m : List (List (List DeltaValue))) (from to : ℕ) (q : List DeltaValue) → from < length m → to < length (row m from) → queue (with_queue m from to q) from to ≡ q
 queue-with_queue m from to q f t = ap (λ r. get_or r to []) (get_or-set_same m from (set (row m from) to q) [] f) ∙ get_or-set_same (row m from) to q [] t

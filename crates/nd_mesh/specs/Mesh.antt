@@ -1,4 +1,5 @@
--- The queues of a cluster as lists: for each sender its queues, one to each receiver, each a list of changes from front to back.
+-- The queues of a cluster as lists: for each sender the list of its queues, one per receiver; each queue is a list of changes
+-- from front to back.
 use Rattle.std.specs.Prelude.{◌≡◌, ℕ, ◌<◌, ◌≤◌, ◌-◌, zero, suc, List, [], ◌∷◌, ◌++◌, length, map, take, drop, slice_index_or, slice_set}
 use Rattle.std.specs.List.{All}
 use Rattle.nd_time.specs.Limits.{max_queue}
@@ -6,67 +7,68 @@ use Rattle.nd_delta.specs.Delta.{DeltaValue}
 
 -- ---- one queue
 
--- with a change at the back
+-- the queue with a change appended at the back
 abbrev pub appended : DeltaValue → List DeltaValue → List DeltaValue
 appended c q = q ++ c ∷ []
 
--- without the change at the back, the newest
+-- the queue without its newest change, which is at the back
 abbrev pub without_newest : List DeltaValue → List DeltaValue
 without_newest q = take (length q - 1) q
 
--- without the change at the front, the oldest
+-- the queue without its oldest change, which is at the front
 abbrev pub without_oldest : List DeltaValue → List DeltaValue
 without_oldest q = drop 1 q
 
--- it holds as many changes as a queue may
+-- the queue contains as many changes as it may
 abbrev pub IsFull : List DeltaValue → Type 0
 IsFull q = max_queue ≤ length q
 
+-- the queue has no changes
 abbrev pub IsVacant : List DeltaValue → Type 0
 IsVacant q = q ≡ []
 
--- ---- all of them
+-- ---- all queues
 
 -- the queues from a processor
 abbrev pub row : List (List (List DeltaValue)) → ℕ → List (List DeltaValue)
 row m from = slice_index_or m from []
 
--- the queue from a processor to another
+-- the queue from one processor to another
 abbrev pub queue : List (List (List DeltaValue)) → ℕ → ℕ → List DeltaValue
 queue m from to = slice_index_or (row m from) to []
 
--- the same but for one queue
+-- the same queues except for one
 abbrev pub with_queue : List (List (List DeltaValue)) → ℕ → ℕ → List DeltaValue → List (List (List DeltaValue))
 with_queue m from to q = slice_set m from (slice_set (row m from) to q)
 
--- a change at the back of each queue from a processor
+-- the queues with a change appended to each queue from a processor
 abbrev pub pushed : List (List (List DeltaValue)) → ℕ → DeltaValue → List (List (List DeltaValue))
 pushed m from c = slice_set m from (map (appended c) (row m from))
 
--- without the newest change of each queue from a processor
+-- the queues without the newest change of each queue from a processor
 abbrev pub unpushed : List (List (List DeltaValue)) → ℕ → List (List (List DeltaValue))
 unpushed m from = slice_set m from (map without_newest (row m from))
 
--- without the oldest change of one queue
+-- the queues without the oldest change of one queue
 abbrev pub popped : List (List (List DeltaValue)) → ℕ → ℕ → List (List (List DeltaValue))
 popped m from to = with_queue m from to (without_oldest (queue m from to))
 
--- a change at the front of one queue
+-- the queues with a change inserted at the front of one queue
 abbrev pub unpopped : List (List (List DeltaValue)) → ℕ → ℕ → DeltaValue → List (List (List DeltaValue))
 unpopped m from to c = with_queue m from to (c ∷ queue m from to)
 
--- one of the queues is of the kind P
+-- one of the queues satisfies P
 abbrev pub HasQueue : (List DeltaValue → Type 0) → List (List DeltaValue) → Type 0
 HasQueue P queues = (to : ℕ) × (to < length queues) × P (slice_index_or queues to [])
 
--- as many queues from each processor as there are processors, each with at most as many changes as it may hold
+-- from each processor there is one queue per processor, and no queue exceeds its limit
 pub record IsMesh (m : List (List (List DeltaValue))) : Type 0 where
   pub square : All (λ queues. length queues ≡ length m) m
   pub within : All (λ queues. All (λ q. length q ≤ max_queue) queues) m
 
 -- ---- a part of a row
 
--- f of the first k, and the others as they are
+-- f applied to the first k elements; the others stay as they are
 abbrev pub first_mapped : {X : Type 0} → (X → X) → ℕ → List X → List X
 first_mapped f zero xs = xs
 first_mapped f (suc k) [] = []

@@ -9,7 +9,7 @@ use std::alloc::{AllocError, Allocator, Global};
 use std::collections::VecDeque;
 use std::marker::Model;
 
-/// A queue of changes, seen as their list from front to back. Either end costs constant time.
+/// A queue of changes, seen as the list of its changes from front to back. Access at either end takes constant time.
 pub struct Queue<A: Allocator + Copy = Global> {
     changes: VecDeque<Delta<A>, A>,
 }
@@ -33,7 +33,7 @@ impl<A: Allocator + Copy> Model for Queue<A> {
 }
 
 impl<A: Allocator + Copy> Queue<A> {
-    /// The queue with no change. It takes no memory.
+    /// Returns an empty queue. It does not allocate.
     pub fn new(alloc: A) -> Queue<A>
         ensures { result ≡ [] }
     {
@@ -42,21 +42,21 @@ impl<A: Allocator + Copy> Queue<A> {
         }
     }
 
-    /// The number of changes.
+    /// Returns the number of changes.
     pub fn len(&self) -> usize
         ensures { result ≡ length self.now }
     {
         self.changes.len()
     }
 
-    /// The change at a position, counted from the front.
+    /// Returns the change at index `i`, counted from the front, or `None` if there is none.
     pub fn get(&self, i: usize) -> Option<&Delta<A>>
         ensures { option_copied result ≡ slice_get self.now i }
     {
         self.changes.get(i)
     }
 
-    /// Puts a change at the back.
+    /// Appends a change at the back.
     pub fn append(&mut self, change: Delta<A>) -> Result<(), AllocError>
         ensures ok { OnOk result (self.new ≡ appended change self.old) }
         ensures err { OnErr result (self.new ≡ self.old) }
@@ -67,14 +67,14 @@ impl<A: Allocator + Copy> Queue<A> {
         Ok(())
     }
 
-    /// Takes the newest change out, if there is one.
+    /// Removes the newest change, if there is one.
     pub fn drop_newest(&mut self)
         ensures { self.new ≡ without_newest self.old }
     {
         let _newest = self.changes.pop_back();
     }
 
-    /// Takes the oldest change out, if there is one.
+    /// Removes and returns the oldest change, if there is one.
     pub fn take_oldest(&mut self) -> Option<Delta<A>>
         ensures value { result ≡ slice_get self.old 0 }
         ensures rest { self.new ≡ without_oldest self.old }
@@ -82,7 +82,7 @@ impl<A: Allocator + Copy> Queue<A> {
         self.changes.pop_front()
     }
 
-    /// Puts a change at the front, or hands it back.
+    /// Inserts a change at the front. If memory runs out, returns the change.
     pub fn put_front(&mut self, change: Delta<A>) -> Result<(), Delta<A>>
         ensures ok { OnOk result (self.new ≡ change ∷ self.old) }
         ensures err { OnErr result (self.new ≡ self.old) }
@@ -94,7 +94,7 @@ impl<A: Allocator + Copy> Queue<A> {
         }
     }
 
-    /// An equal queue.
+    /// Returns a copy of the queue.
     pub fn copy(&self, alloc: A) -> Result<Queue<A>, AllocError>
         ensures { IfOk result (λ q. q ≡ self.now) }
     {

@@ -1,4 +1,4 @@
-//! All the queues.
+//! The queues between all processors.
 #![tactic(auto)]
 
 ghost use Rattle.std.specs.Prelude.{◌≡◌, ◌↔◌, ◌<◌, ◌≤◌, [], length, replicate, slice_get, option_copied, Err, IfErr, IfOk, IsErr, IsErrAnd, IsTrue, OnErr, OnOk};
@@ -10,27 +10,27 @@ use nd_delta::Delta;
 use std::alloc::{AllocError, Allocator, Global};
 use std::marker::Model;
 
-/// The most changes of one queue.
+/// The maximum number of changes in a queue.
 pub const LIMIT: usize = 65_536;
 
 /// Why a change was not put into a queue.
 #[derive(Debug, Clone, Copy, PartialEq, Eq)]
 pub enum PushFault {
-    /// A queue holds `LIMIT` changes.
+    /// A queue contains `LIMIT` changes.
     QueueFull,
-    /// A growth was refused.
+    /// Out of memory.
     Memory,
 }
 
-/// A queue holds no change.
+/// The queue is empty.
 #[derive(Debug, Clone, Copy, PartialEq, Eq)]
 pub struct QueueEmpty;
 
 /// A change that was not put into a queue, and why.
 pub struct NotPut<A: Allocator + Copy = Global> {
-    /// Why it was not.
+    /// Why the change was not put into the queue.
     pub fault: PushFault,
-    /// The change, as it was.
+    /// The change itself.
     pub change: Delta<A>,
 }
 
@@ -43,8 +43,8 @@ impl<A: Allocator + Copy> Drop for NotPut<A> {
     }
 }
 
-/// The queues between `n` processors: for each sender, and for each receiver, the changes on
-/// their way from front to back, the oldest first.
+/// The queues between `n` processors: for each sender and each receiver, the changes on their way from
+/// the sender to the receiver, the oldest first.
 pub struct Mesh<A: Allocator + Copy = Global> {
     rows: Vec<Outbox<A>, A>,
     alloc: A,
@@ -72,7 +72,7 @@ impl<A: Allocator + Copy> Model for Mesh<A> {
 }
 
 impl<A: Allocator + Copy> Mesh<A> {
-    /// The queues between `n` processors, with no change.
+    /// Returns empty queues between `n` processors.
     pub fn new(alloc: A, n: usize) -> Result<Mesh<A>, AllocError>
         ensures { IfOk result (λ m. m ≡ replicate n (replicate n [])) }
     {
@@ -83,7 +83,7 @@ impl<A: Allocator + Copy> Mesh<A> {
         Ok(Mesh { rows, alloc })
     }
 
-    /// The number of processors.
+    /// Returns the number of processors.
     pub fn n(&self) -> usize
         ensures value { result ≡ length self.now }
         ensures mesh { IsMesh self.now }
@@ -91,7 +91,7 @@ impl<A: Allocator + Copy> Mesh<A> {
         self.rows.len()
     }
 
-    /// The number of changes in a queue.
+    /// Returns the number of changes in the queue from one processor to another.
     pub fn len(&self, from: usize, to: usize) -> usize
         requires sender { from < length self.now }
         requires receiver { to < length self.now }
@@ -101,7 +101,7 @@ impl<A: Allocator + Copy> Mesh<A> {
         self.rows[from].queue_len(to)
     }
 
-    /// The change at a position of a queue, counted from the front.
+    /// Returns the change at index `i` of a queue, counted from the front, or `None` if there is none.
     pub fn get(&self, from: usize, to: usize, i: usize) -> Option<&Delta<A>>
         requires sender { from < length self.now }
         requires receiver { to < length self.now }
@@ -111,7 +111,7 @@ impl<A: Allocator + Copy> Mesh<A> {
         self.rows[from].get(to, i)
     }
 
-    /// Whether a queue from a processor holds `LIMIT` changes.
+    /// Returns whether a queue from this processor contains `LIMIT` changes.
     pub fn is_full(&self, from: usize) -> bool
         requires { from < length self.now }
         ensures full { IsTrue result ↔ HasQueue IsFull (row self.now from) }
@@ -120,7 +120,7 @@ impl<A: Allocator + Copy> Mesh<A> {
         self.rows[from].has_full()
     }
 
-    /// Puts an equal change at the back of each queue from a processor.
+    /// Appends a copy of `change` to each queue from a processor.
     pub fn push_all(&mut self, from: usize, change: &Delta<A>) -> Result<(), PushFault>
         requires { from < length self.old }
         ensures ok { OnOk result (self.new ≡ pushed self.old from change.now) }
@@ -139,7 +139,7 @@ impl<A: Allocator + Copy> Mesh<A> {
         Ok(())
     }
 
-    /// Takes the newest change out of each queue from a processor. It takes no memory.
+    /// Removes the newest change from each queue from a processor. It does not allocate.
     pub fn unpush_all(&mut self, from: usize) -> Result<(), QueueEmpty>
         requires { from < length self.old }
         ensures ok { OnOk result (self.new ≡ unpushed self.old from) }
@@ -154,7 +154,7 @@ impl<A: Allocator + Copy> Mesh<A> {
         Ok(())
     }
 
-    /// Takes the oldest change out of a queue. It takes no memory.
+    /// Removes and returns the oldest change of a queue. It does not allocate.
     pub fn pop(&mut self, from: usize, to: usize) -> Result<Delta<A>, QueueEmpty>
         requires sender { from < length self.old }
         requires receiver { to < length self.old }
@@ -171,7 +171,7 @@ impl<A: Allocator + Copy> Mesh<A> {
         Ok(change)
     }
 
-    /// Puts a change at the front of a queue, or hands it back.
+    /// Inserts a change at the front of a queue. If that fails, returns the change.
     pub fn unpop(&mut self, from: usize, to: usize, change: Delta<A>) -> Result<(), NotPut<A>>
         requires sender { from < length self.old }
         requires receiver { to < length self.old }
@@ -197,7 +197,7 @@ impl<A: Allocator + Copy> Mesh<A> {
         Ok(())
     }
 
-    /// Equal queues.
+    /// Returns a copy of the queues.
     pub fn copy(&self, alloc: A) -> Result<Mesh<A>, AllocError>
         ensures equal { IfOk result (λ m. m ≡ self.now) }
         ensures mesh { IsMesh self.now }

@@ -10,7 +10,7 @@ use nd_delta::Delta;
 use std::alloc::{AllocError, Allocator, Global};
 use std::marker::Model;
 
-/// The queues from one processor, one to each processor.
+/// The queues from one processor, one per receiver.
 pub struct Outbox<A: Allocator + Copy = Global> {
     queues: Vec<Queue<A>, A>,
 }
@@ -34,7 +34,7 @@ impl<A: Allocator + Copy> Model for Outbox<A> {
 }
 
 impl<A: Allocator + Copy> Outbox<A> {
-    /// `n` queues with no change.
+    /// Returns `n` empty queues.
     pub fn new(alloc: A, n: usize) -> Result<Outbox<A>, AllocError>
         ensures { IfOk result (λ o. o ≡ replicate n []) }
     {
@@ -45,14 +45,14 @@ impl<A: Allocator + Copy> Outbox<A> {
         Ok(Outbox { queues })
     }
 
-    /// The number of queues.
+    /// Returns the number of queues.
     pub fn len(&self) -> usize
         ensures { result ≡ length self.now }
     {
         self.queues.len()
     }
 
-    /// Whether one of the queues holds `LIMIT` changes.
+    /// Returns whether one of the queues contains `LIMIT` changes.
     pub fn has_full(&self) -> bool
         ensures { IsTrue result ↔ HasQueue IsFull self.now }
     {
@@ -64,7 +64,7 @@ impl<A: Allocator + Copy> Outbox<A> {
         false
     }
 
-    /// Whether one of the queues is empty.
+    /// Returns whether one of the queues is empty.
     pub fn has_vacant(&self) -> bool
         ensures { IsTrue result ↔ HasQueue IsVacant self.now }
     {
@@ -76,7 +76,7 @@ impl<A: Allocator + Copy> Outbox<A> {
         false
     }
 
-    /// The number of changes in one queue.
+    /// Returns the number of changes in one queue.
     pub fn queue_len(&self, to: usize) -> usize
         requires { to < length self.now }
         ensures { result ≡ length (slice_index_or self.now to []) }
@@ -84,7 +84,7 @@ impl<A: Allocator + Copy> Outbox<A> {
         self.queues[to].len()
     }
 
-    /// The change at a position of one queue, counted from the front.
+    /// Returns the change at index `i` of one queue, counted from the front, or `None` if there is none.
     pub fn get(&self, to: usize, i: usize) -> Option<&Delta<A>>
         requires { to < length self.now }
         ensures { option_copied result ≡ slice_get (slice_index_or self.now to []) i }
@@ -92,7 +92,7 @@ impl<A: Allocator + Copy> Outbox<A> {
         self.queues[to].get(i)
     }
 
-    // Puts an equal change at the back of one queue.
+    // Appends a copy of `change` to one queue.
     fn append(&mut self, alloc: A, to: usize, change: &Delta<A>) -> Result<(), AllocError>
         requires { to < length self.old }
         ensures ok { OnOk result (self.new ≡ slice_set self.old to (appended change.now (slice_index_or self.old to []))) }
@@ -102,7 +102,7 @@ impl<A: Allocator + Copy> Outbox<A> {
         self.queues[to].append(copied)
     }
 
-    // Takes the newest change out of one queue.
+    // Removes the newest change from one queue.
     fn drop_newest(&mut self, to: usize)
         requires { to < length self.old }
         ensures { self.new ≡ slice_set self.old to (without_newest (slice_index_or self.old to [])) }
@@ -110,7 +110,7 @@ impl<A: Allocator + Copy> Outbox<A> {
         self.queues[to].drop_newest();
     }
 
-    // Takes the newest change out of each of the first `count` queues.
+    // Removes the newest change from each of the first `count` queues.
     fn drop_first_newest(&mut self, count: usize)
         requires { count ≤ length self.old }
         ensures { self.new ≡ first_mapped without_newest count self.old }
@@ -120,7 +120,7 @@ impl<A: Allocator + Copy> Outbox<A> {
         }
     }
 
-    /// Puts an equal change at the back of each queue.
+    /// Appends a copy of `change` to each queue.
     pub fn push_all(&mut self, alloc: A, change: &Delta<A>) -> Result<(), AllocError>
         ensures ok { OnOk result (self.new ≡ map (appended change.now) self.old) }
         ensures err { OnErr result (self.new ≡ self.old) }
@@ -134,14 +134,14 @@ impl<A: Allocator + Copy> Outbox<A> {
         Ok(())
     }
 
-    /// Takes the newest change out of each queue.
+    /// Removes the newest change from each queue.
     pub fn unpush_all(&mut self)
         ensures { self.new ≡ map without_newest self.old }
     {
         self.drop_first_newest(self.len());
     }
 
-    /// Takes the oldest change out of one queue, if there is one.
+    /// Removes and returns the oldest change of one queue, if there is one.
     pub fn pop(&mut self, to: usize) -> Option<Delta<A>>
         requires { to < length self.old }
         ensures value { result ≡ slice_get (slice_index_or self.old to []) 0 }
@@ -150,7 +150,7 @@ impl<A: Allocator + Copy> Outbox<A> {
         self.queues[to].take_oldest()
     }
 
-    /// Puts a change at the front of one queue, or hands it back.
+    /// Inserts a change at the front of one queue. If memory runs out, returns the change.
     pub fn unpop(&mut self, to: usize, change: Delta<A>) -> Result<(), Delta<A>>
         requires { to < length self.old }
         ensures ok { OnOk result (self.new ≡ slice_set self.old to (change ∷ slice_index_or self.old to [])) }
@@ -160,7 +160,7 @@ impl<A: Allocator + Copy> Outbox<A> {
         self.queues[to].put_front(change)
     }
 
-    /// Equal queues.
+    /// Returns a copy of the queues.
     pub fn copy(&self, alloc: A) -> Result<Outbox<A>, AllocError>
         ensures { IfOk result (λ o. o ≡ self.now) }
     {

@@ -6,7 +6,7 @@ use Rattle.nd_graph.specs.declared.graph.Arc.{Arc}
 use Rattle.nd_graph.specs.Graph.{Dataflow}
 use Rattle.nd_paths.specs.declared.point.Pointstamp.{Pointstamp}
 use Rattle.nd_paths.specs.declared.summary.Summary.{Summary}
-use Rattle.nd_paths.specs.Order.{IsWalk, effect, Fits}
+use Rattle.nd_paths.specs.Order.{IsWalk, effect, Fits, CouldResultIn}
 use Rattle.nd_paths.specs.Summary.{applied, left_by}
 use Rattle.nd_paths.specs.Table.{held}
 
@@ -21,6 +21,17 @@ pub record TurnsInto (g : Dataflow) (s : Pointstamp) (x : ℕ) (t : Time) : Type
 abbrev pub HasAtOrBefore : List Time → Time → Type 0
 HasAtOrBefore times t = (u : Time) × Contains times u × IsAtOrBefore u t
 
+-- each time at x that s could result in has one of these times at or before it
+abbrev pub CoverAll : Dataflow → Pointstamp → ℕ → List Time → Type 0
+CoverAll g s x times =
+    (t : Time) → CouldResultIn g s (record { location = x; time = t }) → HasAtOrBefore times t
+
+-- each pointstamp could result in each time into which some walk turns its own, at the walk's end
+abbrev pub WalksLeadOn : Dataflow → Type 0
+WalksLeadOn g =
+    (s : Pointstamp) (x : ℕ) (t : Time) → TurnsInto g s x t
+    → CouldResultIn g s (record { location = x; time = t })
+
 -- ---- by the table
 
 -- what a summary makes of a time
@@ -29,7 +40,8 @@ turned s t = record { epoch = t.epoch; counters = applied s t.counters }
 
 -- what is held at b keeps at most d counters, and leaves no more than there may be
 abbrev pub HoldsFew : List (Option Summary) → ℕ → ℕ → Type 0
-HoldsFew row b d = (r : ℕ) (s : Summary) → held row b r ≡ Some s → (s.keep ≤ d) × (left_by s ≤ max_depth)
+HoldsFew row b d =
+    (r : ℕ) (s : Summary) → held row b r ≡ Some s → (s.keep ≤ d) × (left_by s ≤ max_depth)
 
 -- something held at b turns t into u
 abbrev pub HoldsTurning : List (Option Summary) → ℕ → Time → Time → Type 0

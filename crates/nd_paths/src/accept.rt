@@ -15,7 +15,8 @@ use thiserror::Error;
 /// Why a graph has no order (this project's own rule).
 #[derive(Clone, Copy, Debug, PartialEq, Eq, Drop, Error)]
 pub enum PathFault {
-    /// A closed walk from here, which is not empty, fails to increase some time. No location before has one.
+    /// A closed, non-empty walk from this location fails to increase some time. No earlier location has
+    /// such a walk.
     #[error("a loop through location {location} does not increase every time")]
     LoopNotStrict { location: usize },
     /// A growth was refused.

@@ -12,10 +12,11 @@ use arrayvec::ArrayVec;
 use nd_time::{MAX_DEPTH, Timestamp};
 use std::marker::Model;
 
-/// A time that some walk leads to: an epoch, and the counters of the loops around a location, outermost first.
+/// The time at the end of a walk: an epoch and the counters of the loops around the location, outermost
+/// first.
 ///
-/// A counter may be greater than that of a `Timestamp`. Arrival times are listed by epoch, and then by counters in
-/// lexicographic order. `Default` is what an `ArrayVec` fills its free room with.
+/// A counter may be greater than any counter of a `Timestamp`. Arrival times are listed by epoch, and
+/// then by counters in lexicographic order. An `ArrayVec` fills its free places with `Default` values.
 #[derive(Debug, Default, PartialEq, Eq, PartialOrd, Ord, Drop)]
 pub struct ArrivalTime {
     epoch: u32,
@@ -73,8 +74,8 @@ impl ArrivalTime {
     }
 }
 
-/// Arrival times compare as they are listed: by epoch, and then by counters in lexicographic order. A
-/// function without code, to be called where its clause is needed.
+/// States that arrival times compare as they are listed: by epoch, and then by counters in
+/// lexicographic order. The function has no code; callers use its clause.
 pub fn arrival_times_are_listed()
     ensures { (s t : Time) → ⟦<ArrivalTime as Ord>⟧.cmp s t ≡ time_cmp s t }
 {}

@@ -9,12 +9,13 @@ use arrayvec::ArrayVec;
 use nd_time::{MAX_DEPTH, Timestamp};
 
 impl Summary {
-    /// This, and then the other.
+    /// Returns the summary of a walk with this summary, followed by a walk with the other.
     ///
-    /// It is `None` if the other keeps more counters than this leaves, or if the answer would have a number past
-    /// `u32::MAX` or leave more than `MAX_DEPTH` counters.
+    /// Returns `None` if the other keeps more counters than this one leaves, or if the result would have a
+    /// number above `u32::MAX` or leave more than `MAX_DEPTH` counters.
     pub fn then(&self, other: &Summary) -> Option<Summary>
-        ensures some { IsSome result ↔ (other.now.keep ≤ left_by self.now) × IsInLimits (composed self.now other.now) }
+        ensures some { IsSome result
+            ↔ (other.now.keep ≤ left_by self.now) × IsInLimits (composed self.now other.now) }
         ensures value { IfSome result (λ u. u ≡ composed self.now other.now) }
         ensures effect { IfSome result (λ u. (counters : List ℕ) → self.now.keep ≤ length counters
             → applied u counters ≡ applied other.now (applied self.now counters)) }
@@ -51,14 +52,15 @@ impl Summary {
         })
     }
 
-    /// The time that this makes of a time.
+    /// Returns the time into which a walk with this summary turns `time`.
     ///
-    /// It is `None` if this keeps more counters than the time has, or if the answer would have a number past
-    /// `u32::MAX` or more than `MAX_DEPTH` counters.
+    /// Returns `None` if the summary keeps more counters than the time has, or if the result would have a
+    /// number above `u32::MAX` or more than `MAX_DEPTH` counters.
     pub fn apply(&self, time: &Timestamp) -> Option<Timestamp>
         ensures some { IsSome result ↔ (self.now.keep ≤ length time.now.counters) × (left_by self.now ≤ max_depth)
             × All (λ x. x ≤ max_counter) (applied self.now time.now.counters) }
-        ensures value { IfSome result (λ t. t ≡ record { epoch = time.now.epoch; counters = applied self.now time.now.counters }) }
+        ensures value { IfSome result (λ t. t
+            ≡ record { epoch = time.now.epoch; counters = applied self.now time.now.counters }) }
     {
         if self.keep > time.depth() || self.keep + self.constants.as_slice().len() > MAX_DEPTH {
             return None;

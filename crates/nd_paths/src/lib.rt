@@ -1,4 +1,4 @@
-//! Pointstamps, and which of them could result in which.
+//! Pointstamps, and which of them could result in which others.
 #![tactic(auto)]
 
 mod accept;

@@ -1,6 +1,5 @@
 //! The order of pointstamps.
 ghost use Rattle.std.specs.Prelude.{◌≡◌, ◌<◌, ◌↔◌, ◌⊎◌, All, IsTrue, IfOk, IfErr, List, ◌∷◌};
-ghost use Rattle.nd_time.specs.Time.{Time};
 ghost use Rattle.nd_paths.specs.declared.point.Pointstamp.{Pointstamp};
 ghost use Rattle.nd_paths.specs.Order.{CouldResultIn, Fits, IsAccepted, IsStrictlyBefore, IsWalk};
 ghost use Rattle.nd_paths.specs.Laws.{IsMinimalAmong};
@@ -9,7 +8,7 @@ ghost use Rattle.nd_graph.specs.Graph.{location_count};
 ghost use Rattle.nd_paths.specs.Summary.{AreLeastSummaries};
 ghost use Rattle.nd_paths.specs.Fault.{IsFault};
 ghost use Rattle.nd_paths.specs.Table.{IsTable};
-ghost use Rattle.nd_paths.specs.Arrival.{TurnsInto, HasAtOrBefore};
+ghost use Rattle.nd_paths.specs.Arrival.{TurnsInto, CoverAll, WalksLeadOn};
 
 use crate::accept::{PathFault, rows_of};
 use crate::arrival::{ArrivalTime, turned_by};
@@ -22,7 +21,8 @@ use std::marker::Model;
 
 /// An accepted graph, and the order of its pointstamps (Naiad, SOSP 2013, section 2.3).
 ///
-/// The order is decided from a table: for each two locations the least summary of the walks that keep so many counters.
+/// A table decides the order: for each pair of locations and each number of kept counters it has the
+/// least summary of the walks between them that keep this many.
 pub struct Paths<A: Allocator = Global> {
     graph: Graph<A>,
     rows: Vec<Vec<Option<Summary>, A>, A>,
@@ -46,7 +46,7 @@ impl<A: Allocator> Model for Paths<A> {
 }
 
 impl<A: Allocator> Paths<A> {
-    /// The order of a graph.
+    /// Returns the order of the pointstamps of `graph`, or why the graph is not accepted.
     pub fn of(alloc: A, graph: &Graph<A>) -> Result<Paths<A>, PathFault>
     where
         A: Copy,
@@ -59,7 +59,7 @@ impl<A: Allocator> Paths<A> {
         Ok(Paths { graph, rows })
     }
 
-    /// The graph.
+    /// Returns the graph.
     pub fn graph(&self) -> &Graph<A>
         ensures value { result.now ≡ self.now }
         ensures accepted { IsAccepted self.now }
@@ -67,7 +67,7 @@ impl<A: Allocator> Paths<A> {
         &self.graph
     }
 
-    /// An equal order.
+    /// Returns an equal order.
     pub fn copy(&self, alloc: A) -> Result<Paths<A>, AllocError>
     where
         A: Copy,
@@ -78,22 +78,22 @@ impl<A: Allocator> Paths<A> {
         Ok(Paths { graph, rows })
     }
 
-    /// Whether s could result in t. It could not if one of them does not fit the graph.
+    /// Returns whether `s` could result in `t`. It could not if one of them does not fit the graph.
     pub fn before(&self, s: &Pointstamp, t: &Pointstamp) -> bool
         ensures { IsTrue result ↔ CouldResultIn self.now s.now t.now }
     {
         could_result_in(&self.graph, &self.rows, s, t)
     }
 
-    /// Whether s could result in t, and is another.
+    /// Returns whether `s` could result in `t` and differs from it.
     pub fn strictly_before(&self, s: &Pointstamp, t: &Pointstamp) -> bool
         ensures { IsTrue result ↔ IsStrictlyBefore self.now s.now t.now }
     {
         s != t && self.before(s, t)
     }
 
-    /// The least summaries of the walks between two locations, one for each number of counters that some walk keeps,
-    /// the greatest first.
+    /// Returns the least summaries of the walks between two locations: one for each number of counters that
+    /// some walk keeps, the greatest number first.
     pub fn summaries(&self, from: usize, to: usize) -> ArrayVec<Summary, KEEPS>
         requires from { from < location_count self.now }
         requires to { to < location_count self.now }
@@ -102,12 +102,13 @@ impl<A: Allocator> Paths<A> {
         listed(&self.rows[from], to)
     }
 
-    /// Returns the times into which walks from `point` to the location `to` turn its time: for each number of counters
-    /// that some walk keeps the least one. There is none if `point` does not fit the graph or `to` is not there.
+    /// Returns times into which walks from `point` to the location `to` turn its time, the least ones among them.
+    ///
+    /// Each time that `point` could result in at `to` has one of them at or before it. The list is empty if `point`
+    /// does not fit the graph, or if there is no location `to`.
     pub fn reached(&self, point: &Pointstamp, to: usize) -> ArrayVec<ArrivalTime, KEEPS>
         ensures each { All (TurnsInto self.now point.now to) result.items }
-        ensures least { (t : Time) → CouldResultIn self.now point.now (record { location = to; time = t })
-            → HasAtOrBefore result.items t }
+        ensures least { CoverAll self.now point.now to result.items }
     {
         if !point.fits(&self.graph) || to >= self.graph.location_count() {
             return ArrayVec::new();
@@ -115,7 +116,7 @@ impl<A: Allocator> Paths<A> {
         turned_by(&self.rows[point.location], to, &point.time)
     }
 
-    /// Whether some walk leads from one location to another.
+    /// Returns whether some walk leads from one location to another.
     pub fn leads(&self, from: usize, to: usize) -> bool
         requires from { from < location_count self.now }
         requires to { to < location_count self.now }
@@ -124,37 +125,40 @@ impl<A: Allocator> Paths<A> {
         holds_any(&self.rows[from], to)
     }
 
-    /// The order is a partial order, and of finitely many pointstamps one has no other before it.
+    /// States that the order is a partial order, and that among finitely many pointstamps there is one with
+    /// none of the others strictly before it.
     pub fn order_is_partial(&self)
         ensures reflexive { (s : Pointstamp) → Fits self.now s → CouldResultIn self.now s s }
-        ensures transitive { (s t u : Pointstamp) → CouldResultIn self.now s t → CouldResultIn self.now t u
-            → CouldResultIn self.now s u }
-        ensures antisymmetric { (s t : Pointstamp) → CouldResultIn self.now s t → CouldResultIn self.now t s
-            → s ≡ t }
-        ensures strict { (s t u : Pointstamp) → IsStrictlyBefore self.now s t → IsStrictlyBefore self.now t u
-            → IsStrictlyBefore self.now s u }
+        ensures transitive { (s t u : Pointstamp) → CouldResultIn self.now s t
+            → CouldResultIn self.now t u → CouldResultIn self.now s u }
+        ensures antisymmetric { (s t : Pointstamp) → CouldResultIn self.now s t
+            → CouldResultIn self.now t s → s ≡ t }
+        ensures strict { (s t u : Pointstamp) → IsStrictlyBefore self.now s t
+            → IsStrictlyBefore self.now t u → IsStrictlyBefore self.now s u }
         ensures minimal { (p : Pointstamp) (ps : List Pointstamp)
             → (m : Pointstamp) × IsMinimalAmong self.now (p ∷ ps) m }
     {
         let _ = &self.rows;
     }
 
-    /// A pointstamp could result in each time into which a walk turns its time, at the walk's end.
+    /// States that a pointstamp could result in each time into which a walk turns its own, at the end of
+    /// the walk.
     pub fn walks_lead_on(&self)
-        ensures { (s : Pointstamp) (x : _) (t : Time) → TurnsInto self.now s x t → CouldResultIn self.now s (record { location = x; time = t }) }
+        ensures { WalksLeadOn self.now }
     {
         let _ = &self.rows;
     }
 
-    /// Of two pointstamps the first is strictly before the second, or it is not.
+    /// States that of two pointstamps the first is strictly before the second, or it is not.
     pub fn order_is_decided(&self)
-        ensures { (s t : Pointstamp) → IsStrictlyBefore self.now s t ⊎ (IsStrictlyBefore self.now s t → ⊥) }
+        ensures { (s t : Pointstamp)
+            → IsStrictlyBefore self.now s t ⊎ (IsStrictlyBefore self.now s t → ⊥) }
     {
         let _ = &self.rows;
     }
 }
 
-// Whether s could result in t, by the table of the graph.
+// Returns whether `s` could result in `t`, by the table of the graph.
 fn could_result_in<A: Allocator>(
     graph: &Graph<A>,
     rows: &[Vec<Option<Summary>, A>],

@@ -1,4 +1,4 @@
-//! Pointstamps: a location of the graph, and a timestamp there.
+//! Pointstamps: a location of the graph and a timestamp at it.
 ghost use Rattle.std.specs.Prelude.{◌≡◌, ◌↔◌, IsTrue, IsSome, IfSome};
 ghost use Rattle.nd_paths.specs.Order.{Fits};
 ghost use Rattle.nd_paths.specs.Point.{point_cmp};
@@ -20,13 +20,15 @@ pub struct Pointstamp {
 }
 
 impl Pointstamp {
-    /// The pointstamp at a location of the graph, or `None` if the time's depth is not the location's.
+    /// Returns the pointstamp at a location of the graph, or `None` if the depth of the time is not that
+    /// of the location.
     pub fn new<A: Allocator>(
         graph: &Graph<A>,
         location: usize,
         time: Timestamp,
     ) -> Option<Pointstamp>
-        ensures fits { IsSome result ↔ Fits graph.now (record { location = location; time = time }) }
+        ensures fits { IsSome result
+            ↔ Fits graph.now (record { location = location; time = time }) }
         ensures value { IfSome result (λ x. x ≡ record { location = location; time = time }) }
     {
         if location >= graph.location_count() || graph.location_depth(location) != time.depth() {
@@ -35,7 +37,7 @@ impl Pointstamp {
         Some(Pointstamp { location, time })
     }
 
-    /// Whether this stands at a location of the graph, at its depth.
+    /// Returns whether the graph has the location, at the depth of the time.
     pub fn fits<A: Allocator>(&self, graph: &Graph<A>) -> bool
         ensures { IsTrue result ↔ Fits graph.now self.now }
     {
@@ -43,7 +45,7 @@ impl Pointstamp {
             && graph.location_depth(self.location) == self.time.depth()
     }
 
-    /// An equal pointstamp.
+    /// Returns an equal pointstamp.
     pub fn copy(&self) -> Pointstamp
         ensures { result ≡ self.now }
     {
@@ -60,8 +62,8 @@ impl Key for Pointstamp {
     }
 }
 
-/// Pointstamps compare as they are listed: by location, then by epoch, and then by counters in
-/// lexicographic order. A function without code, to be called where its clause is needed.
+/// States that pointstamps compare as they are listed: by location, then by epoch, and then by counters
+/// in lexicographic order. The function has no code; callers use its clause.
 pub fn pointstamps_are_listed()
     ensures { (p q : Pointstamp) → ⟦<Pointstamp as Ord>⟧.cmp p q ≡ point_cmp p q }
 {}

@@ -12,7 +12,7 @@ use std::marker::Model;
 
 /// The constants of a summary, at most `MAX_DEPTH`, outermost first.
 ///
-/// `Default` is what an `ArrayVec` fills its free room with.
+/// An `ArrayVec` fills its free places with `Default` values.
 #[derive(Debug, Default, PartialEq, Eq, Drop)]
 pub struct Constants {
     numbers: ArrayVec<u32, MAX_DEPTH>,
@@ -29,7 +29,7 @@ impl Model for Constants {
 }
 
 impl Constants {
-    /// The constants that are these numbers, or `None` for more than `MAX_DEPTH`.
+    /// Returns these numbers as constants, or `None` if there are more than `MAX_DEPTH`.
     pub fn new(numbers: &[u32]) -> Option<Constants>
         ensures fits { IsSome result ↔ (length numbers.now ≤ max_depth) }
         ensures value { IfSome result (λ c. c ≡ numbers.now) }
@@ -40,7 +40,7 @@ impl Constants {
         }
     }
 
-    // The same numbers, or `None` if one is past `u32::MAX`.
+    // Returns the same numbers, or `None` if one is above `u32::MAX`.
     pub(crate) fn narrowed(wide: &[u64]) -> Option<Constants>
         requires { length wide.now ≤ max_depth }
         ensures some { IsSome result ↔ All (λ x. x ≤ max_counter) wide.now }
@@ -53,7 +53,7 @@ impl Constants {
         Some(Constants { numbers })
     }
 
-    /// The numbers, outermost first.
+    /// Returns the numbers, outermost first.
     pub fn as_slice(&self) -> &[u32]
         ensures value { result.now ≡ self.now }
         ensures few { length result.now ≤ max_depth }
@@ -61,7 +61,7 @@ impl Constants {
         self.numbers.as_slice()
     }
 
-    // The list of these numbers.
+    // Returns the list of these numbers.
     fn listed(numbers: &[u32]) -> Constants
         requires { length numbers.now ≤ max_depth }
         ensures value { result ≡ numbers.now }
@@ -73,7 +73,7 @@ impl Constants {
         }
     }
 
-    /// An equal list.
+    /// Returns an equal list.
     pub fn copy(&self) -> Constants
         ensures value { result ≡ self.now }
         ensures small { All (λ x. x ≤ max_counter) self.now }
@@ -81,7 +81,7 @@ impl Constants {
         Constants::listed(self.as_slice())
     }
 
-    // One more, innermost.
+    // Appends a number, the innermost.
     fn push(&mut self, number: u32)
         requires { length self.old < max_depth }
         ensures { self.new ≡ self.old ++ number ∷ [] }
@@ -89,7 +89,7 @@ impl Constants {
         self.numbers.push(number);
     }
 
-    // Takes the innermost off, if there is one.
+    // Removes the innermost number, if there is one.
     fn pop(&mut self) -> Option<u32>
         ensures parts { self.old ≡ self.new ++ option_to_list result }
         ensures some { IsSome result ↔ (0 < length self.old) }
@@ -100,7 +100,7 @@ impl Constants {
 
 /// What a walk does to the loop counters of a time.
 ///
-/// It keeps the outer `keep` counters, adds `add` to the last of those, and puts the constants after them.
+/// It keeps the outer `keep` counters, adds `add` to the last of them, and appends the constants.
 #[derive(Debug, Default, PartialEq, Eq, Drop)]
 pub struct Summary {
     pub keep: usize,
@@ -112,7 +112,7 @@ impl Summary {
     ghost use Rattle.nd_paths.specs.Inside.{inner, step, grows, AtMost, IsWithin};
     ghost use Rattle.nd_paths.specs.Summary.{applied};
 
-    /// The summary of an empty walk from a location of this depth.
+    /// Returns the summary of the empty walk from a location of this depth.
     pub fn identity(depth: usize) -> Summary
         ensures { result ≡ record { keep = depth; add = 0; constants = [] } }
     {
@@ -123,7 +123,7 @@ impl Summary {
         }
     }
 
-    /// An equal summary.
+    /// Returns an equal summary.
     pub fn copy(&self) -> Summary
         ensures { result ≡ self.now }
     {
@@ -134,7 +134,7 @@ impl Summary {
         }
     }
 
-    // This, and then one action.
+    // Returns this summary followed by one action.
     pub(crate) fn past(&self, action: Action) -> Summary
         requires room { length (inner self.now).constants + grows action ≤ max_depth }
         requires within { IsWithin (max_counter - 1) (inner self.now) }
@@ -158,7 +158,7 @@ impl Summary {
         next
     }
 
-    // Whether this, and then one action, adds nothing.
+    // Returns whether this summary followed by one action adds nothing.
     pub(crate) fn adds_nothing(&self, action: Action) -> bool
         ensures { IsTrue result ↔ ((step action (inner self.now)).add ≡ 0) }
     {
@@ -170,11 +170,13 @@ impl Summary {
         }
     }
 
-    // Whether this is at most the other, which keeps as many counters and has as many constants.
+    // Returns whether this summary is at most the other. Both keep the same number of counters and have the
+    // same number of constants.
     pub(crate) fn is_at_most(&self, other: &Summary) -> bool
         requires keep { self.now.keep ≡ other.now.keep }
         requires size { length self.now.constants ≡ length other.now.constants }
-        ensures { MatchBool result (AtMost (inner self.now) (inner other.now)) (AtMost (inner other.now) (inner self.now)) }
+        ensures { MatchBool result (AtMost (inner self.now) (inner other.now))
+            (AtMost (inner other.now) (inner self.now)) }
     {
         if self.add != other.add {
             return self.add < other.add;
@@ -185,7 +187,7 @@ impl Summary {
             .is_le()
     }
 
-    // What this makes of these counters, wide enough for every sum.
+    // Returns the counters into which this summary turns `counters`. A `u64` holds every sum.
     pub(crate) fn reached(&self, counters: &[u32]) -> ArrayVec<u64, MAX_DEPTH>
         requires keep { self.now.keep ≤ length counters.now }
         requires deep { self.now.keep + length self.now.constants ≤ max_depth }
@@ -198,7 +200,7 @@ impl Summary {
         all
     }
 
-    // The number at a place of what this makes of these counters, wide enough for the sum.
+    // Returns the counter at `place` into which this summary turns `counters`. A `u64` holds the sum.
     fn number(&self, counters: &[u32], place: usize) -> u64
         requires keep { self.now.keep ≤ length counters.now }
         requires place { place < self.now.keep + length self.now.constants }
@@ -215,7 +217,7 @@ impl Summary {
         }
     }
 
-    // Whether this makes of the one time's counters some at or before the other's.
+    // Returns whether this summary turns the counters `from` into some that are at most `to`.
     pub(crate) fn leads(&self, from: &[u32], to: &[u32]) -> bool
         requires keep { self.now.keep ≤ length from.now }
         requires to { length to.now ≡ self.now.keep + length self.now.constants }
@@ -232,7 +234,7 @@ impl Summary {
     }
 }
 
-// These counters, the last of them with so much added.
+// Returns these counters, with `add` added to the last one.
 fn raised(counters: &[u32], add: u32) -> ArrayVec<u64, MAX_DEPTH>
     requires { length counters.now ≤ max_depth }
     ensures value { result.items ≡ raised_by add counters.now }

@@ -12,10 +12,10 @@ use nd_graph::Arc;
 use nd_time::MAX_DEPTH;
 use std::alloc::{AllocError, Allocator};
 
-/// How many numbers of counters a walk can keep: 0 to `MAX_DEPTH`.
+/// The number of values of `keep`: a walk keeps 0 to `MAX_DEPTH` counters.
 pub const KEEPS: usize = MAX_DEPTH + 1;
 
-// What a row has for a location and a keep.
+// Returns the entry of a row for a location and a keep.
 pub fn look(row: &[Option<Summary>], location: usize, keep: usize) -> Option<&Summary>
     requires { location * keeps + keeps ≤ length row.now }
     ensures { option_copied result ≡ held row.now location keep }
@@ -27,7 +27,8 @@ pub fn look(row: &[Option<Summary>], location: usize, keep: usize) -> Option<&Su
     }
 }
 
-// Follows the entry for a keep at the arc's start by the arc, and says whether that was less than what was known.
+// Extends the entry for a keep at the start of the arc by the arc. Returns whether that made the entry at
+// its end smaller.
 fn relax(row: &mut [Option<Summary>], arc: Arc, keep: usize) -> bool
     requires { CanRelax row.old arc keep }
     ensures relaxed { Relaxed row.old row.new arc keep }
@@ -47,7 +48,7 @@ fn relax(row: &mut [Option<Summary>], arc: Arc, keep: usize) -> bool
     true
 }
 
-// A row with no entry but the identity at its location.
+// Returns a row whose only entry is the identity at its own location.
 fn first_row<A: Allocator>(
     alloc: A,
     depths: &[usize],
@@ -66,7 +67,8 @@ fn first_row<A: Allocator>(
     Ok(row)
 }
 
-// Follows every entry by every arc until nothing changes, or as often as a walk without detours can be long.
+// Extends every entry by every arc until nothing changes, and at most as many times as a walk without
+// detours has arcs.
 fn sweep(row: &mut [Option<Summary>], depths: &[usize], arcs: &[Arc], from: usize)
     requires agree { DepthsAgree depths.now arcs.now }
     requires deep { All (λ d. d ≤ max_depth) depths.now }
@@ -90,7 +92,7 @@ fn sweep(row: &mut [Option<Summary>], depths: &[usize], arcs: &[Arc], from: usiz
     }
 }
 
-/// The least summaries of the walks from a location that are no longer than a walk without detours.
+/// Returns the least summaries of the walks from a location that are no longer than a walk without detours.
 pub fn short_row<A: Allocator>(
     alloc: A,
     depths: &[usize],
@@ -111,7 +113,7 @@ pub fn short_row<A: Allocator>(
     Ok(row)
 }
 
-/// Whether a closed walk from the row's location fails to increase some time.
+/// Returns whether a closed walk from the location of the row fails to increase some time.
 pub fn shows_fail(row: &[Option<Summary>], depths: &[usize], arcs: &[Arc], location: usize) -> bool
     requires agree { DepthsAgree depths.now arcs.now }
     requires long { length row.now ≡ length depths.now * keeps }
@@ -125,7 +127,7 @@ pub fn shows_fail(row: &[Option<Summary>], depths: &[usize], arcs: &[Arc], locat
     false
 }
 
-// Whether some entry at the arc's start, followed by the arc, adds nothing.
+// Returns whether some entry at the start of the arc, extended by the arc, adds nothing.
 fn closes(row: &[Option<Summary>], arc: Arc) -> bool
     requires { arc.from * keeps + keeps ≤ length row.now }
     ensures { MatchBool result (Closes row.now arc) (Closes row.now arc → ⊥) }
@@ -140,7 +142,8 @@ fn closes(row: &[Option<Summary>], arc: Arc) -> bool
     false
 }
 
-/// Whether something held for a location makes of the one time's counters some at or before the other's.
+/// Returns whether a summary held for the location turns the counters of one time into some that are at
+/// most those of the other.
 pub fn leads_among(row: &[Option<Summary>], location: usize, from: &[u32], to: &[u32]) -> bool
     requires long { location * keeps + keeps ≤ length row.now }
     requires places { KeepsPlaces row.now location }
@@ -148,10 +151,10 @@ pub fn leads_among(row: &[Option<Summary>], location: usize, from: &[u32], to: &
     ensures { IsTrue result ↔ SomeLeads row.now location from.now to.now }
 {
     if to.is_empty() {
-        // what leaves no counters keeps none, and leads there
+        // A summary that leaves no counters keeps none, and leads there.
         return look(row, location, 0).is_some();
     }
-    // nothing keeps more counters than either time has
+    // No summary keeps more counters than either time has.
     for keep in 0..=from.len().min(to.len()) {
         if let Some(summary) = look(row, location, keep) {
             if summary.leads(from, to) {
@@ -162,7 +165,7 @@ pub fn leads_among(row: &[Option<Summary>], location: usize, from: &[u32], to: &
     false
 }
 
-/// Whether something is held for a location.
+/// Returns whether the row holds a summary for the location.
 pub fn holds_any(row: &[Option<Summary>], location: usize) -> bool
     requires { location * keeps + keeps ≤ length row.now }
     ensures { IsTrue result ↔ HoldsAny row.now location }
@@ -175,7 +178,7 @@ pub fn holds_any(row: &[Option<Summary>], location: usize) -> bool
     false
 }
 
-/// What is held for a location, greatest keep first.
+/// Returns the summaries held for the location, the greatest keep first.
 pub fn listed(row: &[Option<Summary>], location: usize) -> ArrayVec<Summary, KEEPS>
     requires long { location * keeps + keeps ≤ length row.now }
     requires places { KeepsPlaces row.now location }
@@ -190,7 +193,7 @@ pub fn listed(row: &[Option<Summary>], location: usize) -> ArrayVec<Summary, KEE
     list
 }
 
-// An equal row.
+// Returns an equal row.
 fn copied_row<A: Allocator>(
     alloc: A,
     row: &[Option<Summary>],
@@ -207,7 +210,7 @@ fn copied_row<A: Allocator>(
     Ok(copied)
 }
 
-/// Equal rows.
+/// Returns equal rows.
 pub fn copied_rows<A: Allocator + Copy>(
     alloc: A,
     rows: &[Vec<Option<Summary>, A>],

@@ -51,6 +51,7 @@ IsTooMany count n = max_count < count + n
 abbrev pub with_records : ProcessorState → ValueAt → ℤ → ProcessorState
 with_records q k n = record q { records = added value_at_total q.records k n }
 
+-- the state with n added to a sink's count of a value
 abbrev pub with_counted : ProcessorState → ℕ → ℤ → ℤ → ProcessorState
 with_counted q vertex value n = record q { sinks = added sink_total q.sinks (record { vertex = vertex; value = value }) n }
 
@@ -62,6 +63,7 @@ counted_at q vertex value = count_at q.sinks (record { vertex = vertex; value = 
 abbrev pub with_request : ProcessorState → Pointstamp → ProcessorState
 with_request q x = record q { requests = fin.insert q.requests x tt }
 
+-- the state without the request x
 abbrev pub without_request : ProcessorState → Pointstamp → ProcessorState
 without_request q x = record q { requests = fin.remove q.requests x }
 
@@ -69,6 +71,7 @@ without_request q x = record q { requests = fin.remove q.requests x }
 abbrev pub ComesBack : ProcessorState → ProcessorState → Pointstamp → Type 0
 ComesBack old new x = fin.get old.requests x ≡ None → without_request new x ≡ old
 
+-- if old has the request x, then new with x added is old
 abbrev pub GoesBack : ProcessorState → ProcessorState → Pointstamp → Type 0
 GoesBack old new x = fin.get old.requests x ≡ Some tt → with_request new x ≡ old
 
@@ -76,6 +79,7 @@ GoesBack old new x = fin.get old.requests x ≡ Some tt → with_request new x �
 abbrev pub with_token : ProcessorState → ℕ → Option ℕ → ProcessorState
 with_token q vertex epoch = record q { tokens = with_value q.tokens vertex epoch }
 
+-- the state with another number for an item of a vertex; None removes the item
 abbrev pub with_number : ProcessorState → ℕ → Time → ℤ → Option ℤ → ProcessorState
 with_number q vertex t item n = record q { items = with_vertex_item q.items vertex (item_key t item) n }
 
@@ -83,12 +87,15 @@ with_number q vertex t item n = record q { items = with_vertex_item q.items vert
 abbrev pub with_more_unsent : ProcessorState → Pointstamp → ℤ → ProcessorState
 with_more_unsent q x n = record q { unsent = more_unsent q.unsent x n }
 
+-- the state with n subtracted from what is unsent at x
 abbrev pub with_fewer_unsent : ProcessorState → Pointstamp → ℤ → ProcessorState
 with_fewer_unsent q x n = with_more_unsent q x (neg_ℤ n)
 
+-- the processor has an unsent entry at x
 abbrev pub HasUnsent : ProcessorState → Pointstamp → Type 0
 HasUnsent q x = at q.unsent x ≢ pos 0
 
+-- with n added, the unsent entry at x would exceed its limit
 abbrev pub IsUnsentTooLarge : ProcessorState → Pointstamp → ℤ → Type 0
 IsUnsentTooLarge q x n = max_count < unsigned_abs (at q.unsent x +ℤ n)
 
@@ -96,5 +103,6 @@ IsUnsentTooLarge q x n = max_count < unsigned_abs (at q.unsent x +ℤ n)
 abbrev pub with_part : ProcessorState → DeltaValue → ProcessorState
 with_part q part = record q { unsent = plus q.unsent part }
 
+-- the state with a part subtracted from what is unsent
 abbrev pub without_part : ProcessorState → DeltaValue → ProcessorState
 without_part q part = record q { unsent = minus q.unsent part }

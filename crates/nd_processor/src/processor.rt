@@ -137,7 +137,8 @@ impl<A: Allocator + Copy> Processor<A> {
 
     /// The least record and its count.
     pub fn first_record(&self) -> Option<(&ValueAt, u64)>
-        ensures { option_map (λ e. (e.0.now, e.1)) result ≡ slice_get (counts_of self.now.records) 0 }
+        ensures { option_map (λ e. (e.0.now, e.1)) result
+            ≡ slice_get (counts_of self.now.records) 0 }
     {
         self.records.first()
     }
@@ -349,7 +350,8 @@ impl<A: Allocator + Copy> Processor<A> {
         ensures ok { OnOk result (self.new ≡ with_more_unsent self.old point.now n) }
         ensures undone { OnOk result (with_fewer_unsent self.new point.now n ≡ self.old) }
         ensures err { OnErr result (self.new ≡ self.old) }
-        ensures full { (result ≡ Err (DeltaFault.DeltaFull)) ↔ IsUnsentTooLarge self.old point.now n }
+        ensures full { (result ≡ Err (DeltaFault.DeltaFull))
+            ↔ IsUnsentTooLarge self.old point.now n }
         ensures no_growth { HasUnsent self.old point.now → result ≢ Err (DeltaFault.Memory) }
     {
         self.unsent.add(point, n)?;

@@ -12,6 +12,7 @@ use Rattle.nd_protocol.specs.declared.part.Part.TheVariants.{All, Points}
 abbrev pub IsSmall : ℕ → Type 0
 IsSmall n = n ≤ max_counter
 
+-- the epoch and the counters of a time are numbers of 32 bits
 abbrev pub TimeIsSmall : Time → Type 0
 TimeIsSmall t = Each IsSmall (t.epoch ∷ t.counters)
 

@@ -4,6 +4,7 @@ use Rattle.nd_time.specs.Code.{Code, coded}
 use Rattle.nd_protocol.specs.declared.refusal.Refusal.{Refusal}
 use Rattle.nd_protocol.specs.declared.refusal.Refusal.TheVariants.{NoProcessor, NoVertex, NoEdge, NotInput, InputClosed, TooManyValues, EpochFull, NoRecord, NoRequest, NotYet, CounterFull, ValueRange, CountFull, DeltaFull, NothingToSend, NotAdmissible, QueueEmpty, QueueFull, Memory}
 
+-- the number and the name of a refusal
 abbrev pub code_of : Refusal → Code
 code_of NoProcessor = coded 1 (codes "NoProcessor")
 code_of NoVertex = coded 2 (codes "NoVertex")

@@ -17,6 +17,7 @@ pub record ClusterState : Type 0 where
   pub views : List DeltaValue
   pub queues : List (List (List DeltaValue))
 
+-- the state of processor p
 abbrev pub processor : ClusterState → ℕ → ProcessorState
 processor s p = slice_index_or s.processors p idle
 

@@ -8,6 +8,7 @@ use Rattle.nd_session.specs.declared.receipt.Receipt.{Receipt}
 use Rattle.nd_session.specs.declared.fault.SessionFault.{SessionFault}
 use Rattle.nd_session.specs.declared.fault.SessionFault.TheVariants.{NotThisSession, LogFull, TooManyClients, Memory}
 
+-- the number and the name with which a session refuses a call
 abbrev pub code_of : {A : Type 0} → SessionFault A → Code
 code_of (NotThisSession index found) = coded 26 (codes "NotThisSession")
 code_of LogFull = coded 27 (codes "LogFull")
@@ -53,6 +54,7 @@ EnterFails entered Memory = entered < max_clients
 
 -- ---- outside the lock: there is a history and a number of clients at which a call fails so
 
+-- a command of client p fails with this fault at some history and number of clients
 pub record CommandMayFail {A : Type 0} (p : ClientValue A) (fault : SessionFault A) : Type 0 where
   pub log : List (Receipt A)
   pub machine : MachineValue A
@@ -60,6 +62,7 @@ pub record CommandMayFail {A : Type 0} (p : ClientValue A) (fault : SessionFault
   pub history : IsHistory log machine
   pub fails : CommandFails entered log p fault
 
+-- a copy for client p fails with this fault at some history and number of clients
 pub record CopyMayFail {A : Type 0} (p : ClientValue A) (fault : SessionFault A) : Type 0 where
   pub log : List (Receipt A)
   pub machine : MachineValue A
@@ -67,6 +70,7 @@ pub record CopyMayFail {A : Type 0} (p : ClientValue A) (fault : SessionFault A)
   pub history : IsHistory log machine
   pub fails : CopyFails entered log p fault
 
+-- entering fails with this fault at some number of clients
 pub record EnterMayFail {A : Type 0} (fault : SessionFault A) : Type 0 where
   pub entered : ℕ
   pub fails : EnterFails entered fault

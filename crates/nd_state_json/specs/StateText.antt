@@ -31,6 +31,7 @@ natural n = number (unsigned n)
 abbrev pub whole : ℤ → Data
 whole z = number (of_integer z)
 
+-- the name of a location as a JSON string
 abbrev pub place : Dataflow → ℕ → Data
 place g l = string (name_at g l)
 
@@ -64,6 +65,7 @@ token_data g e = row (place g e.0 ∷ natural e.1 ∷ [])
 abbrev pub entry_data : Dataflow → Pointstamp × ℤ → Data
 entry_data g e = row (place g e.0.location ∷ time_data e.0.time ∷ whole e.1 ∷ [])
 
+-- pointstamps with their counts as a JSON array, in the same order
 abbrev pub entries_data : Dataflow → List (Pointstamp × ℤ) → Data
 entries_data g es = row (map (entry_data g) es)
 
@@ -106,5 +108,6 @@ whole_members processors queues = object (member (codes "processors") processors
 abbrev pub whole_data : List Data → List Data → Data
 whole_data processors queues = whole_members (row processors) (row queues)
 
+-- the state of a cluster as a JSON object
 unfoldable pub state_data : ClusterState → Data
 state_data s = whole_data (map (λ e. processor_data s.graph e.0 e.1) (zip s.processors s.views)) (map (queues_data s.graph) s.queues)

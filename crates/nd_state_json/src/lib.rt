@@ -182,7 +182,8 @@ fn push_items(
     vertex: usize,
     entries: &[(ItemKey, i64)],
 ) -> Result<(), AllocError>
-    ensures { OnOk result (items.new.items ≡ items.old.items ++ map (λ e. (vertex, e.0, e.1)) entries.now) }
+    ensures { OnOk result (items.new.items
+        ≡ items.old.items ++ map (λ e. (vertex, e.0, e.1)) entries.now) }
 {
     for entry in entries {
         items.push((vertex, entry.0.copy(), entry.1))?;
@@ -195,7 +196,9 @@ fn all_items<A: Allocator + Copy>(
     alloc: Global,
     processor: &Processor<A>,
 ) -> Result<Vec<(usize, ItemKey, i64)>, AllocError>
-    ensures { IfOk result (λ v. v.items ≡ flat_map (λ i. map (λ e. (i.0, e.0, e.1)) (numbers i.1)) (enumerate_from 0 processor.now.items)) }
+    ensures { IfOk result (λ v. v.items
+        ≡ flat_map (λ i. map (λ e. (i.0, e.0, e.1)) (numbers i.1))
+        (enumerate_from 0 processor.now.items)) }
 {
     let mut items = Vec::new(alloc);
     for vertex in 0..processor.vertex_count() {
@@ -216,7 +219,8 @@ fn processor_object(
     unsent: Json,
     known: Json,
 ) -> Result<Json, AllocError>
-    ensures reply { IfOk result (λ j. j ≡ processor_members items records requests sinks tokens unsent known) }
+    ensures reply { IfOk result (λ j. j
+        ≡ processor_members items records requests sinks tokens unsent known) }
 {
     reply!(in alloc; {"items": items, "records": records, "requests": requests, "sinks": sinks, "tokens": tokens, "unsent": unsent, "view": known})
 }
@@ -250,7 +254,8 @@ fn processors_value<A: Allocator + Copy>(
     views: &[View<A>],
 ) -> Result<Json, AllocError>
     requires { length views.now ≡ length processors.now }
-    ensures reply { IfOk result (λ j. j ≡ row (map (λ e. processor_data graph.now e.0 e.1.map) (zip processors.now views.now))) }
+    ensures reply { IfOk result (λ j. j ≡ row (map
+        (λ e. processor_data graph.now e.0 e.1.map) (zip processors.now views.now))) }
 {
     let mut list = JsonList::new(alloc);
     for p in 0..processors.len() {
@@ -327,7 +332,12 @@ pub fn state_value<A: Allocator + Copy>(
     mesh: &Mesh<A>,
 ) -> Result<Json, AllocError>
     requires { length views.now ≡ length processors.now }
-    ensures reply { IfOk result (λ j. j ≡ state_data (record { graph = graph.now; processors = processors.now; views = map (λ (k : Kept). k.map) views.now; queues = mesh.now })) }
+    ensures reply { IfOk result (λ j. j ≡ state_data (record {
+      graph = graph.now;
+      processors = processors.now;
+      views = map (λ (k : Kept). k.map) views.now;
+      queues = mesh.now;
+    })) }
 {
     let processors = processors_value(alloc, graph, processors, views)?;
     let queues = queues_value(alloc, graph, mesh)?;

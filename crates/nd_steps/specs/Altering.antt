@@ -1,5 +1,5 @@
 -- What changes of a processor's maps change, with the values before and after, and what two effects change together.
-use Rattle.std.specs.Prelude.{◌≤◌, ℕ, zero, suc, ◌+◌, ◌-◌, ℤ, pos, negsuc, ◌+ℤ◌, Bool, not, Option, Some, None, is_some, cond, List, [], ◌∷◌, ◌++◌, length}
+use Rattle.std.specs.Prelude.{◌≡◌, ◌≤◌, ℕ, zero, suc, ◌+◌, ◌-◌, ℤ, pos, negsuc, ◌+ℤ◌, Bool, not, Option, Some, None, is_some, cond, List, [], ◌∷◌, ◌++◌, length}
 use Rattle.std.specs.FinMap as fin
 use Rattle.nd_map.specs.Counts.{at, int_at, natural}
 use Rattle.nd_paths.specs.declared.point.Pointstamp.{Pointstamp}
@@ -16,12 +16,13 @@ use Rattle.nd_steps.specs.Standing.{changed}
 use Rattle.nd_steps.specs.Records.{RunsTo}
 use Rattle.nd_steps.specs.Changes.{own}
 use Rattle.nd_mesh.specs.Mesh.{queue}
-use Rattle.nd_steps.specs.Effect.{EffectValue, joined_below}
+use Rattle.nd_steps.specs.Effect.{EffectValue, joined_below, lists_of, effect_of}
 use Rattle.nd_steps.specs.declared.change.Change.{Change}
 use Rattle.nd_steps.specs.declared.slot.Slot.{Slot}
 use Rattle.nd_steps.specs.declared.slot.Slot.TheVariants.{Records, Request, Token, State, Sink, Unsent}
 use Rattle.nd_steps.specs.declared.effect.Altered.{Altered}
 use Rattle.nd_steps.specs.declared.effect.ItemAt.{ItemAt}
+use Rattle.nd_steps.specs.declared.effect.Effect.{Effect}
 
 -- ---- the processors alone
 
@@ -122,10 +123,18 @@ altered_at q p l n = record {
   views = [];
 }
 
--- what a list of changes changes, each as if it were the first in these processors
+-- what a change changes in these processors
+abbrev pub altered_of : List ProcessorState → Change → EffectValue
+altered_of ps c = altered_at (own ps c) c.p c.slot c.n
+
+-- what a list of changes changes, each as if it were the first
 abbrev pub altered_by : List ProcessorState → List Change → EffectValue
 altered_by ps [] = nothing
-altered_by ps (c ∷ cs) = beside (altered_at (own ps c) c.p c.slot c.n) (altered_by ps cs)
+altered_by ps (c ∷ cs) = beside (altered_of ps c) (altered_by ps cs)
+
+-- the new effect has these elements after those of the old one
+abbrev pub Appends : {A : Type 0} → Effect A → Effect A → EffectValue → Type 0
+Appends old new e = lists_of new ≡ beside (lists_of old) e
 
 -- ---- what a broadcast and a receive change
 
@@ -148,6 +157,12 @@ received_row q v e = record { p = q; key = e.0; old = in_change v e.0; new = in_
 -- the queue from which it takes the change
 abbrev pub shorter_row : List (List (List DeltaValue)) → ℕ → ℕ → Altered ℕ ℕ
 shorter_row m from to = record { p = from; key = to; old = length (queue m from to); new = length (queue m from to) - 1 }
+
+-- ---- where changes lead
+
+-- the effect is that of a step from s to each state that has P
+abbrev pub IsEffectTo : {A : Type 0} → ClusterState → (ClusterState → Type 0) → Effect A → Type 0
+IsEffectTo s P e = (t : ClusterState) → P t → lists_of e ≡ effect_of s t
 
 -- ---- lists of changes that name no more than they change
 

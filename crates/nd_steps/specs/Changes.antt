@@ -1,9 +1,10 @@
 -- Changes one after the other: what each makes of a cluster's state, and when a list of them can be made.
 use Rattle.std.specs.Prelude.{◌≡◌, ◌≢◌, ◌<◌, ◌≤◌, ◌+◌, ℕ, ℤ, pos, neg_ℤ, ◌+ℤ◌, List, [], ◌∷◌, take, length, slice_index_or}
+use Rattle.std.specs.List.Sorted.{IsSorted}
 use Rattle.std.proofs.Common.{get_or}
 use Rattle.nd_processor.specs.State.{ProcessorState, idle}
 use Rattle.nd_protocol.specs.State.{ClusterState, processor}
-use Rattle.nd_steps.specs.Places.{Place, place_at}
+use Rattle.nd_steps.specs.Places.{Place, place_at, place_cmp}
 use Rattle.nd_steps.specs.Slots.{stands, puts, SlotIsThere, SlotMay, SlotWithin}
 use Rattle.nd_steps.specs.Standing.{standing, put_at}
 use Rattle.nd_steps.specs.declared.change.Change.{Change}
@@ -12,6 +13,10 @@ use Rattle.nd_steps.specs.declared.slot.Slot.{Slot}
 -- where in the cluster a change is
 abbrev pub place_of : Change → Place
 place_of c = place_at c.p c.slot
+
+-- changes in the order of their places
+abbrev pub AreByPlace : List Change → Type 0
+AreByPlace cs = IsSorted (λ a b. place_cmp (place_of a) (place_of b)) cs
 
 -- the processor that a change is of
 abbrev pub own : List ProcessorState → Change → ProcessorState

@@ -33,5 +33,6 @@ listed_by x (Flowed flow) = map Key (told_changes x flow)
 listed_by x (Sent p part) = listed_sent p part
 listed_by x (Received from to change) = listed_received from to change
 
+-- the keys of maps and the ends of queues that a record changes, in order
 abbrev pub listed : {A : Type 0} → Record A → List Entry
 listed r = listed_by r.step r.changes

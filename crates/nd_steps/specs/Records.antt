@@ -20,6 +20,7 @@ named_by x (Flowed flow) = length (told_changes x flow)
 named_by x (Sent p part) = size part + 1
 named_by x (Received from to change) = size change + 1
 
+-- how many keys of maps and ends of queues a record names
 abbrev pub named : {A : Type 0} → Record A → ℕ
 named r = named_by r.step r.changes
 

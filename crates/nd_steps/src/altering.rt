@@ -5,10 +5,9 @@ ghost use Rattle.nd_map.specs.Counts.{natural};
 ghost use Rattle.nd_protocol.specs.Ranges.{IsValue};
 ghost use Rattle.nd_steps.specs.declared.slot.Slot.TheVariants.{Records, Token, State, Sink, Unsent};
 ghost use Rattle.nd_steps.specs.Slots.{from_number};
-ghost use Rattle.nd_steps.specs.Changes.{own, FitsIn, Fits};
+ghost use Rattle.nd_steps.specs.Changes.{FitsIn, Fits};
 ghost use Rattle.nd_steps.specs.Plans.{Each};
-ghost use Rattle.nd_steps.specs.Effect.{lists_of};
-ghost use Rattle.nd_steps.specs.Altering.{only, beside, altered_at, altered_by, number_from};
+ghost use Rattle.nd_steps.specs.Altering.{only, altered_at, altered_of, altered_by, number_from, Appends};
 ghost use Rattle.nd_steps.specs.Altering.{item_row, record_row, request_row, sink_row, token_row, unsent_row};
 
 use crate::making::{epoch_number, item_number, number, number_epoch};
@@ -159,7 +158,7 @@ impl<A: Allocator + Copy> Effect<A> {
         n: i128,
     ) -> Result<(), AllocError>
         requires { FitsIn processor.now slot.now n }
-        ensures { OnOk result (lists_of self.new ≡ beside (lists_of self.old) (altered_at processor.now p slot.now n)) }
+        ensures { OnOk result (Appends self.old self.new (altered_at processor.now p slot.now n)) }
     {
         match slot {
             Slot::Records(key) => self.records.push(record_altered(processor, p, key, n))?,
@@ -181,7 +180,7 @@ impl<A: Allocator + Copy> Effect<A> {
     // Adds what a change makes of the value at its key.
     fn add(&mut self, processors: &[Processor<A>], change: &Change) -> Result<(), AllocError>
         requires { Fits (only processors.now) change.now }
-        ensures { OnOk result (lists_of self.new ≡ beside (lists_of self.old) (altered_at (own processors.now change.now) change.now.p change.now.slot change.now.n)) }
+        ensures { OnOk result (Appends self.old self.new (altered_of processors.now change.now)) }
     {
         let processor = &processors[change.p as usize];
         self.add_at(processor, change.p, &change.slot, change.n)
@@ -194,7 +193,7 @@ impl<A: Allocator + Copy> Effect<A> {
         changes: &[Change],
     ) -> Result<(), AllocError>
         requires { Each (Fits (only processors.now)) changes.now }
-        ensures { OnOk result (lists_of self.new ≡ beside (lists_of self.old) (altered_by processors.now changes.now)) }
+        ensures { OnOk result (Appends self.old self.new (altered_by processors.now changes.now)) }
     {
         for change in changes {
             self.add(processors, change)?;

@@ -1,11 +1,11 @@
 //! What a step changes, as it is found: a place may stand more than once, and in no order.
 ghost use Rattle.std.specs.Prelude.{◌≡◌, ◌≤◌, ◌^◌, ◌++◌, ◌∷◌, ◌-ℤ◌, [], All, FitsSigned, IfOk, OnOk, length};
 ghost use Rattle.std.specs.Int.{w128};
-ghost use Rattle.std.specs.List.Sorted.{IsPermutation, IsSorted};
+ghost use Rattle.std.specs.List.Sorted.{IsPermutation};
 ghost use Rattle.nd_protocol.specs.Steps.{flat, point_at};
 ghost use Rattle.nd_steps.specs.Slots.{from_number};
 ghost use Rattle.nd_steps.specs.Places.{parts, place_cmp};
-ghost use Rattle.nd_steps.specs.Changes.{place_of};
+ghost use Rattle.nd_steps.specs.Changes.{place_of, AreByPlace};
 ghost use Rattle.nd_steps.specs.Drafts.{at_key, ask_changes, HasValues, some_of, both, joined, AreJoined};
 ghost use Rattle.nd_steps.specs.Performers.{Adds, AddsRecords, items_changes, count_changes};
 
@@ -63,7 +63,7 @@ fn by_place(a: &Change, b: &Change) -> Ordering
 // Sorts changes by their places.
 pub(crate) fn sorted<A: Allocator>(changes: Vec<Change, A>) -> Vec<Change, A>
     ensures same { IsPermutation changes.items result.items }
-    ensures order { IsSorted (λ a b. place_cmp (place_of a) (place_of b)) result.items }
+    ensures order { AreByPlace result.items }
 {
     let mut changes = changes;
     changes.sort_unstable_by(|a, b| by_place(a, b));

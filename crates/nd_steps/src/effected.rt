@@ -1,18 +1,17 @@
 //! The effect of a record, whatever it changes.
 ghost use Rattle.std.specs.Prelude.{◌≡◌, ◌<◌, ◌≤◌, IfOk, length, map, unsigned_abs};
-ghost use Rattle.std.specs.List.Sorted.{IsPermutation, IsSorted};
+ghost use Rattle.std.specs.List.Sorted.{IsPermutation};
 ghost use Rattle.nd_time.specs.Limits.{max_count, max_processors};
 ghost use Rattle.nd_delta.specs.Delta.{entries};
 ghost use Rattle.nd_mesh.specs.Mesh.{queue};
 ghost use Rattle.nd_protocol.specs.State.{ClusterState};
 ghost use Rattle.nd_protocol.specs.Exchange.{sent, received};
 ghost use Rattle.nd_protocol.specs.Fitting.{IsState};
-ghost use Rattle.nd_steps.specs.Places.{place_cmp};
 ghost use Rattle.nd_steps.specs.Standing.{changed};
-ghost use Rattle.nd_steps.specs.Changes.{place_of};
+ghost use Rattle.nd_steps.specs.Changes.{AreByPlace};
 ghost use Rattle.nd_steps.specs.Records.{RunsTo, CanSend, CanReceive, Makes};
 ghost use Rattle.nd_steps.specs.Effect.{lists_of, effect_of, altered_count, MakesExactly};
-ghost use Rattle.nd_steps.specs.Altering.{sent_row, longer_row, longer_rows, received_row, shorter_row, RunsExactly};
+ghost use Rattle.nd_steps.specs.Altering.{sent_row, longer_row, longer_rows, received_row, shorter_row, IsEffectTo, RunsExactly};
 
 use crate::draft::sorted;
 use crate::receive::count_after;
@@ -27,7 +26,7 @@ use std::alloc::{AllocError, Allocator};
 // Returns the changes in the order of their places.
 fn in_order<A: Allocator + Copy>(alloc: A, changes: &[Change]) -> Result<Vec<Change, A>, AllocError>
     ensures same { IfOk result (λ v. IsPermutation changes.now v.items) }
-    ensures order { IfOk result (λ v. IsSorted (λ a b. place_cmp (place_of a) (place_of b)) v.items) }
+    ensures order { IfOk result (λ v. AreByPlace v.items) }
 {
     Ok(sorted(copied(alloc, changes)?))
 }
@@ -145,7 +144,7 @@ impl<A: Allocator + Copy> Parts<A> {
     // Returns the effect of changes of the processors.
     fn changes_effect(&self, alloc: A, changes: &[Change]) -> Result<Effect<A>, AllocError>
         requires { (t : ClusterState) × RunsExactly self.now changes.now t }
-        ensures { IfOk result (λ e. (t : ClusterState) → RunsTo self.now changes.now t → lists_of e ≡ effect_of self.now t) }
+        ensures { IfOk result (IsEffectTo self.now (RunsTo self.now changes.now)) }
     {
         let changes = in_order(alloc, changes)?;
         let mut effect = Effect::new(alloc);
@@ -187,7 +186,7 @@ impl<A: Allocator + Copy> Parts<A> {
     fn record_effect(&self, alloc: A, planned: &Record<A>) -> Result<Effect<A>, AllocError>
         requires state { IsState self.now }
         requires makes { (t : ClusterState) × MakesExactly self.now planned.now t }
-        ensures { IfOk result (λ e. (t : ClusterState) → Makes self.now planned.now t → lists_of e ≡ effect_of self.now t) }
+        ensures { IfOk result (IsEffectTo self.now (Makes self.now planned.now)) }
     {
         match &planned.changes {
             Changes::Each(changes) => self.changes_effect(alloc, changes),

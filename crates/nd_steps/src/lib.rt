@@ -38,7 +38,7 @@ pub use laws::free_steps_are_enabled;
 pub use listed::{Entries, Entry};
 pub use onward::take_flow;
 pub use order::planned_changes;
-pub use parts::Parts;
+pub use parts::{Parts, copied_processors, copied_views};
 pub use react::{Taken, notice_changes, take_changes};
 pub use receive::planned_front;
 pub use record::{Changes, Record};

@@ -47,8 +47,8 @@ impl<A: Allocator + Copy> Model for Parts<A> {
     ghost invariant = { λ a. All (IsFor a.paths) a.views.items };
 }
 
-// Copies the processors.
-fn copied_processors<A: Allocator + Copy>(
+/// Returns equal processors.
+pub fn copied_processors<A: Allocator + Copy>(
     alloc: A,
     processors: &[Processor<A>],
 ) -> Result<Vec<Processor<A>, A>, AllocError>
@@ -61,8 +61,8 @@ fn copied_processors<A: Allocator + Copy>(
     Ok(copied)
 }
 
-// Copies the views.
-fn copied_views<A: Allocator + Copy>(
+/// Returns equal views.
+pub fn copied_views<A: Allocator + Copy>(
     alloc: A,
     views: &[View<A>],
 ) -> Result<Vec<View<A>, A>, AllocError>

@@ -1,7 +1,7 @@
--- The limits of the program, which stand here alone (this project's own rule).
+-- The limits of the program. No other file states them (this project's own rule).
 use Rattle.std.specs.Prelude.{ℕ}
 
--- the most loops that may lie within one another, and in a graph of version 1
+-- the greatest depth of nested loops, and that of a graph of version 1
 abbrev pub max_depth : ℕ
 max_depth = 6
 
@@ -12,7 +12,7 @@ max_depth_v1 = 4
 abbrev pub max_locations : ℕ
 max_locations = 64
 
--- the most bytes of a name, and the least and the greatest that it may have, '!' and '~'
+-- the greatest length of a name in bytes, and the least and the greatest byte in it, '!' and '~'
 abbrev pub max_name : ℕ
 max_name = 32
 
@@ -22,14 +22,15 @@ least_of_name = 33
 abbrev pub greatest_of_name : ℕ
 greatest_of_name = 126
 
--- the most processors of a cluster, and in a script of version 1
+-- the most processors of a cluster, and of one in a script of version 1
 abbrev pub max_processors : ℕ
 max_processors = 16
 
 abbrev pub max_processors_v1 : ℕ
 max_processors_v1 = 8
 
--- the greatest count of a record or of a sink, and the greatest absolute value of a change's or a view's entry
+-- the greatest count of a record or of a sink, and the greatest absolute value of an entry of a change
+-- or of a view
 abbrev pub max_count : ℕ
 max_count = 1099511627776
 
@@ -37,11 +38,11 @@ max_count = 1099511627776
 abbrev pub max_counter : ℕ
 max_counter = 4294967295
 
--- the most values of one feed
+-- the most values in one feed
 abbrev pub max_values : ℕ
 max_values = 1024
 
--- the most changes of one queue
+-- the most changes in one queue
 abbrev pub max_queue : ℕ
 max_queue = 65536
 
@@ -61,26 +62,26 @@ max_log = 1000000
 abbrev pub max_clients : ℕ
 max_clients = 64
 
--- the most workers of a search; a greater number starts as many
+-- the most workers of a search; a search that asks for more starts this many
 abbrev pub max_workers : ℕ
 max_workers = 64
 
--- how many positions a piece of a search has
+-- the number of positions in one piece of a search
 abbrev pub piece_length : ℕ
 piece_length = 16
 
--- the most bytes of a line, without its newline
+-- the greatest length of a line in bytes, without its newline
 abbrev pub max_line : ℕ
 max_line = 65536
 
--- the most bytes of a script
+-- the greatest length of a script in bytes
 abbrev pub max_input : ℕ
 max_input = 268435456
 
--- the most changes that are told of a view
+-- the most elements of a list in one reply: changes of a view, candidates, or turns of a condition
 abbrev pub max_told : ℕ
 max_told = 1000
 
--- the most literals of a condition
+-- the most literals in one condition
 abbrev pub max_literals : ℕ
 max_literals = 8

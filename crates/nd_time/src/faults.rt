@@ -1,10 +1,10 @@
-//! What faults are answered by.
+//! The codes of errors.
 ghost use Rattle.std.specs.Prelude.{◌≡◌};
 ghost use Rattle.nd_time.specs.Code.{coded};
 
 use std::marker::Model;
 
-/// The number and the name under which a fault is answered (this project's own rule).
+/// The number and the name by which a reply reports an error (this project's own rule).
 #[derive(Drop)]
 pub struct Code {
     number: u64,
@@ -20,21 +20,21 @@ impl Model for Code {
 }
 
 impl Code {
-    /// The code of this number and this name.
+    /// Returns the code with this number and this name.
     pub fn new(number: u64, name: &'static str) -> Code
         ensures { result ≡ coded number name.now }
     {
         Code { number, name }
     }
 
-    /// The number.
+    /// Returns the number.
     pub fn number(&self) -> u64
         ensures { result ≡ self.now.number }
     {
         self.number
     }
 
-    /// The name.
+    /// Returns the name.
     pub fn name(&self) -> &'static str
         ensures { result.now ≡ self.now.name }
     {

@@ -26,7 +26,8 @@ pub struct CounterFull;
 #[error("out of memory")]
 pub struct NoMemory;
 
-/// An epoch, and the counters of the loops around a location, outermost first (Naiad, SOSP 2013, section 2.1).
+/// An epoch and the counters of the loops around a location, outermost first (Naiad, SOSP 2013,
+/// section 2.1).
 ///
 /// Timestamps are listed by epoch, and then by counters in lexicographic order.
 #[derive(Debug, PartialEq, Eq, PartialOrd, Ord, Drop)]
@@ -46,7 +47,7 @@ impl Model for Timestamp {
 }
 
 impl Timestamp {
-    /// A timestamp, or `None` for more than `MAX_DEPTH` counters.
+    /// Returns a timestamp, or `None` if there are more than `MAX_DEPTH` counters.
     pub fn new(epoch: u32, counters: &[u32]) -> Option<Timestamp>
         ensures fits { IsSome result ↔ (length counters.now ≤ max_depth) }
         ensures value { IfSome result (λ t. t ≡ record { epoch = epoch; counters = counters.now }) }
@@ -55,14 +56,14 @@ impl Timestamp {
         Some(Timestamp { epoch, counters })
     }
 
-    /// The epoch.
+    /// Returns the epoch.
     pub fn epoch(&self) -> u32
         ensures { result ≡ self.now.epoch }
     {
         self.epoch
     }
 
-    /// The loop counters, outermost first.
+    /// Returns the loop counters, outermost first.
     pub fn counters(&self) -> &[u32]
         ensures value { result.now ≡ self.now.counters }
         ensures few { length result.now ≤ max_depth }
@@ -70,7 +71,7 @@ impl Timestamp {
         self.counters.as_slice()
     }
 
-    /// The number of loop counters.
+    /// Returns the number of loop counters.
     pub fn depth(&self) -> usize
         ensures value { result ≡ length self.now.counters }
         ensures small { result ≤ max_depth }
@@ -78,14 +79,14 @@ impl Timestamp {
         self.counters.len()
     }
 
-    /// An equal timestamp.
+    /// Returns an equal timestamp.
     pub fn copy(&self) -> Timestamp
         ensures { result ≡ self.now }
     {
         Timestamp::new(self.epoch, self.counters()).unwrap()
     }
 
-    /// Whether this timestamp is at or before the other. It is not so if their depths differ.
+    /// Returns whether this timestamp is at or before `other`. It is not if their depths differ.
     ///
     /// Epochs compare as numbers and counters lexicographically (this project's own rule).
     pub fn at_or_before(&self, other: &Timestamp) -> bool
@@ -96,10 +97,11 @@ impl Timestamp {
             && self.counters.cmp(&other.counters).is_le()
     }
 
-    /// The timestamp past an ingress vertex, or `None` if there is no room for one more counter.
+    /// Returns the timestamp after an ingress vertex, or `None` if there is no room for another counter.
     pub fn ingress(&self) -> Option<Timestamp>
         ensures room { IsSome result ↔ (length self.now.counters < max_depth) }
-        ensures value { IfSome result (λ t. t ≡ record { epoch = self.now.epoch; counters = ingress_of self.now.counters }) }
+        ensures value { IfSome result (λ t. t
+            ≡ record { epoch = self.now.epoch; counters = ingress_of self.now.counters }) }
     {
         let mut next = self.copy();
         if next.counters.len() == MAX_DEPTH {
@@ -109,21 +111,23 @@ impl Timestamp {
         Some(next)
     }
 
-    /// The timestamp past an egress vertex, or `None` if there is no counter to leave.
+    /// Returns the timestamp after an egress vertex, or `None` if there is no counter to drop.
     pub fn egress(&self) -> Option<Timestamp>
         ensures inside { IsSome result ↔ (0 < length self.now.counters) }
-        ensures value { IfSome result (λ t. t ≡ record { epoch = self.now.epoch; counters = egress_of self.now.counters }) }
+        ensures value { IfSome result (λ t. t
+            ≡ record { epoch = self.now.epoch; counters = egress_of self.now.counters }) }
     {
         let mut next = self.copy();
         next.counters.pop()?;
         Some(next)
     }
 
-    /// The timestamp past a feedback vertex: the innermost counter plus 1.
+    /// Returns the timestamp after a feedback vertex: 1 is added to the innermost counter.
     pub fn feedback(&self) -> Result<Timestamp, CounterFull>
         requires { 0 < length self.now.counters }
         ensures room { IsOk result ↔ (last_of self.now.counters < max_counter) }
-        ensures value { IfOk result (λ t. t ≡ record { epoch = self.now.epoch; counters = feedback_of self.now.counters }) }
+        ensures value { IfOk result (λ t. t
+            ≡ record { epoch = self.now.epoch; counters = feedback_of self.now.counters }) }
     {
         let mut next = self.copy();
         let last = next.counters.pop().unwrap();
@@ -135,8 +139,8 @@ impl Timestamp {
     }
 }
 
-/// Timestamps compare as they are listed: by epoch, and then by counters in lexicographic order. A
-/// function without code, to be called where its clause is needed.
+/// States that timestamps compare as they are listed: by epoch, and then by counters in lexicographic
+/// order. The function has no code; callers use its clause.
 pub fn timestamps_are_listed()
     ensures { (s t : Time) → ⟦<Timestamp as Ord>⟧.cmp s t ≡ time_cmp s t }
 {}

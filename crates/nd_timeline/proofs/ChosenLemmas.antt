@@ -1,4 +1,4 @@
--- A cluster has one step to choose at a turn.
+-- A cluster has at most one step to choose at a turn.
 use Rattle.std.proofs.Common.{◌≡◌, ◌<◌, ◌≤◌, ◌+◌, ◌-◌, ◌%◌, ◌⊎◌, inl, inr, ℕ, length, refl, sym, ap, ◌∙◌, arith, Ordering, Less, Equal, Greater}
 use Rattle.std.proofs.Math.Nat.{mod-eq_of_lt, add-mod_right, mod-lt}
 use Rattle.std.specs.Ordering.{ordering_reverse}
@@ -18,7 +18,7 @@ use Rattle.nd_protocol.specs.declared.part.Part.TheVariants.{All, Points}
 use Rattle.nd_cluster.specs.Choice.{IsCandidate, performer, wait, rank, IsListedBefore, ComesFirst, IsChosen}
 use Rattle.std.proofs.lemmas.Bool.{cases_lt}
 
--- ---- processors that have their turn at once are one
+-- ---- two processors that have the same turn are equal
 
 module _ (n turn : ℕ) where
   whose_wait : (q : ℕ) → q < n → (turn % n + wait n turn q) % n ≡ q
@@ -40,12 +40,12 @@ module _ (n turn : ℕ) where
 below : (n p : ℕ) → (n ≤ p → ⊥) → p < n
 below n p h = omega (arith, h)
 
--- ---- of two that are not one, one comes before the other
+-- ---- of two that differ, one comes before the other
 
 either : (a b : ℕ) → (a < b) ⊎ ((a ≡ b) ⊎ (b < a))
 either a b = grind arith
 
--- they are one, or one of them comes before
+-- they are equal, or one comes before the other
 abbrev IsOrdered : {K : Type 0} → (K → K → Type 0) → K → K → Type 0
 IsOrdered Before a b = (a ≡ b) ⊎ (Before a b ⊎ Before b a)
 
@@ -63,7 +63,7 @@ module _ {A : Type 0} where
   abbrev notice_at : ℕ → Pointstamp → Step A
   notice_at p x = Notice p x.location x.time
 
-  -- steps of one processor and of one rank
+  -- steps of the same processor and the same rank
   listed : (x y : Step A) → IsCandidate x → IsCandidate y → performer x ≡ performer y → rank x ≡ rank y → IsOrdered IsListedBefore x y
   listed (Take p edge t value) (Take q other u w) c d same level =
       elim (of_order value_at_cmp value_at_total value_at_exact (record_key edge t value) (record_key other u w)) [
@@ -87,7 +87,7 @@ module _ {A : Type 0} where
   listed (Feed _ vertex values _) (Feed _ _ _ _) c d same level = absurd c
   listed _ _ c d same level = absurd (omega (arith, level))
 
-  -- steps of one processor
+  -- steps of the same processor
   ranked : (x y : Step A) → IsCandidate x → IsCandidate y → performer x ≡ performer y → IsOrdered ComesFirst x y
   ranked x y c d same = elim (either (rank x) (rank y)) [
     | inl h ↦ inr (inl (inl h))

@@ -1,4 +1,4 @@
--- Copies of kept steps: what holds of the steps holds of them.
+-- Copies of kept steps: what holds of the steps holds of the copies.
 use Rattle.std.proofs.Common.{◌≡◌, ◌<◌, ℕ, zero, suc, ◌+◌, List, [], ◌∷◌, ◌++◌, length, take, get_or, refl, sym, ap, subst, ◌∙◌, arith}
 use Rattle.nd_delta.specs.Delta.{DeltaValue, size}
 use Rattle.nd_protocol.specs.State.{ClusterState}
@@ -17,7 +17,7 @@ use Rattle.nd_timeline.specs.Timeline.{TimelineValue}
 use Rattle.nd_timeline.specs.Reached.{steps_of, ArePlanned, IsReached, IsCopy, AreCopies}
 
 module _ {A : Type 0} where
-  -- equal changes name as many keys
+  -- equal changes name equally many keys
   names : (x : Step A) (cs ds : Changes A) → AreEqual cs ds → named_by x ds ≡ named_by x cs
   names x (Each cs) (Each ds) is = ap length is
   names x (Flowed f) (Flowed h) is = ap (λ (h : Flow). length (told_changes x h)) is
@@ -25,7 +25,7 @@ module _ {A : Type 0} where
   names x (Received from to c) (Received k l d) is = ap (λ (d : DeltaValue). size d + 1) is.2
   names x _ _ is = absurd is
 
-  -- a copy is planned where the record is
+  -- a copy is planned wherever the record is
   pub copy_planned : (s : ClusterState) (r q : Record A) → q.step ≡ r.step → AreEqual r.changes q.changes → (Makes s r (stepped s r.step) → Makes s q (stepped s r.step)) → IsPlanned r s → IsPlanned q s
   copy_planned s r q step equal makes h =
       let same : r.step ≡ q.step = sym step in
@@ -72,7 +72,7 @@ module _ {A : Type 0} where
       let steps : steps_of qs ≡ steps_of rs = same_steps rs qs copies in
       rw (same, steps) is
 
-  -- one more is copied
+  -- one more record is copied
   pub copied_next : (i : ℕ) (rs qs : List (Record A)) (d q : Record A) → i < length rs → AreCopies (take i rs) qs → IsCopy (get_or rs i d) q → AreCopies (take (suc i) rs) (qs ++ q ∷ [])
   copied_next i [] qs d q lt is copy = absurd (omega arith)
   copied_next zero (r ∷ rs) [] d q lt is copy = (copy, tt)

@@ -1,4 +1,4 @@
--- Kept steps: one more at the end, the front of them, and the step at a position.
+-- Kept steps: one more at the end, a prefix of them, and the step at a position.
 use Rattle.std.proofs.Common.{◌≡◌, ◌<◌, ◌≤◌, ℕ, zero, suc, ◌+◌, List, [], ◌∷◌, ◌++◌, length, take, get_or, refl, sym, ap, subst, ◌∙◌, arith, add-one, length-append}
 use Rattle.std.proofs.lemmas.List.{length-map, length-take-le, map-append, take-map, take_all}
 use Rattle.nd_time.specs.Limits.{max_kept}
@@ -47,26 +47,26 @@ module _ {A : Type 0} where
   planned-at s (r ∷ rs) zero d lt h = h.0
   planned-at s (r ∷ rs) (suc i) d lt h = planned-at (stepped s r.step) rs i d (omega arith) h.1
 
-  -- one kept step more
+  -- one more kept step
   pub after-take : (s : ClusterState) (rs : List (Record A)) (i : ℕ) (d : Record A) → i < length rs → after s (take (suc i) (steps_of rs)) ≡ stepped (after s (take i (steps_of rs))) (get_or rs i d).step
   unfolding after
   after-take s [] i d lt = absurd (omega arith)
   after-take s (r ∷ rs) zero d lt = refl
   after-take s (r ∷ rs) (suc i) d lt = after-take (stepped s r.step) rs i d (omega arith)
 
-  -- steps that were made keep the protocol invariant
+  -- planned steps keep the protocol invariant
   pub protocol-after : StepKeepsProtocol A → (s : ClusterState) (n : ℕ) (rs : List (Record A)) → KeepsProtocol s → ArePlanned s rs → KeepsProtocol (after s (take n (steps_of rs)))
   unfolding after
   protocol-after law s zero rs was h = was
   protocol-after law s (suc n) [] was h = was
   protocol-after law s (suc n) (r ∷ rs) was h = protocol-after law (stepped s r.step) n rs (law s r.step h.0.state h.0.enabled was) h.1
 
-  -- steps that were made are enabled in their turn
+  -- planned steps are enabled where the steps before them lead
   pub enabled-steps : (s : ClusterState) (rs : List (Record A)) → ArePlanned s rs → AreEnabled s (steps_of rs)
   enabled-steps s [] h = tt
   enabled-steps s (r ∷ rs) h = (h.0.enabled, enabled-steps (stepped s r.step) rs h.1)
 
-  -- ---- what the calls of a timeline keep
+  -- ---- what the calls of a timeline preserve
 
   pub still_kept : StepKeepsProtocol A → (base cluster : ClusterState) (rs : List (Record A)) (n : ℕ) → IsReached base cluster rs n → KeepsProtocol base → KeepsProtocol cluster
   still_kept law base cluster rs n was protocol = subst KeepsProtocol (sym was.reached) (protocol-after law base n rs protocol was.planned)
@@ -80,7 +80,7 @@ module _ {A : Type 0} where
   unfolding after
   begun s rs is b same = rw is (record { within = omega arith; few = omega arith; reached = sym same; planned = tt })
 
-  -- a step that is made at the cursor
+  -- a step is executed at the cursor
   pub extends : (base cluster next : ClusterState) (rs : List (Record A)) (n : ℕ) (r : Record A) → IsReached base cluster rs n → n < max_kept → IsPlanned r cluster → next ≡ stepped cluster r.step
       → IsReached base next (take n rs ++ r ∷ []) (n + 1)
   extends base cluster next rs n r was room made leads =
@@ -97,11 +97,11 @@ module _ {A : Type 0} where
         planned = planned-push base front r (planned-take base n rs was.planned) (subst (λ (s : ClusterState). IsPlanned r s) at_cursor made);
       }
 
-  -- the cluster is the one that the timeline is seen to have
+  -- the cluster is that of the timeline's value
   pub seen : (base cluster : ClusterState) (rs : List (Record A)) (n : ℕ) (m : TimelineValue A) → IsReached base cluster rs n → record { base = base; kept = steps_of rs; cursor = n } ≡ m → cluster ≡ cluster_of m
   seen base cluster rs n m was is = was.reached ∙ ap cluster_of is
 
-  -- a kept step leads from where those before it have led
+  -- the record of a kept step leads from its position to the next
   pub kept_at : (base : ClusterState) (rs : List (Record A)) (i : ℕ) (d : Record A) → i < length rs → ArePlanned base rs
       → Leads (get_or rs i d) (after base (take i (steps_of rs))) (after base (take (i + 1) (steps_of rs)))
   kept_at base rs i d lt planned =
@@ -109,7 +109,7 @@ module _ {A : Type 0} where
 
   -- ---- walks
 
-  -- a walk on a timeline stands where what the timeline keeps leads
+  -- the cluster of a walk on a timeline is the one that the kept steps lead to
   pub walk_reached : (k : Kept A) (cluster : ClusterState) (n : ℕ) (m : TimelineValue A) (w : Walk A) → IsReached k.base cluster k.steps.items n → timeline_at k n ≡ m → IsOn m w
       → IsReached k.base w.cluster k.steps.items w.at
   walk_reached k cluster n m w was is on =
@@ -120,7 +120,7 @@ module _ {A : Type 0} where
   walk_is_on k n m w is was =
       subst (λ (m : TimelineValue A). IsOn m w) is (record { within = omega (arith, was.within, length-map k.steps.items (λ r. r.step)); cluster = was.reached })
 
-  -- a timeline whose cursor stands where a walk has gone has jumped there
+  -- a timeline that takes the cluster of a walk has jumped to the walk's position
   pub landed_moves : (k : Kept A) (at n : ℕ) (m : TimelineValue A) (w : Walk A) → timeline_at k at ≡ m → IsOn m w → w.at ≡ n
       → JumpMoves m n (Moved w.at (length (steps_of k.steps.items))) (timeline_at k w.at)
   landed_moves k at n m w is on there =
@@ -129,12 +129,12 @@ module _ {A : Type 0} where
       let new : TimelineValue A = timeline_at k w.at in
       subst (λ (m : TimelineValue A). JumpMoves m n (Moved w.at (length (steps_of k.steps.items))) new) is (within, there, refl, ap (timeline_at k) there)
 
-  -- a walk that begins at a checkpoint of a timeline stands on it
+  -- a walk that begins at a checkpoint is on the timeline
   pub begins_on : (k : Kept A) (n : ℕ) (m : TimelineValue A) (w : Walk A) → timeline_at k n ≡ m → w.at ≤ length k.steps.items → w.cluster ≡ after k.base (take w.at (steps_of k.steps.items)) → IsOn m w
   begins_on k n m w is within cluster =
       subst (λ (m : TimelineValue A). IsOn m w) is (record { within = omega (arith, within, length-map k.steps.items (λ r. r.step)); cluster = cluster })
 
-  -- no kept step has been made at the start
+  -- the cluster at position 0 is the base
   pub at_start : (m : TimelineValue A) → cluster_of (moved_to m 0) ≡ m.base
   unfolding after
   at_start m = refl

@@ -1,4 +1,4 @@
--- What every move of the debugger machine keeps.
+-- What every move of the debugger machine preserves.
 use Rattle.std.proofs.Common.{◌≡◌, ◌<◌, ◌≤◌, ℕ, zero, suc, ◌+◌, List, [], ◌∷◌, ◌++◌, length, take, inl, inr, sym, ap, subst, ◌∙◌, arith, length-append}
 use Rattle.std.proofs.lemmas.List.{length-take-le}
 use Rattle.nd_time.specs.Limits.{max_kept}
@@ -17,7 +17,7 @@ use Rattle.nd_timeline.specs.declared.reply.Stop.TheVariants as stop
 use Rattle.nd_timeline.specs.declared.reply.Reply.{Reply}
 use Rattle.nd_timeline.specs.declared.reply.Reply.TheVariants as reply
 
--- ---- steps that are enabled, each in its turn
+-- ---- steps that are enabled where those before them lead
 
 module _ {A : Type 0} where
   enabled_take : (s : ClusterState) (n : ℕ) (xs : List (Step A)) → AreEnabled s xs → AreEnabled s (take n xs)

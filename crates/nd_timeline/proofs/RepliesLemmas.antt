@@ -1,4 +1,4 @@
--- The reply to a command tells the machine after it.
+-- A machine, a command and its reply determine the machine after the command.
 use Rattle.std.proofs.Common.{◌≡◌, ℕ, zero, suc, sym, ap, subst, ◌∙◌, arith}
 use Rattle.nd_protocol.specs.declared.step.Step.{Step}
 use Rattle.nd_breaks.specs.Breaks.{BreakMap}
@@ -15,7 +15,7 @@ use Rattle.nd_timeline.specs.declared.reply.Reply.TheVariants as reply
 use Rattle.nd_timeline.proofs.ChosenLemmas.{one_choice}
 
 module _ {A : Type 0} where
-  -- ---- the timeline, but for a run
+  -- ---- the timeline, without runs
 
   one_forward : (m new other : TimelineValue A) (x : Step A) (r : Reply) → ForwardMoves m x r new → ForwardMoves m x r other → new ≡ other
   one_forward m new other x (reply.Refused fault.TimelineFull) h k = h.1 ∙ sym k.1
@@ -55,7 +55,7 @@ module _ {A : Type 0} where
   one_run breaks (suc n) m new other h k =
       one_step h.mid k.mid new other h.step k.step (one_run breaks n m h.mid k.mid h.earlier k.earlier) h.last k.last
 
-  -- runs that have made as many steps
+  -- runs of equally many steps
   one_run_of : (breaks : BreakMap) (n c : ℕ) (m new other : TimelineValue A) → n ≡ c → HasRun breaks n m new → HasRun breaks c m other → new ≡ other
   one_run_of breaks n c m new other same h k = one_run breaks n m new other h (subst (λ n. HasRun breaks n m other) (sym same) k)
 

@@ -12,7 +12,7 @@ module _ {A : Type 0} (breaks : BreakMap) where
   unfolding HasRun
   not_run m = refl
 
-  -- one step more, at which it did not stop
+  -- one more step, after which the run did not stop
   pub run_on : (n : ℕ) (m mid new : TimelineValue A) (x : Step A) → HasRun breaks n m mid → Goes mid x new → NoHit breaks (cluster_of new) → HasRun breaks (n + 1) m new
   unfolding HasRun
   run_on n m mid new x earlier last no_hit = subst (λ k. HasRun breaks k m new) (sym (add-one n)) (record { mid = mid; step = x; earlier = earlier; last = last; no_hit = no_hit })

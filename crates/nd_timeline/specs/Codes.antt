@@ -60,9 +60,9 @@ module _ {A : Type 0} where
       (coded⊎ (coded⊎ step_code (coded⊎ coded_unit coded_unit)) (coded⊎ (coded⊎ coded_ℕ coded_ℕ) (coded⊎ condition_code coded_ℕ)))
       command_parts command_of command_back
 
--- ---- refusals, by their numbers
+-- ---- refusals as numbers
 
--- the refusal of a number, but for those that name a pointstamp
+-- the refusals by number, without those that name a pointstamp
 abbrev pub plain : List Refusal
 plain =
     refusal.Memory ∷ refusal.NoProcessor ∷ refusal.NoVertex ∷ refusal.NoEdge ∷ refusal.NotInput ∷ refusal.InputClosed ∷ refusal.TooManyValues ∷ refusal.EpochFull
@@ -108,7 +108,7 @@ refusal_code = code_by RefusalParts (coded⊎ coded_ℕ (coded⊎ point_code poi
 
 -- ---- replies
 
--- the fault of a number, but for those that say more
+-- the faults by number, without those that have fields
 abbrev pub plain_faults : List Fault
 plain_faults = fault.AtStart ∷ fault.AtEnd ∷ fault.NoSuchPoint ∷ fault.TimelineFull ∷ fault.TooManyBreaks ∷ fault.NoBreak ∷ []
 

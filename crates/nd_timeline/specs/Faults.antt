@@ -1,4 +1,4 @@
--- The number and the name under which each fault of a command is answered (this project's own rule).
+-- The number and the name that a reply gives each fault of a command (this project's own rule).
 use Rattle.std.specs.Prelude.{codes}
 use Rattle.nd_time.specs.Code.{Code, coded}
 use Rattle.nd_protocol.specs.Refusals as refusals
@@ -6,6 +6,7 @@ use Rattle.nd_protocol.specs.declared.refusal.Refusal.TheVariants as refusal
 use Rattle.nd_timeline.specs.declared.fault.Fault.{Fault}
 use Rattle.nd_timeline.specs.declared.fault.Fault.TheVariants.{Step, Memory, AtStart, AtEnd, NoSuchPoint, TimelineFull, TooManyBreaks, NoBreak}
 
+-- the number and the name with which a command is refused
 abbrev pub code_of : Fault → Code
 code_of (Step r) = refusals.code_of r
 code_of (Memory at) = refusals.code_of refusal.Memory

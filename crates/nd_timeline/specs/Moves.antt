@@ -1,5 +1,5 @@
--- The debugger machine: which reply a command may be answered, and what comes of it (this project's own rule).
--- Each relation is by the cases of the reply. A case that stands nowhere is no reply to that command.
+-- The debugger machine: which replies a command may get, and the machine after it (this project's own rule).
+-- Each relation goes by the cases of the reply. A reply without a case of its own is impossible for that command.
 use Rattle.std.specs.Prelude.{◌≡◌, ◌≢◌, ℕ, zero, suc, ◌+◌, ◌-◌, ◌<◌, ◌≤◌, ◌⊎◌, length, None, Result, Ok, Err}
 use Rattle.std.specs.FinMap as fin
 use Rattle.nd_time.specs.Limits.{max_kept}
@@ -19,24 +19,24 @@ use Rattle.nd_timeline.specs.declared.reply.Reply.TheVariants.{Moved, Ran, Set, 
 use Rattle.nd_timeline.specs.declared.command.Command.{Command}
 use Rattle.nd_timeline.specs.declared.command.Command.TheVariants as command
 
--- a timeline, and the breakpoints by their ids
+-- a timeline, and the breakpoints by id
 pub record MachineValue (A : Type 0) : Type 0 where
   pub timeline : TimelineValue A
   pub breaks : BreakMap
 
--- a machine on which no breakpoint is set
+-- a machine without breakpoints
 abbrev pub without_breaks : {A : Type 0} → TimelineValue A → MachineValue A
 without_breaks m = record { timeline = m; breaks = fin.empty }
 
 -- ---- a step forward
 
--- what a step is refused for, the timeline having room
+-- why a step fails on a timeline that is not full
 abbrev pub StepFails : {A : Type 0} → TimelineValue A → Step A → Fault → Type 0
 StepFails m x (of_step r) = IsRefused (cluster_of m) x r
 StepFails m x (Memory at) = MayWantMemory (cluster_of m) x × (at ≡ m.cursor)
 StepFails m x _ = ⊥
 
--- the step is made and kept, in the place of all that was kept behind the cursor
+-- the step is executed, and kept in place of all steps after the cursor
 abbrev pub ForwardMoves : {A : Type 0} → TimelineValue A → Step A → Reply → TimelineValue A → Type 0
 ForwardMoves m x (Refused TimelineFull) new = (max_kept ≤ m.cursor) × (new ≡ m)
 ForwardMoves m x (Refused (of_step r)) new = (m.cursor < max_kept) × IsRefused (cluster_of m) x r × (new ≡ m)
@@ -45,24 +45,27 @@ ForwardMoves m x (Moved at kept) new =
     (m.cursor < max_kept) × IsEnabled (cluster_of m) x × (at ≡ m.cursor + 1) × (kept ≡ m.cursor + 1) × (new ≡ extended m x)
 ForwardMoves m x _ new = ⊥
 
--- ---- the cursor moves, and the steps stay
+-- ---- the cursor moves, and the kept steps stay
 
+-- which replies `back` may get, and the timeline after each
 abbrev pub BackMoves : {A : Type 0} → TimelineValue A → Reply → TimelineValue A → Type 0
 BackMoves m (Refused AtStart) new = (m.cursor ≡ 0) × (new ≡ m)
 BackMoves m (Refused (Memory at)) new = (0 < m.cursor) × (at ≡ m.cursor) × (new ≡ m)
 BackMoves m (Moved at kept) new = (0 < m.cursor) × (at ≡ m.cursor - 1) × (kept ≡ length m.kept) × (new ≡ moved_to m (m.cursor - 1))
 BackMoves m _ new = ⊥
 
+-- which replies `redo` may get, and the timeline after each
 abbrev pub RedoMoves : {A : Type 0} → TimelineValue A → Reply → TimelineValue A → Type 0
 RedoMoves m (Refused AtEnd) new = (length m.kept ≤ m.cursor) × (new ≡ m)
 RedoMoves m (Refused (Memory at)) new = (m.cursor < length m.kept) × (at ≡ m.cursor) × (new ≡ m)
 RedoMoves m (Moved at kept) new = (m.cursor < length m.kept) × (at ≡ m.cursor + 1) × (kept ≡ length m.kept) × (new ≡ moved_to m (m.cursor + 1))
 RedoMoves m _ new = ⊥
 
--- from one position on the way to another, which is left out
+-- on the way from one position to another; the last position does not count
 abbrev pub IsOnTheWay : ℕ → ℕ → ℕ → Type 0
 IsOnTheWay from to at = ((from ≤ at) × (at < to)) ⊎ ((to < at) × (at ≤ from))
 
+-- which replies `jump` to position n may get, and the timeline after each
 abbrev pub JumpMoves : {A : Type 0} → TimelineValue A → ℕ → Reply → TimelineValue A → Type 0
 JumpMoves m n (Refused NoSuchPoint) new = (length m.kept < n) × (new ≡ m)
 JumpMoves m n (Refused (Memory at)) new = (n ≤ length m.kept) × IsOnTheWay m.cursor n at × (new ≡ moved_to m at)
@@ -71,12 +74,12 @@ JumpMoves m n _ new = ⊥
 
 -- ---- a run
 
--- a run may go on by this step, the first that is enabled
+-- a run may continue with this step, the first enabled one
 pub record Goes {A : Type 0} (m : TimelineValue A) (x : Step A) (new : TimelineValue A) : Type 0 where
   pub chosen : IsChosen (cluster_of m) m.cursor x
   pub made : new ≡ extended m x
 
--- it has made so many steps of its own, at none of which it stopped
+-- the run has executed this many steps, and no breakpoint held after any of them
 unfoldable pub HasRun : {A : Type 0} → BreakMap → ℕ → TimelineValue A → TimelineValue A → Type 0
 HasRun breaks zero m new = new ≡ m
 HasRun breaks (suc n) m new = record {
@@ -87,7 +90,7 @@ HasRun breaks (suc n) m new = record {
   no_hit : NoHit breaks (cluster_of new);
 }
 
--- what a run stops at, after so many steps of its own
+-- why a run stops after `ran` steps
 abbrev pub StopsAt : {A : Type 0} → BreakMap → ℕ → TimelineValue A → ℕ → Stop → TimelineValue A → Type 0
 StopsAt breaks limit m ran stop.Limit new = (ran ≡ limit) × HasRun breaks ran m new
 StopsAt {A} breaks limit m ran stop.Idle new = (ran < limit) × HasRun breaks ran m new × IsIdle A (cluster_of new)
@@ -102,11 +105,11 @@ StopsAt {A} breaks limit m ran (stop.Break id) new = record {
   hit : FirstHit breaks (cluster_of new) id;
 }
 
--- the reply tells the cursor and the length
+-- the reply has the cursor and the number of kept steps
 abbrev pub Tells : {A : Type 0} → TimelineValue A → ℕ → ℕ → Type 0
 Tells new at kept = (at ≡ new.cursor) × (kept ≡ length new.kept)
 
--- running out of memory leaves the steps that were made
+-- out of memory, the steps executed so far stay
 abbrev pub RunMoves : {A : Type 0} → TimelineValue A → ℕ → BreakMap → Reply → TimelineValue A → Type 0
 RunMoves m limit breaks (Refused TimelineFull) new = (max_kept < m.cursor + limit) × (new ≡ m)
 RunMoves m limit breaks (Refused (Memory at)) new =
@@ -129,7 +132,7 @@ ClearMoves m id _ new = ⊥
 
 -- ---- the machine
 
--- what a command may be answered by a machine, and the machine after it
+-- which replies a command may get, and the machine after it
 abbrev pub Moves : {A : Type 0} → MachineValue A → Command A → Reply → MachineValue A → Type 0
 Moves m (command.Forward x) reply new = ForwardMoves m.timeline x reply new.timeline × (new.breaks ≡ m.breaks)
 Moves m command.Back reply new = BackMoves m.timeline reply new.timeline × (new.breaks ≡ m.breaks)
@@ -141,7 +144,7 @@ Moves m (command.ClearBreak id) reply new = ClearMoves m.breaks id reply new.bre
 
 -- ---- the replies of a timeline's calls
 
--- the reply to a call that moves the cursor
+-- the reply to a command that moves the cursor
 abbrev pub moved_reply : {A : Type 0} → Result (Unit {0}) Fault → TimelineValue A → Reply
 moved_reply (Ok _) new = Moved new.cursor (length new.kept)
 moved_reply (Err e) new = Refused e

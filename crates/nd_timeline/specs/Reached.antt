@@ -1,4 +1,5 @@
--- How a timeline keeps what it is seen as. For its invariant alone.
+-- How a timeline represents its value. Only its invariant and private contracts use these definitions, apart
+-- from the codes.
 use Rattle.std.specs.Prelude.{◌≡◌, ℕ, ◌≤◌, List, [], ◌∷◌, map, length, take, refl}
 use Rattle.std.specs.Coded.{Coded, code_by, coded×, coded_ℕ, coded_list}
 use Rattle.std.specs.FinMap as fin
@@ -25,18 +26,19 @@ machine_code A =
     code_by _ (coded× (timeline_code A) (fin.code coded_ℕ condition_code))
     (λ m. (m.timeline, m.breaks)) (λ t. record { timeline = t.0; breaks = t.1 }) (λ _. refl)
 
--- ---- what holds of a timeline
+-- ---- the invariant of a timeline
 
--- the steps of the records that are kept
+-- the steps of the kept records
 abbrev pub steps_of : {A : Type 0} → List (Record A) → List (Step A)
 steps_of records = map (λ r. r.step) records
 
--- each was planned where those before it lead
+-- each record was planned in the state that the records before it lead to
 abbrev pub ArePlanned : {A : Type 0} → ClusterState → List (Record A) → Type 0
 ArePlanned s [] = Unit {0}
 ArePlanned s (r ∷ rs) = IsPlanned r s × ArePlanned (stepped s r.step) rs
 
--- the cluster was reached from the base by the steps up to the cursor, and each leads on from where those before it lead
+-- the steps up to the cursor lead from the base to the cluster, and each record was planned where those before
+-- it lead
 pub record IsReached {A : Type 0} (base cluster : ClusterState) (steps : List (Record A)) (cursor : ℕ) : Type 0 where
   pub within : cursor ≤ length steps
   pub few : length steps ≤ max_kept
@@ -45,7 +47,7 @@ pub record IsReached {A : Type 0} (base cluster : ClusterState) (steps : List (R
 
 -- ---- copies
 
--- a record of the same step, which is planned where the other is
+-- a record of the same step that is planned wherever the other is
 pub record IsCopy {A : Type 0} (r q : Record A) : Type 0 where
   pub step : q.step ≡ r.step
   pub planned : (s : ClusterState) → IsPlanned r s → IsPlanned q s

@@ -12,28 +12,28 @@ use Rattle.nd_timeline.specs.declared.fault.Fault.{Fault}
 use Rattle.nd_timeline.specs.declared.walk.Kept.{Kept}
 use Rattle.nd_timeline.specs.declared.walk.Walk.{Walk}
 
--- what is kept, with the cursor at a position
+-- the timeline with these kept steps and the cursor at position n
 abbrev pub timeline_at : {A : Type 0} → Kept A → ℕ → TimelineValue A
 timeline_at k n = record { base = k.base; kept = steps_of k.steps.items; cursor = n }
 
--- the walk stands at a position of the timeline, with the cluster that the kept steps up to there make
+-- the walk is at a position of the timeline, and has the cluster at that position
 pub record IsOn {A : Type 0} (m : TimelineValue A) (w : Walk A) : Type 0 where
   pub within : w.at ≤ length m.kept
   pub cluster : w.cluster ≡ cluster_of (moved_to m w.at)
 
--- neither the start nor the cursor is nearer to a position than where the walk begins
+-- neither the base nor the cursor is nearer to position n than where the walk begins
 pub record BeginsNear {A : Type 0} (m : TimelineValue A) (n : ℕ) (w : Walk A) : Type 0 where
   pub start : abs_diff w.at n ≤ n
   pub cursor : abs_diff w.at n ≤ abs_diff m.cursor n
 
--- a walk goes from a position of a timeline to another as a jump would
+-- a walk goes from one position of a timeline to another as a jump moves the cursor
 abbrev pub WalksTo : {A : Type 0} → TimelineValue A → ℕ → ℕ → Result (Unit {0}) Fault → ℕ → Type 0
 WalksTo m from n result to = JumpMoves (moved_to m from) n (moved_reply result (moved_to m to)) (moved_to m to)
 
--- the cluster that the kept steps up to a position make
+-- the cluster at a position
 abbrev pub cluster_at : {A : Type 0} → Kept A → ℕ → ClusterState
 cluster_at k i = after k.base (take i (steps_of k.steps.items))
 
--- a record leads on from the position of a kept step
+-- a record leads from position i to the next
 abbrev pub LeadsFrom : {A : Type 0} → Kept A → ℕ → Record A → Type 0
 LeadsFrom k i r = Leads r (cluster_at k i) (cluster_at k (i + 1))

@@ -1,4 +1,4 @@
-//! Checkpoints: what is saved of a timeline's cluster at some positions, so that a walk begins near each position.
+//! Checkpoints: saved states of a timeline's cluster, so that a walk to any position can begin near it.
 ghost use Rattle.std.specs.Prelude.{◌≡◌, ◌∷◌, ◌++◌, ◌<◌, ◌≤◌, [], Contains, IfOk, IfSome, IsNone, length, take, vec_len, vec_capacity};
 ghost use Rattle.nd_timeline.specs.Reached.{IsReached};
 ghost use Rattle.nd_timeline.specs.Walks.{cluster_at};
@@ -9,13 +9,14 @@ use crate::walk::Kept;
 use nd_cluster::{Cluster, Record, Saved};
 use std::alloc::{AllocError, Allocator};
 
-/// The fewest steps from one checkpoint to the next. A jump over no more goes from the cursor.
+/// The minimum number of steps between two checkpoints. A jump over at most this many steps begins at
+/// the cursor.
 pub(crate) const SPACING: u64 = 1024;
 
-/// From one checkpoint to the next there are at least as many steps for each entry of the state.
+/// The minimum number of steps between two checkpoints per entry of the later one's state.
 const STEPS_PER_ENTRY: u64 = 4;
 
-/// What is saved of a timeline's cluster at a position.
+/// The saved state of a timeline's cluster at a position.
 #[derive(Drop)]
 pub(crate) struct Checkpoint<A: Allocator + Copy> {
     pub(crate) at: u64,
@@ -31,7 +32,7 @@ pub(crate) enum Start<'a, A: Allocator + Copy> {
 }
 
 impl<A: Allocator + Copy> Kept<A> {
-    // How far a checkpoint is from a position.
+    // Returns the distance of checkpoint `i` from position `n`.
     fn gap(&self, i: usize, n: u64) -> u64
         requires { i < length self.now.checkpoints.items }
         ensures { IsGap self.now.checkpoints.items i n result }
@@ -39,7 +40,7 @@ impl<A: Allocator + Copy> Kept<A> {
         self.checkpoints[i].at.abs_diff(n)
     }
 
-    // The checkpoint that is nearest to a position.
+    // Returns the checkpoint that is nearest to position `n`, `None` if there are no checkpoints.
     fn nearest(&self, n: u64) -> Option<&Checkpoint<A>>
         ensures among { IfSome result (λ c. Contains self.now.checkpoints.items c.now) }
         ensures near { IfSome result (λ c. IsNoFarther self.now.checkpoints.items c.now.at n) }
@@ -54,7 +55,8 @@ impl<A: Allocator + Copy> Kept<A> {
         self.checkpoints.get(best)
     }
 
-    /// The nearest to a position of the base, a cursor and the checkpoints; of the nearest the cursor, and else the base.
+    /// Returns which of the base, the cursor and the checkpoints is nearest to position `n`. The cursor
+    /// wins a tie, then the base.
     pub(crate) fn start_near(&self, cursor: u64, n: u64) -> Start<'_, A>
         ensures among { IsAmong self.now.checkpoints.items result }
         ensures near { IsNearest self.now.checkpoints.items cursor n result }
@@ -69,7 +71,7 @@ impl<A: Allocator + Copy> Kept<A> {
         }
     }
 
-    /// The cluster of a checkpoint.
+    /// Returns the cluster that was saved in a checkpoint.
     pub(crate) fn restored(
         &self,
         alloc: A,
@@ -81,7 +83,7 @@ impl<A: Allocator + Copy> Kept<A> {
         self.base.restored(alloc, &checkpoint.saved)
     }
 
-    // The position of the last checkpoint, 0 if there is none.
+    // Returns the position of the last checkpoint, 0 if there are no checkpoints.
     fn last_checkpoint(&self) -> u64
         ensures { IsLast self.now.checkpoints.items result }
     {
@@ -91,7 +93,7 @@ impl<A: Allocator + Copy> Kept<A> {
         }
     }
 
-    // The position before which no checkpoint is due once the steps past another are gone.
+    // Returns the position before which no checkpoint is due after a cut at position `at`.
     fn due_behind(&self, at: u64) -> u64 {
         if at < self.steps.len() as u64 {
             self.due.min(at.saturating_add(SPACING))
@@ -100,7 +102,7 @@ impl<A: Allocator + Copy> Kept<A> {
         }
     }
 
-    // Lets the steps past a position go, and the checkpoints past it.
+    // Drops the steps and the checkpoints after position `at`.
     fn cut(&mut self, at: u64)
         requires within { at ≤ length self.old.steps.items }
         requires checkpoints { AreKept self.old }
@@ -120,7 +122,8 @@ impl<A: Allocator + Copy> Kept<A> {
         self.due = due;
     }
 
-    /// Keeps a step at a position, in the place of all that was kept behind it. There is room for it.
+    /// Keeps a step at position `at`, and drops all steps and checkpoints after that position. The
+    /// caller has reserved the memory.
     pub(crate) fn keep(&mut self, at: u64, planned: Record<A>)
         requires room { vec_len self.old.steps < vec_capacity self.old.steps }
         requires within { at ≤ length self.old.steps.items }
@@ -133,10 +136,10 @@ impl<A: Allocator + Copy> Kept<A> {
         self.steps.push_reserved(planned);
     }
 
-    // Saves the cluster of a walk that has made all kept steps, if there are enough steps since the last checkpoint for the
-    // entries that it has. If memory is refused, there is no checkpoint.
+    // Saves the cluster of a walk that is at the last position, if the steps since the last checkpoint
+    // are enough for the entries of the cluster. If an allocation fails, no checkpoint is added.
     //
-    // If there are too few steps, the entries are counted again after as many more.
+    // If the steps are too few, the entries are counted again after as many further steps.
     fn save(&mut self, walk: &Walk<A>)
         requires on { IsReached self.old.base walk.now.cluster self.old.steps.items walk.now.at }
         requires last { walk.now.at ≡ length self.old.steps.items }
@@ -145,7 +148,8 @@ impl<A: Allocator + Copy> Kept<A> {
         ensures steps { self.new.steps.items ≡ self.old.steps.items }
         ensures checkpoints { AreKept self.new }
     {
-        let since = walk.at.saturating_sub(self.last_checkpoint());
+        let last = self.last_checkpoint();
+        let since = walk.at.saturating_sub(last);
         if since < SPACING || !walk.cluster.has_at_most(since / STEPS_PER_ENTRY) {
             self.due = walk.at.saturating_add(since.max(SPACING));
             return;
@@ -162,7 +166,7 @@ impl<A: Allocator + Copy> Kept<A> {
             .push_reserved(Checkpoint { at: walk.at, saved });
     }
 
-    /// Saves the cluster of a walk that has made all kept steps, if a checkpoint is due there.
+    /// Saves the cluster of a walk that is at the last position, if a checkpoint is due there.
     pub(crate) fn save_if_due(&mut self, walk: &Walk<A>)
         requires on { IsReached self.old.base walk.now.cluster self.old.steps.items walk.now.at }
         requires last { walk.now.at ≡ length self.old.steps.items }

@@ -1,31 +1,31 @@
-//! What the machine is asked for.
+//! Commands to the debugger machine.
 ghost use Rattle.std.specs.Prelude.{◌≡◌, ◌≢◌, IfOk, MatchBool};
 
 use nd_breaks::BoxedCondition;
 use nd_protocol::Step;
 use std::alloc::{AllocError, Allocator, Global};
 
-/// What the machine is asked for.
+/// A command to the debugger machine.
 #[derive(Drop)]
 pub enum Command<A: Allocator = Global> {
-    /// Makes a step, and keeps it in the place of all that was kept behind the cursor.
+    /// Executes a step, and keeps it in place of all steps after the cursor.
     Forward(Step<A>),
-    /// Undoes the step before the cursor, and keeps it.
+    /// Undoes the step before the cursor. The step is still kept.
     Back,
-    /// Makes the step behind the cursor again.
+    /// Executes the kept step after the cursor again.
     Redo,
-    /// Goes to a position.
+    /// Moves the cursor to a position.
     Jump(u64),
-    /// Makes at most so many steps, each the first that is enabled, until a breakpoint holds.
+    /// Executes at most this many steps, each time the first enabled one, until a breakpoint holds.
     Run(u64),
     /// Sets the condition as a breakpoint.
     SetBreak(BoxedCondition<A>),
-    /// Takes the breakpoint of this id out.
+    /// Clears the breakpoint with this id.
     ClearBreak(u64),
 }
 
 impl<A: Allocator> Command<A> {
-    /// An equal command.
+    /// Returns an equal command.
     pub fn copy(&self, alloc: A) -> Result<Command<A>, AllocError>
         ensures { IfOk result (λ c. c ≡ self.now) }
     {
@@ -40,7 +40,7 @@ impl<A: Allocator> Command<A> {
         }
     }
 
-    /// Whether both are one command.
+    /// Returns whether the two commands are equal.
     pub fn same(&self, other: &Command<A>) -> bool
         ensures { MatchBool result (self.now ≡ other.now) (self.now ≢ other.now) }
     {

@@ -8,26 +8,26 @@ use nd_time::Code;
 /// Why a command is refused (this project's own rule).
 #[derive(Debug, Drop, PartialEq, Eq)]
 pub enum Fault {
-    /// The cluster refused the step.
+    /// The cluster refuses the step.
     Step(Refusal),
-    /// A growth was refused. The cursor stands here.
+    /// An allocation failed. The cursor is at position `at`.
     Memory { at: u64 },
-    /// No step is kept before the cursor.
+    /// There is no kept step before the cursor.
     AtStart,
-    /// No step is kept behind the cursor.
+    /// There is no kept step after the cursor.
     AtEnd,
-    /// Fewer steps are kept.
+    /// The position is greater than the number of kept steps.
     NoSuchPoint,
-    /// More steps would be kept than may be.
+    /// The timeline would keep more steps than its limit.
     TimelineFull,
-    /// Each id of a breakpoint is given out.
+    /// All ids of breakpoints are in use.
     TooManyBreaks,
-    /// No breakpoint of this id is set.
+    /// No breakpoint with this id is set.
     NoBreak,
 }
 
 impl Fault {
-    /// An equal fault. It takes no memory.
+    /// Returns an equal fault. The call allocates no memory.
     pub fn copy(&self) -> Fault
         ensures { result ≡ self.now }
     {
@@ -43,14 +43,14 @@ impl Fault {
         }
     }
 
-    /// Whether both are one fault.
+    /// Returns whether the two faults are equal.
     pub fn same(&self, other: &Fault) -> bool
         ensures { MatchBool result (self.now ≡ other.now) (self.now ≢ other.now) }
     {
         *self == *other
     }
 
-    /// The number and the name under which the fault is answered.
+    /// Returns the number and the name that a reply gives the fault.
     pub fn code(&self) -> Code
         ensures { result ≡ code_of self.now }
     {

@@ -1,16 +1,18 @@
-//! What every move of the debugger machine keeps, and what its replies tell: functions without code, to be called
-//! where their clauses are needed.
+//! What every move of the debugger machine preserves, and what its replies determine: functions without
+//! code, to be called where their clauses are needed.
 ghost use Rattle.nd_timeline.specs.Laws.{MovesKeepBase, MovesKeepTimelines, ChoicesAreUnique, RepliesTellMachines};
 
 use std::alloc::Allocator;
 
-/// A machine keeps its base, and each of its kept steps is enabled in its turn.
+/// Shows that every move preserves the base, and that each kept step is enabled where the steps before
+/// it lead.
 pub fn moves_keep_timelines<A: Allocator>()
     ensures base { MovesKeepBase A }
     ensures timeline { MovesKeepTimelines A }
 {}
 
-/// A cluster has one step to choose at a turn, and a machine's reply to a command tells the machine after it.
+/// Shows that a cluster has at most one step to choose at a turn, and that a command and its reply
+/// determine the machine after them.
 pub fn replies_tell_machines<A: Allocator>()
     ensures choice { ChoicesAreUnique A }
     ensures machine { RepliesTellMachines A }

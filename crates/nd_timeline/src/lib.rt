@@ -1,4 +1,4 @@
-//! The debugger's timeline, and the machine that it and the breakpoints are.
+//! The debugger's timeline, and the debugger machine: a timeline and breakpoints.
 #![tactic(auto)]
 
 mod checkpoint;

@@ -1,4 +1,4 @@
-//! The debugger machine: a timeline, and breakpoints by their ids.
+//! The debugger machine: a timeline, and breakpoints by id.
 ghost use Rattle.std.specs.Prelude.{◌≡◌, IfOk};
 ghost use Rattle.nd_timeline.specs.Moves.{Moves, moved_reply, without_breaks};
 
@@ -34,7 +34,7 @@ impl<A: Allocator + Copy> Drop for Machine<A> {
 }
 
 impl<A: Allocator + Copy> Machine<A> {
-    /// Makes a machine on which no breakpoint is set, with room for all that may be.
+    /// Creates a machine without breakpoints, and allocates the memory for all that can be set.
     pub fn new(alloc: A, timeline: Timeline<A>) -> Result<Machine<A>, AllocError>
         ensures { IfOk result (λ m. m ≡ without_breaks timeline) }
     {
@@ -42,21 +42,21 @@ impl<A: Allocator + Copy> Machine<A> {
         Ok(Machine { timeline, breaks })
     }
 
-    /// Its timeline.
+    /// Returns the timeline.
     pub fn timeline(&self) -> &Timeline<A>
         ensures { result.now ≡ self.now.timeline }
     {
         &self.timeline
     }
 
-    /// Its breakpoints.
+    /// Returns the breakpoints.
     pub fn breaks(&self) -> &Breaks<A>
         ensures { result.now ≡ self.now.breaks }
     {
         &self.breaks
     }
 
-    /// What it was made of.
+    /// Returns the timeline and the breakpoints.
     pub fn into_parts(self) -> (Timeline<A>, Breaks<A>)
         ensures timeline { result.0 ≡ self.timeline }
         ensures breaks { result.1 ≡ self.breaks }
@@ -65,7 +65,7 @@ impl<A: Allocator + Copy> Machine<A> {
         (timeline, breaks)
     }
 
-    // The reply when the cursor has moved, or has not.
+    // Returns the reply to a command that moves the cursor.
     fn moved(&self, moved: Result<(), Fault>) -> Reply
         ensures { result ≡ moved_reply moved self.now.timeline }
     {
@@ -78,7 +78,7 @@ impl<A: Allocator + Copy> Machine<A> {
         }
     }
 
-    /// Answers a command.
+    /// Executes a command, and returns the reply to it.
     pub fn apply(&mut self, command: &Command<A>) -> Reply
         ensures { Moves self.old command.now result self.new }
     {

@@ -1,53 +1,53 @@
-//! What a command is answered.
+//! Replies to commands.
 ghost use Rattle.std.specs.Prelude.{◌≡◌, ◌≢◌, MatchBool};
 
 use crate::Fault;
 
-/// What a run stopped at.
+/// Why a run stopped.
 #[derive(Clone, Copy, Debug, Drop, PartialEq, Eq)]
 pub enum Stop {
-    /// It has made all its steps.
+    /// The run has executed as many steps as it may.
     Limit,
-    /// No step is enabled that may be chosen.
+    /// No step that a run may choose is enabled.
     Idle,
-    /// The breakpoint of this id holds.
+    /// The breakpoint with this id holds.
     Break(u8),
 }
 
-/// How many steps a run has made, and what it stopped at.
+/// How many steps a run has executed, and why it stopped.
 #[derive(Clone, Copy, Debug, Drop, PartialEq, Eq)]
 pub struct Ran {
     pub ran: u64,
     pub stop: Stop,
 }
 
-/// What a command is answered.
+/// A reply to a command.
 #[derive(Debug, Drop, PartialEq, Eq)]
 pub enum Reply {
-    /// The cursor has moved, and stands here among so many kept steps.
+    /// The cursor has moved to position `at`, and `kept` steps are kept.
     Moved {
         at: u64,
         kept: u64,
     },
-    /// A run has made so many steps and stopped.
+    /// A run has executed `ran` steps and stopped.
     Ran {
         at: u64,
         kept: u64,
         ran: u64,
         stop: Stop,
     },
-    /// A breakpoint is set under this id.
+    /// The breakpoint is set under this id.
     Set {
         id: u8,
     },
-    /// A breakpoint is taken out.
+    /// The breakpoint is cleared.
     Cleared,
     /// The command is refused.
     Refused(Fault),
 }
 
 impl Reply {
-    /// An equal reply. It takes no memory.
+    /// Returns an equal reply. The call allocates no memory.
     pub fn copy(&self) -> Reply
         ensures { result ≡ self.now }
     {
@@ -73,7 +73,7 @@ impl Reply {
         }
     }
 
-    /// Whether both are one reply.
+    /// Returns whether the two replies are equal.
     pub fn same(&self, other: &Reply) -> bool
         ensures { MatchBool result (self.now ≡ other.now) (self.now ≢ other.now) }
     {

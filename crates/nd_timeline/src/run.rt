@@ -8,7 +8,7 @@ use nd_breaks::Breaks;
 use std::alloc::Allocator;
 
 impl<A: Allocator + Copy> Timeline<A> {
-    /// Makes at most `limit` steps, each the first that is enabled, until a breakpoint holds.
+    /// Executes at most `limit` steps, each time the first enabled one, until a breakpoint holds.
     pub fn run(&mut self, limit: u64, breaks: &Breaks<A>) -> Result<Ran, Fault>
         ensures { RunMoves self.old limit breaks.now (ran_reply result self.new) self.new }
     {

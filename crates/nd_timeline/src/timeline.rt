@@ -1,4 +1,4 @@
-//! The timeline: a cluster, the steps that are kept of it, and a cursor.
+//! The timeline: a cluster, the steps that are kept, and a cursor.
 ghost use Rattle.std.specs.Prelude.{◌≡◌, ◌<◌, ◌≤◌, ◌+◌, ◌-◌, ◌↔◌, length, slice_get, None, IfOk, IfErr, IfSome, OnOk, OnErr, IsTrue};
 ghost use Rattle.nd_time.specs.Limits.{max_kept};
 ghost use Rattle.nd_view.specs.View.{IsPassed};
@@ -19,10 +19,10 @@ use nd_protocol::{NoMemory, Refusal, Step, steps_keep_protocol};
 use std::alloc::{AllocError, Allocator, Global};
 use std::marker::Model;
 
-/// The most steps that are kept.
+/// The maximum number of kept steps.
 pub(crate) const MAX_KEPT: usize = 1_000_000;
 
-/// A cluster that was reached from a base by kept steps, up to a cursor.
+/// A base, the steps that are kept, and the cluster that the steps up to the cursor lead to.
 pub struct Timeline<A: Allocator + Copy = Global> {
     pub(crate) kept: Kept<A>,
     // Its position is the cursor.
@@ -50,7 +50,7 @@ impl<A: Allocator + Copy> Drop for Timeline<A> {
     }
 }
 
-// Records of equal steps.
+// Returns records of equal steps.
 fn copied_steps<A: Allocator + Copy>(
     alloc: A,
     steps: &[Record<A>],
@@ -65,7 +65,7 @@ fn copied_steps<A: Allocator + Copy>(
 }
 
 impl<A: Allocator + Copy> Timeline<A> {
-    /// A timeline that keeps no step yet.
+    /// Creates a timeline without kept steps, whose base is the cluster.
     pub fn new(alloc: A, cluster: Cluster<A>) -> Result<Timeline<A>, AllocError>
         ensures { IfOk result (λ m. m ≡ opened A cluster) }
     {
@@ -83,7 +83,8 @@ impl<A: Allocator + Copy> Timeline<A> {
         })
     }
 
-    /// An equal timeline. It has no checkpoints, so that it takes no more memory than its steps and clusters.
+    /// Returns an equal timeline. The copy has no checkpoints, so it takes no more memory than its
+    /// steps and clusters.
     pub fn copy(&self, alloc: A) -> Result<Timeline<A>, AllocError>
         ensures { IfOk result (λ m. m ≡ self.now) }
     {
@@ -102,14 +103,14 @@ impl<A: Allocator + Copy> Timeline<A> {
         })
     }
 
-    /// The cluster where the timeline began.
+    /// Returns the cluster at position 0.
     pub fn base(&self) -> &Cluster<A>
         ensures { result.now ≡ self.now.base }
     {
         &self.kept.base
     }
 
-    /// The cluster at the cursor.
+    /// Returns the cluster at the cursor.
     pub fn cluster(&self) -> &Cluster<A>
         ensures value { result.now ≡ cluster_of self.now }
         ensures protocol { KeepsProtocol self.now.base → KeepsProtocol result.now }
@@ -118,7 +119,7 @@ impl<A: Allocator + Copy> Timeline<A> {
         &self.walk.cluster
     }
 
-    /// Whether processor q's view at the cursor holds nothing positive at or before a pointstamp
+    /// Returns whether processor `q`'s view at the cursor has no positive entry at or before the pointstamp
     /// (FORTE 2013).
     pub fn passed(&self, q: usize, point: &Pointstamp) -> bool
         requires { q < length (cluster_of self.now).processors }
@@ -130,7 +131,7 @@ impl<A: Allocator + Copy> Timeline<A> {
         self.cluster().passed(q, point)
     }
 
-    /// How many of the kept steps the cluster has made.
+    /// Returns the position of the cursor: how many of the kept steps lead to the cluster.
     pub fn at(&self) -> u64
         ensures value { result ≡ self.now.cursor }
         ensures timeline { IsTimeline self.now }
@@ -138,14 +139,14 @@ impl<A: Allocator + Copy> Timeline<A> {
         self.walk.at
     }
 
-    /// How many steps are kept.
+    /// Returns the number of kept steps.
     pub fn kept(&self) -> u64
         ensures { result ≡ length self.now.kept }
     {
         self.kept.steps.len() as u64
     }
 
-    /// A kept step.
+    /// Returns the kept step that leads from position `i` to the next, `None` if there is no such step.
     pub fn step(&self, i: u64) -> Option<&Step<A>>
         ensures none { result ≡ None → length self.now.kept ≤ i }
         ensures some { IfSome result (λ x. slice_get self.now.kept i ≡ Some x.now) }
@@ -156,7 +157,7 @@ impl<A: Allocator + Copy> Timeline<A> {
         Some(&self.kept.steps[i as usize].step)
     }
 
-    // The record of a step, or why there is none.
+    // Plans a step, and returns its record, or why the step cannot be executed.
     fn plan(&self, step: &Step<A>) -> Result<Record<A>, Fault>
         ensures planned { IfOk result (λ r. IsPlanned r (cluster_of self.now)) }
         ensures step { IfOk result (λ r. r.step ≡ step.now) }
@@ -171,7 +172,7 @@ impl<A: Allocator + Copy> Timeline<A> {
         }
     }
 
-    // Makes a step that is planned.
+    // Executes a planned step, and keeps it.
     pub(crate) fn make(&mut self, planned: Record<A>) -> Result<(), NoMemory>
         requires room { self.old.cursor < max_kept }
         requires planned { IsPlanned planned (cluster_of self.old) }
@@ -190,7 +191,7 @@ impl<A: Allocator + Copy> Timeline<A> {
         Ok(())
     }
 
-    /// Makes a step, and keeps it in the place of all that was kept behind the cursor.
+    /// Executes a step, and keeps it in place of all steps after the cursor.
     pub fn forward(&mut self, step: &Step<A>) -> Result<(), Fault>
         ensures { ForwardMoves self.old step.now (moved_reply result self.new) self.new }
     {
@@ -205,7 +206,7 @@ impl<A: Allocator + Copy> Timeline<A> {
         }
     }
 
-    /// Undoes the step before the cursor, and keeps it.
+    /// Undoes the step before the cursor. The step is still kept.
     pub fn back(&mut self) -> Result<(), Fault>
         ensures { BackMoves self.old (moved_reply result self.new) self.new }
     {
@@ -219,7 +220,7 @@ impl<A: Allocator + Copy> Timeline<A> {
         }
     }
 
-    /// Makes the step behind the cursor again.
+    /// Executes the kept step after the cursor again.
     pub fn redo(&mut self) -> Result<(), Fault>
         ensures { RedoMoves self.old (moved_reply result self.new) self.new }
     {
@@ -233,8 +234,9 @@ impl<A: Allocator + Copy> Timeline<A> {
         }
     }
 
-    // A walk that has gone to a position from the base or a checkpoint. There is none if the cursor is as near or near
-    // enough, if no such position is kept, or if memory is refused.
+    // Returns a walk that has gone to position `n` from the base or a checkpoint. Returns `None` if the
+    // cursor is at least as near or at most `SPACING` steps away, if `n` is greater than the number of
+    // kept steps, or if an allocation fails.
     fn landed(&self, n: u64) -> Option<Walk<A>>
         ensures on { IfSome result (IsOn self.now) }
         ensures there { IfSome result (λ w. w.at ≡ n) }
@@ -256,8 +258,9 @@ impl<A: Allocator + Copy> Timeline<A> {
         Some(walk)
     }
 
-    /// Goes to position `n`: step by step from the cursor, or, if that is far, from a copy of the nearest of the base
-    /// and the checkpoints. If memory for that is refused, it goes from the cursor.
+    /// Moves the cursor to position `n`, step by step. A jump of more than `SPACING` steps begins at a
+    /// copy of the base or of a checkpoint if one of them is nearer than the cursor. If an allocation
+    /// for that fails, the jump begins at the cursor after all.
     pub fn jump(&mut self, n: u64) -> Result<(), Fault>
         ensures { JumpMoves self.old n (moved_reply result self.new) self.new }
     {

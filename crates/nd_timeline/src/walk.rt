@@ -1,4 +1,4 @@
-//! What a timeline keeps, and walks over it: the timeline's own, and those of others.
+//! What a timeline keeps, and walks over the kept steps: the timeline's own, and those of its callers.
 ghost use Rattle.std.specs.Prelude.{◌≡◌, ◌+◌, ◌-◌, ◌<◌, length, IfOk, OnOk, OnErr};
 ghost use Rattle.nd_timeline.specs.Reached.{ArePlanned, IsReached};
 ghost use Rattle.nd_timeline.specs.Walks.{BeginsNear, IsOn, LeadsFrom, WalksTo, timeline_at};
@@ -9,16 +9,16 @@ use nd_cluster::{Cluster, Record};
 use nd_protocol::NoMemory;
 use std::alloc::{AllocError, Allocator, Global};
 
-/// A cluster that goes over the kept steps of a timeline. The timeline stays as it is, so that several may
-/// walk over one.
+/// A cluster that moves over the kept steps of a timeline. The timeline does not change, so several walks can
+/// share it.
 #[derive(Drop)]
 pub struct Walk<A: Allocator + Copy = Global> {
-    /// How many of the kept steps the cluster has made.
+    /// The position: how many of the kept steps lead to the cluster.
     pub at: u64,
     pub cluster: Cluster<A>,
 }
 
-/// The kept steps of a timeline, the cluster where it began, and its checkpoints.
+/// The base of a timeline, its kept steps and its checkpoints.
 #[derive(Drop)]
 pub(crate) struct Kept<A: Allocator + Copy> {
     pub(crate) base: Cluster<A>,
@@ -29,7 +29,7 @@ pub(crate) struct Kept<A: Allocator + Copy> {
 }
 
 impl<A: Allocator + Copy> Kept<A> {
-    // The record of a kept step.
+    // Returns the record of the kept step that leads from position `i` to the next.
     pub(crate) fn record(&self, i: u64) -> &Record<A>
         requires planned { ArePlanned self.now.base self.now.steps.items }
         requires there { i < length self.now.steps.items }
@@ -38,7 +38,7 @@ impl<A: Allocator + Copy> Kept<A> {
         &self.steps[i as usize]
     }
 
-    // Makes the kept step behind a walk.
+    // Executes the kept step after the walk's position.
     pub(crate) fn walk_on(&self, walk: &mut Walk<A>) -> Result<(), NoMemory>
         requires on { IsReached self.now.base walk.old.cluster self.now.steps.items walk.old.at }
         requires behind { walk.old.at < length self.now.steps.items }
@@ -53,7 +53,7 @@ impl<A: Allocator + Copy> Kept<A> {
         Ok(())
     }
 
-    // Undoes the kept step before a walk.
+    // Undoes the kept step before the walk's position.
     pub(crate) fn walk_back(&self, walk: &mut Walk<A>) -> Result<(), NoMemory>
         requires on { IsReached self.now.base walk.old.cluster self.now.steps.items walk.old.at }
         requires before { 0 < walk.old.at }
@@ -69,7 +69,7 @@ impl<A: Allocator + Copy> Kept<A> {
         Ok(())
     }
 
-    // Goes to a position on a walk, step by step.
+    // Moves the walk to position `n`, step by step.
     pub(crate) fn walk_to(&self, walk: &mut Walk<A>, n: u64) -> Result<(), Fault>
         requires { IsReached self.now.base walk.old.cluster self.now.steps.items walk.old.at }
         ensures on { IsReached self.now.base walk.new.cluster self.now.steps.items walk.new.at }
@@ -97,7 +97,8 @@ impl<A: Allocator + Copy> Kept<A> {
 }
 
 impl<A: Allocator + Copy> Timeline<A> {
-    /// Returns a walk that is to go to position `n`. It begins at the nearest of the start, the cursor and the checkpoints.
+    /// Returns a walk from which to go to position `n`. It begins at the base, the cursor or a
+    /// checkpoint, whichever is nearest to `n`.
     pub fn walk_near(&self, alloc: A, n: u64) -> Result<Walk<A>, AllocError>
         ensures on { IfOk result (IsOn self.now) }
         ensures near { IfOk result (BeginsNear self.now n) }
@@ -118,7 +119,8 @@ impl<A: Allocator + Copy> Timeline<A> {
         }
     }
 
-    /// Goes to a position on a walk, step by step: what a jump would do, but the timeline stays as it is.
+    /// Moves the walk to position `n`, step by step, as a jump would move the cursor. The timeline does
+    /// not change.
     pub fn walk_to(&self, walk: &mut Walk<A>, n: u64) -> Result<(), Fault>
         requires { IsOn self.now walk.old }
         ensures on { IsOn self.now walk.new }

@@ -1,4 +1,4 @@
--- Edits one after another: what they leave, in which order they may come, and the way back.
+-- Edits one after another: their result, the orders in which they can be applied, and their inverses.
 use Rattle.std.proofs.Common.{◌≡◌, ◌≢◌, ◌<◌, ◌+◌, ℕ, zero, suc, ℤ, pos, negsuc, Bool, true, false, cond, not, List, [], ◌∷◌, ◌++◌, length, take, get_or, map, Option, Some, None, refl, sym, ap, subst, ◌∙◌, arith}
 use Rattle.std.specs.Prelude.{is_none, is_some, All}
 use Rattle.std.specs.List.{IsDistinct, AllByRecursion, filter}
@@ -20,7 +20,7 @@ use Rattle.nd_map.specs.Cases.{again}
 abbrev pub is_key : ItemKey → ItemKey → Bool
 is_key = eq_by_cmp item_cmp
 
--- whether an edit of the list is of this item
+-- whether one of the edits is of this item
 abbrev pub has : ItemKey → List ItemEdit → Bool
 has q es = has_key item_cmp q (keys es)
 
@@ -35,7 +35,7 @@ itself k = ap is_eq (tied_itself item_total k)
 turn : (a b : ItemKey) → is_key a b ≡ is_key b a
 turn a b = (eq_by_cmp_equiv item_total).symm a b
 
--- items that have the same numbers at a key have the same item there
+-- items that have the same number at a key have the same item there
 of_at : (m n : Items) (k : ItemKey) → at m k ≡ at n k → item_of m k ≡ item_of n k
 of_at m n k e = ap (λ z. cond (is_zero z) None (Some z)) e
 
@@ -48,14 +48,14 @@ kept : {X : Type 0} (b : Bool) (w x : X) → (b ≡ true → w ≡ x) → cond b
 kept true w x e = e refl
 kept false w x e = refl
 
--- an item that is put back
+-- an item is restored
 pub put_back : (m : Items) (k : ItemKey) (n o : Option ℤ) → item_of m k ≡ o → with_item (with_item m k n) k o ≡ m
 put_back m k n o was =
     same item_total item_exact _ _ (λ q.
     at_with (with_item m k n) k o q ∙ ap (cond (is_key q k) (number_of o)) (at_with m k n q)
     ∙ again (is_key q k) (number_of n) (number_of o) (at m q) (λ e. ap number_of (sym was) ∙ number (at m k) ∙ ap (at m) (sym (tells_apart item_exact q k e))))
 
--- an item that gets the number that it has
+-- an item is set to the number that it has
 pub put_same : (m : Items) (k : ItemKey) (n : Option ℤ) → item_of m k ≡ n → with_item m k n ≡ m
 put_same m k n was =
     same item_total item_exact _ _ (λ q.
@@ -72,7 +72,7 @@ two true true u v x apart = absurd (apart refl refl)
 two true false u v x apart = refl
 two false b u v x apart = refl
 
--- two items that change in either order
+-- two items can be changed in either order
 swap : (m : Items) (j k : ItemKey) (u v : Option ℤ) → is_key j k ≡ false → with_item (with_item m j u) k v ≡ with_item (with_item m k v) j u
 swap m j k u v apart =
     same item_total item_exact _ _ (λ q.
@@ -89,21 +89,21 @@ pub edited-append : (m : Items) (xs ys : List ItemEdit) → edited m (xs ++ ys) 
 edited-append m [] ys = refl
 edited-append m (x ∷ xs) ys = edited-append (with_item m x.key x.new) xs ys
 
--- an item that is not edited
+-- an item that no edit is of
 pub untouched : (m : Items) (es : List ItemEdit) (q : ItemKey) → has q es ≡ false → at (edited m es) q ≡ at m q
 untouched m [] q h = refl
 untouched m (e ∷ es) q h =
     let both = or_parts (is_key q e.key) (has q es) h in
     untouched (with_item m e.key e.new) es q both.1 ∙ at_with m e.key e.new q ∙ ap (λ b. cond b (number_of e.new) (at m q)) both.0
 
--- an edit before others of other items is as one after them
+-- an edit before edits of other items can be applied after them
 pub later : (m : Items) (k : ItemKey) (n : Option ℤ) (es : List ItemEdit) → has k es ≡ false → edited (with_item m k n) es ≡ with_item (edited m es) k n
 later m k n [] h = refl
 later m k n (e ∷ es) h =
     let both = or_parts (is_key k e.key) (has k es) h in
     ap (λ s. edited s es) (swap m k e.key n e.new both.0) ∙ later (with_item m e.key e.new) k n es both.1
 
--- ---- no item twice
+-- ---- no item is edited twice
 
 abbrev pub Once : List ItemEdit → Type 0
 Once es = IsDistinct is_key (keys es)
@@ -117,7 +117,7 @@ at_place k [] i d h lt = absurd (omega arith)
 at_place k (e ∷ es) zero d h lt = h.0
 at_place k (e ∷ es) (suc i) d h lt = at_place k es i d h.1 (omega arith)
 
--- the item of an edit stands in no earlier one
+-- the item of an edit is not in an earlier edit
 pub before : (es : List ItemEdit) (i : ℕ) (d : ItemEdit) → Once es → i < length es → has (get_or es i d).key (take i es) ≡ false
 unfolding IsDistinct
 before [] i d once lt = absurd (omega arith)
@@ -135,7 +135,7 @@ not_among p (e ∷ es) q h =
     let both = or_parts (is_key q e.key) (has q es) h in
     fewer (p e) q e (filter p es) both.0 (not_among p es q both.1)
 
--- nor in one of another kind
+-- nor in an edit of another kind
 pub of_kind : (p : ItemEdit → Bool) (es : List ItemEdit) (i : ℕ) (d : ItemEdit) → Once es → i < length es → p (get_or es i d) ≡ false → has (get_or es i d).key (filter p es) ≡ false
 unfolding IsDistinct
 of_kind p [] i d once lt kind = absurd (omega arith)
@@ -143,7 +143,7 @@ of_kind p (e ∷ es) zero d once lt kind = ap (λ b. has e.key (cond b (e ∷ fi
 of_kind p (e ∷ es) (suc i) d once lt kind =
     fewer (p e) (get_or es i d).key e (filter p es) (turn (get_or es i d).key e.key ∙ at_place e.key es i d once.0 (omega arith)) (of_kind p es i d once.1 (omega arith) kind)
 
--- edits of one kind, and then the others
+-- the edits of one kind can be applied before the others
 pub reordered : (p : ItemEdit → Bool) (m : Items) (es : List ItemEdit) → Once es → edited (edited m (filter p es)) (filter (λ e. not (p e)) es) ≡ edited m es
 unfolding IsDistinct
 reordered p m [] once = refl
@@ -155,7 +155,7 @@ reordered p m (e ∷ es) once =
     first true = refl
     first false = ap (λ s. edited s (filter (λ x. not (p x)) es)) (sym (later m e.key e.new (filter p es) (not_among p es e.key (apart e.key es once.0))))
 
--- one edit more
+-- one more edit
 pub next : (p : ItemEdit → Bool) (m : Items) (es : List ItemEdit) (i : ℕ) (x : ItemEdit) → i < length es → x ≡ get_or es i x
     → edited m (filter p (take (i + 1) es)) ≡ cond (p x) (with_item (edited m (filter p (take i es))) x.key x.new) (edited m (filter p (take i es)))
 next p m es i x lt is =
@@ -193,12 +193,12 @@ module _ (m : Items) (es : List ItemEdit) (can : CanEdit m es) (i : ℕ) (x : It
   pub new_some : x.new ≢ Some (pos 0)
   new_some = subst (λ y. y.new ≢ Some (pos 0)) (sym is) (can.news i x lt)
 
-  -- the item of an edit after the earlier ones of one kind
+  -- the item of an edit, after the earlier edits of one kind
   pub still : (p : ItemEdit → Bool) → item_of (edited m (filter p (take i es))) x.key ≡ x.old
   still p =
       of_at (edited m (filter p (take i es))) m x.key (untouched m (filter p (take i es)) x.key (not_among p (take i es) x.key (subst (λ y. has y.key (take i es) ≡ false) (sym is) (before es i x can.once lt)))) ∙ was
 
-  -- the item of an edit after all of one kind and the earlier others
+  -- the item of an edit, after all edits of one kind and the earlier other edits
   pub still_other : (p r : ItemEdit → Bool) → p x ≡ false → item_of (edited (edited m (filter p es)) (filter r (take i es))) x.key ≡ x.old
   still_other p r kind =
       of_at (edited (edited m (filter p es)) (filter r (take i es))) m x.key
@@ -206,7 +206,7 @@ module _ (m : Items) (es : List ItemEdit) (can : CanEdit m es) (i : ℕ) (x : It
       ∙ untouched m (filter p es) x.key (subst (λ y. has y.key (filter p es) ≡ false) (sym is) (of_kind p es i x can.once lt (subst (λ y. p y ≡ false) is kind))))
       ∙ was
 
-  -- an edit of one kind taken back
+  -- an edit of one kind is undone
   pub taken_back : (p : ItemEdit → Bool) → cond (p x) (with_item (edited m (filter p (take (i + 1) es))) x.key x.old) (edited m (filter p (take (i + 1) es))) ≡ edited m (filter p (take i es))
   taken_back p = ap (λ s. cond (p x) (with_item s x.key x.old) s) (next p m es i x lt is) ∙ back (p x)
     where
@@ -215,15 +215,15 @@ module _ (m : Items) (es : List ItemEdit) (can : CanEdit m es) (i : ℕ) (x : It
       back true = put_back (edited m (filter p (take i es))) x.key x.new x.old (still p)
       back false = refl
 
-  -- and what is there before it is
+  -- the item has the new number before that
   pub stands : (p : ItemEdit → Bool) → p x ≡ true → item_of (edited m (filter p (take (i + 1) es))) x.key ≡ x.new
   stands p kind = ap (λ s. item_of s x.key) (next p m es i x lt is ∙ ap (λ b. cond b (with_item (edited m (filter p (take i es))) x.key x.new) (edited m (filter p (take i es)))) kind) ∙ item_put (edited m (filter p (take i es))) x.key x.new new_some
 
--- the edit of a place, made in a direction
+-- the edit at an index, or its inverse
 pub directed_at : (back : Bool) (es : List ItemEdit) (i : ℕ) (x d : ItemEdit) → i < length es → x ≡ get_or es i x → d ≡ cond back (turned x) x → d ≡ get_or (directed back es) i d
 directed_at back es i x d lt is e = e ∙ ap (λ y. cond back (turned y) y) is ∙ sym (get_or-map (λ y. cond back (turned y) y) es i x d lt)
 
--- ---- the way back
+-- ---- undoing edits
 
 pub undone : (m : Items) (es : List ItemEdit) → Once es → All (λ e. item_of m e.key ≡ e.old) es → edited (edited m es) (map turned es) ≡ m
 unfolding IsDistinct
@@ -234,7 +234,7 @@ undone m (e ∷ es) once olds =
     ∙ ap (λ s. edited s (map turned es)) (put_back (edited m es) e.key e.new e.old (of_at (edited m es) m e.key (untouched m es e.key alone) ∙ olds 0 e (omega arith)))
     ∙ undone m es once.1 (λ i d lt. olds (suc i) d (omega arith))
 
--- what is there after the edits
+-- the items after the edits
 pub lands : (m : Items) (es : List ItemEdit) → Once es → All (λ e. e.new ≢ Some (pos 0)) es → All (λ e. item_of (edited m es) e.key ≡ e.new) es
 unfolding IsDistinct
 lands m [] once news i d lt = absurd (omega arith)

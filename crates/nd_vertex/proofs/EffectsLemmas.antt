@@ -1,4 +1,4 @@
--- What a vertex does on a record or a notice: the edits that lead to the table's items.
+-- What a vertex does on a record or a notification: the edits that lead to the items of the table.
 use Rattle.std.proofs.Common.{◌≡◌, ◌≢◌, zero, suc, ℤ, pos, negsuc, ◌+ℤ◌, Bool, true, false, cond, [], ◌∷◌, Option, Some, None, FitsSigned, w64, to_z, of_z, refl, sym, ap, subst, ◌∙◌, arith}
 use Rattle.std.specs.Prelude.{All}
 use Rattle.std.specs.Option.{unwrap_or}
@@ -39,7 +39,7 @@ leads_one m k old new was some other = record {
   edited_is = refl;
 }
 
--- an item that gets the number that it has
+-- an item is set to the number that it has
 pub leads_same : (m : Items) (k : ItemKey) (old new : Option ℤ) → old ≡ item_of m k → old ≡ new → LeadsTo m [] (with_item m k new)
 leads_same m k old new was e = leads_none m (with_item m k new) (sym (put_same m k new (sym was ∙ e)))
 
@@ -50,7 +50,7 @@ either false y z p q = q
 pub values_set : (m : Items) (k : ItemKey) (z : ℤ) → AreValues m → FitsSigned w64 z → AreValues (set item_total m k z)
 values_set m k z values fits q = subst (FitsSigned w64) (sym (at-set item_total m k z q)) (either (eq_by_cmp item_cmp q k) z (at m q) (fits) (values q))
 
--- operators that keep nothing
+-- operators without items
 pub reacted_plain : (op : Op) (m : Items) (t : Time) (v : ℤ) → ¬ (op ≡ Sum) → ¬ (op ≡ Distinct) → reacted op m t v ≡ (plain_emissions op v, m)
 reacted_plain Sum m t v s d = absurd (s refl)
 reacted_plain Distinct m t v s d = absurd (d refl)
@@ -61,13 +61,13 @@ noticed_plain Sum m t s d = absurd (s refl)
 noticed_plain Distinct m t s d = absurd (d refl)
 noticed_plain op m t s d = refl
 
--- ---- a sum's new number, and what a distinct has
+-- ---- the new number of a sum, and what distinct has seen
 
 or_number : (o : Option ℤ) → unwrap_or o (pos 0) ≡ number_of o
 or_number None = refl
 or_number (Some z) = refl
 
--- the sum as the code has it
+-- the sum as the code computes it
 pub total : (m : Items) (k : ItemKey) (r v : ℤ) → r ≡ unwrap_or (item_of m k) (pos 0) → AreValues m → FitsSigned w64 v → to_z w64 (of_z w64 r) +ℤ to_z w64 (of_z w64 v) ≡ at m k +ℤ v
 total m k r v is values range =
     let here : r ≡ at m k = is ∙ or_number (item_of m k) ∙ number_at m k in

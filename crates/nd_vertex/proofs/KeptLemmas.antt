@@ -1,4 +1,4 @@
--- The entries that a vertex keeps, and the items that they make.
+-- The entries that a vertex stores, and their items.
 use Rattle.std.proofs.Common.{◌≡◌, ◌≢◌, ℤ, pos, zero, suc, negsuc, cond, List, Option, Some, None, FitsSigned, w64, lit<, refl, sym, ap, subst, ◌∙◌}
 use Rattle.std.specs.FinMap.{find, put}
 use Rattle.std.proofs.lemmas.Map.Views.{tells_apart}
@@ -11,7 +11,7 @@ use Rattle.nd_vertex.specs.Effects.{AreValues}
 use Rattle.nd_vertex.specs.Kept.{IsNumber, IsKept}
 use Rattle.nd_vertex.specs.declared.key.ItemKey.{ItemKey}
 
--- a number that is not 0 is what is there
+-- a number other than 0 is the item itself
 there : (x : Option ℤ) → x ≢ Some (pos 0) → x ≡ cond (is_zero (number_of x)) None (Some (number_of x))
 there None h = refl
 there (Some (pos zero)) h = absurd (h refl)
@@ -28,7 +28,7 @@ module _ (es : List (ItemKey × ℤ)) (kept : IsKept es) (m : Items) (view : of_
   pub listed : es ≡ entries m
   listed = laws.listed integers item_total item_exact es m view IsNumber kept (λ _ _ number. number.some)
 
-  -- what a look-up finds is what is there
+  -- what a lookup finds is the item
   pub found : (k : ItemKey) → find item_cmp k es ≡ item_of m k
   found k = there_at m k _ (laws.not_nil integers item_total item_exact es m view IsNumber kept (λ _ _ number. number.some) k) (laws.at_found integers item_total item_exact es m view k)
 

@@ -1,4 +1,4 @@
--- The edits that take out all items at a timestamp, and the items that they leave.
+-- The edits that remove all items at a timestamp, and the items that are left.
 use Rattle.std.proofs.Common.{◌≡◌, ◌≢◌, ◌-◌, ◌^◌, suc, ℤ, pos, negsuc, FitsSigned, w64, IfSome, Ordering, Less, Equal, Greater, Bool, true, false, cond, not, ◌&&◌, ◌||◌, List, [], ◌∷◌, map, get_or, Some, None, refl, sym, ap, subst, ◌∙◌, arith}
 use Rattle.std.specs.Prelude.{All, is_some}
 use Rattle.std.specs.List.{IsDistinct, AllByRecursion, filter}
@@ -31,16 +31,16 @@ is_at t k = eq_by_cmp time_cmp k.time t
 abbrev pub gone : ItemKey × ℤ → ItemEdit
 gone e = record { key = e.0; old = Some e.1; new = None }
 
--- the edits that take out the entries at a timestamp
+-- the edits that remove the entries at a timestamp
 abbrev pub removed : Time → List (ItemKey × ℤ) → List ItemEdit
 removed t es = map gone (filter (λ e. is_at t e.0) es)
 
--- one entry more
+-- one more entry
 removed-cons : (t : Time) (e : ItemKey × ℤ) (es : List (ItemKey × ℤ)) (b : Bool) → is_at t e.0 ≡ b → removed t (e ∷ es) ≡ cond b (gone e ∷ removed t es) (removed t es)
 removed-cons t e es true is = ap (λ c. map gone (cond c (e ∷ filter (λ x. is_at t x.0) es) (filter (λ x. is_at t x.0) es))) is
 removed-cons t e es false is = ap (λ c. map gone (cond c (e ∷ filter (λ x. is_at t x.0) es) (filter (λ x. is_at t x.0) es))) is
 
--- ---- which items they name
+-- ---- which items the edits are of
 
 names : (a b c h : Bool) → (b ≡ true → a ≡ c) → cond c (b || (a && h)) (a && h) ≡ (a && (b || h))
 names true true true h e = refl
@@ -67,7 +67,7 @@ has-removed t (e ∷ es) q =
     split true = refl
     split false = refl
 
--- ---- the items that they leave
+-- ---- the items that are left
 
 taken : (b c : Bool) (z : ℤ) → cond c (pos 0) (cond b (pos 0) z) ≡ cond (b || c) (pos 0) z
 taken true true z = refl
@@ -91,7 +91,7 @@ leaves t m =
     ∙ left (is_at t q) (has_key item_cmp q (keys_of (entries m))) (at m q) (at-absent m q)
     ∙ sym (at-only item_total item_exact (λ (k : ItemKey). not (eq_by_cmp time_cmp k.time t)) m q))
 
--- ---- they can be made
+-- ---- the edits can be applied
 
 all_apart : (k : ItemKey) (es : List ItemEdit) → has k es ≡ false → AllByRecursion (λ y. is_key k y ≡ false) (keys es)
 all_apart k [] h = tt
@@ -114,7 +114,7 @@ once t (e ∷ es) h =
     = has-removed t es e.0 ∙ no_more (is_at t e.0) (has_key item_cmp e.0 (keys_of es)) (sym (is_some-find item_cmp e.0 es) ∙ ap is_some (absent_in_tail item_cmp e es h)) in
     subst (λ xs. IsDistinct is_key (keys xs)) (sym (removed-cons t e es (is_at t e.0) refl)) (one_less (is_at t e.0) (gone e) (removed t es) absent (once t es (listed-tail item_cmp e es h)))
 
--- each entry at its key
+-- each entry is found at its key
 module _ (m : Items) (listed : IsListed item_cmp (entries m)) (found : (k : ItemKey) → find item_cmp k (entries m) ≡ item_of m k) (t : Time) where
   pub leads_removed : LeadsTo m (removed t (entries m)) (only item_total (λ (k : ItemKey). not (eq_by_cmp time_cmp k.time t)) m)
   leads_removed = record {
@@ -128,9 +128,9 @@ module _ (m : Items) (listed : IsListed item_cmp (entries m)) (found : (k : Item
     edited_is = leaves t m;
   }
 
--- ---- they are those of the entries between two keys
+-- ---- the edits are those of the entries between two keys
 
--- the first key at a timestamp, and the last
+-- the first and the last key at a timestamp
 abbrev pub first_at : Time → ItemKey
 first_at t = item_key t (negsuc (2 ^ 63 - 1))
 
@@ -140,7 +140,7 @@ last_at t = item_key t (pos (2 ^ 63 - 1))
 pub forward : (t : Time) → IsLeBy item_cmp (first_at t) (last_at t)
 forward t = ap (λ r. is_gt (ordering_then r (int_cmp (negsuc (2 ^ 63 - 1)) (pos (2 ^ 63 - 1))))) (tied_itself time_total t)
 
--- an item of 64 bits is at a timestamp if it is between these
+-- an item that fits 64 bits is at a timestamp if it is between these keys
 within : (t : Time) (k : ItemKey) → FitsSigned w64 k.item → range_contains item_cmp (Included (first_at t)) (Included (last_at t)) k ≡ is_at t k
 within t k fits = rw (time_total.antisymm k.time t) (by (time_cmp t k.time))
   where
@@ -149,7 +149,7 @@ within t k fits = rw (time_total.antisymm k.time t) (by (time_cmp t k.time))
     by Equal = λ i. not_below k.item fits i && not (not_above k.item fits i)
     by Greater = refl
 
--- tests that agree at each element keep the same elements
+-- tests that agree on each element leave the same elements
 same_kept : {X : Type 0} (p q : X → Bool) (xs : List X) → All (λ x. p x ≡ q x) xs → filter p xs ≡ filter q xs
 same_kept p q [] h = refl
 same_kept p q (x ∷ xs) h =

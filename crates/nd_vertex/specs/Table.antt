@@ -1,4 +1,4 @@
--- What each operator does on a record and on a notice (this project's own rule).
+-- What each operator does on a record and on a notification (this project's own rule).
 use Rattle.std.specs.Prelude.{ℕ, zero, suc, ℤ, pos, negsuc, ◌+ℤ◌, ◌*ℤ◌, int_lt, Bool, true, false, cond, not, List, [], ◌∷◌}
 use Rattle.std.specs.Ordering.{eq_by_cmp}
 use Rattle.nd_map.specs.Counts.{at, added, set, only}
@@ -13,16 +13,16 @@ use Rattle.nd_vertex.specs.declared.key.ItemKey.{ItemKey}
 
 -- what a vertex does
 pub record Outcome : Type 0 where
-  -- the ports on which it emits, and the values
+  -- the ports and the values that it emits
   pub emissions : List (ℕ × ℤ)
-  -- what it keeps afterwards
+  -- its items afterwards
   pub items : Items
-  -- whether it asks for a notice
+  -- whether it requests a notification
   pub asks : Bool
   -- whether it counts the value
   pub counts : Bool
 
--- it keeps items and emits, and nothing else
+-- an outcome with these items and emissions, and nothing else
 abbrev pub emits : Items → List (ℕ × ℤ) → Outcome
 emits items es = record { emissions = es; items = items; asks = false; counts = false }
 
@@ -35,7 +35,7 @@ is_zero (negsuc n) = false
 abbrev pub without_time : Items → Time → Items
 without_time items t = only item_total (λ (k : ItemKey). not (eq_by_cmp time_cmp k.time t)) items
 
--- what an operator emits on a record of value v, whatever its vertex keeps
+-- what an operator emits on a record of value v, if that does not depend on its items
 abbrev pub plain_emissions : Op → ℤ → List (ℕ × ℤ)
 plain_emissions Input v = []
 plain_emissions Ingress v = (0, v) ∷ []
@@ -46,28 +46,28 @@ plain_emissions (Mul k) v = (0, v *ℤ k) ∷ []
 plain_emissions (Below k) v = cond (int_lt v k) ((0, v) ∷ []) []
 plain_emissions (Split k) v = (cond (int_lt v k) 0 1, v) ∷ []
 plain_emissions Sink v = []
--- a sum and a distinct go by what is kept, below
+-- sum and distinct depend on the items, see below
 plain_emissions Sum v = []
 plain_emissions Distinct v = []
 
--- on a record of value v at the timestamp t: what is emitted, and what is kept then
+-- what an operator emits on a record of value v at timestamp t, and its items afterwards
 abbrev pub reacted : Op → Items → Time → ℤ → List (ℕ × ℤ) × Items
--- a sum is kept under the item 0
+-- a sum is stored as the number of item 0
 reacted Sum items t v = ([], added item_total items (item_key t (pos 0)) v)
--- of a value that is there already, nothing
+-- a value that is there already has no effect
 reacted Distinct items t v =
     let is_new = is_zero (at items (item_key t v)) in
     (cond is_new ((0, v) ∷ []) [], cond is_new (set item_total items (item_key t v) (pos 1)) items)
--- any other operator keeps nothing
+-- any other operator has no items
 reacted op items t v = (plain_emissions op v, items)
 
--- on a record; whether it asks and counts are facts of the operator
+-- on a record; whether the vertex requests a notification and counts depends on the operator only
 abbrev pub on_record : Op → Items → Time → ℤ → Outcome
 on_record op items t v =
     let reaction = reacted op items t v in
     record { emissions = reaction.0; items = reaction.1; asks = (facts op).asks; counts = (facts op).counts }
 
--- on a notice at the timestamp t
+-- on a notification at timestamp t
 abbrev pub on_notice : Op → Items → Time → Outcome
 on_notice Sum items t =
     let sum = at items (item_key t (pos 0)) in

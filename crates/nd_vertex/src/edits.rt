@@ -1,4 +1,4 @@
-//! The edits of an effect, made and taken back.
+//! Applies the edits of an effect, and undoes them.
 ghost use Rattle.std.specs.Prelude.{◌≡◌, ◌≢◌, None, Some, map, OnOk, OnErr, IsTrue, pos};
 ghost use Rattle.nd_vertex.specs.Edits.{CanEdit, item_of, edited_if, edited, turned, directed};
 
@@ -6,7 +6,7 @@ use crate::{Effect, ItemEdit, VertexState};
 use std::alloc::{AllocError, Allocator};
 
 impl<A: Allocator + Copy> VertexState<A> {
-    // Makes an edit if it is wanted. Only an item that is not there takes memory.
+    // Applies the edit if `wanted`. It allocates only for an item that is not there.
     fn make(&mut self, wanted: bool, edit: &ItemEdit) -> Result<(), AllocError>
         requires there { IsTrue wanted → item_of self.old edit.now.key ≡ edit.now.old }
         requires some { IsTrue wanted → edit.now.new ≢ Some (pos 0) }
@@ -22,7 +22,7 @@ impl<A: Allocator + Copy> VertexState<A> {
         Ok(())
     }
 
-    // Makes the edits, or those back: first the ones that add an item, which alone take memory.
+    // Applies the edits, or their inverses if `back`: first those that add an item, the only ones that allocate.
     fn make_all(&mut self, edits: &[ItemEdit], back: bool) -> Result<(), AllocError>
         requires { CanEdit self.old (directed back edits.now) }
         ensures ok { OnOk result (self.new ≡ edited self.old (directed back edits.now)) }
@@ -49,7 +49,7 @@ impl<A: Allocator + Copy> VertexState<A> {
         Ok(())
     }
 
-    /// Makes the item edits of an effect. If a growth is refused all is as it was.
+    /// Applies the item edits of an effect. If memory runs out, the items stay as they were.
     pub fn commit<B: Allocator>(&mut self, effect: &Effect<B>) -> Result<(), AllocError>
         requires { CanEdit self.old effect.now.items.items }
         ensures ok { OnOk result (self.new ≡ edited self.old effect.now.items.items) }
@@ -62,7 +62,7 @@ impl<A: Allocator + Copy> VertexState<A> {
         Ok(())
     }
 
-    /// Takes the item edits of an effect back. If a growth is refused all is as it was.
+    /// Undoes the item edits of an effect. If memory runs out, the items stay as they were.
     pub fn revert<B: Allocator>(&mut self, effect: &Effect<B>) -> Result<(), AllocError>
         requires { CanEdit self.old (map turned effect.now.items.items) }
         ensures ok { OnOk result (self.new ≡ edited self.old (map turned effect.now.items.items)) }

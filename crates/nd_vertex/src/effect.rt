@@ -1,4 +1,4 @@
-//! What a vertex does on a record or a notice.
+//! What a vertex does on a record or a notification.
 ghost use Rattle.std.specs.Prelude.{◌≡◌, cond};
 ghost use Rattle.nd_vertex.specs.Edits.{turned};
 
@@ -10,12 +10,12 @@ use std::alloc::{Allocator, Global};
 #[derive(Debug, PartialEq, Eq, Drop)]
 pub struct Emission {
     pub port: u32,
-    /// The timestamp past the vertex.
+    /// The timestamp after the vertex.
     pub time: Timestamp,
     pub value: i64,
 }
 
-/// A change of one item's number, `None` if the item is not there.
+/// A change of the number of one item; `None` means that the item is not there.
 #[derive(Debug, PartialEq, Eq, Drop)]
 pub struct ItemEdit {
     pub key: ItemKey,
@@ -24,7 +24,7 @@ pub struct ItemEdit {
 }
 
 impl ItemEdit {
-    /// An equal edit.
+    /// Returns a copy of the edit.
     pub fn copy(&self) -> ItemEdit
         ensures { result ≡ self.now }
     {
@@ -35,7 +35,7 @@ impl ItemEdit {
         }
     }
 
-    /// The edit back.
+    /// Returns the inverse of the edit.
     pub fn turned(&self) -> ItemEdit
         ensures { result ≡ turned self.now }
     {
@@ -46,7 +46,7 @@ impl ItemEdit {
         }
     }
 
-    // The edit, or the edit back.
+    // Returns the edit, or its inverse if `back`.
     pub(crate) fn directed(&self, back: bool) -> ItemEdit
         ensures { result ≡ cond back (turned self.now) self.now }
     {
@@ -54,14 +54,14 @@ impl ItemEdit {
     }
 }
 
-/// What a vertex does on a record or a notice (this project's own rule).
+/// What a vertex does on a record or a notification (this project's own rule).
 pub struct Effect<A: Allocator = Global> {
     pub emits: Vec<Emission, A>,
-    /// Whether it asks for a notice at the timestamp.
+    /// Whether the vertex requests a notification at the timestamp.
     pub asks: bool,
-    /// The items that change, each once.
+    /// The edits of items, at most one per item.
     pub items: Vec<ItemEdit, A>,
-    /// Whether the value counts at a sink.
+    /// Whether the value is counted at a sink.
     pub sink: bool,
 }
 

@@ -1,9 +1,9 @@
-//! Why a vertex does nothing.
+//! Why a vertex cannot react.
 use nd_time::CounterFull;
 use std::alloc::AllocError;
 use thiserror::Error;
 
-/// Why a vertex does nothing on a record or a notice.
+/// Why a vertex cannot react to a record or a notification.
 #[derive(Clone, Copy, Debug, PartialEq, Eq, Drop, Error)]
 pub enum VertexFault {
     #[error("the loop counter is at its limit")]

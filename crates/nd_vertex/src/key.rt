@@ -1,12 +1,12 @@
-//! The keys under which a vertex keeps its numbers.
+//! The keys of the numbers that a vertex stores.
 ghost use Rattle.std.specs.Prelude.{◌≡◌};
 
 use nd_map::Key;
 use nd_time::Timestamp;
 
-/// An item at a timestamp: what a vertex keeps a number for.
+/// An item at a timestamp, for which a vertex stores a number.
 ///
-/// They are listed by timestamp, and then by item.
+/// Keys are ordered by timestamp, and then by item.
 #[derive(Debug, PartialEq, Eq, PartialOrd, Ord, Drop)]
 pub struct ItemKey {
     pub time: Timestamp,
@@ -14,7 +14,7 @@ pub struct ItemKey {
 }
 
 impl ItemKey {
-    /// An equal key.
+    /// Returns a copy of the key.
     pub fn copy(&self) -> ItemKey
         ensures { result ≡ self.now }
     {

@@ -1,4 +1,4 @@
-//! What the vertices of a dataflow graph keep, and what they do on records and notices.
+//! The state of a vertex of a dataflow graph, and what the vertex does on records and notifications.
 #![tactic(auto)]
 
 mod edits;

@@ -1,4 +1,4 @@
-//! What a vertex does on records and notices: the table of operators (this project's own rule).
+//! What a vertex does on records and notifications: the table of operators (this project's own rule).
 ghost use Rattle.std.specs.Prelude.{◌≡◌, ◌≢◌, ◌↔◌, Some, Err, IfOk, IfErr, IsErr, pos, length};
 ghost use Rattle.nd_graph.specs.Graph.{action_of};
 ghost use Rattle.nd_vertex.specs.Items.{item_key};
@@ -11,7 +11,7 @@ use nd_graph::{Action, Op};
 use nd_time::{CounterFull, Timestamp};
 use std::alloc::{AllocError, Allocator};
 
-// The timestamp past a vertex.
+// Returns the timestamp after the vertex.
 fn time_past(op: Op, time: &Timestamp) -> Result<Timestamp, CounterFull>
     requires { MayActAt (action_of op) (length time.now.counters) }
     ensures ok { IfOk result (λ t. t ≡ past_of op time.now) }
@@ -25,7 +25,7 @@ fn time_past(op: Op, time: &Timestamp) -> Result<Timestamp, CounterFull>
     }
 }
 
-// A number, or none if it is 0.
+// Returns the number, or `None` if it is 0.
 fn nonzero(n: i64) -> Option<i64>
     ensures number { number_of result ≡ n }
     ensures some { result ≢ Some (pos 0) }
@@ -33,7 +33,7 @@ fn nonzero(n: i64) -> Option<i64>
     if n == 0 { None } else { Some(n) }
 }
 
-// None, or one.
+// Returns a list of the item, or an empty list if there is none.
 fn list_of<T: Drop, A: Allocator>(alloc: A, item: Option<T>) -> Result<Vec<T, A>, AllocError>
     ensures { IfOk result (λ v. v.items ≡ listed item) }
 {
@@ -44,7 +44,7 @@ fn list_of<T: Drop, A: Allocator>(alloc: A, item: Option<T>) -> Result<Vec<T, A>
     Ok(list)
 }
 
-// What is emitted at a timestamp, none or one.
+// Returns the emission of an output at `time`, if there is an output.
 fn emission_of(time: Timestamp, output: Option<(u32, i64)>) -> Option<Emission>
     ensures { listed result ≡ emitted time (listed output) }
 {
@@ -54,15 +54,15 @@ fn emission_of(time: Timestamp, output: Option<(u32, i64)>) -> Option<Emission>
     }
 }
 
-// What a vertex does with a record, beside asking for a notice and counting.
+// What a vertex does on a record, apart from requesting a notification and counting.
 struct Reaction {
-    // The value that it emits, with its port.
+    // The port and the value that it emits.
     output: Option<(u32, i64)>,
     // The edit of the item that it changes.
     edit: Option<ItemEdit>,
 }
 
-// What an operator emits on a record whatever its vertex keeps, with its port.
+// Returns the port and the value that an operator emits on a record, for operators that do not depend on items.
 fn plain_output(op: Op, value: i64) -> Result<Option<(u32, i64)>, VertexFault>
     ensures ok { IfOk result (λ e. listed e ≡ plain_emissions op value) }
     ensures fits { IfOk result (λ _. AreEmittable (plain_emissions op value)) }
@@ -98,7 +98,7 @@ fn plain_output(op: Op, value: i64) -> Result<Option<(u32, i64)>, VertexFault>
 }
 
 impl<A: Allocator + Copy> VertexState<A> {
-    // The edit that gives an item a number or takes it out, none if it changes nothing.
+    // Returns the edit that sets an item to `new` or removes it, or `None` if that changes nothing.
     fn change(&self, time: &Timestamp, item: i64, new: Option<i64>) -> Option<ItemEdit>
         requires { new ≢ Some (pos 0) }
         ensures { LeadsTo self.now (listed result)
@@ -115,7 +115,7 @@ impl<A: Allocator + Copy> VertexState<A> {
         Some(ItemEdit { key, old, new })
     }
 
-    // A sum adds the value to what it keeps, and emits nothing yet.
+    // Adds the value to the stored sum, and emits nothing yet.
     fn sum(&self, time: &Timestamp, value: i64) -> Result<Reaction, VertexFault>
         ensures ok { IfOk result (λ r. IsReaction self.now Op.Sum time.now value r) }
         ensures fits { IfOk result (λ _. IsInRange (recorded Op.Sum self.now time.now value)) }
@@ -131,7 +131,7 @@ impl<A: Allocator + Copy> VertexState<A> {
         }
     }
 
-    // A distinct emits and keeps a value that it sees for the first time.
+    // Emits and stores a value that is new at its timestamp.
     fn distinct(&self, time: &Timestamp, value: i64) -> Reaction
         ensures ok { IsReaction self.now Op.Distinct time.now value result }
         ensures fits { IsInRange (recorded Op.Distinct self.now time.now value) }
@@ -148,7 +148,7 @@ impl<A: Allocator + Copy> VertexState<A> {
         }
     }
 
-    // What a vertex emits on a record, and which item it changes.
+    // Returns what a vertex emits on a record, and which item it changes.
     fn reaction(&self, op: Op, time: &Timestamp, value: i64) -> Result<Reaction, VertexFault>
         ensures ok { IfOk result (λ r. IsReaction self.now op time.now value r) }
         ensures fits { IfOk result (λ _. IsInRange (recorded op self.now time.now value)) }
@@ -166,10 +166,10 @@ impl<A: Allocator + Copy> VertexState<A> {
         }
     }
 
-    /// What the operator does on a record: what the table says, of the items that are here.
+    /// Returns the effect of a record on the operator, by the table and the items of this vertex.
     ///
-    /// The items stay as they are until the effect is committed. CounterFull (11) if a feedback's
-    /// last counter cannot rise, else ValueRange (12) if an emission or an item leaves 64 bits.
+    /// The items stay as they are until the effect is committed. Returns CounterFull (11) if the last counter of a
+    /// feedback's timestamp is at its limit, and else ValueRange (12) if an emission or an item does not fit 64 bits.
     pub fn on_record(
         &self,
         alloc: A,
@@ -195,7 +195,7 @@ impl<A: Allocator + Copy> VertexState<A> {
         })
     }
 
-    // The value that a notice makes a vertex emit, with its port.
+    // Returns the port and the value that a vertex emits on a notification.
     fn noticed_output(&self, op: Op, time: &Timestamp) -> Option<(u32, i64)>
         ensures { listed result ≡ (noticed op self.now time.now).emissions }
     {
@@ -208,7 +208,7 @@ impl<A: Allocator + Copy> VertexState<A> {
         }
     }
 
-    // The edits that take out all items at a timestamp. It looks at these alone.
+    // Returns the edits that remove all items at a timestamp. It reads no other items.
     fn removals(&self, alloc: A, time: &Timestamp) -> Result<Vec<ItemEdit, A>, AllocError>
         ensures { IfOk result (λ v. LeadsTo self.now v.items (without_time self.now time.now)) }
     {
@@ -231,7 +231,7 @@ impl<A: Allocator + Copy> VertexState<A> {
         Ok(edits)
     }
 
-    // The edits of the items that a notice changes.
+    // Returns the edits of the items that a notification changes.
     fn noticed_edits(
         &self,
         alloc: A,
@@ -247,9 +247,9 @@ impl<A: Allocator + Copy> VertexState<A> {
         }
     }
 
-    /// What the operator does on a notice: what the table says, of the items that are here.
+    /// Returns the effect of a notification on the operator, by the table and the items of this vertex.
     ///
-    /// The items stay as they are until the effect is committed. The one fault is Memory.
+    /// The items stay as they are until the effect is committed. The only error is Memory.
     pub fn on_notice(&self, alloc: A, op: Op, time: &Timestamp) -> Result<Effect<A>, VertexFault>
         ensures ok { IfOk result (IsEffect self.now op time.now (noticed op self.now time.now)) }
         ensures err { IfErr result (λ e. e ≡ VertexFault.Memory) }

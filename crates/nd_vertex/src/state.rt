@@ -1,4 +1,4 @@
-//! What a vertex keeps: numbers for items at timestamps.
+//! The state of a vertex: numbers for items at timestamps.
 ghost use Rattle.std.specs.Prelude.{◌≡◌, ◌≢◌, ◌<◌, ◌^◌, None, Some, OnOk, OnErr, IfOk, ℤ, pos, length};
 ghost use Rattle.std.specs.Map.Iter.{ShowsInOrder, deref_pair};
 ghost use Rattle.nd_map.specs.Counts.{none, entries as listed};
@@ -38,7 +38,7 @@ impl<A: Allocator> Model for VertexState<A> {
 }
 
 impl<A: Allocator + Copy> VertexState<A> {
-    /// No item. It takes no memory.
+    /// Returns a state without items. It does not allocate.
     pub fn new(alloc: A) -> VertexState<A>
         ensures { result ≡ none }
     {
@@ -47,7 +47,7 @@ impl<A: Allocator + Copy> VertexState<A> {
         }
     }
 
-    /// The number of an item at a timestamp, `None` if it is not there.
+    /// Returns the number of an item at a timestamp, or `None` if the item is not there.
     pub fn get(&self, time: &Timestamp, item: i64) -> Option<i64>
         ensures value { result ≡ item_of self.now (item_key time.now item) }
         ensures values { AreValues self.now }
@@ -59,7 +59,7 @@ impl<A: Allocator + Copy> VertexState<A> {
         self.map.get(&key)
     }
 
-    /// The items that are there with their numbers, by timestamp and then by item.
+    /// Returns an iterator over the items and their numbers, ordered by timestamp and then by item.
     pub fn entries(&self) -> Iter<'_, ItemKey, i64>
         ensures listed { result ≡ listed self.now }
         ensures runs { ShowsInOrder (deref_pair {K = ItemKey} {X = ℤ}) }
@@ -68,7 +68,7 @@ impl<A: Allocator + Copy> VertexState<A> {
         self.map.iter()
     }
 
-    /// Gives an item another number, or takes it out. An item that is there takes no memory.
+    /// Sets the number of an item, or removes the item. It does not allocate for an item that is there.
     pub fn set(
         &mut self,
         time: &Timestamp,
@@ -95,7 +95,7 @@ impl<A: Allocator + Copy> VertexState<A> {
         Ok(())
     }
 
-    /// Equal items.
+    /// Returns a copy of the items.
     pub fn copy(&self, alloc: A) -> Result<VertexState<A>, AllocError>
         ensures { IfOk result (λ s. s ≡ self.now) }
     {

@@ -7,7 +7,7 @@ use Rattle.std.proofs.lemmas.List.Sorted.{IsPermutation-sym, Contains-permutatio
 use Rattle.nd_time.specs.Time.{Time, IsAtOrBefore}
 use Rattle.nd_graph.specs.Graph.{Dataflow}
 use Rattle.nd_paths.specs.Order.{HasDepth, CouldResultIn}
-use Rattle.nd_paths.specs.Arrival.{TurnsInto, HasAtOrBefore}
+use Rattle.nd_paths.specs.Arrival.{TurnsInto, HasAtOrBefore, WalksLeadOn}
 use Rattle.nd_paths.specs.Point.{point_cmp}
 use Rattle.nd_paths.specs.declared.point.Pointstamp.{Pointstamp}
 use Rattle.nd_delta.specs.Delta.{DeltaValue, at, entries}
@@ -20,22 +20,18 @@ use Rattle.nd_view.proofs.Frontiers.{IsOrder, frontier_before}
 use Rattle.nd_view.proofs.Moves.{index_some}
 use Rattle.nd_view.proofs.TimeOrder.{before_through, before_both}
 
--- a pointstamp could result in what a walk makes of it
-abbrev pub LeadOn : Dataflow → Type 0
-LeadOn g = (s : Pointstamp) (x : ℕ) (t : Time) → TurnsInto g s x t → CouldResultIn g s (record { location = x; time = t })
-
 some_same : (a b : ℕ) → Some a ≡ Some b → a ≡ b
 some_same a b e = cc (e)
 
 -- times that walks to one location lead to have one depth
-pub one_depth : (g : Dataflow) → LeadOn g → (es : List (Pointstamp × ℤ)) (x : ℕ) (times : List Time) → AreReached g es x times → HaveOneDepth times
+pub one_depth : (g : Dataflow) → WalksLeadOn g → (es : List (Pointstamp × ℤ)) (x : ℕ) (times : List Time) → AreReached g es x times → HaveOneDepth times
 one_depth g on es x times reached s t (i, li, is_s) (j, lj, is_t) =
     let of : (u : Time) (k : ℕ) → k < length times → get_or times k u ≡ u → HasDepth g x (length u.counters) = λ u k lt is.
     let (e, among, turns) = reached.each k u lt in
     (on e.0 x u (subst (TurnsInto g e.0 x) is turns)).fits_t.depth in
     some_same (length s.counters) (length t.counters) (sym (of s i li is_s) ∙ of t j lj is_t)
 
-module _ (g : Dataflow) (order : IsOrder g) (on : LeadOn g) (v : Kept) (kept_for : IsFor g v) (f : DeltaValue) (part : IsPartWhere (IsOnFrontier g v.map) v.map f) (x : ℕ)
+module _ (g : Dataflow) (order : IsOrder g) (on : WalksLeadOn g) (v : Kept) (kept_for : IsFor g v) (f : DeltaValue) (part : IsPartWhere (IsOnFrontier g v.map) v.map f) (x : ℕ)
     (times sorted : List Time) (reached : AreReached g (entries f) x times) (permuted : IsPermutation times sorted) (least : List Time) (minimal : AreMinimal sorted least) where
   -- something on the frontier could result in all that a positive point could result in
   near : (s t : Pointstamp) → pos 0 <ℤ at v.map s → CouldResultIn g s t → (y : Pointstamp) × IsOnFrontier g v.map y × CouldResultIn g y t

@@ -62,17 +62,6 @@ module _ (ts : List Time) where
     pub rising : AreRising kept
     pub least : (j k : ℕ) (d : Time) → j + 1 ≡ length kept → k < length kept → IsUpTo (get_or kept j d).counters (get_or kept k d).counters
 
-  pub kept_none : (kept : List Time) → kept ≡ [] → IsKeptUpTo 0 kept
-  kept_none kept e =
-      let none : length kept ≡ 0 = ap length e in
-      record {
-        from = λ k d lt. absurd (omega (arith, lt, none));
-        covers = λ m d lt. absurd (omega (arith, lt));
-        apart = λ j k d lt. absurd (omega (arith, lt, none));
-        rising = λ j k d lt less. absurd (omega (arith, lt, less, none));
-        least = λ j k d is. absurd (omega (arith, is, none));
-      }
-
   module _ (alike : HaveOneDepth ts) (sorted : IsSorted time_cmp ts) (i : ℕ) (t : Time) (lt : i < length ts) (is : t ≡ get_or ts i t) (kept : List Time) (h : IsKeptUpTo i kept) where
     here : Contains ts t
     here = (i, lt, sym is)

@@ -1,5 +1,5 @@
 -- The times into which walks turn those of some entries, entry by entry.
-use Rattle.std.proofs.Common.{◌≡◌, ◌+◌, ◌≤◌, ◌<◌, ℕ, ℤ, List, [], ◌++◌, length, get_or, sym, ap, subst, ◌∙◌, inl, inr, arith}
+use Rattle.std.proofs.Common.{◌≡◌, ◌+◌, ◌≤◌, ◌<◌, ℕ, ℤ, List, ◌++◌, length, get_or, sym, ap, subst, ◌∙◌, inl, inr, arith}
 use Rattle.std.specs.Prelude.{All, Contains}
 use Rattle.std.proofs.lemmas.Bool.{cases_lt}
 use Rattle.std.proofs.lemmas.List.{get_or_default}
@@ -7,7 +7,7 @@ use Rattle.std.proofs.lemmas.List.Elements.{All-append, Contains-append_left, Co
 use Rattle.nd_time.specs.Time.{Time}
 use Rattle.nd_graph.specs.Graph.{Dataflow}
 use Rattle.nd_paths.specs.Order.{CouldResultIn}
-use Rattle.nd_paths.specs.Arrival.{TurnsInto, HasAtOrBefore}
+use Rattle.nd_paths.specs.Arrival.{TurnsInto, CoverAll}
 use Rattle.nd_paths.specs.declared.point.Pointstamp.{Pointstamp}
 use Rattle.nd_view.specs.Arrivals.{AreReached}
 
@@ -18,16 +18,10 @@ module _ (g : Dataflow) (es : List (Pointstamp × ℤ)) (x : ℕ) where
   -- the times of the first entries
   pub record AreReachedUpTo (i : ℕ) (times : List Time) : Type 0 where
     pub each : All IsOfOne times
-    pub least : (k : ℕ) (d : Pointstamp × ℤ) → k < i → k < length es → (t : Time) → CouldResultIn g (get_or es k d).0 (record { location = x; time = t }) → HasAtOrBefore times t
-
-  pub reached_none : (times : List Time) → times ≡ [] → AreReachedUpTo 0 times
-  reached_none times e = record {
-    each = λ k d lt. absurd (let none = ap length e in omega (arith, lt, none));
-    least = λ k d lt. absurd (omega (arith, lt));
-  }
+    pub least : (k : ℕ) (d : Pointstamp × ℤ) → k < i → k < length es → CoverAll g (get_or es k d).0 x times
 
   pub reached_one : (i : ℕ) (e : Pointstamp × ℤ) → i < length es → e ≡ get_or es i e → (times own more : List Time) → more ≡ times ++ own → All (TurnsInto g e.0 x) own
-      → ((t : Time) → CouldResultIn g e.0 (record { location = x; time = t }) → HasAtOrBefore own t) → AreReachedUpTo i times → AreReachedUpTo (i + 1) more
+      → CoverAll g e.0 x own → AreReachedUpTo i times → AreReachedUpTo (i + 1) more
   reached_one i e lt is times own more more_is each least h = record {
     each = subst (All IsOfOne) (sym more_is) (All-append IsOfOne times own h.each (λ k d less. (e, (i, lt, sym is), each k d less)));
     least = λ k d less within t could. elim (cases_lt k i) [

@@ -1,11 +1,12 @@
--- Which times can still arrive at a location, by a view (this project's own rule; a probe's frontier in timely dataflow).
+-- The times that can still arrive at a location, by a view (this project's own rule; in timely
+-- dataflow the frontier of a probe).
 use Rattle.std.specs.Prelude.{◌≡◌, ◌<◌, ℕ, ℤ, pos, ◌<ℤ◌, All, Contains, List, length, slice_index_or, ◌↔◌}
 use Rattle.std.specs.declared.cmp.Ordering.TheVariants.{Less}
 use Rattle.nd_time.specs.Time.{Time, IsAtOrBefore}
 use Rattle.nd_time.specs.Listing.{time_cmp}
 use Rattle.nd_graph.specs.Graph.{Dataflow}
-use Rattle.nd_paths.specs.Order.{HasDepth, CouldResultIn}
-use Rattle.nd_paths.specs.Arrival.{TurnsInto, HasAtOrBefore}
+use Rattle.nd_paths.specs.Order.{HasDepth}
+use Rattle.nd_paths.specs.Arrival.{TurnsInto, HasAtOrBefore, CoverAll}
 use Rattle.nd_paths.specs.declared.point.Pointstamp.{Pointstamp}
 use Rattle.nd_delta.specs.Delta.{DeltaValue, at}
 use Rattle.nd_view.specs.View.{IsPassed}
@@ -23,7 +24,9 @@ pub record IsFirstArrival (g : Dataflow) (v : DeltaValue) (x : ℕ) (t : Time) :
 
 -- each time is listed before those that follow it: by epoch, then by counters
 abbrev pub AreRising : List Time → Type 0
-AreRising times = (i j : ℕ) (d : Time) → i < j → j < length times → time_cmp (slice_index_or times i d) (slice_index_or times j d) ≡ Less
+AreRising times =
+    (i j : ℕ) (d : Time) → i < j → j < length times
+    → time_cmp (slice_index_or times i d) (slice_index_or times j d) ≡ Less
 
 -- these are the minimal times that can arrive at x, each once, in the order of listing
 pub record AreArrivals (g : Dataflow) (v : DeltaValue) (x : ℕ) (times : List Time) : Type 0 where
@@ -33,22 +36,28 @@ pub record AreArrivals (g : Dataflow) (v : DeltaValue) (x : ℕ) (times : List T
 
 -- a time of the location's depth is passed there exactly if none of these times is at or before it
 abbrev pub AreExact : Dataflow → DeltaValue → ℕ → List Time → Type 0
-AreExact g v x times = (t : Time) → HasDepth g x (length t.counters) → IsPassed g v (record { location = x; time = t }) ↔ (HasAtOrBefore times t → ⊥)
+AreExact g v x times =
+    (t : Time) → HasDepth g x (length t.counters)
+    → IsPassed g v (record { location = x; time = t }) ↔ (HasAtOrBefore times t → ⊥)
 
 -- none of these times is at or before another
 abbrev pub AreApart : List Time → Type 0
-AreApart times = (i j : ℕ) (d : Time) → i < length times → j < length times → IsAtOrBefore (slice_index_or times i d) (slice_index_or times j d) → i ≡ j
+AreApart times =
+    (i j : ℕ) (d : Time) → i < length times → j < length times
+    → IsAtOrBefore (slice_index_or times i d) (slice_index_or times j d) → i ≡ j
 
 -- ---- how they are found
 
--- of each of these entries each time into which some walk turns its own has one of these at or before it, and these are such times
+-- walks turn the times of these entries into these times, and each time at x that one of the entries
+-- could result in has one of these at or before it
 pub record AreReached (g : Dataflow) (es : List (Pointstamp × ℤ)) (x : ℕ) (times : List Time) : Type 0 where
   pub each : All (λ t. (e : Pointstamp × ℤ) × Contains es e × TurnsInto g e.0 x t) times
-  pub least : (e : Pointstamp × ℤ) → Contains es e → (t : Time) → CouldResultIn g e.0 (record { location = x; time = t }) → HasAtOrBefore times t
+  pub least : (e : Pointstamp × ℤ) → Contains es e → CoverAll g e.0 x times
 
 -- their counters are equally many
 abbrev pub HaveOneDepth : List Time → Type 0
-HaveOneDepth times = (s t : Time) → Contains times s → Contains times t → length s.counters ≡ length t.counters
+HaveOneDepth times =
+    (s t : Time) → Contains times s → Contains times t → length s.counters ≡ length t.counters
 
 -- the minimal ones of these times, each once, in the order of listing
 pub record AreMinimal (times minimal : List Time) : Type 0 where

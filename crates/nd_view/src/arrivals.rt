@@ -1,4 +1,4 @@
-//! Which times can still arrive at a location, by a view.
+//! The times that can still arrive at a location, by a view.
 ghost use Rattle.std.specs.Prelude.{◌≡◌, ◌++◌, IfOk, IsSorted, OnOk};
 ghost use Rattle.nd_time.specs.Listing.{time_cmp};
 ghost use Rattle.nd_view.specs.Kept.{IsFor};
@@ -8,7 +8,7 @@ use crate::View;
 use nd_paths::{ArrivalTime, Paths, Pointstamp, arrival_times_are_listed};
 use std::alloc::{AllocError, Allocator};
 
-// Appends more times.
+// Appends copies of `more` to `times`.
 fn push_all<A: Allocator>(
     times: &mut Vec<ArrivalTime, A>,
     more: &[ArrivalTime],
@@ -21,7 +21,7 @@ fn push_all<A: Allocator>(
     Ok(())
 }
 
-// Returns the times into which walks to a location turn those of the entries: of each entry the least ones.
+// Returns times into which walks to the location turn those of the entries, the least ones among them.
 fn reached_from<A: Allocator, B: Allocator>(
     alloc: A,
     paths: &Paths<B>,
@@ -38,8 +38,8 @@ fn reached_from<A: Allocator, B: Allocator>(
     Ok(times)
 }
 
-// Returns the minimal ones of some times, which are listed by epoch and then by counters: as the counters of what is kept
-// fall, a time that has one of them at or before it has the last one there.
+// Returns the minimal times of a list in order of epoch, then counters. The counters of the times that it
+// keeps fall, so a time with any of them at or before it has the last one at or before it.
 fn minimal<A: Allocator>(alloc: A, times: &[ArrivalTime]) -> Result<Vec<ArrivalTime, A>, AllocError>
     requires depth { HaveOneDepth times.now }
     requires sorted { IsSorted time_cmp times.now }
@@ -59,10 +59,12 @@ fn minimal<A: Allocator>(alloc: A, times: &[ArrivalTime]) -> Result<Vec<ArrivalT
 }
 
 impl<A: Allocator + Copy> View<A> {
-    /// Returns the times that can still arrive at a location, by epoch and then by counters: the minimal ones of those
-    /// into which walks to `location` turn the times of the positive pointstamps. There is none if it is not there.
+    /// Returns the times that can still arrive at `location`, in order of epoch, then counters: the minimal
+    /// times into which walks to it turn those of the positive pointstamps. The list is empty if there is no
+    /// such location.
     ///
-    /// A time is passed there exactly if none of them is at or before it, and none of them is at or before another.
+    /// A time is passed at the location exactly if none of the returned times is at or before it. None of
+    /// them is at or before another.
     pub fn arrivals<B: Allocator>(
         &self,
         alloc: A,

@@ -1,4 +1,4 @@
-//! What is asked of single entries.
+//! Tests of single entries.
 
 ghost use Rattle.std.specs.Prelude.{◌↔◌, ◌<ℤ◌, pos, IsTrue};
 ghost use Rattle.nd_view.specs.View.{IsBefore};
@@ -7,7 +7,7 @@ ghost use Rattle.nd_view.specs.Room.{IsWithinRoom};
 use nd_paths::{Paths, Pointstamp};
 use std::alloc::Allocator;
 
-/// Whether one pointstamp is at or before another, or strictly before it.
+/// Returns whether `first` is at or before `point` or, if `strictly`, strictly before it.
 pub fn is_before<B: Allocator>(
     first: &Pointstamp,
     paths: &Paths<B>,
@@ -23,19 +23,20 @@ pub fn is_before<B: Allocator>(
     }
 }
 
-/// Whether an entry is positive, and at or before a pointstamp, or strictly before it.
+/// Returns whether an entry is positive and at or before `point` or, if `strictly`, strictly before it.
 pub fn is_positive_before<B: Allocator>(
     entry: &(Pointstamp, i64),
     paths: &Paths<B>,
     point: &Pointstamp,
     strictly: bool,
 ) -> bool
-    ensures { IsTrue result ↔ ((pos 0 <ℤ entry.now.1) × IsBefore paths.now strictly entry.now.0 point.now) }
+    ensures { IsTrue result
+        ↔ ((pos 0 <ℤ entry.now.1) × IsBefore paths.now strictly entry.now.0 point.now) }
 {
     entry.1 > 0 && is_before(&entry.0, paths, point, strictly)
 }
 
-/// Whether an integer in the place of another takes memory.
+/// Returns whether it takes memory to replace the integer `old` by `new`.
 pub fn takes_room(old: i64, new: i64) -> bool
     ensures { IsTrue result ↔ (IsWithinRoom old new → ⊥) }
 {

@@ -1,4 +1,4 @@
-//! What is stored beside a map: counted anew, and moved when a pointstamp came or went.
+//! Precursor counts: counted anew, or adjusted when a pointstamp became positive or ceased to be.
 
 ghost use Rattle.std.specs.Prelude.{◌≡◌, ◌↔◌, ◌≤◌, ◌+◌, ◌<◌, ◌^◌, Contains, IsTrue, IfOk, IfSome, length};
 ghost use Rattle.nd_map.specs.Listed.{IsListed};
@@ -13,14 +13,14 @@ use nd_delta::Delta;
 use nd_paths::{Paths, Pointstamp};
 use std::alloc::{AllocError, Allocator};
 
-// How many precursors of a pointstamp have epochs below a number.
+// The number of precursors of a pointstamp whose epochs are below a number.
 #[derive(Drop)]
 struct Known {
     below: u32,
     count: u64,
 }
 
-// Whether a pointstamp stands at the location of another with a smaller epoch, and neither has counters.
+// Returns whether `first` is at the location of `point` with a smaller epoch, and neither has counters.
 fn is_near(first: &Pointstamp, point: &Pointstamp) -> bool
     ensures { IsTrue result ↔ IsNear first.now point.now }
 {
@@ -30,7 +30,7 @@ fn is_near(first: &Pointstamp, point: &Pointstamp) -> bool
         && is_outside(point)
 }
 
-// The positive entry before a pointstamp, if it is near.
+// Returns the positive entry that is listed before `point`, if it is near.
 fn nearest<'a>(kept: &'a [(Pointstamp, u64)], point: &Pointstamp) -> Option<&'a (Pointstamp, u64)>
     ensures { IfSome result (λ e. Contains kept.now e.now × IsNear e.now.0 point.now) }
 {
@@ -46,7 +46,8 @@ fn nearest<'a>(kept: &'a [(Pointstamp, u64)], point: &Pointstamp) -> Option<&'a 
     }
 }
 
-// What the count of the nearest positive entry says: up to its epoch the two have the same precursors, but for itself.
+// Returns what the count of the nearest positive entry says of `point`: up to the epoch of that entry both
+// have the same precursors, except for the entry itself.
 fn known_before<A: Allocator, B: Allocator>(
     counts: &Delta<A>,
     kept: &[(Pointstamp, u64)],
@@ -78,7 +79,8 @@ fn known_before<A: Allocator, B: Allocator>(
     }
 }
 
-// The number of positive entries strictly before a pointstamp, by those whose epochs are not below what is known.
+// Returns the number of positive entries strictly before a pointstamp. It adds those whose epochs are not
+// below `known.below` to the known number.
 fn count_from<A: Allocator, B: Allocator>(
     counts: &Delta<A>,
     paths: &Paths<B>,
@@ -114,10 +116,11 @@ fn count_from<A: Allocator, B: Allocator>(
     count
 }
 
-/// The number of positive entries strictly before a pointstamp.
+/// Returns the number of positive entries strictly before a pointstamp.
 ///
-/// By the nearest positive entry, if that has no counters: each location with a walk to this one takes a logarithm of its
-/// entries, and one test for each whose epoch lies between. Else one test for each entry whose epoch is not greater.
+/// It begins with the count of the nearest positive entry, if that has no counters. Then each location with
+/// a walk to this one costs a logarithm of its entries and a test for each entry whose epoch lies between.
+/// Otherwise it tests each entry whose epoch is not greater.
 pub fn count_before<A: Allocator, B: Allocator>(
     counts: &Delta<A>,
     kept: &[(Pointstamp, u64)],
@@ -136,7 +139,7 @@ pub fn count_before<A: Allocator, B: Allocator>(
     )
 }
 
-// One more, or one less.
+// Returns one more or one less.
 fn moved_by_one(n: u64, up: bool) -> u64
     requires room { IsTrue up → n + 1 < 2 ^ 64 }
     requires some { (IsTrue up → ⊥) → 1 ≤ n }
@@ -145,10 +148,11 @@ fn moved_by_one(n: u64, up: bool) -> u64
     if up { n + 1 } else { n - 1 }
 }
 
-/// Moves the precursor counts of the positive pointstamps after one that came or went. It takes no memory.
+/// Adjusts the precursor counts of the positive pointstamps after one that became positive or ceased to be.
+/// It takes no memory.
 ///
-/// Of each location to which a walk leads it passes over the entries with smaller epochs by a logarithm of their number.
-/// Without counters it moves each of the others; with counters it tests each.
+/// At each location to which a walk leads it skips the entries with smaller epochs, in a logarithm of their
+/// number. Outside loops it adjusts each of the others; inside loops it tests each first.
 pub fn shift<A: Allocator, B: Allocator>(
     precursor_counts: &mut PrecursorCounts<A>,
     counts: &Delta<A>,
@@ -183,7 +187,7 @@ pub fn shift<A: Allocator, B: Allocator>(
     }
 }
 
-/// Counts for each positive pointstamp those strictly before it.
+/// Returns for each positive pointstamp the number of positive ones strictly before it.
 pub fn counted_anew<A: Allocator + Copy, B: Allocator>(
     alloc: A,
     counts: &Delta<A>,

@@ -27,11 +27,12 @@ use std::alloc::{AllocError, Allocator, Global};
 use std::marker::Model;
 use stored::Stored;
 
-// A change with more entries has the whole view made anew: the lists are joined, and each count is counted once.
+// For a change with more entries the whole view is made anew: the lists are merged, and each precursor
+// count is counted once.
 const MANY: usize = 200;
 
-/// A finite map from pointstamps to counts other than 0, which may be negative for a while.
-/// Beside it stands for each positive pointstamp the number of positive ones strictly before it.
+/// A finite map from pointstamps to counts other than 0, which may be negative for a while, and for each
+/// positive pointstamp its precursor count: the number of positive ones strictly before it.
 pub struct View<A: Allocator + Copy = Global> {
     stored: Stored<A>,
     alloc: A,
@@ -57,7 +58,7 @@ impl<A: Allocator + Copy> Model for View<A> {
 }
 
 impl<A: Allocator + Copy> View<A> {
-    /// The view with no entry, for whichever paths. It takes no memory.
+    /// Returns the view with no entry, for any paths. It takes no memory.
     pub fn new(alloc: A) -> View<A>
         ensures value { result.map ≡ none }
         ensures for_all { (g : Dataflow) → IsFor g result }
@@ -68,7 +69,7 @@ impl<A: Allocator + Copy> View<A> {
         }
     }
 
-    /// The count of a pointstamp, 0 if it has none.
+    /// Returns the count of a pointstamp, 0 if it has none.
     pub fn get(&self, point: &Pointstamp) -> i64
         ensures value { result ≡ at self.now.map point.now }
         ensures within { unsigned_abs result ≤ max_count }
@@ -76,7 +77,7 @@ impl<A: Allocator + Copy> View<A> {
         self.stored.counts().get(point)
     }
 
-    /// The entries in the order of listing.
+    /// Returns the entries in the order of listing.
     pub fn entries(&self) -> &[(Pointstamp, i64)]
         ensures listed { result.now ≡ listed self.now.map }
         ensures within { IsWithin self.now.map }
@@ -84,22 +85,24 @@ impl<A: Allocator + Copy> View<A> {
         self.stored.counts().entries()
     }
 
-    /// The precursor count of a positive pointstamp: the number of positive ones strictly before it, by the
-    /// paths of the earlier calls.
+    /// Returns the precursor count of a positive pointstamp by the paths of the earlier calls, and `None` for
+    /// one that is not positive.
     pub fn kept(&self, point: &Pointstamp) -> Option<u64>
         ensures { (g : Dataflow) → IsFor g self.now → IsKeptAt g self.now.map point.now result }
     {
         self.stored.kept(point)
     }
 
-    /// What is stored is settled by the map: two views of one order are equal if their maps are.
+    /// States that the map determines the precursor counts: two views of one order are equal if their maps
+    /// are.
     pub fn is_settled(&self)
-        ensures { (g : Dataflow) (v : Kept) → IsFor g v → IsFor g self.now → v.map ≡ self.now.map → v ≡ self.now }
+        ensures { (g : Dataflow) (v : Kept) → IsFor g v → IsFor g self.now
+            → v.map ≡ self.now.map → v ≡ self.now }
     {
         let _ = &self.stored;
     }
 
-    /// An equal view.
+    /// Returns an equal view.
     pub fn copy(&self, alloc: A) -> Result<View<A>, AllocError>
         ensures { IfOk result (λ v. v ≡ self.now) }
     {
@@ -109,7 +112,7 @@ impl<A: Allocator + Copy> View<A> {
         })
     }
 
-    // Adds a change, or takes it back: the whole view anew.
+    // Adds a change or, if `minus`, subtracts it, and makes the whole view anew.
     fn change_anew<B: Allocator>(
         &mut self,
         paths: &Paths<B>,
@@ -120,7 +123,8 @@ impl<A: Allocator + Copy> View<A> {
         ensures paths { IsFor paths.now self.new }
         ensures ok { OnOk result (self.new.map ≡ combined minus self.old.map delta.now) }
         ensures err { OnErr result (self.new ≡ self.old) }
-        ensures full { (result ≡ Err (DeltaFault.DeltaFull)) ↔ IsTooLarge (combined minus self.old.map delta.now) }
+        ensures full { (result ≡ Err (DeltaFault.DeltaFull))
+            ↔ IsTooLarge (combined minus self.old.map delta.now) }
     {
         let counts = self.stored.counts().combine(self.alloc, delta, minus)?;
         let Ok(stored) = Stored::of(self.alloc, counts, paths) else {
@@ -130,7 +134,7 @@ impl<A: Allocator + Copy> View<A> {
         Ok(())
     }
 
-    // Adds a change, or takes it back.
+    // Adds a change or, if `minus`, subtracts it.
     fn change<B: Allocator>(
         &mut self,
         paths: &Paths<B>,
@@ -141,7 +145,8 @@ impl<A: Allocator + Copy> View<A> {
         ensures paths { IsFor paths.now self.new }
         ensures ok { OnOk result (self.new.map ≡ combined minus self.old.map delta.now) }
         ensures err { OnErr result (self.new ≡ self.old) }
-        ensures full { (result ≡ Err (DeltaFault.DeltaFull)) ↔ IsTooLarge (combined minus self.old.map delta.now) }
+        ensures full { (result ≡ Err (DeltaFault.DeltaFull))
+            ↔ IsTooLarge (combined minus self.old.map delta.now) }
     {
         if delta.len() > MANY {
             return self.change_anew(paths, delta, minus);
@@ -149,7 +154,7 @@ impl<A: Allocator + Copy> View<A> {
         if !self.stored.add(paths, delta.entries(), minus) {
             return Err(self.stored.refusal(delta, minus));
         }
-        // What is there is within the limit.
+        // The entries are within the limit.
         let _ = self.stored.counts().entries();
         Ok(())
     }
@@ -165,12 +170,13 @@ impl<A: Allocator + Copy> View<A> {
         ensures ok { OnOk result (self.new.map ≡ plus self.old.map delta.now) }
         ensures undone { OnOk result (minus self.new.map delta.now ≡ self.old.map) }
         ensures err { OnErr result (self.new ≡ self.old) }
-        ensures full { (result ≡ Err (DeltaFault.DeltaFull)) ↔ IsTooLarge (plus self.old.map delta.now) }
+        ensures full { (result ≡ Err (DeltaFault.DeltaFull))
+            ↔ IsTooLarge (plus self.old.map delta.now) }
     {
         self.change(paths, delta, false)
     }
 
-    /// Takes a change back. The paths are those of the earlier calls.
+    /// Subtracts a change. The paths are those of the earlier calls.
     pub fn unapply<B: Allocator>(
         &mut self,
         paths: &Paths<B>,
@@ -181,12 +187,14 @@ impl<A: Allocator + Copy> View<A> {
         ensures ok { OnOk result (self.new.map ≡ minus self.old.map delta.now) }
         ensures undone { OnOk result (plus self.new.map delta.now ≡ self.old.map) }
         ensures err { OnErr result (self.new ≡ self.old) }
-        ensures full { (result ≡ Err (DeltaFault.DeltaFull)) ↔ IsTooLarge (minus self.old.map delta.now) }
+        ensures full { (result ≡ Err (DeltaFault.DeltaFull))
+            ↔ IsTooLarge (minus self.old.map delta.now) }
     {
         self.change(paths, delta, true)
     }
 
-    // Whether something positive is at or before a pointstamp, or strictly before it. It looks at the frontier alone.
+    // Returns whether something positive is at or before `point` or, if `strictly`, strictly before it. It
+    // looks only at the frontier.
     fn is_hindered<B: Allocator>(
         &self,
         paths: &Paths<B>,
@@ -194,7 +202,8 @@ impl<A: Allocator + Copy> View<A> {
         strictly: bool,
     ) -> bool
         requires { IsFor paths.now self.now }
-        ensures { IsTrue result ↔ ((x : Pointstamp) × IsPositiveBefore paths.now self.now.map strictly point.now x) }
+        ensures { IsTrue result ↔ ((x : Pointstamp)
+            × IsPositiveBefore paths.now self.now.map strictly point.now x) }
     {
         paths.order_is_partial();
         for member in self.stored.frontier() {
@@ -205,7 +214,7 @@ impl<A: Allocator + Copy> View<A> {
         false
     }
 
-    // The least positive pointstamp at or before this one, or strictly before it.
+    // Returns the least positive pointstamp at or before `point` or, if `strictly`, strictly before it.
     fn least_before<B: Allocator>(
         &self,
         paths: &Paths<B>,
@@ -213,8 +222,10 @@ impl<A: Allocator + Copy> View<A> {
         strictly: bool,
     ) -> Option<Pointstamp>
         requires { IsFor paths.now self.now }
-        ensures nothing { IsNone result ↔ ((x : _) → IsPositiveBefore paths.now self.now.map strictly point.now x → ⊥) }
-        ensures least { IfSome result (IsLeast (IsPositiveBefore paths.now self.now.map strictly point.now)) }
+        ensures nothing { IsNone result ↔ ((x : _)
+            → IsPositiveBefore paths.now self.now.map strictly point.now x → ⊥) }
+        ensures least { IfSome result
+            (IsLeast (IsPositiveBefore paths.now self.now.map strictly point.now)) }
     {
         if !self.is_hindered(paths, point, strictly) {
             return None;
@@ -227,7 +238,7 @@ impl<A: Allocator + Copy> View<A> {
         None
     }
 
-    /// Whether nothing positive is at or before a pointstamp. Negative entries do not hinder.
+    /// Returns whether nothing positive is at or before `point`. Negative entries do not matter.
     pub fn passed<B: Allocator>(&self, paths: &Paths<B>, point: &Pointstamp) -> bool
         requires { IsFor paths.now self.now }
         ensures { IsTrue result ↔ IsPassed paths.now self.now.map point.now }
@@ -235,7 +246,7 @@ impl<A: Allocator + Copy> View<A> {
         !self.is_hindered(paths, point, false)
     }
 
-    /// The least positive pointstamp at or before this one.
+    /// Returns the least positive pointstamp at or before `point`.
     pub fn blocker<B: Allocator>(&self, paths: &Paths<B>, point: &Pointstamp) -> Option<Pointstamp>
         requires { IsFor paths.now self.now }
         ensures passed { IsNone result ↔ IsPassed paths.now self.now.map point.now }
@@ -244,20 +255,22 @@ impl<A: Allocator + Copy> View<A> {
         self.least_before(paths, point, false)
     }
 
-    /// The least positive pointstamp strictly before this one.
+    /// Returns the least positive pointstamp strictly before `point`.
     pub fn blocker_before<B: Allocator>(
         &self,
         paths: &Paths<B>,
         point: &Pointstamp,
     ) -> Option<Pointstamp>
         requires { IsFor paths.now self.now }
-        ensures nothing { IsNone result ↔ ((x : _) → IsPrecursor paths.now self.now.map point.now x → ⊥) }
+        ensures nothing { IsNone result
+            ↔ ((x : _) → IsPrecursor paths.now self.now.map point.now x → ⊥) }
         ensures least { IfSome result (IsLeast (IsPrecursor paths.now self.now.map point.now)) }
     {
         self.least_before(paths, point, true)
     }
 
-    /// The number of positive pointstamps strictly before this one: the stored one if this one is positive.
+    /// Returns the number of positive pointstamps strictly before `point`. The number is stored if `point` is
+    /// positive.
     pub fn precursors<B: Allocator>(&self, paths: &Paths<B>, point: &Pointstamp) -> u64
         requires { IsFor paths.now self.now }
         ensures { IsCount (IsPrecursor paths.now self.now.map point.now) self.now.map result }
@@ -268,15 +281,16 @@ impl<A: Allocator + Copy> View<A> {
         }
     }
 
-    /// The part of the view at its positive pointstamps that have nothing positive strictly before them.
-    /// If there is none it takes no memory.
+    /// Returns the part of the view at its positive pointstamps with nothing positive strictly before them.
+    /// It takes no memory if there are none.
     pub fn frontier<B: Allocator>(
         &self,
         alloc: A,
         _paths: &Paths<B>,
     ) -> Result<Delta<A>, AllocError>
         requires { IsFor _paths.now self.now }
-        ensures value { IfOk result (IsPartWhere (IsOnFrontier _paths.now self.now.map) self.now.map) }
+        ensures value { IfOk result
+            (IsPartWhere (IsOnFrontier _paths.now self.now.map) self.now.map) }
         ensures some { OnErr result ((x : Pointstamp) × IsOnFrontier _paths.now self.now.map x) }
     {
         self.stored.counts().part(alloc, self.stored.frontier())

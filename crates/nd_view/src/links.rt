@@ -1,4 +1,4 @@
-//! Pointstamps at two locations: what is known of the locations decides for most of them.
+//! Tests of pointstamps at two locations: what is known of the locations decides most of them.
 
 ghost use Rattle.std.specs.Prelude.{◌≡◌, ◌≢◌, ◌↔◌, ◌≤◌, ◌<◌, [], length, IsTrue};
 ghost use Rattle.nd_map.specs.Listed.{IsListed};
@@ -9,7 +9,7 @@ ghost use Rattle.nd_view.specs.Links.{IsCut, IsEpochal, IsRun, AreSmaller, AreNo
 use nd_paths::{Paths, Pointstamp};
 use std::alloc::Allocator;
 
-/// Whether a walk leads from the one to the other, and the epochs rise.
+/// Returns whether a walk leads from the location of `first` to that of `second` and the epochs do not fall.
 #[inline(always)]
 pub fn leads<B: Allocator>(paths: &Paths<B>, first: &Pointstamp, second: &Pointstamp) -> bool
     ensures { (IsTrue result → ⊥) → IsCut paths.now first.now second.now }
@@ -21,7 +21,7 @@ pub fn leads<B: Allocator>(paths: &Paths<B>, first: &Pointstamp, second: &Points
         && paths.leads(first.location, second.location)
 }
 
-/// Whether a pointstamp has no counters.
+/// Returns whether a pointstamp has no counters.
 #[inline(always)]
 pub fn is_outside(point: &Pointstamp) -> bool
     ensures { IsTrue result ↔ (point.now.time.counters ≡ []) }
@@ -29,15 +29,15 @@ pub fn is_outside(point: &Pointstamp) -> bool
     point.time.depth() == 0
 }
 
-/// Whether epochs alone decide between times outside all loops at the locations of two pointstamps: so they do if both
-/// lie outside, and the one could result in the other.
+/// Returns whether epochs alone decide between times outside all loops at the locations of two pointstamps.
+/// They do if both pointstamps have no counters and the first could result in the second.
 pub fn is_epochal<B: Allocator>(paths: &Paths<B>, first: &Pointstamp, second: &Pointstamp) -> bool
     ensures { IsTrue result → IsEpochal paths.now first.now.location second.now.location }
 {
     is_outside(first) && is_outside(second) && paths.before(first, second)
 }
 
-// Whether two pointstamps with no counters are not the same.
+// Returns whether two pointstamps with no counters differ.
 #[inline(always)]
 fn differ(first: &Pointstamp, second: &Pointstamp) -> bool
     requires first { first.now.time.counters ≡ [] }
@@ -47,7 +47,7 @@ fn differ(first: &Pointstamp, second: &Pointstamp) -> bool
     first.time.epoch() != second.time.epoch() || first.location != second.location
 }
 
-/// Whether the first pointstamp is strictly before the second.
+/// Returns whether the first pointstamp is strictly before the second.
 #[inline(always)]
 pub fn is_strictly_before<B: Allocator>(
     paths: &Paths<B>,
@@ -67,7 +67,8 @@ pub fn is_strictly_before<B: Allocator>(
     paths.strictly_before(first, second)
 }
 
-/// Past the entries at the location of one of them. It takes a logarithm of their number.
+/// Returns the index after the last entry at the location of the entry `first`, in time logarithmic in
+/// their number.
 #[inline(always)]
 pub fn run_end<V>(entries: &[(Pointstamp, V)], first: usize) -> usize
     requires listed { IsListed point_cmp entries.now }
@@ -92,7 +93,8 @@ pub fn run_end<V>(entries: &[(Pointstamp, V)], first: usize) -> usize
     end
 }
 
-/// Past the entries of a run whose epochs are smaller than this one. It takes a logarithm of their number.
+/// Returns the index after the last entry of a run whose epoch is less than `epoch`, in time logarithmic in
+/// their number.
 #[inline(always)]
 pub fn epoch_from<V>(entries: &[(Pointstamp, V)], first: usize, end: usize, epoch: u32) -> usize
     requires listed { IsListed point_cmp entries.now }

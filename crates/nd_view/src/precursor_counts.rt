@@ -1,4 +1,4 @@
-//! The precursor counts of pointstamps, and beside them the list of those whose count is 0, changed together.
+//! The precursor counts of pointstamps, and the list of the pointstamps whose count is 0, changed together.
 
 ghost use Rattle.std.specs.Prelude.{◌≡◌, ◌≢◌, [], ◌↔◌, ◌≤◌, ◌<◌, Contains, IfOk, IsTrue, None, OnErr, OnOk, Some, length, vec_capacity};
 ghost use Rattle.std.specs.FinMap.{find, put};
@@ -13,8 +13,10 @@ use nd_paths::Pointstamp;
 use std::alloc::{AllocError, Allocator, Global};
 use std::marker::Model;
 
-/// A number for each of some pointstamps, seen as the list of its entries. Those with 0 stand in a list of their own,
-/// in no order, so that none of the others is looked at for them.
+/// A map from pointstamps to numbers, seen as the list of its entries.
+///
+/// The pointstamps with number 0 are also in a list of their own, in no order, so that a reader of these
+/// looks at no others.
 pub struct PrecursorCounts<A: Allocator = Global> {
     counts: SortedMap<Pointstamp, u64, A>,
     frontier: Vec<Pointstamp, A>,
@@ -57,7 +59,7 @@ fn list_zeros<A: Allocator>(counts: &[(Pointstamp, u64)], frontier: &mut Vec<Poi
     }
 }
 
-// Whether the number of a pointstamp is 0.
+// Returns whether a pointstamp has the number 0.
 fn is_zero_at<A: Allocator>(counts: &SortedMap<Pointstamp, u64, A>, point: &Pointstamp) -> bool
     ensures { IsTrue result ↔ (find point_cmp point.now counts.now ≡ Some 0) }
 {
@@ -67,7 +69,7 @@ fn is_zero_at<A: Allocator>(counts: &SortedMap<Pointstamp, u64, A>, point: &Poin
     }
 }
 
-// Takes a pointstamp out of a list, if it is there.
+// Removes a pointstamp from a list, if the list has it.
 fn forget<A: Allocator>(frontier: &mut Vec<Pointstamp, A>, point: &Pointstamp, is_there: bool)
     requires { (IsTrue is_there → ⊥) → Contains frontier.old.items point.now → ⊥ }
     ensures gone { Contains frontier.new.items point.now → ⊥ }
@@ -84,7 +86,7 @@ fn forget<A: Allocator>(frontier: &mut Vec<Pointstamp, A>, point: &Pointstamp, i
     );
 }
 
-// Makes the list right at a pointstamp, if it is right at all others. It takes no memory.
+// Corrects the list at `point`, if it is right at all other pointstamps. It takes no memory.
 fn set_right<A: Allocator>(
     counts: &[(Pointstamp, u64)],
     frontier: &mut Vec<Pointstamp, A>,
@@ -103,7 +105,7 @@ fn set_right<A: Allocator>(
     if !is_zero {
         return;
     }
-    // There is room, since no more are listed than have an entry.
+    // There is room, since there is room for all entries. A list that is too long is made anew.
     if frontier.len() >= counts.len() {
         list_zeros(counts, frontier);
         return;
@@ -114,7 +116,7 @@ fn set_right<A: Allocator>(
 }
 
 impl<A: Allocator> PrecursorCounts<A> {
-    /// No number. It takes no memory.
+    /// Returns the map with no entry. It takes no memory.
     pub fn new(alloc: A) -> PrecursorCounts<A>
     where
         A: Copy,
@@ -126,7 +128,7 @@ impl<A: Allocator> PrecursorCounts<A> {
         }
     }
 
-    /// The number of a pointstamp.
+    /// Returns the number of a pointstamp, if it has one.
     pub fn get(&self, point: &Pointstamp) -> Option<u64>
         ensures value { result ≡ find point_cmp point.now self.now }
         ensures listed { IsListed point_cmp self.now }
@@ -134,7 +136,7 @@ impl<A: Allocator> PrecursorCounts<A> {
         self.counts.get(point)
     }
 
-    /// The entries in the order of listing.
+    /// Returns the entries in the order of listing.
     pub fn entries(&self) -> &[(Pointstamp, u64)]
         ensures value { result.now ≡ self.now }
         ensures listed { IsListed point_cmp self.now }
@@ -142,21 +144,21 @@ impl<A: Allocator> PrecursorCounts<A> {
         self.counts.entries()
     }
 
-    /// How many pointstamps have a number.
+    /// Returns the number of entries.
     pub fn len(&self) -> usize
         ensures { result ≡ length self.now }
     {
         self.counts.len()
     }
 
-    /// The pointstamps whose number is 0.
+    /// Returns the pointstamps whose number is 0.
     pub fn frontier(&self) -> &[Pointstamp]
         ensures { IsFrontierList self.now result.now (length self.now) }
     {
         &self.frontier
     }
 
-    /// Gives a pointstamp a number.
+    /// Sets the number of a pointstamp.
     pub fn put(&mut self, point: &Pointstamp, n: u64) -> Result<(), AllocError>
         ensures ok { OnOk result (self.new ≡ put point_cmp point.now n self.old) }
         ensures err { OnErr result (self.new ≡ self.old) }
@@ -178,7 +180,7 @@ impl<A: Allocator> PrecursorCounts<A> {
         Ok(())
     }
 
-    /// Gives the pointstamp of an entry, by its place in the order of listing, another number. It takes no memory.
+    /// Sets the number of the entry at `index` in the order of listing. It takes no memory.
     pub fn put_at(&mut self, index: usize, n: u64)
         requires { index < length self.old }
         ensures value { IsPutAt index n self.old self.new }
@@ -200,7 +202,7 @@ impl<A: Allocator> PrecursorCounts<A> {
         }
     }
 
-    /// Takes a pointstamp and its number out, if it has one. It takes no memory.
+    /// Removes a pointstamp and its number, if it has one. It takes no memory.
     pub fn remove(&mut self, point: &Pointstamp)
         ensures value { self.new ≡ without point_cmp point.now self.old }
         ensures listed { IsListed point_cmp self.new }
@@ -217,7 +219,7 @@ impl<A: Allocator> PrecursorCounts<A> {
         );
     }
 
-    /// The same numbers in another place.
+    /// Returns an equal map.
     pub fn copy(&self, alloc: A) -> Result<PrecursorCounts<A>, AllocError>
     where
         A: Copy,

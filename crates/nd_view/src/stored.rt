@@ -1,4 +1,4 @@
-//! The counts of pointstamps, and beside them what is stored of the positive ones, changed together.
+//! The counts of pointstamps, and the precursor counts of the positive ones, changed together.
 
 ghost use Rattle.std.specs.Prelude.{◌≡◌, ◌≢◌, [], ◌∷◌, ◌↔◌, ◌≤◌, ◌<ℤ◌, ◌+◌, ◌*◌, ◌+ℤ◌, ◌-ℤ◌, cond, pos, length, unsigned_abs, OnOk, OnErr, IfOk, IfSome, IsNone, IsTrue};
 ghost use Rattle.nd_time.specs.Limits.{max_count};
@@ -44,7 +44,7 @@ impl<A: Allocator> Model for Stored<A> {
     ghost view = { λ a. record { map = a.counts; counts = a.precursor_counts } };
 }
 
-// A count with so many more, or so many fewer.
+// Returns `old` with `by` added or, if `minus`, subtracted.
 fn counted(old: i64, by: i64, minus: bool) -> i64
     requires old { unsigned_abs old ≤ max_count }
     requires by { unsigned_abs by ≤ max_count }
@@ -54,14 +54,14 @@ fn counted(old: i64, by: i64, minus: bool) -> i64
     if minus { old - by } else { old + by }
 }
 
-// Whether a count is within the limit.
+// Returns whether a count is within the limit.
 fn is_within(n: i64) -> bool
     ensures { IsTrue result ↔ (unsigned_abs n ≤ max_count) }
 {
     n <= LIMIT && n >= -LIMIT
 }
 
-// The first of some entries and the others, if there are any.
+// Returns the first entry and the others, if there are any.
 fn first_and_rest<'a>(
     entries: &'a [(Pointstamp, i64)],
 ) -> Option<(&'a (Pointstamp, i64), &'a [(Pointstamp, i64)])>
@@ -80,7 +80,7 @@ fn first_and_rest<'a>(
 }
 
 impl<A: Allocator> Stored<A> {
-    /// No entry, for whichever paths. It takes no memory.
+    /// Returns the value with no entry, for any paths. It takes no memory.
     pub fn new(alloc: A) -> Stored<A>
     where
         A: Copy,
@@ -94,7 +94,7 @@ impl<A: Allocator> Stored<A> {
         }
     }
 
-    /// These counts, with the precursor counts counted anew.
+    /// Returns these counts with their precursor counts.
     pub fn of<B: Allocator>(
         alloc: A,
         counts: Delta<A>,
@@ -112,28 +112,28 @@ impl<A: Allocator> Stored<A> {
         })
     }
 
-    /// The counts.
+    /// Returns the counts.
     pub fn counts(&self) -> &Delta<A>
         ensures { result.now ≡ self.now.map }
     {
         &self.counts
     }
 
-    /// The precursor count of a positive pointstamp.
+    /// Returns the precursor count of a positive pointstamp.
     pub fn kept(&self, point: &Pointstamp) -> Option<u64>
         ensures { (g : Dataflow) → IsFor g self.now → IsKeptAt g self.now.map point.now result }
     {
         self.precursor_counts.get(point)
     }
 
-    /// The pointstamps whose precursor count is 0.
+    /// Returns the pointstamps whose precursor count is 0.
     pub fn frontier(&self) -> &[Pointstamp]
         ensures { IsFrontierList self.now.counts result.now (length self.now.counts) }
     {
         self.precursor_counts.frontier()
     }
 
-    /// The same in another place.
+    /// Returns an equal value.
     pub fn copy(&self, alloc: A) -> Result<Stored<A>, AllocError>
     where
         A: Copy,
@@ -145,9 +145,10 @@ impl<A: Allocator> Stored<A> {
         })
     }
 
-    /// Why a change is refused that gets no memory or passes the limit.
+    /// Returns why a change is refused that passes the limit or gets no memory.
     pub fn refusal(&self, delta: &Delta<A>, minus: bool) -> DeltaFault
-        ensures { (result ≡ DeltaFault.DeltaFull) ↔ IsTooLarge (combined minus self.now.map delta.now) }
+        ensures { (result ≡ DeltaFault.DeltaFull)
+            ↔ IsTooLarge (combined minus self.now.map delta.now) }
     {
         if self.counts.is_overfull(delta, minus) {
             DeltaFault::DeltaFull
@@ -156,7 +157,7 @@ impl<A: Allocator> Stored<A> {
         }
     }
 
-    /// The number of positive entries strictly before a pointstamp.
+    /// Returns the number of positive entries strictly before a pointstamp.
     pub fn count_before<B: Allocator>(&self, paths: &Paths<B>, point: &Pointstamp) -> u64
         requires { IsFor paths.now self.now }
         ensures { IsCount (IsPrecursor paths.now self.now.map point.now) self.now.map result }
@@ -164,7 +165,7 @@ impl<A: Allocator> Stored<A> {
         count_before(&self.counts, self.precursor_counts.entries(), paths, point)
     }
 
-    // Gives a pointstamp a count of the same sign.
+    // Sets the count of a pointstamp, which stays positive or stays not positive.
     fn stay(&mut self, point: &Pointstamp, n: i64) -> Result<(), AllocError>
         requires within { unsigned_abs n ≤ max_count }
         requires sign { (pos 0 <ℤ n) ↔ (pos 0 <ℤ at self.old.map point.now) }
@@ -178,7 +179,7 @@ impl<A: Allocator> Stored<A> {
         self.counts.put(point, n)
     }
 
-    // Gives a pointstamp that is not positive a positive count.
+    // Sets the count of a pointstamp that becomes positive.
     fn come<B: Allocator>(
         &mut self,
         paths: &Paths<B>,
@@ -203,7 +204,7 @@ impl<A: Allocator> Stored<A> {
         Ok(())
     }
 
-    // Gives a positive pointstamp a count that is not. It takes no memory.
+    // Sets the count of a pointstamp that ceases to be positive. It takes no memory.
     fn go<B: Allocator>(&mut self, paths: &Paths<B>, point: &Pointstamp, n: i64)
         requires paths { IsFor paths.now self.old }
         requires within { unsigned_abs n ≤ max_count }
@@ -225,7 +226,7 @@ impl<A: Allocator> Stored<A> {
         );
     }
 
-    // Gives a pointstamp a count that takes memory in the place of the one that it has.
+    // Sets the count of a pointstamp, where that may take memory.
     fn enter<B: Allocator>(
         &mut self,
         paths: &Paths<B>,
@@ -246,7 +247,7 @@ impl<A: Allocator> Stored<A> {
         }
     }
 
-    // Gives a pointstamp a count that takes no memory in the place of the one that it has.
+    // Sets the count of a pointstamp from `was` to `n`, where that takes no memory.
     fn leave<B: Allocator>(&mut self, paths: &Paths<B>, point: &Pointstamp, was: i64, n: i64)
         requires paths { IsFor paths.now self.old }
         requires within { unsigned_abs n ≤ max_count }
@@ -264,8 +265,11 @@ impl<A: Allocator> Stored<A> {
         }
     }
 
-    /// Adds the entries of a change, or takes them back, and says whether: all of them or, if one passes the limit
-    /// or memory is refused, none. What takes memory is done on the way down, the rest on the way up.
+    /// Adds the entries of a change or, if `minus`, subtracts them, and returns whether it did: it changes all
+    /// entries or, if one passes the limit or memory is refused, none.
+    ///
+    /// It calls itself for the entries after the first. The entries that may take memory are changed before
+    /// that call, the others after it.
     pub fn add<B: Allocator>(
         &mut self,
         paths: &Paths<B>,

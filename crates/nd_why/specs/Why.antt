@@ -88,17 +88,21 @@ pub record HasBefore (g : Dataflow) (strictly : Bool) (t : Pointstamp) (count : 
 
 -- a processor has a record, a request, a token before t
 abbrev pub RecordBefore : Dataflow → Bool → Pointstamp → ProcessorState → Type 0
-RecordBefore g strictly t q = Any (λ (e : ValueAt × ℕ). IsBefore g strictly e.0.point t) (numbers q.records)
+RecordBefore g strictly t q =
+    Any (λ (e : ValueAt × ℕ). IsBefore g strictly e.0.point t) (numbers q.records)
 
 abbrev pub RequestBefore : Dataflow → Bool → Pointstamp → ProcessorState → Type 0
-RequestBefore g strictly t q = Any (λ (e : Pointstamp × Unit {0}). IsBefore g strictly e.0 t) (fin.entries q.requests)
+RequestBefore g strictly t q =
+    Any (λ (e : Pointstamp × Unit {0}). IsBefore g strictly e.0 t) (fin.entries q.requests)
 
 abbrev pub TokenBefore : Dataflow → Bool → Pointstamp → ProcessorState → Type 0
-TokenBefore g strictly t q = Any (λ (e : ℕ × ℕ). IsBefore g strictly (token_point e.0 e.1) t) (fin.entries q.tokens)
+TokenBefore g strictly t q =
+    Any (λ (e : ℕ × ℕ). IsBefore g strictly (token_point e.0 e.1) t) (fin.entries q.tokens)
 
 -- nothing outstanding is before t, strictly or not
 abbrev pub IsFinishedBefore : ClusterState → Bool → Pointstamp → Type 0
-IsFinishedBefore s strictly t = (x : Pointstamp) → IsBefore s.graph strictly x t → at (truth s.processors) x ≡ pos 0
+IsFinishedBefore s strictly t =
+    (x : Pointstamp) → IsBefore s.graph strictly x t → at (truth s.processors) x ≡ pos 0
 
 -- ---- the reasons
 
@@ -115,10 +119,13 @@ pub record IsReason (g : Dataflow) (v : DeltaValue) (strictly : Bool) (t b : Poi
   pub frontier : IsOnFrontier g v b
   pub before : IsBefore g strictly b t
 
--- these are the accounts of the reasons for which q does not consider all that is before t finished, in the order of listing
+-- the accounts of the reasons for which q does not consider all that is before t finished, in the
+-- order of listing
 abbrev pub IsWhyBefore : ClusterState → Bool → ℕ → Pointstamp → List Account → Type 0
 IsWhyBefore s strictly q t accounts =
-    (reasons : DeltaValue) × IsPartWhere (IsReason s.graph (view s q) strictly t) (view s q) reasons × (accounts ≡ map (λ e. account s q e.0) (entries reasons))
+    (reasons : DeltaValue)
+    × IsPartWhere (IsReason s.graph (view s q) strictly t) (view s q) reasons
+    × (accounts ≡ map (λ e. account s q e.0) (entries reasons))
 
 -- the same for t itself and what is before it
 abbrev pub IsWhy : ClusterState → ℕ → Pointstamp → List Account → Type 0

@@ -1,31 +1,33 @@
-//! What is answered to the question why a processor does not consider a pointstamp finished.
+//! The answer to the question why a processor does not consider a pointstamp finished.
 ghost use Rattle.std.specs.Prelude.{◌≡◌};
 
 use nd_paths::Pointstamp;
 use std::alloc::{Allocator, Global};
 use std::marker::Model;
 
-/// Something outstanding at a pointstamp (Naiad, SOSP 2013, section 2.3), and the processor p that holds it.
+/// Something outstanding at a pointstamp (Naiad, SOSP 2013, section 2.3), and the processor `p` that holds
+/// it.
 #[derive(Clone, Copy, Debug)]
 pub enum Held {
-    /// So many records of a value, on the edge that the pointstamp stands at.
+    /// `count` records of a value on the edge of the pointstamp.
     Records { p: usize, value: i64, count: u64 },
-    /// A notice that was asked for, by the vertex that the pointstamp stands at.
+    /// A request for a notice by the vertex of the pointstamp.
     Request { p: usize },
-    /// The token of the input that the pointstamp stands at.
+    /// The token of the input of the pointstamp.
     Token { p: usize },
 }
 
-/// A progress update of a pointstamp by n that was not received yet, and the processor p that it comes from.
+/// A progress update of a pointstamp by `n` that was not received yet, and its sender, the processor `p`.
 #[derive(Clone, Copy, Debug)]
 pub enum Unheard {
-    /// It was not sent yet.
+    /// The update was not sent yet.
     Unsent { p: usize, n: i64 },
-    /// It is part of a change on its way, with so many changes before it.
+    /// The update is part of a queued change, and `behind` changes are received before it.
     Queued { p: usize, behind: usize, n: i64 },
 }
 
-/// A pointstamp for which a processor does not consider another one finished, and what stands behind it.
+/// A pointstamp because of which a processor does not consider another one finished, what is held there, and
+/// the updates of it that the processor has not received.
 pub struct Reason<A: Allocator = Global> {
     pub(crate) point: Pointstamp,
     pub(crate) held: Vec<Held, A>,
@@ -49,32 +51,39 @@ impl<A: Allocator> Model for Reason<A> {
 
     ghost Value = { Account };
 
-    ghost view = { λ a. record { point = a.point; held = a.held.items; unheard = a.unheard.items; view = a.known } };
+    ghost view = { λ a. record {
+      point = a.point;
+      held = a.held.items;
+      unheard = a.unheard.items;
+      view = a.known;
+    } };
 }
 
 impl<A: Allocator> Reason<A> {
-    /// The pointstamp: it is on the frontier of the processor's view.
+    /// Returns the pointstamp, which is on the frontier of the processor's view.
     pub fn point(&self) -> &Pointstamp
         ensures { result.now ≡ self.now.point }
     {
         &self.point
     }
 
-    /// What is outstanding there: by processor, first records by value, then a request, then a token.
+    /// Returns what is outstanding at the pointstamp: for each processor its records by value, then its
+    /// request, then its token.
     pub fn held(&self) -> &[Held]
         ensures { result.now ≡ self.now.held }
     {
         &self.held
     }
 
-    /// What the processor has not heard of it: by sender, first what is unsent, then what is queued, from the front.
+    /// Returns the updates of the pointstamp that the processor has not received: for each sender the unsent
+    /// one, then the queued ones from the front.
     pub fn unheard(&self) -> &[Unheard]
         ensures { result.now ≡ self.now.unheard }
     {
         &self.unheard
     }
 
-    /// What the processor's view counts there.
+    /// Returns the count of the pointstamp in the processor's view.
     pub fn view(&self) -> i64
         ensures { result ≡ self.now.view }
     {
@@ -98,7 +107,7 @@ impl<A: Allocator> Model for Reasons<A> {
 }
 
 impl<A: Allocator> Reasons<A> {
-    /// The reasons.
+    /// Returns the reasons.
     pub fn as_slice(&self) -> &[Reason<A>]
         ensures { result.now ≡ self.now }
     {

@@ -7,7 +7,7 @@ use nd_paths::Pointstamp;
 use nd_processor::{Processor, token_point};
 use std::alloc::{AllocError, Allocator};
 
-// Puts what is held at one pointstamp into the list, if that is the other.
+// Appends `one` to the list if the two pointstamps are equal.
 fn push_if<A: Allocator>(
     held: &mut Vec<Held, A>,
     point: &Pointstamp,
@@ -22,14 +22,15 @@ fn push_if<A: Allocator>(
     Ok(())
 }
 
-// Puts the records of processor p at a pointstamp into the list.
+// Appends the records of processor `p` at a pointstamp to the list.
 fn push_records<A: Allocator + Copy>(
     held: &mut Vec<Held, A>,
     p: usize,
     processor: &Processor<A>,
     point: &Pointstamp,
 ) -> Result<(), AllocError>
-    ensures { OnOk result (held.new.items ≡ held.old.items ++ records_at p processor.now point.now) }
+    ensures { OnOk result (held.new.items
+        ≡ held.old.items ++ records_at p processor.now point.now) }
 {
     for (key, count) in processor.records() {
         let records = Held::Records {
@@ -42,14 +43,15 @@ fn push_records<A: Allocator + Copy>(
     Ok(())
 }
 
-// Puts the request of processor p at a pointstamp into the list, if there is one.
+// Appends the request of processor `p` at a pointstamp to the list, if there is one.
 fn push_requests<A: Allocator + Copy>(
     held: &mut Vec<Held, A>,
     p: usize,
     processor: &Processor<A>,
     point: &Pointstamp,
 ) -> Result<(), AllocError>
-    ensures { OnOk result (held.new.items ≡ held.old.items ++ requests_at p processor.now point.now) }
+    ensures { OnOk result (held.new.items
+        ≡ held.old.items ++ requests_at p processor.now point.now) }
 {
     for (key, _) in processor.requests() {
         push_if(held, point, key, Held::Request { p })?;
@@ -57,7 +59,7 @@ fn push_requests<A: Allocator + Copy>(
     Ok(())
 }
 
-// Puts the token of processor p at a pointstamp into the list, if there is one.
+// Appends the token of processor `p` at a pointstamp to the list, if there is one.
 fn push_tokens<A: Allocator + Copy>(
     held: &mut Vec<Held, A>,
     p: usize,
@@ -77,7 +79,7 @@ fn push_tokens<A: Allocator + Copy>(
     Ok(())
 }
 
-// Puts all that processor p holds at a pointstamp into the list.
+// Appends all that processor `p` holds at a pointstamp to the list.
 fn push_held<A: Allocator + Copy>(
     held: &mut Vec<Held, A>,
     p: usize,
@@ -91,7 +93,7 @@ fn push_held<A: Allocator + Copy>(
     push_tokens(held, p, processor, point)
 }
 
-/// All that is outstanding at a pointstamp, processor by processor.
+/// Returns all that is outstanding at a pointstamp, processor by processor.
 pub(crate) fn held_at<A: Allocator + Copy>(
     alloc: A,
     processors: &[Processor<A>],

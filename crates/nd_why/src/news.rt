@@ -1,4 +1,4 @@
-//! What a processor has not heard of a pointstamp.
+//! The updates of a pointstamp that a processor has not received.
 ghost use Rattle.std.specs.Prelude.{◌≡◌, ◌<◌, ◌++◌, IfOk, OnOk, length};
 ghost use Rattle.nd_mesh.specs.Mesh.{queue};
 ghost use Rattle.nd_why.specs.Why.{unless_zero, queued_at, unheard_at as all_unheard};
@@ -9,7 +9,7 @@ use nd_paths::Pointstamp;
 use nd_processor::Processor;
 use std::alloc::{AllocError, Allocator};
 
-// Puts an update into the list, if its number is not 0.
+// Appends an update to the list if its number is not 0.
 fn push_unless_zero<A: Allocator>(
     unheard: &mut Vec<Unheard, A>,
     n: i64,
@@ -23,7 +23,7 @@ fn push_unless_zero<A: Allocator>(
     Ok(())
 }
 
-// Puts the updates of a pointstamp that are on their way from p to q into the list.
+// Appends the updates of a pointstamp that are queued from `p` to `q` to the list.
 fn push_queued<A: Allocator + Copy>(
     unheard: &mut Vec<Unheard, A>,
     p: usize,
@@ -33,7 +33,8 @@ fn push_queued<A: Allocator + Copy>(
 ) -> Result<(), AllocError>
     requires sender { p < length mesh.now }
     requires receiver { q < length mesh.now }
-    ensures { OnOk result (unheard.new.items ≡ unheard.old.items ++ queued_at p (queue mesh.now p q) point.now) }
+    ensures { OnOk result (unheard.new.items
+        ≡ unheard.old.items ++ queued_at p (queue mesh.now p q) point.now) }
 {
     for behind in 0..mesh.len(p, q) {
         let n = mesh.get(p, q, behind).unwrap().get(point);
@@ -42,7 +43,7 @@ fn push_queued<A: Allocator + Copy>(
     Ok(())
 }
 
-/// All updates of a pointstamp that processor q has not received, sender by sender.
+/// Returns all updates of a pointstamp that processor `q` has not received, sender by sender.
 pub(crate) fn unheard_at<A: Allocator + Copy>(
     alloc: A,
     processors: &[Processor<A>],

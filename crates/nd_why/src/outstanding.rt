@@ -10,7 +10,7 @@ use nd_processor::{Processor, ValueAt, token_point};
 use nd_view::is_before;
 use std::alloc::Allocator;
 
-// Whether a processor has a record at or before a pointstamp, or strictly before it.
+// Returns whether a processor has a record at or before `point` or, if `strictly`, strictly before it.
 fn has_record<A: Allocator + Copy>(
     paths: &Paths<A>,
     processor: &Processor<A>,
@@ -22,7 +22,7 @@ fn has_record<A: Allocator + Copy>(
     processor.records().any(|e: (&ValueAt, &u64)| is_before(&e.0.point, paths, point, strictly))
 }
 
-// Whether a processor has a request at or before a pointstamp, or strictly before it.
+// Returns whether a processor has a request at or before `point` or, if `strictly`, strictly before it.
 fn has_request<A: Allocator + Copy>(
     paths: &Paths<A>,
     processor: &Processor<A>,
@@ -34,7 +34,7 @@ fn has_request<A: Allocator + Copy>(
     processor.requests().any(|e: (&Pointstamp, &())| is_before(e.0, paths, point, strictly))
 }
 
-// Whether a processor has a token at or before a pointstamp, or strictly before it.
+// Returns whether a processor has a token at or before `point` or, if `strictly`, strictly before it.
 fn has_token<A: Allocator + Copy>(
     paths: &Paths<A>,
     processor: &Processor<A>,
@@ -51,7 +51,8 @@ fn has_token<A: Allocator + Copy>(
     ))
 }
 
-// Whether a processor has anything outstanding at or before a pointstamp, or strictly before it.
+// Returns whether a processor has anything outstanding at or before `point` or, if `strictly`, strictly
+// before it.
 fn holds_before<A: Allocator + Copy>(
     paths: &Paths<A>,
     processor: &Processor<A>,
@@ -66,7 +67,8 @@ fn holds_before<A: Allocator + Copy>(
     record | request | token
 }
 
-/// Returns whether nothing outstanding is at or before `point`, or strictly before it, in a cluster with these processors.
+/// Returns whether a cluster with these processors has nothing outstanding at or before `point` or, if
+/// `strictly`, strictly before it.
 pub fn finished<A: Allocator + Copy>(
     paths: &Paths<A>,
     processors: &[Processor<A>],

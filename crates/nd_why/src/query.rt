@@ -1,4 +1,4 @@
-//! The reasons for which a processor does not consider a pointstamp finished.
+//! The reasons why a processor does not consider a pointstamp finished.
 ghost use Rattle.std.specs.Prelude.{◌≡◌, ◌↔◌, ◌<◌, [], All, IfOk, length, map};
 ghost use Rattle.nd_paths.specs.declared.point.Pointstamp.{Pointstamp as Point};
 ghost use Rattle.nd_delta.specs.Delta.{entries};
@@ -20,8 +20,8 @@ use nd_processor::Processor;
 use nd_view::{View, is_before};
 use std::alloc::{AllocError, Allocator};
 
-/// What is asked of processor `q`: why it does not consider all that is at or before `point` finished or, if `strictly`,
-/// all that is strictly before it.
+/// A question to processor `q`: why does it not consider everything at or before `point` finished or, if
+/// `strictly`, everything strictly before it?
 #[derive(Debug, Drop)]
 pub struct Question {
     pub q: usize,
@@ -29,7 +29,7 @@ pub struct Question {
     pub strictly: bool,
 }
 
-// The part of a view at the pointstamps of its frontier that are before the one of the question.
+// Returns the part of a view at the pointstamps of its frontier that are before the one of the question.
 fn frontier_before<A: Allocator + Copy>(
     alloc: A,
     paths: &Paths<A>,
@@ -51,7 +51,7 @@ fn frontier_before<A: Allocator + Copy>(
     Ok(before)
 }
 
-// The reasons at these pointstamps, whose numbers are processor q's view of them.
+// Returns the reasons at these pointstamps.
 fn reasons_at<A: Allocator + Copy>(
     alloc: A,
     processors: &[Processor<A>],
@@ -62,7 +62,8 @@ fn reasons_at<A: Allocator + Copy>(
 ) -> Result<Reasons<A>, AllocError>
     requires mesh { length mesh.now ≡ length processors.now }
     requires q { q < length mesh.now }
-    ensures { IfOk result (λ w. w ≡ map (λ e. account_of processors.now mesh.now q known.now.map e.0) (entries points.now)) }
+    ensures { IfOk result (λ w. w
+        ≡ map (λ e. account_of processors.now mesh.now q known.now.map e.0) (entries points.now)) }
 {
     let mut reasons = Vec::new(alloc);
     for entry in points.entries() {
@@ -77,10 +78,12 @@ fn reasons_at<A: Allocator + Copy>(
     Ok(Reasons { reasons })
 }
 
-/// Returns why processor `question.q` does not consider a pointstamp finished, or all that is strictly before it: the
-/// reasons are the pointstamps on the frontier of its view that are at or before the pointstamp, or strictly before it,
-/// each with all that is held there and all that the processor has not heard of it (this project's own rule, on
-/// FORTE 2013). The parts are those of one cluster.
+/// Returns why processor `question.q` does not consider `question.point`, or everything strictly before it,
+/// finished (this project's own rule, on FORTE 2013). The arguments are the parts of one cluster.
+///
+/// The reasons are the pointstamps on the frontier of the processor's view that are at or before
+/// `question.point`, or strictly before it. Each comes with everything held there and all updates of it
+/// that the processor has not received.
 pub fn why<A: Allocator + Copy>(
     alloc: A,
     paths: &Paths<A>,

@@ -18,6 +18,7 @@ logged s = record { machine = s.machine; entries = length s.log }
 abbrev pub phase_in : Script → Phase
 phase_in script = running script.version (logged script.state)
 
+-- the phase that a stage stands for
 abbrev pub phase_of : Stage → Phase
 phase_of (Unopened processors) = unopened processors
 phase_of (Unstarted v processors) = unstarted v processors
@@ -37,6 +38,7 @@ abbrev pub phase_after : Bool → Stage → Phase
 phase_after true stage = refused
 phase_after false stage = phase_of stage
 
+-- the replies of an answer: none or one
 abbrev pub replies_of : Option Data → List Data
 replies_of None = []
 replies_of (Some reply) = reply ∷ []

@@ -1,7 +1,7 @@
-//! `rewind`: answers a script from standard input, line by line, on standard output.
+//! `rewind`: reads a script from standard input, and writes one reply per line to standard output.
 //!
-//! It ends with the status 0 if all was answered or help was asked for, 1 if the words were
-//! refused, and else with that of the fault, which standard error names.
+//! The exit status is 0 after a complete run or help, and 1 if the arguments are invalid. Otherwise it is the status of the
+//! error that ended the run, which is reported on standard error.
 #![tactic(auto)]
 
 use rewind::{DebugFault, OpenGate, Options, WordsFault, debug, debug_clients, options_of};
@@ -12,16 +12,16 @@ use std::sync::Wait;
 use std::thread::Threads;
 use std::{env, io};
 
-/// The status of words that were refused.
+/// The exit status for invalid arguments.
 const REFUSED: u8 = 1;
 
-/// Names the fault on standard error, and gives its status.
+/// Reports the error on standard error, and returns its exit status.
 fn report(rt: &impl Eprint, fault: DebugFault) -> u8 {
     let _ = rt.eprintln(format_args!("rewind: {fault}"));
     fault.status()
 }
 
-/// Runs the script of one client, or of several, who wait for nobody but one another.
+/// Runs the script of one client, or of several clients, who wait only for each other.
 fn run<R: Input + Print + Eprint + AllocGlobal + Threads + Wait + Sync>(
     rt: &R,
     options: &Options,
@@ -39,7 +39,7 @@ fn run<R: Input + Print + Eprint + AllocGlobal + Threads + Wait + Sync>(
     }
 }
 
-/// Answers words that gave no options.
+/// Reports why the arguments are not options of a run, and returns the exit status.
 fn refuse<R: Print + Eprint>(rt: &R, fault: &WordsFault) -> u8 {
     match fault {
         WordsFault::Help(text) => match rt.print(text.as_str()) {
@@ -54,7 +54,7 @@ fn refuse<R: Print + Eprint>(rt: &R, fault: &WordsFault) -> u8 {
     }
 }
 
-/// Answers words that could not be taken from the system.
+/// Reports that the arguments cannot be read from the system, and returns the exit status.
 fn refuse_unread<R: Eprint>(rt: &R, error: &io::Error) -> u8 {
     if error.kind() == ErrorKind::OutOfMemory {
         return report(rt, DebugFault::Memory);

@@ -1,14 +1,12 @@
 -- Literals that are read one after another.
-use Rattle.std.proofs.Common.{◌≡◌, ◌∙◌, ℕ, ◌+◌, ◌<◌, ◌≤◌, List, [], ◌∷◌, ◌++◌, length, drop, get_or, Option, Some, None, Result, Ok, Err, IfOk, refl, sym, ap, subst, suc, append_assoc, length-append, arith}
+use Rattle.std.proofs.Common.{◌≡◌, ◌∙◌, ℕ, ◌+◌, ◌<◌, List, [], ◌∷◌, ◌++◌, length, drop, get_or, Option, Result, Ok, Err, IfOk, refl, sym, ap, subst, suc, append_assoc, length-append, arith}
 use Rattle.std.proofs.Math.Seq.{drop-cons}
-use Rattle.std.proofs.lemmas.List.{append-nil, drop_all}
 use Rattle.serde_json.specs.Data.{Data}
 use Rattle.nd_graph.specs.Graph.{Dataflow}
-use Rattle.nd_time.specs.Limits.{max_literals}
 use Rattle.nd_breaks.specs.Conditions.{ConditionValue}
 use Rattle.nd_breaks.specs.declared.condition.Literal.{Literal}
 use Rattle.nd_breaks.specs.declared.condition.Quantifier.{Quantifier}
-use Rattle.rewind_forms.specs.Conditions.{lesser, beside, literal_of, literals_of, literals_read, with_literal, with_fault, HasRoom, IsOf, MakeUp}
+use Rattle.rewind_forms.specs.Conditions.{lesser, beside, literal_of, literals_of, literals_read, with_literal, with_fault, IsOf}
 use Rattle.rewind_forms.specs.declared.fault.LineFault.{LineFault}
 
 -- the literals that were read and those that come, or of their faults that of least number
@@ -21,11 +19,6 @@ ahead (Err e) (Err f) = Err (lesser e f)
 lesser_of_three : (e f h : LineFault) → lesser e (lesser f h) ≡ lesser (lesser e f) h
 unfolding lesser
 lesser_of_three e f h = grind arith
-
--- with nothing to come
-pub ahead_none : (r : Result (List Literal) LineFault) → ahead r (Ok []) ≡ r
-ahead_none (Ok ks) = ap Ok (append-nil ks)
-ahead_none (Err e) = refl
 
 -- with a literal next
 pub ahead_literal : (r rest : Result (List Literal) LineFault) (l : Literal) → ahead r (beside (Ok l) rest) ≡ ahead (with_literal r l) rest
@@ -48,15 +41,6 @@ pub record HaveRead (g : Dataflow) (quantifier : Quantifier) (ds : List Data) (i
   pub all : literals_of g ds ≡ ahead (literals_read read) (literals_of g (drop i ds))
   pub count : IfOk (literals_read read) (λ literals. length literals ≡ i)
   pub kind : IsOf quantifier read
-
--- ahead of all
-ahead_first : (r : Result (List Literal) LineFault) → r ≡ ahead (Ok []) r
-ahead_first (Ok ls) = refl
-ahead_first (Err e) = refl
-
--- nothing was read
-pub begin : (g : Dataflow) (quantifier : Quantifier) (ds : List Data) → HaveRead g quantifier ds 0 (Ok None)
-begin g quantifier ds = record { all = ahead_first (literals_of g ds); count = refl; kind = tt }
 
 -- the next of a list
 next_literal : (g : Dataflow) (ds : List Data) (i : ℕ) (d : Data) → i < length ds → d ≡ get_or ds i d
@@ -94,23 +78,3 @@ module _ (g : Dataflow) (quantifier : Quantifier) (ds : List Data) (i : ℕ) (d 
     count = tt;
     kind = tt;
   }
-
--- there is room for one more
-pub has_room : (g : Dataflow) (quantifier : Quantifier) (ds : List Data) (i : ℕ) (read : Result (Option ConditionValue) LineFault) → i < length ds → length ds ≤ max_literals
-    → HaveRead g quantifier ds i read → HasRoom read
-has_room g quantifier ds i read lt few have = by (literals_read read) have.count
-  where
-    by : (r : Result (List Literal) LineFault) → IfOk r (λ literals. length literals ≡ i) → IfOk r (λ literals. length literals < max_literals)
-    by (Ok ls) count = omega (arith, count, lt, few)
-    by (Err e) count = count
-
--- all of them were read
-pub read_all : (g : Dataflow) (quantifier : Quantifier) (ds : List Data) (i : ℕ) (read : Result (Option ConditionValue) LineFault) → length ds ≤ i
-    → HaveRead g quantifier ds i read → literals_of g ds ≡ literals_read read
-read_all g quantifier ds i read all have =
-    have.all ∙ ap (λ es. ahead (literals_read read) (literals_of g es)) (drop_all i ds all) ∙ ahead_none (literals_read read)
-
--- and are the literals of the condition that was read
-pub read_makes : (g : Dataflow) (quantifier : Quantifier) (ds : List Data) (i : ℕ) (c : ConditionValue) → length ds ≤ i
-    → HaveRead g quantifier ds i (Ok (Some c)) → MakeUp quantifier (literals_of g ds) c
-read_makes g quantifier ds i c all have = (read_all g quantifier ds i (Ok (Some c)) all have, have.kind)

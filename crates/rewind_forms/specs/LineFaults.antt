@@ -4,6 +4,7 @@ use Rattle.nd_time.specs.Code.{Code, coded}
 use Rattle.rewind_forms.specs.declared.fault.LineFault.{LineFault}
 use Rattle.rewind_forms.specs.declared.fault.LineFault.TheVariants.{LineTooLong, BadLine, BadShape, UnknownName, BadTime, Memory}
 
+-- the number and the name with which a line is rejected
 abbrev pub code_of : LineFault → Code
 code_of BadLine = coded 30 (codes "BadLine")
 code_of BadShape = coded 31 (codes "BadShape")

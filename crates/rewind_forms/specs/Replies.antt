@@ -130,6 +130,7 @@ passed = object (member (codes "ok") (boolean true) (member (codes "passed") (bo
 abbrev pub not_passed : Data → Data
 not_passed point = object (member (codes "ok") (boolean true) (member (codes "passed") (boolean false) (member (codes "point") point no_members)))
 
+-- the reply that there is no such processor
 abbrev pub no_processor : Data
 no_processor = fault (code_of NoProcessor)
 

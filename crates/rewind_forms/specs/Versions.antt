@@ -5,6 +5,7 @@ use Rattle.nd_json.specs.Forms.{has_keys, whole_at}
 use Rattle.rewind_forms.specs.declared.version.Version.{Version}
 use Rattle.rewind_forms.specs.declared.version.Version.TheVariants.{First, Second, Third, Fourth}
 
+-- a script's version as a number, from 1 to 4
 abbrev pub number_of : Version → ℕ
 number_of First = 1
 number_of Second = 2

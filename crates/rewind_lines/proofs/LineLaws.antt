@@ -27,7 +27,7 @@ json_of-none bs h = go (is_utf8 bs) refl
     go true e = rw e (h (IsUtf8-from_is_utf8 bs e))
     go false e = rw e refl
 
--- the front of a list, and of what follows it
+-- the first n elements of a list and what follows it
 take-both : (n : ℕ) (xs ys : List ℕ) → take n (xs ++ ys) ≡ take n xs ++ take (n - length xs) ys
 take-both n xs ys = either (cases_lt n (length xs))
   where
@@ -42,7 +42,7 @@ take-both n xs ys = either (cases_lt n (length xs))
 longer-more : (m a b : ℕ) → (nat_lt m a || nat_lt (min (m - a) b) b) ≡ nat_lt m (a + b)
 longer-more m a b = grind (arith, nat_tests)
 
--- what is held, part by part
+-- two fronts with equal parts are equal
 kept : (f g : Front) → f.bytes ≡ g.bytes → f.is_longer ≡ g.is_longer → f.is_blank ≡ g.is_blank → f ≡ g
 kept f g bytes longer is_blank =
     ap (λ (x : List ℕ). made x f.is_longer f.is_blank) bytes ∙ (ap (λ (x : Bool). made g.bytes x f.is_blank) longer ∙ ap (made g.bytes g.is_longer) is_blank)
@@ -50,7 +50,7 @@ kept f g bytes longer is_blank =
     made : List ℕ → Bool → Bool → Front
     made b x y = record { bytes = b; is_longer = x; is_blank = y }
 
--- the bytes that still fit go to the front
+-- the bytes that still fit are added to the stored bytes
 pub holds-more : (held new : Front) (line bytes : List ℕ) (k : ℕ) → held ≡ front_of line → k ≡ min (max_line - length held.bytes) (length bytes)
     → new.bytes ≡ held.bytes ++ take k bytes → new.is_longer ≡ (held.is_longer || nat_lt k (length bytes)) → new.is_blank ≡ (held.is_blank && list_all is_blank_byte bytes)
     → new ≡ front_of (line ++ bytes)

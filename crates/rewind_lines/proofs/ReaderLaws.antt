@@ -1,4 +1,4 @@
--- What is held of a script goes on by some bytes, or by a newline.
+-- What is stored of a script, after some more bytes or a newline.
 use Rattle.std.proofs.Common.{◌≡◌, ◌∙◌, ℕ, zero, suc, ◌+◌, ◌<◌, ◌==◌, ◌||◌, Bool, true, false, List, [], ◌∷◌, ◌++◌, length, take, get_or, refl, sym, ap, arith}
 use Rattle.std.proofs.lemmas.Bool.{eqb-true}
 use Rattle.std.proofs.lemmas.List.{take_more}
@@ -8,7 +8,7 @@ use Rattle.rewind_lines.specs.Cuts.{last_line-empty, last_line-newline, last_lin
 use Rattle.rewind_lines.specs.Front.{Front, Held, front_of, held_of}
 use Rattle.rewind_lines.specs.Lines.{EndsLine, has_newline, last_line_of, lines_of}
 
--- what is held, part by part
+-- two values with equal parts are equal
 kept : (f g : Held) → f.line ≡ g.line → f.number ≡ g.number → f ≡ g
 kept f g line number = ap (λ (x : Front). made x f.number) line ∙ ap (made g.line) number
   where

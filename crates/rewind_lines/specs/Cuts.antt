@@ -1,4 +1,4 @@
--- Laws of an input that is cut into lines. The last part is the line that is being read; those before it are whole.
+-- Laws of dividing an input into lines. The last part is the line that is being read; the parts before it are complete.
 use Rattle.std.proofs.Common.{◌≡◌, ◌∙◌, ℕ, zero, suc, ◌+◌, ◌-◌, ◌||◌, Bool, true, false, cond, List, [], ◌∷◌, ◌++◌, length, take, drop, refl, sym, ap, arith, append_assoc, length-append, take-add}
 use Rattle.std.proofs.lemmas.Bool.{false≢true}
 use Rattle.std.proofs.lemmas.List.{get_or_at, take-append-drop}
@@ -12,7 +12,7 @@ Parts = List (List ℕ)
 abbrev cut : List ℕ → Parts
 cut input = slice_split is_newline input
 
--- the parts are at least one
+-- there is at least one part
 some-part : (input : List ℕ) → (first : List ℕ) × (more : Parts) × (cut input ≡ first ∷ more)
 some-part [] = ([], [], refl)
 some-part (b ∷ input) = either (is_newline b) (some-part input)
@@ -22,7 +22,7 @@ some-part (b ∷ input) = either (is_newline b) (some-part input)
     either true s = ([], cut input, refl)
     either false s = (b ∷ s.0, s.1, rw s.2 refl)
 
--- the last of the parts goes on with the first of the others
+-- the last of the parts joined with the first of the others
 abbrev joined : Parts → Parts → Parts
 joined [] others = others
 joined (part ∷ []) [] = part ∷ []
@@ -47,7 +47,7 @@ cut-append (b ∷ xs) ys = rw (cut-append xs ys) (either (is_newline b) (some-pa
     either true s t = rw s.2 refl
     either false s t = rw (s.2, t.2) (onto s.0 s.1 t.0 t.1)
 
--- bytes with no newline are one part
+-- bytes without a newline are one part
 cut-none : (bytes : List ℕ) → has_newline bytes ≡ false → cut bytes ≡ bytes ∷ []
 cut-none [] none = refl
 cut-none (b ∷ bytes) none = either (is_newline b) (has_newline bytes) none (cut-none bytes)
@@ -56,12 +56,12 @@ cut-none (b ∷ bytes) none = either (is_newline b) (has_newline bytes) none (cu
     either true later none alone = absurd (false≢true (sym none))
     either false later none alone = ap (onto_first b) (alone none)
 
--- a list that has an element has a last one
+-- a list with an element has a last element
 last-of : (first : List ℕ) (more : Parts) → (lines : Parts) × (part : List ℕ) × (first ∷ more ≡ lines ++ part ∷ [])
 last-of first [] = ([], first, refl)
 last-of first (next ∷ more) = let l = last-of next more in (first ∷ l.0, l.1, ap (λ ps. first ∷ ps) l.2)
 
--- ---- the whole lines, and the last one
+-- ---- the complete lines, and the last line
 
 whole_lines-at : (done : List ℕ) (lines : Parts) (part : List ℕ) → lines_of done ≡ lines ++ part ∷ [] → whole_lines_of done ≡ lines
 unfolding whole_lines_of
@@ -101,7 +101,7 @@ whole_lines-empty = whole_lines-at [] [] [] lines-empty
 pub last_line-empty : last_line_of [] ≡ []
 last_line-empty = last_line-at [] [] [] lines-empty
 
--- bytes with no newline go to the last line
+-- bytes without a newline are added to the last line
 lines-on : (done bytes : List ℕ) → has_newline bytes ≡ false → lines_of (done ++ bytes) ≡ whole_lines_of done ++ (last_line_of done ++ bytes) ∷ []
 unfolding lines_of
 lines-on done bytes none =
@@ -115,7 +115,7 @@ whole_lines-on done bytes none = whole_lines-at (done ++ bytes) (whole_lines_of 
 pub last_line-on : (done bytes : List ℕ) → has_newline bytes ≡ false → last_line_of (done ++ bytes) ≡ last_line_of done ++ bytes
 last_line-on done bytes none = last_line-at (done ++ bytes) (whole_lines_of done) (last_line_of done ++ bytes) (lines-on done bytes none)
 
--- a newline ends the last line, and begins one
+-- a newline ends the last line and starts another one
 lines-newline : (done more : List ℕ) → lines_of (done ++ 10 ∷ more) ≡ lines_of done ++ lines_of more
 unfolding lines_of
 lines-newline [] more = refl
@@ -135,7 +135,7 @@ whole_lines-newline done = whole_lines-at (done ++ 10 ∷ []) (lines_of done) []
 pub last_line-newline : (done : List ℕ) → last_line_of (done ++ 10 ∷ []) ≡ []
 last_line-newline done = last_line-at (done ++ 10 ∷ []) (lines_of done) [] (lines-ended done)
 
--- whole lines stay whole, whatever follows
+-- complete lines stay as they are, whatever follows
 pub whole_lines-more : (done more : List ℕ) → (rest : List (List ℕ)) × (whole_lines_of (done ++ more) ≡ whole_lines_of done ++ rest)
 unfolding lines_of
 whole_lines-more done more =
@@ -156,19 +156,19 @@ whole_lines-front done more =
 
 -- ---- the bytes of a slice
 
--- those up to one of them, and those from it on
+-- the bytes before an index, and those from it to the end
 pub up_to : (done bytes : List ℕ) (from : ℕ) → (done ++ take from bytes) ++ drop from bytes ≡ done ++ bytes
 up_to done bytes from = append_assoc done (take from bytes) (drop from bytes) ∙ ap (λ zs. done ++ zs) (take-append-drop from bytes)
 
 pub up_to-more : (done bytes : List ℕ) (from m : ℕ) → (done ++ take from bytes) ++ take m (drop from bytes) ≡ done ++ take (from + m) bytes
 up_to-more done bytes from m = append_assoc done (take from bytes) (take m (drop from bytes)) ∙ ap (λ zs. done ++ zs) (sym (take-add from m bytes))
 
--- up to the end of a line
+-- the bytes up to the end of a line
 pub up_to-newline : (done bytes rest : List ℕ) (from n : ℕ) → take n (drop from bytes) ≡ rest ++ 10 ∷ [] → ((done ++ take from bytes) ++ rest) ++ 10 ∷ [] ≡ done ++ take (from + n) bytes
 up_to-newline done bytes rest from n split =
     append_assoc (done ++ take from bytes) rest (10 ∷ []) ∙ (ap (λ zs. (done ++ take from bytes) ++ zs) (sym split) ∙ up_to-more done bytes from n)
 
--- a front of a front is a front
+-- a first part of a first part is a first part
 pub take-clip : {A : Type 0} (n : ℕ) (xs ys : List A) → take (length (take n xs)) (xs ++ ys) ≡ take n xs
 take-clip zero xs ys = refl
 take-clip (suc n) [] ys = refl

@@ -1,9 +1,9 @@
--- Which faults a run ends with.
+-- The errors with which a run ends.
 use Rattle.std.specs.Prelude.{ℕ, Bool, true, false, Result, Ok, Err}
 use Rattle.rewind_lines.specs.declared.fault.DebugFault.{DebugFault}
 use Rattle.rewind_lines.specs.declared.fault.DebugFault.TheVariants.{Graph, Script, Read, Write, TooLong, Memory, Close}
 
--- it ended since a read failed
+-- the run ended because a read failed
 abbrev pub is_read_fault : {A : Type 0} → Result A DebugFault → Bool
 is_read_fault (Ok x) = false
 is_read_fault (Err Graph) = false
@@ -14,7 +14,7 @@ is_read_fault (Err TooLong) = false
 is_read_fault (Err Memory) = false
 is_read_fault (Err Close) = false
 
--- it ended since a write failed
+-- the run ended because a write failed
 abbrev pub is_write_fault : {A : Type 0} → Result A DebugFault → Bool
 is_write_fault (Ok x) = false
 is_write_fault (Err Graph) = false
@@ -25,7 +25,7 @@ is_write_fault (Err TooLong) = false
 is_write_fault (Err Memory) = false
 is_write_fault (Err Close) = false
 
--- the exit status of a program whose run ended so
+-- the exit status of a program whose run ended with this error
 abbrev pub status_of : DebugFault → ℕ
 status_of Graph = 2
 status_of Script = 2

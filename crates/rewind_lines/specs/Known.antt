@@ -1,4 +1,4 @@
--- Laws of the bytes that a reader has left and a writer holds, where it tells them.
+-- Laws of the bytes that a reader has left and that a writer has written, if it knows them.
 use Rattle.std.proofs.Common.{◌≡◌, ◌∙◌, ℕ, List, [], ◌++◌, Option, Some, None, refl, sym, ap, subst, append_assoc}
 use Rattle.std.proofs.lemmas.Grind.{flat_map-append}
 use Rattle.std.proofs.lemmas.List.{append-nil}
@@ -21,7 +21,7 @@ Appends-some : (b : Known) (x bs : List ℕ) → Appends (Some x) b bs → b ≡
 Appends-some None x bs h = absurd h
 Appends-some (Some y) x bs h = ap Some h
 
--- what it has come to hold
+-- the bytes written so far
 pub written-on : (old new : Known) (before sent bs : List ℕ) → old ≡ Some (before ++ sent) → Appends old new bs → new ≡ Some (before ++ (sent ++ bs))
 written-on old new before sent bs e h =
     Appends-some new (before ++ sent) bs (subst (λ (o : Known). Appends o new bs) e h) ∙ ap Some (append_assoc before sent bs)
@@ -39,14 +39,14 @@ Keeps-some : (b : Known) (x : List ℕ) → Keeps (Some x) b → b ≡ Some x
 Keeps-some None x h = absurd h
 Keeps-some (Some y) x h = ap Some h
 
--- what a read left and gave
+-- the bytes that a read returned, and those that it left
 pub read-on : (input taken rest piece : List ℕ) (old new : Known) → input ≡ taken ++ rest → old ≡ Some rest → Consumes old new piece
     → (more : List ℕ) × (new ≡ Some more) × (input ≡ (taken ++ piece) ++ more)
 read-on input taken rest piece old new whole told h =
     let c = Consumes-some new rest piece (subst (λ (o : Known). Consumes o new piece) told h) in
     (c.0, c.1, whole ∙ (ap (λ zs. taken ++ zs) c.2 ∙ sym (append_assoc taken piece c.0)))
 
--- a read that gave none
+-- a read that returned no bytes leaves nothing
 pub read-none : (input taken rest piece : List ℕ) (old new : Known) → input ≡ taken ++ rest → old ≡ Some rest → Consumes old new piece → piece ≡ [] → IsAtEnd new
     → (new ≡ Some []) × (input ≡ taken)
 read-none input taken rest piece old new whole told h none end =

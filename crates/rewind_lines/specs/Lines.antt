@@ -9,7 +9,7 @@ use Rattle.nd_time.specs.Limits.{max_line}
 abbrev pub is_newline : ℕ → Bool
 is_newline b = b == 10
 
--- a newline stands among these bytes
+-- whether there is a newline among these bytes
 abbrev pub has_newline : List ℕ → Bool
 has_newline bytes = list_any is_newline bytes
 
@@ -20,11 +20,11 @@ pub record EndsLine (bytes : List ℕ) (n : ℕ) (rest : List ℕ) : Type 0 wher
   pub split : take n bytes ≡ rest ++ 10 ∷ []
   pub one_line : has_newline rest ≡ false
 
--- the input cut at its newlines: the last part is what stands after the last newline
+-- the input divided at its newlines; the last part is what follows the last newline
 unfoldable pub lines_of : List ℕ → List (List ℕ)
 lines_of input = slice_split is_newline input
 
--- the lines that end in a newline
+-- the lines that end with a newline
 unfoldable pub whole_lines_of : List ℕ → List (List ℕ)
 whole_lines_of input = take (length (lines_of input) - 1) (lines_of input)
 
@@ -36,23 +36,23 @@ last_line_of input = slice_index_or (lines_of input) (length (lines_of input) - 
 abbrev pub is_blank_byte : ℕ → Bool
 is_blank_byte b = b == 32 || (b == 9 || b == 13)
 
--- the JSON value that a line is, if it is one
+-- the JSON value of a line, or None if the line is not JSON
 unfoldable pub json_of : List ℕ → Option Data
 json_of line = if is_utf8 line then read line else None
 
--- what a line is read as
+-- what a line contains
 pub data Reading : Type 0 where
   blank : Reading
   too_long : Reading
   no_json : Reading
   json : Data → Reading
 
--- a line that is neither blank nor too long
+-- what a line contains that is neither blank nor too long
 abbrev pub json_or_none : Option Data → Reading
 json_or_none None = no_json
 json_or_none (Some d) = json d
 
--- a line is blank at any length, and is parsed only up to the limit
+-- a line of any length can be blank; other lines are parsed only up to the limit
 unfoldable pub reading_of : List ℕ → Reading
 reading_of line =
     if list_all is_blank_byte line then blank

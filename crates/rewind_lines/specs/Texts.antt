@@ -4,7 +4,7 @@ use Rattle.std.specs.List.{flat_map}
 use Rattle.serde_json.specs.Data.{Data}
 use Rattle.serde_json.specs.Written.{compact_text}
 
--- a reply's line
+-- the line of a reply
 unfoldable pub reply_text : Data → List ℕ
 reply_text reply = compact_text reply ++ 10 ∷ []
 

@@ -1,4 +1,4 @@
-//! Why a run of a script ended before its input did.
+//! Why a run of a script ended before its input ended.
 
 ghost use Rattle.std.specs.Prelude.{◌≡◌};
 ghost use Rattle.rewind_lines.specs.Faults.{status_of};
@@ -8,34 +8,34 @@ use crate::source::Unread;
 use std::alloc::{AllocError, AllocFailed};
 use thiserror::Error;
 
-/// Why a run of a script ended before its input did.
+/// Why a run of a script ended before its input ended.
 #[derive(Clone, Copy, Debug, Drop, PartialEq, Eq, Error)]
 pub enum DebugFault {
-    /// The graph's line was refused.
+    /// The graph was rejected.
     #[error("graph refused")]
     Graph,
-    /// A line of a script of several clients was refused. A run of one client never ends so.
+    /// A line of a script of several clients was rejected. A run of one client never returns this error.
     #[error("script refused")]
     Script,
     /// A read failed.
     #[error("read failed")]
     Read,
-    /// A write failed, or took no byte.
+    /// A write failed, or wrote nothing.
     #[error("write failed")]
     Write,
-    /// The input has more bytes than a script may have.
+    /// The input is longer than a script may be.
     #[error("input too long")]
     TooLong,
-    /// Memory ran out, outside of a command.
+    /// Memory ran out outside of a command.
     #[error("out of memory")]
     Memory,
-    /// A session of several clients did not close as it should. A run of one client never ends so.
+    /// A session of several clients did not close cleanly. A run of one client never returns this error.
     #[error("log mismatch")]
     Close,
 }
 
 impl DebugFault {
-    /// The exit status of a program whose run ended so.
+    /// Returns the exit status of a program whose run ended with this error.
     pub fn status(self) -> u8
         ensures { result ≡ status_of self }
     {

@@ -1,6 +1,5 @@
-//! What stands between bytes and the reading of a script's line, and between replies and bytes: a
-//! source of bytes, the lines that it is cut into and JSON's reading of them, the replies that wait,
-//! and a sink of bytes. Nothing here knows of commands.
+//! Reads script lines from bytes, and writes replies as bytes: a source of bytes, its division into lines, the JSON values
+//! of the lines, the replies that wait to be written, and a sink of bytes. This crate does not know about commands.
 #![tactic(auto)]
 
 mod fault;

@@ -11,11 +11,11 @@ use crate::source::front;
 use std::alloc::{AllocError, Allocator, Global};
 use std::marker::Model;
 
-/// The most bytes of a line, its newline left out.
+/// The maximum number of bytes of a line, without its newline.
 const LINE_LIMIT: usize = 65_536;
 
-/// The line that is being read, of any length. It holds the line's front, whether the line is
-/// longer than that, and whether it is blank so far.
+/// The line that is being read, of any length. It stores the first bytes of the line, whether the line
+/// is longer, and whether it is blank so far.
 #[derive(Drop)]
 pub struct Line<A: Allocator = Global> {
     front: Vec<u8, A>,
@@ -32,7 +32,7 @@ impl<A: Allocator> Model for Line<A> {
 }
 
 impl<A: Allocator> Line<A> {
-    /// A line of no bytes.
+    /// Returns an empty line.
     pub fn new(alloc: A) -> Self
         ensures { result ≡ front_of [] }
     {
@@ -43,13 +43,13 @@ impl<A: Allocator> Line<A> {
         }
     }
 
-    /// Reads more bytes of the line.
+    /// Appends more bytes to the line.
     pub fn extend(&mut self, bytes: &[u8]) -> Result<(), AllocError>
         ensures ok { OnOk result ((line : List ℕ) → self.old ≡ front_of line
             → self.new ≡ front_of (line ++ bytes.now)) }
         ensures err { OnErr result (self.new ≡ self.old) }
 
-        // Past the limit no memory is taken.
+        // Beyond the limit of a line it does not allocate.
         ensures long { max_line ≤ length self.old.bytes → IsOk result }
     {
         let room = LINE_LIMIT.saturating_sub(self.front.len());
@@ -60,7 +60,7 @@ impl<A: Allocator> Line<A> {
         Ok(())
     }
 
-    /// Begins the next line.
+    /// Starts the next line.
     pub fn clear(&mut self)
         ensures { self.new ≡ front_of [] }
     {
@@ -69,12 +69,12 @@ impl<A: Allocator> Line<A> {
         self.is_blank = true;
     }
 
-    /// What the line is read as.
+    /// Returns what the line contains.
     pub fn reading(&self, alloc: Global) -> Result<Reading, AllocError>
         ensures reading { IfOk result (λ r. (line : List ℕ) → self.now ≡ front_of line
             → reading_view r ≡ reading_of line) }
 
-        // A blank or too long line takes no memory.
+        // It does not allocate for a line that is blank or too long.
         ensures short { IsTrue (self.now.is_blank || self.now.is_longer) → IsOk result }
     {
         if self.is_blank {

@@ -1,4 +1,4 @@
-//! What a run of a script is told before it begins.
+//! The options of a run of a script.
 
 /// How many processors and clients a run has.
 #[derive(Clone, Copy, Debug, Drop, PartialEq, Eq)]

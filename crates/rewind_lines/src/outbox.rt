@@ -1,4 +1,4 @@
-//! Replies that are gathered, and written together.
+//! Replies that are collected, and written together.
 ghost use Rattle.std.specs.Prelude.{◌≡◌, ◌++◌, [], ℕ, false, length, nat_le, take, is_err, OnOk, OnErr};
 ghost use Rattle.std.specs.Io.KnownBytes.{Appends};
 ghost use Rattle.rewind_lines.specs.Texts.{reply_text};
@@ -8,7 +8,7 @@ use nd_json::Json;
 use std::alloc::{AllocError, Global};
 use std::marker::Model;
 
-/// So many bytes of replies do not wait for more.
+/// The number of bytes of replies from which on they should be written.
 const WAITING: usize = 65_536;
 
 /// The text of the replies that wait to be written.
@@ -27,7 +27,7 @@ impl Model for Outbox {
 }
 
 impl Outbox {
-    /// No reply waits.
+    /// Returns an outbox without replies.
     pub fn new(alloc: Global) -> Outbox
         ensures { result ≡ [] }
     {
@@ -49,14 +49,14 @@ impl Outbox {
         Ok(())
     }
 
-    /// Whether so much waits that it is to be written.
+    /// Returns whether enough text waits that it should be written.
     pub fn is_full(&self) -> bool
         ensures { result ≡ nat_le 65536 (length self.now) }
     {
         self.waiting.len() >= WAITING
     }
 
-    /// Writes what waits, or the front of it.
+    /// Writes the waiting text, or a first part of it if the sink fails.
     pub fn flush<T: Sink>(&mut self, sink: &mut T) -> Result<(), Unwritten>
         requires { T.failed sink.old ≡ false }
         ensures ok { OnOk result (Appends (T.contents sink.old) (T.contents sink.new) self.old) }

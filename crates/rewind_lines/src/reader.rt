@@ -29,7 +29,7 @@ impl Model for LineReader {
 }
 
 impl LineReader {
-    /// The first line, of which nothing was read.
+    /// Returns a reader at the start of the first line.
     pub fn new(alloc: Global) -> LineReader
         ensures first { result ≡ held_of [] }
         ensures number { result.number ≡ 1 }
@@ -41,15 +41,15 @@ impl LineReader {
         }
     }
 
-    /// The number of the line.
+    /// Returns the number of the line.
     pub fn number(&self) -> u64
         ensures { result ≡ self.now.number }
     {
         self.number
     }
 
-    /// Reads on to the next newline, and says how many bytes that is, the newline with them: the
-    /// line is whole then. `None` if no newline is among them: all of them were read.
+    /// Reads up to the next newline, and returns how many bytes that is, including the newline; the line is
+    /// then complete. If there is no newline, reads all bytes and returns `None`.
     pub fn take(&mut self, bytes: &[u8]) -> Result<Option<usize>, AllocError>
         ensures part { IfOk result (λ o. IfNone o ((has_newline bytes.now ≡ false)
             × ReadsOn self.old bytes.now self.new)) }
@@ -58,7 +58,7 @@ impl LineReader {
         ensures number { self.new.number ≡ self.old.number }
         ensures err { OnErr result (self.new ≡ self.old) }
 
-        // Past a line's limit no memory is taken.
+        // Beyond the limit of a line it does not allocate.
         ensures long { max_line ≤ length self.old.line.bytes → IsOk result }
     {
         match memchr(b'\n', bytes) {
@@ -73,18 +73,18 @@ impl LineReader {
         }
     }
 
-    /// What the line is read as, once it is whole.
+    /// Returns what the line contains, once it is complete.
     pub fn reading(&self) -> Result<Reading, AllocError>
         ensures reading { IfOk result (λ r. (done : List ℕ) → self.now ≡ held_of done
             → reading_view r ≡ reading_of (last_line_of done)) }
 
-        // A blank or too long line takes no memory.
+        // It does not allocate for a line that is blank or too long.
         ensures short { IsTrue (self.now.line.is_blank || self.now.line.is_longer) → IsOk result }
     {
         self.line.reading(self.alloc)
     }
 
-    /// Begins the next line, behind a newline.
+    /// Starts the next line, after a newline.
     pub fn begin_next(&mut self)
         requires { self.old.number + 1 < 2 ^ 64 }
         ensures next { ReadsOn self.old (10 ∷ []) self.new }

@@ -1,4 +1,4 @@
-//! What a line is read as.
+//! What a line contains.
 ghost use Rattle.std.specs.Prelude.{◌≡◌, option_map, IfOk};
 ghost use Rattle.serde_json.specs.View.{view};
 ghost use Rattle.rewind_lines.specs.Lines.{json_of};
@@ -6,16 +6,16 @@ ghost use Rattle.rewind_lines.specs.Lines.{json_of};
 use serde_json::Value;
 use std::alloc::{AllocError, Global};
 
-/// What a line is read as.
+/// What a line contains.
 #[derive(Drop)]
 pub enum Reading {
-    /// Spaces, tabs and carriage returns alone, of any number.
+    /// Only spaces, tabs and carriage returns, any number of them.
     Blank,
     /// More bytes than a line may have.
     TooLong,
-    /// No JSON text.
+    /// Something that is not JSON.
     NoJson,
-    /// One JSON value.
+    /// A JSON value.
     Json(Value),
 }
 

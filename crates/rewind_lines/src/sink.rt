@@ -1,4 +1,4 @@
-//! A sink of bytes, which tells what it holds and whether a write has failed.
+//! Sinks of bytes, whose contracts say what was written and whether a write has failed.
 ghost use Rattle.std.specs.Prelude.{◌≡◌, ◌≤◌, ℕ, List, None, Option, Bool, false, length, take, is_err, IfOk, OnOk, OnErr};
 ghost use Rattle.std.specs.Io.KnownBytes.{Appends, WriteAppends};
 ghost use Rattle.rewind_lines.specs.Writes.{refuses};
@@ -6,21 +6,21 @@ ghost use Rattle.rewind_lines.specs.Writes.{refuses};
 use std::io::Write;
 use thiserror::Error;
 
-/// A write failed, or took no byte.
+/// A write failed, or wrote nothing.
 #[derive(Clone, Copy, Debug, Drop, PartialEq, Eq, Error)]
 #[error("a write failed")]
 pub struct Unwritten;
 
-/// A sink of bytes, which is written until it fails, and not again.
+/// A sink of bytes. It is written to until a write fails, and not again.
 ///
-/// Its `contents` are the bytes that it holds, if it tells them; it has `failed` once a write
-/// answered an error, or took none of some bytes.
+/// `contents` are the bytes written so far, if the sink knows them. The sink has `failed` once a write returned an error, or
+/// wrote none of a nonempty slice.
 pub trait Sink {
     ghost contents: { Self → Option (List ℕ) } = { λ _. None };
 
     ghost failed: { Self → Bool };
 
-    /// Takes the front of the bytes, and says how many they are.
+    /// Writes a first part of the bytes, and returns its length.
     fn write(&mut self, bytes: &[u8]) -> Result<usize, Unwritten>
         requires { failed self.old ≡ false }
         ensures within { IfOk result (λ n. n ≤ length bytes.now) }
@@ -28,16 +28,16 @@ pub trait Sink {
         ensures failed { failed self.new ≡ refuses result bytes.now };
 }
 
-/// A standard writer as a sink.
+/// A sink that writes to a standard writer.
 #[derive(Debug, Drop)]
 pub struct WriteSink<W> {
     pub writer: W,
-    /// Whether a write has failed, or took none of some bytes.
+    /// Whether a write has failed, or wrote none of a nonempty slice.
     pub has_failed: bool,
 }
 
 impl<W> WriteSink<W> {
-    /// The sink of a writer that has not failed.
+    /// Returns a sink that writes to `writer` and has not failed.
     pub fn new(writer: W) -> Self
         ensures { (result.writer ≡ writer) × (result.has_failed ≡ false) }
     {
@@ -69,7 +69,7 @@ impl<W: Write> Sink for WriteSink<W> {
     }
 }
 
-/// Writes all of the bytes, or the front of them.
+/// Writes all of the bytes, or a first part of them if the sink fails.
 pub fn send<S: Sink>(sink: &mut S, bytes: &[u8]) -> Result<(), Unwritten>
     requires { S.failed sink.old ≡ false }
     ensures ok { OnOk result (Appends (S.contents sink.old) (S.contents sink.new) bytes.now) }

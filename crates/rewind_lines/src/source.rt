@@ -1,5 +1,4 @@
-//! A source of bytes, which tells how many it has given, what it has left, and whether it has ended
-//! or failed.
+//! Sources of bytes, whose contracts say how many bytes were read, which are left, and whether the source has ended or failed.
 ghost use Rattle.std.specs.Prelude.{◌≡◌, ◌+◌, ◌<◌, ◌≤◌, ◌^◌, ℕ, List, None, Option, Bool, false, length, take, is_err, IfOk, OnErr};
 ghost use Rattle.std.specs.Io.KnownBytes.{Consumes, IsAtEnd, Keeps, ReadConsumes};
 ghost use Rattle.rewind_lines.specs.Reads.{given_by, is_end};
@@ -12,11 +11,10 @@ use thiserror::Error;
 #[error("a read failed")]
 pub struct Unread;
 
-/// A source of bytes, which is read until it ends or fails, and not again.
+/// A source of bytes. It is read until it ends or a read fails, and not again.
 ///
-/// Its `remaining` are the bytes that it has left, if it tells them. It has `given` so many
-/// bytes, whether it tells them or not; it has `ended` once a read gave none, and `failed` once a
-/// read answered an error.
+/// `remaining` are the bytes that are left, if the source knows them, and `given` is how many bytes were read. The source
+/// has `ended` once a read returned no bytes, and `failed` once a read returned an error.
 pub trait Source {
     ghost remaining: { Self → Option (List ℕ) } = { λ _. None };
 
@@ -26,8 +24,7 @@ pub trait Source {
 
     ghost failed: { Self → Bool };
 
-    /// Gives the next bytes into the front of the buffer, and how many they are: none only at the
-    /// end.
+    /// Reads the next bytes into the start of `buffer`, and returns how many they are: none only at the end.
     fn read(&mut self, buffer: &mut [u8]) -> Result<usize, Unread>
         requires room { 0 < length buffer.old }
         requires goes_on { ended self.old ≡ false }
@@ -40,20 +37,20 @@ pub trait Source {
         ensures failed { failed self.new ≡ is_err result };
 }
 
-/// A standard reader as a source.
+/// A source that reads from a standard reader.
 #[derive(Debug, Drop)]
 pub struct ReadSource<R> {
     pub reader: R,
-    /// How many bytes it has given.
+    /// How many bytes were read.
     pub given: u64,
-    /// Whether a read gave none.
+    /// Whether a read returned no bytes.
     pub has_ended: bool,
     /// Whether a read has failed.
     pub has_failed: bool,
 }
 
 impl<R> ReadSource<R> {
-    /// The source of a reader that has not been read.
+    /// Returns a source of `reader`, from which nothing was read yet.
     pub fn new(reader: R) -> Self
         ensures reader { result.reader ≡ reader }
         ensures unread { (result.given ≡ 0) × (result.has_ended ≡ false)
@@ -92,7 +89,7 @@ impl<R: Read> Source for ReadSource<R> {
     }
 }
 
-/// One read of at most so many bytes, into the front of the chunk.
+/// Reads once, at most `most` bytes, into the start of `chunk`.
 pub fn read_into<S: Source>(source: &mut S, chunk: &mut [u8], most: usize) -> Result<usize, Unread>
     requires some { 0 < most }
     requires room { most ≤ length chunk.old }
@@ -111,7 +108,7 @@ pub fn read_into<S: Source>(source: &mut S, chunk: &mut [u8], most: usize) -> Re
     source.read(&mut chunk[..most])
 }
 
-/// The first n of the bytes.
+/// Returns the first `n` bytes.
 pub fn front(bytes: &[u8], n: usize) -> &[u8]
     requires { n ≤ length bytes.now }
     ensures { result.now ≡ take n bytes.now }

@@ -186,6 +186,15 @@ function showPlaces() {
   }
 }
 
+// A large graph is scrolled to a place that the last step changed.
+function showChangedPlace() {
+  const wide = document.querySelector("#drawing .wide"), place = wide.querySelector(".place.changed");
+  if (!place) return;
+  const frame = wide.getBoundingClientRect(), box = place.getBoundingClientRect();
+  if (box.left < frame.left || box.right > frame.right) wide.scrollLeft += box.left - frame.left - frame.width / 2;
+  if (box.top < frame.top || box.bottom > frame.bottom) wide.scrollTop += box.top - frame.top - frame.height / 2;
+}
+
 // ---- what can happen, and what changed
 
 function candidate(it) {
@@ -326,7 +335,7 @@ function showPoints() {
   }
   table.append(head, ...picture.state.points.map(pointRow));
   const wide = made("div", undefined, "wide");
-  wide.append(picture.state.points.length ? table : made("p", "nothing is anywhere", "none"));
+  wide.append(picture.state.points.length ? table : made("p", "nothing is outstanding", "none"));
   by("points").replaceChildren(made("h2", "Truth, views and unsent updates"), wide);
 }
 
@@ -418,6 +427,7 @@ function show() {
   document.body.dataset.revision = revision;
   showSteps();
   showPlaces();
+  showChangedPlace();
   showCandidates();
   showEffect();
   showFeed();

@@ -48,11 +48,20 @@ class Pictures:
 
     def inputs(self, state):
         """The inputs that may be fed: each with its processor and its token's epoch."""
-        return [{"p": p, "vertex": vertex, "epoch": epoch} for p, it in enumerate(state["processors"]) for vertex, epoch in it["tokens"]]
+        return [
+            {"p": p, "vertex": vertex, "epoch": epoch}
+            for p, it in enumerate(state["processors"])
+            for vertex, epoch in it["tokens"]
+        ]
 
     def candidate(self, it):
         step = it["step"]
-        shown = {"line": step, "kind": step["do"], "p": processor_of(step), "words": plain(command_words(step))}
+        shown = {
+            "line": step,
+            "kind": step["do"],
+            "p": processor_of(step),
+            "words": plain(command_words(step)),
+        }
         if "refused" in it:
             why = plain(self.teller.refused(step, it["refused"], None)[0])
             shown["refused"] = why
@@ -71,7 +80,9 @@ class Pictures:
             return None
         reply = self.session.ask({"do": "effect", "to": position})
         changed = reply["changed"]
-        places = {it[1] for kind in ("records", "requests", "tokens", "items", "sinks") for it in changed[kind]}
+        places = {
+            it[1] for kind in ("records", "requests", "tokens", "items", "sinks") for it in changed[kind]
+        }
         return {
             "step": plain(command_words(reply["step"])),
             "words": [plain(it) for it in effect_words(changed)],
@@ -79,11 +90,14 @@ class Pictures:
         }
 
     def window(self, cursor, kept, window):
-        """The steps that lead to the positions of a window around the cursor, with the messages between processors."""
+        """The steps that lead to the positions of a window around the cursor, with the messages between
+        processors."""
         first, last = window or (cursor - IN_SIGHT // 2, cursor + IN_SIGHT // 2)
         first, last = max(1, min(first, kept - IN_SIGHT + 1)), min(kept, max(last, IN_SIGHT))
         wanted = [it for it in range(first, last + 1) if it not in self.steps]
-        for position, reply in zip(wanted, self.session.ask_all([{"do": "effect", "to": it} for it in wanted]) if wanted else []):
+        for position, reply in zip(
+            wanted, self.session.ask_all([{"do": "effect", "to": it} for it in wanted]) if wanted else []
+        ):
             self.steps[position] = self.shown_step(position, reply)
         steps = [self.steps[it] for it in range(first, last + 1)]
         return {"first": first, "items": steps, "messages": messages(steps)}
@@ -91,7 +105,13 @@ class Pictures:
     def shown_step(self, position, reply):
         step = reply["step"]
         queues = [it for it in reply["changed"]["queues"]]
-        return {"position": position, "kind": step["do"], "p": processor_of(step), "words": plain(command_words(step)), "queues": queues}
+        return {
+            "position": position,
+            "kind": step["do"],
+            "p": processor_of(step),
+            "words": plain(command_words(step)),
+            "queues": queues,
+        }
 
     # ---- questions
 
@@ -101,7 +121,10 @@ class Pictures:
         reply = self.session.ask(line)
         if "error" in reply:
             return {"error": reply["error"]}
-        reasons = [{"words": plain(reason_words(it)), "place": self.order[it["point"][0]], "at": at(*it["point"])} for it in reply["reasons"]]
+        reasons = [
+            {"words": plain(reason_words(it)), "place": self.order[it["point"][0]], "at": at(*it["point"])}
+            for it in reply["reasons"]
+        ]
         return {"passed": reply["passed"], "finished": reply["finished"], "reasons": reasons}
 
     def turns(self, when, kept):
@@ -109,11 +132,17 @@ class Pictures:
         reply = self.session.ask({"do": "turns", "when": when, "lo": 0, "hi": kept})
         if "error" in reply:
             return {"error": reply["error"]}
-        return {"when": plain(condition(when)), "at_lo": reply["at_lo"], "turns": reply["turns"], "more": reply.get("more", False)}
+        return {
+            "when": plain(condition(when)),
+            "at_lo": reply["at_lo"],
+            "turns": reply["turns"],
+            "more": reply.get("more", False),
+        }
 
 
 def messages(steps):
-    """The updates that steps send and receive: sender, receiver, the position of each end, None for one that is not in sight."""
+    """The updates that steps send and receive: sender, receiver, the position of each end, None for one that
+    is not in sight."""
     waiting, found = {}, []
     for step in steps:
         for sender, receiver, old, new in step["queues"]:
@@ -122,5 +151,10 @@ def messages(steps):
                 queue.append(step["position"])
             elif queue:
                 found.append([sender, receiver, queue.pop(0), step["position"]])
-    found += [[sender, receiver, begin, None] for (sender, receiver), queue in waiting.items() for begin in queue if begin is not None]
+    found += [
+        [sender, receiver, begin, None]
+        for (sender, receiver), queue in waiting.items()
+        for begin in queue
+        if begin is not None
+    ]
     return [it for it in found if it[0] != it[1]]

@@ -1,7 +1,8 @@
 """The server of a live session: its page, and the questions that the page asks, on this machine alone.
 
-The address has a random token; a request without it, for another host or from another page's origin is refused. The page may
-load the server's own files alone (Content-Security-Policy). The server ends with its last page, or with Ctrl-C."""
+The address has a random token; a request without it, for another host or from another page's origin is
+refused. The page may load the server's own files alone (Content-Security-Policy). The server ends with its
+last page, or with Ctrl-C."""
 import json
 import os
 import re
@@ -22,11 +23,14 @@ from rewind_tools.telling.commands import FIRM
 FOLDER = os.path.dirname(os.path.abspath(__file__))
 FILES = {"app.js": "text/javascript; charset=utf-8", "app.css": "text/css; charset=utf-8"}
 POLICY = (
-    "default-src 'none'; script-src 'self'; style-src 'self'; connect-src 'self'; img-src 'self' data:; base-uri 'none'; "
-    "form-action 'none'; frame-ancestors 'none'"
+    "default-src 'none'; script-src 'self'; style-src 'self'; connect-src 'self'; img-src 'self' data:;"
+    " base-uri 'none'; form-action 'none'; frame-ancestors 'none'"
 )
 LARGEST = 1 << 20
-# How often a page is told that the server is there, and how long the server waits for a page after the last has gone.
+# How wide a graph may be to stand beside the other panels, and how wide to shrink with a narrow window.
+WIDEST_BESIDE, WIDEST_SHRUNK = 560, 1000
+# How often a page is told that the server is there, and how long the server waits for a page after the last
+# has gone.
 BEAT, PATIENCE = 1.0, 4.0
 
 
@@ -44,7 +48,12 @@ class Live:
     def __init__(self, session, name):
         self.session, self.name = session, name
         self.lock = threading.Lock()
-        self.teller = Teller(names.Graph(session.graph, session.version), session.started["processors"], False, session.version)
+        self.teller = Teller(
+            names.Graph(session.graph, session.version),
+            session.started["processors"],
+            False,
+            session.version,
+        )
         self.pictures = Pictures(session, self.teller)
         self.at = self.kept = self.revision = 0
         self.ended = None
@@ -64,7 +73,8 @@ class Live:
             self.at, self.kept = reply["at"], reply.get("kept", self.kept)
 
     def command(self, value, revision):
-        """Executes a command that a page asks for, if the page has seen the newest state, and tells what it answers."""
+        """Executes a command that a page asks for, if the page has seen the newest state, and tells what it
+        answers."""
         if not isinstance(value, dict) or value.get("do") not in COMMANDS:
             raise Refused(400, "that is no command")
         if revision != self.revision:
@@ -80,7 +90,11 @@ class Live:
             self.revision += 1
         if self.kept != kept or self.at > before:
             self.pictures.forget_from(before)
-        return {"words": [it.replace(FIRM, " ") for it in words], "refused": "error" in reply, **self.picture({})}
+        return {
+            "words": [it.replace(FIRM, " ") for it in words],
+            "refused": "error" in reply,
+            **self.picture({}),
+        }
 
     def picture(self, asked):
         """The picture at the cursor; of a window of positions, if one is asked for."""
@@ -106,7 +120,9 @@ class Live:
         if path == "why":
             return self.pictures.why(asked["q"], asked["at"], asked["time"], asked.get("before", False))
         if path == "frontier":
-            replies = self.session.ask_all([{"do": "frontier", "q": q, "at": asked["at"]} for q in range(self.teller.processors)])
+            replies = self.session.ask_all(
+                [{"do": "frontier", "q": q, "at": asked["at"]} for q in range(self.teller.processors)]
+            )
             return {"times": [it["times"] for it in replies]}
         if path == "turns":
             return self.pictures.turns(asked["when"], self.kept)
@@ -118,10 +134,21 @@ class Live:
         """The page, with the graph in it."""
         with open(os.path.join(FOLDER, "page.html"), encoding="utf-8") as it:
             text = it.read()
-        graph = re.sub(r'style="width:([\d.]+)px;min-width:[\d.]+px"', r'width="\1"', graph_svg(self.session.graph, laid_out(self.session.graph)))
-        places = [{"name": it["name"], "op": it.get("op", "edge")} for it in self.session.graph["vertices"] + self.session.graph["edges"]]
+        graph = re.sub(
+            r'style="width:([\d.]+)px;min-width:[\d.]+px"',
+            r'width="\1"',
+            graph_svg(self.session.graph, laid_out(self.session.graph)),
+        )
+        places = [
+            {"name": it["name"], "op": it.get("op", "edge")}
+            for it in self.session.graph["vertices"] + self.session.graph["edges"]
+        ]
+        width = float(re.search(r'<svg [^>]*width="([\d.]+)"', graph)[1])
         about = {"processors": self.teller.processors, "places": places, "name": self.name}
         filled = {"title": escape(self.name), "graph": graph, "about": escape(json.dumps(about))}
+        filled["size"] = (
+            "large shrinks-little" if width > WIDEST_SHRUNK else "large" if width > WIDEST_BESIDE else ""
+        )
         pieces = text.split("@")
         return "".join(filled[it] if at % 2 else it for at, it in enumerate(pieces))
 
@@ -238,7 +265,12 @@ class Server(ThreadingHTTPServer):
 
     def __init__(self, live, port=0):
         super().__init__(("127.0.0.1", port), Handler)
-        self.live, self.token, self.watching, self.is_ending = live, secrets.token_urlsafe(18), Watching(), False
+        self.live, self.token, self.watching, self.is_ending = (
+            live,
+            secrets.token_urlsafe(18),
+            Watching(),
+            False,
+        )
         number = self.server_address[1]
         self.hosts = {f"127.0.0.1:{number}", f"localhost:{number}"}
 

@@ -5,9 +5,12 @@ import subprocess
 from html import escape
 
 from rewind_tools.layout import Drawn, Edge, layout, tidy
+from rewind_tools.wrapping import wrapped
 
 LETTER = 7.3
 COUNT_LETTERS = 12
+# How wide a graph may be before it stands in rows.
+WIDEST = 1400
 
 
 def width_of(text, letter=LETTER):
@@ -24,9 +27,17 @@ def port_of(edge):
 
 def sizes_of(graph):
     """The size of each vertex's box and of each edge's label."""
-    widest = lambda *texts: max(map(width_of, texts))
-    boxes = {it["name"]: (widest(it["name"], kind_of(it), "9 requests") + 14, 58) for it in graph["vertices"]}
-    labels = {it["name"]: (max(width_of(it["name"] + port_of(it)), COUNT_LETTERS * LETTER) + 4, 38) for it in graph["edges"]}
+
+    def widest(*texts):
+        return max(map(width_of, texts))
+
+    boxes = {
+        it["name"]: (widest(it["name"], kind_of(it), "9 requests") + 14, 58) for it in graph["vertices"]
+    }
+    labels = {
+        it["name"]: (max(width_of(it["name"] + port_of(it)), COUNT_LETTERS * LETTER) + 4, 38)
+        for it in graph["edges"]
+    }
     return boxes, labels
 
 
@@ -37,29 +48,39 @@ def laid_out(graph, uses_dot=True):
         drawn = by_dot(graph, boxes, labels)
         if drawn:
             return drawn
-    return layout(boxes, [Edge(it["name"], it["from"], it["to"], labels[it["name"]]) for it in graph["edges"]])
+    return layout(
+        boxes, [Edge(it["name"], it["from"], it["to"], labels[it["name"]]) for it in graph["edges"]]
+    )
 
 
 def dot_source(graph, boxes, labels):
     """The graph for dot, its names as numbers; a label is an empty box of the size that is wanted."""
     number = {it["name"]: at for at, it in enumerate(graph["vertices"])}
-    lines = ["digraph { rankdir=LR; nodesep=0.25; ranksep=0.22; node [shape=box, fixedsize=true, label=\"\"];"]
+    lines = ['digraph { rankdir=LR; nodesep=0.25; ranksep=0.22; node [shape=box, fixedsize=true, label=""];']
     for name, at in number.items():
         lines.append(f"v{at} [width={boxes[name][0] / 72:.3f}, height={boxes[name][1] / 72:.3f}];")
     for at, it in enumerate(graph["edges"]):
         wide, high = labels[it["name"]]
-        box = f'<table border="0" fixedsize="true" width="{wide:.0f}" height="{high:.0f}"><tr><td></td></tr></table>'
+        box = (
+            f'<table border="0" fixedsize="true" width="{wide:.0f}"'
+            f' height="{high:.0f}"><tr><td></td></tr></table>'
+        )
         lines.append(f"v{number[it['from']]} -> v{number[it['to']]} [id={at}, label=<{box}>];")
     return "\n".join([*lines, "}"])
 
 
 def by_dot(graph, boxes, labels):
     """The layout that dot makes, or None if it makes none."""
-    ran = subprocess.run(["dot", "-Tjson"], input=dot_source(graph, boxes, labels), text=True, capture_output=True)
+    ran = subprocess.run(
+        ["dot", "-Tjson"], input=dot_source(graph, boxes, labels), text=True, capture_output=True
+    )
     try:
         said = json.loads(ran.stdout)
         _, _, width, height = map(float, said["bb"].split(","))
-        point = lambda text: (float(text.split(",")[0]), height - float(text.split(",")[1]))
+
+        def point(text):
+            return (float(text.split(",")[0]), height - float(text.split(",")[1]))
+
         names = [it["name"] for it in graph["vertices"]]
         nodes = {names[int(it["name"][1:])]: tidy(point(it["pos"])) for it in said.get("objects", [])}
         middles, paths = {}, {}
@@ -82,23 +103,44 @@ def path_text(points):
 
 
 def graph_svg(graph, drawn):
-    """The graph's picture. Each place has its number in the order of listing, by which the counts are filled in."""
+    """The graph's picture. Each place has its number in the order of listing, by which the counts are filled
+    in. A graph that is too wide stands in rows."""
     boxes, labels = sizes_of(graph)
-    parts = [edge_svg(it, drawn.paths[it["name"]], len(graph["vertices"]) + at) for at, it in enumerate(graph["edges"])]
-    parts += [vertex_svg(it, drawn.nodes[it["name"]], boxes[it["name"]], at) for at, it in enumerate(graph["vertices"])]
+    drawn = wrapped(drawn, boxes, labels, WIDEST)
+    parts = [
+        edge_svg(it, drawn.curves[it["name"]], len(graph["vertices"]) + at)
+        for at, it in enumerate(graph["edges"])
+    ]
+    parts += [
+        vertex_svg(it, drawn.nodes[it["name"]], boxes[it["name"]], at)
+        for at, it in enumerate(graph["vertices"])
+    ]
     for at, it in enumerate(graph["edges"]):
-        parts.append(label_svg(it, drawn.labels[it["name"]], labels[it["name"]], len(graph["vertices"]) + at))
+        parts.append(
+            label_svg(it, drawn.labels[it["name"]], labels[it["name"]], len(graph["vertices"]) + at)
+        )
+    for name, notes in drawn.notes.items():
+        parts += [f'<text class="more" x="{x:g}" y="{y:g}">{escape(name)}</text>' for x, y in notes]
     wide, high = drawn.width + 12, drawn.height + 12
-    head = '<defs><marker id="tip" viewBox="0 0 8 8" refX="7" refY="4" markerUnits="userSpaceOnUse" markerWidth="10" '
+    head = (
+        '<defs><marker id="tip" viewBox="0 0 8 8" refX="7" refY="4" markerUnits="userSpaceOnUse"'
+        ' markerWidth="10" '
+    )
     head += 'markerHeight="10" orient="auto"><path d="M0,0 L8,4 L0,8 z"/></marker></defs>'
-    size = f'viewBox="-6 -6 {wide:g} {high:g}" style="width:{wide:g}px;min-width:{min(wide, max(360, wide * 0.8)):g}px"'
-    start = f'<svg xmlns="http://www.w3.org/2000/svg" class="graph" role="img" aria-label="the graph" {size}>'
+    size = (
+        f'viewBox="-6 -6 {wide:g} {high:g}"'
+        f' style="width:{wide:g}px;min-width:{min(wide, max(360, wide * 0.8)):g}px"'
+    )
+    start = (
+        f'<svg xmlns="http://www.w3.org/2000/svg" class="graph" role="img" aria-label="the graph" {size}>'
+    )
     return f"{start}{head}{''.join(parts)}</svg>"
 
 
-def edge_svg(edge, points, number):
+def edge_svg(edge, curves, number):
     route = "exchange" if edge["route"] == "exchange" else "local"
-    return f'<path class="edge {route}" data-edge="{number}" d="{path_text(points)}" marker-end="url(#tip)"/>'
+    path = " ".join(map(path_text, curves))
+    return f'<path class="edge {route}" data-edge="{number}" d="{path}" marker-end="url(#tip)"/>'
 
 
 def vertex_svg(vertex, middle, size, number):
@@ -112,7 +154,10 @@ def vertex_svg(vertex, middle, size, number):
 
 def label_svg(edge, middle, size, number):
     (x, y), (wide, high) = middle, size
-    back = f'<rect x="{x - wide / 2:g}" y="{y - high / 2 + 2:g}" width="{wide:g}" height="{high - 4:g}" rx="6"/>'
+    back = (
+        f'<rect x="{x - wide / 2:g}" y="{y - high / 2 + 2:g}" width="{wide:g}" height="{high - 4:g}"'
+        ' rx="6"/>'
+    )
     port = f'<tspan class="kind">{port_of(edge)}</tspan>'
     name = f'<text class="name" x="{x:g}" y="{y - 4:g}">{escape(edge["name"])}{port}</text>'
     count = f'<text class="count" x="{x:g}" y="{y + 12:g}"></text>'

@@ -1,5 +1,5 @@
-"""A run as a space-time diagram: a line a processor, its steps as points, and each change as an arrow from its broadcast to
-its receive."""
+"""A run as a space-time diagram: a line a processor, its steps as points, and each change as an arrow from
+its broadcast to its receive."""
 from rewind_tools.showing.states import changes, number
 from rewind_tools.showing.svgs import box, dot, line, picture, text
 from rewind_tools.telling.commands import at
@@ -111,8 +111,14 @@ def lagging_view(told, name):
     parts.append(text(20, 50, more, "small soft start"))
     for p in range(count):
         _, y = spot(0, p)
-        parts += [text(20, y - 10, f"processor {p}", "head start"), text(20, y + 8, "its view", "small soft start")]
-        parts += [line(LEFT - 30, y, wide - 20, y, "line", "tip"), *view_parts(20, y, start["processors"][p]["view"])]
+        parts += [
+            text(20, y - 10, f"processor {p}", "head start"),
+            text(20, y + 8, "its view", "small soft start"),
+        ]
+        parts += [
+            line(LEFT - 30, y, wide - 20, y, "line", "tip"),
+            *view_parts(20, y, start["processors"][p]["view"]),
+        ]
     for arrow in arrows_of(steps, start):
         parts += arrow_parts(arrow, steps)
     for index, it in enumerate(steps):
@@ -122,7 +128,10 @@ def lagging_view(told, name):
     for index, it in enumerate(steps):
         for row, words in enumerate(truth_of(it.state)):
             parts.append(text(spot(index, 0)[0], y + 18 * row, words, "fixed small"))
-    title = f"The steps of {name} on {count} processors; a view that heard of a take before the feed holds a negative entry."
+    title = (
+        f"The steps of {name} on {count} processors; a view that heard of a take before the feed holds a"
+        " negative entry."
+    )
     return picture(wide, high, title, parts)
 
 
@@ -133,8 +142,12 @@ def step_parts(index, entry):
     x, y = spot(index, processor)
     words = words_of(value)
     parts = [dot(x, y)]
-    side, aside = {"broadcast": ("small end", 4), "receive": ("small start", 8)}.get(value["do"], ("small", 0))
-    parts += [text(x + aside, y - 12 - 16 * (len(words) - 1 - row), it, side) for row, it in enumerate(words)]
+    side, aside = {"broadcast": ("small end", 4), "receive": ("small start", 8)}.get(
+        value["do"], ("small", 0)
+    )
+    parts += [
+        text(x + aside, y - 12 - 16 * (len(words) - 1 - row), it, side) for row, it in enumerate(words)
+    ]
     if value["do"] == "receive":
         parts += view_parts(x - 4, y, entry.state["processors"][processor]["view"])
     return parts

@@ -1,4 +1,5 @@
-"""The times of a run on its graph: on each edge the times of the records that were there, in the order in which they came."""
+"""The times of a run on its graph: on each edge the times of the records that were there, in the order in
+which they came."""
 from rewind_tools.layout import Edge, layout
 from rewind_tools.showing.graphs import kind_of
 from rewind_tools.showing.svgs import box, curve, moved, picture, text
@@ -25,7 +26,8 @@ def lines_of_times(times):
 
 
 def grounds(graph, drawn, sizes, labels):
-    """Behind the vertices and edges of each depth that lies in a loop a ground that follows them and nothing else."""
+    """Behind the vertices and edges of each depth that lies in a loop a ground that follows them and nothing
+    else."""
     depths = {it["name"]: it["depth"] for it in graph["vertices"]}
     parts = []
     for depth in range(1, 1 + max(depths.values())):
@@ -45,7 +47,11 @@ def vertex_parts(vertex, middle, size):
     x, y = middle
     does = DOES.get(vertex["op"])
     top = y - (12 if does else 4)
-    parts = [box(x, y, *size), text(x, top, vertex["name"], "head"), text(x, top + 16, kind_of(vertex), "soft")]
+    parts = [
+        box(x, y, *size),
+        text(x, top, vertex["name"], "head"),
+        text(x, top + 16, kind_of(vertex), "soft"),
+    ]
     return parts + ([text(x, top + 32, does, "small accent")] if does else [])
 
 
@@ -55,7 +61,9 @@ def nested_loop(told, name):
     wide = {"ingress": 96, "egress": 104, "feedback": 124}
     sizes = {it["name"]: (wide.get(it["op"], 78), 60) for it in graph["vertices"]}
     lines = {edge: lines_of_times(it) for edge, it in times.items()}
-    labels = {edge: (max(map(len, it), default=3) * 7.4 + 12, 16 * len(it) + 8) for edge, it in lines.items()}
+    labels = {
+        edge: (max(map(len, it), default=3) * 7.4 + 12, 16 * len(it) + 8) for edge, it in lines.items()
+    }
     edges = [Edge(it["name"], it["from"], it["to"], labels[it["name"]]) for it in graph["edges"]]
     drawn = layout(sizes, edges, gap=30, layer_gap=14)
     parts = grounds(graph, drawn, sizes, labels)
@@ -68,5 +76,8 @@ def nested_loop(told, name):
     head = text(20, 28, f"{name}: the times of the records on each edge, as they came", "head start")
     more = "the ground shows what lies in a loop, the stronger one what lies in a loop within it"
     head += text(20, 48, more, "small soft start")
-    title = f"The graph of {name} with times of records: an ingress appends a counter, a feedback adds 1, an egress drops it."
+    title = (
+        f"The graph of {name} with times of records: an ingress appends a counter, a feedback adds 1, an"
+        " egress drops it."
+    )
     return picture(drawn.width + 50, drawn.height + 120, title, [head, moved(25, 92, parts)])

@@ -16,18 +16,76 @@ function made(kind, text, className) {
   return it;
 }
 
-function stateAt(at) {
-  const known = run.positions[at];
-  return known && known.state !== null ? run.states[known.state] : null;
+// A state is stored as what differs from the one before: packing.py has the other direction.
+const packed = [];
+const shownStates = new Map();
+
+function applied(old, changed) {
+  if (changed === null || typeof changed !== "object" || Array.isArray(changed)) return changed;
+  const now = { ...old };
+  for (const [key, it] of Object.entries(changed)) {
+    if (it === null) delete now[key];
+    else now[key] = applied(now[key] === undefined ? {} : now[key], it);
+  }
+  return now;
 }
 
+function packedState(number) {
+  while (packed.length <= number) packed.push(applied(packed[packed.length - 1] || {}, run.states[packed.length]));
+  return packed[number];
+}
+
+const pointText = (number) => run.points[number][0];
+const pointRank = (number) => run.points[number][1];
+const textsOf = (numbers) => numbers.map((it) => run.texts[it]);
+
+function rowOf(number, cells) {
+  const each = (kind, none) => Array.from({ length: run.processors }, (_, p) => cells[`${kind}${p}`] || none);
+  return { at: pointText(number), truth: cells.t || "0", view: each("v", "0"), unsent: each("u", ""), front: each("f", 0) };
+}
+
+function listOf([count, ...numbers]) {
+  return { count, texts: textsOf(numbers) };
+}
+
+// The reasons by processor: which points were asked about, in the order of listing, and the answer at each.
+function whyOf(asked, byProcessor) {
+  const told = Object.keys(byProcessor).map((q) => byProcessor[q]);
+  const numbers = told.length ? Object.keys(told[0]) : [];
+  numbers.sort((one, other) => pointRank(one) - pointRank(other));
+  const answers = told.map((it) => new Map(numbers.map((number) => [pointText(number), it[number]])));
+  return { asked, at: numbers.map(pointText), told: answers };
+}
+
+function unpacked(it) {
+  const places = {};
+  for (const [place, [n, of, when, ...times]] of Object.entries(it.places)) places[place] = { n, of, when, by: listOf(times) };
+  const numbers = Object.keys(it.points).sort((one, other) => pointRank(one) - pointRank(other));
+  const queues = Object.keys(it.queues).map((key) => ({ key, pair: key.split(" ").map(Number), ...listOf(it.queues[key]) }));
+  queues.sort((one, other) => one.pair[0] - other.pair[0] || one.pair[1] - other.pair[1]);
+  const holdings = (kinds) => Object.fromEntries(Object.entries(kinds).map(([kind, list]) => [kind, listOf(list)]));
+  const processors = Object.keys(it.processors).map((p) => holdings(it.processors[p]));
+  return { places, points: numbers.map((number) => rowOf(number, it.points[number])), queues, processors, why: whyOf(it.asked, it.why) };
+}
+
+function stateAt(at) {
+  const known = run.positions[at];
+  if (!known || known.state === null) return null;
+  if (!shownStates.has(known.state)) shownStates.set(known.state, unpacked(packedState(known.state)));
+  return shownStates.get(known.state);
+}
+
+// The line and its reply are stored at the line's last position; the steps of a run have neither.
 function showStep(it) {
+  const isInner = it.end !== undefined;
+  const last = isInner ? run.positions[it.end] : it;
   const client = it.client === null ? "" : `client ${it.client}: `;
-  by("asked").textContent = client + it.asked;
+  const step = isInner ? `step ${it.step} of ${it.ran} of this run: ` : "";
+  by("asked").textContent = client + step + it.asked;
   by("answer").className = it.refused ? "refused" : "";
   by("answer").replaceChildren(...it.answer.map((text) => made("li", text)));
-  by("line").textContent = it.text;
-  by("reply").textContent = it.reply;
+  by("line").textContent = last.text;
+  by("reply").textContent = isInner ? "" : it.reply;
   const line = it.line === null ? "" : `line ${it.line}, `;
   by("where").textContent = `${line}${position + 1} of ${run.positions.length}`;
   document.body.dataset.position = position;
@@ -43,6 +101,8 @@ function showKept(it) {
   by("cursor").textContent = `cursor at ${it.at} of ${it.kept} kept ${it.kept === 1 ? "step" : "steps"}`;
 }
 
+const more = (list) => (list.count > list.texts.length ? [`and ${list.count - list.texts.length} more`] : []);
+
 function showPlaces(now, before, mark) {
   for (const place of document.querySelectorAll(".graph .place")) {
     const here = now && now.places[place.dataset.place];
@@ -53,7 +113,7 @@ function showPlaces(now, before, mark) {
     const count = place.querySelector(".count");
     count.textContent = text;
     count.dataset.n = here ? here.n : now ? "0" : "";
-    const lines = here ? here.by : [];
+    const lines = here ? [...here.by.texts, ...more(here.by)] : [];
     place.querySelector("title").textContent = here ? [`${here.n} ${here.of}`, ...lines].join("\n") : "nothing is here";
     place.classList.toggle("busy", Boolean(here));
     const isChanged = before && now && JSON.stringify(here) !== JSON.stringify(old);
@@ -62,6 +122,15 @@ function showPlaces(now, before, mark) {
   for (const edge of document.querySelectorAll(".graph .edge")) {
     edge.classList.toggle("busy-edge", Boolean(now && now.places[edge.dataset.edge]));
   }
+}
+
+// A large graph is scrolled to a place that changed.
+function showChangedPlace() {
+  const wide = document.querySelector("#drawing .wide"), place = wide.querySelector(".place.changed");
+  if (!place) return;
+  const frame = wide.getBoundingClientRect(), box = place.getBoundingClientRect();
+  if (box.left < frame.left || box.right > frame.right) wide.scrollLeft += box.left - frame.left - frame.width / 2;
+  if (box.top < frame.top || box.bottom > frame.bottom) wide.scrollTop += box.top - frame.top - frame.height / 2;
 }
 
 function head(now) {
@@ -113,27 +182,26 @@ function showPoints(now, before) {
   const rows = allRows(now, before);
   for (const row of rows) table.append(pointRow(row, old.get(row.at), Boolean(before)));
   const wide = made("div", undefined, "wide");
-  wide.append(rows.length ? table : made("p", "nothing is anywhere", "none"));
-  by("points").replaceChildren(made("h2", "Truth, views and unsent changes"), wide);
+  wide.append(rows.length ? table : made("p", "nothing is outstanding", "none"));
+  by("points").replaceChildren(made("h2", "Truth, views and unsent updates"), wide);
 }
 
-function chips(texts, most) {
-  const shown = texts.slice(0, most).map((text) => made("span", text, "chip"));
-  if (texts.length > most) shown.push(made("span", `and ${texts.length - most} more`, "none"));
+function chips(list, most) {
+  const shown = list.texts.slice(0, most).map((text) => made("span", text, "chip"));
+  if (list.count > shown.length) shown.push(made("span", `and ${list.count - shown.length} more`, "none"));
   return shown;
 }
 
 function showQueues(now, before) {
-  const old = new Map((before ? before.queues : []).map((it) => [`${it.from} ${it.to}`, JSON.stringify(it)]));
+  const old = new Map((before ? before.queues : []).map((it) => [it.key, JSON.stringify(it)]));
   const rows = now.queues.map((it) => {
     const row = made("div", undefined, "row");
-    const isChanged = before && old.get(`${it.from} ${it.to}`) !== JSON.stringify(it);
-    const texts = it.changes.map((entries) => entries.join(", "));
-    row.append(made("b", `${it.from} \u2192 ${it.to}`, isChanged ? "changed" : ""), ...chips(texts, LONG_QUEUE));
+    const isChanged = before && old.get(it.key) !== JSON.stringify(it);
+    row.append(made("b", it.pair.join(" \u2192 "), isChanged ? "changed" : ""), ...chips(it, LONG_QUEUE));
     return row;
   });
-  const none = made("p", "every queue is empty", "none");
-  by("queues").replaceChildren(made("h2", "Changes on their way, front first"), ...(rows.length ? rows : [none]));
+  const none = made("p", "all queues are empty", "none");
+  by("queues").replaceChildren(made("h2", "Updates on their way, the first to arrive first"), ...(rows.length ? rows : [none]));
 }
 
 function showProcessors(now, before) {
@@ -142,10 +210,10 @@ function showProcessors(now, before) {
     const old = before && before.processors[p];
     const row = made("div", undefined, "row");
     row.append(made("b", `processor ${p}`));
-    for (const [kind, texts] of Object.entries(it)) {
-      const isChanged = old && JSON.stringify(old[kind]) !== JSON.stringify(texts);
-      if (!texts.length && !isChanged) continue;
-      const shown = chips(texts.length ? texts : ["none"], LONG_LIST);
+    for (const [kind, list] of Object.entries(it)) {
+      const isChanged = old && JSON.stringify(old[kind]) !== JSON.stringify(list);
+      if (!list.count && !isChanged) continue;
+      const shown = chips(list.count ? list : { count: 1, texts: ["none"] }, LONG_LIST);
       row.append(made("span", `${kind} `, isChanged ? "changed" : "none"), ...shown);
     }
     if (row.childElementCount === 1) row.append(made("span", "nothing", "none"));
@@ -172,31 +240,58 @@ function choices(id, texts, now, pick) {
   return it;
 }
 
-// Why the chosen processor does not consider the chosen point finished, by the program's own answers at this position.
-function showWhy(now) {
-  const why = now.why, known = why ? Math.max(0, why.at.indexOf(chosen.at)) : 0;
-  by("why").hidden = !why || !why.at.length;
-  if (by("why").hidden) return;
-  const q = Math.min(chosen.q, why.told.length - 1);
-  const asked = made("p");
-  const processors = choices("why-q", why.told.map((_, p) => `processor ${p}`), q, (p) => choose(p, why.at[known]));
-  asked.append("Why does ", processors, " not consider ", choices("why-at", why.at, known, (it) => choose(q, why.at[it])), " finished?");
-  const [finished, ...reasons] = why.told[q][known];
+const LIVE = "tools/live answers at every position.";
+
+// What the panel says where it has no answer about a point.
+function withoutAnswer(why) {
+  if (why.asked === "none") return `The page has no reasons at this position, since there are too many to ask for. ${LIVE}`;
+  if (why.asked === "fewer") return `Here the page has reasons for the times that a vertex waits for or a line asks about. ${LIVE}`;
+  if (!why.at.length) return "Nothing is outstanding anywhere, and no line of the script asks about a time.";
+  return "Nothing stands there at this position. Choose another location and time.";
+}
+
+// The reasons of the chosen processor at the chosen point, by the program's own answers at this position.
+function reasonList([finished, ...numbers]) {
   const truth = finished ? "it is finished" : "it is not finished";
-  const lines = reasons.length ? [...reasons.map((it) => why.texts[it]), truth] : [`it does: ${truth}`];
+  const lines = numbers.length ? [...textsOf(numbers), truth] : [`it does: ${truth}`];
   const list = made("ul");
   list.append(...lines.map((text) => made("li", text)));
-  by("why").replaceChildren(made("h2", "Why not finished"), asked, list);
+  return list;
+}
+
+function showWhy(now) {
+  const { why } = now;
+  const q = Math.min(chosen.q, run.processors - 1);
+  if (chosen.at === null && why.at.length) [chosen.at] = why.at;
+  const points = chosen.at === null || why.at.includes(chosen.at) ? why.at : [...why.at, chosen.at];
+  const parts = [made("h2", "Why not finished")];
+  if (points.length) {
+    const asked = made("p");
+    const processors = choices("why-q", now.processors.map((_, p) => `processor ${p}`), q, (p) => choose(p, chosen.at));
+    const places = choices("why-at", points, points.indexOf(chosen.at), (it) => choose(q, points[it]));
+    asked.append("Why does ", processors, " not consider ", places, " finished?");
+    parts.push(asked);
+  }
+  const answer = why.told.length && why.told[q].get(chosen.at);
+  parts.push(answer ? reasonList(answer) : made("p", withoutAnswer(why), "none"));
+  by("why").replaceChildren(...parts);
 }
 
 function showBreaks(it) {
-  const rows = it.breaks.map((one) => {
+  const rows = run.breaks[it.breaks].map((one) => {
     const row = made("div", undefined, "row");
     const stopped = one.holds ? ": the run stopped here" : "";
     row.append(made("b", `${one.id}`, one.holds ? "changed" : ""), made("span", one.when + stopped));
     return row;
   });
   by("breaks").replaceChildren(made("h2", "Breakpoints that are set"), ...(rows.length ? rows : [made("p", "none", "none")]));
+}
+
+// A line without a state: before the graph's line, of a refused graph, or of a client whose log is not replayed.
+function showNoState() {
+  const words = run.states.length ? "There is no state at this line." : "There is no state, since no run began.";
+  by("points").replaceChildren(made("h2", "Truth, views and unsent updates"), made("p", words, "none"));
+  by("why").replaceChildren(made("h2", "Why not finished"), made("p", words, "none"));
 }
 
 function show(at) {
@@ -208,9 +303,13 @@ function show(at) {
   showKept(it);
   showBreaks(it);
   showPlaces(now, before, it.mark);
-  for (const id of ["points", "why", "queues", "processors"]) by(id).hidden = !now;
+  showChangedPlace();
+  for (const id of ["queues", "processors"]) by(id).hidden = !now;
   document.querySelector("main").classList.toggle("many", !now || run.processors >= MANY);
-  if (!now) return;
+  if (!now) {
+    showNoState();
+    return;
+  }
   showPoints(now, before);
   showWhy(now);
   showQueues(now, before);
@@ -227,9 +326,23 @@ function asked() {
   return Number.isNaN(at) ? 0 : at;
 }
 
+// The last position of the line before, and of this line or, from there, of the next one.
+function lineBack() {
+  let at = position - 1;
+  while (at > 0 && run.positions[at].end !== undefined) at -= 1;
+  return at;
+}
+
+function lineOn() {
+  const at = Math.min(position + 1, run.positions.length - 1);
+  return run.positions[at].end === undefined ? at : run.positions[at].end;
+}
+
 const KEYS = {
   ArrowLeft: () => position - 1,
   ArrowRight: () => position + 1,
+  PageUp: lineBack,
+  PageDown: lineOn,
   Home: () => 0,
   End: () => run.positions.length - 1,
 };

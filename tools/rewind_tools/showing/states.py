@@ -1,16 +1,17 @@
-"""What a page shows of each reply: its line and answer in words, and the state after it, all of it as text."""
-from rewind_tools.telling import faults
-from rewind_tools.telling.commands import at, counted, time_in
-from rewind_tools.showing.reasons import reasons_by_state
+"""What a page shows of a state and of the breakpoints, all of it as text."""
+from rewind_tools.telling.commands import at, time_in
 from rewind_tools.telling.table import Points
-
-LONGEST = 2000
 
 
 def queries_of(words):
-    """The queries for a page's states: the state, and the frontier of each processor that the words of the command line ask for."""
+    """The queries for a page's states: the state, and the frontier of each processor that the words of the
+    command line ask for."""
     given = [it.partition("=") for it in words]
-    counts = [after if sign else next(iter(words[place + 1 :]), "") for place, (name, sign, after) in enumerate(given) if name == "--processors"]
+    counts = [
+        after if sign else next(iter(words[place + 1 :]), "")
+        for place, (name, sign, after) in enumerate(given)
+        if name == "--processors"
+    ]
     count = int(counts[-1]) if counts and counts[-1].isdecimal() else 1
     return ['{"do":"state"}', *(f'{{"do":"frontier","q":{q}}}' for q in range(min(count, 16)))]
 
@@ -39,7 +40,8 @@ def added(counts, time, count):
 
 
 def place_counts(state, order):
-    """What stands at each place over all processors: records, tokens or requests, and what a sink has counted."""
+    """What stands at each place over all processors: records, tokens or requests, and what a sink has
+    counted."""
     records, requests, tokens, sinks = ({} for _ in range(4))
     for it in state["processors"]:
         for place, time, _, count in it["records"]:
@@ -66,36 +68,59 @@ def point_rows(state, order, fronts):
     rows = []
     for point in points.all():
         numbers = points.numbers(point)
-        cell = lambda kind, p: numbers[kind, p]
-        rows.append({
-            "at": at(*point),
-            "truth": number(cell("truth", None)),
-            "view": [number(cell("view", p)) for p in points.processors],
-            "unsent": [number(cell("unsent", p), True) if cell("unsent", p) else "" for p in points.processors],
-            "front": [int(point in fronts.get(p, ())) for p in points.processors],
-        })
+
+        def cell(kind, p):
+            return numbers[kind, p]
+
+        rows.append(
+            {
+                "at": at(*point),
+                "truth": number(cell("truth", None)),
+                "view": [number(cell("view", p)) for p in points.processors],
+                "unsent": [
+                    number(cell("unsent", p), True) if cell("unsent", p) else "" for p in points.processors
+                ],
+                "front": [int(point in fronts.get(p, ())) for p in points.processors],
+            }
+        )
     return rows
 
 
 def holdings(processor):
     """What one processor holds, in words, by kind."""
-    times_of = lambda count: f" \u00d7{count}" if count > 1 else ""
+
+    def times_of(count):
+        return f" \u00d7{count}" if count > 1 else ""
+
     return {
         "tokens": [at(place, [epoch]) for place, epoch in processor["tokens"]],
-        "records": [f"{value} on {at(place, time)}{times_of(count)}" for place, time, value, count in processor["records"]],
+        "records": [
+            f"{value} on {at(place, time)}{times_of(count)}"
+            for place, time, value, count in processor["records"]
+        ],
         "requests": [at(*it) for it in processor["requests"]],
-        "kept by vertices": [f"{at(place, time)}: {item}{times_of(count)}" for place, time, item, count in processor["items"]],
-        "counted by sinks": [f"{place}: {value}{times_of(count)}" for place, value, count in processor["sinks"]],
+        "kept by vertices": [
+            f"{at(place, time)}: {item}{times_of(count)}" for place, time, item, count in processor["items"]
+        ],
+        "counted by sinks": [
+            f"{place}: {value}{times_of(count)}" for place, value, count in processor["sinks"]
+        ],
     }
 
 
 def shown_state(state, order, answers):
     """A state as a page shows it; the frontiers come from the replies to the queries after it."""
     told = [it for it in answers if "state" not in it]
-    fronts = {q: {(place, tuple(time)) for place, time, _ in it["frontier"]} for q, it in enumerate(told) if "frontier" in it}
+    fronts = {
+        q: {(place, tuple(time)) for place, time, _ in it["frontier"]}
+        for q, it in enumerate(told)
+        if "frontier" in it
+    }
     queues = [
         {"from": p, "to": q, "changes": [changes(it) for it in queue]}
-        for p, row in enumerate(state["queues"]) for q, queue in enumerate(row) if queue
+        for p, row in enumerate(state["queues"])
+        for q, queue in enumerate(row)
+        if queue
     ]
     return {
         "places": place_counts(state, order),
@@ -103,10 +128,6 @@ def shown_state(state, order, answers):
         "queues": queues,
         "processors": [holdings(it) for it in state["processors"]],
     }
-
-
-def cut(text):
-    return text if len(text) <= LONGEST else f"{text[:LONGEST]} .. ({counted(len(text), 'letter')} in all)"
 
 
 def order_of(graph):
@@ -118,35 +139,6 @@ def breaks_of(teller, reply):
     """The breakpoints that are set, as the replies so far tell, and which of them a run has stopped at."""
     stop = reply.get("stop")
     stopped = stop["break"] if isinstance(stop, dict) else None
-    return [{"id": key, "when": when, "holds": key == stopped} for key, when in sorted(teller.breaks.items())]
-
-
-def shown_line(entry, dumped):
-    """A line and its reply as they are; of a refused graph the place that the reply names."""
-    return {
-        "line": entry.line.number if entry.line else None,
-        "client": entry.client,
-        "text": cut(entry.line.text.decode(errors="backslashreplace").strip()) if entry.line else "",
-        "reply": cut(dumped(entry.reply)),
-        "refused": "error" in entry.reply,
-        "mark": str(order_of(entry.line.value)[entry.reply["location"]]) if "location" in entry.reply else None,
-    }
-
-
-def shown_positions(told, script, dumped):
-    """A position for each reply, and the states that they are at, each once."""
-    teller = faults.teller_of(told, script)
-    positions, states, place_of = [], [], {}
-    here, before = {"at": 0, "kept": 0}, None
-    has_states = any(it.state is not None for it in told.entries)
-    reasons = reasons_by_state(told, order_of(told.graph), lambda it: dumped(it.answers)) if has_states else {}
-    for entry in told.entries:
-        asked, answer = faults.told_line(entry, before, teller)
-        here = {key: entry.reply.get(key, here[key]) for key in here}
-        before, key = entry.state, dumped(entry.answers)
-        if before is not None and key not in place_of:
-            place_of[key] = len(states)
-            states.append({**shown_state(before, order_of(told.graph), entry.answers), "why": reasons.get(key)})
-        told_here = {"asked": asked, "answer": answer, "state": place_of[key] if before is not None else None}
-        positions.append({**shown_line(entry, dumped), **told_here, **here, "breaks": breaks_of(teller, entry.reply)})
-    return positions, states
+    return [
+        {"id": key, "when": when, "holds": key == stopped} for key, when in sorted(teller.breaks.items())
+    ]

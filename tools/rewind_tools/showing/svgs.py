@@ -1,4 +1,5 @@
-"""Pieces of the pictures in docs/pictures: SVGs that stand alone, on a ground of their own, in a light and a dark form."""
+"""Pieces of the pictures in docs/pictures: SVGs that stand alone, on a ground of their own, in a light and a
+dark form."""
 from html import escape
 
 STYLE = """
@@ -36,8 +37,8 @@ text { font: 13px sans-serif; fill: var(--ink); text-anchor: middle; }
 .thick-tip { fill: var(--accent); }
 """
 TIPS = "".join(
-    f'<marker id="{name}" viewBox="0 0 8 8" refX="7" refY="4" markerUnits="userSpaceOnUse" markerWidth="10" markerHeight="10" '
-    f'orient="auto"><path class="{name}" d="M0,0 L8,4 L0,8 z"/></marker>\n'
+    f'<marker id="{name}" viewBox="0 0 8 8" refX="7" refY="4" markerUnits="userSpaceOnUse" markerWidth="10"'
+    f' markerHeight="10" orient="auto"><path class="{name}" d="M0,0 L8,4 L0,8 z"/></marker>\n'
     for name in ("tip", "thick-tip")
 )
 
@@ -54,7 +55,10 @@ def text(x, y, words, classes=""):
 def box(x, y, wide, high, classes="box", round_by=7):
     """A rectangle by its middle."""
     left, top = number(x - wide / 2), number(y - high / 2)
-    return f'<rect x="{left}" y="{top}" width="{number(wide)}" height="{number(high)}" rx="{round_by}" class="{classes}"/>\n'
+    return (
+        f'<rect x="{left}" y="{top}" width="{number(wide)}" height="{number(high)}" rx="{round_by}"'
+        f' class="{classes}"/>\n'
+    )
 
 
 def line(x, y, to_x, to_y, classes="line", tip=None):

@@ -1,4 +1,5 @@
-"""The program's replies in words, with what a script's earlier replies told: the cursor, the kept steps, the breakpoints."""
+"""The program's replies in words, with what a script's earlier replies told: the cursor, the kept steps, the
+breakpoints."""
 from rewind_tools.script import literals_in
 from rewind_tools.telling.commands import at, command_words, condition, counted, some_of, time_in
 from rewind_tools.telling.effects import effect_words
@@ -16,7 +17,8 @@ class Teller:
         self.kept, self.breaks = 0, {}
 
     def told(self, value, reply, before):
-        """The answer to a command or query, in a list of sentences; 'before' is the state at which it was asked, or None."""
+        """The answer to a command or query, in a list of sentences; 'before' is the state at which it was
+        asked, or None."""
         self.keep(value, reply)
         if "error" in reply:
             return self.refused(value, reply, before)
@@ -40,7 +42,10 @@ class Teller:
         elif stop == "limit":
             why = "that is the limit"
         else:
-            why = f"breakpoint {stop['break']} holds: {self.breaks.get(stop['break'], 'set by a line that is not told')}"
+            why = (
+                f"breakpoint {stop['break']} holds:"
+                f" {self.breaks.get(stop['break'], 'set by a line that is not told')}"
+            )
         return [f"ran {counted(reply['ran'], 'step')}, then stopped: {why}", cursor(reply)]
 
     def cleared(self, value, reply):
@@ -55,27 +60,42 @@ class Teller:
     def kept_positions(self):
         if self.kept is None:
             return "how many are kept was not told"
-        return f"kept are the positions 0 to {self.kept}" if self.kept else "no step is kept, so position 0 is the only one"
+        return (
+            f"kept are the positions 0 to {self.kept}"
+            if self.kept
+            else "no step is kept, so position 0 is the only one"
+        )
 
     def absent_processors(self, value):
-        """Which of the processors that an object names is none, and which there are; an empty text if all are there."""
+        """Which of the processors that an object names is none, and which there are; an empty text if all
+        are there."""
         asked = [value[key] for key in ("p", "q", "from", "to") if isinstance(value.get(key), int)]
         absent = sorted({it for it in asked if self.processors is not None and it >= self.processors})
-        there = "is processor 0 alone" if self.processors == 1 else f"are the processors 0 to {(self.processors or 0) - 1}"
+        there = (
+            "is processor 0 alone"
+            if self.processors == 1
+            else f"are the processors 0 to {(self.processors or 0) - 1}"
+        )
         return f"there is no processor {listed(map(str, absent), 'or')}; there {there}" if absent else ""
 
     def no_processor(self, value, reply, before):
         return self.absent_processors(value)
 
     def warnings(self, value):
-        """That a condition names a processor that is not there: what that means for the breakpoint, the search or the turns."""
+        """That a condition names a processor that is not there: what that means for the breakpoint, the
+        search or the turns."""
         literals = literals_in(value["when"]) if "when" in value else []
         absent = {self.absent_processors(inner): is_negated for is_negated, _, inner in literals}
         absent.pop("", None)
         if absent and len(literals) == 1 and not any(absent.values()):
-            never = "this breakpoint never triggers" if value["do"] == "break" else "this holds at no position"
+            never = (
+                "this breakpoint never triggers" if value["do"] == "break" else "this holds at no position"
+            )
             return [f"warning: {never}: {next(iter(absent))}"]
-        return [f"warning: what is said of it {'always' if is_negated else 'never'} holds: {it}" for it, is_negated in absent.items()]
+        return [
+            f"warning: what is said of it {'always' if is_negated else 'never'} holds: {it}"
+            for it, is_negated in absent.items()
+        ]
 
     def not_input(self, value, reply, before):
         inputs = [name for name, it in self.graph.vertices.items() if it["op"] == "input"]
@@ -87,7 +107,10 @@ class Teller:
     def no_such_point(self, value, reply, before):
         if value["do"] in ("step", "effect") and value["to"] == 0:
             return f"no step leads to position 0, where the script begins; {self.kept_positions()}"
-        return f"position {value.get('hi', value.get('to'))} is past the last kept step; {self.kept_positions()}"
+        return (
+            f"position {value.get('hi', value.get('to'))} is past the last kept step;"
+            f" {self.kept_positions()}"
+        )
 
 
 def cursor(reply):
@@ -101,7 +124,10 @@ def not_yet(teller, value, reply, before):
 
 def inadmissible(teller, value, reply, before):
     place = at(*reply["point"])
-    return f"{place} would stay behind positive, with neither a fall that stays nor a token of processor {value['p']} strictly before"
+    return (
+        f"{place} would stay behind positive, with neither a fall that stays nor a token of processor"
+        f" {value['p']} strictly before"
+    )
 
 
 def no_record(teller, value, reply, before):
@@ -111,14 +137,20 @@ def no_record(teller, value, reply, before):
     if before is None:
         return said
     own = [it for it in before["processors"][value["p"]]["records"] if it[0] == wanted[0]]
-    others = [p for p, it in enumerate(before["processors"]) if any(record[:3] == wanted for record in it["records"])]
+    others = [
+        p
+        for p, it in enumerate(before["processors"])
+        if any(record[:3] == wanted for record in it["records"])
+    ]
     there = some_of(f"{it[2]} at {at(*it[:2])}" for it in own)
     elsewhere = f"; processor {listed(map(str, others))} has one" if others else ""
     return f"{said}; on {value['edge']} it has {there}{elsewhere}"
 
 
 def no_request(teller, value, reply, before):
-    said = f"on processor {value['p']} {value['vertex']} has not asked for a notice at {time_in(value['time'])}"
+    said = (
+        f"on processor {value['p']} {value['vertex']} has not asked for a notice at {time_in(value['time'])}"
+    )
     if before is None:
         return said
     asked = before["processors"][value["p"]]["requests"]
@@ -130,7 +162,11 @@ def queue_empty(teller, value, reply, before):
     if before is None:
         return said
     senders = [p for p, row in enumerate(before["queues"]) if row[value["to"]]]
-    return f"{said}; to {value['to']} something is on its way from {some_of(senders)}" if senders else f"{said}, nor from others"
+    return (
+        f"{said}; to {value['to']} something is on its way from {some_of(senders)}"
+        if senders
+        else f"{said}, nor from others"
+    )
 
 
 def timeline_full(teller, value, reply, before):
@@ -146,21 +182,30 @@ def sentence(words):
 REFUSALS = {
     "NoProcessor": Teller.no_processor,
     "NotInput": Teller.not_input,
-    "InputClosed": lambda teller, value, reply, before: f"processor {value['p']} has given up its token of {value['vertex']}",
-    "TooManyValues": lambda teller, value, reply, before: f"there are {len(value['values'])} values; at most 1024 may be",
+    "InputClosed": lambda teller, value, reply, before: (
+        f"processor {value['p']} has given up its token of {value['vertex']}"
+    ),
+    "TooManyValues": lambda teller, value, reply, before: (
+        f"there are {len(value['values'])} values; at most 1024 may be"
+    ),
     "EpochFull": sentence('the token is at the last epoch, 4294967295; "close" and "stay" are left'),
     "NoRecord": no_record,
     "NoRequest": no_request,
     "NotYet": not_yet,
-    "CounterFull": lambda teller, value, reply, before: f"{teller.graph.worker(value)} would raise a counter past 4294967295",
-    "ValueRange": lambda teller, value, reply, before: f"{teller.graph.worker(value)} would make a number past 64 bits",
+    "CounterFull": lambda teller, value, reply, before: (
+        f"{teller.graph.worker(value)} would raise a counter past 4294967295"
+    ),
+    "ValueRange": lambda teller, value, reply, before: (
+        f"{teller.graph.worker(value)} would make a number past 64 bits"
+    ),
     "CountFull": sentence("a record's or a sink's count would pass 1099511627776"),
     "DeltaFull": sentence("an unsent entry or one of a view would pass 1099511627776"),
     "NothingToSend": sentence("nothing of this is unsent"),
     "NotAdmissible": inadmissible,
     "QueueEmpty": queue_empty,
     "QueueFull": sentence("a queue from the processor holds 65536 changes; receives make room"),
-    "Memory": lambda teller, value, reply, before: "no memory was left" + (f"; {stopped(reply)}" if "at" in reply else ""),
+    "Memory": lambda teller, value, reply, before: "no memory was left"
+    + (f"; {stopped(reply)}" if "at" in reply else ""),
     "AtStart": sentence("no step is kept before the cursor"),
     "AtEnd": sentence("no step is kept behind the cursor"),
     "NoSuchPoint": Teller.no_such_point,
@@ -170,7 +215,9 @@ REFUSALS = {
     "LogFull": sentence("1000000 commands are logged, and no more are made"),
     "BadRange": lambda teller, value, reply, before: f"lo, {value['lo']}, is above hi, {value['hi']}",
     "NoWorkers": sentence("workers is 0; at least 1 is needed"),
-    "Missing": lambda teller, value, reply, before: f"no memory was left for piece {reply['piece']} of the positions",
+    "Missing": lambda teller, value, reply, before: (
+        f"no memory was left for piece {reply['piece']} of the positions"
+    ),
 }
 
 
@@ -199,7 +246,11 @@ def candidates(teller, value, reply):
     count = sum("refused" not in it for it in reply["candidates"])
     more = "; there are more than these" if reply.get("more") else ""
     rest = [f".. ({len(told)} in all)"] if len(told) > MOST_STEPS else []
-    first = f"{counted(count, 'step')} of {len(told)} may be executed{more}" if told else "no step is left but a feed"
+    first = (
+        f"{counted(count, 'step')} of {len(told)} may be executed{more}"
+        if told
+        else "no step is left but a feed"
+    )
     return [first, *told[:MOST_STEPS], *rest]
 
 
@@ -241,11 +292,18 @@ def exported(teller, value, reply):
     steps = reply["steps"]
     told = [f"{position}. {command_words(it)}" for position, it in enumerate(steps, 1)]
     rest = [f".. ({len(steps)} in all)"] if len(told) > MOST_STEPS else []
-    return [f"{counted(len(steps), 'kept step')}, and the cursor is at {reply['at']}", *told[:MOST_STEPS], *rest]
+    return [
+        f"{counted(len(steps), 'kept step')}, and the cursor is at {reply['at']}",
+        *told[:MOST_STEPS],
+        *rest,
+    ]
 
 
 ANSWERS = {
-    **{word: Teller.moved for word in ("feed", "take", "notice", "broadcast", "receive", "back", "redo", "jump")},
+    **{
+        word: Teller.moved
+        for word in ("feed", "take", "notice", "broadcast", "receive", "back", "redo", "jump")
+    },
     "run": Teller.ran,
     "break": lambda teller, value, reply: [f"done: it is breakpoint {reply['id']}"],
     "unbreak": Teller.cleared,
@@ -255,9 +313,13 @@ ANSWERS = {
     "view": lambda teller, value, reply: [points(reply["view"])],
     "frontier": frontier,
     "passed": passed,
-    "search": lambda teller, value, reply: ["at none" if reply["found"] is None else f"at position {reply['found']}"],
+    "search": lambda teller, value, reply: [
+        "at none" if reply["found"] is None else f"at position {reply['found']}"
+    ],
     "export": exported,
-    "why": lambda teller, value, reply: why_words(value["q"], value["at"], value["time"], reply, value.get("before", False)),
+    "why": lambda teller, value, reply: why_words(
+        value["q"], value["at"], value["time"], reply, value.get("before", False)
+    ),
     "changes": changed,
     "step": lambda teller, value, reply: [command_words(reply["step"])],
     "candidates": candidates,

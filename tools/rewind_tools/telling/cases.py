@@ -1,4 +1,5 @@
-"""What tools/test_tell tells: scripts, each with its words, its status, what must be told of which line, and in some what must not."""
+"""What tools/test_tell tells: scripts, each with its words, its status, what must be told of which line, and
+in some what must not."""
 import json
 
 
@@ -18,19 +19,47 @@ def do(word, **members):
     return json.dumps({"do": word, **members})
 
 
+def passed(at, q=0):
+    return {"passed": {"at": at, "q": q, "time": [0]}}
+
+
 A, M, S, Z = vertex("a", "input"), vertex("m", "add", k=1), vertex("s", "sum"), vertex("z", "sink")
 LINE = json.dumps(graph([A, Z], [edge("az", "a", "z")]))
 ADD = json.dumps(graph([A, M, Z], [edge("am", "a", "m"), edge("mz", "m", "z")]))
 SUM = json.dumps(graph([A, S, Z], [edge("as", "a", "s"), edge("sz", "s", "z")]))
 EXCHANGE = json.dumps(graph([A, Z], [edge("az", "a", "z", route="exchange")]))
 ROUND = graph(
-    [A, vertex("in", "ingress"), vertex("small", "below", 1, k=20), vertex("next", "feedback", 1), vertex("out", "egress", 1), Z],
-    [edge("a-in", "a", "in"), edge("in-small", "in", "small"), edge("small-next", "small", "next"), edge("next-small", "next", "small")]
+    [
+        A,
+        vertex("in", "ingress"),
+        vertex("small", "below", 1, k=20),
+        vertex("next", "feedback", 1),
+        vertex("out", "egress", 1),
+        Z,
+    ],
+    [
+        edge("a-in", "a", "in"),
+        edge("in-small", "in", "small"),
+        edge("small-next", "small", "next"),
+        edge("next-small", "next", "small"),
+    ]
     + [edge("small-out", "small", "out"), edge("out-z", "out", "z")],
 )
 FEED = do("feed", p=0, vertex="a", values=[5], next="close")
-LOOP = [json.dumps(ROUND), FEED, do("run", limit=3), do("broadcast", p=0), do("run", limit=4), do("jump", to=2), do("redo")]
-SUMS = [SUM, do("feed", p=0, vertex="a", values=[2, 3], next="next"), do("take", p=0, edge="as", time=[0], value=2)]
+LOOP = [
+    json.dumps(ROUND),
+    FEED,
+    do("run", limit=3),
+    do("broadcast", p=0),
+    do("run", limit=4),
+    do("jump", to=2),
+    do("redo"),
+]
+SUMS = [
+    SUM,
+    do("feed", p=0, vertex="a", values=[2, 3], next="next"),
+    do("take", p=0, edge="as", time=[0], value=2),
+]
 SUMS += [do("take", p=0, edge="as", time=[0], value=3), do("run", limit=2)]
 TOP = 2**63 - 1
 V2, V3, V4 = (json.dumps({"version": version}, separators=(",", ":")) for version in (2, 3, 4))
@@ -39,200 +68,296 @@ V2, V3, V4 = (json.dumps({"version": version}, separators=(",", ":")) for versio
 def nest(depth):
     """A chain that enters so many loops, one within another."""
     names = [f"i{it}" for it in range(depth)]
-    vertices = [A, *(vertex(name, "ingress", it) for it, name in enumerate(names)), vertex("z", "sink", depth)]
+    vertices = [
+        A,
+        *(vertex(name, "ingress", it) for it, name in enumerate(names)),
+        vertex("z", "sink", depth),
+    ]
     ends = [it["name"] for it in vertices]
-    return json.dumps(graph(vertices, [edge(f"{start}-{end}", start, end) for start, end in zip(ends, ends[1:])]))
+    return json.dumps(
+        graph(vertices, [edge(f"{start}-{end}", start, end) for start, end in zip(ends, ends[1:])])
+    )
 
 
 DEEP, DEEPER = nest(5), nest(7)
-CLIENTS = [LINE, '{"client":0,"do":"feed","p":0,"vertex":"a","values":[5],"next":"close"}', '{"client":0,"do":"back"}']
+CLIENTS = [
+    LINE,
+    '{"client":0,"do":"feed","p":0,"vertex":"a","values":[5],"next":"close"}',
+    '{"client":0,"do":"back"}',
+]
 
 TOLD = {
     # the commands and their answers
     "steps": ([], [
-        SUM, do("feed", p=0, vertex="a", values=[2, 3], next="next"), do("take", p=0, edge="as", time=[0], value=2),
+        SUM, do("feed", p=0, vertex="a", values=[2, 3], next="next"),
+        do("take", p=0, edge="as", time=[0], value=2),
         do("broadcast", p=0), do("receive", **{"from": 0, "to": 0}), do("notice", p=0, vertex="s", time=[0]),
         do("take", p=0, edge="as", time=[0], value=3), do("broadcast", p=0, part=[["as", [0]]]),
-        do("receive", **{"from": 0, "to": 0}), do("notice", p=0, vertex="s", time=[0]), do("back"), do("redo"), do("jump", to=2),
-        do("feed", p=0, vertex="a", values=[], next="stay"), do("feed", p=0, vertex="a", values=[], next="close"),
+        do("receive", **{"from": 0, "to": 0}), do("notice", p=0, vertex="s", time=[0]), do("back"),
+        do("redo"), do("jump", to=2),
+        do("feed", p=0, vertex="a", values=[], next="stay"),
+        do("feed", p=0, vertex="a", values=[], next="close"),
     ], 0, [
-        (1, "vertices: a (input), s (sum), z (sink)"), (1, "edges: as from a to s (local), sz from s to z (local)"),
-        (1, "5 locations, 1 processor"), (2, "processor 0 feeds 2 and 3 into a and goes on to the next epoch"),
+        (1, "vertices: a (input), s (sum), z (sink)"),
+        (1, "edges: as from a to s (local), sz from s to z (local)"),
+        (1, "5 locations, 1 processor"),
+        (2, "processor 0 feeds 2 and 3 into a and goes on to the next epoch"),
         (2, "the cursor is at 1 of 1 kept step"), (3, "processor 0 takes 2 off as (0)"),
         (4, "processor 0 broadcasts all that is unsent"), (4, "changes on their way: 1 from 0 to 0"),
-        (5, "processor 0 receives the first change on its way from processor 0"), (6, "processor 0 runs the notice of s (0)"),
+        (5, "processor 0 receives the first change on its way from processor 0"),
+        (6, "processor 0 runs the notice of s (0)"),
         (6, "refused, 10 NotYet: processor 0's view has as (0) strictly before s (0)"),
-        (8, "processor 0 broadcasts what is unsent at as (0)"), (10, "the cursor is at 8 of 8 kept steps"), (11, "back over the last step"),
+        (8, "processor 0 broadcasts what is unsent at as (0)"), (10, "the cursor is at 8 of 8 kept steps"),
+        (11, "back over the last step"),
         (11, "the cursor is at 7 of 8 kept steps"), (12, "make the kept step behind the cursor again"),
-        (13, "jump to position 2"), (13, "the cursor is at 2 of 8 kept steps"), (14, "feeds nothing into a and stays at its epoch"),
+        (13, "jump to position 2"), (13, "the cursor is at 2 of 8 kept steps"),
+        (14, "feeds nothing into a and stays at its epoch"),
         (14, "the cursor is at 3 of 3 kept steps"), (15, "and gives up its token"),
     ]),
     "queries": ([], [
         LINE, FEED, do("count", at="az", time=[0]), do("before", **{"from": ["a", [0]], "to": ["z", [0]]}),
         do("before", **{"from": ["z", [0]], "to": ["a", [0]]}), do("view", q=0), do("frontier", q=0),
-        do("passed", q=0, at="z", time=[0]), do("state"), do("run", limit=9), do("passed", q=0, at="z", time=[0]), do("view", q=0),
+        do("passed", q=0, at="z", time=[0]), do("state"), do("run", limit=9),
+        do("passed", q=0, at="z", time=[0]), do("view", q=0),
         do("search", when={"sink": {"at_least": 1, "value": 5, "vertex": "z"}}, lo=0, hi=4, workers=2),
         do("search", when={"queue": {"at_least": 2, "from": 0, "to": 0}}, lo=0, hi=4, workers=1),
     ], 0, [
         (3, "how many records, requests and tokens are at az (0)?"), (3, " 1"),
-        (4, "could something at a (0) result in something at z (0)? yes"), (5, "at z (0) result in something at a (0)? no"),
-        (6, "what does processor 0 view? a (0): 1"), (7, "what is the frontier of processor 0's view? a (0): 1"),
-        (8, "has processor 0 passed z (0)? no: its view has a (0) at or before it"), (9, "az (0) | 1 | . | 1"),
+        (4, "could something at a (0) result in something at z (0)? yes"),
+        (5, "at z (0) result in something at a (0)? no"),
+        (6, "what does processor 0 view? a (0): 1"),
+        (7, "what is the frontier of processor 0's view? a (0): 1"),
+        (8, "has processor 0 passed z (0)? no: its view has a (0) at or before it"),
+        (9, "az (0) | 1 | . | 1"),
         (10, "sinks have counted: z 5"), (11, "passed z (0)? yes"), (12, "view? nothing"),
-        (13, "at which of the positions 0 to 4 first: z has counted the value 5 at least 1 time? (2 workers) at position 2"),
+        (13, "at which of the positions 0 to 4 first: z has counted the value 5 at least 1 time? (2 "
+            "workers) at position 2"),
         (14, "at least 2 of changes on their way from processor 0 to 0? (1 worker) at none"),
     ]),
     "breakpoints": ([], [
         LINE, do("break", when={"passed": {"at": "z", "q": 0, "time": [0]}}),
-        do("break", when={"count": {"at": "az", "at_least": 1, "time": [0]}}), FEED, do("run", limit=9), do("unbreak", id=1),
+        do("break", when={"count": {"at": "az", "at_least": 1, "time": [0]}}), FEED, do("run", limit=9),
+        do("unbreak", id=1),
         do("unbreak", id=1), do("run", limit=9), do("run", limit=0),
     ], 0, [
         (2, "set a breakpoint: processor 0 has passed z (0)"), (2, "it is breakpoint 0"),
         (3, "at least 1 of records, requests and tokens at az (0)"), (3, "it is breakpoint 1"),
-        (5, "run, at most 9 steps"), (6, "take breakpoint 1 out"), (6, "records, requests and tokens at az (0)"),
+        (5, "run, at most 9 steps"), (6, "take breakpoint 1 out"),
+        (6, "records, requests and tokens at az (0)"),
         (5, "ran 3 steps, then stopped: breakpoint 0 holds: processor 0 has passed z (0)"),
         (7, "refused, 25 NoBreak: there is no breakpoint 1; set: 0"), (8, "nothing is enabled"),
         (9, "ran 0 steps, then stopped: that is the limit"),
     ]),
     "breakpoints that never trigger": (["--processors", "2"], [
-        LINE, do("break", when={"passed": {"at": "z", "q": 2, "time": [0]}}), do("break", when={"queue": {"at_least": 0, "from": 5, "to": 4}}),
-        do("break", when={"queue": {"at_least": 9, "from": 1, "to": 0}}), do("break", when={"count": {"at": "a", "at_least": 9, "time": [0]}}),
-        do("search", when={"queue": {"at_least": 0, "from": 0, "to": 7}}, lo=0, hi=0, workers=1), do("feed", p=0, vertex="a", values=[], next="close"),
+        LINE, do("break", when={"passed": {"at": "z", "q": 2, "time": [0]}}),
+        do("break", when={"queue": {"at_least": 0, "from": 5, "to": 4}}),
+        do("break", when={"queue": {"at_least": 9, "from": 1, "to": 0}}),
+        do("break", when={"count": {"at": "a", "at_least": 9, "time": [0]}}),
+        do("search", when={"queue": {"at_least": 0, "from": 0, "to": 7}}, lo=0, hi=0, workers=1),
+        do("feed", p=0, vertex="a", values=[], next="close"),
         do("feed", p=1, vertex="a", values=[], next="close"), do("run", limit=99),
         do("search", when={"passed": {"at": "z", "q": 2, "time": [0]}}, lo=0, hi=0, workers=0),
     ], 0, [
-        (2, "done: it is breakpoint 0 warning: this breakpoint never triggers: there is no processor 2; there are the processors 0 to 1"),
-        (3, "it is breakpoint 1 warning: this breakpoint never triggers: there is no processor 4 or 5; there are the processors 0 to 1"),
-        (6, "at none warning: this holds at no position: there is no processor 7"), (9, "nothing is enabled"), (10, "refused, 51 NoWorkers"),
+        (2, "done: it is breakpoint 0 warning: this breakpoint never triggers: there is no processor 2; "
+            "there are the processors 0 to 1"),
+        (3, "it is breakpoint 1 warning: this breakpoint never triggers: there is no processor 4 or 5; "
+            "there are the processors 0 to 1"),
+        (6, "at none warning: this holds at no position: there is no processor 7"),
+        (9, "nothing is enabled"), (10, "refused, 51 NoWorkers"),
     ], [(4, "warning"), (5, "warning"), (9, "warning"), (10, "warning")]),
-    "a client's breakpoint": (["--clients", "2"], [*CLIENTS, json.dumps({"client": 1, "do": "break", "when": {"passed": {"at": "z", "q": 1, "time": [0]}}})], 0, [
+    "a client's breakpoint": (["--clients", "2"],
+        [*CLIENTS, json.dumps({"client": 1, "do": "break", "when": passed("z", q=1)})], 0, [
         (4, "warning: this breakpoint never triggers: there is no processor 1; there is processor 0 alone"),
     ]),
     # refusals
     "refusals": (["--processors", "3"], [
-        EXCHANGE, do("feed", p=3, vertex="a", values=[], next="next"), do("feed", p=0, vertex="z", values=[], next="next"), FEED,
+        EXCHANGE, do("feed", p=3, vertex="a", values=[], next="next"),
+        do("feed", p=0, vertex="z", values=[], next="next"), FEED,
         FEED, do("take", p=0, edge="az", time=[0], value=5), do("take", p=2, edge="az", time=[0], value=6),
-        do("notice", p=0, vertex="z", time=[0]), do("broadcast", p=1), do("broadcast", p=0, part=[["a", [0]]]),
-        do("receive", **{"from": 1, "to": 0}), do("redo"), do("jump", to=7), do("jump", to=1), do("back"), do("back"),
+        do("notice", p=0, vertex="z", time=[0]), do("broadcast", p=1),
+        do("broadcast", p=0, part=[["a", [0]]]),
+        do("receive", **{"from": 1, "to": 0}), do("redo"), do("jump", to=7), do("jump", to=1), do("back"),
+        do("back"),
         do("search", when={"queue": {"at_least": 1, "from": 0, "to": 0}}, lo=2, hi=1, workers=1),
         do("search", when={"queue": {"at_least": 1, "from": 0, "to": 0}}, lo=0, hi=1, workers=0),
-        do("search", when={"queue": {"at_least": 1, "from": 0, "to": 0}}, lo=0, hi=5, workers=1), do("view", q=9),
+        do("search", when={"queue": {"at_least": 1, "from": 0, "to": 0}}, lo=0, hi=5, workers=1),
+        do("view", q=9),
     ], 0, [
         (2, "refused, 1 NoProcessor: there is no processor 3; there are the processors 0 to 2"),
-        (3, "refused, 4 NotInput: z is a vertex (sink); inputs: a"), (5, "refused, 5 InputClosed: processor 0 has given up its token of a"),
+        (3, "refused, 4 NotInput: z is a vertex (sink); inputs: a"),
+        (5, "refused, 5 InputClosed: processor 0 has given up its token of a"),
         (6, "refused, 8 NoRecord: processor 0 has no record 5 at az (0)"), (6, "processor 2 has one"),
-        (7, "on az it has 5 at az (0)"), (8, "refused, 9 NoRequest: on processor 0 z has not asked for a notice at (0)"),
+        (7, "on az it has 5 at az (0)"),
+        (8, "refused, 9 NoRequest: on processor 0 z has not asked for a notice at (0)"),
         (9, "refused, 15 NothingToSend"), (10, "refused, 16 NotAdmissible: az (0)"),
-        (11, "refused, 17 QueueEmpty: nothing is on its way from processor 1 to 0, nor from others"), (12, "refused, 21 AtEnd"),
-        (13, "refused, 22 NoSuchPoint: position 7 is past the last kept step; kept are the positions 0 to 1"),
+        (11, "refused, 17 QueueEmpty: nothing is on its way from processor 1 to 0, nor from others"),
+        (12, "refused, 21 AtEnd"),
+        (13, "refused, 22 NoSuchPoint: position 7 is past the last kept step; kept are the positions "
+            "0 to 1"),
         (16, "refused, 20 AtStart"), (17, "refused, 50 BadRange"), (18, "refused, 51 NoWorkers"),
-        (19, "refused, 22 NoSuchPoint: position 5 is past the last kept step; kept are the positions 0 to 1"),
+        (19, "refused, 22 NoSuchPoint: position 5 is past the last kept step; kept are the positions "
+            "0 to 1"),
         (20, "there is no processor 9"),
     ]),
     "sinks": ([], [
-        LINE, do("feed", p=0, vertex="a", values=[5, 5, 6], next="close"), do("take", p=0, edge="az", time=[0], value=6),
-        do("take", p=0, edge="az", time=[0], value=5), do("take", p=0, edge="az", time=[0], value=5), do("back"), do("state"),
+        LINE, do("feed", p=0, vertex="a", values=[5, 5, 6], next="close"),
+        do("take", p=0, edge="az", time=[0], value=6),
+        do("take", p=0, edge="az", time=[0], value=5), do("take", p=0, edge="az", time=[0], value=5),
+        do("back"), do("state"),
     ], 0, [
-        (3, "sinks have counted: z 6"), (4, "sinks have counted: z 5"), (5, "sinks have counted: z 5 (2 times)"),
+        (3, "sinks have counted: z 6"), (4, "sinks have counted: z 5"),
+        (5, "sinks have counted: z 5 (2 times)"),
         (6, "sinks have counted: z 5"), (7, "sinks have counted: z 5, z 6"),
     ]),
-    "nothing kept": ([], [LINE, do("jump", to=1)], 0, [(2, "no step is kept, so position 0 is the only one")]),
+    "nothing kept": ([], [LINE, do("jump", to=1)], 0,
+        [(2, "no step is kept, so position 0 is the only one")]),
     # what no step can move
     "idle on a value": ([], [
         ADD, do("feed", p=0, vertex="a", values=[TOP, 5], next="close"), do("run", limit=99),
-    ], 0, [(3, "nothing is enabled"), (3, f"left: processor 0, record {TOP} at am (0): 12 ValueRange: m (add 1)"), (3, "counted: z 6")]),
+    ], 0, [(3, "nothing is enabled"), (3, f"left: processor 0, record {TOP} at am (0): 12 ValueRange: m "
+        f"(add 1)"), (3, "counted: z 6")]),
     "idle on a notice": ([], [
         SUM, do("feed", p=0, vertex="a", values=[2], next="stay"), do("run", limit=99),
-    ], 0, [(3, "left: processor 0, notice of s (0): 10 NotYet: processor 0's view has a (0) strictly before s (0)")]),
-    "idle with nothing": ([], [LINE, FEED, do("run", limit=99)], 0, [(3, "left: no record, request, unsent entry or change")]),
+    ], 0, [(3, "left: processor 0, notice of s (0): 10 NotYet: processor 0's view has a (0) strictly before "
+        "s (0)")]),
+    "idle with nothing": ([], [LINE, FEED, do("run", limit=99)], 0,
+        [(3, "left: no record, request, unsent entry or change")]),
     # faulty lines
     "words": ([], [
-        LINE, '{"do":"veiw","q":0}', '{"do":"Back"}', '{"Do":"back"}', '{"do":7}', '{"q":0}', "7", '{"do":"xyzzy"}',
+        LINE, '{"do":"veiw","q":0}', '{"do":"Back"}', '{"Do":"back"}', '{"do":7}', '{"q":0}', "7",
+        '{"do":"xyzzy"}',
     ], 0, [
-        (2, 'faulty, 31 BadShape: "veiw" is no command or query; the nearest is "view"'), (3, 'the nearest is "back"'),
+        (2, 'faulty, 31 BadShape: "veiw" is no command or query; the nearest is "view"'),
+        (3, 'the nearest is "back"'),
         (4, 'the key "Do" is to be "do"'), (5, '"do":7 is a number'), (6, 'the key "do" is missing'),
-        (6, 'the nearest form is {"do":"view","q":0}'), (7, "7 is a number; a line is an object"), (8, "the words are feed, take,"),
+        (6, 'the nearest form is {"do":"view","q":0}'), (7, "7 is a number; a line is an object"),
+        (8, "the words are feed, take,"),
     ]),
     "keys": ([], [
-        LINE, do("feed", p=0, vertex="a", values=[5]), do("back", at=0), do("take", p=0, edge="az", tiem=[0], value=5),
-        do("frontier", p=0), do("break", when={"passed": {"at": "z", "q": 0}}), do("break", when={"pased": {}}), do("broadcast"),
+        LINE, do("feed", p=0, vertex="a", values=[5]), do("back", at=0),
+        do("take", p=0, edge="az", tiem=[0], value=5),
+        do("frontier", p=0), do("break", when={"passed": {"at": "z", "q": 0}}),
+        do("break", when={"pased": {}}), do("broadcast"),
     ], 0, [
-        (2, 'the key "next" is missing: "next", "close" or "stay"'), (2, 'right is {"do":"feed","p":0,"vertex":"a"'),
-        (3, 'the key "at" is too many'), (4, 'the key "tiem" is to be "time"'), (5, 'the key "p" is to be "q"'),
-        (6, 'the key "time" of "passed" is missing'), (7, 'the nearest is "passed"'), (8, 'the key "p" is missing'),
+        (2, 'the key "next" is missing: "next", "close" or "stay"'),
+        (2, 'right is {"do":"feed","p":0,"vertex":"a"'),
+        (3, 'the key "at" is too many'), (4, 'the key "tiem" is to be "time"'),
+        (5, 'the key "p" is to be "q"'),
+        (6, 'the key "time" of "passed" is missing'), (7, 'the nearest is "passed"'),
+        (8, 'the key "p" is missing'),
         (8, 'right is {"do":"broadcast","p":0}'),
     ]),
     "values that are kept": ([], [
-        LINE, do("feed", p=3, vertex="b", values=[7, -8]), do("take", p=2, edge="az", tiem=[4], value=9), do("frontier", p=6),
-        do("passed", q="1", time=[2]), do("broadcast", part=[["az", [1]]]), do("search", when={"sink": {"value": 6}}, lo=2),
-        do("break", when={"queue": {"from": 1, "too": 2, "at_least": -1}}, id=1), do("search", when={"sink": 5}, lo=1, hi=2), '{"q":3}',
+        LINE, do("feed", p=3, vertex="b", values=[7, -8]), do("take", p=2, edge="az", tiem=[4], value=9),
+        do("frontier", p=6),
+        do("passed", q="1", time=[2]), do("broadcast", part=[["az", [1]]]),
+        do("search", when={"sink": {"value": 6}}, lo=2),
+        do("break", when={"queue": {"from": 1, "too": 2, "at_least": -1}}, id=1),
+        do("search", when={"sink": 5}, lo=1, hi=2), '{"q":3}',
         do("feed", p=0, vertex="a", values=[10] * 40),
     ], 0, [
         (2, 'right is {"do":"feed","p":3,"vertex":"b","values":[7,-8],"next":"next"}'),
-        (3, 'right is {"do":"take","p":2,"edge":"az","time":[4],"value":9}'), (4, 'right is {"do":"frontier","q":6}'),
-        (5, 'right is {"do":"passed","q":0,"at":"a","time":[2]}'), (6, 'right is {"do":"broadcast","p":0,"part":[["az",[1]]]}'),
-        (7, 'right is {"do":"search","when":{"sink":{"at_least":0,"value":6,"vertex":"a"}},"lo":2,"hi":0,"workers":1}'),
+        (3, 'right is {"do":"take","p":2,"edge":"az","time":[4],"value":9}'),
+        (4, 'right is {"do":"frontier","q":6}'),
+        (5, 'right is {"do":"passed","q":0,"at":"a","time":[2]}'),
+        (6, 'right is {"do":"broadcast","p":0,"part":[["az",[1]]]}'),
+        (7, 'right is {"do":"search","when":{"sink":{"at_least":0,"value":6,"vertex":"a"}},'
+            '"lo":2,"hi":0,"workers":1}'),
         (7, 'right is "when":{"sink":{"at_least":0,"value":6,"vertex":"a"}}'),
         (8, 'right is {"do":"break","when":{"queue":{"at_least":0,"from":1,"to":2}}}'),
-        (9, 'right is {"do":"search","when":{"sink":{"at_least":0,"value":5,"vertex":"a"}},"lo":1,"hi":2,"workers":1}'),
-        (10, 'the nearest form is {"do":"view","q":3}'), (11, '"values":[10,10,10,10,10,10,10,10,10,10,10,10,...,"next":"next"}'),
+        (9, 'right is {"do":"search","when":{"sink":{"at_least":0,"value":5,"vertex":"a"}},'
+            '"lo":1,"hi":2,"workers":1}'),
+        (10, 'the nearest form is {"do":"view","q":3}'),
+        (11, '"values":[10,10,10,10,10,10,10,10,10,10,10,10,...,"next":"next"}'),
     ]),
-    "values that are kept, with clients": (["--clients", "2"], [*CLIENTS, '{"client":1,"do":"jump","too":5}'], 2, [
+    "values that are kept, with clients": (["--clients", "2"],
+        [*CLIENTS, '{"client":1,"do":"jump","too":5}'], 2, [
         (4, 'right is {"client":1,"do":"jump","to":5}'),
     ]),
     # words of other debuggers, and words without JSON
-    "words of other debuggers": ([], [LINE, *map(do, ("help", "quit", "Continue", "next", "step", "undo")), '"help"', '"run"'], 0, [
-        (2, '"help" is no command or query; the commands of version 1 are feed, take, notice, broadcast, receive, back, redo, jump, run,'),
-        (2, "the queries are state, count, before, view, frontier, passed, search version 4 adds export, why, changes, step, candidates, effect, turns"),
-        (3, '"quit" is no command or query; the end of the input ends the run'), (4, '{"do":"run","limit":1000} executes up to 1,000'),
-        (5, '{"do":"run","limit":1} executes the next step, {"do":"redo"} a kept step again'), (6, '"step" came with version 3'),
-        (6, '{"do":"run","limit":1} executes the next step'), (7, '{"do":"back"} undoes the last step'), (8, '"help" is a text; a line'),
-        (8, "the commands of version 1 are"), (9, '"run" is a text; a line is an object that says what to do, as {"do":"run","limit":1000}'),
+    "words of other debuggers": ([],
+        [LINE, *map(do, ("help", "quit", "Continue", "next", "step", "undo")), '"help"', '"run"'], 0, [
+        (2, '"help" is no command or query; the commands of version 1 are feed, take, notice, broadcast, '
+            'receive, back, redo, jump, run,'),
+        (2, "the queries are state, count, before, view, frontier, passed, search version 4 adds export, "
+            "why, changes, step, candidates, effect, turns"),
+        (3, '"quit" is no command or query; the end of the input ends the run'),
+        (4, '{"do":"run","limit":1000} executes up to 1,000'),
+        (5, '{"do":"run","limit":1} executes the next step, {"do":"redo"} a kept step again'),
+        (6, '"step" came with version 3'),
+        (6, '{"do":"run","limit":1} executes the next step'), (7, '{"do":"back"} undoes the last step'),
+        (8, '"help" is a text; a line'),
+        (8, "the commands of version 1 are"),
+        (9, '"run" is a text; a line is an object that says what to do, as {"do":"run","limit":1000}'),
     ]),
-    "the same of version 3": ([], [V3, LINE, do("help"), do("step"), do("step", at=7), "step 4", "why 1 z [2]", "c"], 0, [
-        (3, "frontier, passed, search, export, why, changes, step version 4 adds candidates, effect, turns; its first line is"),
+    "the same of version 3": ([],
+        [V3, LINE, do("help"), do("step"), do("step", at=7), "step 4", "why 1 z [2]", "c"], 0, [
+        (3, "frontier, passed, search, export, why, changes, step version 4 adds candidates, effect, turns; "
+            "its first line is"),
         (3, "docs/SCRIPT.md shows the form of each"), (4, 'right is {"do":"step","to":0}'),
-        (4, '{"do":"run","limit":1} executes the next step'), (5, 'right is {"do":"step","to":7}'), (6, 'right is {"do":"step","to":4}'),
-        (7, 'right is {"do":"why","q":1,"at":"z","time":[2]}'), (8, '"c" is no command or query; {"do":"run","limit":1000} executes'),
+        (4, '{"do":"run","limit":1} executes the next step'), (5, 'right is {"do":"step","to":7}'),
+        (6, 'right is {"do":"step","to":4}'),
+        (7, 'right is {"do":"why","q":1,"at":"z","time":[2]}'),
+        (8, '"c" is no command or query; {"do":"run","limit":1000} executes'),
     ]),
-    "words without JSON": ([], [LINE, "back", "help", "quit", "continue", "run 10", " Feed 1 a [7] close", "veiw 0", "jmp", "xyzzy", "why"], 0, [
-        (2, 'faulty, 30 BadLine: the line is not JSON; right is {"do":"back"}'), (3, 'the line is not JSON, and "help" is no command'),
-        (3, "the commands of version 1 are feed,"), (4, "the end of the input ends the run"), (5, '{"do":"run","limit":1000} executes'),
-        (6, 'right is {"do":"run","limit":10}'), (7, 'right is {"do":"feed","p":1,"vertex":"a","values":[7],"next":"close"}'),
-        (8, 'the nearest is "view" a line is an object that says what to do, as {"do":"view","q":0}'), (9, 'as {"do":"jump","to":0}'),
+    "words without JSON": ([],
+        [LINE, "back", "help", "quit", "continue", "run 10", " Feed 1 a [7] close", "veiw 0", "jmp", "xyzzy",
+            "why"], 0, [
+        (2, 'faulty, 30 BadLine: the line is not JSON; right is {"do":"back"}'),
+        (3, 'the line is not JSON, and "help" is no command'),
+        (3, "the commands of version 1 are feed,"), (4, "the end of the input ends the run"),
+        (5, '{"do":"run","limit":1000} executes'),
+        (6, 'right is {"do":"run","limit":10}'),
+        (7, 'right is {"do":"feed","p":1,"vertex":"a","values":[7],"next":"close"}'),
+        (8, 'the nearest is "view" a line is an object that says what to do, as {"do":"view","q":0}'),
+        (9, 'as {"do":"jump","to":0}'),
         (10, "the words are feed, take,"), (10, 'as {"do":"back"}'), (11, '"why" came with version 3'),
     ]),
-    "clients' words": (["--clients", "2"], [*CLIENTS, "back"], 2, [(4, 'the line is not JSON; right is {"client":0,"do":"back"}')]),
+    "clients' words": (["--clients", "2"], [*CLIENTS, "back"], 2,
+        [(4, 'the line is not JSON; right is {"client":0,"do":"back"}')]),
     "clients' help": (["--clients", "2"], [*CLIENTS, '{"client":1,"do":"help"}'], 2, [
         (4, "run, break, unbreak several clients have no queries"), (4, 'as {"client":0,"do":"back"}'),
     ]),
     "kinds": ([], [
-        LINE, do("view", q="0"), '{"do":"view","q":1.0}', do("view", q=-1), do("view", q=2**32), do("view", q=None),
-        do("take", p=0, edge="az", time=0, value=5), do("take", p=0, edge="az", time=[], value=5), do("jump", to=-1),
-        do("feed", p=0, vertex="a", values=[2**63], next="next"), do("feed", p=0, vertex="a", values=[5], next="Next"),
+        LINE, do("view", q="0"), '{"do":"view","q":1.0}', do("view", q=-1), do("view", q=2**32),
+        do("view", q=None),
+        do("take", p=0, edge="az", time=0, value=5), do("take", p=0, edge="az", time=[], value=5),
+        do("jump", to=-1),
+        do("feed", p=0, vertex="a", values=[2**63], next="next"),
+        do("feed", p=0, vertex="a", values=[5], next="Next"),
         do("broadcast", p=0, part=["a", [0]]), do("run", limit="9"),
     ], 0, [
-        (2, '"q":"0" is a text; right is a whole number from 0 to 4294967295'), (3, '"q":1.0 is not written as a whole number'),
+        (2, '"q":"0" is a text; right is a whole number from 0 to 4294967295'),
+        (3, '"q":1.0 is not written as a whole number'),
         (4, '"q":-1 is below 0'), (5, '"q":4294967296 is above 4294967295'), (6, '"q":null is no number'),
-        (7, '"time":0 is a number; right is a list of the epoch and the loop counters'), (8, '"time":[] is empty'),
-        (9, '"to":-1 is below 0; right is a whole number from 0 to 18446744073709551615'), (10, f"is above {TOP}"),
-        (11, 'right is "next", "close" or "stay"'), (12, "right is a list of locations and times"), (13, '"limit":"9" is a text'),
+        (7, '"time":0 is a number; right is a list of the epoch and the loop counters'),
+        (8, '"time":[] is empty'),
+        (9, '"to":-1 is below 0; right is a whole number from 0 to 18446744073709551615'),
+        (10, f"is above {TOP}"),
+        (11, 'right is "next", "close" or "stay"'), (12, "right is a list of locations and times"),
+        (13, '"limit":"9" is a text'),
     ]),
     "names": ([], [
-        json.dumps(ROUND), do("take", p=0, edge="in-smal", time=[0, 0], value=1), do("notice", p=0, vertex="a-in", time=[0]),
+        json.dumps(ROUND), do("take", p=0, edge="in-smal", time=[0, 0], value=1),
+        do("notice", p=0, vertex="a-in", time=[0]),
         do("count", at="qqq", time=[0]), do("before", **{"from": ["a", [0]], "to": ["ou", [0, 0]]}),
         do("break", when={"sink": {"at_least": 1, "value": 5, "vertex": "out-z"}}),
     ], 0, [
-        (2, 'faulty, 32 UnknownName: "in-smal" is no name of the graph; wanted is an edge; the nearest is "in-small"'),
-        (3, '"a-in" is an edge; wanted is a vertex'), (4, "wanted is a vertex or an edge"), (5, 'the nearest is "out"'),
+        (2, 'faulty, 32 UnknownName: "in-smal" is no name of the graph; wanted is an edge; the nearest is '
+            '"in-small"'),
+        (3, '"a-in" is an edge; wanted is a vertex'), (4, "wanted is a vertex or an edge"),
+        (5, 'the nearest is "out"'),
         (6, '"out-z" is an edge; wanted is a vertex'),
     ]),
     "times": ([], [
         json.dumps(ROUND), do("count", at="in", time=[0, 0]), do("count", at="in-small", time=[0]),
-        do("take", p=0, edge="out-z", time=[0, 1], value=5), do("broadcast", p=0, part=[["a", [0]], ["next", [0, 0, 0]]]),
+        do("take", p=0, edge="out-z", time=[0, 1], value=5),
+        do("broadcast", p=0, part=[["a", [0]], ["next", [0, 0, 0]]]),
     ], 0, [
-        (2, 'faulty, 34 BadTime: the time [0,0] has 2 numbers; at "in", which lies in no loop, a time has 1 number'),
-        (3, 'at "in-small", at depth 1, a time has 2 numbers: the epoch and a loop counter'), (4, 'at "out-z", which lies in no loop'),
+        (2, 'faulty, 34 BadTime: the time [0,0] has 2 numbers; at "in", which lies in no loop, a time has 1 '
+            'number'),
+        (3, 'at "in-small", at depth 1, a time has 2 numbers: the epoch and a loop counter'),
+        (4, 'at "out-z", which lies in no loop'),
         (5, 'the time [0,0,0] has 3 numbers; at "next", at depth 1, a time has 2'),
     ]),
     "texts": ([], [LINE, '{"do":back}', '{"do":"back"', " " + '"' + "x" * 65536 + '"'], 0, [
@@ -241,161 +366,242 @@ TOLD = {
     ]),
     # the graph's place
     "a command first": ([], [do("back"), LINE], 2, [
-        (1, 'faulty, 40 Shape: the first line must be the graph, as {"vertices":[{"name":"a","op":"input","depth":0}],"edges":[]}'),
+        (1, 'faulty, 40 Shape: the first line must be the graph, as '
+            '{"vertices":[{"name":"a","op":"input","depth":0}],"edges":[]}'),
         (1, "commands and queries come after it"),
     ]),
-    "a command after the version": ([], [V2, do("back")], 2, [(2, "40 Shape: the first line after the version line must be the graph")]),
-    "a word first": ([], ["help"], 2, [(1, "30 BadLine: the first line must be the graph"), (1, "the commands of version 1 are feed,")]),
-    "help first": ([], [do("help")], 2, [(1, "the first line must be the graph"), (1, "the commands of version 1 are feed,")]),
-    "a faulty text first": ([], ['{"do":back}'], 2, [(1, "the first line must be the graph"), (1, "it breaks as JSON at column 7")]),
-    "another object first": ([], ['{"nodes":[]}'], 2, [(1, "the first line must be the graph"), (1, 'the key "vertices" is missing')]),
+    "a command after the version": ([], [V2, do("back")], 2,
+        [(2, "40 Shape: the first line after the version line must be the graph")]),
+    "a word first": ([], ["help"], 2,
+        [(1, "30 BadLine: the first line must be the graph"), (1, "the commands of version 1 are feed,")]),
+    "help first": ([], [do("help")], 2,
+        [(1, "the first line must be the graph"), (1, "the commands of version 1 are feed,")]),
+    "a faulty text first": ([], ['{"do":back}'], 2,
+        [(1, "the first line must be the graph"), (1, "it breaks as JSON at column 7")]),
+    "another object first": ([], ['{"nodes":[]}'], 2,
+        [(1, "the first line must be the graph"), (1, 'the key "vertices" is missing')]),
     "a number first": ([], ["7"], 2, [(1, "the first line must be the graph"), (1, "7 is a number")]),
-    "a client's command first": (["--clients", "2"], ['{"client":0,"do":"back"}'], 2, [(1, "the first line must be the graph")]),
+    "a client's command first": (["--clients", "2"], ['{"client":0,"do":"back"}'], 2,
+        [(1, "the first line must be the graph")]),
     "no graph": ([], ['{"vertices":'], 2, [(1, "faulty, 30 BadLine: it breaks as JSON at column 13")]),
     # versions 2 and 3
-    "export": ([], [V2, LINE, FEED, do("broadcast", p=0, part=[["az", [0]], ["a", [0]]]), do("back"), do("export"), do("step", to=1)], 0, [
-        (1, "this is a script of version 2"), (2, "the graph"), (6, "what are the kept steps? 2 kept steps, and the cursor is at 1"),
-        (6, "1. processor 0 feeds 5 into a and gives up its token"), (6, "2. processor 0 broadcasts what is unsent at az (0) and a (0)"),
-        (7, 'BadShape: "step" came with version 3, and the script is of version 2; its first line is to be {"version":3}'),
+    "export": ([], [
+        V2, LINE, FEED, do("broadcast", p=0, part=[["az", [0]], ["a", [0]]]), do("back"), do("export"),
+        do("step", to=1),
+    ], 0, [
+        (1, "this is a script of version 2"), (2, "the graph"),
+        (6, "what are the kept steps? 2 kept steps, and the cursor is at 1"),
+        (6, "1. processor 0 feeds 5 into a and gives up its token"),
+        (6, "2. processor 0 broadcasts what is unsent at az (0) and a (0)"),
+        (7, 'BadShape: "step" came with version 3, and the script is of version 2; its first line is to be '
+            '{"version":3}'),
     ]),
     "why": (["--processors", "3"], [
-        V3, EXCHANGE, FEED, do("why", q=1, at="z", time=[0]), do("take", p=2, edge="az", time=[0], value=5), do("broadcast", p=2),
-        do("receive", **{"from": 2, "to": 1}), do("broadcast", p=0), do("why", q=1, at="z", time=[0]), do("why", q=3, at="z", time=[0]),
+        V3, EXCHANGE, FEED, do("why", q=1, at="z", time=[0]), do("take", p=2, edge="az", time=[0], value=5),
+        do("broadcast", p=2),
+        do("receive", **{"from": 2, "to": 1}), do("broadcast", p=0), do("why", q=1, at="z", time=[0]),
+        do("why", q=3, at="z", time=[0]),
         do("changes", q=1, at="az", time=[0], lo=0, hi=5), do("changes", q=1, at="a", time=[0], lo=0, hi=5),
         do("changes", q=1, at="a", time=[0], lo=2, hi=1), do("changes", q=1, at="a", time=[0], lo=2, hi=6),
-        do("step", to=4), do("step", to=0), do("step", to=6), do("why", q=1, at="y", time=[0]), do("why", q=1, at="z"),
+        do("step", to=4), do("step", to=0), do("step", to=6), do("why", q=1, at="y", time=[0]),
+        do("why", q=1, at="z"),
     ], 0, [
-        (4, "why does processor 1 not consider z (0) finished? processor 1 does not know that z (0) is finished: it still counts 3 at"),
-        (4, "held there: the tokens of processors 1 and 2; not heard: -1 of processor 0, which has not sent it it is not finished"),
-        (9, "it still counts 3 at a (0); held there: the tokens of processors 1 and 2; not heard: -1 of processor 0, first on its way"),
+        (4, "why does processor 1 not consider z (0) finished? processor 1 does not know that z (0) is "
+            "finished: it still counts 3 at"),
+        (4, "held there: the tokens of processors 1 and 2; not heard: -1 of processor 0, which has not sent "
+            "it it is not finished"),
+        (9, "it still counts 3 at a (0); held there: the tokens of processors 1 and 2; not heard: -1 of "
+            "processor 0, first on its way"),
         (10, "refused, 1 NoProcessor: there is no processor 3; there are the processors 0 to 2"),
-        (11, "when did processor 1's view of az (0) change, from position 0 to 5? at position 4 to -1"), (12, "at none"),
-        (13, "refused, 50 BadRange: lo, 2, is above hi, 1"), (14, "22 NoSuchPoint: position 6 is past the last kept step"),
-        (15, "which step leads to position 4? processor 1 receives the first change on its way from processor 2"),
-        (16, "22 NoSuchPoint: no step leads to position 0"), (17, "22 NoSuchPoint: position 6 is past the last kept step"),
+        (11, "when did processor 1's view of az (0) change, from position 0 to 5? at position 4 to -1"),
+        (12, "at none"),
+        (13, "refused, 50 BadRange: lo, 2, is above hi, 1"),
+        (14, "22 NoSuchPoint: position 6 is past the last kept step"),
+        (15, "which step leads to position 4? processor 1 receives the first change on its way from "
+            "processor 2"),
+        (16, "22 NoSuchPoint: no step leads to position 0"),
+        (17, "22 NoSuchPoint: position 6 is past the last kept step"),
         (18, '"y" is no name of the graph'), (19, 'right is {"do":"why","q":1,"at":"z","time":[0]}'),
     ]),
     "reasons": ([], [
-        V3, SUM, do("feed", p=0, vertex="a", values=[2, 3, 3], next="close"), do("take", p=0, edge="as", time=[0], value=2),
+        V3, SUM, do("feed", p=0, vertex="a", values=[2, 3, 3], next="close"),
+        do("take", p=0, edge="as", time=[0], value=2),
         do("broadcast", p=0), do("receive", **{"from": 0, "to": 0}), do("why", q=0, at="z", time=[0]),
-        do("take", p=0, edge="as", time=[0], value=3), do("broadcast", p=0), do("take", p=0, edge="as", time=[0], value=3),
-        do("broadcast", p=0), do("why", q=0, at="z", time=[0]), do("run", limit=2), do("why", q=0, at="z", time=[0]),
+        do("take", p=0, edge="as", time=[0], value=3), do("broadcast", p=0),
+        do("take", p=0, edge="as", time=[0], value=3),
+        do("broadcast", p=0), do("why", q=0, at="z", time=[0]), do("run", limit=2),
+        do("why", q=0, at="z", time=[0]),
         do("run", limit=9), do("why", q=0, at="z", time=[0]),
     ], 0, [
         (7, "it still counts 2 at as (0); held there: 2 records 3 of processor 0 it is not finished"),
-        (12, "nothing is held there; not heard: -1 of processor 0, first on its way and -1 of processor 0, behind 1 change on its way"),
+        (12, "nothing is held there; not heard: -1 of processor 0, first on its way and -1 of processor 0, "
+            "behind 1 change on its way"),
         (14, "it still counts 1 at s (0); held there: the request of processor 0 it is not finished"),
         (16, "processor 0 knows that z (0) is finished"),
     ]),
-    "a later query": ([], [LINE, do("why", q=0, at="z", time=[0]), do("export"), do("whi", q=0), '{"version":3}'], 0, [
-        (2, '"why" came with version 3, and the script is of version 1; its first line is to be {"version":3}'),
-        (3, '"export" came with version 2'), (4, '"whi" is no command or query; the words are'), (5, "before the graph alone"),
+    "a later query": ([],
+        [LINE, do("why", q=0, at="z", time=[0]), do("export"), do("whi", q=0), '{"version":3}'], 0, [
+        (2, '"why" came with version 3, and the script is of version 1; its first line is to be '
+            '{"version":3}'),
+        (3, '"export" came with version 2'), (4, '"whi" is no command or query; the words are'),
+        (5, "before the graph alone"),
     ]),
-    "another version": ([], ['{"version":9}', LINE], 2, [(1, 'faulty, 40 Shape: a version line is {"version":N} alone, N from 2 to 4')]),
-    "a version twice": ([], [V2, V2, LINE], 2, [(1, "of version 2"), (2, "faulty, 40 Shape: a version line is")]),
+    "another version": ([], ['{"version":9}', LINE], 2,
+        [(1, 'faulty, 40 Shape: a version line is {"version":N} alone, N from 2 to 4')]),
+    "a version twice": ([], [V2, V2, LINE], 2,
+        [(1, "of version 2"), (2, "faulty, 40 Shape: a version line is")]),
     "a version alone": ([], [V3], 0, [
-        (1, "this is a script of version 3"), (1, "the graph is missing: the first line after the version line must be the graph"),
+        (1, "this is a script of version 3"),
+        (1, "the graph is missing: the first line after the version line must be the graph"),
     ]),
-    "a deep time": ([], [V2, DEEP, do("count", at="z", time=[0])], 0, [(3, 'at "z", at depth 5, a time has 6 numbers')]),
-    "a deep graph": ([], [DEEP], 2, [(1, '"z" is at depth 5; at most 4 may be; in later versions at most 6')]),
-    "nine processors": (["--processors", "9"], [LINE], 2, [(1, "48 BadCount: a script of version 1 has at most 8 processors")]),
+    "a deep time": ([], [V2, DEEP, do("count", at="z", time=[0])], 0,
+        [(3, 'at "z", at depth 5, a time has 6 numbers')]),
+    "a deep graph": ([], [DEEP], 2,
+        [(1, '"z" is at depth 5; at most 4 may be; in later versions at most 6')]),
+    "nine processors": (["--processors", "9"], [LINE], 2,
+        [(1, "48 BadCount: a script of version 1 has at most 8 processors")]),
     "clients of a version": (["--clients", "2"], [V2, *CLIENTS], 0, [
-        (1, "this is a script of version 2"), (2, "the graph"), (3, "line 3, client 0: processor 0 feeds 5 into a"), (4, "back over"),
+        (1, "this is a script of version 2"), (2, "the graph"),
+        (3, "line 3, client 0: processor 0 feeds 5 into a"), (4, "back over"),
     ]),
-    "clients' export": (["--clients", "2"], [V2, *CLIENTS, '{"client":1,"do":"export"}'], 2, [(5, '36 OneClientOnly: "export"')]),
+    "clients' export": (["--clients", "2"], [V2, *CLIENTS, '{"client":1,"do":"export"}'], 2,
+        [(5, '36 OneClientOnly: "export"')]),
     "clients' refused graph": (["--clients", "2"], [V2, DEEPER, '{"client":1,"do":"back"}'], 2, [
-        (2, '45 TooLarge: the ingress "i6" is at depth 6, the greatest'), (2, '"z" is at depth 7; at most 6 may be'),
+        (2, '45 TooLarge: the ingress "i6" is at depth 6, the greatest'),
+        (2, '"z" is at depth 7; at most 6 may be'),
     ]),
     # version 4
     "what may be executed": ([], [
-        V4, SUM, do("candidates"), do("feed", p=0, vertex="a", values=[2, 3], next="close"), do("take", p=0, edge="as", time=[0], value=2),
-        do("candidates"), do("effect", to=2), do("effect", to=0), do("effect", to=1), do("frontier", q=0, at="z"),
-        do("why", q=0, at="s", time=[0], before=True), do("frontier", q=0, at="y"), do("frontier", q=1, at="z"),
+        V4, SUM, do("candidates"), do("feed", p=0, vertex="a", values=[2, 3], next="close"),
+        do("take", p=0, edge="as", time=[0], value=2),
+        do("candidates"), do("effect", to=2), do("effect", to=0), do("effect", to=1),
+        do("frontier", q=0, at="z"),
+        do("why", q=0, at="s", time=[0], before=True), do("frontier", q=0, at="y"),
+        do("frontier", q=1, at="z"),
     ], 0, [
-        (3, "which steps may be executed now, and what stands in the way of the others? no step is left but a feed"),
+        (3, "which steps may be executed now, and what stands in the way of the others? no step is left but "
+            "a feed"),
         (6, "2 steps of 3 may be executed enabled: processor 0 takes 3 off as (0)"),
-        (6, "processor 0 runs the notice of s (0): refused, 10 NotYet: processor 0's view has a (0) strictly before s (0)"),
+        (6, "processor 0 runs the notice of s (0): refused, 10 NotYet: processor 0's view has a (0) "
+            "strictly before s (0)"),
         (6, "enabled: processor 0 broadcasts all that is unsent"),
         (7, "what did the step that leads to position 2 change? processor 0 takes 2 off as (0)"),
-        (7, "records 2 of processor 0 at as (0): from 1 to 0 processor 0 asks for a notice at s (0) s of processor 0 keeps 2 for 0 at (0)"),
+        (7, "records 2 of processor 0 at as (0): from 1 to 0 processor 0 asks for a notice at s (0) s of "
+            "processor 0 keeps 2 for 0 at (0)"),
         (7, "unsent of processor 0 at s (0): from 0 to 1 unsent of processor 0 at as (0): from 2 to 1"),
-        (8, "22 NoSuchPoint: no step leads to position 0"), (9, "processor 0 gives up its token of a, which was at epoch 0"),
+        (8, "22 NoSuchPoint: no step leads to position 0"),
+        (9, "processor 0 gives up its token of a, which was at epoch 0"),
         (10, "which times can still arrive at z, as far as processor 0 knows? (0), and all that are later"),
-        (11, "why does processor 0 not consider all that is strictly before s (0) finished? processor 0 does not know that all that is"),
-        (11, "it still counts 1 at a (0); nothing is held there; not heard: -1 of processor 0, which has not sent it"),
+        (11, "why does processor 0 not consider all that is strictly before s (0) finished? processor 0 "
+            "does not know that all that is"),
+        (11, "it still counts 1 at a (0); nothing is held there; not heard: -1 of processor 0, which has "
+            "not sent it"),
         (12, '"y" is no name of the graph'), (13, "there is no processor 1"),
     ]),
     "a notice and its view": ([], [
-        V4, SUM, do("feed", p=0, vertex="a", values=[2], next="close"), do("run", limit=99), do("effect", to=5), do("effect", to=4),
+        V4, SUM, do("feed", p=0, vertex="a", values=[2], next="close"), do("run", limit=99),
+        do("effect", to=5), do("effect", to=4),
         do("frontier", q=0, at="z"), do("effect", to=3),
     ], 0, [
-        (5, "s of processor 0 keeps nothing for 0 at (0) any more; it was 2"), (5, "processor 0 asks for no notice at s (0) any more"),
-        (6, "the queue from processor 0 to 0 gets shorter: 1 change, then 0"), (6, "the view of processor 0 at a (0): from 1 to 0"),
+        (5, "s of processor 0 keeps nothing for 0 at (0) any more; it was 2"),
+        (5, "processor 0 asks for no notice at s (0) any more"),
+        (6, "the queue from processor 0 to 0 gets shorter: 1 change, then 0"),
+        (6, "the view of processor 0 at a (0): from 1 to 0"),
         (7, "none: nothing can arrive there any more"), (8, "gets longer: 0 changes, then 1"),
     ]),
     "conditions put together": (["--processors", "2"], [
-        V4, LINE, do("break", when={"all": [{"finished": {"at": "z", "time": [0]}}, {"not": {"passed": {"q": 0, "at": "z", "time": [0]}}}]}),
-        do("break", when={"any": [{"queue": {"at_least": 1, "from": 0, "to": 2}}, {"not": {"view": {"at": "a", "at_least": 1, "q": 3, "time": [0]}}}]}),
-        do("break", when={"not": {"passed": {"q": 2, "at": "z", "time": [0]}}}), do("break", when={"all": []}),
-        do("turns", when={"count": {"at": "az", "at_least": 1, "time": [0]}}, lo=0, hi=0), FEED, do("run", limit=99),
+        V4, LINE, do("break", when={"all": [
+            {"finished": {"at": "z", "time": [0]}}, {"not": passed("z")},
+        ]}),
+        do("break", when={"any": [
+            {"queue": {"at_least": 1, "from": 0, "to": 2}},
+            {"not": {"view": {"at": "a", "at_least": 1, "q": 3, "time": [0]}}},
+        ]}),
+        do("break", when={"not": {"passed": {"q": 2, "at": "z", "time": [0]}}}),
+        do("break", when={"all": []}),
+        do("turns", when={"count": {"at": "az", "at_least": 1, "time": [0]}}, lo=0, hi=0), FEED,
+        do("run", limit=99),
         do("turns", when={"count": {"at": "az", "at_least": 1, "time": [0]}}, lo=0, hi=2),
-        do("turns", when={"count": {"at": "az", "at_least": 1, "time": [0]}}, lo=2, hi=1), do("turns", when={"view": {"at": "y"}}, lo=0, hi=9),
+        do("turns", when={"count": {"at": "az", "at_least": 1, "time": [0]}}, lo=2, hi=1),
+        do("turns", when={"view": {"at": "y"}}, lo=0, hi=9),
     ], 0, [
-        (3, "set a breakpoint: z (0) is finished and not (processor 0 has passed z (0))"), (3, "done: it is breakpoint 0"),
-        (4, "at least 1 of changes on their way from processor 0 to 2 or not (processor 3's view has at least 1 at a (0))"),
+        (3, "set a breakpoint: z (0) is finished and not (processor 0 has passed z (0))"),
+        (3, "done: it is breakpoint 0"),
+        (4, "at least 1 of changes on their way from processor 0 to 2 or not (processor 3's view has at "
+            "least 1 at a (0))"),
         (4, "warning: what is said of it never holds: there is no processor 2"),
-        (4, "warning: what is said of it always holds: there is no processor 3"), (5, "warning: what is said of it always holds"),
-        (6, '31 BadShape: "all" has 0 conditions; it may have 1 to 8'), (7, "at position 0 it does not hold and that stays so"),
+        (4, "warning: what is said of it always holds: there is no processor 3"),
+        (5, "warning: what is said of it always holds"),
+        (6, '31 BadShape: "all" has 0 conditions; it may have 1 to 8'),
+        (7, "at position 0 it does not hold and that stays so"),
         (7, "at which of the positions 0 to 0 does it begin or cease to hold that at least 1 of records"),
         (10, "at position 0 it does not hold it begins to hold at 1"), (11, "50 BadRange"),
         (12, 'the key "at_least" of "view" is missing'),
     ]),
     "later conditions and keys": ([], [
-        V3, LINE, do("break", when={"not": {"passed": {"q": 0, "at": "z", "time": [0]}}}), do("frontier", q=0, at="z"),
+        V3, LINE, do("break", when={"not": {"passed": {"q": 0, "at": "z", "time": [0]}}}),
+        do("frontier", q=0, at="z"),
         do("why", q=0, at="z", time=[0], before=True), do("turns", lo=0), do("break", when={"view": {}}),
     ], 0, [
         (3, 'BadShape: "when" has the key "not", which came with version 4, and the script is of version 3'),
-        (4, 'the key "at" is too many the key "at" of frontier came with version 4 right is {"do":"frontier","q":0}'),
+        (4, 'the key "at" is too many the key "at" of frontier came with version 4 right is '
+            '{"do":"frontier","q":0}'),
         (5, 'the key "before" of why came with version 4 right is {"do":"why","q":0,"at":"z","time":[0]}'),
         (6, '"turns" came with version 4'), (7, 'has the key "view", which came with version 4'),
     ]),
     # several clients
     "clients": (["--clients", "2"], CLIENTS, 0, [
-        (2, "line 2, client 0: processor 0 feeds 5 into a"), (3, "back over the last step"), (3, "the cursor is at 0 of 1 kept step"),
+        (2, "line 2, client 0: processor 0 feeds 5 into a"), (3, "back over the last step"),
+        (3, "the cursor is at 0 of 1 kept step"),
     ]),
-    "a client's number": (["--clients", "2"], [*CLIENTS, '{"client":2,"do":"back"}'], 2, [(4, '35 BadClient: "client" is 2')]),
-    "a client's query": (["--clients", "2"], [*CLIENTS, '{"client":1,"do":"state"}'], 2, [(4, '36 OneClientOnly: "state"')]),
-    "no client": (["--clients", "2"], [*CLIENTS, '{"do":"back"}'], 2, [(4, '31 BadShape: the key "client" is missing')]),
-    "a client's name": (["--clients", "2"], [*CLIENTS, '{"client":1,"do":"notice","p":0,"vertex":"y","time":[0]}'], 2, [
+    "a client's number": (["--clients", "2"], [*CLIENTS, '{"client":2,"do":"back"}'], 2,
+        [(4, '35 BadClient: "client" is 2')]),
+    "a client's query": (["--clients", "2"], [*CLIENTS, '{"client":1,"do":"state"}'], 2,
+        [(4, '36 OneClientOnly: "state"')]),
+    "no client": (["--clients", "2"], [*CLIENTS, '{"do":"back"}'], 2,
+        [(4, '31 BadShape: the key "client" is missing')]),
+    "a client's name": (["--clients", "2"],
+        [*CLIENTS, '{"client":1,"do":"notice","p":0,"vertex":"y","time":[0]}'], 2, [
         (4, '32 UnknownName: "y" is no name of the graph; wanted is a vertex'),
     ]),
 }  # fmt: skip
 
 GRAPH_FAULTS = {
-    "a key gone": (graph([A, {"name": "m", "op": "add", "depth": 0}], []), 40, 'vertices[1] (m): the key "k" is missing'),
-    "a key too many": (graph([A, vertex("z", "sink", k=1)], []), 40, 'vertices[1] (z): the key "k" is too many'),
+    "a key gone": (graph([A, {"name": "m", "op": "add", "depth": 0}], []), 40,
+        'vertices[1] (m): the key "k" is missing'),
+    "a key too many": (graph([A, vertex("z", "sink", k=1)], []), 40,
+        'vertices[1] (z): the key "k" is too many'),
     "an op": (graph([vertex("a", "inptu")], []), 40, 'the nearest op is "input"'),
     "a name with a space": (graph([vertex("a z", "sink")], []), 40, '"name":"a z" has " " in it'),
     "a long name": (graph([vertex("a" * 33, "sink")], []), 40, "has 33 bytes"),
-    "a route": (graph([A, Z], [edge("az", "a", "z", route="both")]), 40, 'edges[0] (az): "route":"both" is none of these'),
+    "a route": (graph([A, Z], [edge("az", "a", "z", route="both")]), 40,
+        'edges[0] (az): "route":"both" is none of these'),
     "no edges": ({"vertices": []}, 40, 'the key "edges" is missing'),
-    "two of a name": (graph([A, Z], [edge("z", "a", "z")]), 41, '"z" is the name of vertices[1] and of edges[0]'),
-    "an end": (graph([A, Z], [edge("az", "a", "zz")]), 42, '"to":"zz" is no vertex; the nearest vertex is "z"'),
+    "two of a name": (graph([A, Z], [edge("z", "a", "z")]), 41,
+        '"z" is the name of vertices[1] and of edges[0]'),
+    "an end": (graph([A, Z], [edge("az", "a", "zz")]), 42,
+        '"to":"zz" is no vertex; the nearest vertex is "z"'),
     "a port": (graph([A, Z], [edge("az", "a", "z", 1)]), 43, 'the edge "az" leaves the input "a" on port 1'),
     "a port of a split": (
-        graph([A, vertex("half", "split", k=0), Z], [edge("ah", "a", "half"), edge("hz", "half", "z", 1), edge("h2", "half", "z", 2)]),
+        graph([A, vertex("half", "split", k=0), Z],
+            [edge("ah", "a", "half"), edge("hz", "half", "z", 1), edge("h2", "half", "z", 2)]),
         43, 'BadPort: the edge "h2" leaves the split "half" on port 2, which has the ports 0 and 1',
     ),
-    "into an input": (graph([A, S], [edge("sa", "s", "a")]), 43, 'the edge "sa" enters "a", which is an input'),
+    "into an input": (graph([A, S], [edge("sa", "s", "a")]), 43,
+        'the edge "sa" enters "a", which is an input'),
     "an input's depth": (graph([vertex("a", "input", 1)], []), 44, 'the input "a" is at depth 1'),
-    "an edge's depth": (graph([A, vertex("i", "ingress"), Z], [edge("ai", "a", "i"), edge("iz", "i", "z")]), 44, 'the edge "iz" leaves'),
+    "an edge's depth": (graph([A, vertex("i", "ingress"), Z], [edge("ai", "a", "i"), edge("iz", "i", "z")]),
+        44, 'the edge "iz" leaves'),
     "an edge out of a loop": (
         graph([A, vertex("in", "ingress"), vertex("out", "egress", 1), vertex("z", "sink", 1)],
               [edge("ai", "a", "in"), edge("io", "in", "out"), edge("oz", "out", "z")]),
-        44, 'DepthMismatch: the edge "oz" leaves the egress "out" of depth 1 with depth 0 and enters "z", which is at depth 1',
+        44, 'DepthMismatch: the edge "oz" leaves the egress "out" of depth 1 with depth 0 and enters "z", '
+            'which is at depth 1',
     ),
     "no loop to leave": (graph([vertex("e", "egress")], []), 44, 'the egress "e" is at depth 0'),
     "too deep": (graph([vertex("s", "sum", 5)], []), 45, '"s" is at depth 5; at most 4 may be'),
-    "too many": (graph([vertex(f"s{n}", "sum") for n in range(65)], []), 45, "there are 65 vertices and edges; at most 64"),
-    "a loop": (graph([A, M], [edge("am", "a", "m"), edge("mm", "m", "m")]), 46, 'a walk from "m" comes back to "m"'),
+    "too many": (graph([vertex(f"s{n}", "sum") for n in range(65)], []), 45,
+        "there are 65 vertices and edges; at most 64"),
+    "a loop": (graph([A, M], [edge("am", "a", "m"), edge("mm", "m", "m")]), 46,
+        'a walk from "m" comes back to "m"'),
 }  # fmt: skip

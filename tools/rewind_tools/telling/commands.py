@@ -35,7 +35,11 @@ def feed(it):
 
 
 def broadcast(it):
-    part = "all that is unsent" if "part" not in it else f"what is unsent at {some_of(at(*point) for point in it['part'])}"
+    part = (
+        "all that is unsent"
+        if "part" not in it
+        else f"what is unsent at {some_of(at(*point) for point in it['part'])}"
+    )
     return f"processor {it['p']} broadcasts {part}"
 
 
@@ -45,7 +49,10 @@ def search(it):
 
 
 def turns(it):
-    return f"at which of the positions {it['lo']} to {it['hi']} does it begin or cease to hold that {condition(it['when'])}?"
+    return (
+        f"at which of the positions {it['lo']} to {it['hi']} does it begin or cease to hold that"
+        f" {condition(it['when'])}?"
+    )
 
 
 def why(it):
@@ -92,7 +99,9 @@ WORDS = {
     "take": lambda it: f"processor {it['p']} takes {it['value']} off {at(it['edge'], it['time'])}",
     "notice": lambda it: f"processor {it['p']} runs the notice of {at(it['vertex'], it['time'])}",
     "broadcast": broadcast,
-    "receive": lambda it: f"processor {it['to']} receives the first change on its way from processor {it['from']}",
+    "receive": lambda it: (
+        f"processor {it['to']} receives the first change on its way from processor {it['from']}"
+    ),
     "back": lambda it: "back over the last step",
     "redo": lambda it: "make the kept step behind the cursor again",
     "jump": lambda it: f"jump to position {it['to']}",
@@ -108,7 +117,10 @@ WORDS = {
     "search": search,
     "export": lambda it: "what are the kept steps?",
     "why": why,
-    "changes": lambda it: f"when did processor {it['q']}'s view of {at(it['at'], it['time'])} change, from position {it['lo']} to {it['hi']}?",
+    "changes": lambda it: (
+        f"when did processor {it['q']}'s view of {at(it['at'], it['time'])} change, from position"
+        f" {it['lo']} to {it['hi']}?"
+    ),
     "step": lambda it: f"which step leads to position {it['to']}?",
     "candidates": lambda it: "which steps may be executed now, and what stands in the way of the others?",
     "effect": lambda it: f"what did the step that leads to position {it['to']} change?",

@@ -15,21 +15,29 @@ def token(it):
 def request(it):
     p, vertex, time, _, new = it
     there = at(vertex, time)
-    return f"processor {p} asks for a notice at {there}" if new else f"processor {p} asks for no notice at {there} any more"
+    return (
+        f"processor {p} asks for a notice at {there}"
+        if new
+        else f"processor {p} asks for no notice at {there} any more"
+    )
 
 
 def item(it):
     p, vertex, time, number, old, new = it
     kept = f"{vertex} of processor {p} keeps {{}} for {number} at {time_in(time)}"
     if new is None:
-        return f"{vertex} of processor {p} keeps nothing for {number} at {time_in(time)} any more; it was {old}"
+        return (
+            f"{vertex} of processor {p} keeps nothing for {number} at {time_in(time)} any more; it was {old}"
+        )
     return kept.format(new) + ("" if old is None else f" in place of {old}")
 
 
 def queue(it):
     sender, receiver, old, new = it
     word = "longer" if new > old else "shorter"
-    return f"the queue from processor {sender} to {receiver} gets {word}: {counted(old, 'change')}, then {new}"
+    return (
+        f"the queue from processor {sender} to {receiver} gets {word}: {counted(old, 'change')}, then {new}"
+    )
 
 
 KINDS = {

@@ -1,4 +1,5 @@
-"""A line and its answer in words, where the line may be faulty: what was wrong with it, and what would be right."""
+"""A line and its answer in words, where the line may be faulty: what was wrong with it, and what would be
+right."""
 from rewind_tools.runs import lines_of, opening_of
 from rewind_tools.telling import forms, graph_faults, names, texts, values
 from rewind_tools.telling.answers import Teller
@@ -11,7 +12,8 @@ LONGEST = 65536
 def teller_of(told, script):
     """The one who tells a run's replies; it has no graph if the program has read none.
 
-    A faulty line that is answered before the graph is one of several clients' script, whose graph was read."""
+    A faulty line that is answered before the graph is one of several clients' script, whose graph was read.
+    """
     first = told.entries[0] if told.entries else None
     opening = [it.number for it in opening_of(lines_of(script))]
     has_fault_alone = first is not None and first.line.number not in opening
@@ -22,7 +24,8 @@ def teller_of(told, script):
 
 
 def told_line(entry, before, teller):
-    """What a line asks for, and its answer in a list of sentences; 'before' is the state at which it was asked, or None."""
+    """What a line asks for, and its answer in a list of sentences; 'before' is the state at which it was
+    asked, or None."""
     reply = entry.reply
     if entry.line is None:
         return "makes no further command", teller.refused({}, reply, None)
@@ -73,7 +76,11 @@ def line_faults(text, reply, teller):
 
 def first_line_faults(text, teller):
     """That the graph comes first, if the line stands in its place and has no sign of one."""
-    return [graph_faults.graph_first(teller.version)] if teller.graph is None and b'"vertices"' not in text else []
+    return (
+        [graph_faults.graph_first(teller.version)]
+        if teller.graph is None and b'"vertices"' not in text
+        else []
+    )
 
 
 def text_faults(text, teller):
@@ -88,13 +95,21 @@ def text_faults(text, teller):
 def missing_graph(told):
     """That a script ends before its graph, in words; None of any other run."""
     has_ended = all("version" in it.reply for it in told.entries) and (told.entries or not told.output)
-    return f"the graph is missing: {graph_faults.graph_first(told.version)}" if told.status == 0 and has_ended else None
+    return (
+        f"the graph is missing: {graph_faults.graph_first(told.version)}"
+        if told.status == 0 and has_ended
+        else None
+    )
 
 
 FAULTS = {
     "BadShape": lambda value, teller: forms.shape_faults(value, teller.has_clients, teller.version),
     "UnknownName": lambda value, teller: names.unknown_names(teller.graph, value),
     "BadTime": lambda value, teller: names.wrong_times(teller.graph, value),
-    "BadClient": lambda value, teller: [f"\"client\" is {value['client']}, and is to be below the number of clients"],
-    "OneClientOnly": lambda value, teller: [f"\"{value['do']}\" is a query or a search; with several clients there are none"],
+    "BadClient": lambda value, teller: [
+        f"\"client\" is {value['client']}, and is to be below the number of clients"
+    ],
+    "OneClientOnly": lambda value, teller: [
+        f"\"{value['do']}\" is a query or a search; with several clients there are none"
+    ],
 }

@@ -1,10 +1,21 @@
 """The forms of a script's lines in words, and what keeps a value from having one.
 
-Nothing here decides whether a line is right: that is the program's answer. 'tools/test_tell' compares the two."""
+Nothing here decides whether a line is right: that is the program's answer. 'tools/test_tell' compares the
+two."""
 import difflib
 
 from rewind_tools import script
-from rewind_tools.script import ATOMS_SINCE, LAST, LITERALS_SINCE, MOST_LITERALS, OPTIONAL, SINCE, atoms_of, form_of, words_of
+from rewind_tools.script import (
+    ATOMS_SINCE,
+    LAST,
+    LITERALS_SINCE,
+    MOST_LITERALS,
+    OPTIONAL,
+    SINCE,
+    atoms_of,
+    form_of,
+    words_of,
+)
 from rewind_tools.telling import habits, values
 from rewind_tools.telling.values import shown
 
@@ -23,14 +34,16 @@ SEVERAL = ("all", "any")
 
 # What stands for a value in a form that is shown.
 SAMPLES = {
-    id(SMALL): "0", id(WHOLE): "0", id(SIGNED): "5", id(VERTEX): '"a"', id(EDGE): '"am"', id(PLACE): '"a"', id(TIME): "[0]",
+    id(SMALL): "0", id(WHOLE): "0", id(SIGNED): "5", id(VERTEX): '"a"', id(EDGE): '"am"', id(PLACE): '"a"',
+    id(TIME): "[0]",
     id(POINT): '["a",[0]]', id(POINTS): '[["a",[0]]]', id(VALUES): "[5]", id(NEXT): '"next"',
     id(WHEN): '{"passed":{"q":0,"at":"a","time":[0]}}', id(FLAG): "true",
 }  # fmt: skip
 # The same under a key for which the sample of its kind says little.
 KEY_SAMPLES = {"limit": "1000", "workers": "1"}
 KINDS = {
-    "small": SMALL, "whole": WHOLE, "signed": SIGNED, "vertex": VERTEX, "edge": EDGE, "place": PLACE, "time": TIME, "point": POINT,
+    "small": SMALL, "whole": WHOLE, "signed": SIGNED, "vertex": VERTEX, "edge": EDGE, "place": PLACE,
+    "time": TIME, "point": POINT,
     "points": POINTS, "values": VALUES, "next": NEXT, "when": WHEN, "flag": FLAG,
 }  # fmt: skip
 
@@ -52,7 +65,9 @@ def nearest(word, known):
 
 def listed(words, last="and"):
     words = list(words)
-    return words[0] if len(words) == 1 else f"{', '.join(words[:-1])} {last} {words[-1]}" if words else "none"
+    return (
+        words[0] if len(words) == 1 else f"{', '.join(words[:-1])} {last} {words[-1]}" if words else "none"
+    )
 
 
 def may_lack(value, key):
@@ -61,11 +76,16 @@ def may_lack(value, key):
 
 
 def form_shown(form, value=None, version=LAST):
-    """A form as a line may be written: the values of an object where they are right, samples where it has none."""
+    """A form as a line may be written: the values of an object where they are right, samples where it has
+    none."""
     value = value or {}
     kept = kept_values(value, form)
     wanted = {key: kind for key, kind in form.items() if key in kept or not may_lack(value, key)}
-    return "{" + ",".join(f"{shown(key)}:{member_shown(key, kind, kept, version)}" for key, kind in wanted.items()) + "}"
+    return (
+        "{"
+        + ",".join(f"{shown(key)}:{member_shown(key, kind, kept, version)}" for key, kind in wanted.items())
+        + "}"
+    )
 
 
 def member_shown(key, kind, kept, version):
@@ -75,7 +95,8 @@ def member_shown(key, kind, kept, version):
 
 
 def kept_values(value, form):
-    """The values of an object that a form may have: those of the right kind, under its keys or under keys to be renamed."""
+    """The values of an object that a form may have: those of the right kind, under its keys or under keys to
+    be renamed."""
     renamed = {meant: value[key] for key, meant in meant_keys(value, form).items() if meant}
     return {key: it for key, it in {**value, **renamed}.items() if key in form and not form[key][1](it)}
 
@@ -98,7 +119,10 @@ def missing_keys(value, form):
 def keys_faults(value, form, where=""):
     """What is wrong with the keys of an object that is to have those of a form, each fault in words."""
     meant = meant_keys(value, form)
-    faults = [f"the key {shown(key)}{where} is {'to be ' + shown(it) if it else 'too many'}" for key, it in meant.items()]
+    faults = [
+        f"the key {shown(key)}{where} is {'to be ' + shown(it) if it else 'too many'}"
+        for key, it in meant.items()
+    ]
     missing = [key for key in missing_keys(value, form) if key not in meant.values()]
     return faults + [f"the key {shown(key)}{where} is missing: {form[key][0]}" for key in missing]
 
@@ -128,7 +152,11 @@ def when_faults(value, version):
         return [f"{shown(name)}:{shown(inner)} {values.kind_of(inner)}; right is a list, as {right}"]
     if not 1 <= len(inner) <= MOST_LITERALS:
         return [f"{shown(name)} has {len(inner)} conditions; it may have 1 to {MOST_LITERALS}"]
-    return [fault for at, it in enumerate(inner) for fault in literal_faults(it, version, f"item {at} of {shown(name)}")]
+    return [
+        fault
+        for at, it in enumerate(inner)
+        for fault in literal_faults(it, version, f"item {at} of {shown(name)}")
+    ]
 
 
 def literal_faults(value, version, where):
@@ -156,15 +184,22 @@ def atom_faults(value, version, where):
 
 
 def wrong_atom(value, version, where):
-    """What is wrong with the keys of an object that is to be an atom, or where that is allowed a larger condition."""
+    """What is wrong with the keys of an object that is to be an atom, or where that is allowed a larger
+    condition."""
     further = [*SEVERAL, "not"] if where == '"when"' else ["not"] if where.startswith("item") else []
     keys = [*atoms_of(version), *(further if version >= LITERALS_SINCE else [])]
     only = next(iter(value)) if len(value) == 1 else None
     if only in (*ATOMS_SINCE, *SEVERAL, "not") and version < LITERALS_SINCE:
-        return f"has the key {shown(only)}, which came with version {LITERALS_SINCE}, and the script is of version {version}"
+        return (
+            f"has the key {shown(only)}, which came with version {LITERALS_SINCE}, and the script is of"
+            f" version {version}"
+        )
     near = nearest(only, keys) if only is not None else None
     hint = f"; the nearest is {shown(near)}" if near else ""
-    return f"is to have exactly one key, {listed(map(shown, keys), 'or')}, and has {listed(map(shown, value))}{hint}"
+    return (
+        f"is to have exactly one key, {listed(map(shown, keys), 'or')}, and has"
+        f" {listed(map(shown, value))}{hint}"
+    )
 
 
 def atom_shown(name, inner=None):
@@ -175,7 +210,9 @@ def when_shown(value, version=LAST):
     """A condition as it may be written, with what is right in the value that stands in its place."""
     if version >= LITERALS_SINCE and is_only(value, *SEVERAL):
         name, inner = next(iter(value.items()))
-        items = [literal_shown(it, version) for it in inner[:MOST_LITERALS]] if isinstance(inner, list) else []
+        items = (
+            [literal_shown(it, version) for it in inner[:MOST_LITERALS]] if isinstance(inner, list) else []
+        )
         return f"{{{shown(name)}:[{','.join(items) or SAMPLES[id(WHEN)]}]}}"
     return literal_shown(value, version)
 
@@ -227,28 +264,40 @@ def word_faults(value, has_clients, version):
     other = habits.instead(word, version, has_clients)
     if word in FORMS:
         since = SINCE[word]
-        came = f'{shown(word)} came with version {since}, and the script is of version {version}; its first line is to be {{"version":{since}}}'
+        came = (
+            f"{shown(word)} came with version {since}, and the script is of version {version}; its first"
+            f' line is to be {{"version":{since}}}'
+        )
         return [came, *(other if not FORMS[word].keys() & value.keys() else [])]
     if other:
         return [f"{shown(word)} is no command or query; {other[0]}", *other[1:]]
     near = nearest(word, known)
     hint = f"; the nearest is {shown(near)}" if near else f"; the words are {listed(known)}"
-    return [f"{shown(word)} is no command or query{hint}"]
+    has_values = near and FORMS[near].keys() & value.keys()
+    right = [f"right is {line_shown(near, value, has_clients, version)}"] if has_values else []
+    return [f"{shown(word)} is no command or query{hint}", *right]
 
 
 def likeliest(value, known):
-    """The known word whose form has most keys in common with the object's, and fewest others; None if it has none."""
-    common = lambda word: (len(FORMS[word].keys() & value.keys()), -len(FORMS[word].keys() ^ value.keys()))
+    """The known word whose form has most keys in common with the object's, and fewest others; None if it has
+    none."""
+
+    def common(word):
+        return (len(FORMS[word].keys() & value.keys()), -len(FORMS[word].keys() ^ value.keys()))
+
     best = max(known, key=common)
     return best if common(best)[0] else None
 
 
 def shape_faults(value, has_clients, version=LAST):
-    """What keeps a value from having the form of a line, each fault in words; if keys are wrong, the right form last."""
+    """What keeps a value from having the form of a line, each fault in words; if keys are wrong, the right
+    form last."""
     if not isinstance(value, dict):
         word = value if isinstance(value, str) else ""
         right = line_shown(word if word in words_of(version) else "back", None, has_clients, version)
-        said = f"{shown(value)} {values.kind_of(value)}; a line is an object that says what to do, as {right}"
+        said = (
+            f"{shown(value)} {values.kind_of(value)}; a line is an object that says what to do, as {right}"
+        )
         return [said, *habits.instead(word, version, has_clients)]
     wrong = word_faults(value, has_clients, version)
     if wrong:
@@ -281,7 +330,13 @@ def typed_faults(words, has_clients, version):
     faults = [f"the line is not JSON, and {wrong[0]}", *wrong[1:]]
     if word in FORMS or habits.instead(word, version, has_clients):
         return faults
-    return [*faults, f'a line is an object that says what to do, as {line_shown(nearest(word, known) or "back", None, has_clients, version)}']
+    return [
+        *faults,
+        (
+            "a line is an object that says what to do, as"
+            f" {line_shown(nearest(word, known) or 'back', None, has_clients, version)}"
+        ),
+    ]
 
 
 def typed_values(words, form):

@@ -1,4 +1,5 @@
-"""What is wrong with a graph that the program has refused, by the number of its answer: where in the line, and what is right."""
+"""What is wrong with a graph that the program has refused, by the number of its answer: where in the line,
+and what is right."""
 from rewind_tools.script import LAST
 from rewind_tools.telling import habits, values
 from rewind_tools.telling.forms import keys_faults, listed, nearest, value_faults
@@ -42,14 +43,23 @@ def graph_first(version):
 
 
 def form_faults(value, version):
-    """What keeps a value in the graph's place from having a graph's form; that the graph comes first, if it has nothing of one."""
+    """What keeps a value in the graph's place from having a graph's form; that the graph comes first, if it
+    has nothing of one."""
     if isinstance(value, dict) and (has_version(value) or GRAPH.keys() & value.keys()):
         return shape_faults(value)
     if isinstance(value, dict) and "do" not in value:
         return [graph_first(version), *shape_faults(value)]
     word = value["do"] if isinstance(value, dict) else value
-    said = "commands and queries come after it" if isinstance(value, dict) else f"{shown(value)} {values.kind_of(value)}"
-    return [graph_first(version), said, *(habits.instead(word, version, False) if isinstance(word, str) else [])]
+    said = (
+        "commands and queries come after it"
+        if isinstance(value, dict)
+        else f"{shown(value)} {values.kind_of(value)}"
+    )
+    return [
+        graph_first(version),
+        said,
+        *(habits.instead(word, version, False) if isinstance(word, str) else []),
+    ]
 
 
 def has_version(value):
@@ -57,9 +67,13 @@ def has_version(value):
 
 
 def shape_faults(graph):
-    """What keeps a value from having a graph's form: the faults of its keys, or those of its first wrong vertex or edge."""
+    """What keeps a value from having a graph's form: the faults of its keys, or those of its first wrong
+    vertex or edge."""
     if has_version(graph):
-        return [f'a version line is {{"version":N}} alone, N from 2 to {LAST}, as the first line, and the graph is the next']
+        return [
+            f'a version line is {{"version":N}} alone, N from 2 to {LAST}, as the first line, and the graph'
+            " is the next"
+        ]
     faults = keys_faults(graph, GRAPH) + value_faults(graph, GRAPH)
     if faults:
         return faults
@@ -75,7 +89,11 @@ def part_faults(value, is_vertex):
     if not isinstance(value, dict):
         return [f"it {values.kind_of(value)}, and is to be an object"]
     form = form_of_vertex(value) if is_vertex else EDGE
-    return keys_faults(value, form) + value_faults(value, form) + (op_hint(value.get("op")) if is_vertex else [])
+    return (
+        keys_faults(value, form)
+        + value_faults(value, form)
+        + (op_hint(value.get("op")) if is_vertex else [])
+    )
 
 
 def op_hint(op):
@@ -120,9 +138,15 @@ def unknown_names(graph):
         for key in ("from", "to"):
             if edge[key] not in vertices:
                 near = nearest(edge[key], vertices)
-                hint = f"; the nearest vertex is {shown(near)}" if near else f"; the vertices are {listed(map(shown, vertices))}"
+                hint = (
+                    f"; the nearest vertex is {shown(near)}"
+                    if near
+                    else f"; the vertices are {listed(map(shown, vertices))}"
+                )
                 what = "is an edge and no vertex" if edge[key] in edges else "is no vertex"
-                faults.append(f"the edge {shown(edge['name'])}: {shown(key)}:{shown(edge[key])} {what}{hint}")
+                faults.append(
+                    f"the edge {shown(edge['name'])}: {shown(key)}:{shown(edge[key])} {what}{hint}"
+                )
     return faults
 
 
@@ -142,7 +166,8 @@ def bad_ports(graph):
 
 
 def wrong_depths(graph):
-    """The vertices that cannot be at their depth, and the edges whose depth is not that of the vertex that they enter."""
+    """The vertices that cannot be at their depth, and the edges whose depth is not that of the vertex that
+    they enter."""
     vertices = {it["name"]: it for it in graph["vertices"]}
     faults = []
     for name, it in vertices.items():
@@ -154,7 +179,10 @@ def wrong_depths(graph):
         start, end = vertices[edge["from"]], vertices[edge["to"]]
         depth = start["depth"] + BEYOND.get(start["op"], 0)
         if depth != end["depth"]:
-            leaves = f"leaves the {start['op']} {shown(start['name'])} of depth {start['depth']} with depth {depth}"
+            leaves = (
+                f"leaves the {start['op']} {shown(start['name'])} of depth {start['depth']} with depth"
+                f" {depth}"
+            )
             enters = f"enters {shown(end['name'])}, which is at depth {end['depth']}"
             faults.append(f"the edge {shown(edge['name'])} {leaves} and {enters}")
     return faults
@@ -169,7 +197,9 @@ def too_large(graph, version):
         if it["depth"] > most:
             faults.append(f"{shown(it['name'])} is at depth {it['depth']}; at most {most} may be{later}")
         elif it["depth"] == most and it["op"] == "ingress":
-            faults.append(f"the ingress {shown(it['name'])} is at depth {most}, the greatest, and enters a loop{later}")
+            faults.append(
+                f"the ingress {shown(it['name'])} is at depth {most}, the greatest, and enters a loop{later}"
+            )
     return faults
 
 
@@ -177,13 +207,17 @@ FAULTS = {41: double_names, 42: unknown_names, 43: bad_ports, 44: wrong_depths}
 
 
 def graph_faults(value, reply, version=1):
-    """What is wrong with a graph that was refused by this reply in a script of a version, each fault in words."""
+    """What is wrong with a graph that was refused by this reply in a script of a version, each fault in
+    words."""
     if reply["code"] == 40:
         return form_faults(value, version)
     if reply["code"] == 45:
         return too_large(value, version)
     if reply["code"] == 48:
-        return ['a script of version 1 has at most 8 processors; with the first line {"version":2} there may be 16']
+        return [
+            'a script of version 1 has at most 8 processors; with the first line {"version":2} there may'
+            " be 16"
+        ]
     if "location" in reply:
         place = shown(reply["location"])
         walk = f"a walk from {place} comes back to {place} and does not move every time strictly on"

@@ -4,11 +4,22 @@ from rewind_tools.script import COMMANDS, FORMS, LAST, QUERIES, words_of
 
 def help_sentences(version, has_clients):
     """The words of a script's version, and where their forms are."""
-    commands, queries = (", ".join(it for it in words_of(version) if it in kind) for kind in (COMMANDS, QUERIES))
+    commands, queries = (
+        ", ".join(it for it in words_of(version) if it in kind) for kind in (COMMANDS, QUERIES)
+    )
     later = ", ".join(it for it in FORMS if it not in words_of(version))
     there = "several clients have no queries" if has_clients else f"the queries are {queries}"
-    adds = [f'version {LAST} adds {later}; its first line is {{"version":{LAST}}}'] if later and not has_clients else []
-    return [f"the commands of version {version} are {commands}", there, *adds, 'docs/SCRIPT.md shows the form of each, as {"do":"back"}']
+    adds = (
+        [f'version {LAST} adds {later}; its first line is {{"version":{LAST}}}']
+        if later and not has_clients
+        else []
+    )
+    return [
+        f"the commands of version {version} are {commands}",
+        there,
+        *adds,
+        'docs/SCRIPT.md shows the form of each, as {"do":"back"}',
+    ]
 
 
 def sentence(words):
@@ -17,18 +28,22 @@ def sentence(words):
 
 HABITS = {
     ("help", "h", "?"): help_sentences,
-    ("quit", "q", "exit"): sentence("the end of the input ends the run: leave this line out, or type Ctrl-D at a terminal"),
+    ("quit", "q", "exit"): sentence(
+        "the end of the input ends the run: leave this line out, or type Ctrl-D at a terminal"
+    ),
     ("continue", "cont", "c"): sentence(
         '{"do":"run","limit":1000} executes up to 1,000 steps, until none is enabled or a breakpoint holds'
     ),
     ("next", "n", "step", "s"): sentence(
-        '{"do":"run","limit":1} executes the next step, {"do":"redo"} a kept step again, and {"do":"back"} undoes one'
+        '{"do":"run","limit":1} executes the next step, {"do":"redo"} a kept step again, and {"do":"back"}'
+        " undoes one"
     ),
     ("undo", "u"): sentence('{"do":"back"} undoes the last step'),
 }
 
 
 def instead(word, version, has_clients):
-    """What to write in place of a word of other debuggers, a sentence each; none if the word is not known."""
+    """What to write in place of a word of other debuggers, a sentence each; none if the word is not
+    known."""
     said = next((it(version, has_clients) for words, it in HABITS.items() if word.lower() in words), [])
     return [it.replace('{"do"', '{"client":0,"do"') for it in said] if has_clients else said

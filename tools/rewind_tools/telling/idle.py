@@ -1,4 +1,5 @@
-"""What is left where a run stops because nothing is enabled, and why no step can move it, by the program's own refusals."""
+"""What is left where a run stops because nothing is enabled, and why no step can move it, by the program's
+own refusals."""
 import json
 
 from rewind_tools.runs import answers_after
@@ -11,7 +12,13 @@ def steps_left(state):
     """The steps that a state suggests, each with the words for what it would move."""
     for p, it in enumerate(state["processors"]):
         for edge, time, value, _ in it["records"]:
-            yield {"do": "take", "p": p, "edge": edge, "time": time, "value": value}, f"record {value} at {at(edge, time)}"
+            yield {
+                "do": "take",
+                "p": p,
+                "edge": edge,
+                "time": time,
+                "value": value,
+            }, f"record {value} at {at(edge, time)}"
         for vertex, time in it["requests"]:
             yield {"do": "notice", "p": p, "vertex": vertex, "time": time}, f"notice of {at(vertex, time)}"
         if it["unsent"]:
@@ -24,8 +31,8 @@ def steps_left(state):
 def left(script, number, words, state, teller):
     """What no step can move after the line of that number, a sentence each, and why.
 
-    The steps are given to a copy of the script that ends with them. A refused one changes nothing, so the next is asked in
-    the same state; should one be made after all, no later reply is read."""
+    The steps are given to a copy of the script that ends with them. A refused one changes nothing, so the
+    next is asked in the same state; should one be made after all, no later reply is read."""
     steps = list(steps_left(state))
     replies = answers_after(script, number, [json.dumps(step) for step, _ in steps], words) if steps else []
     said = []

@@ -1,4 +1,5 @@
-"""The names and times of a line, against the graph: which of them is not there, and which has a wrong depth."""
+"""The names and times of a line, against the graph: which of them is not there, and which has a wrong
+depth."""
 import json
 
 from rewind_tools.runs import answers_after
@@ -40,10 +41,15 @@ class Graph:
 
 
 def slots_of(value):
-    """The names of a line of right shape: each with the kind that is wanted, and the time there if it has one."""
+    """The names of a line of right shape: each with the kind that is wanted, and the time there if it has
+    one."""
     form = forms.FORMS[value["do"]]
     if "when" in form:
-        return [slot for _, name, inner in literals_in(value["when"]) for slot in slots_in(inner, forms.ATOMS[name])]
+        return [
+            slot
+            for _, name, inner in literals_in(value["when"])
+            for slot in slots_in(inner, forms.ATOMS[name])
+        ]
     return slots_in(value, form)
 
 
@@ -98,8 +104,12 @@ def wrong_times(graph, value):
 
 
 def depth_at(graph, name):
-    """The depth of a place, asked of the program: of counts at times of each length one alone has no wrong time."""
-    asked = [json.dumps({"do": "count", "at": name, "time": [0] * (depth + 1)}) for depth in range(deepest(graph.version) + 1)]
+    """The depth of a place, asked of the program: of counts at times of each length one alone has no wrong
+    time."""
+    asked = [
+        json.dumps({"do": "count", "at": name, "time": [0] * (depth + 1)})
+        for depth in range(deepest(graph.version) + 1)
+    ]
     opening = [{"version": graph.version}] * (graph.version > 1) + [graph.value]
     replies = answers_after("\n".join(map(json.dumps, opening)).encode(), len(opening), asked)
     return next((depth for depth, it in enumerate(replies) if "count" in it), None)
@@ -114,4 +124,8 @@ def loops(depth):
 
 
 def parts(depth):
-    return "the epoch" + ["", " and a loop counter"][depth] if depth < 2 else f"the epoch and {depth} loop counters"
+    return (
+        "the epoch" + ["", " and a loop counter"][depth]
+        if depth < 2
+        else f"the epoch and {depth} loop counters"
+    )

@@ -1,16 +1,22 @@
-"""Why a processor does not consider a point finished, in words: what it still counts, what is held there, what it has not heard."""
+"""Why a processor does not consider a point finished, in words: what it still counts, what is held there,
+what it has not heard."""
 from rewind_tools.telling.commands import at, counted, some_of
 from rewind_tools.telling.forms import listed
 
 
 def owners(kind, holders):
     """The tokens or the requests of some processors."""
-    return f"the {kind}{'s' * (len(holders) > 1)} of processor{'s' * (len(holders) > 1)} {listed(map(str, holders))}"
+    return (
+        f"the {kind}{'s' * (len(holders) > 1)} of"
+        f" processor{'s' * (len(holders) > 1)} {listed(map(str, holders))}"
+    )
 
 
 def held_words(held):
     """All that is held at a point: its records by processor, then the requests and the tokens."""
-    records = [f"{counted(it['n'], 'record')} {it['value']} of processor {it['p']}" for it in held if "edge" in it]
+    records = [
+        f"{counted(it['n'], 'record')} {it['value']} of processor {it['p']}" for it in held if "edge" in it
+    ]
     for kind in ("request", "token"):
         holders = [it["p"] for it in held if kind in it]
         records += [owners(kind, holders)] if holders else []
@@ -25,7 +31,8 @@ def unheard_word(it):
 
 
 def reason_words(reason):
-    """One reason: what is still counted at its point, what is held there, and where the news is that was not heard."""
+    """One reason: what is still counted at its point, what is held there, and where the news is that was not
+    heard."""
     unheard = some_of(map(unheard_word, reason["unheard"]))
     news = f"; not heard: {unheard}" if reason["unheard"] else ""
     return f"it still counts {reason['view']} at {at(*reason['point'])}; {held_words(reason['held'])}{news}"

@@ -1,4 +1,5 @@
-"""A state as a table of points by processors: the true count, and each processor's view and unsent change."""
+"""A state as a table of points by processors: the true count, and each processor's view and unsent
+change."""
 from rewind_tools.telling.commands import time_in
 
 WIDTH = 100
@@ -7,7 +8,8 @@ NOTHING = "."
 
 
 class Points:
-    """The points of a state that stand anywhere, each with its true count and what each processor views and has unsent."""
+    """The points of a state that stand anywhere, each with its true count and what each processor views and
+    has unsent."""
 
     def __init__(self, state, order):
         self.processors = range(len(state["processors"]))
@@ -38,12 +40,17 @@ class Points:
 
     def numbers(self, point):
         """What stands at a point, by the columns of the table."""
-        views = {(kind, p): self.cells.get((*point, kind, p), 0) for kind in ("view", "unsent") for p in self.processors}
+        views = {
+            (kind, p): self.cells.get((*point, kind, p), 0)
+            for kind in ("view", "unsent")
+            for p in self.processors
+        }
         return {("truth", None): self.truth.get(point, 0), **views}
 
 
 def rows_of(now, before):
-    """The rows: a point, its numbers, and which of them changed. One that fell to nothing stands there once more."""
+    """The rows: a point, its numbers, and which of them changed. One that fell to nothing stands there once
+    more."""
     points = sorted({*now.all(), *(before.all() if before else [])}, key=now.place)
     rows = []
     for point in points:
@@ -53,8 +60,9 @@ def rows_of(now, before):
 
 
 def table(state, before, order, is_whole=False):
-    """The lines of a state's table: what differs from the state before has a '*', and a long table is cut to such rows.
-    'order' has a number for each place, 'before' is None at the start, and 'is_whole' keeps all rows."""
+    """The lines of a state's table: what differs from the state before has a '*', and a long table is cut to
+    such rows. 'order' has a number for each place, 'before' is None at the start, and 'is_whole' keeps all
+    rows."""
     rows = rows_of(Points(state, order), Points(before, order) if before else None)
     changed = [row for row in rows if row[2]]
     is_cut = before is not None and len(rows) > LONG and not is_whole
@@ -78,7 +86,10 @@ def columns(rows, processors):
     for kind in ("view", "unsent"):
         groups.append([(str(p), (kind, p)) for p in processors])
         groups[-1][0] = (f"{kind} {processors[0]}", groups[-1][0][1])
-    return [[(head, [cell(row[1][key], key in row[2]) for row in rows]) for head, key in group] for group in groups]
+    return [
+        [(head, [cell(row[1][key], key in row[2]) for row in rows]) for head, key in group]
+        for group in groups
+    ]
 
 
 def block(rows, processors):
@@ -97,7 +108,9 @@ def blocks(rows, count):
     """The processors in as few blocks as the width allows, in their order."""
     left = list(range(count))
     while left:
-        fitting = next((n for n in range(len(left), 1, -1) if width_of(block(rows, left[:n])) <= WIDTH - 4), 1)
+        fitting = next(
+            (n for n in range(len(left), 1, -1) if width_of(block(rows, left[:n])) <= WIDTH - 4), 1
+        )
         yield left[:fitting]
         left = left[fitting:]
 
@@ -107,13 +120,20 @@ def width_of(lines):
 
 
 def queues_and_sinks(state, before, is_whole=False):
-    """What is on its way, and what the sinks have counted if that differs from before, a sentence each if there is any."""
+    """What is on its way, and what the sinks have counted if that differs from before, a sentence each if
+    there is any."""
     queues = [
-        f"{len(changes)} from {p} to {q}" for p, row in enumerate(state["queues"]) for q, changes in enumerate(row) if changes
+        f"{len(changes)} from {p} to {q}"
+        for p, row in enumerate(state["queues"])
+        for q, changes in enumerate(row)
+        if changes
     ]
     now, old = sink_counts(state), sink_counts(before) if before and not is_whole else {}
     changed = {key: now.get(key, 0) for key in [*now, *old] if now.get(key) != old.get(key)}
-    sinks = [f"{vertex} {value}" + (f" ({number} times)" if number != 1 else "") for (vertex, value), number in changed.items()]
+    sinks = [
+        f"{vertex} {value}" + (f" ({number} times)" if number != 1 else "")
+        for (vertex, value), number in changed.items()
+    ]
     on_way = [f"changes on their way: {', '.join(queues)}"] if queues else []
     return on_way + ([f"sinks have counted: {', '.join(sinks)}"] if sinks else [])
 

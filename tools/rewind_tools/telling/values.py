@@ -10,8 +10,12 @@ class Written(str):
 
 
 def value_of(text):
-    """The JSON value of a line's bytes, with numbers that are not written as whole ones kept as they are written."""
-    whole = lambda it: Written(it) if it == "-0" else int(it)
+    """The JSON value of a line's bytes, with numbers that are not written as whole ones kept as they are
+    written."""
+
+    def whole(it):
+        return Written(it) if it == "-0" else int(it)
+
     return json.loads(text.decode(), parse_float=Written, parse_int=whole)
 
 
@@ -100,4 +104,7 @@ def point(value):
 def one_of(*words):
     """The kind of some texts alone."""
     listed = ", ".join(f'"{it}"' for it in words[:-1]) + f' or "{words[-1]}"'
-    return listed, lambda value: None if not text(value) and value in words else text(value) or "is none of these"
+    return (
+        listed,
+        lambda value: None if not text(value) and value in words else text(value) or "is none of these",
+    )

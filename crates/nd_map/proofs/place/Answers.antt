@@ -10,7 +10,7 @@ use Rattle.nd_map.proofs.Places.{answers_rise, at_from, gap_from}
 use Rattle.nd_map.proofs.place.Goals as goal
 
 module _ {K X : Type 0} (R : K → K → Ordering) (o : IsTotalOrder R) (p : K) where
-  -- what a binary search finds in the entries that hold d
+  -- the result of a binary search in entries that contain d
   from : (es : List (K × X)) (d : K × X) → IsListed R es → (r : Result ℕ ℕ) → IsSearchInRange r (length es) → IsBinarySearchResult (λ e. R e.0 p) es r
       → record { found : IfOk r (IsAt R p es); absent : IfErr r (IsGap R p es) }
   from es d sorted (Ok i) in_range equal = record { found = at_from R o p es i d sorted in_range (equal d); absent = tt }

@@ -2,6 +2,7 @@
 
 use crate::opened::only;
 use nd_breaks::{Atom, Breaks, Condition, NoBreak, TooManyBreaks};
+use std::alloc::Allocator;
 
 /// A breakpoint that holds of each cluster.
 fn always() -> Condition {

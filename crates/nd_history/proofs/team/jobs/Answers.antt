@@ -17,7 +17,7 @@ loop-number-init g c =
       counted = search rules;
       room = search rules;
       numbered = none_numbered c.in_ok-jobs.jobs.items c.in_ok-jobs.ensures.items;
-      ready = all_none (IsReady c.args.team.now.scan.now.timeline.now c.args.team.now.word.now.table_id c.args.team.now.pieces) c.in_ok-jobs.jobs.items c.in_ok-jobs.ensures.items;
+      ready = all_none (IsReady c.args.team.now) c.in_ok-jobs.jobs.items c.in_ok-jobs.ensures.items;
     }
 
 pub loop-number-preserved : goal.loop-number-preserved
@@ -25,7 +25,7 @@ loop-number-preserved g c =
     let p : ℕ = c.args.team.now.pieces + 1 in
     let at = c.loop-number.invariant in
     let job : Job g.row.A.Denot = record { number = c.loop-number.number; walk = c.in_ok-walk.walk; ticket = c.share.result; searched = c.in_ok-searched.searched } in
-    let ready : IsReady c.args.team.now.scan.now.timeline.now c.args.team.now.word.now.table_id c.args.team.now.pieces job = record {
+    let ready : IsReady c.args.team.now job = record {
       on = c.in_ok-walk.ensures.on;
       table_is = c.share.ensures.given_seat ∙ at.table;
       me_is = share_given p c.args.workers c.loop-number.number c.loop-number.ticket.me at.me c.share.result.me c.share.ensures.given;
@@ -37,7 +37,7 @@ loop-number-preserved g c =
       counted = search rules;
       room = search rules;
       numbered = numbered_more c.loop-number.jobs.items c.push_reserved.new.self.items job c.push_reserved.ensures.items (search rules) at.numbered;
-      ready = all_more (IsReady c.args.team.now.scan.now.timeline.now c.args.team.now.word.now.table_id c.args.team.now.pieces) c.loop-number.jobs.items c.push_reserved.new.self.items job c.push_reserved.ensures.items at.ready ready;
+      ready = all_more (IsReady c.args.team.now) c.loop-number.jobs.items c.push_reserved.new.self.items job c.push_reserved.ensures.items at.ready ready;
     }
 
 pub returns-clause-hand : goal.returns-clause-hand

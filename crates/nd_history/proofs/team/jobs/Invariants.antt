@@ -10,5 +10,5 @@ invariant-loop-number g l = record {
   counted : vec_len l.jobs ≡ l.number;
   room : l.workers ≤ vec_capacity l.jobs;
   numbered : AreNumbered l.jobs.items;
-  ready : All (IsReady l.team.scan.now.timeline.now l.team.word.now.table_id l.team.pieces) l.jobs.items;
+  ready : All (IsReady l.team) l.jobs.items;
 }

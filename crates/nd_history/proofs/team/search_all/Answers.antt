@@ -1,5 +1,4 @@
 use Rattle.std.proofs.Common.{rules, ◌≡◌, ◌∙◌, ◌+◌, ◌*◌, ℕ, List, All, vec_len, cond, nat_lt, min, map, length, sym, ap, subst, arith}
-use Rattle.nd_history.specs.declared.work.Job.{Job}
 use Rattle.nd_history.specs.declared.work.Work.{Work}
 use Rattle.nd_history.specs.declared.work.Searched.{Searched}
 use Rattle.nd_history.specs.Least.{HoldsAt}
@@ -15,15 +14,14 @@ use Rattle.nd_history.proofs.team.search_all.Goals as goal
 pub map_vec-requires-after_bounds : goal.map_vec-requires-after_bounds
 map_vec-requires-after_bounds g c κs within =
     λ i x lt is.
-    let ready : IsReady c.args.scan.now.timeline.now c.in_ok-board.board.shared.table_id c.pieces-pieces.result x = subst (λ (j : Job g.row.A.Denot). IsReady c.args.scan.now.timeline.now c.in_ok-board.board.shared.table_id c.pieces-pieces.result j) (sym is) (c.in_ok-jobs.ensures.all i x lt) in
-    ((record { range = c.requires.range; count = c.pieces-pieces.ensures; word = omega (arith, c.in_ok-board.ensures.word.words) }, ready), (c.type_bounds.send-A, record { shared = c.type_bounds.sync-A.shared }, record { shared = c.type_bounds.sync-G.shared }, c.type_bounds.frees-A-Allocator))
+    ((record { range = c.requires.range; count = c.pieces-pieces.ensures; word = omega (arith, c.in_ok-board.ensures.word.words) }, subst (IsReady _) (sym is) (c.in_ok-jobs.ensures.all i x lt)), (c.type_bounds.send-A, record { shared = c.type_bounds.sync-A.shared }, record { shared = c.type_bounds.sync-G.shared }, c.type_bounds.frees-A-Allocator))
 
 pub gathered-requires-clause-all : goal.gathered-requires-clause-all
 gathered-requires-clause-all g c κs within =
     let table = c.in_ok-board.board.shared.table_id in
     let p : ℕ = c.pieces-pieces.result in
     let works : List (Work g.row.A.Denot) = c.in_ok-works.works.items in
-    let each = each_work _ _ (HoldsAt c.args.scan.now.timeline.now c.args.scan.now.condition.now) (g.G.Gate.called c.args.scan.now.gate.now) c.args.scan.now.positions.lo c.args.scan.now.positions.hi table p c.in_ok-jobs.jobs.items works (search rules) c.in_ok-works.ensures.each (λ job w met. met) c.in_ok-jobs.ensures.numbered in
+    let each = each_work _ _ _ (g.G.Gate.called c.args.scan.now.gate.now) c.in_ok-jobs.jobs.items works (search rules) c.in_ok-works.ensures.each (λ job w met. met) c.in_ok-jobs.ensures.numbered in
     let all : All (HasDrawn table p) works = all_of (HasDrawn table p) works (λ who w at. (each who w at).drawn) in
     λ k d lt. all k d lt
 
@@ -46,7 +44,7 @@ returns g c =
     let works : List (Work A) = c.in_ok-works.works.items in
     let list : List (Searched A) = c.in_ok-list.list.items in
     let all = c.in_ok-list.ensures.gathered in
-    let each = each_work _ _ Hit Called lo hi c.in_ok-board.board.shared.table_id p c.in_ok-jobs.jobs.items works (search rules) c.in_ok-works.ensures.each (λ job w met. met) c.in_ok-jobs.ensures.numbered in
+    let each = each_work _ _ _ Called c.in_ok-jobs.jobs.items works (search rules) c.in_ok-works.ensures.each (λ job w met. met) c.in_ok-jobs.ensures.numbered in
     let same : length works ≡ vec_len c.in_ok-works.works = search rules in
     let team : length works ≡ min c.args.workers 64 = same ∙ (c.in_ok-works.ensures.len ∙ (c.in_ok-jobs.ensures.len ∙ c.min-workers.ensures)) in
     let once : AreTheNumbersBelow (min n p) (map (λ s. s.claimed.items) list) = λ x. all.claimed x ∙ (ap (λ (k : ℕ). cond (nat_lt x p) k 0) (c.end_board.ensures.each x) ∙ below_min x n p) in

@@ -6,14 +6,14 @@ use Rattle.nd_map.specs.Listed.{IsListed}
 use Rattle.nd_map.proofs.Places.{find_gap, put_over, put_gap}
 use Rattle.nd_map.proofs.SortedMap.put.Goals as goal
 
--- entries that a write left are in order
+-- the entries after a put are sorted
 kept : {K X : Type 0} (R : K → K → Ordering) → IsTotalOrder R → (k : K) (v : X) (es fs : List (K × X)) → fs ≡ put R k v es → IsListed R es → IsListed R fs
 kept R o k v es fs is h = subst (IsListed R) (sym is) (is_sorted-put R o k v es h)
 
 pub returns-in_default-clause-absent : goal.returns-in_default-clause-absent
 returns-in_default-clause-absent g c = find_gap g.K.Ord.cmp g.met.K.Ord.total c.args.key.now c.args.self.now _ (rw c.self.view_is at c.self.invariant) (rw (c.deref.ensures.value, c.self.view_is) at c.in-Err.ensures.absent)
 
--- ---- a key that is there
+-- ---- a key that has a value
 pub invariant_of-self : goal.invariant_of-self
 invariant_of-self g c =
     kept g.K.Ord.cmp g.met.K.Ord.total c.args.key.now c.args.value c.self.inside.entries.items _
@@ -28,7 +28,7 @@ returns-in-Ok-clause-ok g c =
     put_over g.K.Ord.cmp g.met.K.Ord.total c.args.key.now c.args.value c.self.inside.entries.items c.in-Ok.i c.index_mut.result.now c.index_mut.ensures.value (rw c.deref.ensures.value at c.in-Ok.ensures.found)
     ∙ ap (put g.K.Ord.cmp c.args.key.now c.args.value) c.self.view_is
 
--- ---- a key that comes
+-- ---- a new key
 
 pub invariant_of-self-in-Err : goal.invariant_of-self-in-Err
 invariant_of-self-in-Err g c =

@@ -7,18 +7,18 @@ use Rattle.nd_map.specs.Place.{IsAt, IsGap}
 use Rattle.nd_map.proofs.Places.{find_at, find_gap, put_over, put_gap, without_at, listed_without}
 use Rattle.nd_map.proofs.SortedMap.put_or_edit.Goals as goal
 
--- what is found at the key of an entry, and at a key that has none
+-- what is found at the key of an entry, and at a key without an entry
 there : {K X : Type 0} (R : K → K → Ordering) → IsTotalOrder R → (k : K) (es fs : List (K × X)) (i : ℕ) (d : K × X) → es ≡ fs → d ≡ get_or es i d → IsAt R k es i → find R k fs ≡ Some d.1
 there R o k es fs i d same is at = sym (ap (λ e. Some e.1) is ∙ sym (find_at R o k es i d at) ∙ ap (find R k) same)
 
 absent : {K X : Type 0} (R : K → K → Ordering) → IsTotalOrder R → (k : K) (es fs : List (K × X)) (i : ℕ) → es ≡ fs → IsListed R es → IsGap R k es i → find R k fs ≡ None
 absent R o k es fs i same h gap = ap (find R k) (sym same) ∙ find_gap R o k es i h gap
 
--- entries that a write left are in order
+-- the entries after a put are sorted
 kept : {K X : Type 0} (R : K → K → Ordering) → IsTotalOrder R → (k : K) (v : X) (es fs : List (K × X)) → fs ≡ put R k v es → IsListed R es → IsListed R fs
 kept R o k v es fs is h = subst (IsListed R) (sym is) (listed-put R o k v es h)
 
--- ---- a key that is there
+-- ---- a key that has a value
 pub edit-requires : goal.edit-requires
 edit-requires g c = c.requires c.index.result.now.1 (there g.K.Ord.cmp g.met.K.Ord.total c.args.key.now c.self.inside.entries.items _ c.in-Ok.index c.index.result.now c.self.view_is c.index.ensures (rw c.deref.ensures.value at c.in-Ok.ensures.found))
 
@@ -58,7 +58,7 @@ returns-in-Remove-clause-done g c =
     c.remove.ensures.items ∙ without_at g.K.Ord.cmp g.met.K.Ord.total c.args.key.now c.self.inside.entries.items c.in-Ok.index c.self.invariant (rw c.deref.ensures.value at c.in-Ok.ensures.found)
     ∙ ap (without g.K.Ord.cmp c.args.key.now) c.self.view_is
 
--- ---- a key that comes
+-- ---- a new key
 pub returns-in_default-clause-absent : goal.returns-in_default-clause-absent
 returns-in_default-clause-absent g c = absent g.K.Ord.cmp g.met.K.Ord.total c.args.key.now c.self.inside.entries.items c.args.self.now c.in-Err.i c.self.view_is c.self.invariant (rw c.deref.ensures.value at c.in-Err.ensures.absent)
 

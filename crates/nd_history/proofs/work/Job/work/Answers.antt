@@ -66,7 +66,7 @@ returns g c =
     let claimed = c.loop.searched.claimed.items in
     let count : length claimed ≡ k = search rules in
     let drawn : c.loop.ticket.me.0.drawn ≡ claimed = ap (λ m. m.0.drawn) at.me in
-    let P : Ticket → Searched g.row.A.Denot → Type 0 = λ t s. IsWork Hit Called lo hi table p (record { ticket = t; searched = s }) in
+    let P : Ticket → Searched g.row.A.Denot → Type 0 = λ t s. IsWork c.args.team.now Called (record { ticket = t; searched = s }) in
     elim c.loop-test.branch [
       | else-loop-test w ↦ subst (λ t. P t c.loop-test.searched) (sym w.ticket-is) (subst (λ s. P c.loop.ticket s) (sym w.searched-is)
           (record {

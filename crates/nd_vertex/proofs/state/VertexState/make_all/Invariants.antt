@@ -4,11 +4,11 @@ use Rattle.nd_vertex.specs.Edits.{edited, directed}
 use Rattle.nd_vertex.proofs.EditsLemmas.{adds, others}
 use Rattle.nd_vertex.proofs.state.VertexState.make_all.Given as goal
 
--- the edits so far that add an item are made
+-- of the edits so far, those that add an item are applied
 abbrev pub invariant-loop-i : goal.invariant-loop-i
 invariant-loop-i g l = l.self ≡ edited l.fn.self (filter adds (take l.i (directed l.back l.edits)))
 
--- the same, back to the first
+-- the same while they are undone, down to the first
 abbrev pub invariant-loop-j : goal.invariant-loop-j
 invariant-loop-j g l = record {
   made_so_far : l.self ≡ edited l.fn.self (filter adds (take l.j (directed l.back l.edits)));
@@ -16,6 +16,6 @@ invariant-loop-j g l = record {
   in_range : l.i ≤ length l.edits;
 }
 
--- all that add an item are made, and the others so far
+-- all edits that add an item are applied, and of the others those so far
 abbrev pub invariant-loop-k : goal.invariant-loop-k
 invariant-loop-k g l = l.self ≡ edited (edited l.fn.self (filter adds (directed l.back l.edits))) (filter others (take l.k (directed l.back l.edits)))

@@ -21,7 +21,7 @@ returns-in-None-clause-ok g c =
     laws.of_without integers item_total item_exact c.self.inside.map c.args.self.now c.self.view_is key _ (rw (c.copy.ensures, to_z-of_z w64 c.args.item c.ranges.item) at c.remove.ensures.value)
     ∙ ap (λ n. set item_total c.args.self.now key (number_of n)) (sym is_none)
 
--- what holds at all holds where a call fails
+-- a fact holds if a call fails, too
 on_err : {X E P : Type 0} (r : Result X E) → P → OnErr r P
 on_err (Ok _) p = tt
 on_err (Err _) p = p
@@ -32,11 +32,11 @@ returns-in_err-put-in-Some-clause-absent g c =
     let absent : find item_cmp key c.self.inside.map ≡ None = rw (c.copy.ensures, to_z-of_z w64 c.args.item c.ranges.item) at c.in_err-put-in-Some.ensures.absent in
     on_err c.from_residual.result (sym c.requires.there ∙ sym (found c.self.inside.map c.self.invariant c.args.self.now c.self.view_is key) ∙ absent)
 
--- the number that is put
+-- the number to put
 number : (g : Over) (c : goal.In_ok-put-in-Some g) → IsNumber (item_key c.args.time.now c.args.item) c.in-Some.number
 number g c = record { some = λ e. c.requires.some (c.in-Some.is ∙ ap Some e); fits = search rules; item = c.ranges.item }
 
--- the entries that are put
+-- the entries after the put
 entries : (g : Over) (c : goal.In_ok-put-in-Some g) → c.put.new.self ≡ put item_cmp (item_key c.args.time.now c.args.item) c.in-Some.number c.self.inside.map
 entries g c = rw (c.copy.ensures, to_z-of_z w64 c.args.item c.ranges.item, to_z-of_z w64 c.in-Some.number (number g c).fits) at c.in_ok-put-in-Some.ensures.ok
 
