@@ -3,7 +3,7 @@ use Rattle.std.specs.Prelude.{◌≡◌, ℕ, ℤ, pos, Bool, true, false, List,
 use Rattle.std.specs.Coded.{Coded, code_by, coded×, coded_ℕ, coded_ℤ, coded_bool, coded_list}
 use Rattle.nd_graph.specs.Graph.{Dataflow}
 use Rattle.nd_graph.specs.declared.op.Op.{Op}
-use Rattle.nd_graph.specs.declared.op.Op.TheVariants.{Input, Ingress, Egress, Feedback, Add, Mul, Below, Split, Sum, Distinct, Sink}
+use Rattle.nd_graph.specs.declared.op.Op.TheVariants.{Input, Ingress, Egress, Feedback, Add, Mul, Below, Split, Sum, Distinct, Hold, Sink}
 use Rattle.nd_graph.specs.declared.op.Route.{Route}
 use Rattle.nd_graph.specs.declared.op.Route.TheVariants.{Local, Exchange}
 use Rattle.nd_graph.specs.declared.graph.Vertex.{Vertex}
@@ -21,12 +21,13 @@ op_parts (Below k) = (6, k)
 op_parts (Split k) = (7, k)
 op_parts Sum = (8, pos 0)
 op_parts Distinct = (9, pos 0)
-op_parts Sink = (10, pos 0)
+op_parts Hold = (10, pos 0)
+op_parts Sink = (11, pos 0)
 
 abbrev pub op_of : ℕ × ℤ → Op
 op_of p =
     slice_index_or
-    (Input ∷ Ingress ∷ Egress ∷ Feedback ∷ Add p.1 ∷ Mul p.1 ∷ Below p.1 ∷ Split p.1 ∷ Sum ∷ Distinct ∷ [])
+    (Input ∷ Ingress ∷ Egress ∷ Feedback ∷ Add p.1 ∷ Mul p.1 ∷ Below p.1 ∷ Split p.1 ∷ Sum ∷ Distinct ∷ Hold ∷ [])
     p.0 Sink
 
 pub op_back : (o : Op) → op_of (op_parts o) ≡ o

@@ -1,6 +1,7 @@
 -- The JSON form of a graph (this project's own rule).
-use Rattle.std.specs.Prelude.{ℕ, ℤ, List, [], ◌∷◌, if◌then◌else◌, Option, Some, None, option_map, option_and_then, codes}
+use Rattle.std.specs.Prelude.{ℕ, ℤ, Bool, true, false, List, [], ◌∷◌, if◌then◌else◌, Option, Some, None, option_map, option_and_then, codes}
 use Rattle.std.specs.Str.{bytes_eq}
+use Rattle.std.specs.List.{list_any}
 use Rattle.serde_json.specs.Data.{Data}
 use Rattle.nd_json.specs.Forms.{has_keys, text_at, small_at, integer_at, list_at}
 use Rattle.nd_graph.specs.Name.{is_name}
@@ -34,7 +35,8 @@ plain_op text =
     (if bytes_eq text (codes "feedback") then Some op.Feedback else
     (if bytes_eq text (codes "sum") then Some op.Sum else
     (if bytes_eq text (codes "distinct") then Some op.Distinct else
-    (if bytes_eq text (codes "sink") then Some op.Sink else None))))))
+    (if bytes_eq text (codes "hold") then Some op.Hold else
+    (if bytes_eq text (codes "sink") then Some op.Sink else None)))))))
 
 -- the operators with a constant
 unfoldable pub numbered_op : List ℕ → ℤ → Option Op
@@ -95,3 +97,20 @@ draft_of d =
     then option_and_then (λ vertices. option_map
     (λ edges. record { vertices = vertices; edges = edges }) (edges_in d)) (vertices_in d)
     else None
+
+-- ---- versions before 5
+
+abbrev pub holds : Op → Bool
+holds op.Hold = true
+holds _ = false
+
+abbrev pub is_hold : Vertex → Bool
+is_hold v = holds v.op
+
+-- a graph without hold vertices
+abbrev pub without_hold : Draft → Option Draft
+without_hold draft = if list_any is_hold draft.vertices then None else Some draft
+
+-- the graph that a JSON value describes in a script of a version before 5
+unfoldable pub draft_of_v4 : Data → Option Draft
+draft_of_v4 d = option_and_then without_hold (draft_of d)

@@ -12,7 +12,7 @@ pub record Facts : Type 0 where
   pub ports : ℕ
   -- whether they receive values from outside
   pub fed : Bool
-  -- whether they may request notifications
+  -- whether they may make requests: for notifications, or to keep capabilities
   pub asks : Bool
   -- whether they count the values that reach them
   pub counts : Bool
@@ -21,8 +21,8 @@ pub record Facts : Type 0 where
 abbrev pub plain : Action → Facts
 plain a = record { action = a; ports = 1; fed = false; asks = false; counts = false }
 
--- of each operator: its action, its number of ports, and whether it receives values from outside, requests notifications
--- and counts values
+-- of each operator: its action, its number of ports, and whether it receives values from outside, makes requests and
+-- counts values
 abbrev pub facts : Op → Facts
 facts op.Input = record { action = Identity; ports = 1; fed = true; asks = false; counts = false }
 facts op.Ingress = plain Ingress
@@ -34,6 +34,7 @@ facts (op.Below k) = plain Identity
 facts (op.Split k) = record { action = Identity; ports = 2; fed = false; asks = false; counts = false }
 facts op.Sum = record { action = Identity; ports = 1; fed = false; asks = true; counts = false }
 facts op.Distinct = record { action = Identity; ports = 1; fed = false; asks = true; counts = false }
+facts op.Hold = record { action = Identity; ports = 1; fed = false; asks = true; counts = false }
 facts op.Sink = record { action = Identity; ports = 0; fed = false; asks = false; counts = true }
 
 -- an egress or a feedback is inside a loop

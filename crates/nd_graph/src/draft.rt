@@ -1,5 +1,6 @@
 //! A graph as it is written, before its names are resolved.
 ghost use Rattle.std.specs.Prelude.{◌≡◌, ◌≤◌, ◌⊎◌, IfOk, IfErr, Some, None, ok_or};
+ghost use Rattle.std.specs.List.{list_any};
 ghost use Rattle.serde_json.specs.View.{view};
 ghost use Rattle.nd_graph.specs.Draft as form;
 ghost use Rattle.nd_time.specs.Limits.{max_depth};
@@ -63,6 +64,22 @@ impl<A: Allocator> GraphDraft<A> {
         let vertices = vertices_of(alloc, value)?;
         let edges = edges_of(alloc, value)?;
         Ok(GraphDraft { vertices, edges })
+    }
+
+    /// Does the same for a graph of the versions before 5, in which no vertex is a hold.
+    pub fn from_value_v4(alloc: A, value: &Value) -> Result<GraphDraft<A>, GraphFault>
+    where
+        A: Copy,
+        ensures { IsUnlessMemory (ok_or (form.draft_of_v4 (view value.now)) Shape) result }
+    {
+        let draft = match GraphDraft::from_value(alloc, value) {
+            Ok(draft) => draft,
+            Err(fault) => return Err(fault),
+        };
+        if some_holds(&draft.vertices) {
+            return Err(GraphFault::Shape);
+        }
+        Ok(draft)
     }
 
     /// Checks the graph, and replaces the names of its edges' ends by locations. Of several errors it returns the one of least
@@ -163,6 +180,18 @@ fn edge_of(value: &Value) -> Option<DraftEdge>
     })
 }
 
+fn is_hold(vertex: &Vertex) -> bool
+    ensures { result ≡ form.is_hold vertex.now }
+{
+    matches!(vertex.op, Op::Hold)
+}
+
+fn some_holds(vertices: &[Vertex]) -> bool
+    ensures { result ≡ list_any form.is_hold vertices.now }
+{
+    vertices.iter().any(|vertex| is_hold(vertex))
+}
+
 fn name_of(text: &str) -> Option<Name>
     ensures { result ≡ form.name_of text.now }
 {
@@ -200,6 +229,7 @@ fn plain_op(text: &str) -> Option<Op>
         "feedback" => Some(Op::Feedback),
         "sum" => Some(Op::Sum),
         "distinct" => Some(Op::Distinct),
+        "hold" => Some(Op::Hold),
         "sink" => Some(Op::Sink),
         _ => None,
     }

@@ -27,6 +27,8 @@ pub enum Op {
     Sum,
     /// Emits each distinct value of a time once.
     Distinct,
+    /// Emits each value, and keeps a capability at its time until that is released.
+    Hold,
     /// Counts the values that reach it.
     Sink,
 }
@@ -84,11 +86,11 @@ impl Op {
         matches!(self, Op::Input)
     }
 
-    /// Returns whether a vertex with this operator may request notifications.
+    /// Returns whether a vertex with this operator may make requests: for notifications, or to keep capabilities.
     pub fn asks_for_notices(self) -> bool
         ensures { result ≡ (facts self).asks }
     {
-        matches!(self, Op::Sum | Op::Distinct)
+        matches!(self, Op::Sum | Op::Distinct | Op::Hold)
     }
 
     /// Returns whether a vertex with this operator counts the values that reach it.

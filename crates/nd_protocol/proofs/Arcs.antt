@@ -1,10 +1,10 @@
 -- Along an arc of an ordered graph a pointstamp leads to one that is strictly later, and fits.
-use Rattle.std.proofs.Common.{◌≡◌, inl, ℕ, zero, suc, ◌+◌, ◌-◌, ◌<◌, ◌≤◌, List, [], ◌∷◌, ◌++◌, Some, length, refl, sym, ◌∙◌, ap, subst, arith, length-append}
+use Rattle.std.proofs.Common.{◌≡◌, ◌≢◌, inl, ℕ, zero, suc, ◌+◌, ◌-◌, ◌<◌, ◌≤◌, List, [], ◌∷◌, ◌++◌, Some, length, refl, sym, ◌∙◌, ap, subst, arith, length-append}
 use Rattle.std.specs.Prelude.{Contains, slice_index, slice_get}
 use Rattle.std.specs.Option.{option_map_or}
 use Rattle.std.proofs.lemmas.List.Elements.{All-contains}
 use Rattle.std.proofs.lemmas.List.{length-map}
-use Rattle.nd_time.specs.Time.{Time, IsSmallerAtFirstDifference, egress_of, feedback_of}
+use Rattle.nd_time.specs.Time.{Time, IsAtOrBefore, IsSmallerAtFirstDifference, egress_of, feedback_of}
 use Rattle.nd_graph.specs.declared.op.Action.{Action}
 use Rattle.nd_graph.specs.declared.op.Action.TheVariants.{Identity, Ingress, Egress, Feedback}
 use Rattle.nd_graph.specs.declared.graph.Arc.{Arc}
@@ -91,12 +91,16 @@ along g o a in_graph t f =
           not_itself t.counters (subst (λ c. IsSmallerAtFirstDifference t.counters c) (sym counters) (o.accepted.strict a.from a [] t.counters round f.depth)),
     )
 
--- the same location at a later epoch
-pub later_epoch : (g : Dataflow) (l e : ℕ) (c : List ℕ) → Fits g (point_at l (record { epoch = e; counters = c })) → IsStrictlyBefore g (point_at l (record { epoch = e; counters = c })) (point_at l (record { epoch = e + 1; counters = c }))
-later_epoch g l e c f = (
-  record { fits_s = f; fits_t = record { depth = f.depth }; walk = []; leads = refl; before = record { depth = refl; epoch = omega arith; counters = inl refl } },
-  λ same. let epochs : e ≡ e + 1 = ap (λ x. x.time.epoch) same in absurd (omega arith),
-)
+-- the same location at a later time
+pub later_time : (g : Dataflow) (l : ℕ) (t to : Time) → IsAtOrBefore t to → t ≢ to → Fits g (point_at l t) → IsStrictlyBefore g (point_at l t) (point_at l to)
+later_time g l t to before other f =
+    (record { fits_s = f; fits_t = record { depth = subst (HasDepth g l) before.depth f.depth }; walk = []; leads = refl; before = before }, λ same. other (ap (λ x. x.time) same))
+
+-- and at a later epoch
+pub later_epoch : (g : Dataflow) (l e to : ℕ) (c : List ℕ) → e < to → Fits g (point_at l (record { epoch = e; counters = c })) → IsStrictlyBefore g (point_at l (record { epoch = e; counters = c })) (point_at l (record { epoch = to; counters = c }))
+later_epoch g l e to c less f =
+    later_time g l (record { epoch = e; counters = c }) (record { epoch = to; counters = c }) (record { depth = refl; epoch = omega arith; counters = inl refl })
+    (λ same. let epochs : e ≡ to = ap (λ x. x.epoch) same in absurd (omega arith)) f
 
 -- ---- the arcs of the graph
 

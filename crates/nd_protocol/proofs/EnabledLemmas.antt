@@ -12,14 +12,17 @@ use Rattle.nd_protocol.specs.declared.part.Part.{Part}
 use Rattle.nd_protocol.specs.declared.part.Part.TheVariants.{All as Whole, Points}
 use Rattle.nd_protocol.specs.Steps.{chosen, epoch_of, take_outcome, stepped}
 use Rattle.nd_protocol.specs.Fitting.{ProcessorIsWithin, IsWithinLimits, IsState}
-use Rattle.nd_protocol.specs.Enabled.{HasLargeCount, of_record, of_sink, HasLargeEntry, of_unsent, of_view, IsEnabled}
+use Rattle.nd_protocol.specs.Enabled.{HasLargeCount, of_record, of_sink, HasLargeEntry, of_unsent, of_view, GoesBack, IsEnabled}
 use Rattle.nd_protocol.specs.declared.step.Step.{Step}
-use Rattle.nd_protocol.specs.declared.step.Step.TheVariants.{Feed, Take, Notice, Broadcast, Receive}
+use Rattle.nd_protocol.specs.declared.step.Step.TheVariants.{Feed, Take, Notice, Release, Broadcast, Receive}
 use Rattle.nd_protocol.specs.declared.step.Next.{Next as Afterwards}
+use Rattle.nd_protocol.specs.declared.step.Next.TheVariants.{Next, Close, Stay, To}
+use Rattle.nd_protocol.specs.declared.times.Times.{Times}
+use Rattle.nd_protocol.specs.Ranges.{NextIsSmall}
 use Rattle.nd_time.specs.Time.{Time, last_of}
-use Rattle.nd_protocol.specs.declared.refusal.Refusal.TheVariants.{NoProcessor, InputClosed, EpochFull, NoRecord, NoRequest, CounterFull, ValueRange, CountFull, DeltaFull, QueueFull}
+use Rattle.nd_protocol.specs.declared.refusal.Refusal.TheVariants.{NoProcessor, InputClosed, EpochFull, NoRecord, NoRequest, CounterFull, ValueRange, CountFull, DeltaFull, QueueFull, NotLater}
 use Rattle.nd_protocol.proofs.Arcs.{IsTransitive}
-use Rattle.nd_protocol.proofs.Shape.{Work, feeding, taking, noticing, IsPossible, done}
+use Rattle.nd_protocol.proofs.Shape.{Work, feeding, taking, noticing, releasing, GoesOn, IsPossible, done}
 use Rattle.nd_protocol.proofs.StepsLemmas.{many_stepped}
 use Rattle.nd_protocol.proofs.Ranges.{below_unless, in_range_unless}
 use Rattle.nd_protocol.proofs.Fitness.{keys_fit}
@@ -38,13 +41,19 @@ more_unless : (n : ℕ) → (n ≡ 0 → ⊥) → 0 < n
 more_unless zero h = absurd (h refl)
 more_unless (suc n) h = omega arith
 
+goes_on : (next : Afterwards) (epoch : ℕ) → (next ≡ Next → max_counter ≤ epoch → ⊥) → (GoesBack next epoch → ⊥) → NextIsSmall next → GoesOn next epoch
+goes_on Next epoch full back small = below_unless epoch max_counter (full refl)
+goes_on Close epoch full back small = tt
+goes_on Stay epoch full back small = tt
+goes_on (To n) epoch full back small = (below_unless epoch n back, small)
+
 module _ {A : Type 0} (s : ClusterState) where
   module _ (p vertex : ℕ) (values : List ℤ) (next : Afterwards) (enabled : IsEnabled {A = A} s (Feed p vertex values next)) where
     pub feed_possible : IsPossible s (feeding p vertex values next)
     feed_possible = record {
       performer_is = below_unless p (length s.processors) (enabled.free NoProcessor);
       finds = some_unless (fin.get (processor s p).tokens vertex) (enabled.free InputClosed);
-      numbers = (enabled.numbers.1, λ goes. below_unless (epoch_of s p vertex) max_counter (λ full. enabled.free EpochFull (goes, full)));
+      numbers = (enabled.numbers.1.0, goes_on next (epoch_of s p vertex) (λ goes full. enabled.free EpochFull (goes, full)) (enabled.free NotLater) enabled.numbers.1.1);
     }
 
   module _ (p edge : ℕ) (t : Time) (value : ℤ) (enabled : IsEnabled {A = A} s (Take p edge t value)) where
@@ -64,6 +73,14 @@ module _ {A : Type 0} (s : ClusterState) where
       performer_is = below_unless p (length s.processors) (enabled.free NoProcessor);
       finds = here_unless _ (enabled.free NoRequest);
       numbers = tt;
+    }
+
+  module _ (p vertex : ℕ) (times : Times) (enabled : IsEnabled {A = A} s (Release p vertex times)) where
+    pub release_possible : IsPossible s (releasing p vertex times)
+    release_possible = record {
+      performer_is = below_unless p (length s.processors) (enabled.free NoProcessor);
+      finds = here_unless _ (λ none. enabled.free NoRequest (inr none));
+      numbers = (enabled.admissible, enabled.numbers.1);
     }
 
   module _ (p : ℕ) (part : Part A) (enabled : IsEnabled {A = A} s (Broadcast p part)) where
@@ -125,6 +142,8 @@ state_kept trans s (Take p edge t value) state enabled =
     work_state trans s (taking p edge t value) (enabled.free CountFull) (enabled.free DeltaFull) state (take_possible s p edge t value enabled)
 state_kept trans s (Notice p vertex t) state enabled =
     work_state trans s (noticing p vertex t) (enabled.free CountFull) (enabled.free DeltaFull) state (notice_possible s p vertex t enabled)
+state_kept trans s (Release p vertex times) state enabled =
+    work_state trans s (releasing p vertex times) (enabled.free CountFull) (enabled.free DeltaFull) state (release_possible s p vertex times enabled)
 state_kept trans s (Broadcast p part) state enabled =
     sent_state s p (chosen part (processor s p).unsent) state (sender_below s p part enabled) (chosen_is_part part (processor s p).unsent) (room s p part enabled)
 state_kept trans s (Receive from to) state enabled =

@@ -9,11 +9,11 @@ use Rattle.nd_processor.specs.State.{ProcessorState, token_point, one_at, in_tok
 use Rattle.nd_protocol.specs.State.{ClusterState, processor}
 use Rattle.nd_protocol.specs.Steps.{emitted, epoch_of, moved_token, flat}
 use Rattle.nd_protocol.specs.declared.step.Next.{Next as Afterwards}
-use Rattle.nd_protocol.specs.declared.step.Next.TheVariants.{Next, Close, Stay}
+use Rattle.nd_protocol.specs.declared.step.Next.TheVariants.{Next, Close, Stay, To}
 use Rattle.nd_protocol.specs.Fitting.{IsOrdered, ProcessorFits}
 use Rattle.nd_protocol.specs.Ranges.{TimeIsSmall}
 use Rattle.nd_protocol.proofs.Ranges.{AllKeys-flat, emitted_small, input_past}
-use Rattle.nd_protocol.proofs.Shape.{feeding, FitsTypes, IsSmallKey, HasCause}
+use Rattle.nd_protocol.proofs.Shape.{feeding, GoesOn, FitsTypes, IsSmallKey, HasCause}
 use Rattle.nd_graph.specs.Graph.{op_at}
 use Rattle.nd_vertex.specs.Table.{time_past}
 use Rattle.nd_processor.specs.Held.{token_at}
@@ -35,20 +35,25 @@ record IsMoved (g : Dataflow) (next : Afterwards) (m n : fin.FinMap nat_cmp ℕ)
   goes : (in_tokens n y < in_tokens m y) ⊎ ((next ≡ Stay) × (0 < in_tokens m y) × (0 < in_tokens n y))
   others : (z : Pointstamp) → 0 < in_tokens m z → (0 < in_tokens n z) ⊎ ((z ≡ y) × (in_tokens n y < in_tokens m y))
 
-token_moves : (g : Dataflow) (m : fin.FinMap nat_cmp ℕ) (vertex epoch : ℕ) → fin.get m vertex ≡ Some epoch → Fits g (token_point vertex epoch) → (next : Afterwards) → IsMoved g next m (moved_token m vertex epoch next) (token_point vertex epoch)
-token_moves g m vertex epoch found fits Next =
+-- to a later epoch
+moves_to : (g : Dataflow) (next : Afterwards) (m : fin.FinMap nat_cmp ℕ) (vertex epoch to : ℕ) → fin.get m vertex ≡ Some epoch → Fits g (token_point vertex epoch) → epoch < to → IsMoved g next m (fin.insert m vertex to) (token_point vertex epoch)
+moves_to g next m vertex epoch to found fits more =
     let y : Pointstamp = token_point vertex epoch in
-    let w : Pointstamp = token_point vertex (epoch + 1) in
-    let n : fin.FinMap nat_cmp ℕ = fin.insert m vertex (epoch + 1) in
-    let sum : (z : Pointstamp) → in_tokens n z + one_at y z ≡ in_tokens m z + one_at w z = λ z. moved_on m vertex epoch (epoch + 1) z found in
-    let later : IsStrictlyBefore g y w = later_epoch g vertex epoch [] fits in
+    let w : Pointstamp = token_point vertex to in
+    let n : fin.FinMap nat_cmp ℕ = fin.insert m vertex to in
+    let sum : (z : Pointstamp) → in_tokens n z + one_at y z ≡ in_tokens m z + one_at w z = λ z. moved_on m vertex epoch to z found in
+    let later : IsStrictlyBefore g y w = later_epoch g vertex epoch to [] more fits in
     let less : in_tokens n y < in_tokens m y = elim (point_cases y w) [ inl same ↦ absurd (later.1 same) | inr apart ↦ omega (arith, sum y, one_at_itself y) ] in
     record {
       grows = λ z. elim (point_cases z w) [ inl same ↦ inl (subst (λ v. IsStrictlyBefore g y v) (sym same) later) | inr apart ↦ inr (omega (arith, sum z)) ];
       goes = inl less;
       others = λ z h. elim (point_cases z y) [ inl same ↦ inr (same, less) | inr apart ↦ inl (omega (arith, sum z)) ];
     }
-token_moves g m vertex epoch found fits Close =
+
+token_moves : (g : Dataflow) (m : fin.FinMap nat_cmp ℕ) (vertex epoch : ℕ) → fin.get m vertex ≡ Some epoch → Fits g (token_point vertex epoch) → (next : Afterwards) → GoesOn next epoch → IsMoved g next m (moved_token m vertex epoch next) (token_point vertex epoch)
+token_moves g m vertex epoch found fits Next on = moves_to g Next m vertex epoch (epoch + 1) found fits (omega arith)
+token_moves g m vertex epoch found fits (To n) on = moves_to g (To n) m vertex epoch n found fits on.0
+token_moves g m vertex epoch found fits Close on =
     let y : Pointstamp = token_point vertex epoch in
     let sum : (z : Pointstamp) → in_tokens (fin.remove m vertex) z + one_at y z ≡ in_tokens m z = λ z. given_up m vertex epoch z found in
     let less : in_tokens (fin.remove m vertex) y < in_tokens m y = omega (arith, sum y, one_at_itself y) in
@@ -57,7 +62,7 @@ token_moves g m vertex epoch found fits Close =
       goes = inl less;
       others = λ z h. elim (point_cases z y) [ inl same ↦ inr (same, less) | inr apart ↦ inl (omega (arith, sum z)) ];
     }
-token_moves g m vertex epoch found fits Stay =
+token_moves g m vertex epoch found fits Stay on =
     let y : Pointstamp = token_point vertex epoch in
     let sum : in_tokens (fin.remove m vertex) y + one_at y y ≡ in_tokens m y = given_up m vertex epoch y found in
     let held_here : 0 < in_tokens m y = omega (arith, one_at_itself y) in
@@ -81,7 +86,7 @@ feed_cause s o p vertex e values next found numbers fit =
     let past : TimeIsSmall (time_past (op_at g vertex) (flat epoch)) = input_past (op_at g vertex) (flat epoch) held.0 small in
     let y : Pointstamp = token_point vertex epoch in
     let r : ProcessorState = record q { tokens = moved_token q.tokens vertex epoch next } in
-    let moved : IsMoved g next q.tokens (moved_token q.tokens vertex epoch next) y = token_moves g q.tokens vertex epoch found_here fits_here next in
+    let moved : IsMoved g next q.tokens (moved_token q.tokens vertex epoch next) y = token_moves g q.tokens vertex epoch found_here fits_here next numbers.1 in
     record {
       fits = fed_fits g q vertex epoch found_here next numbers.1 fit;
       edges = AllAt-flat (λ z. length g.vertices ≤ z.location) (λ v. emitted g (length s.processors) p vertex (flat epoch) (0, v)) (λ v. emitted_on_edges g (length s.processors) p vertex (flat epoch) (0, v)) values;

@@ -1,18 +1,22 @@
 -- What the protocol invariant tells a reader of a view.
-use Rattle.std.proofs.Common.{◌≡◌, ℕ, ◌<◌, ◌≤ℤ◌, ◌<ℤ◌, pos, length, sym, ap, subst, ◌∙◌, arith}
+use Rattle.std.proofs.Common.{◌≡◌, ℕ, ◌+◌, ◌<◌, ◌≤◌, ◌≤ℤ◌, ◌<ℤ◌, pos, length, Some, sym, ap, subst, ◌∙◌, arith}
+use Rattle.std.proofs.lemmas.List.Sums.{get_or-le-sum_by}
+use Rattle.std.specs.FinMap as fin
+use Rattle.nd_processor.specs.State.{idle, held as held_at, in_requests, one_at}
+use Rattle.nd_processor.specs.HeldLaws.{one_at_itself, in_requests-remove}
 use Rattle.std.proofs.lemmas.Int.{ints, by_lt_z}
 use Rattle.nd_graph.specs.Graph.{Dataflow}
 use Rattle.nd_paths.specs.Order.{CouldResultIn, IsStrictlyBefore}
 use Rattle.nd_paths.specs.declared.point.Pointstamp.{Pointstamp}
 use Rattle.nd_delta.specs.Delta.{DeltaValue, at}
 use Rattle.nd_view.specs.View.{IsPassed, IsPrecursor}
-use Rattle.nd_protocol.specs.State.{ClusterState, view, truth}
+use Rattle.nd_protocol.specs.State.{ClusterState, processor, view, truth}
 use Rattle.nd_protocol.proofs.Core.{IsStrictOrder, IsDownward, Steps}
 use Rattle.nd_protocol.specs.Fitting.{IsOrdered}
 use Rattle.nd_protocol.specs.Invariant.{KeepsProtocol, IsFinished}
 use Rattle.nd_protocol.proofs.Reading.{reading}
 use Rattle.nd_protocol.proofs.Arcs.{IsTransitive, CouldIsTransitive, strict_order}
-use Rattle.nd_protocol.proofs.Counts.{truth-count}
+use Rattle.nd_protocol.proofs.Counts.{count, truth-count}
 use Rattle.nd_protocol.proofs.Readings.{change_finite, sound_of}
 use Rattle.nd_protocol.proofs.Safety.{safe, stays}
 
@@ -29,6 +33,16 @@ pub passed : IsTransitive → CouldIsTransitive → (s : ClusterState) → IsOrd
 passed trans could s o keeps q lt t is_passed x before =
     truth-count s.processors x ∙ ap pos (safe (IsStrictlyBefore s.graph) (strict_order trans s.graph o) at change_finite (λ x. CouldResultIn s.graph x t) (could_down could s.graph t) (reading s) (sound_of s keeps) q lt
     (quiet (view s q) (λ x. CouldResultIn s.graph x t) (λ z positive d. is_passed z (record { positive = positive; before = d }))) x before)
+
+-- a request that is made is outstanding, so that no view has passed what it could result in
+pub held : IsTransitive → CouldIsTransitive → (s : ClusterState) → IsOrdered s.graph → KeepsProtocol s → (p q : ℕ) → p < length s.processors → q < length s.processors → (x t : Pointstamp)
+    → fin.get (processor s p).requests x ≡ Some tt → CouldResultIn s.graph x t → IsPassed s.graph (view s q) t → ⊥
+held trans could s o keeps p q here there x t found before is_passed =
+    let none : at (truth s.processors) x ≡ pos 0 = passed trans could s o keeps q there t is_passed x before in
+    let counts : at (truth s.processors) x ≡ pos (count s.processors x) = truth-count s.processors x in
+    let part : held_at (processor s p) x ≤ count s.processors x = get_or-le-sum_by (λ q. held_at q x) s.processors p idle here in
+    let one : in_requests (fin.remove (processor s p).requests x) x + one_at x x ≡ in_requests (processor s p).requests x = in_requests-remove (processor s p).requests x x found in
+    absurd (omega (arith, ints, one_at_itself x))
 
 pub last : IsTransitive → (s : ClusterState) → IsOrdered s.graph → KeepsProtocol s → (q : ℕ) → q < length s.processors → (t : Pointstamp) → ((x : Pointstamp) → IsPrecursor s.graph (view s q) t x → ⊥) → (x : Pointstamp) → IsStrictlyBefore s.graph x t → at (truth s.processors) x ≡ pos 0
 last trans s o keeps q lt t none x before =

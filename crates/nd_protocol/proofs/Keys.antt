@@ -1,5 +1,5 @@
 -- The keys that a step writes fit the graph.
-use Rattle.std.proofs.Common.{◌≡◌, ◌≢◌, ◌⊎◌, inl, inr, ℕ, ◌+◌, ◌-◌, ◌<◌, ◌≤◌, ℤ, pos, negsuc, ◌+ℤ◌, Bool, true, false, cond, not, [], length, get_or, set, Some, None, refl, sym, ap, subst, subst₂, ◌∙◌, arith, Ordering, length-append, length-set, get_or-set_same, get_or-set_other}
+use Rattle.std.proofs.Common.{◌≡◌, ◌≢◌, ◌⊎◌, inl, inr, ℕ, ◌+◌, ◌-◌, ◌<◌, ◌≤◌, ℤ, pos, negsuc, ◌+ℤ◌, Bool, true, false, cond, not, [], length, get_or, set, Option, Some, None, refl, sym, ap, subst, subst₂, ◌∙◌, arith, Ordering, length-append, length-set, get_or-set_same, get_or-set_other}
 use Rattle.std.specs.Option.{option_map_or}
 use Rattle.std.specs.Ordering.{eq_by_cmp}
 use Rattle.std.specs.Cmp.{IsTotalOrder}
@@ -19,18 +19,20 @@ use Rattle.nd_paths.specs.Point.{point_total, point_exact}
 use Rattle.nd_paths.specs.declared.point.Pointstamp.{Pointstamp}
 use Rattle.nd_protocol.proofs.Arcs.{depth_within}
 use Rattle.nd_processor.specs.Keys.{value_at_total, value_at_exact, sink_total, sink_exact}
-use Rattle.nd_processor.specs.State.{ProcessorState, items_at, token_point}
+use Rattle.nd_processor.specs.State.{ProcessorState, Requests, items_at, token_point}
 use Rattle.nd_map.specs.Counts.{Counts, Number, natural, none, at, set as with_number, added, at-set, at-only}
 use Rattle.nd_time.specs.Listing.{time_cmp}
-use Rattle.nd_protocol.specs.Steps.{target_of, record_key, moved_token, point_at}
+use Rattle.nd_protocol.specs.Steps.{target_of, record_key, moved_token, moved_request, point_at}
 use Rattle.nd_processor.specs.declared.key.ValueAt.{ValueAt}
 use Rattle.nd_processor.specs.declared.key.SinkKey.{SinkKey}
 use Rattle.nd_vertex.specs.Items.{Items, item_key, item_total, item_exact}
 use Rattle.nd_vertex.specs.declared.key.ItemKey.{ItemKey}
 use Rattle.nd_vertex.specs.Table.{Outcome, on_record, on_notice, is_zero}
 use Rattle.nd_protocol.specs.declared.step.Next.{Next as Afterwards}
-use Rattle.nd_protocol.specs.declared.step.Next.TheVariants.{Next, Close, Stay}
-use Rattle.nd_protocol.specs.Ranges.{IsSmall, IsValue}
+use Rattle.nd_protocol.specs.declared.step.Next.TheVariants.{Next, Close, Stay, To}
+use Rattle.nd_protocol.specs.Ranges.{IsSmall, TimesAreSmall, IsValue}
+use Rattle.nd_protocol.specs.Times.{GoesLater}
+use Rattle.nd_protocol.proofs.Shape.{GoesOn}
 use Rattle.nd_time.specs.Limits.{max_counter}
 use Rattle.std.proofs.lemmas.List.Elements.{All-nil, All-cons}
 use Rattle.nd_protocol.specs.Fitting.{IsOrdered, IsAtVertex, IsAtEdge, ProcessorFits}
@@ -206,24 +208,55 @@ noticed_fits g q vertex t outcome items_are values place fit = record {
 other_epoch : (g : Dataflow) (vertex e f : ℕ) → IsSmall f → IsAtVertex g (token_point vertex e) → IsAtVertex g (token_point vertex f)
 other_epoch g vertex e f small h = record { place = h.place; fits = record { depth = h.fits.depth }; small = All-cons IsSmall f [] small (All-nil IsSmall) }
 
-moved_fits : (g : Dataflow) (q : ProcessorState) (vertex epoch : ℕ) → fin.get q.tokens vertex ≡ Some epoch → (next : Afterwards) → (next ≡ Next → epoch < max_counter) → ProcessorFits g q
+moved_fits : (g : Dataflow) (q : ProcessorState) (vertex epoch : ℕ) → fin.get q.tokens vertex ≡ Some epoch → (next : Afterwards) → GoesOn next epoch → ProcessorFits g q
     → (v e : ℕ) → fin.get (moved_token q.tokens vertex epoch next) v ≡ Some e → (op_at g v ≡ Input) × IsAtVertex g (token_point v e)
 moved_fits g q vertex epoch here Next room fit v e found =
     let old = fit.tokens vertex epoch here in
     elim (inserted_is nat_cmp_total fin.nat_cmp-IsAntisymmetric q.tokens vertex (epoch + 1) v e found) [
       | inl (same, is) ↦
-          let more : epoch < max_counter = room refl in
           subst (λ w. (op_at g w ≡ Input) × IsAtVertex g (token_point w e)) (sym same) (old.0, other_epoch g vertex epoch e (omega arith) old.1)
+      | inr there ↦ fit.tokens v e there
+    ]
+moved_fits g q vertex epoch here (To n) room fit v e found =
+    let old = fit.tokens vertex epoch here in
+    elim (inserted_is nat_cmp_total fin.nat_cmp-IsAntisymmetric q.tokens vertex n v e found) [
+      | inl (same, is) ↦
+          subst (λ w. (op_at g w ≡ Input) × IsAtVertex g (token_point w e)) (sym same) (old.0, other_epoch g vertex epoch e (subst IsSmall (sym is) room.1) old.1)
       | inr there ↦ fit.tokens v e there
     ]
 moved_fits g q vertex epoch here Close room fit v e found = fit.tokens v e (removed_is nat_cmp_total fin.nat_cmp-IsAntisymmetric q.tokens vertex v e found)
 moved_fits g q vertex epoch here Stay room fit v e found = fit.tokens v e found
 
-pub fed_fits : (g : Dataflow) (q : ProcessorState) (vertex epoch : ℕ) → fin.get q.tokens vertex ≡ Some epoch → (next : Afterwards) → (next ≡ Next → epoch < max_counter) → ProcessorFits g q → ProcessorFits g (record q { tokens = moved_token q.tokens vertex epoch next })
+pub fed_fits : (g : Dataflow) (q : ProcessorState) (vertex epoch : ℕ) → fin.get q.tokens vertex ≡ Some epoch → (next : Afterwards) → GoesOn next epoch → ProcessorFits g q → ProcessorFits g (record q { tokens = moved_token q.tokens vertex epoch next })
 fed_fits g q vertex epoch here next room fit = record {
   records = fit.records;
   requests = fit.requests;
   tokens = moved_fits g q vertex epoch here next room fit;
+  vertices = fit.vertices;
+  items = fit.items;
+  sinks = fit.sinks;
+  unsent = fit.unsent;
+}
+
+-- a request's place does not hang on the time
+other_time : (g : Dataflow) (vertex : ℕ) (t to : Time) → GoesLater t (Some to) → TimesAreSmall t (Some to) → IsAtVertex g (point_at vertex t) → IsAtVertex g (point_at vertex to)
+other_time g vertex t to later small h = record { place = h.place; fits = record { depth = subst (HasDepth g vertex) later.0.depth h.fits.depth }; small = small.1 }
+
+request_moved : (g : Dataflow) (m : Requests) (vertex : ℕ) (t : Time) (to : Option Time) → GoesLater t to → TimesAreSmall t to → IsAtVertex g (point_at vertex t)
+    → ((z : Pointstamp) → fin.get m z ≡ Some tt → IsAtVertex g z) → (z : Pointstamp) → fin.get (moved_request m vertex t to) z ≡ Some tt → IsAtVertex g z
+request_moved g m vertex t None later small place old z found = old z (removed_is point_total point_exact m (point_at vertex t) z tt found)
+request_moved g m vertex t (Some to) later small place old z found =
+    elim (inserted_is point_total point_exact (fin.remove m (point_at vertex t)) (point_at vertex to) tt z tt found) [
+      | inl (same, is) ↦ subst (IsAtVertex g) (sym same) (other_time g vertex t to later small place)
+      | inr there ↦ old z (removed_is point_total point_exact m (point_at vertex t) z tt there)
+    ]
+
+pub released_fits : (g : Dataflow) (q : ProcessorState) (vertex : ℕ) (t : Time) (to : Option Time) → GoesLater t to → TimesAreSmall t to → IsAtVertex g (point_at vertex t) → ProcessorFits g q
+    → ProcessorFits g (record q { requests = moved_request q.requests vertex t to })
+released_fits g q vertex t to later small place fit = record {
+  records = fit.records;
+  requests = request_moved g q.requests vertex t to later small place fit.requests;
+  tokens = fit.tokens;
   vertices = fit.vertices;
   items = fit.items;
   sinks = fit.sinks;

@@ -22,6 +22,7 @@ pub mod Inputs
 pub mod Starts
 pub mod InvariantLemmas
 pub mod Notices
+pub mod Releases
 pub mod Runs
 pub mod Bounds
 pub mod Exchanges

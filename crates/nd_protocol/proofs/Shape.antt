@@ -1,6 +1,6 @@
--- What feeds, takes and notices have in common: their performer is written, records come, and all that comes stands strictly
+-- What feeds, takes, notices and releases have in common: their performer is written, records come, and all that comes stands strictly
 -- after one pointstamp, the cause.
-use Rattle.std.specs.Prelude.{◌≡◌, ◌⊎◌, ◌<◌, ◌≤◌, ℕ, ℤ, pos, negsuc, cond, List, [], ◌∷◌, slice_set, length, All, Some, refl}
+use Rattle.std.specs.Prelude.{◌≡◌, ◌⊎◌, ◌<◌, ◌≤◌, ⊤, ℕ, ℤ, pos, negsuc, cond, List, [], ◌∷◌, slice_set, length, All, Some, refl}
 use Rattle.std.specs.List.{flat_map}
 use Rattle.std.specs.FinMap as fin
 use Rattle.nd_time.specs.Limits.{max_counter}
@@ -13,31 +13,36 @@ use Rattle.nd_paths.specs.Order.{IsStrictlyBefore}
 use Rattle.nd_processor.specs.State.{ProcessorState, held, in_tokens}
 use Rattle.nd_processor.specs.declared.key.ValueAt.{ValueAt}
 use Rattle.nd_protocol.specs.State.{ClusterState, processor}
-use Rattle.nd_protocol.specs.Steps.{record_key, point_at, flat, epoch_of, moved_token, target_of, emitted, take_outcome, notice_outcome, fed, taken, noticed, with_records, worked}
+use Rattle.nd_protocol.specs.Steps.{record_key, point_at, flat, epoch_of, moved_token, target_of, emitted, take_outcome, notice_outcome, moved_request, fed, taken, noticed, released, with_records, worked}
 use Rattle.nd_protocol.specs.Fitting.{ProcessorFits}
-use Rattle.nd_protocol.specs.Ranges.{TimeIsSmall, IsValue}
+use Rattle.nd_protocol.specs.Ranges.{IsSmall, TimeIsSmall, TimesAreSmall, IsValue}
+use Rattle.nd_protocol.specs.Times.{GoesLater}
+use Rattle.nd_protocol.specs.declared.times.Times.{Times}
 use Rattle.nd_protocol.specs.Enabled.{IsInRange}
 use Rattle.nd_time.specs.Time.{Time, last_of}
 use Rattle.nd_protocol.specs.declared.step.Next.{Next as Afterwards}
 use Rattle.nd_protocol.specs.declared.step.Next.TheVariants as token
 
--- a feed, a take or a notice: work on records, of which others hear by what is unsent
+-- a feed, a take, a notice or a release: work of which others hear by what is unsent
 pub data Work : Type 0 where
   feeding : (p vertex : ℕ) (values : List ℤ) (next : Afterwards) → Work
   taking : (p edge : ℕ) (t : Time) (value : ℤ) → Work
   noticing : (p vertex : ℕ) (t : Time) → Work
+  releasing : (p vertex : ℕ) (times : Times) → Work
 
 -- the processor that does it
 abbrev pub performer : Work → ℕ
 performer (feeding p vertex values _) = p
 performer (taking p edge t value) = p
 performer (noticing p vertex t) = p
+performer (releasing p vertex times) = p
 
 -- the processors after it, but for what is unsent
 abbrev pub performed : ClusterState → Work → List ProcessorState
 performed s (feeding p vertex values next) = fed s p vertex values next
 performed s (taking p edge t value) = taken s p edge t value
 performed s (noticing p vertex t) = noticed s p vertex t
+performed s (releasing p vertex times) = released s p vertex times
 
 -- the cluster after it
 unfoldable pub done : ClusterState → Work → ClusterState
@@ -48,18 +53,28 @@ abbrev pub LeavesToken : Work → Type 0
 LeavesToken (feeding p vertex values next) = next ≡ token.Stay
 LeavesToken (taking p edge t value) = ⊥
 LeavesToken (noticing p vertex t) = ⊥
+LeavesToken (releasing p vertex times) = ⊥
 
 -- the input's token, the record or the request is there
 abbrev pub Finds : ClusterState → Work → Type 0
 Finds s (feeding p vertex values _) = (epoch : ℕ) × (fin.get (processor s p).tokens vertex ≡ Some epoch)
 Finds s (taking p edge t value) = 0 < at (processor s p).records (record_key edge t value)
 Finds s (noticing p vertex t) = fin.get (processor s p).requests (point_at vertex t) ≡ Some tt
+Finds s (releasing p vertex times) = fin.get (processor s p).requests (point_at vertex times.time) ≡ Some tt
 
--- the numbers that it makes fit their types
+-- the epoch to which a token goes is above its own, and fits its type
+abbrev pub GoesOn : Afterwards → ℕ → Type 0
+GoesOn token.Next epoch = epoch < max_counter
+GoesOn token.Close epoch = ⊤
+GoesOn token.Stay epoch = ⊤
+GoesOn (token.To n) epoch = (epoch < n) × IsSmall n
+
+-- the numbers that it makes fit their types, and what moves goes on
 abbrev pub FitsTypes : ClusterState → Work → Type 0
-FitsTypes s (feeding p vertex values next) = All IsValue values × (next ≡ token.Next → epoch_of s p vertex < max_counter)
+FitsTypes s (feeding p vertex values next) = All IsValue values × GoesOn next (epoch_of s p vertex)
 FitsTypes s (taking p edge t value) = (op_at s.graph (target_of s.graph edge) ≡ op.Feedback → last_of t.counters < max_counter) × IsInRange (take_outcome s p edge t value)
 FitsTypes s (noticing p vertex t) = Unit {0}
+FitsTypes s (releasing p vertex times) = GoesLater times.time times.to × TimesAreSmall times.time times.to
 
 -- what a step needs, of all that makes it enabled
 pub record IsPossible (s : ClusterState) (x : Work) : Type 0 where
@@ -101,23 +116,27 @@ written s (taking p edge t value) =
 written s (noticing p vertex t) =
     let q = processor s p in
     record q { requests = fin.remove q.requests (point_at vertex t); items = slice_set q.items vertex (notice_outcome s p vertex t).items }
+written s (releasing p vertex times) = let q = processor s p in record q { requests = moved_request q.requests vertex times.time times.to }
 
 -- the records that come
 abbrev pub come : ClusterState → Work → List (ℕ × ValueAt)
 come s (feeding p vertex values _) = flat_map (λ v. emitted s.graph (length s.processors) p vertex (flat (epoch_of s p vertex)) (0, v)) values
 come s (taking p edge t value) = flat_map (emitted s.graph (length s.processors) p (target_of s.graph edge) t) (take_outcome s p edge t value).emissions
 come s (noticing p vertex t) = flat_map (emitted s.graph (length s.processors) p vertex t) (notice_outcome s p vertex t).emissions
+come s (releasing p vertex times) = []
 
 pub performed-writes : (s : ClusterState) (x : Work) → performed s x ≡ with_records (slice_set s.processors (performer x) (written s x)) (come s x)
-unfolding fed taken noticed
+unfolding fed taken noticed released
 performed-writes s (feeding p vertex values _) = refl
 performed-writes s (taking p edge t value) = refl
 performed-writes s (noticing p vertex t) = refl
+performed-writes s (releasing p vertex times) = refl
 
 pub unsent-written : (s : ClusterState) (x : Work) → (written s x).unsent ≡ (processor s (performer x)).unsent
 unsent-written s (feeding p vertex values _) = refl
 unsent-written s (taking p edge t value) = refl
 unsent-written s (noticing p vertex t) = refl
+unsent-written s (releasing p vertex times) = refl
 
 pub record HasCause (s : ClusterState) (x : Work) : Type 0 where
   pub fits : ProcessorFits s.graph (written s x)

@@ -13,13 +13,14 @@ use Rattle.nd_map.specs.Counts.{Counts, naturals}
 use Rattle.nd_protocol.specs.Steps.{gain, with_gain}
 use Rattle.nd_protocol.specs.Fitting.{IsOrdered, ProcessorFits, KeysFit}
 use Rattle.nd_protocol.specs.Invariant.{HoldsToken, IsSettled}
-use Rattle.nd_protocol.proofs.Shape.{Work, performer, performed, done, feeding, taking, noticing, KeepsToken, IsPossible, written, come, performed-writes, unsent-written, HasCause}
+use Rattle.nd_protocol.proofs.Shape.{Work, performer, performed, done, feeding, taking, noticing, releasing, KeepsToken, IsPossible, written, come, performed-writes, unsent-written, HasCause}
 use Rattle.nd_protocol.proofs.Reading.{reading}
 use Rattle.nd_protocol.proofs.Arcs.{IsTransitive, irreflexive}
 use Rattle.nd_protocol.proofs.Counts.{count, gain-count, count-set_same, kept-set, kept-records, length-records}
 use Rattle.nd_protocol.proofs.Causes.{loses, upright_gain}
 use Rattle.nd_protocol.proofs.Takes.{take_cause, notice_cause}
 use Rattle.nd_protocol.proofs.Feeds.{feed_cause}
+use Rattle.nd_protocol.proofs.Releases.{release_cause}
 use Rattle.nd_protocol.proofs.Readings.{counted, balanced_of, settled_of}
 use Rattle.nd_protocol.proofs.UprightSums.{upright_wider}
 use Rattle.nd_protocol.proofs.Preservation.{performed_balanced}
@@ -97,6 +98,9 @@ cause_of trans s (taking p edge t value) o fits possible =
 cause_of trans s (noticing p vertex t) o fits possible =
     let here : ProcessorFits s.graph (processor s p) = fits.processors p idle possible.performer_is in
     notice_cause s o p vertex t possible.finds here
+cause_of trans s (releasing p vertex times) o fits possible =
+    let here : ProcessorFits s.graph (processor s p) = fits.processors p idle possible.performer_is in
+    release_cause s p vertex times possible.finds possible.numbers here
 
 module _ (s : ClusterState) (x : Work) (o : IsOrdered s.graph) (here : performer x < length s.processors) (c : HasCause s x) where
   loses_cause : held (written s x) c.cause < held (processor s (performer x)) c.cause → at (gain s.processors (performed s x)) c.cause <ℤ pos 0

@@ -8,8 +8,10 @@ use Rattle.nd_protocol.specs.declared.part.Part.{Part}
 use Rattle.nd_protocol.specs.declared.part.Part.TheVariants.{All, Points}
 use Rattle.nd_time.specs.Time.{Time}
 use Rattle.nd_time.specs.Listing.{time_code}
+use Rattle.nd_protocol.specs.Times.{times_code}
+use Rattle.nd_protocol.specs.declared.times.Times.{Times}
 use Rattle.nd_protocol.specs.declared.step.Step.{Step}
-use Rattle.nd_protocol.specs.declared.step.Step.TheVariants.{Feed, Take, Notice, Broadcast, Receive}
+use Rattle.nd_protocol.specs.declared.step.Step.TheVariants.{Feed, Take, Notice, Release, Broadcast, Receive}
 use Rattle.nd_protocol.specs.declared.step.Next.{Next as Afterwards}
 use Rattle.nd_protocol.specs.declared.step.Next.TheVariants as token
 
@@ -17,23 +19,26 @@ abbrev pub next_number : Afterwards → ℕ
 next_number token.Next = 0
 next_number token.Close = 1
 next_number token.Stay = 2
+next_number (token.To n) = suc (suc (suc n))
 
 abbrev pub next_of : ℕ → Afterwards
 next_of zero = token.Next
 next_of (suc zero) = token.Close
-next_of (suc (suc n)) = token.Stay
+next_of (suc (suc zero)) = token.Stay
+next_of (suc (suc (suc n))) = token.To n
 
 pub next_back : (next : Afterwards) → next_of (next_number next) ≡ next
 next_back token.Next = refl
 next_back token.Close = refl
 next_back token.Stay = refl
+next_back (token.To n) = refl
 
 abbrev pub next_code : Coded Afterwards
 next_code = code_by ℕ coded_ℕ next_number next_of next_back
 
 -- a step as its parts
 abbrev pub Parts : Type 0
-Parts = (ℕ × (ℕ × (List ℤ × Afterwards))) ⊎ ((ℕ × (ℕ × (Time × ℤ))) ⊎ ((ℕ × (ℕ × Time)) ⊎ ((ℕ × Option (List Pointstamp)) ⊎ (ℕ × ℕ))))
+Parts = (ℕ × (ℕ × (List ℤ × Afterwards))) ⊎ ((ℕ × (ℕ × (Time × ℤ))) ⊎ ((ℕ × (ℕ × Time)) ⊎ ((ℕ × Option (List Pointstamp)) ⊎ ((ℕ × ℕ) ⊎ (ℕ × (ℕ × Times))))))
 
 module _ {A : Type 0} where
   abbrev pub named : Part A → Option (List Pointstamp)
@@ -53,14 +58,16 @@ module _ {A : Type 0} where
   step_parts (Take p edge time value) = inr (inl (p, (edge, (time, value))))
   step_parts (Notice p vertex time) = inr (inr (inl (p, (vertex, time))))
   step_parts (Broadcast p part) = inr (inr (inr (inl (p, named part))))
-  step_parts (Receive from to) = inr (inr (inr (inr (from, to))))
+  step_parts (Receive from to) = inr (inr (inr (inr (inl (from, to)))))
+  step_parts (Release p vertex times) = inr (inr (inr (inr (inr (p, (vertex, times))))))
 
   abbrev pub step_of : Parts → Step A
   step_of (inl t) = Feed t.0 t.1.0 t.1.1.0 t.1.1.1
   step_of (inr (inl t)) = Take t.0 t.1.0 t.1.1.0 t.1.1.1
   step_of (inr (inr (inl t))) = Notice t.0 t.1.0 t.1.1
   step_of (inr (inr (inr (inl t)))) = Broadcast t.0 (part_of t.1)
-  step_of (inr (inr (inr (inr t)))) = Receive t.0 t.1
+  step_of (inr (inr (inr (inr (inl t))))) = Receive t.0 t.1
+  step_of (inr (inr (inr (inr (inr t))))) = Release t.0 t.1.0 t.1.1
 
   pub step_back : (x : Step A) → step_of (step_parts x) ≡ x
   step_back (Feed p vertex values _) = refl
@@ -68,9 +75,10 @@ module _ {A : Type 0} where
   step_back (Notice p vertex time) = refl
   step_back (Broadcast p part) = ap (λ (q : Part A). Broadcast p q) (part_back part)
   step_back (Receive from to) = refl
+  step_back (Release p vertex times) = refl
 
   abbrev pub step_code : Coded (Step A)
   step_code =
       code_by Parts (coded⊎ (coded× coded_ℕ (coded× coded_ℕ (coded× (coded_list coded_ℤ) next_code))) (coded⊎ (coded× coded_ℕ (coded× coded_ℕ (coded× time_code coded_ℤ)))
-      (coded⊎ (coded× coded_ℕ (coded× coded_ℕ time_code)) (coded⊎ (coded× coded_ℕ (coded_option (coded_list point_code))) (coded× coded_ℕ coded_ℕ)))))
+      (coded⊎ (coded× coded_ℕ (coded× coded_ℕ time_code)) (coded⊎ (coded× coded_ℕ (coded_option (coded_list point_code))) (coded⊎ (coded× coded_ℕ coded_ℕ) (coded× coded_ℕ (coded× coded_ℕ times_code)))))))
       step_parts step_of step_back

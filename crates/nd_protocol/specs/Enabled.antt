@@ -23,12 +23,14 @@ use Rattle.nd_protocol.specs.Exchange.{StaysUpright}
 use Rattle.nd_protocol.specs.Steps.{record_key, target_of, point_at, epoch_of, take_outcome, chosen, stepped}
 use Rattle.nd_protocol.specs.Refusals.{number_of}
 use Rattle.nd_protocol.specs.Ranges.{NumbersFit}
+use Rattle.nd_protocol.specs.Times.{GoesLater}
+use Rattle.nd_protocol.specs.declared.times.Times.{Times}
 use Rattle.nd_protocol.specs.declared.step.Step.{Step}
-use Rattle.nd_protocol.specs.declared.step.Step.TheVariants.{Feed, Take, Notice, Broadcast, Receive}
+use Rattle.nd_protocol.specs.declared.step.Step.TheVariants.{Feed, Take, Notice, Release, Broadcast, Receive}
 use Rattle.nd_protocol.specs.declared.step.Next.{Next as Afterwards}
 use Rattle.nd_protocol.specs.declared.step.Next.TheVariants as token
 use Rattle.nd_protocol.specs.declared.refusal.Refusal.{Refusal}
-use Rattle.nd_protocol.specs.declared.refusal.Refusal.TheVariants.{NoProcessor, NoVertex, NoEdge, NotInput, InputClosed, TooManyValues, EpochFull, NoRecord, NoRequest, NotYet, CounterFull, ValueRange, CountFull, DeltaFull, NothingToSend, NotAdmissible, QueueEmpty, QueueFull}
+use Rattle.nd_protocol.specs.declared.refusal.Refusal.TheVariants.{NoProcessor, NoVertex, NoEdge, NotInput, InputClosed, TooManyValues, EpochFull, NoRecord, NoRequest, NotYet, CounterFull, ValueRange, CountFull, DeltaFull, NothingToSend, NotAdmissible, QueueEmpty, QueueFull, NotNotified, NotLater}
 
 -- the count of a record or of a sink is past the limit
 pub data HasLargeCount (s : ClusterState) : Type 0 where
@@ -47,6 +49,11 @@ pub record IsInRange (o : Outcome) : Type 0 where
 
 -- ---- the conditions of each kind of step, by number
 
+-- a token would go to an epoch that is not above its own
+abbrev pub GoesBack : Afterwards → ℕ → Type 0
+GoesBack (token.To n) epoch = n ≤ epoch
+GoesBack _ epoch = ⊥
+
 abbrev pub FeedFails : ClusterState → ℕ → ℕ → List ℤ → Afterwards → ClusterState → Refusal → Type 0
 FeedFails s p vertex values _ new NoProcessor = length s.processors ≤ p
 FeedFails s p vertex values _ new NoVertex = length s.graph.vertices ≤ vertex
@@ -56,6 +63,7 @@ FeedFails s p vertex values _ new TooManyValues = max_values < length values
 FeedFails s p vertex values next new EpochFull = (next ≡ token.Next) × (max_counter ≤ epoch_of s p vertex)
 FeedFails s p vertex values _ new CountFull = HasLargeCount new
 FeedFails s p vertex values _ new DeltaFull = HasLargeEntry new
+FeedFails s p vertex values next new NotLater = GoesBack next (epoch_of s p vertex)
 FeedFails s p vertex values _ new _ = ⊥
 
 abbrev pub TakeFails : ClusterState → ℕ → ℕ → Time → ℤ → ClusterState → Refusal → Type 0
@@ -75,7 +83,18 @@ NoticeFails s p vertex t new NoRequest = fin.get (processor s p).requests (point
 NoticeFails s p vertex t new (NotYet blocker) = IsLeast (IsPrecursor s.graph (view s p) (point_at vertex t)) blocker
 NoticeFails s p vertex t new CountFull = HasLargeCount new
 NoticeFails s p vertex t new DeltaFull = HasLargeEntry new
+NoticeFails s p vertex t new NotNotified = op_at s.graph vertex ≡ op.Hold
 NoticeFails s p vertex t new _ = ⊥
+
+-- (no count rises, so that 13 never holds)
+abbrev pub ReleaseFails : ClusterState → ℕ → ℕ → Times → ClusterState → Refusal → Type 0
+ReleaseFails s p vertex times new NoProcessor = length s.processors ≤ p
+ReleaseFails s p vertex times new NoVertex = length s.graph.vertices ≤ vertex
+ReleaseFails s p vertex times new NoRequest = (op_at s.graph vertex ≢ op.Hold) ⊎ (fin.get (processor s p).requests (point_at vertex times.time) ≡ None)
+ReleaseFails s p vertex times new CountFull = HasLargeCount new
+ReleaseFails s p vertex times new DeltaFull = HasLargeEntry new
+ReleaseFails s p vertex times new NotLater = GoesLater times.time times.to → ⊥
+ReleaseFails s p vertex times new _ = ⊥
 
 -- one of the queues from p holds as many changes as a queue may
 abbrev pub HasFullQueue : ClusterState → ℕ → Type 0
@@ -100,15 +119,17 @@ abbrev pub Fails : {A : Type 0} → ClusterState → Step A → Refusal → Type
 Fails {A} s (Feed p vertex values next) r = FeedFails s p vertex values next (stepped {A = A} s (Feed p vertex values next)) r
 Fails {A} s (Take p edge t value) r = TakeFails s p edge t value (stepped {A = A} s (Take p edge t value)) r
 Fails {A} s (Notice p vertex t) r = NoticeFails s p vertex t (stepped {A = A} s (Notice p vertex t)) r
+Fails {A} s (Release p vertex times) r = ReleaseFails s p vertex times (stepped {A = A} s (Release p vertex times)) r
 Fails {A} s (Broadcast p part) r = BroadcastFails s p (chosen part (processor s p).unsent) r
 Fails {A} s (Receive from to) r = ReceiveFails s from to (stepped {A = A} s (Receive from to)) r
 
--- what supports each entry that a broadcast leaves
+-- what supports each entry that a broadcast leaves; a released capability goes, or moves to a later time
 abbrev pub IsAdmissible : {A : Type 0} → ClusterState → Step A → Type 0
 IsAdmissible s (Broadcast p part) = StaysUpright s p (chosen part (processor s p).unsent)
+IsAdmissible s (Release p vertex times) = GoesLater times.time times.to
 IsAdmissible s _ = Unit {0}
 
--- no condition holds; that of refusal 16 does not since each entry that stays has its support;
+-- no condition holds; those of refusals 16 and 54 do not, since each entry that stays has its support and no capability moves back;
 -- and the numbers of the step fit their types, as those of each step that a program holds do
 pub record IsEnabled {A : Type 0} (s : ClusterState) (x : Step A) : Type 0 where
   pub free : (r : Refusal) → Fails s x r → ⊥

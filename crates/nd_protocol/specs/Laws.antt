@@ -1,14 +1,15 @@
 -- The theorems of the protocol, as statements (Naiad, SOSP 2013, section 3.3; FORTE 2013).
-use Rattle.std.specs.Prelude.{◌≡◌, ◌<◌, ◌≤◌, ◌<ℤ◌, ◌^◌, ℕ, pos, List, length}
+use Rattle.std.specs.Prelude.{◌≡◌, ◌<◌, ◌≤◌, ◌<ℤ◌, ◌^◌, ℕ, pos, List, length, Some}
+use Rattle.std.specs.FinMap as fin
 use Rattle.nd_time.specs.Limits.{max_processors}
 use Rattle.nd_time.specs.Time.{Time}
 use Rattle.nd_graph.specs.Graph.{Dataflow}
 use Rattle.nd_graph.specs.Checked.{IsFaultless}
-use Rattle.nd_paths.specs.Order.{IsStrictlyBefore}
+use Rattle.nd_paths.specs.Order.{CouldResultIn, IsStrictlyBefore}
 use Rattle.nd_paths.specs.declared.point.Pointstamp.{Pointstamp}
 use Rattle.nd_delta.specs.Delta.{at}
 use Rattle.nd_view.specs.View.{IsPassed, IsPrecursor}
-use Rattle.nd_protocol.specs.State.{ClusterState, view, truth}
+use Rattle.nd_protocol.specs.State.{ClusterState, processor, view, truth}
 use Rattle.nd_protocol.specs.Start.{start}
 use Rattle.nd_protocol.specs.Steps.{point_at, stepped, after}
 use Rattle.nd_protocol.specs.Fitting.{IsOrdered, IsState}
@@ -56,6 +57,11 @@ RunKeepsProtocol A = (s : ClusterState) (xs : List (Step A)) → IsState s → K
 -- nothing outstanding is at or before a pointstamp that a view has passed
 abbrev pub PassedMeansFinished : Type 0
 PassedMeansFinished = (s : ClusterState) → IsState s → KeepsProtocol s → (q : ℕ) → q < length s.processors → (t : Pointstamp) → IsPassed s.graph (view s q) t → IsFinished s t
+
+-- no view has passed a pointstamp that a request could result in: a notification that waits, or a capability that a hold vertex keeps
+abbrev pub HeldIsNotPassed : Type 0
+HeldIsNotPassed = (s : ClusterState) → IsState s → KeepsProtocol s → (p q : ℕ) → p < length s.processors → q < length s.processors → (x t : Pointstamp)
+    → fin.get (processor s p).requests x ≡ Some tt → CouldResultIn s.graph x t → IsPassed s.graph (view s q) t → ⊥
 
 -- nothing outstanding is strictly before a pointstamp at which a view has no precursor
 abbrev pub NothingIsBefore : Type 0

@@ -1,5 +1,6 @@
 pub mod State
 pub mod Steps
+pub mod Times
 pub mod TruthLaws
 pub mod Ranges
 pub mod Fitting

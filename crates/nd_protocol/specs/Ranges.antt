@@ -1,10 +1,12 @@
 -- Numbers in the ranges of their types: epochs, counters and the numbers of processors, and values (this project's own rule).
-use Rattle.std.specs.Prelude.{ℕ, ℤ, ◌≤◌, ⊤, All as Each, FitsSigned, ◌∷◌}
+use Rattle.std.specs.Prelude.{ℕ, ℤ, ◌≤◌, ⊤, All as Each, FitsSigned, ◌∷◌, Option, Some, None}
 use Rattle.std.specs.Int.{w64}
 use Rattle.nd_time.specs.Limits.{max_counter}
 use Rattle.nd_time.specs.Time.{Time}
 use Rattle.nd_protocol.specs.declared.step.Step.{Step}
-use Rattle.nd_protocol.specs.declared.step.Step.TheVariants.{Feed, Take, Notice, Broadcast, Receive}
+use Rattle.nd_protocol.specs.declared.step.Step.TheVariants.{Feed, Take, Notice, Release, Broadcast, Receive}
+use Rattle.nd_protocol.specs.declared.step.Next.{Next as Afterwards}
+use Rattle.nd_protocol.specs.declared.step.Next.TheVariants as token
 use Rattle.nd_protocol.specs.declared.part.Part.{Part}
 use Rattle.nd_protocol.specs.declared.part.Part.TheVariants.{All, Points}
 
@@ -24,10 +26,23 @@ abbrev pub PartIsSmall : {A : Type 0} → Part A → Type 0
 PartIsSmall All = ⊤
 PartIsSmall (Points points) = Each (λ point. TimeIsSmall point.time) points
 
+-- of a capability's times
+abbrev pub TimesAreSmall : Time → Option Time → Type 0
+TimesAreSmall t None = TimeIsSmall t
+TimesAreSmall t (Some to) = TimeIsSmall t × TimeIsSmall to
+
+-- the epoch to which a token goes
+abbrev pub NextIsSmall : Afterwards → Type 0
+NextIsSmall (token.To n) = IsSmall n
+NextIsSmall token.Next = ⊤
+NextIsSmall token.Close = ⊤
+NextIsSmall token.Stay = ⊤
+
 -- processors, epochs and counters have 32 bits, values 64 bits, as their types say
 abbrev pub NumbersFit : {A : Type 0} → Step A → Type 0
-NumbersFit (Feed p vertex values _) = IsSmall p × Each IsValue values
+NumbersFit (Feed p vertex values next) = IsSmall p × (Each IsValue values × NextIsSmall next)
 NumbersFit (Take p _ time value) = IsSmall p × TimeIsSmall time × IsValue value
 NumbersFit (Notice p _ time) = IsSmall p × TimeIsSmall time
+NumbersFit (Release p _ times) = IsSmall p × TimesAreSmall times.time times.to
 NumbersFit (Broadcast p part) = IsSmall p × PartIsSmall part
 NumbersFit (Receive from to) = IsSmall from × IsSmall to

@@ -2,7 +2,7 @@
 use Rattle.std.specs.Prelude.{ℕ, codes}
 use Rattle.nd_time.specs.Code.{Code, coded}
 use Rattle.nd_protocol.specs.declared.refusal.Refusal.{Refusal}
-use Rattle.nd_protocol.specs.declared.refusal.Refusal.TheVariants.{NoProcessor, NoVertex, NoEdge, NotInput, InputClosed, TooManyValues, EpochFull, NoRecord, NoRequest, NotYet, CounterFull, ValueRange, CountFull, DeltaFull, NothingToSend, NotAdmissible, QueueEmpty, QueueFull, Memory}
+use Rattle.nd_protocol.specs.declared.refusal.Refusal.TheVariants.{NoProcessor, NoVertex, NoEdge, NotInput, InputClosed, TooManyValues, EpochFull, NoRecord, NoRequest, NotYet, CounterFull, ValueRange, CountFull, DeltaFull, NothingToSend, NotAdmissible, QueueEmpty, QueueFull, NotNotified, NotLater, Memory}
 
 -- the number and the name of a refusal
 abbrev pub code_of : Refusal → Code
@@ -24,6 +24,8 @@ code_of NothingToSend = coded 15 (codes "NothingToSend")
 code_of (NotAdmissible point) = coded 16 (codes "NotAdmissible")
 code_of QueueEmpty = coded 17 (codes "QueueEmpty")
 code_of QueueFull = coded 18 (codes "QueueFull")
+code_of NotNotified = coded 53 (codes "NotNotified")
+code_of NotLater = coded 54 (codes "NotLater")
 code_of Memory = coded 19 (codes "Memory")
 
 -- refusals are tested in the order of their numbers

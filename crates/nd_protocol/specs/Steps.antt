@@ -1,5 +1,5 @@
 -- What a step makes of a cluster (Naiad, SOSP 2013, sections 2.2, 2.3 and 3.3; FORTE 2013).
-use Rattle.std.specs.Prelude.{ℕ, ◌+◌, ◌-◌, ℤ, pos, negsuc, cond, ◌&&◌, ◌++◌, List, [], ◌∷◌, length, unwrap_or, unsigned_abs, nat_eq, if◌then◌else◌, slice_get, slice_index_or, slice_set}
+use Rattle.std.specs.Prelude.{ℕ, ◌+◌, ◌-◌, ℤ, pos, negsuc, cond, ◌&&◌, ◌++◌, List, [], ◌∷◌, length, unwrap_or, unsigned_abs, nat_eq, if◌then◌else◌, Option, Some, None, slice_get, slice_index_or, slice_set}
 use Rattle.std.specs.Int.{int_rem_euclid}
 use Rattle.std.specs.List.{flat_map}
 use Rattle.std.specs.Option.{option_map_or}
@@ -15,12 +15,13 @@ use Rattle.nd_paths.specs.declared.point.Pointstamp.{Pointstamp}
 use Rattle.nd_delta.specs.Delta.{DeltaValue, plus, minus, part as part_at}
 use Rattle.nd_vertex.specs.Table.{Outcome, on_record, on_notice, time_past}
 use Rattle.nd_processor.specs.Keys.{value_at_total, sink_total}
-use Rattle.nd_processor.specs.State.{ProcessorState, idle, items_at}
+use Rattle.nd_processor.specs.State.{ProcessorState, Requests, idle, items_at}
 use Rattle.nd_processor.specs.declared.key.ValueAt.{ValueAt}
 use Rattle.nd_protocol.specs.State.{ClusterState, processor, truth}
 use Rattle.nd_protocol.specs.Exchange.{sent, received}
 use Rattle.nd_protocol.specs.declared.step.Step.{Step}
-use Rattle.nd_protocol.specs.declared.step.Step.TheVariants.{Feed, Take, Notice, Broadcast, Receive}
+use Rattle.nd_protocol.specs.declared.step.Step.TheVariants.{Feed, Take, Notice, Release, Broadcast, Receive}
+use Rattle.nd_protocol.specs.declared.times.Times.{Times}
 use Rattle.nd_protocol.specs.declared.part.Part.{Part}
 use Rattle.nd_protocol.specs.declared.part.Part.TheVariants.{All, Points}
 use Rattle.nd_protocol.specs.declared.step.Next.{Next as Afterwards}
@@ -59,11 +60,12 @@ with_records qs (r ∷ rs) = with_records (with_record qs r) rs
 
 -- ---- the steps, but for the unsent change
 
--- the token goes to the next epoch, is given up, or stays
+-- the token goes to the next epoch, is given up, stays, or goes to an epoch
 abbrev pub moved_token : fin.FinMap nat_cmp ℕ → ℕ → ℕ → Afterwards → fin.FinMap nat_cmp ℕ
 moved_token tokens vertex epoch token.Next = fin.insert tokens vertex (epoch + 1)
 moved_token tokens vertex epoch token.Close = fin.remove tokens vertex
 moved_token tokens vertex epoch token.Stay = tokens
+moved_token tokens vertex epoch (token.To n) = fin.insert tokens vertex n
 
 -- the epoch of an input's token
 abbrev pub epoch_of : ClusterState → ℕ → ℕ → ℕ
@@ -122,6 +124,17 @@ noticed s p vertex t =
     (slice_set s.processors p (record q { requests = fin.remove q.requests (point_at vertex t); items = slice_set q.items vertex outcome.items }))
     (flat_map (emitted s.graph (length s.processors) p vertex t) outcome.emissions)
 
+-- a request goes, or is moved to another time; one that is there is not made again
+abbrev pub moved_request : Requests → ℕ → Time → Option Time → Requests
+moved_request requests vertex t None = fin.remove requests (point_at vertex t)
+moved_request requests vertex t (Some to) = fin.insert (fin.remove requests (point_at vertex t)) (point_at vertex to) tt
+
+-- a capability that a vertex keeps goes, or is moved
+unfoldable pub released : ClusterState → ℕ → ℕ → Times → List ProcessorState
+released s p vertex times =
+    let q = processor s p in
+    slice_set s.processors p (record q { requests = moved_request q.requests vertex times.time times.to })
+
 -- ---- the steps
 
 -- what a step adds to the truth
@@ -146,6 +159,7 @@ unfoldable pub stepped : {A : Type 0} → ClusterState → Step A → ClusterSta
 stepped s (Feed p vertex values next) = worked s p (fed s p vertex values next)
 stepped s (Take p edge t value) = worked s p (taken s p edge t value)
 stepped s (Notice p vertex t) = worked s p (noticed s p vertex t)
+stepped s (Release p vertex times) = worked s p (released s p vertex times)
 stepped s (Broadcast p part) = sent s p (chosen part (processor s p).unsent)
 stepped s (Receive from to) = received s from to
 

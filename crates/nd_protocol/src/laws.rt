@@ -2,7 +2,7 @@
 //! clauses are needed.
 ghost use Rattle.nd_protocol.specs.Laws.{StartIsState, StartKeepsProtocol, TruthIsSmall};
 ghost use Rattle.nd_protocol.specs.Laws.{StepLeadsToState, StepKeepsSettled, StepKeepsProtocol, RunKeepsProtocol};
-ghost use Rattle.nd_protocol.specs.Laws.{PassedMeansFinished, NothingIsBefore, NoticeComesLast, FinishedStaysFinished};
+ghost use Rattle.nd_protocol.specs.Laws.{PassedMeansFinished, HeldIsNotPassed, NothingIsBefore, NoticeComesLast, FinishedStaysFinished};
 
 use nd_paths::order_is_transitive;
 use std::alloc::Allocator;
@@ -33,6 +33,7 @@ pub fn steps_keep_protocol<A: Allocator>()
 /// A view with the protocol invariant is never ahead of the truth (FORTE 2013).
 pub fn protocol_is_safe<A: Allocator>()
     ensures passed { PassedMeansFinished }
+    ensures held { HeldIsNotPassed }
     ensures before { NothingIsBefore }
     ensures last { NoticeComesLast A }
     ensures finished { FinishedStaysFinished A }

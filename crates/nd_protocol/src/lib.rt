@@ -4,12 +4,16 @@
 mod laws;
 mod numbers;
 mod part;
+mod processors;
 mod refusal;
 mod step;
+mod times;
 
 pub use laws::{protocol_is_safe, starts_keep_protocol, steps_keep_protocol, truth_is_small};
 pub use nd_time::NoMemory;
 pub use numbers::times_are_small;
 pub use part::{Part, Points};
+pub use processors::Processors;
 pub use refusal::Refusal;
 pub use step::{Next, Step, Values};
+pub use times::{BoxedTimes, Times};

@@ -1,8 +1,8 @@
 //! The types of a step keep its numbers in their ranges.
 ghost use Rattle.std.specs.Prelude.{All};
-ghost use Rattle.nd_protocol.specs.Ranges.{IsSmall, TimeIsSmall, IsValue, NumbersFit};
+ghost use Rattle.nd_protocol.specs.Ranges.{IsSmall, TimeIsSmall, TimesAreSmall, NextIsSmall, IsValue, NumbersFit};
 
-use crate::{Part, Step};
+use crate::{Next, Part, Step, Times};
 use nd_paths::Pointstamp;
 use nd_time::Timestamp;
 use std::alloc::Allocator;
@@ -47,14 +47,36 @@ fn points_are_small(points: &[Pointstamp])
     }
 }
 
+// So do those of a released capability's times.
+fn released_times_are_small(times: &Times)
+    ensures { TimesAreSmall times.now.time times.now.to }
+{
+    times_are_small(&times.time);
+    if let Some(to) = &times.to {
+        times_are_small(to);
+    }
+}
+
+// The epoch to which a token goes has 32 bits.
+fn next_is_small(next: Next)
+    ensures { NextIsSmall next }
+{
+    if let Next::To(epoch) = next {
+        let _epoch = epoch;
+    }
+}
+
 impl<A: Allocator> Step<A> {
     /// The numbers of a step fit their types. It does nothing, and is to be called where its clause is needed.
     pub fn numbers_fit(&self)
         ensures { NumbersFit self.now }
     {
         match self {
-            Step::Feed { p, values, .. } => {
+            Step::Feed {
+                p, values, next, ..
+            } => {
                 let _p = *p;
+                next_is_small(*next);
                 are_values(values.as_slice());
             }
             Step::Take { p, time, value, .. } => {
@@ -65,6 +87,10 @@ impl<A: Allocator> Step<A> {
             Step::Notice { p, time, .. } => {
                 let _p = *p;
                 times_are_small(time);
+            }
+            Step::Release { p, times, .. } => {
+                let _p = *p;
+                released_times_are_small(times.get());
             }
             Step::Broadcast { p, part: Part::All } => {
                 let _p = *p;

@@ -6,7 +6,7 @@ use nd_paths::Pointstamp;
 use nd_time::Code;
 use thiserror::Error;
 
-/// Why a step is refused, tested in the order of the numbers (this project's own rule).
+/// Why a step is refused, tested in the order of the numbers, but for `Memory`, the last (this project's own rule).
 #[derive(Debug, PartialEq, Eq, Drop, Error)]
 pub enum Refusal {
     #[error("there is no such processor")]
@@ -45,6 +45,10 @@ pub enum Refusal {
     QueueEmpty,
     #[error("a queue is full")]
     QueueFull,
+    #[error("a hold vertex is never notified")]
+    NotNotified,
+    #[error("the time is not strictly later")]
+    NotLater,
     #[error("out of memory")]
     Memory,
 }
@@ -77,6 +81,8 @@ impl Refusal {
             },
             Refusal::QueueEmpty => Refusal::QueueEmpty,
             Refusal::QueueFull => Refusal::QueueFull,
+            Refusal::NotNotified => Refusal::NotNotified,
+            Refusal::NotLater => Refusal::NotLater,
             Refusal::Memory => Refusal::Memory,
         }
     }
@@ -104,6 +110,8 @@ impl Refusal {
             Refusal::NotAdmissible { point: _ } => Code::new(16, "NotAdmissible"),
             Refusal::QueueEmpty => Code::new(17, "QueueEmpty"),
             Refusal::QueueFull => Code::new(18, "QueueFull"),
+            Refusal::NotNotified => Code::new(53, "NotNotified"),
+            Refusal::NotLater => Code::new(54, "NotLater"),
             Refusal::Memory => Code::new(19, "Memory"),
         }
     }

@@ -1,7 +1,7 @@
 //! The steps that a cluster can make.
 ghost use Rattle.std.specs.Prelude.{◌≡◌, ◌≢◌, [], ◌∷◌, ◌++◌, IfOk, OnOk, OnErr, MatchBool};
 
-use crate::Part;
+use crate::{BoxedTimes, Part};
 use nd_time::Timestamp;
 use std::alloc::{AllocError, Allocator, Global};
 use std::marker::Model;
@@ -72,6 +72,8 @@ pub enum Next {
     Close,
     /// It stays where it is.
     Stay,
+    /// It goes to this epoch.
+    To(u32),
 }
 
 /// One step of one processor (Naiad, SOSP 2013, sections 2.2 and 3.3).
@@ -96,6 +98,12 @@ pub enum Step<A: Allocator = Global> {
         p: u32,
         vertex: usize,
         time: Timestamp,
+    },
+    /// Gives up a capability that a hold vertex keeps, or moves it to a later time.
+    Release {
+        p: u32,
+        vertex: usize,
+        times: BoxedTimes<A>,
     },
     /// Sends a part of what is unsent to every processor.
     Broadcast {
@@ -141,6 +149,11 @@ impl<A: Allocator> Step<A> {
                 p: *p,
                 vertex: *vertex,
                 time: time.copy(),
+            }),
+            Step::Release { p, vertex, times } => Ok(Step::Release {
+                p: *p,
+                vertex: *vertex,
+                times: times.copy(alloc)?,
             }),
             Step::Broadcast { p, part } => Ok(Step::Broadcast {
                 p: *p,
@@ -193,6 +206,14 @@ impl<A: Allocator> Step<A> {
                     time: at,
                 },
             ) => *p == *q && *vertex == *told && *time == *at,
+            (
+                Step::Release { p, vertex, times },
+                Step::Release {
+                    p: q,
+                    vertex: held,
+                    times: others,
+                },
+            ) => *p == *q && *vertex == *held && times.same(others),
             (Step::Broadcast { p, part }, Step::Broadcast { p: q, part: other }) => {
                 *p == *q && part.same(other)
             }

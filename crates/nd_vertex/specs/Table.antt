@@ -6,7 +6,7 @@ use Rattle.nd_time.specs.Time.{Time}
 use Rattle.nd_graph.specs.Graph.{action_of, acted}
 use Rattle.nd_graph.specs.Operators.{facts}
 use Rattle.nd_graph.specs.declared.op.Op.{Op}
-use Rattle.nd_graph.specs.declared.op.Op.TheVariants.{Input, Ingress, Egress, Feedback, Add, Mul, Below, Split, Sum, Distinct, Sink}
+use Rattle.nd_graph.specs.declared.op.Op.TheVariants.{Input, Ingress, Egress, Feedback, Add, Mul, Below, Split, Sum, Distinct, Hold, Sink}
 use Rattle.nd_time.specs.Listing.{time_cmp}
 use Rattle.nd_vertex.specs.Items.{Items, item_key, item_total}
 use Rattle.nd_vertex.specs.declared.key.ItemKey.{ItemKey}
@@ -17,7 +17,7 @@ pub record Outcome : Type 0 where
   pub emissions : List (ℕ × ℤ)
   -- its items afterwards
   pub items : Items
-  -- whether it requests a notification
+  -- whether it makes a request
   pub asks : Bool
   -- whether it counts the value
   pub counts : Bool
@@ -45,6 +45,7 @@ plain_emissions (Add k) v = (0, v +ℤ k) ∷ []
 plain_emissions (Mul k) v = (0, v *ℤ k) ∷ []
 plain_emissions (Below k) v = cond (int_lt v k) ((0, v) ∷ []) []
 plain_emissions (Split k) v = (cond (int_lt v k) 0 1, v) ∷ []
+plain_emissions Hold v = (0, v) ∷ []
 plain_emissions Sink v = []
 -- sum and distinct depend on the items, see below
 plain_emissions Sum v = []
@@ -61,7 +62,7 @@ reacted Distinct items t v =
 -- any other operator has no items
 reacted op items t v = (plain_emissions op v, items)
 
--- on a record; whether the vertex requests a notification and counts depends on the operator only
+-- on a record; whether the vertex makes a request and counts depends on the operator only
 abbrev pub on_record : Op → Items → Time → ℤ → Outcome
 on_record op items t v =
     let reaction = reacted op items t v in

@@ -71,7 +71,7 @@ fn plain_output(op: Op, value: i64) -> Result<Option<(u32, i64)>, VertexFault>
 {
     match op {
         Op::Input | Op::Sum | Op::Distinct | Op::Sink => Ok(None),
-        Op::Ingress | Op::Egress | Op::Feedback => Ok(Some((0, value))),
+        Op::Ingress | Op::Egress | Op::Feedback | Op::Hold => Ok(Some((0, value))),
         Op::Add(k) => match value.checked_add(k) {
             Some(sum) => Ok(Some((0, sum))),
             None => Err(VertexFault::ValueRange),

@@ -1,0 +1,18 @@
+-- The times of a capability that is released.
+use Rattle.std.specs.Prelude.{◌≡◌, ◌≢◌, ⊤, Option, Some, None, refl}
+use Rattle.std.specs.Coded.{Coded, code_by, coded×, coded_option}
+use Rattle.nd_time.specs.Time.{Time, IsAtOrBefore}
+use Rattle.nd_time.specs.Listing.{time_code}
+use Rattle.nd_protocol.specs.declared.times.Times.{Times}
+
+-- a time to which a capability moves is strictly after the one at which it was kept
+abbrev pub GoesLater : Time → Option Time → Type 0
+GoesLater t None = ⊤
+GoesLater t (Some to) = IsAtOrBefore t to × (t ≢ to)
+
+abbrev pub times_code : Coded Times
+times_code =
+    code_by (Time × Option Time) (coded× time_code (coded_option time_code))
+    (λ x. (x.time, x.to))
+    (λ t. record { time = t.0; to = t.1 })
+    (λ _. refl)

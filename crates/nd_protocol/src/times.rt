@@ -1,0 +1,78 @@
+//! The times of a capability that is released.
+ghost use Rattle.std.specs.Prelude.{◌≡◌, ◌≢◌, IfOk, MatchBool};
+
+use nd_time::Timestamp;
+use std::alloc::{AllocError, Allocator, Global};
+use std::marker::Model;
+
+/// The time at which a capability is kept, and the later time to which it moves, if it is not given up.
+#[derive(Debug, PartialEq, Eq, Drop)]
+pub struct Times {
+    pub time: Timestamp,
+    pub to: Option<Timestamp>,
+}
+
+impl Times {
+    /// Equal times.
+    pub fn copy(&self) -> Times
+        ensures { result ≡ self.now }
+    {
+        let to = match &self.to {
+            Some(to) => Some(to.copy()),
+            None => None,
+        };
+        Times {
+            time: self.time.copy(),
+            to,
+        }
+    }
+}
+
+/// Such times on the heap, so that the step that holds them stays small.
+#[derive(Drop)]
+pub struct BoxedTimes<A: Allocator = Global> {
+    boxed: Box<Times, A>,
+}
+
+impl<A: Allocator> Model for BoxedTimes<A> {
+    ghost use Rattle.nd_protocol.specs.Times.{times_code};
+    ghost use Rattle.nd_protocol.specs.declared.times.Times.{Times};
+
+    ghost Value = { Times };
+
+    ghost coded = { times_code };
+
+    ghost view = { λ a. a.boxed.value };
+}
+
+impl<A: Allocator> BoxedTimes<A> {
+    /// Moves times to the heap.
+    pub fn new(alloc: A, times: Times) -> Result<BoxedTimes<A>, AllocError>
+        ensures { IfOk result (λ b. b ≡ times) }
+    {
+        Ok(BoxedTimes {
+            boxed: Box::new(alloc, times)?,
+        })
+    }
+
+    /// The times.
+    pub fn get(&self) -> &Times
+        ensures { result.now ≡ self.now }
+    {
+        &self.boxed
+    }
+
+    /// Equal times on the heap.
+    pub fn copy(&self, alloc: A) -> Result<BoxedTimes<A>, AllocError>
+        ensures { IfOk result (λ b. b ≡ self.now) }
+    {
+        BoxedTimes::new(alloc, self.get().copy())
+    }
+
+    // Whether both are the same times.
+    pub(crate) fn same(&self, other: &BoxedTimes<A>) -> bool
+        ensures { MatchBool result (self.now ≡ other.now) (self.now ≢ other.now) }
+    {
+        *self.get() == *other.get()
+    }
+}
