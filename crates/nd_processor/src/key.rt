@@ -6,7 +6,7 @@ use nd_paths::Pointstamp;
 
 /// A value at a pointstamp: a record on an edge.
 ///
-/// They are listed by pointstamp, and then by value.
+/// Keys are ordered by pointstamp, and then by value.
 #[derive(Debug, PartialEq, Eq, PartialOrd, Ord, Drop)]
 pub struct ValueAt {
     pub point: Pointstamp,
@@ -14,7 +14,7 @@ pub struct ValueAt {
 }
 
 impl ValueAt {
-    /// An equal key.
+    /// Returns an equal key.
     pub fn copy(&self) -> ValueAt
         ensures { result ≡ self.now }
     {
@@ -27,7 +27,7 @@ impl ValueAt {
 
 /// A value that a sink vertex has counted.
 ///
-/// They are listed by vertex, and then by value.
+/// Keys are ordered by vertex, and then by value.
 #[derive(Clone, Copy, Debug, PartialEq, Eq, PartialOrd, Ord, Drop)]
 pub struct SinkKey {
     pub vertex: usize,

@@ -1,4 +1,4 @@
-//! A processor: its maps, their readers, and the edits that undo one another.
+//! A processor: its maps, readers of the maps, and pairs of edits that undo each other.
 ghost use Rattle.std.specs.Prelude.{◌≡◌, ◌≢◌, ◌↔◌, ◌≤◌, ◌<◌, ◌^◌, ◌+◌, ◌+ℤ◌, ℕ, ℤ, pos, neg_ℤ, unsigned_abs, Err, None, Some, IfOk, OnOk, OnErr, IsTrue, length, map, slice_get, slice_set};
 ghost use Rattle.std.specs.Option.{option_map};
 ghost use Rattle.std.specs.FinMap as fin;
@@ -30,7 +30,7 @@ use nd_vertex::VertexState;
 use std::alloc::{AllocError, Allocator, Global};
 use std::marker::Model;
 
-/// One processor of a cluster, but for its view (Naiad, SOSP 2013, section 3.3).
+/// One processor of a cluster, without its view (Naiad, SOSP 2013, section 3.3).
 pub struct Processor<A: Allocator + Copy = Global> {
     records: Tally<ValueAt, A>,
     requests: GrowingMap<Pointstamp, (), A>,
@@ -67,7 +67,7 @@ impl<A: Allocator + Copy> Model for Processor<A> {
 }
 
 impl<A: Allocator + Copy> Processor<A> {
-    /// The processor at the start of a cluster: each input's token at epoch 0, and all else empty.
+    /// Returns the processor at the start of a cluster: each input's token is at epoch 0, and everything else is empty.
     pub fn start(alloc: A, graph: &Graph<A>) -> Result<Processor<A>, AllocError>
         ensures { IfOk result (λ p. p ≡ start_processor graph.now) }
     {
@@ -81,7 +81,7 @@ impl<A: Allocator + Copy> Processor<A> {
         })
     }
 
-    /// An equal processor.
+    /// Returns an equal processor.
     pub fn copy(&self, alloc: A) -> Result<Processor<A>, AllocError>
         ensures { IfOk result (λ p. p ≡ self.now) }
     {
@@ -97,7 +97,7 @@ impl<A: Allocator + Copy> Processor<A> {
 
     // ---- readers
 
-    /// How many records there are of a value at an edge's pointstamp.
+    /// Returns the number of records with a value at an edge's pointstamp.
     pub fn count_of(&self, key: &ValueAt) -> u64
         ensures value { result ≡ at self.now.records key.now }
         ensures within { result ≤ max_count }
@@ -105,7 +105,7 @@ impl<A: Allocator + Copy> Processor<A> {
         self.records.count_of(key)
     }
 
-    /// How many records there are at a pointstamp, over all values. It looks at these alone.
+    /// Returns the number of records at a pointstamp, over all values. It reads only these records.
     pub fn records_at(&self, point: &Pointstamp) -> u128
         ensures value { result ≡ in_records self.now.records point.now }
         ensures fits { result < 2 ^ 120 }
@@ -125,7 +125,7 @@ impl<A: Allocator + Copy> Processor<A> {
         total
     }
 
-    /// The records with their counts, by pointstamp and then by value.
+    /// Returns the records with their counts, ordered by pointstamp and then by value.
     pub fn records(&self) -> Iter<'_, ValueAt, u64>
         ensures rest { result ≡ counts_of self.now.records }
         ensures runs { ShowsInOrder (deref_pair {K = Value} {X = ℕ}) }
@@ -135,7 +135,7 @@ impl<A: Allocator + Copy> Processor<A> {
         self.records.iter()
     }
 
-    /// The least record and its count.
+    /// Returns the least record and its count.
     pub fn first_record(&self) -> Option<(&ValueAt, u64)>
         ensures { option_map (λ e. (e.0.now, e.1)) result
             ≡ slice_get (counts_of self.now.records) 0 }
@@ -143,14 +143,14 @@ impl<A: Allocator + Copy> Processor<A> {
         self.records.first()
     }
 
-    /// Whether a notice was asked for at a vertex's pointstamp.
+    /// Returns whether there is a request at a vertex's pointstamp.
     pub fn has_request(&self, point: &Pointstamp) -> bool
         ensures { IsTrue result ↔ (fin.get self.now.requests point.now ≡ Some tt) }
     {
         self.requests.get(point).is_some()
     }
 
-    /// The pointstamps at which a notice was asked for, in order.
+    /// Returns the pointstamps of the requests, in order.
     pub fn requests(&self) -> Iter<'_, Pointstamp, ()>
         ensures rest { result ≡ fin.entries self.now.requests }
         ensures runs { ShowsInOrder (deref_pair {K = Point} {X = Unit {0}}) }
@@ -159,7 +159,7 @@ impl<A: Allocator + Copy> Processor<A> {
         self.requests.iter()
     }
 
-    /// The least pointstamp at which a notice was asked for.
+    /// Returns the least pointstamp of a request.
     pub fn first_request(&self) -> Option<&Pointstamp>
         ensures { option_map (λ p. p.now) result ≡ slice_get (fin.keys self.now.requests) 0 }
     {
@@ -169,21 +169,21 @@ impl<A: Allocator + Copy> Processor<A> {
         }
     }
 
-    /// The epoch of an input vertex's token, `None` if it has none.
+    /// Returns the epoch of an input vertex's token, or `None` if the input is closed.
     pub fn token(&self, vertex: usize) -> Option<u32>
         ensures { result ≡ fin.get self.now.tokens vertex }
     {
         self.tokens.get(&vertex)
     }
 
-    /// The input vertices that have a token with its epoch, in order.
+    /// Returns the open input vertices with the epochs of their tokens, in order.
     pub fn tokens(&self) -> &[(usize, u32)]
         ensures { result.now ≡ fin.entries self.now.tokens }
     {
         self.tokens.entries()
     }
 
-    /// The pointstamps of the tokens, in order.
+    /// Returns the pointstamps of the tokens, in order.
     pub fn token_points(&self, alloc: A) -> Result<Vec<Pointstamp, A>, NoMemory>
         ensures { IfOk result (λ v. v.items ≡ points_of_tokens self.now) }
     {
@@ -193,14 +193,14 @@ impl<A: Allocator + Copy> Processor<A> {
         Ok(points)
     }
 
-    /// For how many vertices items are stored: all of the graph's.
+    /// Returns the number of vertices for which items are stored, which is the number of vertices of the graph.
     pub fn vertex_count(&self) -> usize
         ensures { result ≡ length self.now.items }
     {
         self.items.len()
     }
 
-    /// What a vertex keeps.
+    /// Returns the items of a vertex.
     pub fn vertex_state(&self, vertex: usize) -> &VertexState<A>
         requires { vertex < length self.now.items }
         ensures { result.now ≡ items_at self.now vertex }
@@ -208,7 +208,7 @@ impl<A: Allocator + Copy> Processor<A> {
         &self.items[vertex]
     }
 
-    /// How often a sink vertex has counted a value.
+    /// Returns how often a sink vertex has counted a value.
     pub fn sink_count(&self, vertex: usize, value: i64) -> u64
         ensures value { result ≡ counted_at self.now vertex value }
         ensures within { result ≤ max_count }
@@ -216,7 +216,7 @@ impl<A: Allocator + Copy> Processor<A> {
         self.sinks.count_of(&SinkKey { vertex, value })
     }
 
-    /// The values that sink vertices have counted with their counts, by vertex and then by value.
+    /// Returns the values that sink vertices have counted with their counts, ordered by vertex and then by value.
     pub fn sinks(&self) -> Iter<'_, SinkKey, u64>
         ensures rest { result ≡ counts_of self.now.sinks }
         ensures runs { ShowsInOrder (deref_pair {K = Counted} {X = ℕ}) }
@@ -226,7 +226,7 @@ impl<A: Allocator + Copy> Processor<A> {
         self.sinks.iter()
     }
 
-    /// The progress updates that were not sent yet.
+    /// Returns the progress updates that are not sent yet.
     pub fn unsent(&self) -> &LargeDelta<A>
         ensures { result.now ≡ self.now.unsent }
     {
@@ -235,7 +235,7 @@ impl<A: Allocator + Copy> Processor<A> {
 
     // ---- edits
 
-    /// So many records more of a key.
+    /// Adds `n` records at a key.
     pub fn add_records(&mut self, key: &ValueAt, n: u64) -> Result<(), CountFault>
         ensures ok { OnOk result (self.new ≡ with_records self.old key.now (pos n)) }
         ensures undone { OnOk result (with_records self.new key.now (less n) ≡ self.old) }
@@ -248,7 +248,7 @@ impl<A: Allocator + Copy> Processor<A> {
         self.records.add(key, n)
     }
 
-    /// So many records less of a key. It takes no memory.
+    /// Removes `n` records at a key. The call allocates no memory.
     pub fn take_records(&mut self, key: &ValueAt, n: u64)
         requires { n ≤ at self.old.records key.now }
         ensures taken { self.new ≡ with_records self.old key.now (less n) }
@@ -257,7 +257,7 @@ impl<A: Allocator + Copy> Processor<A> {
         self.records.take(key, n);
     }
 
-    /// A notice is asked for.
+    /// Adds a request.
     pub fn add_request(&mut self, point: &Pointstamp) -> Result<(), AllocError>
         ensures ok { OnOk result (self.new ≡ with_request self.old point.now) }
         ensures undone { OnOk result (ComesBack self.old self.new point.now) }
@@ -270,7 +270,7 @@ impl<A: Allocator + Copy> Processor<A> {
         Ok(())
     }
 
-    /// A notice is asked for no longer. It takes no memory.
+    /// Removes a request. The call allocates no memory.
     pub fn drop_request(&mut self, point: &Pointstamp)
         ensures dropped { self.new ≡ without_request self.old point.now }
         ensures undone { GoesBack self.old self.new point.now }
@@ -278,7 +278,7 @@ impl<A: Allocator + Copy> Processor<A> {
         self.requests.remove(point);
     }
 
-    /// An input vertex's token moves, comes or goes. Only one that comes takes memory.
+    /// Moves, adds or removes the token of an input vertex. Only adding one allocates memory.
     pub fn move_token(
         &mut self,
         vertex: usize,
@@ -303,7 +303,7 @@ impl<A: Allocator + Copy> Processor<A> {
         Ok(())
     }
 
-    /// A vertex keeps another number for an item. Only an item that comes takes memory.
+    /// Changes, adds or removes the number of a vertex's item. Only adding one allocates memory.
     pub fn set_item(
         &mut self,
         vertex: usize,
@@ -325,7 +325,7 @@ impl<A: Allocator + Copy> Processor<A> {
         Ok(())
     }
 
-    /// A sink vertex counts a value so many times more.
+    /// Adds `n` to a sink vertex's count of a value.
     pub fn add_sink(&mut self, vertex: usize, value: i64, n: u64) -> Result<(), CountFault>
         ensures ok { OnOk result (self.new ≡ with_counted self.old vertex value (pos n)) }
         ensures undone { OnOk result (with_counted self.new vertex value (less n) ≡ self.old) }
@@ -336,7 +336,7 @@ impl<A: Allocator + Copy> Processor<A> {
         self.sinks.add(&SinkKey { vertex, value }, n)
     }
 
-    /// A sink vertex counts a value so many times less. It takes no memory.
+    /// Subtracts `n` from a sink vertex's count of a value. The call allocates no memory.
     pub fn take_sink(&mut self, vertex: usize, value: i64, n: u64)
         requires { n ≤ counted_at self.old vertex value }
         ensures taken { self.new ≡ with_counted self.old vertex value (less n) }
@@ -345,7 +345,7 @@ impl<A: Allocator + Copy> Processor<A> {
         self.sinks.take(&SinkKey { vertex, value }, n);
     }
 
-    /// An integer more at a pointstamp of what is unsent. A pointstamp that has one takes no memory.
+    /// Adds an integer to the unsent entry at a pointstamp. The call allocates no memory if there is an entry.
     pub fn add_unsent(&mut self, point: &Pointstamp, n: i64) -> Result<(), DeltaFault>
         ensures ok { OnOk result (self.new ≡ with_more_unsent self.old point.now n) }
         ensures undone { OnOk result (with_fewer_unsent self.new point.now n ≡ self.old) }
@@ -358,7 +358,7 @@ impl<A: Allocator + Copy> Processor<A> {
         Ok(())
     }
 
-    /// These entries go out of what is unsent. It takes no memory.
+    /// Removes these entries from the unsent change. The call allocates no memory.
     pub fn take_part(&mut self, part: &Delta<A>)
         requires { IsPartOf part.now self.old.unsent }
         ensures taken { self.new ≡ without_part self.old part.now }
@@ -367,7 +367,7 @@ impl<A: Allocator + Copy> Processor<A> {
         self.unsent.take_part(part);
     }
 
-    /// These entries come into what is unsent, which has none at their pointstamps.
+    /// Adds these entries to the unsent change, which has none at their pointstamps.
     pub fn put_part(&mut self, part: &Delta<A>) -> Result<(), AllocError>
         requires { IsApart part.now self.old.unsent }
         ensures ok { OnOk result (self.new ≡ with_part self.old part.now) }

@@ -1,4 +1,4 @@
-//! What a processor starts with, and copies of its lists.
+//! The lists that a processor starts with, and copies of its lists.
 ghost use Rattle.std.specs.Prelude.{◌≡◌, ◌<◌, IfOk, map, replicate};
 ghost use Rattle.std.specs.FinMap.{from_entries};
 ghost use Rattle.std.specs.Ordering.{nat_cmp};
@@ -20,7 +20,7 @@ fn is_input(op: Op) -> bool
     matches!(op, Op::Input)
 }
 
-// Each input's token at epoch 0.
+// Returns a token at epoch 0 for each input.
 pub(crate) fn first_tokens<A: Allocator>(
     alloc: A,
     graph: &Graph<A>,
@@ -41,7 +41,7 @@ pub(crate) fn first_tokens<A: Allocator>(
     Ok(tokens)
 }
 
-// Nothing stored for each of so many vertices.
+// Returns an empty state for each of `n` vertices.
 pub(crate) fn no_items<A: Allocator + Copy>(
     alloc: A,
     n: usize,
@@ -55,7 +55,7 @@ pub(crate) fn no_items<A: Allocator + Copy>(
     Ok(items)
 }
 
-// What each vertex keeps, once more.
+// Copies the state of each vertex.
 pub(crate) fn copied_items<A: Allocator + Copy>(
     alloc: A,
     items: &[VertexState<A>],
@@ -69,7 +69,7 @@ pub(crate) fn copied_items<A: Allocator + Copy>(
     Ok(copied)
 }
 
-/// The pointstamp of an input vertex's token.
+/// Returns the pointstamp of an input vertex's token.
 pub fn token_point(vertex: usize, epoch: u32) -> Pointstamp
     ensures { result ≡ point_of vertex epoch }
 {
@@ -79,7 +79,7 @@ pub fn token_point(vertex: usize, epoch: u32) -> Pointstamp
     }
 }
 
-// The pointstamps of tokens, in their order.
+// Returns the pointstamps of tokens, in their order.
 pub(crate) fn points_of<A: Allocator>(
     alloc: A,
     tokens: &[(usize, u32)],

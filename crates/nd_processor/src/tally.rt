@@ -1,4 +1,4 @@
-//! How many there are of each key.
+//! Counts of keys.
 ghost use Rattle.std.specs.Prelude.{ℕ, ◌≡◌, ◌≢◌, ◌↔◌, ◌≤◌, ◌<◌, ◌^◌, ◌+◌, ◌-◌, [], None, Err, IfOk, OnOk, OnErr, slice_get, length};
 ghost use Rattle.std.specs.Option.{option_map};
 ghost use Rattle.std.specs.FinMap.{find};
@@ -15,21 +15,21 @@ use std::alloc::{AllocError, Allocator, Global};
 use std::marker::Model;
 use thiserror::Error;
 
-/// The greatest count.
+/// The maximum count.
 pub const COUNT_LIMIT: u64 = 1_099_511_627_776;
 
 /// Why a count was not changed.
 #[derive(Clone, Copy, Debug, PartialEq, Eq, Drop, Error)]
 pub enum CountFault {
-    /// The count would pass `COUNT_LIMIT`.
+    /// The count would exceed `COUNT_LIMIT`.
     #[error("a count would pass its limit")]
     CountFull,
-    /// A growth was refused.
+    /// An allocation failed.
     #[error("out of memory")]
     Memory,
 }
 
-// A finite map from keys to counts other than 0, each within the limit, seen as the list of its entries.
+// A finite map from keys to counts other than 0 and within the limit. Contracts see it as the list of its entries.
 pub(crate) struct Tally<K: Key, A: Allocator = Global> {
     map: GrowingMap<K, u64, A>,
 }
@@ -51,7 +51,7 @@ impl<K: Key, A: Allocator> Model for Tally<K, A> {
     ghost invariant = { λ a. IsKept K.cmp a.map };
 }
 
-// So many more than this count, if that is within the limit.
+// Returns the sum, or `None` if it exceeds the limit.
 fn raised(count: u64, n: u64) -> Edit<u64>
     requires { count ≤ max_count }
     ensures more { count + n ≤ max_count → result ≡ Put (count + n) }
@@ -63,7 +63,7 @@ fn raised(count: u64, n: u64) -> Edit<u64>
     Edit::Put(count + n)
 }
 
-// So many less than this count, if something is left.
+// Returns the difference, or `None` if it is 0.
 fn lowered(count: u64, n: u64) -> Edit<u64>
     ensures some { n < count → result ≡ Put (count - n) }
     ensures all { count ≤ n → result ≡ Remove }
@@ -75,7 +75,7 @@ fn lowered(count: u64, n: u64) -> Edit<u64>
 }
 
 impl<K: Key, A: Allocator> Tally<K, A> {
-    // The count of a key.
+    // Returns the count of a key.
     pub(crate) fn count_of(&self, key: &K) -> u64
         ensures value { result ≡ number K.cmp self.now key.now }
         ensures within { result ≤ max_count }
@@ -86,7 +86,7 @@ impl<K: Key, A: Allocator> Tally<K, A> {
         }
     }
 
-    // The keys with their counts, in order.
+    // Returns the keys with their counts, in order.
     pub(crate) fn iter(&self) -> Iter<'_, K, u64>
         ensures rest { result ≡ self.now }
         ensures runs { ShowsInOrder (deref_pair {K = K} {X = ℕ}) }
@@ -96,7 +96,7 @@ impl<K: Key, A: Allocator> Tally<K, A> {
         self.map.iter()
     }
 
-    // The keys from one to another, both included, with their counts, in order.
+    // Returns the keys from one to another, both included, with their counts, in order.
     pub(crate) fn between(&self, first: &K, last: &K) -> Between<'_, K, u64>
         requires { IsLeBy K.cmp first.now last.now }
         ensures rest { result ≡ from_to K.cmp first.now last.now self.now }
@@ -107,7 +107,7 @@ impl<K: Key, A: Allocator> Tally<K, A> {
         self.map.between(first, last)
     }
 
-    // The least key with its count.
+    // Returns the least key with its count.
     pub(crate) fn first(&self) -> Option<(&K, u64)>
         ensures value { option_map (λ e. (e.0.now, e.1)) result ≡ slice_get self.now 0 }
         ensures kept { IsKept K.cmp self.now }
@@ -117,7 +117,7 @@ impl<K: Key, A: Allocator> Tally<K, A> {
 }
 
 impl<K: Key, A: Allocator + Copy> Tally<K, A> {
-    // Nothing counted. It takes no memory.
+    // Returns an empty map. The call allocates no memory.
     pub(crate) fn new(alloc: A) -> Tally<K, A>
         ensures { result ≡ [] }
     {
@@ -126,7 +126,7 @@ impl<K: Key, A: Allocator + Copy> Tally<K, A> {
         }
     }
 
-    // So many more of a key. A key that is there takes no memory.
+    // Adds to the count of a key. The call allocates no memory if the key is there.
     pub(crate) fn add(&mut self, key: &K, n: u64) -> Result<(), CountFault>
         ensures ok { OnOk result (self.new ≡ put_more K.cmp key.now n self.old) }
         ensures err { OnErr result (self.new ≡ self.old) }
@@ -147,7 +147,7 @@ impl<K: Key, A: Allocator + Copy> Tally<K, A> {
         }
     }
 
-    // So many less of a key. It takes no memory.
+    // Subtracts from the count of a key. The call allocates no memory.
     pub(crate) fn take(&mut self, key: &K, n: u64)
         requires { n ≤ number K.cmp self.old key.now }
         ensures { self.new ≡ put_fewer K.cmp key.now n self.old }
@@ -162,7 +162,7 @@ impl<K: Key, A: Allocator + Copy> Tally<K, A> {
         };
     }
 
-    // The same counts.
+    // Returns an equal map.
     pub(crate) fn copy(&self, alloc: A) -> Result<Tally<K, A>, AllocError>
         ensures { IfOk result (λ t. t ≡ self.now) }
     {

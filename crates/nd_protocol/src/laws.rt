@@ -1,5 +1,5 @@
-//! The theorems of the protocol, for every cluster and every step: functions without code, to be called where their
-//! clauses are needed.
+//! The theorems of the protocol, for every cluster and every step. They are clauses of functions without code, which callers
+//! call where they need these clauses.
 ghost use Rattle.nd_protocol.specs.Laws.{StartIsState, StartKeepsProtocol, TruthIsSmall};
 ghost use Rattle.nd_protocol.specs.Laws.{StepLeadsToState, StepKeepsSettled, StepKeepsProtocol, RunKeepsProtocol};
 ghost use Rattle.nd_protocol.specs.Laws.{PassedMeansFinished, HeldIsNotPassed, NothingIsBefore, NoticeComesLast, FinishedStaysFinished};
@@ -7,7 +7,7 @@ ghost use Rattle.nd_protocol.specs.Laws.{PassedMeansFinished, HeldIsNotPassed, N
 use nd_paths::order_is_transitive;
 use std::alloc::Allocator;
 
-/// A start is a state and has the protocol invariant.
+/// States that a start is a state and has the protocol invariant.
 pub fn starts_keep_protocol()
     ensures state { StartIsState }
     ensures protocol { StartKeepsProtocol }
@@ -15,12 +15,14 @@ pub fn starts_keep_protocol()
     order_is_transitive();
 }
 
-/// What is outstanding at a pointstamp fits 63 bits, if the cluster is settled and its numbers are within their limits.
+/// States that what is outstanding at a pointstamp fits 63 bits, if the cluster is settled and its numbers are within their
+/// limits.
 pub fn truth_is_small()
     ensures { TruthIsSmall }
 {}
 
-/// An enabled step leads from a state to a state, and keeps the protocol invariant; so does a list of such steps.
+/// States that an enabled step leads from a state to a state and keeps the protocol invariant, and that a list of such steps
+/// does so too.
 pub fn steps_keep_protocol<A: Allocator>()
     ensures state { StepLeadsToState A }
     ensures settled { StepKeepsSettled A }
@@ -30,7 +32,7 @@ pub fn steps_keep_protocol<A: Allocator>()
     order_is_transitive();
 }
 
-/// A view with the protocol invariant is never ahead of the truth (FORTE 2013).
+/// States that no view is ahead of what is really outstanding, if the protocol invariant holds (FORTE 2013).
 pub fn protocol_is_safe<A: Allocator>()
     ensures passed { PassedMeansFinished }
     ensures held { HeldIsNotPassed }

@@ -1,4 +1,4 @@
-//! What a cluster is, the steps that it can make and why they are refused, and the protocol's safety.
+//! What a cluster is, the steps that it can execute, why steps are refused, and why the protocol is safe.
 #![tactic(auto)]
 
 mod laws;

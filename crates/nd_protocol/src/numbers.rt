@@ -1,4 +1,4 @@
-//! The types of a step keep its numbers in their ranges.
+//! Shows that the numbers of a step are in the ranges of their types.
 ghost use Rattle.std.specs.Prelude.{All};
 ghost use Rattle.nd_protocol.specs.Ranges.{IsSmall, TimeIsSmall, TimesAreSmall, NextIsSmall, IsValue, NumbersFit};
 
@@ -7,21 +7,21 @@ use nd_paths::Pointstamp;
 use nd_time::Timestamp;
 use std::alloc::Allocator;
 
-// Numbers of 32 bits.
+// Shows that the numbers fit 32 bits.
 fn numbers_are_small(numbers: &[u32])
     ensures { All IsSmall numbers.now }
 {
     let _len = numbers.len();
 }
 
-// A number of 64 bits.
+// Shows that the number fits 64 bits.
 fn is_value(value: i64)
     ensures { IsValue value }
 {
     let _value = value;
 }
 
-// Such numbers.
+// Shows that the numbers fit 64 bits.
 fn are_values(values: &[i64])
     ensures { All IsValue values.now }
 {
@@ -30,7 +30,8 @@ fn are_values(values: &[i64])
     }
 }
 
-/// The epoch and the counters of a time fit their types. It does nothing, and is to be called where its clause is needed.
+/// Shows that the epoch and the counters of a time fit their types. The function does nothing; call it where its clause is
+/// needed.
 pub fn times_are_small(time: &Timestamp)
     ensures { TimeIsSmall time.now }
 {
@@ -38,7 +39,7 @@ pub fn times_are_small(time: &Timestamp)
     numbers_are_small(time.counters());
 }
 
-// So do those of each pointstamp.
+// Shows that the epochs and the counters of pointstamps fit their types.
 fn points_are_small(points: &[Pointstamp])
     ensures { All (λ x. TimeIsSmall x.time) points.now }
 {
@@ -47,7 +48,7 @@ fn points_are_small(points: &[Pointstamp])
     }
 }
 
-// So do those of a released capability's times.
+// Shows that the epochs and the counters of a released capability's times fit their types.
 fn released_times_are_small(times: &Times)
     ensures { TimesAreSmall times.now.time times.now.to }
 {
@@ -57,7 +58,7 @@ fn released_times_are_small(times: &Times)
     }
 }
 
-// The epoch to which a token goes has 32 bits.
+// Shows that the epoch to which a token moves fits 32 bits.
 fn next_is_small(next: Next)
     ensures { NextIsSmall next }
 {
@@ -67,7 +68,7 @@ fn next_is_small(next: Next)
 }
 
 impl<A: Allocator> Step<A> {
-    /// The numbers of a step fit their types. It does nothing, and is to be called where its clause is needed.
+    /// Shows that the numbers of a step fit their types. The method does nothing; call it where its clause is needed.
     pub fn numbers_fit(&self)
         ensures { NumbersFit self.now }
     {

@@ -1,4 +1,4 @@
-//! Which part of what is unsent a broadcast sends.
+//! The part of the unsent change that a broadcast sends.
 ghost use Rattle.std.specs.Prelude.{◌≡◌, ◌≢◌, [], ◌∷◌, ◌++◌, IfOk, OnOk, OnErr, MatchBool};
 
 use nd_paths::Pointstamp;
@@ -25,7 +25,7 @@ impl<A: Allocator> Model for Points<A> {
 }
 
 impl<A: Allocator> Points<A> {
-    /// No pointstamps.
+    /// Returns an empty list.
     pub fn new(alloc: A) -> Points<A>
         ensures { result ≡ [] }
     {
@@ -34,14 +34,14 @@ impl<A: Allocator> Points<A> {
         }
     }
 
-    /// The pointstamps.
+    /// Returns the pointstamps.
     pub fn as_slice(&self) -> &[Pointstamp]
         ensures { result.now ≡ self.now }
     {
         &self.items
     }
 
-    /// Puts one more pointstamp at the end.
+    /// Appends a pointstamp.
     pub fn push(&mut self, point: Pointstamp) -> Result<(), AllocError>
         ensures ok { OnOk result (self.new ≡ self.old ++ point ∷ []) }
         ensures err { OnErr result (self.new ≡ self.old) }
@@ -50,7 +50,7 @@ impl<A: Allocator> Points<A> {
         Ok(())
     }
 
-    /// Equal pointstamps.
+    /// Returns an equal list.
     pub fn copy(&self, alloc: A) -> Result<Points<A>, AllocError>
         ensures { IfOk result (λ v. v ≡ self.now) }
     {
@@ -61,7 +61,7 @@ impl<A: Allocator> Points<A> {
         Ok(Points { items })
     }
 
-    // Whether both name the same pointstamps, in one order.
+    // Returns whether the two lists are equal.
     pub(crate) fn same(&self, other: &Points<A>) -> bool
         ensures { MatchBool result (self.now ≡ other.now) (self.now ≢ other.now) }
     {
@@ -69,18 +69,18 @@ impl<A: Allocator> Points<A> {
     }
 }
 
-/// Which part of what is unsent a broadcast sends.
+/// The part of the unsent change that a broadcast sends.
 #[derive(Drop)]
 pub enum Part<A: Allocator = Global> {
-    /// All of it.
+    /// The complete unsent change.
     All,
-    /// The entries at these pointstamps. One that is named twice counts once, and one without an
-    /// entry adds nothing.
+    /// The entries at these pointstamps. A pointstamp that is named twice counts once, and one
+    /// without an entry adds nothing.
     Points(Points<A>),
 }
 
 impl<A: Allocator> Part<A> {
-    /// An equal part.
+    /// Returns an equal part.
     pub fn copy(&self, alloc: A) -> Result<Part<A>, AllocError>
         ensures { IfOk result (λ part. part ≡ self.now) }
     {
@@ -90,7 +90,7 @@ impl<A: Allocator> Part<A> {
         }
     }
 
-    // Whether both are one part as it is written.
+    // Returns whether the two parts are written alike.
     pub(crate) fn same(&self, other: &Part<A>) -> bool
         ensures { MatchBool result (self.now ≡ other.now) (self.now ≢ other.now) }
     {

@@ -19,7 +19,7 @@ impl<A: Allocator> Model for Processors<A> {
 }
 
 impl<A: Allocator> Processors<A> {
-    /// No processors.
+    /// Returns an empty list.
     pub fn new(alloc: A) -> Processors<A>
         ensures { result ≡ [] }
     {
@@ -28,14 +28,14 @@ impl<A: Allocator> Processors<A> {
         }
     }
 
-    /// The numbers.
+    /// Returns the numbers.
     pub fn as_slice(&self) -> &[u32]
         ensures { result.now ≡ self.now }
     {
         &self.items
     }
 
-    /// Puts one more number at the end.
+    /// Appends a number.
     pub fn push(&mut self, p: u32) -> Result<(), AllocError>
         ensures ok { OnOk result (self.new ≡ self.old ++ p ∷ []) }
         ensures err { OnErr result (self.new ≡ self.old) }
@@ -44,7 +44,7 @@ impl<A: Allocator> Processors<A> {
         Ok(())
     }
 
-    /// An equal list.
+    /// Returns an equal list.
     pub fn copy(&self, alloc: A) -> Result<Processors<A>, AllocError>
         ensures { IfOk result (λ v. v ≡ self.now) }
     {
@@ -53,7 +53,7 @@ impl<A: Allocator> Processors<A> {
         })
     }
 
-    /// Whether both name the same processors, in one order.
+    /// Returns whether the two lists are equal.
     pub fn same(&self, other: &Processors<A>) -> bool
         ensures { MatchBool result (self.now ≡ other.now) (self.now ≢ other.now) }
     {

@@ -6,7 +6,8 @@ use nd_paths::Pointstamp;
 use nd_time::Code;
 use thiserror::Error;
 
-/// Why a step is refused, tested in the order of the numbers, but for `Memory`, the last (this project's own rule).
+/// Why a step is refused. Refusals are tested in the order of their numbers, except that `Memory` is the last (this project's
+/// own rule).
 #[derive(Debug, PartialEq, Eq, Drop, Error)]
 pub enum Refusal {
     #[error("there is no such processor")]
@@ -54,7 +55,7 @@ pub enum Refusal {
 }
 
 impl Refusal {
-    /// An equal refusal.
+    /// Returns an equal refusal.
     pub fn copy(&self) -> Refusal
         ensures { result ≡ self.now }
     {
@@ -87,7 +88,7 @@ impl Refusal {
         }
     }
 
-    /// The number and the name under which the refusal is answered.
+    /// Returns the number and the name of the refusal.
     pub fn code(&self) -> Code
         ensures { result ≡ code_of self.now }
     {

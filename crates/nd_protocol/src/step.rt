@@ -1,4 +1,4 @@
-//! The steps that a cluster can make.
+//! The steps that a cluster can execute.
 ghost use Rattle.std.specs.Prelude.{◌≡◌, ◌≢◌, [], ◌∷◌, ◌++◌, IfOk, OnOk, OnErr, MatchBool};
 
 use crate::{BoxedTimes, Part};
@@ -21,7 +21,7 @@ impl<A: Allocator> Model for Values<A> {
 }
 
 impl<A: Allocator> Values<A> {
-    /// No values.
+    /// Returns an empty list.
     pub fn new(alloc: A) -> Values<A>
         ensures { result ≡ [] }
     {
@@ -30,14 +30,14 @@ impl<A: Allocator> Values<A> {
         }
     }
 
-    /// The values.
+    /// Returns the values.
     pub fn as_slice(&self) -> &[i64]
         ensures { result.now ≡ self.now }
     {
         &self.items
     }
 
-    /// Puts one more value at the end.
+    /// Appends a value.
     pub fn push(&mut self, value: i64) -> Result<(), AllocError>
         ensures ok { OnOk result (self.new ≡ self.old ++ value ∷ []) }
         ensures err { OnErr result (self.new ≡ self.old) }
@@ -46,7 +46,7 @@ impl<A: Allocator> Values<A> {
         Ok(())
     }
 
-    /// Equal values.
+    /// Returns an equal list.
     pub fn copy(&self, alloc: A) -> Result<Values<A>, AllocError>
         ensures { IfOk result (λ v. v ≡ self.now) }
     {
@@ -55,7 +55,7 @@ impl<A: Allocator> Values<A> {
         })
     }
 
-    // Whether both are the same values in one order.
+    // Returns whether the two lists are equal.
     pub(crate) fn same(&self, other: &Values<A>) -> bool
         ensures { MatchBool result (self.now ≡ other.now) (self.now ≢ other.now) }
     {
@@ -63,16 +63,16 @@ impl<A: Allocator> Values<A> {
     }
 }
 
-/// What becomes of an input's token once its values are fed.
+/// What happens to an input's token after a feed.
 #[derive(Clone, Copy, Debug, PartialEq, Eq, Drop)]
 pub enum Next {
-    /// It goes to the next epoch.
+    /// The token moves to the next epoch.
     Next,
-    /// It is given up.
+    /// The token is given up.
     Close,
-    /// It stays where it is.
+    /// The token stays at its epoch.
     Stay,
-    /// It goes to this epoch.
+    /// The token moves to this epoch.
     To(u32),
 }
 
@@ -93,7 +93,7 @@ pub enum Step<A: Allocator = Global> {
         time: Timestamp,
         value: i64,
     },
-    /// Removes a vertex's request, and runs its notice.
+    /// Removes a request for a notification, and runs the notification.
     Notice {
         p: u32,
         vertex: usize,
@@ -105,12 +105,12 @@ pub enum Step<A: Allocator = Global> {
         vertex: usize,
         times: BoxedTimes<A>,
     },
-    /// Sends a part of what is unsent to every processor.
+    /// Sends a part of the unsent change to every processor.
     Broadcast {
         p: u32,
         part: Part<A>,
     },
-    /// Takes the front of a queue into the receiver's view.
+    /// Adds the front of a queue to the receiver's view.
     Receive {
         from: u32,
         to: u32,
@@ -118,7 +118,7 @@ pub enum Step<A: Allocator = Global> {
 }
 
 impl<A: Allocator> Step<A> {
-    /// An equal step.
+    /// Returns an equal step.
     pub fn copy(&self, alloc: A) -> Result<Step<A>, AllocError>
         ensures { IfOk result (λ x. x ≡ self.now) }
     {
@@ -165,7 +165,7 @@ impl<A: Allocator> Step<A> {
             }),
         }
     }
-    /// Whether both are one step.
+    /// Returns whether the two steps are equal.
     pub fn same(&self, other: &Step<A>) -> bool
         ensures { MatchBool result (self.now ≡ other.now) (self.now ≢ other.now) }
     {

@@ -5,7 +5,7 @@ use nd_time::Timestamp;
 use std::alloc::{AllocError, Allocator, Global};
 use std::marker::Model;
 
-/// The time at which a capability is kept, and the later time to which it moves, if it is not given up.
+/// The time at which a capability is kept, and the later time to which it moves; `None` if it is given up.
 #[derive(Debug, PartialEq, Eq, Drop)]
 pub struct Times {
     pub time: Timestamp,
@@ -13,7 +13,7 @@ pub struct Times {
 }
 
 impl Times {
-    /// Equal times.
+    /// Returns equal times.
     pub fn copy(&self) -> Times
         ensures { result ≡ self.now }
     {
@@ -28,7 +28,7 @@ impl Times {
     }
 }
 
-/// Such times on the heap, so that the step that holds them stays small.
+/// The times of a release on the heap, so that a step stays small.
 #[derive(Drop)]
 pub struct BoxedTimes<A: Allocator = Global> {
     boxed: Box<Times, A>,
@@ -55,21 +55,21 @@ impl<A: Allocator> BoxedTimes<A> {
         })
     }
 
-    /// The times.
+    /// Returns the times.
     pub fn get(&self) -> &Times
         ensures { result.now ≡ self.now }
     {
         &self.boxed
     }
 
-    /// Equal times on the heap.
+    /// Returns equal times on the heap.
     pub fn copy(&self, alloc: A) -> Result<BoxedTimes<A>, AllocError>
         ensures { IfOk result (λ b. b ≡ self.now) }
     {
         BoxedTimes::new(alloc, self.get().copy())
     }
 
-    // Whether both are the same times.
+    // Returns whether the times are equal.
     pub(crate) fn same(&self, other: &BoxedTimes<A>) -> bool
         ensures { MatchBool result (self.now ≡ other.now) (self.now ≢ other.now) }
     {

@@ -1,4 +1,4 @@
-//! The state of a cluster as a JSON value, by the names of locations.
+//! The state of a cluster as a JSON value, with the names of locations.
 #![tactic(auto)]
 
 ghost use Rattle.std.specs.Prelude.{◌≡◌, ◌<◌, ◌++◌, [], length, map, IfOk, OnOk};
@@ -21,7 +21,7 @@ use nd_vertex::ItemKey;
 use nd_view::View;
 use std::alloc::{AllocError, Allocator, Global};
 
-// The name of a location; if there is none, nothing.
+// Returns the name of a location, or an empty text if there is no such location.
 fn name_at<A: Allocator>(graph: &Graph<A>, location: usize) -> &str
     ensures { result.now ≡ name_in graph.now location }
 {
@@ -32,7 +32,7 @@ fn name_at<A: Allocator>(graph: &Graph<A>, location: usize) -> &str
     }
 }
 
-/// The name of a location, in memory of its own; if there is none, nothing.
+/// Returns a copy of the name of a location, or an empty text if there is no such location.
 pub fn name_value<A: Allocator>(
     alloc: Global,
     graph: &Graph<A>,
@@ -43,7 +43,7 @@ pub fn name_value<A: Allocator>(
     Json::text(alloc, name_at(graph, location))
 }
 
-/// A time: its epoch, and then its counters.
+/// Returns a time as a list: its epoch, then its counters.
 pub fn time_value(alloc: Global, time: &Timestamp) -> Result<Json, AllocError>
     ensures reply { IfOk result (λ j. j ≡ time_data time.now) }
 {
@@ -53,7 +53,7 @@ pub fn time_value(alloc: Global, time: &Timestamp) -> Result<Json, AllocError>
     list_of(alloc, numbers.as_slice())
 }
 
-/// A pointstamp: its location's name, and its time.
+/// Returns a pointstamp as a list: the name of its location, then its time.
 pub fn point_value<A: Allocator>(
     alloc: Global,
     graph: &Graph<A>,
@@ -66,11 +66,11 @@ pub fn point_value<A: Allocator>(
     reply!(in alloc; [place, time])
 }
 
-/// What the state lists, which the names of a graph's locations show.
+/// An entry of the state that is shown with the names of a graph's locations.
 trait Listed {
     ghost listed: { Dataflow → Self → Data };
 
-    /// The JSON value of one.
+    /// Returns the JSON value of the entry.
     fn shown<A: Allocator>(&self, alloc: Global, graph: &Graph<A>) -> Result<Json, AllocError>
         ensures reply { IfOk result (λ j. j ≡ listed graph.now self.now) };
 }
@@ -136,7 +136,7 @@ impl Listed for (usize, ItemKey, i64) {
     }
 }
 
-// The list of all entries, in their order.
+// Returns the list of all entries, in their order.
 fn entries_value<T: Listed, A: Allocator>(
     alloc: Global,
     graph: &Graph<A>,
@@ -151,7 +151,7 @@ fn entries_value<T: Listed, A: Allocator>(
     Ok(list.into_json())
 }
 
-/// Counts of pointstamps, in the order in which they are given: each a location's name, a time and the count.
+/// Returns the counts of pointstamps in the given order, each as a list: the name of the location, the time and the count.
 pub fn counts_value<A: Allocator>(
     alloc: Global,
     graph: &Graph<A>,
@@ -162,7 +162,7 @@ pub fn counts_value<A: Allocator>(
     entries_value(alloc, graph, entries)
 }
 
-// The entries that an iterator of a map has left.
+// Returns the remaining entries of an iterator over a map.
 fn collected<K: Key, V: Copy>(
     alloc: Global,
     entries: Iter<'_, K, V>,
@@ -176,7 +176,7 @@ fn collected<K: Key, V: Copy>(
     Ok(list)
 }
 
-// More items, all of one vertex.
+// Appends the items of one vertex.
 fn push_items(
     items: &mut Vec<(usize, ItemKey, i64)>,
     vertex: usize,
@@ -191,7 +191,7 @@ fn push_items(
     Ok(())
 }
 
-// What all vertices of a processor keep, vertex by vertex.
+// Returns the items of all vertices of a processor, vertex by vertex.
 fn all_items<A: Allocator + Copy>(
     alloc: Global,
     processor: &Processor<A>,
@@ -208,7 +208,7 @@ fn all_items<A: Allocator + Copy>(
     Ok(items)
 }
 
-// A processor with these lists.
+// Returns a processor with these lists.
 fn processor_object(
     alloc: Global,
     items: Json,
@@ -225,7 +225,7 @@ fn processor_object(
     reply!(in alloc; {"items": items, "records": records, "requests": requests, "sinks": sinks, "tokens": tokens, "unsent": unsent, "view": known})
 }
 
-// A processor, and its view.
+// Returns a processor with its view.
 fn processor_value<A: Allocator + Copy>(
     alloc: Global,
     graph: &Graph<A>,
@@ -246,7 +246,7 @@ fn processor_value<A: Allocator + Copy>(
     )
 }
 
-// The processors, each with its view.
+// Returns the processors, each with its view.
 fn processors_value<A: Allocator + Copy>(
     alloc: Global,
     graph: &Graph<A>,
@@ -264,7 +264,7 @@ fn processors_value<A: Allocator + Copy>(
     Ok(list.into_json())
 }
 
-// The changes on their way from a sender to a receiver, from front to back.
+// Returns the changes in the queue from a sender to a receiver, from front to back.
 fn queue_value<A: Allocator + Copy>(
     alloc: Global,
     graph: &Graph<A>,
@@ -284,7 +284,7 @@ fn queue_value<A: Allocator + Copy>(
     Ok(list.into_json())
 }
 
-// The queues of one sender, one to each receiver.
+// Returns the queues of one sender, one for each receiver.
 fn sender_value<A: Allocator + Copy>(
     alloc: Global,
     graph: &Graph<A>,
@@ -301,7 +301,7 @@ fn sender_value<A: Allocator + Copy>(
     Ok(list.into_json())
 }
 
-// The queues of all senders.
+// Returns the queues of all senders.
 fn queues_value<A: Allocator + Copy>(
     alloc: Global,
     graph: &Graph<A>,
@@ -316,14 +316,14 @@ fn queues_value<A: Allocator + Copy>(
     Ok(list.into_json())
 }
 
-// A cluster with these lists.
+// Returns a cluster with these lists.
 fn whole_object(alloc: Global, processors: Json, queues: Json) -> Result<Json, AllocError>
     ensures reply { IfOk result (λ j. j ≡ whole_members processors queues) }
 {
     reply!(in alloc; {"processors": processors, "queues": queues})
 }
 
-/// The state of a cluster, from its processors, each with its view, and its queues: each list in the order of listing.
+/// Returns the state of a cluster: its processors, each with its view, and its queues. Each list is in the order of its keys.
 pub fn state_value<A: Allocator + Copy>(
     alloc: Global,
     graph: &Graph<A>,
