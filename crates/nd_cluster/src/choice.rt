@@ -66,10 +66,10 @@ impl<A: Allocator + Copy> Cluster<A> {
     ///
     /// The step is the first enabled candidate if the processors are gone through from this turn on. There is none exactly
     /// if no candidate of these processors is enabled.
-    pub fn first_planned(
-        &self,
+    pub fn first_planned<'a>(
+        &'a self,
         turn: u64,
-        only: Option<&Processors<A>>,
+        only: Option<&'a Processors<A>>,
     ) -> Result<Option<Record<A>>, NoMemory>
         ensures chosen { IfOk result (λ r. IfSome r (λ r.
             IsChosen self.now turn (option_copied only.entry) r.step)) }

@@ -13,9 +13,9 @@ impl<A: Allocator + Copy> Timeline<A> {
     fn lists_missing(&self, only: Option<&Processors<A>>) -> bool
         ensures { IsTrue result ↔ ListsMissing self.now (option_copied only.entry) }
     {
-        let n = self.cluster().processor_count();
+        let n = self.cluster().n();
         match only {
-            Some(listed) => listed.as_slice().iter().any(|p| *p >= n),
+            Some(listed) => listed.as_slice().iter().any(|p| *p as usize >= n),
             None => false,
         }
     }
