@@ -24,8 +24,8 @@ class Reasons:
     """Asks for the reasons at one state after the other, until as many queries are asked as a page may
     ask."""
 
-    def __init__(self, ask_all, order, named):
-        self.ask_all, self.order, self.named = ask_all, order, named
+    def __init__(self, ask_all, order, holds, named):
+        self.ask_all, self.order, self.holds, self.named = ask_all, order, holds, named
         self.left = {"all": MOST, "fewer": MOST_OF_FEWER}
         self.spent = 0.0
 
@@ -56,6 +56,10 @@ class Reasons:
             for q in range(count)
             for place, time in points
         ]
-        answers = [(it["finished"], list(map(reason_words, it["reasons"]))) for it in self.ask_all(queries)]
+        replies = self.ask_all(queries)
+        answers = [(it["finished"], self.words(it["reasons"])) for it in replies]
         names = [at(*it) for it in points]
         return [dict(zip(names, answers[q * len(points) :])) for q in range(count)]
+
+    def words(self, reasons):
+        return [reason_words(it, self.holds) for it in reasons]

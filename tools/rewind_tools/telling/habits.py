@@ -7,11 +7,12 @@ def help_sentences(version, has_clients):
     commands, queries = (
         ", ".join(it for it in words_of(version) if it in kind) for kind in (COMMANDS, QUERIES)
     )
-    later = ", ".join(it for it in FORMS if it not in words_of(version))
+    known = COMMANDS if has_clients else FORMS
+    later = ", ".join(it for it in known if it not in words_of(version))
     there = "several clients have no queries" if has_clients else f"the queries are {queries}"
     adds = (
         [f'version {LAST} adds {later}; its first line is {{"version":{LAST}}}']
-        if later and not has_clients
+        if later
         else []
     )
     return [
