@@ -188,8 +188,8 @@ def no_capability(teller, value, before):
         return said
     requests = [it["requests"] for it in before["processors"]]
     own = [at(*it) for it in requests[value["p"]] if it[0] == name]
-    others = [str(p) for p, it in enumerate(requests) if [name, value["time"]] in it]
-    elsewhere = f"; processor {listed(others)} holds one there" if others else ""
+    others = [p for p, it in enumerate(requests) if [name, value["time"]] in it]
+    elsewhere = f"; {processors(others)} hold{'s' * (len(others) == 1)} one there" if others else ""
     return f"{said}; at {name} it holds: {some_of(own)}{elsewhere}"
 
 

@@ -107,12 +107,15 @@ def kept_values(value, form):
 
 
 def meant_keys(value, form):
-    """The keys of an object that a form has not, each with the missing key that may be meant, or None."""
+    """The keys of an object that a form has not, each with the key that may be meant, or None: one that is
+    missing, or one that may be left out."""
     missing = missing_keys(value, form)
     others = [key for key in value if key not in form]
-    is_clear, meant = len(missing) == len(others) == 1, {}
+    if len(missing) == len(others) == 1:
+        return {others[0]: missing[0]}
+    meant, missing = {}, [key for key in form if key not in value]
     for key in others:
-        meant[key] = missing[0] if is_clear else nearest(key, missing)
+        meant[key] = nearest(key, missing)
         missing = [it for it in missing if it != meant[key]]
     return meant
 

@@ -40,6 +40,17 @@ HABITS = {
         " undoes one"
     ),
     ("undo", "u"): sentence('{"do":"back"} undoes the last step'),
+    ("downgrade", "delay", "delayed"): sentence(
+        '{"do":"release","p":0,"vertex":"h","time":[0],"to":[1]} moves a held capability to a later time, in'
+        " version 5"
+    ),
+    ("drop",): sentence(
+        '{"do":"release","p":0,"vertex":"h","time":[0]} releases a held capability, in version 5'
+    ),
+    ("advance", "advance_to"): sentence(
+        '{"do":"feed","p":0,"vertex":"a","values":[],"next":{"to":5}} advances an input to epoch 5, in'
+        " version 5"
+    ),
 }
 
 
