@@ -10,13 +10,15 @@ from rewind_tools.telling.table import Points
 # the script's lines name, and those at which a vertex waits for its notification. It asks more of the first
 # kind while that takes fewer seconds.
 MOST, MOST_OF_FEWER, SECONDS = 20_000, 20_000, 10
+# The words of lines that ask about a point, or wait at one.
+NAMING = ("passed", "why", "notice", "release")
 NONE = {"asked": "none", "told": []}
 
 
 def named_points(told):
     """The points that the script's own lines ask about, in their order, each once."""
     values = [it.line.value for it in told.entries if it.line and "error" not in it.reply]
-    asked = [it for it in values if isinstance(it, dict) and it.get("do") in ("passed", "why", "notice")]
+    asked = [it for it in values if isinstance(it, dict) and it.get("do") in NAMING]
     return list(dict.fromkeys((it.get("at", it.get("vertex")), tuple(it["time"])) for it in asked))
 
 
