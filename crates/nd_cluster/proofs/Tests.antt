@@ -1,54 +1,19 @@
 -- What the tests of a plan say together: that a step is enabled, or for which limit or for what comes after them it is refused.
-use Rattle.std.proofs.Common.{◌≢◌, ◌<◌, ℕ, ℤ, List, refl, subst, arith}
+use Rattle.std.proofs.Common.{◌≡◌, ◌≢◌, ◌<◌, ℕ, ℤ, refl, sym, subst, arith}
 use Rattle.nd_time.specs.Time.{Time}
+use Rattle.nd_processor.specs.declared.key.ValueAt.{ValueAt}
 use Rattle.nd_protocol.specs.State.{ClusterState}
 use Rattle.nd_protocol.specs.Steps.{stepped}
-use Rattle.nd_protocol.specs.Enabled.{HasLargeCount, HasLargeEntry, FeedFails, TakeFails, NoticeFails, ReleaseFails, Fails, IsAdmissible, IsEnabled, IsFreeBelow, IsRefused}
+use Rattle.nd_protocol.specs.Enabled.{HasLargeCount, HasLargeEntry, Fails, IsEnabled, IsFreeBelow, IsRefused}
 use Rattle.nd_protocol.specs.Ranges.{NumbersFit}
 use Rattle.nd_protocol.specs.Refusals.{number_of}
 use Rattle.nd_protocol.specs.declared.step.Step.{Step}
 use Rattle.nd_protocol.specs.declared.step.Step.TheVariants.{Feed, Take, Notice, Release, Broadcast, Receive}
-use Rattle.nd_protocol.specs.declared.step.Next.{Next as Afterwards}
-use Rattle.nd_protocol.specs.declared.times.Times.{Times}
 use Rattle.nd_protocol.specs.declared.refusal.Refusal.{Refusal}
 use Rattle.nd_protocol.specs.declared.refusal.Refusal.TheVariants.{CountFull, DeltaFull, NothingToSend, NotAdmissible, QueueEmpty, QueueFull, NotNotified, NotLater, Memory}
 use Rattle.nd_steps.specs.Edits.{Works}
 use Rattle.nd_steps.specs.Limits.{LimitFails}
-use Rattle.nd_cluster.specs.Drafted.{PassesLast, FailsLast}
-
-module _ (s : ClusterState) where
-  -- a feed, a take, a notice or a release is refused for nothing that a broadcast or a receive is
-  feed_never : (p vertex : ℕ) (values : List ℤ) (next : Afterwards) (new : ClusterState) (r : Refusal) → 14 < number_of r → number_of r < 53 → FeedFails s p vertex values next new r → ⊥
-  feed_never p vertex values _ new NothingToSend low high h = h
-  feed_never p vertex values _ new (NotAdmissible point) low high h = h
-  feed_never p vertex values _ new QueueEmpty low high h = h
-  feed_never p vertex values _ new QueueFull low high h = h
-  feed_never p vertex values _ new Memory low high h = h
-  feed_never p vertex values _ new r low high h = absurd (omega (arith, low, high))
-
-  take_never : (p edge : ℕ) (t : Time) (value : ℤ) (new : ClusterState) (r : Refusal) → 14 < number_of r → number_of r < 53 → TakeFails s p edge t value new r → ⊥
-  take_never p edge t value new NothingToSend low high h = h
-  take_never p edge t value new (NotAdmissible point) low high h = h
-  take_never p edge t value new QueueEmpty low high h = h
-  take_never p edge t value new QueueFull low high h = h
-  take_never p edge t value new Memory low high h = h
-  take_never p edge t value new r low high h = absurd (omega (arith, low, high))
-
-  notice_never : (p vertex : ℕ) (t : Time) (new : ClusterState) (r : Refusal) → 14 < number_of r → number_of r < 53 → NoticeFails s p vertex t new r → ⊥
-  notice_never p vertex t new NothingToSend low high h = h
-  notice_never p vertex t new (NotAdmissible point) low high h = h
-  notice_never p vertex t new QueueEmpty low high h = h
-  notice_never p vertex t new QueueFull low high h = h
-  notice_never p vertex t new Memory low high h = h
-  notice_never p vertex t new r low high h = absurd (omega (arith, low, high))
-
-  release_never : (p vertex : ℕ) (times : Times) (new : ClusterState) (r : Refusal) → 14 < number_of r → number_of r < 53 → ReleaseFails s p vertex times new r → ⊥
-  release_never p vertex times new NothingToSend low high h = h
-  release_never p vertex times new (NotAdmissible point) low high h = h
-  release_never p vertex times new QueueEmpty low high h = h
-  release_never p vertex times new QueueFull low high h = h
-  release_never p vertex times new Memory low high h = h
-  release_never p vertex times new r low high h = absurd (omega (arith, low, high))
+use Rattle.nd_cluster.specs.Drafted.{take_of, PassesLast, FailsLast}
 
 module _ {A : Type 0} (s : ClusterState) where
   large_count : (x : Step A) → Works x → Fails s x CountFull → HasLargeCount (stepped s x)
@@ -83,50 +48,22 @@ module _ {A : Type 0} (s : ClusterState) where
   entry_fails (Broadcast p _) works h = absurd works
   entry_fails (Receive from to) works h = absurd works
 
-  never : (x : Step A) → Works x → (r : Refusal) → 14 < number_of r → number_of r < 53 → Fails s x r → ⊥
-  never (Feed p vertex values next) works r low high h = feed_never s p vertex values next _ r low high h
-  never (Take p edge t value) works r low high h = take_never s p edge t value _ r low high h
-  never (Notice p vertex t) works r low high h = notice_never s p vertex t _ r low high h
-  never (Release p vertex times) works r low high h = release_never s p vertex times _ r low high h
-  never (Broadcast p _) works r low high h = absurd works
-  never (Receive from to) works r low high h = absurd works
-
-  -- ---- what is tested after the limits
-
-  pub passes_last : (x : Step A) → Works x → (Fails s x NotNotified → ⊥) → (Fails s x NotLater → ⊥) → IsAdmissible s x → PassesLast s x
-  passes_last x works notified later admissible = record { free = by; admissible = admissible }
+  -- a take is refused for nothing that is tested after the limits
+  take_passes : (p edge : ℕ) (t : Time) (value : ℤ) → PassesLast {A = A} s (Take p edge t value)
+  take_passes p edge t value = record { free = by; admissible = tt }
     where
-      by : (r : Refusal) → 14 < number_of r → Fails s x r → ⊥
-      by NothingToSend low h = never x works NothingToSend low (omega arith) h
-      by (NotAdmissible point) low h = never x works (NotAdmissible point) low (omega arith) h
-      by QueueEmpty low h = never x works QueueEmpty low (omega arith) h
-      by QueueFull low h = never x works QueueFull low (omega arith) h
-      by NotNotified low h = notified h
-      by NotLater low h = later h
-      by Memory low h = never x works Memory low (omega arith) h
-      by r low h = absurd (omega (arith, low))
+      by : (r : Refusal) → 14 < number_of r → Fails {A = A} s (Take p edge t value) r → ⊥
+      by NothingToSend lt h = h
+      by (NotAdmissible point) lt h = h
+      by QueueEmpty lt h = h
+      by QueueFull lt h = h
+      by NotNotified lt h = h
+      by NotLater lt h = h
+      by Memory lt h = h
+      by r lt h = absurd (omega (arith, lt))
 
-  pub not_notified : (x : Step A) → Works x → Fails s x NotNotified → FailsLast s x NotNotified
-  not_notified x works h = record { late = omega arith; fails = h; least = λ q low high f. never x works q low high f }
-
-  pub not_later : (x : Step A) → Works x → (Fails s x NotNotified → ⊥) → Fails s x NotLater → FailsLast s x NotLater
-  not_later x works notified h = record { late = omega arith; fails = h; least = by }
-    where
-      by : (q : Refusal) → 14 < number_of q → number_of q < 54 → Fails s x q → ⊥
-      by NothingToSend low high f = never x works NothingToSend low (omega arith) f
-      by (NotAdmissible point) low high f = never x works (NotAdmissible point) low (omega arith) f
-      by QueueEmpty low high f = never x works QueueEmpty low (omega arith) f
-      by QueueFull low high f = never x works QueueFull low (omega arith) f
-      by NotNotified low high f = notified f
-      by NotLater low high f = absurd (omega (arith, high))
-      by Memory low high f = never x works Memory low (omega arith) f
-      by q low high f = absurd (omega (arith, low))
-
-  -- it is not out of memory
-  pub last_is_some : (x : Step A) → Works x → (r : Refusal) → FailsLast s x r → r ≢ Memory
-  last_is_some x works r last e = never x works Memory (omega arith) (omega arith) (subst (Fails s x) e last.fails)
-
-  -- ---- all tests
+  pub record_passes : (p : ℕ) (gone : ValueAt) (x : Step A) → x ≡ take_of p gone → PassesLast s x
+  record_passes p gone x is = subst (λ (y : Step A). PassesLast s y) (sym is) (take_passes p gone.point.location gone.point.time gone.value)
 
   module _ (x : Step A) (works : Works x) (free : IsFreeBelow s x 13) where
     -- a refusal for the limit of counts is the one of least number
