@@ -73,7 +73,10 @@ impl<A: Allocator> Step<A> {
     {
         match self {
             Step::Feed {
-                p, values, next, ..
+                p,
+                values,
+                next,
+                ..
             } => {
                 let _p = *p;
                 next_is_small(*next);
