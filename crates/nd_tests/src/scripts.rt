@@ -1,9 +1,7 @@
 //! Clusters and steps told by the names of locations, for tests.
 
 use crate::graphs::{HELD, SUM, graph_of, point, time};
-use nd_cluster::{
-    BoxedTimes, Cluster, Next, Part, Points, Processors, Step, Times, Values,
-};
+use nd_cluster::{BoxedTimes, Cluster, Next, Part, Points, Processors, Step, Times, Values};
 use nd_graph::Graph;
 use std::alloc::{Allocator, Global};
 
@@ -17,12 +15,7 @@ pub enum Told {
     /// The time of the notice.
     Notice(u32, &'static str, &'static [u32]),
     /// The time of the capability that is given up, and the later time to which it moves, if it does.
-    Release(
-        u32,
-        &'static str,
-        &'static [u32],
-        Option<&'static [u32]>,
-    ),
+    Release(u32, &'static str, &'static [u32], Option<&'static [u32]>),
     /// The broadcast of all that is unsent.
     All(u32),
     /// The points whose entries are broadcast.

@@ -90,7 +90,11 @@ fn export_replays(rt: HostRuntime) -> Result<(), Fail> {
         let (_, graph, steps) = script;
         let (bytes, ended) = run(&rt, alloc, &ONE, script_of(alloc, script)?.as_slice())?;
         assert_eq!(rt; ended, Ok((steps.len() as u64).saturating_add(3)));
-        assert!(rt; bytes.as_slice().ends_with(exported(alloc, steps)?.as_slice()));
+        assert!(rt;
+            bytes
+                .as_slice()
+                .ends_with(exported(alloc, steps)?.as_slice())
+        );
         for step in *steps {
             let shown = read_and_shown(alloc, graph, step).ok_or("no step")?;
             assert!(rt; shown.as_slice() == step.as_bytes(), "{step}");

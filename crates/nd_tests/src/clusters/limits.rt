@@ -144,10 +144,7 @@ pub static ROWS: [Row; 25] = [
     ),
     (
         HELD,
-        &[
-            Held::Request("h", &[0]),
-            Held::Unsent("h", &[0], 1 - MOST),
-        ],
+        &[Held::Request("h", &[0]), Held::Unsent("h", &[0], 1 - MOST)],
         Told::Notice(0, "h", &[0]),
         53,
     ),

@@ -254,7 +254,10 @@ static MISSING: [Row; 9] = [
     (Asked::RunOnly(0, &[0, 2]), Answer::Refused(1)),
     (Asked::RunOnly(10, &[u32::MAX, 1]), Answer::Refused(1)),
     (Asked::RunOnly(0, &[1]), Answer::Ran(0, 0, Stop::Limit)),
-    (Asked::RunOnly(1_000_000, &[1, 0]), Answer::Ran(0, 0, Stop::Idle)),
+    (
+        Asked::RunOnly(1_000_000, &[1, 0]),
+        Answer::Ran(0, 0, Stop::Idle),
+    ),
     (
         Asked::Forward(Told::Feed(1, "a", &[], Next::Stay)),
         Answer::Moved(1),
@@ -304,10 +307,7 @@ fn runs_in_turn(alloc: Global, asked: &Asked) -> Option<bool> {
 #[test]
 fn runs_of_some(rt: HostRuntime) {
     assert_eq!(rt; are_missing(rt.alloc()), Some(true));
-    for asked in [
-        Asked::RunOnly(5, &[0, 2]),
-        Asked::RunOnly(5, &[2, 2, 0, 2]),
-    ] {
+    for asked in [Asked::RunOnly(5, &[0, 2]), Asked::RunOnly(5, &[2, 2, 0, 2])] {
         assert_eq!(rt; runs_in_turn(rt.alloc(), &asked), Some(true));
     }
 }
