@@ -28,7 +28,7 @@ use Rattle.nd_protocol.specs.Steps.{record_key, point_at}
 use Rattle.nd_protocol.specs.Enabled.{IsEnabled}
 use Rattle.nd_protocol.specs.declared.refusal.Refusal.TheVariants.{NoProcessor, NoRecord, NoRequest, NothingToSend, QueueEmpty}
 use Rattle.nd_protocol.specs.declared.step.Step.{Step}
-use Rattle.nd_protocol.specs.declared.step.Step.TheVariants.{Feed, Take, Notice, Broadcast, Receive}
+use Rattle.nd_protocol.specs.declared.step.Step.TheVariants.{Feed, Take, Notice, Release, Broadcast, Receive}
 use Rattle.nd_protocol.specs.declared.part.Part.TheVariants.{Points}
 use Rattle.nd_protocol.specs.declared.part.Part.TheVariants.{All as Whole}
 use Rattle.nd_cluster.specs.Choice.{IsCandidate, performer, rank, IsListedBefore, ComesFirst, IsIdle}
@@ -266,6 +266,7 @@ module _ {A : Type 0} (s : ClusterState) where
   covers_own : (y : Step A) → IsCandidate y → IsEnabled s y → Contains (candidates_of s (performer y)) y
   unfolding candidates_of
   covers_own (Feed p vertex values _) candidate e = absurd candidate
+  covers_own (Release p vertex times) candidate e = absurd candidate
   covers_own (Receive from p) candidate e =
       Contains-append_left (receives s p) (takes s p ++ (notices s p ++ broadcasts s p)) (Receive from p)
       (among_receives from p (below _ from (λ h. e.free NoProcessor (inl h))) (e.free QueueEmpty))

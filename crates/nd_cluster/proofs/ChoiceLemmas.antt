@@ -6,7 +6,7 @@ use Rattle.nd_protocol.specs.State.{ClusterState}
 use Rattle.nd_protocol.specs.Enabled.{IsEnabled}
 use Rattle.nd_protocol.specs.declared.refusal.Refusal.TheVariants.{NoProcessor}
 use Rattle.nd_protocol.specs.declared.step.Step.{Step}
-use Rattle.nd_protocol.specs.declared.step.Step.TheVariants.{Feed, Take, Notice, Broadcast, Receive}
+use Rattle.nd_protocol.specs.declared.step.Step.TheVariants.{Feed, Take, Notice, Release, Broadcast, Receive}
 use Rattle.nd_cluster.specs.Choice.{IsCandidate, performer, wait, ComesFirst, IsChosen, IsIdle}
 
 -- ---- the turns
@@ -66,6 +66,7 @@ module _ (A : Type 0) (s : ClusterState) where
   performer_there (Feed p vertex values _) e = below _ p (e.free NoProcessor)
   performer_there (Take p edge t value) e = below _ p (e.free NoProcessor)
   performer_there (Notice p vertex t) e = below _ p (e.free NoProcessor)
+  performer_there (Release p vertex times) e = below _ p (e.free NoProcessor)
   performer_there (Broadcast p part) e = below _ p (e.free NoProcessor)
   performer_there (Receive from to) e = below _ to (λ h. e.free NoProcessor (inr h))
 

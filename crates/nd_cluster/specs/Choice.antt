@@ -7,7 +7,7 @@ use Rattle.nd_protocol.specs.State.{ClusterState}
 use Rattle.nd_protocol.specs.Steps.{record_key, point_at}
 use Rattle.nd_protocol.specs.Enabled.{IsEnabled}
 use Rattle.nd_protocol.specs.declared.step.Step.{Step}
-use Rattle.nd_protocol.specs.declared.step.Step.TheVariants.{Feed, Take, Notice, Broadcast, Receive}
+use Rattle.nd_protocol.specs.declared.step.Step.TheVariants.{Feed, Take, Notice, Release, Broadcast, Receive}
 use Rattle.nd_protocol.specs.declared.part.Part.{Part}
 use Rattle.nd_protocol.specs.declared.part.Part.TheVariants.{All, Points}
 use Rattle.nd_cluster.specs.Records.{IsPlanned}
@@ -18,11 +18,12 @@ abbrev pub IsWhole : {A : Type 0} → Part A → Type 0
 IsWhole All = Unit {0}
 IsWhole (Points points) = ⊥
 
--- a step that may be chosen: feeds are left to the users, and a broadcast sends all
+-- a step that may be chosen: feeds and releases are left to the users, and a broadcast sends all
 abbrev pub IsCandidate : {A : Type 0} → Step A → Type 0
 IsCandidate (Feed p vertex values _) = ⊥
 IsCandidate (Take p edge t value) = Unit {0}
 IsCandidate (Notice p vertex t) = Unit {0}
+IsCandidate (Release p vertex times) = ⊥
 IsCandidate (Broadcast p part) = IsWhole part
 IsCandidate (Receive from to) = Unit {0}
 
@@ -33,6 +34,7 @@ abbrev pub performer : {A : Type 0} → Step A → ℕ
 performer (Feed p vertex values _) = p
 performer (Take p edge t value) = p
 performer (Notice p vertex t) = p
+performer (Release p vertex times) = p
 performer (Broadcast p part) = p
 performer (Receive from to) = to
 
@@ -45,6 +47,7 @@ abbrev pub rank : {A : Type 0} → Step A → ℕ
 rank (Feed p vertex values _) = 4
 rank (Take p edge t value) = 1
 rank (Notice p vertex t) = 2
+rank (Release p vertex times) = 4
 rank (Broadcast p part) = 3
 rank (Receive from to) = 0
 
