@@ -1,8 +1,9 @@
 //! Clusters and steps told by the names of locations, for tests.
 
 use crate::graphs::{HELD, SUM, graph_of, point, time};
-use nd_cluster::{BoxedTimes, Cluster, Next, Part, Points, Processors, Step, Times, Values};
+use nd_cluster::{Cluster, Next, Part, Points, Step, Values};
 use nd_graph::Graph;
+use nd_protocol::{BoxedTimes, Processors, Times};
 use std::alloc::{Allocator, Global};
 
 /// A step: the processor, and the name of the vertex or the edge.

@@ -5,7 +5,8 @@ use crate::scripts::{
     HELD_MOVED, SUM_NOTIFIED, Script, Told, is_state, make, processors_of, reach, state_text,
     step_of, times_of, values_of,
 };
-use nd_cluster::{BoxedTimes, Cluster, Next, NoMemory, Refusal, StartFault, Step};
+use nd_cluster::{Cluster, Next, NoMemory, Refusal, StartFault, Step};
+use nd_protocol::BoxedTimes;
 use nd_testing::{Refusing, in_turn, met};
 use std::alloc::{AllocError, Allocator, Global};
 

@@ -7,7 +7,8 @@ use crate::scripts::{
     step_of,
 };
 use nd_breaks::Breaks;
-use nd_cluster::{Cluster, Next, Processors};
+use nd_cluster::{Cluster, Next};
+use nd_protocol::Processors;
 use nd_testing::{Refusing, in_turn, met};
 use nd_timeline::{Fault, Timeline};
 use std::alloc::{AllocError, Allocator, Global};
