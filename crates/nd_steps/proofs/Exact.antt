@@ -5,7 +5,7 @@ use Rattle.nd_protocol.specs.Steps.{stepped}
 use Rattle.nd_protocol.specs.Fitting.{IsState}
 use Rattle.nd_protocol.specs.Enabled.{IsFreeBelow}
 use Rattle.nd_protocol.specs.declared.step.Step.{Step}
-use Rattle.nd_protocol.specs.declared.step.Step.TheVariants.{Feed, Take, Notice, Broadcast, Receive}
+use Rattle.nd_protocol.specs.declared.step.Step.TheVariants.{Feed, Take, Notice, Release, Broadcast, Receive}
 use Rattle.nd_steps.specs.Places.{Place}
 use Rattle.nd_steps.specs.Standing.{standing}
 use Rattle.nd_steps.specs.Edits.{edits, come, come_edits, Works}
@@ -16,11 +16,13 @@ use Rattle.nd_steps.proofs.StepMoves.{StepMoves}
 use Rattle.nd_steps.proofs.Feeds.{feed_written}
 use Rattle.nd_steps.proofs.Takes.{take_written}
 use Rattle.nd_steps.proofs.Notices.{notice_written}
+use Rattle.nd_steps.proofs.Releases.{release_written}
 
 pub moves : {A : Type 0} (s : ClusterState) (x : Step A) → Works x → IsState s → IsFreeBelow s x 13 → StepMoves s x
 moves s (Feed p vertex values next) works state on = feed_written s p vertex values next on
 moves s (Take p edge t value) works state on = take_written s p edge t value state on
 moves s (Notice p vertex t) works state on = notice_written s p vertex t state on
+moves s (Release p vertex times) works state on = release_written s p vertex times on
 moves s (Broadcast p part) works state on = absurd works
 moves s (Receive from to) works state on = absurd works
 

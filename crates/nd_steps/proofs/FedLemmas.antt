@@ -9,6 +9,7 @@ use Rattle.nd_vertex.specs.Table.{time_past}
 use Rattle.nd_processor.specs.declared.key.ValueAt.{ValueAt}
 use Rattle.nd_protocol.specs.State.{ClusterState, processor}
 use Rattle.nd_protocol.specs.Steps.{made_on, emitted, epoch_of, flat}
+use Rattle.nd_protocol.specs.Ranges.{NextIsSmall}
 use Rattle.nd_protocol.specs.declared.step.Step.TheVariants.{Feed}
 use Rattle.nd_protocol.specs.declared.step.Next.{Next as Afterwards}
 use Rattle.nd_protocol.specs.declared.step.Next.TheVariants as token
@@ -45,9 +46,9 @@ module _ (s : ClusterState) (g : Dataflow) (n p vertex epoch : ℕ) (values : Li
       ∙ sym (total_at-append (token_edits p vertex epoch next) (come_edits p rs) k)
       ∙ (λ i. total_at (token_edits p vertex (e i) next ++ come_edits p (is i)) k)
 
-  pub fed_leads : {A : Type 0} → epoch ≤ max_counter → (next ≡ token.Next → epoch < max_counter) → (cs : List Change) → cs ≡ fed_changes p vertex epoch next rs → length cs ≤ 2 ^ 64
+  pub fed_leads : {A : Type 0} → epoch ≤ max_counter → (next ≡ token.Next → epoch < max_counter) → NextIsSmall next → (cs : List Change) → cs ≡ fed_changes p vertex epoch next rs → length cs ≤ 2 ^ 64
       → (ds : List Change) → AreJoined cs ds → Leads {A = A} s (Feed p vertex values next) ds
-  fed_leads {A} fits goes cs is few ds joins state free =
+  fed_leads {A} fits goes small cs is few ds joins state free =
       let sound : IsSound s (fed_changes p vertex epoch next rs)
-      = sound_more s (token_changes p vertex epoch next) (arrivals p rs) (token_sound s p vertex epoch next held fits (λ e. let h = goes e in omega (arith, h))) (arrivals_plain p rs) in
+      = sound_more s (token_changes p vertex epoch next) (arrivals p rs) (token_sound s p vertex epoch next held fits (λ e. let h = goes e in omega (arith, h)) small) (arrivals_plain p rs) in
       reaches {A = A} s (Feed p vertex values next) tt state free (fed_changes p vertex epoch next rs) ds adds sound (subst (λ es. length es ≤ 2 ^ 64) is few) (subst (λ es. AreJoined es ds) is joins)

@@ -1,5 +1,5 @@
 -- A feed: the input's token moves, and its values come as records.
-use Rattle.std.proofs.Common.{lit<, ◌≡◌, ℕ, ◌+◌, ◌<◌, ℤ, pos, negsuc, ◌+ℤ◌, Bool, true, false, cond, Option, Some, None, List, [], ◌∷◌, length, unwrap_or, lt_of_not-le, refl, sym, ap, ◌∙◌, arith}
+use Rattle.std.proofs.Common.{lit<, ◌≡◌, ℕ, ◌+◌, ◌<◌, ℤ, pos, negsuc, ◌+ℤ◌, ◌-ℤ◌, Bool, true, false, cond, Option, Some, None, List, [], ◌∷◌, length, unwrap_or, lt_of_not-le, refl, sym, ap, ◌∙◌, arith}
 use Rattle.std.proofs.lemmas.Int.{ints}
 use Rattle.std.proofs.lemmas.Cmp.{nat_cmp_total}
 use Rattle.std.proofs.lemmas.Map.Views.{tells_apart}
@@ -64,6 +64,13 @@ token_off true old epoch t e z =
     omega (arith, ints)
 token_off false old epoch t e z = omega (arith, ints)
 
+token_to : (b : Bool) (old : Option ℕ) (epoch n : ℕ) (t : ℤ) → (b ≡ true → old ≡ Some epoch) → t ≡ pos 0 → from_epoch (cond b (Some n) old) ≡ from_epoch old +ℤ (cond b (pos n -ℤ pos epoch) (pos 0) +ℤ t)
+token_to true old epoch n t e z =
+    let was : from_epoch old ≡ pos (epoch + 1) = ap from_epoch (e refl) in
+    let now : from_epoch (Some n) ≡ pos (n + 1) = refl in
+    omega (arith, ints)
+token_to false old epoch n t e z = omega (arith, ints)
+
 module _ (p : ℕ) (q : ProcessorState) (vertex epoch : ℕ) (found : fin.get q.tokens vertex ≡ Some epoch) where
   found_at : (v : ℕ) → eq_by_cmp nat_cmp v vertex ≡ true → fin.get q.tokens v ≡ Some epoch
   found_at v t = ap (λ i. fin.get q.tokens i) (tells_apart fin.nat_cmp-IsAntisymmetric v vertex t) ∙ found
@@ -84,20 +91,31 @@ module _ (p : ℕ) (q : ProcessorState) (vertex epoch : ℕ) (found : fin.get q.
       ∙ token_off (eq_by_cmp nat_cmp v vertex) (fin.get q.tokens v) epoch (pos 0) (found_at v) refl
       ∙ ap (λ b. from_epoch (fin.get q.tokens v) +ℤ (cond b (negsuc epoch) (pos 0) +ℤ pos 0)) (sym (token-test p v vertex))
   tokens_move token.Stay v = nothing_more (from_epoch (fin.get q.tokens v)) (pos 0) refl
+  tokens_move (token.To n) v =
+      ap from_epoch (fin.get-insert nat_cmp_total q.tokens vertex n v)
+      ∙ token_to (eq_by_cmp nat_cmp v vertex) (fin.get q.tokens v) epoch n (pos 0) (found_at v) refl
+      ∙ ap (λ b. from_epoch (fin.get q.tokens v) +ℤ (cond b (pos n -ℤ pos epoch) (pos 0) +ℤ pos 0)) (sym (token-test p v vertex))
 
   token_was : (x : Pointstamp) → token_at vertex (fin.get q.tokens vertex) x ≡ one_at (token_point vertex epoch) x
   token_was x = ap (λ (o : Option ℕ). token_at vertex o x) found
 
-  outstanding_moves : (next : Afterwards) (x : Pointstamp) → pos (held (after next) x) ≡ pos (held q x) +ℤ total_at (own next) (place_at p (Unsent x))
-  outstanding_moves token.Next x =
-      let a : held (after token.Next) x + token_at vertex (fin.get q.tokens vertex) x ≡ held q x + one_at (token_point vertex (epoch + 1)) x = held-token q vertex (epoch + 1) x in
+  -- the token is at another epoch
+  outstanding_at : (n : ℕ) (z : ℤ) (x : Pointstamp)
+      → pos (held (record q { tokens = fin.insert q.tokens vertex n }) x)
+      ≡ pos (held q x) +ℤ total_at ((place_at p (token_slot vertex), z) ∷ (place_at p (Unsent (token_point vertex epoch)), negsuc 0) ∷ (place_at p (Unsent (token_point vertex n)), pos 1) ∷ []) (place_at p (Unsent x))
+  outstanding_at n z x =
+      let a : held (record q { tokens = fin.insert q.tokens vertex n }) x + token_at vertex (fin.get q.tokens vertex) x ≡ held q x + one_at (token_point vertex n) x = held-token q vertex n x in
       let b = token_was x in
-      let rest : List Edit = (place_at p (Unsent (token_point vertex (epoch + 1))), pos 1) ∷ [] in
-      let c : total_at ((place_at p (Unsent (token_point vertex epoch)), negsuc 0) ∷ rest) (place_at p (Unsent x)) +ℤ pos (one_at (token_point vertex epoch) x) ≡ total_at rest (place_at p (Unsent x))
-      = one_less p (token_point vertex epoch) x rest in
-      let d : total_at rest (place_at p (Unsent x)) ≡ pos (one_at (token_point vertex (epoch + 1)) x) +ℤ pos 0 = one_more p (token_point vertex (epoch + 1)) x [] in
-      let e : total_at (own token.Next) (place_at p (Unsent x)) ≡ pos 0 +ℤ total_at ((place_at p (Unsent (token_point vertex epoch)), negsuc 0) ∷ rest) (place_at p (Unsent x)) = refl in
+      let rest : List Edit = (place_at p (Unsent (token_point vertex n)), pos 1) ∷ [] in
+      let two : List Edit = (place_at p (Unsent (token_point vertex epoch)), negsuc 0) ∷ rest in
+      let c : total_at two (place_at p (Unsent x)) +ℤ pos (one_at (token_point vertex epoch) x) ≡ total_at rest (place_at p (Unsent x)) = one_less p (token_point vertex epoch) x rest in
+      let d : total_at rest (place_at p (Unsent x)) ≡ pos (one_at (token_point vertex n) x) +ℤ pos 0 = one_more p (token_point vertex n) x [] in
+      let e : total_at ((place_at p (token_slot vertex), z) ∷ two) (place_at p (Unsent x)) ≡ pos 0 +ℤ total_at two (place_at p (Unsent x)) = refl in
       omega (arith, ints)
+
+  outstanding_moves : (next : Afterwards) (x : Pointstamp) → pos (held (after next) x) ≡ pos (held q x) +ℤ total_at (own next) (place_at p (Unsent x))
+  outstanding_moves token.Next x = outstanding_at (epoch + 1) (pos 1) x
+  outstanding_moves (token.To n) x = outstanding_at n (pos n -ℤ pos epoch) x
   outstanding_moves token.Close x =
       let a : held (after token.Close) x + token_at vertex (fin.get q.tokens vertex) x ≡ held q x = held-closed q vertex x in
       let b = token_was x in
@@ -112,11 +130,13 @@ module _ (p : ℕ) (q : ProcessorState) (vertex epoch : ℕ) (found : fin.get q.
   record_total token.Next k a b = rw (a vertex, b (token_point vertex epoch), b (token_point vertex (epoch + 1))) refl
   record_total token.Close k a b = rw (a vertex, b (token_point vertex epoch)) refl
   record_total token.Stay k a b = refl
+  record_total (token.To n) k a b = rw (a vertex, b (token_point vertex epoch), b (token_point vertex n)) refl
 
   mine : (next : Afterwards) → AreOf p (own next)
   mine token.Next = (refl, (refl, (refl, tt)))
   mine token.Close = (refl, (refl, tt))
   mine token.Stay = tt
+  mine (token.To n) = (refl, (refl, (refl, tt)))
 
   pub feed_moves : (next : Afterwards) → IsMove p q (after next) (own next)
   feed_moves next = record {

@@ -1,5 +1,5 @@
 -- Changes as a plan finds them: what they add, and how often one place stands among them.
-use Rattle.std.proofs.Common.{◌≡◌, ◌≤◌, ◌+◌, ℕ, suc, ℤ, pos, negsuc, ◌+ℤ◌, unsigned_abs, All, Bool, true, false, cond, List, [], ◌∷◌, ◌++◌, map, Some, refl, ap, ◌∙◌, arith}
+use Rattle.std.proofs.Common.{◌≡◌, ◌≤◌, ◌+◌, ℕ, suc, ℤ, pos, negsuc, ◌+ℤ◌, ◌-ℤ◌, unsigned_abs, All, Bool, true, false, cond, List, [], ◌∷◌, ◌++◌, map, Some, refl, ap, ◌∙◌, arith}
 use Rattle.std.proofs.lemmas.Int.{ints}
 use Rattle.std.specs.FinMap as fin
 use Rattle.nd_time.specs.Limits.{max_counter}
@@ -11,6 +11,7 @@ use Rattle.nd_vertex.specs.declared.effect.ItemEdit.{ItemEdit}
 use Rattle.nd_processor.specs.State.{items_at}
 use Rattle.nd_processor.specs.declared.key.ValueAt.{ValueAt}
 use Rattle.nd_protocol.specs.State.{ClusterState, processor}
+use Rattle.nd_protocol.specs.Ranges.{NextIsSmall}
 use Rattle.nd_protocol.specs.declared.step.Next.{Next as Afterwards}
 use Rattle.nd_protocol.specs.declared.step.Next.TheVariants as token
 use Rattle.nd_steps.specs.Places.{Place, place_at, view_of}
@@ -164,16 +165,19 @@ pub sink_plain : (p vertex : ℕ) (value : ℤ) (sink : Bool) → Each IsPlain (
 sink_plain p vertex value true = (omega arith, tt)
 sink_plain p vertex value false = tt
 
-pub token_sound : (s : ClusterState) (p vertex epoch : ℕ) (next : Afterwards) → fin.get (processor s p).tokens vertex ≡ Some epoch → epoch ≤ max_counter → (next ≡ token.Next → suc epoch ≤ max_counter)
+pub token_sound : (s : ClusterState) (p vertex epoch : ℕ) (next : Afterwards) → fin.get (processor s p).tokens vertex ≡ Some epoch → epoch ≤ max_counter → (next ≡ token.Next → suc epoch ≤ max_counter) → NextIsSmall next
     → IsSound s (token_changes p vertex epoch next)
-token_sound s p vertex epoch token.Stay held fits goes = sound_none s
-token_sound s p vertex epoch token.Close held fits goes =
+token_sound s p vertex epoch token.Stay held fits goes small = sound_none s
+token_sound s p vertex epoch token.Close held fits goes small =
     let e : standing s (place_at p (Token vertex)) ≡ pos (epoch + 1) = ap from_epoch held in
     sound_token s p vertex (negsuc epoch) (omega (arith, ints, e)) _ (omega arith, tt)
-token_sound s p vertex epoch token.Next held fits goes =
+token_sound s p vertex epoch token.Next held fits goes small =
     let e : standing s (place_at p (Token vertex)) ≡ pos (epoch + 1) = ap from_epoch held in
     let h : suc epoch ≤ max_counter = goes refl in
     sound_token s p vertex (pos 1) (omega (arith, ints, e, h)) _ (omega arith, (omega arith, tt))
+token_sound s p vertex epoch (token.To n) held fits goes small =
+    let e : standing s (place_at p (Token vertex)) ≡ pos (epoch + 1) = ap from_epoch held in
+    sound_token s p vertex (pos n -ℤ pos epoch) (omega (arith, ints, e, small)) _ (omega arith, (omega arith, tt))
 
 -- ---- what they add
 
@@ -191,3 +195,4 @@ pub token_total : (p vertex epoch : ℕ) (next : Afterwards) (k : Place) → tot
 token_total p vertex epoch token.Stay k = refl
 token_total p vertex epoch token.Close k = refl
 token_total p vertex epoch token.Next k = refl
+token_total p vertex epoch (token.To n) k = refl

@@ -17,9 +17,10 @@ use Rattle.nd_protocol.specs.Steps.{chosen}
 use Rattle.nd_protocol.specs.Ranges.{NumbersFit}
 use Rattle.nd_protocol.specs.Enabled.{Fails, IsEnabled}
 use Rattle.nd_protocol.specs.declared.step.Step.{Step}
-use Rattle.nd_protocol.specs.declared.step.Step.TheVariants.{Broadcast}
+use Rattle.nd_protocol.specs.declared.step.Step.TheVariants.{Release, Broadcast}
 use Rattle.nd_protocol.specs.declared.refusal.Refusal.{Refusal}
-use Rattle.nd_protocol.specs.declared.refusal.Refusal.TheVariants.{NotAdmissible}
+use Rattle.nd_protocol.specs.declared.refusal.Refusal.TheVariants.{NotAdmissible, NotLater}
+use Rattle.nd_steps.proofs.LaterLemmas.{goes_later}
 use Rattle.nd_steps.proofs.TokensHeld.{leaves_upright, leaves_alone}
 
 abbrev Decided : Type 0 → Type 0
@@ -116,4 +117,5 @@ enabled g decided s (Broadcast p part) is numbers free =
           (λ x l. free (NotAdmissible x) (leaves_alone s.graph q c (minus q.unsent c) (token_points q) refl refl (Some x) l)));
       numbers = numbers;
     }
+enabled g decided s (Release p vertex times) is numbers free = record { free = free; admissible = goes_later times.time times.to (free NotLater); numbers = numbers }
 enabled g decided s x is numbers free = record { free = free; admissible = tt; numbers = numbers }

@@ -34,7 +34,7 @@ use Rattle.nd_steps.proofs.StepMoves.{StepMoves}
 use Rattle.nd_steps.proofs.Feeds.{one_less, nothing_more}
 use Rattle.nd_steps.proofs.Effects.{items-move, items-apart, items-own}
 
-one_dropped : (b : Bool) (here : Option (Unit {0})) (t : ℤ) → (b ≡ true → here ≡ Some tt) → t ≡ pos 0 → from_request (cond b None here) ≡ from_request here +ℤ (cond b (negsuc 0) (pos 0) +ℤ t)
+pub one_dropped : (b : Bool) (here : Option (Unit {0})) (t : ℤ) → (b ≡ true → here ≡ Some tt) → t ≡ pos 0 → from_request (cond b None here) ≡ from_request here +ℤ (cond b (negsuc 0) (pos 0) +ℤ t)
 one_dropped true here t e z = let a : from_request here ≡ pos 1 = ap from_request (e refl) in omega (arith, ints)
 one_dropped false here t e z = omega (arith, ints)
 
@@ -87,7 +87,7 @@ module _ (p : ℕ) (q : ProcessorState) (y : Pointstamp) (vertex : ℕ) (items :
 
 -- ---- the step
 
-was_there : (o : Option (Unit {0})) → (o ≡ None → ⊥) → o ≡ Some tt
+pub was_there : (o : Option (Unit {0})) → (o ≡ None → ⊥) → o ≡ Some tt
 was_there None h = absurd (h refl)
 was_there (Some u) h = refl
 

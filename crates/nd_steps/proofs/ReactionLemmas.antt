@@ -63,7 +63,7 @@ module _ {A : Type 0} (s : ClusterState) (g : Dataflow) (n : ℕ) (has : Has g n
 
 -- ---- what they add
 
-ask_total : (p : ℕ) (x : Pointstamp) (b : Bool) (k : Place) → total k (ask_changes p x b) ≡ total_at (cond b ((place_at p (Request x), pos 1) ∷ (place_at p (Unsent x), pos 1) ∷ []) []) k
+pub ask_total : (p : ℕ) (x : Pointstamp) (b : Bool) (k : Place) → total k (ask_changes p x b) ≡ total_at (cond b ((place_at p (Request x), pos 1) ∷ (place_at p (Unsent x), pos 1) ∷ []) []) k
 ask_total p x true k = refl
 ask_total p x false k = refl
 

@@ -1,5 +1,5 @@
 -- What a plan drafts of a step: changes as they are found, and the list in which no place stands twice.
-use Rattle.std.specs.Prelude.{◌≡◌, ◌≢◌, ℕ, ◌+◌, ℤ, pos, negsuc, ◌+ℤ◌, ◌-ℤ◌, ◌++◌, List, [], ◌∷◌, map, length, cond, Bool, true, false, Some, is_none, ◌&&◌, nat_eq, if◌then◌else◌}
+use Rattle.std.specs.Prelude.{◌≡◌, ◌≢◌, ℕ, ◌+◌, ℤ, pos, negsuc, ◌+ℤ◌, ◌-ℤ◌, ◌++◌, List, [], ◌∷◌, map, length, cond, Bool, true, false, Option, Some, None, is_none, ◌&&◌, nat_eq, if◌then◌else◌}
 use Rattle.std.specs.List.{flat_map}
 use Rattle.std.specs.FinMap as fin
 use Rattle.nd_time.specs.Time.{Time}
@@ -11,7 +11,7 @@ use Rattle.nd_vertex.specs.Effects.{IsEffect}
 use Rattle.nd_vertex.specs.declared.effect.Effect.{Effect}
 use Rattle.nd_vertex.specs.declared.effect.Emission.{Emission}
 use Rattle.nd_vertex.specs.declared.effect.ItemEdit.{ItemEdit}
-use Rattle.nd_processor.specs.State.{token_point, items_at}
+use Rattle.nd_processor.specs.State.{Requests, token_point, items_at}
 use Rattle.nd_processor.specs.declared.key.ValueAt.{ValueAt}
 use Rattle.nd_protocol.specs.Ranges.{IsValue}
 use Rattle.nd_protocol.specs.State.{ClusterState, processor}
@@ -19,6 +19,7 @@ use Rattle.nd_protocol.specs.Steps.{destination, record_key, made_on, target_of,
 use Rattle.nd_protocol.specs.Fitting.{IsState}
 use Rattle.nd_protocol.specs.Enabled.{IsFreeBelow}
 use Rattle.nd_protocol.specs.declared.step.Step.{Step}
+use Rattle.nd_protocol.specs.declared.times.Times.{Times}
 use Rattle.nd_protocol.specs.declared.step.Next.{Next as Afterwards}
 use Rattle.nd_protocol.specs.declared.step.Next.TheVariants as token
 use Rattle.nd_steps.specs.Places.{Place}
@@ -103,6 +104,8 @@ token_changes p vertex epoch token.Stay = []
 token_changes p vertex epoch token.Close = at_key p (Token vertex) (negsuc epoch) ∷ at_key p (Unsent (token_point vertex epoch)) (negsuc 0) ∷ []
 token_changes p vertex epoch token.Next =
     at_key p (Token vertex) (pos 1) ∷ at_key p (Unsent (token_point vertex epoch)) (negsuc 0) ∷ at_key p (Unsent (token_point vertex (epoch + 1))) (pos 1) ∷ []
+token_changes p vertex epoch (token.To n) =
+    at_key p (Token vertex) (pos n -ℤ pos epoch) ∷ at_key p (Unsent (token_point vertex epoch)) (negsuc 0) ∷ at_key p (Unsent (token_point vertex n)) (pos 1) ∷ []
 
 abbrev pub fed_changes : ℕ → ℕ → ℕ → Afterwards → List (ℕ × ValueAt) → List Change
 fed_changes p vertex epoch next rs = token_changes p vertex epoch next ++ arrivals p rs
@@ -131,7 +134,17 @@ noticed_changes p x effect rs =
     ++ map (item_change p x.location) effect.items.items)
     ++ arrivals p rs
 
--- ---- what a feed, a take and a notice go by
+-- the later request of a release, if it is made
+abbrev pub later_changes : ℕ → ℕ → Option Time → Bool → List Change
+later_changes p vertex None asks = []
+later_changes p vertex (Some to) asks = ask_changes p (point_at vertex to) asks
+
+abbrev pub released_changes : ℕ → ℕ → Times → Bool → List Change
+released_changes p vertex times asks =
+    let x = point_at vertex times.time in
+    at_key p (Request x) (negsuc 0) ∷ at_key p (Unsent x) (negsuc 0) ∷ later_changes p vertex times.to asks
+
+-- ---- what a feed, a take, a notice and a release go by
 
 -- a step that passes all tests but those of the limits leads where these changes do
 abbrev pub Leads : {A : Type 0} → ClusterState → Step A → List Change → Type 0
@@ -152,3 +165,13 @@ pub record TakesSo {A : Type 0} (s : ClusterState) (p target : ℕ) (k : ValueAt
 pub record NoticesSo {A : Type 0} (s : ClusterState) (p : ℕ) (x : Pointstamp) (effect : Effect A) : Type 0 where
   pub asked : fin.get (processor s p).requests x ≡ Some tt
   pub does : IsEffect (items_at (processor s p) x.location) (op_at s.graph x.location) x.time (notice_outcome s p x.location x.time) effect
+
+-- whether a vertex makes a later request besides those that are left
+abbrev pub asks_later : Requests → ℕ → Option Time → Bool
+asks_later left vertex None = false
+asks_later left vertex (Some to) = is_none (fin.get left (point_at vertex to))
+
+-- a release on processor p of a capability that is kept, by which a later request is made or not
+pub record ReleasesSo (s : ClusterState) (p vertex : ℕ) (times : Times) (asks : Bool) : Type 0 where
+  pub asked : fin.get (processor s p).requests (point_at vertex times.time) ≡ Some tt
+  pub anew : asks ≡ asks_later (fin.remove (processor s p).requests (point_at vertex times.time)) vertex times.to

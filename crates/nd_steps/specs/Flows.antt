@@ -8,7 +8,7 @@ use Rattle.nd_paths.specs.declared.point.Pointstamp.{Pointstamp}
 use Rattle.nd_processor.specs.declared.key.ValueAt.{ValueAt}
 use Rattle.nd_protocol.specs.Steps.{record_key}
 use Rattle.nd_protocol.specs.declared.step.Step.{Step}
-use Rattle.nd_protocol.specs.declared.step.Step.TheVariants.{Feed, Take, Notice, Broadcast, Receive}
+use Rattle.nd_protocol.specs.declared.step.Step.TheVariants.{Feed, Take, Notice, Release, Broadcast, Receive}
 use Rattle.nd_steps.specs.declared.change.Change.{Change}
 use Rattle.nd_steps.specs.declared.slot.Slot.TheVariants.{Records, Sink, Unsent}
 use Rattle.nd_steps.specs.declared.come.Come.{Come}
@@ -63,5 +63,6 @@ abbrev pub told_changes : {A : Type 0} → Step A → Flow → List Change
 told_changes (Feed p vertex values _) f = []
 told_changes (Take p edge t value) f = flow_changes p (record_key edge t value) f
 told_changes (Notice p vertex t) f = []
+told_changes (Release p vertex times) f = []
 told_changes (Broadcast p part) f = []
 told_changes (Receive from to) f = []

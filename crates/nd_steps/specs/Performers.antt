@@ -12,8 +12,9 @@ use Rattle.nd_processor.specs.declared.key.SinkKey.{SinkKey}
 use Rattle.nd_processor.specs.declared.key.ValueAt.{ValueAt}
 use Rattle.nd_protocol.specs.State.{ClusterState, processor}
 use Rattle.nd_protocol.specs.Steps.{destination, flat, point_at}
-use Rattle.nd_protocol.specs.declared.step.Step.TheVariants.{Feed, Take, Notice}
-use Rattle.nd_steps.specs.Drafts.{Has, Leads, TakesSo, NoticesSo, arrivals, item_change, sink_changes, made_along, made_by, emitted_by, fed_by, fed_changes, taken_changes, noticed_changes}
+use Rattle.nd_protocol.specs.declared.times.Times.{Times}
+use Rattle.nd_protocol.specs.declared.step.Step.TheVariants.{Feed, Take, Notice, Release}
+use Rattle.nd_steps.specs.Drafts.{Has, Leads, TakesSo, NoticesSo, ReleasesSo, arrivals, item_change, sink_changes, made_along, made_by, emitted_by, fed_by, fed_changes, taken_changes, noticed_changes, released_changes}
 use Rattle.nd_steps.specs.Flows.{come_changes}
 use Rattle.nd_steps.specs.Onward.{ComesBy}
 use Rattle.nd_steps.specs.declared.change.Change.{Change}
@@ -61,7 +62,7 @@ fed_records_by by t values = fed_by by.graph.now by.n by.p by.vertex t values
 
 -- ---- the changes that are found
 
--- of its feed, of its take, and of its notice
+-- of its feed, of its take, of its notice, and of its release
 abbrev pub found_fed : {B : Type 0} → Performer B → Fed → List Change
 found_fed by fed = fed_changes by.p by.vertex fed.epoch fed.next (fed_records_by by (flat fed.epoch) fed.values.now)
 
@@ -70,6 +71,9 @@ found_taken by taken = taken_changes by.p by.vertex taken.key.now taken.effect.n
 
 abbrev pub found_noticed : {A B : Type 0} → Performer B → Time → Effect A → List Change
 found_noticed by t effect = noticed_changes by.p (point_at by.vertex t) effect (all_records_by by effect.emits.items)
+
+abbrev pub found_released : {B : Type 0} → Performer B → Times → Bool → List Change
+found_released by times asks = released_changes by.p by.vertex times asks
 
 -- ---- where changes lead
 
@@ -90,6 +94,12 @@ abbrev pub NoticeLeads : {A B : Type 0} → Performer B → Time → Effect A �
 NoticeLeads {A} by t effect cs =
     (s : ClusterState) → Has by.graph.now by.n s → NoticesSo s by.p (point_at by.vertex t) effect
     → Leads {A = A} s (Notice by.p by.vertex t) cs
+
+-- where the capability is kept and the later request is new or not, they are those of its release
+abbrev pub ReleaseLeads : (A : Type 0) {B : Type 0} → Performer B → Times → Bool → List Change → Type 0
+ReleaseLeads A by times asks cs =
+    (s : ClusterState) → Has by.graph.now by.n s → ReleasesSo s by.p by.vertex times asks
+    → Leads {A = A} s (Release by.p by.vertex times) cs
 
 -- ---- what comes for a record that is taken
 

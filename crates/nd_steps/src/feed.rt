@@ -1,9 +1,10 @@
 //! What a feed changes: its records come, and the token moves (Naiad, SOSP 2013, section 2.2).
-ghost use Rattle.std.specs.Prelude.{◌≡◌, ◌<◌, ◌≤◌, FitsSigned, IfOk, OnOk, negsuc};
+ghost use Rattle.std.specs.Prelude.{◌≡◌, ◌<◌, ◌≤◌, ◌-ℤ◌, FitsSigned, IfOk, OnOk, pos, negsuc};
 ghost use Rattle.std.specs.Int.{w128};
 ghost use Rattle.nd_time.specs.Limits.{max_counter};
 ghost use Rattle.nd_graph.specs.Graph.{op_at};
 ghost use Rattle.nd_graph.specs.declared.op.Op.TheVariants as operator;
+ghost use Rattle.nd_protocol.specs.Ranges.{NextIsSmall};
 ghost use Rattle.nd_protocol.specs.declared.step.Next.TheVariants as token;
 ghost use Rattle.nd_steps.specs.Drafts.{token_changes};
 ghost use Rattle.nd_steps.specs.Performers.{Adds, found_fed, FeedLeads};
@@ -32,6 +33,14 @@ fn closes(epoch: u32) -> i128
     -1 - i128::from(epoch)
 }
 
+// Returns what moving a token to epoch `n` adds.
+fn moves(epoch: u32, n: u32) -> i128
+    ensures value { result ≡ pos n -ℤ pos epoch }
+    ensures fits { FitsSigned w128 result }
+{
+    i128::from(n) - i128::from(epoch)
+}
+
 // Moves the token.
 fn add_token<A: Allocator + Copy>(
     draft: &mut Draft<A>,
@@ -43,6 +52,7 @@ fn add_token<A: Allocator + Copy>(
     ensures adds { OnOk result (Adds draft.old draft.new
         (token_changes draft.old.p vertex epoch next)) }
     ensures fits { epoch ≤ max_counter }
+    ensures goes_to { NextIsSmall next }
 {
     match next {
         Next::Stay => Ok(()),
@@ -54,6 +64,11 @@ fn add_token<A: Allocator + Copy>(
             draft.add(Slot::Token(vertex), 1)?;
             draft.add(Slot::Unsent(token_point(vertex, epoch)), -1)?;
             draft.add(Slot::Unsent(token_point(vertex, epoch + 1)), 1)
+        }
+        Next::To(n) => {
+            draft.add(Slot::Token(vertex), moves(epoch, n))?;
+            draft.add(Slot::Unsent(token_point(vertex, epoch)), -1)?;
+            draft.add(Slot::Unsent(token_point(vertex, n)), 1)
         }
     }
 }
@@ -68,6 +83,7 @@ fn feed_draft<A: Allocator + Copy, B: Allocator>(
     requires goes { fed.now.next ≡ token.Next → fed.now.epoch < max_counter }
     ensures changes { IfOk result (λ d. d.changes.items ≡ found_fed by.now fed.now) }
     ensures fits { OnOk result (fed.now.epoch ≤ max_counter) }
+    ensures goes_to { OnOk result (NextIsSmall fed.now.next) }
 {
     let mut draft = Draft::new(alloc, by.p);
     add_token(&mut draft, by.vertex, fed.epoch, fed.next)?;

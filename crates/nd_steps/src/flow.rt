@@ -98,7 +98,7 @@ impl Flow {
                 time,
                 value,
             } => self.changes(*p, &record_at(*edge, time, *value)),
-            Step::Feed { .. } | Step::Notice { .. } => ArrayVec::new(),
+            Step::Feed { .. } | Step::Notice { .. } | Step::Release { .. } => ArrayVec::new(),
             Step::Broadcast { .. } | Step::Receive { .. } => ArrayVec::new(),
         }
     }

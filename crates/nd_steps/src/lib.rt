@@ -23,6 +23,7 @@ mod react;
 mod reading;
 mod receive;
 mod record;
+mod release;
 mod run;
 mod slot;
 
@@ -42,4 +43,5 @@ pub use parts::{Parts, copied_processors, copied_views};
 pub use react::{Taken, notice_changes, take_changes};
 pub use receive::planned_front;
 pub use record::{Changes, Record};
+pub use release::release_changes;
 pub use slot::{Slot, record_at};

@@ -1,0 +1,49 @@
+-- Whether a time is strictly after another can be decided.
+use Rattle.std.proofs.Common.{◌≡◌, ◌≢◌, ◌⊎◌, inl, inr, ℕ, ◌≤◌, Bool, true, false, Option, Some, None, length, IsTrue, ◌↔◌, refl, sym, ap, subst, ◌∙◌, arith, true≢false}
+use Rattle.std.proofs.lemmas.Bool.{cases_eq, cases_lt}
+use Rattle.std.proofs.lemmas.Cmp.{tied_itself}
+use Rattle.std.proofs.lemmas.Map.Views.{tells_apart}
+use Rattle.std.specs.Ordering.{nat_cmp, eq_by_cmp, is_eq, is_le}
+use Rattle.std.specs.Cmp.Lexicographic.{slice_cmp}
+use Rattle.nd_time.specs.Time.{Time, IsAtOrBefore}
+use Rattle.nd_time.specs.Lexical.{decided}
+use Rattle.nd_time.specs.Listing.{time_cmp, time_total, time_exact}
+use Rattle.nd_protocol.specs.Times.{GoesLater}
+
+abbrev Decided : Type 0 → Type 0
+Decided P = P ⊎ (P → ⊥)
+
+by_test : {P : Type 0} (b : Bool) → IsTrue b ↔ P → Decided P
+by_test true h = inl (h.0 refl)
+by_test false h = inr (λ p. absurd (true≢false (sym (h.1 p))))
+
+at_most : (m n : ℕ) → Decided (m ≤ n)
+at_most m n = elim (cases_lt n m) [ inl lt ↦ inr (λ le. absurd (omega (arith, lt, le))) | inr le ↦ inl le ]
+
+before : (s t : Time) → Decided (IsAtOrBefore s t)
+before s t =
+    elim (cases_eq (length s.counters) (length t.counters)) [
+      | inr other ↦ inr (λ h. other h.depth)
+      | inl depth ↦ elim (at_most s.epoch t.epoch) [
+        | inr later ↦ inr (λ h. later h.epoch)
+        | inl epoch ↦ by_test (is_le (slice_cmp nat_cmp s.counters t.counters)) (decided s t (is_le (slice_cmp nat_cmp s.counters t.counters)) depth epoch refl)
+      ]
+    ]
+
+same : (s t : Time) → Decided (s ≡ t)
+same s t =
+    by_test (eq_by_cmp time_cmp s t)
+    ((λ e. tells_apart time_exact s t e),
+    (λ e. ap (eq_by_cmp time_cmp s) (sym e) ∙ ap is_eq (tied_itself time_total s)))
+
+-- a capability does not move back, if it is not so that it does
+pub goes_later : (t : Time) (to : Option Time) → ((GoesLater t to → ⊥) → ⊥) → GoesLater t to
+goes_later t None h = tt
+goes_later t (Some to) h =
+    elim (before t to) [
+      | inr never ↦ absurd (h (λ l. never l.0))
+      | inl early ↦ elim (same t to) [
+        | inl e ↦ absurd (h (λ l. l.1 e))
+        | inr apart ↦ (early, apart)
+      ]
+    ]

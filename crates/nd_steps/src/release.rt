@@ -1,0 +1,64 @@
+//! What a release changes: a capability that a hold vertex keeps goes, or moves to a later time.
+ghost use Rattle.std.specs.Prelude.{◌≡◌, IfOk, OnOk};
+ghost use Rattle.nd_steps.specs.Drafts.{later_changes};
+ghost use Rattle.nd_steps.specs.Performers.{Adds, found_released, ReleaseLeads};
+
+use crate::draft::Draft;
+use crate::{Change, Performer, Slot};
+use nd_paths::Pointstamp;
+use nd_protocol::Times;
+use nd_time::Timestamp;
+use std::alloc::{AllocError, Allocator};
+
+// Adds the request at the later time, if there is such a time and the request is made.
+fn add_later<A: Allocator + Copy>(
+    draft: &mut Draft<A>,
+    vertex: usize,
+    to: &Option<Timestamp>,
+    asks: bool,
+) -> Result<(), AllocError>
+    ensures { OnOk result (Adds draft.old draft.new
+        (later_changes draft.old.p vertex to.now asks)) }
+{
+    let Some(to) = to else {
+        return Ok(());
+    };
+    let point = Pointstamp {
+        location: vertex,
+        time: to.copy(),
+    };
+    draft.ask(&point, asks)
+}
+
+// Lists the changes of a release, as they are found: the request goes, and the later one may come.
+fn release_draft<A: Allocator + Copy, B: Allocator>(
+    alloc: A,
+    by: &Performer<'_, B>,
+    times: &Times,
+    asks: bool,
+) -> Result<Draft<A>, AllocError>
+    ensures { IfOk result (λ d. d.changes.items ≡ found_released by.now times.now asks) }
+{
+    let point = Pointstamp {
+        location: by.vertex,
+        time: times.time.copy(),
+    };
+    let mut draft = Draft::new(alloc, by.p);
+    draft.add(Slot::Request(point.copy()), -1)?;
+    draft.add(Slot::Unsent(point), -1)?;
+    add_later(&mut draft, by.vertex, &times.to, asks)?;
+    Ok(draft)
+}
+
+/// Returns the changes of a release, if it passes all tests but those of the limits; `asks` says whether the later request is new.
+pub fn release_changes<A: Allocator + Copy, B: Allocator>(
+    alloc: A,
+    by: &Performer<'_, B>,
+    times: &Times,
+    asks: bool,
+) -> Result<Vec<Change, A>, AllocError>
+    ensures { IfOk result (λ v. ReleaseLeads A by.now times.now asks v.items) }
+{
+    let draft = release_draft(alloc, by, times, asks)?;
+    draft.join()
+}
