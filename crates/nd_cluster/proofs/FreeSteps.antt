@@ -1,4 +1,4 @@
--- What a feed, a take and a notice have that pass their tests.
+-- What a feed, a take, a notice and a release have that pass their tests.
 use Rattle.std.proofs.Common.{◌≡◌, ◌<◌, ◌≤◌, ℕ, ℤ, List, length, Option, Some, unwrap_or, inl, inr, ap, arith}
 use Rattle.std.proofs.lemmas.Bool.{cases_lt}
 use Rattle.std.specs.FinMap as fin
@@ -8,9 +8,10 @@ use Rattle.nd_processor.specs.declared.key.ValueAt.{ValueAt}
 use Rattle.nd_protocol.specs.State.{ClusterState, processor}
 use Rattle.nd_protocol.specs.Steps.{epoch_of}
 use Rattle.nd_protocol.specs.Enabled.{IsFreeBelow}
-use Rattle.nd_protocol.specs.declared.step.Step.TheVariants.{Feed}
+use Rattle.nd_protocol.specs.declared.step.Step.TheVariants.{Feed, Release}
 use Rattle.nd_protocol.specs.declared.refusal.Refusal.TheVariants.{NoProcessor, EpochFull}
 use Rattle.nd_protocol.specs.declared.step.Next.{Next as Afterwards}
+use Rattle.nd_protocol.specs.declared.times.Times.{Times}
 use Rattle.nd_protocol.specs.declared.step.Next.TheVariants as token
 use Rattle.nd_cluster.specs.Drafted.{take_of, notice_of}
 
@@ -28,3 +29,6 @@ takes_there s p k free = elim (cases_lt p (length s.processors)) [ inl lt ↦ lt
 
 pub notices_there : {A : Type 0} (s : ClusterState) (p : ℕ) (x : Pointstamp) → IsFreeBelow {A = A} s (notice_of p x) 13 → p < length s.processors
 notices_there s p x free = elim (cases_lt p (length s.processors)) [ inl lt ↦ lt | inr le ↦ absurd (free.free NoProcessor (omega arith) le) ]
+
+pub releases_there : {A : Type 0} (s : ClusterState) (p vertex : ℕ) (times : Times) → IsFreeBelow {A = A} s (Release p vertex times) 13 → p < length s.processors
+releases_there s p vertex times free = elim (cases_lt p (length s.processors)) [ inl lt ↦ lt | inr le ↦ absurd (free.free NoProcessor (omega arith) le) ]

@@ -3,6 +3,7 @@ pub mod Reactions
 pub mod Starts
 pub mod Tallies
 pub mod Tests
+pub mod Releases
 pub mod FreeSteps
 pub mod ChoiceLemmas
 pub mod CandidatesLemmas

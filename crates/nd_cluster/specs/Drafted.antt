@@ -1,10 +1,12 @@
--- What a feed, a take or a notice changes, before the limits are tested and the order is known.
-use Rattle.std.specs.Prelude.{◌≡◌, ℕ, List}
+-- What a feed, a take, a notice or a release changes, before the limits are tested and the order is known; and what is tested after them.
+use Rattle.std.specs.Prelude.{◌≡◌, ◌<◌, ℕ, List, Option, Some, None}
 use Rattle.nd_paths.specs.declared.point.Pointstamp.{Pointstamp}
 use Rattle.nd_processor.specs.declared.key.ValueAt.{ValueAt}
 use Rattle.nd_protocol.specs.State.{ClusterState}
 use Rattle.nd_protocol.specs.Steps.{stepped}
-use Rattle.nd_protocol.specs.Enabled.{IsFreeBelow}
+use Rattle.nd_protocol.specs.Enabled.{Fails, IsAdmissible, IsFreeBelow}
+use Rattle.nd_protocol.specs.Refusals.{number_of}
+use Rattle.nd_protocol.specs.declared.refusal.Refusal.{Refusal}
 use Rattle.nd_protocol.specs.declared.step.Step.{Step}
 use Rattle.nd_protocol.specs.declared.step.Step.TheVariants.{Take, Notice}
 use Rattle.nd_steps.specs.declared.change.Change.{Change}
@@ -33,3 +35,21 @@ IsWithinRules A s x = IsFreeBelow s x 13
 abbrev pub IsDraft : {A : Type 0} → ClusterState → Step A → Drafted A → Type 0
 IsDraft {A} s x (Each all) = LeadOn A s x all.items
 IsDraft s x (Flow p gone come) = (x ≡ take_of p gone) × Reaches s (stepped s x) (come_changes p gone come)
+
+-- ---- what is tested after the limits
+
+-- no condition holds of a refusal that is tested after the limits, and a capability that moves goes to a later time
+pub record PassesLast {A : Type 0} (s : ClusterState) (x : Step A) : Type 0 where
+  pub free : (r : Refusal) → 14 < number_of r → Fails s x r → ⊥
+  pub admissible : IsAdmissible s x
+
+-- the condition of this refusal holds, and none between the limits and it
+pub record FailsLast {A : Type 0} (s : ClusterState) (x : Step A) (r : Refusal) : Type 0 where
+  pub late : 14 < number_of r
+  pub fails : Fails s x r
+  pub least : (q : Refusal) → 14 < number_of q → number_of q < number_of r → Fails s x q → ⊥
+
+-- why a step is refused that is within the limits, or none if it is not
+abbrev pub IsLastRefusal : {A : Type 0} → ClusterState → Step A → Option Refusal → Type 0
+IsLastRefusal s x None = PassesLast s x
+IsLastRefusal s x (Some r) = FailsLast s x r

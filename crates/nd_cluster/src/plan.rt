@@ -62,7 +62,8 @@ impl<A: Allocator + Copy> Cluster<A> {
         match step {
             Step::Broadcast { p, part } => self.broadcast_changes(*p, part),
             Step::Receive { from, to } => self.receive_changes(*from, *to),
-            Step::Feed { .. } | Step::Take { .. } | Step::Notice { .. } => self.work_changes(step),
+            Step::Feed { .. } | Step::Take { .. } => self.work_changes(step),
+            Step::Notice { .. } | Step::Release { .. } => self.work_changes(step),
         }
     }
 

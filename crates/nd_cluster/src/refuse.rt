@@ -1,19 +1,22 @@
 //! Why steps are refused: tests in the order of the refusals' numbers (this project's own rule).
-ghost use Rattle.std.specs.Prelude.{◌≡◌, ◌↔◌, IfOk, IfErr, OnOk, IsTrue, Some};
+ghost use Rattle.std.specs.Prelude.{◌≡◌, ◌↔◌, ◌<◌, IfOk, IfErr, OnOk, IsTrue, Some, length};
 ghost use Rattle.std.specs.FinMap as fin;
 ghost use Rattle.nd_graph.specs.Checked.{IsFaultless};
 ghost use Rattle.nd_graph.specs.Graph.{op_at as operator_at};
 ghost use Rattle.nd_graph.specs.declared.op.Op.TheVariants as operator;
 ghost use Rattle.nd_protocol.specs.State.{processor};
-ghost use Rattle.nd_protocol.specs.Steps.{target_of};
-ghost use Rattle.nd_protocol.specs.Enabled.{IsFreeBelow, IsRefused};
-ghost use Rattle.nd_protocol.specs.declared.step.Step.TheVariants.{Feed as Feeding};
-ghost use Rattle.nd_cluster.specs.Drafted.{take_of, notice_of, IsWithinRules};
+ghost use Rattle.nd_protocol.specs.Steps.{target_of, point_at, epoch_of};
+ghost use Rattle.nd_protocol.specs.Times.{GoesLater};
+ghost use Rattle.nd_protocol.specs.Enabled.{GoesBack, IsFreeBelow, IsRefused};
+ghost use Rattle.nd_protocol.specs.declared.step.Step.TheVariants.{Feed as Feeding, Release as Releasing};
+ghost use Rattle.nd_steps.specs.Edits.{Works};
+ghost use Rattle.nd_cluster.specs.Drafted.{take_of, notice_of, IsWithinRules, IsLastRefusal};
 
-use crate::{Cluster, Next, Refusal};
+use crate::{Cluster, Next, Refusal, Step};
 use nd_graph::{Graph, Op};
 use nd_paths::Pointstamp;
 use nd_processor::ValueAt;
+use nd_protocol::Times;
 use std::alloc::Allocator;
 
 /// The most values of one feed.
@@ -34,6 +37,22 @@ fn is_input(op: Op) -> bool
     ensures { IsTrue result ↔ (op ≡ operator.Input) }
 {
     matches!(op, Op::Input)
+}
+
+fn is_hold(op: Op) -> bool
+    ensures { IsTrue result ↔ (op ≡ operator.Hold) }
+{
+    matches!(op, Op::Hold)
+}
+
+// Whether the time to which a capability moves is strictly later, if there is one.
+fn goes_later(times: &Times) -> bool
+    ensures { IsTrue result ↔ GoesLater times.now.time times.now.to }
+{
+    match &times.to {
+        Some(to) => times.time.at_or_before(to) && times.time != *to,
+        None => true,
+    }
 }
 
 impl<A: Allocator + Copy> Cluster<A> {
@@ -112,5 +131,83 @@ impl<A: Allocator + Copy> Cluster<A> {
             return Err(Refusal::NoRequest);
         }
         Ok(())
+    }
+
+    // Returns an error unless a hold vertex of a processor keeps a capability: why its release is refused.
+    pub(crate) fn release_kept(
+        &self,
+        p: u32,
+        vertex: usize,
+        times: &Times,
+    ) -> Result<(), Refusal>
+        ensures kept { OnOk result (fin.get (processor self.now p).requests
+            (point_at vertex times.now.time) ≡ Some tt) }
+        ensures free { OnOk result (IsWithinRules A self.now (Releasing p vertex times.now)) }
+        ensures refused { IfErr result
+            (IsRefused {A = A} self.now (Releasing p vertex times.now)) }
+    {
+        if p as usize >= self.n() {
+            return Err(Refusal::NoProcessor);
+        }
+        let graph = self.graph();
+        if vertex >= graph.vertices().len() {
+            return Err(Refusal::NoVertex);
+        }
+        if !is_hold(op_at(graph, vertex)) {
+            return Err(Refusal::NoRequest);
+        }
+        let point = Pointstamp {
+            location: vertex,
+            time: times.time.copy(),
+        };
+        if !self.processor(p as usize).has_request(&point) {
+            return Err(Refusal::NoRequest);
+        }
+        Ok(())
+    }
+
+    // Whether a token would go to an epoch that is not above its own.
+    fn goes_back(&self, p: u32, vertex: usize, next: Next) -> bool
+        requires { p < length self.now.processors }
+        ensures { IsTrue result ↔ GoesBack next (epoch_of self.now p vertex) }
+    {
+        match next {
+            Next::To(epoch) => {
+                epoch <= self.processor(p as usize).token(vertex).unwrap_or(0)
+            }
+            Next::Next | Next::Close | Next::Stay => false,
+        }
+    }
+
+    // Returns why a feed, a take, a notice or a release that is within the limits is refused, or none if it is not.
+    pub(crate) fn last_refusal(&self, step: &Step<A>) -> Option<Refusal>
+        requires works { Works step.now }
+        requires free { IsWithinRules A self.now step.now }
+        ensures { IsLastRefusal self.now step.now result }
+    {
+        match step {
+            Step::Feed {
+                p, vertex, next, ..
+            } => {
+                if self.goes_back(*p, *vertex, *next) {
+                    return Some(Refusal::NotLater);
+                }
+                None
+            }
+            Step::Take { .. } => None,
+            Step::Notice { vertex, .. } => {
+                if is_hold(op_at(self.graph(), *vertex)) {
+                    return Some(Refusal::NotNotified);
+                }
+                None
+            }
+            Step::Release { times, .. } => {
+                if !goes_later(times.get()) {
+                    return Some(Refusal::NotLater);
+                }
+                None
+            }
+            Step::Broadcast { .. } | Step::Receive { .. } => unreachable!(),
+        }
     }
 }

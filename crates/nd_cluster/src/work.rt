@@ -1,23 +1,28 @@
-//! The changes of a feed, a take or a notice, or why it is refused.
-ghost use Rattle.std.specs.Prelude.{◌≡◌, ◌≢◌, Err, IfOk, IfErr, OnOk, length};
+//! The changes of a feed, a take, a notice or a release, or why it is refused.
+ghost use Rattle.std.specs.Prelude.{◌≡◌, ◌≢◌, ◌<◌, Err, IfOk, IfErr, OnOk, Some, length};
+ghost use Rattle.std.specs.FinMap as fin;
+ghost use Rattle.nd_protocol.specs.State.{processor};
+ghost use Rattle.nd_protocol.specs.Steps.{point_at};
 ghost use Rattle.nd_protocol.specs.Fitting.{IsState};
 ghost use Rattle.nd_protocol.specs.Enabled.{IsRefused, MayWantMemory};
+ghost use Rattle.nd_steps.specs.Drafts.{ReleasesSo};
 ghost use Rattle.nd_steps.specs.Edits.{Works};
 ghost use Rattle.nd_cluster.specs.Records.{Plans};
 ghost use Rattle.nd_cluster.specs.Drafted.{take_of, notice_of, LeadOn, IsWithinRules, IsDraft};
-ghost use Rattle.nd_protocol.specs.declared.step.Step.TheVariants.{Feed as Feeding};
+ghost use Rattle.nd_protocol.specs.declared.step.Step.TheVariants.{Feed as Feeding, Release as Releasing};
 ghost use Rattle.nd_protocol.specs.declared.refusal.Refusal.TheVariants.{Memory};
 
 use crate::{Change, Changes, Cluster, Next, Refusal, Step};
 use nd_paths::Pointstamp;
 use nd_processor::ValueAt;
+use nd_protocol::Times;
 use nd_steps::{
     Come, Fed, Performer, Taken, feed_changes, notice_changes, ordered_flow, planned_changes,
-    record_at, take_changes, take_flow,
+    record_at, release_changes, take_changes, take_flow,
 };
 use std::alloc::Allocator;
 
-// What a feed, a take or a notice changes, before the limits are tested and the order is known.
+// What a feed, a take, a notice or a release changes, before the limits are tested and the order is known.
 #[derive(Drop)]
 pub(crate) enum Drafted<A: Allocator + Copy> {
     Each(Vec<Change, A>),
@@ -129,7 +134,58 @@ impl<A: Allocator + Copy> Cluster<A> {
         Ok(all)
     }
 
-    // Returns what a feed, a take or a notice changes, or why it is refused, but for the limits.
+    // Returns whether a release makes a request: it moves to a time at which there is none once the released one is gone.
+    fn release_asks(&self, p: u32, vertex: usize, times: &Times) -> bool
+        requires here { p < length self.now.processors }
+        requires kept { fin.get (processor self.now p).requests
+            (point_at vertex times.now.time) ≡ Some tt }
+        ensures { ReleasesSo self.now p vertex times.now result }
+    {
+        let Some(to) = &times.to else {
+            return false;
+        };
+        if *to == times.time {
+            return true;
+        }
+        let point = Pointstamp {
+            location: vertex,
+            time: to.copy(),
+        };
+        !self.processor(p as usize).has_request(&point)
+    }
+
+    // Returns what a release changes, or why it is refused, but for the limits.
+    fn release_parts(
+        &self,
+        p: u32,
+        vertex: usize,
+        times: &Times,
+    ) -> Result<Vec<Change, A>, Refusal>
+        ensures reaches { IfOk result (λ v.
+            LeadOn A self.now (Releasing p vertex times.now) v.items) }
+        ensures free { OnOk result (IsWithinRules A self.now (Releasing p vertex times.now)) }
+        ensures refused { IfErr result (λ r. r ≢ Memory
+            → IsRefused {A = A} self.now (Releasing p vertex times.now) r) }
+        ensures memory { result ≡ Err Memory
+            → IsWithinRules A self.now (Releasing p vertex times.now) }
+    {
+        self.release_kept(p, vertex, times)?;
+        let asks = self.release_asks(p, vertex, times);
+        let graph = self.graph();
+        let n = self.processor_count();
+        let by = Performer {
+            graph,
+            n,
+            p,
+            vertex,
+        };
+        let Ok(all) = release_changes(self.alloc, &by, times, asks) else {
+            return Err(Refusal::Memory);
+        };
+        Ok(all)
+    }
+
+    // Returns what a feed, a take, a notice or a release changes, or why it is refused, but for the limits.
     fn drafted(&self, step: &Step<A>) -> Result<Drafted<A>, Refusal>
         requires { Works step.now }
         ensures drafted { IfOk result (IsDraft self.now step.now) }
@@ -164,11 +220,16 @@ impl<A: Allocator + Copy> Cluster<A> {
                 let all = self.notice_parts(*p, &point)?;
                 Ok(Drafted::Each(all))
             }
+            Step::Release { p, vertex, times } => {
+                let all = self.release_parts(*p, *vertex, times.get())?;
+                Ok(Drafted::Each(all))
+            }
             Step::Broadcast { .. } | Step::Receive { .. } => unreachable!(),
         }
     }
 
-    // Returns the changes of a feed, a take or a notice, in the order in which they are made, or why the step is refused.
+    // Returns the changes of a feed, a take, a notice or a release, in the order in which they are made, or why the step is
+    // refused.
     pub(crate) fn work_changes(&self, step: &Step<A>) -> Result<Changes<A>, Refusal>
         requires { Works step.now }
         ensures ok { IfOk result (Plans self.now step.now) }
@@ -180,6 +241,9 @@ impl<A: Allocator + Copy> Cluster<A> {
         match self.drafted(step)? {
             Drafted::Each(all) => {
                 let changes = planned_changes(self.processors(), all)?;
+                if let Some(refusal) = self.last_refusal(step) {
+                    return Err(refusal);
+                }
                 Ok(Changes::Each(changes))
             }
             Drafted::Flow { p, gone, come } => {
