@@ -1,5 +1,5 @@
 -- Whether a time is strictly after another can be decided.
-use Rattle.std.proofs.Common.{◌≡◌, ◌≢◌, ◌⊎◌, inl, inr, ℕ, ◌≤◌, Bool, true, false, Option, Some, None, length, IsTrue, ◌↔◌, refl, sym, ap, subst, ◌∙◌, arith, true≢false}
+use Rattle.std.proofs.Common.{◌≡◌, ◌⊎◌, inl, inr, ℕ, ◌≤◌, Bool, true, false, Option, Some, None, length, IsTrue, ◌↔◌, refl, sym, ap, ◌∙◌, arith, true≢false}
 use Rattle.std.proofs.lemmas.Bool.{cases_eq, cases_lt}
 use Rattle.std.proofs.lemmas.Cmp.{tied_itself}
 use Rattle.std.proofs.lemmas.Map.Views.{tells_apart}
@@ -32,9 +32,10 @@ before s t =
 
 same : (s t : Time) → Decided (s ≡ t)
 same s t =
-    by_test (eq_by_cmp time_cmp s t)
-    ((λ e. tells_apart time_exact s t e),
-    (λ e. ap (eq_by_cmp time_cmp s) (sym e) ∙ ap is_eq (tied_itself time_total s)))
+    by_test (eq_by_cmp time_cmp s t) (
+      (λ e. tells_apart time_exact s t e),
+      (λ e. ap (eq_by_cmp time_cmp s) (sym e) ∙ ap is_eq (tied_itself time_total s)),
+    )
 
 -- a capability does not move back, if it is not so that it does
 pub goes_later : (t : Time) (to : Option Time) → ((GoesLater t to → ⊥) → ⊥) → GoesLater t to

@@ -1,5 +1,5 @@
 -- What a release changes is what it adds.
-use Rattle.std.proofs.Common.{◌≡◌, ◌≤◌, ◌^◌, ℕ, ℤ, pos, negsuc, ◌+ℤ◌, Bool, cond, Option, Some, None, List, [], ◌∷◌, length, is_none, refl, sym, ap, subst, ◌∙◌, arith}
+use Rattle.std.proofs.Common.{◌≡◌, ◌≤◌, ◌^◌, ℕ, pos, negsuc, ◌+ℤ◌, Bool, cond, Option, Some, None, List, [], length, is_none, refl, ap, subst, ◌∙◌, arith}
 use Rattle.std.specs.FinMap as fin
 use Rattle.nd_time.specs.Time.{Time}
 use Rattle.nd_paths.specs.declared.point.Pointstamp.{Pointstamp}

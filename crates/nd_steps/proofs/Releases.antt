@@ -1,5 +1,5 @@
 -- A release: a request goes, and a later one may come.
-use Rattle.std.proofs.Common.{lit<, ◌≡◌, inr, ℕ, ◌+◌, ◌<◌, ℤ, pos, negsuc, ◌+ℤ◌, true, false, cond, Option, Some, None, List, [], ◌∷◌, ◌++◌, length, lt_of_not-le, refl, sym, ap, ◌∙◌, arith}
+use Rattle.std.proofs.Common.{lit<, ◌≡◌, inr, ℕ, ◌+◌, ◌<◌, pos, negsuc, ◌+ℤ◌, true, false, cond, Option, Some, None, List, ◌∷◌, length, lt_of_not-le, refl, sym, ap, ◌∙◌, arith}
 use Rattle.std.proofs.lemmas.Int.{ints}
 use Rattle.std.proofs.lemmas.List.{append-nil}
 use Rattle.std.proofs.lemmas.Map.Views.{tells_apart}
