@@ -3,20 +3,20 @@
 Each command is a line of a script (rewind_tools/typed.py), a line as JSON, or one of the words in OWN."""
 import json
 
-from rewind_tools.script import COMMANDS, FORMS, QUERIES, STEPS
+from rewind_tools.script import COMMANDS, FORMS, NEXTS, QUERIES, STEPS
 from rewind_tools.session import read_script, script_of
 from rewind_tools.telling import faults, names
 from rewind_tools.telling.answers import Teller
 from rewind_tools.telling.commands import FIRM
 from rewind_tools.telling.effects import effect_words
 from rewind_tools.telling.table import queues_and_sinks, table
-from rewind_tools.typed import NotTyped, line_of, usage, words_of_line
+from rewind_tools.typed import MARKED, NotTyped, line_of, usage, words_of_line
 
 LIMIT = 1000
 OWN = {
     "can": ("", "list the steps that may be executed now, and what the others wait for"),
     "do": ("N", "execute step N of the list of 'can'"),
-    "next": ("[N]", "execute the next N enabled steps, 1 if not given"),
+    "next": ("[N] [only P ..]", "execute the next N enabled steps, 1 if not given"),
     "until": ("CONDITION", f"run until a condition holds, at most {LIMIT} steps"),
     "changed": ("[N]", "what the step that leads to position N changed, or the last step"),
     "where": ("", "the cursor and the kept steps"),
@@ -31,7 +31,8 @@ MEANS = {"back": "undo N steps, 1 if not given", "redo": "execute N undone steps
 KINDS = {
     "feed": "give values to an input", "take": "consume a record; alone, the first that is enabled",
     "notice": "deliver a notification; alone, the first that is enabled",
-    "run": f"execute at most N steps, {LIMIT} if not given",
+    "release": "give up a held capability, or move it to a later time; alone, list all that are held",
+    "run": f"execute at most N steps, {LIMIT} if not given, of all processors or of some only",
     "broadcast": "send progress updates; alone, the first that is enabled", "jump": "go to position N",
     "receive": "receive the first update of a queue; alone, the first that is enabled",
     "break": "set a breakpoint",
@@ -76,9 +77,11 @@ class Prompt:
             return own(words[1:])
         if words[0] not in FORMS:
             raise NotTyped(f"{words[0]} is no command; 'help' lists them")
+        if words == ["release"]:
+            return self.held()
         if words[0] in STEPS and len(words) == 1 and words[0] != "feed":
             return self.first_of(words[0])
-        return self.ask(line_of(words, self.defaults()))
+        return self.ask(line_of(words, {} if words[0] in STEPS else self.defaults()))
 
     def defaults(self):
         return {"lo": 0, "hi": self.kept, "limit": LIMIT, "workers": 1, "to": self.at, "id": 0}
@@ -157,7 +160,19 @@ class Prompt:
         return self.ask(candidates[number]["step"])
 
     def own_next(self, rest):
-        return self.ask({"do": "run", "limit": self.count(rest)})
+        return self.ask(line_of(["run", *rest], {"limit": 1}))
+
+    def held(self):
+        """Says which capabilities hold vertices hold, each as the line that releases it."""
+        state = self.session.ask({"do": "state"})["state"]
+        held = [
+            f"release {p} {vertex} {','.join(map(str, time))}"
+            for p, it in enumerate(state["processors"])
+            for vertex, time in it["requests"]
+            if vertex in self.teller.graph.holds
+        ]
+        for it in held or ["no hold vertex holds a capability"]:
+            self.say(it)
 
     def own_back(self, rest):
         return self.ask({"do": "jump", "to": max(0, self.at - self.count(rest))} if rest else {"do": "back"})
@@ -197,7 +212,7 @@ class Prompt:
         if self.is_raw:
             return self.say(json.dumps(reply, separators=(",", ":"), ensure_ascii=False))
         sentences = (
-            effect_words(reply["changed"])
+            effect_words(reply["changed"], self.teller.graph.holds)
             if "changed" in reply
             else self.answer({"do": "effect", "to": position}, reply)
         )
@@ -277,8 +292,9 @@ def completions(prompt, before, part):
     word = before.split()[0]
     known = [
         *graph.order,
-        *(["next", "close", "stay"] if word == "feed" else []),
+        *([*NEXTS, "to"] if word == "feed" else []),
         *(["before"] if word == "why" else []),
+        *MARKED.get("run" if word == "next" else word, []),
     ]
     if word in ("until", "break", "search", "turns"):
         known += ["passed", "count", "queue", "sink", "finished", "view", "not", "and", "or"]

@@ -10,6 +10,7 @@ STEPS = {
     "feed": {"p": "small", "vertex": "vertex", "values": "values", "next": "next"},
     "take": {"p": "small", "edge": "edge", "time": "time", "value": "signed"},
     "notice": {"p": "small", "vertex": "vertex", "time": "time"},
+    "release": {"p": "small", "vertex": "vertex", "time": "time", "to": "time"},
     "broadcast": {"p": "small", "part": "points"},
     "receive": {"from": "small", "to": "small"},
 }
@@ -18,7 +19,7 @@ COMMANDS = {
     "back": {},
     "redo": {},
     "jump": {"to": "whole"},
-    "run": {"limit": "whole"},
+    "run": {"limit": "whole", "only": "processors"},
     "break": {"when": "when"},
     "unbreak": {"id": "whole"},
 }
@@ -40,9 +41,24 @@ QUERIES = {
 }
 FORMS = {**COMMANDS, **QUERIES}
 # The keys of each word that a line may leave out, each with the version with which it came.
-OPTIONAL = {"broadcast": {"part": 1}, "frontier": {"at": 4}, "why": {"before": 4}}
+OPTIONAL = {
+    "broadcast": {"part": 1}, "frontier": {"at": 4}, "why": {"before": 4}, "release": {"to": 5},
+    "run": {"only": 5},
+}  # fmt: skip
 # The version with which a word came, if it is not the first, and the last version that there is.
-SINCE, LAST = {"export": 2, "why": 3, "changes": 3, "step": 3, "candidates": 4, "effect": 4, "turns": 4}, 4
+SINCE = {
+    "export": 2, "why": 3, "changes": 3, "step": 3, "candidates": 4, "effect": 4, "turns": 4, "release": 5,
+}  # fmt: skip
+LAST = 5
+# The words of "next"; from a later version on, it may also be {"to": n}.
+NEXTS, NEXT_TO_SINCE = ("next", "close", "stay"), 5
+# The most processors under "only".
+MOST_ONLY = 16
+# The operators: those that have a number "k", and the others; the version with which one came, if it is not
+# the first.
+PLAIN_OPS = ("input", "ingress", "egress", "feedback", "sum", "distinct", "sink", "hold")
+NUMBERED_OPS = ("add", "mul", "below", "split")
+OPS_SINCE = {"hold": 5}
 # The atoms of a condition: what stands under the only key of each.
 ATOMS = {
     "passed": {"q": "small", "at": "place", "time": "time"},
@@ -68,7 +84,7 @@ ERRORS = {
     31: "BadShape",
     32: "UnknownName", 33: "LineTooLong", 34: "BadTime", 35: "BadClient", 36: "OneClientOnly",
     50: "BadRange", 51: "NoWorkers",
-    52: "Missing",
+    52: "Missing", 53: "NotNotified", 54: "NotLater",
 }  # fmt: skip
 
 
@@ -87,6 +103,11 @@ def form_of(word, version):
     """The form of a word in a script of a version: the keys that came later are left out."""
     later = [key for key, since in OPTIONAL.get(word, {}).items() if since > version]
     return {key: kind for key, kind in FORMS[word].items() if key not in later}
+
+
+def ops_of(version):
+    """The operators of a script's version."""
+    return [op for op in PLAIN_OPS + NUMBERED_OPS if OPS_SINCE.get(op, 1) <= version]
 
 
 def atoms_of(version):

@@ -2,22 +2,25 @@
 
     line_of("feed 0 words 2 3 next", FORMS)      {"do": "feed", "p": 0, "vertex": "words", "values": [2, 3],
                                                  "next": "next"}
+    line_of("release 0 keep 0 to 3", FORMS)      {"do": "release", "p": 0, "vertex": "keep", "time": [0],
+                                                 "to": [3]}
 
 Values stand in the order of the grammar's keys. A time is its numbers with commas and no spaces, as 0 or
 0,1; a point is a location and a time; values end at the first word that is no number. NotTyped says what is
 missing or wrong, in words."""
 import shlex
 
-from rewind_tools.script import ATOMS, FORMS, OPTIONAL
+from rewind_tools.script import ATOMS, FORMS, NEXTS, OPTIONAL
 
 JOINTS = {"and": "all", "or": "any"}
+# The keys that are typed by their own name, with the value after it.
+MARKED = {"release": ["to"], "run": ["only"]}
 # What stands for a kind of value in the form that help shows.
 SHOWN = {
     "small": "P", "whole": "N", "signed": "N", "vertex": "VERTEX", "edge": "EDGE", "place": "LOCATION",
     "time": "TIME",
-    "point": "LOCATION TIME", "points": "LOCATION TIME ..", "values": "VALUE ..", "next": "next|close|stay",
-    "when": "CONDITION",
-    "flag": "before",
+    "point": "LOCATION TIME", "points": "LOCATION TIME ..", "values": "VALUE ..",
+    "next": "|".join([*NEXTS, "to N"]), "when": "CONDITION", "flag": "before", "processors": "P ..",
 }  # fmt: skip
 
 
@@ -78,8 +81,13 @@ class Words:
             return points
         if kind == "values":
             return self.while_numbers()
+        if kind == "processors":
+            return [number(self.take(kind)), *self.while_numbers()]
         if kind == "when":
             return self.condition()
+        if kind == "next":
+            word = self.take(kind)
+            return {"to": number(self.take("epoch"))} if word == "to" else word
         if kind == "flag":
             return self.take(kind) == "before"
         return self.take(kind)
@@ -113,8 +121,9 @@ def usage(word):
     """What stands after a word, as help shows it."""
     if word not in FORMS:
         return ""
-    may_lack = OPTIONAL.get(word, {})
+    may_lack, marked = OPTIONAL.get(word, {}), MARKED.get(word, [])
     shown = {key: "VALUE" if key == "value" else SHOWN[kind] for key, kind in FORMS[word].items()}
+    shown = {key: f"{key} {it}" if key in marked else it for key, it in shown.items()}
     return " ".join(f"[{it}]" if key in may_lack else it for key, it in shown.items())
 
 
@@ -122,13 +131,18 @@ def line_of(words, defaults=()):
     """The script's line of typed words; keys that have a default may be left out at the end."""
     word, *rest = words
     left, defaults = Words(rest, word), dict(defaults)
+    marked, may_lack = MARKED.get(word, []), OPTIONAL.get(word, {})
     value = {"do": word}
     for key, kind in FORMS[word].items():
-        if left.words:
+        if key in marked:
+            if left.words[:1] == [key]:
+                left.take(kind)
+                value[key] = left.value(kind)
+        elif left.words and not (key in defaults and left.words[0] in marked):
             value[key] = left.value(kind)
         elif key in defaults:
             value[key] = defaults[key]
-        elif key not in OPTIONAL.get(word, {}):
+        elif key not in may_lack:
             value[key] = left.value(kind)
     if left.words:
         raise NotTyped(f"too many words: {' '.join(left.words)}; the form is: {word} {usage(word)}")

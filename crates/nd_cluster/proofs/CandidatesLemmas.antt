@@ -1,6 +1,6 @@
 -- The candidates of a processor and of a cluster: they are in the order of the choice, and each step that may be chosen is among them.
-use Rattle.std.proofs.Common.{◌≡◌, ◌≢◌, ◌<◌, ◌≤◌, ◌+◌, ◌-◌, ◌%◌, inl, inr, ℕ, zero, suc, ℤ, true, false, cond, T, List, [], ◌∷◌, ◌++◌, map, length, length-append, Option, Some, None, refl, sym, ap, subst, ◌∙◌, arith, append_assoc, Ordering, Less}
-use Rattle.std.specs.Prelude.{All, Contains, nat_lt}
+use Rattle.std.proofs.Common.{◌≡◌, ◌≢◌, ◌<◌, ◌≤◌, ◌+◌, ◌-◌, ◌%◌, inl, inr, ℕ, zero, suc, ℤ, Bool, true, false, cond, T, List, get_or, [], ◌∷◌, ◌++◌, map, length, length-append, Option, Some, None, refl, sym, ap, subst, ◌∙◌, arith, append_assoc, Ordering, Less}
+use Rattle.std.specs.Prelude.{All, Any, Contains, nat_eq, nat_lt}
 use Rattle.std.specs.List.{flat_map, range_with_len}
 use Rattle.std.specs.Ordering.{eq_by_cmp}
 use Rattle.std.specs.Cmp.{IsTotalOrder}
@@ -12,6 +12,7 @@ use Rattle.std.proofs.lemmas.Bool.Decides.{nat_tests}
 use Rattle.std.proofs.lemmas.Cmp.{tied_itself}
 use Rattle.std.proofs.lemmas.List.{append-nil, length-map, map-append, take_all, take-append-le, length-take}
 use Rattle.std.proofs.lemmas.List.Elements.{All-nil, All-cons, All-head, All-tail, All-append, All-map, All-weaker, All-contains, All-contains_itself, All-push, Contains-append_left, Contains-append_right, Contains-append_cases}
+use Rattle.std.proofs.lemmas.List.Folds.{Any-from_list_any, list_any_at}
 use Rattle.std.proofs.lemmas.Map.Views.{tells_apart}
 use Rattle.nd_time.specs.Limits.{max_told}
 use Rattle.nd_map.specs.Cases.{first, second, less}
@@ -31,8 +32,8 @@ use Rattle.nd_protocol.specs.declared.step.Step.{Step}
 use Rattle.nd_protocol.specs.declared.step.Step.TheVariants.{Feed, Take, Notice, Release, Broadcast, Receive}
 use Rattle.nd_protocol.specs.declared.part.Part.TheVariants.{Points}
 use Rattle.nd_protocol.specs.declared.part.Part.TheVariants.{All as Whole}
-use Rattle.nd_cluster.specs.Choice.{IsCandidate, performer, rank, IsListedBefore, ComesFirst, IsIdle}
-use Rattle.nd_cluster.specs.Candidates.{receive_of, receives_from, receives, takes, notices, broadcast_of, broadcasts, candidates_of, candidates, candidates_after, receives_after, left_of, AreRefused, IsFirstEnabled, AreListed, IsAnswered, Lists}
+use Rattle.nd_cluster.specs.Choice.{IsCandidate, MayRun, performer, rank, IsListedBefore, ComesFirst, IsIdle}
+use Rattle.nd_cluster.specs.Candidates.{receive_of, receives_from, receives, takes, notices, broadcast_of, broadcasts, candidates_of, candidates, may_run, candidates_if, candidates_among, candidates_after, receives_after, left_of, AreRefused, IsFirstEnabled, AreListed, IsAnswered, Lists}
 use Rattle.nd_cluster.specs.Drafted.{take_of, notice_of}
 use Rattle.nd_cluster.specs.declared.candidate.Candidate.{Candidate}
 use Rattle.nd_cluster.specs.declared.candidate.Candidates.{Candidates}
@@ -247,6 +248,25 @@ whose s turn i m n from count = λ j. (turn % from j + i) % count j
 none_of : (m : DeltaValue) → updates m ≡ [] → m ≡ none
 none_of m e = same m none (λ q. sym (updates-at m q) ∙ ap (λ es. or_zero (find point_cmp q es)) e ∙ sym (at-none q))
 
+-- ---- among some processors
+
+equal : (q p : ℕ) → nat_eq q p ≡ true → q ≡ p
+equal q p h = grind (arith, nat_tests)
+
+equal_itself : (p : ℕ) → nat_eq p p ≡ true
+equal_itself p = grind (arith, nat_tests)
+
+-- what the test says
+listed : (only : Option (List ℕ)) (p : ℕ) → may_run only p ≡ true → MayRun only p
+listed None p h = tt
+listed (Some ps) p h =
+    let found : Any (λ q. nat_eq q p ≡ true) ps = Any-from_list_any (λ q. nat_eq q p) ps h in
+    (found.0, found.2, subst (λ q. get_or ps found.0 q ≡ q) (equal found.1 p found.4) found.3)
+
+is_listed : (only : Option (List ℕ)) (p : ℕ) → MayRun only p → may_run only p ≡ true
+is_listed None p h = refl
+is_listed (Some ps) p h = list_any_at (λ q. nat_eq q p) ps h.0 p h.1 (ap (λ q. nat_eq q p) h.2 ∙ equal_itself p)
+
 module _ {A : Type 0} (s : ClusterState) where
   among_receives : (from p : ℕ) → from < length s.processors → queue s from p ≢ [] → Contains (receives {A = A} s p) (Receive from p)
   among_receives from p lt some =
@@ -364,21 +384,58 @@ module _ {A : Type 0} (s : ClusterState) where
         subst (AreRefused s) (sym (turns_more f 0 i ∙ ap (λ j. flat_map f (range_with_len 0 i) ++ (f j ++ [])) this))
         (All-append (λ y. IsEnabled s y → ⊥) (flat_map f (range_with_len 0 i)) (f i ++ []) refused (All-append (λ y. IsEnabled s y → ⊥) (f i) [] h (All-nil (λ y. IsEnabled s y → ⊥))))
 
-  module _ (turn i m n : ℕ) (from : m ≡ length s.processors) (count : n ≡ length s.processors) where
+  module _ (only : Option (List ℕ)) (turn i m n : ℕ) (from : m ≡ length s.processors) (count : n ≡ length s.processors) where
     -- what is found on the processor whose turn it is
-    pub found_after : (x : Step A) → IsFirstEnabled s (candidates_of s ((turn % m + i) % n)) x → IsFirstEnabled s (candidates_after s turn i) x
-    found_after x h = subst (λ q. IsFirstEnabled s (candidates_of s q) x) (whose s turn i m n from count) h
+    pub found_after : (x : Step A) → IsFirstEnabled s (candidates_if s only ((turn % m + i) % n)) x → IsFirstEnabled s (candidates_after s turn only i) x
+    found_after x h = subst (λ q. IsFirstEnabled s (candidates_if s only q) x) (whose s turn i m n from count) h
 
-    pub refused_after : AreRefused {A = A} s (candidates_of s ((turn % m + i) % n)) → AreRefused {A = A} s (candidates_after s turn i)
-    refused_after h = subst (λ q. AreRefused {A = A} s (candidates_of s q)) (whose s turn i m n from count) h
+    pub refused_after : AreRefused {A = A} s (candidates_if s only ((turn % m + i) % n)) → AreRefused {A = A} s (candidates_after s turn only i)
+    refused_after h = subst (λ q. AreRefused {A = A} s (candidates_if s only q)) (whose s turn i m n from count) h
 
-  -- if none may be chosen, all are refused
-  pub idle_refused : IsIdle A s → AreRefused {A = A} s (candidates s)
-  idle_refused h = All-weaker IsCandidate (λ x. IsEnabled s x → ⊥) (λ x candidate e. h.none x candidate e) (candidates s) kinds
+  -- ---- among some processors
 
-  -- one that is chosen is not refused
-  pub chosen_not_refused : (x : Step A) → IsCandidate x → IsEnabled s x → AreRefused {A = A} s (candidates s) → ⊥
-  chosen_not_refused x candidate e h = All-contains (λ y. IsEnabled s y → ⊥) (candidates s) x h (covers x candidate e) e
+  module _ (only : Option (List ℕ)) (p : ℕ) where
+    -- an enabled one is found of a processor that may run alone
+    pub found_if : (x : Step A) → IsFirstEnabled s (candidates_if s only p) x → MayRun only p × IsFirstEnabled s (candidates_of s p) x
+    found_if x h = by (may_run only p) (λ t. listed only p t) h
+      where
+        by : (b : Bool) → (b ≡ true → MayRun only p) → IsFirstEnabled s (cond b (candidates_of s p) []) x → MayRun only p × IsFirstEnabled s (candidates_of s p) x
+        by true goes h = (goes refl, h)
+        by false goes h = absurd (omega (arith, ap length h.place, length-append h.before (x ∷ h.after)))
+
+    -- those of a processor that may run
+    pub if_listed : MayRun only p → candidates_if {A = A} s only p ≡ candidates_of s p
+    if_listed may = ap (λ b. cond b (candidates_of s p) []) (is_listed only p may)
+
+    -- they are candidates of a processor that may run
+    kinds_if : All (λ (x : Step A). IsCandidate x × MayRun only (performer x)) (candidates_if s only p)
+    kinds_if = by (may_run only p) (λ t. listed only p t)
+      where
+        by : (b : Bool) → (b ≡ true → MayRun only p) → All (λ (x : Step A). IsCandidate x × MayRun only (performer x)) (cond b (candidates_of s p) [])
+        by true goes = λ k d lt. (kinds_of A s p k d lt, subst (MayRun only) (sym (performers_of A s p k d lt)) (goes refl))
+        by false goes = All-nil (λ (x : Step A). IsCandidate x × MayRun only (performer x))
+
+  module _ (only : Option (List ℕ)) where
+    -- of those of a processor that may run, none is enabled
+    pub none_if : (p : ℕ) → AreRefused {A = A} s (candidates_if s only p) → MayRun only p → HasNone {A = A} s (IsOf p)
+    none_if p h may = none_on p (subst (AreRefused s) (if_listed only p may) h)
+
+    covers_among : (x : Step A) → IsCandidate x → MayRun only (performer x) → IsEnabled s x → Contains (candidates_among s only) x
+    covers_among x candidate may e =
+        among_turns (candidates_if s only) x 0 (length s.processors) (performer x) (omega arith) (omega (arith, performer_there A s x e))
+        (subst (λ xs. Contains xs x) (sym (if_listed only (performer x) may)) (covers_own x candidate e))
+
+    kinds_among : All (λ (x : Step A). IsCandidate x × MayRun only (performer x)) (candidates_among s only)
+    kinds_among = all_in_turn (candidates_if s only) (λ (x : Step A). IsCandidate x × MayRun only (performer x)) 0 (length s.processors) (λ p low high. kinds_if only p)
+
+    -- if none may be chosen, all are refused
+    pub idle_refused : IsIdle A s only → AreRefused {A = A} s (candidates_among s only)
+    idle_refused h =
+        All-weaker (λ (x : Step A). IsCandidate x × MayRun only (performer x)) (λ x. IsEnabled s x → ⊥) (λ x is e. h.none x is.0 is.1 e) (candidates_among s only) kinds_among
+
+    -- one that is chosen is not refused
+    pub chosen_not_refused : (x : Step A) → IsCandidate x → MayRun only (performer x) → IsEnabled s x → AreRefused {A = A} s (candidates_among s only) → ⊥
+    chosen_not_refused x candidate may e h = All-contains (λ y. IsEnabled s y → ⊥) (candidates_among s only) x h (covers_among x candidate may e) e
 
 -- ---- what is left of a processor's candidates
 

@@ -1,5 +1,5 @@
 -- The first enabled step, processor by processor.
-use Rattle.std.proofs.Common.{◌≡◌, ◌<◌, ◌≤◌, ◌+◌, ◌-◌, ◌%◌, ◌⊎◌, inl, inr, ℕ, length, sym, ap, ◌∙◌, arith}
+use Rattle.std.proofs.Common.{◌≡◌, ◌<◌, ◌≤◌, ◌+◌, ◌-◌, ◌%◌, ◌⊎◌, inl, inr, ℕ, List, Option, length, sym, ap, subst, ◌∙◌, arith}
 use Rattle.std.proofs.Math.Nat.{mod-eq_of_lt, add-mod_right, mod-lt}
 use Rattle.std.proofs.lemmas.Bool.{cases_lt}
 use Rattle.nd_protocol.specs.State.{ClusterState}
@@ -7,7 +7,7 @@ use Rattle.nd_protocol.specs.Enabled.{IsEnabled}
 use Rattle.nd_protocol.specs.declared.refusal.Refusal.TheVariants.{NoProcessor}
 use Rattle.nd_protocol.specs.declared.step.Step.{Step}
 use Rattle.nd_protocol.specs.declared.step.Step.TheVariants.{Feed, Take, Notice, Release, Broadcast, Receive}
-use Rattle.nd_cluster.specs.Choice.{IsCandidate, performer, wait, ComesFirst, IsChosen, IsIdle}
+use Rattle.nd_cluster.specs.Choice.{IsCandidate, MayRun, performer, wait, ComesFirst, IsChosen, IsIdle}
 
 -- ---- the turns
 
@@ -70,36 +70,41 @@ module _ (A : Type 0) (s : ClusterState) where
   performer_there (Broadcast p part) e = below _ p (e.free NoProcessor)
   performer_there (Receive from to) e = below _ to (λ h. e.free NoProcessor (inr h))
 
-  -- ---- all processors
+  -- ---- all processors that may run
 
-  -- no candidate of a processor whose turn came is enabled
-  abbrev pub NoneWaits : ℕ → ℕ → Type 0
-  NoneWaits turn i = (y : Step A) → IsCandidate y → wait (length s.processors) turn (performer y) < i → IsEnabled s y → ⊥
+  module _ (only : Option (List ℕ)) where
+    -- no candidate of a processor that may run and whose turn came is enabled
+    abbrev pub NoneWaits : ℕ → ℕ → Type 0
+    NoneWaits turn i = (y : Step A) → IsCandidate y → MayRun only (performer y) → wait (length s.processors) turn (performer y) < i → IsEnabled s y → ⊥
 
-  pub chosen_of : 0 < length s.processors → (turn i : ℕ) (x : Step A) → i < length s.processors → NoneWaits turn i
-      → IsFirst s (IsOf ((turn % length s.processors + i) % length s.processors)) x → IsChosen s turn x
-  chosen_of some turn i x lt none h =
-      let mine : wait (length s.processors) turn (performer x) ≡ i = ap (wait (length s.processors) turn) h.kind ∙ wait_of (length s.processors) turn some i lt in
-      record {
-        candidate = h.candidate;
-        enabled = h.enabled;
-        first = λ y candidate before e. elim before [
-          | inl sooner ↦ none y candidate (omega (arith, sooner, mine)) e
-          | inr same ↦ h.first y candidate (same.0 ∙ h.kind) same.1 e
-        ];
-      }
+    pub chosen_of : 0 < length s.processors → (turn i : ℕ) (x : Step A) → i < length s.processors → NoneWaits turn i
+        → MayRun only ((turn % length s.processors + i) % length s.processors) → IsFirst s (IsOf ((turn % length s.processors + i) % length s.processors)) x → IsChosen s turn only x
+    chosen_of some turn i x lt none may h =
+        let mine : wait (length s.processors) turn (performer x) ≡ i = ap (wait (length s.processors) turn) h.kind ∙ wait_of (length s.processors) turn some i lt in
+        record {
+          candidate = h.candidate;
+          listed = subst (MayRun only) (sym h.kind) may;
+          enabled = h.enabled;
+          first = λ y candidate listed before e. elim before [
+            | inl sooner ↦ none y candidate listed (omega (arith, sooner, mine)) e
+            | inr same ↦ h.first y candidate (same.0 ∙ h.kind) same.1 e
+          ];
+        }
 
-  pub none_waits_more : 0 < length s.processors → (turn i : ℕ) → NoneWaits turn i
-      → HasNone {A = A} s (IsOf ((turn % length s.processors + i) % length s.processors)) → NoneWaits turn (i + 1)
-  none_waits_more some turn i none here y candidate lt e =
-      elim (split (wait (length s.processors) turn (performer y)) i lt) [
-        | inl h ↦ none y candidate h e
-        | inr h ↦ here y candidate
-            (sym (whose_wait (length s.processors) turn some (performer y) (performer_there y e)) ∙ ap (λ k. (turn % length s.processors + k) % length s.processors) h) e
-      ]
+    -- the processor whose turn it is has none, or may not run
+    pub none_waits_more : 0 < length s.processors → (turn i : ℕ) → NoneWaits turn i
+        → (MayRun only ((turn % length s.processors + i) % length s.processors) → HasNone {A = A} s (IsOf ((turn % length s.processors + i) % length s.processors)))
+        → NoneWaits turn (i + 1)
+    none_waits_more some turn i none here y candidate listed lt e =
+        elim (split (wait (length s.processors) turn (performer y)) i lt) [
+          | inl h ↦ none y candidate listed h e
+          | inr h ↦
+              let whose : performer y ≡ (turn % length s.processors + i) % length s.processors = sym (whose_wait (length s.processors) turn some (performer y) (performer_there y e)) ∙ ap (λ k. (turn % length s.processors + k) % length s.processors) h in
+              here (subst (MayRun only) whose listed) y candidate whose e
+        ]
 
-  -- the turn of each came
-  pub idle_of : 0 < length s.processors → (turn i : ℕ) → length s.processors ≤ i → NoneWaits turn i → IsIdle A s
-  idle_of some turn i all none = record {
-    none = λ y candidate e. none y candidate (omega (arith, all, mod-lt (performer y + length s.processors - turn % length s.processors) some)) e;
-  }
+    -- the turn of each came
+    pub idle_of : 0 < length s.processors → (turn i : ℕ) → length s.processors ≤ i → NoneWaits turn i → IsIdle A s only
+    idle_of some turn i all none = record {
+      none = λ y candidate listed e. none y candidate listed (omega (arith, all, mod-lt (performer y + length s.processors - turn % length s.processors) some)) e;
+    }

@@ -1,6 +1,6 @@
 -- The steps that a run could try, each with the answer of a plan (this project's own rule).
-use Rattle.std.specs.Prelude.{◌≡◌, ◌↔◌, ◌<◌, ◌+◌, ◌-◌, ◌%◌, ℕ, ℤ, Bool, cond, List, [], ◌∷◌, ◌++◌, length, map, take, Option, Some, None, IsTrue, All}
-use Rattle.std.specs.List.{flat_map, range_with_len}
+use Rattle.std.specs.Prelude.{◌≡◌, ◌↔◌, ◌<◌, ◌+◌, ◌-◌, ◌%◌, ℕ, ℤ, Bool, true, cond, nat_eq, List, [], ◌∷◌, ◌++◌, length, map, take, Option, Some, None, IsTrue, All}
+use Rattle.std.specs.List.{flat_map, list_any, range_with_len}
 use Rattle.std.specs.FinMap as fin
 use Rattle.nd_time.specs.Limits.{max_told}
 use Rattle.nd_map.specs.Counts.{entries}
@@ -60,13 +60,28 @@ candidates_of s p = receives s p ++ (takes s p ++ (notices s p ++ broadcasts s p
 abbrev pub candidates : {A : Type 0} → ClusterState → List (Step A)
 candidates s = flat_map (candidates_of s) (range_with_len 0 (length s.processors))
 
+-- ---- the candidates of some processors
+
+-- whether a run goes through processor p: `MayRun` as a test
+abbrev pub may_run : Option (List ℕ) → ℕ → Bool
+may_run None p = true
+may_run (Some listed) p = list_any (λ q. nat_eq q p) listed
+
+-- of processor p, and none if a run skips it
+abbrev pub candidates_if : {A : Type 0} → ClusterState → Option (List ℕ) → ℕ → List (Step A)
+candidates_if s only p = cond (may_run only p) (candidates_of s p) []
+
+-- by processor, without the processors that a run skips
+abbrev pub candidates_among : {A : Type 0} → ClusterState → Option (List ℕ) → List (Step A)
+candidates_among s only = flat_map (candidates_if s only) (range_with_len 0 (length s.processors))
+
 -- of the processor that comes i processors after the turn's
-abbrev pub candidates_after : {A : Type 0} → ClusterState → ℕ → ℕ → List (Step A)
-candidates_after s turn i = candidates_of s ((turn % length s.processors + i) % length s.processors)
+abbrev pub candidates_after : {A : Type 0} → ClusterState → ℕ → Option (List ℕ) → ℕ → List (Step A)
+candidates_after s turn only i = candidates_if s only ((turn % length s.processors + i) % length s.processors)
 
 -- by processor, from the turn's processor on
-abbrev pub candidates_from : {A : Type 0} → ClusterState → ℕ → List (Step A)
-candidates_from s turn = flat_map (candidates_after s turn) (range_with_len 0 (length s.processors))
+abbrev pub candidates_from : {A : Type 0} → ClusterState → ℕ → Option (List ℕ) → List (Step A)
+candidates_from s turn only = flat_map (candidates_after s turn only) (range_with_len 0 (length s.processors))
 
 -- none of these steps is enabled
 abbrev pub AreRefused : {A : Type 0} → ClusterState → List (Step A) → Type 0

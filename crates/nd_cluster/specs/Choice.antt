@@ -1,5 +1,5 @@
 -- The choice of the next step: the first enabled one in an order that begins with the turn's processor (this project's own rule).
-use Rattle.std.specs.Prelude.{◌≡◌, ◌<◌, ◌⊎◌, ℕ, ◌+◌, ◌-◌, ◌%◌, length, Option, Some, None}
+use Rattle.std.specs.Prelude.{◌≡◌, ◌<◌, ◌⊎◌, ℕ, ◌+◌, ◌-◌, ◌%◌, List, Contains, length, Option, Some, None}
 use Rattle.std.specs.declared.cmp.Ordering.TheVariants.{Less}
 use Rattle.nd_paths.specs.Point.{point_cmp}
 use Rattle.nd_processor.specs.Keys.{value_at_cmp}
@@ -26,6 +26,13 @@ IsCandidate (Notice p vertex t) = Unit {0}
 IsCandidate (Release p vertex times) = ⊥
 IsCandidate (Broadcast p part) = IsWhole part
 IsCandidate (Receive from to) = Unit {0}
+
+-- ---- among some processors
+
+-- a run goes through processor p: through every one, or through those that are listed
+abbrev pub MayRun : Option (List ℕ) → ℕ → Type 0
+MayRun None p = Unit {0}
+MayRun (Some listed) p = Contains listed p
 
 -- ---- the order
 
@@ -69,15 +76,16 @@ ComesBefore n turn x y =
 
 -- ---- the choice
 
--- it is enabled, and no candidate that comes before it is
-pub record IsChosen {A : Type 0} (s : ClusterState) (turn : ℕ) (x : Step A) : Type 0 where
+-- its processor may run, it is enabled, and no such candidate that comes before it is
+pub record IsChosen {A : Type 0} (s : ClusterState) (turn : ℕ) (only : Option (List ℕ)) (x : Step A) : Type 0 where
   pub candidate : IsCandidate x
+  pub listed : MayRun only (performer x)
   pub enabled : IsEnabled s x
-  pub first : (y : Step A) → IsCandidate y → ComesBefore (length s.processors) turn y x → IsEnabled s y → ⊥
+  pub first : (y : Step A) → IsCandidate y → MayRun only (performer y) → ComesBefore (length s.processors) turn y x → IsEnabled s y → ⊥
 
--- no candidate is enabled
-pub record IsIdle (A : Type 0) (s : ClusterState) : Type 0 where
-  pub none : (y : Step A) → IsCandidate y → IsEnabled s y → ⊥
+-- no candidate of a processor that may run is enabled
+pub record IsIdle (A : Type 0) (s : ClusterState) (only : Option (List ℕ)) : Type 0 where
+  pub none : (y : Step A) → IsCandidate y → MayRun only (performer y) → IsEnabled s y → ⊥
 
 -- the record of a step, or none if it is refused
 abbrev pub Tries : {A : Type 0} → ClusterState → Step A → Option (Record A) → Type 0

@@ -1,11 +1,22 @@
 //! The choice of the next step (this project's own rule).
-ghost use Rattle.std.specs.Prelude.{◌≡◌, ◌<◌, ◌↔◌, IfOk, IfSome, IsNone, length};
+ghost use Rattle.std.specs.Prelude.{◌≡◌, ◌<◌, ◌↔◌, IfOk, IfSome, IsNone, None, length, option_copied};
 ghost use Rattle.nd_cluster.specs.Choice.{IsChosen, IsIdle, Tries};
-ghost use Rattle.nd_cluster.specs.Candidates.{AreRefused, FindsFirst, IsFirstEnabled, candidates, candidates_from, candidates_of};
+ghost use Rattle.nd_cluster.specs.Candidates.{AreRefused, FindsFirst, IsFirstEnabled, candidates, candidates_among, candidates_from, candidates_if, candidates_of, may_run};
 ghost use Rattle.nd_cluster.specs.Records.{IsPlanned};
 
 use crate::{Cluster, NoMemory, Record, Refusal, Step};
+use nd_protocol::Processors;
 use std::alloc::Allocator;
+
+// Returns whether a run goes through processor `p`: through every one, or through those that are listed.
+fn may_run<A: Allocator>(only: Option<&Processors<A>>, p: u32) -> bool
+    ensures { result ≡ may_run (option_copied only.entry) p }
+{
+    match only {
+        Some(listed) => listed.as_slice().contains(&p),
+        None => true,
+    }
+}
 
 impl<A: Allocator + Copy> Cluster<A> {
     // Returns the record of a step, or none if the step is refused.
@@ -32,41 +43,65 @@ impl<A: Allocator + Copy> Cluster<A> {
         Ok(None)
     }
 
+    // Returns the record of the first enabled candidate of a processor, none if a run skips the
+    // processor.
+    fn first_if(
+        &self,
+        only: Option<&Processors<A>>,
+        p: u32,
+    ) -> Result<Option<Record<A>>, NoMemory>
+        requires { p < length self.now.processors }
+        ensures { IfOk result (FindsFirst {A = A} self.now
+            (candidates_if self.now (option_copied only.entry) p)) }
+    {
+        if may_run(only, p) {
+            self.first_on(p)
+        } else {
+            Ok(None)
+        }
+    }
+
     /// Returns the record of the first enabled step, from the turn's processor on: of each processor a receive, else a take,
-    /// else a notice, else the broadcast of all that is unsent.
+    /// else a notice, else the broadcast of all that is unsent. If processors are listed, the others are skipped.
     ///
     /// The step is the first enabled candidate if the processors are gone through from this turn on. There is none exactly
-    /// if no candidate is enabled.
-    pub fn first_planned(&self, turn: u64) -> Result<Option<Record<A>>, NoMemory>
-        ensures chosen { IfOk result (λ r. IfSome r (λ r. IsChosen self.now turn r.step)) }
-        ensures first { IfOk result (λ r. IfSome r (λ r.
-            IsFirstEnabled self.now (candidates_from self.now turn) r.step)) }
+    /// if no candidate of these processors is enabled.
+    pub fn first_planned<'a>(
+        &'a self,
+        turn: u64,
+        only: Option<&'a Processors<A>>,
+    ) -> Result<Option<Record<A>>, NoMemory>
+        ensures chosen { IfOk result (λ r. IfSome r (λ r.
+            IsChosen self.now turn (option_copied only.entry) r.step)) }
+        ensures first { IfOk result (λ r. IfSome r (λ r. IsFirstEnabled self.now
+            (candidates_from self.now turn (option_copied only.entry)) r.step)) }
         ensures planned { IfOk result (λ r. IfSome r (λ r. IsPlanned r self.now)) }
-        ensures idle { IfOk result (λ r. IsNone r → IsIdle A self.now) }
+        ensures idle { IfOk result (λ r. IsNone r
+            → IsIdle A self.now (option_copied only.entry)) }
         ensures none { IfOk result (λ r. IsNone r
-            ↔ AreRefused {A = A} self.now (candidates self.now)) }
+            ↔ AreRefused {A = A} self.now (candidates_among self.now (option_copied only.entry))) }
     {
         let n = self.processor_count();
         let first = (turn % u64::from(n)) as u32;
         for i in 0..n {
             let p = (first + i) % n;
-            if let Some(record) = self.first_on(p)? {
+            if let Some(record) = self.first_if(only, p)? {
                 return Ok(Some(record));
             }
         }
         Ok(None)
     }
 
-    /// Returns the step of the record that `first_planned` returns.
+    /// Returns the step of the record that `first_planned` returns if every processor may run.
     pub fn first_enabled(&self, turn: u64) -> Result<Option<Step<A>>, NoMemory>
-        ensures chosen { IfOk result (λ x. IfSome x (IsChosen self.now turn)) }
+        ensures chosen { IfOk result (λ x. IfSome x (IsChosen self.now turn None)) }
         ensures first { IfOk result (λ x. IfSome x
-            (IsFirstEnabled self.now (candidates_from self.now turn))) }
-        ensures idle { IfOk result (λ x. IsNone x → IsIdle A self.now) }
+            (IsFirstEnabled self.now (candidates_from self.now turn None))) }
+        ensures idle { IfOk result (λ x. IsNone x → IsIdle A self.now None) }
         ensures none { IfOk result (λ x. IsNone x
             ↔ AreRefused {A = A} self.now (candidates self.now)) }
     {
-        match self.first_planned(turn)? {
+        match self.first_planned(turn, None)? {
             Some(record) => Ok(Some(record.into_step())),
             None => Ok(None),
         }

@@ -1,7 +1,7 @@
 -- Commands and replies as numbers, so that a model's value can hold them.
-use Rattle.std.specs.Prelude.{◌≡◌, ℕ, ◌⊎◌, List, [], ◌∷◌, slice_index_or, refl}
+use Rattle.std.specs.Prelude.{◌≡◌, ℕ, ◌⊎◌, List, [], ◌∷◌, Option, slice_index_or, refl}
 use Rattle.std.proofs.Common.{inl, inr}
-use Rattle.std.specs.Coded.{Coded, code_by, coded×, coded⊎, coded_ℕ}
+use Rattle.std.specs.Coded.{Coded, code_by, coded×, coded⊎, coded_ℕ, coded_list, coded_option}
 use base.Stored.{coded_unit}
 use Rattle.nd_paths.specs.Point.{point_code}
 use Rattle.nd_paths.specs.declared.point.Pointstamp.{Pointstamp}
@@ -24,7 +24,7 @@ use Rattle.nd_timeline.specs.declared.reply.Reply.TheVariants as reply
 
 -- a command as its parts
 abbrev pub CommandParts : Type 0 → Type 0
-CommandParts A = (ClusterStep A ⊎ (Unit {0} ⊎ Unit {0})) ⊎ ((ℕ ⊎ ℕ) ⊎ (ConditionValue ⊎ ℕ))
+CommandParts A = (ClusterStep A ⊎ (Unit {0} ⊎ Unit {0})) ⊎ ((ℕ ⊎ (ℕ × Option (List ℕ))) ⊎ (ConditionValue ⊎ ℕ))
 
 module _ {A : Type 0} where
   abbrev pub command_parts : Command A → CommandParts A
@@ -32,7 +32,7 @@ module _ {A : Type 0} where
   command_parts Back = inl (inr (inl tt))
   command_parts Redo = inl (inr (inr tt))
   command_parts (Jump n) = inr (inl (inl n))
-  command_parts (Run limit) = inr (inl (inr limit))
+  command_parts (Run limit only) = inr (inl (inr (limit, only)))
   command_parts (SetBreak b) = inr (inr (inl b))
   command_parts (ClearBreak id) = inr (inr (inr id))
 
@@ -41,7 +41,7 @@ module _ {A : Type 0} where
   command_of (inl (inr (inl _))) = Back
   command_of (inl (inr (inr _))) = Redo
   command_of (inr (inl (inl n))) = Jump n
-  command_of (inr (inl (inr limit))) = Run limit
+  command_of (inr (inl (inr t))) = Run t.0 t.1
   command_of (inr (inr (inl b))) = SetBreak b
   command_of (inr (inr (inr id))) = ClearBreak id
 
@@ -50,24 +50,24 @@ module _ {A : Type 0} where
   command_back Back = refl
   command_back Redo = refl
   command_back (Jump n) = refl
-  command_back (Run limit) = refl
+  command_back (Run limit only) = refl
   command_back (SetBreak b) = refl
   command_back (ClearBreak id) = refl
 
   abbrev pub command_code : Coded (Command A)
   command_code =
       code_by (CommandParts A)
-      (coded⊎ (coded⊎ step_code (coded⊎ coded_unit coded_unit)) (coded⊎ (coded⊎ coded_ℕ coded_ℕ) (coded⊎ condition_code coded_ℕ)))
+      (coded⊎ (coded⊎ step_code (coded⊎ coded_unit coded_unit)) (coded⊎ (coded⊎ coded_ℕ (coded× coded_ℕ (coded_option (coded_list coded_ℕ)))) (coded⊎ condition_code coded_ℕ)))
       command_parts command_of command_back
 
 -- ---- refusals as numbers
 
--- the refusals by number, without those that name a pointstamp
+-- the refusals by number, without those that name a pointstamp, and then those of higher numbers
 abbrev pub plain : List Refusal
 plain =
     refusal.Memory ∷ refusal.NoProcessor ∷ refusal.NoVertex ∷ refusal.NoEdge ∷ refusal.NotInput ∷ refusal.InputClosed ∷ refusal.TooManyValues ∷ refusal.EpochFull
     ∷ refusal.NoRecord ∷ refusal.NoRequest ∷ refusal.Memory ∷ refusal.CounterFull ∷ refusal.ValueRange ∷ refusal.CountFull ∷ refusal.DeltaFull ∷ refusal.NothingToSend
-    ∷ refusal.Memory ∷ refusal.QueueEmpty ∷ refusal.QueueFull ∷ []
+    ∷ refusal.Memory ∷ refusal.QueueEmpty ∷ refusal.QueueFull ∷ refusal.Memory ∷ refusal.NotNotified ∷ refusal.NotLater ∷ []
 
 abbrev pub RefusalParts : Type 0
 RefusalParts = ℕ ⊎ (Pointstamp ⊎ Pointstamp)
@@ -75,6 +75,8 @@ RefusalParts = ℕ ⊎ (Pointstamp ⊎ Pointstamp)
 abbrev pub refusal_parts : Refusal → RefusalParts
 refusal_parts (refusal.NotYet blocker) = inr (inl blocker)
 refusal_parts (refusal.NotAdmissible point) = inr (inr point)
+refusal_parts refusal.NotNotified = inl 20
+refusal_parts refusal.NotLater = inl 21
 refusal_parts r = inl (refusal_number r)
 
 abbrev pub refusal_of : RefusalParts → Refusal
@@ -102,6 +104,8 @@ refusal_back (refusal.NotAdmissible point) = refl
 refusal_back refusal.QueueEmpty = refl
 refusal_back refusal.QueueFull = refl
 refusal_back refusal.Memory = refl
+refusal_back refusal.NotNotified = refl
+refusal_back refusal.NotLater = refl
 
 abbrev pub refusal_code : Coded Refusal
 refusal_code = code_by RefusalParts (coded⊎ coded_ℕ (coded⊎ point_code point_code)) refusal_parts refusal_of refusal_back

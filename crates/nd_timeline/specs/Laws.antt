@@ -1,6 +1,6 @@
 -- What every move of the debugger machine preserves, and what its replies determine, as statements. A is the
 -- allocator of the steps' values.
-use Rattle.std.specs.Prelude.{◌≡◌, ℕ}
+use Rattle.std.specs.Prelude.{◌≡◌, ℕ, List, Option}
 use Rattle.nd_protocol.specs.State.{ClusterState}
 use Rattle.nd_protocol.specs.declared.step.Step.{Step}
 use Rattle.nd_cluster.specs.Choice.{IsChosen}
@@ -18,9 +18,10 @@ abbrev pub MovesKeepTimelines : Type 0 → Type 0
 MovesKeepTimelines A =
     (m new : MachineValue A) (command : Command A) (reply : Reply) → Moves m command reply new → IsTimeline m.timeline → IsTimeline new.timeline
 
--- a cluster has at most one step to choose at a turn
+-- a cluster has at most one step to choose at a turn, among all processors or some
 abbrev pub ChoicesAreUnique : Type 0 → Type 0
-ChoicesAreUnique A = (s : ClusterState) (turn : ℕ) (x other : Step A) → IsChosen s turn x → IsChosen s turn other → x ≡ other
+ChoicesAreUnique A =
+    (s : ClusterState) (turn : ℕ) (only : Option (List ℕ)) (x other : Step A) → IsChosen s turn only x → IsChosen s turn only other → x ≡ other
 
 -- a machine, a command and its reply determine the machine after the command
 abbrev pub RepliesTellMachines : Type 0 → Type 0

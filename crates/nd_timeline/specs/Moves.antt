@@ -1,9 +1,10 @@
 -- The debugger machine: which replies a command may get, and the machine after it (this project's own rule).
 -- Each relation goes by the cases of the reply. A reply without a case of its own is impossible for that command.
-use Rattle.std.specs.Prelude.{◌≡◌, ◌≢◌, ℕ, zero, suc, ◌+◌, ◌-◌, ◌<◌, ◌≤◌, ◌⊎◌, length, None, Result, Ok, Err}
+use Rattle.std.specs.Prelude.{◌≡◌, ◌≢◌, ℕ, zero, suc, ◌+◌, ◌-◌, ◌<◌, ◌≤◌, ◌⊎◌, List, Any, length, Option, None, Some, Result, Ok, Err}
 use Rattle.std.specs.FinMap as fin
 use Rattle.nd_time.specs.Limits.{max_kept}
 use Rattle.nd_protocol.specs.Enabled.{IsEnabled, IsRefused, MayWantMemory}
+use Rattle.nd_protocol.specs.declared.refusal.Refusal.TheVariants.{NoProcessor}
 use Rattle.nd_protocol.specs.declared.step.Step.{Step}
 use Rattle.nd_cluster.specs.Choice.{IsChosen, IsIdle}
 use Rattle.nd_breaks.specs.Breaks.{BreakMap, NoHit, FirstHit, IsLeastFree, IsFull}
@@ -74,34 +75,39 @@ JumpMoves m n _ new = ⊥
 
 -- ---- a run
 
--- a run may continue with this step, the first enabled one
-pub record Goes {A : Type 0} (m : TimelineValue A) (x : Step A) (new : TimelineValue A) : Type 0 where
-  pub chosen : IsChosen (cluster_of m) m.cursor x
+-- a processor is listed that the cluster does not have
+abbrev pub ListsMissing : {A : Type 0} → TimelineValue A → Option (List ℕ) → Type 0
+ListsMissing m None = ⊥
+ListsMissing m (Some listed) = Any (λ p. length (cluster_of m).processors ≤ p) listed
+
+-- a run may continue with this step, the first enabled one of the processors that it goes through
+pub record Goes {A : Type 0} (only : Option (List ℕ)) (m : TimelineValue A) (x : Step A) (new : TimelineValue A) : Type 0 where
+  pub chosen : IsChosen (cluster_of m) m.cursor only x
   pub made : new ≡ extended m x
 
 -- the run has executed this many steps, and no breakpoint held after any of them
-unfoldable pub HasRun : {A : Type 0} → BreakMap → ℕ → TimelineValue A → TimelineValue A → Type 0
-HasRun breaks zero m new = new ≡ m
-HasRun breaks (suc n) m new = record {
+unfoldable pub HasRun : {A : Type 0} → Option (List ℕ) → BreakMap → ℕ → TimelineValue A → TimelineValue A → Type 0
+HasRun only breaks zero m new = new ≡ m
+HasRun only breaks (suc n) m new = record {
   mid : TimelineValue _;
   step : Step _;
-  earlier : HasRun breaks n m mid;
-  last : Goes mid step new;
+  earlier : HasRun only breaks n m mid;
+  last : Goes only mid step new;
   no_hit : NoHit breaks (cluster_of new);
 }
 
 -- why a run stops after `ran` steps
-abbrev pub StopsAt : {A : Type 0} → BreakMap → ℕ → TimelineValue A → ℕ → Stop → TimelineValue A → Type 0
-StopsAt breaks limit m ran stop.Limit new = (ran ≡ limit) × HasRun breaks ran m new
-StopsAt {A} breaks limit m ran stop.Idle new = (ran < limit) × HasRun breaks ran m new × IsIdle A (cluster_of new)
-StopsAt {A} breaks limit m ran (stop.Break id) new = record {
+abbrev pub StopsAt : {A : Type 0} → Option (List ℕ) → BreakMap → ℕ → TimelineValue A → ℕ → Stop → TimelineValue A → Type 0
+StopsAt only breaks limit m ran stop.Limit new = (ran ≡ limit) × HasRun only breaks ran m new
+StopsAt {A} only breaks limit m ran stop.Idle new = (ran < limit) × HasRun only breaks ran m new × IsIdle A (cluster_of new) only
+StopsAt {A} only breaks limit m ran (stop.Break id) new = record {
   mid : TimelineValue A;
   step : Step A;
   before : ℕ;
   within : before < limit;
   count : ran ≡ before + 1;
-  earlier : HasRun breaks before m mid;
-  last : Goes mid step new;
+  earlier : HasRun only breaks before m mid;
+  last : Goes only mid step new;
   hit : FirstHit breaks (cluster_of new) id;
 }
 
@@ -109,14 +115,15 @@ StopsAt {A} breaks limit m ran (stop.Break id) new = record {
 abbrev pub Tells : {A : Type 0} → TimelineValue A → ℕ → ℕ → Type 0
 Tells new at kept = (at ≡ new.cursor) × (kept ≡ length new.kept)
 
--- out of memory, the steps executed so far stay
-abbrev pub RunMoves : {A : Type 0} → TimelineValue A → ℕ → BreakMap → Reply → TimelineValue A → Type 0
-RunMoves m limit breaks (Refused TimelineFull) new = (max_kept < m.cursor + limit) × (new ≡ m)
-RunMoves m limit breaks (Refused (Memory at)) new =
-    (m.cursor + limit ≤ max_kept) × ((ran : ℕ) × (ran < limit) × HasRun breaks ran m new × (at ≡ m.cursor + ran))
-RunMoves m limit breaks (Ran at kept ran stop) new =
-    (m.cursor + limit ≤ max_kept) × StopsAt breaks limit m ran stop new × Tells new at kept
-RunMoves m limit breaks _ new = ⊥
+-- which replies a run may get: out of memory, the steps executed so far stay
+abbrev pub RunMoves : {A : Type 0} → TimelineValue A → ℕ → Option (List ℕ) → BreakMap → Reply → TimelineValue A → Type 0
+RunMoves m limit only breaks (Refused TimelineFull) new = (max_kept < m.cursor + limit) × (new ≡ m)
+RunMoves m limit only breaks (Refused (of_step NoProcessor)) new = (m.cursor + limit ≤ max_kept) × ListsMissing m only × (new ≡ m)
+RunMoves m limit only breaks (Refused (Memory at)) new =
+    (m.cursor + limit ≤ max_kept) × (ListsMissing m only → ⊥) × ((ran : ℕ) × (ran < limit) × HasRun only breaks ran m new × (at ≡ m.cursor + ran))
+RunMoves m limit only breaks (Ran at kept ran stop) new =
+    (m.cursor + limit ≤ max_kept) × (ListsMissing m only → ⊥) × StopsAt only breaks limit m ran stop new × Tells new at kept
+RunMoves m limit only breaks _ new = ⊥
 
 -- ---- breakpoints
 
@@ -138,7 +145,7 @@ Moves m (command.Forward x) reply new = ForwardMoves m.timeline x reply new.time
 Moves m command.Back reply new = BackMoves m.timeline reply new.timeline × (new.breaks ≡ m.breaks)
 Moves m command.Redo reply new = RedoMoves m.timeline reply new.timeline × (new.breaks ≡ m.breaks)
 Moves m (command.Jump n) reply new = JumpMoves m.timeline n reply new.timeline × (new.breaks ≡ m.breaks)
-Moves m (command.Run limit) reply new = RunMoves m.timeline limit m.breaks reply new.timeline × (new.breaks ≡ m.breaks)
+Moves m (command.Run limit only) reply new = RunMoves m.timeline limit only m.breaks reply new.timeline × (new.breaks ≡ m.breaks)
 Moves m (command.SetBreak c) reply new = SetMoves m.breaks c reply new.breaks × (new.timeline ≡ m.timeline)
 Moves m (command.ClearBreak id) reply new = ClearMoves m.breaks id reply new.breaks × (new.timeline ≡ m.timeline)
 

@@ -2,7 +2,7 @@
 ghost use Rattle.std.specs.Prelude.{◌≡◌, ◌≢◌, IfOk, MatchBool};
 
 use nd_breaks::BoxedCondition;
-use nd_protocol::Step;
+use nd_protocol::{Processors, Step};
 use std::alloc::{AllocError, Allocator, Global};
 
 /// A command to the debugger machine.
@@ -16,12 +16,43 @@ pub enum Command<A: Allocator = Global> {
     Redo,
     /// Moves the cursor to a position.
     Jump(u64),
-    /// Executes at most this many steps, each time the first enabled one, until a breakpoint holds.
-    Run(u64),
+    /// Executes at most `limit` steps, each time the first enabled one, until a breakpoint holds. If
+    /// processors are listed, the run skips all others.
+    Run {
+        limit: u64,
+        only: Option<Processors<A>>,
+    },
     /// Sets the condition as a breakpoint.
     SetBreak(BoxedCondition<A>),
     /// Clears the breakpoint with this id.
     ClearBreak(u64),
+}
+
+// Returns an equal list of processors, if there is one.
+fn copied_processors<A: Allocator>(
+    alloc: A,
+    only: &Option<Processors<A>>,
+) -> Result<Option<Processors<A>>, AllocError>
+    ensures { IfOk result (λ o. o ≡ only.now) }
+{
+    match only {
+        Some(listed) => Ok(Some(listed.copy(alloc)?)),
+        None => Ok(None),
+    }
+}
+
+// Returns whether the two lists of processors are equal, if there are any.
+fn same_processors<A: Allocator>(
+    only: &Option<Processors<A>>,
+    other: &Option<Processors<A>>,
+) -> bool
+    ensures { MatchBool result (only.now ≡ other.now) (only.now ≢ other.now) }
+{
+    match (only, other) {
+        (Some(listed), Some(others)) => listed.same(others),
+        (None, None) => true,
+        _ => false,
+    }
 }
 
 impl<A: Allocator> Command<A> {
@@ -34,7 +65,10 @@ impl<A: Allocator> Command<A> {
             Command::Back => Ok(Command::Back),
             Command::Redo => Ok(Command::Redo),
             Command::Jump(n) => Ok(Command::Jump(*n)),
-            Command::Run(limit) => Ok(Command::Run(*limit)),
+            Command::Run { limit, only } => Ok(Command::Run {
+                limit: *limit,
+                only: copied_processors(alloc, only)?,
+            }),
             Command::SetBreak(b) => Ok(Command::SetBreak(b.copy(alloc)?)),
             Command::ClearBreak(id) => Ok(Command::ClearBreak(*id)),
         }
@@ -49,7 +83,13 @@ impl<A: Allocator> Command<A> {
             (Command::Back, Command::Back) => true,
             (Command::Redo, Command::Redo) => true,
             (Command::Jump(n), Command::Jump(m)) => *n == *m,
-            (Command::Run(limit), Command::Run(most)) => *limit == *most,
+            (
+                Command::Run { limit, only },
+                Command::Run {
+                    limit: most,
+                    only: others,
+                },
+            ) => *limit == *most && same_processors(only, others),
             (Command::SetBreak(b), Command::SetBreak(another)) => b.get().same(another.get()),
             (Command::ClearBreak(id), Command::ClearBreak(another)) => *id == *another,
             _ => false,

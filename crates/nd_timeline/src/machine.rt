@@ -99,15 +99,17 @@ impl<A: Allocator + Copy> Machine<A> {
                 let moved = self.timeline.jump(*n);
                 self.moved(moved)
             }
-            Command::Run(limit) => match self.timeline.run(*limit, &self.breaks) {
-                Ok(Ran { ran, stop }) => Reply::Ran {
-                    at: self.timeline.at(),
-                    kept: self.timeline.kept(),
-                    ran,
-                    stop,
-                },
-                Err(fault) => Reply::Refused(fault),
-            },
+            Command::Run { limit, only } => {
+                match self.timeline.run(*limit, only.as_ref(), &self.breaks) {
+                    Ok(Ran { ran, stop }) => Reply::Ran {
+                        at: self.timeline.at(),
+                        kept: self.timeline.kept(),
+                        ran,
+                        stop,
+                    },
+                    Err(fault) => Reply::Refused(fault),
+                }
+            }
             Command::SetBreak(b) => match self.breaks.set(b.get().copy()) {
                 Ok(id) => Reply::Set { id },
                 Err(_) => Reply::Refused(Fault::TooManyBreaks),

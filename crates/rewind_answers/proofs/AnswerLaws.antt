@@ -5,7 +5,7 @@ use Rattle.std.specs.Option.{ok_or, option_to_list}
 use Rattle.std.specs.declared.alloc.AllocError.{AllocError}
 use Rattle.serde_json.specs.Data.{Data}
 use Rattle.nd_graph.specs.Graph.{Dataflow, names}
-use Rattle.nd_graph.specs.Draft.{Draft, draft_of}
+use Rattle.nd_graph.specs.Draft.{Draft}
 use Rattle.nd_graph.specs.Fault.{IsUnlessMemory}
 use Rattle.nd_graph.specs.declared.fault.GraphFault.{GraphFault}
 use Rattle.nd_graph.specs.declared.fault.GraphFault.TheVariants.{Shape, Memory}
@@ -34,12 +34,12 @@ use Rattle.rewind_forms.specs.declared.queries.Search.{Search}
 use Rattle.nd_timeline.specs.Moves.{Moves}
 use Rattle.nd_timeline.specs.declared.command.Command.{Command}
 use Rattle.nd_timeline.specs.declared.reply.Reply.{Reply}
-use Rattle.rewind_answers.specs.Answers.{Logged, running, refused, most_processors, StartReplies, not_strict, checked_in, graph_of, graph_of_draft, AskedReply, CommandReply, moved, FormReplies, LineReplies, FrontierReply, PassedReply, QueryReply, SearchReply, searched, unanswered, search_fault}
+use Rattle.rewind_answers.specs.Answers.{Logged, running, refused, most_processors, StartReplies, not_strict, draft_in, checked_in, graph_of, graph_of_draft, AskedReply, CommandReply, moved, FormReplies, LineReplies, FrontierReply, PassedReply, QueryReply, SearchReply, searched, unanswered, search_fault}
 
 -- a value that is no draft
-pub graph_of-refused : (v : Version) (d : Data) (e : GraphFault) → IsUnlessMemory (ok_or (draft_of d) Shape) (Err e) → IsUnlessMemory (graph_of v d) (Err e)
+pub graph_of-refused : (v : Version) (d : Data) (e : GraphFault) → IsUnlessMemory (ok_or (draft_in v d) Shape) (Err e) → IsUnlessMemory (graph_of v d) (Err e)
 unfolding graph_of
-graph_of-refused v d e h = passes (draft_of d) e h
+graph_of-refused v d e h = passes (draft_in v d) e h
   where
     passes : (o : Option Draft) (e : GraphFault) → IsUnlessMemory (ok_or o Shape) (Err e) → IsUnlessMemory (graph_of_draft v o) (Err e)
     passes None e (inl is) = inl (let same : Shape ≡ e = cc in ap Err same)
@@ -52,9 +52,9 @@ found None draft is = absurd (cc)
 found (Some other) draft is = cc
 
 -- the graph of a value that is a draft
-pub graph_of-draft : (v : Version) (d : Data) (draft : Draft) → ok_or (draft_of d) Shape ≡ Ok draft → graph_of v d ≡ checked_in v draft
+pub graph_of-draft : (v : Version) (d : Data) (draft : Draft) → ok_or (draft_in v d) Shape ≡ Ok draft → graph_of v d ≡ checked_in v draft
 unfolding graph_of
-graph_of-draft v d draft is = ap (graph_of_draft v) (found (draft_of d) draft is)
+graph_of-draft v d draft is = ap (graph_of_draft v) (found (draft_in v d) draft is)
 
 -- a fault that is not out of memory is the one that is told
 pub told : (v : Version) (d : Data) (e : GraphFault) → IsUnlessMemory (graph_of v d) (Err e) → e ≢ Memory → graph_of v d ≡ Err e

@@ -6,7 +6,7 @@ use Rattle.serde_json.specs.Data.{Data}
 use Rattle.rewind_lines.specs.Lines.{Reading, blank, too_long, no_json, json}
 use Rattle.nd_time.specs.Limits.{max_log, max_processors, max_processors_v1}
 use Rattle.nd_graph.specs.Graph.{Dataflow, location_count, names}
-use Rattle.nd_graph.specs.Draft.{Draft, draft_of}
+use Rattle.nd_graph.specs.Draft.{Draft, draft_of, draft_of_v4}
 use Rattle.nd_graph.specs.Checked.{checked, checked_v1}
 use Rattle.nd_graph.specs.Fault.{code_of}
 use Rattle.nd_graph.specs.declared.fault.GraphFault.{GraphFault}
@@ -39,7 +39,7 @@ use Rattle.rewind_forms.specs.Versions.{number_of as number_of_version, version_
 use Rattle.rewind_forms.specs.Replies.{version, fault, location_fault, piece_fault, graph, reply_data, faulty, line_fault, count, before, state, known, frontier, passed, not_passed, no_processor, found}
 use Rattle.rewind_forms.specs.LineFaults.{code_of as code_of_line}
 use Rattle.rewind_forms.specs.declared.version.Version.{Version}
-use Rattle.rewind_forms.specs.declared.version.Version.TheVariants.{First, Second, Third, Fourth}
+use Rattle.rewind_forms.specs.declared.version.Version.TheVariants.{First, Second, Third, Fourth, Fifth}
 use Rattle.rewind_forms.specs.declared.fault.LineFault.{LineFault}
 use Rattle.rewind_forms.specs.declared.fault.LineFault.TheVariants.{LineTooLong, BadLine}
 use Rattle.rewind_forms.specs.declared.asked.Asked.{Asked}
@@ -65,12 +65,21 @@ pub data Phase : Type 0 where
 
 -- ---- the graph's line
 
+-- the graph that a value describes in a script of a version: no vertex was a hold before the fifth
+abbrev pub draft_in : Version → Data → Option Draft
+draft_in First d = draft_of_v4 d
+draft_in Second d = draft_of_v4 d
+draft_in Third d = draft_of_v4 d
+draft_in Fourth d = draft_of_v4 d
+draft_in Fifth d = draft_of d
+
 -- what a draft is judged by in a script of a version: the first has fewer loops within one another
 abbrev pub checked_in : Version → Draft → Result Dataflow GraphFault
 checked_in First draft = checked_v1 draft
 checked_in Second draft = checked draft
 checked_in Third draft = checked draft
 checked_in Fourth draft = checked draft
+checked_in Fifth draft = checked draft
 
 -- the graph of a draft, or the reply to one that is refused
 abbrev pub graph_of_draft : Version → Option Draft → Result Dataflow GraphFault
@@ -79,7 +88,7 @@ graph_of_draft v (Some draft) = checked_in v draft
 
 -- the graph that a value is, or its fault
 unfoldable pub graph_of : Version → Data → Result Dataflow GraphFault
-graph_of v d = graph_of_draft v (draft_of d)
+graph_of v d = graph_of_draft v (draft_in v d)
 
 -- the most processors of a cluster in a script of a version
 abbrev pub most_processors : Version → ℕ
@@ -87,6 +96,7 @@ most_processors First = max_processors_v1
 most_processors Second = max_processors
 most_processors Third = max_processors
 most_processors Fourth = max_processors
+most_processors Fifth = max_processors
 
 -- why no cluster starts on a graph, and the reply: there are more processors than the version has, or the cluster refuses
 pub data RefusedReply (v : Version) (processors : ℕ) (g : Dataflow) (reply : Data) : Type 0 where

@@ -1,8 +1,9 @@
 //! The replies to the graph's line and to a later line.
-ghost use Rattle.std.specs.Prelude.{◌≡◌, ◌∷◌, [], Ok, IfOk};
+ghost use Rattle.std.specs.Prelude.{◌≡◌, ◌∷◌, [], Ok, IfOk, ok_or};
 ghost use Rattle.nd_graph.specs.Fault.{IsUnlessMemory};
+ghost use Rattle.nd_graph.specs.declared.fault.GraphFault.TheVariants.{Shape};
 ghost use Rattle.serde_json.specs.View.{view};
-ghost use Rattle.rewind_answers.specs.Answers.{checked_in, graph_of as graph_in, most_processors as most_in, LineReplies, AskedReply, CommandReply};
+ghost use Rattle.rewind_answers.specs.Answers.{draft_in, checked_in, graph_of as graph_in, most_processors as most_in, LineReplies, AskedReply, CommandReply};
 ghost use Rattle.rewind_answers.specs.Stages.{Starts, logged, phase_in};
 ghost use Rattle.nd_protocol.specs.Invariant.{KeepsProtocol};
 ghost use Rattle.nd_timeline.specs.Timeline.{cluster_of};
@@ -22,13 +23,25 @@ use std::thread::Threads;
 /// The number of the client whose script it is.
 const ONLY_CLIENT: u64 = 0;
 
+// The graph that the value is, as it is written in a script of the version: no vertex was a hold before the fifth.
+fn draft_of(alloc: Global, version: Version, value: &Value) -> Result<GraphDraft, GraphFault>
+    ensures { IsUnlessMemory (ok_or (draft_in version (view value.now)) Shape) result }
+{
+    match version {
+        Version::First | Version::Second | Version::Third | Version::Fourth => {
+            GraphDraft::from_value_v4(alloc, value)
+        }
+        Version::Fifth => GraphDraft::from_value(alloc, value),
+    }
+}
+
 // The graph that is written, judged as in a script of the version.
 fn judged(alloc: Global, version: Version, draft: GraphDraft) -> Result<Graph, GraphFault>
     ensures { IsUnlessMemory (checked_in version draft) result }
 {
     match version {
         Version::First => draft.check_v1(alloc),
-        Version::Second | Version::Third | Version::Fourth => draft.check(alloc),
+        Version::Second | Version::Third | Version::Fourth | Version::Fifth => draft.check(alloc),
     }
 }
 
@@ -36,7 +49,7 @@ fn judged(alloc: Global, version: Version, draft: GraphDraft) -> Result<Graph, G
 fn graph_of(alloc: Global, version: Version, value: &Value) -> Result<Graph, GraphFault>
     ensures { IsUnlessMemory (graph_in version (view value.now)) result }
 {
-    let draft = match GraphDraft::from_value(alloc, value) {
+    let draft = match draft_of(alloc, version, value) {
         Ok(draft) => draft,
         Err(fault) => return Err(fault),
     };
@@ -49,7 +62,7 @@ fn most_processors(version: Version) -> u8
 {
     match version {
         Version::First => 8,
-        Version::Second | Version::Third | Version::Fourth => 16,
+        Version::Second | Version::Third | Version::Fourth | Version::Fifth => 16,
     }
 }
 

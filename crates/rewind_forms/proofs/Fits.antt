@@ -13,11 +13,12 @@ use Rattle.nd_graph.specs.Graph.{Dataflow, depths}
 use Rattle.nd_paths.specs.declared.point.Pointstamp.{Pointstamp}
 use Rattle.nd_protocol.specs.declared.step.Step.{Step}
 use Rattle.nd_graph.specs.Draft.{every}
-use Rattle.rewind_forms.specs.Forms.{given, after, named_at, points_at, values_at}
+use Rattle.rewind_forms.specs.Forms.{given, after, numbers_at, named_at, points_at, values_at}
 use Rattle.rewind_forms.specs.Places.{location_named, vertex_named, edge_named, time_of, placed, are_known, point_named}
-use Rattle.rewind_forms.specs.Steps.{next_at, feed_of, take_of, notice_of, broadcast_of, part_of, receive_of, step_of, read_as, read_of}
+use Rattle.rewind_forms.specs.Steps.{next_at, feed_of, take_of, notice_of, release_of, move_of, broadcast_of, part_of, receive_of, step_of, read_as, read_of}
 use Rattle.rewind_forms.specs.Grammar.{form_of}
-use Rattle.rewind_forms.specs.declared.version.Version.TheVariants.{First}
+use Rattle.rewind_forms.specs.declared.version.Version.{Version}
+use Rattle.rewind_forms.specs.declared.version.Version.TheVariants.{Fifth}
 use Rattle.rewind_forms.specs.declared.form.Form.{Form}
 use Rattle.rewind_forms.specs.declared.form.Form.TheVariants as line
 use Rattle.rewind_forms.specs.declared.form.StepForm.{StepForm}
@@ -118,13 +119,13 @@ every_is f P h (x ∷ xs) ys e =
 
 -- ---- one kind of step after the other
 
-feed_fits : (g : Dataflow) (d : Data) → IfOk (feed_of g d) (NamesFit g)
+feed_fits : (v : Version) (g : Dataflow) (d : Data) → IfOk (feed_of v g d) (NamesFit g)
 unfolding feed_of
-feed_fits g d =
+feed_fits v g d =
     if_given _ (small_at (codes "p") d) _ (NamesFit g) (λ p _.
     if_given _ (text_at (codes "vertex") d) _ (NamesFit g) (λ name _.
     if_given _ (values_at (codes "values") d) _ (NamesFit g) (λ values _.
-    if_given _ (next_at d) _ (NamesFit g) (λ next _.
+    if_given _ (next_at v d) _ (NamesFit g) (λ next _.
     if_given _ (vertex_named g name) _ (NamesFit g) (λ vertex is. vertex_is g name vertex is)))))
 
 take_fits : (g : Dataflow) (d : Data) → IfOk (take_of g d) (NamesFit g)
@@ -141,6 +142,24 @@ notice_fits g d =
     if_given _ (small_at (codes "p") d) _ (NamesFit g) (λ p _.
     if_given _ (named_at (codes "vertex") d) _ (NamesFit g) (λ named _.
     if_placed g (vertex_named g named.0) named.1 _ (NamesFit g) (λ q is. (vertex_is g named.0 q.location is.0, is.1))))
+
+release_fits : (g : Dataflow) (d : Data) → IfOk (release_of g d) (NamesFit g)
+unfolding release_of
+release_fits g d =
+    if_given _ (small_at (codes "p") d) _ (NamesFit g) (λ p _.
+    if_given _ (named_at (codes "vertex") d) _ (NamesFit g) (λ named _.
+    if_placed g (vertex_named g named.0) named.1 _ (NamesFit g) (λ q is. (vertex_is g named.0 q.location is.0, is.1, tt))))
+
+move_fits : (g : Dataflow) (d : Data) → IfOk (move_of g d) (NamesFit g)
+unfolding move_of
+move_fits g d =
+    if_given _ (small_at (codes "p") d) _ (NamesFit g) (λ p _.
+    if_given _ (named_at (codes "vertex") d) _ (NamesFit g) (λ named _.
+    if_given _ (numbers_at (codes "to") d) _ (NamesFit g) (λ later _.
+    if_given _ (vertex_named g named.0) _ (NamesFit g) (λ vertex is.
+    if_given _ (time_of g vertex named.1) _ (NamesFit g) (λ time at.
+    if_given _ (time_of g vertex later) _ (NamesFit g) (λ to after_it.
+    (vertex_is g named.0 vertex is, time_is g vertex named.1 time at, time_is g vertex later to after_it)))))))
 
 all_fits : (g : Dataflow) (d : Data) → IfOk (broadcast_of d) (NamesFit g)
 unfolding broadcast_of
@@ -167,24 +186,26 @@ part_fits g d =
 
 -- ---- all
 
-step_fits : (g : Dataflow) (form : StepForm) (d : Data) → IfOk (step_of g form d) (NamesFit g)
-step_fits g form.Feed d = feed_fits g d
-step_fits g form.Take d = take_fits g d
-step_fits g form.Notice d = notice_fits g d
-step_fits g form.Broadcast d = all_fits g d
-step_fits g form.Part d = part_fits g d
-step_fits g form.Receive d = receive_fits g d
+step_fits : (v : Version) (g : Dataflow) (form : StepForm) (d : Data) → IfOk (step_of v g form d) (NamesFit g)
+step_fits v g form.Feed d = feed_fits v g d
+step_fits v g form.Take d = take_fits g d
+step_fits v g form.Notice d = notice_fits g d
+step_fits v g form.Release d = release_fits g d
+step_fits v g form.Move d = move_fits g d
+step_fits v g form.Broadcast d = all_fits g d
+step_fits v g form.Part d = part_fits g d
+step_fits v g form.Receive d = receive_fits g d
 
 -- a step that was read in its form
-pub form_fits : (g : Dataflow) (form : StepForm) (d : Data) (x : Step Global) → step_of g form d ≡ Ok x → NamesFit g x
-form_fits g form d x e = subst (λ r. IfOk r (NamesFit g)) e (step_fits g form d)
+pub form_fits : (v : Version) (g : Dataflow) (form : StepForm) (d : Data) (x : Step Global) → step_of v g form d ≡ Ok x → NamesFit g x
+form_fits v g form d x e = subst (λ r. IfOk r (NamesFit g)) e (step_fits v g form d)
 
 line_fits : (g : Dataflow) (d : Data) (form : Form) → IfOk (read_as g d form) (NamesFit g)
-line_fits g d (line.Step form) = step_fits g form d
+line_fits g d (line.Step form) = step_fits Fifth g form d
 line_fits g d (line.Command form) = tt
 line_fits g d (line.Query form) = tt
 
 pub read_fits : (g : Dataflow) (d : Data) (x : Step Global) → read_of g d ≡ Ok x → NamesFit g x
 unfolding read_of
 read_fits g d x e =
-    subst (λ r. IfOk r (NamesFit g)) e (if_given BadShape (form_of First d) (read_as g d) (NamesFit g) (λ form _. line_fits g d form))
+    subst (λ r. IfOk r (NamesFit g)) e (if_given BadShape (form_of Fifth d) (read_as g d) (NamesFit g) (λ form _. line_fits g d form))

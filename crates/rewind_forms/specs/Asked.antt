@@ -18,7 +18,7 @@ use Rattle.rewind_forms.specs.declared.fault.LineFault.TheVariants.{BadShape}
 
 -- what a line of a form asks for, against a graph
 abbrev pub asked_as : Version → Dataflow → Data → Form → Result Asked LineFault
-asked_as v g d (Step form) = after (step_of g form d) (λ step. Ok (Do (Forward step)))
+asked_as v g d (Step form) = after (step_of v g form d) (λ step. Ok (Do (Forward step)))
 asked_as v g d (Command form) = after (command_of v g form d) (λ command. Ok (Do command))
 asked_as v g d (Query form) = after (query_of v g form d) (λ query. Ok (Tell query))
 

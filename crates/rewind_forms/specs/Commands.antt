@@ -1,5 +1,5 @@
 -- The command other than a step that a line asks for.
-use Rattle.std.specs.Prelude.{codes, Result, Ok}
+use Rattle.std.specs.Prelude.{codes, Some, None, Result, Ok}
 use Rattle.std.specs.declared.alloc.Global.{Global}
 use Rattle.serde_json.specs.Data.{Data}
 use Rattle.serde_json.specs.Find.{get}
@@ -7,7 +7,7 @@ use Rattle.nd_json.specs.Forms.{whole_at}
 use Rattle.nd_graph.specs.Graph.{Dataflow}
 use Rattle.nd_timeline.specs.declared.command.Command.{Command}
 use Rattle.nd_timeline.specs.declared.command.Command.TheVariants.{Back, Redo, Jump, Run, SetBreak, ClearBreak}
-use Rattle.rewind_forms.specs.Forms.{given, after}
+use Rattle.rewind_forms.specs.Forms.{given, after, processors_at}
 use Rattle.rewind_forms.specs.Conditions.{condition_of}
 use Rattle.rewind_forms.specs.declared.version.Version.{Version}
 use Rattle.rewind_forms.specs.declared.form.CommandForm.{CommandForm}
@@ -19,7 +19,14 @@ unfoldable pub jump_of : Data → Result (Command Global) LineFault
 jump_of d = given BadShape (whole_at (codes "to") d) (λ to. Ok (Jump to))
 
 unfoldable pub run_of : Data → Result (Command Global) LineFault
-run_of d = given BadShape (whole_at (codes "limit") d) (λ limit. Ok (Run limit))
+run_of d = given BadShape (whole_at (codes "limit") d) (λ limit. Ok (Run limit None))
+
+-- of some processors
+unfoldable pub run_only_of : Data → Result (Command Global) LineFault
+run_only_of d =
+    given BadShape (whole_at (codes "limit") d) (λ limit.
+    given BadShape (processors_at (codes "only") d) (λ only.
+    Ok (Run limit (Some only))))
 
 unfoldable pub set_of : Version → Dataflow → Data → Result (Command Global) LineFault
 set_of v g d =
@@ -36,5 +43,6 @@ command_of v g form.Back d = Ok Back
 command_of v g form.Redo d = Ok Redo
 command_of v g form.Jump d = jump_of d
 command_of v g form.Run d = run_of d
+command_of v g form.RunOnly d = run_only_of d
 command_of v g form.Break d = set_of v g d
 command_of v g form.Unbreak d = clear_of d

@@ -1,5 +1,5 @@
 -- The condition that a line names: a literal, or all or any of several, from the fourth version on; an atom before.
-use Rattle.std.specs.Prelude.{◌≡◌, ◌<◌, ◌&&◌, Bool, List, [], ◌∷◌, ◌++◌, if◌then◌else◌, length, nat_le, nat_lt, codes, Option, Some, None, Result, Ok, Err, IfOk, IfSome}
+use Rattle.std.specs.Prelude.{◌≡◌, ◌<◌, List, [], ◌∷◌, ◌++◌, if◌then◌else◌, length, nat_le, codes, Option, Some, None, Result, Ok, Err, IfOk, IfSome}
 use Rattle.serde_json.specs.Data.{Data}
 use Rattle.nd_json.specs.Forms.{list}
 use Rattle.nd_time.specs.Limits.{max_literals}
@@ -9,7 +9,7 @@ use Rattle.nd_breaks.specs.declared.condition.Literal.{Literal}
 use Rattle.nd_breaks.specs.declared.condition.Literal.TheVariants.{Is, Not}
 use Rattle.nd_breaks.specs.declared.condition.Quantifier.{Quantifier}
 use Rattle.nd_breaks.specs.declared.condition.Quantifier.TheVariants.{All, Any}
-use Rattle.rewind_forms.specs.Forms.{given, after, within, alone}
+use Rattle.rewind_forms.specs.Forms.{given, after, within, are_few, alone}
 use Rattle.rewind_forms.specs.Atoms.{first_atom_of, atom_of}
 use Rattle.rewind_forms.specs.LineFaults.{code_of}
 use Rattle.rewind_forms.specs.Versions.{includes}
@@ -42,15 +42,11 @@ abbrev pub literals_of : Dataflow → List Data → Result (List Literal) LineFa
 literals_of g [] = Ok []
 literals_of g (d ∷ ds) = beside (literal_of g d) (literals_of g ds)
 
--- there are some, and no more than a condition may have
-abbrev pub are_few : List Data → Bool
-are_few ds = nat_lt 0 (length ds) && nat_le (length ds) max_literals
-
--- all or any of the literals of a list
+-- all or any of the literals of a list: of some, and no more than a condition may have
 unfoldable pub several_of : Dataflow → Quantifier → Data → Result ConditionValue LineFault
 several_of g quantifier d =
     given BadShape (list d) (λ ds.
-    if are_few ds then after (literals_of g ds) (λ literals. Ok (record { quantifier = quantifier; literals = literals }))
+    if are_few max_literals ds then after (literals_of g ds) (λ literals. Ok (record { quantifier = quantifier; literals = literals }))
     else Err BadShape)
 
 -- ---- one by one

@@ -1,8 +1,9 @@
 -- The shapes of a line's values, and of what is read from them.
-use Rattle.std.specs.Prelude.{◌≡◌, ◌≢◌, ℕ, ℤ, Bool, ◌&&◌, List, [], ◌∷◌, if◌then◌else◌, Option, Some, None, codes, option_map, option_and_then, Result, Ok, Err}
+use Rattle.std.specs.Prelude.{◌≡◌, ◌≢◌, ℕ, ℤ, Bool, ◌&&◌, List, [], ◌∷◌, length, nat_le, nat_lt, if◌then◌else◌, Option, Some, None, codes, option_map, option_and_then, Result, Ok, Err}
 use Rattle.serde_json.specs.Data.{Data}
 use Rattle.serde_json.specs.Find.{get, as_bool}
 use Rattle.nd_json.specs.Forms.{has_keys, text, list, small, integer, text_at, list_at}
+use Rattle.nd_time.specs.Limits.{max_processors}
 use Rattle.nd_graph.specs.Draft.{every}
 use Rattle.rewind_forms.specs.declared.fault.LineFault.{LineFault}
 use Rattle.rewind_forms.specs.declared.fault.LineFault.TheVariants.{Memory}
@@ -78,6 +79,18 @@ points_at key d = option_and_then (every listed_point) (list_at key d)
 -- the values in the list at the key
 unfoldable pub values_at : List ℕ → Data → Option (List ℤ)
 values_at key d = option_and_then (every integer) (list_at key d)
+
+-- there are some, and no more than so many
+abbrev pub are_few : ℕ → List Data → Bool
+are_few most ds = nat_lt 0 (length ds) && nat_le (length ds) most
+
+-- the numbers of some processors, no more than a cluster may have
+abbrev pub processors_of : List Data → Option (List ℕ)
+processors_of ds = if are_few max_processors ds then every small ds else None
+
+-- the processors in the list at the key
+unfoldable pub processors_at : List ℕ → Data → Option (List ℕ)
+processors_at key d = option_and_then processors_of (list_at key d)
 
 -- the name at the key, and the numbers of the time beside it
 unfoldable pub named_at : List ℕ → Data → Option (List ℕ × List ℕ)

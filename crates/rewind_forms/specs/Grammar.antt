@@ -5,7 +5,7 @@ use Rattle.serde_json.specs.Data.{Data}
 use Rattle.nd_json.specs.Forms.{has_keys, text_at}
 use Rattle.rewind_forms.specs.Versions.{includes}
 use Rattle.rewind_forms.specs.declared.version.Version.{Version}
-use Rattle.rewind_forms.specs.declared.version.Version.TheVariants.{First, Second, Third, Fourth}
+use Rattle.rewind_forms.specs.declared.version.Version.TheVariants.{First, Second, Third, Fourth, Fifth}
 use Rattle.rewind_forms.specs.declared.form.Form.{Form}
 use Rattle.rewind_forms.specs.declared.form.Form.TheVariants.{Step, Command, Query}
 use Rattle.rewind_forms.specs.declared.form.StepForm.{StepForm}
@@ -22,6 +22,8 @@ steps =
     (codes "feed", codes "do" ∷ codes "next" ∷ codes "p" ∷ codes "values" ∷ codes "vertex" ∷ [], step.Feed)
     ∷ (codes "take", codes "do" ∷ codes "edge" ∷ codes "p" ∷ codes "time" ∷ codes "value" ∷ [], step.Take)
     ∷ (codes "notice", codes "do" ∷ codes "p" ∷ codes "time" ∷ codes "vertex" ∷ [], step.Notice)
+    ∷ (codes "release", codes "do" ∷ codes "p" ∷ codes "time" ∷ codes "vertex" ∷ [], step.Release)
+    ∷ (codes "release", codes "do" ∷ codes "p" ∷ codes "time" ∷ codes "to" ∷ codes "vertex" ∷ [], step.Move)
     ∷ (codes "broadcast", codes "do" ∷ codes "p" ∷ [], step.Broadcast)
     ∷ (codes "broadcast", codes "do" ∷ codes "p" ∷ codes "part" ∷ [], step.Part)
     ∷ (codes "receive", codes "do" ∷ codes "from" ∷ codes "to" ∷ [], step.Receive)
@@ -33,6 +35,7 @@ commands =
     ∷ (codes "redo", codes "do" ∷ [], command.Redo)
     ∷ (codes "jump", codes "do" ∷ codes "to" ∷ [], command.Jump)
     ∷ (codes "run", codes "do" ∷ codes "limit" ∷ [], command.Run)
+    ∷ (codes "run", codes "do" ∷ codes "limit" ∷ codes "only" ∷ [], command.RunOnly)
     ∷ (codes "break", codes "do" ∷ codes "when" ∷ [], command.Break)
     ∷ (codes "unbreak", codes "do" ∷ codes "id" ∷ [], command.Unbreak)
     ∷ []
@@ -57,24 +60,49 @@ queries =
     ∷ (codes "why", codes "at" ∷ codes "before" ∷ codes "do" ∷ codes "q" ∷ codes "time" ∷ [], query.WhyBefore)
     ∷ []
 
--- the first version whose scripts have a query
-abbrev pub since : QueryForm → Version
-since query.State = First
-since query.Count = First
-since query.Before = First
-since query.View = First
-since query.Frontier = First
-since query.Passed = First
-since query.Search = First
-since query.Export = Second
-since query.Why = Third
-since query.Changes = Third
-since query.Step = Third
-since query.Candidates = Fourth
-since query.Effect = Fourth
-since query.Turns = Fourth
-since query.FrontierAt = Fourth
-since query.WhyBefore = Fourth
+-- ---- the first version whose scripts have a form
+
+abbrev pub step_since : StepForm → Version
+step_since step.Feed = First
+step_since step.Take = First
+step_since step.Notice = First
+step_since step.Release = Fifth
+step_since step.Move = Fifth
+step_since step.Broadcast = First
+step_since step.Part = First
+step_since step.Receive = First
+
+abbrev pub command_since : CommandForm → Version
+command_since command.Back = First
+command_since command.Redo = First
+command_since command.Jump = First
+command_since command.Run = First
+command_since command.RunOnly = Fifth
+command_since command.Break = First
+command_since command.Unbreak = First
+
+abbrev pub query_since : QueryForm → Version
+query_since query.State = First
+query_since query.Count = First
+query_since query.Before = First
+query_since query.View = First
+query_since query.Frontier = First
+query_since query.Passed = First
+query_since query.Search = First
+query_since query.Export = Second
+query_since query.Why = Third
+query_since query.Changes = Third
+query_since query.Step = Third
+query_since query.Candidates = Fourth
+query_since query.Effect = Fourth
+query_since query.Turns = Fourth
+query_since query.FrontierAt = Fourth
+query_since query.WhyBefore = Fourth
+
+abbrev pub since : Form → Version
+since (Step form) = step_since form
+since (Command form) = command_since form
+since (Query form) = query_since form
 
 -- ---- the form of a line
 
@@ -83,16 +111,20 @@ abbrev pub find : {A : Type 0} → List (List ℕ × List (List ℕ) × A) → L
 find [] word d = None
 find (row ∷ rows) word d = if bytes_eq word row.0 && has_keys row.1 d then Some row.2 else find rows word d
 
-abbrev pub known_to : Version → QueryForm → Option Form
-known_to v form = if includes v (since form) then Some (Query form) else None
+abbrev pub one_of : Option StepForm → Option CommandForm → Option QueryForm → Option Form
+one_of (Some form) command query = Some (Step form)
+one_of None (Some form) query = Some (Command form)
+one_of None None (Some form) = Some (Query form)
+one_of None None None = None
 
-abbrev pub one_of : Version → Option StepForm → Option CommandForm → Option QueryForm → Option Form
-one_of v (Some form) command query = Some (Step form)
-one_of v None (Some form) query = Some (Command form)
-one_of v None None (Some form) = known_to v form
-one_of v None None None = None
+-- what the word and the keys of an object mean
+abbrev pub meant : List ℕ → Data → Option Form
+meant word d = one_of (find steps word d) (find commands word d) (find queries word d)
+
+-- a form, if a script of this version has it
+abbrev pub known_to : Version → Form → Option Form
+known_to v form = if includes v (since form) then Some form else None
 
 -- the form of an object in a script of this version
 unfoldable pub form_of : Version → Data → Option Form
-form_of v d =
-    option_and_then (λ word. one_of v (find steps word d) (find commands word d) (find queries word d)) (text_at (codes "do") d)
+form_of v d = option_and_then (λ word. option_and_then (known_to v) (meant word d)) (text_at (codes "do") d)

@@ -1,5 +1,5 @@
 -- A step as the object of its command line (this project's own rule).
-use Rattle.std.specs.Prelude.{ℕ, ℤ, List, map, codes}
+use Rattle.std.specs.Prelude.{ℕ, ℤ, List, map, codes, Option, Some, None}
 use Rattle.std.specs.declared.alloc.Global.{Global}
 use Rattle.serde_json.specs.Data.{Data, string, object, no_members, member}
 use Rattle.nd_time.specs.Time.{Time}
@@ -7,21 +7,22 @@ use Rattle.nd_graph.specs.Graph.{Dataflow}
 use Rattle.nd_paths.specs.declared.point.Pointstamp.{Pointstamp}
 use Rattle.nd_state_json.specs.StateText.{row, natural, whole, place, time_data, point_data}
 use Rattle.nd_protocol.specs.declared.step.Step.{Step}
-use Rattle.nd_protocol.specs.declared.step.Step.TheVariants.{Feed, Take, Notice, Broadcast, Receive}
+use Rattle.nd_protocol.specs.declared.step.Step.TheVariants.{Feed, Take, Notice, Release, Broadcast, Receive}
 use Rattle.nd_protocol.specs.declared.part.Part.TheVariants.{All, Points}
 use Rattle.nd_protocol.specs.declared.step.Next.{Next as Afterwards}
 use Rattle.nd_protocol.specs.declared.step.Next.TheVariants as token
 
--- the word for what becomes of the token after a feed
-abbrev pub next_word : Afterwards → List ℕ
-next_word token.Next = codes "next"
-next_word token.Close = codes "close"
-next_word token.Stay = codes "stay"
+-- what becomes of the token after a feed: "next", "close", "stay" or {"to":epoch}
+abbrev pub next_data : Afterwards → Data
+next_data token.Next = string (codes "next")
+next_data token.Close = string (codes "close")
+next_data token.Stay = string (codes "stay")
+next_data (token.To n) = object (member (codes "to") (natural n) no_members)
 
--- {"do":"feed","next":word,"p":n,"values":[v,..],"vertex":name}
+-- {"do":"feed","next":next,"p":n,"values":[v,..],"vertex":name}
 abbrev pub feed_object : Dataflow → ℕ → ℕ → List ℤ → Afterwards → Data
 feed_object g p vertex values next = object (member (codes "do") (string (codes "feed"))
-    (member (codes "next") (string (next_word next)) (member (codes "p") (natural p)
+    (member (codes "next") (next_data next) (member (codes "p") (natural p)
     (member (codes "values") (row (map whole values)) (member (codes "vertex") (place g vertex) no_members)))))
 
 -- {"do":"take","edge":name,"p":n,"time":[epoch,c1,..],"value":v}
@@ -34,6 +35,14 @@ take_object g p edge time value = object (member (codes "do") (string (codes "ta
 abbrev pub notice_object : Dataflow → ℕ → ℕ → Time → Data
 notice_object g p vertex time = object (member (codes "do") (string (codes "notice"))
     (member (codes "p") (natural p) (member (codes "time") (time_data time) (member (codes "vertex") (place g vertex) no_members))))
+
+-- {"do":"release","p":n,"time":[epoch,c1,..],"vertex":name}, and "to":[epoch,c1,..] among the keys if there is a later time
+abbrev pub release_object : Dataflow → ℕ → ℕ → Time → Option Time → Data
+release_object g p vertex time None = object (member (codes "do") (string (codes "release"))
+    (member (codes "p") (natural p) (member (codes "time") (time_data time) (member (codes "vertex") (place g vertex) no_members))))
+release_object g p vertex time (Some to) = object (member (codes "do") (string (codes "release"))
+    (member (codes "p") (natural p) (member (codes "time") (time_data time)
+    (member (codes "to") (time_data to) (member (codes "vertex") (place g vertex) no_members)))))
 
 -- of all that is unsent: {"do":"broadcast","p":n}
 abbrev pub all_object : ℕ → Data
@@ -54,6 +63,7 @@ unfoldable pub object_of : Dataflow → Step Global → Data
 object_of g (Feed p vertex values next) = feed_object g p vertex values next
 object_of g (Take p edge time value) = take_object g p edge time value
 object_of g (Notice p vertex time) = notice_object g p vertex time
+object_of g (Release p vertex times) = release_object g p vertex times.time times.to
 object_of g (Broadcast p All) = all_object p
 object_of g (Broadcast p (Points points)) = part_object g p points
 object_of g (Receive from to) = receive_object from to

@@ -1,19 +1,22 @@
 -- The step that a line asks for: the shapes of its values, then the names, then the times.
-use Rattle.std.specs.Prelude.{if◌then◌else◌, Option, Some, None, codes, Result, Ok, Err}
+use Rattle.std.specs.Prelude.{ℕ, if◌then◌else◌, [], ◌∷◌, Option, Some, None, option_map, option_and_then, codes, Result, Ok, Err}
 use Rattle.std.specs.declared.alloc.Global.{Global}
 use Rattle.serde_json.specs.Data.{Data}
-use Rattle.nd_json.specs.Forms.{has_text, text_at, small_at, integer_at}
+use Rattle.serde_json.specs.Find.{get}
+use Rattle.nd_json.specs.Forms.{small, has_text, text_at, small_at, integer_at}
 use Rattle.nd_graph.specs.Graph.{Dataflow}
 use Rattle.nd_protocol.specs.declared.step.Step.{Step}
-use Rattle.nd_protocol.specs.declared.step.Step.TheVariants.{Feed, Take, Notice, Broadcast, Receive}
+use Rattle.nd_protocol.specs.declared.step.Step.TheVariants.{Feed, Take, Notice, Release, Broadcast, Receive}
 use Rattle.nd_protocol.specs.declared.part.Part.TheVariants.{All, Points}
 use Rattle.nd_protocol.specs.declared.step.Next.{Next as Afterwards}
 use Rattle.nd_protocol.specs.declared.step.Next.TheVariants as token
 use Rattle.nd_graph.specs.Draft.{every}
-use Rattle.rewind_forms.specs.Forms.{given, after, named_at, points_at, values_at}
-use Rattle.rewind_forms.specs.Places.{vertex_named, edge_named, placed, are_known, point_named}
+use Rattle.rewind_forms.specs.Forms.{given, after, numbers_at, named_at, points_at, values_at, alone}
+use Rattle.rewind_forms.specs.Places.{vertex_named, edge_named, time_of, placed, are_known, point_named}
 use Rattle.rewind_forms.specs.Grammar.{form_of}
-use Rattle.rewind_forms.specs.declared.version.Version.TheVariants.{First}
+use Rattle.rewind_forms.specs.Versions.{includes}
+use Rattle.rewind_forms.specs.declared.version.Version.{Version}
+use Rattle.rewind_forms.specs.declared.version.Version.TheVariants.{Fifth}
 use Rattle.rewind_forms.specs.declared.form.Form.{Form}
 use Rattle.rewind_forms.specs.declared.form.Form.TheVariants as line
 use Rattle.rewind_forms.specs.declared.form.StepForm.{StepForm}
@@ -21,19 +24,24 @@ use Rattle.rewind_forms.specs.declared.form.StepForm.TheVariants as form
 use Rattle.rewind_forms.specs.declared.fault.LineFault.{LineFault}
 use Rattle.rewind_forms.specs.declared.fault.LineFault.TheVariants.{BadShape, UnknownName, BadTime}
 
--- what becomes of the token after a feed
-unfoldable pub next_at : Data → Option Afterwards
-next_at d =
+-- the epoch n of {"to":n} under "next"
+unfoldable pub epoch_at : Data → Option ℕ
+epoch_at d = option_and_then small (option_and_then (alone (codes "to")) (get (codes "next") d))
+
+-- what becomes of the token after a feed, in a script of this version
+unfoldable pub next_at : Version → Data → Option Afterwards
+next_at v d =
     if has_text (codes "next") (codes "next") d then Some token.Next
     else (if has_text (codes "next") (codes "close") d then Some token.Close
-    else (if has_text (codes "next") (codes "stay") d then Some token.Stay else None))
+    else (if has_text (codes "next") (codes "stay") d then Some token.Stay
+    else (if includes v Fifth then option_map token.To (epoch_at d) else None)))
 
-unfoldable pub feed_of : Dataflow → Data → Result (Step Global) LineFault
-feed_of g d =
+unfoldable pub feed_of : Version → Dataflow → Data → Result (Step Global) LineFault
+feed_of v g d =
     given BadShape (small_at (codes "p") d) (λ p.
     given BadShape (text_at (codes "vertex") d) (λ name.
     given BadShape (values_at (codes "values") d) (λ values.
-    given BadShape (next_at d) (λ next.
+    given BadShape (next_at v d) (λ next.
     given UnknownName (vertex_named g name) (λ vertex.
     Ok (Feed p vertex values next))))))
 
@@ -51,6 +59,25 @@ notice_of g d =
     given BadShape (named_at (codes "vertex") d) (λ named.
     after (placed g (vertex_named g named.0) named.1) (λ point.
     Ok (Notice p point.location point.time))))
+
+-- of a capability that is given up
+unfoldable pub release_of : Dataflow → Data → Result (Step Global) LineFault
+release_of g d =
+    given BadShape (small_at (codes "p") d) (λ p.
+    given BadShape (named_at (codes "vertex") d) (λ named.
+    after (placed g (vertex_named g named.0) named.1) (λ point.
+    Ok (Release p point.location (record { time = point.time; to = None })))))
+
+-- of a capability that moves to a later time; both times are of the vertex
+unfoldable pub move_of : Dataflow → Data → Result (Step Global) LineFault
+move_of g d =
+    given BadShape (small_at (codes "p") d) (λ p.
+    given BadShape (named_at (codes "vertex") d) (λ named.
+    given BadShape (numbers_at (codes "to") d) (λ later.
+    given UnknownName (vertex_named g named.0) (λ vertex.
+    given BadTime (time_of g vertex named.1) (λ time.
+    given BadTime (time_of g vertex later) (λ to.
+    Ok (Release p vertex (record { time = time; to = Some to }))))))))
 
 -- of all that is unsent
 unfoldable pub broadcast_of : Data → Result (Step Global) LineFault
@@ -71,20 +98,22 @@ receive_of d =
     Ok (Receive from to)))
 
 -- the step of a form
-abbrev pub step_of : Dataflow → StepForm → Data → Result (Step Global) LineFault
-step_of g form.Feed d = feed_of g d
-step_of g form.Take d = take_of g d
-step_of g form.Notice d = notice_of g d
-step_of g form.Broadcast d = broadcast_of d
-step_of g form.Part d = part_of g d
-step_of g form.Receive d = receive_of d
+abbrev pub step_of : Version → Dataflow → StepForm → Data → Result (Step Global) LineFault
+step_of v g form.Feed d = feed_of v g d
+step_of v g form.Take d = take_of g d
+step_of v g form.Notice d = notice_of g d
+step_of v g form.Release d = release_of g d
+step_of v g form.Move d = move_of g d
+step_of v g form.Broadcast d = broadcast_of d
+step_of v g form.Part d = part_of g d
+step_of v g form.Receive d = receive_of d
 
 -- what has no form of a step has a bad shape
 abbrev pub read_as : Dataflow → Data → Form → Result (Step Global) LineFault
-read_as g d (line.Step form) = step_of g form d
+read_as g d (line.Step form) = step_of Fifth g form d
 read_as g d (line.Command form) = Err BadShape
 read_as g d (line.Query form) = Err BadShape
 
--- the step that a value asks for, or why it asks for none
+-- the step that a value asks for in a script of the last version, or why it asks for none
 unfoldable pub read_of : Dataflow → Data → Result (Step Global) LineFault
-read_of g d = given BadShape (form_of First d) (read_as g d)
+read_of g d = given BadShape (form_of Fifth d) (read_as g d)

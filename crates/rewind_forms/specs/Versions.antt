@@ -3,20 +3,25 @@ use Rattle.std.specs.Prelude.{ℕ, Bool, nat_eq, nat_le, [], ◌∷◌, if◌the
 use Rattle.serde_json.specs.Data.{Data}
 use Rattle.nd_json.specs.Forms.{has_keys, whole_at}
 use Rattle.rewind_forms.specs.declared.version.Version.{Version}
-use Rattle.rewind_forms.specs.declared.version.Version.TheVariants.{First, Second, Third, Fourth}
+use Rattle.rewind_forms.specs.declared.version.Version.TheVariants.{First, Second, Third, Fourth, Fifth}
 
--- a script's version as a number, from 1 to 4
+-- a script's version as a number, from 1 to 5
 abbrev pub number_of : Version → ℕ
 number_of First = 1
 number_of Second = 2
 number_of Third = 3
 number_of Fourth = 4
+number_of Fifth = 5
 
 -- the version of this number, of those that a line can tell
 unfoldable pub numbered : ℕ → Option Version
-numbered n = if nat_eq n 2 then Some Second else (if nat_eq n 3 then Some Third else (if nat_eq n 4 then Some Fourth else None))
+numbered n =
+    if nat_eq n 2 then Some Second
+    else (if nat_eq n 3 then Some Third
+    else (if nat_eq n 4 then Some Fourth
+    else (if nat_eq n 5 then Some Fifth else None)))
 
--- the version that a value tells: {"version":n} with n from 2 to 4
+-- the version that a value tells: {"version":n} with n from 2 to 5
 unfoldable pub version_of : Data → Option Version
 version_of d = if has_keys (codes "version" ∷ []) d then option_and_then numbered (whole_at (codes "version") d) else None
 

@@ -37,7 +37,7 @@ pub fn asked_of(
 {
     match Form::of(version, value).ok_or(LineFault::BadShape)? {
         Form::Step(form) => {
-            let step = step_of(alloc, graph, form, value)?;
+            let step = step_of(alloc, version, graph, form, value)?;
             Ok(Asked::Do(Command::Forward(step)))
         }
         Form::Command(form) => {

@@ -1,31 +1,18 @@
 //! What one atom of a condition says.
-ghost use Rattle.std.specs.Prelude.{◌≡◌, Ok, IfOk, IfErr, map, option_map};
+ghost use Rattle.std.specs.Prelude.{◌≡◌, Ok, IfOk, IfErr};
 ghost use Rattle.serde_json.specs.View.{view};
-ghost use Rattle.rewind_forms.specs.Forms.{FailsWith, inner as inner_in};
+ghost use Rattle.rewind_forms.specs.Forms.{FailsWith};
 ghost use Rattle.rewind_forms.specs.Atoms.{passed_of as passed_in, count_of as count_in, queue_of as queue_in, sink_of as sink_in, first_atom_of as first_in, finished_of as finished_in, view_of as view_in, atom_of as atom_in};
 
 use crate::LineFault;
 use crate::places::vertex_named;
 use crate::points::point_there;
+use crate::shapes::inner;
 use nd_breaks::Atom;
 use nd_graph::Graph;
-use nd_json::{has_keys, integer_at, small_at, text_at, whole_at};
+use nd_json::{integer_at, small_at, text_at, whole_at};
 use serde_json::Value;
 use std::alloc::Global;
-
-// The object with these keys that stands under the only key of the value.
-#[tactic(auto, unfolding(crate::specs::Forms::inner))]
-fn inner<'v>(value: &'v Value, key: &str, keys: &[&str]) -> Option<&'v Value>
-    ensures { option_map (λ v. view v.now) result
-        ≡ inner_in key.now (map (λ k. k.now) keys.now) (view value.now) }
-{
-    let found = value.get(key)?;
-    if has_keys(value, &[key]) && has_keys(found, keys) {
-        Some(found)
-    } else {
-        None
-    }
-}
 
 #[tactic(auto, unfolding(crate::specs::Atoms::passed_of))]
 fn passed_of(alloc: Global, graph: &Graph, value: &Value) -> Result<Atom, LineFault>

@@ -2,9 +2,10 @@
 ghost use Rattle.std.specs.Prelude.{◌≡◌, Ok, IfOk, IfErr};
 ghost use Rattle.serde_json.specs.View.{view};
 ghost use Rattle.rewind_forms.specs.Forms.{FailsWith};
-ghost use Rattle.rewind_forms.specs.Commands.{jump_of as jump_in, run_of as run_in, set_of as set_in, clear_of as clear_in, command_of as command_in};
+ghost use Rattle.rewind_forms.specs.Commands.{jump_of as jump_in, run_of as run_in, run_only_of as run_only_in, set_of as set_in, clear_of as clear_in, command_of as command_in};
 
 use crate::conditions::condition_of;
+use crate::numbers::processors_at;
 use crate::{CommandForm, LineFault, Version};
 use nd_breaks::BoxedCondition;
 use nd_graph::Graph;
@@ -26,7 +27,21 @@ fn run_of(value: &Value) -> Result<Command, LineFault>
     ensures { result ≡ run_in (view value.now) }
 {
     let limit = whole_at(value, "limit").ok_or(LineFault::BadShape)?;
-    Ok(Command::Run(limit))
+    Ok(Command::Run { limit, only: None })
+}
+
+// A run of some processors.
+#[tactic(auto, unfolding(crate::specs::Commands::run_only_of))]
+fn run_only_of(alloc: Global, value: &Value) -> Result<Command, LineFault>
+    ensures ok { IfOk result (λ c. run_only_in (view value.now) ≡ Ok c) }
+    ensures err { IfErr result (FailsWith (run_only_in (view value.now))) }
+{
+    let limit = whole_at(value, "limit").ok_or(LineFault::BadShape)?;
+    let only = processors_at(alloc, value, "only")?.ok_or(LineFault::BadShape)?;
+    Ok(Command::Run {
+        limit,
+        only: Some(only),
+    })
 }
 
 #[tactic(auto, unfolding(crate::specs::Commands::set_of))]
@@ -69,6 +84,7 @@ pub fn command_of(
         CommandForm::Redo => Ok(Command::Redo),
         CommandForm::Jump => jump_of(value),
         CommandForm::Run => run_of(value),
+        CommandForm::RunOnly => run_only_of(alloc, value),
         CommandForm::Break => set_of(alloc, version, graph, value),
         CommandForm::Unbreak => clear_of(value),
     }

@@ -1,33 +1,22 @@
 //! The condition that a line names.
-ghost use Rattle.std.specs.Prelude.{◌≡◌, ◌<◌, ◌≤◌, Ok, IfOk, IfErr, map, length, option_map};
+ghost use Rattle.std.specs.Prelude.{◌≡◌, ◌<◌, ◌≤◌, Ok, IfOk, IfErr, map, length};
 ghost use Rattle.serde_json.specs.View.{view};
 ghost use Rattle.nd_time.specs.Limits.{max_literals};
-ghost use Rattle.rewind_forms.specs.Forms.{FailsWith, alone as alone_in};
+ghost use Rattle.rewind_forms.specs.Forms.{FailsWith};
 ghost use Rattle.rewind_forms.specs.Conditions.{literal_of as literal_in, lesser as lesser_in, literals_of as literals_in, several_of as several_in, combined_of as combined_in, condition_of as condition_in};
 ghost use Rattle.rewind_forms.specs.Conditions.{literals_read, with_literal, with_fault, HasRoom, IsOf, MakeUp};
 
 use crate::atoms::{atom_of, first_atom_of};
+use crate::shapes::alone;
 use crate::{LineFault, Version};
 use nd_breaks::{Condition, Literal, Quantifier};
 use nd_graph::Graph;
-use nd_json::{has_keys, list};
+use nd_json::list;
 use serde_json::Value;
 use std::alloc::Global;
 
 /// The most literals of a condition.
 const MAX_LITERALS: usize = 8;
-
-// What stands under the key, if it is the value's only one.
-#[tactic(auto, unfolding(crate::specs::Forms::alone))]
-fn alone<'v>(value: &'v Value, key: &str) -> Option<&'v Value>
-    ensures { option_map (λ v. view v.now) result ≡ alone_in key.now (view value.now) }
-{
-    if has_keys(value, &[key]) {
-        value.get(key)
-    } else {
-        None
-    }
-}
 
 // The literal that the value is.
 #[tactic(auto, unfolding(crate::specs::Conditions::literal_of))]

@@ -1,7 +1,7 @@
 //! The grammar of a script: the word that a line has under `do`, and the keys beside it.
 ghost use Rattle.std.specs.Prelude.{◌≡◌};
 ghost use Rattle.serde_json.specs.View.{view};
-ghost use Rattle.rewind_forms.specs.Grammar.{find, steps, commands, queries, since as since_in, form_of as form_in};
+ghost use Rattle.rewind_forms.specs.Grammar.{find, steps, commands, queries, step_since, command_since, query_since, since as since_in, meant, form_of as form_in};
 
 use crate::Version;
 use nd_json::{has_keys, text_at};
@@ -21,6 +21,10 @@ pub enum StepForm {
     Feed,
     Take,
     Notice,
+    /// A release of a capability, which is given up.
+    Release,
+    /// A release of a capability, which moves to a later time.
+    Move,
     /// A broadcast of all that is unsent.
     Broadcast,
     /// A broadcast of a part.
@@ -35,6 +39,8 @@ pub enum CommandForm {
     Redo,
     Jump,
     Run,
+    /// A run of some processors.
+    RunOnly,
     Break,
     Unbreak,
 }
@@ -62,10 +68,44 @@ pub enum QueryForm {
     WhyBefore,
 }
 
+impl StepForm {
+    // The first version whose scripts have the step.
+    fn since(self) -> Version
+        ensures { result ≡ step_since self }
+    {
+        match self {
+            StepForm::Feed
+            | StepForm::Take
+            | StepForm::Notice
+            | StepForm::Broadcast
+            | StepForm::Part
+            | StepForm::Receive => Version::First,
+            StepForm::Release | StepForm::Move => Version::Fifth,
+        }
+    }
+}
+
+impl CommandForm {
+    // The first version whose scripts have the command.
+    fn since(self) -> Version
+        ensures { result ≡ command_since self }
+    {
+        match self {
+            CommandForm::Back
+            | CommandForm::Redo
+            | CommandForm::Jump
+            | CommandForm::Run
+            | CommandForm::Break
+            | CommandForm::Unbreak => Version::First,
+            CommandForm::RunOnly => Version::Fifth,
+        }
+    }
+}
+
 impl QueryForm {
     // The first version whose scripts have the query.
     fn since(self) -> Version
-        ensures { result ≡ since_in self }
+        ensures { result ≡ query_since self }
     {
         match self {
             QueryForm::State
@@ -87,25 +127,44 @@ impl QueryForm {
 }
 
 impl Form {
+    // The first version whose scripts have the form.
+    fn since(self) -> Version
+        ensures { result ≡ since_in self }
+    {
+        match self {
+            Form::Step(form) => form.since(),
+            Form::Command(form) => form.since(),
+            Form::Query(form) => form.since(),
+        }
+    }
+
     /// Returns the form that the value has in a script of this version, or `None` if it has none.
     #[tactic(auto, unfolding(crate::specs::Grammar::form_of))]
     pub fn of(version: Version, value: &Value) -> Option<Form>
         ensures { result ≡ form_in version (view value.now) }
     {
         let word = text_at(value, "do")?;
-        if let Some(form) = step_form(word, value) {
-            return Some(Form::Step(form));
-        }
-        if let Some(form) = command_form(word, value) {
-            return Some(Form::Command(form));
-        }
-        let form = query_form(word, value)?;
+        let form = meant_by(word, value)?;
         if version.includes(form.since()) {
-            Some(Form::Query(form))
+            Some(form)
         } else {
             None
         }
     }
+}
+
+// What the word and the keys of the object mean.
+fn meant_by(word: &str, value: &Value) -> Option<Form>
+    ensures { result ≡ meant word.now (view value.now) }
+{
+    if let Some(form) = step_form(word, value) {
+        return Some(Form::Step(form));
+    }
+    if let Some(form) = command_form(word, value) {
+        return Some(Form::Command(form));
+    }
+    let form = query_form(word, value)?;
+    Some(Form::Query(form))
 }
 
 // The keys of each object are in the order of their bytes.
@@ -117,6 +176,8 @@ fn step_form(word: &str, value: &Value) -> Option<StepForm>
         "feed" if has_keys(value, &["do", "next", "p", "values", "vertex"]) => Some(StepForm::Feed),
         "take" if has_keys(value, &["do", "edge", "p", "time", "value"]) => Some(StepForm::Take),
         "notice" if has_keys(value, &["do", "p", "time", "vertex"]) => Some(StepForm::Notice),
+        "release" if has_keys(value, &["do", "p", "time", "vertex"]) => Some(StepForm::Release),
+        "release" if has_keys(value, &["do", "p", "time", "to", "vertex"]) => Some(StepForm::Move),
         "broadcast" if has_keys(value, &["do", "p"]) => Some(StepForm::Broadcast),
         "broadcast" if has_keys(value, &["do", "p", "part"]) => Some(StepForm::Part),
         "receive" if has_keys(value, &["do", "from", "to"]) => Some(StepForm::Receive),
@@ -133,6 +194,7 @@ fn command_form(word: &str, value: &Value) -> Option<CommandForm>
         "redo" if has_keys(value, &["do"]) => Some(CommandForm::Redo),
         "jump" if has_keys(value, &["do", "to"]) => Some(CommandForm::Jump),
         "run" if has_keys(value, &["do", "limit"]) => Some(CommandForm::Run),
+        "run" if has_keys(value, &["do", "limit", "only"]) => Some(CommandForm::RunOnly),
         "break" if has_keys(value, &["do", "when"]) => Some(CommandForm::Break),
         "unbreak" if has_keys(value, &["do", "id"]) => Some(CommandForm::Unbreak),
         _ => None,

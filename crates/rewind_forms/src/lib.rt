@@ -19,6 +19,7 @@ mod points;
 mod queries;
 mod reasons;
 pub mod replies;
+mod shapes;
 mod steps;
 mod times;
 mod unheard;

@@ -3,12 +3,15 @@ ghost use Rattle.std.specs.Prelude.{◌≡◌, map, option_map, IfOk};
 ghost use Rattle.serde_json.specs.View.{view};
 ghost use Rattle.nd_json.specs.Forms.{small as small_in, integer as integer_in};
 ghost use Rattle.nd_graph.specs.Draft.{every};
-ghost use Rattle.rewind_forms.specs.Forms.{numbers_of as numbers_from, numbers_at as numbers_in, values_at as values_in};
+ghost use Rattle.rewind_forms.specs.Forms.{numbers_of as numbers_from, numbers_at as numbers_in, values_at as values_in, processors_at as processors_in};
 
 use nd_json::{integer, list_at, small};
-use nd_protocol::Values;
+use nd_protocol::{Processors, Values};
 use serde_json::Value;
 use std::alloc::{AllocError, Global};
+
+/// The most processors of a cluster.
+const MAX_PROCESSORS: usize = 16;
 
 // The numbers that the items are, if each is one from 0 to 2^32 - 1.
 fn smalls(alloc: Global, items: &[Value]) -> Result<Option<Vec<u32>>, AllocError>
@@ -68,4 +71,36 @@ pub fn values_at(alloc: Global, value: &Value, key: &str) -> Result<Option<Value
         Some(items) => integers(alloc, items),
         None => Ok(None),
     }
+}
+
+// The processors whose numbers the items are, if each is one from 0 to 2^32 - 1.
+fn processors(alloc: Global, items: &[Value]) -> Result<Option<Processors>, AllocError>
+    ensures { IfOk result (λ o. o ≡ every small_in (map view items.now)) }
+{
+    let mut numbers = Processors::new(alloc);
+    for item in items {
+        let Some(number) = small(item) else {
+            return Ok(None);
+        };
+        numbers.push(number)?;
+    }
+    Ok(Some(numbers))
+}
+
+/// The processors in the list at the key: some, and no more than a cluster may have.
+#[tactic(auto, unfolding(crate::specs::Forms::processors_at))]
+pub fn processors_at(
+    alloc: Global,
+    value: &Value,
+    key: &str,
+) -> Result<Option<Processors>, AllocError>
+    ensures { IfOk result (λ o. o ≡ processors_in key.now (view value.now)) }
+{
+    let Some(items) = list_at(value, key) else {
+        return Ok(None);
+    };
+    if items.is_empty() || items.len() > MAX_PROCESSORS {
+        return Ok(None);
+    }
+    processors(alloc, items)
 }

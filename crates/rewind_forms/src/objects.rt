@@ -1,24 +1,25 @@
 //! A step as the object of its command line.
 ghost use Rattle.std.specs.Prelude.{◌≡◌, map, IfOk};
 ghost use Rattle.nd_state_json.specs.StateText.{row, point_data};
-ghost use Rattle.rewind_forms.specs.Objects.{next_word as word_of, feed_object, take_object, notice_object, all_object, part_object, receive_object, object_of};
+ghost use Rattle.rewind_forms.specs.Objects.{next_data, feed_object, take_object, notice_object, release_object, all_object, part_object, receive_object, object_of};
 
 use nd_graph::Graph;
 use nd_json::{Json, JsonList, list_of, reply};
 use nd_paths::Pointstamp;
-use nd_protocol::{Next, Part, Step};
+use nd_protocol::{Next, Part, Step, Times};
 use nd_state_json::{name_value, point_value, time_value};
 use nd_time::Timestamp;
 use std::alloc::{AllocError, Global};
 
-// The word for what becomes of the token after a feed.
-fn next_word(next: Next) -> &'static str
-    ensures { result.now ≡ word_of next }
+// What becomes of the token after a feed: a word, or the epoch to which it goes.
+fn next_value(alloc: Global, next: Next) -> Result<Json, AllocError>
+    ensures reply { IfOk result (λ j. j ≡ next_data next) }
 {
     match next {
-        Next::Next => "next",
-        Next::Close => "close",
-        Next::Stay => "stay",
+        Next::Next => Json::text(alloc, "next"),
+        Next::Close => Json::text(alloc, "close"),
+        Next::Stay => Json::text(alloc, "stay"),
+        Next::To(epoch) => reply!(in alloc; {"to": epoch}),
     }
 }
 
@@ -49,7 +50,7 @@ impl<'g> Objects<'g> {
         let alloc = self.alloc;
         let values = list_of(alloc, values)?;
         let name = name_value(alloc, self.graph, vertex)?;
-        let next = next_word(next);
+        let next = next_value(alloc, next)?;
         reply!(in alloc; {"do": "feed", "next": next, "p": p, "values": values, "vertex": name})
     }
 
@@ -72,6 +73,25 @@ impl<'g> Objects<'g> {
         let time = time_value(alloc, time)?;
         let name = name_value(alloc, self.graph, vertex)?;
         reply!(in alloc; {"do": "notice", "p": p, "time": time, "vertex": name})
+    }
+
+    // A capability that is released: given up, or moved to a later time.
+    fn release(&self, p: u32, vertex: usize, times: &Times) -> Result<Json, AllocError>
+        ensures object { IfOk result (λ j.
+            j ≡ release_object self.now.graph.now p vertex times.now.time times.now.to) }
+    {
+        let alloc = self.alloc;
+        let time = time_value(alloc, &times.time)?;
+        let name = name_value(alloc, self.graph, vertex)?;
+        match &times.to {
+            None => reply!(in alloc; {"do": "release", "p": p, "time": time, "vertex": name}),
+            Some(to) => {
+                let to = time_value(alloc, to)?;
+                reply!(in alloc; {
+                    "do": "release", "p": p, "time": time, "to": to, "vertex": name
+                })
+            }
+        }
     }
 
     // A broadcast of all that is unsent.
@@ -120,6 +140,7 @@ pub fn step_value(alloc: Global, graph: &Graph, step: &Step) -> Result<Json, All
             value,
         } => objects.take(*p, *edge, time, *value),
         Step::Notice { p, vertex, time } => objects.notice(*p, *vertex, time),
+        Step::Release { p, vertex, times } => objects.release(*p, *vertex, times.get()),
         Step::Broadcast { p, part: Part::All } => objects.broadcast(*p),
         Step::Broadcast {
             p,

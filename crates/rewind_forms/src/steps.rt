@@ -2,23 +2,34 @@
 ghost use Rattle.std.specs.Prelude.{◌≡◌, Ok, IfOk, IfErr};
 ghost use Rattle.serde_json.specs.View.{view};
 ghost use Rattle.rewind_forms.specs.Forms.{FailsWith};
-ghost use Rattle.rewind_forms.specs.Steps.{feed_of as feed_in, take_of as take_in, notice_of as notice_in, broadcast_of as broadcast_in, part_of as part_in, receive_of as receive_in, next_at as next_in, step_of as step_in, read_of as read_in};
+ghost use Rattle.rewind_forms.specs.Steps.{feed_of as feed_in, take_of as take_in, notice_of as notice_in, release_of as release_in, move_of as move_in, broadcast_of as broadcast_in, part_of as part_in, receive_of as receive_in, epoch_at as epoch_in, next_at as next_in, step_of as step_in, read_of as read_in};
 ghost use Rattle.rewind_forms.specs.Fitting.{NamesFit};
 
-use crate::numbers::values_at;
-use crate::places::{edge_named, placed, vertex_named};
+use crate::numbers::{numbers_at, values_at};
+use crate::places::{edge_named, placed, time_of, vertex_named};
 use crate::points::{are_known, named_at, points_at, points_named};
+use crate::shapes::alone;
 use crate::{Form, LineFault, StepForm, Version};
 use nd_graph::Graph;
-use nd_json::{has_text, integer_at, small_at, text_at};
-use nd_protocol::{Next, Part, Step};
+use nd_json::{has_text, integer_at, small, small_at, text_at};
+use nd_protocol::{BoxedTimes, Next, Part, Step, Times};
 use serde_json::Value;
 use std::alloc::Global;
 
-// What becomes of the token after a feed.
+// The epoch that the object under `next` names.
+#[tactic(auto, unfolding(crate::specs::Steps::epoch_at))]
+fn epoch_at(value: &Value) -> Option<u32>
+    ensures { result ≡ epoch_in (view value.now) }
+{
+    let shown = value.get("next")?;
+    let number = alone(shown, "to")?;
+    small(number)
+}
+
+// What becomes of the token after a feed, in a script of this version.
 #[tactic(auto, unfolding(crate::specs::Steps::next_at))]
-fn next_at(value: &Value) -> Option<Next>
-    ensures { result ≡ next_in (view value.now) }
+fn next_at(version: Version, value: &Value) -> Option<Next>
+    ensures { result ≡ next_in version (view value.now) }
 {
     if has_text(value, "next", "next") {
         Some(Next::Next)
@@ -26,20 +37,23 @@ fn next_at(value: &Value) -> Option<Next>
         Some(Next::Close)
     } else if has_text(value, "next", "stay") {
         Some(Next::Stay)
+    } else if version.includes(Version::Fifth) {
+        let epoch = epoch_at(value)?;
+        Some(Next::To(epoch))
     } else {
         None
     }
 }
 
 #[tactic(auto, unfolding(crate::specs::Steps::feed_of))]
-fn feed_of(alloc: Global, graph: &Graph, value: &Value) -> Result<Step, LineFault>
-    ensures ok { IfOk result (λ c. feed_in graph.now (view value.now) ≡ Ok c) }
-    ensures err { IfErr result (FailsWith (feed_in graph.now (view value.now))) }
+fn feed_of(alloc: Global, version: Version, graph: &Graph, value: &Value) -> Result<Step, LineFault>
+    ensures ok { IfOk result (λ c. feed_in version graph.now (view value.now) ≡ Ok c) }
+    ensures err { IfErr result (FailsWith (feed_in version graph.now (view value.now))) }
 {
     let p = small_at(value, "p").ok_or(LineFault::BadShape)?;
     let name = text_at(value, "vertex").ok_or(LineFault::BadShape)?;
     let values = values_at(alloc, value, "values")?.ok_or(LineFault::BadShape)?;
-    let next = next_at(value).ok_or(LineFault::BadShape)?;
+    let next = next_at(version, value).ok_or(LineFault::BadShape)?;
     let vertex = vertex_named(graph, name).ok_or(LineFault::UnknownName)?;
     Ok(Step::Feed {
         p,
@@ -83,6 +97,46 @@ fn notice_of(alloc: Global, graph: &Graph, value: &Value) -> Result<Step, LineFa
     })
 }
 
+// A release of a capability, which is given up.
+#[tactic(auto, unfolding(crate::specs::Steps::release_of))]
+fn release_of(alloc: Global, graph: &Graph, value: &Value) -> Result<Step, LineFault>
+    ensures ok { IfOk result (λ c. release_in graph.now (view value.now) ≡ Ok c) }
+    ensures err { IfErr result (FailsWith (release_in graph.now (view value.now))) }
+{
+    let p = small_at(value, "p").ok_or(LineFault::BadShape)?;
+    let named = named_at(alloc, value, "vertex")?.ok_or(LineFault::BadShape)?;
+    let vertex = vertex_named(graph, named.name);
+    let point = placed(graph, vertex, named.numbers.as_slice())?;
+    let times = BoxedTimes::new(
+        alloc,
+        Times {
+            time: point.time,
+            to: None,
+        },
+    )?;
+    Ok(Step::Release {
+        p,
+        vertex: point.location,
+        times,
+    })
+}
+
+// A release of a capability, which moves to a later time.
+#[tactic(auto, unfolding(crate::specs::Steps::move_of))]
+fn move_of(alloc: Global, graph: &Graph, value: &Value) -> Result<Step, LineFault>
+    ensures ok { IfOk result (λ c. move_in graph.now (view value.now) ≡ Ok c) }
+    ensures err { IfErr result (FailsWith (move_in graph.now (view value.now))) }
+{
+    let p = small_at(value, "p").ok_or(LineFault::BadShape)?;
+    let named = named_at(alloc, value, "vertex")?.ok_or(LineFault::BadShape)?;
+    let later = numbers_at(alloc, value, "to")?.ok_or(LineFault::BadShape)?;
+    let vertex = vertex_named(graph, named.name).ok_or(LineFault::UnknownName)?;
+    let time = time_of(graph, vertex, named.numbers.as_slice()).ok_or(LineFault::BadTime)?;
+    let to = time_of(graph, vertex, later.as_slice()).ok_or(LineFault::BadTime)?;
+    let times = BoxedTimes::new(alloc, Times { time, to: Some(to) })?;
+    Ok(Step::Release { p, vertex, times })
+}
+
 // A broadcast of all that is unsent.
 #[tactic(auto, unfolding(crate::specs::Steps::broadcast_of))]
 fn broadcast_of(value: &Value) -> Result<Step, LineFault>
@@ -119,28 +173,31 @@ fn receive_of(value: &Value) -> Result<Step, LineFault>
     Ok(Step::Receive { from, to })
 }
 
-/// The step of this form that the value asks for, against the graph.
+/// The step of this form that the value asks for in a script of this version, against the graph.
 pub fn step_of(
     alloc: Global,
+    version: Version,
     graph: &Graph,
     form: StepForm,
     value: &Value,
 ) -> Result<Step, LineFault>
-    ensures ok { IfOk result (λ c. step_in graph.now form (view value.now) ≡ Ok c) }
-    ensures err { IfErr result (FailsWith (step_in graph.now form (view value.now))) }
+    ensures ok { IfOk result (λ c. step_in version graph.now form (view value.now) ≡ Ok c) }
+    ensures err { IfErr result (FailsWith (step_in version graph.now form (view value.now))) }
 {
     match form {
-        StepForm::Feed => feed_of(alloc, graph, value),
+        StepForm::Feed => feed_of(alloc, version, graph, value),
         StepForm::Take => take_of(alloc, graph, value),
         StepForm::Notice => notice_of(alloc, graph, value),
+        StepForm::Release => release_of(alloc, graph, value),
+        StepForm::Move => move_of(alloc, graph, value),
         StepForm::Broadcast => broadcast_of(value),
         StepForm::Part => part_of(alloc, graph, value),
         StepForm::Receive => receive_of(value),
     }
 }
 
-/// The step that a line of this value asks for, against the graph: `BadShape` if it is no step's, then `UnknownName`,
-/// then `BadTime`.
+/// The step that a line of this value asks for in a script of the last version, against the graph: `BadShape` if it is no
+/// step's, then `UnknownName`, then `BadTime`.
 ///
 /// `Memory` comes only if there was no memory for a list of the step.
 #[tactic(auto, unfolding(crate::specs::Steps::read_of))]
@@ -149,8 +206,8 @@ pub fn read_step(alloc: Global, graph: &Graph, value: &Value) -> Result<Step, Li
     ensures fits { IfOk result (NamesFit graph.now) }
     ensures err { IfErr result (FailsWith (read_in graph.now (view value.now))) }
 {
-    match Form::of(Version::First, value) {
-        Some(Form::Step(form)) => step_of(alloc, graph, form, value),
+    match Form::of(Version::Fifth, value) {
+        Some(Form::Step(form)) => step_of(alloc, Version::Fifth, graph, form, value),
         _ => Err(LineFault::BadShape),
     }
 }

@@ -18,6 +18,9 @@ pub enum Version {
     /// As the third; and it may be asked what can happen next, what a step changed and when a condition turned, and conditions
     /// may be put together.
     Fourth,
+    /// As the fourth; and vertices may hold capabilities, which are released, a feed may name the epoch after it, and a run its
+    /// processors.
+    Fifth,
 }
 
 impl Version {
@@ -30,6 +33,7 @@ impl Version {
             Version::Second => 2,
             Version::Third => 3,
             Version::Fourth => 4,
+            Version::Fifth => 5,
         }
     }
 
@@ -52,6 +56,8 @@ fn numbered(number: u64) -> Option<Version>
         Some(Version::Third)
     } else if number == 4 {
         Some(Version::Fourth)
+    } else if number == 5 {
+        Some(Version::Fifth)
     } else {
         None
     }

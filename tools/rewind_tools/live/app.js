@@ -203,12 +203,24 @@ function candidate(it) {
   const press = button(it.words, act, `kind-${it.kind}${it.refused ? " waits" : ""}`);
   if (it.refused) press.append(made("small", it.refused));
   row.append(press);
+  if (it.release) row.append(releaseForm(it.release));
   return row;
+}
+
+// Releases a held capability, or moves it to a later time, which is the next epoch unless another is typed.
+function releaseForm(line) {
+  const form = made("form", undefined, "form"), to = made("input");
+  to.value = [line.time[0] + 1, ...line.time.slice(1)].join(",");
+  to.size = 6;
+  const move = () => execute({ ...line, to: timeOf(to.value) });
+  form.addEventListener("submit", (event) => { event.preventDefault(); move(); });
+  form.append(button("release", () => execute(line)), button("move to", move), field("time", to));
+  return form;
 }
 
 function explain(it) {
   if (!it.ask) return say(it.refused, true);
-  Object.assign(chosen, { q: it.ask.q, at: it.ask.at, time: it.ask.time, before: true });
+  Object.assign(chosen, { q: it.ask.q, at: it.ask.at, time: it.ask.time, before: Boolean(it.ask.before) });
   chosen.place = about.places.findIndex((place) => place.name === it.ask.at);
   return inTurn(askWhy);
 }
@@ -368,15 +380,23 @@ function showFeed() {
   values.placeholder = "values, as 2 3";
   values.value = kept.values;
   values.addEventListener("input", () => { form.dataset.values = values.value; });
-  const ends = ["next", "stay", "close"];
-  const next = select(["then the next epoch", "then stay", "then close it"], ends.indexOf(kept.next), (at) => { form.dataset.next = ends[at]; });
+  const ends = ["next", "to", "stay", "close"];
+  const texts = ["then the next epoch", "then epoch", "then stay", "then close it"];
+  const to = made("input");
+  to.type = "number";
+  to.min = 1;
+  to.value = form.dataset.to || inputs[kept.at].epoch + 2;
+  to.setAttribute("aria-label", "epoch");
+  to.addEventListener("input", () => { form.dataset.to = to.value; });
+  to.hidden = kept.next !== "to";
+  const next = select(texts, ends.indexOf(kept.next), (at) => { form.dataset.next = ends[at]; to.hidden = ends[at] !== "to"; });
   const press = button("feed", () => {
-    const it = inputs[which.selectedIndex];
+    const it = inputs[which.selectedIndex], end = ends[next.selectedIndex];
     const given = values.value.split(/[\s,]+/).filter(Boolean).map(Number);
-    form.dataset.values = "";
-    execute({ do: "feed", p: it.p, vertex: it.vertex, values: given, next: ends[next.selectedIndex] });
+    form.dataset.values = form.dataset.to = "";
+    execute({ do: "feed", p: it.p, vertex: it.vertex, values: given, next: end === "to" ? { to: Number(to.value) } : end });
   });
-  return form.replaceChildren(which, values, next, press);
+  return form.replaceChildren(which, values, next, to, press);
 }
 
 const whenForm = { kind: "passed", negated: false };
@@ -440,13 +460,33 @@ function limit() {
   return Math.max(0, Math.min(100000, Number(by("limit").value) || 0));
 }
 
+// A run of the processors that are chosen, or of all if none is.
+function running(count) {
+  const only = [...onlyChosen].sort((one, other) => one - other);
+  return { do: "run", limit: count, ...(only.length ? { only } : {}) };
+}
+
+function showOnly() {
+  if (about.processors === 1) return;
+  by("only").append("only", ...processors().map((name, p) => {
+    const it = button(`${p}`, () => {
+      if (!onlyChosen.delete(p)) onlyChosen.add(p);
+      it.setAttribute("aria-pressed", onlyChosen.has(p));
+    });
+    it.title = `next step and run execute steps of ${name}; of all processors if none is chosen`;
+    it.setAttribute("aria-label", `only ${name}`);
+    it.setAttribute("aria-pressed", false);
+    return it;
+  }));
+}
+
 const ACTIONS = {
   back: () => inTurn(() => command({ do: "back" })),
   redo: () => inTurn(() => command({ do: "redo" })),
   first: () => jump(0),
   last: () => jump(picture.kept),
-  next: () => execute({ do: "run", limit: 1 }),
-  run: () => execute({ do: "run", limit: limit() }),
+  next: () => execute(running(1)),
+  run: () => execute(running(limit())),
   save,
 };
 for (const [id, action] of Object.entries(ACTIONS)) by(id).addEventListener("click", action);
@@ -470,6 +510,7 @@ beats.addEventListener("message", (event) => {
   if (picture && now !== revision) inTurn(refresh);
   return undefined;
 });
+showOnly();
 inTurn(async () => {
   await refresh();
   await askWhy();

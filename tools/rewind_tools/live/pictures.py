@@ -1,6 +1,6 @@
 """What the page shows of a session at its cursor, all of it from the program's own replies."""
 from rewind_tools.showing.states import shown_state
-from rewind_tools.telling.commands import FIRM, at, command_words, condition
+from rewind_tools.telling.commands import FIRM, at, command_words, condition, processor_of
 from rewind_tools.telling.effects import effect_words
 from rewind_tools.telling.reasons import reason_words
 
@@ -9,12 +9,16 @@ IN_SIGHT, MOST_CANDIDATES = 60, 200
 MOST_TURNS = 1000
 
 
+STAYS = "it stays until it is released: a hold is never notified, and no run releases it"
+
+
+def held_words(step):
+    """The capability of which a step is the notice."""
+    return f"processor {step['p']} holds a capability at {at(step['vertex'], step['time'])}"
+
+
 def plain(text):
     return text.replace(FIRM, " ")
-
-
-def processor_of(step):
-    return step["to"] if step["do"] == "receive" else step["p"]
 
 
 class Pictures:
@@ -22,7 +26,7 @@ class Pictures:
 
     def __init__(self, session, teller):
         self.session, self.teller = session, teller
-        self.order = teller.graph.order
+        self.order, self.holds = teller.graph.order, teller.graph.holds
         self.steps = {}
 
     def forget_from(self, position):
@@ -37,7 +41,7 @@ class Pictures:
         return {
             "at": cursor,
             "kept": kept,
-            "state": shown_state(state["state"], self.order, [state, *fronts]),
+            "state": shown_state(state["state"], self.order, self.holds, [state, *fronts]),
             "inputs": self.inputs(state["state"]),
             "candidates": [self.candidate(it) for it in candidates["candidates"][:MOST_CANDIDATES]],
             "more": candidates.get("more", False) or len(candidates["candidates"]) > MOST_CANDIDATES,
@@ -55,16 +59,22 @@ class Pictures:
         ]
 
     def candidate(self, it):
+        """A step that a run tries; if it is refused, why. The notice of a hold vertex, which is never run,
+        stands for the capability, which the page offers to release."""
         step = it["step"]
+        is_held = step["do"] == "notice" and step["vertex"] in self.holds
         shown = {
             "line": step,
-            "kind": step["do"],
+            "kind": "release" if is_held else step["do"],
             "p": processor_of(step),
-            "words": plain(command_words(step)),
+            "words": plain(held_words(step) if is_held else command_words(step)),
         }
-        if "refused" in it:
-            why = plain(self.teller.refused(step, it["refused"], None)[0])
-            shown["refused"] = why
+        if is_held:
+            shown["release"] = {**step, "do": "release"}
+            shown["refused"] = STAYS
+            shown["ask"] = {"do": "why", "q": step["p"], "at": step["vertex"], "time": step["time"]}
+        elif "refused" in it:
+            shown["refused"] = plain(self.teller.refused(step, it["refused"], None)[0])
             shown["ask"] = self.question(step, it["refused"])
         return shown
 
@@ -85,7 +95,7 @@ class Pictures:
         }
         return {
             "step": plain(command_words(reply["step"])),
-            "words": [plain(it) for it in effect_words(changed)],
+            "words": [plain(it) for it in effect_words(changed, self.holds)],
             "places": sorted(self.order[it] for it in places),
         }
 
@@ -122,7 +132,11 @@ class Pictures:
         if "error" in reply:
             return {"error": reply["error"]}
         reasons = [
-            {"words": plain(reason_words(it)), "place": self.order[it["point"][0]], "at": at(*it["point"])}
+            {
+                "words": plain(reason_words(it, self.holds)),
+                "place": self.order[it["point"][0]],
+                "at": at(*it["point"]),
+            }
             for it in reply["reasons"]
         ]
         return {"passed": reply["passed"], "finished": reply["finished"], "reasons": reasons}

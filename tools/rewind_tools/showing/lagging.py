@@ -1,11 +1,11 @@
 """A run as a space-time diagram: a line a processor, its steps as points, and each change as an arrow from
 its broadcast to its receive."""
+from rewind_tools.script import STEPS
 from rewind_tools.showing.states import changes, number
 from rewind_tools.showing.svgs import box, dot, line, picture, text
-from rewind_tools.telling.commands import at
+from rewind_tools.telling.commands import at, processor_of, time_in
 from rewind_tools.telling.table import Points
 
-STEPS = ("feed", "take", "notice", "broadcast", "receive")
 LEFT, TOP, COLUMN, ROW = 150, 104, 158, 150
 
 
@@ -21,21 +21,29 @@ def steps_of(told):
     return steps
 
 
-def processor_of(value):
-    return value["to"] if value["do"] == "receive" else value["p"]
-
-
 def words_of(value):
     """What a step does, in few words."""
     kind = value["do"]
     if kind == "feed":
         fed = f"feeds {', '.join(map(str, value['values']))} into {value['vertex']}"
-        return [fed, {"close": "and closes it", "next": "and goes on", "stay": "and stays"}[value["next"]]]
+        return [fed, after_feed(value["next"])]
     if kind == "take":
         return [f"takes {value['value']}", f"off {at(value['edge'], value['time'])}"]
     if kind == "receive":
         return [f"receives from {value['from']}"]
-    return ["broadcasts"] if kind == "broadcast" else ["runs the notice", at(value["vertex"], value["time"])]
+    if kind == "broadcast":
+        return ["broadcasts"]
+    there = at(value["vertex"], value["time"])
+    if kind == "release":
+        return [f"moves {there}", f"to {time_in(value['to'])}"] if "to" in value else ["releases", there]
+    return ["runs the notice", there]
+
+
+def after_feed(after):
+    """Where the token goes after a feed."""
+    if isinstance(after, dict):
+        return f"and goes on to {after['to']}"
+    return {"close": "and closes it", "next": "and goes on", "stay": "and stays"}[after]
 
 
 def arrows_of(steps, before):

@@ -10,13 +10,15 @@ from rewind_tools.telling.table import Points
 # the script's lines name, and those at which a vertex waits for its notification. It asks more of the first
 # kind while that takes fewer seconds.
 MOST, MOST_OF_FEWER, SECONDS = 20_000, 20_000, 10
+# The words of lines that ask about a point, or wait at one.
+NAMING = ("passed", "why", "notice", "release")
 NONE = {"asked": "none", "told": []}
 
 
 def named_points(told):
     """The points that the script's own lines ask about, in their order, each once."""
     values = [it.line.value for it in told.entries if it.line and "error" not in it.reply]
-    asked = [it for it in values if isinstance(it, dict) and it.get("do") in ("passed", "why", "notice")]
+    asked = [it for it in values if isinstance(it, dict) and it.get("do") in NAMING]
     return list(dict.fromkeys((it.get("at", it.get("vertex")), tuple(it["time"])) for it in asked))
 
 
@@ -24,8 +26,8 @@ class Reasons:
     """Asks for the reasons at one state after the other, until as many queries are asked as a page may
     ask."""
 
-    def __init__(self, ask_all, order, named):
-        self.ask_all, self.order, self.named = ask_all, order, named
+    def __init__(self, ask_all, order, holds, named):
+        self.ask_all, self.order, self.holds, self.named = ask_all, order, holds, named
         self.left = {"all": MOST, "fewer": MOST_OF_FEWER}
         self.spent = 0.0
 
@@ -56,6 +58,10 @@ class Reasons:
             for q in range(count)
             for place, time in points
         ]
-        answers = [(it["finished"], list(map(reason_words, it["reasons"]))) for it in self.ask_all(queries)]
+        replies = self.ask_all(queries)
+        answers = [(it["finished"], self.words(it["reasons"])) for it in replies]
         names = [at(*it) for it in points]
         return [dict(zip(names, answers[q * len(points) :])) for q in range(count)]
+
+    def words(self, reasons):
+        return [reason_words(it, self.holds) for it in reasons]

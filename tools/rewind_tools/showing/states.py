@@ -39,9 +39,9 @@ def added(counts, time, count):
     counts[tuple(time)] = counts.get(tuple(time), 0) + count
 
 
-def place_counts(state, order):
-    """What stands at each place over all processors: records, tokens or requests, and what a sink has
-    counted."""
+def place_counts(state, order, holds):
+    """What stands at each place over all processors: records, tokens, requests or held capabilities, and
+    what a sink has counted."""
     records, requests, tokens, sinks = ({} for _ in range(4))
     for it in state["processors"]:
         for place, time, _, count in it["records"]:
@@ -56,7 +56,8 @@ def place_counts(state, order):
     for kind, counts in (("record", records), ("request", requests), ("token", tokens)):
         for place, by_time in counts.items():
             total, there, lines = times(by_time)
-            shown[order[place]] = {"n": total, "of": kind + "s" * (total != "1"), "when": there, "by": lines}
+            of = "held" if place in holds else kind + "s" * (total != "1")
+            shown[order[place]] = {"n": total, "of": of, "when": there, "by": lines}
     for place, count in sinks.items():
         shown[order[place]] = {"n": str(count), "of": "counted", "when": "", "by": []}
     return shown
@@ -86,8 +87,8 @@ def point_rows(state, order, fronts):
     return rows
 
 
-def holdings(processor):
-    """What one processor holds, in words, by kind."""
+def holdings(processor, holds):
+    """What one processor holds, in words, by kind; a request at a hold vertex is a capability."""
 
     def times_of(count):
         return f" \u00d7{count}" if count > 1 else ""
@@ -98,7 +99,8 @@ def holdings(processor):
             f"{value} on {at(place, time)}{times_of(count)}"
             for place, time, value, count in processor["records"]
         ],
-        "requests": [at(*it) for it in processor["requests"]],
+        "requests": [at(*it) for it in processor["requests"] if it[0] not in holds],
+        "capabilities": [at(*it) for it in processor["requests"] if it[0] in holds],
         "kept by vertices": [
             f"{at(place, time)}: {item}{times_of(count)}" for place, time, item, count in processor["items"]
         ],
@@ -108,7 +110,7 @@ def holdings(processor):
     }
 
 
-def shown_state(state, order, answers):
+def shown_state(state, order, holds, answers):
     """A state as a page shows it; the frontiers come from the replies to the queries after it."""
     told = [it for it in answers if "state" not in it]
     fronts = {
@@ -123,10 +125,10 @@ def shown_state(state, order, answers):
         if queue
     ]
     return {
-        "places": place_counts(state, order),
+        "places": place_counts(state, order, holds),
         "points": point_rows(state, order, fronts),
         "queues": queues,
-        "processors": [holdings(it) for it in state["processors"]],
+        "processors": [holdings(it, holds) for it in state["processors"]],
     }
 
 

@@ -12,6 +12,7 @@ from rewind_tools.showing.reasons import NONE, Reasons, named_points
 from rewind_tools.showing.states import breaks_of, order_of, queries_of, shown_state
 from rewind_tools.telling import faults
 from rewind_tools.telling.commands import at, command_words, counted
+from rewind_tools.telling.names import holds_of
 from rewind_tools.telling.table import Points
 
 # How many steps of runs a page shows at most, those that end a run aside, and how long a line or a reply is.
@@ -26,9 +27,9 @@ def is_same(reply, other):
 class Copy:
     """The copy of a script, which is asked at each position what the script's own lines do not ask."""
 
-    def __init__(self, told, words, order):
+    def __init__(self, told, words, order, holds):
         self.session = Session(told.graph, without_clients(words))
-        self.reasons = Reasons(self.session.ask_all, order, named_points(told))
+        self.reasons = Reasons(self.session.ask_all, order, holds, named_points(told))
         self.steps_left = MOST_STEPS
         self.is_there = "locations" in self.session.started
 
@@ -85,8 +86,8 @@ class Copy:
 class States:
     """The states of a page, each once, and its points in the order of listing."""
 
-    def __init__(self, order, copy):
-        self.order, self.copy = order, copy
+    def __init__(self, order, holds, copy):
+        self.order, self.holds, self.copy = order, holds, copy
         self.packer, self.numbers, self.places = Packer(), {}, {}
         for place, time in copy.reasons.named if copy else []:
             self.places[at(place, time)] = order[place], time
@@ -101,7 +102,7 @@ class States:
             points = Points(state, self.order)
             self.places.update((at(*it), points.place(it)) for it in points.all())
             why = self.copy.why(state) if self.copy else NONE
-            self.numbers[key] = self.packer.add(shown_state(state, self.order, answers), why)
+            self.numbers[key] = self.packer.add(shown_state(state, self.order, self.holds, answers), why)
         return self.numbers[key]
 
     def tables(self):
@@ -153,9 +154,9 @@ class Positions:
     def __init__(self, told, script, words):
         self.teller, self.queries = faults.teller_of(told, script), list(map(json.loads, queries_of(words)))
         self.has_states = any(it.state is not None for it in told.entries)
-        order = order_of(told.graph) if self.has_states else {}
-        self.copy = Copy(told, words, order) if self.has_states else None
-        self.states, self.all, self.breaks = States(order, self.copy), [], []
+        order, holds = (order_of(told.graph), holds_of(told.graph)) if self.has_states else ({}, set())
+        self.copy = Copy(told, words, order, holds) if self.has_states else None
+        self.states, self.all, self.breaks = States(order, holds, self.copy), [], []
         self.here, self.before = {"at": 0, "kept": 0}, None
 
     def add(self, entry):

@@ -1,7 +1,7 @@
 """The program's replies in words, with what a script's earlier replies told: the cursor, the kept steps, the
 breakpoints."""
-from rewind_tools.script import literals_in
-from rewind_tools.telling.commands import at, command_words, condition, counted, some_of, time_in
+from rewind_tools.script import STEPS, literals_in
+from rewind_tools.telling.commands import at, command_words, condition, counted, processors, some_of, time_in
 from rewind_tools.telling.effects import effect_words
 from rewind_tools.telling.forms import listed
 from rewind_tools.telling.reasons import why_words
@@ -38,7 +38,7 @@ class Teller:
     def ran(self, value, reply):
         stop = reply["stop"]
         if stop == "idle":
-            why = "nothing is enabled"
+            why = "nothing is enabled" + (f" on {processors(value['only'])}" if "only" in value else "")
         elif stop == "limit":
             why = "that is the limit"
         else:
@@ -70,6 +70,7 @@ class Teller:
         """Which of the processors that an object names is none, and which there are; an empty text if all
         are there."""
         asked = [value[key] for key in ("p", "q", "from", "to") if isinstance(value.get(key), int)]
+        asked += value.get("only", [])
         absent = sorted({it for it in asked if self.processors is not None and it >= self.processors})
         there = (
             "is processor 0 alone"
@@ -119,7 +120,25 @@ def cursor(reply):
 
 def not_yet(teller, value, reply, before):
     there = at(value["vertex"], value["time"])
-    return f"processor {value['p']}'s view has {at(*reply['point'])} strictly before {there}"
+    said = f"processor {value['p']}'s view has {at(*reply['point'])} strictly before {there}"
+    is_held = value["vertex"] in teller.graph.holds
+    return f"{said}; {value['vertex']} is a hold, so it is never notified" if is_held else said
+
+
+def not_notified(teller, value, reply, before):
+    return f"{value['vertex']} is a hold: it is never notified, and holds its capability until a release"
+
+
+def not_later(teller, value, reply, before):
+    """A capability or a token that would not move to a later time."""
+    if value["do"] == "release":
+        return f"{time_in(value['to'])} is not strictly after {time_in(value['time'])}"
+    to = value["next"]["to"]
+    if before is None:
+        return f"epoch {to} is not above the token's"
+    tokens = before["processors"][value["p"]]["tokens"]
+    epoch = next(epoch for vertex, epoch in tokens if vertex == value["vertex"])
+    return f"epoch {to} is not above the token's, which is {epoch}"
 
 
 def inadmissible(teller, value, reply, before):
@@ -148,6 +167,8 @@ def no_record(teller, value, reply, before):
 
 
 def no_request(teller, value, reply, before):
+    if value["do"] == "release":
+        return no_capability(teller, value, before)
     said = (
         f"on processor {value['p']} {value['vertex']} has not asked for a notice at {time_in(value['time'])}"
     )
@@ -155,6 +176,21 @@ def no_request(teller, value, reply, before):
         return said
     asked = before["processors"][value["p"]]["requests"]
     return f"{said}; asked for there: {some_of(at(*it) for it in asked)}"
+
+
+def no_capability(teller, value, before):
+    """What is held instead: by this vertex of the processor, and at this time on other processors."""
+    name, holds = value["vertex"], teller.graph.holds
+    if name not in holds:
+        return f"{name} is {teller.graph.kind(name)} and no hold; holds: {some_of(sorted(holds))}"
+    said = f"processor {value['p']} holds no capability at {at(name, value['time'])}"
+    if before is None:
+        return said
+    requests = [it["requests"] for it in before["processors"]]
+    own = [at(*it) for it in requests[value["p"]] if it[0] == name]
+    others = [p for p, it in enumerate(requests) if [name, value["time"]] in it]
+    elsewhere = f"; {processors(others)} hold{'s' * (len(others) == 1)} one there" if others else ""
+    return f"{said}; at {name} it holds: {some_of(own)}{elsewhere}"
 
 
 def queue_empty(teller, value, reply, before):
@@ -192,6 +228,8 @@ REFUSALS = {
     "NoRecord": no_record,
     "NoRequest": no_request,
     "NotYet": not_yet,
+    "NotNotified": not_notified,
+    "NotLater": not_later,
     "CounterFull": lambda teller, value, reply, before: (
         f"{teller.graph.worker(value)} would raise a counter past 4294967295"
     ),
@@ -262,7 +300,7 @@ def candidate(teller, it):
 
 def effect(teller, value, reply):
     """The step, and each place that it changed."""
-    return [command_words(reply["step"]), *effect_words(reply["changed"])]
+    return [command_words(reply["step"]), *effect_words(reply["changed"], teller.graph.holds)]
 
 
 def turns(teller, value, reply):
@@ -302,7 +340,7 @@ def exported(teller, value, reply):
 ANSWERS = {
     **{
         word: Teller.moved
-        for word in ("feed", "take", "notice", "broadcast", "receive", "back", "redo", "jump")
+        for word in (*STEPS, "back", "redo", "jump")
     },
     "run": Teller.ran,
     "break": lambda teller, value, reply: [f"done: it is breakpoint {reply['id']}"],
@@ -317,9 +355,7 @@ ANSWERS = {
         "at none" if reply["found"] is None else f"at position {reply['found']}"
     ],
     "export": exported,
-    "why": lambda teller, value, reply: why_words(
-        value["q"], value["at"], value["time"], reply, value.get("before", False)
-    ),
+    "why": lambda teller, value, reply: why_words(value, reply, teller.graph.holds),
     "changes": changed,
     "step": lambda teller, value, reply: [command_words(reply["step"])],
     "candidates": candidates,

@@ -62,7 +62,9 @@ SUMS = [
 ]
 SUMS += [do("take", p=0, edge="as", time=[0], value=3), do("run", limit=2)]
 TOP = 2**63 - 1
-V2, V3, V4 = (json.dumps({"version": version}, separators=(",", ":")) for version in (2, 3, 4))
+V2, V3, V4, V5 = (json.dumps({"version": version}, separators=(",", ":")) for version in (2, 3, 4, 5))
+H = vertex("h", "hold")
+HELD = json.dumps(graph([A, H, Z], [edge("ah", "a", "h"), edge("hz", "h", "z")]))
 
 
 def nest(depth):
@@ -279,8 +281,8 @@ TOLD = {
         [LINE, *map(do, ("help", "quit", "Continue", "next", "step", "undo")), '"help"', '"run"'], 0, [
         (2, '"help" is no command or query; the commands of version 1 are feed, take, notice, broadcast, '
             'receive, back, redo, jump, run,'),
-        (2, "the queries are state, count, before, view, frontier, passed, search version 4 adds export, "
-            "why, changes, step, candidates, effect, turns"),
+        (2, "the queries are state, count, before, view, frontier, passed, search version 5 adds release, "
+            "export, why, changes, step, candidates, effect, turns"),
         (3, '"quit" is no command or query; the end of the input ends the run'),
         (4, '{"do":"run","limit":1000} executes up to 1,000'),
         (5, '{"do":"run","limit":1} executes the next step, {"do":"redo"} a kept step again'),
@@ -292,8 +294,8 @@ TOLD = {
     ]),
     "the same of version 3": ([],
         [V3, LINE, do("help"), do("step"), do("step", at=7), "step 4", "why 1 z [2]", "c"], 0, [
-        (3, "frontier, passed, search, export, why, changes, step version 4 adds candidates, effect, turns; "
-            "its first line is"),
+        (3, "frontier, passed, search, export, why, changes, step version 5 adds release, candidates, "
+            "effect, turns; its first line is"),
         (3, "docs/SCRIPT.md shows the form of each"), (4, 'right is {"do":"step","to":0}'),
         (4, '{"do":"run","limit":1} executes the next step'), (5, 'right is {"do":"step","to":7}'),
         (6, 'right is {"do":"step","to":4}'),
@@ -316,7 +318,8 @@ TOLD = {
     "clients' words": (["--clients", "2"], [*CLIENTS, "back"], 2,
         [(4, 'the line is not JSON; right is {"client":0,"do":"back"}')]),
     "clients' help": (["--clients", "2"], [*CLIENTS, '{"client":1,"do":"help"}'], 2, [
-        (4, "run, break, unbreak several clients have no queries"), (4, 'as {"client":0,"do":"back"}'),
+        (4, "run, break, unbreak several clients have no queries version 5 adds release; its first line is"),
+        (4, 'as {"client":0,"do":"back"}'),
     ]),
     "kinds": ([], [
         LINE, do("view", q="0"), '{"do":"view","q":1.0}', do("view", q=-1), do("view", q=2**32),
@@ -447,7 +450,7 @@ TOLD = {
         (5, "before the graph alone"),
     ]),
     "another version": ([], ['{"version":9}', LINE], 2,
-        [(1, 'faulty, 40 Shape: a version line is {"version":N} alone, N from 2 to 4')]),
+        [(1, 'faulty, 40 Shape: a version line is {"version":N} alone, N from 2 to 5')]),
     "a version twice": ([], [V2, V2, LINE], 2,
         [(1, "of version 2"), (2, "faulty, 40 Shape: a version line is")]),
     "a version alone": ([], [V3], 0, [
@@ -548,6 +551,123 @@ TOLD = {
             '{"do":"frontier","q":0}'),
         (5, 'the key "before" of why came with version 4 right is {"do":"why","q":0,"at":"z","time":[0]}'),
         (6, '"turns" came with version 4'), (7, 'has the key "view", which came with version 4'),
+    ]),
+    # version 5
+    "a held capability": ([], [
+        V5, HELD, FEED, do("take", p=0, edge="ah", time=[0], value=5), do("effect", to=2),
+        do("notice", p=0, vertex="h", time=[0]), do("run", limit=9), do("candidates"),
+        do("why", q=0, at="z", time=[0]), do("notice", p=0, vertex="h", time=[0]),
+        do("release", p=0, vertex="h", time=[0], to=[0]), do("release", p=0, vertex="h", time=[0], to=[3]),
+        do("effect", to=6), do("release", p=0, vertex="h", time=[0]),
+        do("release", p=0, vertex="a", time=[0]),
+        do("release", p=1, vertex="h", time=[0]), do("release", p=0, vertex="h", time=[3]),
+        do("effect", to=7), do("release", p=0, vertex="h", time=[3]),
+    ], 0, [
+        (2, "vertices: a (input), h (hold), z (sink)"),
+        (5, "processor 0 holds a capability at h (0)"),
+        (6, "refused, 10 NotYet: processor 0's view has a (0) strictly before h (0); h is a hold, so it is "
+            "never notified"),
+        (7, "left: processor 0, capability at h (0): 53 NotNotified: h is a hold: it is never notified, and "
+            "holds its capability until a release"),
+        (8, "0 steps of 1 may be executed processor 0 runs the notice of h (0): refused, 53 NotNotified: h "
+            "is a hold"),
+        (9, "it still counts 1 at h (0); held there: the capability of processor 0 it is not finished"),
+        (10, "refused, 53 NotNotified: h is a hold: it is never notified"),
+        (11, "processor 0 moves the capability that it holds at h (0) to (0)"),
+        (11, "refused, 54 NotLater: (0) is not strictly after (0)"),
+        (12, "the cursor is at 6 of 6 kept steps"), (13, "processor 0 holds a capability at h (3)"),
+        (13, "processor 0 no longer holds a capability at h (0)"),
+        (14, "processor 0 releases the capability that it holds at h (0)"),
+        (14, "refused, 9 NoRequest: processor 0 holds no capability at h (0); at h it holds: h (3)"),
+        (15, "refused, 9 NoRequest: a is a vertex (input) and no hold; holds: h"),
+        (16, "there is no processor 1"), (17, "the cursor is at 7 of 7 kept steps"),
+        (18, "processor 0 no longer holds a capability at h (3)"), (19, "at h it holds: nothing"),
+    ]),
+    "capabilities of several processors": (["--processors", "3"], [
+        V5, HELD, do("feed", p=0, vertex="a", values=[5], next="close"),
+        do("feed", p=2, vertex="a", values=[5], next="close"),
+        do("feed", p=1, vertex="a", values=[], next="close"),
+        do("run", limit=99), do("why", q=1, at="h", time=[0]), do("release", p=1, vertex="h", time=[0]),
+    ], 0, [
+        (6, "left: processor 0, capability at h (0): 53 NotNotified"),
+        (6, "left: processor 2, capability at h (0): 53 NotNotified"),
+        (7, "it still counts 2 at h (0); held there: the capabilities of processors 0 and 2"),
+        (8, "at h it holds: nothing; processors 0 and 2 hold one there"),
+    ]),
+    "feeds to an epoch": ([], [
+        V5, LINE, do("feed", p=0, vertex="a", values=[5], next={"to": 1000}),
+        do("feed", p=0, vertex="a", values=[], next={"to": 1000}), do("effect", to=1),
+        do("feed", p=0, vertex="a", values=[], next={"to": -1}),
+        do("feed", p=0, vertex="a", values=[], next={"too": 5}),
+        do("feed", p=0, vertex="a", values=[], next={"to": "5"}),
+        do("feed", p=0, vertex="a", values=[], next=5),
+    ], 0, [
+        (3, "processor 0 feeds 5 into a and goes on to epoch 1000"),
+        (4, "refused, 54 NotLater: epoch 1000 is not above the token's, which is 1000"),
+        (5, "processor 0's token of a goes from epoch 0 to 1000"),
+        (6, '"next":{"to":-1} has "to":-1, which is below 0; right is "next", "close", "stay" or {"to":1}'),
+        (7, '"next":{"too":5} is an object, and is to have the key "to" alone'),
+        (8, 'has "to":"5", which is a text'), (9, '"next":5 is a number; right is "next", "close"'),
+    ]),
+    "runs of some processors": (["--processors", "3"], [
+        V5, EXCHANGE, do("feed", p=0, vertex="a", values=[3, 4], next="close"),
+        do("run", limit=99, only=[0]),
+        do("run", limit=99, only=[2, 0, 0]), do("run", limit=99, only=[2]), do("run", limit=9, only=[3, 1]),
+        do("run", limit=9, only=[]), do("run", limit=9, only=[0] * 17), do("run", limit=9, only=[-1]),
+        do("run", limit=9, only=1),
+    ], 0, [
+        (4, "run processor 0 alone, at most 99 steps"), (4, "nothing is enabled on processor 0"),
+        (4, "left: nothing that processor 0 could move left: enabled steps of processors 1 and 2, which did "
+            "not run"),
+        (5, "run processors 0 and 2 alone"), (5, "nothing is enabled on processors 0 and 2"),
+        (6, "ran 0 steps, then stopped: nothing is enabled on processor 2"),
+        (6, "left: enabled steps of processor 1, which did not run"),
+        (7, "refused, 1 NoProcessor: there is no processor 3; there are the processors 0 to 2"),
+        (8, '"only":[] has 0 items; right is a list of 1 to 16 processors\' numbers'),
+        (9, "has 17 items"), (10, "has the item -1 at 0, which is below 0"), (11, '"only":1 is a number'),
+    ]),
+    "words of version 5": ([], [
+        V5, HELD, do("relaese", p=0, vertex="h", time=[0]), "release 0 h [0] [3]", do("release", p=0),
+        do("release", p=0, vertex="hh", time=[0]), do("release", p=0, vertex="h", time=[0, 0], to=[1, 0]),
+        do("release", p=0, vertex="h", time=[0], too=[3]), "release", do("run", limit=7, onyl=[0]),
+        do("downgrade", p=0, vertex="h", time=[0]), "drop", "advance_to 5",
+    ], 0, [
+        (3, '"relaese" is no command or query; the nearest is "release" right is {"do":"release","p":0,'
+            '"vertex":"h","time":[0]}'),
+        (4, 'right is {"do":"release","p":0,"vertex":"h","time":[0],"to":[3]}'),
+        (5, 'the key "vertex" is missing'), (5, 'the key "time" is missing'),
+        (6, '"hh" is no name of the graph; wanted is a vertex; the nearest is "h"'),
+        (7, 'the time [0,0] has 2 numbers; at "h"'), (7, "the time [1,0] has 2 numbers"),
+        (8, 'the key "too" is to be "to"'), (9, 'right is {"do":"release","p":0,"vertex":"a","time":[0]}'),
+        (10, 'the key "onyl" is to be "only" right is {"do":"run","limit":7,"only":[0]}'),
+        (11, '"downgrade" is no command or query; {"do":"release","p":0,"vertex":"h","time":[0],"to":[1]} '
+            'moves a held capability to a later time'),
+        (12, 'the line is not JSON, and "drop" is no command or query; {"do":"release","p":0,"vertex":"h",'),
+        (13, '{"do":"feed","p":0,"vertex":"a","values":[],"next":{"to":5}} advances an input to epoch 5'),
+    ]),
+    "forms of version 5 in version 4": ([], [
+        V4, LINE, do("release", p=0, vertex="a", time=[0]), do("run", limit=5, only=[0]),
+        do("feed", p=0, vertex="a", values=[], next={"to": 5}),
+    ], 0, [
+        (3, '"release" came with version 5, and the script is of version 4; its first line is to be '
+            '{"version":5}'),
+        (4, 'the key "only" is too many the key "only" of run came with version 5 right is '
+            '{"do":"run","limit":5}'),
+        (5, '"next":{"to":5} came with version 5; right is "next", "close" or "stay"'),
+    ]),
+    "a hold in version 4": ([], [V4, HELD], 2, [
+        (2, 'faulty, 40 Shape: vertices[1] (h): "op":"hold" is none of these'),
+        (2, 'vertices[1] (h): the op "hold" came with version 5, and the script is of version 4; its first '
+            'line is to be {"version":5}'),
+    ]),
+    "a misspelled hold": ([], [V5, HELD.replace("hold", "hodl")], 2, [
+        (2, 'vertices[1] (h): the nearest op is "hold"'),
+    ]),
+    "a hold with a number": ([], [V5, HELD.replace('"hold"', '"hold", "k": 1')], 2, [
+        (2, 'vertices[1] (h): the key "k" is too many'),
+    ]),
+    "a hold's second port": ([], [V5, HELD.replace('"from": "h", "port": 0', '"from": "h", "port": 1')], 2, [
+        (2, 'faulty, 43 BadPort: the edge "hz" leaves the hold "h" on port 1, which has port 0 alone'),
     ]),
     # several clients
     "clients": (["--clients", "2"], CLIENTS, 0, [

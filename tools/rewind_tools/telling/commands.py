@@ -9,6 +9,11 @@ FIRM = "\N{NO-BREAK SPACE}"
 NEXT = {"next": "goes on to the next epoch", "close": "gives up its token", "stay": "stays at its epoch"}
 
 
+def next_words(value):
+    """Where the token goes after a feed."""
+    return f"goes on to epoch {value['to']}" if isinstance(value, dict) else NEXT[value]
+
+
 def time_in(time):
     return "(" + ",".join(map(str, time)) + ")"
 
@@ -30,8 +35,34 @@ def some_of(items):
     return ", ".join(items[:MOST]) + f", .. ({len(items)} in all)"
 
 
+def processors(numbers):
+    """Some processors by their numbers, each once."""
+    numbers = sorted(set(numbers))
+    return f"processor{'s' * (len(numbers) > 1)} {listed(map(str, numbers))}"
+
+
+def processor_of(step):
+    """The processor that executes a step."""
+    return step["to"] if step["do"] == "receive" else step["p"]
+
+
 def feed(it):
-    return f"processor {it['p']} feeds {some_of(it['values'])} into {it['vertex']} and {NEXT[it['next']]}"
+    return (
+        f"processor {it['p']} feeds {some_of(it['values'])} into {it['vertex']} and {next_words(it['next'])}"
+    )
+
+
+def release(it):
+    held = f"the capability that it holds at {at(it['vertex'], it['time'])}"
+    if "to" not in it:
+        return f"processor {it['p']} releases {held}"
+    return f"processor {it['p']} moves {held} to {time_in(it['to'])}"
+
+
+def run(it):
+    """A run, of all processors or of those that are listed, each once."""
+    alone = f" {processors(it['only'])} alone" if "only" in it else ""
+    return f"run{alone}, at most {counted(it['limit'], 'step')}"
 
 
 def broadcast(it):
@@ -98,6 +129,7 @@ WORDS = {
     "feed": feed,
     "take": lambda it: f"processor {it['p']} takes {it['value']} off {at(it['edge'], it['time'])}",
     "notice": lambda it: f"processor {it['p']} runs the notice of {at(it['vertex'], it['time'])}",
+    "release": release,
     "broadcast": broadcast,
     "receive": lambda it: (
         f"processor {it['to']} receives the first change on its way from processor {it['from']}"
@@ -105,7 +137,7 @@ WORDS = {
     "back": lambda it: "back over the last step",
     "redo": lambda it: "make the kept step behind the cursor again",
     "jump": lambda it: f"jump to position {it['to']}",
-    "run": lambda it: f"run, at most {counted(it['limit'], 'step')}",
+    "run": run,
     "break": lambda it: f"set a breakpoint: {condition(it['when'])}",
     "unbreak": lambda it: f"take breakpoint {it['id']} out",
     "state": lambda it: "what is the state?",

@@ -1,6 +1,8 @@
 """What a step changed, in words: each entry of the reply to the query 'effect'."""
 from rewind_tools.telling.commands import at, counted, time_in
 
+NO_HOLDS = frozenset()
+
 
 def turned(old, new):
     return f"from {old} to {new}"
@@ -10,6 +12,13 @@ def token(it):
     p, vertex, old, new = it
     given_up = f"processor {p} gives up its token of {vertex}, which was at epoch {old}"
     return given_up if new is None else f"processor {p}'s token of {vertex} goes from epoch {old} to {new}"
+
+
+def capability(it):
+    """A request at a hold vertex."""
+    p, vertex, time, _, new = it
+    holds = "holds a capability" if new else "no longer holds a capability"
+    return f"processor {p} {holds} at {at(vertex, time)}"
 
 
 def request(it):
@@ -52,7 +61,9 @@ KINDS = {
 }
 
 
-def effect_words(changed):
-    """A sentence for each place that the step changed, the tokens, records and requests first."""
-    said = [words(it) for kind, words in KINDS.items() for it in changed[kind]]
+def effect_words(changed, holds=NO_HOLDS):
+    """A sentence for each place that the step changed, the tokens, records and requests first; 'holds' has
+    the names of the hold vertices."""
+    kinds = {**KINDS, "requests": lambda it: capability(it) if it[1] in holds else request(it)}
+    said = [words(it) for kind, words in kinds.items() for it in changed[kind]]
     return said or ["nothing"]

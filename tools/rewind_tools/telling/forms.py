@@ -10,6 +10,9 @@ from rewind_tools.script import (
     LAST,
     LITERALS_SINCE,
     MOST_LITERALS,
+    MOST_ONLY,
+    NEXT_TO_SINCE,
+    NEXTS,
     OPTIONAL,
     SINCE,
     atoms_of,
@@ -17,7 +20,7 @@ from rewind_tools.script import (
     words_of,
 )
 from rewind_tools.telling import habits, values
-from rewind_tools.telling.values import shown
+from rewind_tools.telling.values import is_only, shown
 
 SMALL, WHOLE, SIGNED = (values.number(it) for it in (values.SMALL, values.WHOLE, values.SIGNED))
 VERTEX = ("the name of a vertex, a text", values.text)
@@ -27,7 +30,8 @@ TIME = ("a list of the epoch and the loop counters, each from 0 to 4294967295", 
 POINT = ('a location and a time, as ["a",[0]]', values.point)
 POINTS = ('a list of locations and times, as [["a",[0]]]', values.list_of(values.point))
 VALUES = ("a list of whole numbers of 64 bits, with their sign", values.list_of(SIGNED[1]))
-NEXT = values.one_of("next", "close", "stay")
+NEXT, NEXT_OR_TO = values.one_of_before_to(NEXT_TO_SINCE, *NEXTS), values.one_of_or_to(*NEXTS)
+PROCESSORS = (f"a list of 1 to {MOST_ONLY} processors' numbers", values.processors(MOST_ONLY))
 WHEN = ("a condition", lambda value: None)
 FLAG = ("true or false", values.flag)
 SEVERAL = ("all", "any")
@@ -37,6 +41,7 @@ SAMPLES = {
     id(SMALL): "0", id(WHOLE): "0", id(SIGNED): "5", id(VERTEX): '"a"', id(EDGE): '"am"', id(PLACE): '"a"',
     id(TIME): "[0]",
     id(POINT): '["a",[0]]', id(POINTS): '[["a",[0]]]', id(VALUES): "[5]", id(NEXT): '"next"',
+    id(NEXT_OR_TO): '"next"', id(PROCESSORS): "[0]",
     id(WHEN): '{"passed":{"q":0,"at":"a","time":[0]}}', id(FLAG): "true",
 }  # fmt: skip
 # The same under a key for which the sample of its kind says little.
@@ -44,7 +49,7 @@ KEY_SAMPLES = {"limit": "1000", "workers": "1"}
 KINDS = {
     "small": SMALL, "whole": WHOLE, "signed": SIGNED, "vertex": VERTEX, "edge": EDGE, "place": PLACE,
     "time": TIME, "point": POINT,
-    "points": POINTS, "values": VALUES, "next": NEXT, "when": WHEN, "flag": FLAG,
+    "points": POINTS, "values": VALUES, "next": NEXT, "when": WHEN, "flag": FLAG, "processors": PROCESSORS,
 }  # fmt: skip
 
 
@@ -102,12 +107,15 @@ def kept_values(value, form):
 
 
 def meant_keys(value, form):
-    """The keys of an object that a form has not, each with the missing key that may be meant, or None."""
+    """The keys of an object that a form has not, each with the key that may be meant, or None: one that is
+    missing, or one that may be left out."""
     missing = missing_keys(value, form)
     others = [key for key in value if key not in form]
-    is_clear, meant = len(missing) == len(others) == 1, {}
+    if len(missing) == len(others) == 1:
+        return {others[0]: missing[0]}
+    meant, missing = {}, [key for key in form if key not in value]
     for key in others:
-        meant[key] = missing[0] if is_clear else nearest(key, missing)
+        meant[key] = nearest(key, missing)
         missing = [it for it in missing if it != meant[key]]
     return meant
 
@@ -135,11 +143,6 @@ def value_faults(value, form):
         if wrong:
             faults.append(f"{shown(key)}:{shown(value[key])} {wrong}; right is {words}")
     return faults
-
-
-def is_only(value, *names):
-    """Whether a value is an object with one of these names as its only key."""
-    return isinstance(value, dict) and len(value) == 1 and next(iter(value)) in names
 
 
 def when_faults(value, version):
@@ -233,15 +236,28 @@ def known_atom_shown(value, version):
     return atom_shown(known[0], inner if isinstance(inner, dict) else None)
 
 
+def kind_in(kind, version):
+    """What is said of a kind in a script of a version."""
+    return NEXT_OR_TO if kind is NEXT and version >= NEXT_TO_SINCE else kind
+
+
 def line_form(word, has_clients, version=LAST):
     """The form of a command or query with all that its line has in a script of a version."""
-    form = {key: FORMS[word][key] for key in form_of(word, version)}
+    form = {key: kind_in(FORMS[word][key], version) for key in form_of(word, version)}
     return {**({"client": WHOLE} if has_clients else {}), "do": VERTEX, **form}
 
 
 def line_shown(word, value=None, has_clients=False, version=LAST):
     """The line of a command or query as it may be written, with what is right in a value."""
     return form_shown(line_form(word, has_clients, version), {**(value or {}), "do": word}, version)
+
+
+def came_with(what, since, version):
+    """That something came with a later version than the script's, and the first line that it needs."""
+    return (
+        f"{what} came with version {since}, and the script is of version {version}; its first line is to be"
+        f' {{"version":{since}}}'
+    )
 
 
 def word_faults(value, has_clients, version):
@@ -263,11 +279,7 @@ def word_faults(value, has_clients, version):
         return []
     other = habits.instead(word, version, has_clients)
     if word in FORMS:
-        since = SINCE[word]
-        came = (
-            f"{shown(word)} came with version {since}, and the script is of version {version}; its first"
-            f' line is to be {{"version":{since}}}'
-        )
+        came = came_with(shown(word), SINCE[word], version)
         return [came, *(other if not FORMS[word].keys() & value.keys() else [])]
     if other:
         return [f"{shown(word)} is no command or query; {other[0]}", *other[1:]]

@@ -1,13 +1,11 @@
 """What is wrong with a graph that the program has refused, by the number of its answer: where in the line,
 and what is right."""
-from rewind_tools.script import LAST
+from rewind_tools.script import LAST, NUMBERED_OPS, OPS_SINCE, PLAIN_OPS, ops_of
 from rewind_tools.telling import habits, values
-from rewind_tools.telling.forms import keys_faults, listed, nearest, value_faults
+from rewind_tools.telling.forms import came_with, keys_faults, listed, nearest, value_faults
 from rewind_tools.telling.forms import SIGNED, SMALL
 from rewind_tools.telling.values import shown
 
-PLAIN = ("input", "ingress", "egress", "feedback", "sum", "distinct", "sink")
-NUMBERED = ("add", "mul", "below", "split")
 MOST = 64
 BEYOND = {"ingress": 1, "egress": -1}
 
@@ -23,9 +21,7 @@ def name_fault(value):
 
 NAME = ("a text of 1 to 32 bytes, each from ! to ~", name_fault)
 REFERRED = ("the name of a vertex, a text", values.text)
-OP = values.one_of(*PLAIN, *NUMBERED)
 ROUTE = values.one_of("local", "exchange")
-VERTEX = {"name": NAME, "op": OP, "depth": SMALL}
 EDGE = {"name": NAME, "from": REFERRED, "port": SMALL, "to": REFERRED, "route": ROUTE}
 ANY_LIST = values.list_of(lambda it: None)
 GRAPH = {"vertices": ("a list of vertices", ANY_LIST), "edges": ("a list of edges", ANY_LIST)}
@@ -46,9 +42,9 @@ def form_faults(value, version):
     """What keeps a value in the graph's place from having a graph's form; that the graph comes first, if it
     has nothing of one."""
     if isinstance(value, dict) and (has_version(value) or GRAPH.keys() & value.keys()):
-        return shape_faults(value)
+        return shape_faults(value, version)
     if isinstance(value, dict) and "do" not in value:
-        return [graph_first(version), *shape_faults(value)]
+        return [graph_first(version), *shape_faults(value, version)]
     word = value["do"] if isinstance(value, dict) else value
     said = (
         "commands and queries come after it"
@@ -66,9 +62,9 @@ def has_version(value):
     return any(key.lower() == "version" for key in value)
 
 
-def shape_faults(graph):
-    """What keeps a value from having a graph's form: the faults of its keys, or those of its first wrong
-    vertex or edge."""
+def shape_faults(graph, version):
+    """What keeps a value from having a graph's form in a script of a version: the faults of its keys, or
+    those of its first wrong vertex or edge."""
     if has_version(graph):
         return [
             f'a version line is {{"version":N}} alone, N from 2 to {LAST}, as the first line, and the graph'
@@ -79,37 +75,41 @@ def shape_faults(graph):
         return faults
     for key in GRAPH:
         for at, it in enumerate(graph[key]):
-            faults = part_faults(it, key == "vertices")
+            faults = part_faults(it, key == "vertices", version)
             if faults:
                 return [f"{part_shown(key, at, it)}: {wrong}" for wrong in faults]
     return []
 
 
-def part_faults(value, is_vertex):
+def part_faults(value, is_vertex, version):
     if not isinstance(value, dict):
         return [f"it {values.kind_of(value)}, and is to be an object"]
-    form = form_of_vertex(value) if is_vertex else EDGE
+    form = form_of_vertex(value, version) if is_vertex else EDGE
     return (
         keys_faults(value, form)
         + value_faults(value, form)
-        + (op_hint(value.get("op")) if is_vertex else [])
+        + (op_hint(value.get("op"), version) if is_vertex else [])
     )
 
 
-def op_hint(op):
-    """The nearest op of a text that is none."""
-    is_wrong = isinstance(op, str) and op not in PLAIN + NUMBERED
-    near = nearest(op, PLAIN + NUMBERED) if is_wrong else None
+def op_hint(op, version):
+    """Of a text that is no op of the version, with which version it came, or the nearest op."""
+    if not isinstance(op, str) or op in ops_of(version):
+        return []
+    if op in OPS_SINCE:
+        return [came_with(f"the op {shown(op)}", OPS_SINCE[op], version)]
+    near = nearest(op, ops_of(version))
     return [f"the nearest op is {shown(near)}"] if near else []
 
 
-def form_of_vertex(value):
+def form_of_vertex(value, version):
     """The form of a vertex of this op; if the op is none, a number k may be there."""
     op = value.get("op")
-    if op in PLAIN:
-        return VERTEX
-    is_there = op in NUMBERED or "k" in value
-    return {**VERTEX, "k": SIGNED} if is_there else VERTEX
+    form = {"name": NAME, "op": values.one_of(*ops_of(version)), "depth": SMALL}
+    if op in PLAIN_OPS:
+        return form
+    is_there = op in NUMBERED_OPS or "k" in value
+    return {**form, "k": SIGNED} if is_there else form
 
 
 def part_shown(key, at, value):

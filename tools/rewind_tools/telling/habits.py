@@ -7,11 +7,12 @@ def help_sentences(version, has_clients):
     commands, queries = (
         ", ".join(it for it in words_of(version) if it in kind) for kind in (COMMANDS, QUERIES)
     )
-    later = ", ".join(it for it in FORMS if it not in words_of(version))
+    known = COMMANDS if has_clients else FORMS
+    later = ", ".join(it for it in known if it not in words_of(version))
     there = "several clients have no queries" if has_clients else f"the queries are {queries}"
     adds = (
         [f'version {LAST} adds {later}; its first line is {{"version":{LAST}}}']
-        if later and not has_clients
+        if later
         else []
     )
     return [
@@ -39,6 +40,17 @@ HABITS = {
         " undoes one"
     ),
     ("undo", "u"): sentence('{"do":"back"} undoes the last step'),
+    ("downgrade", "delay", "delayed"): sentence(
+        '{"do":"release","p":0,"vertex":"h","time":[0],"to":[1]} moves a held capability to a later time, in'
+        " version 5"
+    ),
+    ("drop",): sentence(
+        '{"do":"release","p":0,"vertex":"h","time":[0]} releases a held capability, in version 5'
+    ),
+    ("advance", "advance_to"): sentence(
+        '{"do":"feed","p":0,"vertex":"a","values":[],"next":{"to":5}} advances an input to epoch 5, in'
+        " version 5"
+    ),
 }
 
 

@@ -14,6 +14,11 @@ SEVERAL = 8
 WANTED = {id(VERTEX): "vertex", id(EDGE): "edge", id(PLACE): "place"}
 
 
+def holds_of(graph):
+    """The names of a graph's hold vertices."""
+    return {it["name"] for it in graph["vertices"] if it["op"] == "hold"}
+
+
 class Graph:
     """The names of a graph that the program has read."""
 
@@ -21,6 +26,7 @@ class Graph:
         self.value, self.version = value, version
         self.vertices = {it["name"]: it for it in value["vertices"]}
         self.edges = {it["name"]: it for it in value["edges"]}
+        self.holds = holds_of(value)
         self.order = {name: at for at, name in enumerate([*self.vertices, *self.edges])}
 
     def named(self, wanted):
@@ -42,7 +48,7 @@ class Graph:
 
 def slots_of(value):
     """The names of a line of right shape: each with the kind that is wanted, and the time there if it has
-    one."""
+    one; once for each of several times."""
     form = forms.FORMS[value["do"]]
     if "when" in form:
         return [
@@ -61,7 +67,8 @@ def slots_in(value, form):
         elif kind is POINTS:
             slots += [(name, "place", time) for name, time in value.get(key, [])]
         elif id(kind) in WANTED and key in value:
-            slots.append((value[key], WANTED[id(kind)], value["time"] if TIME in form.values() else None))
+            times = [value[it] for it, its_kind in form.items() if its_kind is TIME and it in value]
+            slots += [(value[key], WANTED[id(kind)], time) for time in times or [None]]
     return slots
 
 

@@ -90,6 +90,17 @@ def time(value):
     return list_of(number(SMALL)[1])(value)
 
 
+def processors(most):
+    """What is wrong with a list of at least one processor's number and at most so many."""
+
+    def fault(value):
+        if isinstance(value, list) and not 1 <= len(value) <= most:
+            return f"has {len(value)} items"
+        return list_of(number(SMALL)[1])(value)
+
+    return fault
+
+
 def point(value):
     if not isinstance(value, list):
         return kind_of(value)
@@ -108,3 +119,35 @@ def one_of(*words):
         listed,
         lambda value: None if not text(value) and value in words else text(value) or "is none of these",
     )
+
+
+def is_only(value, *names):
+    """Whether a value is an object with one of these names as its only key."""
+    return isinstance(value, dict) and len(value) == 1 and next(iter(value)) in names
+
+
+def one_of_or_to(*words):
+    """The kind of some texts, and of objects whose only key "to" has a small number."""
+    listed = ", ".join(f'"{it}"' for it in words)
+
+    def fault(value):
+        if not isinstance(value, dict):
+            return one_of(*words)[1](value)
+        if not is_only(value, "to"):
+            return 'is an object, and is to have the key "to" alone'
+        wrong = number(SMALL)[1](value["to"])
+        return f'has "to":{shown(value["to"], 24)}, which {wrong}' if wrong else None
+
+    return f'{listed} or {{"to":1}}', fault
+
+
+def one_of_before_to(version, *words):
+    """The kind of some texts in a script that is older than the version with which such objects came."""
+    listed, fault_of = one_of(*words)
+    _, later_fault_of = one_of_or_to(*words)
+
+    def fault(value):
+        is_late = is_only(value, "to") and not later_fault_of(value)
+        return f"came with version {version}" if is_late else fault_of(value)
+
+    return listed, fault

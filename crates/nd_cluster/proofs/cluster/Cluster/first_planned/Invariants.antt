@@ -1,4 +1,5 @@
 use Rattle.std.proofs.Common.{◌≡◌, ◌<◌, ◌≤◌, ◌%◌, length}
+use Rattle.std.specs.Prelude.{option_copied}
 use Rattle.std.specs.List.{flat_map, range_with_len}
 use Rattle.nd_time.specs.Limits.{max_processors}
 use Rattle.nd_cluster.specs.Candidates.{AreRefused, candidates_after}
@@ -11,6 +12,6 @@ invariant-loop-i g l = record {
   some : 0 < l.n;
   few : l.n ≤ max_processors;
   first : l.first ≡ l.turn % l.n;
-  none : NoneWaits g.row.A.Denot l.self l.turn l.i;
-  refused : AreRefused {A = g.row.A.Denot} l.self (flat_map (candidates_after l.self l.turn) (range_with_len 0 l.i));
+  none : NoneWaits g.row.A.Denot l.self (option_copied l.only) l.turn l.i;
+  refused : AreRefused {A = g.row.A.Denot} l.self (flat_map (candidates_after l.self l.turn (option_copied l.only)) (range_with_len 0 l.i));
 }
