@@ -212,9 +212,10 @@ function releaseForm(line) {
   const form = made("form", undefined, "form"), to = made("input");
   to.value = [line.time[0] + 1, ...line.time.slice(1)].join(",");
   to.size = 6;
+  to.setAttribute("aria-label", "the later time");
   const move = () => execute({ ...line, to: timeOf(to.value) });
   form.addEventListener("submit", (event) => { event.preventDefault(); move(); });
-  form.append(button("release", () => execute(line)), button("move to", move), field("time", to));
+  form.append(button("release", () => execute(line)), button("move to", move), to);
   return form;
 }
 
@@ -468,7 +469,7 @@ function running(count) {
 
 function showOnly() {
   if (about.processors === 1) return;
-  by("only").append("only", ...processors().map((name, p) => {
+  by("only").append("only processor", ...processors().map((name, p) => {
     const it = button(`${p}`, () => {
       if (!onlyChosen.delete(p)) onlyChosen.add(p);
       it.setAttribute("aria-pressed", onlyChosen.has(p));
