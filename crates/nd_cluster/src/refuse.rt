@@ -134,12 +134,7 @@ impl<A: Allocator + Copy> Cluster<A> {
     }
 
     // Returns an error unless a hold vertex of a processor keeps a capability: why its release is refused.
-    pub(crate) fn release_kept(
-        &self,
-        p: u32,
-        vertex: usize,
-        times: &Times,
-    ) -> Result<(), Refusal>
+    pub(crate) fn release_kept(&self, p: u32, vertex: usize, times: &Times) -> Result<(), Refusal>
         ensures kept { OnOk result (fin.get (processor self.now p).requests
             (point_at vertex times.now.time) ≡ Some tt) }
         ensures free { OnOk result (IsWithinRules A self.now (Releasing p vertex times.now)) }
@@ -172,9 +167,7 @@ impl<A: Allocator + Copy> Cluster<A> {
         ensures { IsTrue result ↔ GoesBack next (epoch_of self.now p vertex) }
     {
         match next {
-            Next::To(epoch) => {
-                epoch <= self.processor(p as usize).token(vertex).unwrap_or(0)
-            }
+            Next::To(epoch) => epoch <= self.processor(p as usize).token(vertex).unwrap_or(0),
             Next::Next | Next::Close | Next::Stay => false,
         }
     }
@@ -187,7 +180,10 @@ impl<A: Allocator + Copy> Cluster<A> {
     {
         match step {
             Step::Feed {
-                p, vertex, next, ..
+                p,
+                vertex,
+                next,
+                ..
             } => {
                 if self.goes_back(*p, *vertex, *next) {
                     return Some(Refusal::NotLater);

@@ -155,12 +155,7 @@ impl<A: Allocator + Copy> Cluster<A> {
     }
 
     // Returns what a release changes, or why it is refused, but for the limits.
-    fn release_parts(
-        &self,
-        p: u32,
-        vertex: usize,
-        times: &Times,
-    ) -> Result<Vec<Change, A>, Refusal>
+    fn release_parts(&self, p: u32, vertex: usize, times: &Times) -> Result<Vec<Change, A>, Refusal>
         ensures reaches { IfOk result (λ v.
             LeadOn A self.now (Releasing p vertex times.now) v.items) }
         ensures free { OnOk result (IsWithinRules A self.now (Releasing p vertex times.now)) }
