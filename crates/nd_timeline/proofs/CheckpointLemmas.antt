@@ -1,6 +1,6 @@
 -- Checkpoints: they stay valid when later steps are kept or dropped, and lead to the clusters at their positions.
-use Rattle.std.proofs.Common.{◌≡◌, ◌<◌, ◌≤◌, ◌⊎◌, inl, inr, ℕ, zero, suc, ◌+◌, ◌-◌, ◌*◌, ◌/◌, List, [], ◌∷◌, ◌++◌, length, take, get_or, refl, sym, ap, subst, ◌∙◌, arith, length-append}
-use Rattle.std.specs.Prelude.{All, AllPairs, Contains}
+use Rattle.std.proofs.Common.{◌≡◌, ◌<◌, ◌≤◌, inl, inr, ℕ, zero, suc, ◌-◌, ◌*◌, ◌/◌, List, [], ◌∷◌, ◌++◌, length, take, get_or, refl, sym, ap, subst, ◌∙◌, arith, length-append}
+use Rattle.std.specs.Prelude.{AllPairs, Contains}
 use Rattle.std.proofs.Math.Nat.{mul-div-le}
 use Rattle.std.proofs.lemmas.List.Elements.{All-push}
 use Rattle.std.proofs.lemmas.List.Quantifiers.{all_pairs_push}
@@ -11,7 +11,7 @@ use Rattle.nd_protocol.specs.State.{ClusterState, queue}
 use Rattle.nd_protocol.specs.Steps.{after, stepped}
 use Rattle.nd_protocol.specs.Exchange.{sent, received, received_from}
 use Rattle.nd_protocol.specs.declared.step.Step.{Step}
-use Rattle.nd_protocol.specs.declared.step.Step.TheVariants.{Feed, Take, Notice, Broadcast, Receive}
+use Rattle.nd_protocol.specs.declared.step.Step.TheVariants.{Feed, Take, Notice, Release, Broadcast, Receive}
 use Rattle.nd_steps.specs.declared.record.Record.{Record}
 use Rattle.nd_cluster.specs.Saved.{state_in, FitsIn, IsSaved}
 use Rattle.nd_cluster.specs.Size.{size_of}
@@ -39,6 +39,7 @@ module _ {A : Type 0} where
   stepped_graph s (Feed p vertex values _) = refl
   stepped_graph s (Take p edge t value) = refl
   stepped_graph s (Notice p vertex t) = refl
+  stepped_graph s (Release p vertex times) = refl
   stepped_graph s (Broadcast p part) = refl
   stepped_graph s (Receive from to) = received_graph s from to (queue s from to)
 

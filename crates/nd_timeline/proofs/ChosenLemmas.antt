@@ -1,5 +1,5 @@
 -- A cluster has at most one step to choose at a turn.
-use Rattle.std.proofs.Common.{◌≡◌, ◌<◌, ◌≤◌, ◌+◌, ◌-◌, ◌%◌, ◌⊎◌, inl, inr, ℕ, length, refl, sym, ap, ◌∙◌, arith, Ordering, Less, Equal, Greater}
+use Rattle.std.proofs.Common.{◌≡◌, ◌<◌, ◌≤◌, ◌+◌, ◌-◌, ◌%◌, ◌⊎◌, inl, inr, ℕ, List, Option, length, refl, sym, ap, ◌∙◌, arith, Ordering, Less, Equal, Greater}
 use Rattle.std.proofs.Math.Nat.{mod-eq_of_lt, add-mod_right, mod-lt}
 use Rattle.std.specs.Ordering.{ordering_reverse}
 use Rattle.std.specs.Cmp.{IsTotalOrder}
@@ -13,7 +13,7 @@ use Rattle.nd_protocol.specs.Steps.{record_key, point_at}
 use Rattle.nd_protocol.specs.Enabled.{IsEnabled}
 use Rattle.nd_protocol.specs.declared.refusal.Refusal.TheVariants.{NoProcessor}
 use Rattle.nd_protocol.specs.declared.step.Step.{Step}
-use Rattle.nd_protocol.specs.declared.step.Step.TheVariants.{Feed, Take, Notice, Broadcast, Receive}
+use Rattle.nd_protocol.specs.declared.step.Step.TheVariants.{Feed, Take, Notice, Release, Broadcast, Receive}
 use Rattle.nd_protocol.specs.declared.part.Part.TheVariants.{All, Points}
 use Rattle.nd_cluster.specs.Choice.{IsCandidate, performer, wait, rank, IsListedBefore, ComesFirst, IsChosen}
 use Rattle.std.proofs.lemmas.Bool.{cases_lt}
@@ -85,6 +85,7 @@ module _ {A : Type 0} where
         | inr (inr h) ↦ inr (inr h)
       ]
   listed (Feed _ vertex values _) (Feed _ _ _ _) c d same level = absurd c
+  listed (Release _ vertex times) y c d same level = absurd c
   listed _ _ c d same level = absurd (omega (arith, level))
 
   -- steps of the same processor
@@ -105,20 +106,21 @@ module _ {A : Type 0} where
   there s (Feed p vertex values _) e = below _ p (e.free NoProcessor)
   there s (Take p edge t value) e = below _ p (e.free NoProcessor)
   there s (Notice p vertex t) e = below _ p (e.free NoProcessor)
+  there s (Release p vertex times) e = below _ p (e.free NoProcessor)
   there s (Broadcast p part) e = below _ p (e.free NoProcessor)
   there s (Receive from to) e = below _ to (λ h. e.free NoProcessor (inr h))
 
-  pub one_choice : (s : ClusterState) (turn : ℕ) (x y : Step A) → IsChosen s turn x → IsChosen s turn y → x ≡ y
-  one_choice s turn x y a b =
+  pub one_choice : (s : ClusterState) (turn : ℕ) (only : Option (List ℕ)) (x y : Step A) → IsChosen s turn only x → IsChosen s turn only y → x ≡ y
+  one_choice s turn only x y a b =
       let n : ℕ = length s.processors in
       elim (either (wait n turn (performer x)) (wait n turn (performer y))) [
-        | inl h ↦ absurd (b.first x a.candidate (inl h) a.enabled)
-        | inr (inr h) ↦ absurd (a.first y b.candidate (inl h) b.enabled)
+        | inl h ↦ absurd (b.first x a.candidate a.listed (inl h) a.enabled)
+        | inr (inr h) ↦ absurd (a.first y b.candidate b.listed (inl h) b.enabled)
         | inr (inl e) ↦
             let same : performer x ≡ performer y = one_turn n turn (performer x) (performer y) (there s x a.enabled) (there s y b.enabled) e in
             elim (ranked x y a.candidate b.candidate same) [
               | inl is ↦ is
-              | inr (inl h) ↦ absurd (b.first x a.candidate (inr (same, h)) a.enabled)
-              | inr (inr h) ↦ absurd (a.first y b.candidate (inr (sym same, h)) b.enabled)
+              | inr (inl h) ↦ absurd (b.first x a.candidate a.listed (inr (same, h)) a.enabled)
+              | inr (inr h) ↦ absurd (a.first y b.candidate b.listed (inr (sym same, h)) b.enabled)
             ]
       ]

@@ -1,9 +1,8 @@
-use Rattle.std.proofs.Common.{◌≡◌, ◌<◌, ◌+◌, [], ◌∷◌, ◌++◌, length, take, sym, ap, subst, refl, arith, length-append}
+use Rattle.std.proofs.Common.{◌<◌, [], ◌∷◌, take, sym, subst, refl, arith, length-append}
 use Rattle.std.proofs.lemmas.List.{length-take-le}
 use Rattle.nd_time.specs.Limits.{max_kept}
 use Rattle.nd_cluster.specs.Records.{IsPlanned}
 use Rattle.nd_timeline.specs.Timeline.{TimelineValue}
-use Rattle.nd_timeline.specs.Reached.{IsReached}
 use Rattle.nd_timeline.proofs.KeptSteps.{extends, seen, steps_of-push, steps_of-take}
 use Rattle.nd_timeline.proofs.timeline.Timeline.make.Goals as goal
 

@@ -1,5 +1,5 @@
-use Rattle.std.proofs.Common.{◌≡◌, ℕ, [], ◌∷◌, ◌++◌, List, rules}
-use Rattle.nd_timeline.specs.Checkpoints.{AreCheckpoints, IsCheckpoint, IsDue}
+use Rattle.std.proofs.Common.{ℕ, rules}
+use Rattle.nd_timeline.specs.Checkpoints.{IsCheckpoint, IsDue}
 use Rattle.nd_timeline.specs.declared.checkpoint.Checkpoint.{Checkpoint}
 use Rattle.nd_timeline.proofs.CheckpointLemmas.{are_more, is_checkpoint, is_due}
 use Rattle.nd_timeline.proofs.walk.Kept.save.Goals as goal
