@@ -124,7 +124,7 @@ noticed s p vertex t =
     (slice_set s.processors p (record q { requests = fin.remove q.requests (point_at vertex t); items = slice_set q.items vertex outcome.items }))
     (flat_map (emitted s.graph (length s.processors) p vertex t) outcome.emissions)
 
--- a request goes, or is moved to another time; one that is there is not made again
+-- a request goes, or moves to another time; a request that is there already stays
 abbrev pub moved_request : Requests → ℕ → Time → Option Time → Requests
 moved_request requests vertex t None = fin.remove requests (point_at vertex t)
 moved_request requests vertex t (Some to) = fin.insert (fin.remove requests (point_at vertex t)) (point_at vertex to) tt
