@@ -45,11 +45,7 @@ impl<A: Allocator + Copy> Cluster<A> {
 
     // Returns the record of the first enabled candidate of a processor, none if a run skips the
     // processor.
-    fn first_if(
-        &self,
-        only: Option<&Processors<A>>,
-        p: u32,
-    ) -> Result<Option<Record<A>>, NoMemory>
+    fn first_if(&self, only: Option<&Processors<A>>, p: u32) -> Result<Option<Record<A>>, NoMemory>
         requires { p < length self.now.processors }
         ensures { IfOk result (FindsFirst {A = A} self.now
             (candidates_if self.now (option_copied only.entry) p)) }

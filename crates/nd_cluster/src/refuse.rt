@@ -45,7 +45,7 @@ fn is_hold(op: Op) -> bool
     matches!(op, Op::Hold)
 }
 
-// Whether the time to which a capability moves is strictly later, if there is one.
+// Returns whether the time to which a capability moves is strictly later, if there is one.
 fn goes_later(times: &Times) -> bool
     ensures { IsTrue result ↔ GoesLater times.now.time times.now.to }
 {
@@ -161,7 +161,7 @@ impl<A: Allocator + Copy> Cluster<A> {
         Ok(())
     }
 
-    // Whether a token would go to an epoch that is not above its own.
+    // Returns whether a token would go to an epoch that is not above its own.
     fn goes_back(&self, p: u32, vertex: usize, next: Next) -> bool
         requires { p < length self.now.processors }
         ensures { IsTrue result ↔ GoesBack next (epoch_of self.now p vertex) }

@@ -1,4 +1,4 @@
-//! A client, with what it was told.
+//! A client, with its receipts.
 ghost use Rattle.std.specs.Prelude.{◌≡◌, [], IfOk};
 ghost use Rattle.nd_session.specs.Clients.{IsOwn};
 
@@ -34,7 +34,7 @@ impl<A: Allocator + Copy> Drop for Client<A> {
 }
 
 impl<A: Allocator + Copy> Client<A> {
-    // With room for its first receipt.
+    // Returns a client with room for its first receipt.
     pub(crate) fn new(alloc: A, number: u64) -> Result<Client<A>, AllocError>
         ensures number { IfOk result (λ c. c.number ≡ number) }
         ensures receipts { IfOk result (λ c. c.receipts ≡ []) }
@@ -45,14 +45,14 @@ impl<A: Allocator + Copy> Client<A> {
         })
     }
 
-    /// Its number.
+    /// Returns the client's number.
     pub fn number(&self) -> u64
         ensures { result ≡ self.now.number }
     {
         self.number
     }
 
-    /// What it was told, in order.
+    /// Returns the client's receipts, in order.
     pub fn receipts(&self) -> &[Receipt<A>]
         ensures value { result.now ≡ self.now.receipts }
         ensures own { IsOwn self.now.number self.now.receipts }

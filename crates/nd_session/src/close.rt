@@ -31,14 +31,14 @@ pub enum CloseWhy {
     ClientMissing { client: u64 },
 }
 
-/// A session that was closed with other clients, or other receipts, than its own.
+/// A session was closed with other clients, or other receipts, than its own.
 #[derive(Drop)]
 pub struct CloseFault<A: Allocator + Copy = Global> {
     pub why: CloseWhy,
     pub log: Log<A>,
 }
 
-// The index of the first receipt that is not the log's entry there.
+// Returns the index of the first receipt that is not the log's entry there.
 fn first_wrong<A: Allocator>(log: &[Receipt<A>], receipts: &[Receipt<A>]) -> Option<u64>
     ensures none { IfNone result (HeldBelow log.now receipts.now (length receipts.now)) }
     ensures some { IfSome result (IsFirstWrong log.now receipts.now) }
@@ -51,7 +51,7 @@ fn first_wrong<A: Allocator>(log: &[Receipt<A>], receipts: &[Receipt<A>]) -> Opt
     None
 }
 
-// Whether none of the first k clients has this number.
+// Returns whether none of the first k clients has this number.
 fn is_new<A: Allocator + Copy>(clients: &[Client<A>], k: usize, number: u64) -> bool
     requires { k ≤ length clients.now }
     ensures { MatchBool result (IsNewBelow clients.now k number) (IsOther clients.now k number) }
@@ -59,14 +59,14 @@ fn is_new<A: Allocator + Copy>(clients: &[Client<A>], k: usize, number: u64) -> 
     !clients[..k].iter().any(|client| client.number() == number)
 }
 
-// Whether a client has this number.
+// Returns whether a client has this number.
 fn is_in<A: Allocator + Copy>(clients: &[Client<A>], number: u64) -> bool
     ensures { MatchBool result (IsIn clients.now number) (¬ IsIn clients.now number) }
 {
     !is_new(clients, clients.len(), number)
 }
 
-// The index by which it is told what is wrong with a client that was handed in after k others.
+// Returns the index of the mismatch of a client that was handed in after k others, if it has one.
 fn wrong_with<A: Allocator + Copy>(
     log: &[Receipt<A>],
     clients: &[Client<A>],
@@ -87,7 +87,7 @@ fn wrong_with<A: Allocator + Copy>(
     }
 }
 
-// The first client with which something is wrong, and the index by which it is told.
+// Returns the first client with a mismatch, and the index of the mismatch.
 fn first_mismatch<A: Allocator + Copy>(
     log: &[Receipt<A>],
     clients: &[Client<A>],
@@ -103,7 +103,7 @@ fn first_mismatch<A: Allocator + Copy>(
     None
 }
 
-// The least number that was given out and not handed in.
+// Returns the least number that was given out and not handed in.
 fn first_missing<A: Allocator + Copy>(clients: &[Client<A>], entered: u64) -> Option<u64>
     ensures none { IfNone result (AreInBelow clients.now entered) }
     ensures some { IfSome result (IsFirstMissing clients.now entered) }
@@ -116,7 +116,7 @@ fn first_missing<A: Allocator + Copy>(clients: &[Client<A>], entered: u64) -> Op
     None
 }
 
-// Whether the client has the entry's number, and the entry at its position.
+// Returns whether the client has the entry's number, and the entry at its position.
 fn has_at<A: Allocator + Copy>(client: &Client<A>, entry: &Receipt<A>) -> bool
     ensures { MatchBool result (HasAt client.now entry.now) (¬ HasAt client.now entry.now) }
 {
@@ -127,7 +127,7 @@ fn has_at<A: Allocator + Copy>(client: &Client<A>, entry: &Receipt<A>) -> bool
         }
 }
 
-// Whether a client has the entry at its position.
+// Returns whether a client has the entry at its position.
 fn has_in_place<A: Allocator + Copy>(clients: &[Client<A>], entry: &Receipt<A>) -> bool
     ensures { MatchBool result (HasInPlace clients.now entry.now)
         (¬ HasInPlace clients.now entry.now) }
@@ -135,7 +135,7 @@ fn has_in_place<A: Allocator + Copy>(clients: &[Client<A>], entry: &Receipt<A>) 
     clients.iter().any(|client| has_at(client, entry))
 }
 
-// The client and the index of the first entry that no client has at its position.
+// Returns the client and the index of the first entry that no client has at its position.
 fn first_untold<A: Allocator + Copy>(
     log: &[Receipt<A>],
     clients: &[Client<A>],
@@ -151,7 +151,7 @@ fn first_untold<A: Allocator + Copy>(
     None
 }
 
-// What is found first, if something is wrong.
+// Returns the first fault, if there is one.
 fn found_wrong<A: Allocator + Copy>(
     log: &[Receipt<A>],
     clients: &[Client<A>],
@@ -174,7 +174,7 @@ fn found_wrong<A: Allocator + Copy>(
 }
 
 impl<A: Allocator + Copy> Shared<A> {
-    // What the `State` and these clients leave. It takes no memory.
+    // Returns the log that the `State` leaves. The call allocates no memory.
     pub(crate) fn close(self, clients: &[Client<A>]) -> Result<Log<A>, CloseFault<A>>
         ensures whole { IfOk result (λ l. IsWhole l.entries.items clients.now l.entered) }
         ensures wrong { IfErr result (λ f.

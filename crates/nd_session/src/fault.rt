@@ -16,16 +16,16 @@ pub enum SessionFault<A: Allocator = Global> {
         /// The log's entry there.
         found: Option<Receipt<A>>,
     },
-    /// The log has as many entries as it may have.
+    /// The log has the maximum number of entries.
     LogFull,
-    /// Each number of a client is given out.
+    /// All clients' numbers are given out.
     TooManyClients,
-    /// A growth was refused.
+    /// An allocation failed.
     Memory,
 }
 
 impl<A: Allocator> SessionFault<A> {
-    /// The number and the name under which the fault is answered.
+    /// Returns the number and the name of the fault.
     pub fn code(&self) -> Code
         ensures { result ≡ code_of self.now }
     {

@@ -1,10 +1,10 @@
-//! What a log tells: a function without code of its own, to be called where its clause is needed.
+//! What a log determines. It is the clause of a function without code, which callers call where they need the clause.
 ghost use Rattle.nd_session.specs.Laws.{LogsTellMachines};
 
 use nd_timeline::replies_tell_machines;
 use std::alloc::Allocator;
 
-/// The entries of a log tell the machine after them.
+/// States that the entries of a log determine the machine after them.
 pub fn logs_tell_machines<A: Allocator>()
     ensures { LogsTellMachines A }
 {

@@ -1,4 +1,4 @@
-//! A session: a debugger machine that many clients drive, with one log of what they were answered.
+//! A session: a debugger machine that many clients drive, with one log of their commands and the replies.
 #![tactic(auto)]
 
 mod client;
@@ -17,5 +17,5 @@ pub use laws::logs_tell_machines;
 pub use receipt::Receipt;
 pub use session::Session;
 pub use state::State;
-// What a session is asked, and what it replies.
+// Commands to a session, and replies.
 pub use nd_timeline::{Command, Reply};

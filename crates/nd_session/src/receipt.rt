@@ -1,25 +1,25 @@
-//! An entry of the log, as its client is told it.
+//! An entry of the log, as its client gets it.
 ghost use Rattle.std.specs.Prelude.{◌≡◌, ◌≢◌, IfOk, MatchBool};
 
 use nd_timeline::{Command, Reply};
 use std::alloc::{AllocError, Allocator, Global};
 
-/// A command that was answered: an entry of the log, and what its client is told (this project's
-/// own rule).
+/// A command that was answered, and the reply: an entry of the log, which its client gets, too (this
+/// project's own rule).
 #[derive(Drop)]
 pub struct Receipt<A: Allocator = Global> {
     /// The entry's position in the log, counted from 0.
     pub index: u64,
     /// The number of the client that gave the command.
     pub client: u64,
-    /// How many entries of this client stand before this one.
+    /// The number of earlier entries of this client.
     pub number: u64,
     pub command: Command<A>,
     pub reply: Reply,
 }
 
 impl<A: Allocator> Receipt<A> {
-    /// An equal receipt.
+    /// Returns an equal receipt.
     pub fn copy(&self, alloc: A) -> Result<Receipt<A>, AllocError>
         ensures { IfOk result (λ r. r ≡ self.now) }
     {
@@ -32,7 +32,7 @@ impl<A: Allocator> Receipt<A> {
         })
     }
 
-    /// Whether both are one receipt.
+    /// Returns whether the two receipts are equal.
     pub fn same(&self, other: &Receipt<A>) -> bool
         ensures { MatchBool result (self.now ≡ other.now) (self.now ≢ other.now) }
     {

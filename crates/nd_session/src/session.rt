@@ -19,14 +19,14 @@ pub struct Session<A: Allocator + Copy = Global> {
 }
 
 impl<A: Allocator + Copy> Session<A> {
-    /// A session that no client has entered yet.
+    /// Returns a session that no client has entered yet.
     pub fn new(state: State<A>) -> Session<A> {
         Session {
             lock: Mutex::new(Shared::new(state)),
         }
     }
 
-    /// A client of the next number, counted from 0. A number is not given out twice.
+    /// Returns a client of the next number, counted from 0. A number is not given out twice.
     pub fn enter(&self, rt: &impl Wait, alloc: A) -> Result<Client<A>, SessionFault<A>>
         ensures receipts { IfOk result (λ c. c.receipts ≡ []) }
         ensures few { IfOk result (λ c. c.number < max_clients) }
@@ -51,7 +51,7 @@ impl<A: Allocator + Copy> Session<A> {
         self.lock.lock(rt).command(alloc, client, command)
     }
 
-    /// Copies the timeline as it is now, with the length of the log. It is no command and not
+    /// Copies the timeline as it is now, with the length of the log. This is no command, and is not
     /// logged.
     pub fn copy(
         &self,
@@ -65,9 +65,9 @@ impl<A: Allocator + Copy> Session<A> {
         self.lock.lock(rt).copy(alloc, client)
     }
 
-    /// Ends the session, with all its clients. It takes no memory and waits for nobody.
+    /// Ends the session, with all its clients. The call allocates no memory, and does not wait.
     ///
-    /// The session is ended in all cases, and the fault carries the log, too.
+    /// The session is ended in any case, and a fault carries the log, too.
     pub fn close(self, clients: Vec<Client<A>, A>) -> Result<Log<A>, CloseFault<A>>
         ensures whole { IfOk result (λ l. IsWhole l.entries.items clients.items l.entered) }
         ensures wrong { IfErr result (λ f.

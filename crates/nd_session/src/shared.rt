@@ -1,4 +1,4 @@
-//! What lies under a session's lock.
+//! The value under a session's lock.
 ghost use Rattle.std.specs.Prelude.{◌≡◌, ◌+◌, ◌<◌, [], length, slice_get, IfOk, IfErr, OnOk, OnErr, MatchBool};
 ghost use Rattle.std.specs.Option.{option_map_or};
 ghost use Rattle.nd_time.specs.Limits.{max_clients};
@@ -12,7 +12,7 @@ use nd_history::Snapshot;
 use nd_timeline::Command;
 use std::alloc::{AllocError, Allocator, Global};
 
-/// The most clients over a session's life.
+/// The maximum number of clients over a session's life.
 const MAX_CLIENTS: u64 = 64;
 
 // A `State`, and how many clients have entered.
@@ -22,7 +22,7 @@ pub(crate) struct Shared<A: Allocator + Copy = Global> {
     pub(crate) entered: u64,
 }
 
-// Whether the log has this receipt at its index.
+// Returns whether the log has this receipt at its index.
 pub(crate) fn holds<A: Allocator>(log: &[Receipt<A>], receipt: &Receipt<A>) -> bool
     ensures { MatchBool result (Holds log.now receipt.now) (¬ Holds log.now receipt.now) }
 {
@@ -32,7 +32,7 @@ pub(crate) fn holds<A: Allocator>(log: &[Receipt<A>], receipt: &Receipt<A>) -> b
     }
 }
 
-// Whether the log has the last of the receipts, if there is one, at its index.
+// Returns whether the log has the last of the receipts, if there is one, at its index.
 fn holds_last<A: Allocator>(log: &[Receipt<A>], receipts: &[Receipt<A>]) -> bool
     ensures { MatchBool result (HoldsLast log.now receipts.now) (¬ HoldsLast log.now receipts.now) }
 {
@@ -42,7 +42,7 @@ fn holds_last<A: Allocator>(log: &[Receipt<A>], receipts: &[Receipt<A>]) -> bool
     }
 }
 
-// The index of the last receipt, or 0 if there is none.
+// Returns the index of the last receipt, or 0 if there is none.
 fn last_index<A: Allocator>(receipts: &[Receipt<A>]) -> u64
     ensures { result ≡ option_map_or (λ r. r.index) (last_of receipts.now) 0 }
 {
@@ -52,7 +52,7 @@ fn last_index<A: Allocator>(receipts: &[Receipt<A>]) -> u64
     }
 }
 
-// A copy of the log's entry at an index, if there is one.
+// Returns a copy of the log's entry at an index, if there is one.
 fn copied_entry<A: Allocator + Copy>(
     alloc: A,
     log: &[Receipt<A>],
@@ -68,14 +68,14 @@ fn copied_entry<A: Allocator + Copy>(
 }
 
 impl<A: Allocator + Copy> Shared<A> {
-    // No client has entered yet.
+    // Returns the value that no client has entered yet.
     pub(crate) fn new(state: State<A>) -> Shared<A>
         ensures { result ≡ record { state = state; entered = 0 } }
     {
         Shared { state, entered: 0 }
     }
 
-    // The next client. It has room for its first receipt before its number is given out.
+    // Returns the next client. It has room for its first receipt before its number is given out.
     pub(crate) fn enter(&mut self, alloc: A) -> Result<Client<A>, SessionFault<A>>
         ensures number { IfOk result (λ c. c.number ≡ self.old.entered) }
         ensures few { IfOk result (λ c. c.number < max_clients) }
@@ -92,7 +92,7 @@ impl<A: Allocator + Copy> Shared<A> {
         Ok(client)
     }
 
-    // Whether the client is one of this session, as far as its number and its last receipt tell.
+    // Returns whether the client is one of this session, judged by its number and its last receipt.
     fn knows(&self, client: &Client<A>) -> bool
         ensures { MatchBool result (IsKnown self.now.entered self.now.state.log client.now)
             (IsUnknown self.now.entered self.now.state.log client.now) }
@@ -115,8 +115,8 @@ impl<A: Allocator + Copy> Shared<A> {
         Err(SessionFault::NotThisSession { index, found })
     }
 
-    // Answers a client's command. All room is taken before the command is applied, so that no entry
-    // is without its receipt.
+    // Answers a client's command. All memory is allocated before the command is applied, so that no
+    // entry is without its receipt.
     pub(crate) fn command(
         &mut self,
         alloc: A,
@@ -148,7 +148,7 @@ impl<A: Allocator + Copy> Shared<A> {
         Ok(receipt)
     }
 
-    // A copy of the timeline, for a client.
+    // Returns a copy of the timeline, for a client.
     pub(crate) fn copy(&self, alloc: A, client: &Client<A>) -> Result<Snapshot<A>, SessionFault<A>>
         ensures value { IfOk result (λ s.
             s ≡ snapshot_of self.now.state.machine.timeline (length self.now.state.log)) }

@@ -19,14 +19,14 @@ use nd_timeline::{Command, Machine, Reply, Timeline, moves_keep_timelines};
 use std::alloc::{AllocError, Allocator, Global};
 use std::marker::Model;
 
-/// The most entries of a log.
+/// The maximum number of entries of a log.
 const MAX_LOG: usize = 1_000_000;
 
 /// A debugger machine with the log of the commands that it has answered (this project's own rule).
 pub struct State<A: Allocator + Copy = Global> {
     machine: Machine<A>,
     log: Vec<Receipt<A>, A>,
-    // How many entries each client has that has one, so that no command goes through the log.
+    // The number of entries of each client that has one, so that no command reads the log.
     counts: GrowingMap<usize, u64, A>,
 }
 
@@ -54,7 +54,7 @@ impl<A: Allocator + Copy> Drop for State<A> {
 }
 
 impl<A: Allocator + Copy> State<A> {
-    /// Makes the `State` of a timeline that keeps nothing yet, and begins at a start.
+    /// Creates the `State` of a timeline that keeps nothing yet and begins at a start.
     pub fn new(alloc: A, timeline: Timeline<A>) -> Result<State<A>, AllocError>
         requires fresh { timeline.kept ≡ [] }
         requires start { IsStart timeline.base }
@@ -74,7 +74,7 @@ impl<A: Allocator + Copy> State<A> {
         })
     }
 
-    /// Its timeline.
+    /// Returns the timeline.
     pub fn timeline(&self) -> &Timeline<A>
         ensures value { result.now ≡ self.now.machine.timeline }
         ensures start { IsStart self.now.machine.timeline.base }
@@ -84,14 +84,14 @@ impl<A: Allocator + Copy> State<A> {
         self.machine.timeline()
     }
 
-    /// Its breakpoints.
+    /// Returns the breakpoints.
     pub fn breaks(&self) -> &Breaks<A>
         ensures { result.now ≡ self.now.machine.breaks }
     {
         self.machine.breaks()
     }
 
-    /// The commands that it has answered, in order.
+    /// Returns the commands that the machine has answered, in order.
     pub fn log(&self) -> &[Receipt<A>]
         ensures value { result.now ≡ self.now.log }
         ensures legal { IsLegal (opening_of self.now.machine) self.now.log self.now.machine }
@@ -100,7 +100,7 @@ impl<A: Allocator + Copy> State<A> {
         &self.log
     }
 
-    // The log, with all that holds of it.
+    // Returns the log, with the facts about it.
     pub(crate) fn history(&self) -> &[Receipt<A>]
         ensures value { result.now ≡ self.now.log }
         ensures history { IsHistory self.now.log self.now.machine }
@@ -108,14 +108,14 @@ impl<A: Allocator + Copy> State<A> {
         &self.log
     }
 
-    // Whether the log has as many entries as it may have.
+    // Returns whether the log is full.
     pub(crate) fn is_full(&self) -> bool
         ensures { MatchBool result (length self.now.log ≡ max_log) (length self.now.log < max_log) }
     {
         self.log.len() >= MAX_LOG
     }
 
-    // How many entries a client has.
+    // Returns the number of a client's entries.
     fn count(&self, client: u64) -> u64
         ensures { result ≡ count_of client self.now.log }
     {
@@ -153,7 +153,7 @@ impl<A: Allocator + Copy> State<A> {
         Ok(told)
     }
 
-    /// Answers a client's command, and logs it. The entry is told, with a copy of the command.
+    /// Answers a client's command, and logs it. Returns the entry, with a copy of the command.
     pub fn apply(
         &mut self,
         alloc: A,
@@ -187,7 +187,7 @@ impl<A: Allocator + Copy> State<A> {
         })
     }
 
-    /// A copy of the timeline, under the length of the log.
+    /// Returns a copy of the timeline, with the length of the log as its index.
     pub fn snapshot(&self, alloc: A) -> Result<Snapshot<A>, AllocError>
         ensures { IfOk result (λ s.
             s ≡ snapshot_of self.now.machine.timeline (length self.now.log)) }
@@ -195,7 +195,7 @@ impl<A: Allocator + Copy> State<A> {
         Snapshot::of(alloc, self.timeline(), self.log.len() as u64)
     }
 
-    // What it was made of.
+    // Returns the parts.
     pub(crate) fn into_parts(self) -> (Timeline<A>, Breaks<A>, Vec<Receipt<A>, A>)
         ensures timeline { result.0 ≡ self.machine.timeline }
         ensures breaks { result.1 ≡ self.machine.breaks }

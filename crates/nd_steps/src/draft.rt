@@ -22,7 +22,7 @@ use std::mem;
 // Which map a place is in, whose it is, and where in the map: a pointstamp and a value.
 type Parts = (u8, (u32, (Pointstamp, i64)));
 
-// A vertex, where no time tells more.
+// Returns a vertex, where no time tells more.
 fn timeless(vertex: usize) -> Pointstamp
     ensures { result ≡ point_at vertex (flat 0) }
 {

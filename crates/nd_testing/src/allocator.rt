@@ -23,7 +23,7 @@ struct Counts {
 }
 
 impl<B: Allocator> Refusing<B> {
-    /// An allocator that refuses nothing yet.
+    /// Returns an allocator that refuses nothing yet.
     pub fn new(inner: B) -> Refusing<B> {
         Refusing {
             inner,
@@ -45,7 +45,7 @@ impl<B: Allocator> Refusing<B> {
         left > n
     }
 
-    /// How many blocks were given and not taken back.
+    /// Returns how many blocks were given and not taken back.
     pub fn live(&self) -> u64 {
         self.counts.live.load(Ordering::SeqCst)
     }

@@ -3,8 +3,8 @@
 /// More than the requests of any call.
 pub const MANY: u64 = 1000;
 
-/// Whether a call met the request that was refused. `None` for another answer than out of memory
-/// if it did and success if it did not, and if a call that ran out of memory left its values changed.
+/// Returns whether a call met the request that was refused. `None` for another answer than out of memory if it did and success if
+/// it did not, and if a call that ran out of memory left its values changed.
 pub fn was_refused<E: PartialEq + Drop>(
     refused: bool,
     fault: Option<E>,

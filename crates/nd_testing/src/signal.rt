@@ -17,7 +17,7 @@ pub struct Sign<'a, R: Clock> {
 }
 
 impl<'a, R: Clock> Sign<'a, R> {
-    /// A sign that is not given yet.
+    /// Returns a sign that is not given yet.
     pub fn new(clock: &'a R) -> Sign<'a, R> {
         Sign {
             clock,
@@ -41,7 +41,7 @@ impl<'a, R: Clock> Sign<'a, R> {
         self.is_late.store(true, Ordering::SeqCst);
     }
 
-    /// Whether the sign is given, and each that waited has seen it.
+    /// Returns whether the sign is given, and each that waited has seen it.
     pub fn came(&self) -> bool {
         self.given.load(Ordering::SeqCst) && !self.is_late.load(Ordering::SeqCst)
     }

@@ -20,7 +20,7 @@ use nd_vertex::VertexState;
 use nd_view::View;
 use std::alloc::{Allocator, Global};
 
-/// Whether a change of -1 at a and 2 at z tells them, and takes what is added at a.
+/// Returns whether a change of -1 at a and 2 at z tells them, and takes what is added at a.
 fn change_tells<A: Allocator + Copy>(paths: &Paths<A>, change: &mut Delta<A>) -> Option<bool> {
     let graph = paths.graph();
     let (a, az) = (point(graph, "a", &[0])?, point(graph, "az", &[0])?);
@@ -42,7 +42,7 @@ fn changes_tell<A: Allocator + Copy>(heap: &Heap, alloc: A, json: Global) -> Opt
     Some(is_told && part.len() == 0)
 }
 
-/// Whether a view of 3 at a and -1 at az tells what it holds.
+/// Returns whether a view of 3 at a and -1 at az tells what it holds.
 fn view_tells<A: Allocator + Copy>(paths: &Paths<A>, view: &View<A>) -> Option<bool>
     requires { IsFor paths.now view.now }
 {
@@ -90,7 +90,7 @@ fn vertices_tell<A: Allocator + Copy>(heap: &Heap, alloc: A) -> Option<bool> {
     Some(left == 0)
 }
 
-/// Whether two queues from 1, each with one change twice, give it back from both ends.
+/// Returns whether two queues from 1, each with one change twice, give it back from both ends.
 fn queues_give<A: Allocator + Copy>(mesh: &mut Mesh<A>) -> Option<bool> {
     let is_there = len(mesh, 1, 0) == Some(2);
     let oldest = pop(mesh, 1, 0)?;
@@ -118,7 +118,7 @@ fn adds<A: Allocator + Copy>(processor: &mut Processor<A>, key: &ValueAt) -> Opt
     move_token(processor, Some(1)).ok()
 }
 
-/// A processor with a record, a request, an item, a count of a sink and two unsent entries.
+/// Returns a processor with a record, a request, an item, a count of a sink and two unsent entries.
 fn holding<A: Allocator + Copy>(alloc: A, graph: &Graph<A>, key: &ValueAt) -> Option<Processor<A>> {
     let mut processor = Processor::start(alloc, graph).ok()?;
     adds(&mut processor, key)?;
@@ -126,7 +126,7 @@ fn holding<A: Allocator + Copy>(alloc: A, graph: &Graph<A>, key: &ValueAt) -> Op
     Some(processor)
 }
 
-/// Whether a processor tells that it holds these, of records and counts two.
+/// Returns whether a processor tells that it holds these, of records and counts two.
 fn processor_tells<A: Allocator + Copy>(processor: &Processor<A>, key: &ValueAt) -> bool {
     let counts = (
         processor.records().count(),
@@ -178,7 +178,7 @@ fn processors_tell<A: Allocator + Copy>(heap: &Heap, alloc: A, json: Global) -> 
     Some(is_told && is_given)
 }
 
-/// Whether the calls of a kind that take no memory answer as they should while none is given.
+/// Returns whether the calls of a kind that take no memory answer as they should while none is given.
 fn answers<A: Allocator + Copy>(heap: &Heap, alloc: A, json: Global, kind: Kind) -> Option<bool> {
     match kind {
         Kind::Changes => changes_tell(heap, alloc, json),

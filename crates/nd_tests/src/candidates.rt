@@ -78,7 +78,7 @@ static HELD_IDLE: Script = (
 
 static OF_IDLE: [Row; 1] = [(Told::Notice(0, "h", &[0]), Some(Bar::Never))];
 
-/// Whether a candidate is the one of a row.
+/// Returns whether a candidate is the one of a row.
 fn is_candidate(
     alloc: Global,
     cluster: &Cluster,
@@ -96,7 +96,7 @@ fn is_candidate(
     Some(candidate.step.same(&step_of(alloc, graph, &row.0)?) && candidate.refusal == refusal)
 }
 
-/// Whether the candidates after a script are those of the rows, in their order.
+/// Returns whether the candidates after a script are those of the rows, in their order.
 fn are_candidates(alloc: Global, script: &Script, rows: &[Row]) -> Option<bool> {
     let (text, n, steps) = script;
     let cluster = reach(alloc, alloc, text, *n, steps)?;
@@ -141,7 +141,7 @@ fn no_candidates_at_the_start(rt: HostRuntime) {
     );
 }
 
-/// How many candidates a line lists that is fed so many values, and whether there are more.
+/// Returns how many candidates a line lists that is fed so many values, and whether there are more.
 fn listed(alloc: Global, count: i64) -> Option<(usize, bool)> {
     let mut cluster = start(alloc, alloc, LINE, 1)?;
     let mut values = Values::new(alloc);
@@ -171,7 +171,7 @@ fn first_thousand(rt: HostRuntime) {
     }
 }
 
-/// Whether the candidates after a script met the request that was refused.
+/// Returns whether the candidates after a script met the request that was refused.
 fn meets<A: Allocator + Copy>(
     heap: &Refusing<Global>,
     alloc: A,
@@ -185,7 +185,7 @@ fn meets<A: Allocator + Copy>(
     met!(heap, n: cluster.candidates(); NoMemory, is_state(json, &cluster, before.as_str()))
 }
 
-/// How many requests were refused before the candidates after a script met none.
+/// Returns how many requests were refused before the candidates after a script met none.
 fn refused<A: Allocator + Copy>(
     heap: &Refusing<Global>,
     alloc: A,

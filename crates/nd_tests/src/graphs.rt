@@ -133,26 +133,26 @@ pub const LONG: &str = graph_text!(
             e: v30 0 -> v31 exchange
 );
 
-/// The graph of a JSON text.
+/// Returns the graph of a JSON text.
 pub fn graph_of<A: Allocator + Copy>(json: Global, alloc: A, text: &str) -> Option<Graph<A>> {
     let value = Value::from_str(json, text).ok()?;
     let draft = GraphDraft::from_value(alloc, &value).ok()?;
     draft.check(alloc).ok()
 }
 
-/// The order of the pointstamps of a graph.
+/// Returns the order of the pointstamps of a graph.
 pub fn paths_of<A: Allocator + Copy>(json: Global, alloc: A, text: &str) -> Option<Paths<A>> {
     let graph = graph_of(json, alloc, text)?;
     Paths::of(alloc, &graph).ok()
 }
 
-/// The time of a list: the epoch and then the counters.
+/// Returns the time of a list: the epoch and then the counters.
 pub fn time(list: &[u32]) -> Option<Timestamp> {
     let (epoch, counters) = list.split_first()?;
     Timestamp::new(*epoch, counters)
 }
 
-/// The pointstamp at the location of a name.
+/// Returns the pointstamp at the location of a name.
 pub fn point<A: Allocator>(graph: &Graph<A>, name: &str, list: &[u32]) -> Option<Pointstamp> {
     Pointstamp::new(graph, graph.location_of(name)?, time(list)?)
 }
@@ -160,7 +160,7 @@ pub fn point<A: Allocator>(graph: &Graph<A>, name: &str, list: &[u32]) -> Option
 /// An entry of a change outside all loops: a location's name, an epoch and a number.
 pub type Entry = (&'static str, u32, i64);
 
-/// The change of these entries.
+/// Returns the change of these entries.
 pub fn change<A: Allocator + Copy>(
     alloc: A,
     graph: &Graph<A>,
@@ -174,7 +174,7 @@ pub fn change<A: Allocator + Copy>(
     Some(change)
 }
 
-// Whether the point and the number are those of the entry.
+// Returns whether the point and the number are those of the entry.
 fn is_entry<A: Allocator>(graph: &Graph<A>, found: &(Pointstamp, i64), entry: &Entry) -> bool {
     let (name, epoch, n) = entry;
     match point(graph, name, &[*epoch]) {
@@ -183,7 +183,7 @@ fn is_entry<A: Allocator>(graph: &Graph<A>, found: &(Pointstamp, i64), entry: &E
     }
 }
 
-/// Whether these entries were found, in this order.
+/// Returns whether these entries were found, in this order.
 pub fn are_entries<A: Allocator>(
     graph: &Graph<A>,
     found: &[(Pointstamp, i64)],

@@ -34,7 +34,7 @@ pub fn move_token<A: Allocator + Copy>(
     Ok(())
 }
 
-/// The number of the item 7 of the second vertex at epoch 0.
+/// Returns the number of the item 7 of the second vertex at epoch 0.
 pub fn item<A: Allocator + Copy>(processor: &Processor<A>) -> Option<i64> {
     if processor.vertex_count() < 2 {
         return None;

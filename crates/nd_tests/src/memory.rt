@@ -82,7 +82,7 @@ fn give<A: Allocator + Copy, R: Wait>(
     Some(())
 }
 
-/// A session of the line, and a client of it that has given these commands.
+/// Returns a session of the line, and a client of it that has given these commands.
 fn driven<A: Allocator + Copy, R: Wait>(
     rt: &R,
     json: Global,
@@ -97,7 +97,7 @@ fn driven<A: Allocator + Copy, R: Wait>(
     Some((session, client))
 }
 
-/// Whether two snapshots are of one machine after one log.
+/// Returns whether two snapshots are of one machine after one log.
 fn are_equal<A: Allocator + Copy>(
     json: Global,
     before: &Snapshot<A>,
@@ -109,8 +109,8 @@ fn are_equal<A: Allocator + Copy>(
     Some(is_there && is_kept && is_state(json, after.cluster(), text.as_str()))
 }
 
-/// Whether the answer is one that may be given: the one with ample memory, or out of memory in a step that is logged,
-/// with the cursor where the snapshot has it.
+/// Returns whether the answer is one that may be given: the one with ample memory, or out of memory in a step that is logged, with
+/// the cursor where the snapshot has it.
 fn may_answer<A: Allocator + Copy>(
     receipt: &Receipt<A>,
     met: bool,
@@ -128,7 +128,7 @@ fn wants_memory<T, A: Allocator>(answer: &Result<T, SessionFault<A>>) -> bool {
     matches!(answer, Err(SessionFault::Memory))
 }
 
-/// A command with one request refused: whether it met it.
+/// Returns a command with one request refused: whether it met it.
 ///
 /// Then nothing is logged, or the answer is; and in both cases the session closes with the client's receipts.
 fn commanded<A: Allocator + Copy, R: Wait>(
@@ -163,7 +163,7 @@ fn commanded<A: Allocator + Copy, R: Wait>(
     }
 }
 
-/// A command with each request refused in turn: how many were.
+/// Returns a command with each request refused in turn: how many were.
 fn commanded_in_turn<A: Allocator + Copy, R: Wait>(
     rt: &R,
     heap: &Heap,
@@ -190,7 +190,7 @@ fn command_out_of_memory(rt: HostRuntime) {
     assert_eq!(rt; heap.live(), 0);
 }
 
-/// An entry with one request refused: whether it met it. The next number is the one that was due.
+/// Returns an entry with one request refused: whether it met it. The next number is the one that was due.
 fn enters<A: Allocator + Copy, R: Wait>(
     rt: &R,
     heap: &Heap,
@@ -212,7 +212,7 @@ fn enters<A: Allocator + Copy, R: Wait>(
     if is_right { Some(met) } else { None }
 }
 
-/// A copy with one request refused: whether it met it. Nothing is logged.
+/// Returns a copy with one request refused: whether it met it. Nothing is logged.
 fn copied<A: Allocator + Copy, R: Wait>(
     rt: &R,
     heap: &Heap,
@@ -238,7 +238,7 @@ fn copied<A: Allocator + Copy, R: Wait>(
     }
 }
 
-/// A stranger's command with one request refused: whether it met it. It is told the entry, or out of memory.
+/// Returns a stranger's command with one request refused: whether it met it. It is told the entry, or out of memory.
 fn refused<A: Allocator + Copy, R: Wait>(
     rt: &R,
     heap: &Heap,
@@ -259,7 +259,7 @@ fn refused<A: Allocator + Copy, R: Wait>(
     }
 }
 
-/// Whether each of these calls meets requests that are refused.
+/// Returns whether each of these calls meets requests that are refused.
 fn calls_in_turn<A: Allocator + Copy, R: Wait>(
     rt: &R,
     heap: &Heap,
@@ -304,7 +304,7 @@ fn tell<A: Allocator + Copy>(
     Some(())
 }
 
-/// A `State`'s command with one request refused: whether it met it. Then nothing is logged, or the answer is.
+/// Returns a `State`'s command with one request refused: whether it met it. Then nothing is logged, or the answer is.
 fn applied<A: Allocator + Copy>(
     heap: &Heap,
     json: Global,
@@ -335,7 +335,7 @@ fn applied<A: Allocator + Copy>(
     }
 }
 
-/// A `State`'s command with each request refused in turn: how many were.
+/// Returns a `State`'s command with each request refused in turn: how many were.
 fn applied_in_turn<A: Allocator + Copy>(
     heap: &Heap,
     json: Global,
@@ -356,7 +356,7 @@ fn apply_out_of_memory(rt: HostRuntime) {
     assert_eq!(rt; heap.live(), 0);
 }
 
-/// Whether a copy of a receipt met the request that was refused.
+/// Returns whether a copy of a receipt met the request that was refused.
 fn meets_copy<A: Allocator + Copy>(
     heap: &Heap,
     json: Global,
@@ -370,7 +370,7 @@ fn meets_copy<A: Allocator + Copy>(
     met!(heap, n: receipt.copy(alloc); AllocError, true)
 }
 
-/// How many requests were refused before it met none.
+/// Returns how many requests were refused before it met none.
 fn receipt_copies<A: Allocator + Copy>(
     heap: &Heap,
     json: Global,

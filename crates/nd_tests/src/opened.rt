@@ -27,12 +27,12 @@ pub enum Asked {
 /// A feed of nothing.
 pub const NOTHING: Asked = Asked::Forward(Told::Feed(0, "a", &[], Next::Next));
 
-/// The condition that an atom holds.
+/// Returns the condition that an atom holds.
 pub fn only(atom: Atom) -> Condition {
     Condition::new(Quantifier::All, Literal::Is(atom))
 }
 
-/// The command that is told.
+/// Returns the command that is told.
 pub fn command_of<A: Allocator + Copy>(
     alloc: A,
     graph: &Graph<A>,
@@ -63,7 +63,7 @@ pub fn command_of<A: Allocator + Copy>(
     }
 }
 
-/// The `State` of a start.
+/// Returns the `State` of a start.
 pub fn opened<A: Allocator + Copy>(json: Global, alloc: A, text: &str, n: u32) -> Option<State<A>> {
     let graph = graph_of(json, alloc, text)?;
     let Ok(cluster) = Cluster::start(alloc, graph, n) else {
@@ -78,7 +78,7 @@ pub fn opened<A: Allocator + Copy>(json: Global, alloc: A, text: &str, n: u32) -
     Some(state)
 }
 
-/// A session of a start.
+/// Returns a session of a start.
 pub fn session_of<A: Allocator + Copy>(
     json: Global,
     alloc: A,

@@ -11,7 +11,7 @@ use nd_view::View;
 use std::alloc::Global;
 use std::test::Fail;
 
-/// The points of a location at an epoch whose counters are all the same.
+/// Returns the points of a location at an epoch whose counters are all the same.
 fn add_points(
     graph: &Graph,
     points: &mut Vec<Pointstamp>,
@@ -41,13 +41,13 @@ fn points_of(alloc: Global, graph: &Graph) -> Option<Vec<Pointstamp>> {
     Some(points)
 }
 
-/// The number that comes after another in a fixed sequence without a visible rule.
+/// Returns the number that comes after another in a fixed sequence without a visible rule.
 fn next(seed: u64) -> u64 {
     seed.wrapping_mul(6_364_136_223_846_793_005)
         .wrapping_add(1_442_695_040_888_963_407)
 }
 
-/// A change of one to three points, by from 2 less to 2 more.
+/// Returns a change of one to three points, by from 2 less to 2 more.
 fn drawn(alloc: Global, points: &[Pointstamp], mut seed: u64) -> Option<Delta> {
     let mut change = Delta::new(alloc);
     for _ in 0..seed >> 40 & 3 {
@@ -60,7 +60,7 @@ fn drawn(alloc: Global, points: &[Pointstamp], mut seed: u64) -> Option<Delta> {
     Some(change)
 }
 
-/// How many of the points are positive, and strictly before one or at or before it.
+/// Returns how many of the points are positive, and strictly before one or at or before it.
 fn counted(
     view: &View,
     paths: &Paths,
@@ -85,7 +85,7 @@ fn counted(
     count
 }
 
-/// Whether what a view tells of a point is what a count over all points tells.
+/// Returns whether what a view tells of a point is what a count over all points tells.
 fn tells_of(
     view: &View,
     paths: &Paths,
@@ -108,7 +108,7 @@ fn tells_of(
         && view.blocker_before(paths, point).is_none() == (count == 0)
 }
 
-/// Whether it is so at each point.
+/// Returns whether it is so at each point.
 fn tells_all(alloc: Global, view: &View, paths: &Paths, points: &[Pointstamp]) -> bool
     requires { IsFor paths.now view.now }
 {

@@ -17,7 +17,7 @@ pub fn push<A: Allocator + Copy>(
     }
 }
 
-/// Whether each queue of the sender had a change to take back.
+/// Returns whether each queue of the sender had a change to take back.
 pub fn unpush<A: Allocator + Copy>(mesh: &mut Mesh<A>, from: usize) -> Option<bool> {
     if from < mesh.n() {
         Some(mesh.unpush_all(from).is_ok())
@@ -51,7 +51,7 @@ pub fn unpop<A: Allocator + Copy>(
     }
 }
 
-/// How many changes a queue has.
+/// Returns how many changes a queue has.
 pub fn len<A: Allocator + Copy>(mesh: &Mesh<A>, from: usize, to: usize) -> Option<usize> {
     if from < mesh.n() && to < mesh.n() {
         Some(mesh.len(from, to))

@@ -108,7 +108,7 @@ static CALLS: [(Call, bool); 39] = [
     (Call::PutPart, true),
 ];
 
-/// Whether a call on graphs met the request that was refused.
+/// Returns whether a call on graphs met the request that was refused.
 fn graphs<A: Allocator + Copy>(
     heap: &Heap,
     alloc: A,
@@ -130,7 +130,7 @@ fn graphs<A: Allocator + Copy>(
     }
 }
 
-/// The same of a call on paths.
+/// Does the same for a call on paths.
 fn paths<A: Allocator + Copy>(
     heap: &Heap,
     alloc: A,
@@ -148,7 +148,7 @@ fn paths<A: Allocator + Copy>(
     }
 }
 
-/// The same of a call on changes.
+/// Does the same for a call on changes.
 fn changes<A: Allocator + Copy>(
     heap: &Heap,
     alloc: A,
@@ -171,7 +171,7 @@ fn changes<A: Allocator + Copy>(
     }
 }
 
-/// The same of a call on views.
+/// Does the same for a call on views.
 fn views<A: Allocator + Copy>(
     heap: &Heap,
     alloc: A,
@@ -203,7 +203,7 @@ fn views<A: Allocator + Copy>(
     }
 }
 
-/// The same of a call on queues.
+/// Does the same for a call on queues.
 fn queues<A: Allocator + Copy>(
     heap: &Heap,
     alloc: A,
@@ -227,7 +227,7 @@ fn queues<A: Allocator + Copy>(
     }
 }
 
-/// What a vertex keeps that has the items below a number at epoch 0: 12 are more than one node of a tree holds.
+/// Returns what a vertex keeps that has the items below a number at epoch 0: 12 are more than one node of a tree holds.
 pub fn many<A: Allocator + Copy>(alloc: A, count: i64) -> Option<VertexState<A>> {
     let mut state = VertexState::new(alloc);
     let time = time(&[0])?;
@@ -237,7 +237,7 @@ pub fn many<A: Allocator + Copy>(alloc: A, count: i64) -> Option<VertexState<A>>
     Some(state)
 }
 
-/// The same of the edits of an effect, made or taken back. If that takes memory there is no item before it.
+/// Does the same for the edits of an effect, made or taken back. If that takes memory there is no item before it.
 fn edits<A: Allocator + Copy>(
     heap: &Heap,
     alloc: A,
@@ -260,7 +260,7 @@ fn edits<A: Allocator + Copy>(
     }
 }
 
-/// The same of a call on a vertex without items.
+/// Does the same for a call on a vertex without items.
 fn vertices<A: Allocator + Copy>(heap: &Heap, alloc: A, call: Call, n: u64) -> Option<bool> {
     let time = time(&[0])?;
     let mut state = VertexState::new(alloc);
@@ -276,7 +276,7 @@ fn vertices<A: Allocator + Copy>(heap: &Heap, alloc: A, call: Call, n: u64) -> O
     edits(heap, alloc, &mut state, &effect, call, n)
 }
 
-/// The same of a call on a vertex with items.
+/// Does the same for a call on a vertex with items.
 fn full_vertices<A: Allocator + Copy>(heap: &Heap, alloc: A, call: Call, n: u64) -> Option<bool> {
     let time = time(&[0])?;
     let mut state = many(alloc, 12)?;
@@ -291,7 +291,7 @@ fn full_vertices<A: Allocator + Copy>(heap: &Heap, alloc: A, call: Call, n: u64)
     edits(heap, alloc, &mut state, &effect, call, n)
 }
 
-/// The same of a call on a whole processor.
+/// Does the same for a call on a whole processor.
 fn processors<A: Allocator + Copy>(
     heap: &Heap,
     alloc: A,
@@ -313,7 +313,7 @@ fn processors<A: Allocator + Copy>(
     }
 }
 
-/// The same of a call that puts a record, a request, a sink's count or an unsent entry into a processor.
+/// Does the same for a call that puts a record, a request, a sink's count or an unsent entry into a processor.
 fn additions<A: Allocator + Copy>(
     heap: &Heap,
     alloc: A,
@@ -338,7 +338,7 @@ fn additions<A: Allocator + Copy>(
     }
 }
 
-/// The same of all that is unsent, taken out and put back.
+/// Does the same for all that is unsent, taken out and put back.
 fn parts<A: Allocator + Copy>(
     heap: &Heap,
     alloc: A,
@@ -352,7 +352,7 @@ fn parts<A: Allocator + Copy>(
     met!(heap, n: left.put_part(&part); AllocError, left.unsent().len() == 0)
 }
 
-/// A processor with so many unsent entries that they do not fit one node of a tree.
+/// Returns a processor with so many unsent entries that they do not fit one node of a tree.
 fn unsent<A: Allocator + Copy>(alloc: A, graph: &Graph<A>) -> Option<Processor<A>> {
     let mut processor = Processor::start(alloc, graph).ok()?;
     for epoch in 0..40 {
@@ -361,7 +361,7 @@ fn unsent<A: Allocator + Copy>(alloc: A, graph: &Graph<A>) -> Option<Processor<A
     Some(processor)
 }
 
-/// Whether a call met the request that was refused. `None` if it answered or left what it should not.
+/// Returns whether a call met the request that was refused. `None` if it answered or left what it should not.
 fn meets<A: Allocator + Copy>(
     heap: &Heap,
     alloc: A,
@@ -405,7 +405,7 @@ fn meets<A: Allocator + Copy>(
     }
 }
 
-/// How many requests of a call were refused before it met none.
+/// Returns how many requests of a call were refused before it met none.
 fn refused<A: Allocator + Copy>(heap: &Heap, alloc: A, json: Global, call: Call) -> Option<u64> {
     in_turn(|n| meets(heap, alloc, json, call, n))
 }

@@ -69,7 +69,7 @@ pub const HELD_MOVED: Script = (
     ],
 );
 
-/// The start of a cluster of n processors.
+/// Returns the start of a cluster of n processors.
 pub fn start<A: Allocator + Copy>(
     json: Global,
     alloc: A,
@@ -80,7 +80,7 @@ pub fn start<A: Allocator + Copy>(
     Cluster::start(alloc, graph, n).ok()
 }
 
-/// The list of these values.
+/// Returns the list of these values.
 pub fn values_of<A: Allocator>(alloc: A, list: &[i64]) -> Option<Values<A>> {
     let mut values = Values::new(alloc);
     for value in list {
@@ -89,7 +89,7 @@ pub fn values_of<A: Allocator>(alloc: A, list: &[i64]) -> Option<Values<A>> {
     Some(values)
 }
 
-/// The list of these processors.
+/// Returns the list of these processors.
 pub fn processors_of<A: Allocator>(alloc: A, list: &[u32]) -> Option<Processors<A>> {
     let mut processors = Processors::new(alloc);
     for p in list {
@@ -98,7 +98,7 @@ pub fn processors_of<A: Allocator>(alloc: A, list: &[u32]) -> Option<Processors<
     Some(processors)
 }
 
-/// The times of a capability that is given up or moves.
+/// Returns the times of a capability that is given up or moves.
 pub fn times_of(list: &[u32], to: &Option<&'static [u32]>) -> Option<Times> {
     let to = match to {
         Some(to) => Some(time(to)?),
@@ -110,7 +110,7 @@ pub fn times_of(list: &[u32], to: &Option<&'static [u32]>) -> Option<Times> {
     })
 }
 
-/// The part at these points.
+/// Returns the part at these points.
 fn part_of<A: Allocator + Copy>(alloc: A, graph: &Graph<A>, list: &[Named]) -> Option<Part<A>> {
     let mut points = Points::new(alloc);
     for (name, time) in list {
@@ -119,7 +119,7 @@ fn part_of<A: Allocator + Copy>(alloc: A, graph: &Graph<A>, list: &[Named]) -> O
     Some(Part::Points(points))
 }
 
-/// The step that is told.
+/// Returns the step that is told.
 pub fn step_of<A: Allocator + Copy>(alloc: A, graph: &Graph<A>, told: &Told) -> Option<Step<A>> {
     match told {
         Told::Feed(p, name, list, next) => Some(Step::Feed {
@@ -165,7 +165,7 @@ pub fn make<A: Allocator + Copy>(cluster: &mut Cluster<A>, step: &Step<A>) -> Op
     cluster.commit(&record).ok()
 }
 
-/// The cluster after these steps.
+/// Returns the cluster after these steps.
 pub fn reach<A: Allocator + Copy>(
     json: Global,
     alloc: A,
@@ -181,13 +181,13 @@ pub fn reach<A: Allocator + Copy>(
     Some(cluster)
 }
 
-/// The text of the state.
+/// Returns the text of the state.
 pub fn state_text<A: Allocator + Copy>(json: Global, cluster: &Cluster<A>) -> Option<String> {
     let text = cluster.state_value(json).ok()?.to_bytes(json).ok()?;
     String::from_utf8(text).ok()
 }
 
-/// Whether the state has this text.
+/// Returns whether the state has this text.
 pub fn is_state<A: Allocator + Copy>(json: Global, cluster: &Cluster<A>, text: &str) -> bool {
     match state_text(json, cluster) {
         Some(found) => found.as_str() == text,

@@ -53,7 +53,7 @@ fn kept<A: Allocator + Copy>(
     Some(timeline)
 }
 
-/// A snapshot of such a timeline.
+/// Returns a snapshot of such a timeline.
 fn fed<A: Allocator + Copy>(
     json: Global,
     alloc: A,
@@ -65,7 +65,7 @@ fn fed<A: Allocator + Copy>(
     Snapshot::of(alloc, &timeline, 0).ok()
 }
 
-/// The condition that holds if a location has a count of 1 at least at an epoch.
+/// Returns the condition that holds if a location has a count of 1 at least at an epoch.
 fn count<A: Allocator + Copy>(snapshot: &Snapshot<A>, name: &str, epoch: u32) -> Option<Condition> {
     Some(only(Atom::Count {
         point: point(snapshot.cluster().graph(), name, &[epoch])?,
@@ -73,7 +73,7 @@ fn count<A: Allocator + Copy>(snapshot: &Snapshot<A>, name: &str, epoch: u32) ->
     }))
 }
 
-/// The condition that holds if the sink has counted a value.
+/// Returns the condition that holds if the sink has counted a value.
 fn sink<A: Allocator + Copy>(snapshot: &Snapshot<A>, value: i64) -> Option<Condition> {
     Some(only(Atom::Sink {
         vertex: snapshot.cluster().graph().location_of("z")?,
@@ -128,7 +128,7 @@ impl Recorded {
         Recorded([AtomicU64::new(0), AtomicU64::new(0)])
     }
 
-    /// Whether this worker came to this piece.
+    /// Returns whether this worker came to this piece.
     fn has(&self, who: u64, piece: u64) -> bool {
         let one = self.0.get(piece as usize);
         one.is_some_and(|by| by.load(Ordering::SeqCst) == who.wrapping_add(1))
@@ -233,7 +233,7 @@ fn least_of_all_hits(rt: HostRuntime) -> Result<(), Fail> {
     Ok(())
 }
 
-/// Whether the lists are together the numbers below some number, each once.
+/// Returns whether the lists are together the numbers below some number, each once.
 fn are_below<A: Allocator>(alloc: Global, lists: &[Vec<u64, A>]) -> Option<bool> {
     let mut all = Vec::new(alloc);
     for list in lists {
@@ -263,13 +263,13 @@ fn were_called<A: Allocator>(gate: &Recorded, lists: &[Vec<u64, A>]) -> bool {
     true
 }
 
-/// Whether a list ends with the piece, and no hit lies before it.
+/// Returns whether a list ends with the piece, and no hit lies before it.
 fn is_stopped_in<A: Allocator>(piece: u64, lists: &[Vec<u64, A>], hit: Option<u64>) -> bool {
     let is_last = lists.iter().any(|list| list.last() == Some(&piece));
     is_last && hit.is_none_or(|position| position / 16 >= piece)
 }
 
-/// A search by two workers with one request refused: whether it met it, and whether a worker did.
+/// Returns a search by two workers with one request refused: whether it met it, and whether a worker did.
 ///
 /// `None` for an answer that is not the one with ample memory and not out of memory, and if a block
 /// stays.
@@ -305,7 +305,7 @@ fn searched<A: Allocator + Copy + Send + Sync, R: Threads + Sync>(
     }
 }
 
-/// A search with each request refused in turn: how often one was, and how often in a walk.
+/// Returns a search with each request refused in turn: how often one was, and how often in a walk.
 fn searched_in_turn<A: Allocator + Copy + Send + Sync, R: Threads + Sync>(
     rt: &R,
     heap: &Heap,
@@ -324,7 +324,7 @@ fn searched_in_turn<A: Allocator + Copy + Send + Sync, R: Threads + Sync>(
     None
 }
 
-/// A snapshot of a line that keeps 31 feeds of nothing, the cursor at their end or before them.
+/// Returns a snapshot of a line that keeps 31 feeds of nothing, the cursor at their end or before them.
 fn at_either_end<A: Allocator + Copy>(json: Global, alloc: A, is_end: bool) -> Option<Snapshot<A>> {
     let mut timeline = Timeline::new(alloc, start(json, alloc, LINE, 1)?).ok()?;
     forward(alloc, &mut timeline, &NOTHING, 31)?;
@@ -334,7 +334,7 @@ fn at_either_end<A: Allocator + Copy>(json: Global, alloc: A, is_end: bool) -> O
     Snapshot::of(alloc, &timeline, 0).ok()
 }
 
-/// Whether each search answers as it may, whichever request is refused, and the walks from the start met some.
+/// Returns whether each search answers as it may, whichever request is refused, and the walks from the start met some.
 fn searches_in_turn<A: Allocator + Copy + Send + Sync, R: Threads + Sync>(
     rt: &R,
     heap: &Heap,
@@ -406,7 +406,7 @@ fn the_gate_is_called_before_the_walk(rt: HostRuntime) {
     assert_eq!(rt; heap.live(), 0);
 }
 
-/// Whether making a snapshot, or a copy of one, met the request that was refused.
+/// Returns whether making a snapshot, or a copy of one, met the request that was refused.
 fn meets<A: Allocator + Copy>(
     heap: &Heap,
     json: Global,
@@ -424,7 +424,7 @@ fn meets<A: Allocator + Copy>(
     }
 }
 
-/// How many requests were refused before it met none.
+/// Returns how many requests were refused before it met none.
 fn snapshots<A: Allocator + Copy>(
     heap: &Heap,
     json: Global,

@@ -63,7 +63,7 @@ fn serve<R: Wait>(
     }
 }
 
-/// Whether so many entries are a client's, in its order.
+/// Returns whether so many entries are a client's, in its order.
 fn are_numbered(entries: &[Receipt], client: u64, count: usize) -> bool {
     let own = entries.iter().filter(|entry| entry.client == client);
     for (number, entry) in own.enumerate() {
@@ -78,7 +78,7 @@ fn are_numbered(entries: &[Receipt], client: u64, count: usize) -> bool {
         == count
 }
 
-/// Whether the entries are of feeds of nothing, the first at the start.
+/// Returns whether the entries are of feeds of nothing, the first at the start.
 fn are_feeds(entries: &[Receipt], feed: &Command) -> bool {
     for (i, entry) in entries.iter().enumerate() {
         let reply = Reply::Moved {
@@ -129,7 +129,7 @@ fn two_clients(rt: HostRuntime) -> Result<(), Fail> {
     Ok(())
 }
 
-/// A cluster of copies of the parts of a cluster of one processor with empty queues.
+/// Returns a cluster of copies of the parts of a cluster of one processor with empty queues.
 fn of_copies(alloc: Global, cluster: &Cluster) -> Option<Cluster> {
     let _ = cluster.n();
     let graph = cluster.graph().copy(alloc).ok()?;
@@ -151,7 +151,7 @@ fn of_copies(alloc: Global, cluster: &Cluster) -> Option<Cluster> {
     Cluster::of_parts(alloc, cluster.graph(), paths, processors, views, mesh)
 }
 
-/// Whether a change and what a vertex keeps are copied as they are.
+/// Returns whether a change and what a vertex keeps are copied as they are.
 fn copies_of_maps(alloc: Global, cluster: &Cluster) -> Option<bool> {
     let _ = cluster.n();
     let unsent = cluster.processor(0).unsent();
@@ -165,8 +165,8 @@ fn copies_of_maps(alloc: Global, cluster: &Cluster) -> Option<bool> {
     Some(copy.len() > 0 && copy.entries() == whole.entries() && copied.get(&zero, 7) == Some(2))
 }
 
-/// Whether what a session leaves is copied as it is: its cluster and the parts of that, a kept step, a planned record
-/// and a receipt.
+/// Returns whether what a session leaves is copied as it is: its cluster and the parts of that, a kept step, a planned record and a
+/// receipt.
 fn copies(alloc: Global, log: &Log) -> Option<bool> {
     let cluster = log.timeline.cluster();
     let text = state_text(alloc, cluster)?;
@@ -187,7 +187,7 @@ fn copies(alloc: Global, log: &Log) -> Option<bool> {
     )
 }
 
-/// Whether a call is answered 26 with this index, and with this entry or none.
+/// Returns whether a call is answered 26 with this index, and with this entry or none.
 fn is_stranger<T: Drop>(
     answer: Result<T, SessionFault>,
     wanted: u64,
@@ -252,7 +252,7 @@ static STARTS: [&str; 11] = [
     EMPTY,
 ];
 
-/// Whether the first copy from a session is of the start.
+/// Returns whether the first copy from a session is of the start.
 fn opens<R: Wait>(rt: &R, alloc: Global, text: &str, n: u32) -> Option<bool> {
     let started = start(alloc, alloc, text, n)?;
     let session = session_of(alloc, alloc, text, n)?;
@@ -296,7 +296,7 @@ fn sixty_four_clients(rt: HostRuntime) -> Result<(), Fail> {
 /// The most entries of a log.
 const MOST: u64 = 1_000_000;
 
-/// Whether so many commands are answered and logged.
+/// Returns whether so many commands are answered and logged.
 fn answers_backs(alloc: Global, times: u64) -> Option<bool> {
     let mut state = opened(alloc, alloc, LINE, 1)?;
     for _ in 0..times {
@@ -332,7 +332,7 @@ impl<R: Clock + Sync> Gate for Between<'_, R> {
     }
 }
 
-/// What a client finds in a copy of its own.
+/// Returns what a client finds in a copy of its own.
 fn found<R: Wait + Threads + Sync, G: Gate>(
     rt: &R,
     alloc: Global,

@@ -33,7 +33,7 @@ fn add_spread<A: Allocator + Copy>(
     Some(())
 }
 
-/// The sum, the difference and the part of a change with itself: what is left is a copy of it.
+/// Returns the sum, the difference and the part of a change with itself: what is left is a copy of it.
 fn summed<A: Allocator + Copy>(alloc: A, base: &Delta<A>) -> Option<Delta<A>> {
     let copy = base.copy(alloc).ok()?;
     let twice = copy.plus(alloc, base).ok()?;
@@ -42,7 +42,7 @@ fn summed<A: Allocator + Copy>(alloc: A, base: &Delta<A>) -> Option<Delta<A>> {
     once.plus(alloc, &none).ok()
 }
 
-/// Whether a change is copied, and grows by a hundred entries.
+/// Returns whether a change is copied, and grows by a hundred entries.
 fn grows<A: Allocator + Copy>(alloc: A, graph: &Graph<A>, base: &Delta<A>) -> Option<bool> {
     let mut copy = summed(alloc, base)?;
     let is_whole = copy.len() == base.len();
@@ -63,7 +63,7 @@ fn changes<A: Allocator + Copy>(
     unasked!(first: grows(there, &graph, &base))
 }
 
-/// Whether a copy of a view of this change lists it as the frontier, takes it back and has it again.
+/// Returns whether a copy of a view of this change lists it as the frontier, takes it back and has it again.
 fn returns<A: Allocator + Copy>(
     alloc: A,
     paths: &Paths<A>,
@@ -94,7 +94,7 @@ fn views<A: Allocator + Copy>(
     Some(unasked!(first: returns(there, &paths, &base, &news)?))
 }
 
-/// Whether a copy of what a vertex keeps gives it up at a notice, and has it again and an item more.
+/// Returns whether a copy of what a vertex keeps gives it up at a notice, and has it again and an item more.
 fn notices<A: Allocator + Copy>(alloc: A, base: &VertexState<A>, count: u32) -> Option<bool> {
     let time = time(&[0])?;
     let mut copy = base.copy(alloc).ok()?;
@@ -131,7 +131,7 @@ fn put_back<A: Allocator + Copy>(mesh: &mut Mesh<A>) -> Option<usize> {
     len(mesh, 0, 1)
 }
 
-/// How many changes a queue of a copy has once it has ten more.
+/// Returns how many changes a queue of a copy has once it has ten more.
 fn ten_more<A: Allocator + Copy>(alloc: A, base: &Mesh<A>, change: &Delta<A>) -> Option<usize> {
     let mut copy = base.copy(alloc).ok()?;
     push_times(&mut copy, change, 10)?;
@@ -188,7 +188,7 @@ fn put_part_back<A: Allocator + Copy>(processor: &mut Processor<A>, alloc: A) ->
     processor.put_part(&part).ok()
 }
 
-/// How many requests a copy of a processor has once it has a hundred more of all.
+/// Returns how many requests a copy of a processor has once it has a hundred more of all.
 fn more_of_all<A: Allocator + Copy>(
     alloc: A,
     graph: &Graph<A>,
@@ -215,7 +215,7 @@ fn processors<A: Allocator + Copy>(
     Some(total? as u64 == u64::from(count) + 100)
 }
 
-/// Whether what is made of so many in the first heap is copied in another, and grows there, without the first.
+/// Returns whether what is made of so many in the first heap is copied in another, and grows there, without the first.
 fn is_apart<A: Allocator + Copy>(
     first: &Heap,
     here: A,
@@ -249,7 +249,7 @@ fn copies_have_their_own_memory(rt: HostRuntime) {
     }
 }
 
-/// Whether a processor of a graph starts, and is copied, as are the graph and its paths.
+/// Returns whether a processor of a graph starts, and is copied, as are the graph and its paths.
 fn starts<A: Allocator + Copy>(alloc: A, graph: &Graph<A>) -> Option<bool> {
     let copy = graph.copy(alloc).ok()?;
     let paths = Paths::of(alloc, &copy).ok()?.copy(alloc).ok()?;
@@ -258,7 +258,7 @@ fn starts<A: Allocator + Copy>(alloc: A, graph: &Graph<A>) -> Option<bool> {
     Some(is_started && are_same(&copy, graph) && are_same(paths.graph(), graph))
 }
 
-/// The same of the graph of a text.
+/// Does the same for the graph of a text.
 fn starts_on<A: Allocator + Copy>(alloc: A, json: Global, text: &str) -> Option<bool> {
     starts(alloc, &graph_of(json, alloc, text)?)
 }

@@ -16,7 +16,7 @@ use serde_json::Value;
 use std::alloc::Global;
 use std::test::Fail;
 
-/// The time past a vertex of this action, or `None` if there is no such time.
+/// Returns the time past a vertex of this action, or `None` if there is no such time.
 fn moved(action: Action, time: &Timestamp) -> Option<Timestamp> {
     match action {
         Action::Identity => Some(time.copy()),
@@ -69,7 +69,7 @@ fn time_order(rt: HostRuntime) -> Result<(), Fail> {
     Ok(())
 }
 
-/// How many locations a graph has as one of version 1, and as a later one, or its fault.
+/// Returns how many locations a graph has as one of version 1, and as a later one, or its fault.
 fn locations(alloc: Global, text: &str) -> Option<[Result<usize, GraphFault>; 2]> {
     let value = Value::from_str(alloc, text).ok()?;
     let (first, later) = (
@@ -160,7 +160,7 @@ fn two_summaries(rt: HostRuntime) -> Result<(), Fail> {
     Ok(())
 }
 
-/// Whether what is added at a point is kept up to the limit.
+/// Returns whether what is added at a point is kept up to the limit.
 fn is_limited(alloc: Global) -> Option<bool> {
     let graph = graph_of(alloc, alloc, LINE)?;
     let p = point(&graph, "a", &[0])?;
@@ -172,7 +172,7 @@ fn is_limited(alloc: Global) -> Option<bool> {
     Some(is_full && is_kept && delta.len() == 0)
 }
 
-/// Whether the sum, the difference and the part of two changes are what they should be.
+/// Returns whether the sum, the difference and the part of two changes are what they should be.
 fn sums(alloc: Global) -> Option<bool> {
     let graph = graph_of(alloc, alloc, LINE)?;
     let r = point(&graph, "z", &[0])?;
@@ -229,7 +229,7 @@ fn changes_and_views(rt: HostRuntime) -> Result<(), Fail> {
     Ok(())
 }
 
-/// Whether a view that was given a change, and then its opposite, goes back over both.
+/// Returns whether a view that was given a change, and then its opposite, goes back over both.
 fn is_undone(alloc: Global) -> Option<bool> {
     let paths = paths_of(alloc, alloc, LINE)?;
     let more = change(alloc, paths.graph(), &[("a", 0, 1)])?;
@@ -265,7 +265,7 @@ fn queue_ends(rt: HostRuntime) -> Result<(), Fail> {
     Ok(())
 }
 
-/// Whether a change goes through new queues of one processor, and back.
+/// Returns whether a change goes through new queues of one processor, and back.
 fn goes_through(alloc: Global, change: &Delta) -> Option<bool> {
     let mut mesh = Mesh::new(alloc, 1).ok()?;
     let is_new = pop(&mut mesh, 0, 0).is_none() && !unpush(&mut mesh, 0)?;
@@ -277,7 +277,7 @@ fn goes_through(alloc: Global, change: &Delta) -> Option<bool> {
     Some(is_new && is_same && is_put && len(&mesh, 0, 0) == Some(0))
 }
 
-/// The same of a change of two entries.
+/// Does the same for a change of two entries.
 fn two_go_through(alloc: Global) -> Option<bool> {
     let graph = graph_of(alloc, alloc, LINE)?;
     goes_through(alloc, &change(alloc, &graph, &[("a", 0, -1), ("z", 0, 2)])?)
@@ -288,21 +288,21 @@ fn queue_ends_when_new(rt: HostRuntime) {
     assert_eq!(rt; two_go_through(rt.alloc()), Some(true));
 }
 
-/// Whether an effect asks for a notice, and gives the sum 2, and no more.
+/// Returns whether an effect asks for a notice, and gives the sum 2, and no more.
 fn sets_two(effect: &Effect) -> Option<bool> {
     let edit = effect.items.first()?;
     let is_set = edit.key.item == 0 && edit.old.is_none() && edit.new == Some(2);
     Some(is_set && effect.asks && effect.items.len() == 1 && effect.emits.is_empty())
 }
 
-/// Whether an effect emits the sum 2 on port 0 and takes it out, and no more.
+/// Returns whether an effect emits the sum 2 on port 0 and takes it out, and no more.
 fn emits_two(effect: &Effect) -> Option<bool> {
     let (edit, emitted) = (effect.items.first()?, effect.emits.first()?);
     let is_emitted = emitted.port == 0 && emitted.value == 2 && edit.old == Some(2);
     Some(is_emitted && edit.new.is_none() && effect.items.len() == 1 && effect.emits.len() == 1)
 }
 
-/// Whether a sum's vertex does on a record of 2, and on the notice after it, what it should.
+/// Returns whether a sum's vertex does on a record of 2, and on the notice after it, what it should.
 fn sums_two(alloc: Global) -> Option<bool> {
     let time = time(&[0])?;
     let mut state = VertexState::new(alloc);

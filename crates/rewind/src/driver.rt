@@ -19,7 +19,7 @@ const CHUNK: usize = 65_537;
 ///
 /// At most `INPUT_LIMIT` bytes are run; one more ends the run with `TooLong`, so a source that
 /// never ends does not keep it reading. A graph that is refused ends it with `Graph`, whatever
-/// follows. The replies to the lines that are whole go out before more is read. `Script` and
+/// follows. The replies to complete lines are written before more is read. `Script` and
 /// `Close` never come: they belong to scripts of several clients. The runtime gives the threads of
 /// searches, and of nothing else.
 pub fn debug<R: Threads + Sync, S: Source, T: Sink>(
@@ -50,7 +50,7 @@ pub fn debug<R: Threads + Sync, S: Source, T: Sink>(
     debug_within(rt, alloc, source, sink, options, INPUT_LIMIT)
 }
 
-/// The same, of a script of at most `limit` bytes.
+/// Does the same with a script of at most `limit` bytes.
 pub fn debug_within<R: Threads + Sync, S: Source, T: Sink>(
     rt: &R,
     alloc: Global,
@@ -79,7 +79,7 @@ pub fn debug_within<R: Threads + Sync, S: Source, T: Sink>(
     let chunk = room.as_mut_slice();
     let mut left = limit;
     'reads: loop {
-        // The byte past the limit tells that the input goes on.
+        // The byte past the limit shows that the input goes on.
         let most = CHUNK.min(left + 1);
         let n = read_into(source, chunk, most)?;
         if n == 0 {

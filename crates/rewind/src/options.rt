@@ -71,7 +71,7 @@ fn clients_argument(alloc: Global) -> Arg<'static>
         .help("How many clients the script has, from 1 to 64, and 1 if not given")
 }
 
-/// The command before its arguments.
+/// Returns the command before its arguments.
 fn empty_command<'a>(alloc: Global) -> Command<'a>
     ensures app { app_of result ≡ new_app (codes "rewind") }
     ensures args { args_of result ≡ [] }

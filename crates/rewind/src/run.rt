@@ -23,7 +23,7 @@ pub struct Run {
 }
 
 impl Run {
-    /// A run of so many processors, before its first line.
+    /// Returns a run of so many processors, before its first line.
     pub fn new(alloc: Global, processors: u8) -> Run
         ensures stands { Stands processors [] [] result }
         ensures none_waits { result.outbox ≡ [] }
@@ -38,7 +38,7 @@ impl Run {
         }
     }
 
-    /// How many lines were replied to.
+    /// Returns how many lines were replied to.
     pub fn replied(&self) -> u64
         ensures { result ≡ self.now.replied }
     {

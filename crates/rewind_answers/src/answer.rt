@@ -23,7 +23,7 @@ use std::thread::Threads;
 /// The number of the client whose script it is.
 const ONLY_CLIENT: u64 = 0;
 
-// The graph that the value is, as it is written in a script of the version: no vertex was a hold before the fifth.
+// Returns the graph that the value is, as it is written in a script of the version: no vertex was a hold before the fifth.
 fn draft_of(alloc: Global, version: Version, value: &Value) -> Result<GraphDraft, GraphFault>
     ensures { IsUnlessMemory (ok_or (draft_in version (view value.now)) Shape) result }
 {
@@ -35,7 +35,7 @@ fn draft_of(alloc: Global, version: Version, value: &Value) -> Result<GraphDraft
     }
 }
 
-// The graph that is written, judged as in a script of the version.
+// Returns the graph that is written, judged as in a script of the version.
 fn judged(alloc: Global, version: Version, draft: GraphDraft) -> Result<Graph, GraphFault>
     ensures { IsUnlessMemory (checked_in version draft) result }
 {
@@ -45,7 +45,7 @@ fn judged(alloc: Global, version: Version, draft: GraphDraft) -> Result<Graph, G
     }
 }
 
-/// The graph that the value is, in a script of the version.
+/// Returns the graph that the value is, in a script of the version.
 fn graph_of(alloc: Global, version: Version, value: &Value) -> Result<Graph, GraphFault>
     ensures { IsUnlessMemory (graph_in version (view value.now)) result }
 {
@@ -56,7 +56,7 @@ fn graph_of(alloc: Global, version: Version, value: &Value) -> Result<Graph, Gra
     judged(alloc, version, draft)
 }
 
-// The most processors in a script of the version.
+// Returns the most processors in a script of the version.
 fn most_processors(version: Version) -> u8
     ensures { result ≡ most_in version }
 {
@@ -118,7 +118,7 @@ pub fn answer_first(
     start_on(alloc, version, processors, graph)
 }
 
-/// The cluster at the cursor.
+/// Returns the cluster at the cursor.
 pub fn cluster(state: &State) -> &Cluster
     ensures value { result.now ≡ cluster_of state.now.machine.timeline }
     ensures protocol { KeepsProtocol result.now }
@@ -126,7 +126,7 @@ pub fn cluster(state: &State) -> &Cluster
     state.timeline().cluster()
 }
 
-// Has a command answered and logged, and replies.
+// Answers and logs a command, and replies.
 fn answer_do(alloc: Global, state: &mut State, command: Command) -> Result<Json, AllocError>
     ensures reply { IfOk result (λ v.
         CommandReply (logged state.old) command v (logged state.new)) }

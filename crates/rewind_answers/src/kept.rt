@@ -1,4 +1,4 @@
-//! The replies that tell kept steps, and what one of them changed.
+//! The replies that list kept steps, and what one of them changed.
 ghost use Rattle.std.specs.Prelude.{◌≡◌, Some, IfOk};
 ghost use Rattle.rewind_forms.specs.Replies.{fault as fault_data};
 ghost use Rattle.rewind_answers.specs.Explained.{steps_data, ExportReply, StepReply, EffectReply, effect_fault};
@@ -12,7 +12,7 @@ use nd_timeline::{Fault, Timeline};
 use rewind_forms::{effect_value, replies, step_value};
 use std::alloc::{AllocError, Global};
 
-// All kept steps, each as the object of its command line.
+// Returns all kept steps, each as the object of its command line.
 fn steps_value(alloc: Global, graph: &Graph, timeline: &Timeline) -> Result<Json, AllocError>
     ensures reply { IfOk result (λ j. j ≡ steps_data graph.now timeline.now.kept) }
 {
@@ -55,7 +55,7 @@ pub(crate) fn answer_step(alloc: Global, timeline: &Timeline, to: u64) -> Result
     replies::kept_step(alloc, shown)
 }
 
-// Replies to a question for what a step changed that has no answer; running out of memory is none.
+// Replies to a query for an effect that cannot be answered. Running out of memory has no reply.
 fn refuse_effect(alloc: Global, fault: EffectFault) -> Result<Json, AllocError>
     ensures reply { IfOk result (λ j. Some j ≡ effect_fault fault) }
 {

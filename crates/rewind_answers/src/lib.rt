@@ -1,5 +1,5 @@
-//! What one line of a script is answered, and what comes of it. Nothing here knows of bytes, of
-//! sources or of sinks.
+//! The reply to one line of a script, and the state after it. This crate does not know about bytes,
+//! sources or sinks.
 #![tactic(auto)]
 
 mod ahead;

@@ -100,7 +100,7 @@ fn answer_passed(
     }
 }
 
-// Replies to a search that has no answer; running out of memory outside the workers' walks is none.
+// Replies to a search that cannot be answered. Running out of memory outside the workers' walks has no reply.
 fn refuse_search(alloc: Global, fault: &SearchFault) -> Result<Json, AllocError>
     ensures reply { IfOk result (λ j. Some j ≡ search_fault fault.now) }
 {

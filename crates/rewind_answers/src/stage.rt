@@ -1,4 +1,4 @@
-//! How far a run has come, and what each line is answered there.
+//! The stages of a run, and the reply to each line in each stage.
 ghost use Rattle.std.specs.Prelude.{◌≡◌, Some, false, IfOk};
 ghost use Rattle.std.specs.Option.{option_to_list};
 ghost use Rattle.serde_json.specs.View.{view};
@@ -18,7 +18,7 @@ use serde_json::Value;
 use std::alloc::{AllocError, Global};
 use std::thread::Threads;
 
-/// How far a run has come: before any line, of a number of processors; before the graph's line, in a script of a version; or running.
+/// The stage of a run: before any line, with a number of processors; before the graph's line, in a script of a version; or running.
 #[derive(Drop)]
 pub enum Stage {
     Unopened(u8),
@@ -33,7 +33,7 @@ pub struct Script {
     pub state: State,
 }
 
-/// What a line is answered, and whether the run ends there.
+/// The reply to a line, if it has one, and whether the run ends there.
 #[derive(Drop)]
 pub struct Answer {
     pub reply: Option<Json>,
@@ -90,7 +90,7 @@ fn answer_graph(
     })
 }
 
-// Answers the first line: it tells the script's version, or is the graph's.
+// Answers the first line, which gives the script's version or is the graph's.
 fn answer_opening(
     alloc: Global,
     stage: &mut Stage,

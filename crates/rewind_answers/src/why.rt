@@ -1,4 +1,4 @@
-//! The replies that tell why a processor does not consider a pointstamp finished, when its view changed, and when a condition turned.
+//! The replies that say why a processor does not consider a pointstamp finished, when its view changed, and when a condition turned.
 ghost use Rattle.std.specs.Prelude.{◌≡◌, Some, IfOk};
 ghost use Rattle.rewind_answers.specs.Explained.{WhyReply, WhyBeforeReply, ChangesReply, changes_fault, TurnsReply, turns_fault};
 
@@ -55,7 +55,7 @@ pub(crate) fn answer_why_before(
     replies::why(alloc, is_finished, has_passed, shown)
 }
 
-// Replies to a question for changes that has no answer; running out of memory is none.
+// Replies to a query for changes that cannot be answered. Running out of memory has no reply.
 fn refuse_changes(alloc: Global, fault: ChangesFault) -> Result<Json, AllocError>
     ensures reply { IfOk result (λ j. Some j ≡ changes_fault fault) }
 {
@@ -83,7 +83,7 @@ pub(crate) fn answer_changes(
     }
 }
 
-// Replies to a question for turns that has no answer; running out of memory is none.
+// Replies to a query for turns that cannot be answered. Running out of memory has no reply.
 fn refuse_turns(alloc: Global, fault: TurnsFault) -> Result<Json, AllocError>
     ensures reply { IfOk result (λ j. Some j ≡ turns_fault fault) }
 {

@@ -111,7 +111,7 @@ pub fn debug_clients<R: Threads + Wait + Sync, S: Source, T: Sink, G: Gate>(
     debug_clients_within(rt, alloc, source, sink, options, gate, INPUT_LIMIT)
 }
 
-/// The same, of a script of at most `limit` bytes.
+/// Does the same with a script of at most `limit` bytes.
 pub fn debug_clients_within<R: Threads + Wait + Sync, S: Source, T: Sink, G: Gate>(
     rt: &R,
     alloc: Global,

@@ -22,7 +22,7 @@ pub struct Task {
     pub commands: Vec<Command>,
 }
 
-/// A client that has stopped, and why if it did not make all its commands.
+/// A client that has stopped, and the reason if commands are left.
 #[derive(Drop)]
 pub struct Done {
     pub client: Client,
@@ -33,11 +33,11 @@ pub struct Done {
 #[derive(Drop)]
 pub struct Driven {
     pub log: Log,
-    /// For each client why it did not make all its commands, if it did not.
+    /// For each client the reason why commands are left, if any are.
     pub faults: Vec<Option<SessionFault>>,
 }
 
-// Makes a client's commands in order, each behind the gate, until one is answered with a fault.
+// Gives a client's commands in order, each after a call of the gate, until one is answered with a fault.
 fn drive<R: Wait, G: Gate>(
     rt: &R,
     alloc: Global,
@@ -64,7 +64,7 @@ fn drive<R: Wait, G: Gate>(
     }
 }
 
-// The next client, of this number. Another number, or none, is a session that does not add up.
+// Returns the next client, of this number. Another number, or none, is a session that does not add up.
 fn enter<R: Wait>(
     rt: &R,
     alloc: Global,
@@ -128,8 +128,7 @@ fn drive_all<R: Threads + Wait + Sync, G: Gate>(
     thread::map_vec(rt, tasks, &worker)
 }
 
-// Whether a client of a run may end so: it made all its commands, or met a full log or a refused
-// growth.
+// Returns whether a client of a run may end so: it made all its commands, or met a full log or a refused growth.
 fn may_end(fault: &Option<SessionFault>) -> bool
     ensures { MatchBool result (MayEnd fault.now) (MayEnd fault.now → ⊥) }
 {
@@ -142,8 +141,7 @@ fn may_end(fault: &Option<SessionFault>) -> bool
     }
 }
 
-// The clients, and why each stopped. Another fault than a client may end with is one of a session
-// that does not add up.
+// Returns the clients, and why each stopped. Another fault than a client may end with is one of a session that does not add up.
 fn split(
     alloc: Global,
     done: Vec<Done>,
@@ -179,7 +177,7 @@ pub fn drive_session<R: Threads + Wait + Sync, G: Gate>(
         d.log.entries.items (machine_of d.log) d.faults.items) }
     ensures kind { IfErr result IsOfDriving }
 {
-    // A lock's contract does not tell what it first held, so it is looked at afterwards.
+    // A lock's contract does not say what it held at first, so the log is tested afterwards.
     let begun = state.timeline().base();
     let graph = begun.graph().copy(alloc)?;
     let count = begun.n();

@@ -1,4 +1,4 @@
-//! A session behind a gate.
+//! A session whose clients call a gate before each command.
 ghost use Rattle.std.specs.Prelude.{◌≡◌, ◌++◌, ◌∷◌, [], length, IfOk, IfErr, OnErr};
 ghost use Rattle.nd_session.specs.Clients.{IsTold};
 ghost use Rattle.nd_session.specs.Faults.{CommandMayFail};
@@ -30,7 +30,7 @@ impl<'a, G: Gate> Gated<'a, G> {
             .call(client.number(), client.receipts().len() as u64);
     }
 
-    /// Makes a client's command, for which the gate was called.
+    /// Gives a client's command, for which the gate was called.
     pub fn command(
         &self,
         rt: &impl Wait,

@@ -21,10 +21,10 @@ use rewind_lines::{Options, Reading};
 use serde_json::Value;
 use std::alloc::{AllocError, Global};
 
-/// A script that was read whole.
+/// A script that was read completely.
 #[derive(Drop)]
 pub struct Script {
-    /// The version that the version line tells, if there was one.
+    /// The version that the version line gives, if there was one.
     pub opened: Option<Version>,
     /// The graph's reply.
     pub reply: Json,
@@ -37,12 +37,12 @@ pub struct Script {
 /// What the lines read so far come to.
 #[derive(Drop)]
 pub enum Intake {
-    /// No graph yet; the version that the version line tells, if there was one. All others were
+    /// No graph yet; the version that the version line gives, if there was one. All others were
     /// blank.
     Unstarted(Option<Version>),
     /// The graph's line was refused, and this is its reply.
     Refused(Json),
-    /// A line behind the graph's is faulty, and this is its reply.
+    /// A line after the graph's is faulty, and this is its reply.
     Faulty(Json),
     /// A graph, and clients' commands.
     Whole(Script),
@@ -59,7 +59,7 @@ fn no_commands(alloc: Global, clients: u8) -> Result<Vec<Vec<Command>>, AllocErr
     Ok(commands)
 }
 
-// What a line that is no JSON value comes to before the graph's: it ends the run.
+// Returns what a line that is no JSON value comes to before the graph's: it ends the run.
 fn refuse(alloc: Global, fault: LineFault, line: u64) -> Result<Intake, AllocError>
     ensures { IfOk result (λ new. (reply : Data) × (Some reply ≡ line_fault fault line)
         × (intake_view new ≡ refused_graph reply)) }
@@ -67,7 +67,7 @@ fn refuse(alloc: Global, fault: LineFault, line: u64) -> Result<Intake, AllocErr
     Ok(Intake::Refused(replies::line_fault(alloc, fault, line)?))
 }
 
-// What the graph's line comes to, by its value.
+// Returns what the graph's line comes to, by its value.
 fn start(
     alloc: Global,
     options: &Options,
@@ -91,7 +91,7 @@ fn start(
     }
 }
 
-// What the version line or the graph's comes to, by its value: a second version line is none.
+// Returns what the version line or the graph's comes to, by its value: a second version line is none.
 fn read_value(
     alloc: Global,
     options: &Options,
@@ -112,7 +112,7 @@ fn read_value(
     }
 }
 
-// What the graph's line, or one before it, comes to.
+// Returns what the graph's line, or one before it, comes to.
 fn begin(
     alloc: Global,
     options: &Options,
@@ -132,7 +132,7 @@ fn begin(
     }
 }
 
-// Puts a command behind those of its client.
+// Appends a command to those of its client.
 fn add_command(commands: &mut Vec<Vec<Command>>, order: Order) -> Result<(), AllocError>
     requires { order.client < length commands.old.items }
     ensures { OnOk result

@@ -5,7 +5,7 @@ ghost use Rattle.rewind_clients.specs.Numbers.{without as without_in};
 
 use serde_json::Value;
 
-/// The value without the member of the key, if it is an object that has one.
+/// Returns the value without the member of the key, if it is an object that has one.
 pub fn without(value: Value, key: &str) -> Value
     ensures { view result ≡ without_in key.now (view value) }
 {

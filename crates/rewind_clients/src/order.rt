@@ -1,4 +1,4 @@
-//! What a line behind the graph's asks for, and of which client.
+//! What a line after the graph's asks for, and of which client.
 ghost use Rattle.std.specs.Prelude.{◌≡◌, ◌<◌, IfOk};
 ghost use Rattle.serde_json.specs.View.{view};
 ghost use Rattle.rewind_lines.specs.Readings.{reading_view};
@@ -29,12 +29,12 @@ pub enum OrderFault {
     Line(LineFault),
     /// The line names a client that is not there.
     BadClient,
-    /// The line asks for what only a script of one client can be told.
+    /// The line is a query or a search, which only a script of one client may have.
     OneClientOnly,
 }
 
 impl OrderFault {
-    /// The number and the name under which the fault is answered.
+    /// Returns the number and the name under which the fault is answered.
     pub fn code(self) -> Code
         ensures { result ≡ code_of self }
     {
@@ -46,7 +46,7 @@ impl OrderFault {
     }
 }
 
-/// The reply to a faulty line of this number.
+/// Returns the reply to a faulty line of this number.
 pub fn order_fault(alloc: Global, fault: OrderFault, line: u64) -> Result<Json, AllocError>
     ensures reply { IfOk result (λ j. j ≡ order_fault_data fault line) }
 {
@@ -54,7 +54,7 @@ pub fn order_fault(alloc: Global, fault: OrderFault, line: u64) -> Result<Json, 
     reply!(in alloc; {"code": code.number(), "error": code.name(), "line": line})
 }
 
-// Whether the line has the form of a query, as what it asks for says, or else the form itself.
+// Returns whether the line has the form of a query, as what it asks for says, or else the form itself.
 fn is_query(version: Version, value: &Value, asked: &Result<Asked, LineFault>) -> bool
     requires { IfOk asked.now (λ a. is_query_in (form_of version (view value.now)) ≡ asks_query a) }
     ensures { result ≡ is_query_in (form_of version (view value.now)) }
@@ -66,7 +66,7 @@ fn is_query(version: Version, value: &Value, asked: &Result<Asked, LineFault>) -
     }
 }
 
-// The order of a line that has a form, among so many clients.
+// Returns the order of a line that has a form, among so many clients.
 fn settle(
     clients: usize,
     client: u64,
@@ -89,7 +89,7 @@ fn settle(
     }
 }
 
-// What a line's value asks for.
+// Returns what a line's value asks for.
 #[tactic(auto, unfolding(crate::specs::Orders::order_of))]
 fn order_of(
     alloc: Global,

@@ -1,4 +1,4 @@
-//! A whole script, from a source of bytes.
+//! A complete script, from a source of bytes.
 ghost use Rattle.std.specs.Prelude.{◌≡◌, ◌+◌, ◌-◌, ◌<◌, ◌≤◌, ◌^◌, ◌∷◌, ◌++◌, [], ℕ, List, Some, false, true, length, IfOk, IfErr, OnOk};
 ghost use Rattle.rewind_lines.specs.Faults.{is_read_fault};
 ghost use Rattle.rewind_lines.specs.declared.options.Options.{Options as TheOptions};
@@ -94,7 +94,7 @@ pub fn read_script<S: Source>(
     let chunk = room.as_mut_slice();
     let mut left = limit;
     'reads: loop {
-        // The byte past the limit tells that the input goes on.
+        // The byte past the limit shows that the input goes on.
         let most = CHUNK.min(left + 1);
         let n = read_into(source, chunk, most)?;
         if n == 0 {

@@ -3,14 +3,14 @@ ghost use Rattle.std.specs.Prelude.{◌≡◌, IsTrue};
 
 use nd_graph::{Edge, Graph, Vertex};
 
-// Whether two vertices are one.
+// Returns whether two vertices are one.
 fn same_vertex(one: &Vertex, other: &Vertex) -> bool
     ensures { IsTrue result → one.now ≡ other.now }
 {
     one.name == other.name && one.op == other.op && one.depth == other.depth
 }
 
-// Whether two edges are one.
+// Returns whether two edges are one.
 fn same_edge(one: &Edge, other: &Edge) -> bool
     ensures { IsTrue result → one.now ≡ other.now }
 {
@@ -21,7 +21,7 @@ fn same_edge(one: &Edge, other: &Edge) -> bool
         && one.route == other.route
 }
 
-// Whether two lists of vertices are one.
+// Returns whether two lists of vertices are one.
 fn same_vertices(one: &[Vertex], other: &[Vertex]) -> bool
     ensures { IsTrue result → one.now ≡ other.now }
 {
@@ -36,7 +36,7 @@ fn same_vertices(one: &[Vertex], other: &[Vertex]) -> bool
     true
 }
 
-// Whether two lists of edges are one.
+// Returns whether two lists of edges are one.
 fn same_edges(one: &[Edge], other: &[Edge]) -> bool
     ensures { IsTrue result → one.now ≡ other.now }
 {
@@ -51,7 +51,7 @@ fn same_edges(one: &[Edge], other: &[Edge]) -> bool
     true
 }
 
-/// Whether two graphs have the same vertices and edges.
+/// Returns whether two graphs have the same vertices and edges.
 pub fn same_graph(one: &Graph, other: &Graph) -> bool
     ensures { IsTrue result → one.now ≡ other.now }
 {

@@ -16,7 +16,7 @@ use rewind_forms::{Version, replies};
 use rewind_lines::{DebugFault, Outbox, Sink};
 use std::alloc::{AllocError, Global};
 
-// The line of an entry of the log.
+// Returns the line of an entry of the log.
 fn entry_value(alloc: Global, graph: &Graph, entry: &Receipt) -> Result<Json, AllocError>
     ensures reply { IfOk result (λ j. j ≡ entry_data graph.now entry.now) }
 {
@@ -24,7 +24,7 @@ fn entry_value(alloc: Global, graph: &Graph, entry: &Receipt) -> Result<Json, Al
     reply!(in alloc; {"client": entry.client, "number": entry.number, "reply": reply})
 }
 
-// The line of a client whose command was answered with a fault.
+// Returns the line of a client whose command was answered with a fault.
 fn fault_value(alloc: Global, client: u64, fault: &SessionFault) -> Result<Json, AllocError>
     ensures reply { IfOk result (λ j. j ≡ client_fault client (code_of fault.now)) }
 {

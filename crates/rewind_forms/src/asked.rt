@@ -16,13 +16,13 @@ use std::alloc::Global;
 /// What a line asks for.
 #[derive(Drop)]
 pub enum Asked {
-    /// To do something.
+    /// A command.
     Do(Command),
-    /// To be told something.
+    /// A query.
     Tell(Query),
 }
 
-/// What the value asks for in a script of this version, against the graph.
+/// Returns what the value asks for in a script of this version, against the graph.
 ///
 /// `Memory` comes only if there was no memory for a list of the line.
 #[tactic(auto, unfolding(crate::specs::Asked::asked_of))]

@@ -30,7 +30,7 @@ fn tried(
     }
 }
 
-// One candidate: its step, and its refusal, if it is refused.
+// Returns one candidate: its step, and its refusal, if it is refused.
 fn candidate_value(alloc: Global, graph: &Graph, candidate: &Candidate) -> Result<Json, AllocError>
     ensures reply { IfOk result (λ j. j ≡ candidate_data graph.now candidate.now) }
 {

@@ -6,14 +6,14 @@ use nd_history::{Changed, Changes};
 use nd_json::{Json, JsonList, reply};
 use std::alloc::{AllocError, Allocator, Global};
 
-// One change: the position, and the entry there.
+// Returns one change: the position, and the entry there.
 fn changed_value(alloc: Global, changed: &Changed) -> Result<Json, AllocError>
     ensures reply { IfOk result (λ j. j ≡ changed_data changed.now) }
 {
     reply!(in alloc; [changed.position, changed.entry])
 }
 
-/// All changes, in the order in which they are given: of each the position, and the entry there.
+/// Returns all changes, in the order in which they are given: of each the position, and the entry there.
 pub fn changes_value<A: Allocator>(alloc: Global, changes: &Changes<A>) -> Result<Json, AllocError>
     ensures reply { IfOk result (λ j. j ≡ changes_data changes.now) }
 {

@@ -30,7 +30,7 @@ fn run_of(value: &Value) -> Result<Command, LineFault>
     Ok(Command::Run { limit, only: None })
 }
 
-// A run of some processors.
+// Returns a run of some processors.
 #[tactic(auto, unfolding(crate::specs::Commands::run_only_of))]
 fn run_only_of(alloc: Global, value: &Value) -> Result<Command, LineFault>
     ensures ok { IfOk result (λ c. run_only_in (view value.now) ≡ Ok c) }
@@ -68,7 +68,7 @@ fn clear_of(value: &Value) -> Result<Command, LineFault>
     Ok(Command::ClearBreak(id))
 }
 
-/// The command of this form that the value asks for, against the graph.
+/// Returns the command of this form that the value asks for, against the graph.
 pub fn command_of(
     alloc: Global,
     version: Version,

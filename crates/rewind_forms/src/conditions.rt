@@ -18,7 +18,7 @@ use std::alloc::Global;
 /// The most literals of a condition.
 const MAX_LITERALS: usize = 8;
 
-// The literal that the value is.
+// Returns the literal that the value is.
 #[tactic(auto, unfolding(crate::specs::Conditions::literal_of))]
 fn literal_of(alloc: Global, graph: &Graph, value: &Value) -> Result<Literal, LineFault>
     ensures ok { IfOk result (λ c. literal_in graph.now (view value.now) ≡ Ok c) }
@@ -33,7 +33,7 @@ fn literal_of(alloc: Global, graph: &Graph, value: &Value) -> Result<Literal, Li
     }
 }
 
-// Of two faults that of lesser number.
+// Returns, of two faults that of lesser number.
 #[tactic(auto, unfolding(crate::specs::Conditions::lesser))]
 fn lesser(first: LineFault, second: LineFault) -> LineFault
     ensures { result ≡ lesser_in first second }
@@ -49,7 +49,7 @@ fn lesser(first: LineFault, second: LineFault) -> LineFault
 // least number.
 type Read = Result<Option<Condition>, LineFault>;
 
-// What was read, and one literal more.
+// Returns what was read, and one literal more.
 fn and_literal(read: Read, quantifier: Quantifier, literal: Literal) -> Read
     requires { HasRoom read }
     ensures literals { literals_read result ≡ with_literal (literals_read read) literal }
@@ -64,7 +64,7 @@ fn and_literal(read: Read, quantifier: Quantifier, literal: Literal) -> Read
     Ok(Some(condition))
 }
 
-// The fault of what was read and of one faulty literal more.
+// Returns the fault of what was read and of one faulty literal more.
 fn and_fault(read: &Read, fault: LineFault) -> LineFault
     ensures { result ≡ with_fault (literals_read read.now) fault }
 {
@@ -74,7 +74,7 @@ fn and_fault(read: &Read, fault: LineFault) -> LineFault
     }
 }
 
-// The literals that the items are, all or any of which are to hold.
+// Returns the literals that the items are, all or any of which are to hold.
 fn literals_of(
     alloc: Global,
     graph: &Graph,
@@ -100,7 +100,7 @@ fn literals_of(
     Ok(condition)
 }
 
-// All or any of the literals of the list that the value is.
+// Returns all or any of the literals of the list that the value is.
 #[tactic(auto, unfolding(crate::specs::Conditions::several_of))]
 fn several_of(
     alloc: Global,
@@ -118,7 +118,7 @@ fn several_of(
     literals_of(alloc, graph, quantifier, items)
 }
 
-// The condition that the value is: a literal, or all or any of several.
+// Returns the condition that the value is: a literal, or all or any of several.
 #[tactic(auto, unfolding(crate::specs::Conditions::combined_of))]
 fn combined_of(alloc: Global, graph: &Graph, value: &Value) -> Result<Condition, LineFault>
     ensures ok { IfOk result (λ c. combined_in graph.now (view value.now) ≡ Ok c) }

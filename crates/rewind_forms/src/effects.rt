@@ -14,7 +14,7 @@ use nd_processor::{SinkKey, ValueAt};
 use nd_state_json::{name_value, time_value};
 use std::alloc::{AllocError, Global};
 
-// The number, or null.
+// Returns the number, or null.
 fn integer_or_null(number: Option<i64>) -> Json
     ensures { result ≡ whole_or_null number }
 {
@@ -24,7 +24,7 @@ fn integer_or_null(number: Option<i64>) -> Json
     }
 }
 
-// The number, or null.
+// Returns the number, or null.
 fn natural_or_null(number: Option<u32>) -> Json
     ensures { result ≡ natural_or_null_data number }
 {
@@ -113,7 +113,7 @@ impl Shown for Altered<Pointstamp, i64> {
     }
 }
 
-// All elements of a list, in their order.
+// Returns all elements of a list, in their order.
 fn list_value<T: Shown>(alloc: Global, graph: &Graph, items: &[T]) -> Result<Json, AllocError>
     ensures reply { IfOk result (λ j. j ≡ row (map (T.shown graph.now) items.now)) }
 {
@@ -137,7 +137,7 @@ pub(crate) struct Lists {
     views: Json,
 }
 
-// The object of these lists.
+// Returns the object of these lists.
 fn lists_object(alloc: Global, lists: Lists) -> Result<Json, AllocError>
     ensures reply { IfOk result (λ j. j ≡ lists_data lists) }
 {

@@ -35,7 +35,7 @@ impl From<AllocError> for LineFault {
 }
 
 impl LineFault {
-    /// The number and the name under which the fault is answered.
+    /// Returns the number and the name under which the fault is answered.
     pub fn code(self) -> Code
         ensures { result ≡ code_of self }
     {

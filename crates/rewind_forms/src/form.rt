@@ -45,7 +45,7 @@ pub enum CommandForm {
     Unbreak,
 }
 
-/// What a line asks to be told.
+/// Which query a line asks for.
 #[derive(Clone, Copy, Debug, PartialEq, Eq, Drop)]
 pub enum QueryForm {
     State,
@@ -69,7 +69,7 @@ pub enum QueryForm {
 }
 
 impl StepForm {
-    // The first version whose scripts have the step.
+    // Returns the first version whose scripts have the step.
     fn since(self) -> Version
         ensures { result ≡ step_since self }
     {
@@ -86,7 +86,7 @@ impl StepForm {
 }
 
 impl CommandForm {
-    // The first version whose scripts have the command.
+    // Returns the first version whose scripts have the command.
     fn since(self) -> Version
         ensures { result ≡ command_since self }
     {
@@ -103,7 +103,7 @@ impl CommandForm {
 }
 
 impl QueryForm {
-    // The first version whose scripts have the query.
+    // Returns the first version whose scripts have the query.
     fn since(self) -> Version
         ensures { result ≡ query_since self }
     {
@@ -127,7 +127,7 @@ impl QueryForm {
 }
 
 impl Form {
-    // The first version whose scripts have the form.
+    // Returns the first version whose scripts have the form.
     fn since(self) -> Version
         ensures { result ≡ since_in self }
     {
@@ -153,7 +153,7 @@ impl Form {
     }
 }
 
-// What the word and the keys of the object mean.
+// Returns what the word and the keys of the object mean.
 fn meant_by(word: &str, value: &Value) -> Option<Form>
     ensures { result ≡ meant word.now (view value.now) }
 {

@@ -9,7 +9,7 @@ use nd_state_json::name_value;
 use nd_why::Held;
 use std::alloc::{AllocError, Allocator, Global};
 
-// One thing that a processor holds, at this location.
+// Returns one thing that a processor holds, at this location.
 fn one_value<A: Allocator>(
     alloc: Global,
     graph: &Graph<A>,
@@ -28,7 +28,7 @@ fn one_value<A: Allocator>(
     }
 }
 
-/// All that is held at a pointstamp of this location, in the order in which it is given.
+/// Returns all that is held at a pointstamp of this location, in the order in which it is given.
 pub(crate) fn held_value<A: Allocator>(
     alloc: Global,
     graph: &Graph<A>,

@@ -1,5 +1,5 @@
-//! What steps and their objects have to do with one another: a function without code, to be called where its clauses
-//! are needed.
+//! How steps and their objects are related. They are clauses of a function without code, which callers call where they
+//! need the clauses.
 ghost use Rattle.rewind_forms.specs.Laws.{ObjectsAreReadBack, ObjectsTellSteps, ReadStepsFit};
 
 /// Reading the object of a step that fits a graph gives the step, so two such steps with one object are one step; and

@@ -13,7 +13,7 @@ use std::alloc::{AllocError, Global};
 /// The most processors of a cluster.
 const MAX_PROCESSORS: usize = 16;
 
-// The numbers that the items are, if each is one from 0 to 2^32 - 1.
+// Returns the numbers that the items are, if each is one from 0 to 2^32 - 1.
 fn smalls(alloc: Global, items: &[Value]) -> Result<Option<Vec<u32>>, AllocError>
     ensures { IfOk result (λ o. option_map (λ v. v.items) o ≡ every small_in (map view items.now)) }
 {
@@ -27,7 +27,7 @@ fn smalls(alloc: Global, items: &[Value]) -> Result<Option<Vec<u32>>, AllocError
     Ok(Some(numbers))
 }
 
-// The values that the items are, if each is one of 64 bits.
+// Returns the values that the items are, if each is one of 64 bits.
 fn integers(alloc: Global, items: &[Value]) -> Result<Option<Values>, AllocError>
     ensures { IfOk result (λ o. o ≡ every integer_in (map view items.now)) }
 {
@@ -41,7 +41,7 @@ fn integers(alloc: Global, items: &[Value]) -> Result<Option<Values>, AllocError
     Ok(Some(values))
 }
 
-/// The numbers of a time that the items are: an epoch and any number of counters.
+/// Returns the numbers of a time that the items are: an epoch and any number of counters.
 pub fn numbers_of(alloc: Global, items: &[Value]) -> Result<Option<Vec<u32>>, AllocError>
     ensures { IfOk result (λ o. option_map (λ v. v.items) o ≡ numbers_from (map view items.now)) }
 {
@@ -51,7 +51,7 @@ pub fn numbers_of(alloc: Global, items: &[Value]) -> Result<Option<Vec<u32>>, Al
     smalls(alloc, items)
 }
 
-/// The numbers of the time at the key.
+/// Returns the numbers of the time at the key.
 #[tactic(auto, unfolding(crate::specs::Forms::numbers_at))]
 pub fn numbers_at(alloc: Global, value: &Value, key: &str) -> Result<Option<Vec<u32>>, AllocError>
     ensures { IfOk result (λ o. option_map (λ v. v.items) o ≡ numbers_in key.now (view value.now)) }
@@ -62,7 +62,7 @@ pub fn numbers_at(alloc: Global, value: &Value, key: &str) -> Result<Option<Vec<
     }
 }
 
-/// The values in the list at the key.
+/// Returns the values in the list at the key.
 #[tactic(auto, unfolding(crate::specs::Forms::values_at))]
 pub fn values_at(alloc: Global, value: &Value, key: &str) -> Result<Option<Values>, AllocError>
     ensures { IfOk result (λ o. o ≡ values_in key.now (view value.now)) }
@@ -73,7 +73,7 @@ pub fn values_at(alloc: Global, value: &Value, key: &str) -> Result<Option<Value
     }
 }
 
-// The processors whose numbers the items are, if each is one from 0 to 2^32 - 1.
+// Returns the processors whose numbers the items are, if each is one from 0 to 2^32 - 1.
 fn processors(alloc: Global, items: &[Value]) -> Result<Option<Processors>, AllocError>
     ensures { IfOk result (λ o. o ≡ every small_in (map view items.now)) }
 {
@@ -87,7 +87,7 @@ fn processors(alloc: Global, items: &[Value]) -> Result<Option<Processors>, Allo
     Ok(Some(numbers))
 }
 
-/// The processors in the list at the key: some, and no more than a cluster may have.
+/// Returns the processors in the list at the key: some, and no more than a cluster may have.
 #[tactic(auto, unfolding(crate::specs::Forms::processors_at))]
 pub fn processors_at(
     alloc: Global,

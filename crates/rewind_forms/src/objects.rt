@@ -11,7 +11,7 @@ use nd_state_json::{name_value, point_value, time_value};
 use nd_time::Timestamp;
 use std::alloc::{AllocError, Global};
 
-// What becomes of the token after a feed: a word, or the epoch to which it goes.
+// Returns what becomes of the token after a feed: a word, or the epoch to which it goes.
 fn next_value(alloc: Global, next: Next) -> Result<Json, AllocError>
     ensures reply { IfOk result (λ j. j ≡ next_data next) }
 {
@@ -23,7 +23,7 @@ fn next_value(alloc: Global, next: Next) -> Result<Json, AllocError>
     }
 }
 
-// The pointstamps of a part, as they were given.
+// Returns the pointstamps of a part, as they were given.
 fn points_value(alloc: Global, graph: &Graph, points: &[Pointstamp]) -> Result<Json, AllocError>
     ensures reply { IfOk result (λ j. j ≡ row (map (point_data graph.now) points.now)) }
 {
@@ -54,7 +54,7 @@ impl<'g> Objects<'g> {
         reply!(in alloc; {"do": "feed", "next": next, "p": p, "values": values, "vertex": name})
     }
 
-    // A record that is taken off an edge.
+    // Returns a record that is taken off an edge.
     fn take(&self, p: u32, edge: usize, time: &Timestamp, value: i64) -> Result<Json, AllocError>
         ensures object { IfOk result (λ j.
             j ≡ take_object self.now.graph.now p edge time.now value) }
@@ -65,7 +65,7 @@ impl<'g> Objects<'g> {
         reply!(in alloc; {"do": "take", "edge": name, "p": p, "time": time, "value": value})
     }
 
-    // A notice that a vertex is given.
+    // Returns a notice that a vertex is given.
     fn notice(&self, p: u32, vertex: usize, time: &Timestamp) -> Result<Json, AllocError>
         ensures object { IfOk result (λ j. j ≡ notice_object self.now.graph.now p vertex time.now) }
     {
@@ -75,7 +75,7 @@ impl<'g> Objects<'g> {
         reply!(in alloc; {"do": "notice", "p": p, "time": time, "vertex": name})
     }
 
-    // A capability that is released: given up, or moved to a later time.
+    // Returns a capability that is released: given up, or moved to a later time.
     fn release(&self, p: u32, vertex: usize, times: &Times) -> Result<Json, AllocError>
         ensures object { IfOk result (λ j.
             j ≡ release_object self.now.graph.now p vertex times.now.time times.now.to) }
@@ -94,7 +94,7 @@ impl<'g> Objects<'g> {
         }
     }
 
-    // A broadcast of all that is unsent.
+    // Returns a broadcast of all that is unsent.
     fn broadcast(&self, p: u32) -> Result<Json, AllocError>
         ensures object { IfOk result (λ j. j ≡ all_object p) }
     {
@@ -109,7 +109,7 @@ impl<'g> Objects<'g> {
         reply!(in self.alloc; {"do": "broadcast", "p": p, "part": part})
     }
 
-    // A change that is received.
+    // Returns a change that is received.
     fn receive(&self, from: u32, to: u32) -> Result<Json, AllocError>
         ensures object { IfOk result (λ j. j ≡ receive_object from to) }
     {
@@ -117,8 +117,7 @@ impl<'g> Objects<'g> {
     }
 }
 
-/// The object of a step's command line, with the names of the graph's locations: what a line holds that asks for the
-/// step.
+/// Returns the object of a step's command line, with the names of the graph's locations: what a line holds that asks for the step.
 ///
 /// A location that the graph does not have is shown without a name, which no line reads back.
 #[tactic(auto, unfolding(crate::specs::Objects::object_of))]

@@ -8,7 +8,7 @@ use nd_graph::Graph;
 use nd_paths::Pointstamp;
 use nd_time::Timestamp;
 
-/// The location of this name.
+/// Returns the location of this name.
 #[tactic(auto, unfolding(crate::specs::Places::location_named))]
 pub fn location_named(graph: &Graph, name: &str) -> Option<usize>
     ensures place { result ≡ location_in graph.now name.now }
@@ -17,7 +17,7 @@ pub fn location_named(graph: &Graph, name: &str) -> Option<usize>
     graph.location_of(name)
 }
 
-/// The location of the vertex of this name.
+/// Returns the location of the vertex of this name.
 #[tactic(auto, unfolding(crate::specs::Places::vertex_named))]
 pub fn vertex_named(graph: &Graph, name: &str) -> Option<usize>
     ensures place { result ≡ vertex_in graph.now name.now }
@@ -31,7 +31,7 @@ pub fn vertex_named(graph: &Graph, name: &str) -> Option<usize>
     }
 }
 
-/// The location of the edge of this name.
+/// Returns the location of the edge of this name.
 #[tactic(auto, unfolding(crate::specs::Places::edge_named))]
 pub fn edge_named(graph: &Graph, name: &str) -> Option<usize>
     ensures place { result ≡ edge_in graph.now name.now }
@@ -58,7 +58,7 @@ pub fn time_of(graph: &Graph, location: usize, numbers: &[u32]) -> Option<Timest
     Timestamp::new(*epoch, counters)
 }
 
-/// The pointstamp of a time's numbers at the location that a name has been found to be that of.
+/// Returns the pointstamp of a time's numbers at the location that a name has been found to be that of.
 #[tactic(auto, unfolding(crate::specs::Places::placed))]
 pub fn placed(graph: &Graph, found: Option<usize>, numbers: &[u32]) -> Result<Pointstamp, LineFault>
     requires { IfSome found (λ l. l < count_of graph.now) }

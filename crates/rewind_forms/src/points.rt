@@ -22,7 +22,7 @@ pub struct NamedTime<'v> {
     pub numbers: Vec<u32>,
 }
 
-// The name and the numbers of a time that two values are.
+// Returns the name and the numbers of a time that two values are.
 #[tactic(auto, unfolding(crate::specs::Forms::named_time))]
 fn named_time<'v>(
     alloc: Global,
@@ -44,7 +44,7 @@ fn named_time<'v>(
     }
 }
 
-/// The name at the key, and the numbers of the time beside it.
+/// Returns the name at the key, and the numbers of the time beside it.
 #[tactic(auto, unfolding(crate::specs::Forms::named_at))]
 pub fn named_at<'v>(
     alloc: Global,
@@ -63,7 +63,7 @@ pub fn named_at<'v>(
     }
 }
 
-// The pointstamp that the items are, by its name and its numbers.
+// Returns the pointstamp that the items are, by its name and its numbers.
 #[tactic(auto, unfolding(crate::specs::Forms::point_of))]
 fn point_of<'v>(alloc: Global, items: &'v [Value]) -> Result<Option<NamedTime<'v>>, AllocError>
     ensures { IfOk result (λ o. option_map name_and_numbers o ≡ point_in (map view items.now)) }
@@ -74,7 +74,7 @@ fn point_of<'v>(alloc: Global, items: &'v [Value]) -> Result<Option<NamedTime<'v
     }
 }
 
-/// The pointstamp at the key, by its name and its numbers.
+/// Returns the pointstamp at the key, by its name and its numbers.
 #[tactic(auto, unfolding(crate::specs::Forms::point_at))]
 pub fn point_at<'v>(
     alloc: Global,
@@ -90,7 +90,7 @@ pub fn point_at<'v>(
     }
 }
 
-// The pointstamp that the value is, by its name and its numbers.
+// Returns the pointstamp that the value is, by its name and its numbers.
 #[tactic(auto, unfolding(crate::specs::Forms::listed_point))]
 fn listed_point<'v>(alloc: Global, value: &'v Value) -> Result<Option<NamedTime<'v>>, AllocError>
     ensures { IfOk result (λ o. option_map name_and_numbers o ≡ listed_in (view value.now)) }
@@ -101,7 +101,7 @@ fn listed_point<'v>(alloc: Global, value: &'v Value) -> Result<Option<NamedTime<
     }
 }
 
-// The pointstamps that the items are, by their names and numbers.
+// Returns the pointstamps that the items are, by their names and numbers.
 fn points_of<'v>(
     alloc: Global,
     items: &'v [Value],
@@ -119,7 +119,7 @@ fn points_of<'v>(
     Ok(Some(points))
 }
 
-/// The pointstamps in the list at the key, by their names and numbers.
+/// Returns the pointstamps in the list at the key, by their names and numbers.
 #[tactic(auto, unfolding(crate::specs::Forms::points_at))]
 pub fn points_at<'v>(
     alloc: Global,
@@ -135,7 +135,7 @@ pub fn points_at<'v>(
     }
 }
 
-/// Whether each of the names is that of a location.
+/// Returns whether each of the names is that of a location.
 pub fn are_known(graph: &Graph, points: &[NamedTime<'_>]) -> bool
     ensures { result ≡ known_in graph.now (map name_and_numbers points.now) }
 {
@@ -147,7 +147,7 @@ pub fn are_known(graph: &Graph, points: &[NamedTime<'_>]) -> bool
     true
 }
 
-// The pointstamp of a location's name and the numbers of a time.
+// Returns the pointstamp of a location's name and the numbers of a time.
 #[tactic(auto, unfolding(crate::specs::Places::point_named))]
 fn point_named(graph: &Graph, name: &str, numbers: &[u32]) -> Option<Pointstamp>
     ensures { result ≡ named_in graph.now (name.now, numbers.now) }
@@ -157,7 +157,7 @@ fn point_named(graph: &Graph, name: &str, numbers: &[u32]) -> Option<Pointstamp>
     Some(Pointstamp { location, time })
 }
 
-/// The pointstamp whose location's name stands under `at`, and its time beside it.
+/// Returns the pointstamp whose location's name stands under `at`, and its time beside it.
 #[tactic(auto, unfolding(crate::specs::Places::point_there))]
 pub fn point_there(alloc: Global, graph: &Graph, value: &Value) -> Result<Pointstamp, LineFault>
     ensures ok { IfOk result (λ c. there_in graph.now (view value.now) ≡ Ok c) }

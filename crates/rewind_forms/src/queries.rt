@@ -1,4 +1,4 @@
-//! Queries: what a line asks to be told.
+//! Queries: lines that ask for information.
 ghost use Rattle.std.specs.Prelude.{◌≡◌, Ok, IfOk, IfErr};
 ghost use Rattle.serde_json.specs.View.{view};
 ghost use Rattle.rewind_forms.specs.Forms.{FailsWith};
@@ -44,10 +44,10 @@ pub struct ViewChanges {
     pub hi: u64,
 }
 
-/// What is to be told, and changes nothing.
+/// A query, which changes nothing.
 #[derive(Drop)]
 pub enum Query {
-    /// The whole state.
+    /// The complete state.
     State,
     /// The true count of a pointstamp.
     Count(Pointstamp),
@@ -227,7 +227,7 @@ fn frontier_at_of(graph: &Graph, value: &Value) -> Result<Query, LineFault>
     Ok(Query::FrontierAt(q, location))
 }
 
-// Whether `true` or `false` stands at the key, if one of them does.
+// Returns whether `true` or `false` stands at the key, if one of them does.
 #[tactic(auto, unfolding(crate::specs::Forms::boolean_at))]
 fn boolean_at(value: &Value, key: &str) -> Option<bool>
     ensures { result ≡ boolean_in key.now (view value.now) }
@@ -250,7 +250,7 @@ fn why_before_of(alloc: Global, graph: &Graph, value: &Value) -> Result<Query, L
     }
 }
 
-/// The query of this form that the value is, against the graph.
+/// Returns the query of this form that the value is, against the graph.
 pub fn query_of(
     alloc: Global,
     version: Version,

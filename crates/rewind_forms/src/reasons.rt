@@ -10,7 +10,7 @@ use nd_state_json::point_value;
 use nd_why::{Reason, Reasons};
 use std::alloc::{AllocError, Allocator, Global};
 
-// A reason with these lists.
+// Returns a reason with these lists.
 fn reason_object(
     alloc: Global,
     held: Json,
@@ -23,7 +23,7 @@ fn reason_object(
     reply!(in alloc; {"held": held, "point": point, "unheard": unheard, "view": view})
 }
 
-// One reason: its pointstamp, all that is held there, all that was not heard of it, and what the view counts.
+// Returns one reason: its pointstamp, all that is held there, all that was not heard of it, and what the view counts.
 fn reason_value<A: Allocator, B: Allocator>(
     alloc: Global,
     graph: &Graph<A>,
@@ -39,7 +39,7 @@ fn reason_value<A: Allocator, B: Allocator>(
     reason_object(alloc, held, shown, unheard, known)
 }
 
-/// All reasons, in the order in which they are given, with the names of the graph's locations.
+/// Returns all reasons, in the order in which they are given, with the names of the graph's locations.
 pub fn reasons_value<A: Allocator, B: Allocator>(
     alloc: Global,
     graph: &Graph<A>,

@@ -15,42 +15,42 @@ use nd_time::Code;
 use nd_timeline::{Reply, Stop};
 use std::alloc::{AllocError, Allocator, Global};
 
-/// A fault's number and name.
+/// Returns a fault's number and name.
 pub fn fault(alloc: Global, code: Code) -> Result<Json, AllocError>
     ensures reply { IfOk result (λ j. j ≡ fault_data code) }
 {
     reply!(in alloc; {"code": code.number(), "error": code.name()})
 }
 
-/// A fault's number and name, and the location where it lies.
+/// Returns a fault's number and name, and the location where it lies.
 pub fn location_fault(alloc: Global, code: Code, location: &str) -> Result<Json, AllocError>
     ensures reply { IfOk result (λ j. j ≡ location_fault_data code location.now) }
 {
     reply!(in alloc; {"code": code.number(), "error": code.name(), "location": location})
 }
 
-/// A fault's number and name, and the piece of a search that it leaves without a result.
+/// Returns a fault's number and name, and the piece of a search that it leaves without a result.
 pub fn piece_fault(alloc: Global, code: Code, piece: u64) -> Result<Json, AllocError>
     ensures reply { IfOk result (λ j. j ≡ piece_fault_data code piece) }
 {
     reply!(in alloc; {"code": code.number(), "error": code.name(), "piece": piece})
 }
 
-/// The reply to a graph: the number of its locations, and of the processors.
+/// Returns the reply to a graph: the number of its locations, and of the processors.
 pub fn graph(alloc: Global, locations: u64, processors: u64) -> Result<Json, AllocError>
     ensures reply { IfOk result (λ j. j ≡ graph_data locations processors) }
 {
     reply!(in alloc; {"locations": locations, "ok": true, "processors": processors})
 }
 
-// The reply to a command that moved the cursor: where it stands, and the number of kept steps.
+// Returns the reply to a command that moved the cursor: where it stands, and the number of kept steps.
 fn moved(alloc: Global, at: u64, kept: u64) -> Result<Json, AllocError>
     ensures reply { IfOk result (λ j. j ≡ moved_data at kept) }
 {
     reply!(in alloc; {"at": at, "kept": kept, "ok": true})
 }
 
-// What a run stopped at.
+// Returns what a run stopped at.
 fn stop(alloc: Global, stop: Stop) -> Result<Json, AllocError>
     ensures reply { IfOk result (λ j. j ≡ stop_data stop) }
 {
@@ -61,22 +61,21 @@ fn stop(alloc: Global, stop: Stop) -> Result<Json, AllocError>
     }
 }
 
-// The reply to a run: the cursor, the number of kept steps, the number of those that it made, and
-// what it stopped at.
+// Returns the reply to a run: the cursor, the number of kept steps, the number of those that it made, and what it stopped at.
 fn ran(alloc: Global, at: u64, kept: u64, ran: u64, shown: Json) -> Result<Json, AllocError>
     ensures reply { IfOk result (λ j. j ≡ ran_data at kept ran shown) }
 {
     reply!(in alloc; {"at": at, "kept": kept, "ok": true, "ran": ran, "stop": shown})
 }
 
-// The reply to a step that a pointstamp stands in the way of.
+// Returns the reply to a step that a pointstamp stands in the way of.
 fn point_fault(alloc: Global, code: Code, point: Json) -> Result<Json, AllocError>
     ensures reply { IfOk result (λ j. j ≡ point_fault_data code point) }
 {
     reply!(in alloc; {"code": code.number(), "error": code.name(), "point": point})
 }
 
-// The reply to a step that the cluster refused.
+// Returns the reply to a step that the cluster refused.
 pub(crate) fn step_refused<A: Allocator>(
     alloc: Global,
     graph: &Graph<A>,
@@ -93,14 +92,14 @@ pub(crate) fn step_refused<A: Allocator>(
     }
 }
 
-// A fault's number and name, and the cursor.
+// Returns a fault's number and name, and the cursor.
 fn fault_at(alloc: Global, code: Code, at: u64) -> Result<Json, AllocError>
     ensures reply { IfOk result (λ j. j ≡ fault_at_data code at) }
 {
     reply!(in alloc; {"at": at, "code": code.number(), "error": code.name()})
 }
 
-// The reply to a command that was refused.
+// Returns the reply to a command that was refused.
 fn refused<A: Allocator>(
     alloc: Global,
     graph: &Graph<A>,
@@ -115,7 +114,7 @@ fn refused<A: Allocator>(
     }
 }
 
-/// The reply to a command, with the names of the graph.
+/// Returns the reply to a command, with the names of the graph.
 pub fn command_reply<A: Allocator>(
     alloc: Global,
     graph: &Graph<A>,
@@ -140,14 +139,14 @@ pub fn command_reply<A: Allocator>(
     }
 }
 
-// A fault of the line of this number.
+// Returns a fault of the line of this number.
 fn faulty(alloc: Global, code: Code, line: u64) -> Result<Json, AllocError>
     ensures reply { IfOk result (λ j. j ≡ faulty_data code line) }
 {
     reply!(in alloc; {"code": code.number(), "error": code.name(), "line": line})
 }
 
-/// The reply to the line of this number, counted from 1, which is no command.
+/// Returns the reply to the line of this number, counted from 1, which is no command.
 ///
 /// Out of memory is no reply: it is given back as the error.
 pub fn line_fault(alloc: Global, fault: LineFault, line: u64) -> Result<Json, AllocError>
@@ -159,91 +158,91 @@ pub fn line_fault(alloc: Global, fault: LineFault, line: u64) -> Result<Json, Al
     }
 }
 
-/// The reply to a query for a count.
+/// Returns the reply to a query for a count.
 pub fn count(alloc: Global, count: u64) -> Result<Json, AllocError>
     ensures reply { IfOk result (λ j. j ≡ count_data count) }
 {
     reply!(in alloc; {"count": count, "ok": true})
 }
 
-/// The reply to a query for the state, which the value shows.
+/// Returns the reply to a query for the state, which the value shows.
 pub fn state(alloc: Global, shown: Json) -> Result<Json, AllocError>
     ensures reply { IfOk result (λ j. j ≡ state_data shown) }
 {
     reply!(in alloc; {"ok": true, "state": shown})
 }
 
-/// The reply to a query whether one pointstamp could result in another.
+/// Returns the reply to a query whether one pointstamp could result in another.
 pub fn before(alloc: Global, before: bool) -> Result<Json, AllocError>
     ensures reply { IfOk result (λ j. j ≡ before_data before) }
 {
     reply!(in alloc; {"before": before, "ok": true})
 }
 
-/// The reply to a query for a view, whose entries the value shows.
+/// Returns the reply to a query for a view, whose entries the value shows.
 pub fn known(alloc: Global, shown: Json) -> Result<Json, AllocError>
     ensures reply { IfOk result (λ j. j ≡ known_data shown) }
 {
     reply!(in alloc; {"ok": true, "view": shown})
 }
 
-/// The reply to a query for a frontier, whose entries the value shows.
+/// Returns the reply to a query for a frontier, whose entries the value shows.
 pub fn frontier(alloc: Global, shown: Json) -> Result<Json, AllocError>
     ensures reply { IfOk result (λ j. j ≡ frontier_data shown) }
 {
     reply!(in alloc; {"frontier": shown, "ok": true})
 }
 
-/// The reply to a query for a pointstamp that a view has passed.
+/// Returns the reply to a query for a pointstamp that a view has passed.
 pub fn passed(alloc: Global) -> Result<Json, AllocError>
     ensures reply { IfOk result (λ j. j ≡ passed_data) }
 {
     reply!(in alloc; {"ok": true, "passed": true})
 }
 
-/// The reply to a query for a pointstamp that a view has not passed, with the one that stands in the way.
+/// Returns the reply to a query for a pointstamp that a view has not passed, with the one that stands in the way.
 pub fn not_passed(alloc: Global, point: Json) -> Result<Json, AllocError>
     ensures reply { IfOk result (λ j. j ≡ not_passed_data point) }
 {
     reply!(in alloc; {"ok": true, "passed": false, "point": point})
 }
 
-/// The reply to a query about a processor that is not there.
+/// Returns the reply to a query about a processor that is not there.
 pub fn no_processor(alloc: Global) -> Result<Json, AllocError>
     ensures reply { IfOk result (λ j. j ≡ no_processor_data) }
 {
     fault(alloc, Refusal::NoProcessor.code())
 }
 
-/// The reply to a search: the least position at which its breakpoint holds, if there is one.
+/// Returns the reply to a search: the least position at which its breakpoint holds, if there is one.
 pub fn found(alloc: Global, least: Option<u64>) -> Result<Json, AllocError>
     ensures reply { IfOk result (λ j. j ≡ found_data least) }
 {
     reply!(in alloc; {"found": least, "ok": true})
 }
 
-/// The reply to the line that tells the script's version.
+/// Returns the reply to the line that gives the script's version.
 pub fn version(alloc: Global, number: u64) -> Result<Json, AllocError>
     ensures reply { IfOk result (λ j. j ≡ version_data number) }
 {
     reply!(in alloc; {"ok": true, "version": number})
 }
 
-/// The reply to a query for all kept steps, which the value shows: they, and the cursor.
+/// Returns the reply to a query for all kept steps, which the value shows: they, and the cursor.
 pub fn exported(alloc: Global, at: u64, shown: Json) -> Result<Json, AllocError>
     ensures reply { IfOk result (λ j. j ≡ exported_data at shown) }
 {
     reply!(in alloc; {"at": at, "ok": true, "steps": shown})
 }
 
-/// The reply to a query for one kept step, which the value shows.
+/// Returns the reply to a query for one kept step, which the value shows.
 pub fn kept_step(alloc: Global, shown: Json) -> Result<Json, AllocError>
     ensures reply { IfOk result (λ j. j ≡ kept_step_data shown) }
 {
     reply!(in alloc; {"ok": true, "step": shown})
 }
 
-/// The reply to a query for the changes of a view, which the value shows, and whether there are more than it shows.
+/// Returns the reply to a query for the changes of a view, which the value shows, and whether there are more than it shows.
 pub fn changed(alloc: Global, shown: Json, more: bool) -> Result<Json, AllocError>
     ensures reply { IfOk result (λ j. j ≡ changed_data shown more) }
 {
@@ -262,7 +261,8 @@ pub fn why(alloc: Global, finished: bool, passed: bool, shown: Json) -> Result<J
     reply!(in alloc; {"finished": finished, "ok": true, "passed": passed, "reasons": shown})
 }
 
-/// The reply to a query for the steps that a run could try, which the value shows, and whether there are more than it shows.
+/// Returns the reply to a query for the steps that a run could try, which the value shows, and whether there are more than it
+/// shows.
 pub fn candidates(alloc: Global, shown: Json, more: bool) -> Result<Json, AllocError>
     ensures reply { IfOk result (λ j. j ≡ candidates_data shown more) }
 {
@@ -273,14 +273,14 @@ pub fn candidates(alloc: Global, shown: Json, more: bool) -> Result<Json, AllocE
     }
 }
 
-/// The reply to a query for what a kept step changed, which the value shows; `step` shows the step.
+/// Returns the reply to a query for what a kept step changed, which the value shows; `step` shows the step.
 pub fn effect(alloc: Global, shown: Json, step: Json) -> Result<Json, AllocError>
     ensures reply { IfOk result (λ j. j ≡ effect_data shown step) }
 {
     reply!(in alloc; {"changed": shown, "ok": true, "step": step})
 }
 
-/// The reply to a query for the positions at which a condition turned, which the value shows: whether it holds at the
+/// Returns the reply to a query for the positions at which a condition turned, which the value shows: whether it holds at the
 /// first, and whether there are more turns than the value shows.
 pub fn turns(alloc: Global, at_lo: bool, shown: Json, more: bool) -> Result<Json, AllocError>
     ensures reply { IfOk result (λ j. j ≡ turns_data at_lo shown more) }
@@ -292,7 +292,7 @@ pub fn turns(alloc: Global, at_lo: bool, shown: Json, more: bool) -> Result<Json
     }
 }
 
-/// The reply to a query for the frontier at a location, whose times the value shows.
+/// Returns the reply to a query for the frontier at a location, whose times the value shows.
 pub fn times(alloc: Global, shown: Json) -> Result<Json, AllocError>
     ensures reply { IfOk result (λ j. j ≡ times_data shown) }
 {

@@ -16,7 +16,7 @@ use nd_protocol::{BoxedTimes, Next, Part, Step, Times};
 use serde_json::Value;
 use std::alloc::Global;
 
-// The epoch that the object under `next` names.
+// Returns the epoch that the object under `next` names.
 #[tactic(auto, unfolding(crate::specs::Steps::epoch_at))]
 fn epoch_at(value: &Value) -> Option<u32>
     ensures { result ≡ epoch_in (view value.now) }
@@ -26,7 +26,7 @@ fn epoch_at(value: &Value) -> Option<u32>
     small(number)
 }
 
-// What becomes of the token after a feed, in a script of this version.
+// Returns what becomes of the token after a feed, in a script of this version.
 #[tactic(auto, unfolding(crate::specs::Steps::next_at))]
 fn next_at(version: Version, value: &Value) -> Option<Next>
     ensures { result ≡ next_in version (view value.now) }
@@ -97,7 +97,7 @@ fn notice_of(alloc: Global, graph: &Graph, value: &Value) -> Result<Step, LineFa
     })
 }
 
-// A release of a capability, which is given up.
+// Returns a release of a capability, which is given up.
 #[tactic(auto, unfolding(crate::specs::Steps::release_of))]
 fn release_of(alloc: Global, graph: &Graph, value: &Value) -> Result<Step, LineFault>
     ensures ok { IfOk result (λ c. release_in graph.now (view value.now) ≡ Ok c) }
@@ -121,7 +121,7 @@ fn release_of(alloc: Global, graph: &Graph, value: &Value) -> Result<Step, LineF
     })
 }
 
-// A release of a capability, which moves to a later time.
+// Returns a release of a capability, which moves to a later time.
 #[tactic(auto, unfolding(crate::specs::Steps::move_of))]
 fn move_of(alloc: Global, graph: &Graph, value: &Value) -> Result<Step, LineFault>
     ensures ok { IfOk result (λ c. move_in graph.now (view value.now) ≡ Ok c) }
@@ -137,7 +137,7 @@ fn move_of(alloc: Global, graph: &Graph, value: &Value) -> Result<Step, LineFaul
     Ok(Step::Release { p, vertex, times })
 }
 
-// A broadcast of all that is unsent.
+// Returns a broadcast of all that is unsent.
 #[tactic(auto, unfolding(crate::specs::Steps::broadcast_of))]
 fn broadcast_of(value: &Value) -> Result<Step, LineFault>
     ensures { result ≡ broadcast_in (view value.now) }
@@ -173,7 +173,7 @@ fn receive_of(value: &Value) -> Result<Step, LineFault>
     Ok(Step::Receive { from, to })
 }
 
-/// The step of this form that the value asks for in a script of this version, against the graph.
+/// Returns the step of this form that the value asks for in a script of this version, against the graph.
 pub fn step_of(
     alloc: Global,
     version: Version,
@@ -196,7 +196,7 @@ pub fn step_of(
     }
 }
 
-/// The step that a line of this value asks for in a script of the last version, against the graph: `BadShape` if it is no
+/// Returns the step that a line of this value asks for in a script of the last version, against the graph: `BadShape` if it is no
 /// step's, then `UnknownName`, then `BadTime`.
 ///
 /// `Memory` comes only if there was no memory for a list of the step.

@@ -7,7 +7,7 @@ use nd_json::{Json, JsonList, list_of};
 use nd_paths::ArrivalTime;
 use std::alloc::{AllocError, Global};
 
-// One time: its epoch, and then its counters.
+// Returns one time: its epoch, and then its counters.
 fn time_value(alloc: Global, time: &ArrivalTime) -> Result<Json, AllocError>
     ensures reply { IfOk result (λ j. j ≡ time_data time.now) }
 {

@@ -24,7 +24,7 @@ pub enum Version {
 }
 
 impl Version {
-    /// The version's number.
+    /// Returns the version's number.
     pub fn number(self) -> u64
         ensures { result ≡ number_of self }
     {
@@ -37,7 +37,7 @@ impl Version {
         }
     }
 
-    /// Whether a script of this version has what the version `since` brought.
+    /// Returns whether a script of this version has what the version `since` brought.
     pub fn includes(self, since: Version) -> bool
         ensures { result ≡ includes_in self since }
     {
@@ -45,7 +45,7 @@ impl Version {
     }
 }
 
-// The version of this number, of those that a line can tell.
+// Returns the version of this number, of those that a line can give.
 #[tactic(auto, unfolding(crate::specs::Versions::numbered))]
 fn numbered(number: u64) -> Option<Version>
     ensures { result ≡ numbered_in number }
@@ -63,7 +63,7 @@ fn numbered(number: u64) -> Option<Version>
     }
 }
 
-/// The version that the value tells, if it is an object with the one key "version" and the number of one after the first.
+/// Returns the version that the value gives, if it is an object with the one key "version" and the number of one after the first.
 #[tactic(auto, unfolding(crate::specs::Versions::version_of))]
 pub fn version_of(value: &Value) -> Option<Version>
     ensures { result ≡ version_in (view value.now) }

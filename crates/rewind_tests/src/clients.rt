@@ -160,7 +160,7 @@ fn clients_release_and_run_some(rt: HostRuntime) -> Result<(), Fail> {
     Ok(())
 }
 
-/// A script of a graph and a feed, whose last line has no newline.
+/// Returns a script of a graph and a feed, whose last line has no newline.
 fn feed_of(alloc: Global) -> Result<Vec<u8>, AllocError> {
     let mut text = Vec::new(alloc);
     for line in [LINE, "\n", FEED] {
@@ -240,7 +240,7 @@ fn clients_stop_at_their_limit(rt: HostRuntime) -> Result<(), Fail> {
     Ok(())
 }
 
-/// The replies to a script of two clients, and how it ends.
+/// Returns the replies to a script of two clients, and how it ends.
 fn run_of<R: AllocGlobal + Threads + Wait + Sync>(
     rt: &R,
     parts: &[&str],

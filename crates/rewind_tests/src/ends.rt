@@ -23,7 +23,7 @@ pub struct Pieces<'a> {
     pub has_failed: bool,
 }
 
-/// A source of these bytes.
+/// Returns a source of these bytes.
 pub fn pieces_of(bytes: &[u8], step: usize, fails_at: usize) -> Pieces<'_>
     ensures { (result.given ≡ 0) × (result.has_ended ≡ false) × (result.has_failed ≡ false) }
 {
@@ -101,7 +101,7 @@ pub struct Taken {
     pub has_failed: bool,
 }
 
-/// A sink that holds nothing.
+/// Returns a sink that holds nothing.
 pub fn empty_sink(alloc: Global, step: usize, fails_at: usize, takes_none: bool) -> Taken
     ensures { result.has_failed ≡ false }
 {

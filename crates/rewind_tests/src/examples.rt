@@ -17,7 +17,7 @@ const EXCHANGE: &str =
 /// A line and its reply.
 type Row = (&'static str, &'static str);
 
-/// The lines of a script, and its replies.
+/// Returns the lines of a script, and its replies.
 fn texts_of(alloc: Global, rows: &[Row]) -> Result<(Vec<u8>, Vec<u8>), AllocError> {
     let mut texts = (Vec::new(alloc), Vec::new(alloc));
     for (line, reply) in rows {
@@ -29,7 +29,7 @@ fn texts_of(alloc: Global, rows: &[Row]) -> Result<(Vec<u8>, Vec<u8>), AllocErro
     Ok(texts)
 }
 
-/// Whether each line is answered with its reply.
+/// Returns whether each line is answered with its reply.
 fn are_answered<R: Threads + Sync>(
     rt: &R,
     alloc: Global,

@@ -47,7 +47,7 @@ pub static ONE: Options = Options {
     clients: 1,
 };
 
-/// The script of these lines.
+/// Returns the script of these lines.
 fn script(alloc: Global) -> Result<Vec<u8>, AllocError> {
     let mut text = Vec::new(alloc);
     for (i, (line, _)) in LINES.iter().enumerate() {
@@ -59,7 +59,7 @@ fn script(alloc: Global) -> Result<Vec<u8>, AllocError> {
     Ok(text)
 }
 
-/// The replies to the lines that end within the first bytes.
+/// Returns the replies to the lines that end within the first bytes.
 fn replies(alloc: Global, read: usize) -> Result<Vec<u8>, AllocError> {
     let mut text = Vec::new(alloc);
     let mut end = 0usize;
@@ -285,7 +285,7 @@ fn passes_over_a_long_line(rt: HostRuntime) -> Result<(), Fail> {
     Ok(())
 }
 
-/// What a run of the script writes, and how it ends.
+/// Returns what a run of the script writes, and how it ends.
 pub fn run<R: Threads + Sync>(
     rt: &R,
     alloc: Global,
@@ -329,7 +329,7 @@ fn refuses_counts_of_processors(rt: HostRuntime) -> Result<(), Fail> {
     Ok(())
 }
 
-/// A graph line of so many digits: too long past 65,536, and else a number out of range.
+/// Returns a graph line of so many digits: too long past 65,536, and else a number out of range.
 #[test]
 fn refuses_long_graph_lines(rt: HostRuntime) -> Result<(), Fail> {
     for (length, reply) in [
@@ -348,7 +348,7 @@ fn refuses_long_graph_lines(rt: HostRuntime) -> Result<(), Fail> {
     Ok(())
 }
 
-/// A line's graph, so many feeds that keep the epoch open, and as many steps back.
+/// Returns a line's graph, so many feeds that keep the epoch open, and as many steps back.
 fn there_and_back(alloc: Global, times: usize) -> Result<Vec<u8>, AllocError> {
     let feed = "\n{\"do\":\"feed\",\"p\":0,\"vertex\":\"a\",\"values\":[5],\"next\":\"stay\"}";
     let mut script = Vec::new(alloc);
@@ -372,7 +372,7 @@ fn thousands_of_lines(rt: HostRuntime) -> Result<(), Fail> {
     Ok(())
 }
 
-/// The one fault to which no run comes.
+/// Returns the one fault to which no run comes.
 #[test]
 fn tells_a_log_mismatch(rt: HostRuntime) -> Result<(), Fail> {
     let told = format!(in rt.alloc(); "{}", DebugFault::Close)?;

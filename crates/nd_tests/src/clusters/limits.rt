@@ -182,7 +182,7 @@ fn hold<A: Allocator + Copy>(
     Some(())
 }
 
-/// The processor with what it holds.
+/// Returns the processor with what it holds.
 fn processor_of<A: Allocator + Copy>(
     alloc: A,
     graph: &Graph<A>,
@@ -195,7 +195,7 @@ fn processor_of<A: Allocator + Copy>(
     Some(processor)
 }
 
-/// The order of a graph.
+/// Returns the order of a graph.
 fn paths_of<A: Allocator + Copy>(alloc: A, graph: &Graph<A>) -> Option<Paths<A>>
     ensures { IfSome result (λ p. p ≡ graph.now) }
 {
@@ -205,7 +205,7 @@ fn paths_of<A: Allocator + Copy>(alloc: A, graph: &Graph<A>) -> Option<Paths<A>>
     }
 }
 
-/// The view of nothing.
+/// Returns the view of nothing.
 fn unseen<A: Allocator + Copy>(alloc: A, paths: &Paths<A>) -> View<A>
     ensures { IsFor paths.now result }
 {
@@ -213,7 +213,7 @@ fn unseen<A: Allocator + Copy>(alloc: A, paths: &Paths<A>) -> View<A>
     View::new(alloc)
 }
 
-/// The list of one view.
+/// Returns the list of one view.
 fn one<A: Allocator + Copy>(alloc: A, paths: &Paths<A>, view: View<A>) -> Option<Vec<View<A>, A>>
     requires { IsFor paths.now view }
     ensures { IfSome result (λ v. All (IsFor paths.now) v.items) }
@@ -226,7 +226,7 @@ fn one<A: Allocator + Copy>(alloc: A, paths: &Paths<A>, view: View<A>) -> Option
     Some(views)
 }
 
-/// The list of one view of nothing.
+/// Returns the list of one view of nothing.
 fn views_of<A: Allocator + Copy>(
     alloc: A,
     graph: &Graph<A>,
@@ -239,12 +239,12 @@ fn views_of<A: Allocator + Copy>(
     one(alloc, paths, unseen(alloc, paths))
 }
 
-/// The empty queue of one processor.
+/// Returns the empty queue of one processor.
 fn queue_of<A: Allocator + Copy>(alloc: A) -> Option<Mesh<A>> {
     Mesh::new(alloc, 1).ok()
 }
 
-/// The cluster of one processor with what it holds. It is made of its parts while no memory is given.
+/// Returns the cluster of one processor with what it holds. It is made of its parts while no memory is given.
 fn cluster_of<A: Allocator + Copy>(
     heap: &Heap,
     json: Global,
@@ -278,7 +278,7 @@ pub fn number_of<A: Allocator + Copy>(
     }
 }
 
-/// Whether the last epoch of an input is closed.
+/// Returns whether the last epoch of an input is closed.
 pub fn closes<A: Allocator + Copy>(heap: &Heap, json: Global, alloc: A) -> Option<bool> {
     let mut cluster = cluster_of(heap, json, alloc, &ROWS[2])?;
     let step = step_of(alloc, cluster.graph(), &ROWS[2].2)?;

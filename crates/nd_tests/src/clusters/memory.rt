@@ -28,7 +28,7 @@ enum Call {
     TellWhy,
 }
 
-/// Whether a call met the request that was refused. `None` if it answered or left what it should not.
+/// Returns whether a call met the request that was refused. `None` if it answered or left what it should not.
 fn meets<A: Allocator + Copy>(
     heap: &Heap,
     alloc: A,
@@ -59,7 +59,7 @@ fn meets<A: Allocator + Copy>(
     }
 }
 
-/// The same of a release, its times, and a list of processors.
+/// Does the same for a release, its times, and a list of processors.
 fn small_parts<A: Allocator + Copy>(
     heap: &Heap,
     alloc: A,
@@ -85,7 +85,7 @@ fn small_parts<A: Allocator + Copy>(
     }
 }
 
-/// The same of the reasons of processor 1, from which a record and a change on its way are hidden.
+/// Does the same for the reasons of processor 1, from which a record and a change on its way are hidden.
 fn why<A: Allocator + Copy>(heap: &Heap, alloc: A, json: Global, n: u64) -> Option<bool> {
     let steps = [Told::Feed(0, "a", &[5], Next::Next), Told::All(0)];
     let cluster = reach(json, alloc, LINE, 2, &steps)?;
@@ -97,7 +97,7 @@ fn why<A: Allocator + Copy>(heap: &Heap, alloc: A, json: Global, n: u64) -> Opti
     met!(heap, n: cluster.why(alloc, 1, &z); NoMemory, is_state(json, &cluster, before.as_str()))
 }
 
-/// How many requests of a call were refused before it met none.
+/// Returns how many requests of a call were refused before it met none.
 fn refused<A: Allocator + Copy>(heap: &Heap, alloc: A, json: Global, call: Call) -> Option<u64> {
     in_turn(|n| meets(heap, alloc, json, call, n))
 }
@@ -189,7 +189,7 @@ struct Case<'a, A: Allocator + Copy> {
     after: &'a str,
 }
 
-/// Whether the plan of a step met the request that was refused.
+/// Returns whether the plan of a step met the request that was refused.
 fn meets_plan<A: Allocator + Copy>(
     heap: &Heap,
     json: Global,
@@ -199,7 +199,7 @@ fn meets_plan<A: Allocator + Copy>(
     met!(heap, n: case.base.plan(case.step); Refusal::Memory, is_state(json, case.base, case.before))
 }
 
-/// The same of the commit of a step, which succeeds afterwards.
+/// Does the same for the commit of a step, which succeeds afterwards.
 fn meets_commit<A: Allocator + Copy>(
     heap: &Heap,
     json: Global,
@@ -216,7 +216,7 @@ fn meets_commit<A: Allocator + Copy>(
     Some(met)
 }
 
-/// The same of the back-step of a step.
+/// Does the same for the back-step of a step.
 fn meets_back<A: Allocator + Copy>(
     heap: &Heap,
     json: Global,
@@ -229,7 +229,7 @@ fn meets_back<A: Allocator + Copy>(
     met!(heap, n: cluster.back(&record); NoMemory, is_state(json, cluster, case.after))
 }
 
-/// The same of either, on a copy of the cluster.
+/// Does the same for either, on a copy of the cluster.
 fn on_copy<A: Allocator + Copy>(
     heap: &Heap,
     alloc: A,
@@ -246,8 +246,8 @@ fn on_copy<A: Allocator + Copy>(
     }
 }
 
-/// How many requests were refused of the plan, of the commit and of the back-step of a run's last step. Each refusal
-/// left all as it was.
+/// Returns how many requests were refused of the plan, of the commit and of the back-step of a run's last step. Each refusal left
+/// all as it was.
 fn last_in_turn<A: Allocator + Copy>(
     heap: &Heap,
     alloc: A,

@@ -192,7 +192,7 @@ static LISTED: [Listed; 3] = [
     ),
 ];
 
-/// The entry that is told.
+/// Returns the entry that is told.
 fn entry_of<A: Allocator>(graph: &Graph<A>, told: &Part) -> Option<Entry> {
     let (is_unsent, epoch, n) = told;
     let point = point(graph, "h", &[*epoch])?;
@@ -204,7 +204,7 @@ fn entry_of<A: Allocator>(graph: &Graph<A>, told: &Part) -> Option<Entry> {
     Some(Entry::Key(Change { p: 0, slot, n: *n }))
 }
 
-/// Whether the record of a release lists these entries and no others, in any order.
+/// Returns whether the record of a release lists these entries and no others, in any order.
 fn lists(alloc: Global, row: &Listed) -> Option<bool> {
     let ((text, n, steps), told, entries) = row;
     let cluster = reach(alloc, alloc, text, *n, steps)?;
@@ -224,7 +224,7 @@ const MOVED: &str =
      \"tokens\":[],\"unsent\":[[\"a\",[0],-1],[\"h\",[3],1],[\"hz\",[0],1]],\"view\":[[\"a\",[0],1]]}],\
      \"queues\":[[[]]]}";
 
-/// Whether a release leads to that state, and is undone.
+/// Returns whether a release leads to that state, and is undone.
 fn goes_and_comes_back(alloc: Global) -> Option<bool> {
     let (text, n, steps) = &HELD_TAKEN;
     let mut cluster = reach(alloc, alloc, text, *n, steps)?;

@@ -15,7 +15,7 @@ static STEPS: [Told; 3] = [
     Told::All(0),
 ];
 
-/// Whether a cluster tells what there is after these steps.
+/// Returns whether a cluster tells what there is after these steps.
 fn tells<A: Allocator + Copy>(cluster: &Cluster<A>) -> Option<bool> {
     let az = point(cluster.graph(), "az", &[0])?;
     let z = point(cluster.paths().graph(), "z", &[0])?;
@@ -33,7 +33,7 @@ fn tells<A: Allocator + Copy>(cluster: &Cluster<A>) -> Option<bool> {
     )
 }
 
-/// Whether it does so while no memory is given, and the record of a step tells its entries.
+/// Returns whether it does so while no memory is given, and the record of a step tells its entries.
 fn reads<A: Allocator + Copy>(heap: &Heap, json: Global, alloc: A) -> Option<bool> {
     let cluster = reach(json, alloc, LINE, 1, &STEPS)?;
     let step = step_of(alloc, cluster.graph(), &Told::Receive(0, 0))?;
@@ -61,7 +61,7 @@ fn goes_and_comes_back<A: Allocator + Copy>(
     Some(record.entries())
 }
 
-/// A copy of a cluster that has made these steps, each there and back and there again.
+/// Returns a copy of a cluster that has made these steps, each there and back and there again.
 fn more<A: Allocator + Copy>(alloc: A, base: &Cluster<A>, steps: &[Told]) -> Option<Cluster<A>> {
     let mut copy = base.copy(alloc).ok()?;
     for told in steps {
@@ -72,7 +72,7 @@ fn more<A: Allocator + Copy>(alloc: A, base: &Cluster<A>, steps: &[Told]) -> Opt
     Some(copy)
 }
 
-/// Whether a copy is made of a start in the first heap, and makes steps, without that heap.
+/// Returns whether a copy is made of a start in the first heap, and makes steps, without that heap.
 fn is_apart<A: Allocator + Copy>(first: &Heap, here: A, there: A, json: Global) -> Option<bool> {
     let (text, n, steps) = &SUM_NOTIFIED;
     let base = start(json, here, text, *n)?;
@@ -88,14 +88,14 @@ fn copies_have_their_own_memory(rt: HostRuntime) {
     assert_eq!(rt; (first.live(), second.live()), (0, 0));
 }
 
-/// Whether eight processors start on the empty graph, and are copied.
+/// Returns whether eight processors start on the empty graph, and are copied.
 fn starts_empty<A: Allocator + Copy>(json: Global, alloc: A) -> Option<bool> {
     let cluster = start(json, alloc, EMPTY, 8)?.copy(alloc).ok()?;
     cluster.state_value(json).ok()?;
     Some(cluster.first_enabled(0).ok()?.is_none())
 }
 
-/// The feed of the numbers below so many.
+/// Returns the feed of the numbers below so many.
 fn feed<A: Allocator>(alloc: A, count: i64) -> Option<Step<A>> {
     let mut values = Values::new(alloc);
     for value in 0..count {
@@ -109,7 +109,7 @@ fn feed<A: Allocator>(alloc: A, count: i64) -> Option<Step<A>> {
     })
 }
 
-/// The entries of a feed of so many on 64 locations. It goes and comes back, as does a broadcast after it.
+/// Returns the entries of a feed of so many on 64 locations. It goes and comes back, as does a broadcast after it.
 fn fed<A: Allocator + Copy>(json: Global, alloc: A, count: i64) -> Option<usize> {
     let mut cluster = start(json, alloc, LONG, 8)?.copy(alloc).ok()?;
     let entries = goes_and_comes_back(&mut cluster, &feed(alloc, count)?.copy(alloc).ok()?)?;

@@ -10,12 +10,12 @@ use nd_testing::Refusing;
 use std::alloc::Global;
 use std::mem::size_of;
 
-/// Why a cluster of n processors does not start on a line, if so.
+/// Returns why a cluster of n processors does not start on a line, if so.
 fn fault_of(alloc: Global, n: u32) -> Option<StartFault> {
     Cluster::start(alloc, graph_of(alloc, alloc, LINE)?, n).err()
 }
 
-/// Whether a start has no step that may be chosen, whoever's turn it is.
+/// Returns whether a start has no step that may be chosen, whoever's turn it is.
 fn is_idle(alloc: Global, text: &str, n: u32) -> Option<bool> {
     let cluster = start(alloc, alloc, text, n)?;
     Some(cluster.first_enabled(0).ok()?.is_none() && cluster.first_enabled(2).ok()?.is_none())
@@ -45,7 +45,7 @@ fn number_limits(rt: HostRuntime) {
     assert_eq!(rt; heap.live(), 0);
 }
 
-/// How many of the changes are of tokens, of records that come twice, and of what is unsent.
+/// Returns how many of the changes are of tokens, of records that come twice, and of what is unsent.
 fn kinds(changes: &[Change]) -> (usize, usize, usize) {
     let mut kinds: (usize, usize, usize) = (0, 0, 0);
     for change in changes {
@@ -59,7 +59,7 @@ fn kinds(changes: &[Change]) -> (usize, usize, usize) {
     kinds
 }
 
-/// Whether the record of a feed of *line* changes these, as does a copy.
+/// Returns whether the record of a feed of *line* changes these, as does a copy.
 fn lists_changes(alloc: Global) -> Option<bool> {
     let cluster = start(alloc, alloc, LINE, 1)?;
     let told = Told::Feed(0, "a", &[7, 7], Next::Close);
@@ -97,7 +97,7 @@ fn inverse_records(rt: HostRuntime) {
     assert_eq!(rt; entry_count(alloc, EXCHANGE, 3, &steps), Some(3));
 }
 
-/// What a step changes on *line*, once others were made.
+/// Returns what a step changes on *line*, once others were made.
 fn entries_of(alloc: Global, made: &[Told], told: &Told) -> Option<Vec<Entry>> {
     let cluster = reach(alloc, alloc, LINE, 1, made)?;
     let record = cluster.plan(&step_of(alloc, cluster.graph(), told)?).ok()?;
@@ -109,7 +109,7 @@ fn more(slot: Slot, n: i128) -> Entry {
     Entry::Key(Change { p: 0, slot, n })
 }
 
-/// The pointstamp of a location in the first epoch.
+/// Returns the pointstamp of a location in the first epoch.
 fn at(location: usize) -> Option<Pointstamp> {
     Some(Pointstamp {
         location,
@@ -117,7 +117,7 @@ fn at(location: usize) -> Option<Pointstamp> {
     })
 }
 
-/// Whether the changes of a feed on *line* are told in order: the record before what is unsent.
+/// Returns whether the changes of a feed on *line* are told in order: the record before what is unsent.
 fn tells_feed(alloc: Global) -> Option<bool> {
     let told = entries_of(alloc, &[], &Told::Feed(0, "a", &[7], Next::Stay))?;
     let key = ValueAt {
@@ -129,7 +129,7 @@ fn tells_feed(alloc: Global) -> Option<bool> {
     Some(told.as_slice() == [record, unsent].as_slice())
 }
 
-/// Whether those of a broadcast of what it leaves are, and those of the receive.
+/// Returns whether those of a broadcast of what it leaves are, and those of the receive.
 fn tells_exchange(alloc: Global) -> Option<bool> {
     let feed = Told::Feed(0, "a", &[7], Next::Close);
     let sent = entries_of(alloc, &[feed], &Told::All(0))?;
@@ -159,7 +159,7 @@ fn entries_of_records(rt: HostRuntime) {
     assert_eq!(rt; tells_exchange(rt.alloc()), Some(true));
 }
 
-/// Whether the record of a step after others holds a flow.
+/// Returns whether the record of a step after others holds a flow.
 fn keeps_flow(alloc: Global, text: &str, before: &[Told], told: &Told) -> Option<bool> {
     let cluster = reach(alloc, alloc, text, 1, before)?;
     let record = cluster.plan(&step_of(alloc, cluster.graph(), told)?).ok()?;

@@ -9,7 +9,7 @@ use nd_testing::{MANY, Refusing};
 use nd_timeline::{Fault, Timeline};
 use std::alloc::{Allocator, Global};
 
-/// A timeline on a loop that never ends, with a record in it.
+/// Returns a timeline on a loop that never ends, with a record in it.
 fn looped<A: Allocator + Copy>(json: Global, alloc: A) -> Option<Timeline<A>> {
     let mut timeline = Timeline::new(alloc, start(json, alloc, ENDLESS, 1)?).ok()?;
     for value in [&[1_i64], &[2]] {
@@ -20,7 +20,7 @@ fn looped<A: Allocator + Copy>(json: Global, alloc: A) -> Option<Timeline<A>> {
     Some(timeline)
 }
 
-/// Whether the timeline has the state to which its kept steps up to the cursor lead from its base.
+/// Returns whether the timeline has the state to which its kept steps up to the cursor lead from its base.
 fn is_led_to<A: Allocator + Copy>(json: Global, alloc: A, timeline: &Timeline<A>) -> Option<bool> {
     let mut other = Timeline::new(alloc, timeline.base().copy(alloc).ok()?).ok()?;
     for i in 0..timeline.at() {
@@ -30,7 +30,7 @@ fn is_led_to<A: Allocator + Copy>(json: Global, alloc: A, timeline: &Timeline<A>
     Some(is_state(json, timeline.cluster(), wanted.as_str()))
 }
 
-/// Whether jumps to all of these positions land there.
+/// Returns whether jumps to all of these positions land there.
 fn lands<A: Allocator + Copy>(
     json: Global,
     alloc: A,
@@ -51,7 +51,7 @@ static AROUND: [u64; 12] = [
     5000, 0, 4999, 1024, 4096, 1, 1023, 3072, 1025, 4998, 2049, 2047,
 ];
 
-/// Whether far jumps over a run of 5,000 steps land, and still do once others take the place of most of them.
+/// Returns whether far jumps over a run of 5,000 steps land, and still do once others take the place of most of them.
 fn jumps<A: Allocator + Copy>(json: Global, alloc: A) -> Option<bool> {
     let mut timeline = looped(json, alloc)?;
     timeline.run(4998, None, &Breaks::new(alloc).ok()?).ok()?;
@@ -71,7 +71,7 @@ fn far_jumps_land(rt: HostRuntime) {
     assert_eq!(rt; heap.live(), 0);
 }
 
-/// Whether a run over a position where a checkpoint is due met the request that was refused, and whether it went on.
+/// Returns whether a run over a position where a checkpoint is due met the request that was refused, and whether it went on.
 ///
 /// `None` if the timeline is not where it says, or gave up although it met no refusal.
 fn meets_run<A: Allocator + Copy>(
@@ -98,7 +98,7 @@ fn meets_run<A: Allocator + Copy>(
     }
 }
 
-/// How many refusals were unnoticed before the first of such runs that met none.
+/// Returns how many refusals were unnoticed before the first of such runs that met none.
 fn unnoticed_in_runs<A: Allocator + Copy>(heap: &Heap, json: Global, alloc: A) -> Option<u64> {
     let mut count: u64 = 0;
     for n in 0..MANY {
@@ -113,7 +113,7 @@ fn unnoticed_in_runs<A: Allocator + Copy>(heap: &Heap, json: Global, alloc: A) -
     None
 }
 
-/// The same of jumps over 1,500 steps of one timeline, which begin at a checkpoint.
+/// Does the same for jumps over 1,500 steps of one timeline, which begin at a checkpoint.
 fn unnoticed_in_jumps<A: Allocator + Copy>(heap: &Heap, json: Global, alloc: A) -> Option<u64> {
     let mut timeline = looped(json, alloc)?;
     timeline.run(2598, None, &Breaks::new(alloc).ok()?).ok()?;
@@ -179,7 +179,7 @@ fn fill<A: Allocator + Copy>(alloc: A, timeline: &mut Timeline<A>, count: i64) -
     timeline.forward(&step).ok()
 }
 
-/// How many blocks the checkpoints of a run of 20,000 steps have, and how many what is saved at its end, with as many
+/// Returns how many blocks the checkpoints of a run of 20,000 steps have, and how many what is saved at its end, with as many
 /// records in the loop.
 fn blocks<A: Allocator + Copy>(
     heap: &Heap,
@@ -201,7 +201,7 @@ fn blocks<A: Allocator + Copy>(
     Some((with.saturating_sub(without), one))
 }
 
-/// Whether there are as many checkpoints, by their blocks, or at most one more or less.
+/// Returns whether there are as many checkpoints, by their blocks, or at most one more or less.
 fn has_about<A: Allocator + Copy>(
     heap: &Heap,
     json: Global,

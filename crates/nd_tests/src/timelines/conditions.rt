@@ -65,7 +65,7 @@ fn both(quantifier: Quantifier, first: Literal, second: Literal) -> Option<Condi
     Some(condition)
 }
 
-/// Whether the turns of all kept steps are these.
+/// Returns whether the turns of all kept steps are these.
 fn turns_at<A: Allocator + Copy>(
     alloc: A,
     timeline: &Timeline<A>,
@@ -132,7 +132,7 @@ fn ranges_of_turns(rt: HostRuntime) -> Result<(), Fail> {
     Ok(())
 }
 
-/// Whether a condition of the two literals holds.
+/// Returns whether a condition of the two literals holds.
 fn holds<A: Allocator + Copy>(
     cluster: &Cluster<A>,
     quantifier: Quantifier,
@@ -186,7 +186,7 @@ fn processors_that_are_missing(rt: HostRuntime) -> Result<(), Fail> {
     Ok(())
 }
 
-/// A line that has fed nothing, and broadcast and received it, so many times.
+/// Returns a line that has fed nothing, and broadcast and received it, so many times.
 fn cycled<A: Allocator + Copy>(json: Global, alloc: A, times: u64) -> Option<Timeline<A>> {
     let mut timeline = Timeline::new(alloc, start(json, alloc, LINE, 1)?).ok()?;
     let cycle = [
@@ -203,7 +203,7 @@ fn cycled<A: Allocator + Copy>(json: Global, alloc: A, times: u64) -> Option<Tim
     Some(timeline)
 }
 
-/// How many turns are listed, the last of them, and whether there are more.
+/// Returns how many turns are listed, the last of them, and whether there are more.
 fn listed<A: Allocator>(turns: &Turns<A>) -> (usize, Option<u64>, bool) {
     let positions = turns.positions.as_slice();
     (positions.len(), positions.last().copied(), turns.more)
@@ -223,7 +223,7 @@ fn a_thousand_turns(rt: HostRuntime) -> Result<(), Fail> {
     Ok(())
 }
 
-/// Whether the turns of a condition met the request that was refused: then all is where it was.
+/// Returns whether the turns of a condition met the request that was refused: then all is where it was.
 fn meets_turns<A: Allocator + Copy>(heap: &Heap, json: Global, alloc: A, n: u64) -> Option<bool> {
     let timeline = kept(json, alloc, &CLOSED)?;
     let (at, kept) = (timeline.at(), timeline.kept());
@@ -238,7 +238,7 @@ fn meets_turns<A: Allocator + Copy>(heap: &Heap, json: Global, alloc: A, n: u64)
     }
 }
 
-/// How many requests of it were refused before it met none.
+/// Returns how many requests of it were refused before it met none.
 fn turnings<A: Allocator + Copy>(heap: &Heap, json: Global, alloc: A) -> Option<u64> {
     in_turn(|n| meets_turns(heap, json, alloc, n))
 }
@@ -251,7 +251,7 @@ fn turns_out_of_memory(rt: HostRuntime) {
     assert_eq!(rt; heap.live(), 0);
 }
 
-/// Whether a condition is made, copied, set, hit and cleared.
+/// Returns whether a condition is made, copied, set, hit and cleared.
 fn tells<A: Allocator + Copy>(cluster: &Cluster<A>, breaks: &mut Breaks<A>) -> Option<bool> {
     let condition = both(
         Quantifier::All,
@@ -265,7 +265,7 @@ fn tells<A: Allocator + Copy>(cluster: &Cluster<A>, breaks: &mut Breaks<A>) -> O
     Some(is_hit && is_same && breaks.first_hit(cluster) == None)
 }
 
-/// Whether it does so while no memory is given.
+/// Returns whether it does so while no memory is given.
 fn tells_unasked<A: Allocator + Copy>(heap: &Heap, json: Global, alloc: A) -> Option<bool> {
     let cluster = start(json, alloc, LINE, 1)?;
     let mut breaks = Breaks::new(alloc).ok()?;

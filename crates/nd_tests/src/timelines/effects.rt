@@ -40,7 +40,7 @@ static TAKEN: Script = (
 /// An entry that changes: the processor, the name of a location, its epoch, and the values before and after.
 type Row = (u32, &'static str, u32, i64, i64);
 
-/// Whether the entries that change are those of the rows, in order.
+/// Returns whether the entries that change are those of the rows, in order.
 fn are_entries<A: Allocator>(
     graph: &Graph<A>,
     found: &[Altered<Pointstamp, i64>],
@@ -63,7 +63,7 @@ fn are_entries<A: Allocator>(
     Some(true)
 }
 
-/// Whether the one count of records that changes is of a value on an edge at time 0.
+/// Returns whether the one count of records that changes is of a value on an edge at time 0.
 fn is_record<A: Allocator + Copy>(
     graph: &Graph<A>,
     changed: &Effect<A>,
@@ -85,7 +85,7 @@ fn is_record<A: Allocator + Copy>(
     Some(changed.records.as_slice() == wanted.as_slice())
 }
 
-/// How many elements each list has: of items, queues, records, requests, sinks, tokens, what is unsent, and views.
+/// Returns how many elements each list has: of items, queues, records, requests, sinks, tokens, what is unsent, and views.
 fn lengths<A: Allocator + Copy>(changed: &Effect<A>) -> [usize; 8] {
     [
         changed.items.len(),
@@ -99,7 +99,7 @@ fn lengths<A: Allocator + Copy>(changed: &Effect<A>) -> [usize; 8] {
     ]
 }
 
-/// The number of an item of the sum at time 0.
+/// Returns the number of an item of the sum at time 0.
 fn item<A: Allocator>(
     graph: &Graph<A>,
     old: Option<i64>,
@@ -284,7 +284,7 @@ fn effect_of_notice(rt: HostRuntime) -> Result<(), Fail> {
     Ok(())
 }
 
-/// Whether the effect of the kept step that leads to a position met the request that was refused: then all is where it was.
+/// Returns whether the effect of the kept step that leads to a position met the request that was refused: then all is where it was.
 fn meets_effect<A: Allocator + Copy>(
     heap: &Heap,
     json: Global,
@@ -303,7 +303,7 @@ fn meets_effect<A: Allocator + Copy>(
     }
 }
 
-/// How many requests of it were refused before it met none.
+/// Returns how many requests of it were refused before it met none.
 fn effects<A: Allocator + Copy>(heap: &Heap, json: Global, alloc: A, to: u64) -> Option<u64> {
     in_turn(|n| meets_effect(heap, json, alloc, to, n))
 }

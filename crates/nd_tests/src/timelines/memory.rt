@@ -73,7 +73,7 @@ pub static ALL: Script = (
     ],
 );
 
-/// The timeline that keeps the steps of a script.
+/// Returns the timeline that keeps the steps of a script.
 pub fn kept<A: Allocator + Copy>(json: Global, alloc: A, script: &Script) -> Option<Timeline<A>> {
     let (text, n, steps) = script;
     let mut timeline = Timeline::new(alloc, start(json, alloc, text, *n)?).ok()?;
@@ -84,7 +84,7 @@ pub fn kept<A: Allocator + Copy>(json: Global, alloc: A, script: &Script) -> Opt
     Some(timeline)
 }
 
-/// Whether the cluster is the one after so many steps of a script.
+/// Returns whether the cluster is the one after so many steps of a script.
 pub fn is_after<A: Allocator + Copy>(
     json: Global,
     cluster: &Cluster<A>,
@@ -98,7 +98,7 @@ pub fn is_after<A: Allocator + Copy>(
     Some(is_state(json, cluster, wanted.as_str()))
 }
 
-/// Whether a jump from one end of a script to the other met the request that was refused.
+/// Returns whether a jump from one end of a script to the other met the request that was refused.
 ///
 /// If it did, it stands short of the other end, where it says; if it did not, at the other end.
 fn meets_jump<A: Allocator + Copy>(
@@ -125,7 +125,7 @@ fn meets_jump<A: Allocator + Copy>(
     }
 }
 
-/// How many requests of such a jump were refused before it met none.
+/// Returns how many requests of such a jump were refused before it met none.
 fn jumps<A: Allocator + Copy>(
     heap: &Heap,
     json: Global,
@@ -183,7 +183,7 @@ static MOVES: [(Move, bool); 8] = [
     (Move::CopyCommand, true),
 ];
 
-/// Whether a run met the request that was refused: then it stands where it came to.
+/// Returns whether a run met the request that was refused: then it stands where it came to.
 fn meets_run<A: Allocator + Copy>(
     heap: &Heap,
     json: Global,
@@ -203,7 +203,7 @@ fn meets_run<A: Allocator + Copy>(
     }
 }
 
-/// Whether a move met the request that was refused: then the timeline is where it was, or a run where it came to.
+/// Returns whether a move met the request that was refused: then the timeline is where it was, or a run where it came to.
 fn meets<A: Allocator + Copy>(
     heap: &Heap,
     json: Global,
@@ -249,7 +249,7 @@ fn meets<A: Allocator + Copy>(
     }
 }
 
-/// How many requests of a move were refused before it met none.
+/// Returns how many requests of a move were refused before it met none.
 fn refused<A: Allocator + Copy>(heap: &Heap, json: Global, alloc: A, call: Move) -> Option<u64> {
     in_turn(|n| meets(heap, json, alloc, call, n))
 }

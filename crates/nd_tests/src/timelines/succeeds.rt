@@ -10,7 +10,7 @@ use nd_testing::{Refusing, unasked};
 use nd_timeline::{Ran, Stop, Timeline};
 use std::alloc::{Allocator, Global};
 
-/// Whether a timeline of four steps, of which the last lets z pass, tells where it is, and stays there.
+/// Returns whether a timeline of four steps, of which the last lets z pass, tells where it is, and stays there.
 fn tells<A: Allocator + Copy>(
     timeline: &mut Timeline<A>,
     breaks: &Breaks<A>,
@@ -25,7 +25,7 @@ fn tells<A: Allocator + Copy>(
     Some(has_steps && is_there && timeline.passed(0, &z) == (at == 4))
 }
 
-/// Whether it does so at a position while no memory is given.
+/// Returns whether it does so at a position while no memory is given.
 fn stays<A: Allocator + Copy>(heap: &Heap, json: Global, alloc: A, at: u64) -> Option<bool> {
     let mut timeline = kept(json, alloc, &ALL)?;
     let breaks = Breaks::new(alloc).ok()?;
@@ -42,7 +42,7 @@ fn staying_takes_no_memory(rt: HostRuntime) {
     assert_eq!(rt; heap.live(), 0);
 }
 
-/// A copy of a timeline that has run on, gone back and again, and then another way.
+/// Returns a copy of a timeline that has run on, gone back and again, and then another way.
 fn more<A: Allocator + Copy>(alloc: A, base: &Timeline<A>) -> Option<Timeline<A>> {
     let mut copy = base.copy(alloc).ok()?;
     copy.run(10, None, &Breaks::new(alloc).ok()?).ok()?;
@@ -55,7 +55,7 @@ fn more<A: Allocator + Copy>(alloc: A, base: &Timeline<A>) -> Option<Timeline<A>
     Some(copy)
 }
 
-/// Whether a copy is made of a timeline in the first heap, and moves, without that heap.
+/// Returns whether a copy is made of a timeline in the first heap, and moves, without that heap.
 fn is_apart<A: Allocator + Copy>(first: &Heap, here: A, there: A, json: Global) -> Option<bool> {
     let base = kept(json, here, &ONE)?;
     let copy = unasked!(first: more(there, &base)?);
@@ -70,7 +70,7 @@ fn copies_have_their_own_memory(rt: HostRuntime) {
     assert_eq!(rt; (first.live(), second.live()), (0, 0));
 }
 
-/// A timeline on a line that keeps so many feeds of nothing.
+/// Returns a timeline on a line that keeps so many feeds of nothing.
 fn fed<A: Allocator + Copy>(json: Global, alloc: A, times: u64) -> Option<Timeline<A>> {
     let mut timeline = Timeline::new(alloc, start(json, alloc, LINE, 1)?).ok()?;
     let told = Told::Feed(0, "a", &[], Next::Next);
@@ -81,7 +81,7 @@ fn fed<A: Allocator + Copy>(json: Global, alloc: A, times: u64) -> Option<Timeli
     Some(timeline)
 }
 
-/// Whether a copy of a timeline of so many feeds goes from end to end.
+/// Returns whether a copy of a timeline of so many feeds goes from end to end.
 fn goes<A: Allocator + Copy>(json: Global, alloc: A, times: u64) -> Option<bool> {
     let mut copy = fed(json, alloc, times)?.copy(alloc).ok()?;
     copy.jump(0).ok()?;
@@ -89,7 +89,7 @@ fn goes<A: Allocator + Copy>(json: Global, alloc: A, times: u64) -> Option<bool>
     Some((copy.at(), copy.kept()) == (times, times))
 }
 
-/// Whether a timeline on the graph without vertices has nothing to do.
+/// Returns whether a timeline on the graph without vertices has nothing to do.
 fn is_idle<A: Allocator + Copy>(json: Global, alloc: A) -> Option<bool> {
     let base = Timeline::new(alloc, start(json, alloc, EMPTY, 8)?).ok()?;
     let mut copy = base.copy(alloc).ok()?;

@@ -8,7 +8,7 @@ use nd_testing::{Refusing, in_turn, met};
 use nd_timeline::Fault;
 use std::alloc::{AllocError, Allocator, Global};
 
-/// Whether the beginning of a walk met the request that was refused.
+/// Returns whether the beginning of a walk met the request that was refused.
 fn meets_beginning<A: Allocator + Copy>(
     heap: &Heap,
     json: Global,
@@ -19,7 +19,7 @@ fn meets_beginning<A: Allocator + Copy>(
     met!(heap, n: timeline.walk_near(alloc, 0); AllocError, true)
 }
 
-/// Whether a walk from one end of a script to the other met it: then it stands where it says.
+/// Returns whether a walk from one end of a script to the other met it: then it stands where it says.
 fn meets_walk<A: Allocator + Copy>(
     heap: &Heap,
     json: Global,
@@ -42,7 +42,7 @@ fn meets_walk<A: Allocator + Copy>(
     }
 }
 
-/// How many requests of such a walk were refused before it met none.
+/// Returns how many requests of such a walk were refused before it met none.
 fn walks<A: Allocator + Copy>(
     heap: &Heap,
     json: Global,
@@ -53,7 +53,7 @@ fn walks<A: Allocator + Copy>(
     in_turn(|n| meets_walk(heap, json, alloc, script, is_back, n))
 }
 
-/// The same of its beginning.
+/// Does the same for its beginning.
 fn beginnings<A: Allocator + Copy>(heap: &Heap, json: Global, alloc: A) -> Option<u64> {
     in_turn(|n| meets_beginning(heap, json, alloc, n))
 }
@@ -72,7 +72,7 @@ fn walk_out_of_memory(rt: HostRuntime) {
     assert_eq!(rt; heap.live(), 0);
 }
 
-/// Whether what is told of processor 0's view of the edge met the request that was refused: then all is where it was.
+/// Returns whether what is told of processor 0's view of the edge met the request that was refused: then all is where it was.
 fn meets_changes<A: Allocator + Copy>(heap: &Heap, json: Global, alloc: A, n: u64) -> Option<bool> {
     let timeline = kept(json, alloc, &ALL)?;
     let az = point(timeline.cluster().graph(), "az", &[0])?;
@@ -87,7 +87,7 @@ fn meets_changes<A: Allocator + Copy>(heap: &Heap, json: Global, alloc: A, n: u6
     }
 }
 
-/// How many requests of it were refused before it met none.
+/// Returns how many requests of it were refused before it met none.
 fn tellings<A: Allocator + Copy>(heap: &Heap, json: Global, alloc: A) -> Option<u64> {
     in_turn(|n| meets_changes(heap, json, alloc, n))
 }

@@ -10,7 +10,7 @@ use nd_session::State;
 use nd_timeline::{Command, Reply, Stop};
 use std::alloc::{Allocator, Global};
 
-/// A breakpoint that holds of each cluster.
+/// Returns a breakpoint that holds of each cluster.
 fn always() -> Condition {
     only(Atom::Queue {
         from: 0,
@@ -19,7 +19,7 @@ fn always() -> Condition {
     })
 }
 
-/// Whether each breakpoint gets the least free number, and none a number when 32 are set.
+/// Returns whether each breakpoint gets the least free number, and none a number when 32 are set.
 fn are_numbered<A: Allocator>(alloc: A) -> Option<bool> {
     let mut breaks = Breaks::new(alloc).ok()?;
     for id in 0..32 {
@@ -69,7 +69,7 @@ fn is_answer(reply: &Reply, answer: &Answer) -> bool {
     }
 }
 
-/// Whether each command gets its answer, and is an entry of the log.
+/// Returns whether each command gets its answer, and is an entry of the log.
 fn answers(alloc: Global, state: &mut State, rows: &[Row]) -> Option<bool> {
     let before = state.log().len();
     for (asked, answer) in rows {
@@ -90,7 +90,7 @@ enum Because {
     Unsent,
 }
 
-/// What the only reason says, which is at the location of a name. `None` if it says anything else.
+/// Returns what the only reason says, which is at the location of a name. `None` if it says anything else.
 fn reason_at(alloc: Global, cluster: &Cluster, name: &str) -> Option<Because> {
     let (z, there) = (
         point(cluster.graph(), "z", &[0])?,
@@ -111,7 +111,7 @@ fn reason_at(alloc: Global, cluster: &Cluster, name: &str) -> Option<Because> {
     }
 }
 
-/// Whether z has passed epoch 0, and these are the times that can still arrive there.
+/// Returns whether z has passed epoch 0, and these are the times that can still arrive there.
 fn arrive(alloc: Global, cluster: &Cluster, times: &[Numbers]) -> Option<bool> {
     let z = point(cluster.graph(), "z", &[0])?;
     if cluster.n() == 0 {
@@ -161,7 +161,7 @@ static GIVES_UP: [Row; 2] = [
     (Asked::Run(10), Answer::Ran(2, 11, Stop::Idle)),
 ];
 
-/// Whether a capability holds z back until it is moved, and is then given up.
+/// Returns whether a capability holds z back until it is moved, and is then given up.
 fn is_held(alloc: Global) -> Option<bool> {
     let mut state = opened(alloc, alloc, HELD, 1)?;
     let is_kept = answers(alloc, &mut state, &HOLDS)?;
@@ -190,7 +190,7 @@ static FEEDS: [Row; 2] = [
     ),
 ];
 
-/// Whether a token goes to epoch 1000, and stays there.
+/// Returns whether a token goes to epoch 1000, and stays there.
 fn is_fed(alloc: Global) -> Option<bool> {
     let mut state = opened(alloc, alloc, LINE, 1)?;
     let is_told = answers(alloc, &mut state, &FEEDS)?;
@@ -231,7 +231,7 @@ static OTHERS_RUN: [Row; 4] = [
     (Asked::Run(50), Answer::Ran(0, 10, Stop::Idle)),
 ];
 
-/// Whether what the first processor waits for is that the second closed its input, until that one runs.
+/// Returns whether what the first processor waits for is that the second closed its input, until that one runs.
 fn is_alone(alloc: Global) -> Option<bool> {
     let mut state = opened(alloc, alloc, EXCHANGE, 2)?;
     let is_told = answers(alloc, &mut state, &ONE_RUNS)?;
@@ -266,7 +266,7 @@ static MISSING: [Row; 9] = [
     (Asked::RunOnly(999_999, &[2]), Answer::Refused(1)),
 ];
 
-/// Whether runs of processors that may be missing get these answers.
+/// Returns whether runs of processors that may be missing get these answers.
 fn are_missing(alloc: Global) -> Option<bool> {
     let mut state = opened(alloc, alloc, EXCHANGE, 2)?;
     answers(alloc, &mut state, &MISSING)
@@ -285,7 +285,7 @@ static IN_TURN: [Told; 8] = [
     Told::Take(2, "az", &[0], 7),
 ];
 
-/// Whether a run of the processors of a list makes these steps.
+/// Returns whether a run of the processors of a list makes these steps.
 fn runs_in_turn(alloc: Global, asked: &Asked) -> Option<bool> {
     let mut state = opened(alloc, alloc, LINE, 3)?;
     for told in &IN_TURN[..3] {
