@@ -1,14 +1,25 @@
-//! The candidates of a cluster: the worked example by its name, those of two processors, the first 1,000 of more, and
-//! each request for memory refused in turn.
+//! The candidates of a cluster: the worked example by its name, those of two processors and of a vertex that keeps
+//! capabilities, the first 1,000 of more, and each request for memory refused in turn.
 
-use crate::graphs::{LINE, SUM, point};
-use crate::scripts::{Named, Script, Told, is_state, make, reach, start, state_text, step_of};
+use crate::graphs::{HELD, LINE, SUM, point};
+use crate::scripts::{
+    HELD_TAKEN, Named, Script, Told, is_state, make, reach, start, state_text, step_of,
+};
 use nd_cluster::{Candidate, Cluster, Next, NoMemory, Refusal, Step, Values};
 use nd_testing::{Refusing, in_turn, met};
 use std::alloc::{Allocator, Global};
 
-/// A step, and the point that is in the way of a notice, if one is.
-type Row = (Told, Option<Named>);
+/// Why a candidate is refused.
+#[derive(Drop)]
+enum Bar {
+    /// This point is in the way of a notice.
+    Point(Named),
+    /// The vertex keeps a capability, and is never notified.
+    Never,
+}
+
+/// A step, and why it is refused, if it is.
+type Row = (Told, Option<Bar>);
 
 /// A sum that took one record of two.
 static SUM_BEGUN: Script = (
@@ -22,7 +33,7 @@ static SUM_BEGUN: Script = (
 
 static OF_SUM: [Row; 3] = [
     (Told::Take(0, "as", &[0], 3), None),
-    (Told::Notice(0, "s", &[0]), Some(("a", &[0]))),
+    (Told::Notice(0, "s", &[0]), Some(Bar::Point(("a", &[0])))),
     (Told::All(0), None),
 ];
 
@@ -46,6 +57,27 @@ static OF_LINE: [Row; 6] = [
     (Told::Take(1, "az", &[0], 7), None),
 ];
 
+static OF_HELD: [Row; 3] = [
+    (Told::Take(0, "hz", &[0], 7), None),
+    (Told::Notice(0, "h", &[0]), Some(Bar::Point(("a", &[0])))),
+    (Told::All(0), None),
+];
+
+/// A capability after all that a run does.
+static HELD_IDLE: Script = (
+    HELD,
+    1,
+    &[
+        Told::Feed(0, "a", &[7], Next::Close),
+        Told::Take(0, "ah", &[0], 7),
+        Told::Take(0, "hz", &[0], 7),
+        Told::All(0),
+        Told::Receive(0, 0),
+    ],
+);
+
+static OF_IDLE: [Row; 1] = [(Told::Notice(0, "h", &[0]), Some(Bar::Never))];
+
 /// Whether a candidate is the one of a row.
 fn is_candidate(
     alloc: Global,
@@ -55,9 +87,10 @@ fn is_candidate(
 ) -> Option<bool> {
     let graph = cluster.graph();
     let refusal = match &row.1 {
-        Some((name, time)) => Some(Refusal::NotYet {
+        Some(Bar::Point((name, time))) => Some(Refusal::NotYet {
             blocker: point(graph, name, time)?,
         }),
+        Some(Bar::Never) => Some(Refusal::NotNotified),
         None => None,
     };
     Some(candidate.step.same(&step_of(alloc, graph, &row.0)?) && candidate.refusal == refusal)
@@ -88,6 +121,16 @@ fn candidates_of_two_processors(rt: HostRuntime) {
         are_candidates(rt.alloc(), &LINE_BEGUN, &OF_LINE),
         Some(true)
     );
+}
+
+#[test]
+fn candidates_of_capabilities(rt: HostRuntime) {
+    for (script, rows) in [
+        (&HELD_TAKEN, OF_HELD.as_slice()),
+        (&HELD_IDLE, OF_IDLE.as_slice()),
+    ] {
+        assert_eq!(rt; are_candidates(rt.alloc(), script, rows), Some(true));
+    }
 }
 
 #[test]
@@ -155,7 +198,7 @@ fn refused<A: Allocator + Copy>(
 #[test]
 fn candidates_out_of_memory(rt: HostRuntime) {
     let heap = Refusing::new(rt.alloc());
-    for script in [&SUM_BEGUN, &LINE_BEGUN] {
+    for script in [&SUM_BEGUN, &LINE_BEGUN, &HELD_IDLE] {
         let count = refused(&heap, &heap, rt.alloc(), script);
         assert_eq!(rt; count.map(|count| count > 1), Some(true));
         assert_eq!(rt; heap.live(), 0);

@@ -28,7 +28,7 @@ static STEPS: [Told; 9] = [
 ];
 
 /// A time: the epoch and then the counters.
-type Numbers = &'static [u64];
+pub type Numbers = &'static [u64];
 
 /// Returns whether a time has these numbers.
 fn is_time(time: &ArrivalTime, numbers: &[u64]) -> bool {
@@ -39,7 +39,7 @@ fn is_time(time: &ArrivalTime, numbers: &[u64]) -> bool {
 }
 
 /// Returns whether these times were found, in this order.
-fn are_times(found: &[ArrivalTime], times: &[Numbers]) -> bool {
+pub fn are_times(found: &[ArrivalTime], times: &[Numbers]) -> bool {
     for (found, numbers) in found.iter().zip(times) {
         if !is_time(found, numbers) {
             return false;

@@ -99,6 +99,16 @@ pub const FILTER: &str = graph_text!(
     am: a 0 -> m local, mb: m 0 -> b local, bz: b 0 -> z local
 );
 
+/// A vertex that keeps a capability at each time at which it got a record.
+pub const HELD: &str = graph_text!(
+    a input 0, h hold 0, z sink 0; ah: a 0 -> h local, hz: h 0 -> z local
+);
+
+/// The same inside a loop.
+pub const HELD_INSIDE: &str = graph_text!(
+    a input 0, i ingress 0, h hold 1, z sink 1; ai: a 0 -> i local, ih: i 0 -> h local, hz: h 0 -> z local
+);
+
 /// A loop that goes through no feedback.
 pub const CYCLE: &str = graph_text!(a input 0, m add 0 k 0; am: a 0 -> m local, mm: m 0 -> m local);
 

@@ -51,7 +51,7 @@ fn reply_of(wanted: &Wanted) -> Reply {
 type Row = (&'static [Asked], Asked, Wanted);
 
 /// A command of each kind.
-static ROWS: [Row; 9] = [
+static ROWS: [Row; 10] = [
     (&[], FEED, Wanted::Moved(1, 1)),
     (&[NOTHING], Asked::Back, Wanted::Moved(0, 1)),
     (&[FEED], Asked::Back, Wanted::Moved(0, 1)),
@@ -62,6 +62,7 @@ static ROWS: [Row; 9] = [
         Wanted::Moved(0, 3),
     ),
     (&[FEED], Asked::Run(10), Wanted::Idle(3)),
+    (&[FEED], Asked::RunOnly(10, &[0]), Wanted::Idle(3)),
     (&[], Asked::Sink("z", 5), Wanted::Set),
     (&[Asked::Sink("z", 5)], Asked::Clear(0), Wanted::Cleared),
     (&[], Asked::Back, Wanted::AtStart),
@@ -356,22 +357,35 @@ fn apply_out_of_memory(rt: HostRuntime) {
 }
 
 /// Whether a copy of a receipt met the request that was refused.
-fn meets_copy<A: Allocator + Copy>(heap: &Heap, json: Global, alloc: A, n: u64) -> Option<bool> {
+fn meets_copy<A: Allocator + Copy>(
+    heap: &Heap,
+    json: Global,
+    alloc: A,
+    asked: &Asked,
+    n: u64,
+) -> Option<bool> {
     let mut state = opened(json, alloc, LINE, 1)?;
-    let command = command_of(alloc, &graph_of(json, alloc, LINE)?, &FEED)?;
+    let command = command_of(alloc, &graph_of(json, alloc, LINE)?, asked)?;
     let receipt = state.apply(alloc, 0, command).ok()?;
     met!(heap, n: receipt.copy(alloc); AllocError, true)
 }
 
 /// How many requests were refused before it met none.
-fn receipt_copies<A: Allocator + Copy>(heap: &Heap, json: Global, alloc: A) -> Option<u64> {
-    in_turn(|n| meets_copy(heap, json, alloc, n))
+fn receipt_copies<A: Allocator + Copy>(
+    heap: &Heap,
+    json: Global,
+    alloc: A,
+    asked: &Asked,
+) -> Option<u64> {
+    in_turn(|n| meets_copy(heap, json, alloc, asked, n))
 }
 
 #[test]
 fn copy_of_a_receipt_out_of_memory(rt: HostRuntime) {
     let heap = Refusing::new(rt.alloc());
-    let count = receipt_copies(&heap, rt.alloc(), &heap);
-    assert!(rt; matches!(count, Some(n) if n > 0));
+    for asked in [FEED, Asked::RunOnly(10, &[0])] {
+        let count = receipt_copies(&heap, rt.alloc(), &heap, &asked);
+        assert!(rt; matches!(count, Some(n) if n > 0));
+    }
     assert_eq!(rt; heap.live(), 0);
 }

@@ -1,7 +1,7 @@
 //! Sessions and commands that the tests begin with.
 
 use crate::graphs::graph_of;
-use crate::scripts::{Told, step_of};
+use crate::scripts::{Told, processors_of, step_of};
 use nd_breaks::{Atom, BoxedCondition, Condition, Literal, Quantifier};
 use nd_cluster::{Cluster, Next};
 use nd_graph::Graph;
@@ -17,6 +17,8 @@ pub enum Asked {
     Redo,
     Jump(u64),
     Run(u64),
+    /// A run of the processors of a list.
+    RunOnly(u64, &'static [u32]),
     /// The breakpoint that holds if the sink of this name has counted the value.
     Sink(&'static str, i64),
     Clear(u64),
@@ -41,7 +43,14 @@ pub fn command_of<A: Allocator + Copy>(
         Asked::Back => Some(Command::Back),
         Asked::Redo => Some(Command::Redo),
         Asked::Jump(to) => Some(Command::Jump(*to)),
-        Asked::Run(limit) => Some(Command::Run(*limit)),
+        Asked::Run(limit) => Some(Command::Run {
+            limit: *limit,
+            only: None,
+        }),
+        Asked::RunOnly(limit, list) => Some(Command::Run {
+            limit: *limit,
+            only: Some(processors_of(alloc, list)?),
+        }),
         Asked::Sink(name, value) => {
             let condition = only(Atom::Sink {
                 vertex: graph.location_of(name)?,

@@ -25,6 +25,7 @@ pub type Heap = Refusing<Global>;
 #[derive(Debug, Clone, Copy, Drop)]
 enum Call {
     ReadDraft,
+    ReadDraftV4,
     CheckDraft,
     CheckDraftV1,
     CopyGraph,
@@ -65,8 +66,9 @@ enum Call {
 }
 
 /// Each call, and whether it asks for memory.
-static CALLS: [(Call, bool); 38] = [
+static CALLS: [(Call, bool); 39] = [
     (Call::ReadDraft, true),
+    (Call::ReadDraftV4, true),
     (Call::CheckDraft, true),
     (Call::CheckDraftV1, true),
     (Call::CopyGraph, true),
@@ -119,6 +121,9 @@ fn graphs<A: Allocator + Copy>(
     match call {
         Call::ReadDraft => {
             met!(heap, n: GraphDraft::from_value(alloc, &value); GraphFault::Memory, true)
+        }
+        Call::ReadDraftV4 => {
+            met!(heap, n: GraphDraft::from_value_v4(alloc, &value); GraphFault::Memory, true)
         }
         Call::CheckDraft => met!(heap, n: draft.check(alloc); GraphFault::Memory, true),
         _ => met!(heap, n: draft.check_v1(alloc); GraphFault::Memory, true),
@@ -365,7 +370,7 @@ fn meets<A: Allocator + Copy>(
     n: u64,
 ) -> Option<bool> {
     match call {
-        Call::ReadDraft | Call::CheckDraft | Call::CheckDraftV1 => {
+        Call::ReadDraft | Call::ReadDraftV4 | Call::CheckDraft | Call::CheckDraftV1 => {
             graphs(heap, alloc, json, call, n)
         }
         Call::CopyGraph | Call::MakePaths | Call::CopyPaths => paths(heap, alloc, json, call, n),

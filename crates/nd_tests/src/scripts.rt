@@ -1,8 +1,9 @@
 //! Clusters and steps told by the names of locations, for tests.
 
-use crate::graphs::{SUM, graph_of, point, time};
+use crate::graphs::{HELD, SUM, graph_of, point, time};
 use nd_cluster::{Cluster, Next, Part, Points, Step, Values};
 use nd_graph::Graph;
+use nd_protocol::{BoxedTimes, Processors, Times};
 use std::alloc::{Allocator, Global};
 
 /// A step: the processor, and the name of the vertex or the edge.
@@ -14,6 +15,8 @@ pub enum Told {
     Take(u32, &'static str, &'static [u32], i64),
     /// The time of the notice.
     Notice(u32, &'static str, &'static [u32]),
+    /// The time of the capability that is given up, and the later time to which it moves, if it does.
+    Release(u32, &'static str, &'static [u32], Option<&'static [u32]>),
     /// The broadcast of all that is unsent.
     All(u32),
     /// The points whose entries are broadcast.
@@ -45,6 +48,27 @@ pub const SUM_NOTIFIED: Script = (
     ],
 );
 
+/// A record behind which a capability is kept.
+pub const HELD_TAKEN: Script = (
+    HELD,
+    1,
+    &[
+        Told::Feed(0, "a", &[7], Next::Close),
+        Told::Take(0, "ah", &[0], 7),
+    ],
+);
+
+/// A capability that is moved.
+pub const HELD_MOVED: Script = (
+    HELD,
+    1,
+    &[
+        Told::Feed(0, "a", &[7], Next::Close),
+        Told::Take(0, "ah", &[0], 7),
+        Told::Release(0, "h", &[0], Some(&[3])),
+    ],
+);
+
 /// The start of a cluster of n processors.
 pub fn start<A: Allocator + Copy>(
     json: Global,
@@ -63,6 +87,27 @@ pub fn values_of<A: Allocator>(alloc: A, list: &[i64]) -> Option<Values<A>> {
         values.push(*value).ok()?;
     }
     Some(values)
+}
+
+/// The list of these processors.
+pub fn processors_of<A: Allocator>(alloc: A, list: &[u32]) -> Option<Processors<A>> {
+    let mut processors = Processors::new(alloc);
+    for p in list {
+        processors.push(*p).ok()?;
+    }
+    Some(processors)
+}
+
+/// The times of a capability that is given up or moves.
+pub fn times_of(list: &[u32], to: &Option<&'static [u32]>) -> Option<Times> {
+    let to = match to {
+        Some(to) => Some(time(to)?),
+        None => None,
+    };
+    Some(Times {
+        time: time(list)?,
+        to,
+    })
 }
 
 /// The part at these points.
@@ -93,6 +138,11 @@ pub fn step_of<A: Allocator + Copy>(alloc: A, graph: &Graph<A>, told: &Told) -> 
             p: *p,
             vertex: graph.location_of(name)?,
             time: time(list)?,
+        }),
+        Told::Release(p, name, list, to) => Some(Step::Release {
+            p: *p,
+            vertex: graph.location_of(name)?,
+            times: BoxedTimes::new(alloc, times_of(list, to)?).ok()?,
         }),
         Told::All(p) => Some(Step::Broadcast {
             p: *p,

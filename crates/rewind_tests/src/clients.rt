@@ -1,6 +1,7 @@
 //! Runs of several clients.
 
 use crate::ends::{NEVER, Newlines, Pieces, Taken, empty_sink, pieces_of};
+use crate::examples::HELD;
 use crate::runs::{LINE, LINE_REPLY};
 use nd_testing::Sign;
 use rewind::{DebugFault, Gate, OpenGate, Options, debug_clients, debug_clients_within};
@@ -12,6 +13,12 @@ use std::thread::Threads;
 
 static TWO: Options = Options {
     processors: 1,
+    clients: 2,
+};
+
+/// Two clients of two processors.
+static FOUR: Options = Options {
+    processors: 2,
     clients: 2,
 };
 
@@ -99,6 +106,57 @@ fn clients_in_turn(rt: HostRuntime) -> Result<(), Fail> {
         "{LINE_REPLY}{{\"client\":0,\"number\":0,{reply}{{\"client\":1,\"number\":0,{reply}{{\"client\":1,\"number\":1,{reply}"
     )?;
     assert!(rt; sink.bytes.as_slice().starts_with(firsts.as_bytes()));
+    Ok(())
+}
+
+/// The lines of two clients on *held*, each with its reply, in the order that the gate gives them: the second client runs
+/// the first processor alone, and moves the capability; then the first runs both.
+static TURNS: [(&str, &str); 5] = [
+    (
+        r#"{"client":0,"do":"feed","next":"close","p":0,"values":[7],"vertex":"a"}"#,
+        r#"{"client":0,"number":0,"reply":{"at":1,"kept":1,"ok":true}}"#,
+    ),
+    (
+        r#"{"client":1,"do":"run","limit":50,"only":[0]}"#,
+        r#"{"client":1,"number":0,"reply":{"at":5,"kept":5,"ok":true,"ran":4,"stop":"idle"}}"#,
+    ),
+    (
+        r#"{"client":1,"do":"release","p":0,"time":[0],"to":[2],"vertex":"h"}"#,
+        r#"{"client":1,"number":1,"reply":{"at":6,"kept":6,"ok":true}}"#,
+    ),
+    (
+        r#"{"client":0,"do":"run","limit":50,"only":[1,0]}"#,
+        r#"{"client":0,"number":1,"reply":{"at":10,"kept":10,"ok":true,"ran":4,"stop":"idle"}}"#,
+    ),
+    (
+        r#"{"client":1,"do":"unbreak","id":0}"#,
+        r#"{"client":1,"number":2,"reply":{"code":25,"error":"NoBreak"}}"#,
+    ),
+];
+
+/// Checks releases and runs of some processors by several clients. The last two commands may change places.
+#[test]
+fn clients_release_and_run_some(rt: HostRuntime) -> Result<(), Fail> {
+    let alloc = rt.alloc();
+    let [first, second, third, fourth, last] = TURNS.map(|turn| turn.0);
+    let script = format!(in alloc;
+        "{FIFTH}{HELD}\n{first}\n{second}\n{third}\n{fourth}\n{last}\n"
+    )?;
+    let gate = Between {
+        first: Sign::new(&rt),
+        second: Sign::new(&rt),
+    };
+    let mut source = pieces_of(script.as_bytes(), 1000, NEVER);
+    let mut sink = empty_sink(alloc, 1000, NEVER, false);
+    let ended = debug_clients(&rt, alloc, &mut source, &mut sink, &FOUR, &gate);
+    assert_eq!(rt; ended, Ok(()));
+    assert!(rt; gate.first.came() && gate.second.came());
+    let [first, second, third, fourth, last] = TURNS.map(|turn| turn.1);
+    let begun = format!(in alloc; "{FIFTH_REPLY}{HELD_REPLY}{first}\n{second}\n{third}\n")?;
+    let one_way = format!(in alloc; "{begun}{fourth}\n{last}\n")?;
+    let other_way = format!(in alloc; "{begun}{last}\n{fourth}\n")?;
+    let wrote = sink.bytes.as_slice();
+    assert!(rt; wrote == one_way.as_bytes() || wrote == other_way.as_bytes());
     Ok(())
 }
 
@@ -205,6 +263,12 @@ const THIRD: &str = "{\"version\":3}\n";
 
 const FOURTH: &str = "{\"version\":4}\n";
 
+const FIFTH: &str = "{\"version\":5}\n";
+
+const FIFTH_REPLY: &str = "{\"ok\":true,\"version\":5}\n";
+
+const HELD_REPLY: &str = "{\"locations\":5,\"ok\":true,\"processors\":2}\n";
+
 #[test]
 fn clients_of_a_later_version(rt: HostRuntime) -> Result<(), Fail> {
     let (wrote, ended) = run_of(&rt, &[" \n", SECOND, "\n"])?;
@@ -218,7 +282,7 @@ fn clients_of_a_later_version(rt: HostRuntime) -> Result<(), Fail> {
 }
 
 /// What follows a version line or none, up to its graph, and the fault that it is answered with alone.
-static FAULTS: [(&str, &str, &str); 6] = [
+static FAULTS: [(&str, &str, &str); 10] = [
     (
         "",
         r#"{"client":0,"do":"export"}"#,
@@ -249,6 +313,26 @@ static FAULTS: [(&str, &str, &str); 6] = [
         r#"{"client":0,"do":"candidates"}"#,
         "{\"code\":36,\"error\":\"OneClientOnly\",\"line\":3}\n",
     ),
+    (
+        FOURTH,
+        r#"{"client":0,"do":"release","p":0,"time":[0],"vertex":"a"}"#,
+        "{\"code\":31,\"error\":\"BadShape\",\"line\":3}\n",
+    ),
+    (
+        FOURTH,
+        r#"{"client":0,"do":"run","limit":1,"only":[0]}"#,
+        "{\"code\":31,\"error\":\"BadShape\",\"line\":3}\n",
+    ),
+    (
+        FIFTH,
+        r#"{"client":0,"do":"run","limit":1,"only":[]}"#,
+        "{\"code\":31,\"error\":\"BadShape\",\"line\":3}\n",
+    ),
+    (
+        FIFTH,
+        r#"{"client":2,"do":"release","p":0,"time":[0],"vertex":"a"}"#,
+        "{\"code\":35,\"error\":\"BadClient\",\"line\":3}\n",
+    ),
 ];
 
 #[test]
@@ -261,6 +345,7 @@ fn faults_behind_a_version_line(rt: HostRuntime) -> Result<(), Fail> {
     for (line, fault) in [
         ("{", "{\"code\":30,\"error\":\"BadLine\",\"line\":2}\n"),
         (SECOND, "{\"code\":40,\"error\":\"Shape\"}\n"),
+        (HELD, "{\"code\":40,\"error\":\"Shape\"}\n"),
     ] {
         let (wrote, ended) = run_of(&rt, &[SECOND, line])?;
         assert_eq!(rt; ended, Err(DebugFault::Graph));

@@ -1,5 +1,6 @@
 //! Steps that a script exports, read back.
 
+use crate::examples::HELD;
 use crate::runs::{ONE, run};
 use nd_graph::{Graph, GraphDraft};
 use rewind_forms::{read_step, step_value};
@@ -24,25 +25,45 @@ static STEPS: [&str; 9] = [
     r#"{"do":"take","edge":"sz","p":0,"time":[0],"value":5}"#,
 ];
 
-/// Returns a script of version 2 that executes the steps and exports them.
-fn script_of(alloc: Global) -> Result<Vec<u8>, AllocError> {
-    let mut script = Vec::new(alloc);
-    for line in ["{\"version\":2}\n", SUM, "\n"] {
-        script.extend_from_slice(line.as_bytes())?;
+/// Steps on *held*, each as it is exported: a feed to an epoch, and releases that move a capability and give it up.
+static RELEASES: [&str; 6] = [
+    r#"{"do":"feed","next":{"to":4},"p":0,"values":[7],"vertex":"a"}"#,
+    r#"{"do":"take","edge":"ah","p":0,"time":[0],"value":7}"#,
+    r#"{"do":"release","p":0,"time":[0],"to":[3],"vertex":"h"}"#,
+    r#"{"do":"broadcast","p":0}"#,
+    r#"{"do":"receive","from":0,"to":0}"#,
+    r#"{"do":"release","p":0,"time":[3],"vertex":"h"}"#,
+];
+
+/// A version line, a graph and steps.
+type Script = (&'static str, &'static str, &'static [&'static str]);
+
+static SCRIPTS: [Script; 2] = [
+    ("{\"version\":2}\n", SUM, &STEPS),
+    ("{\"version\":5}\n", HELD, &RELEASES),
+];
+
+/// Returns a script that executes the steps and exports them.
+fn script_of(alloc: Global, script: &Script) -> Result<Vec<u8>, AllocError> {
+    let (version, graph, steps) = script;
+    let mut text = Vec::new(alloc);
+    for line in [version, graph, "\n"] {
+        text.extend_from_slice(line.as_bytes())?;
     }
-    for step in STEPS {
-        script.extend_from_slice(step.as_bytes())?;
-        script.push(b'\n')?;
+    for step in *steps {
+        text.extend_from_slice(step.as_bytes())?;
+        text.push(b'\n')?;
     }
-    script.extend_from_slice(b"{\"do\":\"export\"}\n")?;
-    Ok(script)
+    text.extend_from_slice(b"{\"do\":\"export\"}\n")?;
+    Ok(text)
 }
 
 /// Returns the reply to the export.
-fn exported(alloc: Global) -> Result<Vec<u8>, AllocError> {
+fn exported(alloc: Global, steps: &[&str]) -> Result<Vec<u8>, AllocError> {
+    let start = format!(in alloc; "{{\"at\":{},\"ok\":true,\"steps\":[", steps.len())?;
     let mut reply = Vec::new(alloc);
-    reply.extend_from_slice(b"{\"at\":9,\"ok\":true,\"steps\":[")?;
-    for (i, step) in STEPS.iter().enumerate() {
+    reply.extend_from_slice(start.as_bytes())?;
+    for (i, step) in steps.iter().enumerate() {
         if i != 0 {
             reply.push(b',')?;
         }
@@ -52,25 +73,32 @@ fn exported(alloc: Global) -> Result<Vec<u8>, AllocError> {
     Ok(reply)
 }
 
-/// Reads a step on *sum* from its text, and returns the text of the step's object.
-fn read_and_shown(alloc: Global, text: &str) -> Option<Vec<u8>> {
-    let draft = GraphDraft::from_value(alloc, &Value::from_str(alloc, SUM).ok()?).ok()?;
+/// Reads a step on a graph from its text, and returns the text of the step's object.
+fn read_and_shown(alloc: Global, graph: &str, text: &str) -> Option<Vec<u8>> {
+    let draft = GraphDraft::from_value(alloc, &Value::from_str(alloc, graph).ok()?).ok()?;
     let graph: Graph = draft.check(alloc).ok()?;
     let step = read_step(alloc, &graph, &Value::from_str(alloc, text).ok()?).ok()?;
     step_value(alloc, &graph, &step).ok()?.to_bytes(alloc).ok()
 }
 
-/// Checks what the worked example *export-replays* says of `read_step`: each exported step is read, and its object is the
-/// exported one.
+/// Checks what the worked example *export-replays* says of `read_step`, and the same of the steps of version 5: each exported
+/// step is read, and its object is the exported one.
 #[test]
 fn export_replays(rt: HostRuntime) -> Result<(), Fail> {
     let alloc = rt.alloc();
-    let (bytes, ended) = run(&rt, alloc, &ONE, script_of(alloc)?.as_slice())?;
-    assert_eq!(rt; ended, Ok(12));
-    assert!(rt; bytes.as_slice().ends_with(exported(alloc)?.as_slice()));
-    for step in STEPS {
-        let shown = read_and_shown(alloc, step).ok_or("no step")?;
-        assert!(rt; shown.as_slice() == step.as_bytes(), "{step}");
+    for script in &SCRIPTS {
+        let (_, graph, steps) = script;
+        let (bytes, ended) = run(&rt, alloc, &ONE, script_of(alloc, script)?.as_slice())?;
+        assert_eq!(rt; ended, Ok((steps.len() as u64).saturating_add(3)));
+        assert!(rt;
+            bytes
+                .as_slice()
+                .ends_with(exported(alloc, steps)?.as_slice())
+        );
+        for step in *steps {
+            let shown = read_and_shown(alloc, graph, step).ok_or("no step")?;
+            assert!(rt; shown.as_slice() == step.as_bytes(), "{step}");
+        }
     }
     Ok(())
 }

@@ -3,7 +3,7 @@ ghost use Rattle.std.specs.Prelude.{◌≡◌, All, IfSome};
 ghost use Rattle.nd_view.specs.Kept.{IsFor};
 
 use crate::clusters::memory::Heap;
-use crate::graphs::{LINE, LOOP, graph_of, point};
+use crate::graphs::{HELD, LINE, LOOP, graph_of, point};
 use crate::scripts::{Told, is_state, make, step_of};
 use nd_cluster::{Cluster, Next};
 use nd_graph::Graph;
@@ -14,68 +14,183 @@ use nd_testing::unasked;
 use nd_view::View;
 use std::alloc::{Allocator, Global};
 
+/// The most that a count or an entry may be.
+pub const MOST: i64 = 1_099_511_627_776;
+
 /// What a processor holds beyond its start.
 #[derive(Drop)]
 pub enum Held {
     /// So many records of 5.
     Records(&'static str, &'static [u32], u64),
-    /// The token of vertex 0 at the last epoch.
-    LastToken,
+    /// The token of vertex 0 at another epoch, or none.
+    Token(Option<u32>),
+    Request(&'static str, &'static [u32]),
+    Unsent(&'static str, &'static [u32], i64),
 }
 
 /// A graph, what a cluster on it holds, a step, and the number of its refusal, 0 if it is made.
-pub type Row = (&'static str, Held, Told, u64);
+pub type Row = (&'static str, &'static [Held], Told, u64);
 
-pub static ROWS: [Row; 5] = [
+pub static ROWS: [Row; 25] = [
     (
         LOOP,
-        Held::Records("sf", &[0, 4_294_967_295], 1),
+        &[Held::Records("sf", &[0, 4_294_967_295], 1)],
         Told::Take(0, "sf", &[0, 4_294_967_295], 5),
         11,
     ),
     (
         LINE,
-        Held::LastToken,
+        &[Held::Token(Some(u32::MAX))],
         Told::Feed(0, "a", &[], Next::Next),
         7,
     ),
     (
         LINE,
-        Held::LastToken,
+        &[Held::Token(Some(u32::MAX))],
         Told::Feed(0, "a", &[], Next::Close),
         0,
     ),
     (
         LINE,
-        Held::Records("az", &[0], 1_099_511_627_776),
+        &[Held::Records("az", &[0], 1_099_511_627_776)],
         Told::Feed(0, "a", &[5], Next::Close),
         13,
     ),
     (
         LINE,
-        Held::Records("az", &[0], 1_099_511_627_775),
+        &[Held::Records("az", &[0], 1_099_511_627_775)],
         Told::Feed(0, "a", &[5], Next::Close),
         0,
     ),
+    // a feed to an epoch: all other refusals come before an epoch that is not above the token's
+    (LINE, &[], Told::Feed(1, "az", &[], Next::To(0)), 1),
+    (LINE, &[], Told::Feed(0, "az", &[], Next::To(0)), 2),
+    (LINE, &[], Told::Feed(0, "z", &[], Next::To(0)), 4),
+    (
+        LINE,
+        &[Held::Token(None)],
+        Told::Feed(0, "a", &[], Next::To(0)),
+        5,
+    ),
+    (
+        LINE,
+        &[Held::Records("az", &[0], 1_099_511_627_776)],
+        Told::Feed(0, "a", &[5], Next::To(0)),
+        13,
+    ),
+    (
+        LINE,
+        &[Held::Unsent("az", &[0], MOST)],
+        Told::Feed(0, "a", &[5], Next::To(0)),
+        14,
+    ),
+    (
+        LINE,
+        &[Held::Token(Some(5)), Held::Unsent("a", &[5], -MOST)],
+        Told::Feed(0, "a", &[], Next::To(4)),
+        14,
+    ),
+    (
+        LINE,
+        &[Held::Token(Some(5)), Held::Unsent("a", &[4], MOST)],
+        Told::Feed(0, "a", &[], Next::To(4)),
+        14,
+    ),
+    (
+        LINE,
+        &[Held::Token(Some(5)), Held::Unsent("a", &[6], MOST)],
+        Told::Feed(0, "a", &[], Next::To(6)),
+        14,
+    ),
+    (
+        LINE,
+        &[Held::Token(Some(5)), Held::Unsent("a", &[5], -MOST)],
+        Told::Feed(0, "a", &[], Next::To(5)),
+        54,
+    ),
+    (
+        LINE,
+        &[Held::Token(Some(5))],
+        Told::Feed(0, "a", &[], Next::To(4)),
+        54,
+    ),
+    (
+        LINE,
+        &[Held::Token(Some(5))],
+        Told::Feed(0, "a", &[7], Next::To(6)),
+        0,
+    ),
+    (LINE, &[], Told::Feed(0, "a", &[], Next::To(0)), 54),
+    (LINE, &[], Told::Feed(0, "a", &[], Next::To(u32::MAX)), 0),
+    (
+        LINE,
+        &[Held::Token(Some(u32::MAX))],
+        Told::Feed(0, "a", &[], Next::To(u32::MAX)),
+        54,
+    ),
+    (
+        LINE,
+        &[Held::Token(Some(u32::MAX))],
+        Told::Feed(0, "a", &[], Next::To(0)),
+        54,
+    ),
+    // a notice of a vertex that is never notified
+    (HELD, &[], Told::Notice(0, "h", &[0]), 9),
+    (
+        HELD,
+        &[Held::Request("h", &[0]), Held::Unsent("h", &[0], -MOST)],
+        Told::Notice(0, "h", &[0]),
+        14,
+    ),
+    (
+        HELD,
+        &[Held::Request("h", &[0]), Held::Unsent("h", &[0], 1 - MOST)],
+        Told::Notice(0, "h", &[0]),
+        53,
+    ),
+    (
+        HELD,
+        &[Held::Request("h", &[4])],
+        Told::Notice(0, "h", &[4]),
+        53,
+    ),
 ];
 
-/// The processor with what it holds.
-fn processor_of<A: Allocator + Copy>(
-    alloc: A,
+/// Adds to what a processor holds.
+fn hold<A: Allocator + Copy>(
+    processor: &mut Processor<A>,
     graph: &Graph<A>,
     held: &Held,
-) -> Option<Processor<A>> {
-    let mut processor = Processor::start(alloc, graph).ok()?;
+) -> Option<()> {
     match held {
         Held::Records(name, list, n) => {
             let point = point(graph, name, list)?;
             let key = ValueAt { point, value: 5 };
             processor.add_records(&key, *n).ok()?;
         }
-        Held::LastToken => {
+        Held::Token(epoch) => {
             let old = processor.token(0);
-            processor.move_token(0, old, Some(u32::MAX)).ok()?;
+            processor.move_token(0, old, *epoch).ok()?;
         }
+        Held::Request(name, list) => {
+            processor.add_request(&point(graph, name, list)?).ok()?;
+        }
+        Held::Unsent(name, list, n) => {
+            processor.add_unsent(&point(graph, name, list)?, *n).ok()?;
+        }
+    }
+    Some(())
+}
+
+/// The processor with what it holds.
+fn processor_of<A: Allocator + Copy>(
+    alloc: A,
+    graph: &Graph<A>,
+    list: &[Held],
+) -> Option<Processor<A>> {
+    let mut processor = Processor::start(alloc, graph).ok()?;
+    for held in list {
+        hold(&mut processor, graph, held)?;
     }
     Some(processor)
 }
@@ -139,7 +254,7 @@ fn cluster_of<A: Allocator + Copy>(
     let graph = graph_of(json, alloc, row.0)?;
     let paths = paths_of(alloc, &graph)?;
     let mut processors = Vec::new(alloc);
-    processors.push(processor_of(alloc, &graph, &row.1)?).ok()?;
+    processors.push(processor_of(alloc, &graph, row.1)?).ok()?;
     let views = views_of(alloc, &graph, &paths)?;
     let mesh = queue_of(alloc)?;
     unasked!(heap: Cluster::of_parts(alloc, &graph, paths, processors, views, mesh))

@@ -1,10 +1,12 @@
 //! Each request for memory of a call refused in turn.
 
-use crate::graphs::{LINE, LOOP, SUM, point};
+use crate::graphs::{HELD, LINE, LOOP, SUM, graph_of, point};
 use crate::scripts::{
-    SUM_NOTIFIED, Script, Told, is_state, make, reach, state_text, step_of, values_of,
+    HELD_MOVED, SUM_NOTIFIED, Script, Told, is_state, make, processors_of, reach, state_text,
+    step_of, times_of, values_of,
 };
 use nd_cluster::{Cluster, Next, NoMemory, Refusal, StartFault, Step};
+use nd_protocol::BoxedTimes;
 use nd_testing::{Refusing, in_turn, met};
 use std::alloc::{AllocError, Allocator, Global};
 
@@ -17,8 +19,12 @@ enum Call {
     Start,
     CopyCluster,
     CopyStep,
+    CopyRelease,
     CopyRecord,
     PushValue,
+    BoxTimes,
+    PushProcessor,
+    CopyProcessors,
     TellWhy,
 }
 
@@ -49,6 +55,33 @@ fn meets<A: Allocator + Copy>(
             met!(heap, n: values.push(3); AllocError, values.as_slice() == [1, 2].as_slice())
         }
         Call::TellWhy => why(heap, alloc, json, n),
+        _ => small_parts(heap, alloc, json, call, n),
+    }
+}
+
+/// The same of a release, its times, and a list of processors.
+fn small_parts<A: Allocator + Copy>(
+    heap: &Heap,
+    alloc: A,
+    json: Global,
+    call: Call,
+    n: u64,
+) -> Option<bool> {
+    let mut only = processors_of(alloc, &[0, 1])?.copy(alloc).ok()?;
+    match call {
+        Call::CopyRelease => {
+            let told = Told::Release(0, "h", &[0], Some(&[3]));
+            let step = step_of(alloc, &graph_of(json, alloc, HELD)?, &told)?;
+            met!(heap, n: step.copy(alloc); AllocError, true)
+        }
+        Call::BoxTimes => {
+            let times = times_of(&[0], &Some(&[3]))?;
+            met!(heap, n: BoxedTimes::new(alloc, times); AllocError, true)
+        }
+        Call::PushProcessor => {
+            met!(heap, n: only.push(1); AllocError, only.as_slice() == [0, 1].as_slice())
+        }
+        _ => met!(heap, n: only.copy(alloc); AllocError, true),
     }
 }
 
@@ -76,8 +109,12 @@ fn starts_and_copies(rt: HostRuntime) {
         Call::Start,
         Call::CopyCluster,
         Call::CopyStep,
+        Call::CopyRelease,
         Call::CopyRecord,
         Call::PushValue,
+        Call::BoxTimes,
+        Call::PushProcessor,
+        Call::CopyProcessors,
         Call::TellWhy,
     ] {
         let count = refused(&heap, &heap, rt.alloc(), call);
@@ -87,7 +124,7 @@ fn starts_and_copies(rt: HostRuntime) {
 }
 
 /// Runs of whose last step memory is refused: its plan and its commit each ask for some.
-static RUNS: [Script; 7] = [
+static RUNS: [Script; 9] = [
     (LINE, 2, &[Told::Feed(1, "a", &[5, 7, 5], Next::Next)]),
     (LINE, 1, &[Told::Feed(0, "a", &[5], Next::Stay)]),
     (
@@ -128,6 +165,17 @@ static RUNS: [Script; 7] = [
             Told::Feed(0, "a", &[5], Next::Next),
             Told::All(0),
             Told::Receive(0, 1),
+        ],
+    ),
+    HELD_MOVED,
+    (
+        HELD,
+        1,
+        &[
+            Told::Feed(0, "a", &[7], Next::Close),
+            Told::Take(0, "ah", &[0], 7),
+            Told::All(0),
+            Told::Release(0, "h", &[0], None),
         ],
     ),
 ];

@@ -3,7 +3,7 @@
 use crate::clusters::limits::{ROWS, closes, number_of};
 use crate::graphs::{ADD, EXCHANGE, LINE, LOOP, SUM, graph_of, time};
 use crate::scripts::{Told, reach, start, step_of};
-use nd_cluster::{Change, Changes, Cluster, Entry, Next, Record, Slot, StartFault};
+use nd_cluster::{Change, Changes, Cluster, Entry, Next, Record, Slot, StartFault, Step};
 use nd_paths::Pointstamp;
 use nd_processor::ValueAt;
 use nd_testing::Refusing;
@@ -169,6 +169,7 @@ fn keeps_flow(alloc: Global, text: &str, before: &[Told], told: &Told) -> Option
 #[test]
 fn records_are_small(rt: HostRuntime) {
     assert!(rt; size_of::<Record>() <= 104);
+    assert_eq!(rt; size_of::<Step>(), 64);
 }
 
 #[test]

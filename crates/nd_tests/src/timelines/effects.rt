@@ -1,7 +1,7 @@
 //! What kept steps changed: a worked example by its name, a step of each kind, and each request for memory refused in turn.
 
 use crate::graphs::{EXCHANGE, SUM, point, time};
-use crate::scripts::{SUM_NOTIFIED, Script, Told};
+use crate::scripts::{HELD_MOVED, SUM_NOTIFIED, Script, Told};
 use crate::timelines::memory::{ALL, Heap, is_after, kept};
 use nd_cluster::{Altered, Effect, ItemAt, Next, Step};
 use nd_graph::Graph;
@@ -222,6 +222,31 @@ fn effect_of_news(rt: HostRuntime) -> Result<(), Fail> {
     let views: [Row; 3] = [(1, "a", 0, 2, 1), (1, "a", 1, 0, 1), (1, "az", 0, 0, 1)];
     assert_eq!(rt;
         are_entries(graph, received.changed.views.as_slice(), &views),
+        Some(true)
+    );
+    Ok(())
+}
+
+#[test]
+fn effect_of_release(rt: HostRuntime) -> Result<(), Fail> {
+    let alloc = rt.alloc();
+    let timeline = kept(alloc, alloc, &HELD_MOVED).ok_or("no timeline")?;
+    let graph = timeline.cluster().graph();
+    let moved = effect(alloc, &timeline, 3).ok().ok_or("no effect")?;
+    let request = |key: Pointstamp, new: bool| Altered {
+        p: 0,
+        key,
+        old: !new,
+        new,
+    };
+    let gone = request(point(graph, "h", &[0]).ok_or("no point")?, false);
+    let made = request(point(graph, "h", &[3]).ok_or("no point")?, true);
+    assert!(rt; matches!(moved.step, Step::Release { p: 0, .. }));
+    assert_eq!(rt; lengths(&moved.changed), [0, 0, 0, 2, 0, 0, 2, 0]);
+    assert_eq!(rt; moved.changed.requests.as_slice(), [gone, made].as_slice());
+    let unsent: [Row; 2] = [(0, "h", 0, 1, 0), (0, "h", 3, 0, 1)];
+    assert_eq!(rt;
+        are_entries(graph, moved.changed.unsent.as_slice(), &unsent),
         Some(true)
     );
     Ok(())

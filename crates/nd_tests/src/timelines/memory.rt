@@ -1,9 +1,14 @@
 //! Each request for memory of a move refused in turn.
 
 use crate::graphs::{EXCHANGE, LINE};
-use crate::scripts::{SUM_NOTIFIED, Script, Told, is_state, reach, start, state_text, step_of};
+use crate::opened::{Asked, command_of};
+use crate::scripts::{
+    HELD_MOVED, SUM_NOTIFIED, Script, Told, is_state, processors_of, reach, start, state_text,
+    step_of,
+};
 use nd_breaks::Breaks;
 use nd_cluster::{Cluster, Next};
+use nd_protocol::Processors;
 use nd_testing::{Refusing, in_turn, met};
 use nd_timeline::{Fault, Timeline};
 use std::alloc::{AllocError, Allocator, Global};
@@ -148,6 +153,7 @@ fn jump_out_of_memory(rt: HostRuntime) {
     assert!(rt; meets_each_way(&heap, rt.alloc(), &TEN, 0));
     assert!(rt; meets_each_way(&heap, rt.alloc(), &EXCHANGED, 3));
     assert!(rt; meets_each_way(&heap, rt.alloc(), &SUM_NOTIFIED, 1));
+    assert!(rt; meets_each_way(&heap, rt.alloc(), &HELD_MOVED, 0));
     assert!(rt; meets_each_way(&heap, rt.alloc(), &ALL, 1));
     assert_eq!(rt; heap.live(), 0);
 }
@@ -161,17 +167,41 @@ enum Move {
     Back,
     Redo,
     Run,
+    RunOnly,
+    CopyCommand,
 }
 
 /// Each of them, and whether it asks for memory for sure.
-static MOVES: [(Move, bool); 6] = [
+static MOVES: [(Move, bool); 8] = [
     (Move::New, true),
     (Move::Copy, true),
     (Move::Forward, true),
     (Move::Back, false),
     (Move::Redo, false),
     (Move::Run, true),
+    (Move::RunOnly, true),
+    (Move::CopyCommand, true),
 ];
+
+/// Whether a run met the request that was refused: then it stands where it came to.
+fn meets_run<A: Allocator + Copy>(
+    heap: &Heap,
+    json: Global,
+    timeline: &mut Timeline<A>,
+    only: Option<&Processors<A>>,
+    breaks: &Breaks<A>,
+    n: u64,
+) -> Option<bool> {
+    let met = met!(heap, n: timeline.run(10, only, breaks);
+        Fault::Memory { at: timeline.at() }, true)?;
+    let (at, kept) = (timeline.at(), timeline.kept());
+    let is_there = is_after(json, timeline.cluster(), &ALL, at)?;
+    if is_there && kept == at && (met || at == 4) {
+        Some(met)
+    } else {
+        None
+    }
+}
 
 /// Whether a move met the request that was refused: then the timeline is where it was, or a run where it came to.
 fn meets<A: Allocator + Copy>(
@@ -204,15 +234,17 @@ fn meets<A: Allocator + Copy>(
         }
         Move::Run => {
             let breaks = Breaks::new(alloc).ok()?;
-            let met = met!(heap, n: timeline.run(10, &breaks);
-                Fault::Memory { at: timeline.at() }, true)?;
-            let (at, kept) = (timeline.at(), timeline.kept());
-            let is_there = is_after(json, timeline.cluster(), &ALL, at)?;
-            if is_there && kept == at && (met || at == 4) {
-                Some(met)
-            } else {
-                None
-            }
+            meets_run(heap, json, &mut timeline, None, &breaks, n)
+        }
+        Move::RunOnly => {
+            let breaks = Breaks::new(alloc).ok()?;
+            let only = processors_of(alloc, &[0, 0])?;
+            meets_run(heap, json, &mut timeline, Some(&only), &breaks, n)
+        }
+        Move::CopyCommand => {
+            let asked = Asked::RunOnly(10, &[0, 0]);
+            let command = command_of(alloc, base.cluster().graph(), &asked)?;
+            met!(heap, n: command.copy(alloc); AllocError, true)
         }
     }
 }
