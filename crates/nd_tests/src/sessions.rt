@@ -2,7 +2,7 @@
 
 use crate::equal_graphs::are_same;
 use crate::graphs::{
-    ADD, DISTINCT, EMPTY, EXCHANGE, FILTER, LINE, LOOP, NESTED_LOOP, SPLIT, SUM, TWO_WAYS,
+    ADD, DISTINCT, EMPTY, EXCHANGE, FILTER, HELD, LINE, LOOP, NESTED_LOOP, SPLIT, SUM, TWO_WAYS,
     graph_of, point, time,
 };
 use crate::opened::{NOTHING, command_of, only, opened, session_of};
@@ -238,7 +238,7 @@ fn strangers(rt: HostRuntime) -> Result<(), Fail> {
 }
 
 /// The graphs on which clusters start.
-static STARTS: [&str; 11] = [
+static STARTS: [&str; 12] = [
     LINE,
     EXCHANGE,
     NESTED_LOOP,
@@ -249,6 +249,7 @@ static STARTS: [&str; 11] = [
     DISTINCT,
     SPLIT,
     FILTER,
+    HELD,
     EMPTY,
 ];
 

@@ -13,7 +13,7 @@ const SUM: &str =
     r#"{"vertices":[{"name":"a","op":"input","depth":0},{"name":"s","op":"sum","depth":0},{"name":"z","op":"sink","depth":0}],"edges":[{"name":"as","from":"a","port":0,"to":"s","route":"local"},{"name":"sz","from":"s","port":0,"to":"z","route":"local"}]}"#;
 
 /// The nine steps of the worked example *sum-notified*, each as it is exported.
-static STEPS: [&str; 9] = [
+const STEPS: &[&str] = &[
     r#"{"do":"feed","next":"close","p":0,"values":[2,3],"vertex":"a"}"#,
     r#"{"do":"take","edge":"as","p":0,"time":[0],"value":2}"#,
     r#"{"do":"broadcast","p":0}"#,
@@ -26,7 +26,7 @@ static STEPS: [&str; 9] = [
 ];
 
 /// Steps on *held*, each as it is exported: a feed to an epoch, and releases that move a capability and give it up.
-static RELEASES: [&str; 6] = [
+const RELEASES: &[&str] = &[
     r#"{"do":"feed","next":{"to":4},"p":0,"values":[7],"vertex":"a"}"#,
     r#"{"do":"take","edge":"ah","p":0,"time":[0],"value":7}"#,
     r#"{"do":"release","p":0,"time":[0],"to":[3],"vertex":"h"}"#,
@@ -39,8 +39,8 @@ static RELEASES: [&str; 6] = [
 type Script = (&'static str, &'static str, &'static [&'static str]);
 
 static SCRIPTS: [Script; 2] = [
-    ("{\"version\":2}\n", SUM, &STEPS),
-    ("{\"version\":5}\n", HELD, &RELEASES),
+    ("{\"version\":2}\n", SUM, STEPS),
+    ("{\"version\":5}\n", HELD, RELEASES),
 ];
 
 /// Returns a script that executes the steps and exports them.
