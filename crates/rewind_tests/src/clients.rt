@@ -1,8 +1,7 @@
 //! Runs of several clients.
 
 use crate::ends::{NEVER, Newlines, Pieces, Taken, empty_sink, pieces_of};
-use crate::examples::HELD;
-use crate::runs::{LINE, LINE_REPLY};
+use crate::runs::{HELD, LINE, LINE_REPLY};
 use nd_testing::Sign;
 use rewind::{DebugFault, Gate, OpenGate, Options, debug_clients, debug_clients_within};
 use std::alloc::{AllocError, Global};

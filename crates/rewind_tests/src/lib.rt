@@ -6,8 +6,6 @@ mod clients;
 #[cfg(test)]
 mod ends;
 #[cfg(test)]
-mod examples;
-#[cfg(test)]
 mod runs;
 #[cfg(test)]
 mod steps;

@@ -13,6 +13,10 @@ use std::thread::Threads;
 pub const LINE: &str =
     r#"{"vertices":[{"name":"a","op":"input","depth":0},{"name":"z","op":"sink","depth":0}],"edges":[{"name":"az","from":"a","port":0,"to":"z","route":"local"}]}"#;
 
+/// The graph of an input, a vertex that keeps capabilities, and a sink in a row.
+pub const HELD: &str =
+    r#"{"vertices":[{"name":"a","op":"input","depth":0},{"name":"h","op":"hold","depth":0},{"name":"z","op":"sink","depth":0}],"edges":[{"name":"ah","from":"a","port":0,"to":"h","route":"local"},{"name":"hz","from":"h","port":0,"to":"z","route":"local"}]}"#;
+
 pub const LINE_REPLY: &str = "{\"locations\":3,\"ok\":true,\"processors\":1}\n";
 
 /// A script's lines, each with its reply. The last has no newline.

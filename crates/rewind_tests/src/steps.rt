@@ -1,7 +1,6 @@
 //! Steps that a script exports, read back.
 
-use crate::examples::HELD;
-use crate::runs::{ONE, run};
+use crate::runs::{HELD, ONE, run};
 use nd_graph::{Graph, GraphDraft};
 use rewind_forms::{read_step, step_value};
 use serde_json::Value;
