@@ -3,7 +3,7 @@
 use crate::clusters::limits::{Held, MOST, Row, number_of};
 use crate::graphs::{HELD, HELD_INSIDE, SUM, point};
 use crate::scripts::{HELD_TAKEN, Script, Told, is_state, reach, state_text, step_of};
-use nd_cluster::{Change, Entry, Next, Slot};
+use nd_cluster::{Change, Cluster, Entry, Next, Slot, Step};
 use nd_graph::Graph;
 use nd_testing::Refusing;
 use std::alloc::{Allocator, Global};
@@ -157,7 +157,7 @@ fn release_limits(rt: HostRuntime) {
 }
 
 /// An entry of a release's record: whether it is of what is unsent, the epoch at the vertex, and the number that is added.
-type Part = (bool, u32, i128);
+type Part = (bool, u32, i64);
 
 /// Steps, a release after them, and the entries of its record.
 type Listed = (Script, Told, &'static [Part]);
@@ -192,16 +192,19 @@ static LISTED: [Listed; 3] = [
     ),
 ];
 
-/// Returns the entry that is told.
+/// Returns the change of `n` at a key of the first processor.
+fn more(slot: Slot, n: i128) -> Entry {
+    Entry::Key(Change { p: 0, slot, n })
+}
+
+/// Returns the entry that is named.
 fn entry_of<A: Allocator>(graph: &Graph<A>, told: &Part) -> Option<Entry> {
-    let (is_unsent, epoch, n) = told;
-    let point = point(graph, "h", &[*epoch])?;
-    let slot = if *is_unsent {
-        Slot::Unsent(point)
-    } else {
-        Slot::Request(point)
-    };
-    Some(Entry::Key(Change { p: 0, slot, n: *n }))
+    let (is_unsent, epoch, n) = *told;
+    let point = point(graph, "h", &[epoch])?;
+    if is_unsent {
+        return Some(more(Slot::Unsent(point), i128::from(n)));
+    }
+    Some(more(Slot::Request(point), i128::from(n)))
 }
 
 /// Returns whether the record of a release lists these entries and no others, in any order.
@@ -224,17 +227,23 @@ const MOVED: &str =
      \"tokens\":[],\"unsent\":[[\"a\",[0],-1],[\"h\",[3],1],[\"hz\",[0],1]],\"view\":[[\"a\",[0],1]]}],\
      \"queues\":[[[]]]}";
 
-/// Returns whether a release leads to that state, and is undone.
-fn goes_and_comes_back(alloc: Global) -> Option<bool> {
+/// Returns whether a step leads to that state, and is undone.
+fn goes_and_comes_back(alloc: Global, cluster: &mut Cluster, step: &Step) -> Option<bool> {
+    let before = state_text(alloc, cluster)?;
+    let record = cluster.plan(step).ok()?;
+    cluster.commit(&record).ok()?;
+    let is_moved = is_state(alloc, cluster, MOVED);
+    cluster.back(&record).ok()?;
+    Some(is_moved && is_state(alloc, cluster, before.as_str()))
+}
+
+/// Returns whether a release does so.
+fn moves(alloc: Global) -> Option<bool> {
     let (text, n, steps) = &HELD_TAKEN;
     let mut cluster = reach(alloc, alloc, text, *n, steps)?;
-    let before = state_text(alloc, &cluster)?;
     let told = Told::Release(0, "h", &[0], Some(&[3]));
-    let record = cluster.plan(&step_of(alloc, cluster.graph(), &told)?).ok()?;
-    cluster.commit(&record).ok()?;
-    let is_moved = is_state(alloc, &cluster, MOVED);
-    cluster.back(&record).ok()?;
-    Some(is_moved && is_state(alloc, &cluster, before.as_str()))
+    let step = step_of(alloc, cluster.graph(), &told)?;
+    goes_and_comes_back(alloc, &mut cluster, &step)
 }
 
 #[test]
@@ -242,5 +251,5 @@ fn records_of_releases(rt: HostRuntime) {
     for (i, row) in LISTED.iter().enumerate() {
         assert_eq!(rt; lists(rt.alloc(), row), Some(true), "in row {i}");
     }
-    assert_eq!(rt; goes_and_comes_back(rt.alloc()), Some(true));
+    assert_eq!(rt; moves(rt.alloc()), Some(true));
 }
