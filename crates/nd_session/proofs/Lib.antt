@@ -4,3 +4,4 @@ mod Told
 mod Filters
 mod Whole
 mod LogLemmas
+mod Lookups
