@@ -1,4 +1,4 @@
--- What is left of a number after so many.
+-- What a number leaves of a limit.
 use Rattle.std.proofs.Common.{◌≡◌, ◌<◌, ◌≤◌, ℕ, ◌+◌, List, length, take, get_or, sum_by, Option, Some, None, ap, sym, subst, arith}
 use Rattle.std.proofs.lemmas.List.Sums.{sum_by_more_le}
 use Rattle.nd_cluster.specs.Size.{Leaves}
@@ -6,7 +6,7 @@ use Rattle.nd_cluster.specs.Size.{Leaves}
 pub none_left : (many n : ℕ) (r : Option ℕ) → r ≡ None → many < n → Leaves many n r
 none_left many n r none lt = rw none lt
 
--- after so many, and then after more
+-- what a sum leaves: first one part, then the other
 pub left_of_more : (many k rest n total : ℕ) (r : Option ℕ) → rest + k ≡ many → k + n ≡ total → Leaves rest n r → Leaves many total r
 left_of_more many k rest n total None is all h = omega (arith, is, all, h)
 left_of_more many k rest n total (Some x) is all h = omega (arith, is, all, h)

@@ -102,7 +102,7 @@ module _ (x : Pointstamp) (es : List (ValueAt × ℕ)) (kept : IsKept value_at_c
       (all_found value_at_cmp value_at_total (λ k _. range_contains value_at_cmp (Included (first_at x)) (Included (last_at x)) k ≡ is_point x k.point) es kept.listed
       (λ k n is. within x k (subst (λ v. IfSome v (λ _. FitsSigned w64 k.value)) is (records.values k))))
 
-  -- so many entries, each within the limit, are few
+  -- the entries at one pointstamp, each within its limit, have a small sum
   pub between_few : length (entries_between value_at_cmp (Included (first_at x)) (Included (last_at x)) es) < 2 ^ 63 → sum_by (λ e. e.1) (entries_between value_at_cmp (Included (first_at x)) (Included (last_at x)) es) < 2 ^ 120
   between_few short =
       let those = entries_between value_at_cmp (Included (first_at x)) (Included (last_at x)) es in

@@ -39,11 +39,11 @@ more_unsent m x n = set m x (at m x +ℤ n)
 
 -- ---- a processor with one edit
 
--- so many fewer, as an integer that is added
+-- n fewer, as an integer to add
 abbrev pub less : ℕ → ℤ
 less n = neg_ℤ (pos n)
 
--- a count with so many more would pass the limit
+-- n more would take a count past its limit
 abbrev pub IsTooMany : ℕ → ℕ → Type 0
 IsTooMany count n = max_count < count + n
 

@@ -4,7 +4,7 @@ use Rattle.nd_paths.specs.declared.point.Pointstamp.{Pointstamp}
 use Rattle.nd_delta.specs.Delta.{is_point}
 use Rattle.nd_processor.specs.State.{token_point, one_at}
 
--- so many at a pointstamp itself, 0 elsewhere
+-- n at the pointstamp p, 0 elsewhere
 abbrev pub many_at : Pointstamp → ℕ → Pointstamp → ℕ
 many_at p n x = cond (is_point x p) n 0
 

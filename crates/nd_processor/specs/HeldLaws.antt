@@ -47,7 +47,7 @@ by_more : (b : Bool) (o p a n : ℕ) → o + cond b a 0 ≡ p + cond b (a + n) 0
 by_more true o p a n e = omega arith
 by_more false o p a n e = omega arith
 
--- so many more
+-- n records more
 pub in_records-added : (m : Counts value_at_cmp naturals) (k : ValueAt) (n : ℕ) (x : Pointstamp) → in_records (added value_at_total m k (pos n)) x ≡ in_records m x + many_at k.point n x
 in_records-added m k n x = by_more (is_point x k.point) (in_records (added value_at_total m k (pos n)) x) (in_records m x) (at m k) n (in_records-set m k (natural (pos (at m k) +ℤ pos n)) x)
 
@@ -58,7 +58,7 @@ by_less false o p a n h e = omega arith
 pub natural-less : (a n : ℕ) → n ≤ a → natural (pos a +ℤ neg_ℤ (pos n)) ≡ a - n
 natural-less a n h = let e : pos a +ℤ neg_ℤ (pos n) ≡ pos (a - n) = omega (arith, ints) in ap natural e
 
--- so many less
+-- n records fewer
 pub in_records-taken : (m : Counts value_at_cmp naturals) (k : ValueAt) (n : ℕ) (x : Pointstamp) → n ≤ at m k
     → in_records (added value_at_total m k (neg_ℤ (pos n))) x + many_at k.point n x ≡ in_records m x
 in_records-taken m k n x h =

@@ -22,7 +22,7 @@ ApplyFails log LogFull = length log ≡ max_log
 ApplyFails log TooManyClients = ⊥
 ApplyFails log Memory = length log < max_log
 
--- ---- under the lock, with this log and so many clients entered
+-- ---- under the lock, with this log and `entered` clients
 
 -- the test of a client fails so
 abbrev pub TestFails : {A : Type 0} → ℕ → List (Receipt A) → ClientValue A → SessionFault A → Type 0

@@ -1,7 +1,7 @@
 -- Changes that are no more than what they change name each place once, and in the order of their places are the difference of the two states.
 --     fits_first         each could be the first
 --     exact              what is needed of them: no more than the places at which the states differ, and in order
---     once, some, totals, gains      each place once, something more at each, so much as the states differ by
+--     once, some, totals, gains      each place once, not by 0, by the difference of the two states
 --     listed             they are the difference
 use Rattle.std.proofs.Common.{◌≡◌, ◌≢◌, ◌≤◌, ◌+◌, suc, pos, ◌+ℤ◌, Bool, true, false, cond, T, ◌&&◌, List, [], ◌∷◌, ◌++◌, Some, map, take, length, get_or, refl, sym, ap, subst, ◌∙◌, arith, length-append, Ordering, Less}
 use Rattle.std.proofs.lemmas.List.Sorted.{length_permutation}
@@ -160,7 +160,7 @@ module _ (s t : ClusterState) (cs ds : List Change)
   totals : (k : Place) → total k ds ≡ total k cs
   totals k = ap (total k) (sym whole) ∙ join.totals k
 
-  -- so much more stands at the place of each
+  -- the two states differ by c.n at the place of each change c
   pub gains : Each (λ c. standing t (place_of c) ≡ standing s (place_of c) +ℤ c.n) ds
   gains = each_from (λ c. standing t (place_of c) ≡ standing s (place_of c) +ℤ c.n) ds (λ k d lt.
       let x : Place = place_of (get_or ds k d) in

@@ -60,7 +60,7 @@ epoch_from (negsuc n) = None
 abbrev pub number_from : ℤ → Option ℤ
 number_from z = cond (is_zero z) None (Some z)
 
--- ---- so much more at a key of processor p, in the state q
+-- ---- n more at a key of processor p, whose state is q
 
 abbrev pub item_row : ProcessorState → ℕ → ℕ → ItemKey → ℤ → Altered ItemAt (Option ℤ)
 item_row q p vertex key n = record {

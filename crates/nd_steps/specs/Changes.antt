@@ -26,7 +26,7 @@ own processors c = slice_index_or processors c.p idle
 abbrev pub inverse : Change → Change
 inverse c = record c { n = neg_ℤ c.n }
 
--- the processor with so much more at a key
+-- the processor with n more at a key
 abbrev pub made_in : ProcessorState → Slot → ℤ → ProcessorState
 made_in q l n = puts q l (stands q l +ℤ n)
 
@@ -34,7 +34,7 @@ made_in q l n = puts q l (stands q l +ℤ n)
 abbrev pub made : ClusterState → Change → ClusterState
 made s c = put_at s (place_of c) (standing s (place_of c) +ℤ c.n)
 
--- so much more may stand at a key: something more or less, and what stands there is within its limit before and after
+-- a key may change by n: n is not 0, and the key's number is within its limit before and after
 pub record FitsIn (q : ProcessorState) (l : Slot) (n : ℤ) : Type 0 where
   pub there : SlotIsThere q l
   pub some : n ≢ pos 0

@@ -34,7 +34,7 @@ use Rattle.nd_steps.specs.declared.change.Change.{Change}
 
 -- ---- changes, as a plan finds them
 
--- so much more at a key of processor p's maps
+-- n more at a key of processor p's maps
 abbrev pub at_key : ℕ → Slot → ℤ → Change
 at_key p slot n = record { p = p; slot = slot; n = n }
 

@@ -28,7 +28,7 @@ come_key gone Nothing = gone
 come_key gone (Record action q edge value) = record_key edge (past_action action gone.point.time) value
 come_key gone (Count vertex) = gone
 
--- so many records of a key more at processor p, and so much more that it has to send
+-- n more records of a key at processor p, and n more at a pointstamp of what it has to send
 abbrev pub more_records : ℕ → ValueAt → ℤ → Change
 more_records p key n = record { p = p; slot = Records key; n = n }
 

@@ -5,7 +5,7 @@ use Rattle.nd_steps.specs.Places.{Place, place_cmp}
 use Rattle.nd_steps.specs.Changes.{place_of}
 use Rattle.nd_steps.specs.declared.change.Change.{Change}
 
--- so much more at a place
+-- a place and what is added there
 abbrev pub Edit : Type 0
 Edit = Place × ℤ
 

@@ -1,4 +1,4 @@
-//! So much more at a key of a processor's maps.
+//! Adding an amount at a key of a processor's maps.
 ghost use Rattle.std.specs.Prelude.{◌≡◌, ◌≢◌, ◌≤◌, ◌+◌, ◌≤ℤ◌, ◌+ℤ◌, Some, pos, unsigned_abs, OnOk, OnErr};
 ghost use Rattle.nd_time.specs.Limits.{max_counter};
 ghost use Rattle.nd_vertex.specs.Edits.{number_of};

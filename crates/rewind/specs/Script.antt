@@ -14,7 +14,7 @@ Run old number (line ∷ lines) replies new =
     (first : List Data) × (mid : Phase) × (more : List Data) × Answers old number (reading_of line) first mid
     × Run mid (number + 1) lines more new × (replies ≡ first ++ more)
 
--- a whole run of so many processors, from the first line
+-- a complete run from its first line, on this number of processors
 abbrev pub Replies : ℕ → List (List ℕ) → List Data → Phase → Type 0
 Replies processors lines replies new = Run (unopened processors) 1 lines replies new
 

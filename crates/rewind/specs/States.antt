@@ -96,7 +96,7 @@ abbrev pub EndsAmong : (List ℕ → List (List ℕ)) → Run → Option (List �
 EndsAmong lines old held holds e =
     (processors : ℕ) (done before : List ℕ) → Answered processors done before held old → EndsEarly processors (lines done) before holds e
 
--- `taken` of the input was read and answered, and so many bytes more may be read
+-- `taken` of the input was read and answered, and `left` more bytes may be read
 pub record Going (processors limit left : ℕ) (input before : List ℕ) (remaining contents : Option (List ℕ)) (run : Run) : Type 0 where
   pub taken : List ℕ
   pub rest : List ℕ

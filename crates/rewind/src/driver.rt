@@ -38,7 +38,7 @@ pub fn debug<R: Threads + Sync, S: Source, T: Sink>(
         → Ends options.now.processors max_input input (S.remaining source.new)
         before (T.contents sink.new) result }
 
-    // Whether the source tells its bytes or not, so many are taken, and all are answered only if it ended.
+    // These bytes are taken, also from a source whose bytes are unknown; all are answered only if it ended.
     ensures takes { Takes max_input result (S.given source.new - S.given source.old) }
     ensures ended { OnOk result (S.ended source.new ≡ true) }
 

@@ -23,7 +23,7 @@ pub struct Run {
 }
 
 impl Run {
-    /// Returns a run of so many processors, before its first line.
+    /// Returns a run on `processors` processors, before its first line.
     pub fn new(alloc: Global, processors: u8) -> Run
         ensures stands { Stands processors [] [] result }
         ensures none_waits { result.outbox ≡ [] }

@@ -48,7 +48,7 @@ abbrev pub order_named : Version → ℕ → Dataflow → Option Named → Resul
 order_named version clients g None = Err (Line BadShape)
 order_named version clients g (Some named) = among clients named.client (is_query (form_of version named.rest)) (asked_of version g named.rest)
 
--- what a line's value asks for in a script of this version, against a graph, if there are so many clients
+-- what a line's value asks for in a script of this version, against a graph, among `clients` clients
 unfoldable pub order_of : Version → ℕ → Dataflow → Data → Result Order OrderFault
 order_of version clients g d = order_named version clients g (named_of d)
 

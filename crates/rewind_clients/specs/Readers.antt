@@ -15,7 +15,7 @@ pub record StandsAt (options : Options) (done : List ℕ) (reader : Reader) : Ty
   pub reads : Reads options.processors options.clients nothing 1 (whole_lines_of done) (intake_view reader.intake)
   pub same : reader.options ≡ options
 
--- `taken` of the input was read, and so many bytes more may be read
+-- `taken` of the input was read, and `left` more bytes may be read
 pub record Going (options : Options) (limit left : ℕ) (input : List ℕ) (remaining : Option (List ℕ)) (reader : Reader) : Type 0 where
   pub taken : List ℕ
   pub rest : List ℕ

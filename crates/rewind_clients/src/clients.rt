@@ -100,7 +100,7 @@ pub fn debug_clients<R: Threads + Wait + Sync, S: Source, T: Sink, G: Gate>(
         → Ends options.now.processors options.now.clients max_input
         input (S.remaining source.new) before (T.contents sink.new) result }
 
-    // Whether the source tells its bytes or not, so many are taken, and all if it ended.
+    // These bytes are taken, also from a source whose bytes are unknown; all if it ended.
     ensures takes { Takes max_input result (S.given source.new - S.given source.old) }
     ensures ended { OnOk result (S.ended source.new ≡ true) }
 

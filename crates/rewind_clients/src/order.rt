@@ -66,7 +66,7 @@ fn is_query(version: Version, value: &Value, asked: &Result<Asked, LineFault>) -
     }
 }
 
-// Returns the order of a line that has a form, among so many clients.
+// Returns the order of a line that has a form, among `clients` clients.
 fn settle(
     clients: usize,
     client: u64,
@@ -114,7 +114,7 @@ fn order_of(
     }
 }
 
-/// Reads what a line that is not blank asks for in a script of this version, among so many clients.
+/// Reads what a line that is not blank asks for in a script of this version, among `clients` clients.
 /// The outer `Err` is out of memory.
 pub fn order_in(
     alloc: Global,

@@ -68,7 +68,7 @@ impl Reader {
     }
 }
 
-/// Reads a script of at most so many bytes, to its end.
+/// Reads a script of at most `limit` bytes, to its end.
 pub fn read_script<S: Source>(
     alloc: Global,
     source: &mut S,

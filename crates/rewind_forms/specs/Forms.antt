@@ -80,7 +80,7 @@ points_at key d = option_and_then (every listed_point) (list_at key d)
 unfoldable pub values_at : List ℕ → Data → Option (List ℤ)
 values_at key d = option_and_then (every integer) (list_at key d)
 
--- there are some, and no more than so many
+-- at least one of them, and at most `most`
 abbrev pub are_few : ℕ → List Data → Bool
 are_few most ds = nat_lt 0 (length ds) && nat_le (length ds) most
 

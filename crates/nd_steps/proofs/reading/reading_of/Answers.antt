@@ -16,7 +16,7 @@ kept : (z : ℤ) → unsigned_abs z ≤ 2 ^ 66 → stored z ≡ z
 unfolding stored
 kept z h = to_z-of_z w128 z (fits_signed_from_abs w128 z (omega (arith, h)))
 
--- what is read, and so much more
+-- the integer that is read, and its sum with the change
 module _ (ps : List ProcessorState) (c : Change) (h : IsReadable ps c) (q : ProcessorState) (is : q ≡ get_or ps c.p q) (x : ℤ) (value : x ≡ stands q c.slot) (small : unsigned_abs x ≤ 2 ^ 64) where
   both : stored x +ℤ stored c.n ≡ x +ℤ c.n
   both = let i = h.small in λ j. kept x (omega (arith, small)) j +ℤ kept c.n (omega (arith, i)) j
