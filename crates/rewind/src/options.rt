@@ -20,11 +20,11 @@ use thiserror::Error;
 
 /// What the program does, as its help says it.
 const ABOUT: &str =
-    "Runs a script of JSON lines on a model of Naiad's progress protocol, forwards and back";
+    "Runs a script of JSON lines on a model of Naiad's progress protocol, forwards and backwards";
 
 /// A script, as the help shows it.
 const EXAMPLE: &str = concat!(
-    "The script is read from standard input: a graph, then a command or a query a line.\n",
+    "The script is read from standard input: a graph, then one command or query per line.\n",
     "A first line {\"version\":n}, with n from 2 to 5, chooses its version, which is 1 without it;\n",
     "more than 8 processors belong to versions 2 to 5.\n\n",
     "Example:\n",
@@ -56,7 +56,7 @@ fn processors_argument(alloc: Global) -> Arg<'static>
         .long("processors")
         .action(ArgAction::Set)
         .value_parser(value_parser!(u8).range(1..=16))
-        .help("How many processors the modelled cluster has, from 1 to 16, and 1 if not given")
+        .help("Number of processors in the modelled cluster, 1 to 16 (1 if not given)")
 }
 
 fn clients_argument(alloc: Global) -> Arg<'static>
@@ -68,7 +68,7 @@ fn clients_argument(alloc: Global) -> Arg<'static>
         .long("clients")
         .action(ArgAction::Set)
         .value_parser(value_parser!(u8).range(1..=64))
-        .help("How many clients the script has, from 1 to 64, and 1 if not given")
+        .help("Number of clients in the script, 1 to 64 (1 if not given)")
 }
 
 /// Returns the command before its arguments.

@@ -345,7 +345,7 @@ ANSWERS = {
     "run": Teller.ran,
     "break": lambda teller, value, reply: [f"done: it is breakpoint {reply['id']}"],
     "unbreak": Teller.cleared,
-    "state": lambda teller, value, reply: ["told by the table, with all its points"],
+    "state": lambda teller, value, reply: ["shown in the table, with all its points"],
     "count": lambda teller, value, reply: [str(reply["count"])],
     "before": lambda teller, value, reply: ["yes" if reply["before"] else "no"],
     "view": lambda teller, value, reply: [points(reply["view"])],
