@@ -8,3 +8,18 @@ mod memory;
 mod succeeds;
 mod walks;
 mod worked;
+
+use nd_breaks::Breaks;
+use nd_protocol::Processors;
+use nd_timeline::{Fault, Ran, Timeline};
+use std::alloc::Allocator;
+
+/// Runs all processors of a timeline.
+pub fn run_all<A: Allocator + Copy>(
+    timeline: &mut Timeline<A>,
+    limit: u64,
+    breaks: &Breaks<A>,
+) -> Result<Ran, Fault> {
+    let all: Option<Processors<A>> = None;
+    timeline.run(limit, all.as_ref(), breaks)
+}

@@ -3,6 +3,7 @@
 use crate::graphs::ENDLESS;
 use crate::scripts::{Told, is_state, start, state_text, step_of};
 use crate::timelines::memory::Heap;
+use crate::timelines::run_all;
 use nd_breaks::Breaks;
 use nd_cluster::{Next, Step, Values};
 use nd_testing::{MANY, Refusing};
@@ -54,13 +55,13 @@ static AROUND: [u64; 12] = [
 /// Returns whether far jumps over a run of 5,000 steps land, and still do once others take the place of most of them.
 fn jumps<A: Allocator + Copy>(json: Global, alloc: A) -> Option<bool> {
     let mut timeline = looped(json, alloc)?;
-    timeline.run(4998, None, &Breaks::new(alloc).ok()?).ok()?;
+    run_all(&mut timeline, 4998, &Breaks::new(alloc).ok()?).ok()?;
     let first = lands(json, alloc, &mut timeline, &AROUND)?;
     timeline.jump(1500).ok()?;
     let told = Told::Feed(0, "a", &[7, 8, 9], Next::Next);
     let step = step_of(alloc, timeline.cluster().graph(), &told)?;
     timeline.forward(&step).ok()?;
-    timeline.run(3499, None, &Breaks::new(alloc).ok()?).ok()?;
+    run_all(&mut timeline, 3499, &Breaks::new(alloc).ok()?).ok()?;
     Some(first && lands(json, alloc, &mut timeline, &AROUND)?)
 }
 
@@ -81,10 +82,10 @@ fn meets_run<A: Allocator + Copy>(
     n: u64,
 ) -> Option<(bool, bool)> {
     let mut timeline = looped(json, alloc)?;
-    timeline.run(1020, None, &Breaks::new(alloc).ok()?).ok()?;
+    run_all(&mut timeline, 1020, &Breaks::new(alloc).ok()?).ok()?;
     let breaks = Breaks::new(alloc).ok()?;
     heap.refuse(n);
-    let ran = timeline.run(10, None, &breaks);
+    let ran = run_all(&mut timeline, 10, &breaks);
     let met = heap.relent(n);
     let goes_on = ran.is_ok();
     let is_said = match ran {
@@ -116,7 +117,7 @@ fn unnoticed_in_runs<A: Allocator + Copy>(heap: &Heap, json: Global, alloc: A) -
 /// Does the same for jumps over 1,500 steps of one timeline, which begin at a checkpoint.
 fn unnoticed_in_jumps<A: Allocator + Copy>(heap: &Heap, json: Global, alloc: A) -> Option<u64> {
     let mut timeline = looped(json, alloc)?;
-    timeline.run(2598, None, &Breaks::new(alloc).ok()?).ok()?;
+    run_all(&mut timeline, 2598, &Breaks::new(alloc).ok()?).ok()?;
     timeline.jump(1100).ok()?;
     if !is_led_to(json, alloc, &timeline)? {
         return None;
@@ -189,7 +190,7 @@ fn blocks<A: Allocator + Copy>(
 ) -> Option<(u64, u64)> {
     let mut timeline = Timeline::new(alloc, start(json, alloc, ENDLESS, 1)?).ok()?;
     fill(alloc, &mut timeline, records)?;
-    timeline.run(20_000, None, &Breaks::new(alloc).ok()?).ok()?;
+    run_all(&mut timeline, 20_000, &Breaks::new(alloc).ok()?).ok()?;
     let with = heap.live();
     let saved = timeline.cluster().saved(alloc).ok()?;
     let one = heap.live().saturating_sub(with);

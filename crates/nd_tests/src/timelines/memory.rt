@@ -234,7 +234,8 @@ fn meets<A: Allocator + Copy>(
         }
         Move::Run => {
             let breaks = Breaks::new(alloc).ok()?;
-            meets_run(heap, json, &mut timeline, None, &breaks, n)
+            let all: Option<Processors<A>> = None;
+            meets_run(heap, json, &mut timeline, all.as_ref(), &breaks, n)
         }
         Move::RunOnly => {
             let breaks = Breaks::new(alloc).ok()?;

@@ -4,6 +4,7 @@
 use crate::graphs::{EMPTY, LINE, point};
 use crate::scripts::{Told, start, step_of};
 use crate::timelines::memory::{ALL, Heap, ONE, kept};
+use crate::timelines::run_all;
 use nd_breaks::Breaks;
 use nd_cluster::Next;
 use nd_testing::{Refusing, unasked};
@@ -18,7 +19,7 @@ fn tells<A: Allocator + Copy>(
 ) -> Option<bool> {
     let z = point(timeline.base().graph(), "z", &[0])?;
     timeline.jump(at).ok()?;
-    timeline.run(0, None, breaks).ok()?;
+    run_all(timeline, 0, breaks).ok()?;
     let has_steps = timeline.step(3).is_some() && timeline.step(4).is_none();
     let is_there = (timeline.at(), timeline.kept()) == (at, 4);
     let _ = timeline.cluster().n();
@@ -45,7 +46,7 @@ fn staying_takes_no_memory(rt: HostRuntime) {
 /// Returns a copy of a timeline that has run on, gone back and again, and then another way.
 fn more<A: Allocator + Copy>(alloc: A, base: &Timeline<A>) -> Option<Timeline<A>> {
     let mut copy = base.copy(alloc).ok()?;
-    copy.run(10, None, &Breaks::new(alloc).ok()?).ok()?;
+    run_all(&mut copy, 10, &Breaks::new(alloc).ok()?).ok()?;
     copy.jump(0).ok()?;
     copy.jump(2).ok()?;
     copy.back().ok()?;
@@ -93,7 +94,7 @@ fn goes<A: Allocator + Copy>(json: Global, alloc: A, times: u64) -> Option<bool>
 fn is_idle<A: Allocator + Copy>(json: Global, alloc: A) -> Option<bool> {
     let base = Timeline::new(alloc, start(json, alloc, EMPTY, 8)?).ok()?;
     let mut copy = base.copy(alloc).ok()?;
-    let ran = copy.run(1_000_000, None, &Breaks::new(alloc).ok()?).ok()?;
+    let ran = run_all(&mut copy, 1_000_000, &Breaks::new(alloc).ok()?).ok()?;
     let idle = Ran {
         ran: 0,
         stop: Stop::Idle,
