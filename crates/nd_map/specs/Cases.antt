@@ -1,5 +1,5 @@
--- Small cases that many proofs need: the two halves of a test, what a test of an ordering means, a number that is not below
--- another, and an integer that is 0 or not.
+-- Small facts that many proofs need: the two halves of a conjunction, what a test of an ordering means, a number that is not
+-- below another, and whether an integer is 0.
 use Rattle.std.specs.Prelude.{◌≡◌, ◌≢◌, ◌⊎◌, ◌<◌, ◌≤◌, ◌<ℤ◌, Bool, true, false, cond, ◌&&◌, T, ℕ, zero, suc, ℤ, pos, negsuc, refl}
 use Rattle.std.specs.declared.cmp.Ordering.{Ordering}
 use Rattle.std.specs.declared.cmp.Ordering.TheVariants.{Less, Equal, Greater}
@@ -37,7 +37,7 @@ not_zero z h e = absurd (omega (arith, ints, h, e))
 pub at_least : (a b : ℕ) → (a < b → ⊥) → b ≤ a
 at_least a b h = elim (cases_lt a b) [ inl lt ↦ absurd (h lt) | inr le ↦ le ]
 
--- the value that was there before is written back
+-- writing back the value that was there before restores it
 pub again : {X : Type 0} (b : Bool) (v w x : X) → (b ≡ true → w ≡ x) → cond b w (cond b v x) ≡ x
 again true v w x e = e refl
 again false v w x e = refl

@@ -4,11 +4,11 @@
 --     added                     an integer added to the number at one key
 --     only                      the map restricted to the keys that pass a test
 --     merged                    two maps combined number by number
---     entries, size             the keys that have a number, each with its number, in the order of listing; how many they are
+--     entries, size             the keys that have a number, each with its number, in the order of listing; how many there are
 --     same                      maps with the same number at each key are equal
 --     changed                   at how many keys two maps differ
 --     set-back, added-back      setting a number back, or subtracting what was added, restores the map
---     size-set                  a new key makes one entry more
+--     size-set                  a new key adds one entry
 --     weight-differs, -set      how one number changes the weight of the entries
 use Rattle.std.specs.Prelude.{◌≡◌, ◌≢◌, ℕ, zero, suc, ◌+◌, ℤ, pos, negsuc, ◌+ℤ◌, ◌-ℤ◌, neg_ℤ, Bool, true, false, cond, ◌||◌, List, [], ◌∷◌, ◌++◌, map, length, Option, Some, None, is_some, refl}
 use Rattle.std.proofs.Common.{T, sym, ap, ◌∙◌, arith}
@@ -195,12 +195,12 @@ module _ {K X : Type 0} {R : K → K → Ordering} {N : Number X} (o : IsTotalOr
   abbrev pub added : Counts R N → K → ℤ → Counts R N
   added m k n = set m k (N.of_int (int_at m k +ℤ n))
 
-  -- the map of f at the keys of the list, and no number at other keys
+  -- the map with the number f k at each key k of the list, and no number at other keys
   pub on_keys : List K → (K → X) → Counts R N
   on_keys [] f = none
   on_keys (k ∷ ks) f = set (on_keys ks f) k (f k)
 
-  -- the map that a list of entries gives
+  -- the map that has at each key the number that a lookup in the list finds
   pub of_entries : List (K × X) → Counts R N
   of_entries es = on_keys (keys_of es) (λ q. or_else (nil N) (find R q es))
 
@@ -298,7 +298,7 @@ module _ {K X : Type 0} {R : K → K → Ordering} {N : Number X} (o : IsTotalOr
   pub at-set_here : (m : Counts R N) (k : K) (v : X) → at (set o m k v) k ≡ v
   at-set_here m k v = at-set o m k v k ∙ ap (λ r. cond (is_eq r) v (at m k)) (tied_itself o k)
 
-  -- of two numbers set at a key, the last one stays
+  -- setting a key twice leaves the second number
   pub set-set : (m : Counts R N) (k : K) (v w : X) → set o (set o m k v) k w ≡ set o m k w
   set-set m k v w =
       same o tells _ _ (λ q.
@@ -320,7 +320,7 @@ module _ {K X : Type 0} {R : K → K → Ordering} {N : Number X} (o : IsTotalOr
       (ap (λ x. N.of_int (N.int x +ℤ neg_ℤ n)) (at-set_here m k (N.of_int (int_at m k +ℤ n)))
       ∙ ap (λ z. N.of_int (z +ℤ neg_ℤ n)) fits ∙ ap N.of_int (let e : int_at m k +ℤ n +ℤ neg_ℤ n ≡ int_at m k = omega (arith, ints) in e) ∙ N.kept (at m k))
 
--- ---- one entry more
+-- ---- a new key adds one entry
 
 no_entry : {X : Type 0} (z : X) (x : Option X) → x ≢ Some z → or_else z x ≡ z → is_some x ≡ false
 no_entry z None n e = refl
@@ -358,7 +358,7 @@ found_weighs f k z e None = sym e
 found_weighs f k z e (Some v) = refl
 
 module _ {K X : Type 0} {R : K → K → Ordering} {N : Number X} (o : IsTotalOrder R) (tells : IsAntisymmetric R) (f : K → X → ℕ) where
-  -- two maps that differ at one key only
+  -- how the weight changes if two maps differ at one key only
   pub weight-differs : (m n : Counts R N) (k : K) → f k (nil N) ≡ 0 → ((q : K) → q ≢ k → at n q ≡ at m q) → weight f (entries n) + f k (at m k) ≡ weight f (entries m) + f k (at n k)
   unfolding at entries
   weight-differs m n k e others =
@@ -375,7 +375,7 @@ module _ {K X : Type 0} {R : K → K → Ordering} {N : Number X} (o : IsTotalOr
       ∙ ap (λ x. weight f (entries m) + f k x) (at-set_here o tells m k v)
 
 module _ {K X : Type 0} {R : K → K → Ordering} {N : Number X} where
-  -- the number at a key, found among the entries
+  -- the number at a key, as a lookup among the entries finds it
   pub at-entries : (m : Counts R N) (q : K) → at m q ≡ or_else (nil N) (find R q (entries m))
   unfolding at entries
   at-entries m q = ap (or_else (nil N)) (get-entries m.map q)

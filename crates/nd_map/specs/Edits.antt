@@ -13,7 +13,7 @@ IsSaid P None (Some e) = ⊥
 IsSaid P (Some v) None = ⊥
 IsSaid P (Some v) (Some e) = P v e
 
--- the entries after an edit; a key without a value, for which there is no edit, gets the value v
+-- the entries after an edit at the key k; without an edit the key had no value, and gets the value v
 abbrev pub edited : {K X : Type 0} → (K → K → Ordering) → K → X → Option (Edit X) → List (K × X) → List (K × X)
 edited R k v None es = put R k v es
 edited R k v (Some Keep) es = es

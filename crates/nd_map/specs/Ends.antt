@@ -1,4 +1,4 @@
--- The least and the greatest integer of 64 bits: none is below the first or above the second.
+-- The least and the greatest 64-bit integer: no 64-bit integer is below the first or above the second.
 use Rattle.std.specs.Prelude.{◌≡◌, ◌-◌, ◌^◌, ◌<ℤ◌, true, false, ℤ, pos, negsuc, refl}
 use Rattle.std.proofs.Common.{FitsSigned, w64, arith}
 use Rattle.std.proofs.lemmas.Int.{ints}

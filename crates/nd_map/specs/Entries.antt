@@ -1,5 +1,5 @@
 -- Lists of entries in the order of their keys, entry by entry:
---     listed-drop, drop-at          what is left after some entries; what is left begins with the next entry
+--     listed-drop, drop-at          the rest of a list is in order, and begins with the next entry
 --     find-head, absent_in_tail     the first entry is found at its key, and no later entry has that key
 --     rises                         a later entry has a greater key
 --     find-index, all_found, found_all      each entry is found at its key, and what is found at a key is an entry
@@ -33,7 +33,7 @@ module _ {K X : Type 0} (R : K → K → Ordering) where
   pub absent_in_tail : (e : K × X) (es : List (K × X)) → IsListed R (e ∷ es) → find R e.0 es ≡ None
   absent_in_tail e es h = not_below e.0 es (first (below_all R e.0 es) _ h)
 
--- what is left at an entry that a loop has read begins with that entry
+-- the rest of a list from position i begins with the entry x at position i
 pub drop-at : {E : Type 0} (es : List E) (i : ℕ) (x : E) → i < length es → x ≡ get_or es i x → drop i es ≡ x ∷ drop (suc i) es
 drop-at es i x lt is = drop-cons es i x lt ∙ ap (λ y. y ∷ drop (suc i) es) (sym is)
 
@@ -61,7 +61,7 @@ module _ {K X : Type 0} (R : K → K → Ordering) (o : IsTotalOrder R) where
       ap (λ r. cond (is_eq r) (Some e.1) (find R (get_or es i d).0 es)) (greater R o _ _ (below_at e.0 es i d (first (below_all R e.0 es) _ h) (omega arith)))
       ∙ find-index es i d (listed-tail R e es h) (omega arith)
 
-  -- what holds of whatever is found at a key holds of each entry
+  -- if P holds of whatever a lookup finds, it holds of each entry
   pub all_found : (P : K → X → Type 0) (es : List (K × X)) → IsListed R es → ((k : K) (v : X) → find R k es ≡ Some v → P k v) → All (λ e. P e.0 e.1) es
   all_found P es h holds i d lt = holds (get_or es i d).0 (get_or es i d).1 (find-index es i d h lt)
 
@@ -78,7 +78,7 @@ module _ {K X : Type 0} (R : K → K → Ordering) (same : IsAntisymmetric R) wh
         | false ↦ λ t s. let at = found_at es k v s in record { index = suc at.index; in_range = omega (arith, at.in_range); is = at.is }
       ] refl e
 
-  -- what holds of each entry holds of whatever is found at a key
+  -- if P holds of each entry, it holds of whatever a lookup finds
   pub found_all : (P : K → X → Type 0) (es : List (K × X)) → All (λ e. P e.0 e.1) es → (k : K) (v : X) → find R k es ≡ Some v → P k v
   found_all P es all k v e =
       let at = found_at es k v e in

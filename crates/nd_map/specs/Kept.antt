@@ -1,4 +1,4 @@
--- Entries as they are stored for a map without zeros: in the order of listing, each number of a given kind.
+-- Entries as they are stored for a map without zeros: in the order of listing, each number satisfying a condition.
 use Rattle.std.specs.Prelude.{List, IfSome}
 use Rattle.std.specs.declared.cmp.Ordering.{Ordering}
 use Rattle.std.specs.FinMap.{find}

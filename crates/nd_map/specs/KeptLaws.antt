@@ -1,9 +1,9 @@
 -- Laws of entries as they are stored for a map without zeros.
---     each_put, _without     each number satisfies P; it still does after an edit
---     kept_put, _without     the same, with the order of listing
+--     each_put, _without     if each number satisfies P, it still does after an edit
+--     kept_put, _without     the same, and the entries stay in order
 --     found-put, -without            the number that a lookup finds after an edit
 --     number_is                      what a lookup finds satisfies P, or is nil
---     of_put, _without               an edit of the entries is that edit of their map
+--     of_put, _without               an edit of the entries is the same edit of their map
 --     at_found                       the number that a lookup finds is that of their map
 --     listed                         if nil does not satisfy P, the entries are those of their map
 use Rattle.std.specs.Prelude.{◌≡◌, ◌≢◌, Bool, true, false, cond, List, Option, Some, None, IfSome, refl}
@@ -49,13 +49,13 @@ module _ {K X : Type 0} (R : K → K → Ordering) (o : IsTotalOrder R) (es : Li
   pub found-without : (z : X) (q : K) → or_else z (find R q (without R k es)) ≡ cond (eq_by_cmp R q k) z (or_else z (find R q es))
   found-without z q = ap (or_else z) (find-without R o q k es) ∙ or_else-cond z (eq_by_cmp R q k) None (find R q es)
 
--- what holds of all numbers that P allows at a key, and of z, holds of what a lookup finds there, with z if it finds nothing
+-- if Q holds of each number that P allows at a key, and of z, it holds of what a lookup finds there, or of z if it finds nothing
 pub number_is : {K X : Type 0} (R : K → K → Ordering) (P : K → X → Type 0) (es : List (K × X)) → EachIs R P es → (Q : X → Type 0) (z : X) (k : K) → ((v : X) → P k v → Q v) → Q z → Q (or_else z (find R k es))
 number_is R P es each Q z k all here = either (P k) Q z all here (find R k es) (each k)
 
--- entries, and the map m of these entries
+-- entries, and m, the map of these entries
 module _ {K X : Type 0} {R : K → K → Ordering} (N : Number X) (o : IsTotalOrder R) (tells : IsAntisymmetric R) (es : List (K × X)) (m : Counts R N) (is_m : of_entries o es ≡ m) where
-  -- what a lookup finds
+  -- a lookup finds the number of the map
   pub at_found : (k : K) → or_else (nil N) (find R k es) ≡ at m k
   at_found k = sym (at-of_entries N o tells es k) ∙ ap (λ (c : Counts R N). at c k) is_m
 
@@ -71,7 +71,7 @@ module _ {K X : Type 0} {R : K → K → Ordering} (N : Number X) (o : IsTotalOr
   of_without k fs is = ap (of_entries {N = N} o) is ∙ edited k (nil N) (without R k es) (found-without R o es k (nil N))
 
   module _ (P : K → X → Type 0) (kept : IsKept R P es) where
-    -- what holds of all numbers that P allows at a key, and of nil, holds of the number at that key
+    -- if Q holds of each number that P allows at a key, and of nil, it holds of the map's number at that key
     pub at_is : (Q : X → Type 0) (k : K) → ((v : X) → P k v → Q v) → Q (nil N) → Q (at m k)
     at_is Q k all here = subst Q (at_found k) (number_is R P es kept.numbers Q (nil N) k all here)
 
@@ -80,6 +80,6 @@ module _ {K X : Type 0} {R : K → K → Ordering} (N : Number X) (o : IsTotalOr
       pub not_nil : (k : K) → find R k es ≢ Some (nil N)
       not_nil k = some (P k) (nil N) (other k) (find R k es) (kept.numbers k)
 
-      -- then the stored entries are those of their map
+      -- the stored entries are those of their map, if nil does not satisfy P
       pub listed : es ≡ entries m
       listed = sym (entries-of_entries N o tells es kept.listed not_nil) ∙ ap entries is_m

@@ -2,9 +2,9 @@
 --     find-without                  what is found after a key was removed
 --     none_below                    nothing is found at a key that is below all others
 --     put-same, without-none        putting what is there, or removing what is not there, changes nothing
---     from_entries-put, -without    an edit of the entries is that edit of their map
+--     from_entries-put, -without    an edit of the entries is the same edit of their map
 --     entries-from_entries          the entries of their map are the entries themselves
--- Finite maps with equal lookups are equal by `same_map` of std; lists of entries are, by `same_entries`.
+-- By `same_map` of std, finite maps with equal lookups are equal; by `same_entries`, so are lists of entries.
 use Rattle.std.specs.Prelude.{◌≡◌, Bool, true, false, cond, not, List, [], ◌∷◌, T, None, Some, unwrap_or, refl}
 use Rattle.std.proofs.Common.{sym, ap, ◌∙◌}
 use Rattle.std.specs.declared.cmp.Ordering.{Ordering}

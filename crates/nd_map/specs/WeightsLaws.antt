@@ -24,7 +24,7 @@ module _ {K X : Type 0} (R : K → K → Ordering) (o : IsTotalOrder R) (tells :
       let m : R k e.0 ≡ Less = less (R k e.0) (first (is_lt (R k e.0)) (below_all R k es) h) in
       rw m (none_itself k es (second (is_lt (R k e.0)) (below_all R k es) h))
 
-  -- a value is put at a key
+  -- how putting a value at a key changes the weight
   pub weight-put : (k : K) (v : X) (es : List (K × X)) → IsListed R es → weight f (put R k v es) + weight_at f k (find R k es) ≡ weight f es + f k v
   weight-put k v [] h = omega arith
   weight-put k v (e ∷ es) h =
@@ -47,7 +47,7 @@ module _ {K X : Type 0} (R : K → K → Ordering) (o : IsTotalOrder R) (tells :
   absent_tied : (k : K) (x : K) (es : List (K × X)) → R k x ≡ Equal → T (below_all R x es) → find R k es ≡ None
   absent_tied k x es t h = find_tied R o x k (tied_back o k x t) es ∙ none_itself x es h
 
-  -- a key is removed
+  -- how removing a key changes the weight
   pub weight-without : (k : K) (es : List (K × X)) → IsListed R es → weight f (without R k es) + weight_at f k (find R k es) ≡ weight f es
   weight-without k [] h = omega arith
   weight-without k (e ∷ es) h =
@@ -72,7 +72,7 @@ module _ {K X : Type 0} (R : K → K → Ordering) (o : IsTotalOrder R) (tells :
   gone : (m : FinMap R X) (k : K) → get (remove m k) k ≡ None
   gone m k = get-remove o m k k ∙ ap (λ b. cond b None (get m k)) (ties k)
 
-  -- a map without k, and the map with k put back
+  -- the weight without k, plus the weight of the value at k, is the weight of the map
   whole : (m : FinMap R X) (k : K) (v : Option X) → get m k ≡ v → weight f (entries (remove m k)) + weight_at f k v ≡ weight f (entries m)
   whole m k None e =
       let same : remove m k ≡ m = same_map o tells (remove m k) m (λ q.
@@ -94,7 +94,7 @@ module _ {K X : Type 0} (R : K → K → Ordering) (o : IsTotalOrder R) (tells :
       let u : weight f (entries (insert (remove m k) k v)) ≡ weight f (entries m) = ap (λ x. weight f (entries x)) same in
       omega arith
 
-  -- how the weight changes if n has the same values as m at all keys but k
+  -- how the weight changes if n has the same values as m at all keys except k
   pub weight_moves : (m n : FinMap R X) (k : K) → ((q : K) → q ≢ k → get n q ≡ get m q) → weight f (entries n) + weight_at f k (get m k) ≡ weight f (entries m) + weight_at f k (get n k)
   weight_moves m n k others =
       let same : remove n k ≡ remove m k = same_map o tells (remove n k) (remove m k) (λ q.
