@@ -10,17 +10,17 @@ use Rattle.std.proofs.lemmas.Map.Lookups.{CmpEqualImpliesEq, exact_pairs, exact_
 use Rattle.std.proofs.lemmas.Cmp.{nat_cmp_total, nat_list_cmp_total, on_total, then_total}
 use Rattle.nd_time.specs.Time.{Time}
 
--- by epoch, then by counters
+-- the order of listing: by epoch, then by counters
 abbrev pub time_cmp : Time → Time → Ordering
 time_cmp s t = ordering_then (nat_cmp s.epoch t.epoch) (slice_cmp nat_cmp s.counters t.counters)
 
--- as numbers
+-- timestamps encoded as numbers
 abbrev pub time_code : Coded Time
 time_code = code_by (ℕ × List ℕ) (coded× coded_ℕ (coded_list coded_ℕ)) (λ t. (t.epoch, t.counters)) (λ p. record { epoch = p.0; counters = p.1 }) (λ _. refl)
 
 pub time_total : IsTotalOrder time_cmp
 time_total = then_total (on_total (λ t. t.epoch) nat_cmp_total) (on_total (λ t. t.counters) nat_list_cmp_total)
 
--- timestamps that compare alike are one
+-- timestamps that compare as equal are equal
 pub time_exact : CmpEqualImpliesEq time_cmp
 time_exact s t h = ap (λ (p : ℕ × List ℕ). record { epoch = p.0; counters = p.1 }) (exact_pairs nat_cmp (slice_cmp nat_cmp) exact_unsigned exact_bytes (s.epoch, s.counters) (t.epoch, t.counters) h)

@@ -1,4 +1,4 @@
--- Timestamps, over unbounded whole numbers (Naiad, SOSP 2013, section 2.1; the order of counters is this project's own rule).
+-- Timestamps, with unbounded natural numbers (Naiad, SOSP 2013, section 2.1; the order of counters is this project's own rule).
 use Rattle.std.specs.Prelude.{◌≡◌, ℕ, ◌+◌, ◌<◌, ◌≤◌, ◌⊎◌, List, [], ◌∷◌, ◌++◌, length}
 
 -- an epoch and the loop counters, outermost first
@@ -6,7 +6,7 @@ pub record Time : Type 0 where
   pub epoch : ℕ
   pub counters : List ℕ
 
--- two lists agree up to a position, where the first has the smaller number
+-- the lists xs and ys agree up to a position, at which xs has the smaller number
 pub record IsSmallerAtFirstDifference (xs ys : List ℕ) : Type 0 where
   pub common : List ℕ
   pub x : ℕ
@@ -17,7 +17,7 @@ pub record IsSmallerAtFirstDifference (xs ys : List ℕ) : Type 0 where
   pub ys_is : ys ≡ common ++ y ∷ ys_rest
   pub smaller : x < y
 
--- at most in lexicographic order, for lists of one length
+-- xs is at most ys in lexicographic order, for lists of the same length
 abbrev pub IsLexicallyAtMost : List ℕ → List ℕ → Type 0
 IsLexicallyAtMost xs ys = (xs ≡ ys) ⊎ IsSmallerAtFirstDifference xs ys
 
@@ -45,7 +45,7 @@ feedback_of [] = []
 feedback_of (x ∷ []) = (x + 1) ∷ []
 feedback_of (x ∷ y ∷ rest) = x ∷ feedback_of (y ∷ rest)
 
--- the last counter, the innermost
+-- the last counter, which is the innermost; 0 if there is none
 abbrev pub last_of : List ℕ → ℕ
 last_of [] = 0
 last_of (x ∷ []) = x
