@@ -129,6 +129,6 @@ members_in (string s) = no_members
 members_in (array ds) = no_members
 members_in (object ms) = ms
 
--- members are encoded as their object
+-- the members of an object are encoded as that object
 abbrev pub members_code : Coded Members
 members_code = code_by Data data_code (λ ms. object ms) members_in (λ _. refl)

@@ -31,23 +31,23 @@ has_keys keys (string s) = false
 has_keys keys (array ds) = false
 has_keys keys (object ms) = same_texts (keys_of ms) keys
 
--- the string that the value is
+-- the value as a string, if it is one
 unfoldable pub text : Data → Option (List ℕ)
 text d = as_str d
 
--- the integer from 0 to 2^64 - 1 that the value is
+-- the value as an integer from 0 to 2^64 - 1, if it is one
 unfoldable pub whole : Data → Option ℕ
 whole d = option_and_then as_u64 (as_number d)
 
--- the integer from 0 to 2^32 - 1 that the value is
+-- the value as an integer from 0 to 2^32 - 1, if it is one
 unfoldable pub small : Data → Option ℕ
 small d = option_and_then (λ n. if nat_lt n (2 ^ 32) then Some n else None) (whole d)
 
--- the integer from -2^63 to 2^63 - 1 that the value is
+-- the value as an integer from -2^63 to 2^63 - 1, if it is one
 unfoldable pub integer : Data → Option ℤ
 integer d = option_and_then as_i64 (as_number d)
 
--- the items of the array that the value is
+-- the items of the value, if it is an array
 unfoldable pub list : Data → Option (List Data)
 list d = option_map listed (as_array d)
 
