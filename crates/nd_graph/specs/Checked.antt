@@ -16,7 +16,7 @@ use Rattle.nd_graph.specs.Draft.{Draft, every}
 
 -- ---- names
 
--- two names are equal
+-- some name occurs twice
 abbrev pub has_double : List (List ℕ) → Bool
 has_double [] = false
 has_double (name ∷ names) = list_any (bytes_eq name) names || has_double names
@@ -28,7 +28,7 @@ written_names vertices edges = map (λ v. v.name) vertices ++ map (λ e. e.name)
 abbrev pub has_double_name : List Vertex → List DraftEdge → Bool
 has_double_name vertices edges = has_double (written_names vertices edges)
 
--- the location of the vertex that an end of an edge names
+-- the location of the vertex that an end of an edge names, if there is one
 unfoldable pub end_of : List Vertex → Option (List ℕ) → Option ℕ
 end_of vertices end = option_and_then (λ name. position (λ v. bytes_eq name v.name) vertices) end
 
@@ -39,7 +39,7 @@ located vertices e =
     (λ to. record { name = e.name; from = from; port = e.port; to = to; route = e.route })
     (end_of vertices e.to)) (end_of vertices e.from)
 
--- the edges with their ends as locations, or the error that a name occurs twice or that an end is not a vertex
+-- the edges with their ends as locations, or the error: a name occurs twice, or an end is not a vertex
 unfoldable pub edges_between : List Vertex → List DraftEdge → Result (List Edge) GraphFault
 edges_between vertices edges =
     if has_double_name vertices edges then Err DoubleName
@@ -51,7 +51,7 @@ edges_between vertices edges =
 abbrev pub ports : Op → ℕ
 ports o = (facts o).ports
 
--- the operator receives values from outside
+-- whether the operator receives values from outside
 abbrev pub is_input : Op → Bool
 is_input o = (facts o).fed
 
@@ -59,17 +59,17 @@ is_input o = (facts o).fed
 abbrev pub ports_at : List Vertex → ℕ → ℕ
 ports_at vertices l = option_map_or (λ v. ports v.op) (slice_get vertices l) 0
 
--- the vertex at a location is an input
+-- whether the vertex at a location is an input
 abbrev pub is_input_at : List Vertex → ℕ → Bool
 is_input_at vertices l = option_map_or (λ v. is_input v.op) (slice_get vertices l) false
 
--- the source has no such port, or the target is an input
+-- the source of an edge has no such output port, or its target is an input
 unfoldable pub has_bad_port : List Vertex → Edge → Bool
 has_bad_port vertices e = nat_le (ports_at vertices e.from) e.port || is_input_at vertices e.to
 
 -- ---- depths
 
--- an input inside a loop, or an egress or a feedback outside all loops
+-- an input is inside a loop, or an egress or a feedback is outside all loops
 abbrev pub is_misplaced_at : Op → ℕ → Bool
 is_misplaced_at o depth = (is_input o && nat_lt 0 depth) || (stands_in_loop (action_of o) && depth == 0)
 
@@ -89,15 +89,15 @@ has_depth_mismatch g = list_any is_misplaced g.vertices || list_any (misses_dept
 
 -- ---- sizes
 
--- a vertex above the limit of depth, or an ingress at the limit
+-- a vertex is deeper than the limit, or an ingress is at the limit
 abbrev pub is_too_deep : ℕ → Vertex → Bool
 is_too_deep most v = nat_lt most v.depth || (leads_in (action_of v.op) && v.depth == most)
 
--- an edge above the limit of depth
+-- an edge is deeper than the limit
 unfoldable pub leads_too_deep : ℕ → List Vertex → Edge → Bool
 leads_too_deep most vertices e = nat_lt most (depth_past_vertex vertices e.from)
 
--- too many locations, or a location above the limit of depth
+-- there are too many locations, or a location is deeper than the limit
 unfoldable pub is_too_large : ℕ → Dataflow → Bool
 is_too_large most g =
     nat_lt max_locations (location_count g)
@@ -105,7 +105,7 @@ is_too_large most g =
 
 -- ---- all checks
 
--- the first error of a graph whose names are resolved, with this limit of depth
+-- the first error of a graph whose names are resolved, for this limit of depth
 unfoldable pub fault_of : ℕ → Dataflow → Option GraphFault
 fault_of most g =
     if list_any (has_bad_port g.vertices) g.edges then Some BadPort else
@@ -116,20 +116,20 @@ fault_of most g =
 unfoldable pub judged : ℕ → Dataflow → Result Dataflow GraphFault
 judged most g = option_map_or (λ e. Err e) (fault_of most g) (Ok g)
 
--- the same once the ends of the edges are looked up
+-- the same, once the ends of the edges are looked up
 abbrev pub judged_with : ℕ → List Vertex → Result (List Edge) GraphFault → Result Dataflow GraphFault
 judged_with most vertices (Ok edges) = judged most (graph_of vertices edges)
 judged_with most vertices (Err e) = Err e
 
--- the graph that is written, or the error of least number, with this limit of depth
+-- the graph that a draft describes, or the error with the least number, for this limit of depth
 unfoldable pub checked_within : ℕ → Draft → Result Dataflow GraphFault
 checked_within most d = judged_with most d.vertices (edges_between d.vertices d.edges)
 
--- the same with the current limit of depth
+-- the same, for the current limit of depth
 abbrev pub checked : Draft → Result Dataflow GraphFault
 checked = checked_within max_depth
 
--- the same with the limit of depth of version 1
+-- the same, for the limit of depth of version 1
 abbrev pub checked_v1 : Draft → Result Dataflow GraphFault
 checked_v1 = checked_within max_depth_v1
 
@@ -140,7 +140,7 @@ pub record JoinsVertices (vertices : List Vertex) (e : Edge) : Type 0 where
   pub from : e.from < length vertices
   pub to : e.to < length vertices
 
--- no two names are equal, each end is a vertex, and there is no error
+-- no name occurs twice, each end of an edge is a vertex, and there is no error
 pub record IsFaultless (g : Dataflow) : Type 0 where
   pub once : has_double (names g) ≡ false
   pub joined : All (JoinsVertices g.vertices) g.edges

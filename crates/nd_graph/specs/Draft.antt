@@ -70,7 +70,7 @@ vertex_of d =
     (λ depth. record { name = name; op = operator; depth = depth })
     (small_at (codes "depth") d)) (op_of d)) (name_in d)
 
--- an edge; its ends may be any strings, and one that does not have the form of a name names nothing
+-- an edge; each end may be any string, and a string that does not have the form of a name names no vertex
 unfoldable pub edge_of : Data → Option DraftEdge
 edge_of d =
     if has_keys (codes "from" ∷ codes "name" ∷ codes "port" ∷ codes "route" ∷ codes "to" ∷ []) d

@@ -4,7 +4,7 @@ use Rattle.nd_time.specs.Code.{Code, coded}
 use Rattle.nd_graph.specs.declared.fault.GraphFault.{GraphFault}
 use Rattle.nd_graph.specs.declared.fault.GraphFault.TheVariants.{Shape, DoubleName, UnknownName, BadPort, DepthMismatch, TooLarge, Memory}
 
--- the number and the name with which a graph is rejected
+-- the number and the name of the error that rejects a graph
 abbrev pub code_of : GraphFault → Code
 code_of Shape = coded 40 (codes "Shape")
 code_of DoubleName = coded 41 (codes "DoubleName")

@@ -21,7 +21,7 @@ pub record Dataflow : Type 0 where
 abbrev pub graph_of : List Vertex → List Edge → Dataflow
 graph_of vertices edges = record { vertices = vertices; edges = edges }
 
--- what a vertex does to times that pass it
+-- what a vertex with this operator does to the times that pass through it
 abbrev pub action_of : Op → Action
 action_of o = (facts o).action
 
@@ -59,7 +59,7 @@ depth_past_vertex vertices l = option_map_or (λ v. depth_past (action_of v.op) 
 abbrev pub depths : Dataflow → List ℕ
 depths g = map (λ v. v.depth) g.vertices ++ map (λ e. depth_past_vertex g.vertices e.from) g.edges
 
--- the arcs of edges, the first of which is location l: from the source with its action, and to the target
+-- the two arcs of each edge, if the first edge is location l: from its source, with the source's action, and to its target
 abbrev pub arcs_from : List Vertex → ℕ → List Edge → List Arc
 arcs_from vertices l [] = []
 arcs_from vertices l (e ∷ edges) =

@@ -6,7 +6,7 @@ use Rattle.nd_graph.specs.declared.op.Action.{Action}
 use Rattle.nd_graph.specs.declared.op.Action.TheVariants.{Identity, Ingress, Egress, Feedback}
 
 pub record Facts : Type 0 where
-  -- what its vertices do to times that pass them
+  -- what its vertices do to the times that pass through them
   pub action : Action
   -- how many output ports they have
   pub ports : ℕ
@@ -37,14 +37,14 @@ facts op.Distinct = record { action = Identity; ports = 1; fed = false; asks = t
 facts op.Hold = record { action = Identity; ports = 1; fed = false; asks = true; counts = false }
 facts op.Sink = record { action = Identity; ports = 0; fed = false; asks = false; counts = true }
 
--- an egress or a feedback is inside a loop
+-- whether a vertex with this action must be inside a loop: an egress or a feedback
 abbrev pub stands_in_loop : Action → Bool
 stands_in_loop Identity = false
 stands_in_loop Ingress = false
 stands_in_loop Egress = true
 stands_in_loop Feedback = true
 
--- an ingress leads one loop deeper
+-- whether this action leads one loop deeper: only an ingress
 abbrev pub leads_in : Action → Bool
 leads_in Identity = false
 leads_in Ingress = true
