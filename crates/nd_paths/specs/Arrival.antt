@@ -10,7 +10,7 @@ use Rattle.nd_paths.specs.Order.{IsWalk, effect, Fits, CouldResultIn}
 use Rattle.nd_paths.specs.Summary.{applied, left_by}
 use Rattle.nd_paths.specs.Table.{held}
 
--- some walk from the location of s, which fits the graph, to the location x turns s's time into t
+-- s fits the graph, and some walk from its location to the location x turns its time into t
 pub record TurnsInto (g : Dataflow) (s : Pointstamp) (x : ℕ) (t : Time) : Type 0 where
   pub fits : Fits g s
   pub walk : List Arc
@@ -26,28 +26,28 @@ abbrev pub CoverAll : Dataflow → Pointstamp → ℕ → List Time → Type 0
 CoverAll g s x times =
     (t : Time) → CouldResultIn g s (record { location = x; time = t }) → HasAtOrBefore times t
 
--- each pointstamp could result in each time into which some walk turns its own, at the walk's end
+-- if some walk turns the time of a pointstamp into t, the pointstamp could result in t at the end of the walk
 abbrev pub WalksLeadOn : Dataflow → Type 0
 WalksLeadOn g =
     (s : Pointstamp) (x : ℕ) (t : Time) → TurnsInto g s x t
     → CouldResultIn g s (record { location = x; time = t })
 
--- ---- by the table
+-- ---- the same, as the table has it
 
--- what a summary makes of a time
+-- the time into which a summary turns the time t
 abbrev pub turned : Summary → Time → Time
 turned s t = record { epoch = t.epoch; counters = applied s t.counters }
 
--- what is held at b keeps at most d counters, and leaves no more than there may be
+-- each summary held at b keeps at most d counters, and leaves at most max_depth counters
 abbrev pub HoldsFew : List (Option Summary) → ℕ → ℕ → Type 0
 HoldsFew row b d =
     (r : ℕ) (s : Summary) → held row b r ≡ Some s → (s.keep ≤ d) × (left_by s ≤ max_depth)
 
--- something held at b turns t into u
+-- some summary held at b turns t into u
 abbrev pub HoldsTurning : List (Option Summary) → ℕ → Time → Time → Type 0
 HoldsTurning row b t u = (r : ℕ) × (s : Summary) × (held row b r ≡ Some s) × (u ≡ turned s t)
 
--- these are the times into which what is held at b turns t
+-- these are the times into which the summaries held at b turn t
 pub record AreTurned (row : List (Option Summary)) (b : ℕ) (t : Time) (times : List Time) : Type 0 where
   pub each : All (HoldsTurning row b t) times
   pub all : (r : ℕ) (s : Summary) → held row b r ≡ Some s → Contains times (turned s t)

@@ -12,7 +12,7 @@ abbrev pub IsFault : Dataflow → PathFault → Type 0
 IsFault g (LoopNotStrict l) = FailsAt g l × ((k : ℕ) → k < l → FailsAt g k → ⊥)
 IsFault g Memory = Unit {0}
 
--- the same, innermost first
+-- the same, over counters that begin with the innermost one
 abbrev pub IsFaultInside : List ℕ → List Arc → PathFault → Type 0
 IsFaultInside depths arcs (LoopNotStrict l) = (l < length depths) × Fails depths arcs l × ((k : ℕ) → k < l → Fails depths arcs k → ⊥)
 IsFaultInside depths arcs Memory = Unit {0}

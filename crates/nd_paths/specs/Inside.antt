@@ -1,5 +1,5 @@
--- Walks and their summaries over lists of counters that begin with the innermost one, for the proofs alone.
--- Each action then works on the head of the list.
+-- Walks and their summaries over lists of counters that begin with the innermost one, so that each action changes the head of the
+-- list. Only proofs use them.
 use Rattle.std.specs.Prelude.{◌≡◌, ◌⊎◌, ℕ, ◌+◌, ◌-◌, ◌<◌, ◌≤◌, All, Contains, List, [], ◌∷◌, ◌++◌, length, drop, reverse, slice_index}
 use Rattle.nd_time.specs.Limits.{max_depth}
 use Rattle.nd_graph.specs.declared.op.Action.{Action}
@@ -14,7 +14,7 @@ use Rattle.nd_paths.specs.declared.summary.Summary.{Summary}
 abbrev pub keeps : ℕ
 keeps = max_depth + 1
 
--- earlier: the outer counters are earlier, or they are the same and this one is smaller
+-- the first list is earlier: its outer counters are earlier, or they are equal and its innermost counter is smaller
 abbrev pub Earlier : List ℕ → List ℕ → Type 0
 Earlier [] ys = ⊥
 Earlier (x ∷ xs) [] = ⊥
@@ -45,7 +45,7 @@ abbrev pub IsWalkAlong : List Arc → ℕ → ℕ → List Arc → Type 0
 IsWalkAlong arcs a b [] = a ≡ b
 IsWalkAlong arcs a b (x ∷ w) = Contains arcs x × (x.from ≡ a) × IsWalkAlong arcs x.to b w
 
--- what a walk makes of the counters
+-- the counters after a walk
 abbrev pub effect_of : List Arc → List ℕ → List ℕ
 effect_of [] c = c
 effect_of (x ∷ w) c = effect_of w (act x.action c)
@@ -53,7 +53,7 @@ effect_of (x ∷ w) c = effect_of w (act x.action c)
 abbrev pub DepthsAgree : List ℕ → List Arc → Type 0
 DepthsAgree depths arcs = All (ArcAgrees depths) arcs
 
--- every closed walk that is not empty strictly increases all counters of its depth
+-- every closed walk that is not empty strictly increases all counters of the location's depth
 abbrev pub Accepted : List ℕ → List Arc → Type 0
 Accepted depths arcs =
     (l : ℕ) (x : Arc) (w : List Arc) (c : List ℕ) → IsWalkAlong arcs l l (x ∷ w) → length c ≡ slice_index depths l → Earlier c (effect_of (x ∷ w) c)
@@ -63,13 +63,13 @@ abbrev pub Fails : List ℕ → List Arc → ℕ → Type 0
 Fails depths arcs l =
     (x : Arc) × (w : List Arc) × (c : List ℕ) × IsWalkAlong arcs l l (x ∷ w) × (length c ≡ slice_index depths l) × (Earlier c (effect_of (x ∷ w) c) → ⊥)
 
--- some walk turns counters c at a into some at or before d at b
+-- some walk from a to b turns the counters c into counters at or before d
 abbrev pub Reaches : List Arc → ℕ → List ℕ → ℕ → List ℕ → Type 0
 Reaches arcs a c b d = (w : List Arc) × IsWalkAlong arcs a b w × AtOrBefore (effect_of w c) d
 
--- ---- summaries, whose constants begin with the innermost one here
+-- ---- summaries, here with their constants innermost first
 
--- a summary with its constants the other way round
+-- a summary with its constants in the reverse order
 abbrev pub inner : Summary → Summary
 inner s = record { keep = s.keep; add = s.add; constants = reverse s.constants }
 
@@ -105,13 +105,13 @@ after (x ∷ w) s = after w (step x.action s)
 abbrev pub summary_of : List ℕ → ℕ → List Arc → Summary
 summary_of depths a w = after w (identity (slice_index depths a))
 
--- at most, of two summaries with the same keep: by what they add, then by the constants
+-- s is at most t, for summaries with the same keep: by what they add, then by their constants
 pub record AtMost (s t : Summary) : Type 0 where
   pub keep : s.keep ≡ t.keep
   pub size : length s.constants ≡ length t.constants
   pub least : (s.add < t.add) ⊎ ((s.add ≡ t.add) × AtOrBefore s.constants t.constants)
 
--- less than, of two summaries with the same keep
+-- s is less than t, for summaries with the same keep
 pub record Below (s t : Summary) : Type 0 where
   pub keep : s.keep ≡ t.keep
   pub size : length s.constants ≡ length t.constants
@@ -124,6 +124,6 @@ grows Ingress = 1
 grows Egress = 0
 grows Feedback = 0
 
--- no number is above m
+-- no number of the summary is above m
 abbrev pub IsWithin : ℕ → Summary → Type 0
 IsWithin m s = (s.add ≤ m) × All (λ x. x ≤ m) s.constants

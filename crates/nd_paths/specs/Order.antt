@@ -6,12 +6,12 @@ use Rattle.nd_graph.specs.declared.graph.Arc.{Arc}
 use Rattle.nd_graph.specs.Graph.{Dataflow, arcs, acted, depths}
 use Rattle.nd_paths.specs.declared.point.Pointstamp.{Pointstamp}
 
--- a list of arcs that leads from one location to another, each beginning where the one before ends
+-- a list of arcs that leads from one location to another; each arc begins where the arc before it ends
 abbrev pub IsWalk : Dataflow → ℕ → List Arc → ℕ → Type 0
 IsWalk g from [] to = from ≡ to
 IsWalk g from (arc ∷ walk) to = Contains (arcs g) arc × (arc.from ≡ from) × IsWalk g arc.to walk to
 
--- what a walk makes of loop counters
+-- the loop counters after a walk
 abbrev pub effect : List Arc → List ℕ → List ℕ
 effect [] counters = counters
 effect (arc ∷ walk) counters = effect walk (acted arc.action counters)
@@ -20,7 +20,7 @@ effect (arc ∷ walk) counters = effect walk (acted arc.action counters)
 abbrev pub HasDepth : Dataflow → ℕ → ℕ → Type 0
 HasDepth g l depth = slice_get (depths g) l ≡ Some depth
 
--- the pointstamp stands at a location of the graph, at its depth
+-- the pointstamp is at a location of the graph, and its time has that location's depth
 pub record Fits (g : Dataflow) (x : Pointstamp) : Type 0 where
   pub depth : HasDepth g x.location (length x.time.counters)
 
@@ -32,11 +32,11 @@ pub record CouldResultIn (g : Dataflow) (s t : Pointstamp) : Type 0 where
   pub leads : IsWalk g s.location walk t.location
   pub before : IsAtOrBefore (record { epoch = s.time.epoch; counters = effect walk s.time.counters }) t.time
 
--- s could result in t, and is another
+-- s could result in t, and s is not t
 abbrev pub IsStrictlyBefore : Dataflow → Pointstamp → Pointstamp → Type 0
 IsStrictlyBefore g s t = CouldResultIn g s t × (s ≢ t)
 
--- a closed walk from this location, which is not empty, fails to increase some counters of its depth
+-- some closed walk from the location l, which is not empty, fails to increase some counters of the depth of l
 pub record FailsAt (g : Dataflow) (l : ℕ) : Type 0 where
   pub arc : Arc
   pub walk : List Arc

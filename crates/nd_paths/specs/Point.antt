@@ -11,17 +11,17 @@ use Rattle.nd_time.specs.Time.{Time}
 use Rattle.nd_time.specs.Listing.{time_cmp, time_code, time_total, time_exact}
 use Rattle.nd_paths.specs.declared.point.Pointstamp.{Pointstamp}
 
--- by location, then by time
+-- the order of listing: by location, then by time
 abbrev pub point_cmp : Pointstamp → Pointstamp → Ordering
 point_cmp p q = ordering_then (nat_cmp p.location q.location) (time_cmp p.time q.time)
 
--- as numbers
+-- pointstamps encoded as numbers
 abbrev pub point_code : Coded Pointstamp
 point_code = code_by (ℕ × Time) (coded× coded_ℕ time_code) (λ p. (p.location, p.time)) (λ p. record { location = p.0; time = p.1 }) (λ _. refl)
 
 pub point_total : IsTotalOrder point_cmp
 point_total = then_total (on_total (λ p. p.location) nat_cmp_total) (on_total (λ p. p.time) time_total)
 
--- pointstamps that compare alike are one
+-- pointstamps that compare as equal are equal
 pub point_exact : CmpEqualImpliesEq point_cmp
 point_exact p q h = ap (λ (x : ℕ × Time). record { location = x.0; time = x.1 }) (exact_pairs nat_cmp time_cmp exact_unsigned time_exact (p.location, p.time) (q.location, q.time) h)

@@ -13,7 +13,7 @@ raised a [] = []
 raised a (x ∷ []) = (x + a) ∷ []
 raised a (x ∷ y ∷ rest) = x ∷ raised a (y ∷ rest)
 
--- what a summary makes of counters: it keeps the outer ones, adds to the last of those, and puts its constants after them
+-- the counters after a summary: it keeps the outermost ones, adds to the last of those, and appends its constants
 abbrev pub applied : Summary → List ℕ → List ℕ
 applied s counters = raised s.add (take s.keep counters) ++ s.constants
 
@@ -28,7 +28,7 @@ composed s t =
     (record { keep = s.keep; add = s.add; constants = applied (record { keep = t.keep - s.keep; add = t.add; constants = t.constants }) s.constants })
     (record { keep = t.keep; add = cond (nat_eq s.keep t.keep) (s.add + t.add) t.add; constants = t.constants })
 
--- no number is past that of a counter, and no more counters are left than may be
+-- no number is above the limit of a counter, and at most max_depth counters are left
 pub record IsInLimits (s : Summary) : Type 0 where
   pub add : s.add ≤ max_counter
   pub constants : All (λ x. x ≤ max_counter) s.constants
@@ -42,18 +42,18 @@ pub record IsSummaryOf (g : Dataflow) (from : ℕ) (walk : List Arc) (s : Summar
   pub top : s.keep ≡ 0 → s.add ≡ 0
   pub does : (counters : List ℕ) → length counters ≡ depth → applied s counters ≡ effect walk counters
 
--- at most, of summaries with the same keep: by what they add, then by the constants
+-- s is at most t, for summaries with the same keep: by what they add, then by their constants
 abbrev pub IsAtMost : Summary → Summary → Type 0
 IsAtMost s t = (s.add < t.add) ⊎ ((s.add ≡ t.add) × IsLexicallyAtMost s.constants t.constants)
 
--- s is the least summary of the walks that keep as many counters
+-- s is the summary of a walk, and the least summary of the walks that keep the same number of counters
 pub record IsLeastSummary (g : Dataflow) (from to : ℕ) (s : Summary) : Type 0 where
   pub walk : List Arc
   pub leads : IsWalk g from walk to
   pub summary : IsSummaryOf g from walk s
   pub least : (w : List Arc) (t : Summary) → IsWalk g from w to → IsSummaryOf g from w t → s.keep ≡ t.keep → IsAtMost s t
 
--- the list has one least summary for each keep that some walk has, greatest keep first
+-- the list has the least summary for each number of counters that some walk keeps, the greatest number first
 pub record AreLeastSummaries (g : Dataflow) (from to : ℕ) (list : List Summary) : Type 0 where
   pub each : All (IsLeastSummary g from to) list
   pub all : (w : List Arc) → IsWalk g from w to → (t : Summary) × IsSummaryOf g from w t × ((s : Summary) × Contains list s × (s.keep ≡ t.keep))

@@ -1,4 +1,4 @@
--- A row of the table: for each location a position for each number of counters that a walk can keep.
+-- A row of the table has for each location one position for each number of counters that a walk can keep.
 use Rattle.std.specs.Prelude.{◌≡◌, ◌⊎◌, ℕ, All, ◌+◌, ◌-◌, ◌*◌, ◌<◌, ◌≤◌, List, length, Option, Some, None, Vec, nat_lt, cond, Contains, slice_index_or, slice_set}
 use Rattle.std.specs.Option.{option_map}
 use Rattle.nd_time.specs.Limits.{max_depth, max_counter}
@@ -9,19 +9,19 @@ use Rattle.nd_paths.specs.declared.summary.Summary.{Summary}
 use Rattle.nd_paths.specs.Summary.{applied}
 use Rattle.nd_paths.specs.Inside.{keeps, Accepted, AtOrBefore, DepthsAgree, IsWalkAlong, inner, apply, step, grows, AtMost, IsWithin, summary_of}
 
--- what stands at the position of a location and a keep
+-- the summary at the position of location b for r kept counters, if there is one
 abbrev pub held : List (Option Summary) → ℕ → ℕ → Option Summary
 held row b r = cond (nat_lt r keeps) (slice_index_or row (b * keeps + r) None) None
 
--- the same, with its constants the other way round
+-- the same, with its constants in the reverse order
 abbrev pub entry : List (Option Summary) → ℕ → ℕ → Option Summary
 entry row b r = option_map inner (held row b r)
 
--- the row has a summary at most s
+-- the row has a summary for location b that is at most s
 abbrev pub Covers : (ℕ → ℕ → Option Summary) → ℕ → Summary → Type 0
 Covers row b s = (t : Summary) × (row b s.keep ≡ Some t) × AtMost t s
 
--- the entry at the arc's start can be followed by the arc, and compared with the one that is there
+-- the arc can extend the entry at its start: the positions are in the row, and no limit is exceeded
 pub record CanRelax (row : List (Option Summary)) (x : Arc) (r : ℕ) : Type 0 where
   pub from : x.from * keeps + keeps ≤ length row
   pub to : x.to * keeps + keeps ≤ length row
@@ -29,11 +29,11 @@ pub record CanRelax (row : List (Option Summary)) (x : Arc) (r : ℕ) : Type 0 w
   pub room : (s : Summary) → entry row x.from r ≡ Some s → (s.keep ≡ r) × (length s.constants + grows x.action ≤ max_depth) × IsWithin (max_counter - 1) s
   pub alike : (s t : Summary) → entry row x.from r ≡ Some s → entry row x.to (step x.action s).keep ≡ Some t → (t.keep ≡ (step x.action s).keep) × (length t.constants ≡ length (step x.action s).constants)
 
--- nothing was written, since the step was covered
+-- nothing was written, since the row already covers the extended entry
 abbrev pub Quiet : List (Option Summary) → List (Option Summary) → Arc → ℕ → Type 0
 Quiet old new x r = (new ≡ old) × ((s : Summary) → entry old x.from r ≡ Some s → Covers (entry old) x.to (step x.action s))
 
--- the entry at the arc's start, followed by the arc, was put at its end, if that is less than what was there
+-- the entry at the arc's start, extended by the arc, was written at the arc's end, and is at most the entry that was there
 abbrev pub Written : List (Option Summary) → List (Option Summary) → Arc → ℕ → Type 0
 Written old new x r =
     (s : Summary) × (n : Summary) × (entry old x.from r ≡ Some s) × (inner n ≡ step x.action s)
@@ -43,7 +43,7 @@ Written old new x r =
 abbrev pub Relaxed : List (Option Summary) → List (Option Summary) → Arc → ℕ → Type 0
 Relaxed old new x r = Quiet old new x r ⊎ Written old new x r
 
--- each entry is the summary of a walk from a, with the keep of its position
+-- each entry is the summary of a walk from a, and keeps as many counters as its position says
 abbrev pub HasWalks : List ℕ → List Arc → ℕ → (ℕ → ℕ → Option Summary) → Type 0
 HasWalks depths arcs a row =
     (b r : ℕ) (s : Summary) → row b r ≡ Some s → (w : List Arc) × IsWalkAlong arcs a b w × (s ≡ summary_of depths a w) × (s.keep ≡ r)
@@ -57,53 +57,53 @@ pub record IsLeast (depths : List ℕ) (arcs : List Arc) (a : ℕ) (row : ℕ �
   pub walks : HasWalks depths arcs a row
   pub covers : (w : List Arc) (b : ℕ) → IsWalkAlong arcs a b w → Covers row b (summary_of depths a w)
 
--- what shows that a location fails: an entry whose next arc closes the walk, and adds nothing
+-- what shows that location a fails: an entry that some arc extends to a closed walk, which adds nothing
 abbrev pub ShowsFail : List Arc → ℕ → (ℕ → ℕ → Option Summary) → Type 0
 ShowsFail arcs a row =
     (x : Arc) × (r : ℕ) × (s : Summary) × Contains arcs x × (x.to ≡ a) × (row x.from r ≡ Some s) × ((step x.action s).add ≡ 0)
 
--- some entry at the arc's start, followed by the arc, adds nothing
+-- some entry at the arc's start, extended by the arc, adds nothing
 abbrev pub Closes : List (Option Summary) → Arc → Type 0
 Closes row x = (r : ℕ) × (s : Summary) × (entry row x.from r ≡ Some s) × ((step x.action s).add ≡ 0)
 
--- some entry at b turns counters c into some at or before d
+-- some entry at b turns the counters c into counters at or before d
 abbrev pub SaysReaches : (ℕ → ℕ → Option Summary) → ℕ → List ℕ → List ℕ → Type 0
 SaysReaches row b c d = (r : ℕ) × (u : Summary) × (row b r ≡ Some u) × AtOrBefore (apply u c) d
 
--- what is held at b is for times of depth d, and b has depth e
+-- each summary held at b applies to times of depth d, and leaves e counters
 abbrev pub HeldFit : List (Option Summary) → ℕ → ℕ → ℕ → Type 0
 HeldFit row b d e = (r : ℕ) (s : Summary) → held row b r ≡ Some s → (s.keep ≤ d) × (s.keep + length s.constants ≡ e)
 
--- something is held at b
+-- some summary is held at b
 abbrev pub HoldsAny : List (Option Summary) → ℕ → Type 0
 HoldsAny row b = (r : ℕ) × (u : Summary) × (held row b r ≡ Some u)
 
--- something held at b turns counters c, outermost first, into some that are at most d
+-- some summary held at b turns the counters c, outermost first, into counters that are at most d
 abbrev pub SomeLeads : List (Option Summary) → ℕ → List ℕ → List ℕ → Type 0
 SomeLeads row b c d = (r : ℕ) × (u : Summary) × (held row b r ≡ Some u) × IsLexicallyAtMost (applied u c) d
 
--- the rows of the locations below n
+-- these are the rows of the locations below n, each with the least summaries
 abbrev pub AreLeast : {A : Type 0} → List ℕ → List Arc → List (Vec (Option Summary) A) → ℕ → Type 0
 AreLeast {A} depths arcs rows n =
     (length rows ≡ n)
     × ((a : ℕ) (d : Vec (Option Summary) A) → a < n → (length (slice_index_or rows a d).items ≡ length depths * keeps) × IsLeast depths arcs a (entry (slice_index_or rows a d).items))
 
--- an accepted graph, and the least summaries of its walks
+-- the graph is accepted, and the rows have the least summaries of its walks
 pub record IsTable {A : Type 0} (g : Dataflow) (rows : List (Vec (Option Summary) A)) : Type 0 where
   pub agree : DepthsAgree (depths g) (arcs g)
   pub deep : All (λ d. d ≤ max_depth) (depths g)
   pub accepted : Accepted (depths g) (arcs g)
   pub least : AreLeast (depths g) (arcs g) rows (length (depths g))
 
--- rows that hold the same
+-- the copies have the same items as the rows
 abbrev pub AreCopies : {A : Type 0} → List (Vec (Option Summary) A) → List (Vec (Option Summary) A) → Type 0
 AreCopies {A} rows copies = (length copies ≡ length rows) × ((a : ℕ) (d : Vec (Option Summary) A) → a < length rows → (slice_index_or copies a d).items ≡ (slice_index_or rows a d).items)
 
--- each thing held at b stands at the position of its keep
+-- each summary held at b is at the position for the number of counters that it keeps
 abbrev pub KeepsPlaces : List (Option Summary) → ℕ → Type 0
 KeepsPlaces row b = (r : ℕ) (s : Summary) → held row b r ≡ Some s → s.keep ≡ r
 
--- the list has all that is held at b for the keeps from low on, greatest keep first
+-- the list has all summaries held at b that keep at least low counters, the greatest number of kept counters first
 pub record IsListed (row : List (Option Summary)) (b low : ℕ) (list : List Summary) : Type 0 where
   pub short : length list + low ≤ keeps
   pub each : All (λ s. (low ≤ s.keep) × (held row b s.keep ≡ Some s)) list
