@@ -1,9 +1,9 @@
--- A change: an integer for each pointstamp, not 0 at finitely many of them, as a map of counts (`nd_map`).
---     none, at, set             no pointstamp; the integer of a pointstamp; the change with another integer at one pointstamp
---     plus, minus, part         pointwise, and cut to the pointstamps of a list
---     entries, size             the pointstamps that have one, with it, in the order of listing; how many
---     IsPartOf, IsApart         the entries of the one are entries of the other, or are at none of its pointstamps
---     same                      changes that answer alike are equal
+-- A change has an integer for each pointstamp, other than 0 at finitely many of them. It is a map of counts (`nd_map`).
+--     none, at, set             the change without entries; the integer at a pointstamp; another integer at one pointstamp
+--     plus, minus, part         the pointwise sum and difference; the entries at the pointstamps of a list
+--     entries, size             the pointstamps with an integer other than 0, each with its integer, in the order of listing; how many
+--     IsPartOf, IsApart         each entry of one change is an entry of the other; the two have no pointstamp in common
+--     same                      changes with the same integer at each pointstamp are equal
 use Rattle.std.specs.Prelude.{◌≡◌, ◌≢◌, ℕ, ℤ, pos, ◌+ℤ◌, ◌-ℤ◌, Bool, true, false, cond, List, [], length, Option, Some, refl, unsigned_abs, ◌+◌, ◌<◌, ◌≤◌}
 use Rattle.std.proofs.Common.{T, sym, arith}
 use Rattle.std.proofs.lemmas.Int.{ints}
@@ -17,7 +17,7 @@ use Rattle.nd_map.specs.Counts as counts
 use Rattle.nd_paths.specs.Point.{point_cmp, point_code, point_total, point_exact}
 use Rattle.nd_paths.specs.declared.point.Pointstamp.{Pointstamp}
 
--- an integer for each pointstamp; one with 0 is absent
+-- an integer for each pointstamp; a pointstamp with 0 has no entry
 abbrev pub DeltaValue : Type 0
 DeltaValue = Counts point_cmp integers
 
@@ -27,7 +27,7 @@ delta_code = counts.code point_code coded_ℤ
 abbrev pub or_zero : Option ℤ → ℤ
 or_zero x = or_else (pos 0) x
 
--- whether two pointstamps are one
+-- whether two pointstamps are equal
 abbrev pub is_point : Pointstamp → Pointstamp → Bool
 is_point p q = eq_by_cmp point_cmp p q
 
@@ -38,19 +38,19 @@ has_point q ks = list_any (is_point q) ks
 abbrev pub points_of : List (Pointstamp × ℤ) → List Pointstamp
 points_of es = keys_of es
 
--- the integer of a pointstamp
+-- the integer at the pointstamp q; 0 if q has no entry
 unfoldable pub at : DeltaValue → Pointstamp → ℤ
 at m q = counts.at m q
 
--- no pointstamp
+-- the change without entries
 unfoldable pub none : DeltaValue
 none = counts.none
 
--- the same but for one pointstamp
+-- the change m with the integer v at the pointstamp k
 unfoldable pub set : DeltaValue → Pointstamp → ℤ → DeltaValue
 set m k v = counts.set point_total m k v
 
--- the pointstamps that have an integer, and it, in the order of listing
+-- the pointstamps with an integer other than 0, each with its integer, in the order of listing
 unfoldable pub entries : DeltaValue → List (Pointstamp × ℤ)
 entries m = counts.entries m
 
@@ -58,7 +58,7 @@ entries m = counts.entries m
 abbrev pub size : DeltaValue → ℕ
 size m = length (entries m)
 
--- the change that a list of entries gives
+-- the change that has at each pointstamp the integer that a lookup in the list finds
 unfoldable pub of_entries : List (Pointstamp × ℤ) → DeltaValue
 of_entries es = counts.of_entries point_total es
 
@@ -79,7 +79,7 @@ combined false m n = plus m n
 pub part : DeltaValue → List Pointstamp → DeltaValue
 part m ks = counts.only point_total (λ q. has_point q ks) m
 
--- some integer is past the limit of the program
+-- some integer exceeds the limit of the program in absolute value
 abbrev pub IsTooLarge : DeltaValue → Type 0
 IsTooLarge m = (q : Pointstamp) × (max_count < unsigned_abs (at m q))
 
@@ -87,19 +87,19 @@ IsTooLarge m = (q : Pointstamp) × (max_count < unsigned_abs (at m q))
 abbrev pub IsWithin : DeltaValue → Type 0
 IsWithin m = (q : Pointstamp) → unsigned_abs (at m q) ≤ max_count
 
--- the entries of the one are entries of the other
+-- each entry of piece is an entry of m
 abbrev pub IsPartOf : DeltaValue → DeltaValue → Type 0
 IsPartOf piece m = (x : Pointstamp) → at piece x ≢ pos 0 → at m x ≡ at piece x
 
--- if the one has an entry the other has none
+-- m has no entry at a pointstamp at which piece has one
 abbrev pub IsApart : DeltaValue → DeltaValue → Type 0
 IsApart piece m = (x : Pointstamp) → at piece x ≢ pos 0 → at m x ≡ pos 0
 
--- no pointstamp has 0
+-- no pointstamp in the list has 0
 abbrev pub NoZeros : List (Pointstamp × ℤ) → Type 0
 NoZeros es = (q : Pointstamp) → find point_cmp q es ≢ Some (pos 0)
 
--- ---- the laws of counts, in these names
+-- ---- the laws of counts, for changes
 
 -- changes that have the same integer at each pointstamp are equal
 pub same : (m n : DeltaValue) → ((q : Pointstamp) → at m q ≡ at n q) → m ≡ n
@@ -129,12 +129,12 @@ pub at-part : (m : DeltaValue) (ks : List Pointstamp) (q : Pointstamp) → at (p
 unfolding at part
 at-part m ks q = counts.at-only point_total point_exact (λ p. has_point p ks) m q
 
--- what has no entry has 0
+-- a pointstamp without an entry has the integer 0
 pub at-absent : (m : DeltaValue) (q : Pointstamp) → has_point q (points_of (entries m)) ≡ false → at m q ≡ pos 0
 unfolding at entries
 at-absent m q e = counts.at-absent m q e
 
--- what has an entry has an integer
+-- a pointstamp with an entry has an integer other than 0
 pub at-present : (m : DeltaValue) (q : Pointstamp) → has_point q (points_of (entries m)) ≡ true → at m q ≢ pos 0
 unfolding at entries
 at-present m q e = counts.at-present m q e
@@ -147,7 +147,7 @@ pub of_entries-nil : of_entries [] ≡ none
 unfolding of_entries none
 of_entries-nil = counts.of_entries-nil integers point_total
 
--- entries in order and without zeros are those of their change
+-- entries in order and without zeros are the entries of their change
 pub entries-of_entries : (es : List (Pointstamp × ℤ)) → T (is_sorted point_cmp es) → NoZeros es → entries (of_entries es) ≡ es
 unfolding entries of_entries
 entries-of_entries es sorted some = counts.entries-of_entries integers point_total point_exact es sorted some
@@ -160,7 +160,7 @@ pub sorted-entries : (m : DeltaValue) → T (is_sorted point_cmp (entries m))
 unfolding entries
 sorted-entries m = counts.entries_listed m
 
--- an entry's integer is not 0
+-- the integer of an entry is not 0
 pub some-entry : (m : DeltaValue) (q : Pointstamp) (v : ℤ) → find point_cmp q (entries m) ≡ Some v → v ≢ pos 0
 unfolding entries
 some-entry m q v e = counts.some-entry m q v e
@@ -185,7 +185,7 @@ pub size-none : size none ≡ 0
 unfolding none entries
 size-none = counts.size-none point_cmp integers
 
--- ---- sums undone
+-- ---- undoing sums
 pub minus-plus : (m n : DeltaValue) → minus (plus m n) n ≡ m
 minus-plus m n = same _ _ (λ q. let d = at-minus (plus m n) n q in let e = at-plus m n q in omega (arith, ints, d, e))
 

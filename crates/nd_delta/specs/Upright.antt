@@ -10,11 +10,11 @@ IsSupported {P} R H f x = (y : P) × R y x × ((f y <ℤ pos 0) ⊎ H y)
 abbrev pub IsUpright : {P : Type 0} → (P → P → Type 0) → (P → Type 0) → (P → ℤ) → Type 0
 IsUpright {P} R H f = (x : P) → pos 0 <ℤ f x → IsSupported R H f x
 
--- f is positive at x, which is not supported
+-- f is positive at x, and x is not supported
 pub record IsUnsupported {P : Type 0} (R : P → P → Type 0) (H : P → Type 0) (f : P → ℤ) (x : P) : Type 0 where
   pub positive : pos 0 <ℤ f x
   pub alone : IsSupported R H f x → ⊥
 
--- a processor holds no points
+-- no point is held
 abbrev pub HoldsNothing : Pointstamp → Type 0
 HoldsNothing x = ⊥
