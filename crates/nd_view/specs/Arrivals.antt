@@ -1,5 +1,5 @@
--- The times that can still arrive at a location, by a view (this project's own rule; in timely
--- dataflow the frontier of a probe).
+-- The times that can still arrive at a location, according to a view (this project's own rule; in timely dataflow the frontier of
+-- a probe).
 use Rattle.std.specs.Prelude.{◌≡◌, ◌<◌, ℕ, ℤ, pos, ◌<ℤ◌, All, Contains, List, length, slice_index_or, ◌↔◌}
 use Rattle.std.specs.declared.cmp.Ordering.TheVariants.{Less}
 use Rattle.nd_time.specs.Time.{Time, IsAtOrBefore}
@@ -22,7 +22,7 @@ pub record IsFirstArrival (g : Dataflow) (v : DeltaValue) (x : ℕ) (t : Time) :
   pub arrives : CanArrive g v x t
   pub first : (u : Time) → CanArrive g v x u → IsAtOrBefore u t → u ≡ t
 
--- each time is listed before those that follow it: by epoch, then by counters
+-- the times are in the order of listing, by epoch, then by counters, and no time occurs twice
 abbrev pub AreRising : List Time → Type 0
 AreRising times =
     (i j : ℕ) (d : Time) → i < j → j < length times
@@ -48,13 +48,13 @@ AreApart times =
 
 -- ---- how they are found
 
--- walks turn the times of these entries into these times, and each time at x that one of the entries
--- could result in has one of these at or before it
+-- some walk turns the time of one of these entries into each of these times, and each time at x that one of the entries could
+-- result in has one of these at or before it
 pub record AreReached (g : Dataflow) (es : List (Pointstamp × ℤ)) (x : ℕ) (times : List Time) : Type 0 where
   pub each : All (λ t. (e : Pointstamp × ℤ) × Contains es e × TurnsInto g e.0 x t) times
   pub least : (e : Pointstamp × ℤ) → Contains es e → CoverAll g e.0 x times
 
--- their counters are equally many
+-- these times have the same number of counters
 abbrev pub HaveOneDepth : List Time → Type 0
 HaveOneDepth times =
     (s t : Time) → Contains times s → Contains times t → length s.counters ≡ length t.counters

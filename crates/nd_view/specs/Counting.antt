@@ -1,4 +1,4 @@
--- Counts as a whole: that are known, ready to be moved, or each its point's own; and lists that differ at one point.
+-- Lists of precursor counts: correct, or ready to be moved by one; and lists that differ at one point.
 use Rattle.std.specs.Prelude.{◌≡◌, ◌≢◌, ◌↔◌, ℕ, Bool, List, Contains}
 use Rattle.std.proofs.Common.{get_or}
 use Rattle.std.specs.FinMap.{find, put}
@@ -9,22 +9,22 @@ use Rattle.nd_delta.specs.Delta.{DeltaValue}
 use Rattle.nd_view.specs.View.{IsCount}
 use Rattle.nd_view.specs.Kept.{IsEarlier, IsKeptAt, IsReady}
 
--- t has this number of precursors whose epochs are below a number
+-- t has exactly count precursors whose epoch is below the given one
 abbrev pub AreEarlier : Dataflow → DeltaValue → Pointstamp → ℕ → ℕ → Type 0
 AreEarlier g m t below count = IsCount (IsEarlier g m t below) m count
 
--- each stored count is ready to be moved by one, since x came (up) or went
+-- each stored count is ready to be moved by one, because x became positive (up) or is no longer positive
 abbrev pub AreReady : Dataflow → DeltaValue → Pointstamp → Bool → List (Pointstamp × ℕ) → Type 0
 AreReady g m x up es = (q : Pointstamp) → IsReady g m x up q (find point_cmp q es)
 
--- each point has its own count
+-- the stored counts are correct: each positive point has its precursor count, and no other point has one
 abbrev pub AreCounted : Dataflow → DeltaValue → List (Pointstamp × ℕ) → Type 0
 AreCounted g m es = (q : Pointstamp) → IsKeptAt g m q (find point_cmp q es)
 
--- the entry at an index has the number n
+-- the new list is the old one with the number n in the entry at index
 abbrev pub IsPutAt : ℕ → ℕ → List (Pointstamp × ℕ) → List (Pointstamp × ℕ) → Type 0
 IsPutAt index n old new = (d : Pointstamp × ℕ) → new ≡ put point_cmp (get_or old index d).0 n old
 
--- two lists have the same points but for x
+-- two lists have the same points, except for x
 abbrev pub AreSameBut : Pointstamp → List Pointstamp → List Pointstamp → Type 0
 AreSameBut x old new = (q : Pointstamp) → q ≢ x → (Contains new q ↔ Contains old q)

@@ -1,4 +1,4 @@
--- Precursor counts are settled by the map: two views of one graph are equal if their maps are.
+-- The map determines the precursor counts: two views of one graph are equal if their maps are.
 use Rattle.std.proofs.Common.{◌≡◌, ℕ, Option, Some, None, refl, sym, ap, subst, ◌∙◌, inl, inr}
 use Rattle.std.specs.FinMap.{find}
 use Rattle.std.specs.FinMap.Entries.{same_entries}

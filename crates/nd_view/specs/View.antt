@@ -1,4 +1,4 @@
--- What a view tells: passed points, blockers, precursors and the frontier (Naiad, SOSP 2013, section 2.3).
+-- What a view says: passed points, blockers, precursors and the frontier (Naiad, SOSP 2013, section 2.3).
 use Rattle.std.specs.Prelude.{◌≡◌, ◌≢◌, ℕ, pos, ◌<ℤ◌, Bool, true, false}
 use Rattle.nd_graph.specs.Graph.{Dataflow}
 use Rattle.nd_paths.specs.Order.{CouldResultIn, IsStrictlyBefore}
@@ -24,26 +24,26 @@ pub record IsOnFrontier (g : Dataflow) (v : DeltaValue) (x : Pointstamp) : Type 
   pub positive : pos 0 <ℤ at v x
   pub first : (y : Pointstamp) → IsPrecursor g v x y → ⊥
 
--- x is strictly before t, or at or before it
+-- x is strictly before t (true), or at or before t (false)
 abbrev pub IsBefore : Dataflow → Bool → Pointstamp → Pointstamp → Type 0
 IsBefore g true x t = IsStrictlyBefore g x t
 IsBefore g false x t = CouldResultIn g x t
 
--- x is positive, and before t: a precursor, or a blocker
+-- x is positive, and before t in this sense: a precursor, or a blocker
 pub record IsPositiveBefore (g : Dataflow) (v : DeltaValue) (strictly : Bool) (t x : Pointstamp) : Type 0 where
   pub positive : pos 0 <ℤ at v x
   pub before : IsBefore g strictly x t
 
--- nothing positive is strictly before t, or at or before it
+-- nothing positive is strictly before t (true), or at or before t (false)
 abbrev pub IsPassedBefore : Dataflow → Bool → DeltaValue → Pointstamp → Type 0
 IsPassedBefore g true v t = (x : Pointstamp) → IsPrecursor g v t x → ⊥
 IsPassedBefore g false v t = IsPassed g v t
 
--- f is the part of v at the points of the kind P
+-- f is the part of v at the points that satisfy P
 pub record IsPartWhere (P : Pointstamp → Type 0) (v f : DeltaValue) : Type 0 where
   pub all : (x : Pointstamp) → P x → at f x ≡ at v x
   pub only : (x : Pointstamp) → at f x ≢ pos 0 → P x
 
--- v has entries at n points of the kind P
+-- exactly n points that satisfy P have an entry in v
 abbrev pub IsCount : (Pointstamp → Type 0) → DeltaValue → ℕ → Type 0
 IsCount P v n = (f : DeltaValue) × IsPartWhere P v f × (size f ≡ n)

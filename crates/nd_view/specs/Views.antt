@@ -1,8 +1,8 @@
--- Several views of one graph: what one who holds them needs of them.
---     maps, AreFor              their maps;  the precursor counts of each are those of the graph
---     maps-get, maps-set        the map of one of them, and of one that another takes the place of
---     for_set                   the views stay those of the graph if one is written
---     same_all                  they are equal if their maps are
+-- Several views of one graph: facts for the code that stores them in a list.
+--     maps, AreFor              their maps;  the precursor counts of each view are those of the graph
+--     maps-get, maps-set        the map of one view, and the maps after one view is replaced
+--     for_set                   the counts are still those of the graph after one view is replaced
+--     same_all                  the lists are equal if their maps are
 use Rattle.std.proofs.Common.{◌≡◌, ◌<◌, ℕ, zero, suc, List, [], ◌∷◌, length, map, get_or, set, refl, ap, sym, ◌∙◌, arith}
 use Rattle.std.specs.Prelude.{All}
 use Rattle.std.proofs.lemmas.List.{get_or-map}
@@ -11,7 +11,7 @@ use Rattle.nd_delta.specs.Delta.{DeltaValue}
 use Rattle.nd_view.specs.Kept.{Kept, IsFor}
 use Rattle.nd_view.specs.Settled.{same_views}
 
--- the maps of views, without what is stored beside them
+-- the maps of views, without their precursor counts
 abbrev pub maps : List Kept → List DeltaValue
 maps vs = map (λ v. v.map) vs
 
