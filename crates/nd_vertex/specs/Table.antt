@@ -62,13 +62,13 @@ reacted Distinct items t v =
 -- any other operator has no items
 reacted op items t v = (plain_emissions op v, items)
 
--- on a record; whether the vertex makes a request and counts depends on the operator only
+-- what a vertex does on a record of value v at timestamp t; whether it makes a request or counts depends on the operator only
 abbrev pub on_record : Op → Items → Time → ℤ → Outcome
 on_record op items t v =
     let reaction = reacted op items t v in
     record { emissions = reaction.0; items = reaction.1; asks = (facts op).asks; counts = (facts op).counts }
 
--- on a notification at timestamp t
+-- what a vertex does on a notification at timestamp t
 abbrev pub on_notice : Op → Items → Time → Outcome
 on_notice Sum items t =
     let sum = at items (item_key t (pos 0)) in
