@@ -27,27 +27,27 @@ token_points q = map (λ e. token_point e.0 e.1) (fin.entries q.tokens)
 
 -- ---- items
 
--- what the vertices keep, with another number for one item of a vertex
+-- the items of all vertices, with another number for one item of a vertex
 abbrev pub with_vertex_item : List Items → ℕ → ItemKey → Option ℤ → List Items
 with_vertex_item items vertex k n = slice_set items vertex (with_item (slice_index_or items vertex no_items) k n)
 
 -- ---- what is unsent
 
--- an integer more at a pointstamp
+-- the change m with n added at the pointstamp x
 abbrev pub more_unsent : DeltaValue → Pointstamp → ℤ → DeltaValue
 more_unsent m x n = set m x (at m x +ℤ n)
 
 -- ---- a processor with one edit
 
--- n fewer, as an integer to add
+-- the integer that subtracts n when it is added
 abbrev pub less : ℕ → ℤ
 less n = neg_ℤ (pos n)
 
--- n more would take a count past its limit
+-- adding n to the count would exceed the limit
 abbrev pub IsTooMany : ℕ → ℕ → Type 0
 IsTooMany count n = max_count < count + n
 
--- an integer more of the records of a key, and of a value at a sink
+-- the state with n added to the number of records of the key k
 abbrev pub with_records : ProcessorState → ValueAt → ℤ → ProcessorState
 with_records q k n = record q { records = added value_at_total q.records k n }
 
@@ -59,7 +59,7 @@ with_counted q vertex value n = record q { sinks = added sink_total q.sinks (rec
 abbrev pub counted_at : ProcessorState → ℕ → ℤ → ℕ
 counted_at q vertex value = count_at q.sinks (record { vertex = vertex; value = value })
 
--- a request more, or one fewer
+-- the state with the request x
 abbrev pub with_request : ProcessorState → Pointstamp → ProcessorState
 with_request q x = record q { requests = fin.insert q.requests x tt }
 
@@ -67,7 +67,7 @@ with_request q x = record q { requests = fin.insert q.requests x tt }
 abbrev pub without_request : ProcessorState → Pointstamp → ProcessorState
 without_request q x = record q { requests = fin.remove q.requests x }
 
--- a request that came, and was not there, is taken back; one that went, and was there, is given back
+-- if old does not have the request x, then new without x is old
 abbrev pub ComesBack : ProcessorState → ProcessorState → Pointstamp → Type 0
 ComesBack old new x = fin.get old.requests x ≡ None → without_request new x ≡ old
 
@@ -75,7 +75,7 @@ ComesBack old new x = fin.get old.requests x ≡ None → without_request new x 
 abbrev pub GoesBack : ProcessorState → ProcessorState → Pointstamp → Type 0
 GoesBack old new x = fin.get old.requests x ≡ Some tt → with_request new x ≡ old
 
--- another epoch of a token, and another number of an item
+-- the state with another epoch for the token of a vertex; None removes the token
 abbrev pub with_token : ProcessorState → ℕ → Option ℕ → ProcessorState
 with_token q vertex epoch = record q { tokens = with_value q.tokens vertex epoch }
 
@@ -83,7 +83,7 @@ with_token q vertex epoch = record q { tokens = with_value q.tokens vertex epoch
 abbrev pub with_number : ProcessorState → ℕ → Time → ℤ → Option ℤ → ProcessorState
 with_number q vertex t item n = record q { items = with_vertex_item q.items vertex (item_key t item) n }
 
--- an integer more of what is unsent at a pointstamp, and whether that would be past the limit
+-- the state with n added to what is unsent at x
 abbrev pub with_more_unsent : ProcessorState → Pointstamp → ℤ → ProcessorState
 with_more_unsent q x n = record q { unsent = more_unsent q.unsent x n }
 
@@ -99,7 +99,7 @@ HasUnsent q x = at q.unsent x ≢ pos 0
 abbrev pub IsUnsentTooLarge : ProcessorState → Pointstamp → ℤ → Type 0
 IsUnsentTooLarge q x n = max_count < unsigned_abs (at q.unsent x +ℤ n)
 
--- what is unsent with a part more, or without it
+-- the state with a part added to what is unsent
 abbrev pub with_part : ProcessorState → DeltaValue → ProcessorState
 with_part q part = record q { unsent = plus q.unsent part }
 

@@ -21,11 +21,11 @@ use Rattle.nd_processor.specs.Edits.{with_value, with_vertex_item, more_unsent}
 -- ---- counts
 
 module _ {K : Type 0} {R : K → K → Ordering} (o : IsTotalOrder R) (tells : fin.IsAntisymmetric R) where
-  -- what was added is taken away
+  -- subtracting what was added restores the counts
   pub more-back : (m : Counts R naturals) (k : K) (n : ℕ) → added o (added o m k (pos n)) k (neg_ℤ (pos n)) ≡ m
   more-back m k n = added-back o tells m k (pos n) refl
 
-  -- what was taken away is added
+  -- adding what was subtracted restores the counts
   pub less-back : (m : Counts R naturals) (k : K) (n : ℕ) → n ≤ count_at m k → added o (added o m k (neg_ℤ (pos n))) k (pos n) ≡ m
   less-back m k n h =
       let fits : pos (natural (pos (count_at m k) +ℤ neg_ℤ (pos n))) ≡ pos (count_at m k) +ℤ neg_ℤ (pos n)
@@ -42,7 +42,7 @@ module _ {K X : Type 0} {R : K → K → Ordering} (o : IsTotalOrder R) where
   get-with_value m k None q = fin.get-remove o m k q
   get-with_value m k (Some v) q = fin.get-insert o m k v q
 
-  -- the old value is given back
+  -- writing the old value back restores the map
   pub value-back : fin.IsAntisymmetric R → (m : fin.FinMap R X) (k : K) (old new : Option X) → fin.get m k ≡ old → with_value (with_value m k new) k old ≡ m
   value-back tells m k old new is =
       fin.same_map o tells _ _ (λ q.
@@ -54,7 +54,7 @@ item_number (pos zero) = refl
 item_number (pos (suc n)) = refl
 item_number (negsuc n) = refl
 
--- an item's old number is given back
+-- writing an item's old number back restores the items
 pub item-back : (m : Items) (k : ItemKey) (old new : Option ℤ) → item_of m k ≡ old → with_item (with_item m k new) k old ≡ m
 item-back m k old new is = set-back item_total item_exact m k (number_of new) (number_of old) (ap number_of (sym is) ∙ item_number (count_at m k))
 

@@ -1,6 +1,6 @@
--- How each edit of a processor moves what is outstanding in it.
---     in_records-.., in_requests-.., in_tokens-..       an edit of one map
---     held-..                   the same of a processor
+-- How each edit of a processor changes what is outstanding in it.
+--     in_records-..., in_requests-..., in_tokens-...       an edit of one map
+--     held-...                  the same for a processor
 use Rattle.std.specs.Prelude.{◌≡◌, ◌⊎◌, ◌≤◌, ℕ, ◌+◌, ◌-◌, pos, ◌+ℤ◌, neg_ℤ, Bool, true, false, cond, List, [], ◌∷◌, map, Option, Some, None, sum_by, refl}
 use Rattle.std.proofs.Common.{Ordering, inl, inr, sym, ap, ◌∙◌, arith}
 use Rattle.std.proofs.lemmas.Int.{ints}
@@ -22,7 +22,7 @@ use Rattle.nd_processor.specs.State.{ProcessorState, Requests, token_point, one_
 use Rattle.nd_processor.specs.declared.key.ValueAt.{ValueAt}
 use Rattle.nd_processor.specs.Held.{many_at, token_at}
 
--- a pointstamp is another, or there is nothing of the other at it
+-- two pointstamps are equal, or the second counts nothing at the first
 pub point_cases : (x k : Pointstamp) → (x ≡ k) ⊎ (one_at k x ≡ 0)
 point_cases x k =
     elim (is_point x k) as (λ b. is_point x k ≡ b → (x ≡ k) ⊎ (one_at k x ≡ 0)) [
@@ -38,7 +38,7 @@ one_at_itself k = ap (λ r. cond (is_eq r) 1 0) (tied_itself point_total k)
 pub nothing_at : (p x : Pointstamp) → many_at p 0 x ≡ 0
 nothing_at p x = elim (is_point x p) as (λ b. ◌≡◌ {A = ℕ} (cond b 0 0) 0) [ true ↦ refl | false ↦ refl ]
 
--- a record's number is another
+-- the number of records of a key is replaced
 pub in_records-set : (m : Counts value_at_cmp naturals) (k : ValueAt) (n : ℕ) (x : Pointstamp)
     → in_records (set value_at_total m k n) x + many_at k.point (at m k) x ≡ in_records m x + many_at k.point n x
 in_records-set m k n x = weight-set value_at_total value_at_exact (λ (j : ValueAt) i. cond (is_point x j.point) i 0) m k n (nothing_at k.point x)
@@ -47,7 +47,7 @@ by_more : (b : Bool) (o p a n : ℕ) → o + cond b a 0 ≡ p + cond b (a + n) 0
 by_more true o p a n e = omega arith
 by_more false o p a n e = omega arith
 
--- n records more
+-- n records are added
 pub in_records-added : (m : Counts value_at_cmp naturals) (k : ValueAt) (n : ℕ) (x : Pointstamp) → in_records (added value_at_total m k (pos n)) x ≡ in_records m x + many_at k.point n x
 in_records-added m k n x = by_more (is_point x k.point) (in_records (added value_at_total m k (pos n)) x) (in_records m x) (at m k) n (in_records-set m k (natural (pos (at m k) +ℤ pos n)) x)
 
@@ -58,7 +58,7 @@ by_less false o p a n h e = omega arith
 pub natural-less : (a n : ℕ) → n ≤ a → natural (pos a +ℤ neg_ℤ (pos n)) ≡ a - n
 natural-less a n h = let e : pos a +ℤ neg_ℤ (pos n) ≡ pos (a - n) = omega (arith, ints) in ap natural e
 
--- n records fewer
+-- n records are removed
 pub in_records-taken : (m : Counts value_at_cmp naturals) (k : ValueAt) (n : ℕ) (x : Pointstamp) → n ≤ at m k
     → in_records (added value_at_total m k (neg_ℤ (pos n))) x + many_at k.point n x ≡ in_records m x
 in_records-taken m k n x h =
@@ -100,25 +100,25 @@ requested s k x =
     let c : weight f (fin.entries (fin.insert s k tt)) + weight_at f k (fin.get s k) ≡ weight f (fin.entries s) + one_at k x = weight-insert point_cmp point_total point_exact f s k tt in
     omega arith
 
--- a request is made that was not there
+-- a request is added that was not there
 pub in_requests-insert : (s : Requests) (k x : Pointstamp) → fin.get s k ≡ None → in_requests (fin.insert s k tt) x ≡ in_requests s x + one_at k x
 in_requests-insert s k x absent =
     let c = requested s k x in
     let d : weight_at (λ j (u : Unit {0}). one_at j x) k (fin.get s k) ≡ 0 = ap (weight_at (λ j (u : Unit {0}). one_at j x) k) absent in
     omega arith
 
--- a request is made, whether or not it was there
+-- a request is added, whether or not it was there
 pub in_requests-insert_le : (s : Requests) (k x : Pointstamp) → in_requests (fin.insert s k tt) x ≤ in_requests s x + one_at k x
 in_requests-insert_le s k x = let c = requested s k x in omega arith
 
--- asking again for a notice that was asked for adds nothing
+-- adding a request that is already there changes nothing
 pub in_requests-again : (s : Requests) (k x : Pointstamp) → fin.get s k ≡ Some tt → in_requests (fin.insert s k tt) x ≡ in_requests s x
 in_requests-again s k x found =
     let c = requested s k x in
     let d : weight_at (λ j (u : Unit {0}). one_at j x) k (fin.get s k) ≡ one_at k x = ap (weight_at (λ j (u : Unit {0}). one_at j x) k) found in
     omega arith
 
--- a request goes
+-- a request is removed
 pub in_requests-remove : (s : Requests) (k x : Pointstamp) → fin.get s k ≡ Some tt → in_requests (fin.remove s k) x + one_at k x ≡ in_requests s x
 in_requests-remove s k x found =
     let f = λ (j : Pointstamp) (u : Unit {0}). one_at j x in
@@ -132,13 +132,13 @@ token_weighs : (v : ℕ) (e : Option ℕ) (x : Pointstamp) → weight_at (λ w n
 token_weighs v None x = refl
 token_weighs v (Some e) x = refl
 
--- a token comes, or is at another epoch
+-- a token is added, or moved to another epoch
 pub in_tokens-insert : (m : fin.FinMap nat_cmp ℕ) (v e : ℕ) (x : Pointstamp) → in_tokens (fin.insert m v e) x + token_at v (fin.get m v) x ≡ in_tokens m x + token_at v (Some e) x
 in_tokens-insert m v e x =
     ap (λ n. in_tokens (fin.insert m v e) x + n) (sym (token_weighs v (fin.get m v) x))
     ∙ weight-insert nat_cmp nat_cmp_total fin.nat_cmp-IsAntisymmetric (λ w n. one_at (token_point w n) x) m v e
 
--- a token goes
+-- a token is removed
 pub in_tokens-remove : (m : fin.FinMap nat_cmp ℕ) (v : ℕ) (x : Pointstamp) → in_tokens (fin.remove m v) x + token_at v (fin.get m v) x ≡ in_tokens m x
 in_tokens-remove m v x =
     ap (λ n. in_tokens (fin.remove m v) x + n) (sym (token_weighs v (fin.get m v) x))

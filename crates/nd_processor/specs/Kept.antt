@@ -1,4 +1,4 @@
--- What a processor keeps, as lists of entries, and the state that it is seen as.
+-- What a processor stores, as lists of entries, and the state that these lists represent.
 use Rattle.std.specs.Prelude.{◌≢◌, ◌≤◌, ℕ, ◌+◌, ◌-◌, cond, FitsSigned, List, nat_eq}
 use mir.Syntax.{w64}
 use Rattle.std.specs.declared.cmp.Ordering.{Ordering}
@@ -22,23 +22,23 @@ pub record IsCount (n : ℕ) : Type 0 where
   pub some : n ≢ 0
   pub within : n ≤ max_count
 
--- entries in the order of listing, each with a count
+-- entries in the order of listing, each with such a count
 abbrev pub IsKept : {K : Type 0} → (K → K → Ordering) → List (K × ℕ) → Type 0
 IsKept R es = stored.IsKept R (λ _. IsCount) es
 
--- records, each of a value of 64 bits
+-- records, each with a value of 64 bits
 pub record AreRecords (es : List (ValueAt × ℕ)) : Type 0 where
   pub values : stored.EachIs value_at_cmp (λ k _. FitsSigned w64 k.value) es
 
--- the count that is found at a key
+-- the count that a lookup finds at the key k; 0 if it finds nothing
 abbrev pub number : {K : Type 0} → (K → K → Ordering) → List (K × ℕ) → K → ℕ
 number R es k = or_else 0 (find R k es)
 
--- the entries with another count of a key; of 0 there is no entry
+-- the entries with the count n at the key k; a count of 0 has no entry
 abbrev pub put_count : {K : Type 0} → (K → K → Ordering) → K → ℕ → List (K × ℕ) → List (K × ℕ)
 put_count R k n es = cond (nat_eq n 0) (without R k es) (put R k n es)
 
--- the entries with n more of a key, and with n fewer
+-- the entries with n added to the count at the key k; `put_fewer` subtracts n
 abbrev pub put_more : {K : Type 0} → (K → K → Ordering) → K → ℕ → List (K × ℕ) → List (K × ℕ)
 put_more R k n es = put_count R k (number R es k + n) es
 
@@ -49,7 +49,7 @@ put_fewer R k n es = put_count R k (number R es k - n) es
 abbrev pub from_to : {K : Type 0} → (K → K → Ordering) → K → K → List (K × ℕ) → List (K × ℕ)
 from_to R first last es = entries_between R (Included first) (Included last) es
 
--- the state of a processor that keeps these
+-- the state of a processor that stores these lists
 abbrev pub seen : List (ValueAt × ℕ) → List (Pointstamp × Unit {0}) → List (ℕ × ℕ) → List Items → List (SinkKey × ℕ) → DeltaValue → ProcessorState
 seen records requests tokens items sinks unsent =
     record {

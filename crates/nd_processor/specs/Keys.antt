@@ -13,15 +13,15 @@ use Rattle.nd_paths.specs.declared.point.Pointstamp.{Pointstamp}
 use Rattle.nd_processor.specs.declared.key.ValueAt.{ValueAt}
 use Rattle.nd_processor.specs.declared.key.SinkKey.{SinkKey}
 
--- by pointstamp, then by value
+-- the order of records: by pointstamp, then by value
 abbrev pub value_at_cmp : ValueAt → ValueAt → Ordering
 value_at_cmp a b = ordering_then (point_cmp a.point b.point) (int_cmp a.value b.value)
 
--- by vertex, then by value
+-- the order of the counts of sinks: by vertex, then by value
 abbrev pub sink_cmp : SinkKey → SinkKey → Ordering
 sink_cmp a b = ordering_then (nat_cmp a.vertex b.vertex) (int_cmp a.value b.value)
 
--- as numbers
+-- keys encoded as numbers
 abbrev pub value_at_code : Coded ValueAt
 value_at_code = code_by (Pointstamp × ℤ) (coded× point_code coded_ℤ) (λ k. (k.point, k.value)) (λ p. record { point = p.0; value = p.1 }) (λ _. refl)
 
@@ -34,7 +34,7 @@ value_at_total = then_total (on_total (λ k. k.point) point_total) (on_total (λ
 pub sink_total : IsTotalOrder sink_cmp
 sink_total = then_total (on_total (λ k. k.vertex) nat_cmp_total) (on_total (λ k. k.value) int_cmp_total)
 
--- keys that compare alike are one
+-- keys that compare as equal are equal
 pub value_at_exact : IsAntisymmetric value_at_cmp
 value_at_exact a b h = ap (λ (p : Pointstamp × ℤ). record { point = p.0; value = p.1 }) (exact_pairs point_cmp int_cmp point_exact exact_signed (a.point, a.value) (b.point, b.value) h)
 

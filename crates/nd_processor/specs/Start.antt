@@ -1,4 +1,4 @@
--- A processor at the start of a cluster: each input's token at epoch 0, and all else empty (FORTE 2013).
+-- A processor in the initial state of a cluster: each input's token is at epoch 0, and everything else is empty (FORTE 2013).
 use Rattle.std.specs.Prelude.{ℕ, ◌+◌, List, [], ◌∷◌, length, replicate, if◌then◌else◌}
 use Rattle.std.specs.FinMap as fin
 use Rattle.std.specs.Ordering.{nat_cmp}
@@ -8,11 +8,11 @@ use Rattle.nd_graph.specs.Checked.{is_input}
 use Rattle.nd_graph.specs.declared.graph.Vertex.{Vertex}
 use Rattle.nd_processor.specs.State.{ProcessorState, idle}
 
--- each input among vertices, of which the first is the location l, with epoch 0
+-- a token at epoch 0 for each input among these vertices, the first of which is location l
 abbrev pub first_tokens : ℕ → List Vertex → fin.FinMap nat_cmp ℕ
 first_tokens l [] = fin.empty
 first_tokens l (v ∷ vertices) = let rest = first_tokens (l + 1) vertices in if is_input v.op then fin.insert rest l 0 else rest
 
--- its tokens alone, and nothing stored for any vertex
+-- a processor that has only its first tokens; no vertex has items
 abbrev pub start_processor : Dataflow → ProcessorState
 start_processor g = record idle { tokens = first_tokens 0 g.vertices; items = replicate (length g.vertices) none }

@@ -13,30 +13,30 @@ use Rattle.nd_vertex.specs.Items.{Items, items_code}
 use Rattle.nd_processor.specs.Keys.{value_at_cmp, sink_cmp, value_at_code, sink_code}
 use Rattle.nd_processor.specs.declared.key.ValueAt.{ValueAt}
 
--- pointstamps at which a notice was asked for
+-- the pointstamps of requests: for a notification, or to hold a capability
 abbrev pub Requests : Type 0
 Requests = fin.FinMap point_cmp (Unit {0})
 
--- one processor: no map but that of the tokens, whose epochs may be 0, holds a 0
+-- the state of one processor; no map contains a 0, except for the epochs of tokens
 pub record ProcessorState : Type 0 where
-  -- how many records of each value there are at each edge's pointstamp
+  -- the number of records of each value at each pointstamp of an edge
   pub records : Counts value_at_cmp naturals
-  -- the pointstamps of vertices at which a notice was asked for
+  -- the pointstamps of vertices at which there is a request
   pub requests : Requests
   -- the epoch of each input vertex that is open
   pub tokens : fin.FinMap nat_cmp ℕ
-  -- what each vertex keeps
+  -- the items of each vertex
   pub items : List Items
-  -- how many records of each value each sink vertex has counted
+  -- how often each sink vertex has counted each value
   pub sinks : Counts sink_cmp naturals
-  -- the progress updates that were not sent yet
+  -- the progress updates that are not yet sent
   pub unsent : DeltaValue
 
--- a processor with nothing in it
+-- a processor in which everything is empty
 abbrev pub idle : ProcessorState
 idle = record { records = no_counts; requests = fin.empty; tokens = fin.empty; items = []; sinks = no_counts; unsent = none }
 
--- what the vertex at a location keeps
+-- the items of the vertex at a location
 abbrev pub items_at : ProcessorState → ℕ → Items
 items_at q vertex = slice_index_or q.items vertex no_counts
 
@@ -50,7 +50,7 @@ token_point vertex epoch = record { location = vertex; time = record { epoch = e
 abbrev pub one_at : Pointstamp → Pointstamp → ℕ
 one_at p x = cond (is_point x p) 1 0
 
--- how many records, requests and tokens there are at a pointstamp
+-- the number of records at the pointstamp x; `in_requests` and `in_tokens` are the same for requests and tokens
 abbrev pub in_records : Counts value_at_cmp naturals → Pointstamp → ℕ
 in_records m x = weight (λ (k : ValueAt) n. cond (is_point x k.point) n 0) (entries m)
 
