@@ -19,7 +19,7 @@ without_newest q = take (length q - 1) q
 abbrev pub without_oldest : List DeltaValue → List DeltaValue
 without_oldest q = drop 1 q
 
--- the queue contains as many changes as it may
+-- the queue contains as many changes as the limit allows
 abbrev pub IsFull : List DeltaValue → Type 0
 IsFull q = max_queue ≤ length q
 
@@ -37,7 +37,7 @@ row m from = slice_index_or m from []
 abbrev pub queue : List (List (List DeltaValue)) → ℕ → ℕ → List DeltaValue
 queue m from to = slice_index_or (row m from) to []
 
--- the same queues except for one
+-- the queues with q as the queue from one processor to another
 abbrev pub with_queue : List (List (List DeltaValue)) → ℕ → ℕ → List DeltaValue → List (List (List DeltaValue))
 with_queue m from to q = slice_set m from (slice_set (row m from) to q)
 
