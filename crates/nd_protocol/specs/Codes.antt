@@ -1,4 +1,4 @@
--- Steps as numbers, so that a model's value can hold them.
+-- Steps encoded as numbers, so that the value of a model can contain steps.
 use Rattle.std.specs.Prelude.{◌≡◌, ℕ, zero, suc, ℤ, ◌⊎◌, List, Option, None, Some, refl}
 use Rattle.std.proofs.Common.{inl, inr, ap}
 use Rattle.std.specs.Coded.{Coded, code_by, coded×, coded⊎, coded_ℕ, coded_ℤ, coded_list, coded_option}

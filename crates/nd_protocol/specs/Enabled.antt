@@ -1,4 +1,5 @@
--- When a step is enabled, and else why it is refused: by the condition of least number (this project's own rule).
+-- When a step is enabled, and with which refusal it is refused otherwise: that of the least number whose condition holds (this
+-- project's own rule).
 use Rattle.std.specs.Prelude.{◌≡◌, ◌≢◌, ℕ, ◌<◌, ◌≤◌, ◌⊎◌, ℤ, List, [], ◌∷◌, length, All, None, unsigned_abs, FitsSigned}
 use Rattle.std.specs.Int.{w64}
 use Rattle.std.specs.FinMap as fin
@@ -32,24 +33,24 @@ use Rattle.nd_protocol.specs.declared.step.Next.TheVariants as token
 use Rattle.nd_protocol.specs.declared.refusal.Refusal.{Refusal}
 use Rattle.nd_protocol.specs.declared.refusal.Refusal.TheVariants.{NoProcessor, NoVertex, NoEdge, NotInput, InputClosed, TooManyValues, EpochFull, NoRecord, NoRequest, NotYet, CounterFull, ValueRange, CountFull, DeltaFull, NothingToSend, NotAdmissible, QueueEmpty, QueueFull, NotNotified, NotLater}
 
--- the count of a record or of a sink is past the limit
+-- the count of a record or of a sink exceeds its limit
 pub data HasLargeCount (s : ClusterState) : Type 0 where
   of_record : (p : ℕ) (k : ValueAt) → max_count < at (processor s p).records k → HasLargeCount s
   of_sink : (p : ℕ) (k : SinkKey) → max_count < at (processor s p).sinks k → HasLargeCount s
 
--- an entry of an unsent change or of a view is past the limit
+-- an entry of an unsent change or of a view exceeds its limit
 pub data HasLargeEntry (s : ClusterState) : Type 0 where
   of_unsent : (p : ℕ) (x : Pointstamp) → max_count < unsigned_abs (in_change (processor s p).unsent x) → HasLargeEntry s
   of_view : (q : ℕ) (x : Pointstamp) → max_count < unsigned_abs (in_change (view s q) x) → HasLargeEntry s
 
--- all that a vertex emits or keeps is in the range of 64 bits
+-- every value that a vertex emits, and the number of every item, fits 64 bits
 pub record IsInRange (o : Outcome) : Type 0 where
   pub emissions : All (λ e. FitsSigned w64 e.1) o.emissions
   pub items : (k : ItemKey) → FitsSigned w64 (at o.items k)
 
 -- ---- the conditions of each kind of step, by number
 
--- a token would go to an epoch that is not above its own
+-- the token would move to an epoch that is not greater than its own
 abbrev pub GoesBack : Afterwards → ℕ → Type 0
 GoesBack (token.To n) epoch = n ≤ epoch
 GoesBack _ epoch = ⊥
@@ -86,7 +87,7 @@ NoticeFails s p vertex t new DeltaFull = HasLargeEntry new
 NoticeFails s p vertex t new NotNotified = op_at s.graph vertex ≡ op.Hold
 NoticeFails s p vertex t new _ = ⊥
 
--- (no count rises, so that 13 never holds)
+-- the conditions of a release; no count grows, so that of refusal 13 never holds
 abbrev pub ReleaseFails : ClusterState → ℕ → ℕ → Times → ClusterState → Refusal → Type 0
 ReleaseFails s p vertex times new NoProcessor = length s.processors ≤ p
 ReleaseFails s p vertex times new NoVertex = length s.graph.vertices ≤ vertex
@@ -100,7 +101,8 @@ ReleaseFails s p vertex times new _ = ⊥
 abbrev pub HasFullQueue : ClusterState → ℕ → Type 0
 HasFullQueue s p = (q : ℕ) × (q < length s.processors) × (max_queue ≤ length (queue s p q))
 
--- c is the part that p would send; what stays is not supported at the point of refusal 16
+-- the conditions of a broadcast; c is the part that p would send, and x of refusal 16 is the least pointstamp at which what stays
+-- is not supported
 abbrev pub BroadcastFails : ClusterState → ℕ → DeltaValue → Refusal → Type 0
 BroadcastFails s p c NoProcessor = length s.processors ≤ p
 BroadcastFails s p c NothingToSend = c ≡ none
@@ -114,7 +116,7 @@ ReceiveFails s from to new DeltaFull = HasLargeEntry new
 ReceiveFails s from to new QueueEmpty = queue s from to ≡ []
 ReceiveFails s from to new _ = ⊥
 
--- the condition of a refusal holds
+-- the condition of the refusal r holds
 abbrev pub Fails : {A : Type 0} → ClusterState → Step A → Refusal → Type 0
 Fails {A} s (Feed p vertex values next) r = FeedFails s p vertex values next (stepped {A = A} s (Feed p vertex values next)) r
 Fails {A} s (Take p edge t value) r = TakeFails s p edge t value (stepped {A = A} s (Take p edge t value)) r
@@ -123,37 +125,38 @@ Fails {A} s (Release p vertex times) r = ReleaseFails s p vertex times (stepped 
 Fails {A} s (Broadcast p part) r = BroadcastFails s p (chosen part (processor s p).unsent) r
 Fails {A} s (Receive from to) r = ReceiveFails s from to (stepped {A = A} s (Receive from to)) r
 
--- what supports each entry that a broadcast leaves; a released capability goes, or moves to a later time
+-- what p does not send is upright; a released capability ends, or moves to a later time
 abbrev pub IsAdmissible : {A : Type 0} → ClusterState → Step A → Type 0
 IsAdmissible s (Broadcast p part) = StaysUpright s p (chosen part (processor s p).unsent)
 IsAdmissible s (Release p vertex times) = GoesLater times.time times.to
 IsAdmissible s _ = Unit {0}
 
--- no condition holds; those of refusals 16 and 54 do not, since each entry that stays has its support and no capability moves back;
--- and the numbers of the step fit their types, as those of each step that a program holds do
+-- no condition of a refusal holds, and the numbers of the step fit their types, as those of every step of a program do. For
+-- refusals 16 and 54 `admissible` states what their conditions deny: each entry that stays is supported, and a capability moves
+-- only to a later time
 pub record IsEnabled {A : Type 0} (s : ClusterState) (x : Step A) : Type 0 where
   pub free : (r : Refusal) → Fails s x r → ⊥
   pub admissible : IsAdmissible s x
   pub numbers : NumbersFit x
 
--- no condition holds whose number is below this one
+-- no condition of a refusal with a number below n holds
 pub record IsFreeBelow {A : Type 0} (s : ClusterState) (x : Step A) (n : ℕ) : Type 0 where
   pub free : (r : Refusal) → number_of r < n → Fails s x r → ⊥
 
--- refusals whose tests take no memory: the first twelve, and those of nothing to send and nothing to receive
+-- refusals whose tests take no memory: the first twelve, NothingToSend and QueueEmpty
 abbrev pub NeedsNoMemory : Refusal → Type 0
 NeedsNoMemory r = (number_of r < 13) ⊎ ((r ≡ NothingToSend) ⊎ (r ≡ QueueEmpty))
 
--- no condition holds that is tested without memory, so that out of memory may be answered
+-- no condition holds that is tested without memory; only then may the reply be out of memory
 pub record MayWantMemory {A : Type 0} (s : ClusterState) (x : Step A) : Type 0 where
   pub free : (r : Refusal) → NeedsNoMemory r → Fails s x r → ⊥
 
--- the condition of this refusal holds, and none of a lesser number
+-- the condition of the refusal r holds, and that of no refusal with a lesser number
 pub record IsRefused {A : Type 0} (s : ClusterState) (x : Step A) (r : Refusal) : Type 0 where
   pub fails : Fails s x r
   pub least : IsFreeBelow s x (number_of r)
 
--- each step of a list is enabled in its turn
+-- each step of the list is enabled after the steps before it
 abbrev pub AreEnabled : {A : Type 0} → ClusterState → List (Step A) → Type 0
 AreEnabled s [] = Unit {0}
 AreEnabled s (x ∷ xs) = IsEnabled s x × AreEnabled (stepped s x) xs

@@ -1,4 +1,4 @@
--- What a broadcast and a receive make of a cluster (Naiad, SOSP 2013, section 3.3; FORTE 2013).
+-- What a broadcast and a receive do to a cluster (Naiad, SOSP 2013, section 3.3; FORTE 2013).
 use Rattle.std.specs.Prelude.{◌≡◌, ◌⊎◌, ℕ, pos, List, [], ◌∷◌, ◌++◌, map, slice_index_or, slice_set}
 use Rattle.nd_paths.specs.Order.{IsStrictlyBefore}
 use Rattle.nd_paths.specs.declared.point.Pointstamp.{Pointstamp}
@@ -7,15 +7,15 @@ use Rattle.nd_delta.specs.Upright.{IsUpright}
 use Rattle.nd_protocol.specs.State.{ClusterState, processor, view, queue}
 use Rattle.nd_protocol.specs.Invariant.{HoldsToken}
 
--- c has the entry of d at each pointstamp, or none
+-- at each pointstamp c has no entry, or the entry of d
 abbrev pub IsPart : DeltaValue → DeltaValue → Type 0
 IsPart c d = (x : Pointstamp) → (at c x ≡ pos 0) ⊎ (at c x ≡ at d x)
 
--- what stays once p has sent c is upright, with the tokens that p holds
+-- after p has sent c, what is still unsent is upright, given the tokens that p holds
 abbrev pub StaysUpright : ClusterState → ℕ → DeltaValue → Type 0
 StaysUpright s p c = IsUpright (IsStrictlyBefore s.graph) (HoldsToken (processor s p)) (at (minus (processor s p).unsent c))
 
--- p sends the change c: it goes out of what is unsent, and to the back of the queues from p
+-- p sends the change c: it is subtracted from what is unsent, and appended to each queue from p
 unfoldable pub sent : ClusterState → ℕ → DeltaValue → ClusterState
 sent s p c =
     let q = processor s p in
@@ -24,7 +24,7 @@ sent s p c =
       queues = slice_set s.queues p (map (λ changes. changes ++ c ∷ []) (slice_index_or s.queues p []));
     }
 
--- q receives the front of a list of changes, which are those on their way to it from p
+-- q receives the first of these changes, the queue from p to q
 abbrev pub received_from : ClusterState → ℕ → ℕ → List DeltaValue → ClusterState
 received_from s p q [] = s
 received_from s p q (c ∷ rest) = record s {
@@ -32,6 +32,6 @@ received_from s p q (c ∷ rest) = record s {
   queues = slice_set s.queues p (slice_set (slice_index_or s.queues p []) q rest);
 }
 
--- the front of the queue from p to q goes into the view of q
+-- the front of the queue from p to q is removed and added to the view of q
 unfoldable pub received : ClusterState → ℕ → ℕ → ClusterState
 received s p q = received_from s p q (queue s p q)

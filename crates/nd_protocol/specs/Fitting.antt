@@ -22,7 +22,7 @@ pub record IsOrdered (g : Dataflow) : Type 0 where
   pub agree : All (ArcAgrees (depths g)) (arcs g)
   pub accepted : IsAccepted g
 
--- the pointstamp of a vertex, or of an edge, at its depth, with an epoch and counters that fit their types
+-- x is at a vertex of the graph and has its depth, and its epoch and counters fit their types; `IsAtEdge` is the same for an edge
 pub record IsAtVertex (g : Dataflow) (x : Pointstamp) : Type 0 where
   pub place : x.location < length g.vertices
   pub fits : Fits g x
@@ -33,16 +33,16 @@ pub record IsAtEdge (g : Dataflow) (x : Pointstamp) : Type 0 where
   pub fits : Fits g x
   pub small : TimeIsSmall x.time
 
--- of either
+-- the same for a vertex or an edge
 pub record IsAtLocation (g : Dataflow) (x : Pointstamp) : Type 0 where
   pub fits : Fits g x
   pub small : TimeIsSmall x.time
 
--- each pointstamp of a change is one of the graph
+-- each pointstamp with an entry in the change is one of the graph
 abbrev pub DeltaFits : Dataflow → DeltaValue → Type 0
 DeltaFits g c = (x : Pointstamp) → in_change c x ≢ pos 0 → IsAtLocation g x
 
--- each key of a processor's maps is at a location of the graph where it may stand, with a time of that location's depth;
+-- each key of a processor's maps is at a location of the graph at which such a key may be, with a time of that location's depth;
 -- its numbers, and those of items, fit their types
 pub record ProcessorFits (g : Dataflow) (q : ProcessorState) : Type 0 where
   pub records : (k : ValueAt) → at q.records k ≢ 0 → IsAtEdge g k.point × IsValue k.value
@@ -53,7 +53,7 @@ pub record ProcessorFits (g : Dataflow) (q : ProcessorState) : Type 0 where
   pub sinks : (k : SinkKey) → at q.sinks k ≢ 0 → (op_at g k.vertex ≡ op.Sink) × (k.vertex < length g.vertices) × IsValue k.value
   pub unsent : DeltaFits g q.unsent
 
--- so is each key of a cluster; each processor has a view, and a queue to each
+-- the keys of all processors, views and queues fit the graph; each processor has a view, and a queue to each processor
 pub record KeysFit (s : ClusterState) : Type 0 where
   pub processors : All (ProcessorFits s.graph) s.processors
   pub views : All (DeltaFits s.graph) s.views
@@ -62,22 +62,22 @@ pub record KeysFit (s : ClusterState) : Type 0 where
   pub each_sender : length s.queues ≡ length s.processors
   pub each_receiver : All (λ row. length row ≡ length s.processors) s.queues
 
--- no number of a processor is past its limit
+-- no number of a processor exceeds its limit
 pub record ProcessorIsWithin (q : ProcessorState) : Type 0 where
   pub records : (k : ValueAt) → at q.records k ≤ max_count
   pub sinks : (k : SinkKey) → at q.sinks k ≤ max_count
   pub unsent : (x : Pointstamp) → unsigned_abs (in_change q.unsent x) ≤ max_count
 
--- no entry of a change is past its limit
+-- no entry of a change exceeds its limit
 abbrev pub DeltaIsWithin : DeltaValue → Type 0
 DeltaIsWithin c = (x : Pointstamp) → unsigned_abs (in_change c x) ≤ max_count
 
--- a queue holds no more changes than it may, and none of their entries is past its limit
+-- a queue is not longer than its limit, and no entry of its changes exceeds its limit
 pub record QueueIsWithin (changes : List DeltaValue) : Type 0 where
   pub few : length changes ≤ max_queue
   pub entries : All DeltaIsWithin changes
 
--- nor is any number of a cluster, which has at least one processor
+-- no number of a cluster exceeds its limit, and there is at least one processor
 pub record IsWithinLimits (s : ClusterState) : Type 0 where
   pub some : 0 < length s.processors
   pub few : length s.processors ≤ max_processors

@@ -1,4 +1,5 @@
--- The protocol invariant, and what it means that a time is finished (FORTE 2013; upright changes are this project's own rule).
+-- The protocol invariant, and what it means that a pointstamp is finished (FORTE 2013; upright changes are this project's own
+-- rule).
 use Rattle.std.specs.Prelude.{◌≡◌, ◌<◌, ◌≤◌, ℕ, zero, suc, ℤ, pos, ◌+ℤ◌, List, [], ◌∷◌, length, drop}
 use Rattle.nd_paths.specs.Order.{CouldResultIn, IsStrictlyBefore}
 use Rattle.nd_paths.specs.declared.point.Pointstamp.{Pointstamp}
@@ -11,21 +12,21 @@ use Rattle.nd_protocol.specs.State.{ClusterState, processor, view, queue, truth}
 abbrev pub HoldsToken : ProcessorState → Pointstamp → Type 0
 HoldsToken q x = 0 < in_tokens q.tokens x
 
--- the sum of changes
+-- the sum of a list of changes
 abbrev pub sum_of : List DeltaValue → DeltaValue
 sum_of [] = none
 sum_of (c ∷ cs) = plus c (sum_of cs)
 
--- what q is yet to hear from p, once it has received k more changes
+-- what q has not yet received from p, after k more changes are received: the rest of the queue, and what is unsent
 abbrev pub pending : ClusterState → ℕ → ℕ → ℕ → DeltaValue
 pending s p q k = plus (sum_of (drop k (queue s p q))) (processor s p).unsent
 
--- f 0 + .. + f (n - 1)
+-- f 0 + ... + f (n - 1)
 abbrev pub total : ℕ → (ℕ → ℤ) → ℤ
 total zero f = pos 0
 total (suc n) f = total n f +ℤ f n
 
--- each view, with all that is pending to it, is the truth
+-- each view plus all that is pending to it is the truth: what is outstanding
 pub record IsSettled (s : ClusterState) : Type 0 where
   pub balance : (q : ℕ) → q < length s.processors → (x : Pointstamp) → at (truth s.processors) x ≡ (at (view s q) x +ℤ total (length s.processors) (λ p. at (pending s p q 0) x))
 

@@ -20,21 +20,21 @@ use Rattle.nd_protocol.specs.declared.step.Step.TheVariants.{Notice}
 
 -- ---- starts
 
--- a start of some processors, and not too many, is a state
+-- the initial state of 1 to max_processors processors is a state that a cluster may be in
 abbrev pub StartIsState : Type 0
 StartIsState = (g : Dataflow) (n : ℕ) → IsFaultless g → IsOrdered g → 0 < n → n ≤ max_processors → IsState (start g n)
 
--- a start has the protocol invariant
+-- the initial state has the protocol invariant
 abbrev pub StartKeepsProtocol : Type 0
 StartKeepsProtocol = (g : Dataflow) (n : ℕ) → IsOrdered g → KeepsProtocol (start g n)
 
 -- ---- numbers
 
--- in a settled state what is outstanding at a pointstamp fits 63 bits
+-- in a settled state, the number outstanding at a pointstamp fits 63 bits
 abbrev pub TruthIsSmall : Type 0
 TruthIsSmall = (s : ClusterState) → IsState s → IsSettled s → (x : Pointstamp) → at (truth s.processors) x <ℤ pos (2 ^ 63)
 
--- ---- steps, for steps whose values are held by A
+-- ---- steps; A is the allocator of their values
 
 -- an enabled step leads from a state to a state
 abbrev pub StepLeadsToState : Type 0 → Type 0
@@ -48,7 +48,7 @@ StepKeepsSettled A = (s : ClusterState) (x : Step A) → IsState s → IsEnabled
 abbrev pub StepKeepsProtocol : Type 0 → Type 0
 StepKeepsProtocol A = (s : ClusterState) (x : Step A) → IsState s → IsEnabled s x → KeepsProtocol s → KeepsProtocol (stepped s x)
 
--- so does a list of steps, each enabled in its turn
+-- a list of steps, each enabled after those before it, keeps the protocol invariant
 abbrev pub RunKeepsProtocol : Type 0 → Type 0
 RunKeepsProtocol A = (s : ClusterState) (xs : List (Step A)) → IsState s → KeepsProtocol s → AreEnabled s xs → IsState (after s xs) × KeepsProtocol (after s xs)
 
@@ -73,6 +73,6 @@ abbrev pub NoticeComesLast : Type 0 → Type 0
 NoticeComesLast A = (s : ClusterState) (p vertex : ℕ) (t : Time) → IsState s → KeepsProtocol s → IsEnabled {A = A} s (Notice p vertex t)
     → (x : Pointstamp) → IsStrictlyBefore s.graph x (point_at vertex t) → at (truth s.processors) x ≡ pos 0
 
--- what is finished stays finished
+-- what is finished stays finished: steps keep it so
 abbrev pub FinishedStaysFinished : Type 0 → Type 0
 FinishedStaysFinished A = (s : ClusterState) (xs : List (Step A)) → IsState s → KeepsProtocol s → AreEnabled s xs → (t : Pointstamp) → IsFinished s t → IsFinished (after s xs) t

@@ -26,19 +26,19 @@ abbrev pub PartIsSmall : {A : Type 0} → Part A → Type 0
 PartIsSmall All = ⊤
 PartIsSmall (Points points) = Each (λ point. TimeIsSmall point.time) points
 
--- of a capability's times
+-- the times of a released capability are numbers of 32 bits
 abbrev pub TimesAreSmall : Time → Option Time → Type 0
 TimesAreSmall t None = TimeIsSmall t
 TimesAreSmall t (Some to) = TimeIsSmall t × TimeIsSmall to
 
--- the epoch to which a token goes
+-- the epoch to which a feed moves its token is a number of 32 bits
 abbrev pub NextIsSmall : Afterwards → Type 0
 NextIsSmall (token.To n) = IsSmall n
 NextIsSmall token.Next = ⊤
 NextIsSmall token.Close = ⊤
 NextIsSmall token.Stay = ⊤
 
--- processors, epochs and counters have 32 bits, values 64 bits, as their types say
+-- processors, epochs and counters fit 32 bits, and values fit 64 bits, as their types say
 abbrev pub NumbersFit : {A : Type 0} → Step A → Type 0
 NumbersFit (Feed p vertex values next) = IsSmall p × (Each IsValue values × NextIsSmall next)
 NumbersFit (Take p _ time value) = IsSmall p × TimeIsSmall time × IsValue value

@@ -1,4 +1,4 @@
--- The number and the name under which each refusal is answered (this project's own rule).
+-- The number and the name with which a reply reports each refusal (this project's own rule).
 use Rattle.std.specs.Prelude.{ℕ, codes}
 use Rattle.nd_time.specs.Code.{Code, coded}
 use Rattle.nd_protocol.specs.declared.refusal.Refusal.{Refusal}
@@ -28,6 +28,6 @@ code_of NotNotified = coded 53 (codes "NotNotified")
 code_of NotLater = coded 54 (codes "NotLater")
 code_of Memory = coded 19 (codes "Memory")
 
--- refusals are tested in the order of their numbers
+-- the number of a refusal; refusals are tested in the order of their numbers
 abbrev pub number_of : Refusal → ℕ
 number_of r = (code_of r).number

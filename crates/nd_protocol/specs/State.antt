@@ -10,7 +10,7 @@ use Rattle.nd_map.specs.Counts.{entries}
 use Rattle.nd_delta.specs.Delta.{DeltaValue, none, at, set, delta_code}
 use Rattle.nd_processor.specs.State.{ProcessorState, idle, token_point, processor_code}
 
--- a cluster: its graph, its processors, the view of each, and for each processor its queues of progress updates to all
+-- a cluster: its graph, its processors, the view of each, and the queues of progress updates from each processor to each
 pub record ClusterState : Type 0 where
   pub graph : Dataflow
   pub processors : List ProcessorState
@@ -21,7 +21,7 @@ pub record ClusterState : Type 0 where
 abbrev pub processor : ClusterState → ℕ → ProcessorState
 processor s p = slice_index_or s.processors p idle
 
--- what processor q knows of the outstanding pointstamps
+-- the view of processor q: what it knows of the outstanding pointstamps
 abbrev pub view : ClusterState → ℕ → DeltaValue
 view s q = slice_index_or s.views q none
 
@@ -31,19 +31,19 @@ queue s p q = slice_index_or (slice_index_or s.queues p []) q []
 
 -- ---- what is outstanding
 
--- how many records, requests and tokens a processor has at which pointstamps
+-- the records, requests and tokens of a processor, as numbers at pointstamps
 abbrev pub outstanding_at : ProcessorState → List (Pointstamp × ℕ)
 outstanding_at q =
     map (λ e. (e.0.point, e.1)) (entries q.records)
     ++ (map (λ x. (x, 1)) (fin.keys q.requests)
     ++ map (λ e. (token_point e.0 e.1, 1)) (fin.entries q.tokens))
 
--- the sums of a list of numbers at pointstamps
+-- the change that has at each pointstamp the sum of the list's numbers there
 abbrev pub tally : List (Pointstamp × ℕ) → DeltaValue
 tally [] = none
 tally (e ∷ es) = set (tally es) e.0 (at (tally es) e.0 +ℤ pos e.1)
 
--- the true count of each pointstamp: how many records, requests and tokens are at it, over all processors
+-- the truth: at each pointstamp the number of records, requests and tokens of all processors
 unfoldable pub truth : List ProcessorState → DeltaValue
 truth processors = tally (flat_map outstanding_at processors)
 

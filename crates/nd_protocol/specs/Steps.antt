@@ -1,4 +1,4 @@
--- What a step makes of a cluster (Naiad, SOSP 2013, sections 2.2, 2.3 and 3.3; FORTE 2013).
+-- What a step does to a cluster (Naiad, SOSP 2013, sections 2.2, 2.3 and 3.3; FORTE 2013).
 use Rattle.std.specs.Prelude.{ℕ, ◌+◌, ◌-◌, ℤ, pos, negsuc, cond, ◌&&◌, ◌++◌, List, [], ◌∷◌, length, unwrap_or, unsigned_abs, nat_eq, if◌then◌else◌, Option, Some, None, slice_get, slice_index_or, slice_set}
 use Rattle.std.specs.Int.{int_rem_euclid}
 use Rattle.std.specs.List.{flat_map}
@@ -29,7 +29,7 @@ use Rattle.nd_protocol.specs.declared.step.Next.TheVariants as token
 
 -- ---- where the values of an emission go
 
--- the processor that a record goes to, of n: its maker p, or the value's remainder
+-- the processor, among n, to which a record goes: its maker p, or the value modulo n
 abbrev pub destination : Route → ℕ → ℕ → ℤ → ℕ
 destination Local n p v = p
 destination Exchange n p v = unsigned_abs (int_rem_euclid v (pos n))
@@ -38,19 +38,20 @@ destination Exchange n p v = unsigned_abs (int_rem_euclid v (pos n))
 abbrev pub record_key : ℕ → Time → ℤ → ValueAt
 record_key edge t value = record { point = record { location = edge; time = t }; value = value }
 
--- the records that one value emitted on a port makes, and their processors: one on each edge that leaves the port;
--- the first of the edges is the location l
+-- the records that one value emitted on a port makes, each with its processor: one record on each edge that leaves the port; the
+-- first of the edges is the location l
 abbrev pub made_on : ℕ → ℕ → ℕ → ℕ → ℤ → Time → ℕ → List Edge → List (ℕ × ValueAt)
 made_on n p vertex port v t l [] = []
 made_on n p vertex port v t l (e ∷ edges) =
     (if nat_eq e.from vertex && nat_eq e.port port then (destination e.route n p v, record_key l t v) ∷ [] else [])
     ++ made_on n p vertex port v t (l + 1) edges
 
--- the records that an emission of processor p's vertex makes, with their processors; t is the time before the vertex's action
+-- the records that an emission of a vertex of processor p makes, each with its processor; t is the time before the vertex's
+-- action
 abbrev pub emitted : Dataflow → ℕ → ℕ → ℕ → Time → ℕ × ℤ → List (ℕ × ValueAt)
 emitted g n p vertex t e = made_on n p vertex e.0 e.1 (time_past (op_at g vertex) t) (length g.vertices) g.edges
 
--- one record comes to its processor
+-- the processors with one record added to its processor
 abbrev pub with_record : List ProcessorState → ℕ × ValueAt → List ProcessorState
 with_record qs r = let q = slice_index_or qs r.0 idle in slice_set qs r.0 (record q { records = added value_at_total q.records r.1 (pos 1) })
 
@@ -58,9 +59,9 @@ abbrev pub with_records : List ProcessorState → List (ℕ × ValueAt) → List
 with_records qs [] = qs
 with_records qs (r ∷ rs) = with_records (with_record qs r) rs
 
--- ---- the steps, but for the unsent change
+-- ---- the steps, without the unsent change
 
--- the token goes to the next epoch, is given up, stays, or goes to an epoch
+-- the tokens after a feed: the vertex's token moves to the next epoch, is dropped, stays, or moves to the epoch n
 abbrev pub moved_token : fin.FinMap nat_cmp ℕ → ℕ → ℕ → Afterwards → fin.FinMap nat_cmp ℕ
 moved_token tokens vertex epoch token.Next = fin.insert tokens vertex (epoch + 1)
 moved_token tokens vertex epoch token.Close = fin.remove tokens vertex
@@ -96,7 +97,7 @@ target_of g edge = option_map_or (λ e. e.to) (slice_get g.edges (edge - length 
 abbrev pub take_outcome : ClusterState → ℕ → ℕ → Time → ℤ → Outcome
 take_outcome s p edge t value = let target = target_of s.graph edge in on_record (op_at s.graph target) (items_at (processor s p) target) t value
 
--- a record is taken off its edge and handed to the edge's target
+-- a record is removed from its edge and handed to the edge's target
 unfoldable pub taken : ClusterState → ℕ → ℕ → Time → ℤ → List ProcessorState
 taken s p edge t value =
     let q = processor s p in
@@ -111,11 +112,11 @@ taken s p edge t value =
     }))
     (flat_map (emitted s.graph (length s.processors) p target t) outcome.emissions)
 
--- what a vertex does on a notice
+-- what a vertex does on a notification
 abbrev pub notice_outcome : ClusterState → ℕ → ℕ → Time → Outcome
 notice_outcome s p vertex t = on_notice (op_at s.graph vertex) (items_at (processor s p) vertex) t
 
--- a request goes, and its vertex does what it does on a notice
+-- a request is removed, and its vertex reacts to the notification
 unfoldable pub noticed : ClusterState → ℕ → ℕ → Time → List ProcessorState
 noticed s p vertex t =
     let q = processor s p in
@@ -124,12 +125,12 @@ noticed s p vertex t =
     (slice_set s.processors p (record q { requests = fin.remove q.requests (point_at vertex t); items = slice_set q.items vertex outcome.items }))
     (flat_map (emitted s.graph (length s.processors) p vertex t) outcome.emissions)
 
--- a request goes, or moves to another time; a request that is there already stays
+-- a request is removed, or moved to another time; if there is already a request at that time, it stays
 abbrev pub moved_request : Requests → ℕ → Time → Option Time → Requests
 moved_request requests vertex t None = fin.remove requests (point_at vertex t)
 moved_request requests vertex t (Some to) = fin.insert (fin.remove requests (point_at vertex t)) (point_at vertex to) tt
 
--- a capability that a vertex keeps goes, or is moved
+-- a held capability is dropped, or moved to another time
 unfoldable pub released : ClusterState → ℕ → ℕ → Times → List ProcessorState
 released s p vertex times =
     let q = processor s p in
@@ -141,11 +142,11 @@ released s p vertex times =
 abbrev pub gain : List ProcessorState → List ProcessorState → DeltaValue
 gain old new = minus (truth new) (truth old)
 
--- the performer's unsent change has what the step adds to the truth
+-- what the step adds to the truth is added to the unsent change of p, which executes the step
 abbrev pub with_gain : List ProcessorState → ℕ → List ProcessorState → List ProcessorState
 with_gain old p new = let q = slice_index_or new p idle in slice_set new p (record q { unsent = plus q.unsent (gain old new) })
 
--- the cluster after p has worked: these are the processors then, but for what p has to send
+-- the cluster after a step of p; new is its processors, without what p has to send
 abbrev pub worked : ClusterState → ℕ → List ProcessorState → ClusterState
 worked s p new = record s { processors = with_gain s.processors p new }
 

@@ -5,7 +5,7 @@ use Rattle.nd_time.specs.Time.{Time, IsAtOrBefore}
 use Rattle.nd_time.specs.Listing.{time_code}
 use Rattle.nd_protocol.specs.declared.times.Times.{Times}
 
--- a time to which a capability moves is strictly after the one at which it was kept
+-- a capability that moves goes to a time strictly after the one at which it was held
 abbrev pub GoesLater : Time → Option Time → Type 0
 GoesLater t None = ⊤
 GoesLater t (Some to) = IsAtOrBefore t to × (t ≢ to)

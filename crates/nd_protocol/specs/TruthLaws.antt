@@ -1,8 +1,8 @@
--- What is outstanding in a cluster, as a sum over its processors, and how a written processor moves it.
+-- What is outstanding in a cluster, as a sum over its processors, and how writing one processor changes it.
 --     count                     how many records, requests and tokens are at a pointstamp
---     truth-count, gain-count   the truth, and what is added to it, as such sums
---     count-set, -set_same      one processor is written
---     kept-set, -records        what a write, or records that come, leave as it is
+--     truth-count, gain-count   the truth, and what a step adds to it, as such sums
+--     count-set, -set_same      the count after one processor is written
+--     kept-set, -records        what does not change if a processor is written, or if records arrive
 use Rattle.std.specs.Prelude.{◌≡◌, ℕ, zero, suc, ◌+◌, ◌<◌, ℤ, pos, ◌+ℤ◌, Bool, true, false, cond, List, [], ◌∷◌, ◌++◌, map, length, sum_by, slice_index_or, slice_set, refl}
 use Rattle.std.proofs.Common.{sym, ap, ◌∙◌, arith, length-set}
 use Rattle.std.proofs.lemmas.Int.{ints}
@@ -21,7 +21,7 @@ use Rattle.nd_processor.specs.declared.key.ValueAt.{ValueAt}
 use Rattle.nd_protocol.specs.State.{outstanding_at, tally, truth}
 use Rattle.nd_protocol.specs.Steps.{with_record, with_records, gain}
 
--- what a list of numbers at pointstamps has at one
+-- the sum of the numbers that a list has at the pointstamp x
 abbrev tallied : Pointstamp → List (Pointstamp × ℕ) → ℕ
 tallied x es = sum_by (λ e. cond (is_point x e.0) e.1 0) es
 
@@ -49,7 +49,7 @@ tallied-outstanding q x =
     + (sum_by-map f (λ (p : Pointstamp). (p, 1)) (fin.keys q.requests) i
     + sum_by-map f (λ (e : ℕ × ℕ). (token_point e.0 e.1, 1)) (fin.entries q.tokens) i))
 
--- how many records, requests and tokens are at a pointstamp, over all processors
+-- the number of records, requests and tokens at a pointstamp, over all processors
 abbrev pub count : List ProcessorState → Pointstamp → ℕ
 count qs x = sum_by (λ q. held q x) qs
 
@@ -70,26 +70,26 @@ gain-count old new x =
     let c = truth-count new x in
     omega (arith, ints)
 
--- ---- one processor is written
+-- ---- writing one processor
 
 pub count-set : (qs : List ProcessorState) (p : ℕ) (r : ProcessorState) (x : Pointstamp) → p < length qs
     → count (slice_set qs p r) x + held (slice_index_or qs p idle) x ≡ count qs x + held r x
 count-set qs p r x lt = sum_by-set (λ q. held q x) qs p r idle lt
 
--- with as much at the pointstamp as before
+-- the count does not change if the written processor has as much at the pointstamp as the old one
 pub count-set_same : (qs : List ProcessorState) (p : ℕ) (r : ProcessorState) (x : Pointstamp) → held r x ≡ held (slice_index_or qs p idle) x → count (slice_set qs p r) x ≡ count qs x
 count-set_same [] p r x e = refl
 count-set_same (q ∷ qs) zero r x e = sum_by-cons (λ q. held q x) r qs ∙ ap (λ n. n + count qs x) e ∙ sym (sum_by-cons (λ q. held q x) q qs)
 count-set_same (q ∷ qs) (suc p) r x e =
     sum_by-cons (λ q. held q x) q (slice_set qs p r) ∙ ap (λ n. held q x + n) (count-set_same qs p r x e) ∙ sym (sum_by-cons (λ q. held q x) q qs)
 
--- ---- records come
+-- ---- records that arrive
 
 pub length-records : (qs : List ProcessorState) (rs : List (ℕ × ValueAt)) → length (with_records qs rs) ≡ length qs
 length-records qs [] = refl
 length-records qs (r ∷ rs) = length-records (with_record qs r) rs ∙ length-set qs r.0 _
 
--- one that comes leaves the rest of its processor, and the other processors, as they are
+-- if f is the same of the written processor as of the old one, it is the same of every processor
 module _ {X : Type 0} (f : ProcessorState → X) where
   pub kept-set : (qs : List ProcessorState) (i : ℕ) (r : ProcessorState) → f r ≡ f (slice_index_or qs i idle) → (k : ℕ) → f (slice_index_or (slice_set qs i r) k idle) ≡ f (slice_index_or qs k idle)
   kept-set [] i r e k = refl
