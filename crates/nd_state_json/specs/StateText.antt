@@ -18,7 +18,7 @@ use Rattle.nd_processor.specs.declared.key.SinkKey.{SinkKey}
 
 -- ---- the parts of an entry
 
--- the name of a location; if there is none, nothing
+-- the name of a location; empty if there is no such location
 abbrev pub name_at : Dataflow → ℕ → List ℕ
 name_at g l = slice_index_or (names g) l []
 
@@ -35,33 +35,33 @@ whole z = number (of_integer z)
 abbrev pub place : Dataflow → ℕ → Data
 place g l = string (name_at g l)
 
--- [epoch,c1,..]
+-- a time as [epoch,c1,...]
 abbrev pub time_data : Time → Data
 time_data t = row (map natural (t.epoch ∷ t.counters))
 
 -- ---- entries
 
--- [location,time]
+-- a pointstamp as [location,time]
 abbrev pub point_data : Dataflow → Pointstamp → Data
 point_data g p = row (place g p.location ∷ time_data p.time ∷ [])
 
--- [vertex,time,item,n], for what the vertex keeps
+-- an item of a vertex as [vertex,time,item,n]
 abbrev pub item_data : Dataflow → ℕ → ItemKey × ℤ → Data
 item_data g vertex e = row (place g vertex ∷ time_data e.0.time ∷ whole e.0.item ∷ whole e.1 ∷ [])
 
--- [edge,time,value,n]
+-- the records of a key as [edge,time,value,n]
 abbrev pub record_data : Dataflow → ValueAt × ℕ → Data
 record_data g e = row (place g e.0.point.location ∷ time_data e.0.point.time ∷ whole e.0.value ∷ natural e.1 ∷ [])
 
--- [vertex,value,n]
+-- a value that a sink has counted as [vertex,value,n]
 abbrev pub sink_data : Dataflow → SinkKey × ℕ → Data
 sink_data g e = row (place g e.0.vertex ∷ whole e.0.value ∷ natural e.1 ∷ [])
 
--- [vertex,epoch]
+-- a token as [vertex,epoch]
 abbrev pub token_data : Dataflow → ℕ × ℕ → Data
 token_data g e = row (place g e.0 ∷ natural e.1 ∷ [])
 
--- [location,time,n]
+-- an entry of a change as [location,time,n]
 abbrev pub entry_data : Dataflow → Pointstamp × ℤ → Data
 entry_data g e = row (place g e.0.location ∷ time_data e.0.time ∷ whole e.1 ∷ [])
 
@@ -71,7 +71,7 @@ entries_data g es = row (map (entry_data g) es)
 
 -- ---- processors and clusters
 
--- a processor with these lists
+-- the JSON object of a processor, from these lists
 abbrev pub processor_members : Data → Data → Data → Data → Data → Data → Data → Data
 processor_members items records requests sinks tokens unsent view =
     object (member (codes "items") items
@@ -82,17 +82,17 @@ processor_members items records requests sinks tokens unsent view =
     (member (codes "unsent") unsent
     (member (codes "view") view no_members)))))))
 
--- what all vertices of a processor keep, vertex by vertex
+-- the items of all vertices of a processor, vertex by vertex
 abbrev pub items_data : Dataflow → ProcessorState → List Data
 items_data g q = flat_map (λ i. map (item_data g i.0) (numbers i.1)) (enumerate_from 0 q.items)
 
--- a processor, and its view
+-- a processor and its view
 unfoldable pub processor_data : Dataflow → ProcessorState → DeltaValue → Data
 processor_data g q view =
     processor_members (row (items_data g q)) (row (map (record_data g) (numbers q.records))) (row (map (point_data g) (fin.keys q.requests)))
     (row (map (sink_data g) (numbers q.sinks))) (row (map (token_data g) (fin.entries q.tokens))) (entries_data g (entries q.unsent)) (entries_data g (entries view))
 
--- a queue, from front to back
+-- a queue, its changes from front to back
 abbrev pub queue_data : Dataflow → List DeltaValue → Data
 queue_data g changes = row (map (λ c. entries_data g (entries c)) changes)
 
@@ -100,11 +100,11 @@ queue_data g changes = row (map (λ c. entries_data g (entries c)) changes)
 abbrev pub queues_data : Dataflow → List (List DeltaValue) → Data
 queues_data g queues = row (map (queue_data g) queues)
 
--- a cluster with these lists
+-- the JSON object of a cluster, from these lists
 abbrev pub whole_members : Data → Data → Data
 whole_members processors queues = object (member (codes "processors") processors (member (codes "queues") queues no_members))
 
--- these processors, and their queues
+-- the same, from the JSON values of its processors and of its queues
 abbrev pub whole_data : List Data → List Data → Data
 whole_data processors queues = whole_members (row processors) (row queues)
 
