@@ -1,10 +1,11 @@
--- What stands behind a reason.
+-- The account of a reason.
 use Rattle.std.specs.Prelude.{ℤ, List}
 use Rattle.nd_paths.specs.declared.point.Pointstamp.{Pointstamp}
 use Rattle.nd_why.specs.declared.answer.Held.{Held}
 use Rattle.nd_why.specs.declared.answer.Unheard.{Unheard}
 
--- the pointstamp, what is held there, what was not heard of it, and what the view counts there
+-- the pointstamp of the reason, what is held there, the updates of it that the processor has not received, and the count of its
+-- view
 pub record Account : Type 0 where
   pub point : Pointstamp
   pub held : List Held

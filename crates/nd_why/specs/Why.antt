@@ -1,4 +1,4 @@
--- Why a processor does not consider a pointstamp finished (this project's own rule, on FORTE 2013).
+-- Why a processor does not consider a pointstamp finished (this project's own rule, based on FORTE 2013).
 use Rattle.std.specs.Prelude.{◌≡◌, ◌<◌, ◌+ℤ◌, Bool, false, ℕ, zero, suc, ℤ, pos, negsuc, cond, List, [], ◌∷◌, ◌++◌, Contains, length, map, slice_index_or, sum_by}
 use Rattle.std.specs.List.{flat_map, Any}
 use Rattle.std.specs.FinMap as fin
@@ -23,14 +23,14 @@ use Rattle.nd_why.specs.declared.answer.Unheard.TheVariants.{Unsent, Queued}
 abbrev pub state_of : Dataflow → List ProcessorState → List Kept → List (List (List DeltaValue)) → ClusterState
 state_of g processors views queues = record { graph = g; processors = processors; views = map (λ v. v.map) views; queues = queues }
 
--- f 0, then f 1, .. , then f (n - 1)
+-- f 0, then f 1, ..., then f (n - 1)
 abbrev pub in_turn : {X : Type 0} → ℕ → (ℕ → List X) → List X
 in_turn zero f = []
 in_turn (suc n) f = in_turn n f ++ f n
 
 -- ---- what is held at b
 
--- x, if it is at b
+-- x, if its pointstamp is b; otherwise nothing
 abbrev pub if_at : {X : Type 0} → Pointstamp → Pointstamp → X → List X
 if_at b point x = cond (is_point b point) (x ∷ []) []
 
@@ -38,55 +38,55 @@ if_at b point x = cond (is_point b point) (x ∷ []) []
 abbrev pub records_at : ℕ → ProcessorState → Pointstamp → List Held
 records_at p r b = flat_map (λ e. if_at b e.0.point (Records p e.0.value e.1)) (numbers r.records)
 
--- its request there
+-- the request of processor p at b
 abbrev pub requests_at : ℕ → ProcessorState → Pointstamp → List Held
 requests_at p r b = flat_map (λ x. if_at b x (Request p)) (fin.keys r.requests)
 
--- its token there
+-- the token of processor p at b
 abbrev pub tokens_at : ℕ → ProcessorState → Pointstamp → List Held
 tokens_at p r b = flat_map (λ e. if_at b (token_point e.0 e.1) (Token p)) (fin.entries r.tokens)
 
--- all that it holds there
+-- all that processor p holds at b
 unfoldable pub held_by : ℕ → ProcessorState → Pointstamp → List Held
 held_by p r b = records_at p r b ++ (requests_at p r b ++ tokens_at p r b)
 
--- all that is held there, by processor
+-- all that is held at b, by processor
 abbrev pub held_at : List ProcessorState → Pointstamp → List Held
 held_at processors b = in_turn (length processors) (λ p. held_by p (slice_index_or processors p idle) b)
 
--- ---- what q has not heard of b
+-- ---- the updates of b that q has not received
 
--- x, but nothing if n is 0
+-- x, or nothing if n is 0
 abbrev pub unless_zero : {X : Type 0} → ℤ → X → List X
 unless_zero (pos zero) x = []
 unless_zero (pos (suc n)) x = x ∷ []
 unless_zero (negsuc n) x = x ∷ []
 
--- the update of b in the change behind k others in a queue from processor p, if there is one
+-- the update of b in the change behind k others in a queue from processor p, if it has one
 abbrev pub queued_behind : ℕ → List DeltaValue → Pointstamp → ℕ → List Unheard
 queued_behind p changes b k = unless_zero (at (slice_index_or changes k none) b) (Queued p k (at (slice_index_or changes k none) b))
 
--- all of them, from front to back
+-- all updates of b in such a queue, from front to back
 abbrev pub queued_at : ℕ → List DeltaValue → Pointstamp → List Unheard
 queued_at p changes b = in_turn (length changes) (queued_behind p changes b)
 
--- what is unsent, and then what is in the queue
+-- the updates of b from processor p: in what is unsent, and then in the queue
 unfoldable pub unheard_from : ℕ → DeltaValue → List DeltaValue → Pointstamp → List Unheard
 unheard_from p unsent changes b = unless_zero (at unsent b) (Unsent p (at unsent b)) ++ queued_at p changes b
 
--- all that q has not heard of b, by sender
+-- all updates of b that q has not received, by sender
 abbrev pub unheard_at : List ProcessorState → List (List (List DeltaValue)) → ℕ → Pointstamp → List Unheard
 unheard_at processors queues q b = in_turn (length processors) (λ p. unheard_from p (slice_index_or processors p idle).unsent (queue queues p q) b)
 
 -- ---- what is outstanding
 
--- before t, strictly or not, the number of some pointstamp is not 0
+-- some pointstamp before t, strictly or not, has a number above 0
 pub record HasBefore (g : Dataflow) (strictly : Bool) (t : Pointstamp) (count : Pointstamp → ℕ) : Type 0 where
   pub point : Pointstamp
   pub before : IsBefore g strictly point t
   pub some : 0 < count point
 
--- a processor has a record, a request, a token before t
+-- the processor has a record before t; `RequestBefore` and `TokenBefore` are the same for requests and tokens
 abbrev pub RecordBefore : Dataflow → Bool → Pointstamp → ProcessorState → Type 0
 RecordBefore g strictly t q =
     Any (λ (e : ValueAt × ℕ). IsBefore g strictly e.0.point t) (numbers q.records)
@@ -106,11 +106,11 @@ IsFinishedBefore s strictly t =
 
 -- ---- the reasons
 
--- what stands behind the reason b of processor q, whose view is this
+-- the account of the reason b of processor q, whose view is known
 abbrev pub account_of : List ProcessorState → List (List (List DeltaValue)) → ℕ → DeltaValue → Pointstamp → Account
 account_of processors queues q known b = record { point = b; held = held_at processors b; unheard = unheard_at processors queues q b; view = at known b }
 
--- the same in a cluster
+-- the same, in the cluster s
 abbrev pub account : ClusterState → ℕ → Pointstamp → Account
 account s q b = account_of s.processors s.queues q (view s q) b
 
@@ -119,46 +119,45 @@ pub record IsReason (g : Dataflow) (v : DeltaValue) (strictly : Bool) (t b : Poi
   pub frontier : IsOnFrontier g v b
   pub before : IsBefore g strictly b t
 
--- the accounts of the reasons for which q does not consider all that is before t finished, in the
--- order of listing
+-- the accounts are those of the reasons why q does not consider everything before t finished, in the order of listing
 abbrev pub IsWhyBefore : ClusterState → Bool → ℕ → Pointstamp → List Account → Type 0
 IsWhyBefore s strictly q t accounts =
     (reasons : DeltaValue)
     × IsPartWhere (IsReason s.graph (view s q) strictly t) (view s q) reasons
     × (accounts ≡ map (λ e. account s q e.0) (entries reasons))
 
--- the same for t itself and what is before it
+-- the same for t itself and everything before it
 abbrev pub IsWhy : ClusterState → ℕ → Pointstamp → List Account → Type 0
 IsWhy s q t accounts = IsWhyBefore s false q t accounts
 
--- one of them is of a pointstamp at or before x
+-- some account is of a pointstamp at or before x
 pub record HasReasonBefore (g : Dataflow) (accounts : List Account) (x : Pointstamp) : Type 0 where
   pub reason : Account
   pub among : Contains accounts reason
   pub before : CouldResultIn g reason.point x
 
--- ---- what the numbers tell
+-- ---- what the numbers say
 
--- how many records, requests and tokens something held is
+-- how many records, requests and tokens an element of what is held stands for
 abbrev pub amount : Held → ℕ
 amount (Records p value n) = n
 amount (Request p) = 1
 amount (Token p) = 1
 
--- by how much an update moves its pointstamp's count
+-- how much an update adds to the count of its pointstamp
 abbrev pub number : Unheard → ℤ
 number (Unsent p n) = n
 number (Queued p behind n) = n
 
--- the sum of the numbers of updates
+-- the sum of the updates' numbers
 abbrev pub news : List Unheard → ℤ
 news [] = pos 0
 news (u ∷ us) = number u +ℤ news us
 
--- what is held is all that is outstanding there
+-- what the account lists as held is all that is outstanding at its pointstamp
 abbrev pub IsCounted : ClusterState → Account → Type 0
 IsCounted s a = at (truth s.processors) a.point ≡ pos (sum_by amount a.held)
 
--- what the view counts and what was not heard are together what is held
+-- the view's count plus the updates not received is what is held
 abbrev pub IsBalanced : Account → Type 0
 IsBalanced a = (a.view +ℤ news a.unheard) ≡ pos (sum_by amount a.held)
