@@ -1,4 +1,5 @@
--- What changes of a processor's maps change, with the values before and after, and what two effects change together.
+-- The effect of changes: the keys of a processor's maps that they change, with the values before and after, and how two effects
+-- are combined.
 use Rattle.std.specs.Prelude.{◌≡◌, ◌≤◌, ℕ, zero, suc, ◌+◌, ◌-◌, ℤ, pos, negsuc, ◌+ℤ◌, Bool, not, Option, Some, None, is_some, cond, List, [], ◌∷◌, ◌++◌, length}
 use Rattle.std.specs.FinMap as fin
 use Rattle.nd_map.specs.Counts.{at, int_at, natural}
@@ -26,17 +27,17 @@ use Rattle.nd_steps.specs.declared.effect.Effect.{Effect}
 
 -- ---- the processors alone
 
--- a state of these processors, for what is said of a list of processors
+-- a state with these processors only, for definitions about a list of processors
 abbrev pub only : List ProcessorState → ClusterState
 only processors = record { graph = record { vertices = []; edges = [] }; processors = processors; views = []; queues = [] }
 
--- ---- effects together
+-- ---- combined effects
 
--- nothing changes
+-- the effect that changes nothing
 abbrev pub nothing : EffectValue
 nothing = record { items = []; queues = []; records = []; requests = []; sinks = []; tokens = []; unsent = []; views = [] }
 
--- what the one changes, and then what the other does
+-- the two effects as one: each list of e, followed by that of f
 abbrev pub beside : EffectValue → EffectValue → EffectValue
 beside e f = record {
   items = e.items ++ f.items;
@@ -49,9 +50,9 @@ beside e f = record {
   views = e.views ++ f.views;
 }
 
--- ---- what stands at a key, from the integer that stands there
+-- ---- the value at a key, from the integer there
 
--- the epoch of a token, the number of an item
+-- the epoch of a token; `number_from` is the number of an item
 abbrev pub epoch_from : ℤ → Option ℕ
 epoch_from (pos zero) = None
 epoch_from (pos (suc epoch)) = Some epoch
@@ -60,7 +61,7 @@ epoch_from (negsuc n) = None
 abbrev pub number_from : ℤ → Option ℤ
 number_from z = cond (is_zero z) None (Some z)
 
--- ---- n more at a key of processor p, whose state is q
+-- ---- adding n at a key of processor p, whose state is q
 
 abbrev pub item_row : ProcessorState → ℕ → ℕ → ItemKey → ℤ → Altered ItemAt (Option ℤ)
 item_row q p vertex key n = record {
@@ -85,7 +86,7 @@ token_row q p vertex n = record { p = p; key = vertex; old = fin.get q.tokens ve
 abbrev pub unsent_row : ProcessorState → ℕ → Pointstamp → ℤ → Altered Pointstamp ℤ
 unsent_row q p x n = record { p = p; key = x; old = in_change q.unsent x; new = in_change q.unsent x +ℤ n }
 
--- ---- what that changes: one element in the list of its map, and none in the others
+-- ---- the effect of that: one element in the list of its map, and none in the others
 
 abbrev pub item_by : ProcessorState → ℕ → Slot → ℤ → List (Altered ItemAt (Option ℤ))
 item_by q p (State vertex key) n = item_row q p vertex key n ∷ []
@@ -123,50 +124,50 @@ altered_at q p l n = record {
   views = [];
 }
 
--- what a change changes in these processors
+-- the effect of one change on these processors
 abbrev pub altered_of : List ProcessorState → Change → EffectValue
 altered_of ps c = altered_at (own ps c) c.p c.slot c.n
 
--- what a list of changes changes, each as if it were the first
+-- the effects of a list of changes, each applied to these processors as if it were the first
 abbrev pub altered_by : List ProcessorState → List Change → EffectValue
 altered_by ps [] = nothing
 altered_by ps (c ∷ cs) = beside (altered_of ps c) (altered_by ps cs)
 
--- the new effect has these elements after those of the old one
+-- each list of the new effect is that of the old one, followed by that of e
 abbrev pub Appends : {A : Type 0} → Effect A → Effect A → EffectValue → Type 0
 Appends old new e = lists_of new ≡ beside (lists_of old) e
 
 -- ---- what a broadcast and a receive change
 
--- an entry of a part that p sends: all of it is unsent before
+-- an entry of the part that p sends: it was unsent, and is 0 afterwards
 abbrev pub sent_row : ℕ → Pointstamp × ℤ → Altered Pointstamp ℤ
 sent_row p e = record { p = p; key = e.0; old = e.1; new = pos 0 }
 
--- the queue from p to another, which gets a change more
+-- the queue from p to another processor, which gets one change longer
 abbrev pub longer_row : List (List (List DeltaValue)) → ℕ → ℕ → Altered ℕ ℕ
 longer_row m p to = record { p = p; key = to; old = length (queue m p to); new = length (queue m p to) + 1 }
 
--- all of them
+-- all queues from p
 abbrev pub longer_rows : List (List (List DeltaValue)) → ℕ → ℕ → List (Altered ℕ ℕ)
 longer_rows m p n = joined_below n (λ to. longer_row m p to ∷ [])
 
--- an entry of a change that q receives into its view
+-- an entry of the change that q receives, added to its view
 abbrev pub received_row : ℕ → DeltaValue → Pointstamp × ℤ → Altered Pointstamp ℤ
 received_row q v e = record { p = q; key = e.0; old = in_change v e.0; new = in_change v e.0 +ℤ e.1 }
 
--- the queue from which it takes the change
+-- the queue from which the change is received, which gets one change shorter
 abbrev pub shorter_row : List (List (List DeltaValue)) → ℕ → ℕ → Altered ℕ ℕ
 shorter_row m from to = record { p = from; key = to; old = length (queue m from to); new = length (queue m from to) - 1 }
 
 -- ---- where changes lead
 
--- the effect is that of a step from s to each state that has P
+-- e is the effect of a step from s to each state that satisfies P
 abbrev pub IsEffectTo : {A : Type 0} → ClusterState → (ClusterState → Type 0) → Effect A → Type 0
 IsEffectTo s P e = (t : ClusterState) → P t → lists_of e ≡ effect_of s t
 
 -- ---- lists of changes that name no more than they change
 
--- the changes can be made in s, lead to t, and are no more than the keys and queues at which the two differ
+-- the changes can be applied to s and lead to t, and there are no more of them than keys and queues at which s and t differ
 pub record RunsExactly (s : ClusterState) (cs : List Change) (t : ClusterState) : Type 0 where
   pub runs : RunsTo s cs t
   pub exact : length cs ≤ changed s t

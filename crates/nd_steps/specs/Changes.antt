@@ -1,4 +1,4 @@
--- Changes one after the other: what each makes of a cluster's state, and when a list of them can be made.
+-- Applying changes one after the other: the state after each, and when a list of changes can be applied.
 use Rattle.std.specs.Prelude.{◌≡◌, ◌≢◌, ◌<◌, ◌≤◌, ◌+◌, ℕ, ℤ, pos, neg_ℤ, ◌+ℤ◌, List, [], ◌∷◌, take, length, slice_index_or}
 use Rattle.std.specs.List.Sorted.{IsSorted}
 use Rattle.std.proofs.Common.{get_or}
@@ -10,7 +10,7 @@ use Rattle.nd_steps.specs.Standing.{standing, put_at}
 use Rattle.nd_steps.specs.declared.change.Change.{Change}
 use Rattle.nd_steps.specs.declared.slot.Slot.{Slot}
 
--- where in the cluster a change is
+-- the place of a change
 abbrev pub place_of : Change → Place
 place_of c = place_at c.p c.slot
 
@@ -18,15 +18,15 @@ place_of c = place_at c.p c.slot
 abbrev pub AreByPlace : List Change → Type 0
 AreByPlace cs = IsSorted (λ a b. place_cmp (place_of a) (place_of b)) cs
 
--- the processor that a change is of
+-- the processor to which a change belongs
 abbrev pub own : List ProcessorState → Change → ProcessorState
 own processors c = slice_index_or processors c.p idle
 
--- the change that takes it back
+-- the change that undoes c
 abbrev pub inverse : Change → Change
 inverse c = record c { n = neg_ℤ c.n }
 
--- the processor with n more at a key
+-- the processor with n added at a key
 abbrev pub made_in : ProcessorState → Slot → ℤ → ProcessorState
 made_in q l n = puts q l (stands q l +ℤ n)
 
@@ -34,7 +34,7 @@ made_in q l n = puts q l (stands q l +ℤ n)
 abbrev pub made : ClusterState → Change → ClusterState
 made s c = put_at s (place_of c) (standing s (place_of c) +ℤ c.n)
 
--- a key may change by n: n is not 0, and the key's number is within its limit before and after
+-- n may be added at a key: n is not 0, and the integer at the key is within its limit before and after
 pub record FitsIn (q : ProcessorState) (l : Slot) (n : ℤ) : Type 0 where
   pub there : SlotIsThere q l
   pub some : n ≢ pos 0
@@ -42,16 +42,16 @@ pub record FitsIn (q : ProcessorState) (l : Slot) (n : ℤ) : Type 0 where
   pub may : SlotMay l (stands q l +ℤ n)
   pub within : SlotWithin l (stands q l +ℤ n)
 
--- it may be made in this state
+-- the change may be applied in this state
 pub record Fits (s : ClusterState) (c : Change) : Type 0 where
   pub owner : c.p < length s.processors
   pub inside : FitsIn (processor s c.p) c.slot c.n
 
--- something stands at the place of the change
+-- the integer at the place of the change is not 0
 abbrev pub Finds : ClusterState → Change → Type 0
 Finds s c = standing s (place_of c) ≢ pos 0
 
--- nothing does
+-- the integer at the place of the change is 0
 abbrev pub FindsNothing : ClusterState → Change → Type 0
 FindsNothing s c = standing s (place_of c) ≡ pos 0
 
@@ -64,8 +64,8 @@ applied s (c ∷ cs) = applied (made s c) cs
 unfoldable pub state_at : ClusterState → List Change → ℕ → ClusterState
 state_at s cs k = applied s (take k cs)
 
--- each change fits in its turn, and nothing is taken out before the last thing is put in:
--- the first changes leave something at their places, and the others find something at theirs
+-- each change fits the state in which it is applied, and everything is added before anything is removed: after each of the first
+-- changes, up to `turn`, the integer at its place is not 0, and before each of the others it is not 0
 pub record IsRunnable (s : ClusterState) (cs : List Change) : Type 0 where
   pub turn : ℕ
   pub fits : (k : ℕ) (d : Change) → k < length cs → Fits (state_at s cs k) (get_or cs k d)

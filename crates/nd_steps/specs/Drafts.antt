@@ -1,4 +1,4 @@
--- What a plan drafts of a step: changes as they are found, and the list in which no place stands twice.
+-- The changes of a step as a plan finds them, and the list in which no place occurs twice.
 use Rattle.std.specs.Prelude.{◌≡◌, ◌≢◌, ℕ, ◌+◌, ℤ, pos, negsuc, ◌+ℤ◌, ◌-ℤ◌, ◌++◌, List, [], ◌∷◌, map, length, cond, Bool, true, false, Option, Some, None, is_none, ◌&&◌, nat_eq, if◌then◌else◌}
 use Rattle.std.specs.List.{flat_map}
 use Rattle.std.specs.FinMap as fin
@@ -34,35 +34,35 @@ use Rattle.nd_steps.specs.declared.change.Change.{Change}
 
 -- ---- changes, as a plan finds them
 
--- n more at a key of processor p's maps
+-- the change that adds n at a key of processor p's maps
 abbrev pub at_key : ℕ → Slot → ℤ → Change
 at_key p slot n = record { p = p; slot = slot; n = n }
 
--- records that come, each to its processor, and that p has each to send
+-- the changes of records that arrive, each at its processor; p has each of them to send
 abbrev pub arrivals : ℕ → List (ℕ × ValueAt) → List Change
 arrivals p [] = []
 arrivals p (r ∷ rs) = at_key r.0 (Records r.1) (pos 1) ∷ at_key p (Unsent r.1.point) (pos 1) ∷ arrivals p rs
 
--- another number of one of a vertex's items
+-- the change of one item of a vertex to its new number
 abbrev pub item_change : ℕ → ℕ → ItemEdit → Change
 item_change p vertex e = at_key p (State vertex e.key) (from_number e.new -ℤ from_number e.old)
 
--- its numbers have 64 bits
+-- the old and the new number of the edit fit 64 bits
 pub record HasValues (e : ItemEdit) : Type 0 where
   pub old : IsValue (from_number e.old)
   pub new : IsValue (from_number e.new)
 
--- ---- no place twice
+-- ---- no place occurs twice
 
--- a change, unless it adds nothing
+-- the change c, or nothing if it adds 0
 abbrev pub some_of : Change → List Change
 some_of c = cond (is_zero c.n) [] (c ∷ [])
 
--- one change for two at one place
+-- two changes at one place as one change
 abbrev pub both : Change → Change → Change
 both c d = record c { n = c.n +ℤ d.n }
 
--- a change and those after it, joined where neighbours are at one place
+-- the change c and those after it, with neighbours at the same place joined
 abbrev pub joins : Change → List Change → List Change
 joins c [] = some_of c
 joins c (d ∷ ds) = cond (is_place (place_of c) (place_of d)) (joins (both c d) ds) (some_of c ++ joins d ds)
@@ -71,19 +71,20 @@ abbrev pub joined : List Change → List Change
 joined [] = []
 joined (c ∷ cs) = joins c cs
 
--- the second changes add what the first do, with no place twice and none that adds nothing
+-- the changes ds add what cs add, no place occurs twice in ds, and no change of ds adds 0
 pub record AreJoined (cs ds : List Change) : Type 0 where
   pub once : Once ds
   pub some : Each (λ c. c.n ≢ pos 0) ds
   pub totals : (k : Place) → total_at (edits_of ds) k ≡ total_at (edits_of cs) k
 
--- ---- the records that come
+-- ---- the records that arrive
 
--- the record of an emission of processor p's vertex on an edge at a location, if it leaves the port, with its processor
+-- the record, with its processor, that an emission of a vertex of processor p makes on the edge at location l, if the edge leaves
+-- the emission's port
 abbrev pub made_along : ℕ → ℕ → ℕ → Emission → ℕ → Edge → List (ℕ × ValueAt)
 made_along n p vertex e l edge = if nat_eq edge.from vertex && nat_eq edge.port e.port then (destination edge.route n p e.value, record_key l e.time e.value) ∷ [] else []
 
--- those of an emission, of the values that the vertex is fed, and of what it emits
+-- the records that one emission makes; `fed_by` and `emitted_by` are those of the values of a feed, and of several emissions
 abbrev pub made_by : Dataflow → ℕ → ℕ → ℕ → Emission → List (ℕ × ValueAt)
 made_by g n p vertex e = made_on n p vertex e.port e.value e.time (length g.vertices) g.edges
 
@@ -98,7 +99,7 @@ emitted_by g n p vertex es = flat_map (made_by g n p vertex) es
 
 -- ---- the changes of each kind of step, in the order in which they are found
 
--- the token's move from an epoch
+-- the changes that move a token from its epoch
 abbrev pub token_changes : ℕ → ℕ → ℕ → Afterwards → List Change
 token_changes p vertex epoch token.Stay = []
 token_changes p vertex epoch token.Close = at_key p (Token vertex) (negsuc epoch) ∷ at_key p (Unsent (token_point vertex epoch)) (negsuc 0) ∷ []
@@ -110,12 +111,12 @@ token_changes p vertex epoch (token.To n) =
 abbrev pub fed_changes : ℕ → ℕ → ℕ → Afterwards → List (ℕ × ValueAt) → List Change
 fed_changes p vertex epoch next rs = token_changes p vertex epoch next ++ arrivals p rs
 
--- a request that was not there
+-- the changes of a request that was not there; none if asks is false
 abbrev pub ask_changes : ℕ → Pointstamp → Bool → List Change
 ask_changes p x true = at_key p (Request x) (pos 1) ∷ at_key p (Unsent x) (pos 1) ∷ []
 ask_changes p x false = []
 
--- a value that a sink counts
+-- the change of a sink that counts a value; none if it does not count
 abbrev pub sink_changes : ℕ → ℕ → ℤ → Bool → List Change
 sink_changes p vertex value true = at_key p (Sink (record { vertex = vertex; value = value })) (pos 1) ∷ []
 sink_changes p vertex value false = []
@@ -134,7 +135,7 @@ noticed_changes p x effect rs =
     ++ map (item_change p x.location) effect.items.items)
     ++ arrivals p rs
 
--- the later request of a release, if it is made
+-- the changes of a release's later request; none if there is no new request
 abbrev pub later_changes : ℕ → ℕ → Option Time → Bool → List Change
 later_changes p vertex None asks = []
 later_changes p vertex (Some to) asks = ask_changes p (point_at vertex to) asks
@@ -144,9 +145,9 @@ released_changes p vertex times asks =
     let x = point_at vertex times.time in
     at_key p (Request x) (negsuc 0) ∷ at_key p (Unsent x) (negsuc 0) ∷ later_changes p vertex times.to asks
 
--- ---- what a feed, a take, a notice and a release go by
+-- ---- what determines the changes of a feed, a take, a notice and a release
 
--- a step that passes all tests but those of the limits leads where these changes do
+-- the changes lead from s to the state after the step x, if x passes all tests before those of the limits
 abbrev pub Leads : {A : Type 0} → ClusterState → Step A → List Change → Type 0
 Leads s x cs = IsState s → IsFreeBelow s x 13 → Reaches s (stepped s x) cs
 
@@ -155,23 +156,23 @@ pub record Has (g : Dataflow) (n : ℕ) (s : ClusterState) : Type 0 where
   pub graph : s.graph ≡ g
   pub count : length s.processors ≡ n
 
--- the effect of a take on processor p, whose request is new or not
+-- effect is the effect of the take on processor p, and asks says whether it makes a request that was not there
 pub record TakesSo {A : Type 0} (s : ClusterState) (p target : ℕ) (k : ValueAt) (effect : Effect A) (asks : Bool) : Type 0 where
   pub goes : target ≡ target_of s.graph k.point.location
   pub does : IsEffect (items_at (processor s p) target) (op_at s.graph target) k.point.time (take_outcome s p k.point.location k.point.time k.value) effect
   pub anew : asks ≡ (effect.asks && is_none (fin.get (processor s p).requests (point_at target k.point.time)))
 
--- the effect of a notice on processor p, which was asked for
+-- effect is the effect of the notice on processor p, and the notification was requested
 pub record NoticesSo {A : Type 0} (s : ClusterState) (p : ℕ) (x : Pointstamp) (effect : Effect A) : Type 0 where
   pub asked : fin.get (processor s p).requests x ≡ Some tt
   pub does : IsEffect (items_at (processor s p) x.location) (op_at s.graph x.location) x.time (notice_outcome s p x.location x.time) effect
 
--- whether a vertex makes a later request besides those that are left
+-- whether a release makes a later request that is not among those that are left
 abbrev pub asks_later : Requests → ℕ → Option Time → Bool
 asks_later left vertex None = false
 asks_later left vertex (Some to) = is_none (fin.get left (point_at vertex to))
 
--- a release on processor p of a capability that is kept, by which a later request is made or not
+-- processor p holds the capability that is released, and asks says whether the release makes a request that was not there
 pub record ReleasesSo (s : ClusterState) (p vertex : ℕ) (times : Times) (asks : Bool) : Type 0 where
   pub asked : fin.get (processor s p).requests (point_at vertex times.time) ≡ Some tt
   pub anew : asks ≡ asks_later (fin.remove (processor s p).requests (point_at vertex times.time)) vertex times.to

@@ -1,4 +1,4 @@
--- What a step adds at the places of a cluster's state, one by one and not yet joined.
+-- What a step adds at the places of a cluster's state, edit by edit; edits of the same place are not yet joined.
 use Rattle.std.specs.Prelude.{ℕ, ◌+◌, ℤ, pos, negsuc, ◌-ℤ◌, Bool, cond, ◌&&◌, ◌++◌, List, [], ◌∷◌, map, length, Option, Some, None, is_none}
 use Rattle.std.specs.List.{flat_map}
 use Rattle.std.specs.FinMap as fin
@@ -19,7 +19,7 @@ use Rattle.nd_steps.specs.Totals.{Edit}
 
 -- ---- the records that a step makes, with their processors
 
--- a feed, a take, a notice or a release: work on records and capabilities, of which others hear by what is unsent
+-- a feed, a take, a notice or a release: the step changes records and capabilities, and others hear of it through what is unsent
 abbrev pub Works : {A : Type 0} → Step A → Type 0
 Works (Feed p vertex values _) = Unit {0}
 Works (Take p edge t value) = Unit {0}
@@ -36,13 +36,13 @@ come s (Release p vertex times) = []
 come s (Broadcast p _) = []
 come s (Receive from to) = []
 
--- each is there once more, and processor p has it to send
+-- each record is added at its processor, and processor p has it to send
 abbrev pub come_edits : ℕ → List (ℕ × ValueAt) → List Edit
 come_edits p rs = map (λ r. (place_at r.0 (Records r.1), pos 1)) rs ++ map (λ r. (place_at p (Unsent r.1.point), pos 1)) rs
 
 -- ---- what else a step adds
 
--- the token's move from an epoch
+-- the edits that move a token from its epoch
 abbrev pub token_edits : ℕ → ℕ → ℕ → Afterwards → List Edit
 token_edits p vertex epoch token.Next =
     (place_at p (Token vertex), pos 1) ∷ (place_at p (Unsent (token_point vertex epoch)), negsuc 0) ∷ (place_at p (Unsent (token_point vertex (epoch + 1))), pos 1) ∷ []
@@ -51,18 +51,18 @@ token_edits p vertex epoch token.Stay = []
 token_edits p vertex epoch (token.To n) =
     (place_at p (Token vertex), pos n -ℤ pos epoch) ∷ (place_at p (Unsent (token_point vertex epoch)), negsuc 0) ∷ (place_at p (Unsent (token_point vertex n)), pos 1) ∷ []
 
--- the items that have another number then
+-- the edits of the items whose number differs afterwards
 abbrev pub item_edits : ℕ → ℕ → Items → Items → List Edit
 item_edits p vertex old new = map (λ e. (place_at p (State vertex e.0), e.1)) (entries (difference item_total old new))
 
--- a request that was not there
+-- the edits of a request, if the vertex makes one that was not there
 abbrev pub ask_edits : ClusterState → ℕ → ℕ → Time → Bool → List Edit
 ask_edits s p vertex t asks =
     cond (asks && is_none (fin.get (processor s p).requests (point_at vertex t)))
     ((place_at p (Request (point_at vertex t)), pos 1) ∷ (place_at p (Unsent (point_at vertex t)), pos 1) ∷ [])
     []
 
--- a later request, if there is one and it is not among those that are left
+-- the edits of a later request, if there is one that is not among those that are left
 abbrev pub later_edits : Requests → ℕ → ℕ → Option Time → List Edit
 later_edits left p vertex None = []
 later_edits left p vertex (Some to) =
@@ -73,7 +73,7 @@ later_edits left p vertex (Some to) =
 abbrev pub sink_edits : ℕ → ℕ → ℤ → Bool → List Edit
 sink_edits p vertex value counts = cond counts ((place_at p (Sink (record { vertex = vertex; value = value })), pos 1) ∷ []) []
 
--- all that a step adds
+-- all edits of a step
 abbrev pub edits : {A : Type 0} → ClusterState → Step A → List Edit
 edits {A} s (Feed p vertex values next) = token_edits p vertex (epoch_of s p vertex) next ++ come_edits p (come {A = A} s (Feed p vertex values next))
 edits {A} s (Take p edge t value) =

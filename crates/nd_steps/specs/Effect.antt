@@ -1,4 +1,5 @@
--- What a step changes: each key of a map and each queue at which the states before and after it differ, with what stands there before and after.
+-- The effect of a step: each key of a map and each queue at which the states before and after it differ, with the values before
+-- and after.
 use Rattle.std.specs.Prelude.{◌≤◌, ℕ, zero, suc, ◌+◌, ℤ, Bool, Option, is_some, cond, List, [], ◌∷◌, ◌++◌, length}
 use Rattle.std.specs.List.{flat_map}
 use Rattle.std.specs.Ordering.{eq_by_cmp}
@@ -22,24 +23,24 @@ use Rattle.nd_steps.specs.declared.effect.Effect.{Effect}
 
 -- the eight lists of what a step changes
 pub record EffectValue : Type 0 where
-  -- the numbers that vertices keep for items, if they keep one
+  -- the numbers of the items of vertices; None if the item is absent
   pub items : List (Altered ItemAt (Option ℤ))
   -- how many changes are in the queue to a processor
   pub queues : List (Altered ℕ ℕ)
-  -- how many records there are of a value at an edge's pointstamp
+  -- the number of records of a value at a pointstamp of an edge
   pub records : List (Altered ValueAt ℕ)
-  -- whether a notice is asked for at a vertex's pointstamp
+  -- whether there is a request at a pointstamp of a vertex
   pub requests : List (Altered Pointstamp Bool)
   -- how often a sink vertex has counted a value
   pub sinks : List (Altered SinkKey ℕ)
   -- the epoch of an input vertex's token, if it is open
   pub tokens : List (Altered ℕ (Option ℕ))
-  -- the entries of what is unsent
+  -- the entries of unsent changes
   pub unsent : List (Altered Pointstamp ℤ)
   -- the entries of views
   pub views : List (Altered Pointstamp ℤ)
 
--- the lists of a value of the code
+-- the lists of an `Effect`
 abbrev pub lists_of : {A : Type 0} → Effect A → EffectValue
 lists_of e = record {
   items = e.items.items;
@@ -86,18 +87,18 @@ abbrev pub view_at : ClusterState → ClusterState → Place → List (Altered P
 view_at s t (view_of q x) = altered q x (in_change (view s q) x) (in_change (view t q) x)
 view_at s t _ = []
 
--- ---- what changes of the queues
+-- ---- what changes in the queues
 
--- f 0 ++ .. ++ f (n - 1)
+-- f 0 ++ ... ++ f (n - 1)
 abbrev pub joined_below : {X : Type 0} → ℕ → (ℕ → List X) → List X
 joined_below zero f = []
 joined_below (suc n) f = joined_below n f ++ f n
 
--- the lengths of a queue, if it differs
+-- the lengths of a queue before and after, if the queue differs
 abbrev pub queue_at : ClusterState → ClusterState → ℕ → ℕ → List (Altered ℕ ℕ)
 queue_at s t from to = cond (eq_by_cmp queue_cmp (queue s from to) (queue t from to)) [] (altered from to (length (queue s from to)) (length (queue t from to)))
 
--- by sender, and then by receiver
+-- the queues that differ, by sender, and then by receiver
 abbrev pub queues_altered : ClusterState → ClusterState → List (Altered ℕ ℕ)
 queues_altered s t = let n : ℕ = length s.processors in joined_below n (λ from. joined_below n (queue_at s t from))
 
@@ -107,7 +108,7 @@ queues_altered s t = let n : ℕ = length s.processors in joined_below n (λ fro
 abbrev pub places_altered : ClusterState → ClusterState → List Place
 places_altered s t = keys_of (entries (difference s t))
 
--- what changes at places and in queues
+-- what changes at these places and in these queues
 abbrev pub effect_at : ClusterState → ClusterState → List Place → List (Altered ℕ ℕ) → EffectValue
 effect_at s t places queues = record {
   items = flat_map (item_at s t) places;
@@ -124,14 +125,14 @@ effect_at s t places queues = record {
 unfoldable pub effect_of : ClusterState → ClusterState → EffectValue
 effect_of s t = effect_at s t (places_altered s t) (queues_altered s t)
 
--- how many elements the lists have
+-- how many elements the lists have together
 abbrev pub altered_count : EffectValue → ℕ
 altered_count e =
     length e.items + (length e.queues + (length e.records + (length e.requests + (length e.sinks + (length e.tokens + (length e.unsent + length e.views))))))
 
--- ---- the records of which it is told
+-- ---- records with an exact effect
 
--- the record makes t of s, and names no more than it changes
+-- the record leads from s to t, and names no more keys and ends of queues than the step changes
 pub record MakesExactly {A : Type 0} (s : ClusterState) (r : Record A) (t : ClusterState) : Type 0 where
   pub makes : Makes s r t
   pub exact : named r ≤ changed s t

@@ -1,4 +1,4 @@
--- What comes for a record that is taken, and the changes of such a take.
+-- The consequence of a take: what arrives for the record that is taken; and the changes of such a take.
 use Rattle.std.specs.Prelude.{ℕ, ℤ, pos, negsuc, cond, List, [], ◌∷◌, ◌++◌, length, nat_lt, if◌then◌else◌}
 use Rattle.nd_time.specs.Time.{Time, ingress_of, egress_of, feedback_of, last_of}
 use Rattle.nd_time.specs.Limits.{max_depth, max_counter}
@@ -15,31 +15,31 @@ use Rattle.nd_steps.specs.declared.come.Come.{Come}
 use Rattle.nd_steps.specs.declared.come.Come.TheVariants.{Nothing, Record, Count}
 use Rattle.nd_steps.specs.declared.flow.Flow.{Flow}
 
--- the time past an action, or the same where the action is not taken: by the limits, or outside all loops
+-- the time after an action; an ingress at the limit of depth leaves the time as it is
 abbrev pub past_action : Action → Time → Time
 past_action Identity t = t
 past_action Ingress t = if nat_lt (length t.counters) max_depth then record { epoch = t.epoch; counters = ingress_of t.counters } else t
 past_action Egress t = record { epoch = t.epoch; counters = egress_of t.counters }
 past_action Feedback t = if nat_lt (last_of t.counters) max_counter then record { epoch = t.epoch; counters = feedback_of t.counters } else t
 
--- the record that comes for one that goes, at its time past the action; that one again if none comes
+-- the record that arrives for the one that is taken, at the time after the action; the taken record itself if none arrives
 abbrev pub come_key : ValueAt → Come → ValueAt
 come_key gone Nothing = gone
 come_key gone (Record action q edge value) = record_key edge (past_action action gone.point.time) value
 come_key gone (Count vertex) = gone
 
--- n more records of a key at processor p, and n more at a pointstamp of what it has to send
+-- the change that adds n records of a key at processor p; `more_unsent` adds n at a pointstamp of what p has to send
 abbrev pub more_records : ℕ → ValueAt → ℤ → Change
 more_records p key n = record { p = p; slot = Records key; n = n }
 
 abbrev pub more_unsent : ℕ → Pointstamp → ℤ → Change
 more_unsent p point n = record { p = p; slot = Unsent point; n = n }
 
--- a sink vertex counts a value once more
+-- the change of a sink vertex that counts a value once more
 abbrev pub count_more : ℕ → ℕ → ℤ → Change
 count_more p vertex value = record { p = p; slot = Sink (record { vertex = vertex; value = value }); n = pos 1 }
 
--- what comes for a record that processor p takes
+-- the changes of what arrives when processor p takes the record gone
 abbrev pub arriving : ℕ → ValueAt → Come → List Change
 arriving p gone Nothing = []
 arriving p gone (Record action q edge value) =
@@ -47,18 +47,19 @@ arriving p gone (Record action q edge value) =
     more_records q key (pos 1) ∷ more_unsent p key.point (pos 1) ∷ []
 arriving p gone (Count vertex) = count_more p vertex gone.value ∷ []
 
--- the changes of the take of a record by processor p for which this comes, in a fixed order
+-- the changes of a take by processor p with this consequence, in a fixed order
 abbrev pub come_changes : ℕ → ValueAt → Come → List Change
 come_changes p gone come = more_records p gone (negsuc 0) ∷ more_unsent p gone.point (negsuc 0) ∷ arriving p gone come
 
--- the same in the order in which they are made: the record goes last, and its pointstamp before all else comes or late
+-- the same in the order in which they are applied: the record is removed last, and its pointstamp is removed from what is unsent
+-- before what arrives is added, or after it if the flow is late
 abbrev pub flow_changes : ℕ → ValueAt → Flow → List Change
 flow_changes p gone f =
     let unsent : Change = more_unsent p gone.point (negsuc 0) in
     let goes : List Change = more_records p gone (negsuc 0) ∷ [] in
     cond f.late (arriving p gone f.come ++ unsent ∷ goes) (unsent ∷ arriving p gone f.come ++ goes)
 
--- the changes that a flow tells of a step, in this order; of a step that is no take, none
+-- the changes that a flow stands for, in this order; none if the step is not a take
 abbrev pub told_changes : {A : Type 0} → Step A → Flow → List Change
 told_changes (Feed p vertex values _) f = []
 told_changes (Take p edge t value) f = flow_changes p (record_key edge t value) f

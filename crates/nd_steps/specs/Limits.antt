@@ -1,4 +1,4 @@
--- The limits of counts and of entries, where changes are made.
+-- The limits of counts and of entries, for changes.
 use Rattle.std.specs.Prelude.{◌≢◌, ◌↔◌, IsTrue, ℤ, pos, ◌+ℤ◌, List}
 use Rattle.nd_processor.specs.State.{ProcessorState}
 use Rattle.nd_protocol.specs.State.{ClusterState}
@@ -11,24 +11,25 @@ use Rattle.nd_steps.specs.declared.change.Change.{Change}
 use Rattle.nd_steps.specs.declared.reading.Reading.{Reading}
 use Rattle.nd_steps.specs.declared.slot.Slot.{Slot}
 
--- what stands at the place of a change after it
+-- the integer at the place of a change after the change
 unfoldable pub after : List ProcessorState → Change → ℤ
 after processors c = stands (own processors c) c.slot +ℤ c.n
 
--- it is within the limit of a count, of an entry
+-- the change leaves a count within its limit; `EntryStays` is the same for an entry
 abbrev pub CountStays : List ProcessorState → Change → Type 0
 CountStays processors c = CountWithin c.slot (after processors c)
 
 abbrev pub EntryStays : List ProcessorState → Change → Type 0
 EntryStays processors c = EntryWithin c.slot (after processors c)
 
--- the limit that t passes, for which changes that lead there are refused: that of counts before that of entries
+-- the refusal of changes that lead to t, which exceeds this limit: the limit of counts is tested before that of entries
 abbrev pub LimitFails : ClusterState → Refusal → Type 0
 LimitFails t CountFull = HasLargeCount t
 LimitFails t DeltaFull = (HasLargeCount t → ⊥) × HasLargeEntry t
 LimitFails t _ = ⊥
 
--- what is read of a key at which this stands then: whether something does, and whether it is within the limit of a count, of an entry
+-- r says what holds at the key l if z is the integer there: whether z is not 0, and whether z is within the limits of counts and
+-- of entries
 pub record ReadsAs (r : Reading) (l : Slot) (z : ℤ) : Type 0 where
   pub leaves : IsTrue r.leaves ↔ (z ≢ pos 0)
   pub count : IsTrue r.count_stays ↔ CountWithin l z

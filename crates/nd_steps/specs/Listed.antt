@@ -1,4 +1,4 @@
--- What a record changes, of whatever kind it is, as one list.
+-- What the record of a step changes, as one list for every kind of step.
 use Rattle.std.specs.Prelude.{ℕ, ℤ, neg_ℤ, List, [], ◌∷◌, ◌++◌, map}
 use Rattle.nd_paths.specs.declared.point.Pointstamp.{Pointstamp}
 use Rattle.nd_delta.specs.Delta.{DeltaValue, entries}
@@ -10,11 +10,11 @@ use Rattle.nd_steps.specs.declared.record.Changes.{Changes}
 use Rattle.nd_steps.specs.declared.record.Changes.TheVariants.{Each, Flowed, Sent, Received}
 use Rattle.nd_steps.specs.declared.record.Record.{Record}
 
--- an entry of a part that p sends is unsent no longer
+-- an entry of the part that p sends, removed from what is unsent
 abbrev pub leaves : ℕ → Pointstamp × ℤ → Entry
 leaves p e = Key (more_unsent p e.0 (neg_ℤ e.1))
 
--- an entry of a change that q receives comes into its view
+-- an entry of the change that q receives, added to its view
 abbrev pub arrives : ℕ → Pointstamp × ℤ → Entry
 arrives q e = View q e.0 e.1
 

@@ -1,4 +1,4 @@
--- What comes by a take for the record that goes, where it is one record.
+-- The consequence of a take, if it is one record.
 use Rattle.std.specs.Prelude.{◌≡◌, ◌≢◌, ◌≤◌, ℕ, ◌+◌, ◌++◌, List, [], ◌∷◌, length, nat_eq, ◌&&◌, if◌then◌else◌}
 use Rattle.nd_time.specs.Limits.{max_depth}
 use Rattle.nd_graph.specs.Graph.{Dataflow, op_at, action_of}
@@ -12,12 +12,12 @@ use Rattle.nd_steps.specs.Flows.{come_key}
 use Rattle.nd_steps.specs.declared.come.Come.{Come}
 use Rattle.nd_steps.specs.declared.come.Come.TheVariants.{Record}
 
--- the edges that leave a port of a vertex, by their numbers, with their routes; the first edge has number i
+-- the edges that leave a port of a vertex: their numbers and routes; the first edge has number i
 abbrev pub leaving : ℕ → ℕ → ℕ → List Edge → List (ℕ × Route)
 leaving vertex port i [] = []
 leaving vertex port i (e ∷ es) = (if nat_eq e.from vertex && nat_eq e.port port then (i, e.route) ∷ [] else []) ++ leaving vertex port (i + 1) es
 
--- for a record that goes, and by the one emission of its target, this comes, at another pointstamp
+-- come is the consequence of taking the record gone: one record, at another pointstamp, from the one emission e of the target
 pub record ComesBy (g : Dataflow) (n p vertex : ℕ) (gone : ValueAt) (e : Emission) (come : Come) : Type 0 where
   pub to : ℕ
   pub edge : ℕ

@@ -1,4 +1,4 @@
--- What it means that changes are put in the order in which they are made, or refused for a limit.
+-- Changes in the order in which they are applied, and changes that are refused because of a limit.
 use Rattle.std.specs.Prelude.{ℕ, List}
 use Rattle.nd_processor.specs.State.{ProcessorState}
 use Rattle.nd_processor.specs.declared.key.ValueAt.{ValueAt}
@@ -13,34 +13,34 @@ use Rattle.nd_steps.specs.declared.change.Change.{Change}
 use Rattle.nd_steps.specs.declared.come.Come.{Come}
 use Rattle.nd_steps.specs.declared.flow.Flow.{Flow}
 
--- ---- what is read of changes
+-- ---- what is read about changes
 
 -- all counts and all entries are within their limits afterwards
 abbrev pub StayWithin : List ProcessorState → List Change → Type 0
 StayWithin processors cs = Each (CountStays processors) cs × Each (EntryStays processors) cs
 
--- the limit that a count or an entry passes then: that of counts comes first
+-- the refusal if a count or an entry exceeds its limit afterwards; that of counts comes first
 abbrev pub StayFails : List ProcessorState → List Change → Refusal → Type 0
 StayFails processors cs CountFull = Each (CountStays processors) cs → ⊥
 StayFails processors cs DeltaFull = Each (CountStays processors) cs × (Each (EntryStays processors) cs → ⊥)
 StayFails processors cs _ = ⊥
 
--- ---- what that says of the states to which they lead
+-- ---- the states to which changes lead
 
--- in any order, changes lead from a state with these processors to another
+-- the changes lead from some state with these processors to another state, in whatever order they are listed
 abbrev pub CanReach : List ProcessorState → List Change → Type 0
 CanReach processors all = (s : ClusterState) × (t : ClusterState) × ReachesIn processors s t all
 
--- in this order they can be made and lead there, past no limit
+-- in the order of cs the changes can be applied and lead to the same state, which exceeds no limit
 pub record AreOrdered (processors : List ProcessorState) (all cs : List Change) : Type 0 where
   pub leads : (s t : ClusterState) → ReachesIn processors s t all → LeadsTo s t cs
   pub counts : (s t : ClusterState) → ReachesIn processors s t all → HasLargeCount t → ⊥
   pub entries : (s t : ClusterState) → ReachesIn processors s t all → HasLargeEntry t → ⊥
 
--- the state to which they lead passes the limit for which they are refused
+-- each state to which the changes lead exceeds the limit that the refusal r names
 abbrev pub PassLimit : List ProcessorState → List Change → Refusal → Type 0
 PassLimit processors all r = (s t : ClusterState) → ReachesIn processors s t all → LimitFails t r
 
--- the flow of a take of a record by processor p, for which this comes, has its changes in such an order
+-- the flow f has the changes of processor p's take with this consequence in such an order
 abbrev pub IsOrderedFlow : List ProcessorState → ℕ → ValueAt → Come → Flow → Type 0
 IsOrderedFlow processors p gone come f = AreOrdered processors (come_changes p gone come) (flow_changes p gone f)

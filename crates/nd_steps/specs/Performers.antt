@@ -1,4 +1,4 @@
--- What a step of a performer changes, as it is found, and where its changes lead.
+-- The changes of a performer's step as they are found, and where they lead.
 use Rattle.std.specs.Prelude.{◌≡◌, ◌≢◌, ℕ, ℤ, ◌++◌, Bool, false, List, [], ◌∷◌, Some, map, ⊤}
 use Rattle.std.specs.FinMap as fin
 use Rattle.nd_time.specs.Time.{Time}
@@ -27,30 +27,31 @@ use Rattle.nd_steps.specs.declared.react.Taken.{Taken}
 
 -- ---- a draft that grows
 
--- a draft of the same processor, with these changes after its own
+-- new is a draft of the same processor, with these changes appended to those of old
 pub record Adds {A : Type 0} (old new : Draft A) (cs : List Change) : Type 0 where
   pub p : new.p ≡ old.p
   pub changes : new.changes.items ≡ old.changes.items ++ cs
 
--- with records that come, each to its processor, and that the draft's processor has to send
+-- new is old with the changes of records that arrive, which the draft's processor has to send
 abbrev pub AddsRecords : {A : Type 0} → Draft A → Draft A → List (ℕ × ValueAt) → Type 0
 AddsRecords old new rs = Adds old new (arrivals old.p rs)
 
--- a vertex's items get other numbers
+-- the changes of a vertex's items to their new numbers
 abbrev pub items_changes : ℕ → ℕ → List ItemEdit → List Change
 items_changes p vertex items = map (item_change p vertex) items
 
--- a sink counts a value, or not
+-- the change of a sink that counts a value; none if counts is false
 abbrev pub count_changes : ℕ → SinkKey → Bool → List Change
 count_changes p key counts = sink_changes p key.vertex key.value counts
 
 -- ---- the records that the performer's vertex makes
 
--- of an emission, on an edge at a location
+-- the record of an emission on the edge at a location, if the edge leaves its port
 abbrev pub records_along : {B : Type 0} → Performer B → Emission → ℕ → Edge → List (ℕ × ValueAt)
 records_along by e location edge = made_along by.n by.p by.vertex e location edge
 
--- of an emission, of several, and of values that it is fed at a time
+-- the records of one emission; `all_records_by` and `fed_records_by` are those of several, and of the values that the vertex is
+-- fed at a time
 abbrev pub records_by : {B : Type 0} → Performer B → Emission → List (ℕ × ValueAt)
 records_by by e = made_by by.graph.now by.n by.p by.vertex e
 
@@ -62,7 +63,7 @@ fed_records_by by t values = fed_by by.graph.now by.n by.p by.vertex t values
 
 -- ---- the changes that are found
 
--- of its feed, of its take, of its notice, and of its release
+-- the changes of a feed; the next three are those of a take, of a notice and of a release
 abbrev pub found_fed : {B : Type 0} → Performer B → Fed → List Change
 found_fed by fed = fed_changes by.p by.vertex fed.epoch fed.next (fed_records_by by (flat fed.epoch) fed.values.now)
 
@@ -77,55 +78,56 @@ found_released by times asks = released_changes by.p by.vertex times asks
 
 -- ---- where changes lead
 
--- in each cluster of the performer, where its vertex has the token of this epoch, they are those of its feed
+-- in each cluster of the performer in which its vertex has a token at this epoch, the changes are those of the feed
 abbrev pub FeedLeads : (A : Type 0) {B : Type 0} → Performer B → Fed → List Change → Type 0
 FeedLeads A by fed cs =
     (s : ClusterState) → Has by.graph.now by.n s → fin.get (processor s by.p).tokens by.vertex ≡ Some fed.epoch
     → Leads {A = A} s (Feed by.p by.vertex fed.values.now fed.next) cs
 
--- where the record has this effect, they are those of its take
+-- in each cluster of the performer in which the take has this effect, the changes are those of the take
 abbrev pub TakeLeads : {A B : Type 0} → Performer B → Taken A → List Change → Type 0
 TakeLeads {A} by taken cs =
     (s : ClusterState) → Has by.graph.now by.n s → TakesSo s by.p by.vertex taken.key.now taken.effect.now taken.asks
     → Leads {A = A} s (Take by.p taken.key.now.point.location taken.key.now.point.time taken.key.now.value) cs
 
--- where the request has this effect, they are those of its notice
+-- in each cluster of the performer in which the notice has this effect, the changes are those of the notice
 abbrev pub NoticeLeads : {A B : Type 0} → Performer B → Time → Effect A → List Change → Type 0
 NoticeLeads {A} by t effect cs =
     (s : ClusterState) → Has by.graph.now by.n s → NoticesSo s by.p (point_at by.vertex t) effect
     → Leads {A = A} s (Notice by.p by.vertex t) cs
 
--- where the capability is kept and the later request is new or not, they are those of its release
+-- in each cluster of the performer in which the capability is held, and asks says whether the later request is new, the changes
+-- are those of the release
 abbrev pub ReleaseLeads : (A : Type 0) {B : Type 0} → Performer B → Times → Bool → List Change → Type 0
 ReleaseLeads A by times asks cs =
     (s : ClusterState) → Has by.graph.now by.n s → ReleasesSo s by.p by.vertex times asks
     → Leads {A = A} s (Release by.p by.vertex times) cs
 
--- ---- what comes for a record that is taken
+-- ---- the consequence of a take
 
--- a record of an emission comes past an action, on the edge at a location that has a route
+-- the consequence that is one record: of the emission e, at the time after the action, on the edge with this location and route
 abbrev pub coming : {B : Type 0} → Performer B → Action → ℕ → Route → Emission → Come
 coming by action edge route e = Record action (destination route by.n by.p e.value) edge e.value
 
--- this comes for a record that goes, by the one emission of the vertex
+-- come is the consequence of taking the record gone, from the one emission e of the vertex
 abbrev pub ComesFor : {B : Type 0} → Performer B → ValueAt → Emission → Come → Type 0
 ComesFor by gone e come = ComesBy by.graph.now by.n by.p by.vertex gone e come
 
--- the changes of the take are those of the record that goes and of what comes for it
+-- the changes of the take are those that remove its record, and those of this consequence
 abbrev pub FlowLeads : {A B : Type 0} → Performer B → Taken A → Come → Type 0
 FlowLeads by taken come = TakeLeads by taken (come_changes by.p taken.key.now come)
 
--- an emission makes one record, on another edge than that of the record that goes
+-- the emission e makes one record, on another edge than the record that is taken
 abbrev pub PassesOn : {B : Type 0} → Performer B → ValueAt → Emission → Type 0
 PassesOn by gone e = (r : ℕ × ValueAt) × (records_by by e ≡ r ∷ []) × (r.1.point.location ≢ gone.point.location)
 
--- nothing is emitted, or one emission passes the record on and no sink counts it
+-- nothing is emitted; or there is one emission, which makes one record, and no sink counts the value
 abbrev pub ComesAlone : {B : Type 0} → Performer B → ValueAt → Bool → List Emission → Type 0
 ComesAlone by gone sink [] = ⊤
 ComesAlone by gone false (e ∷ []) = PassesOn by gone e
 ComesAlone by gone _ _ = ⊥
 
--- a take that makes no request and changes no item, by which at most one thing comes
+-- a take that makes no new request, changes no item, and has at most one consequence
 pub record IsPlainTake {A B : Type 0} (by : Performer B) (taken : Taken A) : Type 0 where
   pub asks : taken.asks ≡ false
   pub still : taken.effect.now.items.items ≡ []

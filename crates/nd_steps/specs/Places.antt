@@ -1,4 +1,4 @@
--- The places of a cluster's state: a key of one of a processor's maps, with the processor, or one of a view.
+-- The places of a cluster's state: a processor and a key of one of its maps, or a pointstamp of a view.
 use Rattle.std.specs.Prelude.{◌≡◌, ℕ, zero, suc, ℤ, pos, Bool, [], refl}
 use Rattle.std.specs.declared.cmp.Ordering.{Ordering}
 use Rattle.std.specs.Ordering.{nat_cmp, int_cmp, ordering_then, eq_by_cmp}
@@ -13,7 +13,7 @@ use Rattle.nd_paths.specs.declared.point.Pointstamp.{Pointstamp}
 use Rattle.nd_steps.specs.declared.slot.Slot.{Slot}
 use Rattle.nd_steps.specs.declared.slot.Slot.TheVariants.{Records, Request, Token, State, Sink, Unsent}
 
--- a key of one of processor p's maps, or of q's view
+-- a key of one of processor p's maps, or a pointstamp of q's view
 pub data Place : Type 0 where
   place_at : (p : ℕ) (slot : Slot) → Place
   view_of : (q : ℕ) (point : Pointstamp) → Place
@@ -24,7 +24,7 @@ pub data Place : Type 0 where
 abbrev no_time : Time
 no_time = record { epoch = 0; counters = [] }
 
--- which map it is, whose, and where in it
+-- the parts of a place: the map, the processor, and the key
 abbrev pub parts : Place → ℕ × (ℕ × (Pointstamp × ℤ))
 parts (place_at p (Records key)) = (0, (p, (key.point, key.value)))
 parts (place_at p (Request point)) = (1, (p, (point, pos 0)))
@@ -65,7 +65,7 @@ in_processor_cmp a b = ordering_then (nat_cmp a.0 b.0) (in_map_cmp a.1 b.1)
 abbrev parts_cmp : ℕ × (ℕ × (Pointstamp × ℤ)) → ℕ × (ℕ × (Pointstamp × ℤ)) → Ordering
 parts_cmp a b = ordering_then (nat_cmp a.0 b.0) (in_processor_cmp a.1 b.1)
 
--- by map, then by processor, then by key
+-- the order of places: by map, then by processor, then by key
 abbrev pub place_cmp : Place → Place → Ordering
 place_cmp a b = parts_cmp (parts a) (parts b)
 
@@ -90,10 +90,10 @@ in_processor_exact a b h = exact_pairs nat_cmp in_map_cmp exact_unsigned in_map_
 parts_exact : IsAntisymmetric parts_cmp
 parts_exact a b h = exact_pairs nat_cmp in_processor_cmp exact_unsigned in_processor_exact a b h
 
--- places that compare alike are one
+-- places that compare as equal are equal
 pub place_exact : IsAntisymmetric place_cmp
 place_exact a b h = sym (rebuilt-parts a) ∙ ap rebuilt (parts_exact (parts a) (parts b) h) ∙ rebuilt-parts b
 
--- whether two places are one
+-- whether two places are equal
 abbrev pub is_place : Place → Place → Bool
 is_place a b = eq_by_cmp place_cmp a b

@@ -1,4 +1,4 @@
--- Lists of changes as a plan makes them: no place twice, and nothing is taken out before the last is put in.
+-- Lists of changes as a plan makes them: no place occurs twice, and everything is added before anything is removed.
 use Rattle.std.specs.Prelude.{◌≡◌, ◌≢◌, ◌≤◌, ℕ, ◌+◌, pos, ◌+ℤ◌, cond, List, [], ◌∷◌, length}
 use Rattle.std.specs.Ordering.{eq_by_cmp}
 use Rattle.nd_processor.specs.State.{ProcessorState}
@@ -12,25 +12,26 @@ use Rattle.nd_steps.specs.Undone.{IsGain}
 use Rattle.nd_steps.specs.Totals.{total_at, edits_of}
 use Rattle.nd_steps.specs.declared.change.Change.{Change}
 
--- how often a place stands in a list of changes
+-- how often a place occurs in a list of changes
 abbrev pub often : Place → List Change → ℕ
 often k [] = 0
 often k (c ∷ cs) = cond (eq_by_cmp place_cmp k (place_of c)) 1 0 + often k cs
 
--- no place stands twice
+-- no place occurs twice
 abbrev pub Once : List Change → Type 0
 Once cs = (k : Place) → often k cs ≤ 1
 
--- every change of the list has P
+-- every change of the list satisfies P
 abbrev pub Each : (Change → Type 0) → List Change → Type 0
 Each P [] = Unit {0}
 Each P (c ∷ cs) = P c × Each P cs
 
--- the epoch or the item's number that stands at its place then has the bits of its type
+-- after the change, the epoch of a token or the number of an item at its place fits its type
 abbrev pub StaysRanged : ClusterState → Change → Type 0
 StaysRanged s c = SlotRanged c.slot (standing s (place_of c) +ℤ c.n)
 
--- in any order, the changes add what t has more than s, a state that a cluster may be in; they change the processors alone
+-- the changes, in any order, add the difference of t and s, a state that a cluster may be in; s and t differ in their processors
+-- only
 pub record Reaches (s t : ClusterState) (cs : List Change) : Type 0 where
   pub state : IsState s
   pub graph : t.graph ≡ s.graph
@@ -44,11 +45,11 @@ pub record Reaches (s t : ClusterState) (cs : List Change) : Type 0 where
   pub ranged : Each (StaysRanged s) cs
   pub totals : (k : Place) → standing t k ≡ standing s k +ℤ total_at (edits_of cs) k
 
--- the same, of a state with these processors
+-- the same, if s has these processors
 abbrev pub ReachesIn : List ProcessorState → ClusterState → ClusterState → List Change → Type 0
 ReachesIn processors s t cs = (s.processors ≡ processors) × Reaches s t cs
 
--- the list can be run in s, leads to t, and is as long as the number of keys and queues at which the two differ
+-- the list can be applied to s, leads to t, and is as long as the number of keys and queues at which s and t differ
 pub record LeadsTo (s t : ClusterState) (cs : List Change) : Type 0 where
   pub runs : IsRunnable s cs
   pub arrives : applied s cs ≡ t

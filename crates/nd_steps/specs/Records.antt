@@ -1,4 +1,4 @@
--- What the record of a step names, and what it makes of a cluster's state.
+-- What the record of a step names, and to which state it leads.
 use Rattle.std.specs.Prelude.{◌≡◌, ◌<◌, ℕ, ◌+◌, List, Some, slice_get, length}
 use Rattle.nd_delta.specs.Delta.{DeltaValue, plus, size, IsTooLarge, IsPartOf}
 use Rattle.nd_mesh.specs.Mesh.{row, HasQueue, IsFull}
@@ -24,7 +24,7 @@ named_by x (Received from to change) = size change + 1
 abbrev pub named : {A : Type 0} → Record A → ℕ
 named r = named_by r.step r.changes
 
--- the same changes; how much room a list has is no part of them
+-- the changes are equal; the capacity of a list does not count
 abbrev pub AreEqual : {A : Type 0} → Changes A → Changes A → Type 0
 AreEqual (Each changes) (Each others) = others.items ≡ changes.items
 AreEqual (Flowed flow) (Flowed other) = other ≡ flow
@@ -32,58 +32,58 @@ AreEqual (Sent p part) (Sent q other) = (q ≡ p) × (other ≡ part)
 AreEqual (Received from to change) (Received k l other) = (k ≡ from) × (l ≡ to) × (other ≡ change)
 AreEqual _ _ = ⊥
 
--- ---- what a record makes
+-- ---- where a record leads
 
--- the changes can be made in s, one after the other, and lead to t
+-- the changes can be applied to s, one after the other, and lead to t
 abbrev pub RunsTo : ClusterState → List Change → ClusterState → Type 0
 RunsTo s cs t = IsRunnable s cs × (applied s cs ≡ t)
 
--- p can send a part of what is unsent: there is room for it
+-- p can send c, a part of what is unsent: no queue from p is full
 pub record CanSend (s : ClusterState) (p : ℕ) (c : DeltaValue) : Type 0 where
   pub there : p < length s.processors
   pub part : IsPartOf c (processor s p).unsent
   pub room : HasQueue IsFull (row s.queues p) → ⊥
 
--- it does
+-- p can send c, which leads to t
 abbrev pub Sends : ClusterState → ℕ → DeltaValue → ClusterState → Type 0
 Sends s p c t = CanSend s p c × (sent s p c ≡ t)
 
--- a queue's front can be received into a view: there is room for it
+-- c is the front of the queue and can be received: no entry of the view exceeds its limit afterwards
 pub record CanReceive (s : ClusterState) (from to : ℕ) (c : DeltaValue) : Type 0 where
   pub from_there : from < length s.processors
   pub to_there : to < length s.processors
   pub front : slice_get (queue s from to) 0 ≡ Some c
   pub room : IsTooLarge (plus (view s to) c) → ⊥
 
--- it is
+-- c can be received, which leads to t
 abbrev pub Receives : ClusterState → ℕ → ℕ → DeltaValue → ClusterState → Type 0
 Receives s from to c t = CanReceive s from to c × (received s from to ≡ t)
 
--- the changes of a step make t of s
+-- the changes of a step lead from s to t
 abbrev pub MakesBy : {A : Type 0} → ClusterState → Step A → Changes A → ClusterState → Type 0
 MakesBy s x (Each changes) t = RunsTo s changes.items t
 MakesBy s x (Flowed flow) t = RunsTo s (told_changes x flow) t
 MakesBy s x (Sent p part) t = Sends s p part t
 MakesBy s x (Received from to change) t = Receives s from to change t
 
--- those of a record do
+-- the changes of a record lead from s to t
 abbrev pub Makes : {A : Type 0} → ClusterState → Record A → ClusterState → Type 0
 Makes s r t = MakesBy s r.step r.changes t
 
--- t is the state that has P
+-- t is the only state that can satisfy P
 abbrev pub IsWhere : (ClusterState → Type 0) → ClusterState → Type 0
 IsWhere P t = (u : ClusterState) → P u → t ≡ u
 
--- the second record makes what the first does
+-- the record q leads wherever the record r leads
 abbrev pub MakesWhat : {A : Type 0} → Record A → Record A → Type 0
 MakesWhat r q = (s t : ClusterState) → Makes s r t → Makes s q t
 
--- ---- back to where it was made
+-- ---- back to the state before a step
 
--- a state that a cluster may be in has P, from which was led here
+-- some state that a cluster may be in satisfies P
 abbrev pub CameFrom : (ClusterState → Type 0) → Type 0
 CameFrom P = (s : ClusterState) × IsState s × P s
 
--- t is that state, whichever it was
+-- t is the only state that a cluster may be in and that satisfies P
 abbrev pub IsBackAt : (ClusterState → Type 0) → ClusterState → Type 0
 IsBackAt P t = (s : ClusterState) → IsState s → P s → t ≡ s

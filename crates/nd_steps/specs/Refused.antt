@@ -1,4 +1,4 @@
--- Why a broadcast and a receive are refused, by the parts of a cluster that they are about (this project's own rule).
+-- Why a broadcast or a receive is refused, in terms of the parts of a cluster that it uses (this project's own rule).
 use Rattle.std.specs.Prelude.{◌≡◌, ◌≢◌, List, [], Some, slice_get}
 use Rattle.nd_graph.specs.Graph.{Dataflow}
 use Rattle.nd_paths.specs.Order.{IsStrictlyBefore}
@@ -13,15 +13,15 @@ use Rattle.nd_protocol.specs.declared.part.Part.{Part}
 use Rattle.nd_protocol.specs.declared.refusal.Refusal.{Refusal}
 use Rattle.nd_protocol.specs.declared.refusal.Refusal.TheVariants.{NothingToSend, NotAdmissible, QueueEmpty, DeltaFull, Memory}
 
--- what stays once a processor has sent c is upright, with the tokens that it holds
+-- after a processor has sent c, what stays is upright, given the tokens that the processor holds
 abbrev pub LeavesUpright : Dataflow → ProcessorState → DeltaValue → Type 0
 LeavesUpright g q c = IsUpright (IsStrictlyBefore g) (HoldsToken q) (at (minus q.unsent c))
 
--- x is the least entry that stays without its support
+-- x is the least entry that stays without support
 abbrev pub LeavesAlone : Dataflow → ProcessorState → DeltaValue → Pointstamp → Type 0
 LeavesAlone g q c x = IsLeast (IsUnsupported (IsStrictlyBefore g) (HoldsToken q) (at (minus q.unsent c))) x
 
--- why c, which is what the part names, is not sent
+-- why c, the part that a broadcast names, is not sent
 abbrev pub SendFails : Dataflow → ProcessorState → DeltaValue → Refusal → Type 0
 SendFails g q c NothingToSend = c ≡ none
 SendFails g q c (NotAdmissible x) = (c ≢ none) × LeavesAlone g q c x

@@ -1,4 +1,4 @@
--- What stands at a key of a processor's maps, as an integer that is 0 if nothing does, and the processor with another integer there.
+-- The integer at a key of a processor's maps, 0 if the map does not have the key; and the processor with another integer there.
 use Rattle.std.specs.Prelude.{◌≡◌, ◌<◌, ◌⊎◌, ◌≤◌, ℕ, zero, suc, ◌+◌, ℤ, pos, negsuc, ◌≤ℤ◌, cond, length, Option, Some, None, slice_set, unsigned_abs}
 use Rattle.std.specs.Ordering.{nat_cmp}
 use Rattle.std.specs.FinMap as fin
@@ -14,7 +14,7 @@ use Rattle.nd_protocol.specs.Ranges.{IsValue}
 use Rattle.nd_steps.specs.declared.slot.Slot.{Slot}
 use Rattle.nd_steps.specs.declared.slot.Slot.TheVariants.{Records, Request, Token, State, Sink, Unsent}
 
--- ---- what is there or not, as an integer
+-- ---- an optional value as an integer
 
 -- 1 for a request, 0 for none
 abbrev pub from_request : Option (Unit {0}) → ℤ
@@ -31,7 +31,7 @@ abbrev pub from_number : Option ℤ → ℤ
 from_number None = pos 0
 from_number (Some n) = n
 
--- ---- what stands at a key
+-- ---- the integer at a key
 
 abbrev pub stands : ProcessorState → Slot → ℤ
 stands q (Records key) = int_at q.records key
@@ -59,14 +59,14 @@ puts q (State vertex key) z = record q { items = slice_set q.items vertex (set i
 puts q (Sink key) z = record q { sinks = set sink_total q.sinks key (natural z) }
 puts q (Unsent point) z = record q { unsent = with_entry q.unsent point z }
 
--- ---- what may stand there
+-- ---- the integers that may be at a key
 
--- the map is there
+-- the processor has the map of the key
 abbrev pub SlotIsThere : ProcessorState → Slot → Type 0
 SlotIsThere q (State vertex key) = vertex < length q.items
 SlotIsThere q _ = Unit {0}
 
--- the integer is one that may stand there
+-- z may be at a key of this map
 abbrev pub SlotMay : Slot → ℤ → Type 0
 SlotMay (Records key) z = pos 0 ≤ℤ z
 SlotMay (Request point) z = (z ≡ pos 0) ⊎ (z ≡ pos 1)
@@ -75,24 +75,24 @@ SlotMay (State vertex key) z = Unit {0}
 SlotMay (Sink key) z = pos 0 ≤ℤ z
 SlotMay (Unsent point) z = Unit {0}
 
--- counts of records and of sinks are within their limit
+-- z is within the limit of a count, if the key is one of records or of a sink
 abbrev pub CountWithin : Slot → ℤ → Type 0
 CountWithin (Records key) z = unsigned_abs z ≤ max_count
 CountWithin (Sink key) z = unsigned_abs z ≤ max_count
 CountWithin _ z = Unit {0}
 
--- so are entries of unsent changes
+-- z is within the limit of an entry, if the key is one of what is unsent
 abbrev pub EntryWithin : Slot → ℤ → Type 0
 EntryWithin (Unsent point) z = unsigned_abs z ≤ max_count
 EntryWithin _ z = Unit {0}
 
--- the epoch of a token, and the number of an item, have the bits of their types
+-- z fits the type of a token's epoch or of an item's number, if the key is one of these
 abbrev pub SlotRanged : Slot → ℤ → Type 0
 SlotRanged (Token vertex) z = unsigned_abs z ≤ max_counter + 1
 SlotRanged (State vertex key) z = IsValue z
 SlotRanged _ z = Unit {0}
 
--- each is within its own limit
+-- z is within the limit that applies to the key
 pub record SlotWithin (l : Slot) (z : ℤ) : Type 0 where
   pub count : CountWithin l z
   pub entry : EntryWithin l z

@@ -1,4 +1,4 @@
--- What stands at each place of a cluster's state, as an integer that is 0 if nothing does; and at how many places two states differ.
+-- The integer at each place of a cluster's state, 0 if its map does not have the key; and at how many places two states differ.
 use Rattle.std.specs.Prelude.{◌<◌, ◌≤◌, ℕ, zero, suc, ◌+◌, ℤ, ◌-ℤ◌, cond, List, ◌++◌, map, length, slice_set, unsigned_abs}
 use Rattle.std.specs.List.{flat_map, enumerate_from}
 use Rattle.std.specs.declared.cmp.Ordering.{Ordering}
@@ -16,7 +16,7 @@ use Rattle.nd_steps.specs.Places.{Place, place_at, view_of, place_cmp, place_tot
 use Rattle.nd_steps.specs.declared.slot.Slot.TheVariants.{Records, Request, Token, State, Sink, Unsent}
 use Rattle.nd_steps.specs.Slots.{stands, puts, SlotIsThere, SlotMay, CountWithin, EntryWithin}
 
--- ---- what stands at a place
+-- ---- the integer at a place
 
 abbrev pub standing : ClusterState → Place → ℤ
 standing s (place_at p slot) = stands (processor s p) slot
@@ -28,17 +28,17 @@ abbrev pub put_at : ClusterState → Place → ℤ → ClusterState
 put_at s (place_at p slot) z = record s { processors = slice_set s.processors p (puts (processor s p) slot z) }
 put_at s (view_of q point) z = record s { views = slice_set s.views q (with_entry (view s q) point z) }
 
--- the map of the place is there
+-- the cluster has the map of the place
 abbrev pub IsThere : ClusterState → Place → Type 0
 IsThere s (place_at p slot) = (p < length s.processors) × SlotIsThere (processor s p) slot
 IsThere s (view_of q point) = q < length s.views
 
--- the integer is one that may stand at the place
+-- z may be at the place
 abbrev pub MayStand : Place → ℤ → Type 0
 MayStand (place_at p slot) z = SlotMay slot z
 MayStand (view_of q point) z = Unit {0}
 
--- it is within the limit of a count, of an entry
+-- z is within the limit of a count, if the place is one of a count; `EntryAt` is the same for an entry
 abbrev pub CountAt : Place → ℤ → Type 0
 CountAt (place_at p slot) z = CountWithin slot z
 CountAt (view_of q point) z = Unit {0}
@@ -49,7 +49,7 @@ EntryAt (view_of q point) z = unsigned_abs z ≤ max_count
 
 -- ---- at how many places two states differ
 
--- the places of processor p's maps at which something stands
+-- the places of processor p's maps at which the integer is not 0
 abbrev pub places_of_processor : ℕ → ProcessorState → List Place
 places_of_processor p q =
     map (λ e. place_at p (Records e.0)) (entries q.records)
@@ -59,13 +59,13 @@ places_of_processor p q =
     ++ (map (λ e. place_at p (Sink e.0)) (entries q.sinks)
     ++ map (λ e. place_at p (Unsent e.0)) (listed q.unsent)))))
 
--- the places of a cluster at which something stands
+-- the places of a cluster at which the integer is not 0
 abbrev pub places_of : ClusterState → List Place
 places_of s =
     flat_map (λ i. places_of_processor i.0 i.1) (enumerate_from 0 s.processors)
     ++ flat_map (λ i. map (λ e. view_of i.0 e.0) (listed i.1)) (enumerate_from 0 s.views)
 
--- by how much the second state has more, at the places at which the two differ
+-- how much t has more than s, at each place at which the two differ
 unfoldable pub difference : ClusterState → ClusterState → Counts place_cmp integers
 difference s t = on_keys place_total (places_of s ++ places_of t) (λ k. standing t k -ℤ standing s k)
 
@@ -74,14 +74,14 @@ difference s t = on_keys place_total (places_of s ++ places_of t) (λ k. standin
 abbrev entry_cmp : Pointstamp × ℤ → Pointstamp × ℤ → Ordering
 entry_cmp a b = ordering_then (point_cmp a.0 b.0) (int_cmp a.1 b.1)
 
--- changes by their entries, and queues by their changes
+-- the order of changes, by their entries, and of queues, by their changes
 abbrev pub change_cmp : DeltaValue → DeltaValue → Ordering
 change_cmp c d = slice_cmp entry_cmp (listed c) (listed d)
 
 abbrev pub queue_cmp : List DeltaValue → List DeltaValue → Ordering
 queue_cmp cs ds = slice_cmp change_cmp cs ds
 
--- f 0 + .. + f (n - 1)
+-- f 0 + ... + f (n - 1)
 abbrev pub sum_below : ℕ → (ℕ → ℕ) → ℕ
 sum_below zero f = 0
 sum_below (suc n) f = sum_below n f + f n

@@ -1,4 +1,4 @@
--- A receive, by the front of its queue.
+-- A receive, in terms of the front of its queue.
 use Rattle.std.specs.Prelude.{◌≡◌, ℕ, List, [], ◌∷◌, drop, Some, unwrap_or, slice_get, refl}
 use Rattle.std.proofs.Common.{set, sym, ap}
 use Rattle.nd_delta.specs.Delta.{DeltaValue, plus}
@@ -6,7 +6,7 @@ use Rattle.nd_mesh.specs.Mesh.{row, popped}
 use Rattle.nd_protocol.specs.State.{ClusterState, view, queue}
 use Rattle.nd_protocol.specs.Exchange.{received_from, received}
 
--- a receive with the front of its queue
+-- the state after a receive, if c is the front of the queue
 pub received-front : (s : ClusterState) (from to : ℕ) (c : DeltaValue) → slice_get (queue s from to) 0 ≡ Some c
     → received s from to ≡ record s { views = set s.views to (plus (view s to) c); queues = popped s.queues from to }
 unfolding received

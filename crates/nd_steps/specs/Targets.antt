@@ -1,4 +1,4 @@
--- The vertex at the end of an edge is there.
+-- The target of an edge is a vertex of the graph.
 use Rattle.std.specs.Prelude.{◌≡◌, ℕ, zero, suc, ◌+◌, ◌-◌, ◌<◌, ◌≤◌, All, Some, List, [], ◌∷◌, length, slice_get, refl}
 use Rattle.std.specs.Option.{option_map_or}
 use Rattle.std.proofs.Common.{ap, arith}

@@ -1,4 +1,4 @@
--- The order in which changes are made: those that leave something at their places before those that leave nothing.
+-- The order in which changes are applied: first those after which the integer at their place is not 0, then the others.
 use Rattle.std.specs.Prelude.{◌≡◌, ◌≢◌, ◌<◌, ◌≤◌, ℕ, pos, List, length}
 use Rattle.std.specs.List.Sorted.{IsPermutation}
 use Rattle.std.proofs.Common.{get_or}
@@ -9,13 +9,14 @@ use Rattle.nd_steps.specs.Limits.{after}
 use Rattle.nd_steps.specs.Undone.{IsGain}
 use Rattle.nd_steps.specs.declared.change.Change.{Change}
 
--- a change whose map is there
+-- the processor and the map of the change exist, and its integer is small enough to be undone
 pub record IsReadable (processors : List ProcessorState) (c : Change) : Type 0 where
   pub owner : c.p < length processors
   pub there : SlotIsThere (own processors c) c.slot
   pub small : IsGain c.n
 
--- all changes in another order: the first leave something at their places, and the others nothing
+-- cs has the changes of all in another order: after the first ones, up to turn, the integer at the place is not 0, and after the
+-- others it is 0
 pub record IsInOrder (processors : List ProcessorState) (all cs : List Change) : Type 0 where
   pub same : IsPermutation all cs
   pub turn : ℕ
