@@ -22,7 +22,7 @@ use Rattle.nd_cluster.specs.declared.candidate.Candidates.{Candidates}
 
 -- ---- the candidates of processor p
 
--- the receive of what is on its way from a sender, if anything is
+-- the receive of p from a sender, if the queue is not empty
 abbrev pub receive_of : {A : Type 0} → ℕ → ℕ → List DeltaValue → List (Step A)
 receive_of p from [] = []
 receive_of p from (c ∷ cs) = Receive from p ∷ []
@@ -34,7 +34,7 @@ receives_from s p senders = flat_map (λ from. receive_of p from (queue s from p
 abbrev pub receives : {A : Type 0} → ClusterState → ℕ → List (Step A)
 receives s p = receives_from s p (range_with_len 0 (length s.processors))
 
--- the take of each record, once whatever its count
+-- one take for each key of records, whatever its count
 abbrev pub takes : {A : Type 0} → ClusterState → ℕ → List (Step A)
 takes s p = map (λ e. take_of p e.0) (entries (processor s p).records)
 
@@ -50,13 +50,14 @@ broadcast_of p (e ∷ es) = Broadcast p Whole ∷ []
 abbrev pub broadcasts : {A : Type 0} → ClusterState → ℕ → List (Step A)
 broadcasts s p = broadcast_of p (updates (processor s p).unsent)
 
--- receives by sender, takes and notices in the order in which records and requests are listed, and the broadcast
+-- the candidates of processor p: receives by sender, takes and notices in the order in which records and requests are listed, and
+-- the broadcast
 unfoldable pub candidates_of : {A : Type 0} → ClusterState → ℕ → List (Step A)
 candidates_of s p = receives s p ++ (takes s p ++ (notices s p ++ broadcasts s p))
 
 -- ---- the candidates of a cluster
 
--- by processor
+-- the candidates of all processors, by processor
 abbrev pub candidates : {A : Type 0} → ClusterState → List (Step A)
 candidates s = flat_map (candidates_of s) (range_with_len 0 (length s.processors))
 
@@ -67,19 +68,19 @@ abbrev pub may_run : Option (List ℕ) → ℕ → Bool
 may_run None p = true
 may_run (Some listed) p = list_any (λ q. nat_eq q p) listed
 
--- of processor p, and none if a run skips it
+-- the candidates of processor p; none if a run skips p
 abbrev pub candidates_if : {A : Type 0} → ClusterState → Option (List ℕ) → ℕ → List (Step A)
 candidates_if s only p = cond (may_run only p) (candidates_of s p) []
 
--- by processor, without the processors that a run skips
+-- the candidates of all processors, by processor, without the processors that a run skips
 abbrev pub candidates_among : {A : Type 0} → ClusterState → Option (List ℕ) → List (Step A)
 candidates_among s only = flat_map (candidates_if s only) (range_with_len 0 (length s.processors))
 
--- of the processor that comes i processors after the turn's
+-- the candidates of the processor that comes i processors after the turn's
 abbrev pub candidates_after : {A : Type 0} → ClusterState → ℕ → Option (List ℕ) → ℕ → List (Step A)
 candidates_after s turn only i = candidates_if s only ((turn % length s.processors + i) % length s.processors)
 
--- by processor, from the turn's processor on
+-- the candidates by processor, beginning with the turn's processor
 abbrev pub candidates_from : {A : Type 0} → ClusterState → ℕ → Option (List ℕ) → List (Step A)
 candidates_from s turn only = flat_map (candidates_after s turn only) (range_with_len 0 (length s.processors))
 
@@ -97,18 +98,18 @@ pub record IsFirstEnabled {A : Type 0} (s : ClusterState) (xs : List (Step A)) (
 
 -- ---- one by one
 
--- the receives from this sender on
+-- the receives of p from this sender and those after it
 abbrev pub receives_after : {A : Type 0} → ClusterState → ℕ → ℕ → List (Step A)
 receives_after s p from = receives_from s p (range_with_len from (length s.processors - from))
 
--- what is left of p's candidates: the receives from a sender on, the takes and the notices of what is left of records and requests,
--- and the broadcast, if p sends
+-- the candidates of p that are left: the receives from this sender on, the takes and the notices of the records and requests that
+-- are left, and the broadcast if sends is true
 abbrev pub left_of : {A : Type 0} → ClusterState → ℕ → ℕ → List (ValueAt × ℕ) → List (Pointstamp × Unit {0}) → Bool → List (Step A)
 left_of s p from records requests sends =
     receives_after s p from
     ++ (map (λ e. take_of p e.0) records ++ (map (λ e. notice_of p e.0) requests ++ cond sends (Broadcast p Whole ∷ []) []))
 
--- the next sender that has something on its way, or none
+-- the next sender whose queue to p is not empty, or none
 abbrev pub IsNextSender : (A : Type 0) → ClusterState → ℕ → ℕ → Option ℕ → Type 0
 IsNextSender A s p from None = receives_after {A = A} s p from ≡ []
 IsNextSender A s p from (Some k) = (k < length s.processors) × (receives_after {A = A} s p from ≡ Receive k p ∷ receives_after s p (k + 1))
@@ -118,9 +119,9 @@ abbrev pub FindsFirst : {A : Type 0} → ClusterState → List (Step A) → Opti
 FindsFirst s xs None = AreRefused s xs
 FindsFirst s xs (Some r) = IsFirstEnabled s xs r.step × IsPlanned r s
 
--- ---- what is listed of them
+-- ---- the list of candidates
 
--- the answer is right: none, for a step that is enabled, or the refusal of least number
+-- the answer for step x is right: None if x is enabled, otherwise the refusal with the least number
 abbrev pub IsAnswer : {A : Type 0} → ClusterState → Step A → Option Refusal → Type 0
 IsAnswer s x None = IsEnabled s x
 IsAnswer s x (Some r) = IsRefused s x r
@@ -134,6 +135,6 @@ pub record AreListed {A : Type 0} (s : ClusterState) (all : List (Step A)) (list
   pub answered : All (IsAnswered s) listed.list
   pub more : IsTrue listed.more ↔ (max_told < length all)
 
--- these steps are listed after all that came before them
+-- if old lists some steps, new lists these and then the given steps
 abbrev pub Lists : {A : Type 0} → ClusterState → List (Step A) → Candidates A → Candidates A → Type 0
 Lists {A} s steps old new = (all : List (Step A)) → AreListed s all old → AreListed s (all ++ steps) new

@@ -13,7 +13,7 @@ use Rattle.nd_protocol.specs.declared.part.Part.TheVariants.{All, Points}
 use Rattle.nd_cluster.specs.Records.{IsPlanned}
 use Rattle.nd_steps.specs.declared.record.Record.{Record}
 
--- all that is unsent
+-- the part is all that is unsent
 abbrev pub IsWhole : {A : Type 0} → Part A → Type 0
 IsWhole All = Unit {0}
 IsWhole (Points points) = ⊥
@@ -36,7 +36,7 @@ MayRun (Some listed) p = Contains listed p
 
 -- ---- the order
 
--- the processor that makes a step
+-- the processor that executes a step
 abbrev pub performer : {A : Type 0} → Step A → ℕ
 performer (Feed p vertex values _) = p
 performer (Take p edge t value) = p
@@ -49,7 +49,7 @@ performer (Receive from to) = to
 abbrev pub wait : ℕ → ℕ → ℕ → ℕ
 wait n turn p = (p + n - turn % n) % n
 
--- receives come before takes, these before notices, and these before broadcasts
+-- receives come before takes, takes before notices, and notices before broadcasts
 abbrev pub rank : {A : Type 0} → Step A → ℕ
 rank (Feed p vertex values _) = 4
 rank (Take p edge t value) = 1
@@ -58,25 +58,26 @@ rank (Release p vertex times) = 4
 rank (Broadcast p part) = 3
 rank (Receive from to) = 0
 
--- of two steps of one kind: receives by their senders, takes and notices in the order in which records and requests are listed
+-- x is listed before y, a step of the same kind: receives by their senders, takes and notices in the order in which records and
+-- requests are listed
 abbrev pub IsListedBefore : {A : Type 0} → Step A → Step A → Type 0
 IsListedBefore (Take _ edge t value) (Take _ other u w) = value_at_cmp (record_key edge t value) (record_key other u w) ≡ Less
 IsListedBefore (Notice _ vertex t) (Notice _ other u) = point_cmp (point_at vertex t) (point_at other u) ≡ Less
 IsListedBefore (Receive from _) (Receive other _) = from < other
 IsListedBefore _ _ = ⊥
 
--- of two steps of one processor
+-- x comes before y, a step of the same processor
 abbrev pub ComesFirst : {A : Type 0} → Step A → Step A → Type 0
 ComesFirst x y = (rank x < rank y) ⊎ ((rank x ≡ rank y) × IsListedBefore x y)
 
--- of two steps of a cluster of n processors
+-- x comes before y in a cluster of n processors
 abbrev pub ComesBefore : {A : Type 0} → ℕ → ℕ → Step A → Step A → Type 0
 ComesBefore n turn x y =
     (wait n turn (performer x) < wait n turn (performer y)) ⊎ ((performer x ≡ performer y) × ComesFirst x y)
 
 -- ---- the choice
 
--- its processor may run, it is enabled, and no such candidate that comes before it is
+-- x is an enabled candidate of a processor that may run, and no enabled candidate of such a processor comes before x
 pub record IsChosen {A : Type 0} (s : ClusterState) (turn : ℕ) (only : Option (List ℕ)) (x : Step A) : Type 0 where
   pub candidate : IsCandidate x
   pub listed : MayRun only (performer x)

@@ -1,4 +1,5 @@
--- What a feed, a take, a notice or a release changes, before the limits are tested and the order is known; and what is tested after them.
+-- The changes of a feed, a take, a notice or a release before the limits are tested and the changes are ordered; and the tests
+-- after the limits.
 use Rattle.std.specs.Prelude.{◌≡◌, ◌<◌, ℕ, List, Option, Some, None}
 use Rattle.nd_paths.specs.declared.point.Pointstamp.{Pointstamp}
 use Rattle.nd_processor.specs.declared.key.ValueAt.{ValueAt}
@@ -23,33 +24,33 @@ take_of p k = Take p k.point.location k.point.time k.value
 abbrev pub notice_of : {A : Type 0} → ℕ → Pointstamp → Step A
 notice_of p x = Notice p x.location x.time
 
--- these changes lead to the state after the step
+-- the changes lead to the state after the step
 abbrev pub LeadOn : (A : Type 0) → ClusterState → Step A → List Change → Type 0
 LeadOn A s x changes = Reaches s (stepped s x) changes
 
--- no condition holds of a refusal that is tested before the limits
+-- no condition of a refusal that is tested before the limits holds
 abbrev pub IsWithinRules : (A : Type 0) → ClusterState → Step A → Type 0
 IsWithinRules A s x = IsFreeBelow s x 13
 
--- a draft holds what a step changes; one of what comes alone is of a take
+-- the draft has the changes of the step; only the draft of a take can be a flow
 abbrev pub IsDraft : {A : Type 0} → ClusterState → Step A → Drafted A → Type 0
 IsDraft {A} s x (Each all) = LeadOn A s x all.items
 IsDraft s x (Flow p gone come) = (x ≡ take_of p gone) × Reaches s (stepped s x) (come_changes p gone come)
 
 -- ---- what is tested after the limits
 
--- no condition holds of a refusal that is tested after the limits, and a capability that moves goes to a later time
+-- no condition of a refusal that is tested after the limits holds, and a capability that moves goes to a later time
 pub record PassesLast {A : Type 0} (s : ClusterState) (x : Step A) : Type 0 where
   pub free : (r : Refusal) → 14 < number_of r → Fails s x r → ⊥
   pub admissible : IsAdmissible s x
 
--- the condition of this refusal holds, and none between the limits and it
+-- the condition of the refusal r holds, and that of no refusal tested between the limits and r
 pub record FailsLast {A : Type 0} (s : ClusterState) (x : Step A) (r : Refusal) : Type 0 where
   pub late : 14 < number_of r
   pub fails : Fails s x r
   pub least : (q : Refusal) → 14 < number_of q → number_of q < number_of r → Fails s x q → ⊥
 
--- why a step is refused that is within the limits, or none if it is not
+-- why a step that is within the limits is refused; None if it is not refused
 abbrev pub IsLastRefusal : {A : Type 0} → ClusterState → Step A → Option Refusal → Type 0
 IsLastRefusal s x None = PassesLast s x
 IsLastRefusal s x (Some r) = FailsLast s x r

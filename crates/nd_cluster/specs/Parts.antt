@@ -29,15 +29,15 @@ IsRecordKey g k = IsAtEdge g k.point × IsValue k.value
 abbrev pub IsSinkKey : Dataflow → SinkKey → Type 0
 IsSinkKey g k = (op_at g k.vertex ≡ op.Sink) × (k.vertex < length g.vertices) × IsValue k.value
 
--- a vertex may keep the item, with this number
+-- a vertex may have the item, with this number
 abbrev pub IsItem : Dataflow → ℕ → ItemKey → ℤ → Type 0
 IsItem g vertex k n = IsAtVertex g (record { location = vertex; time = k.time }) × IsValue k.item × IsValue n
 
--- a vertex keeps items at its own times
+-- a vertex may have each of these items
 abbrev pub ItemsFit : Dataflow → ℕ → Items → Type 0
 ItemsFit g vertex m = All (λ (e : ItemKey × ℤ). e.1 ≢ pos 0 → IsItem g vertex e.0 e.1) (entries m)
 
--- the changes from a processor have entries at pointstamps of the graph alone, and within the limit
+-- the changes in the queues from a processor have entries only at pointstamps of the graph
 abbrev pub RowFits : Dataflow → List (List (List DeltaValue)) → ℕ → Type 0
 RowFits g m p = (q : ℕ) → q < length m → All (DeltaFits g) (queue m p q)
 

@@ -1,4 +1,4 @@
--- What the record of a step promises.
+-- What holds of the record of a step.
 use Rattle.std.specs.Prelude.{◌≡◌, ℕ, ◌+◌, ◌-◌, pos, length}
 use Rattle.nd_paths.specs.Order.{IsStrictlyBefore}
 use Rattle.nd_paths.specs.declared.point.Pointstamp.{Pointstamp}
@@ -15,28 +15,29 @@ use Rattle.nd_steps.specs.Records.{named, named_by, Makes, MakesBy}
 use Rattle.nd_steps.specs.declared.record.Changes.{Changes}
 use Rattle.nd_steps.specs.declared.record.Record.{Record}
 
--- how many ends of queues a step changes beyond those that are named
+-- how many ends of queues a step changes beyond those that its record names
 abbrev pub shared : {A : Type 0} → ClusterState → Step A → ℕ
 shared s (Broadcast p part) = length s.processors - 1
 shared s _ = 0
 
--- a record names as many keys and ends of queues as a step changes, the end that all queues of a broadcast have in common once
+-- a record names as many keys and ends of queues as the step changes; the ends of all queues of a broadcast count once
 abbrev pub NamesAll : {A : Type 0} → ClusterState → Step A → Record A → Type 0
 NamesAll s x r = named r + shared s x ≡ changed s (stepped s x)
 
--- the changes are those of a step that is enabled, as few as can be
+-- the step is enabled, and the changes are its changes, as few as possible
 pub record Plans {A : Type 0} (s : ClusterState) (x : Step A) (cs : Changes A) : Type 0 where
   pub enabled : IsEnabled s x
   pub makes : MakesBy s x cs (stepped s x)
   pub small : named_by x cs + shared s x ≡ changed s (stepped s x)
 
--- if the step is a notice, and the cluster has the protocol invariant, nothing outstanding is strictly before it
+-- if the step is a notice and the cluster has the protocol invariant, nothing outstanding is strictly before the notice's
+-- pointstamp
 abbrev pub ComesLast : {A : Type 0} → ClusterState → Step A → Type 0
 ComesLast s (Notice p vertex t) = KeepsProtocol s → (x : Pointstamp) → IsStrictlyBefore s.graph x (point_at vertex t) → at (truth s.processors) x ≡ pos 0
 ComesLast s _ = Unit {0}
 
--- the record's step is enabled in this state, and its changes make it; they name as many keys and ends of queues as the step changes,
--- the end that all queues of a broadcast have in common once
+-- the record's step is enabled in this state, and its changes lead to the state after the step; they name as many keys and ends
+-- of queues as the step changes, and the ends of all queues of a broadcast count once
 pub record IsPlanned {A : Type 0} (r : Record A) (s : ClusterState) : Type 0 where
   pub state : IsState s
   pub enabled : IsEnabled s r.step
@@ -48,11 +49,11 @@ pub record Leads {A : Type 0} (r : Record A) (s t : ClusterState) : Type 0 where
   pub planned : IsPlanned r s
   pub after : t ≡ stepped s r.step
 
--- the record's step has led to this state
+-- the record's step led to this state
 pub record IsCommitted {A : Type 0} (r : Record A) (t : ClusterState) : Type 0 where
   pub state : ClusterState
   pub leads : Leads r state t
 
--- what is finished stays finished
+-- what is finished in s is finished in t
 abbrev pub StaysFinished : ClusterState → ClusterState → Type 0
 StaysFinished s t = (x : Pointstamp) → IsFinished s x → IsFinished t x

@@ -7,6 +7,6 @@ use Rattle.nd_processor.specs.State.{ProcessorState}
 abbrev pub sunk_by : ℕ → ℤ → ProcessorState → ℕ
 sunk_by vertex value q = at q.sinks (record { vertex = vertex; value = value })
 
--- how often all of them did
+-- how often the sinks of all processors at this vertex counted a value
 abbrev pub sunk : List ProcessorState → ℕ → ℤ → ℕ
 sunk processors vertex value = sum_by (sunk_by vertex value) processors

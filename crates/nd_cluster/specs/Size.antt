@@ -22,10 +22,10 @@ queue_size changes = length changes + sum_by size changes
 abbrev pub queues_size : List (List (List DeltaValue)) → ℕ
 queues_size m = sum_by (λ row. length row + sum_by queue_size row) m
 
--- the entries of all that steps change of a cluster
+-- the entries of everything in a cluster that steps change
 abbrev pub size_of : ClusterState → ℕ
 size_of s = sum_by processor_size s.processors + (sum_by size s.views + queues_size s.queues)
 
--- `left` is what n leaves of `many`; None if n is more
+-- left is many - n; None if n is greater than many
 abbrev pub Leaves : ℕ → ℕ → Option ℕ → Type 0
 Leaves many n left = MatchOption left (many < n) (λ rest. rest + n ≡ many)

@@ -1,4 +1,4 @@
--- Why a cluster does not start, and the number and the name under which it is answered (this project's own rule).
+-- Why a cluster does not start, and the number and the name of each error (this project's own rule).
 use Rattle.std.specs.Prelude.{ℕ, ◌<◌, ◌≤◌, List, codes}
 use Rattle.nd_time.specs.Code.{Code, coded}
 use Rattle.nd_time.specs.Limits.{max_processors}
@@ -20,17 +20,17 @@ start_code BadCount = coded 48 (codes "BadCount")
 start_code (LoopNotStrict l) = coded 46 (codes "LoopNotStrict")
 start_code Memory = code_of graph.Memory
 
--- from one processor to the most
+-- n is a number of processors that a cluster may have
 pub record IsProcessorCount (n : ℕ) : Type 0 where
   pub some : 0 < n
   pub few : n ≤ max_processors
 
--- a closed walk from this location fails to increase some timestamp, and none from an earlier one does
+-- some closed walk from location l fails to increase a timestamp, and no closed walk from a lesser location does
 pub record IsFirstFailure (g : Dataflow) (l : ℕ) : Type 0 where
   pub fails : FailsAt g l
   pub first : (k : ℕ) → k < l → FailsAt g k → ⊥
 
--- when a fault is answered
+-- when each error is reported
 abbrev pub IsStartFault : Dataflow → ℕ → StartFault → Type 0
 IsStartFault g n BadCount = IsProcessorCount n → ⊥
 IsStartFault g n (LoopNotStrict l) = IsProcessorCount n × IsFirstFailure g l
@@ -41,11 +41,11 @@ pub record CanStart (g : Dataflow) (n : ℕ) : Type 0 where
   pub count : IsProcessorCount n
   pub accepted : IsAccepted g
 
--- the fault of a graph without an order, as one of a start
+-- the error of a graph without an order, as an error of a start
 abbrev pub fault_of : PathFault → StartFault
 fault_of (path.LoopNotStrict l) = LoopNotStrict l
 fault_of path.Memory = Memory
 
--- how many of these tokens are at a pointstamp
+-- how many of these tokens are at the pointstamp x
 abbrev pub tokens_weigh : List (ℕ × ℕ) → Pointstamp → ℕ
 tokens_weigh es x = weight (λ v e. one_at (token_point v e) x) es
