@@ -13,7 +13,7 @@ use Rattle.nd_timeline.specs.declared.checkpoint.Start.{Start}
 use Rattle.nd_timeline.specs.declared.checkpoint.Start.TheVariants as start
 use Rattle.nd_timeline.specs.declared.walk.Kept.{Kept}
 
--- what is saved is the cluster at the checkpoint's position
+-- the checkpoint saves the cluster at its position, which is within the steps
 pub record IsCheckpoint {A : Type 0} (base : ClusterState) (steps : List (Record A)) (c : Checkpoint A) : Type 0 where
   pub within : c.at ≤ length steps
   pub saved : IsSaved (after base (take c.at (steps_of steps))) c.saved
@@ -26,7 +26,7 @@ spacing = 1024
 abbrev pub steps_per_entry : ℕ
 steps_per_entry = 4
 
--- enough steps lead from a position to a checkpoint for what the checkpoint takes
+-- the checkpoint is far enough from a position, in steps, for the memory that it takes
 pub record IsDue {A : Type 0} (base : ClusterState) (from : ℕ) (c : Checkpoint A) : Type 0 where
   pub steps : from + spacing ≤ c.at
   pub entries : from + steps_per_entry * size_of (state_in base.graph c.saved) ≤ c.at
@@ -36,13 +36,13 @@ pub record IsLast {A : Type 0} (cs : List (Checkpoint A)) (n : ℕ) : Type 0 whe
   pub some : (d : Checkpoint A) → 0 < length cs → n ≡ (slice_index_or cs (length cs - 1) d).at
   pub none : length cs ≡ 0 → n ≡ 0
 
--- each is a checkpoint, and enough steps lead to it from the base and from each earlier one
+-- each of these is a checkpoint, far enough from the base and from each earlier checkpoint
 pub record AreCheckpoints {A : Type 0} (base : ClusterState) (steps : List (Record A)) (cs : List (Checkpoint A)) : Type 0 where
   pub each : All (IsCheckpoint base steps) cs
   pub from_base : All (IsDue base 0) cs
   pub spaced : AllPairs (λ c d. IsDue base c.at d) cs
 
--- the checkpoints that a timeline keeps fit its base and its steps
+-- the checkpoints of a timeline fit its base and its steps
 abbrev pub AreKept : {A : Type 0} → Kept A → Type 0
 AreKept k = AreCheckpoints k.base k.steps.items k.checkpoints.items
 
@@ -65,7 +65,7 @@ position_of cursor start.Base = 0
 position_of cursor start.Cursor = cursor
 position_of cursor (start.Checkpoint c) = c.now.at
 
--- neither the base nor the cursor nor a checkpoint is nearer to position n than where the walk begins
+-- neither the base nor the cursor nor a checkpoint is nearer to position n than the position at which the walk begins
 pub record IsNearest {A : Type 0} (cs : List (Checkpoint A)) (at n : ℕ) (s : Start A) : Type 0 where
   pub base : abs_diff (position_of at s) n ≤ n
   pub cursor : abs_diff (position_of at s) n ≤ abs_diff at n

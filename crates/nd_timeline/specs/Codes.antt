@@ -1,4 +1,4 @@
--- Commands and replies as numbers, so that a model's value can hold them.
+-- Commands and replies encoded as numbers, so that the value of a model can contain them.
 use Rattle.std.specs.Prelude.{◌≡◌, ℕ, ◌⊎◌, List, [], ◌∷◌, Option, slice_index_or, refl}
 use Rattle.std.proofs.Common.{inl, inr}
 use Rattle.std.specs.Coded.{Coded, code_by, coded×, coded⊎, coded_ℕ, coded_list, coded_option}
@@ -62,7 +62,7 @@ module _ {A : Type 0} where
 
 -- ---- refusals as numbers
 
--- the refusals by number, without those that name a pointstamp, and then those of higher numbers
+-- the refusals by number, with `Memory` for the numbers of those that name a pointstamp; refusals with numbers above 19 follow
 abbrev pub plain : List Refusal
 plain =
     refusal.Memory ∷ refusal.NoProcessor ∷ refusal.NoVertex ∷ refusal.NoEdge ∷ refusal.NotInput ∷ refusal.InputClosed ∷ refusal.TooManyValues ∷ refusal.EpochFull

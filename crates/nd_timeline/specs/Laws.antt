@@ -13,12 +13,12 @@ use Rattle.nd_timeline.specs.declared.reply.Reply.{Reply}
 abbrev pub MovesKeepBase : Type 0 → Type 0
 MovesKeepBase A = (m new : MachineValue A) (command : Command A) (reply : Reply) → Moves m command reply new → new.timeline.base ≡ m.timeline.base
 
--- each kept step is enabled where the steps before it lead
+-- moves keep each kept step enabled in the state to which the steps before it lead
 abbrev pub MovesKeepTimelines : Type 0 → Type 0
 MovesKeepTimelines A =
     (m new : MachineValue A) (command : Command A) (reply : Reply) → Moves m command reply new → IsTimeline m.timeline → IsTimeline new.timeline
 
--- a cluster has at most one step to choose at a turn, among all processors or some
+-- at a turn, at most one step of a cluster can be chosen, among all processors or among some
 abbrev pub ChoicesAreUnique : Type 0 → Type 0
 ChoicesAreUnique A =
     (s : ClusterState) (turn : ℕ) (only : Option (List ℕ)) (x other : Step A) → IsChosen s turn only x → IsChosen s turn only other → x ≡ other

@@ -1,5 +1,5 @@
 -- The debugger machine: which replies a command may get, and the machine after it (this project's own rule).
--- Each relation goes by the cases of the reply. A reply without a case of its own is impossible for that command.
+-- Each relation has one case for each kind of reply that is possible; any other reply is impossible for that command.
 use Rattle.std.specs.Prelude.{◌≡◌, ◌≢◌, ℕ, zero, suc, ◌+◌, ◌-◌, ◌<◌, ◌≤◌, ◌⊎◌, List, Any, length, Option, None, Some, Result, Ok, Err}
 use Rattle.std.specs.FinMap as fin
 use Rattle.nd_time.specs.Limits.{max_kept}
@@ -62,7 +62,7 @@ RedoMoves m (Refused (Memory at)) new = (m.cursor < length m.kept) × (at ≡ m.
 RedoMoves m (Moved at kept) new = (m.cursor < length m.kept) × (at ≡ m.cursor + 1) × (kept ≡ length m.kept) × (new ≡ moved_to m (m.cursor + 1))
 RedoMoves m _ new = ⊥
 
--- on the way from one position to another; the last position does not count
+-- at is a position on the way from one position to another; the last position does not count
 abbrev pub IsOnTheWay : ℕ → ℕ → ℕ → Type 0
 IsOnTheWay from to at = ((from ≤ at) × (at < to)) ⊎ ((to < at) × (at ≤ from))
 
@@ -75,7 +75,7 @@ JumpMoves m n _ new = ⊥
 
 -- ---- a run
 
--- a processor is listed that the cluster does not have
+-- the run lists a processor that the cluster does not have
 abbrev pub ListsMissing : {A : Type 0} → TimelineValue A → Option (List ℕ) → Type 0
 ListsMissing m None = ⊥
 ListsMissing m (Some listed) = Any (λ p. length (cluster_of m).processors ≤ p) listed
@@ -115,7 +115,7 @@ StopsAt {A} only breaks limit m ran (stop.Break id) new = record {
 abbrev pub Tells : {A : Type 0} → TimelineValue A → ℕ → ℕ → Type 0
 Tells new at kept = (at ≡ new.cursor) × (kept ≡ length new.kept)
 
--- which replies a run may get: out of memory, the steps executed so far stay
+-- which replies a run may get, and the timeline after each; if memory runs out, the steps executed so far stay
 abbrev pub RunMoves : {A : Type 0} → TimelineValue A → ℕ → Option (List ℕ) → BreakMap → Reply → TimelineValue A → Type 0
 RunMoves m limit only breaks (Refused TimelineFull) new = (max_kept < m.cursor + limit) × (new ≡ m)
 RunMoves m limit only breaks (Refused (of_step NoProcessor)) new = (m.cursor + limit ≤ max_kept) × ListsMissing m only × (new ≡ m)

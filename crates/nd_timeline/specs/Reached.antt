@@ -37,8 +37,8 @@ abbrev pub ArePlanned : {A : Type 0} → ClusterState → List (Record A) → Ty
 ArePlanned s [] = Unit {0}
 ArePlanned s (r ∷ rs) = IsPlanned r s × ArePlanned (stepped s r.step) rs
 
--- the steps up to the cursor lead from the base to the cluster, and each record was planned where those before
--- it lead
+-- the steps up to the cursor lead from the base to the cluster, and each record was planned in the state to which the records
+-- before it lead
 pub record IsReached {A : Type 0} (base cluster : ClusterState) (steps : List (Record A)) (cursor : ℕ) : Type 0 where
   pub within : cursor ≤ length steps
   pub few : length steps ≤ max_kept
@@ -47,7 +47,7 @@ pub record IsReached {A : Type 0} (base cluster : ClusterState) (steps : List (R
 
 -- ---- copies
 
--- a record of the same step that is planned wherever the other is
+-- q is a record of the same step as r, and is planned in each state in which r is
 pub record IsCopy {A : Type 0} (r q : Record A) : Type 0 where
   pub step : q.step ≡ r.step
   pub planned : (s : ClusterState) → IsPlanned r s → IsPlanned q s

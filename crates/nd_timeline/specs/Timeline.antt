@@ -27,7 +27,7 @@ extended m x = record m { kept = take m.cursor m.kept ++ x ∷ []; cursor = m.cu
 abbrev pub moved_to : {A : Type 0} → TimelineValue A → ℕ → TimelineValue A
 moved_to m n = record m { cursor = n }
 
--- what holds of every timeline: each kept step is enabled where the steps before it lead
+-- what holds of every timeline: each kept step is enabled in the state to which the steps before it lead
 pub record IsTimeline {A : Type 0} (m : TimelineValue A) : Type 0 where
   pub within : m.cursor ≤ length m.kept
   pub few : length m.kept ≤ max_kept
