@@ -17,7 +17,7 @@ positions lo hi = range_with_len (lo + 1) (hi - lo)
 abbrev pub changed : (ℕ → ℤ) → ℕ → Changed
 changed entry i = record { position = i; entry = entry i }
 
--- the changes between two positions: where the entry differs, in order, each with the entry there
+-- the changes between two positions: each position at which the entry differs from the one before, in order, with the entry there
 unfoldable pub changes_between : (ℕ → ℤ) → ℕ → ℕ → List Changed
 changes_between entry lo hi = map (changed entry) (filter (is_other entry) (positions lo hi))
 

@@ -13,7 +13,7 @@ use Rattle.nd_history.specs.declared.fault.ChangesFault.TheVariants as changes
 use Rattle.nd_history.specs.declared.fault.TurnsFault.{TurnsFault}
 use Rattle.nd_history.specs.declared.fault.TurnsFault.TheVariants as turns
 
--- of a search
+-- the code of an error of a search
 abbrev pub code_of_search : {A : Type 0} → SearchFault A → Code
 code_of_search BadRange = coded 50 (codes "BadRange")
 code_of_search NoWorkers = coded 51 (codes "NoWorkers")
@@ -21,14 +21,14 @@ code_of_search NoSuchPoint = faults.code_of fault.NoSuchPoint
 code_of_search Memory = refusals.code_of refusal.Memory
 code_of_search (Missing piece claimed) = coded 52 (codes "Missing")
 
--- of a query for changes
+-- the code of an error of a query for changes
 abbrev pub code_of_changes : ChangesFault → Code
 code_of_changes changes.NoProcessor = refusals.code_of refusal.NoProcessor
 code_of_changes changes.BadRange = coded 50 (codes "BadRange")
 code_of_changes changes.NoSuchPoint = faults.code_of fault.NoSuchPoint
 code_of_changes changes.Memory = refusals.code_of refusal.Memory
 
--- of a query for turns
+-- the code of an error of a query for turns
 abbrev pub code_of_turns : TurnsFault → Code
 code_of_turns turns.BadRange = coded 50 (codes "BadRange")
 code_of_turns turns.NoSuchPoint = faults.code_of fault.NoSuchPoint

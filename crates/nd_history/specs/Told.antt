@@ -1,4 +1,4 @@
--- What is told of a list of changes (this project's own rule).
+-- What is listed of the changes of a view (this project's own rule).
 use Rattle.std.specs.Prelude.{◌≡◌, ◌↔◌, ◌<◌, List, length, take, IsTrue}
 use Rattle.nd_time.specs.Limits.{max_told}
 use Rattle.nd_history.specs.declared.told.Changed.{Changed}

@@ -49,7 +49,7 @@ pub record IsAdded {A : Type 0} (old : Turns A) (k : ℕ) (new : Turns A) : Type
   pub room : length old.positions < max_told → (new.positions ≡ old.positions ++ k ∷ []) × (new.more ≡ old.more)
   pub full : max_told ≤ length old.positions → (new.positions ≡ old.positions) × (new.more ≡ true)
 
--- there is such a range of kept steps
+-- the timeline has this range of kept steps
 pub record MayTurn {A : Type 0} (m : TimelineValue A) (lo hi : ℕ) : Type 0 where
   pub range : lo ≤ hi
   pub within : hi ≤ length m.kept

@@ -20,7 +20,7 @@ entry_after m q x i = at (view (after m.base (take i m.kept)) q) x
 abbrev pub changes_of : {A : Type 0} → TimelineValue A → ℕ → Pointstamp → ℕ → ℕ → List Changed
 changes_of m q x lo hi = changes_between (entry_after m q x) lo hi
 
--- there is such a processor, and such a range of kept steps
+-- the timeline has this processor, and this range of kept steps
 pub record MayTell {A : Type 0} (m : TimelineValue A) (q lo hi : ℕ) : Type 0 where
   pub processor : q < length (cluster_of m).processors
   pub range : lo ≤ hi

@@ -33,15 +33,15 @@ pub record IsToldBy {A : Type 0} (s : Searched A) (j : ℕ) (r : Option ℕ) : T
   pub piece : slice_get s.claimed.items place ≡ Some j
   pub result : slice_get s.found.items place ≡ Some r
 
--- it has no more results than claimed pieces
+-- the worker has no more results than claimed pieces
 abbrev pub IsEven : {A : Type 0} → Searched A → Type 0
 IsEven s = length s.found.items ≤ length s.claimed.items
 
--- it has a result of each claimed piece
+-- the worker has a result of each claimed piece
 abbrev pub IsComplete : {A : Type 0} → Searched A → Type 0
 IsComplete s = length s.found.items ≡ length s.claimed.items
 
--- it has a result of each claimed piece but the last, in which an allocation failed
+-- the worker has a result of each claimed piece except the last, in which an allocation failed
 abbrev pub IsCutOff : {A : Type 0} → Searched A → Type 0
 IsCutOff s = length s.claimed.items ≡ length s.found.items + 1
 
@@ -149,7 +149,7 @@ AreOldOrToldBy s old new = (j : ℕ) (r : Option ℕ) → slice_get new j ≡ So
 abbrev pub WereEmpty : List (Option (Option ℕ)) → List (Option (Option ℕ)) → Type 0
 WereEmpty old new = (j : ℕ) → slice_get new j ≡ Some None → slice_get old j ≡ Some None
 
--- no piece of which the worker has a result is without a result in the table
+-- each piece of which the worker has a result has one in the table
 abbrev pub AreInBy : {A : Type 0} → Searched A → List (Option (Option ℕ)) → Type 0
 AreInBy s rs = (j : ℕ) (r : Option ℕ) → IsToldBy s j r → slice_get rs j ≡ Some None → ⊥
 
@@ -157,7 +157,7 @@ AreInBy s rs = (j : ℕ) (r : Option ℕ) → IsToldBy s j r → slice_get rs j 
 abbrev pub AreTold : {A : Type 0} → List (Searched A) → List (Option (Option ℕ)) → Type 0
 AreTold works rs = (j : ℕ) (r : Option ℕ) → slice_get rs j ≡ Some (Some r) → IsTold works j r
 
--- no piece of which some worker has a result is without a result in the table
+-- each piece of which some worker has a result has one in the table
 abbrev pub AreIn : {A : Type 0} → List (Searched A) → List (Option (Option ℕ)) → Type 0
 AreIn works rs = (j : ℕ) (r : Option ℕ) → IsTold works j r → slice_get rs j ≡ Some None → ⊥
 
