@@ -1,4 +1,4 @@
--- What the answer to a client's command makes of what lies under the lock. For the clauses of private functions.
+-- How the answer to a client's command changes what is under the lock. Only private contracts use these definitions.
 use Rattle.std.specs.Prelude.{◌≡◌, ◌<◌, [], ◌∷◌, ◌++◌, length}
 use Rattle.nd_time.specs.Limits.{max_log}
 use Rattle.nd_timeline.specs.declared.command.Command.{Command}
@@ -7,7 +7,7 @@ use Rattle.nd_session.specs.declared.shared.Shared.{Shared}
 use Rattle.nd_session.specs.Log.{IsPlaced, IsLegal, opening_of}
 use Rattle.nd_session.specs.Clients.{ClientValue, IsKnown}
 
--- a known client's command was answered by this receipt, which is the log's last entry now
+-- the command of a known client was answered by this receipt, which is now the last entry of the log
 pub record IsAnswered {A : Type 0} (old new : Shared A) (p : ClientValue A) (command : Command A) (r : Receipt A) : Type 0 where
   pub known : IsKnown old.entered old.state.log p
   pub room : length old.state.log < max_log

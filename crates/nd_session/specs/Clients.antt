@@ -1,4 +1,4 @@
--- What a client was told, against the log of a session (this project's own rule).
+-- A client's receipts, compared with the log of a session (this project's own rule).
 use Rattle.std.specs.Prelude.{◌≡◌, ℕ, ◌-◌, ◌<◌, ◌≤◌, ◌⊎◌, List, [], ◌∷◌, ◌++◌, length, slice_get, Option, Some, MatchOption, refl}
 use Rattle.std.specs.Option.{option_map_or}
 use Rattle.std.specs.Coded.{Coded, code_by, coded×, coded_ℕ, coded_list}
@@ -22,7 +22,7 @@ client_code A =
     code_by _ (coded× coded_ℕ (coded_list (receipt_code A)))
     (λ p. (p.number, p.receipts)) (λ t. record { number = t.0; receipts = t.1 }) (λ _. refl)
 
--- a client got one receipt more
+-- new is the client old with one more receipt
 abbrev pub Gains : {A : Type 0} → ClientValue A → ClientValue A → Receipt A → Type 0
 Gains old new r = new ≡ record old { receipts = old.receipts ++ r ∷ [] }
 
@@ -40,7 +40,7 @@ last_of rs = slice_get rs (length rs - 1)
 abbrev pub HoldsLast : {A : Type 0} → List (Receipt A) → List (Receipt A) → Type 0
 HoldsLast log rs = MatchOption (last_of rs) (Unit {0}) (λ r. Holds log r)
 
--- a position above the index of the last receipt, if there is one
+-- i is above the index of the last receipt, if there is one
 abbrev pub IsAboveLast : {A : Type 0} → ℕ → List (Receipt A) → Type 0
 IsAboveLast i rs = MatchOption (last_of rs) (Unit {0}) (λ r. r.index < i)
 
@@ -51,7 +51,8 @@ pub record IsOwn {A : Type 0} (number : ℕ) (receipts : List (Receipt A)) : Typ
 
 -- ---- one history
 
--- what holds of a log and a machine under a session's lock: the machine began at a start, and the log, which is no longer than it may be, led from there to it
+-- what holds of a log and a machine under a session's lock: the machine began at an initial state, and the log, which is within
+-- its limit, leads from there to the machine
 pub record IsHistory {A : Type 0} (log : List (Receipt A)) (machine : MachineValue A) : Type 0 where
   pub start : IsStart machine.timeline.base
   pub state : IsState machine.timeline.base
@@ -59,7 +60,7 @@ pub record IsHistory {A : Type 0} (log : List (Receipt A)) (machine : MachineVal
   pub legal : IsLegal (opening_of machine) log machine
   pub few : length log ≤ max_log
 
--- the answer to a client's command is an entry of a history that has the client's last receipt before it
+-- r answers the client's command: it is an entry of some history that also has the client's last receipt, at a lesser index
 pub record IsTold {A : Type 0} (p : ClientValue A) (command : Command A) (r : Receipt A) : Type 0 where
   pub log : List (Receipt A)
   pub machine : MachineValue A
@@ -70,7 +71,7 @@ pub record IsTold {A : Type 0} (p : ClientValue A) (command : Command A) (r : Re
   pub client : r.client ≡ p.number
   pub command_is : r.command ≡ command
 
--- a snapshot is of the machine after a history of its length that has the client's last receipt
+-- a snapshot has the timeline after some history, as long as the snapshot's index, that has the client's last receipt
 pub record IsSeen {A : Type 0} (p : ClientValue A) (s : SnapshotValue A) : Type 0 where
   pub log : List (Receipt A)
   pub machine : MachineValue A
@@ -89,19 +90,19 @@ pub record IsKnown {A : Type 0} (entered : ℕ) (log : List (Receipt A)) (p : Cl
   pub given : p.number < entered
   pub last : HoldsLast log p.receipts
 
--- one of the two fails
+-- the client's number was not given out, or the log does not have its last receipt
 abbrev pub IsUnknown : {A : Type 0} → ℕ → List (Receipt A) → ClientValue A → Type 0
 IsUnknown entered log p = (entered ≤ p.number) ⊎ (HoldsLast log p.receipts → ⊥)
 
--- the index that a client is told that is not known: that of its last receipt, or 0
+-- the index that is reported to an unknown client: that of its last receipt, or 0
 abbrev pub told_index : {A : Type 0} → ClientValue A → ℕ
 told_index p = option_map_or (λ r. r.index) (last_of p.receipts) 0
 
--- the client is not known, and the log has an entry at the index that it is told
+-- the client is unknown, and the log has an entry at the index that is reported
 abbrev pub IsToldAnEntry : {A : Type 0} → ℕ → List (Receipt A) → ClientValue A → Type 0
 IsToldAnEntry entered log p = IsUnknown entered log p × (told_index p < length log)
 
--- what a client is told that is not known: that index, and the log's entry there, if it has one
+-- what is reported to an unknown client: that index, and the log's entry there, if there is one
 pub record IsStranger {A : Type 0} (entered : ℕ) (log : List (Receipt A)) (p : ClientValue A) (index : ℕ) (found : Option (Receipt A)) : Type 0 where
   pub unknown : IsUnknown entered log p
   pub index_is : index ≡ told_index p

@@ -1,4 +1,4 @@
--- How a session ends: each client's receipts against the log (this project's own rule).
+-- How a session ends: each client's receipts are compared with the log (this project's own rule).
 use Rattle.std.specs.Prelude.{◌≡◌, ◌≢◌, ℕ, ◌<◌, ◌⊎◌, ◌==◌, List, length, filter, slice_get, Some}
 use Rattle.nd_session.specs.declared.receipt.Receipt.{Receipt}
 use Rattle.nd_session.specs.declared.close.CloseWhy.{CloseWhy}
@@ -17,20 +17,20 @@ HeldBelow {A} log rs k = (j : ℕ) → j < k → (r : Receipt A) → slice_get r
 abbrev pub IsNewBelow : {A : Type 0} → List (ClientValue A) → ℕ → ℕ → Type 0
 IsNewBelow {A} clients k number = (j : ℕ) → j < k → (q : ClientValue A) → slice_get clients j ≡ Some q → q.number ≢ number
 
--- a client of this number was handed in
+-- a client with this number was handed in
 pub record IsIn {A : Type 0} (clients : List (ClientValue A)) (number : ℕ) : Type 0 where
   pub place : ℕ
   pub client : ClientValue A
   pub at : slice_get clients place ≡ Some client
   pub number_is : client.number ≡ number
 
--- the log has the receipts of the client at k, and its number was not handed in before
+-- the receipts of the client at k are its own and in the log, and no client before it has its number
 pub record IsRight {A : Type 0} (log : List (Receipt A)) (clients : List (ClientValue A)) (k : ℕ) (p : ClientValue A) : Type 0 where
   pub own : IsOwn p.number p.receipts
   pub held : HeldBelow log p.receipts (length p.receipts)
   pub new : IsNewBelow clients k p.number
 
--- so with each of the first k clients
+-- this holds of each of the first n clients
 abbrev pub AreRightBelow : {A : Type 0} → List (Receipt A) → List (ClientValue A) → ℕ → Type 0
 AreRightBelow {A} log clients n = (k : ℕ) → k < n → (p : ClientValue A) → slice_get clients k ≡ Some p → IsRight log clients k p
 
@@ -46,13 +46,13 @@ pub record HasReceipt {A : Type 0} (clients : List (ClientValue A)) (e : Receipt
   pub receipt_place : ℕ
   pub receipt : slice_get client.receipts receipt_place ≡ Some e
 
--- each of the first entries has its receipt
+-- each of the first n entries is a receipt of a client that was handed in
 abbrev pub HaveReceiptsBelow : {A : Type 0} → List (Receipt A) → List (ClientValue A) → ℕ → Type 0
 HaveReceiptsBelow {A} log clients n = (i : ℕ) → i < n → (e : Receipt A) → slice_get log i ≡ Some e → HasReceipt clients e
 
--- ---- what is found first
+-- ---- the first error
 
--- the client's first receipt that is not the log's entry at its index
+-- index is that of the client's first receipt that the log does not have
 pub record IsFirstWrong {A : Type 0} (log : List (Receipt A)) (rs : List (Receipt A)) (index : ℕ) : Type 0 where
   pub place : ℕ
   pub receipt : Receipt A
@@ -61,7 +61,7 @@ pub record IsFirstWrong {A : Type 0} (log : List (Receipt A)) (rs : List (Receip
   pub wrong : Holds log receipt → ⊥
   pub index_is : index ≡ receipt.index
 
--- its number was handed in before, which is told by the log's length
+-- the client's number was handed in before; the index reported is the length of the log
 pub record IsHandedInBefore {A : Type 0} (log : List (Receipt A)) (clients : List (ClientValue A)) (k : ℕ) (p : ClientValue A) (index : ℕ) : Type 0 where
   pub held : HeldBelow log p.receipts (length p.receipts)
   pub place : ℕ
@@ -71,11 +71,11 @@ pub record IsHandedInBefore {A : Type 0} (log : List (Receipt A)) (clients : Lis
   pub number_is : other.number ≡ p.number
   pub index_is : index ≡ length log
 
--- what is wrong with the client at k: a receipt, or else its number
+-- what is wrong with the client at k: a receipt, or otherwise its number
 abbrev pub IsWrong : {A : Type 0} → List (Receipt A) → List (ClientValue A) → ℕ → ClientValue A → ℕ → Type 0
 IsWrong log clients k p index = IsFirstWrong log p.receipts index ⊎ IsHandedInBefore log clients k p index
 
--- the first client with which something is wrong
+-- number is that of the first client with which something is wrong
 pub record IsMismatch {A : Type 0} (log : List (Receipt A)) (clients : List (ClientValue A)) (number index : ℕ) : Type 0 where
   pub place : ℕ
   pub client : ClientValue A
@@ -91,7 +91,7 @@ pub record IsMissing {A : Type 0} (log : List (Receipt A)) (clients : List (Clie
   pub earlier : AreInBelow clients number
   pub absent : IsIn clients number → ⊥
 
--- the first entry without a receipt
+-- index is that of the first entry that is no client's receipt
 pub record IsUntold {A : Type 0} (log : List (Receipt A)) (clients : List (ClientValue A)) (entered number index : ℕ) : Type 0 where
   pub right : AreRightBelow log clients (length clients)
   pub all_in : AreInBelow clients entered
@@ -101,7 +101,7 @@ pub record IsUntold {A : Type 0} (log : List (Receipt A)) (clients : List (Clien
   pub untold : HasReceipt clients entry → ⊥
   pub number_is : number ≡ entry.client
 
--- what is found first: the clients in order, then the numbers, then the entries
+-- the first error: the clients are tested in order, then the numbers, then the entries
 abbrev pub ClosesWith : {A : Type 0} → List (Receipt A) → List (ClientValue A) → ℕ → CloseWhy → Type 0
 ClosesWith log clients entered (Mismatch number index) = IsMismatch log clients number index ⊎ IsUntold log clients entered number index
 ClosesWith log clients entered (ClientMissing number) = IsMissing log clients entered number
@@ -119,7 +119,7 @@ pub record IsWhole {A : Type 0} (log : List (Receipt A)) (clients : List (Client
 abbrev pub IsSettled : {A : Type 0} → Log A → Type 0
 IsSettled l = IsHistory l.entries.items (record { timeline = l.timeline; breaks = l.breaks })
 
--- it is what lay under the lock
+-- the log l is what was under the lock
 pub record IsLeft {A : Type 0} (was : Shared A) (l : Log A) : Type 0 where
   pub entries : l.entries.items ≡ was.state.log
   pub entered : l.entered ≡ was.entered

@@ -1,4 +1,4 @@
--- Receipts as numbers, so that a model's value can hold them.
+-- Receipts encoded as numbers, so that the value of a model can contain them.
 use Rattle.std.specs.Prelude.{refl}
 use Rattle.std.specs.Coded.{Coded, code_by, coded×, coded_ℕ}
 use Rattle.nd_timeline.specs.Codes.{command_code, reply_code}

@@ -1,4 +1,4 @@
--- The number and the name of each fault of a session, and when it is answered (this project's own rule).
+-- The number and the name of each error of a session, and when it is returned (this project's own rule).
 use Rattle.std.specs.Prelude.{◌≡◌, ℕ, ◌<◌, ◌≤◌, ◌⊎◌, List, length, codes}
 use Rattle.nd_time.specs.Code.{Code, coded}
 use Rattle.nd_time.specs.Limits.{max_log, max_clients}
@@ -15,7 +15,7 @@ code_of LogFull = coded 27 (codes "LogFull")
 code_of TooManyClients = coded 28 (codes "TooManyClients")
 code_of Memory = coded 29 (codes "Memory")
 
--- a `State` with this log refuses a command so
+-- a `State` with this log refuses a command with this error
 abbrev pub ApplyFails : {A : Type 0} → List (Receipt A) → SessionFault A → Type 0
 ApplyFails log (NotThisSession index found) = ⊥
 ApplyFails log LogFull = length log ≡ max_log
@@ -24,37 +24,39 @@ ApplyFails log Memory = length log < max_log
 
 -- ---- under the lock, with this log and `entered` clients
 
--- the test of a client fails so
+-- the test of the client p fails with this error
 abbrev pub TestFails : {A : Type 0} → ℕ → List (Receipt A) → ClientValue A → SessionFault A → Type 0
 TestFails entered log p (NotThisSession index found) = IsStranger entered log p index found
 TestFails entered log p LogFull = ⊥
 TestFails entered log p TooManyClients = ⊥
 TestFails entered log p Memory = IsToldAnEntry entered log p
 
--- a client's command fails so; memory runs out for the entry that a stranger is told, or for a known client's own
+-- a command of the client p fails with this error; memory can run out for the entry that is reported to an unknown client, or for
+-- a known client's own entry
 abbrev pub CommandFails : {A : Type 0} → ℕ → List (Receipt A) → ClientValue A → SessionFault A → Type 0
 CommandFails entered log p (NotThisSession index found) = IsStranger entered log p index found
 CommandFails entered log p LogFull = IsKnown entered log p × (length log ≡ max_log)
 CommandFails entered log p TooManyClients = ⊥
 CommandFails entered log p Memory = IsToldAnEntry entered log p ⊎ (IsKnown entered log p × (length log < max_log))
 
--- a copy for a client fails so; memory runs out for the entry that a stranger is told, or for a known client's copy
+-- a copy for the client p fails with this error; memory can run out for the entry that is reported to an unknown client, or for a
+-- known client's copy
 abbrev pub CopyFails : {A : Type 0} → ℕ → List (Receipt A) → ClientValue A → SessionFault A → Type 0
 CopyFails entered log p (NotThisSession index found) = IsStranger entered log p index found
 CopyFails entered log p LogFull = ⊥
 CopyFails entered log p TooManyClients = ⊥
 CopyFails entered log p Memory = IsToldAnEntry entered log p ⊎ IsKnown entered log p
 
--- entering fails so
+-- entering fails with this error
 abbrev pub EnterFails : {A : Type 0} → ℕ → SessionFault A → Type 0
 EnterFails entered (NotThisSession index found) = ⊥
 EnterFails entered LogFull = ⊥
 EnterFails entered TooManyClients = max_clients ≤ entered
 EnterFails entered Memory = entered < max_clients
 
--- ---- outside the lock: there is a history and a number of clients at which a call fails so
+-- ---- outside the lock: the error is possible for some history and some number of clients
 
--- a command of client p fails with this fault at some history and number of clients
+-- a command of the client p fails with this error, for some history and number of clients
 pub record CommandMayFail {A : Type 0} (p : ClientValue A) (fault : SessionFault A) : Type 0 where
   pub log : List (Receipt A)
   pub machine : MachineValue A
@@ -62,7 +64,7 @@ pub record CommandMayFail {A : Type 0} (p : ClientValue A) (fault : SessionFault
   pub history : IsHistory log machine
   pub fails : CommandFails entered log p fault
 
--- a copy for client p fails with this fault at some history and number of clients
+-- a copy for the client p fails with this error, for some history and number of clients
 pub record CopyMayFail {A : Type 0} (p : ClientValue A) (fault : SessionFault A) : Type 0 where
   pub log : List (Receipt A)
   pub machine : MachineValue A
@@ -70,7 +72,7 @@ pub record CopyMayFail {A : Type 0} (p : ClientValue A) (fault : SessionFault A)
   pub history : IsHistory log machine
   pub fails : CopyFails entered log p fault
 
--- entering fails with this fault at some number of clients
+-- entering fails with this error, for some number of clients
 pub record EnterMayFail {A : Type 0} (fault : SessionFault A) : Type 0 where
   pub entered : ℕ
   pub fails : EnterFails entered fault

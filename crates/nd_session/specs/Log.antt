@@ -13,7 +13,7 @@ use Rattle.nd_session.specs.declared.receipt.Receipt.{Receipt}
 
 -- ---- where a log begins
 
--- a cluster is the start of some processors, and not too many, on a graph on which one can start
+-- the cluster is in the initial state, for a number of processors and a graph with which a cluster can start
 pub record IsStart (s : ClusterState) : Type 0 where
   pub graph : Dataflow
   pub count : ℕ
@@ -22,26 +22,27 @@ pub record IsStart (s : ClusterState) : Type 0 where
   pub some : 0 < count
   pub few : count ≤ max_processors
 
--- the machine that a machine's log began with: no step is kept, and no breakpoint set
+-- the machine with which a machine's log began: no step is kept, and no breakpoint is set
 abbrev pub opening_of : {A : Type 0} → MachineValue A → MachineValue A
 opening_of {A} m = without_breaks (opened A m.timeline.base)
 
 -- ---- entries
 
--- how many entries are a client's
+-- the number of a client's entries
 abbrev pub count_of : {A : Type 0} → ℕ → List (Receipt A) → ℕ
 count_of client log = count_by (λ e. e.client == client) log
 
--- the entry of a client's command that is answered so behind a log
+-- the entry that is added to a log for a client's command with this reply
 abbrev pub entry_of : {A : Type 0} → List (Receipt A) → ℕ → Command A → Reply → Receipt A
 entry_of log client command reply = record { index = length log; client = client; number = count_of client log; command = command; reply = reply }
 
--- an entry at this position of a log tells the position, and how many entries of its client stand before it
+-- an entry at this position of a log has the position as its index, and its number is how many entries of its client come before
+-- it
 pub record IsPlaced {A : Type 0} (log : List (Receipt A)) (i : ℕ) (e : Receipt A) : Type 0 where
   pub index : e.index ≡ i
   pub number : e.number ≡ count_of e.client (take i log)
 
--- so does each entry
+-- this holds of each entry
 abbrev pub ArePlaced : {A : Type 0} → List (Receipt A) → Type 0
 ArePlaced {A} log = (i : ℕ) (e : Receipt A) → slice_get log i ≡ Some e → IsPlaced log i e
 
@@ -54,7 +55,7 @@ Leads {A} m (e ∷ es) new = record {
   rest : Leads mid es new;
 }
 
--- a log that can be one of commands to a machine that began so, and leaves it so
+-- the log may be one of commands that were given to a machine that began as opening, and led to this machine
 pub record IsLegal {A : Type 0} (opening : MachineValue A) (log : List (Receipt A)) (machine : MachineValue A) : Type 0 where
   pub placed : ArePlaced log
   pub leads : Leads opening log machine

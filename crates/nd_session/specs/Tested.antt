@@ -1,4 +1,4 @@
--- What the tests at the end of a session find. For their proofs alone.
+-- What the tests at the end of a session find. Only their proofs use these definitions.
 use Rattle.std.specs.Prelude.{◌≡◌, ℕ, ◌<◌, List, length, slice_get, Some}
 use Rattle.nd_session.specs.declared.receipt.Receipt.{Receipt}
 use Rattle.nd_session.specs.Clients.{ClientValue}
@@ -18,12 +18,12 @@ pub record IsFirstMissing {A : Type 0} (clients : List (ClientValue A)) (entered
   pub earlier : AreInBelow clients number
   pub absent : IsIn clients number → ⊥
 
--- the client has the entry's number, and has it as the receipt of the entry's own number
+-- the client has the entry's number, and has the entry as its receipt at the position of the entry's own number
 pub record HasAt {A : Type 0} (p : ClientValue A) (e : Receipt A) : Type 0 where
   pub number_is : p.number ≡ e.client
   pub receipt : slice_get p.receipts e.number ≡ Some e
 
--- a client has it so
+-- some client has the entry at this position
 pub record HasInPlace {A : Type 0} (clients : List (ClientValue A)) (e : Receipt A) : Type 0 where
   pub place : ℕ
   pub client : ClientValue A
@@ -33,7 +33,7 @@ pub record HasInPlace {A : Type 0} (clients : List (ClientValue A)) (e : Receipt
 abbrev pub AreInPlaceBelow : {A : Type 0} → List (Receipt A) → List (ClientValue A) → ℕ → Type 0
 AreInPlaceBelow {A} log clients n = (i : ℕ) → i < n → (e : Receipt A) → slice_get log i ≡ Some e → HasInPlace clients e
 
--- the first entry that none has so
+-- index is that of the first entry that no client has at this position
 pub record IsFirstUntold {A : Type 0} (log : List (Receipt A)) (clients : List (ClientValue A)) (number index : ℕ) : Type 0 where
   pub entry : Receipt A
   pub at : slice_get log index ≡ Some entry
