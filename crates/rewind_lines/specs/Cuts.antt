@@ -90,7 +90,7 @@ lines-count done =
     let n : length (lines_of done) ≡ length (whole_lines_of done ++ last_line_of done ∷ []) = ap length (lines-split done) in
     omega (arith, length-append (whole_lines_of done) (last_line_of done ∷ []))
 
--- nothing was read
+-- an empty input has one line, which is empty
 lines-empty : lines_of [] ≡ [] ∷ []
 unfolding lines_of
 lines-empty = refl
@@ -154,7 +154,7 @@ whole_lines-front done more =
     let w = whole_lines-more done more in
     ap (take (length (whole_lines_of done))) w.1 ∙ take-append_seam (whole_lines_of done) w.0
 
--- ---- the bytes of a slice
+-- ---- the bytes of a part
 
 -- the bytes before an index, and those from it to the end
 pub up_to : (done bytes : List ℕ) (from : ℕ) → (done ++ take from bytes) ++ drop from bytes ≡ done ++ bytes

@@ -23,7 +23,7 @@ pub record Held : Type 0 where
   pub line : Front
   pub number : ℕ
 
--- what is stored once these bytes were read
+-- what is stored after these bytes are read
 abbrev pub held_of : List ℕ → Held
 held_of done = record { line = front_of (last_line_of done); number = length (lines_of done) }
 

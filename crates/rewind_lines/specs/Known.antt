@@ -21,7 +21,7 @@ Appends-some : (b : Known) (x bs : List ℕ) → Appends (Some x) b bs → b ≡
 Appends-some None x bs h = absurd h
 Appends-some (Some y) x bs h = ap Some h
 
--- the bytes written so far
+-- the bytes written so far, after one more write
 pub written-on : (old new : Known) (before sent bs : List ℕ) → old ≡ Some (before ++ sent) → Appends old new bs → new ≡ Some (before ++ (sent ++ bs))
 written-on old new before sent bs e h =
     Appends-some new (before ++ sent) bs (subst (λ (o : Known). Appends o new bs) e h) ∙ ap Some (append_assoc before sent bs)
@@ -39,7 +39,7 @@ Keeps-some : (b : Known) (x : List ℕ) → Keeps (Some x) b → b ≡ Some x
 Keeps-some None x h = absurd h
 Keeps-some (Some y) x h = ap Some h
 
--- the bytes that a read returned, and those that it left
+-- the bytes that a read returned, and those that it left in the source
 pub read-on : (input taken rest piece : List ℕ) (old new : Known) → input ≡ taken ++ rest → old ≡ Some rest → Consumes old new piece
     → (more : List ℕ) × (new ≡ Some more) × (input ≡ (taken ++ piece) ++ more)
 read-on input taken rest piece old new whole told h =
@@ -54,6 +54,6 @@ read-none input taken rest piece old new whole told h none end =
     let more : r.0 ≡ [] = subst IsAtEnd r.1 end in
     (r.1 ∙ ap Some more, r.2 ∙ (ap (λ zs. (taken ++ piece) ++ zs) more ∙ (append-nil (taken ++ piece) ∙ (ap (λ zs. taken ++ zs) none ∙ append-nil taken))))
 
--- a read that failed
+-- a failed read leaves the source as it was
 pub read-failed : (rest : List ℕ) (old new : Known) → old ≡ Some rest → Keeps old new → new ≡ Some rest
 read-failed rest old new told h = Keeps-some new rest (subst (λ (o : Known). Keeps o new) told h)
