@@ -1,4 +1,4 @@
--- An atom of a condition: the shapes of its values, then the name, then the time.
+-- An atom of a condition. The shapes of its values are tested first, then the name, then the time.
 use Rattle.std.specs.Prelude.{[], ◌∷◌, codes, Result, Ok, Err}
 use Rattle.serde_json.specs.Data.{Data}
 use Rattle.nd_json.specs.Forms.{text_at, small_at, whole_at, integer_at}
@@ -53,7 +53,7 @@ view_of g d =
     after (point_there g d) (λ point.
     Ok (View q point at_least))))
 
--- the atom under the key of its kind, which is the only one, of the kinds that each version has
+-- the atom under the only key, which names its kind; only the kinds that every version has
 unfoldable pub first_atom_of : Dataflow → Data → Result Atom LineFault
 first_atom_of g d =
     within (inner (codes "passed") (codes "at" ∷ codes "q" ∷ codes "time" ∷ []) d) (passed_of g)
@@ -62,7 +62,7 @@ first_atom_of g d =
     (within (inner (codes "sink") (codes "at_least" ∷ codes "value" ∷ codes "vertex" ∷ []) d) (sink_of g)
     (Err BadShape))))
 
--- the atom under the key of its kind, which is the only one
+-- the atom under the only key, which names its kind
 unfoldable pub atom_of : Dataflow → Data → Result Atom LineFault
 atom_of g d =
     within (inner (codes "finished") (codes "at" ∷ codes "time" ∷ []) d) (finished_of g)

@@ -17,6 +17,6 @@ tried step (Some refusal) = object (member (codes "refused") refusal (member (co
 abbrev pub candidate_data : Dataflow → Candidate Global → Data
 candidate_data g c = tried (object_of g c.step) (option_map (step_refused g) c.refusal)
 
--- all of them, in their order
+-- all candidates, in their order
 abbrev pub candidates_data : Dataflow → List (Candidate Global) → Data
 candidates_data g cs = row (map (candidate_data g) cs)

@@ -21,7 +21,7 @@ jump_of d = given BadShape (whole_at (codes "to") d) (λ to. Ok (Jump to))
 unfoldable pub run_of : Data → Result (Command Global) LineFault
 run_of d = given BadShape (whole_at (codes "limit") d) (λ limit. Ok (Run limit None))
 
--- of some processors
+-- the run of some processors
 unfoldable pub run_only_of : Data → Result (Command Global) LineFault
 run_only_of d =
     given BadShape (whole_at (codes "limit") d) (λ limit.

@@ -1,4 +1,4 @@
--- The condition that a line names: a literal, or all or any of several, from the fourth version on; an atom before.
+-- The condition that a line names: before the fourth version an atom; from then on a literal, or all or any of several literals.
 use Rattle.std.specs.Prelude.{◌≡◌, ◌<◌, List, [], ◌∷◌, ◌++◌, if◌then◌else◌, length, nat_le, codes, Option, Some, None, Result, Ok, Err, IfOk, IfSome}
 use Rattle.serde_json.specs.Data.{Data}
 use Rattle.nd_json.specs.Forms.{list}
@@ -26,23 +26,23 @@ literal_of g d =
 
 -- ---- several literals
 
--- of two faults that of lesser number: a bad shape, then an unknown name, then a bad time
+-- the error with the lesser number: a bad shape comes before an unknown name, and that before a bad time
 unfoldable pub lesser : LineFault → LineFault → LineFault
 lesser e f = if nat_le (code_of e).number (code_of f).number then e else f
 
--- a literal and the others, or of their faults that of least number
+-- a literal followed by the others, or the error with the least number
 abbrev pub beside : Result Literal LineFault → Result (List Literal) LineFault → Result (List Literal) LineFault
 beside (Ok l) (Ok ls) = Ok (l ∷ ls)
 beside (Ok l) (Err f) = Err f
 beside (Err e) (Ok ls) = Err e
 beside (Err e) (Err f) = Err (lesser e f)
 
--- the literals that these are, or of all their faults that of least number
+-- the literals that these values are, or the error with the least number
 abbrev pub literals_of : Dataflow → List Data → Result (List Literal) LineFault
 literals_of g [] = Ok []
 literals_of g (d ∷ ds) = beside (literal_of g d) (literals_of g ds)
 
--- all or any of the literals of a list: of some, and no more than a condition may have
+-- all or any of the literals of a list, which has 1 to max_literals items
 unfoldable pub several_of : Dataflow → Quantifier → Data → Result ConditionValue LineFault
 several_of g quantifier d =
     given BadShape (list d) (λ ds.
@@ -57,38 +57,38 @@ literals_read (Ok None) = Ok []
 literals_read (Ok (Some c)) = Ok c.literals
 literals_read (Err e) = Err e
 
--- one literal more
+-- the reading with one more literal
 abbrev pub with_literal : Result (List Literal) LineFault → Literal → Result (List Literal) LineFault
 with_literal (Ok ls) l = Ok (ls ++ l ∷ [])
 with_literal (Err e) l = Err e
 
--- one faulty literal more
+-- the reading after one more faulty literal
 abbrev pub with_fault : Result (List Literal) LineFault → LineFault → LineFault
 with_fault (Ok ls) f = f
 with_fault (Err e) f = lesser e f
 
--- the condition that was read may have one literal more
+-- the condition that was read has room for one more literal
 abbrev pub HasRoom : Result (Option ConditionValue) LineFault → Type 0
 HasRoom read = IfOk (literals_read read) (λ literals. length literals < max_literals)
 
--- the condition that was read, if any, is of this quantifier
+-- the condition that was read, if any, has this quantifier
 abbrev pub IsOf : Quantifier → Result (Option ConditionValue) LineFault → Type 0
 IsOf quantifier read = IfOk read (λ o. IfSome o (λ c. c.quantifier ≡ quantifier))
 
--- a condition is of this quantifier, and its literals are those of the reading
+-- the condition has this quantifier, and its literals are those of the reading
 abbrev pub MakeUp : Quantifier → Result (List Literal) LineFault → ConditionValue → Type 0
 MakeUp quantifier reading c = (reading ≡ Ok c.literals) × (c.quantifier ≡ quantifier)
 
 -- ---- conditions
 
--- a literal, {"all":[literal,..]} or {"any":[literal,..]}
+-- a literal, {"all":[literal,...]} or {"any":[literal,...]}
 unfoldable pub combined_of : Dataflow → Data → Result ConditionValue LineFault
 combined_of g d =
     within (alone (codes "all") d) (several_of g All)
     (within (alone (codes "any") d) (several_of g Any)
     (after (literal_of g d) (λ literal. Ok (of_literal All literal))))
 
--- the condition that a value is in a script of this version
+-- the condition that a value describes in a script of this version
 unfoldable pub condition_of : Version → Dataflow → Data → Result ConditionValue LineFault
 condition_of v g d =
     if includes v Fourth then combined_of g d

@@ -11,7 +11,7 @@ use Rattle.nd_steps.specs.declared.effect.ItemAt.{ItemAt}
 use Rattle.nd_steps.specs.Effect.{EffectValue}
 use Rattle.rewind_forms.specs.declared.effects.Lists.{Lists}
 
--- a whole number, or null
+-- an integer, or null
 abbrev pub whole_or_null : Option ℤ → Data
 whole_or_null None = null
 whole_or_null (Some z) = whole z
@@ -51,7 +51,7 @@ token_altered g a = row (natural a.p ∷ place g a.key ∷ natural_or_null a.old
 abbrev pub entry_altered : Dataflow → Altered Pointstamp ℤ → Data
 entry_altered g a = row (natural a.p ∷ place g a.key.location ∷ time_data a.key.time ∷ whole a.old ∷ whole a.new ∷ [])
 
--- ---- all of them
+-- ---- all lists
 
 -- {"items":items,"queues":queues,"records":records,"requests":requests,"sinks":sinks,"tokens":tokens,"unsent":unsent,"views":views}
 abbrev pub lists_data : Lists → Data
@@ -65,7 +65,7 @@ lists_data l =
     (member (codes "unsent") l.unsent
     (member (codes "views") l.views no_members))))))))
 
--- eight lists of such elements, in their order
+-- the eight lists of an effect, each in its order
 abbrev pub effect_data : Dataflow → EffectValue → Data
 effect_data g e = lists_data (record {
   items = row (map (item_altered g) e.items);

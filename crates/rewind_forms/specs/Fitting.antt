@@ -12,7 +12,7 @@ use Rattle.nd_protocol.specs.declared.part.Part.TheVariants.{All, Points}
 abbrev pub HasDepth : Dataflow → ℕ → Time → Type 0
 HasDepth g l t = slice_get (depths g) l ≡ Some (length t.counters)
 
--- so has a later time, if there is one
+-- the later time, if there is one, has the depth of that location
 abbrev pub LaterHasDepth : Dataflow → ℕ → Option Time → Type 0
 LaterHasDepth g l None = ⊤
 LaterHasDepth g l (Some to) = HasDepth g l to

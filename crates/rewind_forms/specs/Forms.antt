@@ -9,30 +9,30 @@ use Rattle.rewind_forms.specs.declared.fault.LineFault.{LineFault}
 use Rattle.rewind_forms.specs.declared.fault.LineFault.TheVariants.{Memory}
 use Rattle.rewind_forms.specs.declared.points.NamedTime.{NamedTime}
 
--- ---- what is made of a reading
+-- ---- readings, one after another
 
--- what is made of a value if it is there, and else the fault
+-- what made returns for the value, or the error if there is no value
 abbrev pub given : {A B : Type 0} → LineFault → Option A → (A → Result B LineFault) → Result B LineFault
 given fault None made = Err fault
 given fault (Some x) made = made x
 
--- what is made of a value if it was read, and else why it was not
+-- what made returns for the value that was read, or the error of its reading
 abbrev pub after : {A B : Type 0} → Result A LineFault → (A → Result B LineFault) → Result B LineFault
 after (Err e) made = Err e
 after (Ok x) made = made x
 
--- what is read from a value if it is there, and else the other
+-- what read returns for the value, or other if there is no value
 abbrev pub within : {B : Type 0} → Option Data → (Data → Result B LineFault) → Result B LineFault → Result B LineFault
 within None read other = other
 within (Some d) read other = read d
 
--- the fault is that of the reading, unless memory ran out
+-- the error is that of the reading, unless memory ran out
 abbrev pub FailsWith : {B : Type 0} → Result B LineFault → LineFault → Type 0
 FailsWith reading e = e ≢ Memory → reading ≡ Err e
 
 -- ---- values
 
--- true or false, whichever stands at the key
+-- the boolean at the key
 unfoldable pub boolean_at : List ℕ → Data → Option Bool
 boolean_at key d = option_and_then as_bool (get key d)
 
@@ -45,7 +45,7 @@ numbers_of (d ∷ ds) = every small (d ∷ ds)
 unfoldable pub numbers_at : List ℕ → Data → Option (List ℕ)
 numbers_at key d = option_and_then numbers_of (list_at key d)
 
--- a list of two
+-- the two items of a list of two
 abbrev pub pair_of : List Data → Option (Data × Data)
 pair_of [] = None
 pair_of (a ∷ []) = None
@@ -60,7 +60,7 @@ name_and_numbers n = (n.name.now, n.numbers.items)
 unfoldable pub named_time : Data × Data → Option (List ℕ × List ℕ)
 named_time p = option_and_then (λ name. option_map (λ numbers. (name, numbers)) (option_and_then numbers_of (list p.1))) (text p.0)
 
--- the pointstamp that items are, by its name and its numbers
+-- the pointstamp that these items describe: its name and its numbers
 unfoldable pub point_of : List Data → Option (List ℕ × List ℕ)
 point_of ds = option_and_then named_time (pair_of ds)
 
@@ -68,7 +68,7 @@ point_of ds = option_and_then named_time (pair_of ds)
 unfoldable pub point_at : List ℕ → Data → Option (List ℕ × List ℕ)
 point_at key d = option_and_then point_of (list_at key d)
 
--- the pointstamp that it is
+-- the pointstamp that a value describes
 unfoldable pub listed_point : Data → Option (List ℕ × List ℕ)
 listed_point d = option_and_then point_of (list d)
 
@@ -80,11 +80,11 @@ points_at key d = option_and_then (every listed_point) (list_at key d)
 unfoldable pub values_at : List ℕ → Data → Option (List ℤ)
 values_at key d = option_and_then (every integer) (list_at key d)
 
--- at least one of them, and at most `most`
+-- the list has at least one item, and at most `most`
 abbrev pub are_few : ℕ → List Data → Bool
 are_few most ds = nat_lt 0 (length ds) && nat_le (length ds) most
 
--- the numbers of some processors, no more than a cluster may have
+-- the numbers of some processors, at most as many as a cluster may have
 abbrev pub processors_of : List Data → Option (List ℕ)
 processors_of ds = if are_few max_processors ds then every small ds else None
 
@@ -92,16 +92,16 @@ processors_of ds = if are_few max_processors ds then every small ds else None
 unfoldable pub processors_at : List ℕ → Data → Option (List ℕ)
 processors_at key d = option_and_then processors_of (list_at key d)
 
--- the name at the key, and the numbers of the time beside it
+-- the name at the key, and the numbers of the time at the key "time"
 unfoldable pub named_at : List ℕ → Data → Option (List ℕ × List ℕ)
 named_at key d = option_and_then (λ name. option_map (λ numbers. (name, numbers)) (numbers_at (codes "time") d)) (text_at key d)
 
 -- ---- objects
 
--- what stands under the only key of an object
+-- the value at the only key of an object
 unfoldable pub alone : List ℕ → Data → Option Data
 alone key d = if has_keys (key ∷ []) d then get key d else None
 
--- the object with exactly these keys that stands under the only key of an object
+-- the object with exactly these keys at the only key of an object
 unfoldable pub inner : List ℕ → List (List ℕ) → Data → Option Data
 inner key keys d = option_and_then (λ x. if has_keys (key ∷ []) d && has_keys keys x then Some x else None) (get key d)

@@ -15,7 +15,7 @@ use Rattle.rewind_forms.specs.declared.form.CommandForm.TheVariants as command
 use Rattle.rewind_forms.specs.declared.form.QueryForm.{QueryForm}
 use Rattle.rewind_forms.specs.declared.form.QueryForm.TheVariants as query
 
--- ---- the words, each with the keys, which are in the order of their bytes, and what both mean
+-- ---- the words, each with its keys, in the order of their bytes, and with the form that they mean
 
 unfoldable pub steps : List (List ℕ × List (List ℕ) × StepForm)
 steps =
@@ -106,7 +106,7 @@ since (Query form) = query_since form
 
 -- ---- the form of a line
 
--- what the first row means that has this word, and the keys of this object
+-- the meaning in the first row that has this word and the keys of this object
 abbrev pub find : {A : Type 0} → List (List ℕ × List (List ℕ) × A) → List ℕ → Data → Option A
 find [] word d = None
 find (row ∷ rows) word d = if bytes_eq word row.0 && has_keys row.1 d then Some row.2 else find rows word d

@@ -1,4 +1,4 @@
--- What steps and their objects have to do with one another, as statements.
+-- How steps and their JSON objects are related, as statements.
 use Rattle.std.specs.Prelude.{◌≡◌, Ok}
 use Rattle.std.specs.declared.alloc.Global.{Global}
 use Rattle.serde_json.specs.Data.{Data}
@@ -10,16 +10,16 @@ use Rattle.rewind_forms.specs.Objects.{object_of}
 use Rattle.nd_protocol.specs.Ranges.{NumbersFit}
 use Rattle.rewind_forms.specs.Fitting.{NamesFit}
 
--- reading a step's object against a checked graph that has what the step names gives the step
+-- reading the object of a step gives the step, if the graph is checked and has what the step names
 abbrev pub ObjectsAreReadBack : Type 0
 ObjectsAreReadBack = (g : Dataflow) (x : Step Global) → IsFaultless g → NamesFit g x → NumbersFit x → read_of g (object_of g x) ≡ Ok x
 
--- two such steps with one object are one step
+-- two such steps with the same object are equal
 abbrev pub ObjectsTellSteps : Type 0
 ObjectsTellSteps =
     (g : Dataflow) (x y : Step Global) → IsFaultless g → NamesFit g x → NumbersFit x → NamesFit g y → NumbersFit y
     → object_of g x ≡ object_of g y → x ≡ y
 
--- what a step that was read names is in the graph
+-- the graph has what a step that was read names
 abbrev pub ReadStepsFit : Type 0
 ReadStepsFit = (g : Dataflow) (d : Data) (x : Step Global) → read_of g d ≡ Ok x → NamesFit g x

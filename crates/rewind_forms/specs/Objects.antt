@@ -19,24 +19,24 @@ next_data token.Close = string (codes "close")
 next_data token.Stay = string (codes "stay")
 next_data (token.To n) = object (member (codes "to") (natural n) no_members)
 
--- {"do":"feed","next":next,"p":n,"values":[v,..],"vertex":name}
+-- {"do":"feed","next":next,"p":n,"values":[v,...],"vertex":name}
 abbrev pub feed_object : Dataflow → ℕ → ℕ → List ℤ → Afterwards → Data
 feed_object g p vertex values next = object (member (codes "do") (string (codes "feed"))
     (member (codes "next") (next_data next) (member (codes "p") (natural p)
     (member (codes "values") (row (map whole values)) (member (codes "vertex") (place g vertex) no_members)))))
 
--- {"do":"take","edge":name,"p":n,"time":[epoch,c1,..],"value":v}
+-- {"do":"take","edge":name,"p":n,"time":[epoch,c1,...],"value":v}
 abbrev pub take_object : Dataflow → ℕ → ℕ → Time → ℤ → Data
 take_object g p edge time value = object (member (codes "do") (string (codes "take"))
     (member (codes "edge") (place g edge) (member (codes "p") (natural p)
     (member (codes "time") (time_data time) (member (codes "value") (whole value) no_members)))))
 
--- {"do":"notice","p":n,"time":[epoch,c1,..],"vertex":name}
+-- {"do":"notice","p":n,"time":[epoch,c1,...],"vertex":name}
 abbrev pub notice_object : Dataflow → ℕ → ℕ → Time → Data
 notice_object g p vertex time = object (member (codes "do") (string (codes "notice"))
     (member (codes "p") (natural p) (member (codes "time") (time_data time) (member (codes "vertex") (place g vertex) no_members))))
 
--- {"do":"release","p":n,"time":[epoch,c1,..],"vertex":name}, and "to":[epoch,c1,..] among the keys if there is a later time
+-- {"do":"release","p":n,"time":[epoch,c1,...],"vertex":name}, and "to":[epoch,c1,...] among the keys if there is a later time
 abbrev pub release_object : Dataflow → ℕ → ℕ → Time → Option Time → Data
 release_object g p vertex time None = object (member (codes "do") (string (codes "release"))
     (member (codes "p") (natural p) (member (codes "time") (time_data time) (member (codes "vertex") (place g vertex) no_members))))
@@ -44,11 +44,11 @@ release_object g p vertex time (Some to) = object (member (codes "do") (string (
     (member (codes "p") (natural p) (member (codes "time") (time_data time)
     (member (codes "to") (time_data to) (member (codes "vertex") (place g vertex) no_members)))))
 
--- of all that is unsent: {"do":"broadcast","p":n}
+-- the broadcast of all that is unsent: {"do":"broadcast","p":n}
 abbrev pub all_object : ℕ → Data
 all_object p = object (member (codes "do") (string (codes "broadcast")) (member (codes "p") (natural p) no_members))
 
--- of a part, its pointstamps as they were given: {"do":"broadcast","p":n,"part":[[name,[epoch,c1,..]],..]}
+-- the broadcast of a part, with its pointstamps as they were given: {"do":"broadcast","p":n,"part":[[name,[epoch,c1,...]],...]}
 abbrev pub part_object : Dataflow → ℕ → List Pointstamp → Data
 part_object g p points = object (member (codes "do") (string (codes "broadcast"))
     (member (codes "p") (natural p) (member (codes "part") (row (map (point_data g) points)) no_members)))

@@ -41,13 +41,13 @@ are_known g (p ∷ ps) = is_some (location_named g p.0) && are_known g ps
 unfoldable pub point_named : Dataflow → List ℕ × List ℕ → Option Pointstamp
 point_named g p = option_and_then (λ l. option_map (λ t. record { location = l; time = t }) (time_of g l p.1)) (location_named g p.0)
 
--- the pointstamp of a time's numbers at the location that a name has been found to be that of
+-- the pointstamp at the location that was found for a name, with the time of these numbers; or the error
 unfoldable pub placed : Dataflow → Option ℕ → List ℕ → Result Pointstamp LineFault
 placed g found numbers =
     given UnknownName found (λ l.
     given BadTime (time_of g l numbers) (λ t.
     Ok (record { location = l; time = t })))
 
--- the pointstamp whose location's name stands under "at", and its time under "time"
+-- the pointstamp with its location's name at the key "at" and its time at the key "time"
 unfoldable pub point_there : Dataflow → Data → Result Pointstamp LineFault
 point_there g d = given BadShape (named_at (codes "at") d) (λ named. placed g (location_named g named.0) named.1)

@@ -1,4 +1,4 @@
--- The query that a line is: the shapes of its values, then the names, then the times.
+-- The query that a line asks for. The shapes of its values are tested first, then the names, then the times.
 use Rattle.std.specs.Prelude.{codes, if◌then◌else◌, Result, Ok}
 use Rattle.serde_json.specs.Data.{Data}
 use Rattle.serde_json.specs.Find.{get}
@@ -85,7 +85,7 @@ frontier_at_of g d =
     given UnknownName (location_named g name) (λ l.
     Ok (FrontierAt q l))))
 
--- {"before":false} asks the same as no such key
+-- {"before":false} means the same as no such key
 unfoldable pub why_before_of : Dataflow → Data → Result Query LineFault
 why_before_of g d =
     given BadShape (small_at (codes "q") d) (λ q.

@@ -16,7 +16,7 @@ held_data g l (Records p value n) = object (member (codes "edge") (place g l) (m
 held_data g l (Request p) = object (member (codes "p") (natural p) (member (codes "request") (place g l) no_members))
 held_data g l (Token p) = object (member (codes "p") (natural p) (member (codes "token") (place g l) no_members))
 
--- an update from processor p that was not heard: {"n":n,"p":p,"unsent":true} or {"behind":k,"n":n,"p":p}
+-- an update from processor p that was not received: {"n":n,"p":p,"unsent":true} or {"behind":k,"n":n,"p":p}
 abbrev pub unheard_data : Unheard → Data
 unheard_data (Unsent p n) = object (member (codes "n") (whole n) (member (codes "p") (natural p)
     (member (codes "unsent") (boolean true) no_members)))
@@ -28,7 +28,7 @@ abbrev pub reason_members : Data → Data → Data → Data → Data
 reason_members held point unheard view = object (member (codes "held") held (member (codes "point") point
     (member (codes "unheard") unheard (member (codes "view") view no_members))))
 
--- a reason: all that is held at its pointstamp, all that was not heard of it, and what the view counts
+-- a reason: all that is held at its pointstamp, the updates of it that were not received, and the view's count
 abbrev pub reason_data : Dataflow → Account → Data
 reason_data g a = reason_members (row (map (held_data g a.point.location) a.held)) (point_data g a.point) (row (map unheard_data a.unheard)) (whole a.view)
 

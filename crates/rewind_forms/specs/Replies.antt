@@ -67,7 +67,7 @@ abbrev pub point_fault : Code → Data → Data
 point_fault code point = object (member (codes "code") (number (unsigned code.number))
     (member (codes "error") (string code.name) (member (codes "point") point no_members)))
 
--- a step that the cluster refused, with what stands in the way
+-- the reply to a refused step; it has the pointstamp that stands in the way, if the refusal names one
 abbrev pub step_refused : Dataflow → Refusal → Data
 step_refused g (NotYet blocker) = point_fault (code_of (NotYet blocker)) (point_data g blocker)
 step_refused g (NotAdmissible point) = point_fault (code_of (NotAdmissible point)) (point_data g point)
@@ -78,7 +78,7 @@ abbrev pub fault_at : Code → ℕ → Data
 fault_at code at = object (member (codes "at") (number (unsigned at))
     (member (codes "code") (number (unsigned code.number)) (member (codes "error") (string code.name) no_members)))
 
--- a command that was refused, with the cursor for out of memory alone
+-- the reply to a refused command; it has the cursor if memory ran out
 abbrev pub refused : Dataflow → Fault → Data
 refused g (Step r) = step_refused g r
 refused g (Memory at) = fault_at (code_of_fault (Memory at)) at
@@ -97,7 +97,7 @@ abbrev pub faulty : Code → ℕ → Data
 faulty code n = object (member (codes "code") (number (unsigned code.number))
     (member (codes "error") (string code.name) (member (codes "line") (number (unsigned n)) no_members)))
 
--- the reply to a line that is no command; out of memory is none
+-- the reply to a faulty line; none if memory ran out
 abbrev pub line_fault : LineFault → ℕ → Option Data
 line_fault line.Memory n = None
 line_fault e n = Some (faulty (code_of_line e) n)

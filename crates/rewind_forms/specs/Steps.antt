@@ -1,4 +1,4 @@
--- The step that a line asks for: the shapes of its values, then the names, then the times.
+-- The step that a line asks for. The shapes of its values are tested first, then the names, then the times.
 use Rattle.std.specs.Prelude.{ℕ, if◌then◌else◌, Option, Some, None, option_map, option_and_then, codes, Result, Ok, Err}
 use Rattle.std.specs.declared.alloc.Global.{Global}
 use Rattle.serde_json.specs.Data.{Data}
@@ -60,7 +60,7 @@ notice_of g d =
     after (placed g (vertex_named g named.0) named.1) (λ point.
     Ok (Notice p point.location point.time))))
 
--- of a capability that is given up
+-- the release of a capability
 unfoldable pub release_of : Dataflow → Data → Result (Step Global) LineFault
 release_of g d =
     given BadShape (small_at (codes "p") d) (λ p.
@@ -68,7 +68,7 @@ release_of g d =
     after (placed g (vertex_named g named.0) named.1) (λ point.
     Ok (Release p point.location (record { time = point.time; to = None })))))
 
--- of a capability that moves to a later time; both times are of the vertex
+-- the release that moves a capability to a later time; both times are of the vertex
 unfoldable pub move_of : Dataflow → Data → Result (Step Global) LineFault
 move_of g d =
     given BadShape (small_at (codes "p") d) (λ p.
@@ -79,11 +79,11 @@ move_of g d =
     given BadTime (time_of g vertex later) (λ to.
     Ok (Release p vertex (record { time = time; to = Some to }))))))))
 
--- of all that is unsent
+-- the broadcast of all that is unsent
 unfoldable pub broadcast_of : Data → Result (Step Global) LineFault
 broadcast_of d = given BadShape (small_at (codes "p") d) (λ p. Ok (Broadcast p All))
 
--- of a part; all names are looked up before all times
+-- the broadcast of a part; all names are looked up before all times
 unfoldable pub part_of : Dataflow → Data → Result (Step Global) LineFault
 part_of g d =
     given BadShape (small_at (codes "p") d) (λ p.
@@ -108,12 +108,12 @@ step_of v g form.Broadcast d = broadcast_of d
 step_of v g form.Part d = part_of g d
 step_of v g form.Receive d = receive_of d
 
--- what has no form of a step has a bad shape
+-- the step, if the form is one of a step; otherwise a bad shape
 abbrev pub read_as : Dataflow → Data → Form → Result (Step Global) LineFault
 read_as g d (line.Step form) = step_of Fifth g form d
 read_as g d (line.Command form) = Err BadShape
 read_as g d (line.Query form) = Err BadShape
 
--- the step that a value asks for in a script of the last version, or why it asks for none
+-- the step that a value describes in a script of the last version, or the error
 unfoldable pub read_of : Dataflow → Data → Result (Step Global) LineFault
 read_of g d = given BadShape (form_of Fifth d) (read_as g d)

@@ -4,6 +4,6 @@ use Rattle.serde_json.specs.Data.{Data}
 use Rattle.nd_time.specs.Time.{Time}
 use Rattle.nd_state_json.specs.StateText.{row, time_data}
 
--- [[epoch,c1,..],..], in their order
+-- [[epoch,c1,...],...], in their order
 abbrev pub times_data : List Time → Data
 times_data times = row (map time_data times)

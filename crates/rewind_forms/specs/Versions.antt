@@ -1,4 +1,4 @@
--- The versions of a script, and the line that tells one (this project's own rule).
+-- The versions of a script, and the line that names one (this project's own rule).
 use Rattle.std.specs.Prelude.{ℕ, Bool, nat_eq, nat_le, [], ◌∷◌, if◌then◌else◌, Option, Some, None, option_and_then, codes}
 use Rattle.serde_json.specs.Data.{Data}
 use Rattle.nd_json.specs.Forms.{has_keys, whole_at}
@@ -13,7 +13,7 @@ number_of Third = 3
 number_of Fourth = 4
 number_of Fifth = 5
 
--- the version of this number, of those that a line can tell
+-- the version of this number, if a line can name it
 unfoldable pub numbered : ℕ → Option Version
 numbered n =
     if nat_eq n 2 then Some Second
@@ -21,10 +21,10 @@ numbered n =
     else (if nat_eq n 4 then Some Fourth
     else (if nat_eq n 5 then Some Fifth else None)))
 
--- the version that a value tells: {"version":n} with n from 2 to 5
+-- the version that a value names: {"version":n} with n from 2 to 5
 unfoldable pub version_of : Data → Option Version
 version_of d = if has_keys (codes "version" ∷ []) d then option_and_then numbered (whole_at (codes "version") d) else None
 
--- a script of this version has what another version brought
+-- a script of version v has what the version since introduced
 abbrev pub includes : Version → Version → Bool
 includes v since = nat_le (number_of since) (number_of v)
