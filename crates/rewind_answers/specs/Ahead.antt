@@ -1,4 +1,5 @@
--- What may be answered when it is asked what a run could try next, or which times can still arrive at a location (this project's own rule).
+-- The replies to queries about what a run could try next, and about the times that can still arrive at a location (this project's
+-- own rule).
 use Rattle.std.specs.Prelude.{◌≡◌, ℕ, ◌<◌, ◌≤◌, ◌⊎◌, List, length}
 use Rattle.std.specs.declared.alloc.Global.{Global}
 use Rattle.serde_json.specs.Data.{Data}
@@ -17,8 +18,8 @@ pub record CandidatesReply (s : ClusterState) (reply : Data) : Type 0 where
   pub listed : AreListed s (candidates s) listing
   pub told : reply ≡ told_candidates (candidates_data s.graph listing.list) listing.more
 
--- the minimal times that can arrive at a location, as processor q knows, in the order of listing; a time is passed there
--- exactly if none of them is at or before it
+-- the minimal times that can arrive at a location according to processor q's view, in the order of listing; a time is passed
+-- there exactly if none of them is at or before it
 pub record TellsTimes (s : ClusterState) (q l : ℕ) (reply : Data) : Type 0 where
   pub times_there : List Time
   pub arrivals : AreArrivals s.graph (view s q) l times_there

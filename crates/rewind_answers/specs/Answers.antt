@@ -1,4 +1,4 @@
--- What each line of a script may be answered, and what comes of it.
+-- Which replies each line of a script may get, and the phase after it.
 use Rattle.std.specs.Prelude.{◌≡◌, ◌≢◌, ◌+◌, ◌↔◌, IsTrue, Bool, ℕ, ◌<◌, ◌≤◌, ◌⊎◌, List, [], ◌∷◌, length, Option, Some, None, unsigned_abs, slice_get, Result, Ok, Err}
 use Rattle.std.specs.Option.{option_to_list}
 use Rattle.std.specs.declared.alloc.Global.{Global}
@@ -50,13 +50,13 @@ use Rattle.rewind_forms.specs.declared.queries.Query.TheVariants.{State, Count, 
 use Rattle.rewind_answers.specs.Ahead.{CandidatesReply, FrontierAtReply}
 use Rattle.rewind_answers.specs.Explained.{WhyReply, WhyBeforeReply, ChangesReply, ExportReply, StepReply, EffectReply, TurnsReply}
 
--- a machine, and how many commands it has answered that were logged
+-- a machine, and how many of its commands are logged
 pub record Logged : Type 0 where
   pub machine : MachineValue Global
   pub entries : ℕ
 
--- before any line, of a number of processors; before the graph's line, in a script of a version; with the machine; after a first line
--- or a graph's line that was refused
+-- before any line, with a number of processors; before the graph's line, in a script of this version; after it, with the machine;
+-- or after a first line or a graph's line that was refused
 pub data Phase : Type 0 where
   unopened : ℕ → Phase
   unstarted : Version → ℕ → Phase
@@ -65,7 +65,7 @@ pub data Phase : Type 0 where
 
 -- ---- the graph's line
 
--- the graph that a value describes in a script of a version: no vertex was a hold before the fifth
+-- the graph that a value describes in a script of this version; before the fifth version no vertex can be a hold
 abbrev pub draft_in : Version → Data → Option Draft
 draft_in First d = draft_of_v4 d
 draft_in Second d = draft_of_v4 d
@@ -73,7 +73,7 @@ draft_in Third d = draft_of_v4 d
 draft_in Fourth d = draft_of_v4 d
 draft_in Fifth d = draft_of d
 
--- what a draft is judged by in a script of a version: the first has fewer loops within one another
+-- the check of a draft in a script of this version; the first version has a smaller limit of depth
 abbrev pub checked_in : Version → Draft → Result Dataflow GraphFault
 checked_in First draft = checked_v1 draft
 checked_in Second draft = checked draft
@@ -81,16 +81,16 @@ checked_in Third draft = checked draft
 checked_in Fourth draft = checked draft
 checked_in Fifth draft = checked draft
 
--- the graph of a draft, or the reply to one that is refused
+-- the graph of a draft, or the error
 abbrev pub graph_of_draft : Version → Option Draft → Result Dataflow GraphFault
 graph_of_draft v None = Err Shape
 graph_of_draft v (Some draft) = checked_in v draft
 
--- the graph that a value is, or its fault
+-- the graph that a value describes, or the error
 unfoldable pub graph_of : Version → Data → Result Dataflow GraphFault
 graph_of v d = graph_of_draft v (draft_in v d)
 
--- the most processors of a cluster in a script of a version
+-- the most processors of a cluster in a script of this version
 abbrev pub most_processors : Version → ℕ
 most_processors First = max_processors_v1
 most_processors Second = max_processors
@@ -98,18 +98,18 @@ most_processors Third = max_processors
 most_processors Fourth = max_processors
 most_processors Fifth = max_processors
 
--- why no cluster starts on a graph, and the reply: there are more processors than the version has, or the cluster refuses
+-- the reply if no cluster starts on a graph: there are more processors than the version allows, or the start is refused
 pub data RefusedReply (v : Version) (processors : ℕ) (g : Dataflow) (reply : Data) : Type 0 where
   bad_count : (processors ≤ most_processors v → IsStartFault g processors start_fault.BadCount)
       → reply ≡ fault (start_code start_fault.BadCount) → RefusedReply v processors g reply
   not_strict : (l : ℕ) (name : List ℕ) → processors ≤ most_processors v → IsStartFault g processors (start_fault.LoopNotStrict l) → slice_get (names g) l ≡ Some name
       → reply ≡ location_fault (start_code (start_fault.LoopNotStrict l)) name → RefusedReply v processors g reply
 
--- a machine at its start
+-- the machine at its start
 abbrev pub started : Dataflow → ℕ → Logged
 started g processors = record { machine = without_breaks (opened Global (start g processors)); entries = 0 }
 
--- the reply to the graph's line in a script of a version, and the phase after it
+-- the reply to the graph's line in a script of this version, and the phase after it
 abbrev pub StartReplies : Version → ℕ → Result Dataflow GraphFault → List Data → Phase → Type 0
 StartReplies v processors (Err e) replies new = (replies ≡ fault (code_of e) ∷ []) × (new ≡ refused)
 StartReplies v processors (Ok g) replies new =
@@ -118,15 +118,15 @@ StartReplies v processors (Ok g) replies new =
 
 -- ---- the first line
 
--- the reply to the line that tells the script's version; a script whose first line tells none is of the first version, and that line
--- is its graph's
+-- the reply to the line that names the script's version; if the first line names none, the script is of the first version and
+-- that line is its graph's
 abbrev pub OpeningReplies : Option Version → ℕ → Data → List Data → Phase → Type 0
 OpeningReplies (Some v) processors d replies new = (replies ≡ version (number_of_version v) ∷ []) × (new ≡ unstarted v processors)
 OpeningReplies None processors d replies new = StartReplies First processors (graph_of First d) replies new
 
 -- ---- the lines after it
 
--- what a session that answers no command replies
+-- the reply if a session refuses a command
 abbrev pub session_fault : SessionFault Global → Data
 session_fault e = fault (code_of_session e)
 
@@ -151,7 +151,8 @@ FrontierReply s q reply =
     ⊎ ((q < length s.processors)
     × ((f : DeltaValue) × IsPartWhere (IsOnFrontier s.graph (view s q)) (view s q) f × (reply ≡ frontier (entries_data s.graph (entries f)))))
 
--- whether processor q's view has passed a pointstamp, which is then finished, and if not, the least that stands in the way
+-- whether processor q's view has passed the pointstamp t, which is then finished; if not, the least pointstamp that stands in the
+-- way
 abbrev pub PassedReply : ClusterState → ℕ → Pointstamp → Data → Type 0
 PassedReply s q t reply =
     ((length s.processors ≤ q) × (reply ≡ no_processor))
@@ -159,20 +160,20 @@ PassedReply s q t reply =
     × (((IsPassed s.graph (view s q) t × IsFinished s t) × (reply ≡ passed))
     ⊎ ((x : Pointstamp) × IsLeast (IsBlocker s.graph (view s q) t) x × (reply ≡ not_passed (point_data s.graph x)))))
 
--- the reply to a search that has no answer; running out of memory outside the workers' walks is none
+-- the reply to a search that fails; none if memory ran out outside the workers' walks
 abbrev pub search_fault : SearchFault Global → Option Data
 search_fault search.Memory = None
 search_fault (search.Missing piece claimed) = Some (piece_fault (code_of_search (search.Missing piece claimed)) piece)
 search_fault e = Some (fault (code_of_search e))
 
--- A search is answered by the least position at which the condition holds, or by null if it holds at none; or by the first of the faults
--- whose condition holds; or by a piece that is missing, before which there is no such position.
+-- The reply to a search: the least position at which the condition holds, or null if there is none; or the first error whose
+-- condition holds; or a missing piece, before which the condition does not hold.
 pub data SearchReply (m : TimelineValue Global) (s : Searching) (reply : Data) : Type 0 where
   searched : (least : Option ℕ) → MaySearch (length m.kept) s.lo s.hi s.workers → IsLeastHit (HoldsAt m s.when) s.lo s.hi least
       → reply ≡ found least → SearchReply m s reply
   unanswered : (e : SearchFault Global) → SearchFails m s.when s.lo s.hi s.workers e → Some reply ≡ search_fault e → SearchReply m s reply
 
--- the reply to a query, asked of a timeline: of its cluster at the cursor, or of all that it keeps
+-- the reply to a query about a timeline: about its cluster at the cursor, or about all kept steps
 abbrev pub QueryReply : TimelineValue Global → Query → Data → Type 0
 QueryReply m State reply = reply ≡ state (state_data (cluster_of m))
 QueryReply m (Count x) reply = reply ≡ count (true_count (cluster_of m) x)
@@ -191,19 +192,20 @@ QueryReply m (Turns asked) reply = TurnsReply m asked reply
 QueryReply m (FrontierAt q l) reply = FrontierAtReply (cluster_of m) q l reply
 QueryReply m (WhyBefore q x) reply = WhyBeforeReply (cluster_of m) q x reply
 
--- A command is answered by a move of the machine, shown with the names of the graph, and is logged; or, exactly if the log is full, by that; or by out of memory.
+-- The reply to a command: that of a move of the machine, with the names of the graph, and the command is logged; or LogFull,
+-- exactly if the log is full; or out of memory.
 pub data CommandReply (m : Logged) (asked : Command Global) (reply : Data) (new : Logged) : Type 0 where
   moved : (answer : Reply) → m.entries ≢ max_log → Moves m.machine asked answer new.machine → new.entries ≡ m.entries + 1
       → reply ≡ reply_data (cluster_of new.machine.timeline).graph answer → CommandReply m asked reply new
   log_full : m.entries ≡ max_log → reply ≡ session_fault LogFull → new ≡ m → CommandReply m asked reply new
   no_memory : m.entries ≢ max_log → reply ≡ session_fault Memory → new ≡ m → CommandReply m asked reply new
 
--- a query leaves the machine as it is
+-- a command is answered by a reply and a new machine; a query leaves the machine as it is
 abbrev pub AskedReply : Logged → Asked → Data → Logged → Type 0
 AskedReply m (Do command) reply new = CommandReply m command reply new
 AskedReply m (Tell query) reply new = QueryReply m.machine.timeline query reply × (new ≡ m)
 
--- the reply to a line that is, or is not, a command or a query in a script of a version
+-- the replies to a line of a script of this version, which is or is not a command or a query
 abbrev pub FormReplies : Version → Logged → ℕ → Result Asked LineFault → List Data → Phase → Type 0
 FormReplies v m line (Ok asked) replies new = (reply : Data) × (next : Logged) × AskedReply m asked reply next × (replies ≡ reply ∷ []) × (new ≡ running v next)
 FormReplies v m line (Err e) replies new = (replies ≡ option_to_list (line_fault e line)) × (new ≡ running v m)
@@ -213,7 +215,7 @@ LineReplies v m line d replies new = FormReplies v m line (asked_of v (cluster_o
 
 -- ---- all lines
 
--- a line that is no JSON value ends the run as the first or the graph's, and changes nothing as a later one
+-- a line that is no JSON value ends the run if it is the first or the graph's; a later one changes nothing
 abbrev pub after_fault : Phase → Phase
 after_fault (unopened processors) = refused
 after_fault (unstarted v processors) = refused

@@ -1,5 +1,5 @@
--- What may be answered when all kept steps are asked for, or one of them, or what it changed; why a processor does not consider a
--- pointstamp finished, or what is strictly before it; when its view changed, and when a condition turned (this project's own rule).
+-- The replies to queries about the kept steps and what one of them changed, about why a processor does not consider a pointstamp
+-- finished or anything strictly before it, and about when its view changed and when a condition turned (this project's own rule).
 use Rattle.std.specs.Prelude.{◌≡◌, ◌-◌, ◌↔◌, IsTrue, Bool, true, ℕ, ◌<◌, ◌≤◌, ◌⊎◌, List, map, length, Option, Some, None, slice_get}
 use Rattle.std.specs.declared.alloc.Global.{Global}
 use Rattle.serde_json.specs.Data.{Data}
@@ -49,7 +49,7 @@ steps_data g steps = row (map (object_of g) steps)
 abbrev pub ExportReply : TimelineValue Global → Data → Type 0
 ExportReply m reply = reply ≡ exported m.cursor (steps_data (cluster_of m).graph m.kept)
 
--- the kept step that leads to a position; none leads to the first, and none beyond the last
+-- the kept step that leads to a position; no step leads to position 0, or beyond the last
 abbrev pub StepReply : TimelineValue Global → ℕ → Data → Type 0
 StepReply m to reply =
     (((to ≡ 0) ⊎ (length m.kept < to)) × (reply ≡ fault (code_of NoSuchPoint)))
@@ -57,13 +57,13 @@ StepReply m to reply =
 
 -- ---- what a step changed
 
--- the reply to a question for what a step changed that has no answer; running out of memory is none
+-- the reply to a query for an effect that fails; none if memory ran out
 abbrev pub effect_fault : EffectFault → Option Data
 effect_fault effects.Memory = None
 effect_fault effects.NoSuchPoint = Some (fault (code_of_effect effects.NoSuchPoint))
 
--- The kept step that leads to a position is told, with each key and each queue at which the clusters before and after it differ;
--- or that no step leads there.
+-- The reply to a query for an effect: the kept step that leads to the position, with each key and each queue at which the
+-- clusters before and after it differ; or the error that no step leads there.
 pub data EffectReply (m : TimelineValue Global) (to : ℕ) (reply : Data) : Type 0 where
   effected : (e : StepEffect Global) → IsLedTo m to → IsEffect m to e
       → reply ≡ effect (effect_data (cluster_of m).graph (lists_of e.changed)) (object_of (cluster_of m).graph e.step) → EffectReply m to reply
@@ -71,7 +71,7 @@ pub data EffectReply (m : TimelineValue Global) (to : ℕ) (reply : Data) : Type
 
 -- ---- why
 
--- the reasons for which q does not consider t finished; whether its view has passed t; and whether t is finished
+-- the reasons why q does not consider t finished; whether its view has passed t; and whether t is finished
 pub record TellsWhy (s : ClusterState) (q : ℕ) (t : Pointstamp) (reply : Data) : Type 0 where
   pub accounts : List Account
   pub whole : IsWhy s q t accounts
@@ -86,8 +86,8 @@ WhyReply s q t reply =
     ((length s.processors ≤ q) × (reply ≡ no_processor))
     ⊎ ((q < length s.processors) × TellsWhy s q t reply)
 
--- the reasons for which q does not consider all that is strictly before t finished; whether its view has passed all of that; and
--- whether all of that is finished
+-- the reasons why q does not consider everything strictly before t finished; whether its view has passed all of that; and whether
+-- all of that is finished
 pub record TellsWhyBefore (s : ClusterState) (q : ℕ) (t : Pointstamp) (reply : Data) : Type 0 where
   pub accounts : List Account
   pub whole : IsWhyBefore s true q t accounts
@@ -104,13 +104,12 @@ WhyBeforeReply s q t reply =
 
 -- ---- changes
 
--- the reply to a question for changes that has no answer; running out of memory is none
+-- the reply to a query for changes that fails; none if memory ran out
 abbrev pub changes_fault : ChangesFault → Option Data
 changes_fault changes.Memory = None
 changes_fault e = Some (fault (code_of_changes e))
 
--- The changes that were asked for are told, the first of them and whether there are more; or the first of the faults
--- whose condition holds.
+-- The reply to a query for changes: the first of them, and whether there are more; or the first error whose condition holds.
 pub data ChangesReply (m : TimelineValue Global) (c : ViewChanges) (reply : Data) : Type 0 where
   told : (telling : Told Global) → MayTell m c.q c.lo c.hi → IsTold (changes_of m c.q c.point c.lo c.hi) telling
       → reply ≡ changed (changes_data telling.changes) telling.more → ChangesReply m c reply
@@ -118,13 +117,13 @@ pub data ChangesReply (m : TimelineValue Global) (c : ViewChanges) (reply : Data
 
 -- ---- turns
 
--- the reply to a question for turns that has no answer; running out of memory is none
+-- the reply to a query for turns that fails; none if memory ran out
 abbrev pub turns_fault : TurnsFault → Option Data
 turns_fault turned.Memory = None
 turns_fault e = Some (fault (code_of_turns e))
 
--- The turns that were asked for are told, the first of them and whether there are more, with whether the condition holds where they
--- begin; or the first of the faults whose condition holds.
+-- The reply to a query for turns: the first of them, whether there are more, and whether the condition holds at the first
+-- position; or the first error whose condition holds.
 pub data TurnsReply (m : TimelineValue Global) (c : Turning) (reply : Data) : Type 0 where
   listed : (listing : Turns Global) → MayTurn m c.lo c.hi → AreListed (HoldsAt m c.when) c.lo c.hi listing
       → reply ≡ turns listing.at_lo (row (map natural listing.positions)) listing.more → TurnsReply m c reply

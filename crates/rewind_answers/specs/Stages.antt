@@ -29,11 +29,11 @@ abbrev pub phase_of_start : Version → Option (StateValue Global) → Phase
 phase_of_start v None = refused
 phase_of_start v (Some state) = running v (logged state)
 
--- the reply to the graph's line, and the `State` with which its script runs from then on, if one does
+-- the reply to the graph's line, and the `State` with which the script continues, if it does
 abbrev pub Starts : Version → ℕ → Result Dataflow GraphFault → Data → Option (StateValue Global) → Type 0
 Starts v processors graph reply state = StartReplies v processors graph (reply ∷ []) (phase_of_start v state)
 
--- the phase after an answer, the last one or not
+-- the phase after an answer: refused if the answer is the last one
 abbrev pub phase_after : Bool → Stage → Phase
 phase_after true stage = refused
 phase_after false stage = phase_of stage
