@@ -9,7 +9,8 @@ use Rattle.rewind_clients.specs.Intake.{Intake, Reads, nothing, opened, refused_
 use Rattle.rewind_clients.specs.Told.{Tells}
 use Rattle.rewind_clients.specs.Written.{WroteFront, WroteLines}
 
--- the reader had `input` and has `left`: all was read, at most `limit` bytes, and its lines come to this
+-- the reader had `input` and has `left`: everything was read, at most `limit` bytes, and intake is the result of reading the
+-- lines
 pub record ReadWhole (processors clients limit : ℕ) (input : List ℕ) (left : Option (List ℕ)) (intake : Intake) : Type 0 where
   pub reads : Reads processors clients nothing 1 (lines_of input) intake
   pub within : length input ≤ limit
@@ -23,7 +24,8 @@ pub record ReadPart (limit : ℕ) (input : List ℕ) (left : Option (List ℕ)) 
   pub told : left ≡ Some rest
   pub within : length taken ≤ limit + 1
 
--- what is written if the lines come to this: the reply alone to a version line, to a refused graph or to a faulty line, or all
+-- the replies that are written for an intake: for a version line, a refused graph or a faulty line only its reply; for a script
+-- all of them
 abbrev pub Replies : Intake → List Data → Type 0
 Replies nothing replies = replies ≡ []
 Replies (opened version reply) replies = replies ≡ reply ∷ []
@@ -31,7 +33,7 @@ Replies (refused_graph reply) replies = replies ≡ reply ∷ []
 Replies (faulty_line reply) replies = replies ≡ reply ∷ []
 Replies (script version opening machine commands) replies = (lines : List Data) × Tells machine.machine commands lines × (replies ≡ opening ++ lines)
 
--- which of them end a run well, with Graph, and with Script
+-- the run ends well with this intake; `IsRefused` and `IsFaulty` are those that end it with Graph and with Script
 abbrev pub EndsWell : Intake → Type 0
 EndsWell nothing = Unit {0}
 EndsWell (opened version reply) = Unit {0}
@@ -53,7 +55,7 @@ IsFaulty (refused_graph reply) = ⊥
 IsFaulty (faulty_line reply) = Unit {0}
 IsFaulty (script version opening machine commands) = ⊥
 
--- how reading fails before all was read
+-- how reading fails before everything was read
 abbrev pub ReadFails : ℕ → List ℕ → Option (List ℕ) → DebugFault → Type 0
 ReadFails limit input left fault.Read = ReadPart limit input left
 ReadFails limit input left fault.Memory = ReadPart limit input left
@@ -67,7 +69,7 @@ ReadFails limit input left fault.Close = ⊥
 abbrev pub WroteAll : Intake → List ℕ → Option (List ℕ) → Type 0
 WroteAll intake before after = (replies : List Data) × Replies intake replies × (after ≡ Some (before ++ text_of replies))
 
--- what is written of a script that was read, and how the run ends
+-- what is written for a script that was read, and how the run ends
 abbrev pub Writes : Intake → List ℕ → Option (List ℕ) → Result (Unit {0}) DebugFault → Type 0
 Writes intake before after (Ok done) = EndsWell intake × WroteAll intake before after
 Writes intake before after (Err fault.Graph) = IsRefused intake × WroteAll intake before after
@@ -84,7 +86,8 @@ pub data Ends (processors clients limit : ℕ) (input : List ℕ) (left : Option
   answered : (intake : Intake) → ReadWhole processors clients limit input left intake → Writes intake before after result
       → Ends processors clients limit input left before after result
 
--- how many bytes are taken, of a reader that tells them or not: all of a script, and one past the limit only to see that it goes on
+-- how many bytes a run takes from a reader, whether or not the reader says what it has left: at most the limit, and one byte more
+-- if the script is longer
 abbrev pub Takes : {A : Type 0} → ℕ → Result A DebugFault → ℕ → Type 0
 Takes limit (Ok x) taken = taken ≤ limit
 Takes limit (Err fault.Graph) taken = taken ≤ limit

@@ -1,4 +1,4 @@
--- Replies that are gathered before they are written. For the clauses of private functions.
+-- Replies that are gathered before they are written. Only private contracts use these definitions.
 use Rattle.std.specs.Prelude.{◌≡◌, ℕ, List, [], ◌∷◌, ◌++◌, Option, Some}
 use Rattle.serde_json.specs.Data.{Data}
 use Rattle.rewind_lines.specs.Texts.{text_of}
@@ -14,7 +14,7 @@ pub record Gathered (replies : List Data) (waiting before : List ℕ) (after : O
   pub waits : waiting ≡ text_of kept
   pub written : after ≡ Some (before ++ text_of sent)
 
--- how the gathering of a reply behind others fails: it is not gathered, or a write failed
+-- how gathering one more reply after others fails: out of memory, and it is not gathered; or a write failed
 abbrev pub GatherFails : List Data → Data → List ℕ → List ℕ → Option (List ℕ) → DebugFault → Type 0
 GatherFails replies reply waiting before after fault.Memory = Gathered replies waiting before after
 GatherFails replies reply waiting before after fault.Write = WroteFront (replies ++ reply ∷ []) before after
@@ -24,7 +24,7 @@ GatherFails replies reply waiting before after fault.Read = ⊥
 GatherFails replies reply waiting before after fault.TooLong = ⊥
 GatherFails replies reply waiting before after fault.Close = ⊥
 
--- the faults of gathering
+-- the errors of gathering
 abbrev pub IsOfWriting : DebugFault → Type 0
 IsOfWriting fault.Memory = Unit {0}
 IsOfWriting fault.Write = Unit {0}
@@ -34,7 +34,7 @@ IsOfWriting fault.Read = ⊥
 IsOfWriting fault.TooLong = ⊥
 IsOfWriting fault.Close = ⊥
 
--- how the gathering of these replies ends early: whole lines of them were written, or a write failed
+-- how gathering these replies ends early: out of memory, after some of their lines were written; or a write failed
 abbrev pub StopsIn : List Data → List ℕ → Option (List ℕ) → DebugFault → Type 0
 StopsIn replies before after fault.Memory = WroteLines replies before after
 StopsIn replies before after fault.Write = WroteFront replies before after

@@ -1,4 +1,4 @@
--- What the lines of a script of several clients come to, read one after another.
+-- What results from reading the lines of a script of several clients, one after another.
 use Rattle.std.specs.Prelude.{◌≡◌, ℕ, ◌+◌, List, [], ◌∷◌, ◌++◌, length, replicate, slice_set, slice_index_or, Result, Ok, Err}
 use Rattle.std.specs.declared.alloc.Global.{Global}
 use Rattle.serde_json.specs.Data.{Data}
@@ -15,9 +15,9 @@ use Rattle.rewind_clients.specs.declared.order.OrderFault.{OrderFault}
 abbrev pub Commands : Type 0
 Commands = List (List (Command Global))
 
--- none but blank lines; a version line, with its reply, and no graph yet; a graph's line that is refused, or a faulty line behind it,
--- and its reply; or the version, the opening replies (that to the version line, if there was one, and the graph's), the machine that
--- begins there, and each client's commands
+-- only blank lines so far; a version line, with its reply, and no graph yet; a refused graph's line, or a faulty line after the
+-- graph's, with its reply; or a script: the version, the opening replies (to the version line, if there is one, and to the
+-- graph's), the machine that begins there, and each client's commands
 pub data Intake : Type 0 where
   nothing : Intake
   opened : Version → Data → Intake
@@ -25,7 +25,7 @@ pub data Intake : Type 0 where
   faulty_line : Data → Intake
   script : Version → List Data → Logged → Commands → Intake
 
--- the command stands behind those of its client
+-- the commands with one more command at the end of its client's
 abbrev pub with_command : Order → Commands → Commands
 with_command o commands = slice_set commands o.client (slice_index_or commands o.client [] ++ o.command ∷ [])
 
@@ -33,7 +33,8 @@ with_command o commands = slice_set commands o.client (slice_index_or commands o
 abbrev pub no_commands : ℕ → Commands
 no_commands clients = replicate clients []
 
--- what the lines up to the graph's come to, by the phase after them and all replies to them: a refused graph's is the last
+-- the result of the lines up to the graph's, from the phase after them and all replies to them; the reply to a refused graph is
+-- the last
 abbrev pub IsBegun : ℕ → Phase → List Data → Intake → Type 0
 IsBegun clients (unopened processors) [] new = new ≡ nothing
 IsBegun clients (unstarted version processors) (reply ∷ []) new = new ≡ opened version reply
@@ -42,19 +43,19 @@ IsBegun clients refused (reply ∷ []) new = new ≡ refused_graph reply
 IsBegun clients refused (opening ∷ reply ∷ []) new = new ≡ refused_graph reply
 IsBegun clients _ _ new = ⊥
 
--- a line before the graph's, or that line, behind lines with these replies
+-- a line up to the graph's is read, after lines with these replies
 pub record Begins (clients : ℕ) (old : Phase) (opening : List Data) (n : ℕ) (reading : Reading) (new : Intake) : Type 0 where
   pub replies : List Data
   pub phase : Phase
   pub answers : Answers old n reading replies phase
   pub begun : IsBegun clients phase (opening ++ replies) new
 
--- a line behind the graph's
+-- the result of a line after the graph's
 abbrev pub ordered : Version → List Data → Logged → Commands → ℕ → Result Order OrderFault → Intake
 ordered version opening machine commands n (Ok order) = script version opening machine (with_command order commands)
 ordered version opening machine commands n (Err fault) = faulty_line (order_fault fault n)
 
--- A line is read; behind the first that is refused none is looked at.
+-- A line is read; after the first refused line, lines are not looked at.
 abbrev pub ReadsLine : ℕ → ℕ → Intake → ℕ → Reading → Intake → Type 0
 ReadsLine processors clients nothing n reading new = Begins clients (unopened processors) [] n reading new
 ReadsLine processors clients (opened version reply) n reading new = Begins clients (unstarted version processors) (reply ∷ []) n reading new
@@ -64,7 +65,7 @@ ReadsLine processors clients (script version opening machine commands) n blank n
 ReadsLine processors clients (script version opening machine commands) n reading new =
     new ≡ ordered version opening machine commands n (order_in version (length commands) (cluster_of machine.machine.timeline).graph reading)
 
--- these lines are read, the first of them of this number
+-- these lines are read, and the first of them has this number
 unfoldable pub Reads : ℕ → ℕ → Intake → ℕ → List (List ℕ) → Intake → Type 0
 Reads processors clients old n [] new = new ≡ old
 Reads processors clients old n (line ∷ lines) new =

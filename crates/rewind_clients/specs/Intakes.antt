@@ -1,4 +1,4 @@
--- What a value of the code's intake stands for. For the clauses of private functions.
+-- What a value of the code's `Intake` stands for. Only private contracts use these definitions.
 use Rattle.std.specs.Prelude.{ℕ, List, [], ◌∷◌, ◌++◌, map, unwrap_or, Option, Some, None, Vec}
 use Rattle.std.specs.declared.alloc.Global.{Global}
 use Rattle.serde_json.specs.Data.{Data}
@@ -23,7 +23,7 @@ abbrev pub version_replies : Option Version → List Data
 version_replies None = []
 version_replies (Some version) = version_reply (number_of version) ∷ []
 
--- before the graph's line, behind a version line or none
+-- before the graph's line, after a version line or none
 abbrev pub unstarted_view : Option Version → read.Intake
 unstarted_view None = nothing
 unstarted_view (Some version) = opened version (version_reply (number_of version))
@@ -45,12 +45,12 @@ intake_view (Refused reply) = refused_graph reply
 intake_view (Faulty reply) = faulty_line reply
 intake_view (Whole s) = script_view s
 
--- a script, or the reply to a line of it that is faulty
+-- a script, or the reply to its faulty line
 abbrev pub or_faulty : Option Data → Script → read.Intake
 or_faulty None s = script_view s
 or_faulty (Some reply) s = faulty_line reply
 
--- what the graph's line comes to, by its value, behind a version line or none
+-- the result of the graph's line with the value d, after a version line or none
 pub record Starts (processors clients : ℕ) (version : Option Version) (d : Data) (new : read.Intake) : Type 0 where
   pub reply : Data
   pub phase : Phase

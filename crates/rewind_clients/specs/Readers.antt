@@ -1,4 +1,4 @@
--- How a script that is being read stands. For the clauses of private functions.
+-- The state of a script that is being read. Only private contracts use these definitions.
 use Rattle.std.specs.Prelude.{◌≡◌, ℕ, ◌+◌, List, ◌++◌, length, Option, Some}
 use Rattle.rewind_lines.specs.Front.{held_of}
 use Rattle.rewind_lines.specs.Lines.{whole_lines_of}
@@ -9,7 +9,7 @@ use Rattle.rewind_clients.specs.Intake.{Reads, nothing}
 use Rattle.rewind_clients.specs.Intakes.{intake_view}
 use Rattle.rewind_clients.specs.declared.reader.Reader.{Reader}
 
--- `done` was read, and its whole lines were taken in
+-- `done` was read, and its complete lines were taken in
 pub record StandsAt (options : Options) (done : List ℕ) (reader : Reader) : Type 0 where
   pub held : reader.lines ≡ held_of done
   pub reads : Reads options.processors options.clients nothing 1 (whole_lines_of done) (intake_view reader.intake)
@@ -24,7 +24,7 @@ pub record Going (options : Options) (limit left : ℕ) (input : List ℕ) (rema
   pub count : left + length taken ≡ limit
   pub stands : StandsAt options taken reader
 
--- the faults of reading
+-- the errors of reading
 abbrev pub IsOfReading : DebugFault → Type 0
 IsOfReading fault.Read = Unit {0}
 IsOfReading fault.TooLong = Unit {0}

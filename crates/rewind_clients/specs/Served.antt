@@ -1,4 +1,4 @@
--- What became of the clients. For the clauses of private functions.
+-- What each client did. Only private contracts use these definitions.
 use Rattle.std.specs.Prelude.{◌≡◌, ℕ, List, [], length, map, slice_get, Some}
 use Rattle.std.specs.declared.alloc.Global.{Global}
 use Rattle.nd_timeline.specs.declared.command.Command.{Command}
@@ -9,7 +9,7 @@ use Rattle.rewind_clients.specs.Told.{IsServed}
 use Rattle.rewind_clients.specs.declared.drive.Done.{Done}
 use Rattle.rewind_clients.specs.declared.drive.Task.{Task}
 
--- what was asked, in order
+-- the commands of these receipts, in order
 abbrev pub asked : List (Receipt Global) → List (Command Global)
 asked rs = map (λ r. r.command) rs
 
@@ -19,7 +19,7 @@ pub record IsFresh (number : ℕ) (commands : List (Command Global)) (t : Task) 
   pub receipts : t.client.receipts ≡ []
   pub commands_are : t.commands.items ≡ commands
 
--- it kept its number, and made its first commands
+-- the client has kept its number, and its first commands were executed
 pub record IsDone (t : Task) (d : Done) : Type 0 where
   pub number : d.client.number ≡ t.client.number
   pub served : t.client.receipts ≡ [] → IsServed t.commands.items (asked d.client.receipts) d.fault
@@ -27,12 +27,12 @@ pub record IsDone (t : Task) (d : Done) : Type 0 where
 abbrev pub AreDone : List Task → List Done → Type 0
 AreDone ts ds = (i : ℕ) (t : Task) (d : Done) → slice_get ts i ≡ Some t → slice_get ds i ≡ Some d → IsDone t d
 
--- the clients of these numbers, with the commands of each
+-- the clients with these numbers, each with its commands
 pub record AreFresh (commands : List (List (Command Global))) (ts : List Task) : Type 0 where
   pub count : length ts ≡ length commands
   pub each : (i : ℕ) (asked : List (Command Global)) (t : Task) → slice_get commands i ≡ Some asked → slice_get ts i ≡ Some t → IsFresh i asked t
 
--- the faults of driving
+-- the errors of driving clients
 abbrev pub IsOfDriving : DebugFault → Type 0
 IsOfDriving fault.Memory = Unit {0}
 IsOfDriving fault.Close = Unit {0}
@@ -42,7 +42,7 @@ IsOfDriving fault.Read = ⊥
 IsOfDriving fault.Write = ⊥
 IsOfDriving fault.TooLong = ⊥
 
--- the faults of a script that was read whole
+-- the errors of a script that was read completely
 abbrev pub IsOfAnswering : DebugFault → Type 0
 IsOfAnswering fault.Memory = Unit {0}
 IsOfAnswering fault.Close = Unit {0}

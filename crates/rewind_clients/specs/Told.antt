@@ -1,4 +1,4 @@
--- What clients' commands are answered, and what of it is written.
+-- The replies to clients' commands, and which of them are written.
 use Rattle.std.specs.Prelude.{◌≡◌, ◌==◌, ℕ, ◌+◌, ◌<◌, List, [], ◌∷◌, ◌++◌, length, take, map, filter, slice_get, codes, All, Option, Some, None}
 use Rattle.std.specs.declared.alloc.Global.{Global}
 use Rattle.serde_json.specs.Data.{Data, number, string, object, unsigned, no_members, member}
@@ -30,11 +30,11 @@ abbrev pub client_fault : ℕ → Code → Data
 client_fault client code = object (member (codes "client") (number (unsigned client))
     (member (codes "code") (number (unsigned code.number)) (member (codes "error") (string code.name) no_members)))
 
--- a client's fault, or none
+-- a client's error, or none
 abbrev pub Ended : Type 0
 Ended = Option (SessionFault Global)
 
--- a client of a run made all its commands, or met a full log or a refused growth
+-- a client of a run had all its commands executed, or met a full log, or ran out of memory
 abbrev pub MayEnd : Ended → Type 0
 MayEnd None = Unit {0}
 MayEnd (Some LogFull) = Unit {0}
@@ -42,7 +42,7 @@ MayEnd (Some Memory) = Unit {0}
 MayEnd (Some TooManyClients) = ⊥
 MayEnd (Some (NotThisSession index found)) = ⊥
 
--- the faults of the clients that had one, by their numbers from k on
+-- the errors of the clients that had one, by the clients' numbers from k on
 abbrev pub faults_data : ℕ → List Ended → List Data
 faults_data k [] = []
 faults_data k (None ∷ faults) = faults_data (k + 1) faults
@@ -52,13 +52,13 @@ faults_data k (Some e ∷ faults) = client_fault k (code_of e) ∷ faults_data (
 abbrev pub commands_of : ℕ → List (Receipt Global) → List (Command Global)
 commands_of client log = map (λ e. e.command) (filter (λ e. e.client == client) log)
 
--- of a client's commands the first are in the log, and all of them if it ended without a fault
+-- the executed commands are the first ones of a client; all of them if it ended without an error
 abbrev pub IsServed : List (Command Global) → List (Command Global) → Ended → Type 0
 IsServed commands made None = made ≡ commands
 IsServed commands made (Some e) = (n : ℕ) × (n < length commands) × (made ≡ take n commands)
 
--- These entries and faults are told: a legal log from where the script's machine began, of the clients' first commands, each
--- client's in order; and no fault but LogFull and Memory.
+-- The log and the errors that are reported: a legal log that begins with the script's machine and has the first commands of each
+-- client, in order; and no errors except LogFull and Memory.
 pub record Told (opening : MachineValue Global) (commands : Commands) (log : List (Receipt Global)) (machine : MachineValue Global) (faults : List Ended) : Type 0 where
   pub begins : machine.timeline.base ≡ opening.timeline.base
   pub history : IsHistory log machine
@@ -68,15 +68,15 @@ pub record Told (opening : MachineValue Global) (commands : Commands) (log : Lis
   pub served : (c : ℕ) (asked : List (Command Global)) (ended : Ended) → slice_get commands c ≡ Some asked → slice_get faults c ≡ Some ended
       → IsServed asked (commands_of c log) ended
 
--- the machine of what a session left
+-- the machine that a session left
 abbrev pub machine_of : Log Global → MachineValue Global
 machine_of l = record { timeline = l.timeline; breaks = l.breaks }
 
--- the lines of a log, and of the clients' faults
+-- the lines of a log, followed by those of the clients' errors
 abbrev pub lines_data : Dataflow → List (Receipt Global) → List Ended → List Data
 lines_data g log faults = map (entry_data g) log ++ faults_data 0 faults
 
--- the lines behind the opening replies, of a machine that began as this one
+-- the lines after the opening replies, if the machine began as opening
 pub record Tells (opening : MachineValue Global) (commands : Commands) (lines : List Data) : Type 0 where
   pub log : List (Receipt Global)
   pub machine : MachineValue Global
