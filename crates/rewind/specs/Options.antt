@@ -1,4 +1,4 @@
--- The command line `rewind [--processors N] [--clients C]`, and what clap's reading of the words gives.
+-- The command line `rewind [--processors N] [--clients C]`, and what clap reads from the words.
 use Rattle.std.specs.Prelude.{◌≢◌, ℕ, List, Option, Some, None, codes, pos, ⊤}
 use Rattle.std.specs.Str.Parse.{digits_value, without_leading_plus}
 use Rattle.clap.specs.Words.{App, Rule, Text, matches_of, new_app, new_rule, one_of, with_rule}
@@ -24,7 +24,7 @@ number_rule name most = record (new_rule name) {
 abbrev pub command_line : App
 command_line = with_rule (with_rule (new_app (codes "rewind")) (number_rule (codes "processors") max_processors)) (number_rule (codes "clients") max_clients)
 
--- the text that the words give to an option, if they give one
+-- the text that the words give for an option, if they do
 abbrev pub given : Text → List Text → Option Text
 given name words = one_of name (matches_of command_line words)
 
@@ -33,7 +33,7 @@ abbrev pub number_or_one : Option Text → ℕ
 number_or_one None = 1
 number_or_one (Some text) = digits_value 10 (without_leading_plus text)
 
--- the ways in which clap refuses the words; none if it takes them
+-- the errors with which clap refuses the words; none if it accepts them
 abbrev pub refusals : List Text → Kinds
 refusals words = fault_of command_line words
 
@@ -41,7 +41,7 @@ refusals words = fault_of command_line words
 abbrev pub AskHelp : Kinds → Type 0
 AskHelp kinds = IsAmong kind.DisplayHelp kinds
 
--- the words are refused in one of these ways, and help is not asked for
+-- the words are refused with one of these errors, and help is not asked for
 abbrev pub AreRefused : Kinds → Type 0
 AreRefused kinds = (k : ErrorKind) × IsAmong k kinds × (k ≢ kind.DisplayHelp)
 

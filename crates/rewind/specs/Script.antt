@@ -1,4 +1,4 @@
--- What a run of a script replies, and how it ends.
+-- The replies of a run of a script, and how the run ends.
 use Rattle.std.specs.Prelude.{◌≡◌, ◌≢◌, ℕ, ◌+◌, ◌<◌, ◌≤◌, List, [], ◌∷◌, ◌++◌, length, take, drop, Option, Some, Result, Ok, Err}
 use Rattle.serde_json.specs.Data.{Data}
 use Rattle.rewind_lines.specs.Lines.{reading_of, lines_of, whole_lines_of}
@@ -7,7 +7,7 @@ use Rattle.rewind_answers.specs.Answers.{Answers, Phase, refused, unopened}
 use Rattle.rewind_lines.specs.declared.fault.DebugFault.{DebugFault}
 use Rattle.rewind_lines.specs.declared.fault.DebugFault.TheVariants as fault
 
--- these lines, the first of them of this number, may be given these replies
+-- these may be the replies to these lines, the first of which has this number
 unfoldable pub Run : Phase → ℕ → List (List ℕ) → List Data → Phase → Type 0
 Run old number [] replies new = (replies ≡ []) × (new ≡ old)
 Run old number (line ∷ lines) replies new =
@@ -18,7 +18,7 @@ Run old number (line ∷ lines) replies new =
 abbrev pub Replies : ℕ → List (List ℕ) → List Data → Phase → Type 0
 Replies processors lines replies new = Run (unopened processors) 1 lines replies new
 
--- The writer held `before` and holds `after`: the replies to these lines were written, and the run could go on.
+-- The writer held `before` and holds `after`: the replies to these lines were written, and the run may continue.
 pub record RepliedTo (processors : ℕ) (lines : List (List ℕ)) (before : List ℕ) (after : Option (List ℕ)) : Type 0 where
   pub replies : List Data
   pub phase : Phase
@@ -40,14 +40,15 @@ pub record WroteFront (processors : ℕ) (lines : List (List ℕ)) (before : Lis
   pub sent : ℕ
   pub written : after ≡ Some (before ++ take sent (text_of replies))
 
--- The reader had `input` and has `left`: all was read, at most `limit` bytes, and each line replied to, n of them by a line.
+-- The reader had `input` and has `left`: everything was read, at most `limit` bytes, and every line was answered, with n replies
+-- in all.
 pub record RanWhole (processors limit : ℕ) (input : List ℕ) (left : Option (List ℕ)) (before : List ℕ) (after : Option (List ℕ)) (n : ℕ) : Type 0 where
   pub replied : RepliedTo processors (lines_of input) before after
   pub count : n ≡ length replied.replies
   pub within : length input ≤ limit
   pub ended : left ≡ Some []
 
--- Each whole line of what was read is replied to.
+-- The reader had `input` and has `left`: a read failed, and each complete line of what was read before was answered.
 pub record StoppedReading (processors limit : ℕ) (input : List ℕ) (left : Option (List ℕ)) (before : List ℕ) (after : Option (List ℕ)) : Type 0 where
   pub taken : List ℕ
   pub rest : List ℕ
@@ -56,18 +57,20 @@ pub record StoppedReading (processors limit : ℕ) (input : List ℕ) (left : Op
   pub within : length taken ≤ limit
   pub replied : RepliedTo processors (whole_lines_of taken) before after
 
--- The input goes on past the limit: that was seen at one byte more, and each line that is whole by the limit is replied to.
+-- The input is longer than the limit, which one byte more has shown; each line that is complete within the limit was answered.
 pub record PassedLimit (processors limit : ℕ) (input : List ℕ) (left : Option (List ℕ)) (before : List ℕ) (after : Option (List ℕ)) : Type 0 where
   pub longer : limit < length input
   pub told : left ≡ Some (drop (limit + 1) input)
   pub replied : RepliedTo processors (whole_lines_of (take limit input)) before after
 
--- The lines that can be answered once `taken` was read and `rest` is left: those that end in a newline within the limit, and at the input's end the last one too.
+-- The lines that can be answered after `taken` was read and `rest` is left: those that end with a newline within the limit, and
+-- at the end of the input the last one too.
 pub data AreRead (limit : ℕ) (taken rest : List ℕ) (lines : List (List ℕ)) : Type 0 where
   ended : (count : ℕ) → lines ≡ take count (whole_lines_of (take limit taken)) → AreRead limit taken rest lines
   last : (count : ℕ) → rest ≡ [] → length taken ≤ limit → lines ≡ take count (lines_of taken) → AreRead limit taken rest lines
 
--- The reader had `input` and has `left`: the run stopped once `taken` was read, at most one byte past the limit, and these of its lines were answered.
+-- The reader had `input` and has `left`: the run stopped after `taken` was read, at most one byte past the limit, and these of
+-- its lines were answered.
 pub record StoppedAt (limit : ℕ) (input : List ℕ) (left : Option (List ℕ)) : Type 0 where
   pub taken : List ℕ
   pub rest : List ℕ
@@ -88,7 +91,8 @@ Ends processors limit input left before after (Err fault.Write) = (s : StoppedAt
 Ends processors limit input left before after (Err fault.Script) = ⊥
 Ends processors limit input left before after (Err fault.Close) = ⊥
 
--- How many bytes a run takes, of a reader that tells them or not: one past the limit only to see that the input goes on.
+-- How many bytes a run takes from a reader, whether or not the reader says what it has left; one byte past the limit only to see
+-- that the input is longer.
 abbrev pub Takes : ℕ → Result ℕ DebugFault → ℕ → Type 0
 Takes limit (Ok n) taken = taken ≤ limit
 Takes limit (Err fault.Graph) taken = taken ≤ limit + 1

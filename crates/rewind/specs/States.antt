@@ -1,4 +1,4 @@
--- How a run under way stands to what was read and written. For the clauses of private functions.
+-- What a run in progress has read, answered and written. Only private contracts use these definitions.
 use Rattle.std.specs.Prelude.{◌≡◌, ◌≢◌, ℕ, ◌+◌, ◌<◌, ◌≤◌, List, [], ◌++◌, length, take, Option, Some}
 use Rattle.serde_json.specs.Data.{Data}
 use Rattle.rewind_lines.specs.Front.{held_of}
@@ -11,26 +11,26 @@ use Rattle.rewind_lines.specs.declared.fault.DebugFault.{DebugFault}
 use Rattle.rewind_lines.specs.declared.fault.DebugFault.TheVariants as fault
 use Rattle.rewind.specs.declared.run.Run.{Run}
 
--- a line's replies, put behind what waited, and their number
+-- the replies to a line were appended to what waited, and their number is count
 pub record Gathers (old : Phase) (number : ℕ) (reading : Reading) (waited waits : List ℕ) (count : ℕ) (new : Phase) : Type 0 where
   pub replies : List Data
   pub answers : Answers old number reading replies new
   pub gathered : waits ≡ waited ++ text_of replies
   pub is_count : count ≡ length replies
 
--- the reply to one line, or none, was put behind what waited
+-- the reply to one line, or none, was appended to what waited
 pub record AddsOne (waited waits : List ℕ) : Type 0 where
   pub last : List Data
   pub at_most_one : length last ≤ 1
   pub text : waits ≡ waited ++ text_of last
 
--- fewer than 65,536 bytes wait, and behind them at most one reply
+-- fewer than 65,536 bytes wait, followed by at most one reply
 pub record WaitsFew (waits : List ℕ) : Type 0 where
   pub before : List ℕ
   pub few : length before < 65536
   pub more : AddsOne before waits
 
--- `done` was read, and the replies to its whole lines are `sent`, and then those that wait
+-- `done` was read, and the replies to its complete lines are `sent`, followed by those that wait
 pub record Stands (processors : ℕ) (done sent : List ℕ) (run : Run) : Type 0 where
   pub replies : List Data
   pub held : run.lines ≡ held_of done
@@ -48,7 +48,7 @@ StopsIn fault.Write phase = ⊥
 StopsIn fault.TooLong phase = ⊥
 StopsIn fault.Close phase = ⊥
 
--- a run stopped at one of these lines; the replies are `sent`, and then those that wait
+-- a run stopped at one of these lines; the replies are `sent`, followed by those that wait
 pub record Stopped (processors : ℕ) (lines : List (List ℕ)) (sent : List ℕ) (run : Run) (e : DebugFault) : Type 0 where
   pub count : ℕ
   pub replies : List Data
@@ -57,7 +57,7 @@ pub record Stopped (processors : ℕ) (lines : List (List ℕ)) (sent : List ℕ
   pub stops : StopsIn e phase
   pub text : text_of replies ≡ sent ++ run.outbox
 
--- from `old` to `new` these bytes were read, and the lines that end in them replied to
+-- new is the run old after these bytes were read and the lines that end in them were answered
 abbrev pub ReadsOn : Run → List ℕ → Run → Type 0
 ReadsOn old bytes new = (processors : ℕ) (done sent : List ℕ) → Stands processors done sent old → Stands processors (done ++ bytes) sent new
 
@@ -72,7 +72,7 @@ pub record Answered (processors : ℕ) (done before : List ℕ) (after : Option 
   pub written : after ≡ Some (before ++ sent)
   pub none_waits : run.outbox ≡ []
 
--- a run of these lines ended with a fault
+-- a run of these lines ended with an error
 unfoldable pub Faulted : ℕ → List (List ℕ) → List ℕ → Option (List ℕ) → DebugFault → Type 0
 Faulted processors lines before after fault.Graph = RefusedAt processors lines before after
 Faulted processors lines before after fault.Memory = RepliedTo processors lines before after
@@ -82,11 +82,11 @@ Faulted processors lines before after fault.Read = ⊥
 Faulted processors lines before after fault.TooLong = ⊥
 Faulted processors lines before after fault.Close = ⊥
 
--- at one of these lines the run ended with a fault
+-- the run ended with an error at one of these lines
 unfoldable pub EndsEarly : ℕ → List (List ℕ) → List ℕ → Option (List ℕ) → DebugFault → Type 0
 EndsEarly processors lines before after e = (count : ℕ) × Faulted processors (take count lines) before after e
 
--- from `old` to `new` these bytes were read, and the lines that end in them answered: the writer held `held` and holds `holds`
+-- the same for a run whose writer held `held` before these bytes and holds `holds` after them
 abbrev pub AnswersOn : Run → Option (List ℕ) → List ℕ → Run → Option (List ℕ) → Type 0
 AnswersOn old held bytes new holds =
     (processors : ℕ) (done before : List ℕ) → Answered processors done before held old → Answered processors (done ++ bytes) before holds new
