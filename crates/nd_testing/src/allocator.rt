@@ -2,20 +2,19 @@
 use std::alloc::{AllocError, Allocator};
 use std::sync::atomic::{AtomicU64, Ordering};
 
-/// Passes each request for memory on, but for one that it refuses.
+/// Passes on each request for memory except one, which it refuses.
 ///
-/// A test lends it to what allocates as `&heap`, and prepares its values. Then it calls
-/// `refuse(n)`, makes the call that is under test, and asks `relent(n)` whether that call
-/// met the request that was to be refused: if it did, the call answered out of memory and
-/// left its values as they were; if not, no call with a greater `n` meets it either.
-/// `live()` tells how many blocks were given and not taken back, so after a test none is. What the
-/// allocator counts is stated by no contract.
+/// A test passes it to the code under test as `&heap`, and prepares its values. Then it calls
+/// `refuse(n)`, makes the call under test, and asks `relent(n)` whether the call met the refused
+/// request. If it did, the call must return out of memory and leave its values unchanged. If it did
+/// not, no call with a greater `n` meets it either. `live()` is the number of blocks that were
+/// allocated and not freed, so it is 0 after a test. No contract states what the allocator counts.
 pub struct Refusing<B: Allocator> {
     inner: B,
     counts: Counts,
 }
 
-// How many requests are still passed on, and how many blocks are live.
+// How many requests are still passed on, and how many blocks are not freed.
 #[derive(Drop)]
 struct Counts {
     calls: AtomicU64,
@@ -34,18 +33,18 @@ impl<B: Allocator> Refusing<B> {
         }
     }
 
-    /// From now on the request of number `n` is refused, counted from 0, and no other.
+    /// Refuses from now on the request with number `n`, counted from 0, and no other.
     pub fn refuse(&self, n: u64) {
         self.counts.calls.store(n, Ordering::SeqCst);
     }
 
-    /// Refuses nothing from now on, and says whether a request was refused since `refuse(n)`.
+    /// Refuses nothing from now on, and returns whether a request was refused since `refuse(n)`.
     pub fn relent(&self, n: u64) -> bool {
         let left = self.counts.calls.swap(u64::MAX, Ordering::SeqCst);
         left > n
     }
 
-    /// Returns how many blocks were given and not taken back.
+    /// Returns how many blocks were allocated and not freed.
     pub fn live(&self) -> u64 {
         self.counts.live.load(Ordering::SeqCst)
     }
@@ -60,7 +59,7 @@ impl<B: Allocator> Drop for Refusing<B> {
     }
 }
 
-// Counts a request down. The one that finds 0 is refused, each other one is a block more.
+// Counts a request. The request that finds the count 0 is refused; each other request adds a block.
 fn tick(counts: &Counts) -> bool {
     if counts.calls.fetch_sub(1, Ordering::SeqCst) == 0 {
         return true;
@@ -69,7 +68,7 @@ fn tick(counts: &Counts) -> bool {
     false
 }
 
-// Counts a block that is taken back, and asks for no refusal.
+// Counts a block that is freed, which is never refused.
 fn tock(counts: &Counts) -> bool {
     counts.live.fetch_sub(1, Ordering::SeqCst) == 0
 }

@@ -3,8 +3,8 @@
 /// More than the requests of any call.
 pub const MANY: u64 = 1000;
 
-/// Returns whether a call met the request that was refused. `None` for another answer than out of memory if it did and success if
-/// it did not, and if a call that ran out of memory left its values changed.
+/// Returns whether a call met the refused request, or `None` if the call answered wrongly. It must succeed if it did not meet the
+/// request; otherwise it must return out of memory and leave its values unchanged.
 pub fn was_refused<E: PartialEq + Drop>(
     refused: bool,
     fault: Option<E>,
@@ -18,9 +18,9 @@ pub fn was_refused<E: PartialEq + Drop>(
     if is_right { Some(refused) } else { None }
 }
 
-/// Makes a call while the request of a number is refused, and says whether it met that one.
+/// Makes a call while the request with a given number is refused, and returns whether the call met that request.
 ///
-/// `None` if it answered, or left its values, otherwise than it should.
+/// Returns `None` if the call answered wrongly or left wrong values.
 #[macro_export]
 macro_rules! met {
     ($heap:ident, $n:ident: $call:expr; $want:expr, $is_as_before:expr) => {{
@@ -31,9 +31,9 @@ macro_rules! met {
     }};
 }
 
-/// Refuses one request of a call after the other: how many were refused before the call met none.
+/// Refuses the requests of a call one after the other, and returns how many were refused before the call met none.
 ///
-/// `meets` makes the call on fresh values with the request of a number refused, and says whether it met that one.
+/// `meets` makes the call on fresh values while the request with this number is refused, and returns whether it met that request.
 pub fn in_turn<F: Fn(u64) -> Option<bool>>(meets: F) -> Option<u64>
     requires { F.IsAlwaysCallable meets }
 {
@@ -45,9 +45,9 @@ pub fn in_turn<F: Fn(u64) -> Option<bool>>(meets: F) -> Option<u64>
     None
 }
 
-/// What is answered while each request for memory is refused.
+/// Returns the value of an expression that is evaluated while each request for memory is refused.
 ///
-/// A request that is made all the same is answered with `None`, in a function that answers an option.
+/// If the expression makes a request all the same, the calling function returns `None`.
 #[macro_export]
 macro_rules! unasked {
     ($heap:ident: $answer:expr) => {{
