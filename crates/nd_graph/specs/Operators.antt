@@ -12,7 +12,7 @@ pub record Facts : Type 0 where
   pub ports : ℕ
   -- whether they receive values from outside
   pub fed : Bool
-  -- whether they may make requests: for notifications, or to keep capabilities
+  -- whether they may make requests: for notifications, or to hold capabilities
   pub asks : Bool
   -- whether they count the values that reach them
   pub counts : Bool

@@ -51,7 +51,7 @@ impl<A: Allocator> Model for GraphDraft<A> {
 
 impl<A: Allocator> GraphDraft<A> {
     /// Reads a graph from a JSON value. Returns `Shape` if the value does not have the form of a graph (this project's own
-    /// rule), and no other error but `Memory`.
+    /// rule); the only other error is `Memory`.
     #[tactic(auto, unfolding(crate::specs::Draft::draft_of))]
     pub fn from_value(alloc: A, value: &Value) -> Result<GraphDraft<A>, GraphFault>
     where
@@ -82,8 +82,8 @@ impl<A: Allocator> GraphDraft<A> {
         Ok(draft)
     }
 
-    /// Checks the graph, and replaces the names of its edges' ends by locations. Of several errors it returns the one of least
-    /// number, and never `Shape`. A location may be in at most 6 nested loops.
+    /// Checks the graph, and replaces the names of its edges' ends by locations. Of several errors it returns the one with the
+    /// least number, and never `Shape`. A location may be in at most 6 nested loops.
     pub fn check(self, alloc: A) -> Result<Graph<A>, GraphFault>
     where
         A: Copy,

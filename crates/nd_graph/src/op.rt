@@ -27,13 +27,13 @@ pub enum Op {
     Sum,
     /// Emits each distinct value of a time once.
     Distinct,
-    /// Emits each value, and keeps a capability at its time until that is released.
+    /// Emits each value, and holds a capability at its time until the capability is released.
     Hold,
     /// Counts the values that reach it.
     Sink,
 }
 
-/// What a vertex does to the loop counters of times that pass it (Naiad, SOSP 2013, section 2.1).
+/// What a vertex does to the loop counters of times that pass through it (Naiad, SOSP 2013, section 2.1).
 #[derive(Clone, Copy, Debug, Drop, PartialEq, Eq)]
 pub enum Action {
     /// Leaves the counters as they are.
@@ -86,7 +86,7 @@ impl Op {
         matches!(self, Op::Input)
     }
 
-    /// Returns whether a vertex with this operator may make requests: for notifications, or to keep capabilities.
+    /// Returns whether a vertex with this operator may make requests: for notifications, or to hold capabilities.
     pub fn asks_for_notices(self) -> bool
         ensures { result ≡ (facts self).asks }
     {
