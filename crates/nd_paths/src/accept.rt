@@ -1,4 +1,4 @@
-//! Which graphs have an order: no walk round a loop leaves a time where it was.
+//! Which graphs have an order: every walk around a loop increases the time.
 ghost use Rattle.std.specs.Prelude.{◌≡◌, ◌*◌, ◌<◌, ◌≤◌, All, IfErr, IfOk, length};
 ghost use Rattle.nd_time.specs.Limits.{max_depth, max_locations};
 ghost use Rattle.nd_paths.specs.Inside.{Accepted, DepthsAgree, Fails};
@@ -19,7 +19,7 @@ pub enum PathFault {
     /// such a walk.
     #[error("a loop through location {location} does not increase every time")]
     LoopNotStrict { location: usize },
-    /// A growth was refused.
+    /// Out of memory.
     #[error("out of memory")]
     Memory,
 }
@@ -32,7 +32,8 @@ impl From<AllocError> for PathFault {
     }
 }
 
-/// The row of each location, if no loop fails.
+/// Returns the row of each location, or the least location from which a walk around a loop fails to
+/// increase a time.
 pub fn rows_of<A: Allocator + Copy>(
     alloc: A,
     depths: &[usize],

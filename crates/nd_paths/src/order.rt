@@ -3,8 +3,8 @@ ghost use Rattle.nd_graph.specs.Graph.{Dataflow};
 ghost use Rattle.nd_paths.specs.Order.{CouldResultIn, IsAccepted, IsStrictlyBefore};
 ghost use Rattle.nd_paths.specs.declared.point.Pointstamp.{Pointstamp};
 
-/// States that the order of the pointstamps of a graph is transitive, and so is the strict order if the
-/// graph is accepted.
+/// States that the order of the pointstamps of a graph is transitive, and that the strict order is
+/// transitive if the graph is accepted.
 pub fn order_is_transitive()
     ensures could { (g : Dataflow) (s t u : Pointstamp) → CouldResultIn g s t → CouldResultIn g t u
         → CouldResultIn g s u }

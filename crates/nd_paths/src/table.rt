@@ -15,7 +15,7 @@ use std::alloc::{AllocError, Allocator};
 /// The number of values of `keep`: a walk keeps 0 to `MAX_DEPTH` counters.
 pub const KEEPS: usize = MAX_DEPTH + 1;
 
-// Returns the entry of a row for a location and a keep.
+// Returns the entry of a row for a location and a number of kept counters.
 pub fn look(row: &[Option<Summary>], location: usize, keep: usize) -> Option<&Summary>
     requires { location * keeps + keeps ≤ length row.now }
     ensures { option_copied result ≡ held row.now location keep }
@@ -27,8 +27,8 @@ pub fn look(row: &[Option<Summary>], location: usize, keep: usize) -> Option<&Su
     }
 }
 
-// Extends the entry for a keep at the start of the arc by the arc. Returns whether that made the entry at
-// its end smaller.
+// Extends the entry at the start of the arc by the arc, for one number of kept counters. Returns whether
+// that made the entry at the arc's end smaller.
 fn relax(row: &mut [Option<Summary>], arc: Arc, keep: usize) -> bool
     requires { CanRelax row.old arc keep }
     ensures relaxed { Relaxed row.old row.new arc keep }
@@ -178,7 +178,7 @@ pub fn holds_any(row: &[Option<Summary>], location: usize) -> bool
     false
 }
 
-/// Returns the summaries held for the location, the greatest keep first.
+/// Returns the summaries held for the location, the greatest number of kept counters first.
 pub fn listed(row: &[Option<Summary>], location: usize) -> ArrayVec<Summary, KEEPS>
     requires long { location * keeps + keeps ≤ length row.now }
     requires places { KeepsPlaces row.now location }
