@@ -39,7 +39,7 @@ impl<A: Allocator> Model for LargeDelta<A> {
     ghost invariant = { λ a. IsKept a.map };
 }
 
-// Returns the edit that adds `n` to an integer: none if the sum passes the limit, and no entry for a sum of 0.
+// Returns the edit that adds `n` to an integer: `Keep` if the sum exceeds the limit, `Remove` if it is 0.
 fn summed(held: i64, n: i64) -> Edit<i64>
     ensures full { max_count < unsigned_abs (held +ℤ n) → result ≡ Keep }
     ensures none { held +ℤ n ≡ pos 0 → result ≡ Remove }
@@ -58,7 +58,7 @@ fn summed(held: i64, n: i64) -> Edit<i64>
     Edit::Put(sum)
 }
 
-// Returns the result of an addition, by the edit of the integer that was there.
+// Returns the result of an addition, from the edit of the integer that was there.
 fn outcome_of(said: Option<Edit<i64>>) -> Result<(), DeltaFault>
     ensures full { said ≡ Some Keep → result ≡ Err (DeltaFault.DeltaFull) }
     ensures ok { said ≢ Some Keep → result ≡ Ok tt }
@@ -91,7 +91,7 @@ impl<A: Allocator> LargeDelta<A> {
         self.map.iter()
     }
 
-    // Returns whether the pointstamp has no integer and `n` alone passes the limit.
+    // Returns whether the pointstamp has no integer and `n` alone exceeds the limit.
     fn is_past_limit_alone(&self, point: &Pointstamp, n: i64) -> bool
         ensures past { IsTrue result → max_count < unsigned_abs (at self.now point.now +ℤ n) }
         ensures fits { result ≡ false → at self.now point.now ≡ pos 0 → unsigned_abs n ≤ max_count }
@@ -225,8 +225,8 @@ impl<A: Allocator + Copy> LargeDelta<A> {
         outcome_of(said)
     }
 
-    /// Adds the entries of another change, at pointstamps that have none: all entries or, if memory is
-    /// refused, none.
+    /// Adds the entries of another change, at pointstamps that have none: all entries or, if memory runs out,
+    /// none.
     pub fn put_part(&mut self, part: &Delta<A>) -> Result<(), AllocError>
         requires { IsApart part.now self.old }
         ensures ok { OnOk result (self.new ≡ plus self.old part.now) }

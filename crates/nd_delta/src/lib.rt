@@ -24,9 +24,9 @@ pub const LIMIT: i64 = 1_099_511_627_776;
 /// Why a delta was not changed.
 #[derive(Debug, Clone, Copy, PartialEq, Eq)]
 pub enum DeltaFault {
-    /// An entry would pass `LIMIT` in absolute value.
+    /// An entry would exceed `LIMIT` in absolute value.
     DeltaFull,
-    /// A growth was refused.
+    /// Out of memory.
     Memory,
 }
 
@@ -209,7 +209,7 @@ impl<A: Allocator> Delta<A> {
         if minus { here - there } else { here + there }
     }
 
-    /// Returns whether some entry of the difference, or of the sum, passes `LIMIT`.
+    /// Returns whether some entry of the difference, or of the sum, exceeds `LIMIT`.
     pub fn is_overfull(&self, other: &Delta<A>, minus: bool) -> bool
         ensures passes { IsTrue result ↔ IsTooLarge (combined minus self.now other.now) }
         ensures within { IsWithin self.now × IsWithin other.now }
