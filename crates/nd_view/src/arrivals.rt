@@ -1,4 +1,4 @@
-//! The times that can still arrive at a location, by a view.
+//! The times that can still arrive at a location, according to a view.
 ghost use Rattle.std.specs.Prelude.{◌≡◌, ◌++◌, IfOk, IsSorted, OnOk};
 ghost use Rattle.nd_time.specs.Listing.{time_cmp};
 ghost use Rattle.nd_view.specs.Kept.{IsFor};

@@ -1,4 +1,4 @@
-//! Precursor counts: counted anew, or adjusted when a pointstamp became positive or ceased to be.
+//! Precursor counts: counted again, or adjusted when a pointstamp became positive or ceased to be.
 
 ghost use Rattle.std.specs.Prelude.{◌≡◌, ◌↔◌, ◌≤◌, ◌+◌, ◌<◌, ◌^◌, Contains, IsTrue, IfOk, IfSome, length};
 ghost use Rattle.nd_map.specs.Listed.{IsListed};
@@ -13,7 +13,7 @@ use nd_delta::Delta;
 use nd_paths::{Paths, Pointstamp};
 use std::alloc::{AllocError, Allocator};
 
-// The number of precursors of a pointstamp whose epochs are below a number.
+// The number of precursors of a pointstamp whose epochs are less than `below`.
 #[derive(Drop)]
 struct Known {
     below: u32,
@@ -118,9 +118,10 @@ fn count_from<A: Allocator, B: Allocator>(
 
 /// Returns the number of positive entries strictly before a pointstamp.
 ///
-/// It begins with the count of the nearest positive entry, if that has no counters. Then each location with
-/// a walk to this one costs a logarithm of its entries and a test for each entry whose epoch lies between.
-/// Otherwise it tests each entry whose epoch is not greater.
+/// It begins with the count of the nearest positive entry, if that entry has no counters. Then each
+/// location from which a walk leads to this one takes time logarithmic in its number of entries, and a test
+/// for each entry whose epoch lies between the two. Otherwise it tests each entry whose epoch is not
+/// greater.
 pub fn count_before<A: Allocator, B: Allocator>(
     counts: &Delta<A>,
     kept: &[(Pointstamp, u64)],
@@ -151,8 +152,8 @@ fn moved_by_one(n: u64, up: bool) -> u64
 /// Adjusts the precursor counts of the positive pointstamps after one that became positive or ceased to be.
 /// It takes no memory.
 ///
-/// At each location to which a walk leads it skips the entries with smaller epochs, in a logarithm of their
-/// number. Outside loops it adjusts each of the others; inside loops it tests each first.
+/// At each location to which a walk leads it skips the entries with smaller epochs, in time logarithmic in
+/// their number. Outside loops it adjusts each of the others; inside loops it tests each first.
 pub fn shift<A: Allocator, B: Allocator>(
     precursor_counts: &mut PrecursorCounts<A>,
     counts: &Delta<A>,

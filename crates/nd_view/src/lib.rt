@@ -27,8 +27,8 @@ use std::alloc::{AllocError, Allocator, Global};
 use std::marker::Model;
 use stored::Stored;
 
-// For a change with more entries the whole view is made anew: the lists are merged, and each precursor
-// count is counted once.
+// A change with more entries rebuilds the complete view: the lists are merged, and each precursor count is
+// counted once.
 const MANY: usize = 200;
 
 /// A finite map from pointstamps to counts other than 0, which may be negative for a while, and for each
@@ -112,7 +112,7 @@ impl<A: Allocator + Copy> View<A> {
         })
     }
 
-    // Adds a change or, if `minus`, subtracts it, and makes the whole view anew.
+    // Adds a change or, if `minus`, subtracts it, and rebuilds the complete view.
     fn change_anew<B: Allocator>(
         &mut self,
         paths: &Paths<B>,

@@ -15,8 +15,8 @@ use std::marker::Model;
 
 /// A map from pointstamps to numbers, seen as the list of its entries.
 ///
-/// The pointstamps with number 0 are also in a list of their own, in no order, so that a reader of these
-/// looks at no others.
+/// The pointstamps with number 0 are also in a list of their own, in no order, so that reading them does
+/// not visit the others.
 pub struct PrecursorCounts<A: Allocator = Global> {
     counts: SortedMap<Pointstamp, u64, A>,
     frontier: Vec<Pointstamp, A>,
@@ -86,7 +86,7 @@ fn forget<A: Allocator>(frontier: &mut Vec<Pointstamp, A>, point: &Pointstamp, i
     );
 }
 
-// Corrects the list at `point`, if it is right at all other pointstamps. It takes no memory.
+// Corrects the list at `point`, if it is correct at all other pointstamps. It takes no memory.
 fn set_right<A: Allocator>(
     counts: &[(Pointstamp, u64)],
     frontier: &mut Vec<Pointstamp, A>,
@@ -105,7 +105,7 @@ fn set_right<A: Allocator>(
     if !is_zero {
         return;
     }
-    // There is room, since there is room for all entries. A list that is too long is made anew.
+    // There is room, since there is room for all entries. A list that is too long is rebuilt.
     if frontier.len() >= counts.len() {
         list_zeros(counts, frontier);
         return;

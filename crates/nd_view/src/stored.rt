@@ -145,7 +145,7 @@ impl<A: Allocator> Stored<A> {
         })
     }
 
-    /// Returns why a change is refused that passes the limit or gets no memory.
+    /// Returns why a change is refused: it exceeds the limit, or memory ran out.
     pub fn refusal(&self, delta: &Delta<A>, minus: bool) -> DeltaFault
         ensures { (result ≡ DeltaFault.DeltaFull)
             ↔ IsTooLarge (combined minus self.now.map delta.now) }
@@ -226,7 +226,7 @@ impl<A: Allocator> Stored<A> {
         );
     }
 
-    // Sets the count of a pointstamp, where that may take memory.
+    // Sets the count of a pointstamp, which may take memory.
     fn enter<B: Allocator>(
         &mut self,
         paths: &Paths<B>,
@@ -247,7 +247,7 @@ impl<A: Allocator> Stored<A> {
         }
     }
 
-    // Sets the count of a pointstamp from `was` to `n`, where that takes no memory.
+    // Sets the count of a pointstamp from `was` to `n`, which takes no memory.
     fn leave<B: Allocator>(&mut self, paths: &Paths<B>, point: &Pointstamp, was: i64, n: i64)
         requires paths { IsFor paths.now self.old }
         requires within { unsigned_abs n ≤ max_count }
@@ -266,7 +266,7 @@ impl<A: Allocator> Stored<A> {
     }
 
     /// Adds the entries of a change or, if `minus`, subtracts them, and returns whether it did: it changes all
-    /// entries or, if one passes the limit or memory is refused, none.
+    /// entries or, if one exceeds the limit or memory runs out, none.
     ///
     /// It calls itself for the entries after the first. The entries that may take memory are changed before
     /// that call, the others after it.
