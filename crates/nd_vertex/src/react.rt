@@ -169,7 +169,8 @@ impl<A: Allocator + Copy> VertexState<A> {
     /// Returns the effect of a record on the operator, by the table and the items of this vertex.
     ///
     /// The items stay as they are until the effect is committed. Returns CounterFull (11) if the last counter of a
-    /// feedback's timestamp is at its limit, and else ValueRange (12) if an emission or an item does not fit 64 bits.
+    /// feedback's timestamp is at its limit, and otherwise ValueRange (12) if an emission or an item does not fit 64
+    /// bits.
     pub fn on_record(
         &self,
         alloc: A,
