@@ -67,7 +67,8 @@ impl<A: Allocator + Copy> Model for Processor<A> {
 }
 
 impl<A: Allocator + Copy> Processor<A> {
-    /// Returns the processor at the start of a cluster: each input's token is at epoch 0, and everything else is empty.
+    /// Returns a processor in the initial state of a cluster: each input's token is at epoch 0, and everything else is
+    /// empty.
     pub fn start(alloc: A, graph: &Graph<A>) -> Result<Processor<A>, AllocError>
         ensures { IfOk result (λ p. p ≡ start_processor graph.now) }
     {
@@ -243,7 +244,7 @@ impl<A: Allocator + Copy> Processor<A> {
         ensures full { (result ≡ Err CountFull) ↔ IsTooMany (at self.old.records key.now) n }
         ensures memory { result ≡ Err CountMemory → at self.old.records key.now ≡ 0 }
     {
-        // (its type keeps a value that is read in its range)
+        // (reading the value shows that it is in the range of its type)
         let _value = key.value;
         self.records.add(key, n)
     }

@@ -51,7 +51,7 @@ impl<K: Key, A: Allocator> Model for Tally<K, A> {
     ghost invariant = { λ a. IsKept K.cmp a.map };
 }
 
-// Returns the sum, or `None` if it exceeds the limit.
+// Returns the edit to the sum, or `Keep` if the sum exceeds the limit.
 fn raised(count: u64, n: u64) -> Edit<u64>
     requires { count ≤ max_count }
     ensures more { count + n ≤ max_count → result ≡ Put (count + n) }
@@ -63,7 +63,7 @@ fn raised(count: u64, n: u64) -> Edit<u64>
     Edit::Put(count + n)
 }
 
-// Returns the difference, or `None` if it is 0.
+// Returns the edit to the difference, or `Remove` if the difference is 0.
 fn lowered(count: u64, n: u64) -> Edit<u64>
     ensures some { n < count → result ≡ Put (count - n) }
     ensures all { count ≤ n → result ≡ Remove }
