@@ -1,5 +1,5 @@
-//! The theorems of the protocol, for every cluster and every step. They are clauses of functions without code, which callers
-//! call where they need these clauses.
+//! The theorems of the protocol, for every cluster and every step. Each is a clause of a function without code; a caller
+//! that needs the clause calls the function.
 ghost use Rattle.nd_protocol.specs.Laws.{StartIsState, StartKeepsProtocol, TruthIsSmall};
 ghost use Rattle.nd_protocol.specs.Laws.{StepLeadsToState, StepKeepsSettled, StepKeepsProtocol, RunKeepsProtocol};
 ghost use Rattle.nd_protocol.specs.Laws.{PassedMeansFinished, HeldIsNotPassed, NothingIsBefore, NoticeComesLast, FinishedStaysFinished};
@@ -7,7 +7,7 @@ ghost use Rattle.nd_protocol.specs.Laws.{PassedMeansFinished, HeldIsNotPassed, N
 use nd_paths::order_is_transitive;
 use std::alloc::Allocator;
 
-/// States that a start is a state and has the protocol invariant.
+/// States that the initial state is a state that a cluster may be in, and that it has the protocol invariant.
 pub fn starts_keep_protocol()
     ensures state { StartIsState }
     ensures protocol { StartKeepsProtocol }
@@ -15,14 +15,14 @@ pub fn starts_keep_protocol()
     order_is_transitive();
 }
 
-/// States that what is outstanding at a pointstamp fits 63 bits, if the cluster is settled and its numbers are within their
-/// limits.
+/// States that the number outstanding at a pointstamp fits 63 bits, if the cluster is settled and its numbers are within
+/// their limits.
 pub fn truth_is_small()
     ensures { TruthIsSmall }
 {}
 
-/// States that an enabled step leads from a state to a state and keeps the protocol invariant, and that a list of such steps
-/// does so too.
+/// States that an enabled step leads from a state to a state and keeps the protocol invariant, and that so does a list of
+/// such steps.
 pub fn steps_keep_protocol<A: Allocator>()
     ensures state { StepLeadsToState A }
     ensures settled { StepKeepsSettled A }

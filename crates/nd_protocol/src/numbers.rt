@@ -30,7 +30,7 @@ fn are_values(values: &[i64])
     }
 }
 
-/// Shows that the epoch and the counters of a time fit their types. The function does nothing; call it where its clause is
+/// Shows that the epoch and the counters of a time fit their types. The function does nothing; call it if its clause is
 /// needed.
 pub fn times_are_small(time: &Timestamp)
     ensures { TimeIsSmall time.now }
@@ -68,7 +68,7 @@ fn next_is_small(next: Next)
 }
 
 impl<A: Allocator> Step<A> {
-    /// Shows that the numbers of a step fit their types. The method does nothing; call it where its clause is needed.
+    /// Shows that the numbers of a step fit their types. The method does nothing; call it if its clause is needed.
     pub fn numbers_fit(&self)
         ensures { NumbersFit self.now }
     {

@@ -90,7 +90,7 @@ impl<A: Allocator> Part<A> {
         }
     }
 
-    // Returns whether the two parts are written alike.
+    // Returns whether the two parts are equal.
     pub(crate) fn same(&self, other: &Part<A>) -> bool
         ensures { MatchBool result (self.now ≡ other.now) (self.now ≢ other.now) }
     {

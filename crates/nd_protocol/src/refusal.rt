@@ -6,7 +6,7 @@ use nd_paths::Pointstamp;
 use nd_time::Code;
 use thiserror::Error;
 
-/// Why a step is refused. Refusals are tested in the order of their numbers, except that `Memory` is the last (this project's
+/// Why a step is refused. Refusals are tested in the order of their numbers, except that `Memory` comes last (this project's
 /// own rule).
 #[derive(Debug, PartialEq, Eq, Drop, Error)]
 pub enum Refusal {

@@ -68,7 +68,7 @@ impl<A: Allocator> Values<A> {
 pub enum Next {
     /// The token moves to the next epoch.
     Next,
-    /// The token is given up.
+    /// The token is dropped.
     Close,
     /// The token stays at its epoch.
     Stay,
@@ -86,7 +86,7 @@ pub enum Step<A: Allocator = Global> {
         values: Values<A>,
         next: Next,
     },
-    /// Takes a record off an edge and hands it to the edge's target.
+    /// Removes a record from an edge and hands it to the edge's target.
     Take {
         p: u32,
         edge: usize,
@@ -99,7 +99,7 @@ pub enum Step<A: Allocator = Global> {
         vertex: usize,
         time: Timestamp,
     },
-    /// Gives up a capability that a hold vertex keeps, or moves it to a later time.
+    /// Drops a capability that a hold vertex holds, or moves it to a later time.
     Release {
         p: u32,
         vertex: usize,

@@ -5,7 +5,7 @@ use nd_time::Timestamp;
 use std::alloc::{AllocError, Allocator, Global};
 use std::marker::Model;
 
-/// The time at which a capability is kept, and the later time to which it moves; `None` if it is given up.
+/// The time at which a capability is held, and the later time to which it moves; `None` if it is dropped.
 #[derive(Debug, PartialEq, Eq, Drop)]
 pub struct Times {
     pub time: Timestamp,
