@@ -11,7 +11,7 @@ use std::marker::Model;
 pub enum Held {
     /// `count` records of a value on the edge of the pointstamp.
     Records { p: usize, value: i64, count: u64 },
-    /// A request for a notice by the vertex of the pointstamp.
+    /// A request of the vertex of the pointstamp: for a notification, or to hold a capability.
     Request { p: usize },
     /// The token of the input of the pointstamp.
     Token { p: usize },

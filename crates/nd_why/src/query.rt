@@ -79,7 +79,7 @@ fn reasons_at<A: Allocator + Copy>(
 }
 
 /// Returns why processor `question.q` does not consider `question.point`, or everything strictly before it,
-/// finished (this project's own rule, on FORTE 2013). The arguments are the parts of one cluster.
+/// finished (this project's own rule, based on FORTE 2013). The arguments are the parts of one cluster.
 ///
 /// The reasons are the pointstamps on the frontier of the processor's view that are at or before
 /// `question.point`, or strictly before it. Each comes with everything held there and all updates of it
