@@ -1,4 +1,4 @@
-//! What changes of the processors change, with the values before and after.
+//! The effect of changes on processors, with the values before and after.
 ghost use Rattle.std.specs.Prelude.{◌≡◌, ◌≤◌, ◌≤ℤ◌, ◌+ℤ◌, pos, unsigned_abs, OnOk};
 ghost use Rattle.nd_time.specs.Limits.{max_count};
 ghost use Rattle.nd_map.specs.Counts.{natural};
@@ -26,7 +26,7 @@ fn count_after(old: u64, n: i128) -> u64
     (i128::from(old) + n) as u64
 }
 
-// Returns what `n` more records of a key change.
+// Returns the effect of adding `n` records of a key.
 fn record_altered<A: Allocator + Copy>(
     processor: &Processor<A>,
     p: u32,
@@ -45,7 +45,7 @@ fn record_altered<A: Allocator + Copy>(
     }
 }
 
-// Returns what changes where a request comes or goes.
+// Returns the effect of adding or removing a request.
 fn request_altered<A: Allocator + Copy>(
     processor: &Processor<A>,
     p: u32,
@@ -62,7 +62,7 @@ fn request_altered<A: Allocator + Copy>(
     }
 }
 
-// Returns what changes where `n` is added to the number of a token.
+// Returns the effect of adding `n` to the number of a token.
 fn token_altered<A: Allocator + Copy>(
     processor: &Processor<A>,
     p: u32,
@@ -89,7 +89,7 @@ fn number_after(old: Option<i64>, n: i128) -> Option<i64>
     item_number(number(old) + n)
 }
 
-// Returns what changes where `n` is added to the number of an item.
+// Returns the effect of adding `n` to the number of an item.
 fn item_altered<A: Allocator + Copy>(
     processor: &Processor<A>,
     p: u32,
@@ -110,7 +110,7 @@ fn item_altered<A: Allocator + Copy>(
     }
 }
 
-// Returns what changes where a sink counts a value `n` times more.
+// Returns the effect of a sink that counts a value `n` times more.
 fn sink_altered<A: Allocator + Copy>(
     processor: &Processor<A>,
     p: u32,
@@ -129,7 +129,7 @@ fn sink_altered<A: Allocator + Copy>(
     }
 }
 
-// Returns what changes where `n` is added to an entry of what is unsent.
+// Returns the effect of adding `n` to an entry of what is unsent.
 fn unsent_altered<A: Allocator + Copy>(
     processor: &Processor<A>,
     p: u32,
@@ -149,7 +149,7 @@ fn unsent_altered<A: Allocator + Copy>(
 }
 
 impl<A: Allocator + Copy> Effect<A> {
-    // Adds what `n` more at a key of processor `p` changes.
+    // Appends the effect of adding `n` at a key of processor `p`.
     fn add_at(
         &mut self,
         processor: &Processor<A>,
@@ -177,7 +177,7 @@ impl<A: Allocator + Copy> Effect<A> {
         Ok(())
     }
 
-    // Adds what a change makes of the value at its key.
+    // Appends the effect of a change.
     fn add(&mut self, processors: &[Processor<A>], change: &Change) -> Result<(), AllocError>
         requires { Fits (only processors.now) change.now }
         ensures { OnOk result (Appends self.old self.new (altered_of processors.now change.now)) }
@@ -186,7 +186,7 @@ impl<A: Allocator + Copy> Effect<A> {
         self.add_at(processor, change.p, &change.slot, change.n)
     }
 
-    // Adds what changes make of the values at their keys, each as if it were the first.
+    // Appends the effects of changes, each as if it were the first.
     pub(crate) fn add_all(
         &mut self,
         processors: &[Processor<A>],

@@ -50,7 +50,7 @@ fn part_of<A: Allocator>(
     }
 }
 
-// Returns the least pointstamp whose entry would stay without its support, once `change` is sent.
+// Returns the least pointstamp whose entry would stay without support after `change` is sent.
 fn left_alone<A: Allocator + Copy>(
     alloc: A,
     paths: &Paths<A>,
@@ -63,7 +63,7 @@ fn left_alone<A: Allocator + Copy>(
     ensures least { IfOk result (λ x. IfSome x (LeavesAlone paths.now processor.now change.now)) }
 {
     let unsent = processor.unsent();
-    // Where all is sent nothing stays.
+    // If everything is sent, nothing stays.
     if change.len() == unsent.len() {
         return Ok(None);
     }
@@ -105,7 +105,7 @@ pub fn planned_part<A: Allocator + Copy>(
 }
 
 impl<A: Allocator + Copy> Parts<A> {
-    // Processor p sends a part of what is unsent to every processor: first what may be refused, then the rest.
+    // Processor p sends a part of what is unsent to every processor. What may be refused comes first.
     pub(crate) fn send(&mut self, p: usize, part: &Delta<A>) -> Result<(), AllocError>
         requires state { IsState self.old }
         requires sends { CanSend self.old p part.now }
@@ -120,7 +120,7 @@ impl<A: Allocator + Copy> Parts<A> {
         Ok(())
     }
 
-    // Takes back what p sent last: first what may be refused, then the rest.
+    // Takes back what p sent last. What may be refused comes first.
     pub(crate) fn unsend(&mut self, p: usize, part: &Delta<A>) -> Result<(), AllocError>
         requires { CameFrom (λ s. Sends s p part.now self.old) }
         ensures ok { OnOk result (IsBackAt (λ s. Sends s p part.now self.old) self.new) }

@@ -5,7 +5,8 @@ ghost use Rattle.nd_steps.specs.Undone.{IsGain};
 
 use crate::Slot;
 
-/// Adds `n` at a key of processor `p`'s maps. The difference of two items' numbers, of 64 bits each, needs more bits.
+/// Adds `n` at a key of processor `p`'s maps. The difference of two items' numbers, each of 64 bits, needs more than
+/// 64 bits.
 #[derive(Debug, PartialEq, Eq, Drop)]
 pub struct Change {
     pub p: u32,
@@ -14,7 +15,7 @@ pub struct Change {
 }
 
 impl Default for Change {
-    /// Returns a change by nothing.
+    /// Returns a change that adds 0.
     fn default() -> Change
         ensures { result.n ≡ pos 0 }
     {
@@ -38,7 +39,7 @@ impl Change {
         }
     }
 
-    /// Returns the change that takes this one back.
+    /// Returns the change that undoes this one.
     pub fn inverse(&self) -> Change
         requires { IsGain self.now.n }
         ensures { result ≡ inverse self.now }

@@ -1,4 +1,4 @@
-//! What comes for a record that is taken.
+//! The consequence of a take.
 ghost use Rattle.std.specs.Prelude.{◌≡◌};
 ghost use Rattle.nd_steps.specs.Flows.{past_action, come_key};
 
@@ -6,11 +6,11 @@ use nd_graph::Action;
 use nd_processor::ValueAt;
 use nd_time::Timestamp;
 
-/// What comes for a record that is taken.
+/// The consequence of a take: what arrives for the record that is taken.
 #[derive(Clone, Copy, Debug, PartialEq, Eq, Drop)]
 pub enum Come {
     Nothing,
-    /// A record on an edge, at processor `p`. Its time is that of the record that goes, past the action.
+    /// A record on an edge, at processor `p`. Its time is that of the taken record, after the action.
     Record {
         action: Action,
         p: u32,
@@ -23,7 +23,7 @@ pub enum Come {
     },
 }
 
-// Takes a time past an action. Where the action cannot be taken it stays.
+// Applies an action to a time. If the action does not apply, the time stays.
 fn pass(action: Action, time: &mut Timestamp)
     ensures { time.new ≡ past_action action time.old }
 {
@@ -40,7 +40,7 @@ fn pass(action: Action, time: &mut Timestamp)
 }
 
 impl Come {
-    // Returns the record that comes for `gone`; `gone` itself if no record comes.
+    // Returns the record that arrives for `gone`, or `gone` itself if no record arrives.
     pub(crate) fn key(&self, gone: &ValueAt) -> ValueAt
         ensures { result ≡ come_key gone.now self.now }
     {

@@ -1,4 +1,4 @@
-//! Records made and undone in the parts of a cluster.
+//! Records executed and undone in the parts of a cluster.
 ghost use Rattle.std.specs.Prelude.{◌≡◌, OnOk, OnErr};
 ghost use Rattle.nd_protocol.specs.State.{ClusterState};
 ghost use Rattle.nd_protocol.specs.Fitting.{IsState};
@@ -8,7 +8,7 @@ use crate::{Changes, Parts, Record};
 use std::alloc::{AllocError, Allocator};
 
 impl<A: Allocator + Copy> Parts<A> {
-    /// Makes the changes of `planned`. After an error the parts are as they were.
+    /// Applies the changes of `planned`. After an error the parts are as they were.
     pub fn commit(&mut self, planned: &Record<A>) -> Result<(), AllocError>
         requires state { IsState self.old }
         requires makes { (t : ClusterState) × Makes self.old planned.now t }

@@ -1,7 +1,8 @@
-//! At how many keys and queues a cluster differs from what a broadcast or a receive makes of it.
+//! At how many keys and queues a broadcast or a receive changes a cluster.
 ghost use Rattle.nd_steps.specs.Counted.{SentChanges, ReceivedChanges};
 
-/// Proves that a change that is sent or received alters one key per entry, and the queues that it goes into or comes from.
+/// Proves that a broadcast or a receive changes one key per entry of the change, and the queues that the change enters or
+/// leaves.
 pub fn changes_are_counted()
     ensures sent { SentChanges }
     ensures received { ReceivedChanges }

@@ -1,4 +1,5 @@
-//! What a step changes, as it is found: a place may stand more than once, and in no order.
+//! The changes of a step, as they are found: a place may occur more than once, and the changes are
+//! in no order.
 ghost use Rattle.std.specs.Prelude.{◌≡◌, ◌≤◌, ◌^◌, ◌++◌, ◌∷◌, ◌-ℤ◌, [], All, FitsSigned, IfOk, OnOk, length};
 ghost use Rattle.std.specs.Int.{w128};
 ghost use Rattle.std.specs.List.Sorted.{IsPermutation};
@@ -19,10 +20,10 @@ use std::alloc::{AllocError, Allocator};
 use std::cmp::Ordering;
 use std::mem;
 
-// Which map a place is in, whose it is, and where in the map: a pointstamp and a value.
+// The parts of a place: the map, the processor, and in the map a pointstamp and a value.
 type Parts = (u8, (u32, (Pointstamp, i64)));
 
-// Returns a vertex, where no time tells more.
+// Returns the point of a vertex, for a key without a time.
 fn timeless(vertex: usize) -> Pointstamp
     ensures { result ≡ point_at vertex (flat 0) }
 {
@@ -70,7 +71,7 @@ pub(crate) fn sorted<A: Allocator>(changes: Vec<Change, A>) -> Vec<Change, A>
     changes
 }
 
-// Appends a change, unless it adds nothing.
+// Appends a change, unless it adds 0.
 fn push_some<A: Allocator>(to: &mut Vec<Change, A>, change: Change) -> Result<(), AllocError>
     ensures { OnOk result (to.new.items ≡ to.old.items ++ some_of change) }
 {
@@ -81,7 +82,8 @@ fn push_some<A: Allocator>(to: &mut Vec<Change, A>, change: Change) -> Result<()
     Ok(())
 }
 
-// Joins two changes at one place. No memory holds the changes that it takes to pass 128 bits.
+// Joins two changes at one place. More than 128 bits would be an error, but no memory could hold
+// enough changes to need them.
 fn add_to(last: &mut Change, change: &Change) -> Result<(), AllocError>
     ensures { OnOk result (last.new ≡ both last.old change.now) }
 {
@@ -92,7 +94,7 @@ fn add_to(last: &mut Change, change: &Change) -> Result<(), AllocError>
     Ok(())
 }
 
-// Joins neighbours at one place to one change, and drops changes that add nothing.
+// Joins neighbours at one place to one change, and drops changes that add 0.
 fn join_neighbours<A: Allocator + Copy>(
     sorted: Vec<Change, A>,
 ) -> Result<Vec<Change, A>, AllocError>
@@ -113,7 +115,7 @@ fn join_neighbours<A: Allocator + Copy>(
         }
     }
     push_some(&mut joined, last)?;
-    // (no more room than they take, since a timeline may keep them)
+    // (no more room than needed, since a timeline may keep the changes)
     let mut exact = Vec::with_capacity(alloc, joined.len())?;
     exact.append(&mut joined)?;
     Ok(exact)
@@ -175,7 +177,7 @@ impl<A: Allocator + Copy> Draft<A> {
         self.add(sent, 1)
     }
 
-    // Gives a vertex's items other numbers.
+    // Adds the changes of a vertex's items to their new numbers.
     pub(crate) fn add_items(&mut self, vertex: usize, items: &[ItemEdit]) -> Result<(), AllocError>
         ensures adds { OnOk result (Adds self.old self.new
             (items_changes self.old.p vertex items.now)) }
@@ -209,7 +211,7 @@ impl<A: Allocator + Copy> Draft<A> {
         self.add(Slot::Sink(key), 1)
     }
 
-    // Returns the changes with each place once, without those that add nothing.
+    // Returns the changes with each place once, without those that add 0.
     pub(crate) fn join(self) -> Result<Vec<Change, A>, AllocError>
         ensures joined { IfOk result (λ v. AreJoined self.changes.items v.items) }
         ensures few { length self.changes.items ≤ 2 ^ 64 }

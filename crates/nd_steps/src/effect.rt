@@ -8,7 +8,8 @@ use nd_processor::{SinkKey, ValueAt};
 use nd_vertex::ItemKey;
 use std::alloc::{Allocator, Global};
 
-/// A key of processor `p` at which a step changes the value: `old` stands there before it, and `new` after it.
+/// A key of processor `p` at which a step changes the value: `old` is the value before the step, `new` the
+/// value after it.
 #[derive(Debug, PartialEq, Eq, Drop)]
 pub struct Altered<K, V> {
     pub p: u32,
@@ -24,20 +25,20 @@ pub struct ItemAt {
     pub key: ItemKey,
 }
 
-/// What a step changes: each key of a map and each queue that has another value after it. Each list is by
+/// The effect of a step: each key of a map and each queue that has another value after it. Each list is by
 /// processor, and then in the order of listing of the keys.
 pub struct Effect<A: Allocator + Copy = Global> {
-    /// The numbers that vertices keep for items; `None` where they keep none.
+    /// The numbers of vertices' items; `None` if the item is absent.
     pub items: Vec<Altered<ItemAt, Option<i64>>, A>,
     /// The lengths of queues; `p` is the sender, and the key the receiver.
     pub queues: Vec<Altered<u32, usize>, A>,
     /// The counts of records.
     pub records: Vec<Altered<ValueAt, u64>, A>,
-    /// Whether a notice is asked for.
+    /// Whether there is a request.
     pub requests: Vec<Altered<Pointstamp, bool>, A>,
     /// How often sink vertices have counted values.
     pub sinks: Vec<Altered<SinkKey, u64>, A>,
-    /// The epochs of the tokens of input vertices; `None` where it is closed.
+    /// The epochs of the tokens of input vertices; `None` if the input is closed.
     pub tokens: Vec<Altered<usize, Option<u32>>, A>,
     /// The entries of what is unsent.
     pub unsent: Vec<Altered<Pointstamp, i64>, A>,

@@ -1,4 +1,4 @@
-//! The effect of a record, whatever it changes.
+//! The effect of a record, for every kind of changes.
 ghost use Rattle.std.specs.Prelude.{◌≡◌, ◌<◌, ◌≤◌, IfOk, length, map, unsigned_abs};
 ghost use Rattle.std.specs.List.Sorted.{IsPermutation};
 ghost use Rattle.nd_time.specs.Limits.{max_count, max_processors};
@@ -31,7 +31,7 @@ fn in_order<A: Allocator + Copy>(alloc: A, changes: &[Change]) -> Result<Vec<Cha
     Ok(sorted(copied(alloc, changes)?))
 }
 
-// Returns what an entry of a part that `p` sends changes: it is unsent no longer.
+// Returns the effect at an entry of a part that `p` sends: the entry is no longer unsent.
 fn sent_altered(p: u32, entry: &(Pointstamp, i64)) -> Altered<Pointstamp, i64>
     ensures { result ≡ sent_row p entry.now }
 {
@@ -43,7 +43,7 @@ fn sent_altered(p: u32, entry: &(Pointstamp, i64)) -> Altered<Pointstamp, i64>
     }
 }
 
-// Lists what a part that `p` sends changes.
+// Lists the effect of a part that `p` sends.
 fn sent_list<A: Allocator + Copy>(
     alloc: A,
     p: u32,
@@ -58,7 +58,7 @@ fn sent_list<A: Allocator + Copy>(
     Ok(rows)
 }
 
-// Returns what changes of the queue from `p` to another when it gets a change more.
+// Returns the effect on the queue from `p` to another processor, which becomes one change longer.
 fn longer<A: Allocator + Copy>(mesh: &Mesh<A>, p: u32, to: usize) -> Altered<u32, usize>
     requires sender { p < length mesh.now }
     requires receiver { to < length mesh.now }
@@ -74,7 +74,7 @@ fn longer<A: Allocator + Copy>(mesh: &Mesh<A>, p: u32, to: usize) -> Altered<u32
     }
 }
 
-// Lists the queues from `p`, each with a change more.
+// Lists the queues from `p`, each one change longer.
 fn longer_list<A: Allocator + Copy>(
     alloc: A,
     mesh: &Mesh<A>,
@@ -91,7 +91,7 @@ fn longer_list<A: Allocator + Copy>(
     Ok(rows)
 }
 
-// Returns what an entry of a change that `q` receives adds to its view.
+// Returns the effect on `q`'s view of an entry of a change that `q` receives.
 fn received_altered<A: Allocator + Copy>(
     q: u32,
     view: &View<A>,
@@ -108,7 +108,7 @@ fn received_altered<A: Allocator + Copy>(
     }
 }
 
-// Lists what a change that `q` receives adds to its view.
+// Lists the effect on `q`'s view of a change that `q` receives.
 fn received_list<A: Allocator + Copy>(
     alloc: A,
     q: u32,
@@ -124,7 +124,7 @@ fn received_list<A: Allocator + Copy>(
     Ok(rows)
 }
 
-// Returns what changes of a queue when its front goes.
+// Returns the effect on a queue whose front is removed.
 fn shorter<A: Allocator + Copy>(mesh: &Mesh<A>, from: u32, to: u32) -> Altered<u32, usize>
     requires sender { from < length mesh.now }
     requires receiver { to < length mesh.now }
@@ -198,8 +198,8 @@ impl<A: Allocator + Copy> Parts<A> {
         }
     }
 
-    /// Returns what a record that names no more than it changes does to these parts: each key and each queue
-    /// at which the states before and after it differ, with the values in both.
+    /// Returns the effect of a record on these parts, if the record names no more than it changes: each key
+    /// and each queue at which the states before and after it differ, with the values in both.
     pub fn effect(&self, alloc: A, planned: &Record<A>) -> Result<Effect<A>, AllocError>
         requires state { IsState self.now }
         requires makes { (t : ClusterState) × MakesExactly self.now planned.now t }

@@ -1,4 +1,4 @@
-//! What a feed changes: its records come, and the token moves (Naiad, SOSP 2013, section 2.2).
+//! The changes of a feed: its records arrive, and the token moves (Naiad, SOSP 2013, section 2.2).
 ghost use Rattle.std.specs.Prelude.{◌≡◌, ◌<◌, ◌≤◌, ◌-ℤ◌, FitsSigned, IfOk, OnOk, pos, negsuc};
 ghost use Rattle.std.specs.Int.{w128};
 ghost use Rattle.nd_time.specs.Limits.{max_counter};
@@ -17,7 +17,7 @@ use nd_protocol::Next;
 use nd_time::Timestamp;
 use std::alloc::{AllocError, Allocator};
 
-/// Values that an input vertex is fed at the epoch of its token, and where the token goes.
+/// Values that are fed into an input vertex at the epoch of its token, and where the token moves.
 #[derive(Drop)]
 pub struct Fed<'a> {
     pub epoch: u32,
@@ -25,7 +25,7 @@ pub struct Fed<'a> {
     pub next: Next,
 }
 
-// Returns what giving up a token adds.
+// Returns the number that is added when a token is dropped.
 fn closes(epoch: u32) -> i128
     ensures value { result ≡ negsuc epoch }
     ensures fits { FitsSigned w128 result }
@@ -33,7 +33,7 @@ fn closes(epoch: u32) -> i128
     -1 - i128::from(epoch)
 }
 
-// Returns what moving a token to epoch `n` adds.
+// Returns the number that is added when a token moves to epoch `n`.
 fn moves(epoch: u32, n: u32) -> i128
     ensures value { result ≡ pos n -ℤ pos epoch }
     ensures fits { FitsSigned w128 result }
@@ -41,7 +41,7 @@ fn moves(epoch: u32, n: u32) -> i128
     i128::from(n) - i128::from(epoch)
 }
 
-// Moves the token.
+// Adds the changes that move the token.
 fn add_token<A: Allocator + Copy>(
     draft: &mut Draft<A>,
     vertex: usize,

@@ -1,4 +1,4 @@
-//! Takes of which little is kept: what comes for the record determines the changes.
+//! Takes that are kept in little memory: the consequence determines the changes.
 ghost use Rattle.std.specs.Prelude.{◌≡◌, ◌≤◌, IfOk, IfErr, length};
 ghost use Rattle.nd_steps.specs.Ordered.{CanReach, IsOrderedFlow, PassLimit};
 ghost use Rattle.nd_steps.specs.Flows.{arriving, come_changes, flow_changes, told_changes};
@@ -15,15 +15,15 @@ use std::alloc::Allocator;
 // The most changes of a flow.
 pub(crate) const MOST: usize = 4;
 
-/// The part of a take's changes that the step doesn't determine: what comes for the record, and the order of the changes.
+/// The part of a take's changes that the step doesn't determine: the consequence, and the order of the changes.
 #[derive(Clone, Copy, Debug, PartialEq, Eq, Drop)]
 pub struct Flow {
     pub come: Come,
-    /// Whether the record's pointstamp leaves what is unsent after everything else has come.
+    /// Whether the record's pointstamp is removed from what is unsent after everything else was added.
     pub late: bool,
 }
 
-// Lists what comes for a record that processor `p` takes.
+// Lists the changes of what arrives when processor `p` takes a record.
 fn arrivals(come: &Come, p: u32, gone: &ValueAt) -> ArrayVec<Change, MOST>
     ensures list { result.items ≡ arriving p gone.now come.now }
     ensures few { length result.items ≤ 2 }
@@ -87,7 +87,7 @@ impl Flow {
         list
     }
 
-    // Lists the changes of a step, in order; none, if the step is no take.
+    // Lists the changes of a step, in order; none if the step is not a take.
     pub(crate) fn told<A: Allocator>(&self, step: &Step<A>) -> ArrayVec<Change, MOST>
         ensures { result.items ≡ told_changes step.now self.now }
     {
@@ -104,8 +104,9 @@ impl Flow {
     }
 }
 
-/// Returns the flow of the take of a record by processor `p` for which this comes, in an order in which nothing is taken out before
-/// the last is put in, or the limit for which it is refused: that of counts before that of entries (this project's own rule).
+/// Returns the flow of processor `p`'s take of a record with this consequence, in an order in which everything is added before
+/// anything is removed; or the limit because of which it is refused: that of counts before that of entries (this project's own
+/// rule).
 pub fn ordered_flow<A: Allocator + Copy>(
     processors: &[Processor<A>],
     p: u32,

@@ -1,4 +1,4 @@
-//! Steps of a cluster: what each changes, in which order, and how that is made and undone.
+//! Steps of a cluster: the changes of each and their order, and how they are applied and undone.
 #![tactic(auto)]
 
 mod altering;

@@ -1,4 +1,4 @@
-//! What a record changes, of whatever kind it is, one after the other.
+//! The changes of a record of any kind, one after the other.
 ghost use Rattle.std.specs.Prelude.{◌≡◌, length, map, slice_get};
 ghost use Rattle.nd_steps.specs.Listed.{listed_sent, listed_received, listed};
 ghost use Rattle.nd_steps.specs.Records.{named};
@@ -18,7 +18,7 @@ pub enum Entry {
     View { q: u32, point: Pointstamp, n: i64 },
     /// Appends a part of what was unsent to every queue from `p`.
     Back { p: u32 },
-    /// Takes the front of a queue.
+    /// Removes the front of a queue.
     Front { from: u32, to: u32 },
 }
 

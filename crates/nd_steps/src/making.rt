@@ -14,7 +14,8 @@ use nd_processor::{CountFault, Processor, SinkKey, ValueAt};
 use nd_vertex::ItemKey;
 use std::alloc::{AllocError, Allocator};
 
-// Adds `n` records at a key, or takes them if `n` is negative. A key that is there takes no memory.
+// Adds `n` records at a key, or removes them if `n` is negative. It takes no memory for a key that
+// is there.
 fn more_records<A: Allocator + Copy>(
     processor: &mut Processor<A>,
     key: &ValueAt,
@@ -37,7 +38,7 @@ fn more_records<A: Allocator + Copy>(
     }
 }
 
-// Adds `n` to a sink's count of a value. A value that the sink has counted takes no memory.
+// Adds `n` to a sink's count of a value. It takes no memory for a value that the sink has counted.
 fn count_more<A: Allocator + Copy>(
     processor: &mut Processor<A>,
     key: &SinkKey,
@@ -60,7 +61,8 @@ fn count_more<A: Allocator + Copy>(
     }
 }
 
-// Adds `n` at a pointstamp of what is unsent. A pointstamp that has an entry takes no memory.
+// Adds `n` at a pointstamp of what is unsent. It takes no memory for a pointstamp that has an
+// entry.
 fn more_unsent<A: Allocator + Copy>(
     processor: &mut Processor<A>,
     point: &Pointstamp,
@@ -100,7 +102,7 @@ pub(crate) fn number_epoch(n: i128) -> Option<u32>
     Some((n - 1) as u32)
 }
 
-// Adds `n` to the number of a vertex's token. Only a token that comes takes memory.
+// Adds `n` to the number of a vertex's token. Only a new token takes memory.
 fn move_token<A: Allocator + Copy>(
     processor: &mut Processor<A>,
     vertex: usize,
@@ -139,7 +141,7 @@ pub(crate) fn item_number(n: i128) -> Option<i64>
     Some(n as i64)
 }
 
-// Adds `n` to the number that a vertex keeps for an item. Only an item that comes takes memory.
+// Adds `n` to the number of a vertex's item. Only a new item takes memory.
 fn more_of_item<A: Allocator + Copy>(
     processor: &mut Processor<A>,
     vertex: usize,
@@ -156,7 +158,7 @@ fn more_of_item<A: Allocator + Copy>(
     processor.set_item(vertex, &key.time, key.item, old, new)
 }
 
-// Adds `n` at a key. If something stands there already it takes no memory.
+// Adds `n` at a key. It takes no memory if the integer at the key is not 0.
 pub(crate) fn make_in<A: Allocator + Copy>(
     processor: &mut Processor<A>,
     slot: &Slot,

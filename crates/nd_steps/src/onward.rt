@@ -1,4 +1,4 @@
-//! What comes by a take for the record that goes, where it is one thing or nothing.
+//! The consequence of a take, if there is at most one.
 ghost use Rattle.std.specs.Prelude.{◌≡◌, ◌≢◌, ◌<◌, ◌+◌, ◌∷◌, [], IfSome, IsNone, IsSome, length};
 ghost use Rattle.std.specs.Ordering.{eq_by_cmp};
 ghost use Rattle.nd_time.specs.Limits.{max_locations};
@@ -34,7 +34,7 @@ fn only_edge(edges: &[Edge], vertex: usize, port: u32) -> Option<(usize, Route)>
     only
 }
 
-// Returns what a vertex does to the times that pass it; a vertex that is not there does nothing.
+// Returns what a vertex does to the times that pass through it; a vertex that does not exist does nothing.
 fn action_at<B: Allocator>(graph: &Graph<B>, vertex: usize) -> Action
     ensures { result ≡ action_of (op_at graph.now vertex) }
 {
@@ -44,7 +44,7 @@ fn action_at<B: Allocator>(graph: &Graph<B>, vertex: usize) -> Action
     }
 }
 
-// Returns the location of an edge, by that of the first and by its number.
+// Returns the location of an edge, from that of the first edge and the edge's number.
 fn edge_at(first: usize, i: usize) -> u32
     requires { first + i < max_locations }
     ensures { result ≡ first + i }
@@ -78,8 +78,8 @@ fn record_on<B: Allocator>(
     }
 }
 
-// Returns the record that comes for `gone`, by the one emission of its target. The record is at another pointstamp, so that no
-// place stands twice among the changes.
+// Returns the record that arrives for `gone`, by the one emission of its target. The record is at another pointstamp, so no place
+// occurs twice among the changes.
 fn come_by<B: Allocator>(by: &Performer<'_, B>, gone: &ValueAt, emission: &Emission) -> Option<Come>
     requires { by.now.p < by.now.n }
     ensures comes { IfSome result (ComesFor by.now gone.now emission.now) }
@@ -96,8 +96,8 @@ fn come_by<B: Allocator>(by: &Performer<'_, B>, gone: &ValueAt, emission: &Emiss
     Some(come)
 }
 
-/// Returns what comes by a take, if its changes are those of the record that goes and of at most one thing that comes for it: of a
-/// record on one edge, or of a sink's count. A plain take never gives `None`.
+/// Returns the consequence of a take, if its changes are those of the taken record and of at most one consequence: a record on
+/// one edge, or a sink's count. It is never `None` for a plain take.
 pub fn take_flow<A: Allocator, B: Allocator>(
     by: &Performer<'_, B>,
     taken: &Taken<'_, A>,

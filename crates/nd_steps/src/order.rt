@@ -1,4 +1,4 @@
-//! The order in which changes are made, and the limits that they may pass.
+//! The order in which changes are applied, and the limits that they may exceed.
 ghost use Rattle.std.specs.Prelude.{IfOk, IfErr, OnOk};
 ghost use Rattle.nd_steps.specs.Plans.{Each};
 ghost use Rattle.nd_steps.specs.Ordered.{StayWithin, StayFails, CanReach, AreOrdered, PassLimit};
@@ -10,8 +10,8 @@ use nd_processor::Processor;
 use nd_protocol::Refusal;
 use std::alloc::Allocator;
 
-// Puts the changes that leave something before those that leave nothing, and reads the limits: that of counts is tested before that
-// of entries. Looks each place up once.
+// Puts the changes after which the integer at their place is not 0 before the others, and tests the limits: that of counts before
+// that of entries. Looks each place up once.
 pub(crate) fn put_in_order<A: Allocator + Copy>(
     processors: &[Processor<A>],
     changes: &mut [Change],
@@ -42,8 +42,8 @@ pub(crate) fn put_in_order<A: Allocator + Copy>(
     Ok(())
 }
 
-/// Returns the changes in the order in which they are made, so that nothing is taken out before the last is put in, or the limit for
-/// which they are refused: that of counts before that of entries (this project's own rule).
+/// Returns the changes in the order in which they are applied, so that everything is added before anything is removed; or the
+/// limit because of which they are refused: that of counts before that of entries (this project's own rule).
 pub fn planned_changes<A: Allocator + Copy>(
     processors: &[Processor<A>],
     all: Vec<Change, A>,

@@ -1,4 +1,5 @@
-//! What a take and a notice change: a record or a request goes, and the vertex does what its operator says.
+//! The changes of a take and a notice: a record or a request is removed, and the vertex does what its
+//! operator says.
 ghost use Rattle.std.specs.Prelude.{◌≡◌, ◌<◌, All, IfOk, OnOk};
 ghost use Rattle.nd_steps.specs.Drafts.{HasValues};
 ghost use Rattle.nd_steps.specs.Performers.{found_taken, found_noticed, TakeLeads, NoticeLeads};
@@ -12,7 +13,7 @@ use nd_time::Timestamp;
 use nd_vertex::Effect;
 use std::alloc::{AllocError, Allocator};
 
-/// A record that is taken, its effect, and whether the effect makes a new request for a notice.
+/// A record that is taken, its effect, and whether the effect makes a request that was not there.
 pub struct Taken<'a, A: Allocator> {
     pub key: &'a ValueAt,
     pub effect: &'a Effect<A>,
@@ -29,7 +30,7 @@ impl<'a, A: Allocator> Drop for Taken<'a, A> {
     }
 }
 
-// Lists the changes of a take, as they are found: the record goes, and its target has the effect.
+// Lists the changes of a take, as they are found: the record is removed, and its target has the effect.
 fn take_draft<A: Allocator + Copy, B: Allocator>(
     alloc: A,
     by: &Performer<'_, B>,
@@ -58,7 +59,7 @@ fn take_draft<A: Allocator + Copy, B: Allocator>(
     Ok(draft)
 }
 
-// Lists the changes of a notice, as they are found: the request goes, and its vertex has the effect.
+// Lists the changes of a notice, as they are found: the request is removed, and its vertex has the effect.
 fn notice_draft<A: Allocator + Copy, B: Allocator>(
     alloc: A,
     by: &Performer<'_, B>,

@@ -1,5 +1,5 @@
-//! What stands at a key, and what is read of a change before it is made: whether it leaves something at its place, and
-//! whether this is within its limit (this project's own rule).
+//! The integer at a key, and what is read about a change before it is applied: whether the integer at its place is not
+//! 0 afterwards, and whether it is within its limit (this project's own rule).
 ghost use Rattle.std.specs.Prelude.{◌≡◌, ◌≤◌, ◌^◌, unsigned_abs};
 ghost use Rattle.nd_steps.specs.Slots.{stands, SlotIsThere};
 ghost use Rattle.nd_steps.specs.Limits.{after, ReadsAs};
@@ -11,7 +11,7 @@ use nd_delta::LIMIT;
 use nd_processor::Processor;
 use std::alloc::Allocator;
 
-// Returns what stands at a key. Looks it up once.
+// Returns the integer at a key. Looks it up once.
 fn number_at<A: Allocator + Copy>(processor: &Processor<A>, slot: &Slot) -> i128
     requires { SlotIsThere processor.now slot.now }
     ensures value { result ≡ stands processor.now slot.now }
@@ -30,18 +30,18 @@ fn number_at<A: Allocator + Copy>(processor: &Processor<A>, slot: &Slot) -> i128
     }
 }
 
-// What one look-up says of a change.
+// What one look-up says about a change.
 #[derive(Drop)]
 pub(crate) struct Reading {
-    // Whether it leaves something at its place.
+    // Whether the integer at its place is not 0 afterwards.
     pub(crate) leaves: bool,
-    // Whether the count at its place, if it is one, is within its limit afterwards.
+    // Whether the count at its place, if it is a count, is within its limit afterwards.
     pub(crate) count_stays: bool,
-    // Whether the entry at its place, if it is one, is.
+    // Whether the entry at its place, if it is an entry, is within its limit afterwards.
     pub(crate) entry_stays: bool,
 }
 
-// Reads a change after which `after` stands at its key.
+// Reads a change after which `after` is the integer at its key.
 fn reading_after(slot: &Slot, after: i128) -> Reading
     ensures { ReadsAs result slot.now after }
 {

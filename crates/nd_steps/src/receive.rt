@@ -1,4 +1,4 @@
-//! Receives: the front of a queue goes into the receiver's view.
+//! Receives: the front of a queue is added to the receiver's view.
 ghost use Rattle.std.specs.Prelude.{◌≡◌, ◌↔◌, ◌<◌, ◌≤◌, ◌*◌, ◌+ℤ◌, unsigned_abs, length, slice_get, Some, IfErr, IfOk, IsTrue, OnErr, OnOk};
 ghost use Rattle.nd_time.specs.Limits.{max_count};
 ghost use Rattle.nd_delta.specs.Delta.{at, plus, IsTooLarge};
@@ -16,7 +16,7 @@ use nd_protocol::Refusal;
 use nd_view::View;
 use std::alloc::{AllocError, Allocator};
 
-// Returns whether a count is past its limit.
+// Returns whether a count exceeds its limit.
 fn passes_limit(n: i64) -> bool
     ensures { IsTrue result ↔ (max_count < unsigned_abs n) }
 {
@@ -32,11 +32,11 @@ pub(crate) fn count_after<A: Allocator + Copy>(view: &View<A>, entry: &(Pointsta
     view.get(&entry.0) + entry.1
 }
 
-// Returns whether some count would pass its limit if `change` were added to a view. It takes no memory.
+// Returns whether some count would exceed its limit if `change` were added to a view. It takes no memory.
 fn is_overfull<A: Allocator + Copy>(view: &View<A>, change: &Delta<A>) -> bool
     ensures { IsTrue result ↔ IsTooLarge (plus view.now.map change.now) }
 {
-    // The counts as they are do not pass it.
+    // The present counts do not exceed it.
     let _counts = view.entries();
     for entry in change.entries() {
         if passes_limit(count_after(view, entry)) {
@@ -46,7 +46,7 @@ fn is_overfull<A: Allocator + Copy>(view: &View<A>, change: &Delta<A>) -> bool
     false
 }
 
-/// Returns the change that a receive takes in, or why the receive is refused.
+/// Returns the change that a receive adds to a view, or why the receive is refused.
 pub fn planned_front<A: Allocator + Copy>(
     alloc: A,
     view: &View<A>,
@@ -73,7 +73,7 @@ pub fn planned_front<A: Allocator + Copy>(
 }
 
 impl<A: Allocator + Copy> Parts<A> {
-    // Processor `to` receives the front of the queue from `from`: first what may be refused, then the rest.
+    // Processor `to` receives the front of the queue from `from`. What may be refused comes first.
     pub(crate) fn receive(
         &mut self,
         from: usize,
@@ -96,8 +96,8 @@ impl<A: Allocator + Copy> Parts<A> {
         Ok(())
     }
 
-    // Gives back what `to` received last, out of the view to the front of its queue. If that is
-    // refused once the change is in the queue, it is taken out again.
+    // Gives back what `to` received last, from the view to the front of its queue. If memory runs out after
+    // the change is in the queue, the change is removed again.
     pub(crate) fn unreceive(
         &mut self,
         alloc: A,

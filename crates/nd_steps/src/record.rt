@@ -1,4 +1,4 @@
-//! Records of steps: what each changes.
+//! Records of steps: the changes of each.
 ghost use Rattle.std.specs.Prelude.{◌≡◌, IfOk};
 ghost use Rattle.nd_steps.specs.Records.{named, AreEqual, MakesWhat};
 
@@ -14,12 +14,12 @@ pub enum Changes<A: Allocator + Copy = Global> {
     Each(Vec<Change, A>),
     /// The part of a take's changes that the step doesn't determine: so small that many steps can be kept.
     Flowed(Flow),
-    /// A part of what is unsent goes to the back of every queue from `p`.
+    /// A part of what is unsent is appended to every queue from `p`.
     Sent {
         p: u32,
         part: Delta<A>,
     },
-    /// The front of a queue goes into the receiver's view.
+    /// The front of a queue is added to the receiver's view.
     Received {
         from: u32,
         to: u32,
@@ -103,7 +103,7 @@ impl<A: Allocator + Copy> Record<A> {
         step
     }
 
-    /// Returns an equal record, which makes the same changes.
+    /// Returns an equal record, with the same changes.
     pub fn copy(&self, alloc: A) -> Result<Record<A>, AllocError>
         ensures step { IfOk result (λ r. r.step ≡ self.now.step) }
         ensures changes { IfOk result (λ r. AreEqual self.now.changes r.changes) }

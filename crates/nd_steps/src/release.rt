@@ -1,4 +1,4 @@
-//! What a release changes: a capability that a hold vertex keeps goes, or moves to a later time.
+//! The changes of a release: a held capability is dropped, or moves to a later time.
 ghost use Rattle.std.specs.Prelude.{◌≡◌, IfOk, OnOk};
 ghost use Rattle.nd_steps.specs.Drafts.{later_changes};
 ghost use Rattle.nd_steps.specs.Performers.{Adds, found_released, ReleaseLeads};
@@ -10,7 +10,7 @@ use nd_protocol::Times;
 use nd_time::Timestamp;
 use std::alloc::{AllocError, Allocator};
 
-// Adds the request at the later time, if there is such a time and the request is made.
+// Adds the request at the later time, if there is such a time and the request is new.
 fn add_later<A: Allocator + Copy>(
     draft: &mut Draft<A>,
     vertex: usize,
@@ -30,7 +30,7 @@ fn add_later<A: Allocator + Copy>(
     draft.ask(&point, asks)
 }
 
-// Lists the changes of a release, as they are found: the request goes, and the later one may come.
+// Lists the changes of a release, as they are found: the request is removed, and the later one may be added.
 fn release_draft<A: Allocator + Copy, B: Allocator>(
     alloc: A,
     by: &Performer<'_, B>,

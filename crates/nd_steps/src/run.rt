@@ -1,4 +1,4 @@
-//! Changes made in the parts of a cluster, one after the other, and undone.
+//! Changes applied to the parts of a cluster, one after the other, and undone.
 ghost use Rattle.std.specs.Prelude.{◌≡◌, OnOk, OnErr};
 ghost use Rattle.nd_steps.specs.Changes.{inverse, made, applied, Fits, FindsNothing, IsRunnable};
 ghost use Rattle.nd_steps.specs.Records.{RunsTo, CameFrom, IsBackAt};
@@ -8,7 +8,7 @@ use crate::{Change, Parts};
 use std::alloc::{AllocError, Allocator};
 
 impl<A: Allocator + Copy> Parts<A> {
-    // Makes a change. If something stands at its place already it takes no memory.
+    // Applies a change. It takes no memory if the integer at the place is not 0.
     fn make(&mut self, change: &Change) -> Result<(), AllocError>
         requires { Fits self.old change.now }
         ensures ok { OnOk result (self.new ≡ made self.old change.now) }
@@ -19,7 +19,7 @@ impl<A: Allocator + Copy> Parts<A> {
         make_in(processor, &change.slot, change.n)
     }
 
-    // Undoes a change: makes its inverse. If something stands at its place it takes no memory.
+    // Undoes a change: applies its inverse. It takes no memory if the integer at the place is not 0.
     fn undo(&mut self, change: &Change) -> Result<(), AllocError>
         requires { Fits self.old (inverse change.now) }
         ensures ok { OnOk result (self.new ≡ made self.old (inverse change.now)) }
@@ -29,7 +29,8 @@ impl<A: Allocator + Copy> Parts<A> {
         self.make(&change.inverse())
     }
 
-    // Makes changes, one after the other. What a refused growth interrupts is taken back by removals.
+    // Applies changes, one after the other. If memory runs out midway, it undoes those that it has applied, by
+    // removals.
     pub(crate) fn make_all(&mut self, changes: &[Change]) -> Result<(), AllocError>
         requires { IsRunnable self.old changes.now }
         ensures ok { OnOk result (self.new ≡ applied self.old changes.now) }
@@ -48,7 +49,7 @@ impl<A: Allocator + Copy> Parts<A> {
         Ok(())
     }
 
-    // Undoes changes, from the last to the first. If memory is refused midway, it redoes those that it has undone.
+    // Undoes changes, from the last to the first. If memory runs out midway, it redoes those that it has undone.
     pub(crate) fn undo_all(&mut self, changes: &[Change]) -> Result<(), AllocError>
         requires { CameFrom (λ s. RunsTo s changes.now self.old) }
         ensures ok { OnOk result (IsBackAt (λ s. RunsTo s changes.now self.old) self.new) }

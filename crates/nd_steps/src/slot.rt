@@ -7,7 +7,8 @@ use nd_processor::{SinkKey, ValueAt};
 use nd_time::Timestamp;
 use nd_vertex::ItemKey;
 
-/// A key of one of a processor's maps. An integer stands at each key; 0, if the map does not have the key.
+/// A key of one of a processor's maps. There is an integer at each key; it is 0 if the map does not have
+/// the key.
 #[derive(Debug, PartialEq, Eq, Drop)]
 pub enum Slot {
     /// A count of records.
@@ -16,7 +17,7 @@ pub enum Slot {
     Request(Pointstamp),
     /// 1 more than the epoch of an input vertex's token, 0 for none.
     Token(usize),
-    /// The number that a vertex keeps for an item.
+    /// The number of a vertex's item.
     State { vertex: usize, key: ItemKey },
     /// A count of a value at a sink.
     Sink(SinkKey),
