@@ -1,4 +1,4 @@
-//! What a take and a notice make a vertex do, and why they are refused after the first tests.
+//! What a vertex does on a take and on a notice, and why these are refused after the first tests.
 ghost use Rattle.std.specs.Prelude.{◌≡◌, ◌≢◌, ◌≤◌, IfOk, IfErr, OnOk, Err, Some, length};
 ghost use Rattle.std.specs.FinMap as fin;
 ghost use Rattle.nd_time.specs.Limits.{max_counter, max_values};
@@ -27,7 +27,7 @@ fn innermost_counter(time: &Timestamp) -> u32
     }
 }
 
-// No loop counter is past the limit.
+// No loop counter exceeds the limit.
 fn innermost_counter_fits(time: &Timestamp)
     ensures { last_of time.now.counters ≤ max_counter }
 {
@@ -35,8 +35,8 @@ fn innermost_counter_fits(time: &Timestamp)
 }
 
 impl<A: Allocator + Copy> Cluster<A> {
-    // Returns what the target of a record's edge does with the record, and whether it makes a new request, or why the take is
-    // refused, but for the limits.
+    // Returns what the target of a record's edge does with the record, and whether it makes a new request; or why the take is
+    // refused, apart from the limits.
     pub(crate) fn take_effect(
         &self,
         p: u32,
@@ -73,7 +73,7 @@ impl<A: Allocator + Copy> Cluster<A> {
         }
     }
 
-    // Returns what a vertex does on a notice that was asked for, or why the notice is refused, but for the limits.
+    // Returns what a vertex does on a notification that was asked for, or why the notice is refused, apart from the limits.
     pub(crate) fn notice_effect(&self, p: u32, point: &Pointstamp) -> Result<Effect<A>, Refusal>
         requires asked { fin.get (processor self.now p).requests point.now ≡ Some tt }
         requires free { IsFreeBelow {A = A} self.now (notice_of p point.now) 10 }

@@ -1,4 +1,4 @@
-//! What a processor knows of the times that are still to come.
+//! What a processor knows of the times that can still arrive.
 ghost use Rattle.std.specs.Prelude.{◌≡◌, ◌↔◌, ◌<◌, IfOk, IsTrue, Some, true, length};
 ghost use Rattle.std.specs.FinMap as fin;
 ghost use Rattle.nd_view.specs.View.{IsPassedBefore};
@@ -15,9 +15,10 @@ use nd_protocol::NoMemory;
 use std::alloc::Allocator;
 
 impl<A: Allocator + Copy> Cluster<A> {
-    /// Returns the times that can still arrive at a location as far as processor `q` knows, by epoch and then by counters:
-    /// the minimal ones of those into which walks to `location` turn the times of the pointstamps at which its view is
-    /// positive (this project's own rule; a probe's frontier in timely dataflow). There is none if `location` is not there.
+    /// Returns the times that can still arrive at a location according to processor `q`'s view, by epoch and then by
+    /// counters: the minimal ones of those into which walks to `location` turn the times of the pointstamps at which the view
+    /// is positive (this project's own rule; a probe's frontier in timely dataflow). The list is empty if there is no such
+    /// location.
     ///
     /// The view has passed a time there exactly if none of them is at or before it, and none of them is at or before another.
     pub fn frontier_at(
@@ -39,8 +40,8 @@ impl<A: Allocator + Copy> Cluster<A> {
         Ok(times)
     }
 
-    /// Returns whether processor `q`'s view is positive at no pointstamp strictly before `point`. A notice there on `q` of a
-    /// request that is there is refused as not yet due exactly if it is positive at one.
+    /// Returns whether processor `q`'s view is positive at no pointstamp strictly before `point`. If it is positive at one, a
+    /// notice on `q` of a request at `point` is refused as not yet due, and only then.
     pub fn passed_before(&self, q: usize, point: &Pointstamp) -> bool
         requires { q < length self.now.processors }
         ensures passed { IsTrue result

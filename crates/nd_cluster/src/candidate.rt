@@ -18,7 +18,7 @@ const MAX_LISTED: usize = 1_000;
 pub struct Candidate<A: Allocator = Global> {
     /// The step: a take, a notice, a receive, or a broadcast of all that is unsent.
     pub step: Step<A>,
-    /// The refusal of least number, or none if the step is enabled.
+    /// The refusal with the least number, or none if the step is enabled.
     pub refusal: Option<Refusal>,
 }
 
@@ -122,7 +122,7 @@ impl<A: Allocator + Copy> Cluster<A> {
         Ok(())
     }
 
-    // Lists the candidates of a processor. Stops once there are more than are listed.
+    // Lists the candidates of a processor. Stops when there are more than are listed.
     fn list_on(&self, listed: &mut Candidates<A>, p: u32) -> Result<(), NoMemory>
         requires { p < length self.now.processors }
         ensures { OnOk result (Lists self.now (candidates_of self.now p) listed.old listed.new) }
@@ -138,7 +138,7 @@ impl<A: Allocator + Copy> Cluster<A> {
 
     /// Lists the steps that a run could try, each with the refusal that stands in its way, if any.
     ///
-    /// Processor by processor, they are: a receive from each queue that is not empty, a take of each record, a notice of each
+    /// For each processor these are: a receive from each queue that is not empty, a take of each record, a notice of each
     /// request, and a broadcast of all that is unsent, if anything is. Lists the first 1,000, and says whether there are
     /// more. Changes nothing.
     pub fn candidates(&self) -> Result<Candidates<A>, NoMemory>

@@ -11,7 +11,7 @@ use nd_processor::ValueAt;
 use std::alloc::{Allocator, Global};
 use std::marker::Model;
 
-/// The candidates of a processor that are still to come, in order.
+/// The remaining candidates of a processor, in order.
 #[derive(Drop)]
 pub(crate) struct CandidateSteps<'a, A: Allocator + Copy = Global> {
     cluster: &'a Cluster<A>,
@@ -20,7 +20,7 @@ pub(crate) struct CandidateSteps<'a, A: Allocator + Copy = Global> {
     from: u32,
     records: Iter<'a, ValueAt, u64>,
     requests: Iter<'a, Pointstamp, ()>,
-    // Whether a broadcast is still to come.
+    // Whether the broadcast is still among them.
     sends: bool,
 }
 
@@ -36,7 +36,7 @@ impl<'a, A: Allocator + Copy> Model for CandidateSteps<'a, A> {
     ghost invariant = { λ a. a.p < length a.cluster.now.processors };
 }
 
-// Returns the take of the record of a key by processor `p`.
+// Returns processor `p`'s take of the record of a key.
 fn take_step<A: Allocator>(p: u32, key: &ValueAt) -> Step<A>
     ensures { result ≡ take_of p key.now }
 {
@@ -48,7 +48,7 @@ fn take_step<A: Allocator>(p: u32, key: &ValueAt) -> Step<A>
     }
 }
 
-// Returns the notice of processor `p` at a pointstamp.
+// Returns processor `p`'s notice at a pointstamp.
 fn notice_step<A: Allocator>(p: u32, point: &Pointstamp) -> Step<A>
     ensures { result ≡ notice_of p point.now }
 {

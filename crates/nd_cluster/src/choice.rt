@@ -43,8 +43,7 @@ impl<A: Allocator + Copy> Cluster<A> {
         Ok(None)
     }
 
-    // Returns the record of the first enabled candidate of a processor, none if a run skips the
-    // processor.
+    // Returns the record of the first enabled candidate of a processor; none if a run skips the processor.
     fn first_if(&self, only: Option<&Processors<A>>, p: u32) -> Result<Option<Record<A>>, NoMemory>
         requires { p < length self.now.processors }
         ensures { IfOk result (FindsFirst {A = A} self.now
@@ -57,11 +56,12 @@ impl<A: Allocator + Copy> Cluster<A> {
         }
     }
 
-    /// Returns the record of the first enabled step, from the turn's processor on: of each processor a receive, else a take,
-    /// else a notice, else the broadcast of all that is unsent. If processors are listed, the others are skipped.
+    /// Returns the record of the first enabled step, beginning with the turn's processor: for each processor a receive,
+    /// otherwise a take, otherwise a notice, otherwise the broadcast of all that is unsent. If processors are listed, the
+    /// others are skipped.
     ///
-    /// The step is the first enabled candidate if the processors are gone through from this turn on. There is none exactly
-    /// if no candidate of these processors is enabled.
+    /// The step is the first enabled candidate if the processors are visited from this turn on. There is none exactly if no
+    /// candidate of these processors is enabled.
     pub fn first_planned<'a>(
         &'a self,
         turn: u64,

@@ -1,4 +1,4 @@
-//! Records made and undone in a cluster.
+//! Records executed and undone in a cluster.
 ghost use Rattle.std.specs.Prelude.{◌≡◌, OnOk, OnErr};
 ghost use Rattle.nd_protocol.specs.State.{ClusterState};
 ghost use Rattle.nd_protocol.specs.Steps.{stepped};

@@ -1,4 +1,5 @@
-//! A cluster of processors: steps are planned, made and undone by small records of what they change.
+//! A cluster of processors: steps are planned, executed and undone by small records of what they
+//! change.
 #![tactic(auto)]
 
 mod acting;

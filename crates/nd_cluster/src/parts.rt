@@ -86,7 +86,7 @@ fn sink_fits<A: Allocator>(graph: &Graph<A>, key: &SinkKey, count: &u64) -> bool
     *count == 0 || is_sink(graph, key.vertex)
 }
 
-// Returns whether a vertex may keep a number at a time. Any may keep 0.
+// Returns whether a vertex may have a number for an item at a time. Any vertex may have 0.
 fn item_fits<A: Allocator>(graph: &Graph<A>, vertex: usize, key: &ItemKey, number: &i64) -> bool
     ensures { IsTrue result ↔ (number.now ≢ pos 0 → IsItem graph.now vertex key.now number.now) }
 {
@@ -140,7 +140,7 @@ fn sinks_fit<A: Allocator + Copy>(graph: &Graph<A>, processor: &Processor<A>) ->
         .all(|e: (&SinkKey, &u64)| sink_fits(graph, e.0, e.1))
 }
 
-// Returns whether a vertex keeps items at its own times.
+// Returns whether a vertex may have each of its items.
 fn state_fits<A: Allocator + Copy>(graph: &Graph<A>, vertex: usize, state: &VertexState<A>) -> bool
     ensures { IsTrue result ↔ ItemsFit graph.now vertex state.now }
 {
@@ -149,7 +149,7 @@ fn state_fits<A: Allocator + Copy>(graph: &Graph<A>, vertex: usize, state: &Vert
         .all(|e: (&ItemKey, &i64)| item_fits(graph, vertex, e.0, e.1))
 }
 
-// Returns whether each vertex of a processor keeps items at its own times.
+// Returns whether each vertex of a processor may have each of its items.
 fn items_fit<A: Allocator + Copy>(graph: &Graph<A>, processor: &Processor<A>) -> bool
     ensures { IsTrue result ↔ ((v : ℕ) → v < length processor.now.items
         → ItemsFit graph.now v (items_at processor.now v)) }
@@ -171,7 +171,7 @@ fn entries_fit<A: Allocator>(graph: &Graph<A>, entries: &[(Pointstamp, i64)]) ->
         .all(|e: &(Pointstamp, i64)| is_at_location(graph, &e.0))
 }
 
-// Returns whether a change has entries at pointstamps of the graph alone.
+// Returns whether a change has entries only at pointstamps of the graph.
 fn change_fits<A: Allocator>(graph: &Graph<A>, change: &Delta<A>) -> bool
     ensures fits { IsTrue result ↔ DeltaFits graph.now change.now }
     ensures within { DeltaIsWithin change.now }
@@ -179,7 +179,7 @@ fn change_fits<A: Allocator>(graph: &Graph<A>, change: &Delta<A>) -> bool
     entries_fit(graph, change.entries())
 }
 
-// Returns whether what a processor has not sent is at pointstamps of the graph alone.
+// Returns whether what a processor has not sent is only at pointstamps of the graph.
 fn unsent_fits<A: Allocator + Copy>(graph: &Graph<A>, processor: &Processor<A>) -> bool
     ensures { IsTrue result
         ↔ All (λ e. IsAtLocation graph.now e.0) (entries_of processor.now.unsent) }
@@ -238,7 +238,7 @@ fn processors_fit<A: Allocator + Copy>(graph: &Graph<A>, processors: &[Processor
     true
 }
 
-// Returns whether a view has entries at pointstamps of the graph alone.
+// Returns whether a view has entries only at pointstamps of the graph.
 fn view_fits<A: Allocator + Copy>(graph: &Graph<A>, view: &View<A>) -> bool
     ensures fits { IsTrue result ↔ DeltaFits graph.now view.now.map }
     ensures within { DeltaIsWithin view.now.map }
@@ -246,7 +246,7 @@ fn view_fits<A: Allocator + Copy>(graph: &Graph<A>, view: &View<A>) -> bool
     entries_fit(graph, view.entries())
 }
 
-// Returns whether all views have entries at pointstamps of the graph alone.
+// Returns whether all views have entries only at pointstamps of the graph.
 fn views_fit<A: Allocator + Copy>(graph: &Graph<A>, views: &[View<A>]) -> bool
     ensures fits { IsTrue result ↔ All (λ (v : Kept). DeltaFits graph.now v.map) views.now }
     ensures within { IsTrue result → All (λ (v : Kept). DeltaIsWithin v.map) views.now }
@@ -259,7 +259,7 @@ fn views_fit<A: Allocator + Copy>(graph: &Graph<A>, views: &[View<A>]) -> bool
     true
 }
 
-// Returns whether the changes of a queue have entries at pointstamps of the graph alone.
+// Returns whether the changes of a queue have entries only at pointstamps of the graph.
 fn queue_fits<A: Allocator + Copy>(graph: &Graph<A>, mesh: &Mesh<A>, from: usize, to: usize) -> bool
     requires sender { from < length mesh.now }
     requires receiver { to < length mesh.now }
@@ -275,7 +275,7 @@ fn queue_fits<A: Allocator + Copy>(graph: &Graph<A>, mesh: &Mesh<A>, from: usize
     true
 }
 
-// Returns whether the changes of all queues from a processor have entries at pointstamps of the graph alone.
+// Returns whether the changes of all queues from a processor have entries only at pointstamps of the graph.
 fn row_fits<A: Allocator + Copy>(graph: &Graph<A>, mesh: &Mesh<A>, from: usize) -> bool
     requires { from < length mesh.now }
     ensures fits { IsTrue result ↔ RowFits graph.now mesh.now from }
@@ -289,7 +289,7 @@ fn row_fits<A: Allocator + Copy>(graph: &Graph<A>, mesh: &Mesh<A>, from: usize) 
     true
 }
 
-// Returns whether the changes of all queues have entries at pointstamps of the graph alone.
+// Returns whether the changes of all queues have entries only at pointstamps of the graph.
 fn mesh_fits<A: Allocator + Copy>(graph: &Graph<A>, mesh: &Mesh<A>) -> bool
     ensures fits { IsTrue result ↔ ((p : ℕ) → p < length mesh.now → RowFits graph.now mesh.now p) }
     ensures within { IsTrue result → (p : ℕ) → p < length mesh.now → RowIsWithin mesh.now p }
@@ -332,7 +332,7 @@ fn parts_fit<A: Allocator + Copy>(
 }
 
 impl<A: Allocator + Copy> Cluster<A> {
-    /// Returns the cluster of these parts, `None` if their sizes, keys, counts or depths do not fit.
+    /// Returns the cluster of these parts, or `None` if their sizes, keys, counts or depths do not fit.
     pub fn of_parts(
         alloc: A,
         graph: &Graph<A>,

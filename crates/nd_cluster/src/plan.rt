@@ -81,9 +81,9 @@ impl<A: Allocator + Copy> Cluster<A> {
 
     /// Returns the record of a step, or why the step is refused (this project's own rule).
     ///
-    /// Changes nothing. The refusal may be out of memory in place of one that is numbered 13 or more, but for an empty part
-    /// and an empty queue. If the cluster has the protocol invariant, nothing outstanding is strictly before a notice that
-    /// is planned (FORTE 2013).
+    /// Changes nothing. The refusal may be out of memory in place of one with a number of 13 or more, except for an empty
+    /// part and an empty queue. If the cluster has the protocol invariant, nothing outstanding is strictly before a notice
+    /// that is planned (FORTE 2013).
     pub fn plan(&self, step: &Step<A>) -> Result<Record<A>, Refusal>
         ensures enabled { OnOk result (IsEnabled self.now step.now) }
         ensures last { OnOk result (ComesLast self.now step.now) }

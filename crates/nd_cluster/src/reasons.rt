@@ -1,4 +1,4 @@
-//! Why a processor does not consider a pointstamp finished, or all that is strictly before it, and whether it is.
+//! Why a processor does not consider a pointstamp, or everything strictly before it, finished; and whether it is finished.
 ghost use Rattle.std.specs.Prelude.{◌≡◌, ◌↔◌, ◌<◌, [], All, IfOk, IsTrue, true, length};
 ghost use Rattle.nd_paths.specs.Order.{CouldResultIn, IsStrictlyBefore};
 ghost use Rattle.nd_paths.specs.declared.point.Pointstamp.{Pointstamp as Point};
@@ -48,11 +48,11 @@ impl<A: Allocator + Copy> Cluster<A> {
     }
 
     /// Returns why processor `q` does not consider a pointstamp finished: the pointstamps on the frontier of its view that
-    /// are at or before `point`, each with all that is held there and all that `q` has not heard of it (this project's own
-    /// rule, on FORTE 2013).
+    /// are at or before `point`, each with all that is held there and all updates of it that `q` has not received (this
+    /// project's own rule, based on FORTE 2013).
     ///
-    /// There is none exactly if `q`'s view has passed `point`. If the protocol was kept, what the view counts and what was
-    /// not heard are together what is held; and if nothing outstanding is at or before `point`, nothing is held.
+    /// There is none exactly if `q`'s view has passed `point`. If the cluster has the protocol invariant, the view's count
+    /// plus the updates not received is what is held; and if nothing outstanding is at or before `point`, nothing is held.
     pub fn why(&self, alloc: A, q: usize, point: &Pointstamp) -> Result<Reasons<A>, NoMemory>
         requires { q < length self.now.processors }
         ensures whole { IfOk result (IsWhy self.now q point.now) }
@@ -74,13 +74,13 @@ impl<A: Allocator + Copy> Cluster<A> {
         self.reasons(alloc, &question)
     }
 
-    /// Returns why processor `q` does not consider all that is strictly before a pointstamp finished, which is what a notice
+    /// Returns why processor `q` does not consider everything strictly before a pointstamp finished, which is what a notice
     /// at `point` waits for: the pointstamps on the frontier of its view that are strictly before it, each with all that is
-    /// held there and all that `q` has not heard of it (this project's own rule, on FORTE 2013).
+    /// held there and all updates of it that `q` has not received (this project's own rule, based on FORTE 2013).
     ///
-    /// There is none exactly if the view is positive at no pointstamp strictly before `point`. If the protocol was kept, what
-    /// the view counts and what was not heard are together what is held; and if nothing outstanding is strictly before the
-    /// pointstamp, nothing is held. A request at `point` itself is never among the reasons.
+    /// There is none exactly if the view is positive at no pointstamp strictly before `point`. If the cluster has the
+    /// protocol invariant, the view's count plus the updates not received is what is held; and if nothing outstanding is
+    /// strictly before the pointstamp, nothing is held. A request at `point` itself is never among the reasons.
     pub fn why_before(&self, alloc: A, q: usize, point: &Pointstamp) -> Result<Reasons<A>, NoMemory>
         requires { q < length self.now.processors }
         ensures whole { IfOk result (IsWhyBefore self.now true q point.now) }

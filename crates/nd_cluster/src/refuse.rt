@@ -22,7 +22,7 @@ use std::alloc::Allocator;
 /// The most values of one feed.
 pub(crate) const MAX_VALUES: usize = 1024;
 
-// Returns the operator at a vertex's location, and that of a sink at an edge's location.
+// Returns the operator at a vertex's location; at an edge's location returns that of a sink.
 pub(crate) fn op_at<B: Allocator>(graph: &Graph<B>, location: usize) -> Op
     ensures op { result ≡ operator_at graph.now location }
     ensures sound { IsFaultless graph.now }
@@ -45,7 +45,7 @@ fn is_hold(op: Op) -> bool
     matches!(op, Op::Hold)
 }
 
-// Returns whether the time to which a capability moves is strictly later, if there is one.
+// Returns whether the time to which a capability moves, if there is one, is strictly later.
 fn goes_later(times: &Times) -> bool
     ensures { IsTrue result ↔ GoesLater times.now.time times.now.to }
 {
@@ -56,7 +56,7 @@ fn goes_later(times: &Times) -> bool
 }
 
 impl<A: Allocator + Copy> Cluster<A> {
-    // Returns the epoch at which a feed emits its values, or why it is refused, but for the limits.
+    // Returns the epoch at which a feed emits its values, or why the feed is refused, apart from the limits.
     pub(crate) fn feed_epoch(
         &self,
         p: u32,
@@ -91,7 +91,7 @@ impl<A: Allocator + Copy> Cluster<A> {
         Ok(epoch)
     }
 
-    // Returns the vertex that an edge enters, or why the take of a record off the edge is refused before the vertex is asked.
+    // Returns the vertex that an edge enters, or why the take of a record from the edge is refused before the vertex reacts.
     pub(crate) fn take_target(&self, p: u32, key: &ValueAt) -> Result<usize, Refusal>
         ensures target { IfOk result (λ v. v ≡ target_of self.now.graph key.now.point.location) }
         ensures free { OnOk result (IsFreeBelow {A = A} self.now (take_of p key.now) 11) }
@@ -115,7 +115,7 @@ impl<A: Allocator + Copy> Cluster<A> {
         Ok(graph.edges()[edge - first].to)
     }
 
-    // Returns an error unless a notice was asked for on a processor: why the notice is refused.
+    // Returns an error unless there is a request for the notice on a processor: why the notice is refused.
     pub(crate) fn notice_asked(&self, p: u32, point: &Pointstamp) -> Result<(), Refusal>
         ensures asked { OnOk result (fin.get (processor self.now p).requests point.now ≡ Some tt) }
         ensures free { OnOk result (IsFreeBelow {A = A} self.now (notice_of p point.now) 10) }
@@ -133,7 +133,7 @@ impl<A: Allocator + Copy> Cluster<A> {
         Ok(())
     }
 
-    // Returns an error unless a hold vertex of a processor keeps a capability: why its release is refused.
+    // Returns an error unless a hold vertex of a processor holds the capability: why its release is refused.
     pub(crate) fn release_kept(&self, p: u32, vertex: usize, times: &Times) -> Result<(), Refusal>
         ensures kept { OnOk result (fin.get (processor self.now p).requests
             (point_at vertex times.now.time) ≡ Some tt) }
@@ -161,7 +161,7 @@ impl<A: Allocator + Copy> Cluster<A> {
         Ok(())
     }
 
-    // Returns whether a token would go to an epoch that is not above its own.
+    // Returns whether a token would move to an epoch that is not greater than its own.
     fn goes_back(&self, p: u32, vertex: usize, next: Next) -> bool
         requires { p < length self.now.processors }
         ensures { IsTrue result ↔ GoesBack next (epoch_of self.now p vertex) }

@@ -1,4 +1,4 @@
-//! What steps change of a cluster, kept without its graph.
+//! The part of a cluster that steps change, saved without its graph.
 ghost use Rattle.std.specs.Prelude.{◌≡◌, IfOk};
 ghost use Rattle.nd_cluster.specs.Saved.{state_in, FitsIn, IsSaved};
 
@@ -9,7 +9,8 @@ use nd_steps::{Parts, copied_processors, copied_views};
 use nd_view::View;
 use std::alloc::{AllocError, Allocator, Global};
 
-/// What steps change of a cluster: its processors, the view of each, and the queues between them.
+/// The part of a cluster that steps change: its processors, the view of each, and the queues
+/// between them.
 ///
 /// The graph and its paths, which no step changes, are not part of it.
 #[derive(Drop)]
@@ -31,7 +32,7 @@ impl<A: Allocator + Copy> Cluster<A> {
         })
     }
 
-    /// Returns a cluster that runs the same graph and has what is `saved`.
+    /// Returns a cluster with the same graph and with what is `saved`.
     pub fn restored(&self, alloc: A, saved: &Saved<A>) -> Result<Cluster<A>, AllocError>
         requires { FitsIn self.now.graph saved.now }
         ensures { IfOk result (λ c. c ≡ state_in self.now.graph saved.now) }

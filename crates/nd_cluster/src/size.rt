@@ -14,14 +14,14 @@ use nd_processor::Processor;
 use nd_view::View;
 use std::alloc::Allocator;
 
-// Returns what is left of `left` after `n`, or none if `n` is more.
+// Returns `left - n`, or none if `n` is greater than `left`.
 fn less(left: u64, n: usize) -> Option<u64>
     ensures { Leaves left n result }
 {
     left.checked_sub(n as u64)
 }
 
-// Returns what is left after the entries of a map. Counts at most one entry more than `left`.
+// Returns what is left after the entries of a map are subtracted. Counts at most one entry more than `left`.
 fn after_map<K, V>(mut left: u64, entries: Iter<'_, K, V>) -> Option<u64>
     ensures { Leaves left (length entries.entry) result }
 {
@@ -31,7 +31,7 @@ fn after_map<K, V>(mut left: u64, entries: Iter<'_, K, V>) -> Option<u64>
     Some(left)
 }
 
-// Returns what is left after the items that a processor's vertices keep.
+// Returns what is left after the items of a processor's vertices.
 fn after_items<A: Allocator + Copy>(mut left: u64, processor: &Processor<A>) -> Option<u64>
     ensures { Leaves left (sum_by (λ m. length (counts_of m)) processor.now.items) result }
 {
@@ -127,7 +127,7 @@ fn after_mesh<A: Allocator + Copy>(mut left: u64, mesh: &Mesh<A>) -> Option<u64>
     Some(left)
 }
 
-// Returns what is left after all that steps change of a cluster.
+// Returns what is left after everything in a cluster that steps change.
 fn after_cluster<A: Allocator + Copy>(left: u64, cluster: &Cluster<A>) -> Option<u64>
     ensures { Leaves left (size_of cluster.now) result }
 {
@@ -137,7 +137,7 @@ fn after_cluster<A: Allocator + Copy>(left: u64, cluster: &Cluster<A>) -> Option
 }
 
 impl<A: Allocator + Copy> Cluster<A> {
-    /// Returns whether all that steps change has at most `limit` entries. Takes no memory, and counts at most one entry
+    /// Returns whether what steps change has at most `limit` entries. Takes no memory, and counts at most one entry
     /// more than `limit`.
     pub fn has_at_most(&self, limit: u64) -> bool
         ensures { IsTrue result ↔ (size_of self.now ≤ limit) }

@@ -1,4 +1,4 @@
-//! The start of a cluster.
+//! The initial state of a cluster.
 ghost use Rattle.std.specs.Prelude.{◌≡◌, ◌*◌, pos, All, IfOk, IfErr, OnOk, map, replicate};
 ghost use Rattle.nd_paths.specs.declared.point.Pointstamp.{Pointstamp as Point};
 ghost use Rattle.nd_delta.specs.Delta.{at};
@@ -49,7 +49,7 @@ impl StartFault {
     }
 }
 
-// Returns the fault of a graph without an order, as one of a start.
+// Returns the error of a graph without an order, as an error of the start.
 fn start_fault(fault: PathFault) -> StartFault
     ensures { result ≡ fault_of fault }
 {
@@ -59,7 +59,7 @@ fn start_fault(fault: PathFault) -> StartFault
     }
 }
 
-// Returns `n` processors at their start.
+// Returns `n` processors in their initial state.
 fn start_processors<A: Allocator + Copy>(
     alloc: A,
     graph: &Graph<A>,
@@ -112,7 +112,7 @@ fn start_views<A: Allocator + Copy>(
     Ok(views)
 }
 
-// Returns what is outstanding at the start of `n` processors.
+// Returns what is outstanding in the initial state of `n` processors.
 fn start_truth<A: Allocator + Copy>(
     alloc: A,
     graph: &Graph<A>,

@@ -8,7 +8,7 @@ use nd_protocol::NoMemory;
 use nd_state_json::state_value;
 use std::alloc::{AllocError, Allocator, Global};
 
-// Returns the state; a growth may be refused at any place.
+// Returns the state; memory may run out at any point.
 fn cluster_value<A: Allocator + Copy>(
     alloc: Global,
     cluster: &Cluster<A>,

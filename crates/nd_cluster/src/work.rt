@@ -22,11 +22,11 @@ use nd_steps::{
 };
 use std::alloc::Allocator;
 
-// What a feed, a take, a notice or a release changes, before the limits are tested and the order is known.
+// The changes of a feed, a take, a notice or a release, before the limits are tested and the changes are ordered.
 #[derive(Drop)]
 pub(crate) enum Drafted<A: Allocator + Copy> {
     Each(Vec<Change, A>),
-    // What comes for a record that processor p takes: nothing else changes.
+    // The consequence of processor p's take of a record: nothing else changes.
     Flow { p: u32, gone: ValueAt, come: Come },
 }
 
@@ -40,7 +40,7 @@ impl<A: Allocator + Copy> Cluster<A> {
         self.n() as u32
     }
 
-    // Returns what a feed changes, or why it is refused, but for the limits.
+    // Returns what a feed changes, or why the feed is refused, apart from the limits.
     fn feed_parts(
         &self,
         p: u32,
@@ -76,8 +76,8 @@ impl<A: Allocator + Copy> Cluster<A> {
         Ok(all)
     }
 
-    // Returns what a take changes, or why it is refused, but for the limits. For a take of which little is kept, returns what
-    // comes for the record.
+    // Returns what a take changes, or why the take is refused, apart from the limits. If little of the take must be kept,
+    // returns its consequence.
     fn take_parts(&self, p: u32, key: &ValueAt) -> Result<Drafted<A>, Refusal>
         ensures drafted { IfOk result (IsDraft self.now (take_of p key.now)) }
         ensures free { OnOk result (IsWithinRules A self.now (take_of p key.now)) }
@@ -110,7 +110,7 @@ impl<A: Allocator + Copy> Cluster<A> {
         Ok(Drafted::Each(all))
     }
 
-    // Returns what a notice changes, or why it is refused, but for the limits.
+    // Returns what a notice changes, or why the notice is refused, apart from the limits.
     fn notice_parts(&self, p: u32, point: &Pointstamp) -> Result<Vec<Change, A>, Refusal>
         ensures reaches { IfOk result (λ v. LeadOn A self.now (notice_of p point.now) v.items) }
         ensures free { OnOk result (IsWithinRules A self.now (notice_of p point.now)) }
@@ -134,7 +134,8 @@ impl<A: Allocator + Copy> Cluster<A> {
         Ok(all)
     }
 
-    // Returns whether a release makes a request: it moves to a time at which there is none once the released one is gone.
+    // Returns whether a release makes a request: whether it moves to a time at which there is none after the released one is
+    // removed.
     fn release_asks(&self, p: u32, vertex: usize, times: &Times) -> bool
         requires here { p < length self.now.processors }
         requires kept { fin.get (processor self.now p).requests
@@ -154,7 +155,7 @@ impl<A: Allocator + Copy> Cluster<A> {
         !self.processor(p as usize).has_request(&point)
     }
 
-    // Returns what a release changes, or why it is refused, but for the limits.
+    // Returns what a release changes, or why the release is refused, apart from the limits.
     fn release_parts(&self, p: u32, vertex: usize, times: &Times) -> Result<Vec<Change, A>, Refusal>
         ensures reaches { IfOk result (λ v.
             LeadOn A self.now (Releasing p vertex times.now) v.items) }
@@ -180,7 +181,7 @@ impl<A: Allocator + Copy> Cluster<A> {
         Ok(all)
     }
 
-    // Returns what a feed, a take, a notice or a release changes, or why it is refused, but for the limits.
+    // Returns what a feed, a take, a notice or a release changes, or why the step is refused, apart from the limits.
     fn drafted(&self, step: &Step<A>) -> Result<Drafted<A>, Refusal>
         requires { Works step.now }
         ensures drafted { IfOk result (IsDraft self.now step.now) }
@@ -223,8 +224,8 @@ impl<A: Allocator + Copy> Cluster<A> {
         }
     }
 
-    // Returns the changes of a feed, a take, a notice or a release, in the order in which they are made, or why the step is
-    // refused.
+    // Returns the changes of a feed, a take, a notice or a release, in the order in which they are applied; or why the step
+    // is refused.
     pub(crate) fn work_changes(&self, step: &Step<A>) -> Result<Changes<A>, Refusal>
         requires { Works step.now }
         ensures ok { IfOk result (Plans self.now step.now) }
