@@ -1,17 +1,17 @@
 //! What every move of the debugger machine preserves, and what its replies determine: functions without
-//! code, to be called where their clauses are needed.
+//! code, to be called if their clauses are needed.
 ghost use Rattle.nd_timeline.specs.Laws.{MovesKeepBase, MovesKeepTimelines, ChoicesAreUnique, RepliesTellMachines};
 
 use std::alloc::Allocator;
 
-/// Shows that every move preserves the base, and that each kept step is enabled where the steps before
-/// it lead.
+/// Shows that every move preserves the base, and that each kept step stays enabled in the state to
+/// which the steps before it lead.
 pub fn moves_keep_timelines<A: Allocator>()
     ensures base { MovesKeepBase A }
     ensures timeline { MovesKeepTimelines A }
 {}
 
-/// Shows that a cluster has at most one step to choose at a turn, and that a command and its reply
+/// Shows that at a turn at most one step of a cluster can be chosen, and that a command and its reply
 /// determine the machine after them.
 pub fn replies_tell_machines<A: Allocator>()
     ensures choice { ChoicesAreUnique A }

@@ -9,7 +9,7 @@ use nd_protocol::{Processors, Refusal};
 use std::alloc::Allocator;
 
 impl<A: Allocator + Copy> Timeline<A> {
-    // Returns whether a processor is listed that the cluster does not have.
+    // Returns whether the list has a processor that the cluster does not have.
     fn lists_missing(&self, only: Option<&Processors<A>>) -> bool
         ensures { IsTrue result ↔ ListsMissing self.now (option_copied only.entry) }
     {

@@ -97,8 +97,8 @@ impl<A: Allocator + Copy> Kept<A> {
 }
 
 impl<A: Allocator + Copy> Timeline<A> {
-    /// Returns a walk from which to go to position `n`. It begins at the base, the cursor or a
-    /// checkpoint, whichever is nearest to `n`.
+    /// Returns a walk that begins near position `n`: at the base, the cursor or a checkpoint, whichever is
+    /// nearest.
     pub fn walk_near(&self, alloc: A, n: u64) -> Result<Walk<A>, AllocError>
         ensures on { IfOk result (IsOn self.now) }
         ensures near { IfOk result (BeginsNear self.now n) }
