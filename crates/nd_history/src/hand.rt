@@ -1,4 +1,4 @@
-//! What is known of a worker's seat at the claim word.
+//! What is known about a worker's seat at the claim word.
 
 use std::collections::LinkedList;
 

@@ -40,8 +40,8 @@ pub(crate) struct Team<'t, 's, A: Allocator + Copy, G> {
 }
 
 impl<A: Allocator + Copy> Job<A> {
-    /// Claims piece after piece, calls the gate for it and searches it, until a number is no piece or an
-    /// allocation fails.
+    /// Claims piece after piece, calls the gate for it and searches it, until a drawn number is no piece
+    /// or an allocation fails.
     pub(crate) fn work<G: Gate>(self, team: &Team<A, G>) -> Work<A>
         requires team { IsTeam team.now }
         requires job { IsReady team.now self }
