@@ -1,4 +1,4 @@
-//! The end of a session: each client's receipts against the log.
+//! The end of a session: each client's receipts are compared with the log.
 ghost use Rattle.std.specs.Prelude.{◌≤◌, length, IfOk, IfErr, IfSome, IfNone, MatchBool};
 ghost use Rattle.nd_session.specs.Log.{ArePlaced};
 ghost use Rattle.nd_session.specs.Close.{HeldBelow, IsNewBelow, IsIn, AreInBelow, IsRight, AreRightBelow, IsFirstWrong, IsWrong, IsMismatch, ClosesWith, IsWhole, IsSettled, IsLeft};
@@ -21,11 +21,12 @@ pub struct Log<A: Allocator + Copy = Global> {
     pub breaks: Breaks<A>,
 }
 
-/// What is wrong with the clients that a session is closed with.
+/// What is wrong with the clients with which a session is closed.
 #[derive(Clone, Copy, Debug, Drop, PartialEq, Eq)]
 pub enum CloseWhy {
-    /// A client's receipt is not the log's entry at this index, or the client's number was handed
-    /// in before (the index is then the log's length), or the entry at this index has no receipt.
+    /// A client's receipt is not the log's entry at this index; or the client's number was handed
+    /// in before, and the index is the log's length; or the entry at this index is no client's
+    /// receipt.
     Mismatch { client: u64, index: u64 },
     /// The client of this number was not handed in.
     ClientMissing { client: u64 },
@@ -151,7 +152,7 @@ fn first_untold<A: Allocator + Copy>(
     None
 }
 
-// Returns the first fault, if there is one.
+// Returns the first error, if there is one.
 fn found_wrong<A: Allocator + Copy>(
     log: &[Receipt<A>],
     clients: &[Client<A>],

@@ -1,4 +1,4 @@
-//! What a log determines. It is the clause of a function without code, which callers call where they need the clause.
+//! What a log determines: a clause of a function without code, to be called if the clause is needed.
 ghost use Rattle.nd_session.specs.Laws.{LogsTellMachines};
 
 use nd_timeline::replies_tell_machines;

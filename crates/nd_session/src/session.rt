@@ -67,7 +67,7 @@ impl<A: Allocator + Copy> Session<A> {
 
     /// Ends the session, with all its clients. The call allocates no memory, and does not wait.
     ///
-    /// The session is ended in any case, and a fault carries the log, too.
+    /// The session ends in any case; an error contains the log, too.
     pub fn close(self, clients: Vec<Client<A>, A>) -> Result<Log<A>, CloseFault<A>>
         ensures whole { IfOk result (λ l. IsWhole l.entries.items clients.items l.entered) }
         ensures wrong { IfErr result (λ f.

@@ -54,14 +54,14 @@ impl<A: Allocator + Copy> Drop for State<A> {
 }
 
 impl<A: Allocator + Copy> State<A> {
-    /// Creates the `State` of a timeline that keeps nothing yet and begins at a start.
+    /// Creates the `State` of a timeline that has no kept steps and begins at an initial state.
     pub fn new(alloc: A, timeline: Timeline<A>) -> Result<State<A>, AllocError>
         requires fresh { timeline.kept ≡ [] }
         requires start { IsStart timeline.base }
         ensures { IfOk result (λ s. s ≡ record { machine = without_breaks timeline; log = [] }) }
     {
-        // The clauses of these three say that the cursor stands within what is kept, that edges
-        // join vertices, and that depths agree along the arcs.
+        // The clauses of these three say that the cursor is within the kept steps, that edges join
+        // vertices, and that depths agree along the arcs.
         let _ = timeline.at();
         let graph = timeline.base().graph();
         let _ = graph.vertices();
