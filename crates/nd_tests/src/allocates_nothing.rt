@@ -1,4 +1,4 @@
-//! Calls that take no memory, made while none is given.
+//! Calls that take no memory, made while every request for memory is refused.
 
 ghost use Rattle.nd_delta.specs.Delta.{IsPartOf};
 ghost use Rattle.nd_view.specs.Kept.{IsFor};
@@ -20,7 +20,7 @@ use nd_vertex::VertexState;
 use nd_view::View;
 use std::alloc::{Allocator, Global};
 
-/// Returns whether a change of -1 at a and 2 at z tells them, and takes what is added at a.
+/// Returns whether a change of -1 at a and 2 at z has these entries, and accepts what is added at a.
 fn change_tells<A: Allocator + Copy>(paths: &Paths<A>, change: &mut Delta<A>) -> Option<bool> {
     let graph = paths.graph();
     let (a, az) = (point(graph, "a", &[0])?, point(graph, "az", &[0])?);
@@ -42,7 +42,7 @@ fn changes_tell<A: Allocator + Copy>(heap: &Heap, alloc: A, json: Global) -> Opt
     Some(is_told && part.len() == 0)
 }
 
-/// Returns whether a view of 3 at a and -1 at az tells what it holds.
+/// Returns whether a view of 3 at a and -1 at az reports what it holds.
 fn view_tells<A: Allocator + Copy>(paths: &Paths<A>, view: &View<A>) -> Option<bool>
     requires { IsFor paths.now view.now }
 {
@@ -69,7 +69,7 @@ fn views_tell<A: Allocator + Copy>(heap: &Heap, alloc: A, json: Global) -> Optio
     Some(is_told && frontier.len() == 0)
 }
 
-/// Gives items from 0 on other numbers, and then takes them out: how many are left.
+/// Gives items other numbers, from item 0 on, then removes them, and returns how many are left.
 fn left_of<A: Allocator + Copy>(
     state: &mut VertexState<A>,
     time: &Timestamp,
@@ -90,7 +90,8 @@ fn vertices_tell<A: Allocator + Copy>(heap: &Heap, alloc: A) -> Option<bool> {
     Some(left == 0)
 }
 
-/// Returns whether two queues from 1, each with one change twice, give it back from both ends.
+/// Returns whether two queues from processor 1, each with the same change twice, return it at both
+/// ends.
 fn queues_give<A: Allocator + Copy>(mesh: &mut Mesh<A>) -> Option<bool> {
     let is_there = len(mesh, 1, 0) == Some(2);
     let oldest = pop(mesh, 1, 0)?;
@@ -126,7 +127,7 @@ fn holding<A: Allocator + Copy>(alloc: A, graph: &Graph<A>, key: &ValueAt) -> Op
     Some(processor)
 }
 
-/// Returns whether a processor tells that it holds these, of records and counts two.
+/// Returns whether a processor reports that it holds these, with two records and a count of two.
 fn processor_tells<A: Allocator + Copy>(processor: &Processor<A>, key: &ValueAt) -> bool {
     let counts = (
         processor.records().count(),
@@ -144,7 +145,7 @@ fn processor_tells<A: Allocator + Copy>(processor: &Processor<A>, key: &ValueAt)
         && (processor.token(0), item(processor)) == (Some(1), Some(3))
 }
 
-/// Takes all of it: whether nothing is left but an entry of what is unsent.
+/// Removes all of it, and returns whether nothing is left except one entry of what is unsent.
 fn gives_up<A: Allocator + Copy>(
     processor: &mut Processor<A>,
     key: &ValueAt,
@@ -178,7 +179,8 @@ fn processors_tell<A: Allocator + Copy>(heap: &Heap, alloc: A, json: Global) -> 
     Some(is_told && is_given)
 }
 
-/// Returns whether the calls of a kind that take no memory answer as they should while none is given.
+/// Returns whether the calls of a kind that take no memory answer correctly while every request is
+/// refused.
 fn answers<A: Allocator + Copy>(heap: &Heap, alloc: A, json: Global, kind: Kind) -> Option<bool> {
     match kind {
         Kind::Changes => changes_tell(heap, alloc, json),

@@ -1,5 +1,5 @@
-//! The candidates of a cluster: the worked example by its name, those of two processors and of a vertex that keeps
-//! capabilities, the first 1,000 of more, and each request for memory refused in turn.
+//! The candidates of a cluster: the worked example by its name, those of two processors and of a vertex that holds
+//! capabilities, the first 1,000 of many, and each request for memory refused in turn.
 
 use crate::graphs::{HELD, LINE, SUM, point};
 use crate::scripts::{
@@ -14,7 +14,7 @@ use std::alloc::{Allocator, Global};
 enum Bar {
     /// This point is in the way of a notice.
     Point(Named),
-    /// The vertex keeps a capability, and is never notified.
+    /// The vertex holds a capability, and is never notified.
     Never,
 }
 
@@ -63,7 +63,7 @@ static OF_HELD: [Row; 3] = [
     (Told::All(0), None),
 ];
 
-/// A capability after all that a run does.
+/// A capability that is left after a run has done everything it can.
 static HELD_IDLE: Script = (
     HELD,
     1,
@@ -141,7 +141,7 @@ fn no_candidates_at_the_start(rt: HostRuntime) {
     );
 }
 
-/// Returns how many candidates a line lists that is fed so many values, and whether there are more.
+/// Returns how many candidates are listed for a line that is fed `count` values, and whether there are more.
 fn listed(alloc: Global, count: i64) -> Option<(usize, bool)> {
     let mut cluster = start(alloc, alloc, LINE, 1)?;
     let mut values = Values::new(alloc);
@@ -171,7 +171,7 @@ fn first_thousand(rt: HostRuntime) {
     }
 }
 
-/// Returns whether the candidates after a script met the request that was refused.
+/// Returns whether the candidates after a script met the refused request.
 fn meets<A: Allocator + Copy>(
     heap: &Refusing<Global>,
     alloc: A,

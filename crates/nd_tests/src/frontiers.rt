@@ -1,5 +1,5 @@
-//! Which times can still arrive at a location, and why a notice waits: the worked examples by their names, loops within
-//! one another, and requests for memory refused in turn.
+//! Which times can still arrive at a location, and why a notice waits: the worked examples by their names, nested
+//! loops, and requests for memory refused in turn.
 
 ghost use Rattle.std.specs.Prelude.{IfSome};
 ghost use Rattle.nd_view.specs.Kept.{IsFor};
@@ -71,7 +71,7 @@ fn frontier_at_the_sink(rt: HostRuntime) {
     assert_eq!(rt; arrive(rt.alloc(), 9, "a", &[]), Some(true));
 }
 
-/// Returns whether nothing arrives at a location that is not there.
+/// Returns whether nothing arrives at a location that does not exist.
 fn nothing_elsewhere(alloc: Global) -> Option<bool> {
     let cluster = reach(alloc, alloc, SUM, 1, &STEPS)?;
     if cluster.n() != 1 {
@@ -86,8 +86,8 @@ fn locations_that_are_not_there(rt: HostRuntime) {
     assert_eq!(rt; nothing_elsewhere(rt.alloc()), Some(true));
 }
 
-/// What is known of a notice of *sum* at epoch 0: whether it was passed and is finished, at the time and before it, and
-/// how many reasons there are; and whether the first reason at the time is the request alone.
+/// What is known about a notice of *sum* at epoch 0: whether it was passed and is finished, at the time and before it,
+/// and how many reasons there are; and whether the first reason at the time is the request alone.
 #[derive(Debug, PartialEq, Eq, Drop)]
 struct Waiting {
     at: (bool, bool, usize),
@@ -95,7 +95,7 @@ struct Waiting {
     is_own_request: bool,
 }
 
-/// Returns what is known of the notice in a cluster.
+/// Returns what is known about the notice in a cluster.
 fn known_of(alloc: Global, cluster: &Cluster) -> Option<Waiting> {
     if cluster.n() != 1 {
         return None;
@@ -122,7 +122,7 @@ fn known_of(alloc: Global, cluster: &Cluster) -> Option<Waiting> {
     })
 }
 
-/// Returns what is known of the notice after some steps, and whether it is enabled.
+/// Returns what is known about the notice after some steps, and whether it is enabled.
 fn after(alloc: Global, steps: &[Told]) -> Option<(Waiting, bool)> {
     let cluster = reach(alloc, alloc, SUM, 1, steps)?;
     let notice = step_of(alloc, cluster.graph(), &Told::Notice(0, "s", &[0]))?;
@@ -166,7 +166,7 @@ fn view_at(alloc: Global, paths: &Paths, points: &[Named]) -> Option<View>
     view(alloc, paths, &change)
 }
 
-/// Returns whether these times can still arrive at a location of two loops within one another.
+/// Returns whether these times can still arrive at a location of two nested loops.
 fn arrive_in_loops(alloc: Global, points: &[Named], name: &str, times: &[Numbers]) -> Option<bool> {
     let paths = paths_of(alloc, alloc, NESTED_LOOP)?;
     let location = paths.graph().location_of(name)?;
@@ -178,8 +178,8 @@ fn arrive_in_loops(alloc: Global, points: &[Named], name: &str, times: &[Numbers
 /// Points of *nested-loop*, a location, and the times that can still arrive there.
 type Arrival = (&'static [Named], &'static str, &'static [Numbers]);
 
-/// Later epochs with smaller counters are apart; a point round the inner loop comes before one that is yet to enter it;
-/// and a counter at its limit is one more past the feedback.
+/// Later epochs with smaller counters are apart; a point around the inner loop comes before one that has yet to enter
+/// it; and a counter at its limit is one more after the feedback.
 static ARRIVALS: [Arrival; 10] = [
     (&[("a", &[2])], "m", &[&[2, 0]]),
     (&[("a", &[2])], "e", &[&[2, 0, 1]]),
@@ -236,7 +236,7 @@ enum Call {
     WhyBefore,
 }
 
-/// Returns whether a query met the request for memory that was refused, and left the cluster as it was.
+/// Returns whether a query met the refused request for memory, and left the cluster unchanged.
 fn meets<A: Allocator + Copy>(
     heap: &Refusing<Global>,
     alloc: A,

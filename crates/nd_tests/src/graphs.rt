@@ -99,7 +99,7 @@ pub const FILTER: &str = graph_text!(
     am: a 0 -> m local, mb: m 0 -> b local, bz: b 0 -> z local
 );
 
-/// A vertex that keeps a capability at each time at which it got a record.
+/// A vertex that holds a capability at each time at which it got a record.
 pub const HELD: &str = graph_text!(
     a input 0, h hold 0, z sink 0; ah: a 0 -> h local, hz: h 0 -> z local
 );
@@ -112,7 +112,7 @@ pub const HELD_INSIDE: &str = graph_text!(
 /// A loop that goes through no feedback.
 pub const CYCLE: &str = graph_text!(a input 0, m add 0 k 0; am: a 0 -> m local, mm: m 0 -> m local);
 
-/// A line of 32 vertices, with an edge more to the last: 64 locations.
+/// A line of 32 vertices, with one more edge to the last: 64 locations.
 pub const LONG: &str = graph_text!(
             v0 input 0, v1 add 0 k 0, v2 add 0 k 0, v3 add 0 k 0, v4 add 0 k 0, v5 add 0 k 0,
             v6 add 0 k 0, v7 add 0 k 0, v8 add 0 k 0, v9 add 0 k 0, v10 add 0 k 0, v11 add 0 k 0,

@@ -10,7 +10,7 @@ use nd_time::Timestamp;
 use nd_vertex::VertexState;
 use std::alloc::{AllocError, Allocator};
 
-/// Gives an item a number that is not 0, or `None` if it is.
+/// Sets the number of an item; `None` if the number is 0.
 pub fn set<A: Allocator + Copy>(
     state: &mut VertexState<A>,
     time: &Timestamp,
@@ -24,7 +24,7 @@ pub fn set<A: Allocator + Copy>(
     Some(state.set(time, item, old, number))
 }
 
-/// Moves the token of the first vertex from where it is.
+/// Moves the token of the first vertex from its present epoch.
 pub fn move_token<A: Allocator + Copy>(
     processor: &mut Processor<A>,
     new: Option<u32>,
@@ -42,7 +42,7 @@ pub fn item<A: Allocator + Copy>(processor: &Processor<A>) -> Option<i64> {
     processor.vertex_state(1).get(&time(&[0])?, 7)
 }
 
-/// Gives that item another number. `None` if that is 0, or there is no such vertex.
+/// Sets the number of that item. `None` if the number is 0, or if there is no such vertex.
 pub fn set_item<A: Allocator + Copy>(
     processor: &mut Processor<A>,
     new: Option<i64>,
@@ -55,7 +55,7 @@ pub fn set_item<A: Allocator + Copy>(
     Some(processor.set_item(1, &time, 7, old, new))
 }
 
-/// Takes all that is unsent out.
+/// Removes and returns all that is unsent.
 #[tactic(auto, using(crate::proofs::Parts::is_all, crate::proofs::Parts::all_apart))]
 pub fn take_all<A: Allocator + Copy>(processor: &mut Processor<A>, alloc: A) -> Option<Delta<A>>
     ensures { IfSome result (λ d. IsApart d processor.new.unsent) }

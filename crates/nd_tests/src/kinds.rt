@@ -1,4 +1,4 @@
-//! What the tests of memory go over.
+//! The kinds of values in the tests of memory.
 
 /// What is called, copied, or made large.
 #[derive(Debug, Clone, Copy, Drop)]

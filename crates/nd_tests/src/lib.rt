@@ -1,7 +1,7 @@
 //! Tests that cross the crates from timestamps to sessions: worked examples by their names, a view's counts
-//! against counts over all points, each request for memory refused in turn, calls that take none, and calls
-//! with ample memory, on nothing and on hundreds; workers and clients in threads. One crate, since each crate of
-//! tests reads all that it stands on.
+//! against counts over all points, each request for memory refused in turn, calls that take no memory, calls
+//! with ample memory, on empty values and on hundreds of entries, and workers and clients in threads. They are
+//! one crate, since each crate of tests loads everything that it depends on.
 #![tactic(auto)]
 
 #[cfg(test)]

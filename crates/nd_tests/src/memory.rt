@@ -17,12 +17,12 @@ type Heap = Refusing<Global>;
 /// A feed of a value.
 const FEED: Asked = Asked::Forward(Told::Feed(0, "a", &[5], Next::Next));
 
-/// What a command is answered with ample memory.
+/// The answer to a command with ample memory.
 #[derive(Drop)]
 enum Wanted {
     /// The cursor, and how many steps are kept.
     Moved(u64, u64),
-    /// A run that was idle after so many steps, behind a feed.
+    /// A run that was idle after this many steps, after a feed.
     Idle(u64),
     Set,
     Cleared,
@@ -47,7 +47,7 @@ fn reply_of(wanted: &Wanted) -> Reply {
     }
 }
 
-/// What is asked before, a command, and what it is answered with ample memory.
+/// The commands before, a command, and its answer with ample memory.
 type Row = (&'static [Asked], Asked, Wanted);
 
 /// A command of each kind.
@@ -68,7 +68,7 @@ static ROWS: [Row; 10] = [
     (&[], Asked::Back, Wanted::AtStart),
 ];
 
-/// Gives a command, which is answered.
+/// Issues a command, which is answered.
 fn give<A: Allocator + Copy, R: Wait>(
     rt: &R,
     json: Global,
@@ -82,7 +82,7 @@ fn give<A: Allocator + Copy, R: Wait>(
     Some(())
 }
 
-/// Returns a session of the line, and a client of it that has given these commands.
+/// Returns a session of the line, and a client of it that has issued these commands.
 fn driven<A: Allocator + Copy, R: Wait>(
     rt: &R,
     json: Global,
@@ -109,8 +109,8 @@ fn are_equal<A: Allocator + Copy>(
     Some(is_there && is_kept && is_state(json, after.cluster(), text.as_str()))
 }
 
-/// Returns whether the answer is one that may be given: the one with ample memory, or out of memory in a step that is logged, with
-/// the cursor where the snapshot has it.
+/// Returns whether the answer is allowed: the one with ample memory, or out of memory in a step that is logged, with the cursor
+/// where the snapshot has it.
 fn may_answer<A: Allocator + Copy>(
     receipt: &Receipt<A>,
     met: bool,
@@ -128,7 +128,7 @@ fn wants_memory<T, A: Allocator>(answer: &Result<T, SessionFault<A>>) -> bool {
     matches!(answer, Err(SessionFault::Memory))
 }
 
-/// Returns a command with one request refused: whether it met it.
+/// Issues a command with one request refused, and returns whether the command met it.
 ///
 /// Then nothing is logged, or the answer is; and in both cases the session closes with the client's receipts.
 fn commanded<A: Allocator + Copy, R: Wait>(
@@ -163,7 +163,7 @@ fn commanded<A: Allocator + Copy, R: Wait>(
     }
 }
 
-/// Returns a command with each request refused in turn: how many were.
+/// Issues a command with each request refused in turn, and returns how many were refused.
 fn commanded_in_turn<A: Allocator + Copy, R: Wait>(
     rt: &R,
     heap: &Heap,
@@ -190,7 +190,7 @@ fn command_out_of_memory(rt: HostRuntime) {
     assert_eq!(rt; heap.live(), 0);
 }
 
-/// Returns an entry with one request refused: whether it met it. The next number is the one that was due.
+/// Enters with one request refused, and returns whether the call met it. The next client gets the number that was due.
 fn enters<A: Allocator + Copy, R: Wait>(
     rt: &R,
     heap: &Heap,
@@ -212,7 +212,7 @@ fn enters<A: Allocator + Copy, R: Wait>(
     if is_right { Some(met) } else { None }
 }
 
-/// Returns a copy with one request refused: whether it met it. Nothing is logged.
+/// Copies with one request refused, and returns whether the call met it. Nothing is logged.
 fn copied<A: Allocator + Copy, R: Wait>(
     rt: &R,
     heap: &Heap,
@@ -238,7 +238,8 @@ fn copied<A: Allocator + Copy, R: Wait>(
     }
 }
 
-/// Returns a stranger's command with one request refused: whether it met it. It is told the entry, or out of memory.
+/// Issues an unknown client's command with one request refused, and returns whether the command met it. The answer is the entry,
+/// or out of memory.
 fn refused<A: Allocator + Copy, R: Wait>(
     rt: &R,
     heap: &Heap,
@@ -259,7 +260,7 @@ fn refused<A: Allocator + Copy, R: Wait>(
     }
 }
 
-/// Returns whether each of these calls meets requests that are refused.
+/// Returns whether each of these calls meets refused requests.
 fn calls_in_turn<A: Allocator + Copy, R: Wait>(
     rt: &R,
     heap: &Heap,
@@ -292,7 +293,7 @@ fn calls_out_of_memory(rt: HostRuntime) {
     assert_eq!(rt; heap.live(), 0);
 }
 
-/// Gives a `State` a command, which is answered.
+/// Issues a command to a `State`, which answers it.
 fn tell<A: Allocator + Copy>(
     json: Global,
     alloc: A,
@@ -304,7 +305,8 @@ fn tell<A: Allocator + Copy>(
     Some(())
 }
 
-/// Returns a `State`'s command with one request refused: whether it met it. Then nothing is logged, or the answer is.
+/// Issues a command to a `State` with one request refused, and returns whether the command met it. Then nothing is logged, or the
+/// answer is.
 fn applied<A: Allocator + Copy>(
     heap: &Heap,
     json: Global,
@@ -335,7 +337,7 @@ fn applied<A: Allocator + Copy>(
     }
 }
 
-/// Returns a `State`'s command with each request refused in turn: how many were.
+/// Issues a command to a `State` with each request refused in turn, and returns how many were refused.
 fn applied_in_turn<A: Allocator + Copy>(
     heap: &Heap,
     json: Global,
@@ -356,7 +358,7 @@ fn apply_out_of_memory(rt: HostRuntime) {
     assert_eq!(rt; heap.live(), 0);
 }
 
-/// Returns whether a copy of a receipt met the request that was refused.
+/// Returns whether a copy of a receipt met the refused request.
 fn meets_copy<A: Allocator + Copy>(
     heap: &Heap,
     json: Global,

@@ -32,7 +32,7 @@ pub fn only(atom: Atom) -> Condition {
     Condition::new(Quantifier::All, Literal::Is(atom))
 }
 
-/// Returns the command that is told.
+/// Returns the command of this description.
 pub fn command_of<A: Allocator + Copy>(
     alloc: A,
     graph: &Graph<A>,
@@ -63,7 +63,7 @@ pub fn command_of<A: Allocator + Copy>(
     }
 }
 
-/// Returns the `State` of a start.
+/// Returns the `State` of an initial state.
 pub fn opened<A: Allocator + Copy>(json: Global, alloc: A, text: &str, n: u32) -> Option<State<A>> {
     let graph = graph_of(json, alloc, text)?;
     let Ok(cluster) = Cluster::start(alloc, graph, n) else {
@@ -78,7 +78,7 @@ pub fn opened<A: Allocator + Copy>(json: Global, alloc: A, text: &str, n: u32) -
     Some(state)
 }
 
-/// Returns a session of a start.
+/// Returns a session of an initial state.
 pub fn session_of<A: Allocator + Copy>(
     json: Global,
     alloc: A,

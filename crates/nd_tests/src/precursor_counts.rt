@@ -1,4 +1,5 @@
-//! What views keep: a worked example by its name, and precursor counts against a count over all points.
+//! What views store: a worked example by its name, and precursor counts against a count over all
+//! points.
 
 ghost use Rattle.nd_view.specs.Kept.{IsFor};
 
@@ -41,13 +42,13 @@ fn points_of(alloc: Global, graph: &Graph) -> Option<Vec<Pointstamp>> {
     Some(points)
 }
 
-/// Returns the number that comes after another in a fixed sequence without a visible rule.
+/// Returns the next number of a fixed sequence without a visible rule.
 fn next(seed: u64) -> u64 {
     seed.wrapping_mul(6_364_136_223_846_793_005)
         .wrapping_add(1_442_695_040_888_963_407)
 }
 
-/// Returns a change of one to three points, by from 2 less to 2 more.
+/// Returns a change of one to three points, each by -2 to 2.
 fn drawn(alloc: Global, points: &[Pointstamp], mut seed: u64) -> Option<Delta> {
     let mut change = Delta::new(alloc);
     for _ in 0..seed >> 40 & 3 {
@@ -85,7 +86,7 @@ fn counted(
     count
 }
 
-/// Returns whether what a view tells of a point is what a count over all points tells.
+/// Returns whether a view's answers about a point equal those of a count over all points.
 fn tells_of(
     view: &View,
     paths: &Paths,
@@ -108,7 +109,7 @@ fn tells_of(
         && view.blocker_before(paths, point).is_none() == (count == 0)
 }
 
-/// Returns whether it is so at each point.
+/// Returns whether this holds at each point.
 fn tells_all(alloc: Global, view: &View, paths: &Paths, points: &[Pointstamp]) -> bool
     requires { IsFor paths.now view.now }
 {
@@ -123,7 +124,7 @@ fn tells_all(alloc: Global, view: &View, paths: &Paths, points: &[Pointstamp]) -
     true
 }
 
-/// Changes a view so many times, and asks it after each.
+/// Changes a view `times` times, and checks it after each change.
 fn mixed(alloc: Global, paths: &Paths, times: usize) -> Option<usize> {
     let points = points_of(alloc, paths.graph())?;
     let mut view = View::new(alloc);
@@ -168,7 +169,7 @@ fn has_entries(
     )
 }
 
-/// Returns whether a view on *line* keeps these precursor counts for the edge and for the input.
+/// Returns whether a view on *line* stores these precursor counts for the edge and for the input.
 fn keeps(view: &View, paths: &Paths, edge: u64, input: Option<u64>) -> Option<bool>
     requires { IsFor paths.now view.now }
 {

@@ -4,7 +4,7 @@ use nd_delta::Delta;
 use nd_mesh::{Mesh, PushFault};
 use std::alloc::Allocator;
 
-/// Puts a change into each queue from a processor, `None` if there is no such one.
+/// Puts a change into each queue from a processor, `None` if there is no such processor.
 pub fn push<A: Allocator + Copy>(
     mesh: &mut Mesh<A>,
     from: usize,
@@ -26,7 +26,7 @@ pub fn unpush<A: Allocator + Copy>(mesh: &mut Mesh<A>, from: usize) -> Option<bo
     }
 }
 
-/// Takes the oldest change out of a queue, if there is one.
+/// Removes and returns the oldest change of a queue, if there is one.
 pub fn pop<A: Allocator + Copy>(mesh: &mut Mesh<A>, from: usize, to: usize) -> Option<Delta<A>> {
     if from < mesh.n() && to < mesh.n() {
         mesh.pop(from, to).ok()
@@ -35,7 +35,7 @@ pub fn pop<A: Allocator + Copy>(mesh: &mut Mesh<A>, from: usize, to: usize) -> O
     }
 }
 
-/// Puts a change at the front of a queue, `None` if there is no such one.
+/// Puts a change at the front of a queue, `None` if there is no such queue.
 pub fn unpop<A: Allocator + Copy>(
     mesh: &mut Mesh<A>,
     from: usize,

@@ -1,5 +1,5 @@
-//! Each request for memory of a call refused in turn: the call answers out of memory and leaves its
-//! values as they were, until it meets none that is refused, and succeeds.
+//! Each request for memory of a call refused in turn: the call returns out of memory and leaves its values unchanged,
+//! until it meets no refused request and succeeds.
 
 ghost use Rattle.nd_vertex.specs.Edits.{CanEdit};
 
@@ -21,7 +21,7 @@ use std::alloc::{AllocError, Allocator, Global};
 /// The allocator of these tests.
 pub type Heap = Refusing<Global>;
 
-/// A call that takes memory, or one of which some arguments take none.
+/// A call that takes memory for all or for some of its arguments.
 #[derive(Debug, Clone, Copy, Drop)]
 enum Call {
     ReadDraft,
@@ -108,7 +108,7 @@ static CALLS: [(Call, bool); 39] = [
     (Call::PutPart, true),
 ];
 
-/// Returns whether a call on graphs met the request that was refused.
+/// Returns whether a call on graphs met the refused request.
 fn graphs<A: Allocator + Copy>(
     heap: &Heap,
     alloc: A,
@@ -158,7 +158,7 @@ fn changes<A: Allocator + Copy>(
 ) -> Option<bool> {
     let (a, az) = (point(graph, "a", &[0])?, point(graph, "az", &[0])?);
     let whole = change(alloc, graph, &[("a", 0, 1), ("z", 0, 1)])?;
-    // a copy has room for no entry more
+    // a copy has room for no more entries
     let mut one = whole.copy(alloc).ok()?;
     let other = change(alloc, graph, &[("az", 0, 1)])?;
     match call {
@@ -227,7 +227,7 @@ fn queues<A: Allocator + Copy>(
     }
 }
 
-/// Returns what a vertex keeps that has the items below a number at epoch 0: 12 are more than one node of a tree holds.
+/// Returns the state of a vertex with the items below `count` at epoch 0; 12 are more than one node of a tree holds.
 pub fn many<A: Allocator + Copy>(alloc: A, count: i64) -> Option<VertexState<A>> {
     let mut state = VertexState::new(alloc);
     let time = time(&[0])?;
@@ -237,7 +237,7 @@ pub fn many<A: Allocator + Copy>(alloc: A, count: i64) -> Option<VertexState<A>>
     Some(state)
 }
 
-/// Does the same for the edits of an effect, made or taken back. If that takes memory there is no item before it.
+/// Does the same for the edits of an effect, applied or undone. If that takes memory, there is no item before it.
 fn edits<A: Allocator + Copy>(
     heap: &Heap,
     alloc: A,
@@ -291,7 +291,7 @@ fn full_vertices<A: Allocator + Copy>(heap: &Heap, alloc: A, call: Call, n: u64)
     edits(heap, alloc, &mut state, &effect, call, n)
 }
 
-/// Does the same for a call on a whole processor.
+/// Does the same for a call on a complete processor.
 fn processors<A: Allocator + Copy>(
     heap: &Heap,
     alloc: A,
@@ -338,7 +338,7 @@ fn additions<A: Allocator + Copy>(
     }
 }
 
-/// Does the same for all that is unsent, taken out and put back.
+/// Does the same for all that is unsent, removed and put back.
 fn parts<A: Allocator + Copy>(
     heap: &Heap,
     alloc: A,
@@ -361,7 +361,7 @@ fn unsent<A: Allocator + Copy>(alloc: A, graph: &Graph<A>) -> Option<Processor<A
     Some(processor)
 }
 
-/// Returns whether a call met the request that was refused. `None` if it answered or left what it should not.
+/// Returns whether a call met the refused request. Returns `None` if its answer, or what it left, is wrong.
 fn meets<A: Allocator + Copy>(
     heap: &Heap,
     alloc: A,

@@ -1,4 +1,4 @@
-//! Clusters and steps told by the names of locations, for tests.
+//! Clusters and steps described by the names of locations, for tests.
 
 use crate::graphs::{HELD, SUM, graph_of, point, time};
 use nd_cluster::{Cluster, Next, Part, Points, Step, Values};
@@ -15,20 +15,20 @@ pub enum Told {
     Take(u32, &'static str, &'static [u32], i64),
     /// The time of the notice.
     Notice(u32, &'static str, &'static [u32]),
-    /// The time of the capability that is given up, and the later time to which it moves, if it does.
+    /// The time of the capability that is dropped, and the later time to which it moves, if it does.
     Release(u32, &'static str, &'static [u32], Option<&'static [u32]>),
     /// The broadcast of all that is unsent.
     All(u32),
     /// The points whose entries are broadcast.
     Points(u32, &'static [Named]),
-    /// From whom and to whom a change is received.
+    /// The sender and the receiver of a change.
     Receive(u32, u32),
 }
 
 /// A point: the name of its location, and its time.
 pub type Named = (&'static str, &'static [u32]);
 
-/// A graph, the number of processors, and steps from the start on.
+/// A graph, the number of processors, and steps from the initial state on.
 pub type Script = (&'static str, u32, &'static [Told]);
 
 /// A sum whose notice is enabled after two receives.
@@ -48,7 +48,7 @@ pub const SUM_NOTIFIED: Script = (
     ],
 );
 
-/// A record behind which a capability is kept.
+/// A record that is taken, after which a capability is held.
 pub const HELD_TAKEN: Script = (
     HELD,
     1,
@@ -69,7 +69,7 @@ pub const HELD_MOVED: Script = (
     ],
 );
 
-/// Returns the start of a cluster of n processors.
+/// Returns the initial state of a cluster of n processors.
 pub fn start<A: Allocator + Copy>(
     json: Global,
     alloc: A,
@@ -98,7 +98,7 @@ pub fn processors_of<A: Allocator>(alloc: A, list: &[u32]) -> Option<Processors<
     Some(processors)
 }
 
-/// Returns the times of a capability that is given up or moves.
+/// Returns the times of a capability that is dropped or moves.
 pub fn times_of(list: &[u32], to: &Option<&'static [u32]>) -> Option<Times> {
     let to = match to {
         Some(to) => Some(time(to)?),
@@ -119,7 +119,7 @@ fn part_of<A: Allocator + Copy>(alloc: A, graph: &Graph<A>, list: &[Named]) -> O
     Some(Part::Points(points))
 }
 
-/// Returns the step that is told.
+/// Returns the step of this description.
 pub fn step_of<A: Allocator + Copy>(alloc: A, graph: &Graph<A>, told: &Told) -> Option<Step<A>> {
     match told {
         Told::Feed(p, name, list, next) => Some(Step::Feed {
@@ -159,7 +159,7 @@ pub fn step_of<A: Allocator + Copy>(alloc: A, graph: &Graph<A>, told: &Told) -> 
     }
 }
 
-/// Makes a step.
+/// Executes a step.
 pub fn make<A: Allocator + Copy>(cluster: &mut Cluster<A>, step: &Step<A>) -> Option<()> {
     let record = cluster.plan(step).ok()?;
     cluster.commit(&record).ok()

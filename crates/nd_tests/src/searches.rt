@@ -1,4 +1,5 @@
-//! Searches of timelines and of snapshots: the worked ones, how the pieces are claimed, and each request for memory refused in turn.
+//! Searches of timelines and of snapshots: the worked examples, how the pieces are claimed, and each request for memory refused
+//! in turn.
 
 use crate::graphs::{LINE, point};
 use crate::opened::only;
@@ -20,7 +21,7 @@ type Heap = Refusing<Global>;
 /// A feed of nothing.
 static NOTHING: Told = Told::Feed(0, "a", &[], Next::Next);
 
-/// Forwards a step so many times.
+/// Executes a step a number of times.
 fn forward<A: Allocator + Copy>(
     alloc: A,
     timeline: &mut Timeline<A>,
@@ -34,8 +35,8 @@ fn forward<A: Allocator + Copy>(
     Some(())
 }
 
-/// The timeline of a line, its cursor at the end of what is kept: so many feeds of nothing, a feed of
-/// the value, its take, and again so many feeds of nothing.
+/// Returns the timeline of a line, with the cursor at the end of the kept steps: a number of feeds of nothing, a feed of the
+/// value, its take, and again a number of feeds of nothing.
 fn kept<A: Allocator + Copy>(
     json: Global,
     alloc: A,
@@ -65,7 +66,7 @@ fn fed<A: Allocator + Copy>(
     Snapshot::of(alloc, &timeline, 0).ok()
 }
 
-/// Returns the condition that holds if a location has a count of 1 at least at an epoch.
+/// Returns the condition that holds if a location has a count of at least 1 at an epoch.
 fn count<A: Allocator + Copy>(snapshot: &Snapshot<A>, name: &str, epoch: u32) -> Option<Condition> {
     Some(only(Atom::Count {
         point: point(snapshot.cluster().graph(), name, &[epoch])?,
@@ -119,7 +120,7 @@ fn searches(rt: HostRuntime) -> Result<(), Fail> {
     Ok(())
 }
 
-/// Who came to each of two pieces, counted from 1; 0 if nobody did.
+/// Which worker reached each of two pieces, counted from 1; 0 if none did.
 #[derive(Drop)]
 struct Recorded([AtomicU64; 2]);
 
@@ -128,7 +129,7 @@ impl Recorded {
         Recorded([AtomicU64::new(0), AtomicU64::new(0)])
     }
 
-    /// Returns whether this worker came to this piece.
+    /// Returns whether this worker reached this piece.
     fn has(&self, who: u64, piece: u64) -> bool {
         let one = self.0.get(piece as usize);
         one.is_some_and(|by| by.load(Ordering::SeqCst) == who.wrapping_add(1))
@@ -172,7 +173,7 @@ fn at_the_same_time(rt: HostRuntime) -> Result<(), Fail> {
     Ok(())
 }
 
-/// Counts the calls, and those of a worker or a piece that is not there.
+/// Counts the calls, and those for a worker or a piece that does not exist.
 #[derive(Drop)]
 struct Counted {
     workers: u64,
@@ -250,8 +251,8 @@ fn are_below<A: Allocator>(alloc: Global, lists: &[Vec<u64, A>]) -> Option<bool>
     Some(true)
 }
 
-/// Returns whether each worker called the gate for each piece that it claimed. A piece whose walk was refused memory counts
-/// too, so the call came before the walk ended.
+/// Returns whether each worker called the gate for each piece that it claimed. A piece whose walk ran out of memory counts too,
+/// so the call came before the walk ended.
 fn were_called<A: Allocator>(gate: &Recorded, lists: &[Vec<u64, A>]) -> bool {
     for (who, list) in lists.iter().enumerate() {
         for piece in list {
@@ -263,16 +264,15 @@ fn were_called<A: Allocator>(gate: &Recorded, lists: &[Vec<u64, A>]) -> bool {
     true
 }
 
-/// Returns whether a list ends with the piece, and no hit lies before it.
+/// Returns whether a list ends with the piece, and no hit is before it.
 fn is_stopped_in<A: Allocator>(piece: u64, lists: &[Vec<u64, A>], hit: Option<u64>) -> bool {
     let is_last = lists.iter().any(|list| list.last() == Some(&piece));
     is_last && hit.is_none_or(|position| position / 16 >= piece)
 }
 
-/// Returns a search by two workers with one request refused: whether it met it, and whether a worker did.
+/// Searches with two workers and one request refused, and returns whether the search met it, and whether a worker did.
 ///
-/// `None` for an answer that is not the one with ample memory and not out of memory, and if a block
-/// stays.
+/// Returns `None` if the answer is neither the one with ample memory nor out of memory, and if a block is not freed.
 fn searched<A: Allocator + Copy + Send + Sync, R: Threads + Sync>(
     rt: &R,
     heap: &Heap,
@@ -305,7 +305,7 @@ fn searched<A: Allocator + Copy + Send + Sync, R: Threads + Sync>(
     }
 }
 
-/// Returns a search with each request refused in turn: how often one was, and how often in a walk.
+/// Searches with each request refused in turn, and returns how often one was refused, and how often in a walk.
 fn searched_in_turn<A: Allocator + Copy + Send + Sync, R: Threads + Sync>(
     rt: &R,
     heap: &Heap,
@@ -334,7 +334,8 @@ fn at_either_end<A: Allocator + Copy>(json: Global, alloc: A, is_end: bool) -> O
     Snapshot::of(alloc, &timeline, 0).ok()
 }
 
-/// Returns whether each search answers as it may, whichever request is refused, and the walks from the start met some.
+/// Returns whether each search gives an allowed answer, whichever request is refused, and whether the walks from the start met
+/// some.
 fn searches_in_turn<A: Allocator + Copy + Send + Sync, R: Threads + Sync>(
     rt: &R,
     heap: &Heap,
@@ -360,7 +361,7 @@ fn search_out_of_memory(rt: HostRuntime) {
     assert_eq!(rt; heap.live(), 0);
 }
 
-/// Refuses the next request for memory when the gate is called for piece 0, and records which worker came to which piece.
+/// Refuses the next request for memory when the gate is called for piece 0, and records which worker reached which piece.
 #[derive(Drop)]
 struct Refuses<'a>(&'a Heap, Recorded);
 
@@ -406,7 +407,7 @@ fn the_gate_is_called_before_the_walk(rt: HostRuntime) {
     assert_eq!(rt; heap.live(), 0);
 }
 
-/// Returns whether making a snapshot, or a copy of one, met the request that was refused.
+/// Returns whether making a snapshot, or a copy of one, met the refused request.
 fn meets<A: Allocator + Copy>(
     heap: &Heap,
     json: Global,
@@ -424,7 +425,7 @@ fn meets<A: Allocator + Copy>(
     }
 }
 
-/// Returns how many requests were refused before it met none.
+/// Returns how many requests were refused before the call met none.
 fn snapshots<A: Allocator + Copy>(
     heap: &Heap,
     json: Global,

@@ -1,4 +1,4 @@
-//! Sessions: clients in threads, strangers, openings, and a search beside a command.
+//! Sessions: clients in threads, unknown clients, openings, and a search beside a command.
 
 use crate::equal_graphs::are_same;
 use crate::graphs::{
@@ -24,7 +24,7 @@ use std::test::Fail;
 use std::thread;
 use std::thread::Threads;
 
-/// So many feeds of nothing on a line.
+/// Returns `times` feeds of nothing on a line.
 fn feeds(alloc: Global, times: u64) -> Option<Vec<Command>> {
     let graph = graph_of(alloc, alloc, LINE)?;
     let mut commands = Vec::new(alloc);
@@ -41,7 +41,7 @@ struct Served {
     is_whole: bool,
 }
 
-/// Gives a client's commands in order, until one is refused.
+/// Issues a client's commands in order, until one is refused.
 fn serve<R: Wait>(
     rt: &R,
     alloc: Global,
@@ -63,7 +63,7 @@ fn serve<R: Wait>(
     }
 }
 
-/// Returns whether so many entries are a client's, in its order.
+/// Returns whether `count` entries are a client's, in its order.
 fn are_numbered(entries: &[Receipt], client: u64, count: usize) -> bool {
     let own = entries.iter().filter(|entry| entry.client == client);
     for (number, entry) in own.enumerate() {
@@ -151,7 +151,7 @@ fn of_copies(alloc: Global, cluster: &Cluster) -> Option<Cluster> {
     Cluster::of_parts(alloc, cluster.graph(), paths, processors, views, mesh)
 }
 
-/// Returns whether a change and what a vertex keeps are copied as they are.
+/// Returns whether the copies of a change and of a vertex's state are equal to them.
 fn copies_of_maps(alloc: Global, cluster: &Cluster) -> Option<bool> {
     let _ = cluster.n();
     let unsent = cluster.processor(0).unsent();
@@ -165,8 +165,8 @@ fn copies_of_maps(alloc: Global, cluster: &Cluster) -> Option<bool> {
     Some(copy.len() > 0 && copy.entries() == whole.entries() && copied.get(&zero, 7) == Some(2))
 }
 
-/// Returns whether what a session leaves is copied as it is: its cluster and the parts of that, a kept step, a planned record and a
-/// receipt.
+/// Returns whether the copies of what a session leaves are equal: of its cluster and its parts, a kept step, a planned record and
+/// a receipt.
 fn copies(alloc: Global, log: &Log) -> Option<bool> {
     let cluster = log.timeline.cluster();
     let text = state_text(alloc, cluster)?;
@@ -187,7 +187,7 @@ fn copies(alloc: Global, log: &Log) -> Option<bool> {
     )
 }
 
-/// Returns whether a call is answered 26 with this index, and with this entry or none.
+/// Returns whether a call fails with error 26, this index, and this entry or none.
 fn is_stranger<T: Drop>(
     answer: Result<T, SessionFault>,
     wanted: u64,
@@ -253,7 +253,7 @@ static STARTS: [&str; 12] = [
     EMPTY,
 ];
 
-/// Returns whether the first copy from a session is of the start.
+/// Returns whether the first copy from a session is of the initial state.
 fn opens<R: Wait>(rt: &R, alloc: Global, text: &str, n: u32) -> Option<bool> {
     let started = start(alloc, alloc, text, n)?;
     let session = session_of(alloc, alloc, text, n)?;
@@ -297,7 +297,7 @@ fn sixty_four_clients(rt: HostRuntime) -> Result<(), Fail> {
 /// The most entries of a log.
 const MOST: u64 = 1_000_000;
 
-/// Returns whether so many commands are answered and logged.
+/// Returns whether `times` commands are answered and logged.
 fn answers_backs(alloc: Global, times: u64) -> Option<bool> {
     let mut state = opened(alloc, alloc, LINE, 1)?;
     for _ in 0..times {
@@ -319,7 +319,7 @@ fn a_log_is_full(rt: HostRuntime) {
     assert_eq!(rt; answers_backs(rt.alloc(), MOST), Some(true));
 }
 
-/// Tells that a search has begun, and holds it until a command is answered.
+/// Signals that a search has begun, and holds it until a command is answered.
 #[derive(Drop)]
 struct Between<'a, R: Clock> {
     begun: Sign<'a, R>,
@@ -333,7 +333,7 @@ impl<R: Clock + Sync> Gate for Between<'_, R> {
     }
 }
 
-/// Returns what a client finds in a copy of its own.
+/// Returns what a client finds in its own copy.
 fn found<R: Wait + Threads + Sync, G: Gate>(
     rt: &R,
     alloc: Global,
@@ -346,7 +346,7 @@ fn found<R: Wait + Threads + Sync, G: Gate>(
     search(rt, alloc, &snapshot, condition, 0, snapshot.kept(), 2, gate).ok()
 }
 
-/// A command of another client, once the search has begun.
+/// Issues a command of another client after the search has begun.
 fn answered<R: Wait + Clock>(
     rt: &R,
     alloc: Global,

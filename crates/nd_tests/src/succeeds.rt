@@ -1,5 +1,6 @@
-//! Calls with ample memory, on nothing and on hundreds, on the empty graph and on 64 locations; and copies, which
-//! take their memory, and that of all that grows from them, where the caller said.
+//! Calls with ample memory, on empty values and on hundreds of entries, on the empty graph and on 64 locations; and
+//! copies, which take their memory, and that of everything that grows from them, from the allocator that the caller
+//! gives.
 
 ghost use Rattle.nd_view.specs.Kept.{IsFor};
 
@@ -20,7 +21,7 @@ use nd_vertex::VertexState;
 use nd_view::View;
 use std::alloc::{Allocator, Global};
 
-/// Adds 1 at so many points of *loop*, none of them before another.
+/// Adds 1 at a number of points of *loop*, none of them before another.
 fn add_spread<A: Allocator + Copy>(
     change: &mut Delta<A>,
     graph: &Graph<A>,
@@ -63,7 +64,7 @@ fn changes<A: Allocator + Copy>(
     unasked!(first: grows(there, &graph, &base))
 }
 
-/// Returns whether a copy of a view of this change lists it as the frontier, takes it back and has it again.
+/// Returns whether a copy of a view of this change lists it as the frontier, undoes it and applies it again.
 fn returns<A: Allocator + Copy>(
     alloc: A,
     paths: &Paths<A>,
@@ -94,7 +95,7 @@ fn views<A: Allocator + Copy>(
     Some(unasked!(first: returns(there, &paths, &base, &news)?))
 }
 
-/// Returns whether a copy of what a vertex keeps gives it up at a notice, and has it again and an item more.
+/// Returns whether a copy of a vertex's state loses its items at a notice, and gets them back and one more item.
 fn notices<A: Allocator + Copy>(alloc: A, base: &VertexState<A>, count: u32) -> Option<bool> {
     let time = time(&[0])?;
     let mut copy = base.copy(alloc).ok()?;
@@ -112,7 +113,7 @@ fn vertices<A: Allocator + Copy>(first: &Heap, here: A, there: A, count: u32) ->
     unasked!(first: notices(there, &base, count))
 }
 
-/// Puts so many changes into each queue from 0.
+/// Puts a number of changes into each queue from 0.
 fn push_times<A: Allocator + Copy>(
     mesh: &mut Mesh<A>,
     change: &Delta<A>,
@@ -124,14 +125,14 @@ fn push_times<A: Allocator + Copy>(
     Some(())
 }
 
-/// Takes the oldest change out of a queue and puts it back: how many there are then.
+/// Removes the oldest change of a queue, puts it back, and returns how many there are then.
 fn put_back<A: Allocator + Copy>(mesh: &mut Mesh<A>) -> Option<usize> {
     let oldest = pop(mesh, 0, 1)?;
     unpop(mesh, 0, 1, oldest)?.ok()?;
     len(mesh, 0, 1)
 }
 
-/// Returns how many changes a queue of a copy has once it has ten more.
+/// Returns how many changes a queue of a copy has after ten more were added.
 fn ten_more<A: Allocator + Copy>(alloc: A, base: &Mesh<A>, change: &Delta<A>) -> Option<usize> {
     let mut copy = base.copy(alloc).ok()?;
     push_times(&mut copy, change, 10)?;
@@ -161,13 +162,13 @@ fn add_at<A: Allocator + Copy>(processor: &mut Processor<A>, key: &ValueAt) -> O
     processor.add_unsent(&key.point, 1).ok()
 }
 
-/// Gives a vertex a token.
+/// Adds a token of a vertex.
 fn add_token<A: Allocator + Copy>(processor: &mut Processor<A>, vertex: usize) -> Option<()> {
     let old = processor.token(vertex);
     processor.move_token(vertex, old, Some(7)).ok()
 }
 
-/// Adds all of them at each of so many points of *loop*.
+/// Adds all of these at each of a number of points of *loop*.
 fn fill<A: Allocator + Copy>(
     processor: &mut Processor<A>,
     graph: &Graph<A>,
@@ -182,13 +183,13 @@ fn fill<A: Allocator + Copy>(
     Some(())
 }
 
-/// Takes all that is unsent out and puts it back.
+/// Removes all that is unsent and puts it back.
 fn put_part_back<A: Allocator + Copy>(processor: &mut Processor<A>, alloc: A) -> Option<()> {
     let part = take_all(processor, alloc)?;
     processor.put_part(&part).ok()
 }
 
-/// Returns how many requests a copy of a processor has once it has a hundred more of all.
+/// Returns how many requests a copy of a processor has after a hundred more of everything were added.
 fn more_of_all<A: Allocator + Copy>(
     alloc: A,
     graph: &Graph<A>,
@@ -215,7 +216,8 @@ fn processors<A: Allocator + Copy>(
     Some(total? as u64 == u64::from(count) + 100)
 }
 
-/// Returns whether what is made of so many in the first heap is copied in another, and grows there, without the first.
+/// Returns whether a value with many entries in the first heap is copied to another heap, and grows there without the
+/// first.
 fn is_apart<A: Allocator + Copy>(
     first: &Heap,
     here: A,

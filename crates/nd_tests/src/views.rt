@@ -8,7 +8,7 @@ use nd_paths::Paths;
 use nd_view::View;
 use std::alloc::Allocator;
 
-/// Returns the view of what a change tells.
+/// Returns the view with the entries of a change.
 pub fn view<A: Allocator + Copy>(alloc: A, paths: &Paths<A>, change: &Delta<A>) -> Option<View<A>>
     ensures { IfSome result (IsFor paths.now) }
 {

@@ -16,7 +16,7 @@ use serde_json::Value;
 use std::alloc::Global;
 use std::test::Fail;
 
-/// Returns the time past a vertex of this action, or `None` if there is no such time.
+/// Returns the time after a vertex of this action, or `None` if there is no such time.
 fn moved(action: Action, time: &Timestamp) -> Option<Timestamp> {
     match action {
         Action::Identity => Some(time.copy()),
@@ -69,7 +69,7 @@ fn time_order(rt: HostRuntime) -> Result<(), Fail> {
     Ok(())
 }
 
-/// Returns how many locations a graph has as one of version 1, and as a later one, or its fault.
+/// Returns how many locations a graph has as one of version 1, and as a later one, or its error.
 fn locations(alloc: Global, text: &str) -> Option<[Result<usize, GraphFault>; 2]> {
     let value = Value::from_str(alloc, text).ok()?;
     let (first, later) = (
@@ -229,7 +229,7 @@ fn changes_and_views(rt: HostRuntime) -> Result<(), Fail> {
     Ok(())
 }
 
-/// Returns whether a view that was given a change, and then its opposite, goes back over both.
+/// Returns whether a view that was given a change, and then its opposite, undoes both.
 fn is_undone(alloc: Global) -> Option<bool> {
     let paths = paths_of(alloc, alloc, LINE)?;
     let more = change(alloc, paths.graph(), &[("a", 0, 1)])?;
@@ -265,7 +265,7 @@ fn queue_ends(rt: HostRuntime) -> Result<(), Fail> {
     Ok(())
 }
 
-/// Returns whether a change goes through new queues of one processor, and back.
+/// Returns whether a change passes through new queues of one processor, and back.
 fn goes_through(alloc: Global, change: &Delta) -> Option<bool> {
     let mut mesh = Mesh::new(alloc, 1).ok()?;
     let is_new = pop(&mut mesh, 0, 0).is_none() && !unpush(&mut mesh, 0)?;
@@ -288,14 +288,14 @@ fn queue_ends_when_new(rt: HostRuntime) {
     assert_eq!(rt; two_go_through(rt.alloc()), Some(true));
 }
 
-/// Returns whether an effect asks for a notice, and gives the sum 2, and no more.
+/// Returns whether an effect asks for a notice and gives the sum 2, and does nothing else.
 fn sets_two(effect: &Effect) -> Option<bool> {
     let edit = effect.items.first()?;
     let is_set = edit.key.item == 0 && edit.old.is_none() && edit.new == Some(2);
     Some(is_set && effect.asks && effect.items.len() == 1 && effect.emits.is_empty())
 }
 
-/// Returns whether an effect emits the sum 2 on port 0 and takes it out, and no more.
+/// Returns whether an effect emits the sum 2 on port 0 and removes it, and does nothing else.
 fn emits_two(effect: &Effect) -> Option<bool> {
     let (edit, emitted) = (effect.items.first()?, effect.emits.first()?);
     let is_emitted = emitted.port == 0 && emitted.value == 2 && edit.old == Some(2);

@@ -1,4 +1,5 @@
-//! Clusters made of their parts, while no memory is given: steps at the limits of numbers.
+//! Clusters built from their parts, while every request for memory is refused: steps at the limits of
+//! numbers.
 ghost use Rattle.std.specs.Prelude.{◌≡◌, All, IfSome};
 ghost use Rattle.nd_view.specs.Kept.{IsFor};
 
@@ -14,13 +15,13 @@ use nd_testing::unasked;
 use nd_view::View;
 use std::alloc::{Allocator, Global};
 
-/// The most that a count or an entry may be.
+/// The maximum of a count or an entry.
 pub const MOST: i64 = 1_099_511_627_776;
 
-/// What a processor holds beyond its start.
+/// What a processor holds beyond its initial state.
 #[derive(Drop)]
 pub enum Held {
-    /// So many records of 5.
+    /// This many records of 5.
     Records(&'static str, &'static [u32], u64),
     /// The token of vertex 0 at another epoch, or none.
     Token(Option<u32>),
@@ -28,7 +29,7 @@ pub enum Held {
     Unsent(&'static str, &'static [u32], i64),
 }
 
-/// A graph, what a cluster on it holds, a step, and the number of its refusal, 0 if it is made.
+/// A graph, what a cluster on it holds, a step, and the number of its refusal, 0 if it is executed.
 pub type Row = (&'static str, &'static [Held], Told, u64);
 
 pub static ROWS: [Row; 25] = [
@@ -62,7 +63,8 @@ pub static ROWS: [Row; 25] = [
         Told::Feed(0, "a", &[5], Next::Close),
         0,
     ),
-    // a feed to an epoch: all other refusals come before an epoch that is not above the token's
+    // a feed to an epoch: all other refusals come before that of an epoch that is not greater than the
+    // token's
     (LINE, &[], Told::Feed(1, "az", &[], Next::To(0)), 1),
     (LINE, &[], Told::Feed(0, "az", &[], Next::To(0)), 2),
     (LINE, &[], Told::Feed(0, "z", &[], Next::To(0)), 4),
@@ -205,7 +207,7 @@ fn paths_of<A: Allocator + Copy>(alloc: A, graph: &Graph<A>) -> Option<Paths<A>>
     }
 }
 
-/// Returns the view of nothing.
+/// Returns the view without entries.
 fn unseen<A: Allocator + Copy>(alloc: A, paths: &Paths<A>) -> View<A>
     ensures { IsFor paths.now result }
 {
@@ -226,7 +228,7 @@ fn one<A: Allocator + Copy>(alloc: A, paths: &Paths<A>, view: View<A>) -> Option
     Some(views)
 }
 
-/// Returns the list of one view of nothing.
+/// Returns the list of one view without entries.
 fn views_of<A: Allocator + Copy>(
     alloc: A,
     graph: &Graph<A>,
@@ -244,7 +246,8 @@ fn queue_of<A: Allocator + Copy>(alloc: A) -> Option<Mesh<A>> {
     Mesh::new(alloc, 1).ok()
 }
 
-/// Returns the cluster of one processor with what it holds. It is made of its parts while no memory is given.
+/// Returns the cluster of one processor with what it holds. It is built from its parts while every request
+/// for memory is refused.
 fn cluster_of<A: Allocator + Copy>(
     heap: &Heap,
     json: Global,
@@ -260,7 +263,7 @@ fn cluster_of<A: Allocator + Copy>(
     unasked!(heap: Cluster::of_parts(alloc, &graph, paths, processors, views, mesh))
 }
 
-/// The number of the refusal of the row's step, 0 if it is made.
+/// Returns the number of the refusal of the row's step, 0 if it is executed.
 pub fn number_of<A: Allocator + Copy>(
     heap: &Heap,
     json: Global,

@@ -28,7 +28,7 @@ enum Call {
     TellWhy,
 }
 
-/// Returns whether a call met the request that was refused. `None` if it answered or left what it should not.
+/// Returns whether a call met the refused request. Returns `None` if its answer, or what it left, is wrong.
 fn meets<A: Allocator + Copy>(
     heap: &Heap,
     alloc: A,
@@ -123,7 +123,7 @@ fn starts_and_copies(rt: HostRuntime) {
     }
 }
 
-/// Runs of whose last step memory is refused: its plan and its commit each ask for some.
+/// Runs for whose last step memory is refused; its plan and its commit each ask for some.
 static RUNS: [Script; 9] = [
     (LINE, 2, &[Told::Feed(1, "a", &[5, 7, 5], Next::Next)]),
     (LINE, 1, &[Told::Feed(0, "a", &[5], Next::Stay)]),
@@ -189,7 +189,7 @@ struct Case<'a, A: Allocator + Copy> {
     after: &'a str,
 }
 
-/// Returns whether the plan of a step met the request that was refused.
+/// Returns whether the plan of a step met the refused request.
 fn meets_plan<A: Allocator + Copy>(
     heap: &Heap,
     json: Global,
@@ -246,8 +246,8 @@ fn on_copy<A: Allocator + Copy>(
     }
 }
 
-/// Returns how many requests were refused of the plan, of the commit and of the back-step of a run's last step. Each refusal left
-/// all as it was.
+/// Returns how many requests were refused for the plan, for the commit and for the back-step of a run's last step. Each refusal
+/// left everything unchanged.
 fn last_in_turn<A: Allocator + Copy>(
     heap: &Heap,
     alloc: A,

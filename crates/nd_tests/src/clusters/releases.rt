@@ -8,7 +8,7 @@ use nd_graph::Graph;
 use nd_testing::Refusing;
 use std::alloc::{Allocator, Global};
 
-/// What a cluster on a graph holds, a release, and the number of its refusal, 0 if it is made.
+/// What a cluster on a graph holds, a release, and the number of its refusal, 0 if it is executed.
 static ROWS: [Row; 23] = [
     // no processor, no vertex, and no request
     (HELD, &[], Told::Release(1, "ah", &[0], Some(&[0])), 1),
@@ -22,7 +22,7 @@ static ROWS: [Row; 23] = [
         9,
     ),
     (HELD, &[], Told::Release(0, "a", &[0], None), 9),
-    // a request of a vertex that is no hold
+    // a request of a vertex that is not a hold
     (
         SUM,
         &[Held::Request("s", &[0])],
@@ -35,7 +35,7 @@ static ROWS: [Row; 23] = [
         Told::Release(0, "s", &[0], Some(&[0])),
         9,
     ),
-    // an entry past its limit comes before a time that is not later
+    // an entry beyond its limit comes before a time that is not later
     (
         HELD,
         &[Held::Request("h", &[3]), Held::Unsent("h", &[3], -MOST)],
@@ -60,7 +60,7 @@ static ROWS: [Row; 23] = [
         Told::Release(0, "h", &[3], Some(&[4])),
         14,
     ),
-    // nothing is added at the same time, and where a request is already
+    // nothing is added at the same time, or at a time with a request
     (
         HELD,
         &[Held::Request("h", &[3]), Held::Unsent("h", &[3], -MOST)],
@@ -112,7 +112,7 @@ static ROWS: [Row; 23] = [
         Told::Release(0, "h", &[1, 4], Some(&[2, 3])),
         54,
     ),
-    // releases that are made
+    // releases that are executed
     (
         HELD,
         &[Held::Request("h", &[3])],
@@ -197,7 +197,7 @@ fn more(slot: Slot, n: i128) -> Entry {
     Entry::Key(Change { p: 0, slot, n })
 }
 
-/// Returns the entry that is named.
+/// Returns the entry of this description.
 fn entry_of<A: Allocator>(graph: &Graph<A>, told: &Part) -> Option<Entry> {
     let (is_unsent, epoch, n) = *told;
     let point = point(graph, "h", &[epoch])?;

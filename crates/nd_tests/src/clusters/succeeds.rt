@@ -1,5 +1,5 @@
-//! Readers of clusters, called while no memory is given, copies, which grow in memory of their own, and clusters at
-//! their far ends, which do not run out of memory if there is enough.
+//! Readers of clusters, called while every request for memory is refused; copies, which grow in their own memory;
+//! and very small and very large clusters, which do not run out of memory if there is enough.
 
 use crate::clusters::memory::Heap;
 use crate::graphs::{EMPTY, LINE, LONG, point};
@@ -15,7 +15,7 @@ static STEPS: [Told; 3] = [
     Told::All(0),
 ];
 
-/// Returns whether a cluster tells what there is after these steps.
+/// Returns whether a cluster reports what there is after these steps.
 fn tells<A: Allocator + Copy>(cluster: &Cluster<A>) -> Option<bool> {
     let az = point(cluster.graph(), "az", &[0])?;
     let z = point(cluster.paths().graph(), "z", &[0])?;
@@ -33,7 +33,8 @@ fn tells<A: Allocator + Copy>(cluster: &Cluster<A>) -> Option<bool> {
     )
 }
 
-/// Returns whether it does so while no memory is given, and the record of a step tells its entries.
+/// Returns whether it does so while every request for memory is refused, and whether the record of a step lists its
+/// entries.
 fn reads<A: Allocator + Copy>(heap: &Heap, json: Global, alloc: A) -> Option<bool> {
     let cluster = reach(json, alloc, LINE, 1, &STEPS)?;
     let step = step_of(alloc, cluster.graph(), &Told::Receive(0, 0))?;
@@ -49,7 +50,7 @@ fn readers_take_no_memory(rt: HostRuntime) {
     assert_eq!(rt; heap.live(), 0);
 }
 
-/// Makes a step, undoes it and makes it again: how many entries its record has.
+/// Executes a step, undoes it and executes it again, and returns how many entries its record has.
 fn goes_and_comes_back<A: Allocator + Copy>(
     cluster: &mut Cluster<A>,
     step: &Step<A>,
@@ -61,7 +62,7 @@ fn goes_and_comes_back<A: Allocator + Copy>(
     Some(record.entries())
 }
 
-/// Returns a copy of a cluster that has made these steps, each there and back and there again.
+/// Returns a copy of a cluster after these steps, each of which was executed, undone and executed again.
 fn more<A: Allocator + Copy>(alloc: A, base: &Cluster<A>, steps: &[Told]) -> Option<Cluster<A>> {
     let mut copy = base.copy(alloc).ok()?;
     for told in steps {
@@ -72,7 +73,7 @@ fn more<A: Allocator + Copy>(alloc: A, base: &Cluster<A>, steps: &[Told]) -> Opt
     Some(copy)
 }
 
-/// Returns whether a copy is made of a start in the first heap, and makes steps, without that heap.
+/// Returns whether an initial state in the first heap is copied, and the copy executes steps without that heap.
 fn is_apart<A: Allocator + Copy>(first: &Heap, here: A, there: A, json: Global) -> Option<bool> {
     let (text, n, steps) = &SUM_NOTIFIED;
     let base = start(json, here, text, *n)?;
@@ -95,7 +96,7 @@ fn starts_empty<A: Allocator + Copy>(json: Global, alloc: A) -> Option<bool> {
     Some(cluster.first_enabled(0).ok()?.is_none())
 }
 
-/// Returns the feed of the numbers below so many.
+/// Returns the feed of the numbers below `count`.
 fn feed<A: Allocator>(alloc: A, count: i64) -> Option<Step<A>> {
     let mut values = Values::new(alloc);
     for value in 0..count {
@@ -109,7 +110,8 @@ fn feed<A: Allocator>(alloc: A, count: i64) -> Option<Step<A>> {
     })
 }
 
-/// Returns the entries of a feed of so many on 64 locations. It goes and comes back, as does a broadcast after it.
+/// Returns the number of entries of a feed of `count` values on 64 locations. The feed is executed and undone, as
+/// is a broadcast after it.
 fn fed<A: Allocator + Copy>(json: Global, alloc: A, count: i64) -> Option<usize> {
     let mut cluster = start(json, alloc, LONG, 8)?.copy(alloc).ok()?;
     let entries = goes_and_comes_back(&mut cluster, &feed(alloc, count)?.copy(alloc).ok()?)?;

@@ -10,12 +10,12 @@ use nd_testing::Refusing;
 use std::alloc::Global;
 use std::mem::size_of;
 
-/// Returns why a cluster of n processors does not start on a line, if so.
+/// Returns why a cluster of n processors does not start on a line, if it does not.
 fn fault_of(alloc: Global, n: u32) -> Option<StartFault> {
     Cluster::start(alloc, graph_of(alloc, alloc, LINE)?, n).err()
 }
 
-/// Returns whether a start has no step that may be chosen, whoever's turn it is.
+/// Returns whether an initial state has no step that may be chosen, whoever's turn it is.
 fn is_idle(alloc: Global, text: &str, n: u32) -> Option<bool> {
     let cluster = start(alloc, alloc, text, n)?;
     Some(cluster.first_enabled(0).ok()?.is_none() && cluster.first_enabled(2).ok()?.is_none())
@@ -45,7 +45,7 @@ fn number_limits(rt: HostRuntime) {
     assert_eq!(rt; heap.live(), 0);
 }
 
-/// Returns how many of the changes are of tokens, of records that come twice, and of what is unsent.
+/// Returns how many of the changes are of tokens, of records that arrive twice, and of what is unsent.
 fn kinds(changes: &[Change]) -> (usize, usize, usize) {
     let mut kinds: (usize, usize, usize) = (0, 0, 0);
     for change in changes {
@@ -79,7 +79,8 @@ fn entry_count(alloc: Global, text: &str, n: u32, steps: &[Told]) -> Option<usiz
     Some(record.entries())
 }
 
-/// Checks the worked example *inverse-records*. Its second half goes on with the steps of *views-lag*.
+/// Checks the worked example *inverse-records*. Its second half continues with the steps of
+/// *views-lag*.
 #[test]
 fn inverse_records(rt: HostRuntime) {
     let alloc = rt.alloc();
@@ -97,14 +98,14 @@ fn inverse_records(rt: HostRuntime) {
     assert_eq!(rt; entry_count(alloc, EXCHANGE, 3, &steps), Some(3));
 }
 
-/// Returns what a step changes on *line*, once others were made.
+/// Returns what a step changes on *line* after other steps.
 fn entries_of(alloc: Global, made: &[Told], told: &Told) -> Option<Vec<Entry>> {
     let cluster = reach(alloc, alloc, LINE, 1, made)?;
     let record = cluster.plan(&step_of(alloc, cluster.graph(), told)?).ok()?;
     record.iter().collect(alloc).ok()
 }
 
-/// So much more at a key of the first processor.
+/// Returns the change of `n` at a key of the first processor.
 fn more(slot: Slot, n: i128) -> Entry {
     Entry::Key(Change { p: 0, slot, n })
 }
@@ -117,7 +118,8 @@ fn at(location: usize) -> Option<Pointstamp> {
     })
 }
 
-/// Returns whether the changes of a feed on *line* are told in order: the record before what is unsent.
+/// Returns whether the changes of a feed on *line* are listed in order: the record before what is
+/// unsent.
 fn tells_feed(alloc: Global) -> Option<bool> {
     let told = entries_of(alloc, &[], &Told::Feed(0, "a", &[7], Next::Stay))?;
     let key = ValueAt {
@@ -129,7 +131,8 @@ fn tells_feed(alloc: Global) -> Option<bool> {
     Some(told.as_slice() == [record, unsent].as_slice())
 }
 
-/// Returns whether those of a broadcast of what it leaves are, and those of the receive.
+/// Returns whether the changes of a broadcast of what it leaves, and those of the receive, are listed
+/// in order.
 fn tells_exchange(alloc: Global) -> Option<bool> {
     let feed = Told::Feed(0, "a", &[7], Next::Close);
     let sent = entries_of(alloc, &[feed], &Told::All(0))?;

@@ -31,7 +31,7 @@ fn is_led_to<A: Allocator + Copy>(json: Global, alloc: A, timeline: &Timeline<A>
     Some(is_state(json, timeline.cluster(), wanted.as_str()))
 }
 
-/// Returns whether jumps to all of these positions land there.
+/// Returns whether jumps to all of these positions arrive there.
 fn lands<A: Allocator + Copy>(
     json: Global,
     alloc: A,
@@ -52,7 +52,7 @@ static AROUND: [u64; 12] = [
     5000, 0, 4999, 1024, 4096, 1, 1023, 3072, 1025, 4998, 2049, 2047,
 ];
 
-/// Returns whether far jumps over a run of 5,000 steps land, and still do once others take the place of most of them.
+/// Returns whether far jumps over a run of 5,000 steps arrive, and still do after other steps have replaced most of them.
 fn jumps<A: Allocator + Copy>(json: Global, alloc: A) -> Option<bool> {
     let mut timeline = looped(json, alloc)?;
     run_all(&mut timeline, 4998, &Breaks::new(alloc).ok()?).ok()?;
@@ -72,9 +72,9 @@ fn far_jumps_land(rt: HostRuntime) {
     assert_eq!(rt; heap.live(), 0);
 }
 
-/// Returns whether a run over a position where a checkpoint is due met the request that was refused, and whether it went on.
+/// Returns whether a run over a position where a checkpoint is due met the refused request, and whether the run continued.
 ///
-/// `None` if the timeline is not where it says, or gave up although it met no refusal.
+/// Returns `None` if the timeline is not at the reported position, or if the run stopped although it met no refusal.
 fn meets_run<A: Allocator + Copy>(
     heap: &Heap,
     json: Global,
@@ -165,7 +165,7 @@ fn far_jumps_out_of_memory(rt: HostRuntime) {
     assert_eq!(rt; heap.live(), 0);
 }
 
-/// Feeds as many values at once, each another, and all of the epoch 0.
+/// Feeds `count` different values at once, all at epoch 0.
 fn fill<A: Allocator + Copy>(alloc: A, timeline: &mut Timeline<A>, count: i64) -> Option<()> {
     let mut values = Values::new(alloc);
     for value in 0..count {
@@ -180,8 +180,8 @@ fn fill<A: Allocator + Copy>(alloc: A, timeline: &mut Timeline<A>, count: i64) -
     timeline.forward(&step).ok()
 }
 
-/// Returns how many blocks the checkpoints of a run of 20,000 steps have, and how many what is saved at its end, with as many
-/// records in the loop.
+/// Returns how many blocks of memory the checkpoints of a run of 20,000 steps take, and how many the state saved at its end
+/// takes, with this many records in the loop.
 fn blocks<A: Allocator + Copy>(
     heap: &Heap,
     json: Global,
@@ -202,7 +202,7 @@ fn blocks<A: Allocator + Copy>(
     Some((with.saturating_sub(without), one))
 }
 
-/// Returns whether there are as many checkpoints, by their blocks, or at most one more or less.
+/// Returns whether there are this many checkpoints, judged by their blocks, or one more or less.
 fn has_about<A: Allocator + Copy>(
     heap: &Heap,
     json: Global,

@@ -25,7 +25,7 @@ const CLOSED: Script = (
     ],
 );
 
-/// That processor 0's view has passed the point.
+/// Returns the atom that processor 0's view has passed the point.
 fn passed(point: &Pointstamp) -> Atom {
     Atom::Passed {
         q: 0,
@@ -33,14 +33,14 @@ fn passed(point: &Pointstamp) -> Atom {
     }
 }
 
-/// That nothing outstanding is at or before the point.
+/// Returns the atom that nothing outstanding is at or before the point.
 fn finished(point: &Pointstamp) -> Atom {
     Atom::Finished {
         point: point.copy(),
     }
 }
 
-/// That the queue from a processor to itself has at least so many changes.
+/// Returns the atom that the queue from a processor to itself has at least this many changes.
 fn queued(p: u32, at_least: u64) -> Atom {
     Atom::Queue {
         from: p,
@@ -49,7 +49,7 @@ fn queued(p: u32, at_least: u64) -> Atom {
     }
 }
 
-/// That the entry of a processor's view at the point is at least so much.
+/// Returns the atom that the entry of a processor's view at the point is at least this number.
 fn entry(q: u32, point: &Pointstamp, at_least: i64) -> Atom {
     Atom::View {
         q,
@@ -58,7 +58,7 @@ fn entry(q: u32, point: &Pointstamp, at_least: i64) -> Atom {
     }
 }
 
-/// Two literals put together.
+/// Returns the condition of two literals.
 fn both(quantifier: Quantifier, first: Literal, second: Literal) -> Option<Condition> {
     let mut condition = Condition::new(quantifier, first);
     condition.push(second).ok()?;
@@ -186,7 +186,7 @@ fn processors_that_are_missing(rt: HostRuntime) -> Result<(), Fail> {
     Ok(())
 }
 
-/// Returns a line that has fed nothing, and broadcast and received it, so many times.
+/// Returns a line on which a feed of nothing, its broadcast and its receive were repeated `times` times.
 fn cycled<A: Allocator + Copy>(json: Global, alloc: A, times: u64) -> Option<Timeline<A>> {
     let mut timeline = Timeline::new(alloc, start(json, alloc, LINE, 1)?).ok()?;
     let cycle = [
@@ -223,7 +223,8 @@ fn a_thousand_turns(rt: HostRuntime) -> Result<(), Fail> {
     Ok(())
 }
 
-/// Returns whether the turns of a condition met the request that was refused: then all is where it was.
+/// Returns whether the turns of a condition met the refused request; if they did, everything is
+/// unchanged.
 fn meets_turns<A: Allocator + Copy>(heap: &Heap, json: Global, alloc: A, n: u64) -> Option<bool> {
     let timeline = kept(json, alloc, &CLOSED)?;
     let (at, kept) = (timeline.at(), timeline.kept());
@@ -238,7 +239,7 @@ fn meets_turns<A: Allocator + Copy>(heap: &Heap, json: Global, alloc: A, n: u64)
     }
 }
 
-/// Returns how many requests of it were refused before it met none.
+/// Returns how many requests were refused before the turns met none.
 fn turnings<A: Allocator + Copy>(heap: &Heap, json: Global, alloc: A) -> Option<u64> {
     in_turn(|n| meets_turns(heap, json, alloc, n))
 }
@@ -265,7 +266,7 @@ fn tells<A: Allocator + Copy>(cluster: &Cluster<A>, breaks: &mut Breaks<A>) -> O
     Some(is_hit && is_same && breaks.first_hit(cluster) == None)
 }
 
-/// Returns whether it does so while no memory is given.
+/// Returns whether this works while every request for memory is refused.
 fn tells_unasked<A: Allocator + Copy>(heap: &Heap, json: Global, alloc: A) -> Option<bool> {
     let cluster = start(json, alloc, LINE, 1)?;
     let mut breaks = Breaks::new(alloc).ok()?;

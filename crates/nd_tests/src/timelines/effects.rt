@@ -284,7 +284,8 @@ fn effect_of_notice(rt: HostRuntime) -> Result<(), Fail> {
     Ok(())
 }
 
-/// Returns whether the effect of the kept step that leads to a position met the request that was refused: then all is where it was.
+/// Returns whether the effect of the kept step that leads to a position met the refused request; if it did, everything is
+/// unchanged.
 fn meets_effect<A: Allocator + Copy>(
     heap: &Heap,
     json: Global,
@@ -303,7 +304,7 @@ fn meets_effect<A: Allocator + Copy>(
     }
 }
 
-/// Returns how many requests of it were refused before it met none.
+/// Returns how many requests were refused before the effect met none.
 fn effects<A: Allocator + Copy>(heap: &Heap, json: Global, alloc: A, to: u64) -> Option<u64> {
     in_turn(|n| meets_effect(heap, json, alloc, to, n))
 }

@@ -34,7 +34,7 @@ pub static TEN: Script = (
     ],
 );
 
-/// Two processors take the records that they exchange, and hear of one another's steps.
+/// Two processors take the records that they exchange, and receive each other's updates.
 ///
 /// Each broadcast that is redone and each receive that is undone asks for memory.
 static EXCHANGED: Script = (
@@ -61,7 +61,7 @@ static EXCHANGED: Script = (
 /// A record that a run takes, broadcasts and receives.
 pub static ONE: Script = (LINE, 1, &[Told::Feed(0, "a", &[5], Next::Close)]);
 
-/// What a run makes of it.
+/// The steps of a run on it.
 pub static ALL: Script = (
     LINE,
     1,
@@ -84,7 +84,7 @@ pub fn kept<A: Allocator + Copy>(json: Global, alloc: A, script: &Script) -> Opt
     Some(timeline)
 }
 
-/// Returns whether the cluster is the one after so many steps of a script.
+/// Returns whether the cluster is the one after this many steps of a script.
 pub fn is_after<A: Allocator + Copy>(
     json: Global,
     cluster: &Cluster<A>,
@@ -98,9 +98,9 @@ pub fn is_after<A: Allocator + Copy>(
     Some(is_state(json, cluster, wanted.as_str()))
 }
 
-/// Returns whether a jump from one end of a script to the other met the request that was refused.
+/// Returns whether a jump from one end of a script to the other met the refused request.
 ///
-/// If it did, it stands short of the other end, where it says; if it did not, at the other end.
+/// If it did, the cursor is short of the other end, at the reported position; otherwise it is at the other end.
 fn meets_jump<A: Allocator + Copy>(
     heap: &Heap,
     json: Global,
@@ -136,7 +136,7 @@ fn jumps<A: Allocator + Copy>(
     in_turn(|n| meets_jump(heap, json, alloc, script, is_back, n))
 }
 
-/// Returns whether a jump meets at least so many refusals, forward and backward.
+/// Returns whether a jump meets at least `least` refusals, forward and backward.
 fn meets_each_way(heap: &Heap, json: Global, script: &Script, least: u64) -> bool {
     for is_back in [false, true] {
         match jumps(heap, json, heap, script, is_back) {
@@ -171,7 +171,7 @@ enum Move {
     CopyCommand,
 }
 
-/// Each of them, and whether it asks for memory for sure.
+/// Each move, and whether it certainly asks for memory.
 static MOVES: [(Move, bool); 8] = [
     (Move::New, true),
     (Move::Copy, true),
@@ -183,7 +183,7 @@ static MOVES: [(Move, bool); 8] = [
     (Move::CopyCommand, true),
 ];
 
-/// Returns whether a run met the request that was refused: then it stands where it came to.
+/// Returns whether a run met the refused request; if it did, it stays where it stopped.
 fn meets_run<A: Allocator + Copy>(
     heap: &Heap,
     json: Global,
@@ -203,7 +203,7 @@ fn meets_run<A: Allocator + Copy>(
     }
 }
 
-/// Returns whether a move met the request that was refused: then the timeline is where it was, or a run where it came to.
+/// Returns whether a move met the refused request; if it did, the timeline is where it was, or a run where it stopped.
 fn meets<A: Allocator + Copy>(
     heap: &Heap,
     json: Global,

@@ -1,5 +1,5 @@
-//! Calls of timelines that take no memory, made while none is given, copies, which grow in memory of their own, and
-//! timelines at their far ends, which do not run out of memory if there is enough.
+//! Calls of timelines that take no memory, made while every request is refused; copies, which grow in their own
+//! memory; and very short and very long timelines, which do not run out of memory if there is enough.
 
 use crate::graphs::{EMPTY, LINE, point};
 use crate::scripts::{Told, start, step_of};
@@ -11,7 +11,7 @@ use nd_testing::{Refusing, unasked};
 use nd_timeline::{Ran, Stop, Timeline};
 use std::alloc::{Allocator, Global};
 
-/// Returns whether a timeline of four steps, of which the last lets z pass, tells where it is, and stays there.
+/// Returns whether a timeline of four steps, of which the last lets z pass, reports where it is, and stays there.
 fn tells<A: Allocator + Copy>(
     timeline: &mut Timeline<A>,
     breaks: &Breaks<A>,
@@ -26,7 +26,7 @@ fn tells<A: Allocator + Copy>(
     Some(has_steps && is_there && timeline.passed(0, &z) == (at == 4))
 }
 
-/// Returns whether it does so at a position while no memory is given.
+/// Returns whether it does so at a position while every request for memory is refused.
 fn stays<A: Allocator + Copy>(heap: &Heap, json: Global, alloc: A, at: u64) -> Option<bool> {
     let mut timeline = kept(json, alloc, &ALL)?;
     let breaks = Breaks::new(alloc).ok()?;
@@ -43,7 +43,7 @@ fn staying_takes_no_memory(rt: HostRuntime) {
     assert_eq!(rt; heap.live(), 0);
 }
 
-/// Returns a copy of a timeline that has run on, gone back and again, and then another way.
+/// Returns a copy of a timeline that has run forward, gone back and forward, and then taken other steps.
 fn more<A: Allocator + Copy>(alloc: A, base: &Timeline<A>) -> Option<Timeline<A>> {
     let mut copy = base.copy(alloc).ok()?;
     run_all(&mut copy, 10, &Breaks::new(alloc).ok()?).ok()?;
@@ -56,7 +56,7 @@ fn more<A: Allocator + Copy>(alloc: A, base: &Timeline<A>) -> Option<Timeline<A>
     Some(copy)
 }
 
-/// Returns whether a copy is made of a timeline in the first heap, and moves, without that heap.
+/// Returns whether a timeline in the first heap is copied, and the copy moves without that heap.
 fn is_apart<A: Allocator + Copy>(first: &Heap, here: A, there: A, json: Global) -> Option<bool> {
     let base = kept(json, here, &ONE)?;
     let copy = unasked!(first: more(there, &base)?);
@@ -71,7 +71,7 @@ fn copies_have_their_own_memory(rt: HostRuntime) {
     assert_eq!(rt; (first.live(), second.live()), (0, 0));
 }
 
-/// Returns a timeline on a line that keeps so many feeds of nothing.
+/// Returns a timeline on a line that keeps `times` feeds of nothing.
 fn fed<A: Allocator + Copy>(json: Global, alloc: A, times: u64) -> Option<Timeline<A>> {
     let mut timeline = Timeline::new(alloc, start(json, alloc, LINE, 1)?).ok()?;
     let told = Told::Feed(0, "a", &[], Next::Next);
@@ -82,7 +82,7 @@ fn fed<A: Allocator + Copy>(json: Global, alloc: A, times: u64) -> Option<Timeli
     Some(timeline)
 }
 
-/// Returns whether a copy of a timeline of so many feeds goes from end to end.
+/// Returns whether a copy of a timeline of `times` feeds goes from end to end.
 fn goes<A: Allocator + Copy>(json: Global, alloc: A, times: u64) -> Option<bool> {
     let mut copy = fed(json, alloc, times)?.copy(alloc).ok()?;
     copy.jump(0).ok()?;

@@ -1,4 +1,4 @@
-//! Walks over a timeline's kept steps, and what is told of them, each request for memory refused in turn.
+//! Walks over a timeline's kept steps, and what is listed of them, each request for memory refused in turn.
 
 use crate::graphs::point;
 use crate::scripts::{SUM_NOTIFIED, Script};
@@ -8,7 +8,7 @@ use nd_testing::{Refusing, in_turn, met};
 use nd_timeline::Fault;
 use std::alloc::{AllocError, Allocator, Global};
 
-/// Returns whether the beginning of a walk met the request that was refused.
+/// Returns whether the beginning of a walk met the refused request.
 fn meets_beginning<A: Allocator + Copy>(
     heap: &Heap,
     json: Global,
@@ -19,7 +19,8 @@ fn meets_beginning<A: Allocator + Copy>(
     met!(heap, n: timeline.walk_near(alloc, 0); AllocError, true)
 }
 
-/// Returns whether a walk from one end of a script to the other met it: then it stands where it says.
+/// Returns whether a walk from one end of a script to the other met the refused request; if it did, it is at the reported
+/// position.
 fn meets_walk<A: Allocator + Copy>(
     heap: &Heap,
     json: Global,
@@ -72,7 +73,8 @@ fn walk_out_of_memory(rt: HostRuntime) {
     assert_eq!(rt; heap.live(), 0);
 }
 
-/// Returns whether what is told of processor 0's view of the edge met the request that was refused: then all is where it was.
+/// Returns whether the changes of processor 0's view of the edge met the refused request; if they did, everything is
+/// unchanged.
 fn meets_changes<A: Allocator + Copy>(heap: &Heap, json: Global, alloc: A, n: u64) -> Option<bool> {
     let timeline = kept(json, alloc, &ALL)?;
     let az = point(timeline.cluster().graph(), "az", &[0])?;
@@ -87,7 +89,7 @@ fn meets_changes<A: Allocator + Copy>(heap: &Heap, json: Global, alloc: A, n: u6
     }
 }
 
-/// Returns how many requests of it were refused before it met none.
+/// Returns how many requests were refused before the changes met none.
 fn tellings<A: Allocator + Copy>(heap: &Heap, json: Global, alloc: A) -> Option<u64> {
     in_turn(|n| meets_changes(heap, json, alloc, n))
 }

@@ -38,12 +38,12 @@ fn breakpoint_ids(rt: HostRuntime) {
     assert_eq!(rt; are_numbered(rt.alloc()), Some(true));
 }
 
-/// What a command is answered.
+/// The answer to a command.
 #[derive(Drop)]
 enum Answer {
-    /// So many steps are kept, and the cursor is at their end.
+    /// This many steps are kept, and the cursor is at their end.
     Moved(u64),
-    /// So many steps were made, and so many are kept, the cursor at their end.
+    /// This many steps were executed, and this many are kept; the cursor is at their end.
     Ran(u64, u64, Stop),
     /// The number of the refusal.
     Refused(u64),
@@ -81,12 +81,12 @@ fn answers(alloc: Global, state: &mut State, rows: &[Row]) -> Option<bool> {
     Some(state.log().len().checked_sub(before) == Some(rows.len()))
 }
 
-/// What the only reason says why the first processor does not consider z finished at epoch 0.
+/// What the only reason says about why the first processor does not consider z finished at epoch 0.
 #[derive(Debug, PartialEq, Eq, Drop)]
 enum Because {
-    /// It keeps a capability itself.
+    /// The first processor holds a capability itself.
     Request,
-    /// The second processor has not sent that something is gone.
+    /// The second processor has not sent its update that something is gone.
     Unsent,
 }
 
@@ -161,7 +161,7 @@ static GIVES_UP: [Row; 2] = [
     (Asked::Run(10), Answer::Ran(2, 11, Stop::Idle)),
 ];
 
-/// Returns whether a capability holds z back until it is moved, and is then given up.
+/// Returns whether a capability holds z back until it is moved, and is then dropped.
 fn is_held(alloc: Global) -> Option<bool> {
     let mut state = opened(alloc, alloc, HELD, 1)?;
     let is_kept = answers(alloc, &mut state, &HOLDS)?;
@@ -190,7 +190,7 @@ static FEEDS: [Row; 2] = [
     ),
 ];
 
-/// Returns whether a token goes to epoch 1000, and stays there.
+/// Returns whether a token moves to epoch 1000, and stays there.
 fn is_fed(alloc: Global) -> Option<bool> {
     let mut state = opened(alloc, alloc, LINE, 1)?;
     let is_told = answers(alloc, &mut state, &FEEDS)?;
@@ -231,7 +231,7 @@ static OTHERS_RUN: [Row; 4] = [
     (Asked::Run(50), Answer::Ran(0, 10, Stop::Idle)),
 ];
 
-/// Returns whether what the first processor waits for is that the second closed its input, until that one runs.
+/// Returns whether the first processor waits for the update that the second closed its input, until the second runs.
 fn is_alone(alloc: Global) -> Option<bool> {
     let mut state = opened(alloc, alloc, EXCHANGE, 2)?;
     let is_told = answers(alloc, &mut state, &ONE_RUNS)?;
@@ -241,13 +241,13 @@ fn is_alone(alloc: Global) -> Option<bool> {
     Some(is_told && because == Because::Unsent && is_over)
 }
 
-/// Checks the worked example *only-one-runs*, and how it goes on.
+/// Checks the worked example *only-one-runs*, and how it continues.
 #[test]
 fn only_one_runs(rt: HostRuntime) {
     assert_eq!(rt; is_alone(rt.alloc()), Some(true));
 }
 
-/// Runs of processors that may be missing: a limit past what is left comes first, and is tested before anything is done.
+/// Runs of processors that may be missing: a limit that does not fit comes first, and is tested before anything is done.
 static MISSING: [Row; 9] = [
     (Asked::RunOnly(1_000_001, &[2]), Answer::Refused(23)),
     (Asked::RunOnly(1_000_000, &[2]), Answer::Refused(1)),
@@ -272,8 +272,8 @@ fn are_missing(alloc: Global) -> Option<bool> {
     answers(alloc, &mut state, &MISSING)
 }
 
-/// Three feeds, and the steps of a run of the first and the third processor. The turn goes through the second, too, so the
-/// third has the steps at the positions 4, 5 and 7.
+/// Three feeds, and the steps of a run of the first and the third processor. The turn passes the second, too, so the third
+/// has the steps at the positions 4, 5 and 7.
 static IN_TURN: [Told; 8] = [
     Told::Feed(0, "a", &[5, 6], Next::Close),
     Told::Feed(1, "a", &[5], Next::Close),
@@ -285,7 +285,7 @@ static IN_TURN: [Told; 8] = [
     Told::Take(2, "az", &[0], 7),
 ];
 
-/// Returns whether a run of the processors of a list makes these steps.
+/// Returns whether a run of the processors of a list executes these steps.
 fn runs_in_turn(alloc: Global, asked: &Asked) -> Option<bool> {
     let mut state = opened(alloc, alloc, LINE, 3)?;
     for told in &IN_TURN[..3] {
