@@ -8,7 +8,7 @@ use nd_json::Json;
 use std::alloc::{AllocError, Global};
 use std::marker::Model;
 
-/// The number of bytes of replies from which on they should be written.
+/// Replies should be written when they have at least this many bytes.
 const WAITING: usize = 65_536;
 
 /// The text of the replies that wait to be written.
@@ -49,7 +49,7 @@ impl Outbox {
         Ok(())
     }
 
-    /// Returns whether enough text waits that it should be written.
+    /// Returns whether so much text waits that it should be written.
     pub fn is_full(&self) -> bool
         ensures { result ≡ nat_le 65536 (length self.now) }
     {
