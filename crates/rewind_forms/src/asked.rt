@@ -22,9 +22,9 @@ pub enum Asked {
     Tell(Query),
 }
 
-/// Returns what the value asks for in a script of this version, against the graph.
+/// Returns what the value asks for in a script of this version, for the graph.
 ///
-/// `Memory` comes only if there was no memory for a list of the line.
+/// Returns `Memory` only if the allocation of a list of the line failed.
 #[tactic(auto, unfolding(crate::specs::Asked::asked_of))]
 pub fn asked_of(
     alloc: Global,

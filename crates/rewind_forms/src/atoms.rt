@@ -79,7 +79,7 @@ fn view_of(alloc: Global, graph: &Graph, value: &Value) -> Result<Atom, LineFaul
     Ok(Atom::View { q, point, at_least })
 }
 
-/// Reads the atom that the value is, of the kinds that each version has, against the graph.
+/// Reads the atom that the value describes, for the graph; only the kinds that every version has.
 #[tactic(auto, unfolding(crate::specs::Atoms::first_atom_of))]
 pub fn first_atom_of(alloc: Global, graph: &Graph, value: &Value) -> Result<Atom, LineFault>
     ensures ok { IfOk result (λ c. first_in graph.now (view value.now) ≡ Ok c) }
@@ -98,7 +98,7 @@ pub fn first_atom_of(alloc: Global, graph: &Graph, value: &Value) -> Result<Atom
     }
 }
 
-/// Reads the atom that the value is, of any kind, against the graph.
+/// Reads the atom that the value describes, of any kind, for the graph.
 #[tactic(auto, unfolding(crate::specs::Atoms::atom_of))]
 pub fn atom_of(alloc: Global, graph: &Graph, value: &Value) -> Result<Atom, LineFault>
     ensures ok { IfOk result (λ c. atom_in graph.now (view value.now) ≡ Ok c) }

@@ -11,7 +11,7 @@ use nd_json::{Json, JsonList, reply};
 use nd_protocol::Refusal;
 use std::alloc::{AllocError, Global};
 
-// A step that the value shows, and its refusal, if it is refused.
+// Returns the object of a step's value, with its refusal if the step is refused.
 fn tried(
     alloc: Global,
     graph: &Graph,
@@ -38,8 +38,8 @@ fn candidate_value(alloc: Global, graph: &Graph, candidate: &Candidate) -> Resul
     tried(alloc, graph, step, &candidate.refusal)
 }
 
-/// Makes the list of the candidates, in their order: of each its step as the object of its line, and if it is refused, the
-/// reply that the line would get.
+/// Returns the list of the candidates, in their order: each has its step as the object of its line and, if the step is
+/// refused, the reply that the line would get.
 pub fn candidates_value(
     alloc: Global,
     graph: &Graph,

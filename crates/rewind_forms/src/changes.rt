@@ -13,7 +13,7 @@ fn changed_value(alloc: Global, changed: &Changed) -> Result<Json, AllocError>
     reply!(in alloc; [changed.position, changed.entry])
 }
 
-/// Returns all changes, in the order in which they are given: of each the position, and the entry there.
+/// Returns all changes, in the order in which they are given: each as its position and the entry there.
 pub fn changes_value<A: Allocator>(alloc: Global, changes: &Changes<A>) -> Result<Json, AllocError>
     ensures reply { IfOk result (λ j. j ≡ changes_data changes.now) }
 {

@@ -68,7 +68,7 @@ fn clear_of(value: &Value) -> Result<Command, LineFault>
     Ok(Command::ClearBreak(id))
 }
 
-/// Returns the command of this form that the value asks for, against the graph.
+/// Returns the command of this form that the value asks for, for the graph.
 pub fn command_of(
     alloc: Global,
     version: Version,

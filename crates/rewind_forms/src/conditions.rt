@@ -18,7 +18,7 @@ use std::alloc::Global;
 /// The most literals of a condition.
 const MAX_LITERALS: usize = 8;
 
-// Returns the literal that the value is.
+// Returns the literal that the value describes.
 #[tactic(auto, unfolding(crate::specs::Conditions::literal_of))]
 fn literal_of(alloc: Global, graph: &Graph, value: &Value) -> Result<Literal, LineFault>
     ensures ok { IfOk result (λ c. literal_in graph.now (view value.now) ≡ Ok c) }
@@ -33,7 +33,7 @@ fn literal_of(alloc: Global, graph: &Graph, value: &Value) -> Result<Literal, Li
     }
 }
 
-// Returns, of two faults that of lesser number.
+// Returns the error with the lesser number.
 #[tactic(auto, unfolding(crate::specs::Conditions::lesser))]
 fn lesser(first: LineFault, second: LineFault) -> LineFault
     ensures { result ≡ lesser_in first second }
@@ -45,11 +45,11 @@ fn lesser(first: LineFault, second: LineFault) -> LineFault
     }
 }
 
-// What was read of the first literals of a list: the condition that they make, none before the first; or their fault of
-// least number.
+// What was read of the first literals of a list: their condition, `None` before the first literal, or the error with
+// the least number.
 type Read = Result<Option<Condition>, LineFault>;
 
-// Returns what was read, and one literal more.
+// Returns what was read, with one more literal.
 fn and_literal(read: Read, quantifier: Quantifier, literal: Literal) -> Read
     requires { HasRoom read }
     ensures literals { literals_read result ≡ with_literal (literals_read read) literal }
@@ -64,7 +64,7 @@ fn and_literal(read: Read, quantifier: Quantifier, literal: Literal) -> Read
     Ok(Some(condition))
 }
 
-// Returns the fault of what was read and of one faulty literal more.
+// Returns the error of what was read and of one more faulty literal.
 fn and_fault(read: &Read, fault: LineFault) -> LineFault
     ensures { result ≡ with_fault (literals_read read.now) fault }
 {
@@ -74,7 +74,7 @@ fn and_fault(read: &Read, fault: LineFault) -> LineFault
     }
 }
 
-// Returns the literals that the items are, all or any of which are to hold.
+// Reads the literals that the items describe, all or any of which must hold.
 fn literals_of(
     alloc: Global,
     graph: &Graph,
@@ -100,7 +100,7 @@ fn literals_of(
     Ok(condition)
 }
 
-// Returns all or any of the literals of the list that the value is.
+// Returns the condition of all or any of the literals in the list.
 #[tactic(auto, unfolding(crate::specs::Conditions::several_of))]
 fn several_of(
     alloc: Global,
@@ -118,7 +118,7 @@ fn several_of(
     literals_of(alloc, graph, quantifier, items)
 }
 
-// Returns the condition that the value is: a literal, or all or any of several.
+// Returns the condition that the value describes: a literal, or all or any of several.
 #[tactic(auto, unfolding(crate::specs::Conditions::combined_of))]
 fn combined_of(alloc: Global, graph: &Graph, value: &Value) -> Result<Condition, LineFault>
     ensures ok { IfOk result (λ c. combined_in graph.now (view value.now) ≡ Ok c) }
@@ -134,10 +134,10 @@ fn combined_of(alloc: Global, graph: &Graph, value: &Value) -> Result<Condition,
     }
 }
 
-/// Reads the condition that the value is in a script of this version, against the graph.
+/// Reads the condition that the value describes in a script of this version, for the graph.
 ///
-/// `BadShape` comes before `UnknownName`, and this before `BadTime`, in whichever literal each stands. `Memory` comes
-/// only if there was no memory for a list of the condition.
+/// `BadShape` comes before `UnknownName`, and `UnknownName` before `BadTime`, whichever literals they are in. Returns
+/// `Memory` only if the allocation of a list of the condition failed.
 #[tactic(auto, unfolding(crate::specs::Conditions::condition_of))]
 pub fn condition_of(
     alloc: Global,

@@ -34,11 +34,11 @@ fn natural_or_null(number: Option<u32>) -> Json
     }
 }
 
-// What an effect lists, which the names of a graph's locations show.
+// An element of an effect's list, shown with the names of a graph's locations.
 trait Shown {
     ghost shown: { Dataflow → Self → Data };
 
-    // Where the value changed, the value before, and the value after.
+    // Returns the place of the change, the value before and the value after.
     fn value(&self, alloc: Global, graph: &Graph) -> Result<Json, AllocError>
         ensures reply { IfOk result (λ j. j ≡ shown graph.now self.now) };
 }
@@ -157,8 +157,8 @@ fn lists_object(alloc: Global, lists: Lists) -> Result<Json, AllocError>
     })
 }
 
-/// Makes the object of what a step changed, with the names of the graph's locations: eight lists, each element with the
-/// value before and the value after.
+/// Returns the object of what a step changed, with the names of the graph's locations: eight lists, each element with
+/// the value before and the value after.
 pub fn effect_value(alloc: Global, graph: &Graph, effect: &Effect) -> Result<Json, AllocError>
     ensures reply { IfOk result (λ j. j ≡ effect_data graph.now (lists_of effect.now)) }
 {

@@ -1,4 +1,4 @@
-//! Why a line is no command.
+//! Why a line is neither a command nor a query.
 ghost use Rattle.std.specs.Prelude.{◌≡◌};
 ghost use Rattle.rewind_forms.specs.LineFaults.{code_of};
 
@@ -6,7 +6,7 @@ use nd_time::Code;
 use std::alloc::AllocError;
 use thiserror::Error;
 
-/// Why a line is no command (this project's own rule).
+/// Why a line is neither a command nor a query (this project's own rule).
 #[derive(Clone, Copy, Debug, PartialEq, Eq, Drop, Error)]
 pub enum LineFault {
     #[error("the line has more bytes than a line may have")]
@@ -35,7 +35,7 @@ impl From<AllocError> for LineFault {
 }
 
 impl LineFault {
-    /// Returns the number and the name under which the fault is answered.
+    /// Returns the number and the name of the error.
     pub fn code(self) -> Code
         ensures { result ≡ code_of self }
     {

@@ -1,4 +1,4 @@
-//! The grammar of a script: the word that a line has under `do`, and the keys beside it.
+//! The grammar of a script: the word at the key `do` of a line, and its other keys.
 ghost use Rattle.std.specs.Prelude.{◌≡◌};
 ghost use Rattle.serde_json.specs.View.{view};
 ghost use Rattle.rewind_forms.specs.Grammar.{find, steps, commands, queries, step_since, command_since, query_since, since as since_in, meant, form_of as form_in};
@@ -7,7 +7,7 @@ use crate::Version;
 use nd_json::{has_keys, text_at};
 use serde_json::Value;
 
-/// What a line asks for, as its word and its keys say alone.
+/// What a line asks for, according to its word and its keys alone.
 #[derive(Clone, Copy, Debug, PartialEq, Eq, Drop)]
 pub enum Form {
     Step(StepForm),
@@ -21,9 +21,9 @@ pub enum StepForm {
     Feed,
     Take,
     Notice,
-    /// A release of a capability, which is given up.
+    /// A release that drops a capability.
     Release,
-    /// A release of a capability, which moves to a later time.
+    /// A release that moves a capability to a later time.
     Move,
     /// A broadcast of all that is unsent.
     Broadcast,
@@ -64,7 +64,8 @@ pub enum QueryForm {
     Turns,
     /// The frontier at a location.
     FrontierAt,
-    /// Why nothing strictly before a pointstamp is known to be finished, if `before` says so.
+    /// Why a processor does not consider everything strictly before a pointstamp finished, if the
+    /// key `before` is true.
     WhyBefore,
 }
 

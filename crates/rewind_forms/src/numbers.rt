@@ -13,7 +13,7 @@ use std::alloc::{AllocError, Global};
 /// The most processors of a cluster.
 const MAX_PROCESSORS: usize = 16;
 
-// Returns the numbers that the items are, if each is one from 0 to 2^32 - 1.
+// Returns the items as numbers, if each is a number from 0 to 2^32 - 1.
 fn smalls(alloc: Global, items: &[Value]) -> Result<Option<Vec<u32>>, AllocError>
     ensures { IfOk result (λ o. option_map (λ v. v.items) o ≡ every small_in (map view items.now)) }
 {
@@ -27,7 +27,7 @@ fn smalls(alloc: Global, items: &[Value]) -> Result<Option<Vec<u32>>, AllocError
     Ok(Some(numbers))
 }
 
-// Returns the values that the items are, if each is one of 64 bits.
+// Returns the items as values, if each is an integer of 64 bits.
 fn integers(alloc: Global, items: &[Value]) -> Result<Option<Values>, AllocError>
     ensures { IfOk result (λ o. o ≡ every integer_in (map view items.now)) }
 {
@@ -41,7 +41,7 @@ fn integers(alloc: Global, items: &[Value]) -> Result<Option<Values>, AllocError
     Ok(Some(values))
 }
 
-/// Returns the numbers of a time that the items are: an epoch and any number of counters.
+/// Returns the items as the numbers of a time: an epoch and any number of counters.
 pub fn numbers_of(alloc: Global, items: &[Value]) -> Result<Option<Vec<u32>>, AllocError>
     ensures { IfOk result (λ o. option_map (λ v. v.items) o ≡ numbers_from (map view items.now)) }
 {
@@ -73,7 +73,7 @@ pub fn values_at(alloc: Global, value: &Value, key: &str) -> Result<Option<Value
     }
 }
 
-// Returns the processors whose numbers the items are, if each is one from 0 to 2^32 - 1.
+// Returns the items as processors, if each is a number from 0 to 2^32 - 1.
 fn processors(alloc: Global, items: &[Value]) -> Result<Option<Processors>, AllocError>
     ensures { IfOk result (λ o. o ≡ every small_in (map view items.now)) }
 {
@@ -87,7 +87,8 @@ fn processors(alloc: Global, items: &[Value]) -> Result<Option<Processors>, Allo
     Ok(Some(numbers))
 }
 
-/// Returns the processors in the list at the key: some, and no more than a cluster may have.
+/// Returns the processors in the list at the key: at least one, and at most as many as a cluster
+/// may have.
 #[tactic(auto, unfolding(crate::specs::Forms::processors_at))]
 pub fn processors_at(
     alloc: Global,

@@ -11,7 +11,7 @@ use nd_state_json::{name_value, point_value, time_value};
 use nd_time::Timestamp;
 use std::alloc::{AllocError, Global};
 
-// Returns what becomes of the token after a feed: a word, or the epoch to which it goes.
+// Returns what becomes of the token after a feed: a word, or the epoch to which it moves.
 fn next_value(alloc: Global, next: Next) -> Result<Json, AllocError>
     ensures reply { IfOk result (λ j. j ≡ next_data next) }
 {
@@ -34,7 +34,7 @@ fn points_value(alloc: Global, graph: &Graph, points: &[Pointstamp]) -> Result<J
     Ok(list.into_json())
 }
 
-// Makes the objects of steps, with the names of a graph.
+// Builds the objects of steps, with the names of a graph.
 #[derive(Drop)]
 struct Objects<'g> {
     alloc: Global,
@@ -42,7 +42,7 @@ struct Objects<'g> {
 }
 
 impl<'g> Objects<'g> {
-    // Values that are fed, and what becomes of the token.
+    // Returns the object of a feed: its values, and what becomes of the token.
     fn feed(&self, p: u32, vertex: usize, values: &[i64], next: Next) -> Result<Json, AllocError>
         ensures object { IfOk result (λ j.
             j ≡ feed_object self.now.graph.now p vertex values.now next) }
@@ -54,7 +54,7 @@ impl<'g> Objects<'g> {
         reply!(in alloc; {"do": "feed", "next": next, "p": p, "values": values, "vertex": name})
     }
 
-    // Returns a record that is taken off an edge.
+    // Returns the object of a take.
     fn take(&self, p: u32, edge: usize, time: &Timestamp, value: i64) -> Result<Json, AllocError>
         ensures object { IfOk result (λ j.
             j ≡ take_object self.now.graph.now p edge time.now value) }
@@ -65,7 +65,7 @@ impl<'g> Objects<'g> {
         reply!(in alloc; {"do": "take", "edge": name, "p": p, "time": time, "value": value})
     }
 
-    // Returns a notice that a vertex is given.
+    // Returns the object of a notice.
     fn notice(&self, p: u32, vertex: usize, time: &Timestamp) -> Result<Json, AllocError>
         ensures object { IfOk result (λ j. j ≡ notice_object self.now.graph.now p vertex time.now) }
     {
@@ -75,7 +75,7 @@ impl<'g> Objects<'g> {
         reply!(in alloc; {"do": "notice", "p": p, "time": time, "vertex": name})
     }
 
-    // Returns a capability that is released: given up, or moved to a later time.
+    // Returns the object of a release, which drops a capability or moves it to a later time.
     fn release(&self, p: u32, vertex: usize, times: &Times) -> Result<Json, AllocError>
         ensures object { IfOk result (λ j.
             j ≡ release_object self.now.graph.now p vertex times.now.time times.now.to) }
@@ -94,14 +94,14 @@ impl<'g> Objects<'g> {
         }
     }
 
-    // Returns a broadcast of all that is unsent.
+    // Returns the object of a broadcast of all that is unsent.
     fn broadcast(&self, p: u32) -> Result<Json, AllocError>
         ensures object { IfOk result (λ j. j ≡ all_object p) }
     {
         reply!(in self.alloc; {"do": "broadcast", "p": p})
     }
 
-    // A broadcast of what is unsent at some pointstamps.
+    // Returns the object of a broadcast of what is unsent at some pointstamps.
     fn part(&self, p: u32, points: &[Pointstamp]) -> Result<Json, AllocError>
         ensures object { IfOk result (λ j. j ≡ part_object self.now.graph.now p points.now) }
     {
@@ -109,7 +109,7 @@ impl<'g> Objects<'g> {
         reply!(in self.alloc; {"do": "broadcast", "p": p, "part": part})
     }
 
-    // Returns a change that is received.
+    // Returns the object of a receive.
     fn receive(&self, from: u32, to: u32) -> Result<Json, AllocError>
         ensures object { IfOk result (λ j. j ≡ receive_object from to) }
     {
@@ -117,9 +117,9 @@ impl<'g> Objects<'g> {
     }
 }
 
-/// Returns the object of a step's command line, with the names of the graph's locations: what a line holds that asks for the step.
+/// Returns the object of a step's command line, with the names of the graph's locations.
 ///
-/// A location that the graph does not have is shown without a name, which no line reads back.
+/// A location that the graph does not have is shown without a name, and such a line cannot be read back.
 #[tactic(auto, unfolding(crate::specs::Objects::object_of))]
 pub fn step_value(alloc: Global, graph: &Graph, step: &Step) -> Result<Json, AllocError>
     ensures object { IfOk result (λ j. j ≡ object_of graph.now step.now) }

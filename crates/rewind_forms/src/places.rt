@@ -45,7 +45,7 @@ pub fn edge_named(graph: &Graph, name: &str) -> Option<usize>
     }
 }
 
-/// The time of these numbers, an epoch and then counters, if it has the depth of the location.
+/// Returns the time of these numbers, an epoch and then counters, if it has the depth of the location.
 #[tactic(auto, unfolding(crate::specs::Places::time_of))]
 pub fn time_of(graph: &Graph, location: usize, numbers: &[u32]) -> Option<Timestamp>
     requires { location < count_of graph.now }
@@ -58,7 +58,7 @@ pub fn time_of(graph: &Graph, location: usize, numbers: &[u32]) -> Option<Timest
     Timestamp::new(*epoch, counters)
 }
 
-/// Returns the pointstamp of a time's numbers at the location that a name has been found to be that of.
+/// Returns the pointstamp at the location that was found for a name, with the time of these numbers.
 #[tactic(auto, unfolding(crate::specs::Places::placed))]
 pub fn placed(graph: &Graph, found: Option<usize>, numbers: &[u32]) -> Result<Pointstamp, LineFault>
     requires { IfSome found (λ l. l < count_of graph.now) }

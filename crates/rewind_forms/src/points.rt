@@ -22,7 +22,7 @@ pub struct NamedTime<'v> {
     pub numbers: Vec<u32>,
 }
 
-// Returns the name and the numbers of a time that two values are.
+// Returns two values as a name and the numbers of a time.
 #[tactic(auto, unfolding(crate::specs::Forms::named_time))]
 fn named_time<'v>(
     alloc: Global,
@@ -44,7 +44,7 @@ fn named_time<'v>(
     }
 }
 
-/// Returns the name at the key, and the numbers of the time beside it.
+/// Returns the name at the key, and the numbers of the time at the key `time`.
 #[tactic(auto, unfolding(crate::specs::Forms::named_at))]
 pub fn named_at<'v>(
     alloc: Global,
@@ -63,7 +63,7 @@ pub fn named_at<'v>(
     }
 }
 
-// Returns the pointstamp that the items are, by its name and its numbers.
+// Returns the items as a pointstamp: its name and its numbers.
 #[tactic(auto, unfolding(crate::specs::Forms::point_of))]
 fn point_of<'v>(alloc: Global, items: &'v [Value]) -> Result<Option<NamedTime<'v>>, AllocError>
     ensures { IfOk result (λ o. option_map name_and_numbers o ≡ point_in (map view items.now)) }
@@ -90,7 +90,7 @@ pub fn point_at<'v>(
     }
 }
 
-// Returns the pointstamp that the value is, by its name and its numbers.
+// Returns the value as a pointstamp: its name and its numbers.
 #[tactic(auto, unfolding(crate::specs::Forms::listed_point))]
 fn listed_point<'v>(alloc: Global, value: &'v Value) -> Result<Option<NamedTime<'v>>, AllocError>
     ensures { IfOk result (λ o. option_map name_and_numbers o ≡ listed_in (view value.now)) }
@@ -101,7 +101,7 @@ fn listed_point<'v>(alloc: Global, value: &'v Value) -> Result<Option<NamedTime<
     }
 }
 
-// Returns the pointstamps that the items are, by their names and numbers.
+// Returns the items as pointstamps: their names and numbers.
 fn points_of<'v>(
     alloc: Global,
     items: &'v [Value],
@@ -157,7 +157,7 @@ fn point_named(graph: &Graph, name: &str, numbers: &[u32]) -> Option<Pointstamp>
     Some(Pointstamp { location, time })
 }
 
-/// Returns the pointstamp whose location's name stands under `at`, and its time beside it.
+/// Returns the pointstamp with its location's name at the key `at` and its time at the key `time`.
 #[tactic(auto, unfolding(crate::specs::Places::point_there))]
 pub fn point_there(alloc: Global, graph: &Graph, value: &Value) -> Result<Pointstamp, LineFault>
     ensures ok { IfOk result (λ c. there_in graph.now (view value.now) ≡ Ok c) }
@@ -168,7 +168,7 @@ pub fn point_there(alloc: Global, graph: &Graph, value: &Value) -> Result<Points
     placed(graph, location, named.numbers.as_slice())
 }
 
-/// The pointstamps of names and numbers, if each is one of the graph.
+/// Returns the pointstamps of names and numbers, if each is one of the graph.
 pub fn points_named(
     alloc: Global,
     graph: &Graph,

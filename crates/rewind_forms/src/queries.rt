@@ -18,7 +18,7 @@ use nd_paths::Pointstamp;
 use serde_json::Value;
 use std::alloc::Global;
 
-/// A search of the positions from `lo` to `hi`, which both count, for the least at which a condition holds.
+/// A search of the positions from `lo` to `hi`, both included, for the least at which a condition holds.
 #[derive(Drop)]
 pub struct Search {
     pub when: Condition,
@@ -75,7 +75,7 @@ pub enum Query {
     Effect(u64),
     /// The positions at which a condition began or ceased to hold.
     Turns(Turns),
-    /// The times that can still arrive at a location, as far as a processor knows.
+    /// The times that can still arrive at a location, according to a processor's view.
     FrontierAt(u32, usize),
     /// The reasons why a processor's view counts something strictly before a pointstamp.
     WhyBefore(u32, Pointstamp),
@@ -227,7 +227,7 @@ fn frontier_at_of(graph: &Graph, value: &Value) -> Result<Query, LineFault>
     Ok(Query::FrontierAt(q, location))
 }
 
-// Returns whether `true` or `false` stands at the key, if one of them does.
+// Returns the boolean at the key, if there is one.
 #[tactic(auto, unfolding(crate::specs::Forms::boolean_at))]
 fn boolean_at(value: &Value, key: &str) -> Option<bool>
     ensures { result ≡ boolean_in key.now (view value.now) }
@@ -250,7 +250,7 @@ fn why_before_of(alloc: Global, graph: &Graph, value: &Value) -> Result<Query, L
     }
 }
 
-/// Returns the query of this form that the value is, against the graph.
+/// Returns the query of this form that the value describes, for the graph.
 pub fn query_of(
     alloc: Global,
     version: Version,

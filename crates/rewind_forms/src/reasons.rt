@@ -1,4 +1,4 @@
-//! The reasons for which a processor does not consider a pointstamp finished.
+//! The reasons why a processor does not consider a pointstamp finished.
 ghost use Rattle.std.specs.Prelude.{◌≡◌, IfOk};
 ghost use Rattle.rewind_forms.specs.Reasons.{reason_members, reason_data, reasons_data};
 
@@ -23,7 +23,8 @@ fn reason_object(
     reply!(in alloc; {"held": held, "point": point, "unheard": unheard, "view": view})
 }
 
-// Returns one reason: its pointstamp, all that is held there, all that was not heard of it, and what the view counts.
+// Returns one reason: its pointstamp, all that is held there, the updates of it that were not received, and the
+// view's count.
 fn reason_value<A: Allocator, B: Allocator>(
     alloc: Global,
     graph: &Graph<A>,

@@ -15,21 +15,21 @@ use nd_time::Code;
 use nd_timeline::{Reply, Stop};
 use std::alloc::{AllocError, Allocator, Global};
 
-/// Returns a fault's number and name.
+/// Returns an error's number and name.
 pub fn fault(alloc: Global, code: Code) -> Result<Json, AllocError>
     ensures reply { IfOk result (λ j. j ≡ fault_data code) }
 {
     reply!(in alloc; {"code": code.number(), "error": code.name()})
 }
 
-/// Returns a fault's number and name, and the location where it lies.
+/// Returns an error's number and name, and the location at which it is.
 pub fn location_fault(alloc: Global, code: Code, location: &str) -> Result<Json, AllocError>
     ensures reply { IfOk result (λ j. j ≡ location_fault_data code location.now) }
 {
     reply!(in alloc; {"code": code.number(), "error": code.name(), "location": location})
 }
 
-/// Returns a fault's number and name, and the piece of a search that it leaves without a result.
+/// Returns an error's number and name, and the piece of a search that it leaves without a result.
 pub fn piece_fault(alloc: Global, code: Code, piece: u64) -> Result<Json, AllocError>
     ensures reply { IfOk result (λ j. j ≡ piece_fault_data code piece) }
 {
@@ -43,14 +43,14 @@ pub fn graph(alloc: Global, locations: u64, processors: u64) -> Result<Json, All
     reply!(in alloc; {"locations": locations, "ok": true, "processors": processors})
 }
 
-// Returns the reply to a command that moved the cursor: where it stands, and the number of kept steps.
+// Returns the reply to a command that moved the cursor: its position, and the number of kept steps.
 fn moved(alloc: Global, at: u64, kept: u64) -> Result<Json, AllocError>
     ensures reply { IfOk result (λ j. j ≡ moved_data at kept) }
 {
     reply!(in alloc; {"at": at, "kept": kept, "ok": true})
 }
 
-// Returns what a run stopped at.
+// Returns why a run stopped.
 fn stop(alloc: Global, stop: Stop) -> Result<Json, AllocError>
     ensures reply { IfOk result (λ j. j ≡ stop_data stop) }
 {
@@ -61,14 +61,14 @@ fn stop(alloc: Global, stop: Stop) -> Result<Json, AllocError>
     }
 }
 
-// Returns the reply to a run: the cursor, the number of kept steps, the number of those that it made, and what it stopped at.
+// Returns the reply to a run: the cursor, the number of kept steps, the number of executed steps, and why it stopped.
 fn ran(alloc: Global, at: u64, kept: u64, ran: u64, shown: Json) -> Result<Json, AllocError>
     ensures reply { IfOk result (λ j. j ≡ ran_data at kept ran shown) }
 {
     reply!(in alloc; {"at": at, "kept": kept, "ok": true, "ran": ran, "stop": shown})
 }
 
-// Returns the reply to a step that a pointstamp stands in the way of.
+// Returns the reply to a step that is refused because of a pointstamp.
 fn point_fault(alloc: Global, code: Code, point: Json) -> Result<Json, AllocError>
     ensures reply { IfOk result (λ j. j ≡ point_fault_data code point) }
 {
@@ -92,7 +92,7 @@ pub(crate) fn step_refused<A: Allocator>(
     }
 }
 
-// Returns a fault's number and name, and the cursor.
+// Returns an error's number and name, and the cursor.
 fn fault_at(alloc: Global, code: Code, at: u64) -> Result<Json, AllocError>
     ensures reply { IfOk result (λ j. j ≡ fault_at_data code at) }
 {
@@ -139,16 +139,16 @@ pub fn command_reply<A: Allocator>(
     }
 }
 
-// Returns a fault of the line of this number.
+// Returns an error of the line with this number.
 fn faulty(alloc: Global, code: Code, line: u64) -> Result<Json, AllocError>
     ensures reply { IfOk result (λ j. j ≡ faulty_data code line) }
 {
     reply!(in alloc; {"code": code.number(), "error": code.name(), "line": line})
 }
 
-/// Returns the reply to the line of this number, counted from 1, which is no command.
+/// Returns the reply to a faulty line. Its number is counted from 1.
 ///
-/// Out of memory is no reply: it is given back as the error.
+/// Out of memory has no reply: it is returned as the error.
 pub fn line_fault(alloc: Global, fault: LineFault, line: u64) -> Result<Json, AllocError>
     ensures reply { IfOk result (λ j. Some j ≡ line_fault_data fault line) }
 {
@@ -207,28 +207,28 @@ pub fn not_passed(alloc: Global, point: Json) -> Result<Json, AllocError>
     reply!(in alloc; {"ok": true, "passed": false, "point": point})
 }
 
-/// Returns the reply to a query about a processor that is not there.
+/// Returns the reply to a query about a processor that does not exist.
 pub fn no_processor(alloc: Global) -> Result<Json, AllocError>
     ensures reply { IfOk result (λ j. j ≡ no_processor_data) }
 {
     fault(alloc, Refusal::NoProcessor.code())
 }
 
-/// Returns the reply to a search: the least position at which its breakpoint holds, if there is one.
+/// Returns the reply to a search: the least position at which its condition holds, if there is one.
 pub fn found(alloc: Global, least: Option<u64>) -> Result<Json, AllocError>
     ensures reply { IfOk result (λ j. j ≡ found_data least) }
 {
     reply!(in alloc; {"found": least, "ok": true})
 }
 
-/// Returns the reply to the line that gives the script's version.
+/// Returns the reply to the line that names the script's version.
 pub fn version(alloc: Global, number: u64) -> Result<Json, AllocError>
     ensures reply { IfOk result (λ j. j ≡ version_data number) }
 {
     reply!(in alloc; {"ok": true, "version": number})
 }
 
-/// Returns the reply to a query for all kept steps, which the value shows: they, and the cursor.
+/// Returns the reply to a query for all kept steps: the steps, which the value shows, and the cursor.
 pub fn exported(alloc: Global, at: u64, shown: Json) -> Result<Json, AllocError>
     ensures reply { IfOk result (λ j. j ≡ exported_data at shown) }
 {
@@ -253,8 +253,8 @@ pub fn changed(alloc: Global, shown: Json, more: bool) -> Result<Json, AllocErro
     }
 }
 
-/// The reply to a query why a pointstamp has not passed: whether it is finished, whether it has passed, and the reasons,
-/// which the value shows.
+/// Returns the reply to a query why a pointstamp is not considered finished: whether it is finished, whether the view has
+/// passed it, and the reasons, which the value shows.
 pub fn why(alloc: Global, finished: bool, passed: bool, shown: Json) -> Result<Json, AllocError>
     ensures reply { IfOk result (λ j. j ≡ why_data finished passed shown) }
 {
@@ -273,15 +273,15 @@ pub fn candidates(alloc: Global, shown: Json, more: bool) -> Result<Json, AllocE
     }
 }
 
-/// Returns the reply to a query for what a kept step changed, which the value shows; `step` shows the step.
+/// Returns the reply to a query for an effect: `step` shows the kept step, and the other value shows what it changed.
 pub fn effect(alloc: Global, shown: Json, step: Json) -> Result<Json, AllocError>
     ensures reply { IfOk result (λ j. j ≡ effect_data shown step) }
 {
     reply!(in alloc; {"changed": shown, "ok": true, "step": step})
 }
 
-/// Returns the reply to a query for the positions at which a condition turned, which the value shows: whether it holds at the
-/// first, and whether there are more turns than the value shows.
+/// Returns the reply to a query for the turns of a condition, which the value shows: whether the condition holds at the first
+/// position, and whether there are more turns than the value shows.
 pub fn turns(alloc: Global, at_lo: bool, shown: Json, more: bool) -> Result<Json, AllocError>
     ensures reply { IfOk result (λ j. j ≡ turns_data at_lo shown more) }
 {

@@ -6,7 +6,7 @@ ghost use Rattle.rewind_forms.specs.Forms.{alone as alone_in, inner as inner_in}
 use nd_json::has_keys;
 use serde_json::Value;
 
-/// Returns what stands under the key, if it is the value's only one.
+/// Returns the value at the key, if this is the object's only key.
 #[tactic(auto, unfolding(crate::specs::Forms::alone))]
 pub fn alone<'v>(value: &'v Value, key: &str) -> Option<&'v Value>
     ensures { option_map (λ v. view v.now) result ≡ alone_in key.now (view value.now) }
@@ -18,7 +18,7 @@ pub fn alone<'v>(value: &'v Value, key: &str) -> Option<&'v Value>
     }
 }
 
-/// Returns the object with these keys that stands under the only key of the value.
+/// Returns the object with these keys at the only key of the value.
 #[tactic(auto, unfolding(crate::specs::Forms::inner))]
 pub fn inner<'v>(value: &'v Value, key: &str, keys: &[&str]) -> Option<&'v Value>
     ensures { option_map (λ v. view v.now) result

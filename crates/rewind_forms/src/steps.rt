@@ -16,7 +16,7 @@ use nd_protocol::{BoxedTimes, Next, Part, Step, Times};
 use serde_json::Value;
 use std::alloc::Global;
 
-// Returns the epoch that the object under `next` names.
+// Returns the epoch that the object at the key `next` names.
 #[tactic(auto, unfolding(crate::specs::Steps::epoch_at))]
 fn epoch_at(value: &Value) -> Option<u32>
     ensures { result ≡ epoch_in (view value.now) }
@@ -97,7 +97,7 @@ fn notice_of(alloc: Global, graph: &Graph, value: &Value) -> Result<Step, LineFa
     })
 }
 
-// Returns a release of a capability, which is given up.
+// Returns the release that drops a capability.
 #[tactic(auto, unfolding(crate::specs::Steps::release_of))]
 fn release_of(alloc: Global, graph: &Graph, value: &Value) -> Result<Step, LineFault>
     ensures ok { IfOk result (λ c. release_in graph.now (view value.now) ≡ Ok c) }
@@ -121,7 +121,7 @@ fn release_of(alloc: Global, graph: &Graph, value: &Value) -> Result<Step, LineF
     })
 }
 
-// Returns a release of a capability, which moves to a later time.
+// Returns the release that moves a capability to a later time.
 #[tactic(auto, unfolding(crate::specs::Steps::move_of))]
 fn move_of(alloc: Global, graph: &Graph, value: &Value) -> Result<Step, LineFault>
     ensures ok { IfOk result (λ c. move_in graph.now (view value.now) ≡ Ok c) }
@@ -146,7 +146,7 @@ fn broadcast_of(value: &Value) -> Result<Step, LineFault>
     Ok(Step::Broadcast { p, part: Part::All })
 }
 
-// A broadcast of what is unsent at the pointstamps of a list.
+// Returns a broadcast of what is unsent at the pointstamps of a list.
 #[tactic(auto, unfolding(crate::specs::Steps::part_of))]
 fn part_of(alloc: Global, graph: &Graph, value: &Value) -> Result<Step, LineFault>
     ensures ok { IfOk result (λ c. part_in graph.now (view value.now) ≡ Ok c) }
@@ -173,7 +173,7 @@ fn receive_of(value: &Value) -> Result<Step, LineFault>
     Ok(Step::Receive { from, to })
 }
 
-/// Returns the step of this form that the value asks for in a script of this version, against the graph.
+/// Returns the step of this form that the value asks for in a script of this version, for the graph.
 pub fn step_of(
     alloc: Global,
     version: Version,
@@ -196,10 +196,10 @@ pub fn step_of(
     }
 }
 
-/// Returns the step that a line of this value asks for in a script of the last version, against the graph: `BadShape` if it is no
-/// step's, then `UnknownName`, then `BadTime`.
+/// Returns the step that the value asks for in a script of the last version, for the graph, or the first of these errors that
+/// applies: `BadShape` if it is not a step, `UnknownName`, `BadTime`.
 ///
-/// `Memory` comes only if there was no memory for a list of the step.
+/// Returns `Memory` only if the allocation of a list of the step failed.
 #[tactic(auto, unfolding(crate::specs::Steps::read_of))]
 pub fn read_step(alloc: Global, graph: &Graph, value: &Value) -> Result<Step, LineFault>
     ensures ok { IfOk result (λ x. read_in graph.now (view value.now) ≡ Ok x) }

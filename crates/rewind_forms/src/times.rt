@@ -17,7 +17,7 @@ fn time_value(alloc: Global, time: &ArrivalTime) -> Result<Json, AllocError>
     list_of(alloc, numbers.as_slice())
 }
 
-/// Makes the list of the times, in their order: of each its epoch, and then its counters.
+/// Returns the list of the times, in their order, each as its epoch and then its counters.
 pub fn times_value(alloc: Global, times: &[ArrivalTime]) -> Result<Json, AllocError>
     ensures reply { IfOk result (λ j. j ≡ times_data times.now) }
 {

@@ -1,4 +1,4 @@
-//! What a processor has not heard of a pointstamp.
+//! The updates of a pointstamp that a processor has not received.
 ghost use Rattle.std.specs.Prelude.{◌≡◌, map, IfOk};
 ghost use Rattle.nd_state_json.specs.StateText.{row};
 ghost use Rattle.rewind_forms.specs.Reasons.{unheard_data};
@@ -7,7 +7,7 @@ use nd_json::{Json, JsonList, reply};
 use nd_why::Unheard;
 use std::alloc::{AllocError, Global};
 
-// Returns one update, with where it is.
+// Returns one update, and where it is.
 fn one_value(alloc: Global, one: &Unheard) -> Result<Json, AllocError>
     ensures reply { IfOk result (λ j. j ≡ unheard_data one.now) }
 {
@@ -19,7 +19,7 @@ fn one_value(alloc: Global, one: &Unheard) -> Result<Json, AllocError>
     }
 }
 
-/// Returns all updates that were not heard, in the order in which they are given.
+/// Returns all updates that were not received, in the order in which they are given.
 pub(crate) fn unheard_value(alloc: Global, unheard: &[Unheard]) -> Result<Json, AllocError>
     ensures reply { IfOk result (λ j. j ≡ row (map unheard_data unheard.now)) }
 {

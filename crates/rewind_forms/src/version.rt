@@ -6,20 +6,19 @@ ghost use Rattle.rewind_forms.specs.Versions.{number_of, numbered as numbered_in
 use nd_json::{has_keys, whole_at};
 use serde_json::Value;
 
-/// The version of a script, which says what its lines may ask (this project's own rule).
+/// The version of a script, which determines what its lines may ask for (this project's own rule).
 #[derive(Clone, Copy, Debug, PartialEq, Eq, Drop)]
 pub enum Version {
-    /// That of a script whose first line is its graph.
+    /// The version of a script whose first line is its graph.
     First,
-    /// Deeper loops and more processors, and the kept steps may be asked for.
+    /// Adds deeper loops, more processors, and queries for the kept steps.
     Second,
-    /// As the second; and it may be asked why a time has not passed, and when a view changed.
+    /// Adds queries why a time is not considered finished, and when a view changed.
     Third,
-    /// As the third; and it may be asked what can happen next, what a step changed and when a condition turned, and conditions
-    /// may be put together.
+    /// Adds queries for what can happen next, for what a step changed and for when a condition turned, and conditions of several
+    /// literals.
     Fourth,
-    /// As the fourth; and vertices may hold capabilities, which are released, a feed may name the epoch after it, and a run its
-    /// processors.
+    /// Adds vertices that hold capabilities, releases, feeds that name the next epoch, and runs of some processors.
     Fifth,
 }
 
@@ -37,7 +36,7 @@ impl Version {
         }
     }
 
-    /// Returns whether a script of this version has what the version `since` brought.
+    /// Returns whether a script of this version has what the version `since` introduced.
     pub fn includes(self, since: Version) -> bool
         ensures { result ≡ includes_in self since }
     {
@@ -45,7 +44,7 @@ impl Version {
     }
 }
 
-// Returns the version of this number, of those that a line can give.
+// Returns the version of this number, if a line can name it.
 #[tactic(auto, unfolding(crate::specs::Versions::numbered))]
 fn numbered(number: u64) -> Option<Version>
     ensures { result ≡ numbered_in number }
@@ -63,7 +62,7 @@ fn numbered(number: u64) -> Option<Version>
     }
 }
 
-/// Returns the version that the value gives, if it is an object with the one key "version" and the number of one after the first.
+/// Returns the version that the value names: an object with the one key "version" and the number of a version after the first.
 #[tactic(auto, unfolding(crate::specs::Versions::version_of))]
 pub fn version_of(value: &Value) -> Option<Version>
     ensures { result ≡ version_in (view value.now) }
