@@ -7,7 +7,7 @@ use nd_json::Json;
 use rewind_forms::{candidates_value, replies, times_value};
 use std::alloc::{AllocError, Global};
 
-/// Replies with the steps that a run could try, and why those that are refused are refused.
+/// Replies with the steps that a run could try, and why each refused step is refused.
 pub(crate) fn answer_candidates(alloc: Global, cluster: &Cluster) -> Result<Json, AllocError>
     ensures reply { IfOk result (CandidatesReply cluster.now) }
 {
@@ -18,7 +18,7 @@ pub(crate) fn answer_candidates(alloc: Global, cluster: &Cluster) -> Result<Json
     replies::candidates(alloc, shown, candidates.more)
 }
 
-/// Replies with the times that can still arrive at a location, as far as a processor knows.
+/// Replies with the times that can still arrive at a location, according to a processor's view.
 pub(crate) fn answer_frontier_at(
     alloc: Global,
     cluster: &Cluster,

@@ -20,10 +20,11 @@ use serde_json::Value;
 use std::alloc::{AllocError, Global};
 use std::thread::Threads;
 
-/// The number of the client whose script it is.
+/// The number of the only client.
 const ONLY_CLIENT: u64 = 0;
 
-// Returns the graph that the value is, as it is written in a script of the version: no vertex was a hold before the fifth.
+// Returns the draft that the value describes in a script of this version. Before the fifth version no vertex can be a
+// hold.
 fn draft_of(alloc: Global, version: Version, value: &Value) -> Result<GraphDraft, GraphFault>
     ensures { IsUnlessMemory (ok_or (draft_in version (view value.now)) Shape) result }
 {
@@ -35,7 +36,7 @@ fn draft_of(alloc: Global, version: Version, value: &Value) -> Result<GraphDraft
     }
 }
 
-// Returns the graph that is written, judged as in a script of the version.
+// Checks the draft as in a script of this version.
 fn judged(alloc: Global, version: Version, draft: GraphDraft) -> Result<Graph, GraphFault>
     ensures { IsUnlessMemory (checked_in version draft) result }
 {
@@ -45,7 +46,7 @@ fn judged(alloc: Global, version: Version, draft: GraphDraft) -> Result<Graph, G
     }
 }
 
-/// Returns the graph that the value is, in a script of the version.
+/// Returns the graph that the value describes in a script of this version.
 fn graph_of(alloc: Global, version: Version, value: &Value) -> Result<Graph, GraphFault>
     ensures { IsUnlessMemory (graph_in version (view value.now)) result }
 {
@@ -56,7 +57,7 @@ fn graph_of(alloc: Global, version: Version, value: &Value) -> Result<Graph, Gra
     judged(alloc, version, draft)
 }
 
-// Returns the most processors in a script of the version.
+// Returns the most processors in a script of this version.
 fn most_processors(version: Version) -> u8
     ensures { result ≡ most_in version }
 {
@@ -100,7 +101,7 @@ fn start_on(
     }
 }
 
-/// Answers the graph's line in a script of the version, and starts a `State` if the graph is accepted.
+/// Answers the graph's line in a script of this version, and starts a `State` if the graph is accepted.
 pub fn answer_first(
     alloc: Global,
     version: Version,

@@ -18,7 +18,8 @@ use serde_json::Value;
 use std::alloc::{AllocError, Global};
 use std::thread::Threads;
 
-/// The stage of a run: before any line, with a number of processors; before the graph's line, in a script of a version; or running.
+/// The stage of a run: before any line, with a number of processors; before the graph's line, in a script of this version; or
+/// after it.
 #[derive(Drop)]
 pub enum Stage {
     Unopened(u8),
@@ -26,7 +27,7 @@ pub enum Stage {
     Running(Script),
 }
 
-/// A script that runs, of a version.
+/// A script of this version whose graph is accepted.
 #[derive(Drop)]
 pub struct Script {
     pub version: Version,
@@ -67,7 +68,7 @@ fn answer_fault(
     })
 }
 
-// Answers the graph's line in a script of the version.
+// Answers the graph's line in a script of this version.
 fn answer_graph(
     alloc: Global,
     stage: &mut Stage,
@@ -90,7 +91,7 @@ fn answer_graph(
     })
 }
 
-// Answers the first line, which gives the script's version or is the graph's.
+// Answers the first line, which names the script's version or is the graph's.
 fn answer_opening(
     alloc: Global,
     stage: &mut Stage,

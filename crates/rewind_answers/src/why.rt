@@ -10,7 +10,7 @@ use nd_timeline::Timeline;
 use rewind_forms::{Turns, ViewChanges, changes_value, reasons_value, replies};
 use std::alloc::{AllocError, Global};
 
-/// Replies with the reasons for which a processor does not consider a pointstamp finished, and whether it is.
+/// Replies with the reasons why a processor does not consider a pointstamp finished, and whether it is finished.
 pub(crate) fn answer_why(
     alloc: Global,
     cluster: &Cluster,
@@ -32,8 +32,8 @@ pub(crate) fn answer_why(
     replies::why(alloc, finished, passed, shown)
 }
 
-/// Replies with the reasons for which a processor does not consider all that is strictly before a pointstamp finished, and
-/// whether it is.
+/// Replies with the reasons why a processor does not consider everything strictly before a pointstamp finished, and whether it is
+/// finished.
 pub(crate) fn answer_why_before(
     alloc: Global,
     cluster: &Cluster,
