@@ -19,8 +19,8 @@ use std::thread::Threads;
 /// The most bytes of a script.
 const INPUT_LIMIT: usize = 268_435_456;
 
-// Answers a script that was read completely: the version line, if there was one, and the graph's,
-// then what the clients were answered.
+// Writes the replies to a script that was read completely: to the version line, if there was one,
+// to the graph's line, and then to the clients' commands.
 fn answer_script<R: Threads + Wait + Sync, T: Sink, G: Gate>(
     rt: &R,
     alloc: Global,
@@ -34,7 +34,7 @@ fn answer_script<R: Threads + Wait + Sync, T: Sink, G: Gate>(
     ensures kind { IfErr result IsOfAnswering }
     ensures write { T.failed sink.new ≡ is_write_fault result }
 {
-    // This call's clauses say that the `State` began at a start.
+    // This call's clauses say that the `State` began at an initial state.
     let _ = script.state.timeline();
     tell_opening(alloc, sink, script.opened, &script.reply)?;
     let driven = drive_session(rt, alloc, script.state, script.commands, gate)?;
@@ -47,7 +47,7 @@ fn answer_script<R: Threads + Wait + Sync, T: Sink, G: Gate>(
     )
 }
 
-// Answers what the lines of a script came to.
+// Writes the replies to the lines of a script.
 fn answer<R: Threads + Wait + Sync, T: Sink, G: Gate>(
     rt: &R,
     alloc: Global,
@@ -77,12 +77,12 @@ fn answer<R: Threads + Wait + Sync, T: Sink, G: Gate>(
 
 /// Runs the script of several clients, each client's commands on a thread of its own.
 ///
-/// All of the script is read first, at most `INPUT_LIMIT` bytes; after a fault of reading nothing
-/// is written. The first faulty line is answered alone, without the reply to a version line, and no
-/// command is run. Else the reply to the version line, if there is one, and the graph's are
-/// written, and then, once all clients have stopped, the entries of the log and a line for each
-/// client whose command was answered with a fault of the session. The gate is called with a
-/// client's number and that of its command before each.
+/// The complete script is read first, at most `INPUT_LIMIT` bytes. If reading fails, nothing is
+/// written. If a line is faulty, only the reply to the first faulty line is written, and no command
+/// is executed. Otherwise the reply to the version line, if there is one, and the reply to the
+/// graph's line are written. After all clients have stopped, the entries of the log follow, and a
+/// line for each client with a command that the session refused. The gate is called before each
+/// command, with the numbers of the client and of the command.
 pub fn debug_clients<R: Threads + Wait + Sync, S: Source, T: Sink, G: Gate>(
     rt: &R,
     alloc: Global,
@@ -100,11 +100,12 @@ pub fn debug_clients<R: Threads + Wait + Sync, S: Source, T: Sink, G: Gate>(
         → Ends options.now.processors options.now.clients max_input
         input (S.remaining source.new) before (T.contents sink.new) result }
 
-    // These bytes are taken, also from a source whose bytes are unknown; all if it ended.
+    // How many bytes are taken, even from a source whose bytes are unknown; all of them if the
+    // source has ended.
     ensures takes { Takes max_input result (S.given source.new - S.given source.old) }
     ensures ended { OnOk result (S.ended source.new ≡ true) }
 
-    // Read and Write are answered exactly if the source or the sink failed.
+    // Read and Write are returned exactly if the source or the sink failed.
     ensures read { S.failed source.new ≡ is_read_fault result }
     ensures write { T.failed sink.new ≡ is_write_fault result }
 {

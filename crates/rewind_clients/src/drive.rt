@@ -37,7 +37,7 @@ pub struct Driven {
     pub faults: Vec<Option<SessionFault>>,
 }
 
-// Gives a client's commands in order, each after a call of the gate, until one is answered with a fault.
+// Issues a client's commands in order, each after a call of the gate, until the session refuses one.
 fn drive<R: Wait, G: Gate>(
     rt: &R,
     alloc: Global,
@@ -64,7 +64,7 @@ fn drive<R: Wait, G: Gate>(
     }
 }
 
-// Returns the next client, of this number. Another number, or none, is a session that does not add up.
+// Returns the next client, which must have this number. Otherwise returns `Close`, or `Memory` if memory ran out.
 fn enter<R: Wait>(
     rt: &R,
     alloc: Global,
@@ -87,7 +87,7 @@ fn enter<R: Wait>(
     }
 }
 
-// All clients enter, in the order of their numbers, before any command.
+// Lets all clients enter, in the order of their numbers, before any command.
 fn enter_all<R: Wait>(
     rt: &R,
     alloc: Global,
@@ -108,7 +108,7 @@ fn enter_all<R: Wait>(
     Ok(tasks)
 }
 
-// Each client's commands, on a thread of its own if one can be made. All are joined.
+// Runs each client's commands, on a thread of its own if one can be started, and joins all threads.
 fn drive_all<R: Threads + Wait + Sync, G: Gate>(
     rt: &R,
     alloc: Global,
@@ -128,7 +128,7 @@ fn drive_all<R: Threads + Wait + Sync, G: Gate>(
     thread::map_vec(rt, tasks, &worker)
 }
 
-// Returns whether a client of a run may end so: it made all its commands, or met a full log or a refused growth.
+// Returns whether a client of a run may end with this error: none, a full log, or out of memory.
 fn may_end(fault: &Option<SessionFault>) -> bool
     ensures { MatchBool result (MayEnd fault.now) (MayEnd fault.now → ⊥) }
 {
@@ -141,7 +141,7 @@ fn may_end(fault: &Option<SessionFault>) -> bool
     }
 }
 
-// Returns the clients, and why each stopped. Another fault than a client may end with is one of a session that does not add up.
+// Returns the clients, and why each stopped. If a client stopped with any other error, returns `Close`.
 fn split(
     alloc: Global,
     done: Vec<Done>,
@@ -163,8 +163,8 @@ fn split(
     Ok((clients, faults))
 }
 
-/// Runs all clients' commands on a session of the `State`, and closes it. A log that began elsewhere
-/// is one of a session that does not add up.
+/// Runs all clients' commands on a session of the `State`, and closes it. If the log does not belong to the `State`, returns
+/// `Close`.
 pub fn drive_session<R: Threads + Wait + Sync, G: Gate>(
     rt: &R,
     alloc: Global,

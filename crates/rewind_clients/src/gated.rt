@@ -30,7 +30,7 @@ impl<'a, G: Gate> Gated<'a, G> {
             .call(client.number(), client.receipts().len() as u64);
     }
 
-    /// Gives a client's command, for which the gate was called.
+    /// Issues a client's command, for which the gate was called.
     pub fn command(
         &self,
         rt: &impl Wait,

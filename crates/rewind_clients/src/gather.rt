@@ -1,4 +1,4 @@
-//! Replies that are gathered one after another, and written once they are many.
+//! Replies that are gathered one after another, and written together.
 ghost use Rattle.std.specs.Prelude.{◌≡◌, ◌<◌, ◌++◌, ◌∷◌, [], ℕ, List, false, length, is_err, IfErr, OnOk, OnErr};
 ghost use Rattle.serde_json.specs.Data.{Data};
 ghost use Rattle.rewind_lines.specs.Faults.{is_write_fault};
@@ -23,8 +23,8 @@ pub fn flush<T: Sink>(outbox: &mut Outbox, sink: &mut T) -> Result<(), Unwritten
     outbox.flush(sink)
 }
 
-/// Gathers one more reply, and writes all that wait if they are many: fewer than 65,536 bytes are
-/// left waiting.
+/// Gathers one more reply, and writes all waiting replies if they are many: afterwards fewer than
+/// 65,536 bytes wait.
 pub fn put<T: Sink>(outbox: &mut Outbox, sink: &mut T, reply: &Json) -> Result<(), DebugFault>
     requires sound { T.failed sink.old ≡ false }
     ensures ok { OnOk result ((replies : List Data) (before : List ℕ)

@@ -1,4 +1,4 @@
-//! What the lines of a script come to, read one after another.
+//! What results from reading the lines of a script, one after another.
 ghost use Rattle.std.specs.Prelude.{◌≡◌, ◌<◌, [], Some, length, IfOk, OnOk};
 ghost use Rattle.serde_json.specs.Data.{Data};
 ghost use Rattle.serde_json.specs.View.{view};
@@ -24,20 +24,20 @@ use std::alloc::{AllocError, Global};
 /// A script that was read completely.
 #[derive(Drop)]
 pub struct Script {
-    /// The version that the version line gives, if there was one.
+    /// The version that the version line names, if there was one.
     pub opened: Option<Version>,
     /// The graph's reply.
     pub reply: Json,
-    /// The `State` that begins at the graph's start.
+    /// The `State` that begins at the initial state on the graph.
     pub state: State,
     /// Each client's commands, in the order of its lines.
     pub commands: Vec<Vec<Command>>,
 }
 
-/// What the lines read so far come to.
+/// The result of the lines read so far.
 #[derive(Drop)]
 pub enum Intake {
-    /// No graph yet; the version that the version line gives, if there was one. All others were
+    /// No graph yet; the version that the version line names, if there was one. All other lines were
     /// blank.
     Unstarted(Option<Version>),
     /// The graph's line was refused, and this is its reply.
@@ -48,7 +48,7 @@ pub enum Intake {
     Whole(Script),
 }
 
-// No client has a command yet.
+// Returns an empty list of commands for each client.
 fn no_commands(alloc: Global, clients: u8) -> Result<Vec<Vec<Command>>, AllocError>
     ensures { IfOk result (λ v. lists_of v.items ≡ no_commands_in clients) }
 {
@@ -59,7 +59,7 @@ fn no_commands(alloc: Global, clients: u8) -> Result<Vec<Vec<Command>>, AllocErr
     Ok(commands)
 }
 
-// Returns what a line that is no JSON value comes to before the graph's: it ends the run.
+// Returns the result of a line up to the graph's that is no JSON value: it ends the run.
 fn refuse(alloc: Global, fault: LineFault, line: u64) -> Result<Intake, AllocError>
     ensures { IfOk result (λ new. (reply : Data) × (Some reply ≡ line_fault fault line)
         × (intake_view new ≡ refused_graph reply)) }
@@ -67,7 +67,7 @@ fn refuse(alloc: Global, fault: LineFault, line: u64) -> Result<Intake, AllocErr
     Ok(Intake::Refused(replies::line_fault(alloc, fault, line)?))
 }
 
-// Returns what the graph's line comes to, by its value.
+// Returns the result of the graph's line, from its value.
 fn start(
     alloc: Global,
     options: &Options,
@@ -91,7 +91,8 @@ fn start(
     }
 }
 
-// Returns what the version line or the graph's comes to, by its value: a second version line is none.
+// Returns the result of the version line or the graph's line, from its value. A second version line
+// counts as the graph's.
 fn read_value(
     alloc: Global,
     options: &Options,
@@ -112,7 +113,7 @@ fn read_value(
     }
 }
 
-// Returns what the graph's line, or one before it, comes to.
+// Returns the result of the graph's line, or of a line before it.
 fn begin(
     alloc: Global,
     options: &Options,
@@ -144,7 +145,7 @@ fn add_command(commands: &mut Vec<Vec<Command>>, order: Order) -> Result<(), All
 }
 
 impl Script {
-    // Takes in a line that is not blank; what it says if it is faulty.
+    // Processes a line that is not blank. Returns the reply if the line is faulty.
     fn read_order(
         &mut self,
         alloc: Global,
@@ -169,7 +170,7 @@ impl Script {
 }
 
 impl Intake {
-    /// Reads on by the line of this number.
+    /// Processes the line with this number.
     pub fn read_line(
         &mut self,
         alloc: Global,

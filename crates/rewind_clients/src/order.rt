@@ -1,4 +1,4 @@
-//! What a line after the graph's asks for, and of which client.
+//! What a line after the graph's asks for, and for which client.
 ghost use Rattle.std.specs.Prelude.{◌≡◌, ◌<◌, IfOk};
 ghost use Rattle.serde_json.specs.View.{view};
 ghost use Rattle.rewind_lines.specs.Readings.{reading_view};
@@ -22,19 +22,19 @@ pub struct Order {
     pub command: Command,
 }
 
-/// Why a line of a script of several clients is no command (this project's own rule).
+/// Why a line of a script of several clients is not a command (this project's own rule).
 #[derive(Clone, Copy, Debug, PartialEq, Eq, Drop)]
 pub enum OrderFault {
     /// As in a script of one client.
     Line(LineFault),
-    /// The line names a client that is not there.
+    /// The line names a client that does not exist.
     BadClient,
     /// The line is a query or a search, which only a script of one client may have.
     OneClientOnly,
 }
 
 impl OrderFault {
-    /// Returns the number and the name under which the fault is answered.
+    /// Returns the number and the name of the error.
     pub fn code(self) -> Code
         ensures { result ≡ code_of self }
     {
@@ -54,7 +54,8 @@ pub fn order_fault(alloc: Global, fault: OrderFault, line: u64) -> Result<Json, 
     reply!(in alloc; {"code": code.number(), "error": code.name(), "line": line})
 }
 
-// Returns whether the line has the form of a query, as what it asks for says, or else the form itself.
+// Returns whether the line has the form of a query: from what it asks for or, if it is faulty, from
+// its form.
 fn is_query(version: Version, value: &Value, asked: &Result<Asked, LineFault>) -> bool
     requires { IfOk asked.now (λ a. is_query_in (form_of version (view value.now)) ≡ asks_query a) }
     ensures { result ≡ is_query_in (form_of version (view value.now)) }
@@ -66,7 +67,7 @@ fn is_query(version: Version, value: &Value, asked: &Result<Asked, LineFault>) -
     }
 }
 
-// Returns the order of a line that has a form, among `clients` clients.
+// Returns the order of a line that has a form, for this number of clients.
 fn settle(
     clients: usize,
     client: u64,
@@ -114,8 +115,8 @@ fn order_of(
     }
 }
 
-/// Reads what a line that is not blank asks for in a script of this version, among `clients` clients.
-/// The outer `Err` is out of memory.
+/// Reads what a line that is not blank asks for in a script of this version, for this number of
+/// clients. The outer `Err` is out of memory.
 pub fn order_in(
     alloc: Global,
     version: Version,

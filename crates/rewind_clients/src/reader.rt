@@ -13,7 +13,7 @@ use std::alloc::{AllocError, Global};
 /// The most bytes that are read at a time.
 const CHUNK: usize = 65_537;
 
-/// What was read of a script, and what it came to.
+/// What was read of a script, and the result.
 #[derive(Drop)]
 struct Reader {
     alloc: Global,
@@ -23,7 +23,7 @@ struct Reader {
 }
 
 impl Reader {
-    // Before the first line.
+    // Returns a reader before the first line.
     fn new(alloc: Global, options: &Options) -> Reader
         ensures stands { StandsAt options.now [] result }
         ensures number { result.lines.number ≡ 1 }
@@ -36,7 +36,7 @@ impl Reader {
         }
     }
 
-    // Ends the line, and takes it in.
+    // Ends the line, and processes it.
     fn end_line(&mut self) -> Result<(), AllocError>
         requires number { self.old.lines.number + 1 < 2 ^ 64 }
         ensures ok { OnOk result ((options : TheOptions) (done : List ℕ)
@@ -51,7 +51,7 @@ impl Reader {
         Ok(())
     }
 
-    // Reads on.
+    // Processes more bytes.
     fn feed(&mut self, bytes: &[u8]) -> Result<(), AllocError>
         requires number { self.old.lines.number + length bytes.now < 2 ^ 64 }
         ensures ok { OnOk result ((options : TheOptions) (done : List ℕ)
@@ -94,7 +94,7 @@ pub fn read_script<S: Source>(
     let chunk = room.as_mut_slice();
     let mut left = limit;
     'reads: loop {
-        // The byte past the limit shows that the input goes on.
+        // The byte past the limit shows that the input is longer.
         let most = CHUNK.min(left + 1);
         let n = read_into(source, chunk, most)?;
         if n == 0 {

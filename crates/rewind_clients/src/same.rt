@@ -1,16 +1,16 @@
-//! Whether two graphs are one.
+//! Whether two graphs are equal.
 ghost use Rattle.std.specs.Prelude.{◌≡◌, IsTrue};
 
 use nd_graph::{Edge, Graph, Vertex};
 
-// Returns whether two vertices are one.
+// Returns whether two vertices are equal.
 fn same_vertex(one: &Vertex, other: &Vertex) -> bool
     ensures { IsTrue result → one.now ≡ other.now }
 {
     one.name == other.name && one.op == other.op && one.depth == other.depth
 }
 
-// Returns whether two edges are one.
+// Returns whether two edges are equal.
 fn same_edge(one: &Edge, other: &Edge) -> bool
     ensures { IsTrue result → one.now ≡ other.now }
 {
@@ -21,7 +21,7 @@ fn same_edge(one: &Edge, other: &Edge) -> bool
         && one.route == other.route
 }
 
-// Returns whether two lists of vertices are one.
+// Returns whether two lists of vertices are equal.
 fn same_vertices(one: &[Vertex], other: &[Vertex]) -> bool
     ensures { IsTrue result → one.now ≡ other.now }
 {
@@ -36,7 +36,7 @@ fn same_vertices(one: &[Vertex], other: &[Vertex]) -> bool
     true
 }
 
-// Returns whether two lists of edges are one.
+// Returns whether two lists of edges are equal.
 fn same_edges(one: &[Edge], other: &[Edge]) -> bool
     ensures { IsTrue result → one.now ≡ other.now }
 {

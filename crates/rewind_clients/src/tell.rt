@@ -1,4 +1,4 @@
-//! What the clients were answered, as lines.
+//! The replies to the clients, as lines.
 ghost use Rattle.std.specs.Prelude.{◌≡◌, ◌++◌, ◌∷◌, [], ℕ, List, Some, false, map, IfOk, IfErr, OnOk};
 ghost use Rattle.serde_json.specs.Data.{Data};
 ghost use Rattle.nd_session.specs.Faults.{code_of};
@@ -24,7 +24,7 @@ fn entry_value(alloc: Global, graph: &Graph, entry: &Receipt) -> Result<Json, Al
     reply!(in alloc; {"client": entry.client, "number": entry.number, "reply": reply})
 }
 
-// Returns the line of a client whose command was answered with a fault.
+// Returns the line of a client with a command that the session refused.
 fn fault_value(alloc: Global, client: u64, fault: &SessionFault) -> Result<Json, AllocError>
     ensures reply { IfOk result (λ j. j ≡ client_fault client (code_of fault.now)) }
 {
@@ -58,7 +58,7 @@ pub fn put_log<T: Sink>(
     Ok(())
 }
 
-// Gathers the line of a client's fault, if it had one.
+// Gathers the line of a client's error, if it had one.
 fn put_fault<T: Sink>(
     alloc: Global,
     outbox: &mut Outbox,
@@ -85,7 +85,7 @@ fn put_fault<T: Sink>(
     Ok(())
 }
 
-/// Gathers the lines of the clients' faults.
+/// Gathers the lines of the clients' errors.
 pub fn put_faults<T: Sink>(
     alloc: Global,
     outbox: &mut Outbox,
@@ -109,7 +109,7 @@ pub fn put_faults<T: Sink>(
     Ok(())
 }
 
-/// Writes a reply alone.
+/// Writes one reply.
 pub fn tell_one<T: Sink>(alloc: Global, sink: &mut T, reply: &Json) -> Result<(), DebugFault>
     requires sound { T.failed sink.old ≡ false }
     ensures ok { OnOk result ((before : List ℕ) → T.contents sink.old ≡ Some before
@@ -193,7 +193,7 @@ pub fn tell_opening<T: Sink>(
     Ok(())
 }
 
-/// Writes the lines of a log, and of the clients' faults.
+/// Writes the lines of a log, and of the clients' errors.
 pub fn tell_log<T: Sink>(
     alloc: Global,
     sink: &mut T,
