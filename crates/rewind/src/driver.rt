@@ -12,16 +12,15 @@ use std::thread::Threads;
 /// The most bytes of a script.
 pub const INPUT_LIMIT: usize = 268_435_456;
 
-/// The most bytes that are read at a time: a line of any length that is read as JSON, and its newline.
+/// The most bytes that are read at a time: the longest line that is parsed as JSON, and its newline.
 const CHUNK: usize = 65_537;
 
-/// Runs the script of one client, and answers the number of lines replied to.
+/// Runs the script of one client, and returns the number of lines that were replied to.
 ///
-/// At most `INPUT_LIMIT` bytes are run; one more ends the run with `TooLong`, so a source that
-/// never ends does not keep it reading. A graph that is refused ends it with `Graph`, whatever
-/// follows. The replies to complete lines are written before more is read. `Script` and
-/// `Close` never come: they belong to scripts of several clients. The runtime gives the threads of
-/// searches, and of nothing else.
+/// At most `INPUT_LIMIT` bytes are processed; one more ends the run with `TooLong`, so even an endless
+/// source ends it. A refused graph ends the run with `Graph`. The replies to complete lines are written
+/// before more is read. The call never returns `Script` or `Close`, which belong to scripts of several
+/// clients. Only searches start threads.
 pub fn debug<R: Threads + Sync, S: Source, T: Sink>(
     rt: &R,
     alloc: Global,
@@ -38,11 +37,12 @@ pub fn debug<R: Threads + Sync, S: Source, T: Sink>(
         → Ends options.now.processors max_input input (S.remaining source.new)
         before (T.contents sink.new) result }
 
-    // These bytes are taken, also from a source whose bytes are unknown; all are answered only if it ended.
+    // How many bytes are taken, even from a source whose bytes are unknown; all lines are answered only if
+    // the source has ended.
     ensures takes { Takes max_input result (S.given source.new - S.given source.old) }
     ensures ended { OnOk result (S.ended source.new ≡ true) }
 
-    // Read and Write are answered exactly if the source or the sink failed.
+    // Read and Write are returned exactly if the source or the sink failed.
     ensures read { S.failed source.new ≡ is_read_fault result }
     ensures write { T.failed sink.new ≡ is_write_fault result }
     ensures one_client { IfErr result (λ e. (e ≢ DebugFault.Script) × (e ≢ DebugFault.Close)) }
@@ -79,7 +79,7 @@ pub fn debug_within<R: Threads + Sync, S: Source, T: Sink>(
     let chunk = room.as_mut_slice();
     let mut left = limit;
     'reads: loop {
-        // The byte past the limit shows that the input goes on.
+        // The byte past the limit shows that the input is longer.
         let most = CHUNK.min(left + 1);
         let n = read_into(source, chunk, most)?;
         if n == 0 {

@@ -12,7 +12,7 @@ use rewind_lines::{DebugFault, LineReader, Outbox, Reading, Sink};
 use std::alloc::{AllocError, Global};
 use std::thread::Threads;
 
-/// What was read of a script, what it came to, and the replies that wait to be written.
+/// What was read of a script, the stage of the run, and the replies that wait to be written.
 #[derive(Drop)]
 pub struct Run {
     alloc: Global,
@@ -45,7 +45,7 @@ impl Run {
         self.replied
     }
 
-    /// Answers the line, gathers the reply, and says how many replies that is and whether the run ends there.
+    /// Answers the line and gathers the reply. Returns how many replies that is, and whether the run ends.
     fn answer<R: Threads + Sync>(
         &mut self,
         rt: &R,
@@ -91,8 +91,8 @@ impl Run {
         Ok(())
     }
 
-    /// Reads on until many bytes of replies wait, and says how far: no reply is added once 65,536
-    /// bytes wait.
+    /// Processes bytes until many bytes of replies wait, and returns how many bytes it processed. No reply is
+    /// added while 65,536 bytes or more wait.
     fn gather<R: Threads + Sync>(&mut self, rt: &R, bytes: &[u8]) -> Result<usize, DebugFault>
         requires number { self.old.lines.number + length bytes.now < 2 ^ 64 }
         requires replied { self.old.replied + length bytes.now < 2 ^ 64 }
@@ -118,7 +118,7 @@ impl Run {
         Ok(bytes.len())
     }
 
-    /// Reads on, and writes the replies to the lines that are whole now, gathered.
+    /// Processes more bytes, and writes the replies to the lines that are now complete, together.
     pub fn feed<R: Threads + Sync, T: Sink>(
         &mut self,
         rt: &R,
