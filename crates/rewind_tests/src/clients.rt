@@ -280,7 +280,7 @@ fn clients_of_a_later_version(rt: HostRuntime) -> Result<(), Fail> {
     Ok(())
 }
 
-/// What follows a version line or none, up to its graph, and the fault that it is answered with alone.
+/// The lines after a version line or none, up to the graph's, and the error that is the only reply.
 static FAULTS: [(&str, &str, &str); 10] = [
     (
         "",

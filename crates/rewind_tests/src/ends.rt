@@ -1,5 +1,5 @@
-//! Sources and sinks in memory, which give and take as many bytes a call as they are told, and
-//! fail where they are told; and standard readers and writers that fail.
+//! Sources and sinks in memory, which give and take a set number of bytes per call and fail at a set call; and
+//! standard readers and writers that fail.
 ghost use Rattle.std.specs.Prelude.{◌≡◌, false};
 
 use rewind_lines::{Sink, Source, Unread, Unwritten};
@@ -8,10 +8,10 @@ use std::cell::Cell;
 use std::io;
 use std::io::{ErrorKind, Read, Write};
 
-/// A call that no run comes to.
+/// The number of a call that no run reaches.
 pub const NEVER: usize = usize::MAX;
 
-/// Gives `step` bytes a call, and fails at the call numbered `fails_at`, from 0.
+/// Gives `step` bytes per call, and fails at the call numbered `fails_at`, from 0.
 #[derive(Drop)]
 pub struct Pieces<'a> {
     pub rest: &'a [u8],
@@ -66,7 +66,7 @@ impl Source for Pieces<'_> {
     }
 }
 
-/// Gives newlines without end, and tells nothing of them.
+/// Gives endless newlines, and its contracts say nothing about them.
 #[derive(Drop)]
 pub struct Newlines {
     pub given: u64,
@@ -88,7 +88,7 @@ impl Source for Newlines {
     }
 }
 
-/// Takes `step` bytes a call, and fails at the call numbered `fails_at`, or takes none there.
+/// Takes `step` bytes per call, and fails at the call numbered `fails_at`, or takes none there.
 #[derive(Drop)]
 pub struct Taken {
     pub bytes: Vec<u8>,
@@ -147,7 +147,7 @@ impl Sink for Taken {
     }
 }
 
-/// A standard reader that gives a byte a call, and fails once, at the call numbered `fails_at`.
+/// A standard reader that gives one byte per call, and fails once, at the call numbered `fails_at`.
 #[derive(Drop)]
 pub struct Stumbles {
     pub bytes: &'static [u8],
@@ -172,7 +172,8 @@ impl Read for Stumbles {
     }
 }
 
-/// A standard writer that takes a byte a call, and once, at the call numbered `fails_at`, fails or takes none.
+/// A standard writer that takes one byte per call, and once, at the call numbered `fails_at`, fails or takes
+/// none.
 #[derive(Drop)]
 pub struct Spills {
     pub bytes: Vec<u8>,
@@ -205,7 +206,7 @@ impl Write for Spills {
     }
 }
 
-/// A source in pieces, which notes how many bytes its sink held as it was read.
+/// A source in pieces, which records at each read how many bytes its sink holds.
 #[derive(Drop)]
 pub struct Asks<'a> {
     pub pieces: Pieces<'a>,
@@ -229,7 +230,7 @@ impl Source for Asks<'_> {
     }
 }
 
-/// A sink that tells how many bytes it holds.
+/// A sink that reports how many bytes it holds.
 #[derive(Drop)]
 pub struct Told<'a> {
     pub taken: Taken,

@@ -13,7 +13,7 @@ use std::thread::Threads;
 pub const LINE: &str =
     r#"{"vertices":[{"name":"a","op":"input","depth":0},{"name":"z","op":"sink","depth":0}],"edges":[{"name":"az","from":"a","port":0,"to":"z","route":"local"}]}"#;
 
-/// The graph of an input, a vertex that keeps capabilities, and a sink in a row.
+/// The graph of an input, a vertex that holds capabilities, and a sink in a row.
 pub const HELD: &str =
     r#"{"vertices":[{"name":"a","op":"input","depth":0},{"name":"h","op":"hold","depth":0},{"name":"z","op":"sink","depth":0}],"edges":[{"name":"ah","from":"a","port":0,"to":"h","route":"local"},{"name":"hz","from":"h","port":0,"to":"z","route":"local"}]}"#;
 
@@ -158,7 +158,7 @@ fn writes_before_much_waits(rt: HostRuntime) -> Result<(), Fail> {
     let mut source = pieces_of(script.as_slice(), NEVER, NEVER);
     let mut sink = empty_sink(rt.alloc(), NEVER, NEVER, false);
     assert_eq!(rt; debug(&rt, rt.alloc(), &mut source, &mut sink, &ONE)?, 2001);
-    // The first read gives the whole script, and the second its end.
+    // The first read gives the complete script, and the second its end.
     assert_eq!(rt; source.calls, 2);
     assert!(rt; sink.bytes.as_slice().ends_with(STATE_REPLY.as_bytes()));
     assert!(rt; sink.bytes.len() > 4 * 65_536);
@@ -333,7 +333,8 @@ fn refuses_counts_of_processors(rt: HostRuntime) -> Result<(), Fail> {
     Ok(())
 }
 
-/// Returns a graph line of so many digits: too long past 65,536, and else a number out of range.
+/// Checks graph lines of many digits: with more than 65,536 the line is too long, otherwise the number is out of
+/// range.
 #[test]
 fn refuses_long_graph_lines(rt: HostRuntime) -> Result<(), Fail> {
     for (length, reply) in [
@@ -352,7 +353,7 @@ fn refuses_long_graph_lines(rt: HostRuntime) -> Result<(), Fail> {
     Ok(())
 }
 
-/// Returns a line's graph, so many feeds that keep the epoch open, and as many steps back.
+/// Returns the graph of a line, `times` feeds that keep the epoch open, and as many steps back.
 fn there_and_back(alloc: Global, times: usize) -> Result<Vec<u8>, AllocError> {
     let feed = "\n{\"do\":\"feed\",\"p\":0,\"vertex\":\"a\",\"values\":[5],\"next\":\"stay\"}";
     let mut script = Vec::new(alloc);
@@ -376,7 +377,7 @@ fn thousands_of_lines(rt: HostRuntime) -> Result<(), Fail> {
     Ok(())
 }
 
-/// Returns the one fault to which no run comes.
+/// Checks the message and the status of the error that no run reaches.
 #[test]
 fn tells_a_log_mismatch(rt: HostRuntime) -> Result<(), Fail> {
     let told = format!(in rt.alloc(); "{}", DebugFault::Close)?;

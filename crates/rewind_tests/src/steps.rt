@@ -24,7 +24,7 @@ const STEPS: &[&str] = &[
     r#"{"do":"take","edge":"sz","p":0,"time":[0],"value":5}"#,
 ];
 
-/// Steps on *held*, each as it is exported: a feed to an epoch, and releases that move a capability and give it up.
+/// Steps on *held*, each as it is exported: a feed to an epoch, and releases that move a capability and drop it.
 const RELEASES: &[&str] = &[
     r#"{"do":"feed","next":{"to":4},"p":0,"values":[7],"vertex":"a"}"#,
     r#"{"do":"take","edge":"ah","p":0,"time":[0],"value":7}"#,
@@ -80,8 +80,8 @@ fn read_and_shown(alloc: Global, graph: &str, text: &str) -> Option<Vec<u8>> {
     step_value(alloc, &graph, &step).ok()?.to_bytes(alloc).ok()
 }
 
-/// Checks what the worked example *export-replays* says of `read_step`, and the same of the steps of version 5: each exported
-/// step is read, and its object is the exported one.
+/// Checks what the worked example *export-replays* says about `read_step`, and the same for the steps of version 5: each
+/// exported step is read, and its object is the exported one.
 #[test]
 fn export_replays(rt: HostRuntime) -> Result<(), Fail> {
     let alloc = rt.alloc();
