@@ -1,4 +1,4 @@
--- A block goes back to this allocator from any thread, if it goes back to the one inside from any.
+-- A block may be freed by this allocator on any thread, if the inner allocator may free it on any.
 use mir.Syntax.{Dict}
 use denote.RattleType.{RattleType}
 use denote.Param.Send.{Frees}
