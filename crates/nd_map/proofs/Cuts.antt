@@ -15,7 +15,7 @@ whole [] (suc n) le = refl
 whole (e ∷ es) zero le = absurd (omega (arith, le))
 whole (e ∷ es) (suc n) le = ap (λ fs. e ∷ fs) (whole es n (omega (arith, le)))
 
--- what is left after some entries is sorted
+-- the rest of a list after some entries is sorted
 pub listed_rest : {K X : Type 0} (R : K → K → Ordering) (es : List (K × X)) (i n : ℕ) → n ≡ length es - i → IsListed R es → IsListed R (take n (drop i es))
 listed_rest R es i n is h = subst (IsListed R) (sym (whole (drop i es) n (omega (arith, is, length-drop i es)))) (listed-drop R es i h)
 
@@ -62,7 +62,7 @@ module _ {K X : Type 0} (R : K → K → Ordering) (o : IsTotalOrder R) (p : K) 
   drop_gap (e ∷ es) zero s h = rw h (ap (λ fs. e ∷ fs) (sym (all_from e.0 es (after_less R o p e.0 h) (first _ _ s))))
   drop_gap (e ∷ es) (suc i) s h = rw h.0 (drop_gap es i (second _ _ s) h.1)
 
-  -- the same by the number of entries left
+  -- the same, by the number of entries left
   pub rest_at : (es : List (K × X)) (i n : ℕ) → n ≡ length es - i → IsListed R es → IsAt R p es i → take n (drop i es) ≡ from_p es
   rest_at es i n is s h = whole (drop i es) n (omega (arith, is, length-drop i es)) ∙ drop_at es i s h
 

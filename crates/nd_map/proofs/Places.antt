@@ -18,7 +18,7 @@ use Rattle.nd_map.specs.Cases.{first, second, less}
 pub listed_without : {K X : Type 0} (R : K → K → Ordering) (k : K) (es : List (K × X)) → IsListed R es → IsListed R (without R k es)
 listed_without R k es h = is_sorted-where_key R (λ q. not (eq_by_cmp R k q)) es h
 
--- replacing a value leaves the keys as they are
+-- replacing a value does not change the keys
 pub keys_over : {K X : Type 0} (v : X) (es : List (K × X)) (i : ℕ) (e : K × X) → e ≡ get_or es i e → keys_of (set es i (e.0, v)) ≡ keys_of es
 keys_over v [] i e is = refl
 keys_over v (f ∷ es) zero e is = ap (λ k. k ∷ keys_of es) (ap (λ x. x.0) is)
@@ -74,21 +74,21 @@ module _ {K X : Type 0} (R : K → K → Ordering) (o : IsTotalOrder R) where
   find_gap p (e ∷ es) zero s h = ap (λ r. cond (is_eq r) (Some e.1) (find R p es)) h ∙ none_below R o p es e.0 h (first _ _ s)
   find_gap p (e ∷ es) (suc i) s h = ap (λ r. cond (is_eq r) (Some e.1) (find R p es)) h.0 ∙ find_gap p es i (second _ _ s) h.1
 
-  -- the value of the entry is replaced
+  -- replacing the value of an entry is a put at its key
   put_at : (p : K) (v : X) (es : List (K × X)) (i : ℕ) (d : K × X) → IsAt R p es i → set es i ((get_or es i d).0, v) ≡ put R p v es
   put_at p v [] i d h = absurd h
   put_at p v (e ∷ es) zero d h = rw h refl
   put_at p v (e ∷ es) (suc i) d h = rw h.0 (ap (λ fs. e ∷ fs) (put_at p v es i d h.1))
 
-  -- the same with the entry as it was read
+  -- the same, with the entry as it was read
   pub put_over : (p : K) (v : X) (es : List (K × X)) (i : ℕ) (d : K × X) → d ≡ get_or es i d → IsAt R p es i → set es i (d.0, v) ≡ put R p v es
   put_over p v es i d is h = ap (λ e. set es i (e.0, v)) is ∙ put_at p v es i d h
 
-  -- the value of an entry is replaced
+  -- replacing the value of an entry in the list is a put at its key
   pub put_there : (v : X) (es : List (K × X)) (i : ℕ) (e d : K × X) → IsListed R es → i < length es → e ≡ get_or es i e → set es i (e.0, v) ≡ put R (get_or es i d).0 v es
   put_there v es i e d h lt is = put_over (get_or es i d).0 v es i e is (at_from (get_or es i d).0 es i d h lt (tied_itself o (get_or es i d).0))
 
-  -- a new entry is inserted
+  -- inserting a new entry is a put at its key
   pub put_gap : (p : K) (v : X) (es : List (K × X)) (i : ℕ) → IsGap R p es i → insert es i (p, v) ≡ put R p v es
   put_gap p v [] zero h = refl
   put_gap p v [] (suc i) h = absurd h
@@ -107,13 +107,13 @@ module _ {K X : Type 0} (R : K → K → Ordering) (o : IsTotalOrder R) where
       let rest = where_key R (λ k. not (eq_by_cmp R p k)) es in
       ap (λ r. cond (not (is_eq r)) (f ∷ rest) rest) (o.trans p x f.0 lt (less _ (first _ _ h))) ∙ ap (λ fs. f ∷ fs) (passes p es x lt (second _ _ h))
 
-  -- an entry is removed
+  -- removing an entry is removing its key
   pub without_at : (p : K) (es : List (K × X)) (i : ℕ) → T (is_sorted R es) → IsAt R p es i → remove es i ≡ where_key R (λ k. not (eq_by_cmp R p k)) es
   without_at p [] i s h = absurd h
   without_at p (e ∷ es) zero s h = rw h (sym (keeps p es e.0 h (first _ _ s)))
   without_at p (e ∷ es) (suc i) s h = rw h.0 (ap (λ fs. e ∷ fs) (without_at p es i (second _ _ s) h.1))
 
-  -- the key to remove is not there
+  -- if the key is not there, removing it changes nothing
   pub without_gap : (p : K) (es : List (K × X)) (i : ℕ) → T (is_sorted R es) → IsGap R p es i → es ≡ where_key R (λ k. not (eq_by_cmp R p k)) es
   without_gap p [] i s h = refl
   without_gap p (e ∷ es) zero s h = sym (ap (λ r. let rest = where_key R (λ k. not (eq_by_cmp R p k)) es in cond (not (is_eq r)) (e ∷ rest) rest) h ∙ ap (λ fs. e ∷ fs) (passes p es e.0 h (first _ _ s)))

@@ -1,4 +1,4 @@
--- How an iterator runs that is seen as the list of the items it has not yet returned.
+-- How an iterator runs that is represented by the list of the items it has not yet returned.
 use Rattle.std_collections.proofs.IterRuns.{shows_in_order}
 use Rattle.std.specs.Map.Iter.{ShowsInOrder}
 

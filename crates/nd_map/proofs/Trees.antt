@@ -1,4 +1,4 @@
--- The words of std's tree, as those of lists in the order of their keys.
+-- The terms of std's tree, in terms of lists in the order of their keys.
 use Rattle.std.proofs.Common.{◌≡◌, ◌<◌, ◌+◌, ℕ, suc, true, false, cond, not, T, List, [], ◌∷◌, ◌++◌, length, get_or, drop, Option, Some, None, Result, Ok, IfOk, Ordering, Less, Equal, Greater, refl, sym, ap, subst, ◌∙◌, append_assoc, add-one}
 use Rattle.std.specs.Ordering.{eq_by_cmp, is_lt, match_ordering, ordering_reverse}
 use Rattle.std.specs.Cmp.{IsTotalOrder}
@@ -59,7 +59,7 @@ module _ {K X : Type 0} (R : K → K → Ordering) where
     pub listed_after : {E : Type 0} (r : Result (Option (Edit X)) E) (k : K) (v : X) (es fs : List (K × X)) (said : Option (Edit X)) → r ≡ Ok said → IfOk r (λ e. fs ≡ edited R k v e es) → IsListed R es → IsListed R fs
     listed_after r k v es fs said is done h = subst (IsListed R) (sym (subst (λ x. IfOk x (λ e. fs ≡ edited R k v e es)) is done)) (listed_edited k v said es h)
 
-    -- the entry after some entries comes last when it is put
+    -- the entry that follows the first entries is put last
     pub put_next : (k : K) (v : X) (so_far es : List (K × X)) (i : ℕ) → i < length es → (k, v) ≡ get_or es i (k, v) → IsListed R es → so_far ++ drop i es ≡ es → put R k v so_far ++ drop (i + 1) es ≡ es
     put_next k v so_far es i lt is h whole =
         let rest : List (K × X) = drop (suc i) es in

@@ -7,7 +7,7 @@ use Rattle.nd_map.specs.Place.{IsAt, IsGap}
 use Rattle.nd_map.proofs.Places.{find_at, find_gap, put_over, put_gap, without_at, listed_without}
 use Rattle.nd_map.proofs.SortedMap.put_or_edit.Goals as goal
 
--- what is found at the key of an entry, and at a key without an entry
+-- what a lookup finds at the key of an entry, and at a key without an entry
 there : {K X : Type 0} (R : K → K → Ordering) → IsTotalOrder R → (k : K) (es fs : List (K × X)) (i : ℕ) (d : K × X) → es ≡ fs → d ≡ get_or es i d → IsAt R k es i → find R k fs ≡ Some d.1
 there R o k es fs i d same is at = sym (ap (λ e. Some e.1) is ∙ sym (find_at R o k es i d at) ∙ ap (find R k) same)
 
