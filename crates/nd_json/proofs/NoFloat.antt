@@ -16,7 +16,7 @@ no_float-more (x ∷ ds) d h e =
     let both = or_parts (has_float x) (items_have_float (items_of ds)) h in
     rw (both.0) (no_float-more ds d both.1 e)
 
--- by the order of the new key and the first key
+-- a new member, by the order of its key and the first key
 placed : (o : Ordering) (k l : List ℕ) (d e : Data) (ms more : Members) → has_float d ≡ false → has_float e ≡ false
     → members_have_float ms ≡ false → members_have_float more ≡ false
     → members_have_float (match_ordering o (member k d (member l e ms)) (member l d ms) (member l e more)) ≡ false
