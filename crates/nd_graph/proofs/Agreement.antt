@@ -85,7 +85,7 @@ smaller most least g h e =
     (none_more (is_too_deep most) (is_too_deep least) (λ v. less_deep most least v.depth (leads_in (action_of v.op)) h) g.vertices flat.0)
     (none_more (leads_too_deep most g.vertices) (leads_too_deep least g.vertices) (λ x. lower most least (depth_past_vertex g.vertices x.from) h) g.edges flat.1))
 
--- a graph without errors has none with a higher limit
+-- a graph without errors for a limit of depth has none for a higher limit
 pub fewer_faults : (most least : ℕ) (g : Dataflow) → most ≤ least → fault_of most g ≡ None → fault_of least g ≡ None
 unfolding fault_of
 fewer_faults most least g h e = no_fault (list_any (has_bad_port g.vertices) g.edges) (has_depth_mismatch g) (is_too_large most g) (is_too_large least g) e (smaller most least g h)
@@ -172,7 +172,7 @@ pub placed : (g : Dataflow) → IsFaultless g → All (λ v. is_misplaced v ≡ 
 unfolding has_depth_mismatch
 placed g h = none_of is_misplaced g.vertices (or_parts (list_any is_misplaced g.vertices) (list_any (misses_depth g.vertices) g.edges) (tests max_depth g h.faultless).1).0
 
--- ---- the graph as a whole
+-- ---- the complete graph
 
 pub is_graph : (g : Dataflow) → IsFaultless g → IsGraph g (depths g) (arcs g)
 unfolding has_depth_mismatch is_too_large leads_too_deep

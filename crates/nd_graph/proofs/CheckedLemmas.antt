@@ -36,7 +36,7 @@ within vertices None l h = cc
 within [] (Some name) l h = cc
 within (v ∷ vertices) (Some name) l h = (position-Some (λ w. bytes_eq name w.name) (v ∷ vertices) l v h).0
 
--- an edge with its ends as locations joins vertices, and keeps its name
+-- an edge with its ends as locations joins vertices, and has the draft's name
 located_joins : (vertices : List Vertex) (e : DraftEdge) (x : Edge) → located vertices e ≡ Some x → JoinsVertices vertices x × (x.name ≡ e.name)
 unfolding located
 located_joins vertices e x h =

@@ -3,7 +3,7 @@ use Rattle.std.proofs.Common.{◌≡◌, ◌∙◌, ℕ, ◌+◌, ◌<◌, zero,
 use Rattle.std.proofs.lemmas.List.{take_more}
 use Rattle.nd_graph.specs.Draft.{every}
 
--- an item before those that were read
+-- one item in front of those that were read
 abbrev in_front : {X : Type 0} → Option X → Option (List X) → Option (List X)
 in_front first rest = option_and_then (λ x. option_map (λ xs. x ∷ xs) rest) first
 
@@ -23,7 +23,7 @@ every-push read [] d xs x e h =
 every-push read (c ∷ ds) d xs x e h =
     in_front-more (read c) (every read ds) (every read (ds ++ d ∷ [])) xs x (λ ys f. every-push read ds d ys x f h) e
 
--- one more item was read
+-- one more item is read
 pub every-next : {D X : Type 0} (read : D → Option X) (ds : List D) (d : D) (i : ℕ) (xs : List X) (x : X)
     → i < length ds → d ≡ get_or ds i d → every read (take i ds) ≡ Some xs → read d ≡ Some x
     → every read (take (i + 1) ds) ≡ Some (xs ++ x ∷ [])
@@ -34,7 +34,7 @@ in_front-none : {X : Type 0} (first : Option X) → in_front first None ≡ None
 in_front-none None = refl
 in_front-none (Some x) = refl
 
--- if an item cannot be read, the list cannot
+-- if an item cannot be read, the list cannot be read
 pub every-refused : {D X : Type 0} (read : D → Option X) (ds : List D) (d : D) (i : ℕ)
     → i < length ds → d ≡ get_or ds i d → read d ≡ None → every read ds ≡ None
 every-refused read [] d i within at h = absurd (omega arith)

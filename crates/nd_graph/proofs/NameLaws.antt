@@ -14,7 +14,7 @@ use Rattle.nd_graph.specs.Checked.{has_double}
 
 -- ---- names that occur twice
 
--- a name that was there before
+-- a name that occurred before makes a double
 pub has_double-again : (ks rest : List (List ℕ)) (k : List ℕ) → list_any (bytes_eq k) ks ≡ true → has_double (ks ++ k ∷ rest) ≡ true
 has_double-again [] rest k e = cc
 has_double-again (x ∷ ks) rest k e =
@@ -23,7 +23,7 @@ has_double-again (x ∷ ks) rest k e =
       | inr h ↦ or_right _ _ (has_double-again ks rest k h)
     ]
 
--- a name that is new
+-- a new name makes no double
 pub has_double-new : (ks : List (List ℕ)) (k : List ℕ) → has_double ks ≡ false → list_any (bytes_eq k) ks ≡ false → has_double (ks ++ k ∷ []) ≡ false
 has_double-new [] k h e = refl
 has_double-new (x ∷ ks) k h e =
@@ -90,7 +90,7 @@ module _ {V K : Type 0} (name : V → K) (test : K → Bool) where
   whole : (vs : List V) (ks : List K) → take (length vs) ks ≡ map name vs → ks ≡ map name vs ++ drop (length vs) ks
   whole vs ks e = sym (take-append-drop (length vs) ks) ∙ ap (λ front. front ++ drop (length vs) ks) e
 
-  -- the position among the vertices of a name that is found among all names
+  -- the position among the vertices of a name that a lookup among all names finds
   pub position-front : (vs : List V) (ks : List K) (j : ℕ) → take (length vs) ks ≡ map name vs → position test ks ≡ Some j → j < length vs
       → position (λ v. test (name v)) vs ≡ Some j
   position-front vs ks j front e h =

@@ -9,7 +9,7 @@ use Rattle.nd_graph.specs.declared.fault.GraphFault.{GraphFault}
 use Rattle.nd_graph.specs.declared.fault.GraphFault.TheVariants.{Shape}
 use Rattle.nd_graph.proofs.draft.GraphDraft.from_value_v4.Goals as goal
 
--- a value that is no graph is none without hold vertices
+-- a value that is not a graph is not a graph without hold vertices either
 refused : (d : Data) (e : GraphFault) → IsUnlessMemory (ok_or (draft_of d) Shape) (Err e) → IsUnlessMemory (ok_or (draft_of_v4 d) Shape) (Err e)
 unfolding draft_of_v4
 refused d e h = passes (draft_of d) h
