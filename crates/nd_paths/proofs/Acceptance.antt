@@ -1,4 +1,4 @@
--- A graph is accepted exactly if each closed walk adds to a counter that it keeps, and short walks show it.
+-- A graph is accepted exactly if each closed walk adds to a counter that it keeps; short walks are enough to decide it.
 use Rattle.std.proofs.Common.{◌≡◌, inl, inr, ℕ, zero, suc, ◌-◌, ◌*◌, ◌<◌, ◌≤◌, List, [], ◌∷◌, ◌++◌, length, take, drop, replicate, refl, sym, ◌∙◌, ap, subst, arith, length-append, length-drop, length-take}
 use Rattle.std.specs.Prelude.{slice_index}
 use Rattle.std.proofs.lemmas.Bool.{cases_lt}
@@ -34,7 +34,7 @@ top_keeps : (r a : ℕ) → (r ≡ 0 → a ≡ 0) → 0 < a → 0 < r
 top_keeps zero a h k = absurd (omega (arith, h refl))
 top_keeps (suc r) a h k = omega arith
 
--- a summary that adds makes each time later
+-- a summary that adds something makes each time later
 pub rises : (d : ℕ) (s : Summary) (c : List ℕ) → IsFor d d s → length c ≡ d → 0 < s.add → Earlier c (apply s c)
 rises d s c f h k =
     let n : ℕ = length c - s.keep in
@@ -43,7 +43,7 @@ rises d s c f h k =
     let size : length (take n c) ≡ length s.constants = omega (arith, length-take n c, f.depth, f.kept) in
     subst (λ l. Earlier l (apply s c)) (take-append-drop n c) (Earlier-back (take n c) s.constants (drop n c) (plus s.add (drop n c)) size (plus-rises s.add (drop n c) k some))
 
--- a time that a summary which adds nothing leaves as it is
+-- a summary that adds nothing leaves some time as it is
 pub stays : (d : ℕ) (s : Summary) → IsFor d d s → s.add ≡ 0 → (c : List ℕ) × (length c ≡ d) × (apply s c ≡ c)
 stays d s f z =
     let o : List ℕ = replicate d 0 in
@@ -67,7 +67,7 @@ closed_rises : (depths : List ℕ) (arcs w : List Arc) (l : ℕ) (c : List ℕ) 
 closed_rises depths arcs w l c g h size k =
     subst (λ d. Earlier c d) (apply-walk depths w l c size) (rises (slice_index depths l) (summary_of depths l w) c (IsFor-walk depths arcs w l l g h) size k)
 
--- and one that fails adds nothing
+-- a location that fails has a closed walk that adds nothing
 pub walk_from_fails : (depths : List ℕ) (arcs : List Arc) (l : ℕ) → DepthsAgree depths arcs → Fails depths arcs l → (x : Arc) × (w : List Arc) × IsWalkAlong arcs l l (x ∷ w) × ((summary_of depths l (x ∷ w)).add ≡ 0)
 walk_from_fails depths arcs l g (x, w, c, h, size, still) =
     elim (cases_lt 0 (summary_of depths l (x ∷ w)).add) [
@@ -82,7 +82,7 @@ accepted_from_none depths arcs g none l x w c h size =
       | inr z ↦ absurd (none l (fails_from_walk depths arcs l x w g h (omega arith)))
     ]
 
--- adds at most as much, of two summaries with one keep
+-- s adds at most as much as t, for summaries with the same keep
 pub record AddsLess (s t : Summary) : Type 0 where
   pub keep : s.keep ≡ t.keep
   pub size : length s.constants ≡ length t.constants
@@ -115,7 +115,7 @@ AddsLess-after : (w : List Arc) (s t : Summary) → AddsLess s t → AddsLess (a
 AddsLess-after [] s t h = h
 AddsLess-after (x ∷ w) s t h = AddsLess-after w (step x.action s) (step x.action t) (AddsLess-step x.action s t h)
 
--- while the keep stays, what is added doesn't fall
+-- an action that keeps as many counters does not make the added number smaller
 add_stays : (x : Action) (r a : ℕ) (k : List ℕ) → (r ≡ 0 → a ≡ 0) → r ≤ (then_act x r a k).keep → a ≤ (then_act x r a k).add
 add_stays Identity r a k t h = omega arith
 add_stays Ingress r a k t h = omega arith
@@ -138,7 +138,7 @@ add_grows depths arcs (x ∷ w) d a b s g h f k =
     let rest = add_grows depths arcs w d x.to b t g h.2 f' (omega arith) in
     omega (arith, first, rest)
 
--- going round adds nothing less, in any graph
+-- a closed part of a walk does not make the added number smaller, in any graph
 round_adds : (depths : List ℕ) (arcs : List Arc) (d : ℕ) → DepthsAgree depths arcs → (a : ℕ) (s : Summary) (q : List Arc) → IsFor d (slice_index depths a) s → IsWalkAlong arcs a a q → 0 < length q → s.keep ≡ (after q s).keep → AddsLess s (after q s)
 round_adds depths arcs d g a s q f h more e =
     let f' = IsFor-after depths arcs q d a a s g h f in
@@ -148,7 +148,7 @@ accepted_walk : (depths : List ℕ) (arcs q : List Arc) (a : ℕ) (c : List ℕ)
 accepted_walk depths arcs [] a c ok h more size = absurd (omega arith)
 accepted_walk depths arcs (x ∷ w) a c ok h more size = ok a x w c h size
 
--- going round makes a summary no less, in an accepted graph
+-- a closed part of a walk does not make a summary smaller, in an accepted graph
 round_worse : (depths : List ℕ) (arcs : List Arc) (d : ℕ) → DepthsAgree depths arcs → Accepted depths arcs → (a : ℕ) (s : Summary) (q : List Arc) → IsFor d (slice_index depths a) s → IsWalkAlong arcs a a q → 0 < length q → s.keep ≡ (after q s).keep → AtMost s (after q s)
 round_worse depths arcs d g ok a s q f h more e =
     let f' = IsFor-after depths arcs q d a a s g h f in
@@ -164,7 +164,7 @@ round_worse depths arcs d g ok a s q f h more e =
           absurd (Earlier-irrefl (apply s o) (Earlier-trans (apply s o) (effect_of q (apply s o)) (apply s o) on back))
     ]
 
--- in an accepted graph a row that covers the short walks covers all of them
+-- in an accepted graph a row that covers the short walks covers all walks
 pub covers_all : (depths : List ℕ) (arcs : List Arc) (n a : ℕ) (row : Row) → DepthsAgree depths arcs → Accepted depths arcs → slice_index depths a < n → CoversShort depths arcs a row (n * length depths) → (w : List Arc) (b : ℕ) → IsWalkAlong arcs a b w → Covers row b (summary_of depths a w)
 covers_all depths arcs n a row g ok low short w b h =
     let d : ℕ = slice_index depths a in

@@ -1,4 +1,4 @@
--- One summary and then another does what the one does, and then the other.
+-- The composition of two summaries does what the first does, and then what the second does.
 use Rattle.std.proofs.Common.{◌≡◌, inl, inr, cond, nat_eq, ℕ, zero, suc, ◌+◌, ◌-◌, ◌<◌, ◌≤◌, List, [], ◌∷◌, ◌++◌, length, take, reverse, refl, sym, ◌∙◌, ap, subst, arith, append_assoc, add_assoc, length-take}
 use Rattle.std.proofs.lemmas.Bool.{cases_lt, cases_eq, lt-ltb, le-ltb, eq-eqb, ne_eqb}
 use Rattle.std.proofs.lemmas.List.{take-append-le, take-take, take_all, reverse-reverse}
@@ -39,11 +39,11 @@ take-raised zero a (x ∷ c) h = refl
 take-raised (suc n) a (x ∷ []) h = absurd (omega arith)
 take-raised (suc n) a (x ∷ y ∷ c) h = ap (λ l. x ∷ l) (take-raised n a (y ∷ c) (omega arith))
 
--- what is composed if the other keeps more
+-- the composition if the second summary keeps more counters
 abbrev pub over : Summary → Summary → Summary
 over s t = record { keep = s.keep; add = s.add; constants = applied (record { keep = t.keep - s.keep; add = t.add; constants = t.constants }) s.constants }
 
--- and if it doesn't
+-- the composition if it does not
 abbrev within : Summary → ℕ → Summary
 within t a = record { keep = t.keep; add = a; constants = t.constants }
 
@@ -117,7 +117,7 @@ limits_over s t l k add small depth =
 pub limits_same : (s t : Summary) → s.keep ≡ t.keep → s.add + t.add ≤ max_counter → All (λ x. x ≤ max_counter) t.constants → left_by t ≤ max_depth → IsInLimits (composed s t)
 limits_same s t e add small depth = subst IsInLimits (sym (composed_same s t e)) (record { add = add; constants = small; depth = depth })
 
--- what is composed leaves as many counters as the other
+-- the composition leaves as many counters as the second summary
 pub left_by_composed : (s t : Summary) → t.keep ≤ left_by s → left_by (composed s t) ≡ left_by t
 left_by_composed s t k =
     elim (cases_lt s.keep t.keep) [

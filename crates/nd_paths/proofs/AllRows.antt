@@ -12,11 +12,11 @@ use Rattle.nd_graph.specs.Graph.{ArcAgrees}
 use Rattle.nd_paths.specs.Table.{entry, HasWalks, CoversShort, ShowsFail, AreLeast}
 use Rattle.nd_paths.proofs.Acceptance.{accepted_from_none, covers_all, fails_shown, shown_fails}
 
--- a row whose short walks are covered
+-- the row covers short walks
 abbrev pub IsShort : List ℕ → List Arc → ℕ → List (Option Summary) → Type 0
 IsShort depths arcs a row = (length row ≡ length depths * keeps) × HasWalks depths arcs a (entry row) × CoversShort depths arcs a (entry row) (keeps * length depths)
 
--- what is known while the rows are made: the rows so far, and that none of their locations fails
+-- what is known while the rows are computed: the rows so far, and that none of their locations fails
 pub record Made {Z : Type 0} (depths : List ℕ) (arcs : List Arc) (rows : List (Vec (Option Summary) Z)) (n : ℕ) : Type 0 where
   pub count : length rows ≡ n
   pub short : (a : ℕ) (d : Vec (Option Summary) Z) → a < n → IsShort depths arcs a (get_or rows a d).items

@@ -1,4 +1,4 @@
--- The times into which what is held for a location turns a time are those of the least walks.
+-- The times into which the summaries held for a location turn a time are those of the least walks.
 use Rattle.std.proofs.Common.{◌≡◌, ℕ, ◌+◌, ◌*◌, ◌<◌, ◌≤◌, Option, Some, None, List, [], ◌∷◌, ◌++◌, length, reverse, length-append, get_or, zero, suc, refl, sym, ◌∙◌, ap, subst, arith, inl, inr}
 use Rattle.std.specs.Prelude.{All, Contains, Vec, slice_index}
 use Rattle.std.specs.Option.{option_map}
@@ -22,7 +22,7 @@ use Rattle.nd_paths.proofs.Stored.{length-applied}
 use Rattle.nd_paths.proofs.Unique.{summary_outside}
 
 module _ (row : List (Option Summary)) (b : ℕ) (t : Time) where
-  -- the times of what is held for the first keeps
+  -- the times from the summaries of the first keeps
   pub record AreTurnedUpTo (n : ℕ) (times : List Time) : Type 0 where
     pub short : length times ≤ n
     pub each : All (HoldsTurning row b t) times
@@ -63,7 +63,7 @@ module _ (row : List (Option Summary)) (b : ℕ) (t : Time) where
     ]);
   }
 
-  -- nothing is held for more keeps
+  -- nothing is held for other keeps
   held_few : (r : ℕ) (s : Summary) → held row b r ≡ Some s → r < keeps
   held_few r s e = elim (cases_lt r keeps) [ inl less ↦ less | inr more ↦ (let none : None ≡ held row b r = cond_above r keeps (get_or row (b * keeps + r) None) None None more refl in absurd (cc (none, e))) ]
 
@@ -74,13 +74,13 @@ module _ (row : List (Option Summary)) (b : ℕ) (t : Time) where
   }
 
 module _ {Z : Type 0} (g : Dataflow) (rows : List (Vec (Option Summary) Z)) (table : IsTable g rows) where
-  -- what is held leaves no more counters than there may be
+  -- each held summary leaves at most max_depth counters
   pub holds_few : (s : Pointstamp) (b : ℕ) (row : List (Option Summary)) → Fits g s → b < length (depths g) → IsLeast (depths g) (arcs g) s.location (entry row) → HoldsFew row b (length s.time.counters)
   holds_few s b row fits inside least r u e =
       let fit = held_fit g rows table s.location b row least r u e in
       (omega (arith, fit.0, (fits_size g s fits).1), omega (arith, fit.1, table.deep b 0 inside))
 
-  -- each time is that of a walk
+  -- each of the times comes from a walk
   pub each_turned : (s : Pointstamp) (b : ℕ) (row : List (Option Summary)) (times : List Time) → Fits g s → IsLeast (depths g) (arcs g) s.location (entry row) → AreTurned row b s.time times → All (TurnsInto g s b) times
   each_turned s b row times fits least turned k d lt =
       let (r, u, e, is) = turned.each k d lt in
@@ -94,7 +94,7 @@ module _ {Z : Type 0} (g : Dataflow) (rows : List (Vec (Option Summary) Z)) (tab
         time = is ∙ ap (λ c. record { epoch = s.time.epoch; counters = c }) (of.does s.time.counters (size.1 ∙ sym (depth_within g s.location of.depth of.has_depth).1));
       }
 
-  -- and at or before each time that the pointstamp could result in there is one
+  -- each time that the pointstamp could result in has one of the times at or before it
   pub least_turned : (s t : Pointstamp) (row : List (Option Summary)) (times : List Time) → IsLeast (depths g) (arcs g) s.location (entry row) → AreTurned row t.location s.time times → CouldResultIn g s t → HasAtOrBefore times t.time
   least_turned s t row times least turned could =
       let (r, u, e, less) = leads_from_could g rows table s t row least could in
@@ -104,14 +104,14 @@ module _ {Z : Type 0} (g : Dataflow) (rows : List (Vec (Option Summary) Z)) (tab
       let depth : length (applied u s.time.counters) ≡ length t.time.counters = length-applied u s.time.counters (omega (arith, fit.0, size.1)) ∙ fit.1 ∙ sym size'.1 in
       (record { epoch = s.time.epoch; counters = applied u s.time.counters }, turned.all r u e, record { depth = depth; epoch = could.before.epoch; counters = less })
 
--- a walk ends in the graph
+-- a walk ends at a location of the graph
 ends_inside : (ds : List ℕ) (xs : List Arc) → DepthsAgree ds xs → (w : List Arc) (a b : ℕ) → a < length ds → IsWalkAlong xs a b w → b < length ds
 ends_inside ds xs agree [] a b inside same = omega (arith, inside, same)
 ends_inside ds xs agree (x ∷ w) a b inside walk =
     let (k, lt, is) = walk.0 in
     ends_inside ds xs agree w x.to b (subst (λ y. y.to < length ds) is (agree k x lt).to) walk.2
 
--- a pointstamp could result in what a walk makes of it
+-- a pointstamp could result in the time into which a walk turns its own
 pub turned_on : (g : Dataflow) → DepthsAgree (depths g) (arcs g) → (s : Pointstamp) (x : ℕ) (t : Time) → TurnsInto g s x t → CouldResultIn g s (record { location = x; time = t })
 turned_on g agree s x t h =
     let c : List ℕ = s.time.counters in

@@ -1,4 +1,4 @@
--- A long walk comes twice to one location with one keep, and can be cut there.
+-- A long walk reaches one location with one keep twice, and can be cut there.
 use Rattle.std.proofs.Common.{◌≡◌, ◌⊎◌, inl, inr, ℕ, zero, suc, ◌+◌, ◌*◌, ◌<◌, ◌≤◌, List, [], ◌∷◌, ◌++◌, true, false, eqb, length, refl, sym, ◌∙◌, ap, subst, arith, length-append}
 use Rattle.std.specs.Prelude.{slice_index}
 use Rattle.std.specs.List.{AllByRecursion, IsDistinct, list_any}
@@ -16,7 +16,7 @@ use Rattle.nd_paths.specs.Inside.{step, after}
 use Rattle.nd_paths.proofs.Summaries.{IsFor, step-keep, after-append}
 use Rattle.nd_paths.proofs.Walks.{walks_joined, IsFor-after}
 
--- where a walk ends
+-- the location at which a walk ends
 abbrev pub end_of : ℕ → List Arc → ℕ
 end_of a [] = a
 end_of a (x ∷ w) = end_of x.to w
@@ -42,7 +42,7 @@ length-states : (n a : ℕ) (s : Summary) (w : List Arc) → length (states n a 
 length-states n a s [] = refl
 length-states n a s (x ∷ w) = ap suc (length-states n x.to (step x.action s) w)
 
--- the part of a walk up to where it comes to a location and keep
+-- the first part of a walk, up to the point at which it reaches a location and a keep
 Found : ℕ → ℕ → Summary → List Arc → ℕ → Type 0
 Found n a s w m = (q z : List Arc) × (w ≡ q ++ z) × (0 < length q) × (m ≡ state n a s q)
 
@@ -58,7 +58,7 @@ find n a s (x ∷ w) m =
       ]
     ]
 
--- a walk that goes round: p, then q back to the same location and keep, then z
+-- a walk with a closed part: p, then q back to the same location and keep, then z
 pub record Round (n a : ℕ) (s : Summary) (w : List Arc) : Type 0 where
   pub p : List Arc
   pub q : List Arc
@@ -96,7 +96,7 @@ one_below (x ∷ xs) n m h k =
       | inr f ↦ one_below xs n m h.1 (rw f.0 at k)
     ]
 
--- a walk of more arcs than there are locations and keeps goes round
+-- a walk with more arcs than there are locations and keeps has a closed part
 pub must_go_round : (depths : List ℕ) (arcs w : List Arc) (n a b : ℕ) (s : Summary) → DepthsAgree depths arcs → IsWalkAlong arcs a b w → s.keep < n → n * length depths < length w → Round n a s w
 must_go_round depths arcs w n a b s g h k long =
     elim (goes_round n a s w) [
@@ -110,14 +110,14 @@ pub after-keep : (w : List Arc) (s : Summary) → (after w s).keep ≤ s.keep
 after-keep [] s = omega arith
 after-keep (x ∷ w) s = omega (arith, after-keep w (step x.action s), step-keep x.action s.keep s.add s.constants)
 
--- what a shorter walk gives: R of the two summaries
+-- a shorter walk, whose summary and that of w satisfy R
 pub record Shorter (arcs : List Arc) (R : Summary → Summary → Type 0) (a b : ℕ) (s : Summary) (w : List Arc) (limit : ℕ) : Type 0 where
   pub walk : List Arc
   pub leads : IsWalkAlong arcs a b walk
   pub short : length walk ≤ limit
   pub gives : R (after walk s) (after w s)
 
--- if going round only makes a summary worse, each walk is as good as a short one
+-- if a closed part only makes a summary worse, each walk is at most as good as a short one
 module _ (depths : List ℕ) (arcs : List Arc) (g : DepthsAgree depths arcs) (n d : ℕ) (R : Summary → Summary → Type 0) (R-refl : (s : Summary) → R s s) (R-trans : (s t u : Summary) → R s t → R t u → R s u) (R-after : (w : List Arc) (s t : Summary) → R s t → R (after w s) (after w t)) (R-round : (a : ℕ) (s : Summary) (q : List Arc) → IsFor d (slice_index depths a) s → IsWalkAlong arcs a a q → 0 < length q → s.keep ≡ (after q s).keep → R s (after q s)) where
   without_round : (a b : ℕ) (s : Summary) (w : List Arc) → IsWalkAlong arcs a b w → IsFor d (slice_index depths a) s → s.keep < n → (r : Round n a s w) → IsWalkAlong arcs a b (r.p ++ r.z) × R (after (r.p ++ r.z) s) (after w s)
   without_round a b s w h f k r =

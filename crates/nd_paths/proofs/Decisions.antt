@@ -1,4 +1,4 @@
--- What the table says is the order by walks.
+-- The order that the table computes is the order by walks.
 use Rattle.std.proofs.Common.{◌≡◌, ℕ, ◌*◌, ◌<◌, ◌≤◌, Option, List, length, reverse, get_or, sym, ◌∙◌, ap, subst, arith}
 use Rattle.std.specs.Prelude.{slice_index, Vec}
 use Rattle.std.specs.Option.{option_map}
@@ -19,7 +19,7 @@ use Rattle.nd_paths.proofs.Reversed.{reverse-applied, lexical_from_before, befor
 use Rattle.nd_paths.proofs.Stored.{length-applied}
 use Rattle.nd_paths.proofs.Graphs.{fits_size, could_from_reaches, reaches_from_could}
 
--- what is held leads as its entries do
+-- the held summaries lead where the entries of the row do
 pub says_from_leads : (row : List (Option Summary)) (b : ℕ) (c d : List ℕ) → HeldFit row b (length c) (length d) → SomeLeads row b c d → SaysReaches (entry row) b (reverse c) (reverse d)
 says_from_leads row b c d fit (r, u, e, less) =
     let f = fit r u e in
@@ -64,7 +64,7 @@ module _ {Z : Type 0} (g : Dataflow) (rows : List (Vec (Option Summary) Z)) (h :
       let says = says_complete (depths g) (arcs g) (entry row) s.location t.location (reverse s.time.counters) (reverse t.time.counters) h.agree (length-reverse s.time.counters ∙ (fits_size g s could.fits_s).1) least (reaches_from_could g s t could) in
       leads_from_says row t.location s.time.counters t.time.counters (held_fit_points s t row could.fits_s could.fits_t least) says
 
--- something is held at a location exactly if a walk leads there
+-- a summary is held for a location exactly if a walk leads there
 pub walk_from_held : (g : Dataflow) (a b : ℕ) (row : List (Option Summary)) → IsLeast (depths g) (arcs g) a (entry row) → HoldsAny row b → (w : List Arc) × IsWalk g a w b
 walk_from_held g a b row least (r, u, e) =
     let (w, walk, _, _) = least.walks b r (inner u) (ap (option_map inner) e) in

@@ -1,4 +1,4 @@
--- Accepted graphs and the order of points outermost first are those innermost first.
+-- Accepted graphs and the order of points are the same, whether counters are listed outermost or innermost first.
 use Rattle.std.proofs.Common.{◌≡◌, ℕ, ◌+◌, ◌*◌, ◌<◌, ◌≤◌, Some, List, [], ◌∷◌, length, reverse, refl, sym, ◌∙◌, ap, subst, arith}
 use Rattle.std.specs.Prelude.{slice_index}
 use Rattle.std.proofs.lemmas.List.{length-reverse, reverse-reverse}
@@ -77,7 +77,7 @@ is_accepted g agree ok = record {
 pub fits_size : (g : Dataflow) (s : Pointstamp) → Fits g s → (s.location < length (depths g)) × (length s.time.counters ≡ slice_index (depths g) s.location)
 fits_size g s f = depth_within g s.location (length s.time.counters) f.depth
 
--- how s reaches t innermost first
+-- s reaches t, with counters innermost first
 abbrev pub ReachesPoint : Dataflow → Pointstamp → Pointstamp → Type 0
 ReachesPoint g s t = Reaches (arcs g) s.location (reverse s.time.counters) t.location (reverse t.time.counters)
 

@@ -1,4 +1,4 @@
--- What is held for a location leads from one time to another by few keeps alone.
+-- Whether a summary held for a location leads from one time to another depends on few keeps only.
 use Rattle.std.proofs.Common.{◌≡◌, inl, inr, ◌↔◌, ℕ, ◌<◌, ◌≤◌, min, IsTrue, Option, Some, None, List, [], ◌∷◌, length, refl, sym, ◌∙◌, ap, arith}
 use Rattle.std.specs.Option.{is_some}
 use Rattle.std.proofs.lemmas.Bool.{cases_lt}
@@ -13,14 +13,14 @@ no_numbers [] h = refl
 no_numbers (x ∷ xs) h = absurd (omega arith)
 
 module _ (row : List (Option Summary)) (b : ℕ) (c d : List ℕ) (places : KeepsPlaces row b) (fit : HeldFit row b (length c) (length d)) where
-  -- nothing keeps more counters than either time has
+  -- no summary keeps more counters than either time has
   keeps_few : (r : ℕ) (u : Summary) → held row b r ≡ Some u → r ≤ min (length c) (length d)
   keeps_few r u e =
       let f = fit r u e in
       let same : u.keep ≡ r = places r u e in
       omega (arith, f.0, f.1)
 
-  -- so if nothing leads there as far as the keep n, nothing does
+  -- so if none of the first n keeps leads there, no keep does
   pub none_leads : (n : ℕ) → min (length c) (length d) ≤ n → ((r : ℕ) (u : Summary) → r < n → held row b r ≡ Some u → IsLexicallyAtMost (applied u c) d → ⊥) → ((u : Summary) → held row b n ≡ Some u → IsLexicallyAtMost (applied u c) d → ⊥) → SomeLeads row b c d → ⊥
   none_leads n h earlier here (r, u, e, less) =
       let few = keeps_few r u e in
@@ -41,6 +41,6 @@ module _ (row : List (Option Summary)) (b : ℕ) (c d : List ℕ) (places : Keep
       let same : 0 ≡ r = omega arith in
       ap (λ k. is_some (held row b k)) same ∙ ap is_some e
 
-  -- something leads to no counters exactly if something is held that keeps none
+  -- some summary leads to a time without counters exactly if one is held that keeps none
   pub leads_to_none : length d ≡ 0 → IsTrue (is_some (held row b 0)) ↔ SomeLeads row b c d
   leads_to_none none = (leads_first none (held row b 0) refl, first_leads none)

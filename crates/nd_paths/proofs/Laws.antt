@@ -1,4 +1,4 @@
--- On an accepted graph the order of points is a partial order, and of finitely many points one is minimal.
+-- On an accepted graph the order of points is a partial order, and finitely many points have a minimal one.
 use Rattle.std.proofs.Common.{◌≡◌, ◌⊎◌, inl, inr, ℕ, List, [], ◌∷◌, ◌++◌, refl, sym, subst}
 use Rattle.nd_graph.specs.declared.graph.Arc.{Arc}
 use Rattle.nd_paths.specs.Inside.{AtOrBefore}
@@ -23,7 +23,7 @@ abbrev pub In : {A : Type 0} → List A → A → Type 0
 In [] x = ⊥
 In (y ∷ ys) x = (y ≡ x) ⊎ In ys x
 
--- of a list that is not empty, an element that no other is below
+-- an element of a list that is not empty, such that no other element is below it
 pub minimal : {A : Type 0} (lt : A → A → Type 0) → ((x y : A) → lt x y ⊎ (lt x y → ⊥)) → ((x : A) → lt x x → ⊥) → ((x y z : A) → lt x y → lt y z → lt x z) → (x : A) (xs : List A) → (m : A) × In (x ∷ xs) m × ((y : A) → In (x ∷ xs) y → lt y m → ⊥)
 minimal {A} lt dec irr tr x [] = (x, inl refl, λ y h k. elim h [ inl e ↦ irr x (subst (λ z. lt z x) (sym e) k) | inr f ↦ f ])
 minimal {A} lt dec irr tr x (z ∷ zs) = least_with (minimal lt dec irr tr z zs)

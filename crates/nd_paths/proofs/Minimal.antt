@@ -1,4 +1,4 @@
--- The order by walks can be decided, so of finitely many points one is minimal.
+-- The order by walks can be decided, so finitely many points have a minimal one.
 use Rattle.std.proofs.Common.{◌≡◌, ◌⊎◌, inl, inr, ℕ, zero, suc, ◌+◌, ◌*◌, ◌<◌, ◌≤◌, Option, Some, None, List, [], ◌∷◌, length, reverse, get_or, refl, sym, ◌∙◌, subst, arith}
 use Rattle.std.specs.Prelude.{Contains, slice_index, slice_index_or, Vec}
 use Rattle.std.proofs.lemmas.Bool.{cases_lt, cases_eq, cond_above}
@@ -42,7 +42,7 @@ some_below P dec (suc n) =
       ]
     ]
 
--- whether what is held for one keep leads there
+-- the summary held for one keep leads there
 Leads : List (Option Summary) → ℕ → List ℕ → List ℕ → ℕ → Type 0
 Leads row b c d r = (u : Summary) × (held row b r ≡ Some u) × IsLexicallyAtMost (applied u c) d
 
@@ -80,7 +80,7 @@ dec_fits g s =
       | inr past ↦ inr (λ f. omega (arith, (fits_size g s f).0))
     ]
 
--- some row, if there is a location
+-- some row, if there is one
 some_row : {Z : Type 0} (xs : List (Vec (Option Summary) Z)) → 0 < length xs → Vec (Option Summary) Z
 some_row [] l = absurd (omega arith)
 some_row (v ∷ xs) l = v
@@ -126,7 +126,7 @@ module _ {Z : Type 0} (g : Dataflow) (rows : List (Vec (Option Summary) Z)) (h :
         | inr none ↦ inr (λ k. none k.0)
       ]
 
-  -- of finitely many points one has no other before it
+  -- among finitely many points there is one such that no other is before it
   pub minimal_point : (p : Pointstamp) (ps : List Pointstamp) → (m : Pointstamp) × IsMinimalAmong g (p ∷ ps) m
   minimal_point p ps =
       let (m, i, low) = minimal (IsStrictlyBefore g) dec_strictly (λ x k. k.1 refl) (λ x y z. strictly_trans g x y z (accepted_inside g rows h)) p ps in

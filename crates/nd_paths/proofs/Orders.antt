@@ -42,7 +42,7 @@ with_heads : (x y : ℕ) (a b : List ℕ) → AtOrBefore a b ⊎ Earlier b a →
 with_heads x y a b h =
     elim h [ inl p ↦ elim p [ inl q ↦ inl (inl (inl q)) | inr q ↦ same_outer x y a b q ] | inr p ↦ inr (inl p) ]
 
--- of two lists of one length, one is earlier, or they are the same
+-- of two lists of the same length, one is earlier, or they are equal
 pub compared : (a b : List ℕ) → length a ≡ length b → AtOrBefore a b ⊎ Earlier b a
 compared [] [] e = inl (inr refl)
 compared [] (y ∷ b) e = absurd (omega arith)

@@ -29,7 +29,7 @@ length-effect_of : (w : List Arc) (c d : List ℕ) → length c ≡ length d →
 length-effect_of [] c d e = e
 length-effect_of (x ∷ w) c d e = length-effect_of w (act x.action c) (act x.action d) (length-act x.action c d e)
 
--- how long the counters after a walk are depends on how long they were
+-- the number of counters after a walk depends only on their number before it
 same_depth : (w : List Arc) (c d : List ℕ) → length c ≡ length d → length (effect w c) ≡ length (effect w d)
 same_depth w c d e =
     sym (length-reverse (effect w c)) ∙ ap length (reverse-effect w c)
@@ -43,7 +43,7 @@ effect-append (x ∷ w) v c = effect-append w v (acted x.action c)
 joined_depth : (w v : List Arc) (c d e : List ℕ) → length (effect w c) ≡ length d → length (effect v d) ≡ length e → length (effect (w ++ v) c) ≡ length e
 joined_depth w v c d e h k = ap length (effect-append w v c) ∙ same_depth v (effect w c) d h ∙ k
 
--- what the walk of an order makes of the counters, innermost first
+-- the counters after the walk of an order, innermost first
 led : (g : Dataflow) (s t : Pointstamp) → (h : CouldResultIn g s t) → AtOrBefore (effect_of h.walk (reverse s.time.counters)) (reverse t.time.counters)
 led g s t h =
     subst (λ k. AtOrBefore k (reverse t.time.counters)) (reverse-effect h.walk s.time.counters) (before_from_lexical (effect h.walk s.time.counters) t.time.counters h.before.depth h.before.counters)

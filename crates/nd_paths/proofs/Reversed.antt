@@ -1,4 +1,4 @@
--- Counters, walks and summaries outermost first are those of the reversed lists innermost first.
+-- Counters, walks and summaries with the outermost counter first are those of the reversed lists, with the innermost first.
 use Rattle.std.proofs.Common.{◌≡◌, ◌⊎◌, inl, inr, ℕ, ◌-◌, ◌<◌, List, [], ◌∷◌, ◌++◌, length, take, drop, reverse, refl, sym, ◌∙◌, ap, subst, arith, length-append, length-drop}
 use Rattle.std.proofs.lemmas.List.{reverse-append, reverse-reverse, length-reverse, same_from_push, take-append-drop, drop_at}
 use Rattle.nd_time.specs.Time.{IsSmallerAtFirstDifference, IsLexicallyAtMost, egress_of, feedback_of}
@@ -20,7 +20,7 @@ reverse-push xs x = reverse-append xs (x ∷ [])
 
 -- ---- the order
 
--- the outermost counters, which stand last, decide first
+-- the outermost counters, which are last, decide first
 outer_first : (k l : List ℕ) (x y : ℕ) → length k ≡ length l → Earlier (k ++ (x ∷ [])) (l ++ (y ∷ [])) → (x < y) ⊎ ((x ≡ y) × Earlier k l)
 outer_first [] [] x y e h = elim h [ inl p ↦ absurd p | inr p ↦ inl p.1 ]
 outer_first [] (b ∷ l) x y e h = absurd (omega arith)

@@ -1,4 +1,4 @@
--- What following one entry by one arc does to a row.
+-- What extending one entry by one arc does to a row.
 use Rattle.std.proofs.Common.{◌≡◌, ◌⊎◌, inl, inr, ℕ, ◌+◌, ◌-◌, ◌*◌, ◌<◌, ◌≤◌, Option, Some, None, List, length, get_or, set, refl, sym, ◌∙◌, ap, subst, arith}
 use Rattle.std.proofs.lemmas.Bool.{cases_lt, cases_eq, cond_below, cond_above}
 use Rattle.std.proofs.lemmas.Nat.{same_from_place}
@@ -38,7 +38,7 @@ entry-set_other row b r c q v h apart =
       | inr past ↦ entry_past (set row (b * keeps + r) v) c q past ∙ sym (entry_past row c q past)
     ]
 
--- a position is the one that was written, or another
+-- a position is the written one, or a different one
 pub at_place : (b r c q : ℕ) → ((b ≡ c) × (r ≡ q)) ⊎ ((b ≡ c) × (r ≡ q) → ⊥)
 at_place b r c q =
     elim (cases_eq b c) [
@@ -46,7 +46,7 @@ at_place b r c q =
       | inr n ↦ inr (λ t. n t.0)
     ]
 
--- the write of a step
+-- the write of an extended entry
 module _ (old : List (Option Summary)) (x : Arc) (r : ℕ) (can : CanRelax old x r) (s n : Summary) (here : entry old x.from r ≡ Some s) (is : inner n ≡ step x.action s) where
   low : (step x.action s).keep < keeps
   low = next_keep old x r s (step x.action s) can (sym here) refl
@@ -54,7 +54,7 @@ module _ (old : List (Option Summary)) (x : Arc) (r : ℕ) (can : CanRelax old x
   within : x.to * keeps + (step x.action s).keep < length old
   within = omega (arith, can.to, low)
 
-  -- the row after it
+  -- the row after the write
   written : List (Option Summary)
   written = set old (x.to * keeps + (step x.action s).keep) (Some n)
 
@@ -95,7 +95,7 @@ Relaxed-keeps old new x r can h b u c =
       | inr (s, n, here, is, e, less) ↦ subst (λ row. Covers (entry row) b u) (sym e) (written_covers old x r can s n here is less b u c)
     ]
 
--- and the step is covered
+-- the row covers the extended entry
 pub Relaxed-covers : (old new : List (Option Summary)) (x : Arc) (r : ℕ) (s : Summary) → CanRelax old x r → Relaxed old new x r → entry old x.from r ≡ Some s → Covers (entry new) x.to (step x.action s)
 unfolding written
 Relaxed-covers old new x r s can h e =
@@ -108,7 +108,7 @@ Relaxed-covers old new x r s can h e =
           subst (λ u. Covers (entry new) x.to (step x.action u)) one (subst (λ row. Covers (entry row) x.to (step x.action t)) (sym w) now)
     ]
 
--- each entry was there, or is the step
+-- each entry was there before, or is the extended one
 pub Relaxed-from : (old new : List (Option Summary)) (x : Arc) (r b q : ℕ) (t : Summary) → CanRelax old x r → Relaxed old new x r → entry new b q ≡ Some t → (entry old b q ≡ Some t) ⊎ ((s : Summary) × (entry old x.from r ≡ Some s) × (x.to ≡ b) × ((step x.action s).keep ≡ q) × (t ≡ step x.action s))
 unfolding written
 Relaxed-from old new x r b q t can h e =
@@ -131,15 +131,15 @@ of_option : (o : Option Summary) (t : Summary) → option_map inner o ≡ Some t
 of_option None t h = absurd (cc)
 of_option (Some k) t h = (k, refl, cc)
 
--- what is held if there is an entry
+-- the summary held if there is an entry
 pub of_entry : (row : List (Option Summary)) (b q : ℕ) (t : Summary) → entry row b q ≡ Some t → (k : Summary) × (Some k ≡ held row b q) × (inner k ≡ t)
 of_entry row b q t h = of_option (held row b q) t h
 
--- the entry at the arc's start can be followed by the arc
+-- the entry at the arc's start can be extended by the arc
 pub past_can : (row : List (Option Summary)) (x : Arc) (r : ℕ) → CanRelax row x r → (f : Summary) → Some f ≡ held row x.from r → (length (inner f).constants + grows x.action ≤ max_depth) × IsWithin (max_counter - 1) (inner f)
 past_can row x r can f e = let h = can.room (inner f) (ap (option_map inner) (sym e)) in (h.1, h.2)
 
--- what the stored entries say of the step: f at the arc's start, n the step, k at its end
+-- what the stored entries say about the extended entry: f at the arc's start, n the extended entry, k at the arc's end
 module _ (row : List (Option Summary)) (x : Arc) (r : ℕ) (can : CanRelax row x r) (f n : Summary) (at' : Some f ≡ held row x.from r) (is : inner n ≡ step x.action (inner f)) where
   here : entry row x.from r ≡ Some (inner f)
   here = ap (option_map inner) (sym at')
@@ -158,7 +158,7 @@ module _ (row : List (Option Summary)) (x : Arc) (r : ℕ) (can : CanRelax row x
       let h = can.alike (inner f) (inner k) here (known_here k e) in
       (h.0 ∙ sym keep_is, sym (length-reverse k.constants) ∙ h.1 ∙ ap (λ s. length s.constants) (sym is) ∙ length-reverse n.constants)
 
-  -- nothing is written if what is known is at most the step
+  -- nothing is written if the entry there is at most the extended one
   pub stays_quiet : (k : Summary) → Some k ≡ held row x.to n.keep → AtMost (inner k) (inner n) → Quiet row row x r
   stays_quiet k e less = (
     refl,
@@ -168,7 +168,7 @@ module _ (row : List (Option Summary)) (x : Arc) (r : ℕ) (can : CanRelax row x
         subst (λ t. Covers (entry row) x.to (step x.action t)) one (inner k, known_here k e, subst (λ t. AtMost (inner k) t) is less),
   )
 
-  -- and it is written if the step is at most what is known
+  -- the extended entry is written if it is at most the entry there
   pub writes : ((k : Summary) → Some k ≡ held row x.to n.keep → AtMost (inner n) (inner k)) → Written row (set row (x.to * keeps + n.keep) (Some n)) x r
   writes less = (
     inner f,

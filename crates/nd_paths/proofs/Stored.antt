@@ -1,4 +1,4 @@
--- Summaries as they are stored, outermost first: one action more, and comparing.
+-- Summaries as they are stored, outermost constant first: extending them by an action, and comparing them.
 use Rattle.std.proofs.Common.{◌≡◌, inl, inr, ◌↔◌, ℕ, ◌+◌, ◌-◌, ◌<◌, ◌≤◌, Bool, true, false, IsTrue, IsSome, MatchBool, Option, Some, None, List, [], ◌∷◌, ◌++◌, length, take, reverse, refl, sym, ◌∙◌, ap, arith, length-append, length-take}
 use Rattle.std.specs.Option.{is_some, option_to_list}
 use Rattle.std.specs.Ordering.{nat_cmp, is_le}
@@ -25,7 +25,7 @@ egress_end s k left o n h e q =
     let parts = left_none s.constants left o n h e in
     ap (λ c. inner (record { keep = k; add = 0; constants = c })) parts.1 ∙ ap (λ r. record { keep = r; add = 0; constants = [] }) q ∙ ap (λ c. then_act Egress s.keep s.add (reverse c)) (sym parts.0)
 
--- and a feedback
+-- a feedback of a summary without constants
 pub feedback_end : (s : Summary) (left : List ℕ) (o : Option ℕ) → is_some o ≡ false → IsSome o ↔ (0 < length s.constants) → s.constants ≡ left ++ option_to_list o → inner (record { keep = s.keep; add = s.add + 1; constants = left }) ≡ step Feedback (inner s)
 feedback_end s left o n h e =
     let parts = left_none s.constants left o n h e in
@@ -34,7 +34,7 @@ feedback_end s left o n h e =
 inner_same : (s t : Summary) → s.keep ≡ t.keep → length s.constants ≡ length t.constants → length (inner s).constants ≡ length (inner t).constants
 inner_same s t e h = length-reverse s.constants ∙ h ∙ sym (length-reverse t.constants)
 
--- comparing the constants of summaries that add as much
+-- comparing the constants of summaries that add the same number
 pub compares_parts : (s t : Summary) (b : Bool) → s.keep ≡ t.keep → length s.constants ≡ length t.constants → s.add ≡ t.add → b ≡ is_le (slice_cmp nat_cmp s.constants t.constants) → MatchBool b (AtMost (inner s) (inner t)) (AtMost (inner t) (inner s))
 compares_parts s t true e h a is =
     record { keep = e; size = inner_same s t e h; least = inr (a, before_from_lexical s.constants t.constants h (at_most s.constants t.constants h (sym is))) }

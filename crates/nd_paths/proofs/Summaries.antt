@@ -1,4 +1,4 @@
--- What a summary does is what the walk does, and the order of summaries is the order of what they do.
+-- A summary does what its walk does, and summaries are ordered like their results.
 use Rattle.std.proofs.Common.{◌≡◌, ◌⊎◌, inl, inr, ℕ, zero, suc, ◌+◌, ◌-◌, ◌<◌, ◌≤◌, List, [], ◌∷◌, ◌++◌, length, drop, refl, sym, ◌∙◌, ap, subst, arith, length-drop}
 use Rattle.std.proofs.lemmas.Bool.{cases_lt, cases_eq}
 use Rattle.std.proofs.lemmas.List.{drop-drop, drop_all}
@@ -13,7 +13,7 @@ use Rattle.nd_paths.specs.declared.summary.Summary.{Summary}
 use Rattle.nd_paths.specs.Inside.{identity, plus, apply, then_act, step, after, AtMost, Below}
 use Rattle.nd_paths.proofs.Orders.{AtOrBefore-trans, compared, act_mono}
 
--- a summary for times of depth d, at a location of depth e
+-- s applies to times of depth d, and leaves times of depth e
 pub record IsFor (d e : ℕ) (s : Summary) : Type 0 where
   pub kept : s.keep ≤ d
   pub depth : s.keep + length s.constants ≡ e
@@ -87,7 +87,7 @@ pub after-append : (w v : List Arc) (s : Summary) → after (w ++ v) s ≡ after
 after-append [] v s = refl
 after-append (x ∷ w) v s = after-append w v (step x.action s)
 
--- the order of what is put in front decides
+-- the order of the first parts of two lists decides
 pub Earlier-front : (k l a b : List ℕ) → length k ≡ length l → Earlier k l → a ≡ b → Earlier (k ++ a) (l ++ b)
 Earlier-front [] l a b e h q = absurd h
 Earlier-front (x ∷ k) [] a b e h q = absurd h
@@ -108,7 +108,7 @@ keeps_some : (r a b : ℕ) → (r ≡ 0 → b ≡ 0) → a < b → 0 < r
 keeps_some zero a b h k = absurd (omega (arith, h refl))
 keeps_some (suc r) a b h k = omega arith
 
--- a summary that is less does less, to each time
+-- a summary that is less gives an earlier result, for each time
 pub apply-Below : (s t : Summary) (d e : ℕ) (c : List ℕ) → IsFor d e t → length c ≡ d → Below s t → Earlier (apply s c) (apply t c)
 apply-Below s t d e c f h b =
     let P : ℕ → Type 0 = λ r. Earlier (s.constants ++ plus s.add (drop (length c - r) c)) (apply t c) in
@@ -127,7 +127,7 @@ same_add s t h k q =
       | inr p ↦ inr (record { keep = sym h; size = sym k; least = inr (sym q, p) })
     ]
 
--- of two summaries with one keep, one is less, or they are the same
+-- of two summaries with the same keep, one is less, or they are equal
 pub compared_summaries : (s t : Summary) → s.keep ≡ t.keep → length s.constants ≡ length t.constants → AtMost s t ⊎ Below t s
 compared_summaries s t h k =
     elim (cases_lt t.add s.add) [
@@ -142,7 +142,7 @@ at_or_Below s t h =
       | inr p ↦ elim p.1 [ inl q ↦ inl (record { keep = h.keep; size = h.size; least = inr (p.0, q) }) | inr q ↦ inr (λ i. record { keep = h.keep i; add = p.0 i; constants = q i }) ]
     ]
 
--- and at most, at most
+-- a summary that is at most another gives a result at or before the other's
 pub apply-AtMost : (s t : Summary) (d e : ℕ) (c : List ℕ) → IsFor d e t → length c ≡ d → AtMost s t → AtOrBefore (apply s c) (apply t c)
 apply-AtMost s t d e c f h m =
     elim (at_or_Below s t m) [ inl b ↦ inl (apply-Below s t d e c f h b) | inr q ↦ inr (ap (λ u. apply u c) q) ]
@@ -176,7 +176,7 @@ step_most Feedback r a b [] (y ∷ l) e h = absurd (omega arith)
 step_most Feedback r a b (x ∷ k) [] e h = absurd (omega arith)
 step_most Feedback r a b (x ∷ k) (y ∷ l) e h = record { keep = refl; size = omega arith; least = by_act Feedback a b (x ∷ k) (y ∷ l) h }
 
--- composition with an arc keeps the order
+-- extending both by an arc keeps the order
 pub AtMost-step : (x : Action) (s t : Summary) → AtMost s t → AtMost (step x s) (step x t)
 AtMost-step x s t h =
     let P : ℕ → Type 0 = λ r. AtMost (then_act x r s.add s.constants) (step x t) in

@@ -1,4 +1,4 @@
--- Comparing what a summary makes of counters, number by number.
+-- Comparing the counters after a summary, number by number.
 use Rattle.std.proofs.Common.{◌≡◌, ℕ, zero, suc, ◌+◌, ◌-◌, ◌<◌, ◌≤◌, ◌≢◌, true, nat_lt, List, [], ◌∷◌, length, take, drop, get_or, refl, ◌∙◌, ap, arith, length-take}
 use Rattle.std.specs.Ordering.{nat_cmp, is_le, ordering_then}
 use Rattle.std.specs.Cmp.Lexicographic.{slice_cmp}
@@ -8,7 +8,7 @@ use Rattle.nd_paths.specs.declared.summary.Summary.{Summary}
 use Rattle.nd_paths.specs.Summary.{raised, applied}
 use Rattle.nd_paths.proofs.Stored.{length-raised}
 
--- ---- what stands at a place
+-- ---- the number at a position
 
 raised_last : (a : ℕ) (c : List ℕ) (i : ℕ) → i + 1 ≡ length c → get_or (raised a c) i 0 ≡ get_or c i 0 + a
 raised_last a [] i h = absurd (omega arith)
@@ -31,7 +31,7 @@ module _ (s : Summary) (c : List ℕ) (i : ℕ) (kept : s.keep ≤ length c) whe
   pub at_constant : s.keep ≤ i → get_or (applied s c) i 0 ≡ get_or s.constants (i - s.keep) 0
   at_constant h = get_or-append_right (raised s.add (take s.keep c)) s.constants s.keep i 0 size h
 
-  -- the last counter that is kept
+  -- the last counter that is kept, to which the summary adds
   pub at_last : i + 1 ≡ s.keep → get_or (applied s c) i 0 ≡ get_or c i 0 + s.add
   at_last h =
       get_or_append_left (raised s.add (take s.keep c)) s.constants 0 i (omega (arith, size))
@@ -50,14 +50,14 @@ module _ (s : Summary) (c : List ℕ) (i : ℕ) (kept : s.keep ≤ length c) whe
 compared_at : (xs ys : List ℕ) (i : ℕ) → i < length xs → i < length ys → slice_cmp nat_cmp (drop i xs) (drop i ys) ≡ ordering_then (nat_cmp (get_or xs i 0) (get_or ys i 0)) (slice_cmp nat_cmp (drop (i + 1) xs) (drop (i + 1) ys))
 compared_at xs ys i h k = rw (drop_more xs i 0 h, drop_more ys i 0 k) refl
 
--- where two lists have the same number, the rest decides
+-- if two lists have the same number at a position, the rest decides
 pub same_at : (xs ys : List ℕ) (i : ℕ) → i < length xs → i < length ys → get_or xs i 0 ≡ get_or ys i 0 → slice_cmp nat_cmp (drop (i + 1) xs) (drop (i + 1) ys) ≡ slice_cmp nat_cmp (drop i xs) (drop i ys)
 same_at xs ys i h k e = grind (arith, nat_tests, compared_at xs ys i h k)
 
--- where they differ, that decides
+-- if they differ there, that decides
 pub differ_at : (xs ys : List ℕ) (i : ℕ) → i < length xs → i < length ys → get_or xs i 0 ≢ get_or ys i 0 → nat_lt (get_or xs i 0) (get_or ys i 0) ≡ is_le (slice_cmp nat_cmp (drop i xs) (drop i ys))
 differ_at xs ys i h k e = grind (arith, nat_tests, compared_at xs ys i h k)
 
--- past the end they are the same
+-- after the end the lists are equal
 pub same_past : (xs ys : List ℕ) (i : ℕ) → length xs ≤ i → length ys ≤ i → is_le (slice_cmp nat_cmp (drop i xs) (drop i ys)) ≡ true
 same_past xs ys i h k = rw (drop_all i xs h, drop_all i ys k) refl

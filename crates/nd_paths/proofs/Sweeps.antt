@@ -1,4 +1,4 @@
--- What holds of a row while rounds are made: it has real walks, and covers those of few arcs.
+-- What holds of a row while it is swept: its entries come from walks, and it covers walks of few arcs.
 use Rattle.std.proofs.Common.{Bool, true, false, ◌≡◌, inl, inr, ℕ, ◌+◌, ◌-◌, ◌*◌, ◌<◌, ◌≤◌, Option, Some, None, List, [], ◌∷◌, ◌++◌, length, set, replicate, refl, sym, ◌∙◌, ap, subst, arith, length-append}
 use Rattle.std.specs.Bool.{OnFalse}
 use Rattle.std.specs.Prelude.{All, Contains, slice_index}
@@ -22,14 +22,14 @@ use Rattle.nd_paths.proofs.Cuts.{end_of, walk_front, walk_back}
 use Rattle.nd_paths.proofs.Acceptance.{last_arc}
 use Rattle.nd_paths.proofs.RowLemmas.{entry_within, entry_past, entry-set_same, entry-set_other, at_place, Relaxed-keeps, Relaxed-covers, Relaxed-from, Relaxed-length}
 
--- real walks from a, with numbers of at most m, and each walk of at most n arcs covered
+-- the entries are those of walks from a, with numbers of at most m, and each walk of at most n arcs is covered
 pub record Swept (depths : List ℕ) (arcs : List Arc) (a : ℕ) (row : List (Option Summary)) (n m : ℕ) : Type 0 where
   pub long : length row ≡ length depths * keeps
   pub walks : (b r : ℕ) (s : Summary) → entry row b r ≡ Some s → (w : List Arc) × IsWalkAlong arcs a b w × (s ≡ summary_of depths a w) × (s.keep ≡ r)
   pub within : (b r : ℕ) (s : Summary) → entry row b r ≡ Some s → IsWithin m s
   pub covers : CoversShort depths arcs a (entry row) n
 
--- each walk of at most n arcs to x's start, and with a keep below k, is covered after x too
+-- each walk of at most n arcs to x's start, with a keep below k, is covered after x too
 abbrev pub Followed : List ℕ → List Arc → ℕ → List (Option Summary) → ℕ → ℕ → Arc → Type 0
 Followed depths arcs a row n k x =
     (w : List Arc) → length w ≤ n → IsWalkAlong arcs a x.from w → (summary_of depths a w).keep < k → Covers (entry row) x.to (step x.action (summary_of depths a w))
@@ -88,7 +88,7 @@ module _ (depths : List ℕ) (arcs : List Arc) (g : DepthsAgree depths arcs) (de
             (f'.1, omega (arith, f'.0.depth, f''.depth, f'.1));
       }
 
-  -- one step keeps all that holds of the row
+  -- relaxing one arc keeps everything that holds of the row
   pub relaxed_swept : (old new : List (Option Summary)) (n m : ℕ) (x : Arc) (r : ℕ) → Swept depths arcs a old n m → Contains arcs x → r < keeps → m ≤ (max_counter - 1) → Relaxed old new x r → Swept depths arcs a new n (m + 1)
   relaxed_swept old new n m x r h c low top re =
       let can = can_relax old n m x r h c low top in
@@ -117,7 +117,7 @@ module _ (depths : List ℕ) (arcs : List Arc) (g : DepthsAgree depths arcs) (de
   relaxed_followed old new n m x r y k h c low top re f =
       λ w l walk below. Relaxed-keeps old new x r (can_relax old n m x r h c low top) re y.to (step y.action (summary_of depths a w)) (f w l walk below)
 
-  -- and follows the walks with this keep
+  -- and covers the walks with this keep, extended by the arc
   pub relaxed_here : (old new : List (Option Summary)) (n m : ℕ) (x : Arc) (r : ℕ) → Swept depths arcs a old n m → Contains arcs x → r < keeps → m ≤ (max_counter - 1) → Relaxed old new x r → Followed depths arcs a old n r x → Followed depths arcs a new n (r + 1) x
   relaxed_here old new n m x r h c low top re f =
       λ w l walk below.
@@ -157,7 +157,7 @@ module _ (depths : List ℕ) (arcs : List Arc) (g : DepthsAgree depths arcs) (de
           let whole : IsWalkAlong arcs a b (v ++ (y ∷ [])) = subst (λ u. IsWalkAlong arcs a b u) e walk in
           subst (λ u. Covers (entry row) b (summary_of depths a u)) (sym e) (covers_ends row n m v y b low h f short whole)
 
--- m may be written another way
+-- m may be replaced by an equal number
 pub swept_as : (depths : List ℕ) (arcs : List Arc) (a : ℕ) (row : List (Option Summary)) (n m m' : ℕ) → m ≡ m' → Swept depths arcs a row n m → Swept depths arcs a row n m'
 swept_as depths arcs a row n m m' e h = subst (λ k. Swept depths arcs a row n k) e h
 
@@ -174,7 +174,7 @@ nothing n b r s h =
       | inr past ↦ let e : None ≡ Some s = sym (entry_past (replicate n None) b r past) ∙ h in cc
     ]
 
--- at the start there is the empty walk
+-- at first there is the empty walk only
 module _ (depths : List ℕ) (arcs : List Arc) (a : ℕ) (h : a < length depths) (low : slice_index depths a ≤ max_depth) where
   blank : List (Option Summary)
   blank = replicate (length depths * keeps) None
@@ -218,7 +218,7 @@ module _ (depths : List ℕ) (arcs : List Arc) (a : ℕ) (h : a < length depths)
   unfolding start_row blank
   swept_start row e = subst (λ r. Swept depths arcs a r 0 0) (sym e) start_swept
 
--- how many steps were made
+-- how often an arc was relaxed so far
 pub budget : (round arcs j k n : ℕ) → round < n * keeps → j < arcs → k < keeps → n ≤ max_locations → arcs ≤ max_locations * 2 → (round * arcs + j) * keeps + k ≤ max_counter - 1
 budget round arcs j k n h1 h2 h3 h4 h5 =
     let p = mul-add-lt round arcs j (n * keeps) h1 h2 in
@@ -230,7 +230,7 @@ budget round arcs j k n h1 h2 h3 h4 h5 =
 pub round_done : (r a j : ℕ) → a ≤ j → j ≤ a → (r * a + j) * keeps ≡ (r + 1) * a * keeps
 round_done r a j h k = omega arith
 
--- each entry at x's start with a keep below k, followed by x, is covered
+-- each entry at x's start with a keep below k, extended by x, is covered
 abbrev pub Closed : List (Option Summary) → ℕ → Arc → Type 0
 Closed row k x = (r : ℕ) (s : Summary) → r < k → entry row x.from r ≡ Some s → Covers (entry row) x.to (step x.action s)
 

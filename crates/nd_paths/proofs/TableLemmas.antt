@@ -41,7 +41,7 @@ table_copied g g' rows copies e c h = table_as g g' copies e (record {
   );
 })
 
--- the lists that a graph's readers gave are its depths and its arcs
+-- the lists that a graph's readers return are its depths and its arcs
 module _ (g : Dataflow) (ds : List ℕ) (xs : List Arc) (e : ds ≡ depths g) (q : xs ≡ arcs g) where
   of_graph : (P : List ℕ → List Arc → Type 0) → P ds xs → P (depths g) (arcs g)
   of_graph P p = subst (λ d. P d (arcs g)) e (subst (λ x. P ds x) q p)

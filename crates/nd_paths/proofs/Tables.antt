@@ -11,11 +11,11 @@ use Rattle.nd_paths.proofs.Orders.{AtOrBefore-trans}
 use Rattle.nd_paths.proofs.Summaries.{AtMost-trans, AtMost-step, apply-AtMost}
 use Rattle.nd_paths.proofs.Walks.{IsFor-walk, apply-walk}
 
--- a row of the table: what it has for a location and a keep
+-- a row of the table: the summary for a location and a keep
 abbrev pub Row : Type 0
 Row = ℕ → ℕ → Option Summary
 
--- a row with the identity that each arc leaves as it is
+-- a row that has the identity, and that extending an entry by an arc does not change
 pub record IsClosed (depths : List ℕ) (arcs : List Arc) (a : ℕ) (row : Row) : Type 0 where
   pub start : Covers row a (identity (slice_index depths a))
   pub closed : (x : Arc) (r : ℕ) (s : Summary) → Contains arcs x → row x.from r ≡ Some s → Covers row x.to (step x.action s)

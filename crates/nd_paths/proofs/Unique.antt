@@ -69,7 +69,7 @@ adds_same d e s t f f' k size same =
           f.top z ∙ sym (f'.top (sym k ∙ z))
     ]
 
--- summaries that do the same are the same
+-- summaries with the same results are equal
 pub same_summary : (d e : ℕ) (s t : Summary) → IsFor d e s → IsFor d e t → ((c : List ℕ) → length c ≡ d → apply s c ≡ apply t c) → s ≡ t
 same_summary d e s t f f' same =
     elim (cases_lt s.keep t.keep) [
@@ -98,7 +98,7 @@ inner_inner : (s : Summary) → inner (inner s) ≡ s
 inner_inner s = λ i. record { keep = s.keep; add = s.add; constants = reverse-reverse s.constants i }
 
 module _ (g : Dataflow) (agree : DepthsAgree (depths g) (arcs g)) where
-  -- what has the walk's summary innermost first is a summary of the walk
+  -- a summary that is the walk's with its constants innermost first is a summary of the walk
   pub summary_outside : (w : List Arc) (a b : ℕ) (s : Summary) → a < length (depths g) → IsWalkAlong (arcs g) a b w → inner s ≡ summary_of (depths g) a w → IsSummaryOf g a w s
   summary_outside w a b s inside walk is =
       let d : ℕ = slice_index (depths g) a in
@@ -112,7 +112,7 @@ module _ (g : Dataflow) (agree : DepthsAgree (depths g) (arcs g)) where
             (reverse-applied s c ∙ ap (λ u. apply u (reverse c)) is ∙ apply-walk (depths g) w a (reverse c) (length-reverse c ∙ size) ∙ sym (reverse-effect w c));
       }
 
-  -- and each summary of the walk has it
+  -- each summary of the walk is that one
   pub summary_inside : (w : List Arc) (a b : ℕ) (s : Summary) → IsWalkAlong (arcs g) a b w → IsSummaryOf g a w s → inner s ≡ summary_of (depths g) a w
   summary_inside w a b s walk h =
       let d : ℕ = slice_index (depths g) a in

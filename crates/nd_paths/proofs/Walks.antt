@@ -1,4 +1,4 @@
--- Walks fit the depths of their graph, and join end to end.
+-- Walks fit the depths of their graph, and can be joined end to end.
 use Rattle.std.proofs.Common.{◌≡◌, ℕ, List, [], ◌∷◌, ◌++◌, length, sym, ◌∙◌, ap, subst, arith}
 use Rattle.std.specs.Prelude.{Contains, slice_index}
 use Rattle.std.proofs.lemmas.List.Elements.{All-contains}

@@ -3,7 +3,7 @@ use Rattle.std.specs.Prelude.{All}
 use Rattle.nd_time.specs.Limits.{max_counter}
 use Rattle.nd_paths.proofs.summary.Constants.narrowed.Given as goal
 
--- the numbers so far, none of which is too great
+-- the numbers so far, none of which exceeds the limit
 abbrev pub invariant-loop-number : goal.invariant-loop-number
 invariant-loop-number l = record {
   items : l.numbers.items ≡ take l.number-index l.wide;
