@@ -16,7 +16,7 @@ use Rattle.nd_delta.specs.declared.DeltaFault.{DeltaFault}
 use Rattle.nd_delta.specs.declared.DeltaFault.TheVariants.{DeltaFull}
 use Rattle.nd_delta.proofs.KeptLemmas.{whole, at_found, put_kept, put_is, taken_kept, taken_is}
 
--- what is said of an integer to which n is added
+-- the edit e is that of the integer h to which n is added
 pub record IsSum (n h : ℤ) (e : Edit ℤ) : Type 0 where
   pub full : max_count < unsigned_abs (h +ℤ n) → e ≡ Keep
   pub none : h +ℤ n ≡ pos 0 → e ≡ Remove
@@ -28,7 +28,7 @@ module _ (es : List (Pointstamp × ℤ)) (kept : IsKept es) (m : DeltaValue) (vi
     pub is : of_entries fs ≡ set m p (at m p +ℤ n)
     pub within : unsigned_abs (at m p +ℤ n) ≤ max_count
 
-  -- what came of it, where something was said
+  -- the result if there was an edit
   abbrev pub Done : Edit ℤ → List (Pointstamp × ℤ) → Type 0
   Done Keep fs = (fs ≡ es) × (max_count < unsigned_abs (at m p +ℤ n))
   Done (Put w) fs = Changed fs
@@ -38,7 +38,7 @@ module _ (es : List (Pointstamp × ℤ)) (kept : IsKept es) (m : DeltaValue) (vi
   Ended None fs = Changed fs
   Ended (Some e) fs = Done e fs
 
-  -- what came of it
+  -- the result of the addition
   abbrev pub Outcome : {E : Type 0} → Result (Option (Edit ℤ)) E → List (Pointstamp × ℤ) → Type 0
   Outcome (Err x) fs = (fs ≡ es) × (at m p ≡ pos 0) × (unsigned_abs (at m p +ℤ n) ≤ max_count)
   Outcome (Ok said) fs = Ended said fs

@@ -1,4 +1,4 @@
--- What supports a pointstamp supports each that is at or after it: for a partial order B of points, and the strict one.
+-- What supports a pointstamp supports each pointstamp at or after it: for a partial order B of points, and its strict order.
 use Rattle.std.proofs.Common.{◌≡◌, ◌≢◌, ℤ, sym, subst}
 use Rattle.nd_delta.specs.Upright.{IsSupported}
 

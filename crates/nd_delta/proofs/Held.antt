@@ -1,4 +1,4 @@
--- What no list, or the empty list, holds.
+-- The held pointstamps of no list, and of the empty list: none.
 use Rattle.std.proofs.Common.{ℤ, inl, inr, arith, []}
 use Rattle.std.specs.Prelude.{Contains}
 use Rattle.nd_paths.specs.declared.point.Pointstamp.{Pointstamp}

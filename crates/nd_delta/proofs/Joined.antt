@@ -1,4 +1,4 @@
--- The sum, or the difference, of two changes, made at the points of both in turn.
+-- The sum, or the difference, of two changes, computed at the points of both in turn.
 use Rattle.std.proofs.Common.{◌≡◌, ◌≢◌, ◌<◌, ◌≤◌, ◌+◌, ℕ, ℤ, pos, Bool, true, false, cond, length, get_or, refl, sym, ap, subst, ◌∙◌, inl, inr, arith}
 use Rattle.std.proofs.lemmas.Int.{ints}
 use Rattle.std.proofs.lemmas.Map.Views.{tells_apart}
@@ -8,13 +8,13 @@ use Rattle.nd_paths.specs.declared.point.Pointstamp.{Pointstamp}
 use Rattle.nd_delta.specs.Delta.{DeltaValue, none, at, set, combined, entries, is_point, same, at-none, at-set, at-set_same, at-plus, at-minus}
 use Rattle.nd_delta.specs.Least.{AllUpTo, all-more, all-points}
 
--- where neither has anything
+-- a point at which neither has an entry
 combined_none : (b : Bool) (m n : DeltaValue) (q : Pointstamp) → at m q ≡ pos 0 → at n q ≡ pos 0 → at (combined b m n) q ≡ pos 0
 combined_none true m n q d e = let h = at-minus m n q in omega (arith, ints, h, d, e)
 combined_none false m n q d e = let h = at-plus m n q in omega (arith, ints, h, d, e)
 
 module _ (b : Bool) (m n : DeltaValue) where
-  -- s is right at the points of the first entries of both, and wherever it is not 0
+  -- s is correct at the points of the first entries of both, and wherever it is not 0
   pub record IsJoined (i j : ℕ) (s : DeltaValue) : Type 0 where
     pub some : (q : Pointstamp) → at s q ≢ pos 0 → at s q ≡ at (combined b m n) q
     pub first : AllUpTo (λ q. at s q ≡ at (combined b m n) q) (entries m) i
@@ -27,7 +27,7 @@ module _ (b : Bool) (m n : DeltaValue) where
     second = λ k lt. absurd (omega (arith, lt));
   }
 
-  -- a point more, and what is right stays so
+  -- after one more point what is correct stays correct
   module _ (s t : DeltaValue) (x : Pointstamp) (set_is : t ≡ set s x (at (combined b m n) x)) where
     value : (q : Pointstamp) → at t q ≡ cond (is_point q x) (at (combined b m n) x) (at s q)
     value q = ap (λ c. at c q) set_is ∙ at-set s x (at (combined b m n) x) q

@@ -1,4 +1,4 @@
--- The entries that a delta keeps, and the change that it is seen as: look-ups and edits, as the code has their integers.
+-- The entries that a change stores, and the change that they represent: lookups and edits, with the integers of the code.
 use Rattle.std.proofs.Common.{◌≡◌, ◌≢◌, ◌≤◌, ℤ, pos, unsigned_abs, List, Some, None, w64, to_z, of_z, sym, ap, subst, ◌∙◌, arith}
 use Rattle.std.proofs.lemmas.Int.{to_z-of_z, fits_signed_from_abs}
 use Rattle.std.specs.FinMap.{find, put}
@@ -11,7 +11,7 @@ use Rattle.nd_paths.specs.declared.point.Pointstamp.{Pointstamp}
 use Rattle.nd_delta.specs.Delta.{DeltaValue, at, set, or_zero, of_entries, entries, IsWithin}
 use Rattle.nd_delta.specs.Kept.{IsCount, IsKept}
 
--- an integer as the code keeps it
+-- an integer as the code stores it
 pub whole : (n : ℤ) → unsigned_abs n ≤ max_count → to_z w64 (of_z w64 n) ≡ n
 whole n within = to_z-of_z w64 n (fits_signed_from_abs w64 n (omega (arith, within)))
 
@@ -30,11 +30,11 @@ module _ (es : List (Pointstamp × ℤ)) (kept : IsKept es) (m : DeltaValue) (vi
     unfolding of_entries at
     at_found = laws.at_found integers point_total point_exact es m view p
 
-    -- a look-up that finds nothing
+    -- a lookup that finds nothing
     pub got_none : None ≡ find point_cmp p es → pos 0 ≡ at m p
     got_none is = ap or_zero is ∙ at_found
 
-    -- a look-up's integer
+    -- the integer that a lookup finds
     pub got_some : (n : ℤ) → Some n ≡ find point_cmp p es → (to_z w64 (of_z w64 n) ≡ at m p) × (unsigned_abs (to_z w64 (of_z w64 n)) ≤ max_count)
     got_some n is =
         let here : n ≡ at m p = ap or_zero is ∙ at_found in
@@ -51,7 +51,7 @@ module _ (es : List (Pointstamp × ℤ)) (kept : IsKept es) (m : DeltaValue) (vi
     unfolding of_entries set
     put_is n fs within is = laws.of_put integers point_total point_exact es m view p n fs (is ∙ ap (λ z. put point_cmp p z es) (whole n within))
 
-    -- an entry is taken out
+    -- an entry is removed
     pub taken_kept : (fs : List (Pointstamp × ℤ)) → fs ≡ without point_cmp p es → IsKept fs
     taken_kept fs is = subst IsKept (sym is) (laws.kept_without point_cmp point_total es p (λ _. IsCount) kept)
 

@@ -1,4 +1,4 @@
--- What a sign says of an entry.
+-- What a sign says about an entry.
 use Rattle.std.proofs.Common.{◌≢◌, ℤ, pos, arith}
 use Rattle.std.specs.Prelude.{◌<ℤ◌}
 use Rattle.std.proofs.lemmas.Int.{ints}

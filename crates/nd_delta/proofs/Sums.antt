@@ -1,4 +1,4 @@
--- A change that is made point by point, and the sum and the difference made so.
+-- A change that is computed point by point, and the sum and the difference computed in this way.
 use Rattle.std.proofs.Common.{◌≡◌, ◌≢◌, ◌≤◌, ◌<◌, ◌+◌, ◌*◌, ◌||◌, ◌⊎◌, ℕ, zero, suc, ℤ, pos, negsuc, append_assoc, length-append, ◌+ℤ◌, ◌-ℤ◌, Bool, true, false, cond, List, [], ◌∷◌, ◌++◌, take, drop, length, get_or, Option, Some, None, w64, to_z, of_z, FitsSigned, unsigned_abs, refl, sym, ap, subst, ◌∙◌, arith, below_more}
 use Rattle.std.proofs.lemmas.Int.{ints, to_z-of_z, fits_signed_from_abs}
 use Rattle.std.proofs.Common.{inl, inr}
@@ -26,7 +26,7 @@ alone : (b : Bool) → (b || false) ≡ b
 alone true = refl
 alone false = refl
 
--- s has f at these points and g elsewhere: so with one point more
+-- s has f at these points and g at others; this stays true with one more point
 pub one_more : (ks : List Pointstamp) (x : Pointstamp) (f g : Pointstamp → ℤ) (s t : DeltaValue) → ((q : Pointstamp) → at s q ≡ cond (has_point q ks) (f q) (g q)) → t ≡ set s x (f x) → (q : Pointstamp) → at t q ≡ cond (has_point q (ks ++ x ∷ [])) (f q) (g q)
 one_more ks x f g s t h is q =
     ap (λ c. at c q) is ∙ at-set s x (f x) q
@@ -40,7 +40,7 @@ next_point ps i x lt is f g s t h set_is q =
     let e : take (i + 1) ps ≡ take i ps ++ x ∷ [] = take_more ps i x lt ∙ ap (λ y. take i ps ++ y ∷ []) (sym is) in
     one_more (take i ps) x f g s t h set_is q ∙ ap (λ ks. cond (has_point q ks) (f q) (g q)) (sym e)
 
--- and in one over entries
+-- the same in a loop over entries
 pub next_entry : (es : List (Pointstamp × ℤ)) (i : ℕ) (x : Pointstamp × ℤ) → i < length es → x ≡ get_or es i x → (f g : Pointstamp → ℤ) (s t : DeltaValue)
     → ((q : Pointstamp) → at s q ≡ cond (has_point q (points_of (take i es))) (f q) (g q)) → t ≡ set s x.0 (f x.0) → (q : Pointstamp) → at t q ≡ cond (has_point q (points_of (take (i + 1) es))) (f q) (g q)
 next_entry es i x lt is f g s t h set_is q =
@@ -49,7 +49,7 @@ next_entry es i x lt is f g s t h set_is q =
     one_more (points_of (take i es)) x.0 f g s t h set_is q ∙ ap (λ ks. cond (has_point q ks) (f q) (g q)) (sym e)
 
 -- ---- the sum and the difference
--- an integer as the code keeps it
+-- an integer as the code stores it
 pub kept : (x : ℤ) → unsigned_abs x ≤ 2 * max_count → to_z w64 (of_z w64 x) ≡ x
 kept x within = to_z-of_z w64 x (fits_signed_from_abs w64 x (omega (arith, within)))
 
@@ -70,13 +70,13 @@ lessens x y x_within y_within =
     rw (kept x (omega (arith, x_within)), kept y (omega (arith, y_within)))
     (fits_signed_from_abs w64 (x -ℤ y) (omega (arith, ints, x_within, y_within)))
 
--- where the second has nothing
+-- a point at which the second has no entry
 pub combined_alone : (b : Bool) (m n : DeltaValue) (q : Pointstamp) → at n q ≡ pos 0 → at (combined b m n) q ≡ at m q
 combined_alone true m n q e = let d = at-minus m n q in omega (arith, ints, d, e)
 combined_alone false m n q e = let d = at-plus m n q in omega (arith, ints, d, e)
 
--- ---- a part that is taken point by point
--- s has the integers of m at the first points, and nothing elsewhere
+-- ---- a part that is copied point by point
+-- s has the integers of m at the first points, and no other entries
 abbrev pub IsTaken : DeltaValue → List Pointstamp → ℕ → DeltaValue → Type 0
 IsTaken m ps i s = (q : Pointstamp) → at s q ≡ cond (has_point q (take i ps)) (at m q) (pos 0)
 
@@ -84,7 +84,7 @@ module _ (m : DeltaValue) (ps : List Pointstamp) where
   pub taken_first : (s : DeltaValue) → s ≡ none → IsTaken m ps 0 s
   taken_first s is q = ap (λ c. at c q) is ∙ at-none q
 
-  -- one point more, with its integer as the code keeps it
+  -- one more point, with its integer as the code stores it
   pub taken_more : (i : ℕ) (x : Pointstamp) (r : ℤ) (s t : DeltaValue) → i < length ps → x ≡ get_or ps i x → r ≡ at m x → unsigned_abs r ≤ max_count
       → IsTaken m ps i s → t ≡ set s x (to_z w64 (of_z w64 r)) → IsTaken m ps (i + 1) t
   taken_more i x r s t lt is here within h set_is = next_point ps i x lt is (at m) (λ _. pos 0) s t h (set_is ∙ ap (set s x) (kept r (omega (arith, within)) ∙ here))
@@ -92,11 +92,11 @@ module _ (m : DeltaValue) (ps : List Pointstamp) where
   pub taken_all : (i : ℕ) (s : DeltaValue) → length ps ≤ i → IsTaken m ps i s → s ≡ part m ps
   taken_all i s past h = same s (part m ps) (λ q. h q ∙ ap (λ ks. cond (has_point q ks) (at m q) (pos 0)) (take_all i ps past) ∙ sym (at-part m ps q))
 
--- ---- whether it fits
+-- ---- whether it is within the limit
 pub not_past : (x : ℤ) → (max_count < unsigned_abs x → ⊥) → unsigned_abs x ≤ max_count
 not_past x h = elim (cases_lt max_count (unsigned_abs x)) [ inl lt ↦ absurd (h lt) | inr le ↦ le ]
 
--- the first entries' points do
+-- the integers at the points of the first entries are within the limit
 abbrev pub AllFit : (Pointstamp → ℤ) → List (Pointstamp × ℤ) → ℕ → Type 0
 AllFit f es i = (k : ℕ) → k < i → (d : Pointstamp × ℤ) → unsigned_abs (f (get_or es k d).0) ≤ max_count
 
@@ -118,8 +118,8 @@ not_too_large b m n i past within h large = by (find point_cmp large.0 (entries 
         = found_all point_cmp point_exact (λ k _. unsigned_abs (at (combined b m n) k) ≤ max_count) (entries n) (λ k d lt. h k (omega (arith, lt, past)) d) large.0 v e in
         omega (arith, small, large.1)
 
--- ---- a change that is made from the entries of another, one by one
--- s has the integers of n at the entries of m that came, and nothing elsewhere; rest are the entries to come
+-- ---- a change that is built from the entries of another, one by one
+-- s has the integers of n at the entries of m so far, and no other entries; rest has the remaining entries
 pub record IsMade (m n : DeltaValue) (rest : List (Pointstamp × ℤ)) (s : DeltaValue) : Type 0 where
   pub came : List (Pointstamp × ℤ)
   pub all : came ++ rest ≡ entries m
@@ -136,14 +136,14 @@ module _ (m n : DeltaValue) where
     made = λ q. one_more (points_of h.came) e.0 (at n) (λ _. pos 0) s t h.made is q ∙ ap (λ ks. cond (has_point q ks) (at n q) (pos 0)) (sym (map-append (λ y. y.0) h.came (e ∷ [])));
   }
 
-  -- the entry that is next has its point's integer
+  -- the next entry has its point's integer
   pub made_next : (rest es : List (Pointstamp × ℤ)) (e : Pointstamp × ℤ) (s : DeltaValue) → rest ≡ e ∷ es → IsMade m n rest s → e.1 ≡ at m e.0
   made_next rest es e s step h =
       let all : h.came ++ e ∷ es ≡ entries m = ap (λ fs. h.came ++ fs) (sym step) ∙ h.all in
       let lt : length h.came < length (entries m) = subst (λ fs. length h.came < length fs) all (rw (length-append h.came (e ∷ es)) (omega arith)) in
       at-index m (length h.came) e lt (sym (get_or-append_seam h.came e es e) ∙ ap (λ fs. get_or fs (length h.came) e) all)
 
-  -- after the last entry, where n has nothing beside the entries of m
+  -- after the last entry, if n has entries only at points at which m has some
   pub made_last : (rest : List (Pointstamp × ℤ)) (s : DeltaValue) → rest ≡ [] → ((q : Pointstamp) → at m q ≡ pos 0 → at n q ≡ pos 0) → IsMade m n rest s → s ≡ n
   made_last rest s end nothing h =
       let all : h.came ≡ entries m = sym (append-nil h.came) ∙ ap (λ fs. h.came ++ fs) (sym end) ∙ h.all in
@@ -155,14 +155,14 @@ module _ (m n : DeltaValue) where
       by true x e = refl
       by false x e = sym (e refl)
 
--- ---- what stays without a part
+-- ---- what stays after a part is removed
 stays_of : (x y : ℤ) → (y ≢ pos 0 → x ≡ y) → (x -ℤ y ≡ x) ⊎ (x -ℤ y ≡ pos 0)
 stays_of x (pos zero) h = inl (omega (arith, ints))
 stays_of x (pos (suc k)) h = let e : x ≡ pos (suc k) = h (λ z. absurd (cc)) in inr (omega (arith, ints))
 stays_of x (negsuc k) h = let e : x ≡ negsuc k = h (λ z. absurd (cc)) in inr (omega (arith, ints))
 
 module _ (m piece : DeltaValue) (h : IsPartOf piece m) where
-  -- an entry stays whole, or goes
+  -- an entry stays as it is, or is removed
   stays : (q : Pointstamp) → (at (minus m piece) q ≡ at m q) ⊎ (at (minus m piece) q ≡ pos 0)
   stays q = rw at-minus (stays_of (at m q) (at piece q) (h q))
 
@@ -172,7 +172,7 @@ module _ (m piece : DeltaValue) (h : IsPartOf piece m) where
   pub stays_within : (q : Pointstamp) → unsigned_abs (at m q) ≤ max_count → unsigned_abs (at (minus m piece) q) ≤ max_count
   stays_within q within = elim (stays q) [ inl s ↦ rw s within | inr s ↦ rw s (omega arith) ]
 
--- ---- a part that goes or comes
+-- ---- a part that is removed or added
 pub entry_within : (m : DeltaValue) (i : ℕ) (x : Pointstamp × ℤ) → IsWithin m → i < length (entries m) → x ≡ get_or (entries m) i x → unsigned_abs x.1 ≤ max_count
 entry_within m i x within lt is = rw (at-index m i x lt is) (within x.0)
 
@@ -181,7 +181,7 @@ chosen true x y z f g = f refl
 chosen false x y z f g = g refl
 
 module _ (old piece : DeltaValue) where
-  -- nothing at its pointstamps
+  -- s has no entries at the part's pointstamps
   pub part_gone : IsPartOf piece old → (s : DeltaValue) → ((q : Pointstamp) → at s q ≡ cond (has_point q (points_of (entries piece))) (pos 0) (at old q)) → s ≡ minus old piece
   part_gone h s is =
       same s (minus old piece) (λ q.
@@ -191,7 +191,7 @@ module _ (old piece : DeltaValue) where
       (λ f. let e = at-absent piece q f in omega (arith, ints)))
 
   module _ (h : IsApart piece old) where
-    -- its integers at all of its pointstamps
+    -- s has the part's integers at all of its pointstamps
     pub part_here : (i : ℕ) (s : DeltaValue) → length (entries piece) ≤ i → ((q : Pointstamp) → at s q ≡ cond (has_point q (points_of (take i (entries piece)))) (at piece q) (at old q)) → s ≡ plus old piece
     part_here i s past is =
         same s (plus old piece) (λ q.
@@ -208,7 +208,7 @@ module _ (old piece : DeltaValue) where
         ∙ list_any-append (is_point q) (points_of (take i es)) (points_of (drop i es))
         ∙ ap (λ b. b || has_point q (points_of (drop i es))) t
 
-    -- those that came go again
+    -- the entries that were added are removed again
     pub part_back : (i : ℕ) (s t : DeltaValue) → ((q : Pointstamp) → at s q ≡ cond (has_point q (points_of (take i (entries piece)))) (at piece q) (at old q))
         → ((q : Pointstamp) → at t q ≡ cond (has_point q (points_of (take i (entries piece)))) (pos 0) (at s q)) → t ≡ old
     part_back i s t is gone =

@@ -3,7 +3,7 @@ use Rattle.nd_delta.specs.Delta.{at, combined, entries}
 use Rattle.nd_delta.proofs.Sums.{AllFit}
 use Rattle.nd_delta.proofs.Delta.is_overfull.Given as goal
 
--- at the points of the entries so far it fits
+-- the result is within the limit at the points of the entries so far
 abbrev pub invariant-loop-entry : goal.invariant-loop-entry
 invariant-loop-entry g l = record {
   items : l.entry-items ≡ entries l.other;

@@ -1,6 +1,6 @@
 use Rattle.nd_delta.proofs.Sums.{IsTaken}
 use Rattle.nd_delta.proofs.Delta.part.Given as goal
 
--- what was taken so far are the entries at the points so far
+-- the result so far has the entries at the points so far
 abbrev pub invariant-loop-point : goal.invariant-loop-point
 invariant-loop-point g l = IsTaken l.self l.points l.point-index l.kept

@@ -15,7 +15,7 @@ use Rattle.nd_map.specs.Cases.{not_zero}
 pub loop-entry-init : goal.loop-entry-init
 loop-entry-init g c = record { items = c.entries-entry-items.ensures.listed; others = λ k lt. absurd (omega (arith, lt)); last = tt }
 
--- if there is a point that is supported, and it is at or before x, then x is supported
+-- if there is a supported point at or before x, then x is supported
 passed_on : {T : Type 0} (S B : T → Type 0) (X : Type 0) → ((w : T) → S w → B w → X) → (o : Option T) → IfSome o S → IsSomeAnd o B → X
 passed_on S B X on None s b = absurd b
 passed_on S B X on (Some w) s b = on w s b
@@ -46,7 +46,7 @@ loop-entry-preserved g c =
           }
     ]
 
--- what is known of an entry that nothing supports
+-- what is known about an entry that is not supported
 found : (g : Over) (c : goal.After-copy g) → IsUnsupported (IsStrictlyBefore c.args.paths.now) (Contains c.args.held.now) (at c.args.self.now) c.entry-item.result.0
 found g c =
     let m = c.args.self.now in

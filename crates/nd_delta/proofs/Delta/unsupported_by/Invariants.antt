@@ -6,7 +6,7 @@ use Rattle.nd_delta.specs.Upright.{IsSupported}
 use Rattle.nd_delta.specs.Least.{AllUpTo}
 use Rattle.nd_delta.proofs.Delta.unsupported_by.Given as goal
 
--- each entry so far that is positive is supported, and so is the one that is kept in mind
+-- each positive entry so far is supported, and so is the stored point
 abbrev pub invariant-loop-entry : goal.invariant-loop-entry
 invariant-loop-entry g l = record {
   items : l.entry-items ≡ entries l.self;
