@@ -1,4 +1,4 @@
--- Precursor counts that are counted anew, entry by entry.
+-- Precursor counts that are counted again, entry by entry.
 use Rattle.std.proofs.Common.{◌≡◌, ◌≢◌, ◌<◌, ◌≤◌, ◌+◌, ℕ, ℤ, pos, List, length, get_or, Option, Some, None, refl, sym, ap, subst, ◌∙◌, inl, inr, arith}
 use Rattle.std.specs.Prelude.{◌<ℤ◌}
 use Rattle.std.specs.FinMap.{find, put}
@@ -18,7 +18,7 @@ use Rattle.nd_view.proofs.Shifts.{found_put, found_other}
 use Rattle.nd_map.specs.Cases.{not_zero}
 
 module _ (g : Dataflow) (m : DeltaValue) where
-  -- what is stored is right, and it is stored for the positive points among the first entries
+  -- each stored count is correct, and there is one for each positive point among the first entries
   pub record IsCountedUpTo (i : ℕ) (es : List (Pointstamp × ℕ)) : Type 0 where
     pub listed : IsListed point_cmp es
     pub kept : AreKept g m es
@@ -68,6 +68,6 @@ module _ (g : Dataflow) (m : DeltaValue) where
           p e)
       by q (Some n) e = subst (IsKeptAt g m q) (sym e) (h.kept q n e)
 
--- each number that is stored in a view of a graph is right
+-- each count stored in a view of a graph is correct
 pub are_kept : (g : Dataflow) (m : DeltaValue) (es : List (Pointstamp × ℕ)) → IsFor g (kept_of m es) → AreKept g m es
 are_kept g m es h q n found = subst (IsKeptAt g m q) found (h.each q)

@@ -1,4 +1,4 @@
--- The minimal times into which walks turn those of a view's frontier are the minimal ones that can arrive.
+-- The minimal times into which walks turn those of a view's frontier are the minimal times that can arrive.
 use Rattle.std.proofs.Common.{◌≡◌, ◌≢◌, ◌<◌, ℕ, ℤ, pos, List, [], length, get_or, Option, Some, None, refl, sym, ap, subst, ◌∙◌, inl, inr}
 use Rattle.std.specs.Prelude.{◌<ℤ◌, Contains, IsPermutation}
 use Rattle.std.specs.FinMap.{find}
@@ -23,7 +23,7 @@ use Rattle.nd_view.proofs.TimeOrder.{before_through, before_both}
 some_same : (a b : ℕ) → Some a ≡ Some b → a ≡ b
 some_same a b e = cc (e)
 
--- times that walks to one location lead to have one depth
+-- times to which walks to one location lead have the same depth
 pub one_depth : (g : Dataflow) → WalksLeadOn g → (es : List (Pointstamp × ℤ)) (x : ℕ) (times : List Time) → AreReached g es x times → HaveOneDepth times
 one_depth g on es x times reached s t (i, li, is_s) (j, lj, is_t) =
     let of : (u : Time) (k : ℕ) → k < length times → get_or times k u ≡ u → HasDepth g x (length u.counters) = λ u k lt is.
@@ -33,7 +33,7 @@ one_depth g on es x times reached s t (i, li, is_s) (j, lj, is_t) =
 
 module _ (g : Dataflow) (order : IsOrder g) (on : WalksLeadOn g) (v : Kept) (kept_for : IsFor g v) (f : DeltaValue) (part : IsPartWhere (IsOnFrontier g v.map) v.map f) (x : ℕ)
     (times sorted : List Time) (reached : AreReached g (entries f) x times) (permuted : IsPermutation times sorted) (least : List Time) (minimal : AreMinimal sorted least) where
-  -- something on the frontier could result in all that a positive point could result in
+  -- some point on the frontier could result in everything that a positive point could result in
   near : (s t : Pointstamp) → pos 0 <ℤ at v.map s → CouldResultIn g s t → (y : Pointstamp) × IsOnFrontier g v.map y × CouldResultIn g y t
   near s t positive could = by (find point_cmp s v.counts) (kept_for.each s)
     where
@@ -43,7 +43,7 @@ module _ (g : Dataflow) (order : IsOrder g) (on : WalksLeadOn g) (v : Kept) (kep
           let (y, front, close) = frontier_before g order v.map s n here.0 here.1 in
           (y, front, elim close [ inl same ↦ subst (λ z. CouldResultIn g z t) (sym same) could | inr less ↦ order.transitive y s t less.0 could ])
 
-  -- at or before each time that a positive point could result in there is one
+  -- each time that a positive point could result in has one of the least times at or before it
   found : (s : Pointstamp) (t : Time) → pos 0 <ℤ at v.map s → CouldResultIn g s (record { location = x; time = t }) → HasAtOrBefore least t
   found s t positive could =
       let (y, front, close) = near s (record { location = x; time = t }) positive could in
@@ -55,7 +55,7 @@ module _ (g : Dataflow) (order : IsOrder g) (on : WalksLeadOn g) (v : Kept) (kep
       let (w, chosen, first) = minimal.covers u (Contains-permutation times sorted u permuted among) in
       (w, chosen, before_through w u t first before)
 
-  -- each of them can arrive
+  -- each of the least times can arrive
   arrives : (t : Time) → Contains least t → CanArrive g v.map x t
   arrives t (k, lt, is) =
       let (n, inside, at') = Contains-permutation sorted times t (IsPermutation-sym times sorted permuted) (subst (Contains sorted) is (minimal.among k t lt)) in
@@ -63,7 +63,7 @@ module _ (g : Dataflow) (order : IsOrder g) (on : WalksLeadOn g) (v : Kept) (kep
       let some : at f e.0 ≢ pos 0 = subst (λ z. at f z.0 ≢ pos 0) is_e (index_some f i e li) in
       record { source = e.0; positive = (part.only e.0 some).positive; turns = subst (TurnsInto g e.0 x) at' turns }
 
-  -- and at or before each that can arrive there is one
+  -- each time that can arrive there has one of the least times at or before it
   covers : (t : Time) → CanArrive g v.map x t → HasAtOrBefore least t
   covers t can = found can.source t can.positive (on can.source x t can.turns)
 

@@ -30,7 +30,7 @@ for_none g m es m_is es_is = record {
 pub for_kept : (g : Dataflow) (v : Kept) (q : Pointstamp) (o : Option ℕ) (es : List (Pointstamp × ℕ)) → o ≡ find point_cmp q es → es ≡ v.counts → IsFor g v → IsKeptAt g v.map q o
 for_kept g v q o es o_is es_is h = subst (IsKeptAt g v.map q) (sym (o_is ∙ ap (find point_cmp q) es_is)) (h.each q)
 
--- a count of the same sign
+-- an integer of the same sign
 pub for_stay : (g : Dataflow) (m n : DeltaValue) (es : List (Pointstamp × ℕ)) (x : Pointstamp) (z : ℤ) → IsFor g (kept_of m es) → n ≡ set m x z
     → ((pos 0 <ℤ z → pos 0 <ℤ at m x) × (pos 0 <ℤ at m x → pos 0 <ℤ z)) → IsFor g (kept_of n es)
 for_stay g m n es x z h is sign = record {
@@ -41,7 +41,7 @@ for_stay g m n es x z h is sign = record {
   ];
 }
 
--- the same if it may have been refused
+-- the same if the change may have been refused
 pub for_same : (g : Dataflow) {E : Type 0} (r : Result (Unit {0}) E) (v w : Kept) (x : Pointstamp) (z : ℤ) → OnOk r (w.map ≡ set v.map x z) → OnErr r (w.map ≡ v.map) → w.counts ≡ v.counts
     → ((pos 0 <ℤ z → pos 0 <ℤ at v.map x) × (pos 0 <ℤ at v.map x → pos 0 <ℤ z)) → IsFor g v → IsFor g w
 for_same g (Ok u) v w x z ok err same sign h = for_stay g v.map w.map w.counts x z (subst (λ es. IsFor g (kept_of v.map es)) (sym same) h) ok sign
@@ -79,7 +79,7 @@ zero_of_frontier g v h q on = by (find point_cmp q v.counts) (h.each q)
 pub frontier_of_zero : (g : Dataflow) (v : Kept) → IsFor g v → (q : Pointstamp) → find point_cmp q v.counts ≡ Some 0 → IsOnFrontier g v.map q
 frontier_of_zero g v h q e = frontier_of_none g v.map q (subst (IsKeptAt g v.map q) e (h.each q))
 
--- ---- what is put in and taken out again
+-- ---- what is added and removed again
 kept_none : (g : Dataflow) (m : DeltaValue) (q : Pointstamp) (o : Option ℕ) → IsKeptAt g m q o → (pos 0 <ℤ at m q → ⊥) → o ≡ None
 kept_none g m q None h never = refl
 kept_none g m q (Some n) h never = absurd (never h.0)

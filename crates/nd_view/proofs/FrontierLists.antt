@@ -1,4 +1,4 @@
--- The list of the points whose precursor count is 0, made entry by entry.
+-- The list of the points whose precursor count is 0, built entry by entry.
 use Rattle.std.proofs.Common.{◌≡◌, ◌≢◌, ◌<◌, ◌≤◌, ◌+◌, ℕ, zero, suc, List, [], ◌∷◌, ◌++◌, length, get_or, Some, sym, ap, subst, ◌∙◌, inl, inr, arith, below_more}
 use Rattle.std.specs.Prelude.{Contains}
 use Rattle.std.specs.FinMap.{find}
@@ -11,7 +11,7 @@ use Rattle.nd_paths.specs.declared.point.Pointstamp.{Pointstamp}
 use Rattle.nd_view.specs.Kept.{IsFrontierList}
 
 module _ (es : List (Pointstamp × ℕ)) where
-  -- the list has no other points, and those of the first entries
+  -- the list has only points with count 0, and all of those among the first entries
   pub record IsListedUpTo (i : ℕ) (frontier : List Pointstamp) : Type 0 where
     pub only : (q : Pointstamp) → Contains frontier q → find point_cmp q es ≡ Some 0
     pub all : (k : ℕ) → k < i → (d : Pointstamp × ℕ) → (get_or es k d).1 ≡ 0 → Contains frontier (get_or es k d).0

@@ -18,14 +18,14 @@ use Rattle.std.proofs.lemmas.List.Folds.{list_any_at}
 use Rattle.std.proofs.lemmas.Map.Views.{Contains-from_any, tells_apart}
 use Rattle.nd_map.specs.Cases.{not_zero}
 
--- what the order of an accepted graph is, as the paths tell it
+-- the order of an accepted graph, as its paths give it
 pub record IsOrder (g : Dataflow) : Type 0 where
   pub transitive : (s t u : Pointstamp) → CouldResultIn g s t → CouldResultIn g t u → CouldResultIn g s u
   pub strict : (s t u : Pointstamp) → IsStrictlyBefore g s t → IsStrictlyBefore g t u → IsStrictlyBefore g s u
   pub minimal : (p : Pointstamp) (ps : List Pointstamp) → (m : Pointstamp) × IsMinimalAmong g (p ∷ ps) m
 
 module _ (g : Dataflow) (order : IsOrder g) (m : DeltaValue) where
-  -- at or before a positive point there is one on the frontier
+  -- each positive point has a point of the frontier at or before it
   pub frontier_before : (x : Pointstamp) (n : ℕ) → pos 0 <ℤ at m x → IsCount (IsPrecursor g m x) m n → (y : Pointstamp) × IsOnFrontier g m y × ((y ≡ x) ⊎ IsStrictlyBefore g y x)
   frontier_before x n positive counted =
       let f = counted.0 in
@@ -55,7 +55,7 @@ module _ (g : Dataflow) (order : IsOrder g) (m : DeltaValue) where
             get_or-map (λ e. e.0) (entries f) place.index (z, at f z) z place.in_range ∙ place.is,
           )
 
--- before what a point is before
+-- a point before x is before everything that x is before
 through : (g : Dataflow) → IsOrder g → (strictly : Bool) (y x t : Pointstamp) → (y ≡ x) ⊎ IsStrictlyBefore g y x → IsBefore g strictly x t → IsBefore g strictly y t
 through g order true y x t (inl same) before = subst (λ z. IsStrictlyBefore g z t) (sym same) before
 through g order true y x t (inr earlier) before = order.strict y x t earlier before
@@ -90,7 +90,7 @@ frontier_part g v h m m_is frontier room listed f f_is = record {
     by x some true e = frontier_of_zero g v h x (listed.only x (Contains-from_any (tells_apart point_exact) x frontier e))
     by x some false e = absurd (some (value x ∙ ap (λ b. cond b (at v.map x) (pos 0)) e))
 
--- if something is listed, there is a frontier
+-- if the list is not empty, there is a frontier
 pub frontier_some : (g : Dataflow) (v : Kept) → IsFor g v → (frontier : List Pointstamp) (room : ℕ) → IsFrontierList v.counts frontier room → frontier ≢ [] → (x : Pointstamp) × IsOnFrontier g v.map x
 frontier_some g v h [] room listed some = absurd (some refl)
 frontier_some g v h (x ∷ rest) room listed some = (x, frontier_of_zero g v h x (listed.only x (0, omega arith, refl)))

@@ -1,4 +1,4 @@
--- The minimal ones of times that are listed by epoch and then by counters, time by time.
+-- The minimal ones among times that are listed by epoch and then by counters, found time by time.
 use Rattle.std.proofs.Common.{Ordering, Less, Equal, Greater, false, true≢false, ◌≡◌, ◌⊎◌, ◌+◌, ◌-◌, ◌≤◌, ◌<◌, ℕ, List, [], ◌∷◌, ◌++◌, length, get_or, refl, sym, ap, subst, ◌∙◌, inl, inr, arith}
 use Rattle.std.specs.Prelude.{Contains, IsSorted, Some, None, slice_get}
 use Rattle.std.specs.Ordering.{is_lt, is_gt, ordering_reverse}
@@ -54,7 +54,7 @@ last_none xs none j last =
     cc (none, some)
 
 module _ (ts : List Time) where
-  -- what is kept of the first times
+  -- the result for the first times
   pub record IsKeptUpTo (i : ℕ) (kept : List Time) : Type 0 where
     pub from : (k : ℕ) (d : Time) → k < length kept → (m : ℕ) × (m < i) × (m < length ts) × (get_or kept k d ≡ get_or ts m d)
     pub covers : (m : ℕ) (d : Time) → m < i → m < length ts → HasAtOrBefore kept (get_or ts m d)
@@ -66,7 +66,7 @@ module _ (ts : List Time) where
     here : Contains ts t
     here = (i, lt, sym is)
 
-    -- what is kept is listed no later than the next time, and has its depth
+    -- each time of the result is listed no later than the next time, and has its depth
     earlier : (k : ℕ) (d : Time) → k < length kept → is_gt (time_cmp (get_or kept k d) t) ≡ false
     earlier k d less =
         let (m, early, within, same) = h.from k d less in
@@ -82,7 +82,7 @@ module _ (ts : List Time) where
     later : (k : ℕ) (d : Time) → k < length kept → (m : ℕ) × (m < i + 1) × (m < length ts) × (get_or kept k d ≡ get_or ts m d)
     later k d less = let (m, early, within, same) = h.from k d less in (m, omega (arith, early), within, same)
 
-    -- the last one that is kept is at or before the next time
+    -- if the last time of the result is at or before the next time, the result stays
     pub kept_skip : (j : ℕ) → j < length kept → IsAtOrBefore (get_or kept j t) t → IsKeptUpTo (i + 1) kept
     kept_skip j less before = record {
       from = later;
@@ -97,7 +97,7 @@ module _ (ts : List Time) where
       least = h.least;
     }
 
-    -- or there is none that is
+    -- if it is not, the next time is added
     module _ (not : (j : ℕ) (d : Time) → j + 1 ≡ length kept → IsAtOrBefore (get_or kept j d) t → ⊥) (more : List Time) (more_is : more ≡ kept ++ t ∷ []) where
       long : length more ≡ length kept + 1
       long = ap length more_is ∙ length_push kept t
@@ -117,7 +117,7 @@ module _ (ts : List Time) where
           let above : IsUpTo (get_or kept j d).counters t.counters → ⊥ = λ up. not j d last (before_from (get_or kept j d) t (deep j d l) (listed_epoch (get_or kept j d) t (earlier j d l)) up) in
           upto nat_list_cmp_total t.counters (get_or kept j d).counters (get_or kept k d).counters (up_to_or (get_or kept j d).counters t.counters above) (h.least j k d last less)
 
-      -- the last one of some
+      -- the last time of a result that is not empty
       last_of : (k : ℕ) → k < length kept → (j : ℕ) × (j + 1 ≡ length kept)
       last_of k less = (length kept - 1, omega (arith, less))
 

@@ -1,4 +1,4 @@
--- One point of a map gets another integer: what becomes of the numbers of precursors.
+-- One point of a map gets another integer: how the numbers of precursors change.
 use Rattle.std.proofs.Common.{◌≡◌, ◌≢◌, ◌<◌, ◌≤◌, ◌+◌, ◌-◌, ℕ, zero, suc, ℤ, pos, Bool, true, false, cond, List, [], ◌∷◌, length, get_or, Option, Some, None, refl, sym, ap, subst, ◌∙◌, ◌⊎◌, inl, inr, arith, true≢false}
 use Rattle.std.specs.Prelude.{◌<ℤ◌}
 use Rattle.std.specs.Ordering.{is_eq}
@@ -18,7 +18,7 @@ use Rattle.nd_view.specs.View.{IsPrecursor, IsPartWhere, IsCount}
 use Rattle.nd_view.specs.Kept.{IsKeptAt, IsMovable, IsReady}
 use Rattle.nd_map.specs.Cases.{not_zero, zero_or_not}
 
--- two points are one, or apart
+-- two points are equal, or different
 pub alike : (q x : Pointstamp) → (q ≡ x) ⊎ (is_point q x ≡ false)
 alike q x = by (is_point q x) refl
   where
@@ -101,7 +101,7 @@ module _ (m n : DeltaValue) (x : Pointstamp) (v : ℤ) (is : n ≡ set m x v) wh
     from : (q : Pointstamp) → is_point q x ≡ false → IsPrecursor g n t q → IsPrecursor g m t q
     from q e p = record { positive = subst (λ z. pos 0 <ℤ z) (there q e) p.positive; before = p.before }
 
-    -- x is no precursor, before and after
+    -- x is not a precursor, before and after
     pub count_away : (k : ℕ) → (IsPrecursor g m t x → ⊥) → (IsPrecursor g n t x → ⊥) → IsCount (IsPrecursor g m t) m k → IsCount (IsPrecursor g n t) n k
     count_away k none never counted =
         let f = counted.0 in (
@@ -121,7 +121,7 @@ module _ (m n : DeltaValue) (x : Pointstamp) (v : ℤ) (is : n ≡ set m x v) wh
           size-set f x v (not_zero v (subst (λ z. pos 0 <ℤ z) here p.positive)) fresh ∙ ap (λ i. i + 1) counted.2,
         )
 
-    -- x ceases to be one
+    -- x ceases to be a precursor
     pub count_go : (k : ℕ) → IsPrecursor g m t x → (IsPrecursor g n t x → ⊥) → IsCount (IsPrecursor g m t) m k → (1 ≤ k) × IsCount (IsPrecursor g n t) n (k - 1)
     count_go k p never counted =
         let f = counted.0 in
@@ -159,7 +159,7 @@ module _ (m n : DeltaValue) (x : Pointstamp) (v : ℤ) (is : n ≡ set m x v) wh
     down_at : (q : Pointstamp) → is_point q x ≡ false → pos 0 <ℤ at n q → pos 0 <ℤ at m q
     down_at q e p = subst (λ z. pos 0 <ℤ z) (there q e) p
 
-    -- a positive integer for a positive one
+    -- a positive integer replaces a positive one
     pub kept_positive : pos 0 <ℤ at m x → pos 0 <ℤ v → (q : Pointstamp) (o : Option ℕ) → IsKeptAt g m q o → IsKeptAt g n q o
     kept_positive old new q None none = λ p. elim (alike q x) [
       | inl same ↦ none (subst (λ y. pos 0 <ℤ at m y) (sym same) old)
@@ -173,7 +173,7 @@ module _ (m n : DeltaValue) (x : Pointstamp) (v : ℤ) (is : n ≡ set m x v) wh
       count_stay g q k old new kept.1,
     )
 
-    -- one that is not, for another
+    -- an integer that is not positive replaces one that is not
     pub kept_other : (pos 0 <ℤ at m x → ⊥) → (pos 0 <ℤ v → ⊥) → (q : Pointstamp) (o : Option ℕ) → IsKeptAt g m q o → IsKeptAt g n q o
     kept_other old new q None none = λ p. elim (alike q x) [
       | inl same ↦ new (subst (λ z. pos 0 <ℤ z) here (subst (λ y. pos 0 <ℤ at n y) same p))
@@ -187,7 +187,7 @@ module _ (m n : DeltaValue) (x : Pointstamp) (v : ℤ) (is : n ≡ set m x v) wh
       count_away g q k (λ p. old p.positive) (λ p. new (subst (λ z. pos 0 <ℤ z) here p.positive)) kept.1,
     )
 
-    -- another point, if x is no precursor of it before or after
+    -- the count of another point, if x is not a precursor of it before or after
     kept_elsewhere : (q : Pointstamp) → is_point q x ≡ false → (pos 0 <ℤ at n q → IsStrictlyBefore g x q → ⊥) → (o : Option ℕ) → IsKeptAt g m q o → IsKeptAt g n q o
     kept_elsewhere q e never None none = λ p. none (down_at q e p)
     kept_elsewhere q e never (Some k) kept =
@@ -216,7 +216,7 @@ module _ (m n : DeltaValue) (x : Pointstamp) (v : ℤ) (is : n ≡ set m x v) wh
           })
     ])
 
-    -- ---- x ceases to be
+    -- ---- x ceases to be positive
     go : (q : Pointstamp) → is_point q x ≡ false → pos 0 <ℤ at m x → (pos 0 <ℤ v → ⊥) → pos 0 <ℤ at n q → IsStrictlyBefore g x q → (o : Option ℕ) → IsKeptAt g m q o → IsMovable g n q false o
     go q e old new p before None none = none (down_at q e p)
     go q e old new p before (Some k) kept =

@@ -1,4 +1,4 @@
--- What the count of a positive point says of the precursors of a later one at its location.
+-- What the count of a positive point says about the precursors of a later point at its location.
 use Rattle.std.proofs.Common.{◌≡◌, ◌≢◌, ◌≤◌, ◌+◌, ℕ, pos, List, length, get_or, Some, refl, sym, ap, subst, ◌∙◌, inl, inr, arith}
 use Rattle.std.specs.Prelude.{Contains}
 use Rattle.std.specs.FinMap.{find}
@@ -15,7 +15,7 @@ use Rattle.nd_view.specs.View.{IsPrecursor, IsCount}
 use Rattle.nd_view.specs.Kept.{IsKeptAt, AreKept, IsEarlier, IsNear}
 use Rattle.nd_view.proofs.Moves.{alike, apart, at-elsewhere}
 
--- none has a negative epoch
+-- no point has a negative epoch
 pub count_nothing : (g : Dataflow) (m : DeltaValue) (t : Pointstamp) → IsCount (IsEarlier g m t 0) m 0
 count_nothing g m t = (
   none,
@@ -24,13 +24,13 @@ count_nothing g m t = (
 )
 
 module _ (g : Dataflow) (m : DeltaValue) (es : List (Pointstamp × ℕ)) (t : Pointstamp) (e : Pointstamp × ℕ) (listed : IsListed point_cmp es) (kept : AreKept g m es) (among : Contains es e) (near : IsNear e.0 t) where
-  -- what is stored for it is right
+  -- the count stored for the entry is correct
   pub kept_near : IsKeptAt g m e.0 (Some e.1)
   kept_near =
       let found : find point_cmp (get_or es among.0 e).0 es ≡ Some (get_or es among.0 e).1 = find-index point_cmp point_total es among.0 e listed among.1 in
       kept e.0 e.1 (subst (λ x. find point_cmp x.0 es ≡ Some x.1) among.2 found)
 
-  -- before the one and before the other
+  -- a point before the entry's is before t
   up : (x : Pointstamp) → CouldResultIn g x e.0 → CouldResultIn g x t
   up x h = record {
     fits_s = h.fits_s;
@@ -49,7 +49,7 @@ module _ (g : Dataflow) (m : DeltaValue) (es : List (Pointstamp × ℕ)) (t : Po
     before = record { depth = h.before.depth ∙ ap length (near.3 ∙ sym near.2); epoch = low; counters = subst (IsLexicallyAtMost (effect h.walk x.time.counters)) (near.3 ∙ sym near.2) h.before.counters };
   }
 
-  -- a precursor of it is an earlier one of t
+  -- a precursor of the entry's point is an earlier precursor of t
   earlier_of : (x : Pointstamp) → IsPrecursor g m e.0 x → IsEarlier g m t (e.0.time.epoch + 1) x
   earlier_of x p = let rise = p.before.0.before.epoch in record {
     precursor = record { positive = p.positive; before = (up x p.before.0, λ same. let e_is = ap (λ q. q.time.epoch) same in omega (arith, e_is, rise, near.1)) };
@@ -59,7 +59,7 @@ module _ (g : Dataflow) (m : DeltaValue) (es : List (Pointstamp × ℕ)) (t : Po
   precursor_of : (x : Pointstamp) → (x ≢ e.0) → IsEarlier g m t (e.0.time.epoch + 1) x → IsPrecursor g m e.0 x
   precursor_of x other p = record { positive = p.precursor.positive; before = (down x (omega (arith, p.early)) p.precursor.before.0, other) }
 
-  -- it is a precursor itself
+  -- the entry's point is itself a precursor of t
   pub count_with : IsStrictlyBefore g e.0 t → IsCount (IsEarlier g m t (e.0.time.epoch + 1)) m (e.1 + 1)
   count_with before =
       let f = kept_near.1.0 in
@@ -80,7 +80,7 @@ module _ (g : Dataflow) (m : DeltaValue) (es : List (Pointstamp × ℕ)) (t : Po
         size-set f e.0 v (not_zero v kept_near.0) fresh ∙ ap (λ k. k + 1) kept_near.1.2,
       )
 
-  -- it is none
+  -- the entry's point is not a precursor of t
   pub count_without : (IsStrictlyBefore g e.0 t → ⊥) → IsCount (IsEarlier g m t (e.0.time.epoch + 1)) m e.1
   count_without never =
       let part = kept_near.1.1 in (

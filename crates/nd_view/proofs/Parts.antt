@@ -1,4 +1,4 @@
--- The part of a change at the points of a kind, made entry by entry.
+-- The part of a change at the points with a property, built entry by entry.
 use Rattle.std.proofs.Common.{◌≡◌, ◌≢◌, ◌<◌, ◌≤◌, ◌+◌, ℕ, ℤ, pos, Bool, true, false, cond, length, get_or, refl, sym, ap, subst, ◌∙◌, ◌⊎◌, inl, inr, Less, Equal, arith, true≢false}
 use Rattle.std.specs.Ordering.{is_eq}
 use Rattle.std.proofs.lemmas.Bool.{cases_lt}
@@ -21,14 +21,14 @@ pub record IsAmong (m : DeltaValue) (i : ℕ) (q : Pointstamp) : Type 0 where
   pub in_range : index < length (entries m)
   pub is : (get_or (entries m) index (q, pos 0)).0 ≡ q
 
--- f is the part of m at those of the first entries that are of the kind P, and at the points of the kind B
+-- f is the part of m at the first entries that satisfy P, and at the points that satisfy B
 pub record IsPartUpTo (m : DeltaValue) (P B : Pointstamp → Type 0) (i : ℕ) (f : DeltaValue) : Type 0 where
   pub all : (q : Pointstamp) → IsAmong m i q → P q → at f q ≡ at m q
   pub base : (q : Pointstamp) → B q → at f q ≡ at m q
   pub some : (q : Pointstamp) → at f q ≢ pos 0 → P q
   pub early : (q : Pointstamp) → at f q ≢ pos 0 → IsAmong m i q ⊎ B q
 
--- n of the first entries are of the kind P, or of the kind B
+-- n counts the first entries that satisfy P, and the points that satisfy B
 pub record IsCountUpTo (m : DeltaValue) (P B : Pointstamp → Type 0) (i n : ℕ) : Type 0 where
   pub part : DeltaValue
   pub is_part : IsPartUpTo m P B i part
@@ -58,14 +58,14 @@ module _ (m : DeltaValue) (P B : Pointstamp → Type 0) where
         let tied : point_cmp (get_or (entries m) among.index d).0 (get_or (entries m) i d).0 ≡ Equal = (λ j. point_cmp (among.is j) (second j)) ∙ tied_itself point_total x.0 in
         absurd (cc (rise, tied))
 
-    -- the new entry's point has nothing yet
+    -- the new entry's point has no entry yet
     pub part_fresh : (f : DeltaValue) → (B x.0 → ⊥) → IsPartUpTo m P B i f → at f x.0 ≡ pos 0
     part_fresh f never part = elim (zero_or_not (at f x.0)) [
       | inl e ↦ e
       | inr some ↦ elim (part.early x.0 some) [ inl among ↦ absurd (fresh among) | inr base ↦ absurd (never base) ]
     ]
 
-    -- an entry that is not of the kind P, but for those of the kind B
+    -- an entry that does not satisfy P, unless it satisfies B
     pub part_skip : (f : DeltaValue) → (P x.0 → B x.0) → IsPartUpTo m P B i f → IsPartUpTo m P B (i + 1) f
     part_skip f never part = record {
       all = λ q among p. elim (split q among) [
@@ -81,7 +81,7 @@ module _ (m : DeltaValue) (P B : Pointstamp → Type 0) where
     one_of true y z w e h = e refl
     one_of false y z w e h = h refl
 
-    -- an entry of the kind P, and not of the kind B
+    -- an entry that satisfies P and not B
     pub part_take : (f g : DeltaValue) → g ≡ set f x.0 x.1 → P x.0 → (B x.0 → ⊥) → IsPartUpTo m P B i f → IsPartUpTo m P B (i + 1) g
     part_take f g set_is p never part = record {
       all = λ q among k.
@@ -124,7 +124,7 @@ module _ (m : DeltaValue) (P B : Pointstamp → Type 0) where
       many = size-set counted.part x.0 x.1 some (part_fresh counted.part never counted.is_part) ∙ ap (λ k. k + 1) counted.many;
     }
 
-  -- those of the kind B alone
+  -- at first only the points that satisfy B count
   pub count_base : (n : ℕ) → ((q : Pointstamp) → B q → P q) → IsCount B m n → IsCountUpTo m P B 0 n
   count_base n of counted = record {
     part = counted.0;
@@ -152,6 +152,6 @@ module _ (m : DeltaValue) (P B : Pointstamp → Type 0) where
     counted.many,
   )
 
-  -- no more than there are entries
+  -- the count is at most the number of entries
   pub count_few : (n i : ℕ) → ((q : Pointstamp) → P q → at m q ≢ pos 0) → IsCountUpTo m P B i n → n ≤ size m
   count_few n i has counted = size_within n counted.part m counted.many (λ q some. has q (counted.is_part.some q some))

@@ -1,4 +1,4 @@
--- Integers that take memory in the place of others, and the entries of a change that are added one by one.
+-- Replacing integers with a need for memory, and adding the entries of a change one by one.
 use Rattle.std.proofs.Common.{◌≡◌, ◌≢◌, ◌≤◌, ◌*◌, ℤ, pos, Bool, true, false, cond, List, ◌∷◌, Some, refl, sym, ap, subst, ◌∙◌, ◌⊎◌, inl, inr, arith, w64, to_z, of_z, unsigned_abs}
 use Rattle.std.specs.Prelude.{◌+ℤ◌, ◌-ℤ◌}
 use Rattle.std.specs.FinMap.{find}
@@ -14,7 +14,7 @@ use Rattle.nd_view.proofs.Fors.{signed}
 use Rattle.nd_view.proofs.Moves.{alike, at-elsewhere}
 use Rattle.nd_map.specs.Cases.{zero_or_not}
 
--- what takes memory in a place gives it back
+-- if replacing old by new takes memory, replacing new by old takes none
 pub turned : (old new : ℤ) → (IsWithinRoom old new → ⊥) → IsWithinRoom new old
 turned old new never = by (zero_or_not new) (zero_or_not old)
   where
@@ -26,18 +26,18 @@ turned old new never = by (zero_or_not new) (zero_or_not old)
       positive = λ p. absurd (never (record { absent = λ e. absurd (old_some e); positive = λ _. p }));
     }
 
--- an integer that does not fail to be within room is
+-- the double negation of fitting within room is fitting within room
 pub within_room : (old new : ℤ) → ((IsWithinRoom old new → ⊥) → ⊥) → IsWithinRoom old new
 within_room old new h = record {
   absent = λ z. elim (zero_or_not new) [ inl e ↦ e | inr some ↦ absurd (h (λ w. some (w.absent z))) ];
   positive = λ up. elim (signed old) [ inl p ↦ p | inr never ↦ absurd (h (λ w. never (w.positive up))) ];
 }
 
--- an integer as the code keeps it
+-- an integer as the code stores it
 pub small : (z : ℤ) → unsigned_abs z ≤ 2 * max_count → to_z w64 (of_z w64 z) ≡ z
 small z fits = to_z-of_z w64 z (fits_signed_from_abs w64 z (omega (arith, fits)))
 
--- an integer to which another is added, or from which it is taken
+-- an integer with another added, or subtracted
 abbrev pub moved_by : Bool → ℤ → ℤ → ℤ
 moved_by minus x y = cond minus (x -ℤ y) (x +ℤ y)
 
@@ -66,7 +66,7 @@ module _ (e : Pointstamp × ℤ) (es : List (Pointstamp × ℤ)) where
   pub still : (minus : Bool) (m n : DeltaValue) → IsListed point_cmp (e ∷ es) → IsAdded minus es m n → at n e.0 ≡ at m e.0
   still minus m n listed h = h e.0 ∙ nothing minus (at m e.0) (among es e.0) (among-tail listed)
 
-  -- the others, and then the first: whatever stood at its point before
+  -- the others are added, and then the first, whatever was at its point before
   pub added_more : (minus : Bool) (m s t u : DeltaValue) (x n : ℤ) → s ≡ set m e.0 x → IsAdded minus es s t → u ≡ set t e.0 n → n ≡ moved_by minus (at m e.0) e.1 → IsAdded minus (e ∷ es) m u
   added_more minus m s t u x n s_is h u_is n_is q = elim (alike q e.0) [
     | inl is ↦
@@ -77,7 +77,7 @@ module _ (e : Pointstamp × ℤ) (es : List (Pointstamp × ℤ)) where
         ∙ (λ j. moved_by minus ((ap (λ c. at c q) s_is ∙ at-elsewhere m e.0 x q other) j) (sym (among-there q other) j))
   ]
 
--- entries that are a first one and the others
+-- entries that consist of a first one and the others
 module _ (es : List (Pointstamp × ℤ)) (e : Pointstamp × ℤ) (rest : List (Pointstamp × ℤ)) (is : es ≡ e ∷ rest) (listed : IsListed point_cmp es) where
   here : IsListed point_cmp (e ∷ rest)
   here = subst (IsListed point_cmp) is listed
@@ -91,20 +91,20 @@ module _ (es : List (Pointstamp × ℤ)) (e : Pointstamp × ℤ) (rest : List (P
   pub first_within : AreWithin es → unsigned_abs e.1 ≤ max_count
   first_within h = subst (λ z. unsigned_abs z ≤ max_count) (ap (λ l. among l e.0) is ∙ among-here e rest e.0 refl) (h e.0)
 
-  -- the integer that the first one's point has after the others were added
+  -- the integer at the first entry's point after the others were added
   pub rest_still : (minus : Bool) (m n : DeltaValue) → IsAdded minus rest m n → at n e.0 ≡ at m e.0
   rest_still minus m n h = still e rest minus m n here h
 
   pub all_added : (minus : Bool) (m s t u : DeltaValue) (x n : ℤ) → s ≡ set m e.0 x → IsAdded minus rest s t → u ≡ set t e.0 n → n ≡ moved_by minus (at m e.0) e.1 → IsAdded minus es m u
   all_added minus m s t u x n s_is h u_is n_is = subst (λ l. IsAdded minus l m u) (sym is) (added_more e rest minus m s t u x n s_is h u_is n_is)
 
-  -- where the first one was set before the others were added
+  -- the first entry was set before the others were added
   pub all_after : (minus : Bool) (m s t : DeltaValue) (n : ℤ) → s ≡ set m e.0 n → IsAdded minus rest s t → n ≡ moved_by minus (at m e.0) e.1 → IsAdded minus es m t
   all_after minus m s t n s_is h n_is =
       let stays : t ≡ set t e.0 n = sym (ap (set t e.0) (sym (rest_still minus s t h ∙ ap (λ c. at c e.0) s_is ∙ at-set_same m e.0 n)) ∙ set-at t e.0) in
       all_added minus m s t t n n s_is h stays n_is
 
--- a point that gets another integer, and its own back
+-- a point gets another integer, and then its own again
 pub set_back : (m s t : DeltaValue) (k : Pointstamp) (v w : ℤ) → s ≡ set m k v → t ≡ set s k w → w ≡ at m k → t ≡ m
 set_back m s t k v w s_is t_is w_is = t_is ∙ ap (λ c. set c k w) s_is ∙ set-set m k v w ∙ ap (set m k) w_is ∙ set-at m k
 

@@ -15,7 +15,7 @@ module _ (g : Dataflow) (es : List (Pointstamp × ℤ)) (x : ℕ) where
   abbrev IsOfOne : Time → Type 0
   IsOfOne t = (e : Pointstamp × ℤ) × Contains es e × TurnsInto g e.0 x t
 
-  -- the times of the first entries
+  -- the times reached from the first entries
   pub record AreReachedUpTo (i : ℕ) (times : List Time) : Type 0 where
     pub each : All IsOfOne times
     pub least : (k : ℕ) (d : Pointstamp × ℤ) → k < i → k < length es → CoverAll g (get_or es k d).0 x times

@@ -1,4 +1,4 @@
--- Entries side by side at one location: their epochs rise.
+-- Neighbouring entries at one location: their epochs increase.
 use Rattle.std.proofs.Common.{◌≡◌, ◌<◌, ◌≤◌, ◌+◌, ◌-◌, ◌⊎◌, inl, inr, ℕ, zero, suc, List, length, get_or, refl, sym, ap, subst, ◌∙◌, arith, Ordering, Less, Equal, Greater}
 use Rattle.std.specs.Ordering.{nat_cmp, ordering_then}
 use Rattle.std.proofs.lemmas.Bool.{cases_lt}
@@ -10,7 +10,7 @@ use Rattle.nd_paths.specs.Point.{point_cmp, point_total}
 use Rattle.nd_paths.specs.declared.point.Pointstamp.{Pointstamp}
 use Rattle.nd_view.specs.Links.{IsRun, AreSmaller, AreNotSmaller}
 
--- what holds from one number on holds up to another
+-- what holds of one number, and is kept by each step, holds of a later number
 pub onward : (Q : ℕ → Type 0) (i j : ℕ) → i ≤ j → ((k : ℕ) → i ≤ k → k < j → Q k → Q (k + 1)) → Q i → Q j
 onward Q i zero le step q = subst Q (omega (arith, le)) q
 onward Q i (suc j) le step q = elim (cases_lt j i) [
@@ -42,7 +42,7 @@ module _ {V : Type 0} (es : List (Pointstamp × V)) (listed : IsListed point_cmp
         (omega (arith, ap (λ k. (get_or es k d).0.location) same), λ _. omega (arith, ap (λ k. (get_or es k d).0.time.epoch) same))
   ]
 
-  -- if the last of some entries stands at the location of the first, so do those between
+  -- if the last of some entries is at the location of the first, so are those between
   pub one_run : (first end : ℕ) → end ≤ length es → ((k : ℕ) → k + 1 ≡ end → (d : Pointstamp × V) → (get_or es k d).0.location ≡ (get_or es first d).0.location) → IsRun es first end
   one_run first end within here k d from upto =
       let last : end - 1 + 1 ≡ end = omega (arith, upto) in
@@ -61,7 +61,7 @@ module _ {V : Type 0} (es : List (Pointstamp × V)) (listed : IsListed point_cmp
       let rise = (rising_at i j x le lt).1 place in
       (ap (λ e. e.0.location) is ∙ place ∙ sym (ap (λ e. e.0.location) here), omega (arith, ap (λ e. e.0.time.epoch) is, rise, ap (λ e. e.0.time.epoch) here))
 
-  -- what is known of the epoch of one entry of a run
+  -- what is known about the epoch of one entry of a run
   module _ (first end : ℕ) (run : IsRun es first end) (within : end ≤ length es) (i epoch : ℕ) (x : Pointstamp × V) (from : first ≤ i) (upto : i < end) (is : x ≡ get_or es i x) where
     pub smaller_upto : x.0.time.epoch < epoch → AreSmaller es first (i + 1) epoch
     smaller_upto less k d early late =

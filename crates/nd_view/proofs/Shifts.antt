@@ -26,7 +26,7 @@ found_put q k n es same = find-put point_cmp point_total q k n es ∙ ap (λ b. 
 pub found_other : (q k : Pointstamp) (n : ℕ) (es : List (Pointstamp × ℕ)) → is_point q k ≡ false → find point_cmp q (put point_cmp k n es) ≡ find point_cmp q es
 found_other q k n es other = find-put point_cmp point_total q k n es ∙ ap (λ b. cond b (Some n) (find point_cmp q es)) other
 
--- at most one entry more
+-- a put adds at most one entry
 pub size_grown : (es fs : List (Pointstamp × ℕ)) (k : Pointstamp) (i : ℕ) → IsListed point_cmp es → fs ≡ put point_cmp k i es → length fs ≤ length es + 1
 size_grown es fs k i listed put_is = subst (λ z. z ≤ length es + 1) (sym (ap length put_is ∙ length-put point_cmp point_total k i es listed)) (by (is_some (find point_cmp k es)))
   where
@@ -34,7 +34,7 @@ size_grown es fs k i listed put_is = subst (λ z. z ≤ length es + 1) (sym (ap 
     by true = omega arith
     by false = omega arith
 
--- and none more if one is taken out
+-- a removal adds none
 pub size_without : (es fs : List (Pointstamp × ℕ)) (k : Pointstamp) → IsListed point_cmp es → fs ≡ without point_cmp k es → length fs ≤ length es
 size_without es fs k listed e =
     let counted = length_without point_cmp point_total k es listed in
@@ -48,7 +48,7 @@ pub record IsEarly (ks : List Pointstamp) (i : ℕ) (q : Pointstamp) : Type 0 wh
   pub in_range : index < length ks
   pub is : get_or ks index q ≡ q
 
--- as many keys as entries
+-- there are as many keys as entries
 pub many_keys : (es : List (Pointstamp × ℕ)) (ks : List Pointstamp) → keys_of es ≡ ks → length es ≡ length ks
 many_keys es ks keys = sym (length-map es (λ e. e.0)) ∙ ap length keys
 
@@ -56,21 +56,21 @@ many_keys es ks keys = sym (length-map es (λ e. e.0)) ∙ ap length keys
 key_at : (es : List (Pointstamp × ℕ)) (ks : List Pointstamp) (i : ℕ) (d : Pointstamp × ℕ) (q : Pointstamp) → keys_of es ≡ ks → i < length es → get_or ks i q ≡ (get_or es i d).0
 key_at es ks i d q keys lt = ap (λ l. get_or l i q) (sym keys) ∙ get_or-map (λ e. e.0) es i d q lt
 
--- entries of which only the values have moved
+-- entries of which only the values have changed
 pub same_key : (es fs : List (Pointstamp × ℕ)) (i : ℕ) (d : Pointstamp × ℕ) → keys_of fs ≡ keys_of es → i < length es → (get_or fs i d).0 ≡ (get_or es i d).0
 same_key es fs i d keys lt =
     let many = many_keys fs (keys_of es) keys ∙ sym (many_keys es (keys_of es) refl) in
     sym (key_at fs (keys_of es) i d d.0 keys (omega (arith, lt, many))) ∙ key_at es (keys_of es) i d d.0 refl lt
 
 module _ (g : Dataflow) (m : DeltaValue) (x : Pointstamp) (up : Bool) where
-  -- the first keys have their counts, the others theirs but for one if they come after x
+  -- the first keys have their counts, and those of the others are ready to be moved
   pub record IsShifted (ks : List Pointstamp) (i : ℕ) (es : List (Pointstamp × ℕ)) : Type 0 where
     pub keys : keys_of es ≡ ks
     pub listed : IsListed point_cmp es
     pub done : (q : Pointstamp) → IsEarly ks i q → IsKeptAt g m q (find point_cmp q es)
     pub rest : (q : Pointstamp) → (IsEarly ks i q → ⊥) → IsReady g m x up q (find point_cmp q es)
 
-  -- what such a count is good for
+  -- what such a count allows
   pub room : (q : Pointstamp) (n : ℕ) → IsMovable g m q up (Some n) → up ≡ true → n + 1 ≤ size m
   room q n h e = by up h e
     where
@@ -99,7 +99,7 @@ module _ (g : Dataflow) (m : DeltaValue) (x : Pointstamp) (up : Bool) where
     in_keys : i < length ks
     in_keys = let many = many_keys es ks h.keys in omega (arith, lt, many)
 
-    -- its key is none of the first
+    -- the entry's key is not among the first
     fresh : IsEarly ks i e.0 → ⊥
     fresh early =
         let k = early.index in
@@ -122,7 +122,7 @@ module _ (g : Dataflow) (m : DeltaValue) (x : Pointstamp) (up : Bool) where
           inr (sym early.is ∙ ap (λ k. get_or ks k q) same ∙ get_or_default ks i q e.0 in_keys ∙ here)
     ]
 
-    -- what is stored for it before it is moved
+    -- what is stored for the key before it is moved
     waiting : IsReady g m x up e.0 (Some e.1)
     waiting =
         let found : find point_cmp e.0 es ≡ Some e.1 = ap (λ y. find point_cmp y.0 es) is ∙ find-index point_cmp point_total es i e h.listed lt ∙ ap (λ y. Some y.1) (sym is) in

@@ -8,7 +8,7 @@ use Rattle.nd_time.specs.Time.{Time, IsAtOrBefore}
 use Rattle.nd_time.specs.Lexical.{at_most, compares}
 use Rattle.nd_time.specs.Listing.{time_cmp}
 
--- at most, of two lists of counters
+-- one list of counters is at most another
 abbrev pub IsUpTo : List ℕ → List ℕ → Type 0
 IsUpTo xs ys = is_gt (slice_cmp nat_cmp xs ys) ≡ false
 
@@ -35,7 +35,7 @@ pub before_through : (s t u : Time) → IsAtOrBefore s t → IsAtOrBefore t u �
 before_through s t u h k =
     before_from s u (h.depth ∙ k.depth) (omega (arith, h.epoch, k.epoch)) (upto nat_list_cmp_total s.counters t.counters u.counters (up_to s t h) (up_to t u k))
 
--- of two orderings, of which one is the other's reverse
+-- of two orderings, one is the reverse of the other
 tied : (o r : Ordering) → o ≡ ordering_reverse r → is_gt o ≡ false → is_gt r ≡ false → o ≡ Equal
 tied Equal r e h k = refl
 tied Greater r e h k = absurd (true≢false h)
@@ -49,7 +49,7 @@ before_both s t h k =
     let counters : s.counters ≡ t.counters = exact_bytes s.counters t.counters (tied _ _ (nat_list_cmp_total.antisymm s.counters t.counters) (up_to s t h) (up_to t s k)) in
     λ i. record { epoch = epochs i; counters = counters i }
 
--- not at most is above
+-- a list that is not at most another is above it
 pub up_to_or : (xs ys : List ℕ) → (IsUpTo xs ys → ⊥) → IsUpTo ys xs
 up_to_or xs ys h = by (slice_cmp nat_cmp xs ys) (slice_cmp nat_cmp ys xs) (nat_list_cmp_total.antisymm xs ys) h
   where
@@ -67,7 +67,7 @@ then_parts x y Less r e h = let l = ranked x y Less e in omega arith
 then_parts x y Equal r e h = let l = ranked x y Equal e in omega arith
 then_parts x y Greater r e h = absurd (true≢false h)
 
--- what is listed no later has no greater epoch
+-- a time that is listed no later has no greater epoch
 pub listed_epoch : (s t : Time) → is_gt (time_cmp s t) ≡ false → s.epoch ≤ t.epoch
 listed_epoch s t h = then_parts s.epoch t.epoch (nat_cmp s.epoch t.epoch) (slice_cmp nat_cmp s.counters t.counters) refl h
 
@@ -76,6 +76,6 @@ then_not_greater x y Less r e le h = refl
 then_not_greater x y Equal r e le h = h
 then_not_greater x y Greater r e le h = let g = ranked x y Greater e in absurd (omega arith)
 
--- what is at or before another is listed no later
+-- a time that is at or before another is listed no later
 pub listed_before : (s t : Time) → IsAtOrBefore s t → is_gt (time_cmp s t) ≡ false
 listed_before s t h = then_not_greater s.epoch t.epoch (nat_cmp s.epoch t.epoch) (slice_cmp nat_cmp s.counters t.counters) refl h.epoch (up_to s t h)

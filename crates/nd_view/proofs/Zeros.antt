@@ -1,4 +1,4 @@
--- The list of the points whose precursor count is 0, kept as the counts change one by one.
+-- The list of the points whose precursor count is 0, updated as the counts change one by one.
 use Rattle.std.proofs.Common.{eqb, ◌≡◌, ◌≢◌, ◌<◌, ◌≤◌, ℕ, zero, suc, Bool, true, false, cond, not, List, [], ◌∷◌, ◌++◌, length, get_or, Option, Some, None, refl, sym, ap, subst, ◌∙◌, inl, inr, arith}
 use Rattle.std.specs.Prelude.{Contains, IsTrue, ◌↔◌}
 use Rattle.std.specs.List.{filter}
@@ -20,7 +20,7 @@ stays_behind : {X : Type 0} (b : Bool) (x : X) (xs : List X) (q : X) → Contain
 stays_behind true x xs q among = (suc among.0, omega (arith, among.1), among.2)
 stays_behind false x xs q among = among
 
--- what stays of a list
+-- what a filter leaves of a list
 pub stays_in : {X : Type 0} (p : X → Bool) (xs : List X) (q : X) → p q ≡ true → Contains xs q → Contains (filter p xs) q
 stays_in p [] q t (k, lt, e) = absurd (omega (arith, lt))
 stays_in p (x ∷ xs) q t (zero, lt, e) = subst (λ l. Contains l q) (sym (ap (λ b. cond b (x ∷ filter p xs) (filter p xs)) (ap p e ∙ t))) (0, omega arith, e)
@@ -30,7 +30,7 @@ pub was_in : {X : Type 0} (p : X → Bool) (xs : List X) (q : X) → Contains (f
 was_in p xs q among =
     (All-contains (Contains xs) (filter p xs) q (All-filter p (Contains xs) xs (All-contains_itself xs)) among, All-contains (λ x. p x ≡ true) (filter p xs) q (filter_passes p xs) among)
 
--- the points of a list but for one
+-- the points of a list except one
 abbrev pub others_than : Pointstamp → Pointstamp → Bool
 others_than x q = not (is_point q x)
 
@@ -50,7 +50,7 @@ tells_other b x q h = elim (alike q x) [
     by true told same = absurd (told.0 refl same)
     by false told same = sym (ap (others_than x) same ∙ is_itself x)
 
--- the list after the one count that changed
+-- the list after the one count that changed is corrected
 module _ (es : List (Pointstamp × ℕ)) (old new : List Pointstamp) (x : Pointstamp) (room : ℕ) (but : IsFrontierBut es old x)
     (gone : Contains new x → ⊥) (others : (q : Pointstamp) → q ≢ x → (Contains new q ↔ Contains old q)) (enough : length es ≤ room) where
   pub right_without : (find point_cmp x es ≡ Some 0 → ⊥) → IsFrontierList es new room
@@ -113,7 +113,7 @@ same_without es x q ne = elim (alike q x) [
 pub none_without : (es : List (Pointstamp × ℕ)) (x : Pointstamp) → find point_cmp x (without point_cmp x es) ≡ None
 none_without es x = find-without point_cmp point_total x x es ∙ ap (λ b. cond b None (find point_cmp x es)) (itself x)
 
--- what is found is 0 if the number is
+-- the count that a lookup finds is 0 if the number is 0
 pub zero_told : (n : ℕ) (o : Option ℕ) → o ≡ Some n → (IsTrue (eqb n 0) ↔ (o ≡ Some 0))
 zero_told n o e = (λ t. e ∙ ap Some (eqb-true n 0 t), λ z. eq-eqb n 0 (let one : Some n ≡ Some 0 = sym e ∙ z in cc))
 

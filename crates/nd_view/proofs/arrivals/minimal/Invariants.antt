@@ -1,6 +1,6 @@
 use Rattle.nd_view.proofs.MinimalTimes.{IsKeptUpTo}
 use Rattle.nd_view.proofs.arrivals.minimal.Given as goal
 
--- what is kept of the times so far
+-- the result for the times so far
 abbrev pub invariant-loop-time : goal.invariant-loop-time
 invariant-loop-time g l = IsKeptUpTo l.times l.time-index l.kept.items

@@ -33,7 +33,7 @@ is_strictly_before-requires g c = λ yes s t from to.
 pub epoch_from-start-requires-clause-listed : goal.epoch_from-start-requires-clause-listed
 epoch_from-start-requires-clause-listed g c = subst (IsListed point_cmp) (sym c.entries-entries.ensures.listed) (sorted-entries c.args.counts.now)
 
--- the entries whose epochs are below what is known
+-- the entries whose epochs are below the known one
 pub loop-k-init : goal.loop-k-init
 loop-k-init g c =
     let m = c.args.counts.now in

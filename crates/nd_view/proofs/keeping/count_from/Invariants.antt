@@ -4,7 +4,7 @@ use Rattle.nd_view.specs.View.{IsPrecursor}
 use Rattle.nd_view.proofs.Parts.{IsCountUpTo}
 use Rattle.nd_view.proofs.keeping.count_from.Given as goal
 
--- as many are known to be precursors, or are precursors among the entries so far
+-- the count is the number of known precursors, and of those among the entries so far
 abbrev pub invariant-loop-i : goal.invariant-loop-i
 invariant-loop-i g l = IsCountUpTo l.counts (IsPrecursor l.paths l.counts l.point) (IsEarlier l.paths l.counts l.point l.known.below) l.i l.count
 

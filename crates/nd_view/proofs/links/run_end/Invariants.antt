@@ -1,7 +1,7 @@
 use Rattle.std.proofs.Common.{◌≡◌, ◌<◌, ◌≤◌, ◌+◌, ◌-◌, ℕ, length, get_or}
 use Rattle.nd_view.proofs.links.run_end.Given as goal
 
--- the last entry so far stands there
+-- the last entry so far is at that location
 abbrev pub invariant-loop-step : goal.invariant-loop-step
 invariant-loop-step g l = record {
   more : l.first < l.end;

@@ -8,7 +8,7 @@ use Rattle.nd_view.proofs.Zeros.{right_but, same_put, zero_told}
 use Rattle.nd_view.proofs.precursor_counts.PrecursorCounts.put.Given.{Over}
 use Rattle.nd_view.proofs.precursor_counts.PrecursorCounts.put.Goals as goal
 
--- what the entries are once the number is put in
+-- the entries after the number is put
 put_in : (g : Over) (c : goal.After-set_right-arg-1 g) → c.entries-2.result.now ≡ put point_cmp c.args.point.now c.args.n c.self.inside.counts
 put_in g c = c.entries-2.ensures.value ∙ c.in_ok-put.ensures.ok
 

@@ -7,7 +7,7 @@ use Rattle.nd_view.proofs.Zeros.{right_but, same_without, none_without}
 use Rattle.nd_view.proofs.precursor_counts.PrecursorCounts.remove.Given.{Over}
 use Rattle.nd_view.proofs.precursor_counts.PrecursorCounts.remove.Goals as goal
 
--- what the entries are once the point is taken out
+-- the entries after the point is removed
 taken_out : (g : Over) (c : goal.After-set_right-arg-1 g) → c.entries.result.now ≡ without point_cmp c.args.point.now c.self.inside.counts
 taken_out g c = c.entries.ensures.value ∙ c.remove.ensures.value
 

@@ -20,7 +20,7 @@ shift-requires-clause-ready g c = λ q.
     subst (λ es. IsReady d c.put-2.new.self x true q (find point_cmp q es)) (sym put_is)
     (ready_up v.map c.put-2.new.self x c.args.n set_is d c.count_before-count.result v.counts c.requires.was c.requires.is c.count_before-count.ensures c.requires.paths.each q)
 
--- what was put in is taken out
+-- what was put is removed
 out : (g : Over) (c : goal.After-remove g) → c.remove.new.self ≡ c.args.self.now.counts
 out g c =
     let x = c.args.point.now in
