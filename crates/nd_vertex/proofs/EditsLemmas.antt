@@ -89,7 +89,7 @@ pub edited-append : (m : Items) (xs ys : List ItemEdit) → edited m (xs ++ ys) 
 edited-append m [] ys = refl
 edited-append m (x ∷ xs) ys = edited-append (with_item m x.key x.new) xs ys
 
--- an item that no edit is of
+-- an item that no edit changes
 pub untouched : (m : Items) (es : List ItemEdit) (q : ItemKey) → has q es ≡ false → at (edited m es) q ≡ at m q
 untouched m [] q h = refl
 untouched m (e ∷ es) q h =
@@ -135,7 +135,7 @@ not_among p (e ∷ es) q h =
     let both = or_parts (is_key q e.key) (has q es) h in
     fewer (p e) q e (filter p es) both.0 (not_among p es q both.1)
 
--- nor in an edit of another kind
+-- the item of an edit that fails the test is in no edit that passes it
 pub of_kind : (p : ItemEdit → Bool) (es : List ItemEdit) (i : ℕ) (d : ItemEdit) → Once es → i < length es → p (get_or es i d) ≡ false → has (get_or es i d).key (filter p es) ≡ false
 unfolding IsDistinct
 of_kind p [] i d once lt kind = absurd (omega arith)
