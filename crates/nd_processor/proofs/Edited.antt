@@ -15,20 +15,20 @@ use Rattle.nd_map.specs.declared.tree.Edit.{Edit}
 use Rattle.nd_map.specs.declared.tree.Edit.TheVariants.{Keep, Put, Remove}
 use Rattle.nd_processor.specs.Kept.{IsCount, IsKept, number, put_count}
 
--- what is put is a count
+-- the edit puts a count
 abbrev pub PutsCount : Edit ℕ → Type 0
 PutsCount Keep = Unit {0}
 PutsCount (Put n) = IsCount n
 PutsCount Remove = Unit {0}
 
--- a count that is raised, where it stays within the limit
+-- a count that is raised and stays within the limit
 pub raised : (c n : ℕ) (e : Edit ℕ) → n ≢ 0 → (c + n ≤ max_count → e ≡ Put (c + n)) → (max_count < c + n → e ≡ Keep) → PutsCount e
 raised c n e some more full = elim (cases_lt max_count (c + n)) [
   | inl past ↦ rw (full past) tt
   | inr fits ↦ rw (more fits) (record { some = λ z. some (omega (arith, z)); within = fits })
 ]
 
--- a count that is lowered, where something is left
+-- a count that is lowered and does not become 0
 pub lowered : (c n : ℕ) (e : Edit ℕ) → IsCount c → (n < c → e ≡ Put (c - n)) → (c ≤ n → e ≡ Remove) → PutsCount e
 lowered c n e count some all = elim (cases_lt n c) [
   | inl less ↦ rw (some less) (record { some = λ z. absurd (omega (arith, less, z)); within = let most = count.within in omega arith })
@@ -43,7 +43,7 @@ module _ {K : Type 0} (R : K → K → Ordering) (o : IsTotalOrder R) (es : List
   pub within : number R es k ≤ max_count
   within = laws.number_is R (λ _. IsCount) es kept.numbers (λ n. n ≤ max_count) 0 k (λ _ count. count.within) (omega arith)
 
-  -- the count that there is, is put again
+  -- putting the count that is there changes nothing
   pub stays : (n : ℕ) → n ≡ number R es k → es ≡ put_count R k n es
   stays n is = by (find R k es) refl (kept.numbers k)
     where
@@ -60,7 +60,7 @@ module _ {K : Type 0} (R : K → K → Ordering) (o : IsTotalOrder R) (es : List
   after n count (Some (Put m)) put_is = laws.kept_put R o es k (λ _. IsCount) m (λ _ _. put_is (Put m) refl) kept
   after n count (Some Remove) put_is = laws.kept_without R o es k (λ _. IsCount) kept
 
-  -- the entries are kept after an edit by which counts are put
+  -- the entries stay well-formed after an edit that puts counts
   pub edited_kept : {E : Type 0} (P : ℕ → Edit ℕ → Type 0) (n : ℕ) → IsCount n → ((c : ℕ) (e : Edit ℕ) → IsCount c → P c e → PutsCount e)
       → (r : Result (Option (Edit ℕ)) E) (fs : List (K × ℕ)) → IfOk r (IsSaid P (find R k es)) → IfOk r (λ e. fs ≡ edited R k n e es) → OnErr r (fs ≡ es) → IsKept R fs
   edited_kept P n count each (Err x) fs said done err = subst (IsKept R) (sym err) kept

@@ -1,4 +1,4 @@
--- The entries of a tally, and the map of counts that they make.
+-- The entries of a tally, and the map of counts that they represent.
 use Rattle.std.proofs.Common.{◌≡◌, ◌≤◌, ◌+◌, ◌-◌, ℕ, pos, ◌+ℤ◌, neg_ℤ, true, false, cond, List, nat_eq, refl, sym, ap, ◌∙◌, arith}
 use Rattle.std.proofs.lemmas.Bool.Decides.{nat_tests}
 use Rattle.std.specs.declared.cmp.Ordering.{Ordering}
@@ -21,7 +21,7 @@ module _ {K : Type 0} (R : K → K → Ordering) (o : IsTotalOrder R) (tells : I
   kept_within kept k = laws.at_is naturals o tells es m is_m (λ _. IsCount) kept (λ n. n ≤ max_count) k (λ _ count. count.within) (omega arith)
 
   module _ (k : K) where
-    -- what a look-up finds
+    -- the count that a lookup finds
     pub number_at : number R es k ≡ at m k
     number_at = laws.at_found naturals o tells es m is_m k
 

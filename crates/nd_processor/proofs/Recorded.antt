@@ -25,7 +25,7 @@ use Rattle.nd_processor.specs.Kept.{AreRecords, IsCount, IsKept, number, put_cou
 use Rattle.nd_processor.specs.declared.key.ValueAt.{ValueAt}
 use Rattle.nd_map.specs.Ends.{not_below, not_above}
 
--- ---- an edit leaves records
+-- ---- an edit keeps the entries records
 
 module _ (es : List (ValueAt × ℕ)) (k : ValueAt) (kept : AreRecords es) where
   put_records : (n : ℕ) → FitsSigned w64 k.value → AreRecords (put value_at_cmp k n es)
@@ -37,7 +37,7 @@ module _ (es : List (ValueAt × ℕ)) (k : ValueAt) (kept : AreRecords es) where
   without_records : AreRecords (without value_at_cmp k es)
   without_records = record { values = laws.each_without value_at_cmp value_at_total es k (λ k _. FitsSigned w64 k.value) kept.values }
 
-  -- of a value of 64 bits there is another count, if it is not 0
+  -- entries stay records if the count of a key is replaced; the key's value fits 64 bits, unless the count becomes 0
   counted : (n : ℕ) → (n ≢ 0 → FitsSigned w64 k.value) → AreRecords (put_count value_at_cmp k n es)
   counted n fits =
       elim (nat_eq n 0) as (λ b. nat_eq n 0 ≡ b → AreRecords (cond b (without value_at_cmp k es) (put value_at_cmp k n es))) [
@@ -58,9 +58,9 @@ module _ (es : List (ValueAt × ℕ)) (k : ValueAt) (kept : AreRecords es) where
       subst AreRecords (sym is)
       (counted (number value_at_cmp es k - n) (λ some. there (find value_at_cmp k es) (kept.values k) (λ e. some (let z : number value_at_cmp es k - n ≡ 0 = omega (arith, e) in z))))
 
--- ---- those at a pointstamp
+-- ---- the records at a pointstamp
 
--- the first key at a pointstamp, and the last
+-- the first and the last key at a pointstamp
 abbrev pub first_at : Pointstamp → ValueAt
 first_at x = record { point = x; value = negsuc (2 ^ 63 - 1) }
 
@@ -70,7 +70,7 @@ last_at x = record { point = x; value = pos (2 ^ 63 - 1) }
 pub forward : (x : Pointstamp) → IsLeBy value_at_cmp (first_at x) (last_at x)
 forward x = ap (λ r. is_gt (ordering_then r (int_cmp (negsuc (2 ^ 63 - 1)) (pos (2 ^ 63 - 1))))) (tied_itself point_total x)
 
--- a record is at a pointstamp if it is between these
+-- a record is at a pointstamp if it is between these keys
 within : (x : Pointstamp) (k : ValueAt) → FitsSigned w64 k.value → range_contains value_at_cmp (Included (first_at x)) (Included (last_at x)) k ≡ is_point x k.point
 within x k fits = by (point_cmp x k.point)
   where
@@ -79,7 +79,7 @@ within x k fits = by (point_cmp x k.point)
     by Equal = λ i. not_below k.value fits i && not (not_above k.value fits i)
     by Greater = refl
 
--- what passes one test weighs as what passes another that agrees with it
+-- two tests that agree on each entry give the same sum
 passed : (p q : ValueAt × ℕ → Bool) (es : List (ValueAt × ℕ)) → All (λ e. p e ≡ q e) es → sum_by (λ e. e.1) (filter p es) ≡ sum_by (λ e. cond (q e) e.1 0) es
 passed p q [] h = refl
 passed p q (e ∷ es) h =
@@ -95,7 +95,7 @@ abbrev pub number_at_point : Pointstamp → List (ValueAt × ℕ) → ℕ
 number_at_point x es = weight (λ (k : ValueAt) n. cond (is_point x k.point) n 0) es
 
 module _ (x : Pointstamp) (es : List (ValueAt × ℕ)) (kept : IsKept value_at_cmp es) where
-  -- how many are at it
+  -- the number of records at the pointstamp
   pub between_weigh : AreRecords es → sum_by (λ e. e.1) (entries_between value_at_cmp (Included (first_at x)) (Included (last_at x)) es) ≡ number_at_point x es
   between_weigh records =
       passed (λ e. range_contains value_at_cmp (Included (first_at x)) (Included (last_at x)) e.0) (λ e. is_point x e.0.point) es

@@ -1,4 +1,4 @@
--- What a processor keeps, as the state that it is seen as: look-ups and edits.
+-- The state that the stored lists of a processor represent: lookups and edits.
 use Rattle.std.proofs.Common.{◌≡◌, ◌≤◌, ◌<◌, ℕ, ◌+◌, ◌-◌, ℤ, ◌+ℤ◌, pos, neg_ℤ, unsigned_abs, List, length, map, Option, Some, None, sym, ap, subst, ◌∙◌}
 use Rattle.std.specs.Option.{option_map}
 use Rattle.std.specs.Prelude.{slice_get, slice_set, slice_index_or, OnOk, OnErr, Result, Ok, Err, ◌↔◌, IsTrue, is_some, Bool}
@@ -27,7 +27,7 @@ use Rattle.nd_processor.specs.declared.key.ValueAt.{ValueAt}
 use Rattle.nd_processor.specs.declared.key.SinkKey.{SinkKey}
 use Rattle.nd_processor.proofs.KeptLemmas.{number_at, kept_entries, kept_within, more, more_undone, less, less_undone}
 
--- ---- answers that are Results
+-- ---- calls that return a Result
 
 pub on_ok : {A E : Type 0} {P Q : Type 0} (r : Result A E) → (P → Q) → OnOk r P → OnOk r Q
 on_ok (Ok x) f h = f h
@@ -41,7 +41,7 @@ pub asked : (x y : Option (Unit {0})) (b : Bool) → b ≡ is_some x → x ≡ y
 asked None y b e same = ((λ t. absurd (cc)), λ s. absurd (cc))
 asked (Some u) y b e same = ((λ t. sym same), λ s. e)
 
--- ---- look-ups and edits of the state
+-- ---- lookups and edits of the state
 
 module _ (records : List (ValueAt × ℕ)) (requests : List (Pointstamp × Unit {0})) (tokens : List (ℕ × ℕ)) (items : List Items) (sinks : List (SinkKey × ℕ)) (unsent : DeltaValue) (state : ProcessorState) (view : seen records requests tokens items sinks unsent ≡ state) where
   records_is : of_entries value_at_total records ≡ state.records
@@ -182,7 +182,7 @@ module _ (records : List (ValueAt × ℕ)) (requests : List (Pointstamp × Unit 
       ap (λ (q : ProcessorState). record q { items = with_vertex_item q.items vertex k old }) (items_set vertex k new m m' within is made)
       ∙ (λ i. record state { items = vertex_item-back state.items vertex k old new in_range had i })
 
-  -- an item that could not be written is as it was
+  -- an item that could not be written is unchanged
   pub items_kept : (vertex : ℕ) (m m' : Items) → m ≡ slice_index_or items vertex m → m' ≡ m → seen records requests tokens (slice_set items vertex m') sinks unsent ≡ state
   items_kept vertex m m' is same =
       (λ i. seen records requests tokens (slice_set items vertex ((same ∙ is) i)) sinks unsent)
@@ -191,7 +191,7 @@ module _ (records : List (ValueAt × ℕ)) (requests : List (Pointstamp × Unit 
   pub items_long : (vertex : ℕ) → vertex < length state.items → vertex < length items
   items_long vertex h = subst (λ (q : ProcessorState). vertex < length q.items) (sym view) h
 
-  -- what is unsent is another change, from which an edit leads back
+  -- what is unsent changed, and an edit leads back
   pub unsent_back : (after : DeltaValue) → after ≡ unsent → seen records requests tokens items sinks after ≡ state
   unsent_back after is = ap (λ u. seen records requests tokens items sinks u) is ∙ view
 

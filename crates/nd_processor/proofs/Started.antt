@@ -1,4 +1,4 @@
--- The tokens at the start, found by going down the vertices.
+-- The tokens of the initial state, found by a loop that goes down the vertices.
 use Rattle.std.proofs.Common.{◌≡◌, ◌<◌, ◌≤◌, ◌+◌, ◌-◌, ℕ, suc, Bool, cond, List, [], ◌∷◌, length, get_or, drop, refl, sym, ap, ◌∙◌, arith, drop-cons}
 use Rattle.std.specs.FinMap as fin
 use Rattle.nd_graph.specs.Checked.{is_input}
@@ -15,7 +15,7 @@ use Rattle.nd_processor.specs.Start.{first_tokens, start_processor}
 use Rattle.nd_processor.specs.declared.key.ValueAt.{ValueAt}
 use Rattle.nd_processor.specs.declared.key.SinkKey.{SinkKey}
 
--- a turn of the loop that goes down the vertices
+-- one turn of this loop
 pub tokens_turn : (vertices : List Vertex) (l : ℕ) (d : Vertex) (b : Bool) → 0 < l → l ≤ length vertices → b ≡ is_input (get_or vertices (l - 1) d).op → first_tokens (l - 1) (drop (l - 1) vertices) ≡ cond b (fin.insert (first_tokens l (drop l vertices)) (l - 1) 0) (first_tokens l (drop l vertices))
 tokens_turn vertices l d b some le is =
     let next : (l - 1) + 1 ≡ l = omega arith in
