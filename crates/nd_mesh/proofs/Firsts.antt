@@ -18,11 +18,11 @@ first_mapped-all : {X : Type 0} (f : X → X) (xs : List X) → first_mapped f (
 first_mapped-all f [] = refl
 first_mapped-all f (x ∷ xs) = ap (λ ys. f x ∷ ys) (first_mapped-all f xs)
 
--- the complete list, once the first elements are all
+-- the complete list, after all elements
 pub first_mapped-end : {X : Type 0} (f : X → X) (k : ℕ) (xs ys : List X) → ys ≡ first_mapped f k xs → k ≡ length xs → ys ≡ map f xs
 first_mapped-end f k xs ys e all = e ∙ ap (λ n. first_mapped f n xs) all ∙ first_mapped-all f xs
 
--- what undoes f undoes it on the first elements
+-- a function that undoes f undoes it on the first elements
 pub first_mapped-back : {X : Type 0} (f h : X → X) → ((x : X) → h (f x) ≡ x) → (k : ℕ) (xs : List X) → first_mapped h k (first_mapped f k xs) ≡ xs
 first_mapped-back f h back zero xs = refl
 first_mapped-back f h back (suc k) [] = refl

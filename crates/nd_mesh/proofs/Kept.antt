@@ -13,7 +13,7 @@ use Rattle.nd_mesh.specs.Mesh.{appended, without_newest, without_oldest, row, qu
 abbrev pub AreWithin : List (List DeltaValue) → Type 0
 AreWithin queues = All (λ q. length q ≤ max_queue) queues
 
--- another row of the same length, each queue within the limit
+-- a row is replaced by one of the same length, each queue within the limit
 mesh_set : (m : List (List (List DeltaValue))) (from : ℕ) (queues : List (List DeltaValue)) → IsMesh m → length queues ≡ length m → AreWithin queues → IsMesh (set m from queues)
 mesh_set m from queues mesh long within = record {
   square = subst (λ n. All (λ r. length r ≡ n) (set m from queues)) (sym (length-set m from queues)) (All-set (λ r. length r ≡ length m) m from queues long mesh.square);
