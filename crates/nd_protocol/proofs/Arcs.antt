@@ -1,4 +1,4 @@
--- Along an arc of an ordered graph a pointstamp leads to one that is strictly later, and fits.
+-- An arc of an ordered graph turns a pointstamp into one that is strictly later, and that fits.
 use Rattle.std.proofs.Common.{◌≡◌, ◌≢◌, inl, ℕ, zero, suc, ◌+◌, ◌-◌, ◌<◌, ◌≤◌, List, [], ◌∷◌, ◌++◌, Some, length, refl, sym, ◌∙◌, ap, subst, arith, length-append}
 use Rattle.std.specs.Prelude.{Contains, slice_index, slice_get}
 use Rattle.std.specs.Option.{option_map_or}
@@ -39,7 +39,7 @@ has_depth g l d h e = slice_get-get_or (depths g) l 0 h ∙ ap Some (sym e)
 abbrev pub IsTransitive : Type 0
 IsTransitive = (g : Dataflow) (s t u : Pointstamp) → IsAccepted g → IsStrictlyBefore g s t → IsStrictlyBefore g t u → IsStrictlyBefore g s u
 
--- so is the order of any graph's
+-- the order of any graph's pointstamps is transitive
 abbrev pub CouldIsTransitive : Type 0
 CouldIsTransitive = (g : Dataflow) (s t u : Pointstamp) → CouldResultIn g s t → CouldResultIn g t u → CouldResultIn g s u
 
@@ -68,7 +68,7 @@ length-acted Ingress c d e = length-append c (0 ∷ []) ∙ sym e
 length-acted Egress c d e = length-egress c d e
 length-acted Feedback c d e = length-feedback c ∙ sym e.1
 
--- the time past an action
+-- the time after an action
 abbrev pub past : Action → Time → Time
 past a t = record { epoch = t.epoch; counters = acted a t.counters }
 
@@ -96,7 +96,7 @@ pub later_time : (g : Dataflow) (l : ℕ) (t to : Time) → IsAtOrBefore t to �
 later_time g l t to before other f =
     (record { fits_s = f; fits_t = record { depth = subst (HasDepth g l) before.depth f.depth }; walk = []; leads = refl; before = before }, λ same. other (ap (λ x. x.time) same))
 
--- and at a later epoch
+-- the same location at a later epoch
 pub later_epoch : (g : Dataflow) (l e to : ℕ) (c : List ℕ) → e < to → Fits g (point_at l (record { epoch = e; counters = c })) → IsStrictlyBefore g (point_at l (record { epoch = e; counters = c })) (point_at l (record { epoch = to; counters = c }))
 later_epoch g l e to c less f =
     later_time g l (record { epoch = e; counters = c }) (record { epoch = to; counters = c }) (record { depth = refl; epoch = omega arith; counters = inl refl })

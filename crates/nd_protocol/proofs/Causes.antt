@@ -1,4 +1,4 @@
--- A step whose additions all stand strictly after one pointstamp, its cause.
+-- A step all of whose additions are strictly after one pointstamp, its cause.
 use Rattle.std.proofs.Common.{◌≡◌, ◌⊎◌, inl, inr, ℕ, ◌+◌, ◌<◌, ◌≤◌, ◌<ℤ◌, ◌≤ℤ◌, pos, ◌+ℤ◌, List, length, get_or, set, arith}
 use Rattle.std.proofs.lemmas.Int.{ints}
 use Rattle.nd_paths.specs.declared.point.Pointstamp.{Pointstamp}

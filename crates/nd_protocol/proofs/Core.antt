@@ -8,7 +8,7 @@ pub record IsStrictOrder {P : Type 0} (R : P → P → Type 0) : Type 0 where
   pub irreflexive : (x : P) → R x x → ⊥
   pub transitive : (x y z : P) → R x y → R y z → R x z
 
--- what is before a point of D is in D
+-- D contains each point that is before a point of D
 abbrev pub IsDownward : {P : Type 0} → (P → P → Type 0) → (P → Type 0) → Type 0
 IsDownward {P} R D = (x y : P) → R x y → D y → D x
 
@@ -17,7 +17,7 @@ abbrev pub IsIn : {P : Type 0} → List P → P → Type 0
 IsIn [] x = ⊥
 IsIn (y ∷ ys) x = (y ≡ x) ⊎ IsIn ys x
 
--- f is zero but at finitely many points
+-- f is zero except at finitely many points
 abbrev pub IsFinite : {P : Type 0} → (P → ℤ) → Type 0
 IsFinite {P} f = (points : List P) × ((x : P) → f x ≢ pos 0 → IsIn points x)
 
@@ -26,7 +26,7 @@ abbrev pub sum_at : {P C : Type 0} → (C → P → ℤ) → List C → P → �
 sum_at at [] x = pos 0
 sum_at at (c ∷ cs) x = at c x +ℤ sum_at at cs x
 
--- what the protocol sees of a cluster
+-- what the theorem reads of a cluster
 pub record Reading (P C : Type 0) : Type 0 where
   pub n : ℕ  -- processors
   pub truth : P → ℕ
@@ -40,11 +40,11 @@ abbrev pub IsHeld : {P C : Type 0} → Reading P C → ℕ → P → Type 0
 IsHeld r p y = 0 < r.tokens p y
 
 module _ {P C : Type 0} (R : P → P → Type 0) (at : C → P → ℤ) where
-  -- what q will yet hear from p, once it has received k more changes
+  -- what q has not yet received from p, after k more changes are received
   abbrev pub pending : Reading P C → ℕ → ℕ → ℕ → P → ℤ
   pending r p q k x = sum_at at (drop k (r.queue p q)) x +ℤ at (r.unsent p) x
 
-  -- each view, with all that is pending to it, is the truth
+  -- each view plus all that is pending to it is the truth
   abbrev pub IsBalanced : Reading P C → Type 0
   IsBalanced r = (q : ℕ) → q < r.n → (x : P) → pos (r.truth x) ≡ (at (r.view q) x +ℤ total r.n (λ p. pending r p q 0 x))
 
@@ -53,7 +53,7 @@ module _ {P C : Type 0} (R : P → P → Type 0) (at : C → P → ℤ) where
     pub upright : (p q k : ℕ) → p < r.n → q < r.n → k ≤ length (r.queue p q) → IsUpright R (IsHeld r p) (pending r p q k)
     pub counted : (p : ℕ) → p < r.n → (x : P) → r.tokens p x ≤ r.truth x
 
-  -- p does something: d is the difference of the truth, and stays unsent
+  -- p executes a step: d is what it adds to the truth, and becomes unsent
   pub record Adds (p : ℕ) (d : P → ℤ) (r s : Reading P C) : Type 0 where
     pub here : p < r.n
     pub n : s.n ≡ r.n
@@ -63,7 +63,7 @@ module _ {P C : Type 0} (R : P → P → Type 0) (at : C → P → ℤ) where
     pub view : (q : ℕ) → s.view q ≡ r.view q
     pub queue : (k q : ℕ) → s.queue k q ≡ r.queue k q
 
-  -- and d is upright
+  -- p executes a step, and d is upright
   pub record Performs (p : ℕ) (d : P → ℤ) (r s : Reading P C) : Type 0 where
     pub adds : Adds p d r s
     pub justified : IsUpright R (IsHeld r p) d
@@ -71,7 +71,7 @@ module _ {P C : Type 0} (R : P → P → Type 0) (at : C → P → ℤ) where
     pub counted : (k : ℕ) → k < r.n → (x : P) → s.tokens k x ≤ s.truth x
     pub others : (k : ℕ) → k ≢ p → (x : P) → s.tokens k x ≡ r.tokens k x
 
-  -- p sends c, a part of what is unsent, to all; what stays is upright
+  -- p sends c, a part of what is unsent, to all processors; what stays is upright
   pub record Broadcasts (p : ℕ) (c : C) (r s : Reading P C) : Type 0 where
     pub here : p < r.n
     pub n : s.n ≡ r.n
@@ -84,7 +84,7 @@ module _ {P C : Type 0} (R : P → P → Type 0) (at : C → P → ℤ) where
     pub queue : (q : ℕ) → q < r.n → s.queue p q ≡ r.queue p q ++ c ∷ []
     pub queue_others : (k q : ℕ) → k ≢ p → s.queue k q ≡ r.queue k q
 
-  -- the front c of the queue from p to q goes into q's view
+  -- the front c of the queue from p to q is added to q's view
   pub record Receives (p q : ℕ) (c : C) (r s : Reading P C) : Type 0 where
     pub from_here : p < r.n
     pub to_here : q < r.n
@@ -97,14 +97,14 @@ module _ {P C : Type 0} (R : P → P → Type 0) (at : C → P → ℤ) where
     pub queue : r.queue p q ≡ c ∷ s.queue p q
     pub queue_others : (k l : ℕ) → (k ≡ p → l ≡ q → ⊥) → s.queue k l ≡ r.queue k l
 
-  -- one step, whichever
+  -- one step of any of these kinds
   abbrev pub Steps : Reading P C → Reading P C → Type 0
   Steps r s =
       ((p : ℕ) × (d : P → ℤ) × Performs p d r s)
       ⊎ (((p : ℕ) × (c : C) × Broadcasts p c r s)
       ⊎ ((p : ℕ) × (q : ℕ) × (c : C) × Receives p q c r s))
 
-  -- the start: each view is the truth, and nothing is on its way
+  -- the initial state: each view is the truth, and the queues are empty
   pub record IsStart (r : Reading P C) : Type 0 where
     pub view : (q : ℕ) → q < r.n → (x : P) → at (r.view q) x ≡ pos (r.truth x)
     pub unsent : (p : ℕ) → p < r.n → (x : P) → at (r.unsent p) x ≡ pos 0

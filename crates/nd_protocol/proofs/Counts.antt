@@ -1,4 +1,4 @@
--- How records that come move what is outstanding in a cluster; and the sums of specs/TruthLaws, passed on.
+-- How records that arrive change what is outstanding in a cluster; and the sums of specs/TruthLaws, passed on.
 use Rattle.std.proofs.Common.{◌≡◌, ◌⊎◌, inl, inr, ℕ, ◌+◌, pos, true, false, cond, List, [], ◌∷◌, ◌++◌, refl, sym, ap, subst, ◌∙◌, arith}
 use Rattle.std.proofs.lemmas.Map.Views.{tells_apart}
 use Rattle.std.specs.Prelude.{slice_index_or}
@@ -15,7 +15,7 @@ use Rattle.nd_map.specs.Counts.{added}
 use Rattle.nd_processor.specs.HeldLaws.{in_records-added}
 pub use Rattle.nd_protocol.specs.TruthLaws.{count, truth-count, gain-count, count-set, count-set_same, kept-set, kept-records, length-records}
 
--- ---- records come
+-- ---- records that arrive
 
 pub AllAt-append : (G : Pointstamp → Type 0) (rs ss : List (ℕ × ValueAt)) → AllAt G rs → AllAt G ss → AllAt G (rs ++ ss)
 AllAt-append G [] ss h k = k
@@ -32,7 +32,7 @@ count-elsewhere qs r x other =
     let more : in_records (added value_at_total q.records r.1 (pos 1)) x ≡ in_records q.records x + one_at r.1.point x = in_records-added q.records r.1 1 x in
     count-set_same qs r.0 (record q { records = added value_at_total q.records r.1 (pos 1) }) x (omega arith)
 
--- if records come to pointstamps of the kind G alone, nothing changes elsewhere
+-- if records arrive only at pointstamps that satisfy G, nothing changes elsewhere
 pub come_or_same : (G : Pointstamp → Type 0) (rs : List (ℕ × ValueAt)) → AllAt G rs → (x : Pointstamp) → G x ⊎ ((qs : List ProcessorState) → count (with_records qs rs) x ≡ count qs x)
 come_or_same G [] h x = inr (λ qs. refl)
 come_or_same G (r ∷ rs) h x =

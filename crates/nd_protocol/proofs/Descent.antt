@@ -23,8 +23,8 @@ taken_out (y ∷ ys) x (inr h) =
       keeps = λ z i apart. elim i [ inl e ↦ inl e | inr j ↦ inr (w.keeps z j apart) ];
     }
 
--- To show G x where Q x holds, G may be taken for granted at each earlier point at which Q holds: of those there are
--- finitely many. `within` says so.
+-- To show G x for an x that satisfies Q, G may be assumed at each earlier point that satisfies Q. There are finitely many of
+-- these, as `within` states.
 descend : {P : Type 0} {R : P → P → Type 0} → IsStrictOrder R → (Q G : P → Type 0) (step : (x : P) → Q x → ((y : P) → R y x → Q y → G y) → G x) (n : ℕ) (points : List P) → length points ≡ n → (x : P) (within : (y : P) → R y x → Q y → IsIn points y) → Q x → G x
 descend o Q G step n [] e x within q = step x q (λ y r h. absurd (within y r h))
 descend o Q G step zero (p ∷ ps) e x within q = absurd (omega arith)
@@ -34,6 +34,6 @@ descend {R = R} o Q G step (suc n) (p ∷ ps) e x within q =
     descend o Q G step n w.rest (omega (arith, w.shorter)) y
     (λ z r' h'. w.keeps z (within z (o.transitive z y x r' r) h') (λ same. o.irreflexive z (subst (λ v. R z v) same r'))) h)
 
--- the same, if each point at which Q holds is in the list
+-- the same, if each point that satisfies Q is in the list
 pub induction : {P : Type 0} {R : P → P → Type 0} → IsStrictOrder R → (Q G : P → Type 0) (points : List P) → ((y : P) → Q y → IsIn points y) → ((x : P) → Q x → ((y : P) → R y x → Q y → G y) → G x) → (x : P) → Q x → G x
 induction o Q G points within step x q = descend o Q G step (length points) points refl x (λ y r h. within y h) q

@@ -1,4 +1,4 @@
--- What a vertex emits stands at strictly later pointstamps.
+-- What a vertex emits is at strictly later pointstamps.
 use Rattle.std.proofs.Common.{◌≡◌, ℕ, ◌+◌, ◌≤◌, ℤ, Bool, true, false, cond, ◌&&◌, List, [], ◌∷◌, length, refl, sym, ap, subst, subst₂, ◌∙◌, arith}
 use Rattle.std.proofs.lemmas.Bool.Decides.{nat_tests}
 use Rattle.std.specs.Prelude.{Contains, nat_eq, slice_get, Some, None}
@@ -65,7 +65,7 @@ pub AllAt-both : (G K : Pointstamp → Type 0) → (rs : List (ℕ × ValueAt)) 
 AllAt-both G K [] h k = tt
 AllAt-both G K (r ∷ rs) h k = ((h.0, k.0), AllAt-both G K rs h.1 k.1)
 
--- and on edges
+-- what a vertex emits is on edges
 made_on_edges : (m n p vertex port : ℕ) (v : ℤ) (t : Time) (l : ℕ) (es : List Edge) → m ≤ l → AllAt (λ z. m ≤ z.location) (made_on n p vertex port v t l es)
 made_on_edges m n p vertex port v t l [] le = tt
 made_on_edges m n p vertex port v t l (e ∷ es) le =

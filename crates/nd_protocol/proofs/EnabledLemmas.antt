@@ -1,4 +1,4 @@
--- What an enabled step finds, and that it leads from a state to a state.
+-- What an enabled step finds; and that it leads from a state to a state.
 use Rattle.std.proofs.Common.{◌≡◌, ◌⊎◌, inl, inr, ℕ, ℤ, pos, List, zero, suc, ◌<◌, ◌≤◌, length, Bool, true, false, cond, Option, Some, None, refl, sym, subst, arith}
 use Rattle.std.proofs.lemmas.List.{get_or_default}
 use Rattle.std.specs.Prelude.{All}

@@ -1,5 +1,5 @@
--- Changes that are sent and received: a part of what a processor has to send goes to all, if what stays is upright;
--- the front of a queue goes into a view.
+-- Changes that are sent and received: a part of what a processor has to send goes to all queues, if what stays is upright; the
+-- front of a queue is added to a view.
 use Rattle.std.proofs.Common.{◌≡◌, inl, inr, ℕ, ◌+◌, ◌<◌, ◌≤◌, pos, ◌-ℤ◌, List, [], ◌∷◌, ◌++◌, map, length, get_or, set, refl, sym, ap, subst, ◌∙◌, arith, length-append, length-set, get_or-set_same, get_or-set_other}
 use Rattle.std.proofs.lemmas.Int.{ints}
 use Rattle.std.proofs.lemmas.List.{get_or_default, length-map}
@@ -22,7 +22,7 @@ use Rattle.nd_protocol.proofs.Counts.{count-set_same, kept-set}
 use Rattle.std.proofs.lemmas.Bool.{cases_eq}
 use Rattle.nd_protocol.proofs.Fitness.{plus_fits}
 
--- a list of all queues, in which the one from p to q is read
+-- the list of all queues, from which the one from p to q is read
 abbrev row : List (List (List DeltaValue)) → ℕ → List (List DeltaValue)
 row queues p = get_or queues p []
 

@@ -1,4 +1,4 @@
--- A feed: the token is the cause of the records and of the token at the next epoch. If it stays it supports them.
+-- A feed: the token is the cause of the records and of the token at the next epoch. If the token stays, it supports the records.
 use Rattle.std.proofs.Common.{◌≡◌, ◌⊎◌, inl, inr, ℕ, ◌+◌, ◌<◌, ◌≤◌, ℤ, List, [], length, get_or, Option, Some, unwrap_or, refl, sym, ap, subst, ◌∙◌, arith}
 use Rattle.std.specs.FinMap as fin
 use Rattle.std.specs.Ordering.{nat_cmp}
@@ -29,13 +29,13 @@ moved_on m v e to x found = ap (λ d. in_tokens (fin.insert m v to) x + token_at
 given_up : (m : fin.FinMap nat_cmp ℕ) (v e : ℕ) (x : Pointstamp) → fin.get m v ≡ Some e → in_tokens (fin.remove m v) x + one_at (token_point v e) x ≡ in_tokens m x
 given_up m v e x found = ap (λ d. in_tokens (fin.remove m v) x + token_at v d x) (sym found) ∙ in_tokens-remove m v x
 
--- what a token's move does to the number of tokens
+-- what moving a token does to the number of tokens
 record IsMoved (g : Dataflow) (next : Afterwards) (m n : fin.FinMap nat_cmp ℕ) (y : Pointstamp) : Type 0 where
   grows : (z : Pointstamp) → IsStrictlyBefore g y z ⊎ (in_tokens n z ≤ in_tokens m z)
   goes : (in_tokens n y < in_tokens m y) ⊎ ((next ≡ Stay) × (0 < in_tokens m y) × (0 < in_tokens n y))
   others : (z : Pointstamp) → 0 < in_tokens m z → (0 < in_tokens n z) ⊎ ((z ≡ y) × (in_tokens n y < in_tokens m y))
 
--- to a later epoch
+-- a move to a later epoch
 moves_to : (g : Dataflow) (next : Afterwards) (m : fin.FinMap nat_cmp ℕ) (vertex epoch to : ℕ) → fin.get m vertex ≡ Some epoch → Fits g (token_point vertex epoch) → epoch < to → IsMoved g next m (fin.insert m vertex to) (token_point vertex epoch)
 moves_to g next m vertex epoch to found fits more =
     let y : Pointstamp = token_point vertex epoch in

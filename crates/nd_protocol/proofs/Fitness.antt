@@ -1,4 +1,4 @@
--- A step leaves keys that fit.
+-- The keys after a step fit the graph.
 use Rattle.std.proofs.Common.{◌≡◌, ◌⊎◌, inl, inr, ℕ, zero, suc, ◌+◌, ◌<◌, ◌≤◌, pos, ◌+ℤ◌, Bool, true, false, cond, List, [], ◌∷◌, length, get_or, set, Some, refl, sym, ap, subst, ◌∙◌, arith, length-set, get_or-set_same, get_or-set_other}
 use Rattle.std.proofs.lemmas.Int.{ints}
 use Rattle.std.proofs.lemmas.Cmp.{nat_cmp_total}
@@ -34,7 +34,7 @@ use Rattle.nd_map.specs.Cases.{zero_or_not}
 use Rattle.std.proofs.lemmas.Bool.{cases_eq}
 use Rattle.nd_processor.specs.HeldLaws.{in_requests-weight}
 
--- ---- all of a list in which one is written
+-- ---- all elements of a list, one of which is written
 
 pub all-set : {X : Type 0} (P : X → Type 0) (xs : List X) (i : ℕ) (y : X) → All P xs → (i < length xs → P y) → All P (set xs i y)
 all-set P xs i y all new k d lt =
@@ -44,7 +44,7 @@ all-set P xs i y all new k d lt =
       | inr ne ↦ subst P (sym (get_or-set_other xs i k y d ne)) (all k d (omega arith))
     ]
 
--- ---- records come
+-- ---- records that arrive
 
 more_fits : (g : Dataflow) (q : ProcessorState) (k : ValueAt) → IsAtEdge g k.point × IsValue k.value → ProcessorFits g q → ProcessorFits g (record q { records = added value_at_total q.records k (pos 1) })
 more_fits g q k place fit = record {
@@ -167,7 +167,7 @@ gained_fits g old p new then now =
       unsent = plus_fits g q.unsent (gain old new) fit.unsent (gain_fits g old new then now);
     })
 
--- what comes later than a pointstamp stands at a location
+-- what is later than a pointstamp is at a location
 come_fits : (g : Dataflow) (x : Pointstamp) (rs : List (ℕ × ValueAt)) → AllAt (λ z. IsStrictlyBefore g x z × (length g.vertices ≤ z.location)) rs → AllKeys IsSmallKey rs → AllKeys (λ k. IsAtEdge g k.point × IsValue k.value) rs
 come_fits g x [] h small = tt
 come_fits g x (r ∷ rs) h small = ((record { place = h.0.1; fits = h.0.0.0.fits_t; small = small.0.0 }, small.0.1), come_fits g x rs h.1 small.1)

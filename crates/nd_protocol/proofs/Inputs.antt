@@ -1,4 +1,4 @@
--- In a graph without faults inputs stand outside all loops, and there are few locations.
+-- In a graph without errors inputs are outside all loops, and the number of locations is limited.
 use Rattle.std.proofs.Common.{◌≡◌, ℕ, zero, suc, ◌≤◌, Bool, true, false, cond, ◌||◌, List, [], ◌∷◌, ◌++◌, map, Option, Some, None, refl, ap, subst, arith}
 use Rattle.std.proofs.lemmas.Bool.Decides.{nat_tests}
 use Rattle.std.specs.Prelude.{nat_lt, slice_get}
@@ -14,7 +14,7 @@ use Rattle.nd_paths.specs.Order.{HasDepth}
 use Rattle.nd_time.specs.Limits.{max_depth, max_locations}
 use Rattle.std.proofs.lemmas.Bool.{or_parts}
 
--- inputs stand outside all loops
+-- inputs are outside all loops
 abbrev pub AreInputsFlat : Dataflow → Type 0
 AreInputsFlat g = (l : ℕ) → op_at g l ≡ Input → HasDepth g l 0
 
@@ -46,7 +46,7 @@ inputs_flat g sound l is =
 not_more : (m n : ℕ) → nat_lt m n ≡ false → n ≤ m
 not_more m n e = grind (arith, nat_tests, e)
 
--- and there are few locations
+-- the number of locations is within its limit
 pub few_locations : (g : Dataflow) → IsFaultless g → location_count g ≤ max_locations
 unfolding fault_of is_too_large
 few_locations g sound =

@@ -1,4 +1,4 @@
--- What the protocol invariant tells a reader of a view.
+-- What the protocol invariant says to a reader of a view.
 use Rattle.std.proofs.Common.{◌≡◌, ℕ, ◌+◌, ◌<◌, ◌≤◌, ◌≤ℤ◌, ◌<ℤ◌, pos, length, Some, sym, ap, subst, ◌∙◌, arith}
 use Rattle.std.proofs.lemmas.List.Sums.{get_or-le-sum_by}
 use Rattle.std.specs.FinMap as fin
@@ -34,7 +34,7 @@ passed trans could s o keeps q lt t is_passed x before =
     truth-count s.processors x ∙ ap pos (safe (IsStrictlyBefore s.graph) (strict_order trans s.graph o) at change_finite (λ x. CouldResultIn s.graph x t) (could_down could s.graph t) (reading s) (sound_of s keeps) q lt
     (quiet (view s q) (λ x. CouldResultIn s.graph x t) (λ z positive d. is_passed z (record { positive = positive; before = d }))) x before)
 
--- a request that is made is outstanding, so that no view has passed what it could result in
+-- a request is outstanding, so no view has passed what it could result in
 pub held : IsTransitive → CouldIsTransitive → (s : ClusterState) → IsOrdered s.graph → KeepsProtocol s → (p q : ℕ) → p < length s.processors → q < length s.processors → (x t : Pointstamp)
     → fin.get (processor s p).requests x ≡ Some tt → CouldResultIn s.graph x t → IsPassed s.graph (view s q) t → ⊥
 held trans could s o keeps p q here there x t found before is_passed =
@@ -52,7 +52,7 @@ last trans s o keeps q lt t none x before =
 same_number : (m : ℕ) → pos m ≡ pos 0 → m ≡ 0
 same_number m e = omega (arith, ints)
 
--- what is finished stays so over a step of the protocol
+-- what is finished stays finished after a step of the protocol
 pub stays_finished : IsTransitive → CouldIsTransitive → (s t : ClusterState) → IsOrdered s.graph → t.graph ≡ s.graph → Steps (IsStrictlyBefore s.graph) at (reading s) (reading t) → KeepsProtocol s → (x : Pointstamp) → IsFinished s x → IsFinished t x
 stays_finished trans could s t o same step keeps x finished z before =
     truth-count t.processors z ∙ ap pos (stays (IsStrictlyBefore s.graph) (strict_order trans s.graph o) at change_finite (λ y. CouldResultIn s.graph y x) (could_down could s.graph x) (reading s) (reading t) step (sound_of s keeps)

@@ -38,7 +38,7 @@ use Rattle.std.proofs.lemmas.List.Elements.{All-nil, All-cons}
 use Rattle.nd_protocol.specs.Fitting.{IsOrdered, IsAtVertex, IsAtEdge, ProcessorFits}
 use Rattle.std.proofs.lemmas.Bool.{cases_eq}
 
--- ---- an edit of a map leaves every other key as it was
+-- ---- an edit of a map changes no other key
 
 module _ {K X : Type 0} {R : K → K → Ordering} (o : IsTotalOrder R) (tells : fin.IsAntisymmetric R) where
   pub inserted : (m : fin.FinMap R X) (k : K) (v : X) (q : K) → (q ≡ k) ⊎ (fin.get (fin.insert m k v) q ≡ fin.get m q)
@@ -55,7 +55,7 @@ module _ {K X : Type 0} {R : K → K → Ordering} (o : IsTotalOrder R) (tells :
         | false ↦ λ t. inr (fin.get-remove o m k q ∙ ap (λ b. cond b None (fin.get m q)) t)
       ] refl
 
-  -- with what is found there
+  -- the same, with the value that is found there
   pub inserted_is : (m : fin.FinMap R X) (k : K) (v : X) (q : K) (w : X) → fin.get (fin.insert m k v) q ≡ Some w → ((q ≡ k) × (w ≡ v)) ⊎ (fin.get m q ≡ Some w)
   inserted_is m k v q w found =
       elim (eq_by_cmp R q k) as (λ b. eq_by_cmp R q k ≡ b → ((q ≡ k) × (w ≡ v)) ⊎ (fin.get m q ≡ Some w)) [
@@ -115,7 +115,7 @@ counts_sink o items t v e = absurd (cc)
 
 -- ---- the processor that is written
 
--- an edge leads to a vertex
+-- an edge leads to a vertex of the graph
 target_below : (g : Dataflow) → IsOrdered g → (edge d : ℕ) → length g.vertices ≤ edge → HasDepth g edge d → target_of g edge < length g.vertices
 target_below g o edge d place has =
     let inside : edge < length (depths g) = (depth_within g edge d has).0 in
@@ -125,11 +125,11 @@ target_below g o edge d place has =
     let any : Edge = record { name = []; from = 0; port = 0; to = 0; route = Local } in
     subst (λ v. option_map_or (λ (e : Edge). e.to) v 0 < length g.vertices) (sym (slice_get-get_or g.edges i any lt)) (o.joined i any lt).to
 
--- each item that is there, and its number, fit their types
+-- each item and its number fit their types
 abbrev pub AreValues : Items → Type 0
 AreValues items = (k : ItemKey) → at items k ≢ pos 0 → IsValue k.item × IsValue (at items k)
 
--- the items of a vertex after another's are written
+-- the items of a vertex after those of some vertex were written
 items_written : (g : Dataflow) (q : ProcessorState) (vertex : ℕ) (t : Time) (items : Items) → ((k : ItemKey) → at items k ≢ pos 0 → (k.time ≡ t) ⊎ (at (items_at q vertex) k ≢ pos 0)) → AreValues items
     → IsAtVertex g (point_at vertex t) → ProcessorFits g q
     → (v : ℕ) (k : ItemKey) → at (get_or (set q.items vertex items) v none) k ≢ pos 0 → IsAtVertex g (point_at v k.time) × IsValue k.item × IsValue (at (get_or (set q.items vertex items) v none) k)
@@ -204,7 +204,7 @@ noticed_fits g q vertex t outcome items_are values place fit = record {
   unsent = fit.unsent;
 }
 
--- an input's place does not hang on the epoch
+-- the location of an input's token does not depend on the epoch
 other_epoch : (g : Dataflow) (vertex e f : ℕ) → IsSmall f → IsAtVertex g (token_point vertex e) → IsAtVertex g (token_point vertex f)
 other_epoch g vertex e f small h = record { place = h.place; fits = record { depth = h.fits.depth }; small = All-cons IsSmall f [] small (All-nil IsSmall) }
 
@@ -238,7 +238,7 @@ fed_fits g q vertex epoch here next room fit = record {
   unsent = fit.unsent;
 }
 
--- a request's place does not hang on the time
+-- the location of a request does not depend on the time
 other_time : (g : Dataflow) (vertex : ℕ) (t to : Time) → GoesLater t (Some to) → TimesAreSmall t (Some to) → IsAtVertex g (point_at vertex t) → IsAtVertex g (point_at vertex to)
 other_time g vertex t to later small h = record { place = h.place; fits = record { depth = subst (HasDepth g vertex) later.0.depth h.fits.depth }; small = small.1 }
 

@@ -1,4 +1,4 @@
--- A notice that is enabled has no precursor: of finitely many one would be the least.
+-- A notice that is enabled has no precursor: among finitely many precursors one would be the least.
 use Rattle.std.proofs.Common.{◌≡◌, ◌≢◌, ℕ, pos, Less, Greater, ap, ◌∙◌}
 use Rattle.std.proofs.lemmas.Cmp.{tied_itself}
 use Rattle.std.specs.Ordering.{ordering_reverse}
@@ -37,7 +37,7 @@ listed_order = record {
 turned : (x y : Pointstamp) → point_cmp x y ≡ Greater → point_cmp y x ≡ Less
 turned x y greater = point_total.antisymm y x ∙ ap ordering_reverse greater
 
--- a kind of the points of a change that has no least point has none
+-- if a property of the points of a change has no least point, no point has it
 none_without_least : (c : DeltaValue) (P : Pointstamp → Type 0) → ((x : Pointstamp) → P x → at c x ≢ pos 0) → ((x : Pointstamp) → IsLeast P x → ⊥) → (x : Pointstamp) → P x → ⊥
 none_without_least c P some no_least =
     let points : IsFinite (at c) = change_finite c in

@@ -87,7 +87,7 @@ module _ {P C : Type 0} (R : P → P → Type 0) (at : C → P → ℤ) where
     counted = st.counted;
   }
 
-  -- ---- p does something
+  -- ---- p executes a step
   module _ (p : ℕ) (d : P → ℤ) (r s : Reading P C) (step : Adds R at p d r s) where
     pub performed_here : (q k : ℕ) (x : P) → pending R at s p q k x ≡ (pending R at r p q k x +ℤ d x)
     performed_here q k x =
@@ -118,7 +118,7 @@ module _ {P C : Type 0} (R : P → P → Type 0) (o : IsStrictOrder R) (at : C �
   pub finite_pending : (r : Reading P C) (p q k : ℕ) → IsFinite (pending R at r p q k)
   finite_pending r p q k = finite_sum (sum_at at (drop k (r.queue p q))) (at (r.unsent p)) (finite_queue (drop k (r.queue p q))) (finite (r.unsent p))
 
-  -- ---- p does something
+  -- ---- p executes a step whose addition is upright
   module _ (p : ℕ) (d : P → ℤ) (r s : Reading P C) (step : Performs R at p d r s) where
     gain_finite : IsFinite d
     gain_finite =
@@ -152,7 +152,7 @@ module _ {P C : Type 0} (R : P → P → Type 0) (o : IsStrictOrder R) (at : C �
       counted = λ j l x. step.counted j (subst (λ v. j < v) step.adds.n l) x;
     }
 
-  -- ---- p sends c to all
+  -- ---- p sends c to all processors
   module _ (p : ℕ) (c : C) (r s : Reading P C) (step : Broadcasts R at p c r s) where
     sent_same_held : (j : ℕ) (y : P) → IsHeld r j y → IsHeld s j y
     sent_same_held j y held = subst (λ v. 0 < v) (sym (step.tokens j y)) held
@@ -209,7 +209,7 @@ module _ {P C : Type 0} (R : P → P → Type 0) (o : IsStrictOrder R) (at : C �
       counted = λ j l x. rw (step.tokens j x, step.truth x) (sound.counted j (subst (λ v. j < v) step.n l) x);
     }
 
-  -- ---- q takes the front of the queue from p
+  -- ---- q receives the front of the queue from p
   module _ (p q : ℕ) (c : C) (r s : Reading P C) (step : Receives R at p q c r s) where
     taken_same_held : (j : ℕ) (y : P) → IsHeld r j y → IsHeld s j y
     taken_same_held j y held = subst (λ v. 0 < v) (sym (step.tokens j y)) held

@@ -1,4 +1,4 @@
--- A step leaves numbers in the ranges of their types.
+-- The numbers after a step are in the ranges of their types.
 use Rattle.std.proofs.Common.{◌≡◌, ◌≢◌, ◌⊎◌, inl, inr, ℕ, zero, suc, ◌+◌, ◌^◌, ◌<◌, ◌≤◌, ℤ, pos, negsuc, ◌+ℤ◌, Bool, true, false, cond, not, ◌&&◌, List, [], ◌∷◌, ◌++◌, length, refl, sym, subst, ◌∙◌, arith}
 use Rattle.std.proofs.lemmas.Bool.{cases_lt}
 use Rattle.std.proofs.lemmas.List.Elements.{All-nil, All-cons, All-push, All-head, All-tail}
@@ -77,7 +77,7 @@ input_past o t is h = past_small o t (λ e. absurd (cc (is, e))) h
 pub flat_small : (epoch : ℕ) → IsSmall epoch → TimeIsSmall (record { epoch = epoch; counters = [] })
 flat_small epoch h = All-cons IsSmall epoch [] h (All-nil IsSmall)
 
--- ---- the records that come
+-- ---- the records that arrive
 
 AllKeys-append : (K : ValueAt → Type 0) (rs ss : List (ℕ × ValueAt)) → AllKeys K rs → AllKeys K ss → AllKeys K (rs ++ ss)
 AllKeys-append K [] ss h k = k
@@ -101,7 +101,7 @@ emitted_small g n p vertex t e small value = made_small n p vertex e.0 e.1 (time
 
 -- ---- what the operators do to items
 
--- an item that is there after a record was there, or is 0, or is the record's value
+-- an item that is there after a record was there before, or is 0, or is the record's value
 pub recorded_value : (o : Op) (items : Items) (t : Time) (v : ℤ) (q : ItemKey) → IsValue v → (at items q ≢ pos 0 → IsValue q.item) → at (on_record o items t v).items q ≢ pos 0 → IsValue q.item
 recorded_value Sum items t v q value old some =
     elim (set_cases item_total item_exact items (item_key t (pos 0)) (at items (item_key t (pos 0)) +ℤ v) q) [
@@ -127,7 +127,7 @@ zero_or_kept : (b : Bool) (v : ℤ) → (cond b (pos 0) v ≡ pos 0) ⊎ (cond b
 zero_or_kept true v = inl refl
 zero_or_kept false v = inr refl
 
--- a notice leaves an item as it was, or takes it away
+-- a notice leaves an item as it was, or removes it
 pub noticed_number : (o : Op) (items : Items) (t : Time) (q : ItemKey) → (at (on_notice o items t).items q ≡ pos 0) ⊎ (at (on_notice o items t).items q ≡ at items q)
 noticed_number Sum items t q =
     let k : ItemKey = item_key t (pos 0) in
@@ -144,11 +144,11 @@ number_is_value (pos zero) h = zero_is_value
 number_is_value (pos (suc n)) h = h (λ e. absurd (cc))
 number_is_value (negsuc n) h = h (λ e. absurd (cc))
 
--- what is emitted at t by the operator fits its types
+-- what the operator emits at t fits its types
 abbrev pub IsFine : Op → Time → ℕ × ℤ → Type 0
 IsFine o t e = TimeIsSmall (time_past o t) × IsValue e.1
 
--- what a notice emits are numbers of items
+-- the values that a notice emits are numbers of items
 pub notice_fine : (o : Op) (items : Items) (t : Time) → TimeIsSmall t → ((q : ItemKey) → at items q ≢ pos 0 → IsValue (at items q)) → All (IsFine o t) (on_notice o items t).emissions
 notice_fine Sum items t small each =
     let sum : ℤ = at items (item_key t (pos 0)) in

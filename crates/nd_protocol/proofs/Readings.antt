@@ -24,7 +24,7 @@ found (e ∷ es) x h =
       | false ↦ λ t g. inr (found es x g)
     ] refl h
 
--- a change is 0 but at finitely many pointstamps
+-- a change is 0 except at finitely many pointstamps
 pub change_finite : (c : DeltaValue) → IsFinite (at c)
 change_finite c = (map (λ e. e.0) (entries c), λ x h. found (entries c) x (λ e. h (sym (at-entries c x) ∙ e)))
 

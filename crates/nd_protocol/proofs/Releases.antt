@@ -1,4 +1,4 @@
--- A release: the capability that goes is the cause of the later one.
+-- A release: the capability that is released is the cause of the later one.
 use Rattle.std.proofs.Common.{◌≡◌, ◌⊎◌, inl, inr, ℕ, ◌+◌, ◌<◌, ◌≤◌, Option, Some, None, sym, subst, arith}
 use Rattle.std.specs.FinMap as fin
 use Rattle.nd_time.specs.Time.{Time}

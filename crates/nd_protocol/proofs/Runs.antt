@@ -81,14 +81,14 @@ step_settled trans s (Broadcast p part) state enabled settled =
     settled_of t (sent_balanced (IsStrictlyBefore s.graph) (strict_order trans s.graph state.ordered) at change_finite p c (reading s) (reading t) (broadcasts s p (sender_below s p part enabled) state.fits c enabled.admissible) (balanced_of s settled))
 step_settled trans s (Receive from to) state enabled settled = front_settled trans s from to state (from_below s from to enabled) (to_below s from to enabled) (queue s from to) refl settled
 
--- ---- a list of steps, each enabled in its turn
+-- ---- a list of steps, each enabled after those before it
 
 pub run_kept : {A : Type 0} → IsTransitive → (s : ClusterState) (xs : List (Step A)) → IsState s → KeepsProtocol s → AreEnabled s xs → IsState (after s xs) × KeepsProtocol (after s xs)
 unfolding after
 run_kept trans s [] state keeps enabled = (state, keeps)
 run_kept trans s (x ∷ xs) state keeps enabled = run_kept trans (stepped s x) xs (state_kept trans s x state enabled.0) (step_kept trans s x state enabled.0 keeps) enabled.1
 
--- what is finished stays so
+-- what is finished stays finished
 pub run_finished : {A : Type 0} → IsTransitive → CouldIsTransitive → (s : ClusterState) (xs : List (Step A)) → IsState s → KeepsProtocol s → AreEnabled s xs → (t : Pointstamp) → IsFinished s t → IsFinished (after s xs) t
 unfolding after
 run_finished trans could s [] state keeps enabled t finished = finished

@@ -1,4 +1,4 @@
--- What the invariant tells a reader of a view.
+-- What the invariant says to a reader of a view.
 use Rattle.std.proofs.Common.{◌≡◌, ℕ, zero, suc, ◌<◌, ◌≤◌, ◌⊎◌, inl, inr, refl, ◌∙◌, arith, ℤ, pos, ◌+ℤ◌, ◌≤ℤ◌}
 use Rattle.std.proofs.lemmas.Int.{ints}
 use Rattle.nd_protocol.proofs.Core.{IsStrictOrder, IsFinite, IsHeld, Reading, pending, IsSound, Steps, IsDownward}
@@ -32,7 +32,7 @@ module _ {P C : Type 0} (R : P → P → Type 0) (o : IsStrictOrder R) (at : C �
   balanced r sound q h x = sound.balance q h x
 
   module _ (D : P → Type 0) (down : IsDownward R D) where
-    -- if the view has nothing positive in D, the truth has nothing there
+    -- if the view has nothing positive in D, nothing is outstanding in D
     pub safe : (r : Reading P C) → IsSound R at r → (q : ℕ) → q < r.n → ((x : P) → D x → at (r.view q) x ≤ℤ pos 0) → (x : P) → D x → r.truth x ≡ 0
     safe r sound q h quiet x dx =
         let f : IsFinite (λ y. at (r.view q) y +ℤ coming r q y) = finite_sum (at (r.view q)) (coming r q) (finite (r.view q)) (coming_finite r q) in
@@ -55,7 +55,7 @@ module _ {P C : Type 0} (R : P → P → Type 0) (o : IsStrictOrder R) (at : C �
         ]) in
         elim (zero_or_more (r.truth x)) [ inl e ↦ e | inr m ↦ absurd (no x (dx, m)) ]
 
-    -- and what is empty stays empty
+    -- if nothing is outstanding in D, nothing is after a step
     pub stays : (r s : Reading P C) → Steps R at r s → IsSound R at r → ((x : P) → D x → r.truth x ≡ 0) → (x : P) → D x → s.truth x ≡ 0
     stays r s (inl (p, d, step)) sound none x dx =
         elim (zero_or_more (s.truth x)) [

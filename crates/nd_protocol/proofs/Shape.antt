@@ -1,5 +1,5 @@
--- What feeds, takes, notices and releases have in common: their performer is written, records come, and all that comes stands strictly
--- after one pointstamp, the cause.
+-- What feeds, takes, notices and releases have in common: their performer is written, records arrive, and everything that is
+-- added is strictly after one pointstamp, the cause.
 use Rattle.std.specs.Prelude.{◌≡◌, ◌⊎◌, ◌<◌, ◌≤◌, ⊤, ℕ, ℤ, pos, negsuc, cond, List, [], ◌∷◌, slice_set, length, All, Some, refl}
 use Rattle.std.specs.List.{flat_map}
 use Rattle.std.specs.FinMap as fin
@@ -23,21 +23,21 @@ use Rattle.nd_time.specs.Time.{Time, last_of}
 use Rattle.nd_protocol.specs.declared.step.Next.{Next as Afterwards}
 use Rattle.nd_protocol.specs.declared.step.Next.TheVariants as token
 
--- a feed, a take, a notice or a release: work of which others hear by what is unsent
+-- a feed, a take, a notice or a release: work that others hear of through what is unsent
 pub data Work : Type 0 where
   feeding : (p vertex : ℕ) (values : List ℤ) (next : Afterwards) → Work
   taking : (p edge : ℕ) (t : Time) (value : ℤ) → Work
   noticing : (p vertex : ℕ) (t : Time) → Work
   releasing : (p vertex : ℕ) (times : Times) → Work
 
--- the processor that does it
+-- the processor that executes it
 abbrev pub performer : Work → ℕ
 performer (feeding p vertex values _) = p
 performer (taking p edge t value) = p
 performer (noticing p vertex t) = p
 performer (releasing p vertex times) = p
 
--- the processors after it, but for what is unsent
+-- the processors after it, without its unsent change
 abbrev pub performed : ClusterState → Work → List ProcessorState
 performed s (feeding p vertex values next) = fed s p vertex values next
 performed s (taking p edge t value) = taken s p edge t value
@@ -62,31 +62,31 @@ Finds s (taking p edge t value) = 0 < at (processor s p).records (record_key edg
 Finds s (noticing p vertex t) = fin.get (processor s p).requests (point_at vertex t) ≡ Some tt
 Finds s (releasing p vertex times) = fin.get (processor s p).requests (point_at vertex times.time) ≡ Some tt
 
--- the epoch to which a token goes is above its own, and fits its type
+-- the epoch to which a token moves is greater than its own, and fits its type
 abbrev pub GoesOn : Afterwards → ℕ → Type 0
 GoesOn token.Next epoch = epoch < max_counter
 GoesOn token.Close epoch = ⊤
 GoesOn token.Stay epoch = ⊤
 GoesOn (token.To n) epoch = (epoch < n) × IsSmall n
 
--- the numbers that it makes fit their types, and what moves goes on
+-- the numbers of the step fit their types, and what moves goes to a later epoch or time
 abbrev pub FitsTypes : ClusterState → Work → Type 0
 FitsTypes s (feeding p vertex values next) = All IsValue values × GoesOn next (epoch_of s p vertex)
 FitsTypes s (taking p edge t value) = (op_at s.graph (target_of s.graph edge) ≡ op.Feedback → last_of t.counters < max_counter) × IsInRange (take_outcome s p edge t value)
 FitsTypes s (noticing p vertex t) = Unit {0}
 FitsTypes s (releasing p vertex times) = GoesLater times.time times.to × TimesAreSmall times.time times.to
 
--- what a step needs, of all that makes it enabled
+-- what a step needs, among all that makes it enabled
 pub record IsPossible (s : ClusterState) (x : Work) : Type 0 where
   pub performer_is : performer x < length s.processors
   pub finds : Finds s x
   pub numbers : FitsTypes s x
 
--- the processor holds a token before a step and after it
+-- the processor holds the token before and after the step
 abbrev pub KeepsToken : ProcessorState → ProcessorState → Pointstamp → Type 0
 KeepsToken q r x = (0 < in_tokens q.tokens x) × (0 < in_tokens r.tokens x)
 
--- each record that comes is of the kind K
+-- each record that arrives satisfies K
 abbrev pub AllKeys : (ValueAt → Type 0) → List (ℕ × ValueAt) → Type 0
 AllKeys K [] = Unit {0}
 AllKeys K (r ∷ rs) = K r.1 × AllKeys K rs
@@ -95,12 +95,12 @@ AllKeys K (r ∷ rs) = K r.1 × AllKeys K rs
 abbrev pub IsSmallKey : ValueAt → Type 0
 IsSmallKey k = TimeIsSmall k.point.time × IsValue k.value
 
--- each record stands at a pointstamp of the kind G
+-- each record is at a pointstamp that satisfies G
 abbrev pub AllAt : (Pointstamp → Type 0) → List (ℕ × ValueAt) → Type 0
 AllAt G [] = Unit {0}
 AllAt G (r ∷ rs) = G r.1.point × AllAt G rs
 
--- the performer after a step, but for the records that come
+-- the performer after a step, without the records that arrive
 abbrev pub written : ClusterState → Work → ProcessorState
 written s (feeding p vertex values next) = let q = processor s p in record q { tokens = moved_token q.tokens vertex (epoch_of s p vertex) next }
 written s (taking p edge t value) =
@@ -118,7 +118,7 @@ written s (noticing p vertex t) =
     record q { requests = fin.remove q.requests (point_at vertex t); items = slice_set q.items vertex (notice_outcome s p vertex t).items }
 written s (releasing p vertex times) = let q = processor s p in record q { requests = moved_request q.requests vertex times.time times.to }
 
--- the records that come
+-- the records that arrive
 abbrev pub come : ClusterState → Work → List (ℕ × ValueAt)
 come s (feeding p vertex values _) = flat_map (λ v. emitted s.graph (length s.processors) p vertex (flat (epoch_of s p vertex)) (0, v)) values
 come s (taking p edge t value) = flat_map (emitted s.graph (length s.processors) p (target_of s.graph edge) t) (take_outcome s p edge t value).emissions
@@ -145,7 +145,7 @@ pub record HasCause (s : ClusterState) (x : Work) : Type 0 where
   pub cause : Pointstamp
   pub later : AllAt (IsStrictlyBefore s.graph cause) (come s x)
   pub grows : (z : Pointstamp) → IsStrictlyBefore s.graph cause z ⊎ (held (written s x) z ≤ held (processor s (performer x)) z)
-  -- the cause goes, or it is a token that stays
+  -- the cause is removed, or it is a token that stays
   pub goes : (held (written s x) cause < held (processor s (performer x)) cause) ⊎ (LeavesToken x × (0 < in_tokens (processor s (performer x)).tokens cause) × (0 < in_tokens (written s x).tokens cause))
-  -- no other token goes
+  -- no other token is removed
   pub tokens : (z : Pointstamp) → 0 < in_tokens (processor s (performer x)).tokens z → (0 < in_tokens (written s x).tokens z) ⊎ ((z ≡ cause) × (held (written s x) cause < held (processor s (performer x)) cause))

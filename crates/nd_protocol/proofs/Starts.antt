@@ -1,4 +1,4 @@
--- A start has the protocol invariant, keys that fit, and numbers within their limits.
+-- The initial state has the protocol invariant, keys that fit, and numbers within their limits.
 use Rattle.std.proofs.Common.{◌≡◌, inl, inr, ℕ, zero, suc, ◌+◌, ◌*◌, ◌<◌, ◌≤◌, pos, true, false, cond, List, [], ◌∷◌, length, get_or, Some, refl, sym, ap, subst, ◌∙◌, arith}
 use Rattle.std.proofs.lemmas.Cmp.{nat_cmp_total}
 use Rattle.std.proofs.lemmas.List.Sums.{sum_by-cons}
@@ -88,7 +88,7 @@ input_op o e = absurd (cc)
 nothing_found : {K X : Type 0} (R : K → K → Ordering) (q : K) (v : X) → fin.get (fin.empty {X = X} {R = R}) q ≡ Some v → ⊥
 nothing_found R q v e = absurd (cc (fin.get-empty R q, e))
 
--- a token is that of an input, of which there are as many before it as l
+-- a token belongs to an input among these vertices
 first_input : (l : ℕ) (vs : List Vertex) (v e : ℕ) → fin.get (first_tokens l vs) v ≡ Some e → (i : ℕ) × (v ≡ l + i) × (i < length vs) × (option_map_or (λ w. w.op) (slice_get vs i) Sink ≡ Input) × (e ≡ 0)
 first_input l [] v e found = absurd (nothing_found nat_cmp v e found)
 first_input l (w ∷ vs) v e found =

@@ -26,7 +26,7 @@ use Rattle.nd_protocol.proofs.UprightSums.{upright_wider}
 use Rattle.nd_protocol.proofs.Preservation.{performed_balanced}
 
 module _ (s : ClusterState) (x : Work) where
-  -- a field that neither the records nor the unsent change are
+  -- a field other than the records and the unsent change
   after_field : {X : Type 0} (f : ProcessorState → X) → ((q : ProcessorState) (m : Counts value_at_cmp naturals) → f (record q { records = m }) ≡ f q) → ((q : ProcessorState) (d : DeltaValue) → f (record q { unsent = d }) ≡ f q)
       → (k : ℕ) → f (processor (done s x) k) ≡ f (get_or (set s.processors (performer x) (written s x)) k idle)
   unfolding done
@@ -41,7 +41,7 @@ module _ (s : ClusterState) (x : Work) where
   tokens_there : (k : ℕ) → k ≢ performer x → (processor (done s x) k).tokens ≡ (processor s k).tokens
   tokens_there k other = after_field (λ q. q.tokens) (λ q m. refl) (λ q d. refl) k ∙ ap (λ q. q.tokens) (get_or-set_other s.processors (performer x) k (written s x) idle other)
 
-  -- what is unsent, but for the change that the step puts to it
+  -- what is unsent, without the change that the step adds to it
   unsent_performed : (k : ℕ) → (get_or (performed s x) k idle).unsent ≡ (processor s k).unsent
   unsent_performed k =
       ap (λ qs. (get_or qs k idle).unsent) (performed-writes s x)
@@ -108,7 +108,7 @@ module _ (s : ClusterState) (x : Work) (o : IsOrdered s.graph) (here : performer
       subst (λ qs. at (gain s.processors qs) c.cause <ℤ pos 0) (sym (performed-writes s x))
       (loses (IsStrictlyBefore s.graph) (irreflexive s.graph) s.processors (performer x) here (written s x) (come s x) c.cause c.later c.grows less)
 
-  -- the change that the step adds to the truth is upright, with the tokens that the performer keeps
+  -- the change that the step adds to the truth is upright, given the tokens that the performer keeps
   upright_step : IsUpright (IsStrictlyBefore s.graph) (KeepsToken (processor s (performer x)) (processor (done s x) (performer x))) (at (gain s.processors (performed s x)))
   upright_step =
       let H : Pointstamp → Type 0 = KeepsToken (processor s (performer x)) (processor (done s x) (performer x)) in

@@ -43,7 +43,7 @@ upright_wider R H K f more up x h =
     (y, r, elim why [ inl low ↦ inl low | inr held ↦ inr (more y held) ])
 
 module _ {P : Type 0} (R : P → P → Type 0) (o : IsStrictOrder R) (H K : P → Type 0) (f g : P → ℤ) (moved : (y : P) → H y → K y ⊎ (g y <ℤ pos 0)) where
-  -- an earlier point at which one of the two is negative, or which is held, is support, or leads to some
+  -- an earlier point at which one of the two is negative, or which is held, is support, or leads to support
   settled : (x y : P) → R y x → (f y <ℤ pos 0) ⊎ ((g y <ℤ pos 0) ⊎ K y)
       → ((z : P) → R z x → (pos 0 <ℤ f z) ⊎ (pos 0 <ℤ g z) → IsSupported R K (λ v. f v +ℤ g v) z)
       → IsSupported R K (λ v. f v +ℤ g v) x
@@ -68,7 +68,7 @@ module _ {P : Type 0} (R : P → P → Type 0) (o : IsStrictOrder R) (H K : P �
       let (y, r, why) = ug x h in
       settled x y r (elim why [ inl low ↦ inr (inl low) | inr held ↦ elim (moved y held) [ inl k ↦ inr (inr k) | inr low ↦ inr (inl low) ] ]) earlier
 
-  -- the sum of two upright functions is upright, though what is held moves from H to K by the second
+  -- the sum of two upright functions is upright, even if the second changes what is held from H to K
   pub upright_sum : IsFinite f → IsFinite g → IsUpright R H f → IsUpright R H g → IsUpright R K (λ v. f v +ℤ g v)
   upright_sum (s, hs) (t, ht) uf ug x h =
       let Q : P → Type 0 = λ y. (pos 0 <ℤ f y) ⊎ (pos 0 <ℤ g y) in
@@ -80,7 +80,7 @@ module _ {P : Type 0} (R : P → P → Type 0) (o : IsStrictOrder R) (H K : P �
       (one_step uf ug) x
       (by_lt_z (pos 0) (f x) (λ p. inl p) (λ p. inr (omega (arith, ints))))
 
--- the sum over the processors is upright, with what any of them holds
+-- the sum over the processors is upright, given what any of them holds
 pub upright_total : {P : Type 0} (R : P → P → Type 0) → IsStrictOrder R → (H : ℕ → P → Type 0) (n : ℕ) (f : ℕ → P → ℤ)
     → ((p : ℕ) → IsFinite (f p)) → ((p : ℕ) → p < n → IsUpright R (H p) (f p))
     → IsUpright R (λ y. (p : ℕ) × (p < n) × H p y) (λ x. total n (λ p. f p x))
