@@ -1,4 +1,4 @@
--- What the text of a state lists, step by step.
+-- The lists in the text of a state, built step by step.
 use Rattle.std.proofs.Common.{◌≡◌, ◌<◌, ◌≤◌, ◌+◌, ℕ, zero, suc, ℤ, List, [], ◌∷◌, ◌++◌, map, take, length, get_or, refl, sym, ap, ◌∙◌, arith}
 use Rattle.std.proofs.lemmas.List.{map-append, take_more, length-take-le, append-nil}
 use Rattle.std.proofs.lemmas.Grind.{flat_map-append}
@@ -49,7 +49,7 @@ flat_alike : {X Y : Type 0} (f h : X → List Y) → ((x : X) → f x ≡ h x) �
 flat_alike f h e [] = refl
 flat_alike f h e (x ∷ xs) = λ i. e x i ++ flat_alike f h e xs i
 
--- the items of all vertices are those that are shown
+-- the items of all vertices are those in the text
 pub items_shown : (g : Dataflow) (q : ProcessorState) → map (λ e. item_data g e.0 (e.1, e.2)) (flat_map item_of_vertex (enumerate_from 0 q.items)) ≡ items_data g q
 items_shown g q =
     mapped_flat (λ (e : ℕ × ItemKey × ℤ). item_data g e.0 (e.1, e.2)) item_of_vertex (enumerate_from 0 q.items)
@@ -58,7 +58,7 @@ items_shown g q =
 
 -- ---- a processor
 
--- the members of a processor are those of its maps' entries
+-- the members of a processor's object are the entries of its maps
 pub processor_shown : (g : Dataflow) (q : ProcessorState) (view : DeltaValue) (items : List (ℕ × ItemKey × ℤ)) (records : List (ValueAt × ℕ)) (requests : List (Pointstamp × Unit {0})) (sinks : List (SinkKey × ℕ)) (tokens : List (ℕ × ℕ)) (unsent known : List (Pointstamp × ℤ))
     → items ≡ flat_map item_of_vertex (enumerate_from 0 q.items) → records ≡ entries q.records → requests ≡ fin.entries q.requests → sinks ≡ entries q.sinks → tokens ≡ fin.entries q.tokens → unsent ≡ listed q.unsent → known ≡ listed view
     → processor_members (row (map (λ e. item_data g e.0 (e.1, e.2)) items)) (row (map (record_data g) records)) (row (map (λ e. point_data g e.0) requests)) (row (map (sink_data g) sinks)) (row (map (token_data g) tokens)) (row (map (entry_data g) unsent)) (row (map (entry_data g) known))
@@ -70,7 +70,7 @@ processor_shown g q view items records requests sinks tokens unsent known a b r 
     = ap (map (λ (e : Pointstamp × Unit {0}). point_data g e.0)) r ∙ sym (mapped_twice (point_data g) (λ (e : Pointstamp × Unit {0}). e.0) (fin.entries q.requests)) in
     λ i. processor_members (row (all i)) (row (map (record_data g) (b i))) (row (asked i)) (row (map (sink_data g) (s i))) (row (map (token_data g) (t i))) (row (map (entry_data g) (u i))) (row (map (entry_data g) (k i)))
 
--- ---- the whole
+-- ---- the complete state
 
 zip_mapped : {X Y Z W : Type 0} (f : X × Z → W) (h : Y → Z) (xs : List X) (ys : List Y) → map f (zip xs (map h ys)) ≡ map (λ e. f (e.0, h e.1)) (zip xs ys)
 zip_mapped f h [] ys = refl
