@@ -1,4 +1,4 @@
--- Whether something is held at or before a pointstamp, by the entries of what is held.
+-- Whether something is held at or before a pointstamp, from the entries of what is held.
 use Rattle.std.proofs.Common.{◌≡◌, ◌≢◌, ◌<◌, ◌≤◌, ◌+◌, ℕ, zero, suc, pos, Bool, true, false, cond, List, [], ◌∷◌, length, get_or, sum_by, refl, ap, sym, subst, ◌∙◌, arith}
 use Rattle.std.proofs.Common.{◌⊎◌, inl, inr, true≢false}
 use Rattle.std.specs.Prelude.{All, ◌↔◌, ◌||◌, IsTrue}
@@ -25,14 +25,14 @@ use Rattle.nd_protocol.specs.TruthLaws.{truth-count}
 use Rattle.nd_why.specs.Why.{HasBefore, RecordBefore, RequestBefore, TokenBefore}
 
 module _ (g : Dataflow) (strictly : Bool) (t : Pointstamp) {E : Type 0} (point : E → Pointstamp) (number : E → ℕ) where
-  -- how much of these entries is at a pointstamp
+  -- the number that these entries have at a pointstamp
   abbrev pub listed : List E → Pointstamp → ℕ
   listed es x = sum_by (λ e. cond (is_point x (point e)) (number e) 0) es
 
   abbrev IsEarly : E → Type 0
   IsEarly e = IsBefore g strictly (point e) t
 
-  -- an entry before t has something
+  -- if an entry is before t, something is held before t
   pub has_some : (es : List E) → All (λ e. number e ≢ 0) es → Any IsEarly es → HasBefore g strictly t (listed es)
   has_some es some found =
       let k = found.0 in
@@ -56,7 +56,7 @@ module _ (g : Dataflow) (strictly : Bool) (t : Pointstamp) {E : Type 0} (point :
       by true is sum rest = (0, e, omega arith, refl, subst (λ y. IsBefore g strictly y t) (tells_apart point_exact x (point e) is) could)
       by false is sum rest = later e es (rest (omega (arith, some, sum)))
 
-  -- and where there is something before t an entry is
+  -- if something is held before t, an entry is before t
   pub some_has : (es : List E) → HasBefore g strictly t (listed es) → Any IsEarly es
   some_has es h = found_at es h.point h.before h.some
 
@@ -70,7 +70,7 @@ module _ (g : Dataflow) (strictly : Bool) (t : Pointstamp) where
   zero_or zero h = refl
   zero_or (suc n) h = absurd (h (omega arith))
 
-  -- what one of three counts has, their sum has
+  -- if the sum of three counts has something before t, one of them has
   either : (k m n : Pointstamp → ℕ) → HasBefore g strictly t (λ x. k x + (m x + n x)) → HasBefore g strictly t k ⊎ (HasBefore g strictly t m ⊎ HasBefore g strictly t n)
   either k m n h = by (k h.point) (m h.point) refl refl
     where
@@ -101,7 +101,7 @@ module _ (g : Dataflow) (strictly : Bool) (t : Pointstamp) where
       | inr (inr n) ↦ inr (inr (some_has g strictly t (λ (e : ℕ × ℕ). token_point e.0 e.1) (λ e. 1) (fin.entries q.tokens) n))
     ]
 
-    -- three tests tell whether a processor holds something before t
+    -- three tests decide whether a processor holds something before t
     pub held_if : (a b c : Bool) → (IsTrue a ↔ RecordBefore g strictly t q) → (IsTrue b ↔ RequestBefore g strictly t q) → (IsTrue c ↔ TokenBefore g strictly t q) → IsTrue (a || b || c) ↔ HasBefore g strictly t (held q)
     held_if true b c ra rb rc = (λ e. held_by_record (ra.0 refl), λ h. refl)
     held_if false true c ra rb rc = (λ e. held_by_request (rb.0 refl), λ h. refl)

@@ -76,7 +76,7 @@ module _ {K : Type 0} {R : K → K → Ordering} (o : IsTotalOrder R) (tells : I
       let e : K × ℕ = get_or (entries m) k d in
       no_zero e.0 (ap (find R e.0) (sym kept_all) ∙ find-index R o (entries m) k d (entries_listed m) lt ∙ ap Some none)
 
--- ---- a list that comes to 0 is empty
+-- ---- a list whose sum is 0 is empty
 
 none_if : (b point : Pointstamp) (h : Held) → amount h ≢ 0 → sum_by amount (if_at b point h) ≡ 0 → if_at b point h ≡ []
 none_if b point h some = elim (is_point b point) as (λ c. sum_by amount (cond c (h ∷ []) []) ≡ 0 → cond c (h ∷ []) [] ≡ []) [

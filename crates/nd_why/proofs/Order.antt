@@ -1,4 +1,4 @@
--- At or before a positive pointstamp of a view there is one on its frontier.
+-- Each positive pointstamp of a view has one of its frontier at or before it.
 use Rattle.std.proofs.Common.{◌≡◌, ◌≢◌, ◌<◌, ◌⊎◌, ℕ, zero, suc, ℤ, pos, Bool, true, false, List, ◌∷◌, length, get_or, Option, Some, None, inl, inr, ap, sym, subst, ◌∙◌, arith}
 use Rattle.std.specs.Prelude.{◌<ℤ◌, Contains, slice_index_or}
 use Rattle.std.proofs.lemmas.List.{get_or-map, length-map}
@@ -15,7 +15,7 @@ use Rattle.nd_view.specs.Kept.{Kept, IsKeptAt, IsFor}
 use Rattle.nd_view.specs.View.{IsBefore, IsCount, IsOnFrontier, IsPrecursor}
 use Rattle.nd_map.specs.Cases.{not_zero}
 
--- what the order of an accepted graph is, as the paths tell it
+-- the order of an accepted graph, as its paths give it
 pub record IsOrder (g : Dataflow) : Type 0 where
   pub reflexive : (s : Pointstamp) → Fits g s → CouldResultIn g s s
   pub transitive : (s t u : Pointstamp) → CouldResultIn g s t → CouldResultIn g t u → CouldResultIn g s u
@@ -61,7 +61,7 @@ module _ (g : Dataflow) (order : IsOrder g) (m : DeltaValue) where
             get_or-map (λ e. e.0) (entries f) place.index (z, at f z) z place.in_range ∙ place.is,
           )
 
--- one on the frontier, which is x or strictly before it
+-- a point of the frontier that is x or strictly before it
 pub record HasFrontierBefore (g : Dataflow) (m : DeltaValue) (x : Pointstamp) : Type 0 where
   pub point : Pointstamp
   pub frontier : IsOnFrontier g m point
@@ -76,18 +76,18 @@ frontier_before g order v kept x positive = by (find point_cmp x v.counts) (kept
         let (y, on, near) = frontier_by g order v.map x n here.0 here.1 in
         record { point = y; frontier = on; near = near }
 
--- what is before t fits the graph
+-- a point before t fits the graph
 pub fits_before : (g : Dataflow) (strictly : Bool) (x t : Pointstamp) → IsBefore g strictly x t → Fits g x
 fits_before g true x t h = h.0.fits_s
 fits_before g false x t h = h.fits_s
 
 module _ (g : Dataflow) (order : IsOrder g) where
-  -- what is near x could result in it
+  -- a point that is x or strictly before it could result in x
   pub near_could : (y x : Pointstamp) → Fits g x → (y ≡ x) ⊎ IsStrictlyBefore g y x → CouldResultIn g y x
   near_could y x fits (inl same) = subst (λ z. CouldResultIn g z x) (sym same) (order.reflexive x fits)
   near_could y x fits (inr less) = less.0
 
-  -- and is before all that x is before
+  -- and is before everything that x is before
   pub near_before : (strictly : Bool) (y x t : Pointstamp) → (y ≡ x) ⊎ IsStrictlyBefore g y x → IsBefore g strictly x t → IsBefore g strictly y t
   near_before strictly y x t (inl same) h = subst (λ z. IsBefore g strictly z t) (sym same) h
   near_before true y x t (inr less) h = order.strict y x t less h

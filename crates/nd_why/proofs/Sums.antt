@@ -1,4 +1,4 @@
--- What is held adds up to the truth, and what was not heard to what is pending.
+-- What is held adds up to the truth, and the updates not received to what is pending.
 use Rattle.std.proofs.Common.{◌≡◌, ◌≤◌, ◌<◌, ◌+◌, ℕ, zero, suc, ℤ, pos, negsuc, ◌+ℤ◌, true, false, cond, List, [], ◌∷◌, ◌++◌, length, take, get_or, sum_by, refl, ap, sym, ◌∙◌, arith}
 use Rattle.std.proofs.lemmas.Int.{ints}
 use Rattle.std.proofs.lemmas.List.{take_all}
@@ -48,7 +48,7 @@ held_amount p r b =
     ∙ ap (λ n. sum_by amount (records_at p r b) + n) (sum_by-append amount (requests_at p r b) (tokens_at p r b))
     ∙ (λ i. records_amount p r b i + (requests_amount p r b i + tokens_amount p r b i))
 
--- the first n processors
+-- what the first n processors hold
 first_amount : (ps : List ProcessorState) (b : Pointstamp) (n : ℕ) → n ≤ length ps → sum_by amount (in_turn n (λ p. held_by p (get_or ps p idle) b)) ≡ sum_by (λ r. held r b) (take n ps)
 first_amount ps b zero le = refl
 first_amount ps b (suc n) le =
@@ -66,7 +66,7 @@ counted_at s q b =
     truth-count s.processors b
     ∙ ap pos (sym (first_amount s.processors b n (omega arith) ∙ ap (sum_by (λ r. held r b)) (take_all n s.processors (omega arith))))
 
--- ---- what was not heard
+-- ---- the updates not received
 
 pub news-append : (us ws : List Unheard) → news (us ++ ws) ≡ news us +ℤ news ws
 news-append [] ws = omega (arith, ints)
@@ -89,7 +89,7 @@ at-sum_of-last (d ∷ cs) c b =
     let rest = at-sum_of-last cs c b in
     omega (arith, ints, e, f, rest)
 
--- the first n changes
+-- the updates in the first n changes
 first_changes : (cs : List DeltaValue) (b : Pointstamp) (n : ℕ) → n ≤ length cs → total n (λ k. at (get_or cs k none) b) ≡ at (sum_of (take n cs)) b
 first_changes cs b zero le = sym (at-none b)
 first_changes cs b (suc n) le =
@@ -110,10 +110,10 @@ news-from p unsent cs b =
     let both = at-plus (sum_of cs) unsent b in
     omega (arith, ints, first, own, rest, both)
 
--- what was not heard is what is pending
+-- the updates not received are what is pending
 news_pending : (s : ClusterState) (q : ℕ) (b : Pointstamp) → news (unheard_at s.processors s.queues q b) ≡ total (length s.processors) (λ p. at (pending s p q 0) b)
 news_pending s q b = news-in_turn (λ p. unheard_from p (processor s p).unsent (queue s p q) b) (λ p. at (pending s p q 0) b) (λ p. news-from p (processor s p).unsent (queue s p q) b) (length s.processors)
 
--- the view and what was not heard are what is held
+-- the view plus the updates not received is what is held
 pub balanced_at : (s : ClusterState) → IsSettled s → (q : ℕ) → q < length s.processors → (b : Pointstamp) → IsBalanced (account s q b)
 balanced_at s settled q lt b = ap (λ z. at (view s q) b +ℤ z) (news_pending s q b) ∙ sym (settled.balance q lt b) ∙ counted_at s q b

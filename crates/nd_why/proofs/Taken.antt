@@ -15,7 +15,7 @@ use Rattle.nd_map.specs.Cases.{not_zero}
 pub within_limit : (m : DeltaValue) (i : ℕ) (x : Pointstamp × ℤ) → IsWithin m → i < length (entries m) → x ≡ get_or (entries m) i x → unsigned_abs x.1 ≤ max_count
 within_limit m i x within lt is = subst (λ z. unsigned_abs z ≤ max_count) (sym (at-index m i x lt is)) (within x.0)
 
--- what holds of the new number, if x is b, and else of the old one
+-- P holds of the new number if x is b, and otherwise of the old one
 by_point : (P : ℤ → Type 0) (x b : Pointstamp) (n z : ℤ) → (x ≡ b → P n) → P z → P (cond (is_point x b) n z)
 by_point P x b n z here there =
     elim (is_point x b) as (λ c. is_point x b ≡ c → P (cond c n z)) [
@@ -24,11 +24,11 @@ by_point P x b n z here there =
     ] refl
 
 module _ (g : Dataflow) (strictly : Bool) (t : Pointstamp) (f : DeltaValue) where
-  -- x has its number, if it is before t
+  -- x has its number if it is before t
   abbrev Gets : DeltaValue → Pointstamp → Type 0
   Gets taken x = IsBefore g strictly x t → at taken x ≡ at f x
 
-  -- of the first i pointstamps of f those before t were taken, and no others
+  -- among the first i pointstamps of f exactly those before t were taken
   pub record IsTaken (taken : DeltaValue) (i : ℕ) : Type 0 where
     pub same : (x : Pointstamp) → at taken x ≢ pos 0 → at taken x ≡ at f x
     pub before : (x : Pointstamp) → at taken x ≢ pos 0 → IsBefore g strictly x t
@@ -55,7 +55,7 @@ module _ (g : Dataflow) (strictly : Bool) (t : Pointstamp) (f : DeltaValue) wher
             subst (λ z. z ≡ at f y) (value y) (by_point (λ z. z ≡ at f y) y x.0 x.1 (at taken y) (λ e. number ∙ ap (at f) (sym e)) (h.all k less d c)));
       }
 
-  -- once all were looked at, what was taken is the part of the view at its reasons
+  -- after all were visited, what was taken is the part of the view at its reasons
   pub taken_all : (v taken : DeltaValue) (i : ℕ) → length (entries f) ≤ i → IsPartWhere (IsOnFrontier g v) v f → IsTaken taken i → IsPartWhere (IsReason g v strictly t) v taken
   taken_all v taken i past part h = record {
     all = λ x reason.

@@ -1,4 +1,4 @@
--- What a loop has put into a list, turn by turn.
+-- What a loop has appended to a list, turn by turn.
 use Rattle.std.proofs.Common.{◌≡◌, ◌<◌, ◌+◌, ℕ, List, [], ◌∷◌, ◌++◌, ℤ, length, take, get_or, map, ap, sym, ◌∙◌, append_assoc, add-one, arith, ◌≤◌, w64, to_z, of_z, unsigned_abs}
 use Rattle.std.proofs.lemmas.Int.{to_z-of_z, fits_signed_from_abs}
 use Rattle.std.proofs.lemmas.List.{take_more, map-append}
@@ -12,22 +12,22 @@ use Rattle.nd_why.specs.declared.answer.Held.{Held}
 use Rattle.nd_why.specs.declared.answer.Unheard.{Unheard}
 use Rattle.nd_why.specs.declared.answer.Unheard.TheVariants.{Unsent}
 
--- an integer within the limit, as the code keeps it
+-- an integer within the limit, as the code stores it
 pub small : (z : ℤ) → unsigned_abs z ≤ max_count → to_z w64 (of_z w64 z) ≡ z
 small z fits = to_z-of_z w64 z (fits_signed_from_abs w64 z (omega (arith, fits)))
 
 module _ {Y : Type 0} (old before new : List Y) where
-  -- the turn n of those that are counted
+  -- turn n of a counted loop
   pub turn_more : (one : List Y) (n : ℕ) (f : ℕ → List Y) → before ≡ old ++ in_turn n f → new ≡ before ++ one → one ≡ f n → new ≡ old ++ in_turn (n + 1) f
   turn_more one n f is more here = more ∙ (λ i. is i ++ here i) ∙ append_assoc old (in_turn n f) (f n) ∙ ap (λ k. old ++ in_turn k f) (sym (add-one n))
 
   module _ {X : Type 0} (f : X → List Y) (xs : List X) where
-    -- the turn of the first item that an iterator has left
+    -- the turn for the first item that an iterator has left
     pub left_more : (all : List Y) (x : X) (rest : List X) → xs ≡ x ∷ rest → before ++ flat_map f xs ≡ all → new ≡ before ++ f x → new ++ flat_map f rest ≡ all
     left_more all x rest step is more =
         ap (λ ys. ys ++ flat_map f rest) more ∙ append_assoc before (f x) (flat_map f rest) ∙ ap (λ ys. before ++ flat_map f ys) (sym step) ∙ is
 
--- the turn of the item at an index, in a list of one for each
+-- the turn for the item at an index, in a list with one element per item
 pub map_more : {X Y : Type 0} (f : X → Y) (xs : List X) (i : ℕ) (x : X) → i < length xs → x ≡ get_or xs i x → (before new : List Y) (y : Y) → before ≡ map f (take i xs) → new ≡ before ++ y ∷ [] → y ≡ f x → new ≡ map f (take (i + 1) xs)
 map_more f xs i x lt at before new y is more here =
     more ∙ (λ k. is k ++ (here ∙ ap f at) k ∷ []) ∙ sym (ap (map f) (take_more xs i x lt) ∙ map-append f (take i xs) (get_or xs i x ∷ []))

@@ -1,4 +1,4 @@
--- What the accounts of the reasons tell.
+-- What the accounts of the reasons say.
 use Rattle.std.proofs.Common.{◌≡◌, ◌≢◌, ◌<◌, ℕ, ℤ, pos, Bool, true, false, List, [], ◌∷◌, map, length, get_or, refl, ap, sym, subst, ◌∙◌, arith}
 use Rattle.std.specs.Prelude.{All, Contains, ◌↔◌, ◌<ℤ◌}
 use Rattle.std.proofs.lemmas.List.{get_or-map, length-map}
@@ -25,7 +25,7 @@ seen g ps vs m state kept q lt v is =
     let short : q < length vs = omega (arith, lt, state.fits.each_view, length-map vs (λ (k : Kept). k.map)) in
     (sym (maps-get vs q v none short is), subst (IsFor g) (sym is) (kept q v short))
 
--- what the parts tell is the account of each reason
+-- the accounts that are computed from the parts are those of the reasons
 pub whole_of : (s : ClusterState) (strictly : Bool) (q : ℕ) (t : Pointstamp) (known : DeltaValue) → known ≡ view s q → (points : DeltaValue) → IsPartWhere (IsReason s.graph known strictly t) known points → (accounts : List Account)
     → accounts ≡ map (λ e. account_of s.processors s.queues q known e.0) (entries points) → IsWhyBefore s strictly q t accounts
 whole_of s strictly q t known is points part accounts told = (
@@ -35,7 +35,7 @@ whole_of s strictly q t known is points part accounts told = (
 )
 
 module _ (s : ClusterState) (strictly : Bool) (q : ℕ) (t : Pointstamp) (accounts : List Account) (why : IsWhyBefore s strictly q t accounts) where
-  -- what holds of the account of each reason
+  -- a property of the account of each reason holds of all accounts
   pub each_account : (P : Account → Type 0) → ((b : Pointstamp) → IsReason s.graph (view s q) strictly t b → P (account s q b)) → All P accounts
   each_account P holds =
       subst (All P) (sym why.2) (All-map P (λ e. account s q e.0) (entries why.0) (λ k d lt.
