@@ -1,4 +1,4 @@
--- When two keys are one, and two places: those of one processor's map when their keys are.
+-- When two keys, and two places, are equal: places of one processor's map are equal if their keys are.
 use Rattle.std.proofs.Common.{◌≡◌, ◌≢◌, ℕ, true, false, refl, sym, ap, ◌∙◌, true≢false}
 use Rattle.std.proofs.lemmas.Cmp.{tied_itself, nat_cmp_total}
 use Rattle.std.proofs.lemmas.Map.Views.{tells_apart}
@@ -17,7 +17,7 @@ use Rattle.nd_processor.specs.declared.key.SinkKey.{SinkKey}
 use Rattle.nd_steps.specs.Places.{Place, place_at, place_total, place_exact, is_place}
 use Rattle.nd_steps.specs.declared.slot.Slot.TheVariants.{Records, Request, Token, State, Sink, Unsent}
 
--- ---- keys that compare alike or not
+-- ---- keys that compare as equal or not
 
 pub same_key : {K : Type 0} {R : K → K → Ordering} (o : IsTotalOrder R) → (k : K) → eq_by_cmp R k k ≡ true
 same_key o k = ap is_eq (tied_itself o k)

@@ -1,4 +1,4 @@
--- What changes of the processors change is what the definition of an effect says of the states before and after.
+-- The effect of changes on the processors is what the definition of an effect says of the states before and after.
 use Rattle.std.proofs.Common.{◌≡◌, ◌≢◌, ◌<◌, ◌≤◌, ◌+◌, ℕ, zero, suc, ℤ, pos, ◌+ℤ◌, true, cond, List, [], ◌∷◌, ◌++◌, Option, Some, None, is_some, map, length, get_or, refl, sym, ap, subst, ◌∙◌, arith}
 use Rattle.std.proofs.lemmas.Int.{ints}
 use Rattle.std.proofs.lemmas.List.{append-nil}
@@ -34,7 +34,7 @@ use Rattle.nd_steps.proofs.NamedLemmas.{fits_first, once, some, gains, listed, k
 
 -- ---- one processor
 
--- what is read of a list within its length is the same for any default
+-- reading a list within its length gives the same for any default
 pub default_free : {X : Type 0} (xs : List X) (i : ℕ) (d e : X) → i < length xs → get_or xs i d ≡ get_or xs i e
 default_free [] i d e lt = absurd (omega (arith, lt))
 default_free (x ∷ xs) zero d e lt = refl
@@ -42,7 +42,7 @@ default_free (x ∷ xs) (suc i) d e lt = default_free xs i d e (omega (arith, lt
 
 -- ---- one change
 
--- a request that was there goes, and one that was not comes
+-- a request that was there is removed, and one that was not is added
 flipped : (x y : Option (Unit {0})) (n : ℤ) → from_request y ≡ from_request x +ℤ n → n ≢ pos 0 → not (is_some x) ≡ is_some y
 flipped None None n e some = absurd (some (omega (arith, ints, e)))
 flipped None (Some _) n e some = refl
@@ -65,7 +65,7 @@ one_change s t p (State vertex key) n some e = ap (λ z. record nothing { items 
 one_change s t p (Sink key) n some e = ap (λ z. record nothing { sinks = altered p key (at (processor s p).sinks key) (natural z) }) (sym e)
 one_change s t p (Unsent x) n some e = ap (λ z. record nothing { unsent = altered p x (in_change (processor s p).unsent x) z }) (sym e)
 
--- ---- a list of them
+-- ---- a list of changes
 
 module _ (s t : ClusterState) where
   one_more : (k : Place) (ks : List Place) → beside (effect_at s t (k ∷ []) []) (effect_at s t ks []) ≡ effect_at s t (k ∷ ks) []
@@ -87,7 +87,7 @@ module _ (s t : ClusterState) where
       (λ i. beside (one_change s t c.p c.slot c.n some.0 gains.0 i) (all_changes cs some.1 gains.1 i))
       ∙ one_more (place_of c) (map place_of cs)
 
-  -- ---- queues that stay
+  -- ---- queues that do not change
 
   none_joined : {X : Type 0} (n : ℕ) (f : ℕ → List X) → ((k : ℕ) → f k ≡ []) → joined_below n f ≡ []
   none_joined zero f h = refl
@@ -116,14 +116,14 @@ module _ (s t : ClusterState) (cs ds : List Change) (runs : RunsTo s cs t) (exac
   few : length cs ≤ size (difference s t)
   few = let none = queues_same s t kept_queues in omega (arith, exact, none)
 
-  -- each can be made in the processors as they are before all of them
+  -- each can be applied to the processors as they are before all of them
   pub can_be_made : Each (Fits (only s.processors)) ds
   can_be_made =
       each_moved (Fits (only s.processors)) cs ds same_ones
       (each_through (Fits s) (Fits (only s.processors)) (λ c h. record { owner = h.owner; inside = h.inside }) cs
       (fits_first s cs runs.0 (λ k. subst (λ n. n ≤ 1) (often_moved k cs ds same_ones) (once s t cs ds moves few same_ones rising k))))
 
-  -- what they change is the effect
+  -- their effect is that of the step
   pub effect_is : altered_by s.processors ds ≡ effect_of s t
   unfolding effect_of
   effect_is =

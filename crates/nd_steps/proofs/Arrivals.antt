@@ -1,4 +1,4 @@
--- Records that come to their processors: what they make of the cluster's processors, and what their edits add.
+-- Records that arrive at their processors: the processors afterwards, and what the edits of the records add.
 use Rattle.std.proofs.Common.{◌≡◌, inl, inr, ℕ, ◌+◌, ◌<◌, ℤ, pos, ◌+ℤ◌, Bool, true, false, cond, List, [], ◌∷◌, map, length, refl, sym, ap, subst, ◌∙◌, arith, length-set, get_or-set_same, get_or-set_other}
 use Rattle.std.proofs.lemmas.Int.{ints}
 use Rattle.std.proofs.lemmas.Bool.{cases_eq}
@@ -22,12 +22,12 @@ use Rattle.nd_steps.specs.Places.{is_place}
 use Rattle.nd_steps.proofs.AlikeLemmas.{other_place, record-test, unsent-test}
 use Rattle.nd_steps.proofs.SumsOfSteps.{owner, apart_of, total_at-append, total_at-map_apart}
 
--- each goes to one of n processors
+-- each record goes to one of n processors
 abbrev pub AreTo : ℕ → List (ℕ × ValueAt) → Type 0
 AreTo n [] = Unit {0}
 AreTo n (r ∷ rs) = (r.0 < n) × AreTo n rs
 
--- how many come to a key of processor q, and how many to a pointstamp
+-- how many arrive at a key of processor q; the next is how many arrive at a pointstamp
 abbrev pub comes : List (ℕ × ValueAt) → ℕ → ValueAt → ℕ
 comes [] q key = 0
 comes (r ∷ rs) q key = cond (is_place (place_at q (Records key)) (place_at r.0 (Records r.1))) 1 0 + comes rs q key

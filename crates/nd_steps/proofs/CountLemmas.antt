@@ -1,4 +1,4 @@
--- As many elements as the states differ in.
+-- The effect has as many elements as there are keys and queues at which the states differ.
 use Rattle.std.proofs.Common.{◌≡◌, ◌+◌, ℕ, zero, suc, Bool, true, false, cond, List, [], ◌∷◌, length, refl, ◌∙◌, arith, length-append}
 use Rattle.std.proofs.lemmas.List.{length-map}
 use Rattle.std.specs.Ordering.{eq_by_cmp}
@@ -10,7 +10,7 @@ use Rattle.nd_steps.specs.declared.slot.Slot.TheVariants.{Records, Request, Toke
 use Rattle.nd_steps.specs.declared.effect.Altered.{Altered}
 use Rattle.nd_steps.specs.Effect.{joined_below, queue_at, queues_altered, places_altered, effect_at, effect_of, altered_count}
 
--- one in some list for each place
+-- one element in some list for each place
 one_each : (s t : ClusterState) (ks : List Place) (qs : List (Altered ℕ ℕ)) → altered_count (effect_at s t ks qs) ≡ length ks + length qs
 one_each s t [] qs = omega arith
 one_each s t (place_at p (Records key) ∷ ks) qs = let e = one_each s t ks qs in omega (arith, e)

@@ -1,8 +1,8 @@
--- At how many keys and queues a cluster differs from what a broadcast or a receive makes of it: at a key for each entry of the change,
--- and at the queues that the change goes into or comes from.
---     queues_same          the same queues
---     sent_changed         a change that is sent
---     received_changed     a change that is received
+-- At how many keys and queues a broadcast or a receive changes a cluster: at one key for each entry of the change, and at the
+-- queues that the change enters or leaves.
+--     queues_same          the queues are unchanged
+--     sent_changed         a broadcast
+--     received_changed     a receive
 use Rattle.std.proofs.Common.{◌≡◌, ◌≢◌, ◌<◌, ◌+◌, ℕ, ℤ, neg_ℤ, ◌+ℤ◌, ◌-ℤ◌, List, [], ◌∷◌, ◌++◌, Some, map, length, get_or, set, refl, sym, ap, subst, ◌∙◌, arith, true≢false, length-append, get_or-set_same, get_or-set_other}
 use Rattle.std.proofs.Math.ListN.{get_or-map}
 use Rattle.std.proofs.lemmas.Int.{ints}
@@ -26,14 +26,14 @@ use Rattle.nd_steps.specs.Places.{is_place}
 use Rattle.nd_steps.proofs.AlikeLemmas.{place_itself}
 use Rattle.nd_steps.proofs.Differences.{of_one_map, IsNone, keys_changed, alike_queues, unlike_queues, none_below, each_below, one_below}
 
--- the same queues
+-- ---- the queues are unchanged
 pub queues_same : (s t : ClusterState) → t.queues ≡ s.queues → queues_changed s t ≡ 0
 unfolding queues_changed
 queues_same s t e =
     none_below (length s.processors) _ (λ p lt. none_below (length s.processors) _ (λ q below.
     alike_queues (queue s p q) (queue t p q) (ap (λ (rows : List (List (List DeltaValue))). get_or (get_or rows p []) q []) e)))
 
--- ---- a change that is sent
+-- ---- a broadcast
 
 module _ (s : ClusterState) (p : ℕ) (c : DeltaValue) (fits : KeysFit s) (here : p < length s.processors) where
   abbrev after : ProcessorState
@@ -87,11 +87,11 @@ module _ (s : ClusterState) (p : ℕ) (c : DeltaValue) (fits : KeysFit s) (here 
       one_more : (cs : List DeltaValue) → length cs ≡ length (cs ++ c ∷ []) → ⊥
       one_more cs e = let l = length-append cs (c ∷ []) in omega (arith, e, l)
 
--- a change that is sent: a key for each of its entries, and each queue from its sender
+-- a broadcast changes one key for each entry that is sent, and each queue from the sender
 pub sent_changed : (s : ClusterState) (p : ℕ) (c : DeltaValue) → KeysFit s → p < length s.processors → IsPart c (processor s p).unsent → changed s (sent s p c) ≡ size c + length s.processors
 sent_changed s p c fits here _ = λ i. sent_keys s p c fits here i + sent_queues s p c fits here i
 
--- ---- a change that is received
+-- ---- a receive
 
 module _ (s : ClusterState) (p q : ℕ) (c : DeltaValue) (rest : List DeltaValue) (fits : KeysFit s) (here : p < length s.processors) (there : q < length s.processors) where
   abbrev then_state : ClusterState
@@ -139,7 +139,7 @@ module _ (s : ClusterState) (p q : ℕ) (c : DeltaValue) (rest : List DeltaValue
       one_less : length (c ∷ rest) ≡ length rest → ⊥
       one_less e = omega (arith, e)
 
--- a change that is received: a key for each of its entries, and the queue that it comes from
+-- a receive changes one key for each entry that is received, and the queue from which the change comes
 pub received_changed : (s : ClusterState) (from to : ℕ) (c : DeltaValue) → KeysFit s → from < length s.processors → to < length s.processors → slice_get (queue s from to) 0 ≡ Some c → changed s (received s from to) ≡ size c + 1
 unfolding received
 received_changed s from to c fits here there first = by_front (queue s from to) refl first

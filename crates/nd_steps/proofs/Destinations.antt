@@ -1,4 +1,4 @@
--- Each record that a step makes goes to a processor that there is.
+-- Each record that a step makes goes to a processor that exists.
 use Rattle.std.proofs.Common.{ℕ, ◌+◌, ◌<◌, ℤ, pos, negsuc, Bool, true, false, cond, ◌&&◌, List, [], ◌∷◌, ◌++◌, length, flat_map, unsigned_abs, nat_eq, mod-lt, arith}
 use Rattle.std.specs.Int.{int_rem_euclid}
 use Rattle.nd_time.specs.Time.{Time}

@@ -1,4 +1,5 @@
--- At how many places and queues two states differ: at one place for each entry of a change that one of them has more there, and at each queue that is longer or shorter.
+-- At how many places and queues two states differ: at one place for each entry of a change that one of them has more there, and
+-- at each queue that is longer or shorter.
 --     keys_changed                       the places
 --     alike_queues, unlike_queues        one queue
 --     none_below, each_below, one_below  the sums over queues
@@ -35,11 +36,11 @@ then_equal Greater = refl
 pub of_one_map : (p : ℕ) (r : Ordering) → ordering_then (nat_cmp p p) (ordering_then r Equal) ≡ r
 of_one_map p r = ap (λ o. ordering_then o (ordering_then r Equal)) (tied_itself nat_cmp_total p) ∙ then_equal r
 
--- the pointstamp in a place's parts
+-- the pointstamp among a place's parts
 abbrev pub point_of : Place → Pointstamp
 point_of k = (parts k).1.1.0
 
--- the place is no place f x
+-- the place is not f x for any x
 abbrev pub IsNone : (Pointstamp → Place) → Place → Type 0
 IsNone f k = (x : Pointstamp) → is_place k (f x) ≡ false
 
@@ -76,7 +77,7 @@ module _ (f : Pointstamp → Place) (alike : (a b : Pointstamp) → place_cmp (f
   found_elsewhere [] k apart = refl
   found_elsewhere (e ∷ es) k apart = ap (λ b. cond b (Some (g e.1)) (find place_cmp k (at_places es))) (apart e.0) ∙ found_elsewhere es k apart
 
-  -- a place is one of them or none
+  -- a place is one of these or not
   which : (k : Place) → ((x : Pointstamp) × (k ≡ f x)) ⊎ IsNone f k
   which k = elim (is_place k (f (point_of k))) as (λ b. is_place k (f (point_of k)) ≡ b → ((x : Pointstamp) × (k ≡ f x)) ⊎ IsNone f k) [
     | true ↦ λ t. inl (point_of k, same_place k (f (point_of k)) t)
@@ -113,7 +114,7 @@ module _ (f : Pointstamp → Place) (alike : (a b : Pointstamp) → place_cmp (f
         | inr apart ↦ ap (or_else (pos 0)) (found_elsewhere (listed c) k apart) ∙ less_none (standing s k) (standing t k) (others k apart)
       ]
 
-      -- they are the difference of the states
+      -- the entries are the difference of the states
       pub entries_changed : entries (difference s t) ≡ map (λ e. (f e.0, g e.1)) (listed c)
       unfolding at_places
       entries_changed =
@@ -136,7 +137,7 @@ then_second Less b e = absurd (true≢false (sym e))
 then_second Equal b e = e
 then_second Greater b e = absurd (true≢false (sym e))
 
--- lists that compare alike are of one length
+-- lists that compare as equal have the same length
 as_long : {X : Type 0} (R : X → X → Ordering) (xs ys : List X) → eq_by_cmp (slice_cmp R) xs ys ≡ true → length xs ≡ length ys
 as_long R [] [] e = refl
 as_long R [] (y ∷ ys) e = absurd (true≢false (sym e))
@@ -159,7 +160,7 @@ unlike_queues a b apart = elim (eq_by_cmp queue_cmp a b) as (λ t. eq_by_cmp que
   | false ↦ λ e. refl
 ] refl
 
--- a sum of zeros, and one of ones
+-- a sum of zeros; the next is a sum of ones
 pub none_below : (n : ℕ) (f : ℕ → ℕ) → ((k : ℕ) → k < n → f k ≡ 0) → sum_below n f ≡ 0
 none_below zero f h = refl
 none_below (suc n) f h =
@@ -174,7 +175,7 @@ each_below (suc n) f h =
     let b = h n (omega arith) in
     omega (arith, a, b)
 
--- a sum in which one number alone is not 0
+-- a sum in which only one number is not 0
 pub one_below : (n i : ℕ) (f : ℕ → ℕ) → i < n → ((k : ℕ) → k < n → k ≢ i → f k ≡ 0) → sum_below n f ≡ f i
 one_below zero i f lt h = absurd (omega (arith, lt))
 one_below (suc n) i f lt h = elim (cases_eq i n) [

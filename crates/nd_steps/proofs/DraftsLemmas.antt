@@ -1,4 +1,4 @@
--- Changes in the order of their places, joined: they add what they did, and no place stands twice.
+-- Changes in the order of their places, joined: they add the same, and no place occurs twice.
 use Rattle.std.proofs.Common.{◌≡◌, ◌≢◌, ◌<◌, ◌≤◌, ◌+◌, ℕ, zero, suc, ℤ, pos, negsuc, ◌+ℤ◌, Bool, true, false, cond, List, [], ◌∷◌, ◌++◌, map, take, drop, drop-cons, length, get_or, append_assoc, refl, sym, ap, subst, ◌∙◌, arith, true≢false, Ordering, Less, Equal, Greater}
 use Rattle.std.specs.List.Sorted.{IsPermutation, IsSorted}
 use Rattle.std.specs.Ordering.{is_lt, is_eq, ordering_reverse}
@@ -28,7 +28,7 @@ order a b = place_cmp (place_of a) (place_of b)
 
 -- ---- lists in the order of places
 
--- each is at the place of the one before it, or after that
+-- each change is at the place of the one before it, or at a later place
 abbrev pub Rises : Change → List Change → Type 0
 Rises c [] = Unit {0}
 Rises c (d ∷ ds) = (is_lt (order d c) ≡ false) × Rises d ds
@@ -46,7 +46,7 @@ rises_as : (c d : Change) → place_of c ≡ place_of d → (ds : List Change) �
 rises_as c d e [] h = tt
 rises_as c d e (x ∷ xs) h = (ap (λ p. is_lt (place_cmp (place_of x) p)) e ∙ h.0, h.1)
 
--- what is before a change is before what is not before that change
+-- a change before d is before each change that is not before d
 pub less_on : (c d e : Change) → order c d ≡ Less → is_lt (order e d) ≡ false → order c e ≡ Less
 less_on c d e less up = elim (order d e) as (λ r. order d e ≡ r → order c e ≡ Less) [
   | Less ↦ λ r. place_total.trans (place_of c) (place_of d) (place_of e) less r
@@ -69,7 +69,7 @@ first_less c d up other = elim (order c d) as (λ r. order c d ≡ r → order c
       absurd (true≢false (sym is ∙ up))
 ] refl
 
--- a place before the first of them is none of theirs
+-- a place before the first place is not in the list
 absent : (c d : Change) (ds : List Change) → order c d ≡ Less → Rises d ds → often (place_of c) (d ∷ ds) ≡ 0
 absent c d [] less h = ap (λ r. cond (is_eq r) 1 0 + 0) less
 absent c d (e ∷ es) less h =
@@ -207,7 +207,7 @@ module _ (made all : List Change) (last change : Change) (rest left : List Chang
       ∙ ap (λ ls. made ++ joins last ls) (sym step)
       ∙ so_far
 
--- a loop's step: an item is listed
+-- a loop's step: one more item is listed
 pub item_more : (p vertex : ℕ) (items : List ItemEdit) (i : ℕ) (e : ItemEdit) → i < length items → e ≡ get_or items i e
     → (old now new : List Change) → now ≡ old ++ map (item_change p vertex) (take i items) → (c : Change) → new ≡ now ++ c ∷ [] → c ≡ item_change p vertex e
     → new ≡ old ++ map (item_change p vertex) (take (i + 1) items)
@@ -219,7 +219,7 @@ item_more p vertex items i e lt is old now new so_far c pushed so =
     ∙ ap (λ cs. old ++ cs) (sym (map-append f (take i items) (e ∷ [])))
     ∙ ap (λ es. old ++ map f es) (sym more)
 
--- ---- records that come
+-- ---- records that arrive
 
 arrivals-append : (p : ℕ) (rs ss : List (ℕ × ValueAt)) → arrivals p (rs ++ ss) ≡ arrivals p rs ++ arrivals p ss
 arrivals-append p [] ss = refl

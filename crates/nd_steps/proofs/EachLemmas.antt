@@ -1,4 +1,5 @@
--- Lists of changes: what they add at a place, what holds of each of them, the same in another order, and a place that stands in one of them.
+-- Lists of changes: what they add at a place, what holds of each of them, the same in another order, and a place that occurs in
+-- one of them.
 use Rattle.std.proofs.Common.{◌≡◌, ◌≢◌, ◌<◌, ◌+◌, ℕ, zero, suc, ℤ, pos, negsuc, neg_ℤ, ◌+ℤ◌, ◌-ℤ◌, Bool, true, false, cond, List, [], ◌∷◌, ◌++◌, take, drop, length, get_or, refl, sym, ap, subst, ◌∙◌, arith, drop-cons, true≢false}
 use Rattle.std.proofs.lemmas.Int.{ints}
 use Rattle.std.proofs.lemmas.List.{take-append-drop}
@@ -28,7 +29,7 @@ total k cs = total_at (edits_of cs) k
 
 -- ---- two lists, one after the other
 
--- how often a place stands in both
+-- how often a place occurs in both
 pub often-append : (k : Place) (cs ds : List Change) → often k (cs ++ ds) ≡ often k cs + often k ds
 often-append k [] ds = omega arith
 often-append k (c ∷ cs) ds = let e = often-append k cs ds in omega (arith, e)
@@ -63,7 +64,7 @@ pub each_through : (P Q : Change → Type 0) → ((c : Change) → P c → Q c) 
 each_through P Q imp [] h = tt
 each_through P Q imp (c ∷ cs) h = (imp c h.0, each_through P Q imp cs h.1)
 
--- a change that stands for none
+-- a change that serves as a default
 abbrev pub no_change : Change
 no_change = record { p = 0; slot = Token 0; n = pos 0 }
 
@@ -82,7 +83,7 @@ often_summed k (c ∷ cs) = ap (λ n. once_at k c + n) (often_summed k cs) ∙ s
 pub often_moved : (k : Place) (cs ds : List Change) → IsPermutation cs ds → often k ds ≡ often k cs
 often_moved k cs ds moved = often_summed k ds ∙ sum_by-IsPermutation (once_at k) cs ds moved ∙ sym (often_summed k cs)
 
--- a sum of integers is a sum of what is above 0, without that of what is below
+-- a sum of integers is the sum of the positive ones minus that of the negative ones
 abbrev up : ℤ → ℕ
 up z = natural z
 
@@ -112,7 +113,7 @@ total_moved k cs ds moved =
     ∙ (λ i. pos (sum_by-IsPermutation (λ c. up (added_at k c)) cs ds moved i) -ℤ pos (sum_by-IsPermutation (λ c. down (added_at k c)) cs ds moved i))
     ∙ sym (total_parted k cs)
 
--- ---- a place that stands once
+-- ---- a place that occurs once
 
 pub not_there : (b : Bool) (n : ℕ) → cond b 1 0 + n ≡ 0 → b ≡ false
 not_there true n e = absurd (omega (arith, e))
@@ -126,7 +127,7 @@ none_added : (b : Bool) (z w : ℤ) → b ≡ false → w ≡ pos 0 → cond b z
 none_added true z w e h = absurd (true≢false e)
 none_added false z w e h = omega (arith, ints, h)
 
--- a place that does not stand in the list has nothing added
+-- nothing is added at a place that does not occur in the list
 pub never_added : (k : Place) (cs : List Change) → often k cs ≡ 0 → total k cs ≡ pos 0
 never_added k [] e = refl
 never_added k (c ∷ cs) e =
@@ -149,7 +150,7 @@ module _ (cs : List Change) (once : Once cs) (k : ℕ) (d : Change) (lt : k < le
   often_after : often (place_of (get_or cs k d)) (drop (suc k) cs) ≡ 0
   often_after = let e = around in let h = once (place_of (get_or cs k d)) in omega (arith, e, h)
 
-  -- what is added at its place is its gain
+  -- what is added at its place is its integer
   pub gain_alone : total (place_of (get_or cs k d)) cs ≡ (get_or cs k d).n
   gain_alone =
       let c = get_or cs k d in
@@ -164,7 +165,7 @@ module _ (cs : List Change) (once : Once cs) (k : ℕ) (d : Change) (lt : k < le
       alone : (z : ℤ) → pos 0 +ℤ (z +ℤ pos 0) ≡ z
       alone z = omega (arith, ints)
 
--- a place that does not stand in the list keeps what stands at it
+-- the integer at a place that does not occur in the list stays
 pub untouched : (s : ClusterState) (cs : List Change) (k : Place) → Each (λ c. IsThere s (place_of c)) cs → often k cs ≡ 0 → standing (applied s cs) k ≡ standing s k
 unfolding applied
 untouched s [] k there none = refl
@@ -176,7 +177,7 @@ untouched s (c ∷ cs) k there none =
     (each_through (λ d. IsThere s (place_of d)) (λ d. IsThere (made s c) (place_of d)) (λ d. there_alike s (made s c) (place_of d) (shape-turned (made s c) s (shape-made s c))) cs there.1) rest
     ∙ standing-put_other s (place_of c) (standing s (place_of c) +ℤ c.n) k there.0 other
 
--- a change fits wherever the same stands at its place
+-- a change fits any state with the same integer at its place
 pub fits_moved : (s u : ClusterState) (c : Change) → SameShape u s → standing u (place_of c) ≡ standing s (place_of c) → Fits s c → Fits u c
 fits_moved s u c shape e fits =
     let there : IsThere u (place_of c) = there_alike s u (place_of c) (shape-turned u s shape) (fits.owner, fits.inside.there) in

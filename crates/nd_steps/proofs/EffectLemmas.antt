@@ -1,4 +1,4 @@
--- Effects together.
+-- Combined effects.
 use Rattle.std.proofs.Common.{◌≡◌, ◌+◌, ◌<◌, ℕ, suc, List, [], ◌∷◌, ◌++◌, map, take, drop, drop-cons, length, get_or, append_assoc, sym, ap, ◌∙◌, arith}
 use Rattle.std.proofs.lemmas.List.{append-nil, take_more, map-append}
 use Rattle.nd_processor.specs.State.{ProcessorState}
@@ -7,7 +7,7 @@ use Rattle.nd_steps.specs.Effect.{EffectValue, joined_below}
 use Rattle.nd_steps.specs.Altering.{nothing, beside, altered_at, altered_by}
 use Rattle.nd_steps.specs.declared.change.Change.{Change}
 
--- nothing more
+-- combining with the effect that changes nothing
 pub beside-nothing : (e : EffectValue) → beside e nothing ≡ e
 beside-nothing e = λ i. record {
   items = append-nil e.items i;
@@ -32,7 +32,7 @@ beside_assoc e f h = λ i. record {
   views = append_assoc e.views f.views h.views i;
 }
 
--- a loop's step: what one change does
+-- a loop's step: the effect of one change
 module _ (ps : List ProcessorState) (cs : List Change) (i : ℕ) (c : Change) (lt : i < length cs) (is : c ≡ get_or cs i c) (now new all : EffectValue) where
   pub altered_more : new ≡ beside now (altered_at (own ps c) c.p c.slot c.n) → beside now (altered_by ps (drop i cs)) ≡ all → beside new (altered_by ps (drop (i + 1) cs)) ≡ all
   altered_more more so_far =
@@ -43,13 +43,13 @@ module _ (ps : List ProcessorState) (cs : List Change) (i : ℕ) (c : Change) (l
       ∙ ap (λ ds. beside now (altered_by ps ds)) (sym step)
       ∙ so_far
 
--- a loop's step: a row for one element more
+-- a loop's step: a row for one more element
 pub row_more : {X Y : Type 0} (f : X → Y) (xs : List X) (i : ℕ) (x : X) → i < length xs → x ≡ get_or xs i x
     → (old new : List Y) (y : Y) → old ≡ map f (take i xs) → new ≡ old ++ y ∷ [] → y ≡ f x → new ≡ map f (take (i + 1) xs)
 row_more f xs i x lt is old new y so_far pushed so =
     let more : take (i + 1) xs ≡ take i xs ++ x ∷ [] = take_more xs i x lt ∙ ap (λ z. take i xs ++ z ∷ []) (sym is) in
     pushed ∙ (λ j. so_far j ++ so j ∷ []) ∙ sym (map-append f (take i xs) (x ∷ [])) ∙ ap (map f) (sym more)
 
--- one list more
+-- one more list
 pub joined_more : {X : Type 0} (n : ℕ) (f : ℕ → List X) → joined_below (n + 1) f ≡ joined_below n f ++ f n
 joined_more n f = let one : n + 1 ≡ suc n = omega arith in ap (λ k. joined_below k f) one

@@ -1,4 +1,4 @@
--- What a vertex does: the items that it keeps then, the request that it makes and the value that it counts, each by its edits.
+-- What a vertex does: its new items, the request that it makes and the value that it counts, each by its edits.
 use Rattle.std.proofs.Common.{◌≡◌, inl, inr, ℕ, ◌+◌, ◌-◌, ◌<◌, ◌≤◌, ℤ, pos, negsuc, ◌+ℤ◌, Bool, true, false, cond, ◌&&◌, is_none, Option, Some, None, List, [], ◌∷◌, length, refl, sym, ap, subst, ◌∙◌, arith, get_or-set_same, get_or-set_other}
 use Rattle.std.proofs.lemmas.Int.{ints}
 use Rattle.std.proofs.lemmas.Bool.{cases_eq}
@@ -48,7 +48,7 @@ items-apart p vertex old new k apart = total_at-map_apart (λ (e : ItemKey × �
 pub items-own : (p vertex : ℕ) (old new : Items) → AreOf p (item_edits p vertex old new)
 items-own p vertex old new = AreOf-map p (λ (e : ItemKey × ℤ). place_at p (State vertex e.0)) (λ e. e.1) (λ e. refl) _
 
--- ---- a record that goes
+-- ---- a record that is removed
 
 one_gone : (b : Bool) (n m : ℕ) (t : ℤ) → 1 ≤ n → (b ≡ true → n ≡ m) → t ≡ pos 0 → pos (cond b (natural (pos n +ℤ negsuc 0)) m) ≡ pos m +ℤ (cond b (negsuc 0) (pos 0) +ℤ t)
 one_gone true n m t h e z =
@@ -87,7 +87,7 @@ pub sinks-own : (p vertex : ℕ) (value : ℤ) (counts : Bool) → AreOf p (sink
 sinks-own p vertex value true = (refl, tt)
 sinks-own p vertex value false = tt
 
--- ---- a request that is made
+-- ---- a request that is added
 
 -- the edits of a request at y, by what was there
 abbrev made_at : ℕ → Pointstamp → Option (Unit {0}) → List Edit

@@ -1,4 +1,4 @@
--- A step adds exactly its edits, and keeps the shape of the cluster.
+-- A step adds exactly its edits, and preserves the shape of the cluster.
 use Rattle.std.proofs.Common.{◌≡◌, ℕ, ◌+ℤ◌, length, sym, ap, ◌∙◌}
 use Rattle.nd_protocol.specs.State.{ClusterState, processor}
 use Rattle.nd_protocol.specs.Steps.{stepped}
@@ -27,7 +27,7 @@ moves s (Broadcast p part) works state on = absurd works
 moves s (Receive from to) works state on = absurd works
 
 module _ {A : Type 0} (s : ClusterState) (x : Step A) (m : StepMoves s x) where
-  -- what stands at a place after a step is what stood there and what the step's edits add
+  -- the integer at a place after a step is the one before plus what the step's edits add
   pub standing-stepped : (k : Place) → standing (stepped s x) k ≡ standing s k +ℤ total_at (edits s x) k
   standing-stepped k =
       ap (λ (t : ClusterState). standing t k) m.is

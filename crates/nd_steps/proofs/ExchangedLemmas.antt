@@ -1,4 +1,4 @@
--- What a broadcast and a receive change, by the entries of the change that is sent or received.
+-- The effect of a broadcast and of a receive, from the entries of the change that is sent or received.
 use Rattle.std.proofs.Common.{◌≡◌, ◌≢◌, ◌<◌, ◌+◌, ℕ, zero, suc, ℤ, pos, neg_ℤ, ◌+ℤ◌, Bool, true, false, cond, List, [], ◌∷◌, ◌++◌, Some, map, length, get_or, get_or-set_other, refl, sym, ap, ◌∙◌, arith, inl, inr, length-append}
 use Rattle.std.proofs.lemmas.Int.{ints}
 use Rattle.std.proofs.lemmas.Bool.{cases_eq}
@@ -56,7 +56,7 @@ unlike s t from to apart =
 
 -- ---- the entries of a change
 
--- each of them is what the change has at its pointstamp
+-- each entry is what the change has at its pointstamp
 abbrev IsEntry : DeltaValue → Pointstamp × ℤ → Type 0
 IsEntry c e = (in_change c e.0 ≡ e.1) × (e.1 ≢ pos 0)
 

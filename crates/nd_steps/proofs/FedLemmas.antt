@@ -1,4 +1,4 @@
--- What a feed changes is what it adds.
+-- The changes of a feed are what it adds.
 use Rattle.std.proofs.Common.{◌≡◌, ◌<◌, ◌≤◌, ◌^◌, ℕ, ℤ, ◌+ℤ◌, List, ◌++◌, length, Some, unwrap_or, sym, ap, subst, ◌∙◌, arith}
 use Rattle.std.specs.List.{flat_map}
 use Rattle.std.specs.FinMap as fin
@@ -24,7 +24,7 @@ use Rattle.nd_steps.proofs.EachLemmas.{total}
 use Rattle.nd_steps.proofs.FoundLemmas.{IsSound, sound_more, arrivals_plain, arrivals_total, token_sound, token_total}
 use Rattle.nd_steps.proofs.ReachedLemmas.{reaches}
 
--- the records of a feed are those that come
+-- the records of a feed are those that arrive
 fed_come : (s : ClusterState) (g : Dataflow) (n p vertex epoch : ℕ) (values : List ℤ) (next : Afterwards) → Has g n s → op_at g vertex ≡ operator.Input → fin.get (processor s p).tokens vertex ≡ Some epoch
     → fed_by g n p vertex (flat epoch) values ≡ come {A = Unit {0}} s (Feed p vertex values next)
 fed_come s g n p vertex epoch values _ has input held =

@@ -1,4 +1,4 @@
--- A feed: the input's token moves, and its values come as records.
+-- A feed: the input's token moves, and its values become records.
 use Rattle.std.proofs.Common.{lit<, ◌≡◌, ℕ, ◌+◌, ◌<◌, ℤ, pos, negsuc, ◌+ℤ◌, ◌-ℤ◌, Bool, true, false, cond, Option, Some, None, List, [], ◌∷◌, length, unwrap_or, lt_of_not-le, refl, sym, ap, ◌∙◌, arith}
 use Rattle.std.proofs.lemmas.Int.{ints}
 use Rattle.std.proofs.lemmas.Cmp.{nat_cmp_total}
@@ -125,7 +125,7 @@ module _ (p : ℕ) (q : ProcessorState) (vertex epoch : ℕ) (found : fin.get q.
       omega (arith, ints)
   outstanding_moves token.Stay x = nothing_more (pos (held q x)) (pos 0) refl
 
-  -- at places of other kinds there is nothing more
+  -- nothing is added at places of other kinds
   record_total : (next : Afterwards) (k : Place) → ((v : ℕ) → is_place k (place_at p (token_slot v)) ≡ false) → ((x : Pointstamp) → is_place k (place_at p (Unsent x)) ≡ false) → total_at (own next) k ≡ pos 0
   record_total token.Next k a b = rw (a vertex, b (token_point vertex epoch), b (token_point vertex (epoch + 1))) refl
   record_total token.Close k a b = rw (a vertex, b (token_point vertex epoch)) refl

@@ -1,4 +1,4 @@
--- The changes of a take in the order of a flow: they reach the same state, and nothing is taken out before the last is put in.
+-- The changes of a take in the order of a flow: they reach the same state, and everything is added before anything is removed.
 use Rattle.std.proofs.Common.{◌≡◌, ◌≢◌, ◌<◌, ◌-◌, ℕ, ℤ, pos, negsuc, ◌+ℤ◌, Bool, true, false, not, List, [], ◌∷◌, ◌++◌, length, refl, sym, ap, subst, ◌∙◌, arith, inl, inr}
 use Rattle.std.specs.Prelude.{◌↔◌, IsTrue}
 use Rattle.std.specs.List.Sorted.{IsPermutation}
@@ -37,7 +37,7 @@ reached : (ps : List ProcessorState) (s t : ClusterState) (p : ℕ) (gone : Valu
     → ReachesIn ps s t (come_changes p gone come) → ReachesIn ps s t (flow_changes p gone (record { come = come; late = late }))
 reached ps s t p gone come late h = (h.0, reaches_moved s t (come_changes p gone come) _ h.1 (same_changes p gone come late))
 
--- ---- what is in front leaves something, and the others find something
+-- ---- after the first changes the integer at the place is not 0; before the others it is not 0
 
 abbrev leaves : ClusterState → Change → Type 0
 leaves s c = standing s (place_of c) +ℤ c.n ≢ pos 0
@@ -54,7 +54,7 @@ leads_split s t front tail h counts entries leave find =
     let there : k - length front < length tail = omega (arith, past, lt, length-append front tail) in
     subst (λ c. standing s (place_of c) ≢ pos 0) (sym (get_or-append_right front tail (length front) k d refl past)) (each_at (λ c. standing s (place_of c) ≢ pos 0) tail (k - length front) d find there))
 
--- a count that one is taken of, or one is put to
+-- a count from which one is subtracted, or to which one is added
 one_less : (x y : ℤ) (n : ℕ) → y ≡ x +ℤ negsuc 0 → y ≡ pos n → x ≢ pos 0
 one_less x y n e f z = absurd (omega (arith, ints, e, f, z))
 
@@ -99,7 +99,7 @@ leads_early s t p gone (Record action q edge value) h counts entries goes unsent
       | inr some ↦ leads_split s t (first ∷ comes ∷ sent ∷ []) last h counts entries (unsent, (one_more _ _ refl, (some, tt))) (goes, tt)
     ]
 
--- the record that goes is there
+-- the record that is taken is there
 record_there : (s t : ClusterState) (p : ℕ) (gone : ValueAt) (come : Come) → Reaches s t (come_changes p gone come) → finds s (more_records p gone (negsuc 0))
 record_there s t p gone come h =
     let goes : Change = more_records p gone (negsuc 0) in
@@ -107,7 +107,7 @@ record_there s t p gone come h =
     = h.totals (place_of goes) ∙ ap (λ z. standing s (place_of goes) +ℤ z) (gain_alone (come_changes p gone come) h.once 0 goes (omega arith)) in
     one_less (standing s (place_of goes)) (standing t (place_of goes)) _ then refl
 
--- the same changes, the pointstamp that goes before what comes or after it
+-- the same changes, with the taken record's pointstamp before or after what arrives
 each_late : (P : Change → Type 0) (p : ℕ) (gone : ValueAt) (come : Come) → Each P (flow_changes p gone (record { come = come; late = false })) → Each P (flow_changes p gone (record { come = come; late = true }))
 each_late P p gone Nothing h = h
 each_late P p gone (Record action q edge value) h = (h.1.0, (h.1.1.0, (h.0, h.1.1.1)))
@@ -132,7 +132,7 @@ module _ (ps : List ProcessorState) (p : ℕ) (gone : ValueAt) (come : Come) whe
       leads_late s t p gone come (reached ps s t p gone come true h).1 (each_late (CountStays s.processors) p gone come counts) (each_late (EntryStays s.processors) p gone come entries)
       (record_there s t p gone come h.1) finds_it
 
-  -- within the limits, the pointstamp that goes is late if nothing is left there
+  -- within the limits, the flow is late if the pointstamp's unsent integer becomes 0
   pub ordered : StayWithin ps early → (b : Bool) → (IsTrue b ↔ (after ps (more_unsent p gone.point (negsuc 0)) ≢ pos 0)) → IsOrderedFlow ps p gone come (record { come = come; late = not b })
   ordered within b reads = record {
     leads = λ s t h.

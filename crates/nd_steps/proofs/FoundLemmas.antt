@@ -1,4 +1,4 @@
--- Changes as a plan finds them: what they add, and how often one place stands among them.
+-- Changes as a plan finds them: what they add, and how often one place occurs among them.
 use Rattle.std.proofs.Common.{◌≡◌, ◌≤◌, ◌+◌, ℕ, suc, ℤ, pos, negsuc, ◌+ℤ◌, ◌-ℤ◌, unsigned_abs, All, Bool, true, false, cond, List, [], ◌∷◌, ◌++◌, map, Some, refl, ap, ◌∙◌, arith}
 use Rattle.std.proofs.lemmas.Int.{ints}
 use Rattle.std.specs.FinMap as fin
@@ -31,9 +31,9 @@ use Rattle.nd_steps.proofs.EachLemmas.{each_through}
 use Rattle.nd_steps.proofs.SumsOfSteps.{total_at-append}
 use Rattle.nd_steps.proofs.ItemsLemmas.{items_once, items_ranged}
 
--- ---- what is found
+-- ---- the changes that are found
 
--- at a count, a request or an entry, one more or one less
+-- at a count, a request or an entry the change adds 1 or -1
 abbrev pub IsOne : Place → ℤ → Type 0
 IsOne (place_at p (Records key)) z = unsigned_abs z ≤ 1
 IsOne (place_at p (Request x)) z = unsigned_abs z ≤ 1
@@ -43,7 +43,7 @@ IsOne (place_at p (Sink key)) z = unsigned_abs z ≤ 1
 IsOne (place_at p (Unsent x)) z = unsigned_abs z ≤ 1
 IsOne (view_of q x) z = Unit {0}
 
--- tokens and items change once at most, and keep their ranges; all else by one at a time
+-- a token or an item changes at most once and stays in its range; everything else changes by one at a time
 pub record IsSound (s : ClusterState) (cs : List Change) : Type 0 where
   pub ones : Each (λ c. IsOne (place_of c) c.n) cs
   pub ranged : Each (StaysRanged s) cs
@@ -63,7 +63,7 @@ PlainAt (Unsent x) z = unsigned_abs z ≤ 1
 abbrev pub IsPlain : Change → Type 0
 IsPlain c = PlainAt c.slot c.n
 
--- each is by one more or less, keeps every range, and is at no token and at no item
+-- the change adds 1 or -1, stays in every range, and is at no token and no item
 record StandsApart (p : ℕ) (l : Slot) (z : ℤ) : Type 0 where
   one : IsOne (place_at p l) z
   ranged : (w : ℤ) → SlotRanged l w

@@ -1,5 +1,5 @@
--- A broadcast that no refusal hinders leaves what is unsent upright: whether a point is supported can be decided, and of
--- the points that are not the first in the list is the least.
+-- A broadcast to which no refusal applies leaves an upright unsent change: whether a point is supported can be decided, and among
+-- the points that are not, the first in the list is the least.
 use Rattle.std.proofs.Common.{◌≡◌, ◌⊎◌, inl, inr, ℕ, zero, suc, ◌<◌, ◌≤◌, ℤ, pos, ◌<ℤ◌, List, length, get_or, Some, refl, sym, ap, subst, ◌∙◌, arith}
 use Rattle.std.specs.Prelude.{Contains}
 use Rattle.std.proofs.lemmas.Bool.{cases_eq}
@@ -34,7 +34,7 @@ both P Q (inl p) (inl q) = inl (p, q)
 both P Q (inl p) (inr never) = inr (λ k. never k.1)
 both P Q (inr never) q = inr (λ k. never k.0)
 
--- below a number some has it, or none has
+-- some number below n satisfies P, or none does
 some_below : (P : ℕ → Type 0) → ((k : ℕ) → Decided (P k)) → (n : ℕ) → ((k : ℕ) × (k < n) × P k) ⊎ ((k : ℕ) → k < n → P k → ⊥)
 some_below P dec zero = inr (λ k lt. absurd (omega (arith, lt)))
 some_below P dec (suc n) =
@@ -81,7 +81,7 @@ module _ (R : Pointstamp → Pointstamp → Type 0) (decided : (y x : Pointstamp
         ]
       ]
 
-  -- each of the first entries is supported, or not positive, if there is no least point that is neither
+  -- each of the first entries is supported or not positive, if there is no least point that is neither
   fine : ((x : Pointstamp) → IsLeast (IsUnsupported R (Contains held) (at m)) x → ⊥) → Pointstamp → (i : ℕ) → i ≤ length (entries m) → AllUpTo (λ x. IsUnsupported R (Contains held) (at m) x → ⊥) (entries m) i
   fine free o zero le = λ k lt d. absurd (omega (arith, lt))
   fine free o (suc i) le =

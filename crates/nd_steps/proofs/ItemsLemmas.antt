@@ -1,4 +1,4 @@
--- The changes of a vertex's items, each once, add what the items gain.
+-- The changes of a vertex's items, each item once, add the differences of the items' numbers.
 use Rattle.std.proofs.Common.{◌≡◌, ◌≢◌, ◌<◌, ◌≤◌, ◌+◌, ℕ, zero, suc, ℤ, pos, negsuc, ◌+ℤ◌, ◌-ℤ◌, All, Bool, true, false, cond, List, [], ◌∷◌, map, length, get_or, Option, Some, None, ◌⊎◌, inl, inr, refl, sym, ap, subst, ◌∙◌, arith}
 use Rattle.std.proofs.lemmas.Int.{ints}
 use Rattle.std.proofs.lemmas.Bool.{cases_eq}
@@ -39,7 +39,7 @@ was (pos zero) = refl
 was (pos (suc n)) = refl
 was (negsuc n) = refl
 
--- ---- no item twice
+-- ---- no item occurs twice
 
 rec_at : {X Y : Type 0} (P : Y → Type 0) (g : X → Y) (xs : List X) (i : ℕ) (d : X) → AllByRecursion P (map g xs) → i < length xs → P (g (get_or xs i d))
 rec_at P g [] i d h lt = absurd (omega (arith, lt))
@@ -125,7 +125,7 @@ module _ (p vertex : ℕ) where
       by (inr g) f = elsewhere (place_at q (State w key)) (λ x is. g (cc)) m n es
   items_total m n es leads k = elsewhere k (λ x e. cc) m n es
 
--- ---- their numbers have 64 bits
+-- ---- the numbers fit 64 bits
 
 module _ (s : ClusterState) (p vertex : ℕ) where
   abbrev kept : Items

@@ -37,7 +37,7 @@ same s t =
       (λ e. ap (eq_by_cmp time_cmp s) (sym e) ∙ ap is_eq (tied_itself time_total s)),
     )
 
--- a capability does not move back, if it is not so that it does
+-- a capability goes to a later time, if it is false that it does not
 pub goes_later : (t : Time) (to : Option Time) → ((GoesLater t to → ⊥) → ⊥) → GoesLater t to
 goes_later t None h = tt
 goes_later t (Some to) h =

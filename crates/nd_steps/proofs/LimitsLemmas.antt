@@ -1,4 +1,4 @@
--- Counts and entries after changes, each at a place of its own: within their limits, or past them.
+-- Counts and entries after changes, each at its own place: within their limits, or beyond them.
 use Rattle.std.proofs.Common.{◌≡◌, ◌<◌, ◌≤◌, ◌+◌, ℕ, suc, ℤ, pos, ◌+ℤ◌, unsigned_abs, w64, lit<, Bool, true, false, cond, List, [], ◌∷◌, Option, Some, None, length, get_or, ◌⊎◌, inl, inr, refl, sym, ap, subst, ◌∙◌, arith}
 use Rattle.std.proofs.lemmas.Int.{ints, fits_signed_from_abs}
 use Rattle.std.proofs.lemmas.Bool.{cases_lt}
@@ -31,7 +31,7 @@ use Rattle.nd_steps.specs.declared.change.Change.{Change}
 use Rattle.nd_steps.proofs.PlacesLemmas.{idle_stands}
 use Rattle.nd_steps.proofs.EachLemmas.{no_change as nothing, never_added, gain_alone}
 
--- ---- a property of what stands at a place, in a state that changes reach
+-- ---- a property of the integer at a place, in a state that changes reach
 
 module _ (P : Place → ℤ → Type 0) (s : ClusterState) where
   abbrev After : Change → Type 0
@@ -75,7 +75,7 @@ module _ (P : Place → ℤ → Type 0) (s : ClusterState) where
 -- ---- a change that does not stay within the limit
 
 module _ (P : Change → Type 0) (test : (c : Change) → P c ⊎ (P c → ⊥)) where
-  -- the first change of the list that has not P
+  -- the first change of the list that does not satisfy P
   record Miss (cs : List Change) : Type 0 where
     at : ℕ
     within : at < length cs
@@ -106,7 +106,7 @@ entry_test (place_at p (Unsent point)) z = at_most (unsigned_abs z) max_count
 entry_test (view_of q point) z = at_most (unsigned_abs z) max_count
 entry_test k z = inl tt
 
--- ---- states past the limits
+-- ---- states beyond the limits
 
 past : (n : ℕ) → (n ≤ max_count → ⊥) → max_count < n
 past n h = elim (cases_lt max_count n) [ inl lt ↦ lt | inr le ↦ absurd (h le) ]
@@ -158,7 +158,7 @@ module _ (g : Dataflow) (q : ProcessorState) (fits : ProcessorFits g q) (within 
   processor_within (Sink key) = record { count = within.sinks key; entry = tt; ranged = tt }
   processor_within (Unsent point) = record { count = tt; entry = within.unsent point; ranged = tt }
 
--- what stands in a cluster's processors is within its limits
+-- the integers in a cluster's processors are within their limits
 pub slot_within : (s : ClusterState) → IsState s → (p : ℕ) (l : Slot) → SlotWithin l (stands (processor s p) l)
 slot_within s state p l = elim (cases_lt p (length s.processors)) [
   | inl lt ↦ processor_within s.graph (processor s p) (state.fits.processors p idle lt) (state.within.processors p idle lt) l

@@ -1,4 +1,4 @@
--- The entries that are still to come.
+-- The remaining entries.
 use Rattle.std.proofs.Common.{◌≡◌, ℕ, zero, suc, ◌+◌, ◌^◌, ◌<◌, ◌≤◌, get_or, w64, to_z, of_z, neg_ℤ, pos, ◌-ℤ◌, List, [], ◌∷◌, ◌++◌, map, drop, length, Option, Some, None, refl, sym, ap, subst, ◌∙◌, arith, length-append, ℤ}
 use Rattle.std.specs.Prelude.{All, MatchOption, slice_get, unsigned_abs}
 use Rattle.std.specs.Int.{w128}
@@ -47,13 +47,13 @@ missing [] i e = omega arith
 missing (y ∷ ys) zero e = absurd (cc)
 missing (y ∷ ys) (suc i) e = omega (arith, missing ys i e)
 
--- the first of what is left from i on, and the others
+-- the first of what is left from i on, followed by the others
 pub yields : {A : Type 0} (xs : List A) (i : ℕ) (r : Option A) → r ≡ slice_get xs i → i < length xs
     → MatchOption r ((drop i xs ≡ []) × (drop (i + 1) xs ≡ [])) (λ x. drop i xs ≡ x ∷ drop (i + 1) xs)
 yields xs i None is lt = absurd (omega (arith, lt, missing xs i (sym is)))
 yields xs i (Some x) is lt = dropped xs i x (sym is)
 
--- no entry of a change is past the limit
+-- no entry of a change exceeds the limit
 pub all_within : (c : DeltaValue) → IsWithin c → All (λ (e : Pointstamp × ℤ). unsigned_abs e.1 ≤ max_count) (entries c)
 all_within c within = all_found point_cmp point_total (λ k v. unsigned_abs v ≤ max_count) (entries c) (sorted-entries c)
     (λ k v is. subst (λ z. unsigned_abs z ≤ max_count) (sym (at-entries c k) ∙ ap or_zero is) (within k))
@@ -69,14 +69,14 @@ read_back z within = to_z-of_z w64 z (fits_signed_from_abs w64 z (let lt : unsig
 read_wide : (z : ℤ) → unsigned_abs z ≤ max_count → to_z w128 (of_z w128 z) ≡ z
 read_wide z within = to_z-of_z w128 z (fits_signed_from_abs w128 z (let lt : unsigned_abs z < 2 ^ 127 = omega arith in lt))
 
--- ---- what is read of the entries es of a change, which stand before the end of a queue
+-- ---- what is read of the entries es of a change, which come before the end of a queue
 
 module _ (c : DeltaValue) (within : IsWithin c) (es : List (Pointstamp × ℤ)) (is : es ≡ entries c) (i : ℕ) where
   module _ (e : Pointstamp × ℤ) (lt : i < length es) (read : e ≡ get_or es i e) where
     pub number_is : to_z w64 (of_z w64 e.1) ≡ e.1
     number_is = read_back e.1 (entry_within c within es i e is lt read)
 
-    -- its negative, in a type that has room for it
+    -- its negative, in a type that is large enough
     pub negative_is : (x : ℤ) → x ≡ to_z w64 (of_z w64 e.1) → to_z w128 (of_z w128 (pos 0 -ℤ to_z w128 (of_z w128 x))) ≡ neg_ℤ e.1
     negative_is x from =
         let small : unsigned_abs e.1 ≤ max_count = entry_within c within es i e is lt read in

@@ -1,7 +1,8 @@
--- Changes that are no more than what they change name each place once, and in the order of their places are the difference of the two states.
+-- Changes that are no more than what they change name each place once, and in the order of their places are the difference of the
+-- two states.
 --     fits_first         each could be the first
---     exact              what is needed of them: no more than the places at which the states differ, and in order
---     once, some, totals, gains      each place once, not by 0, by the difference of the two states
+--     exact              what they must be: no more than the places at which the states differ, and in order
+--     once, some, totals, gains      each place once, with an integer other than 0, the difference of the two states there
 --     listed             they are the difference
 use Rattle.std.proofs.Common.{◌≡◌, ◌≢◌, ◌≤◌, ◌+◌, suc, pos, ◌+ℤ◌, Bool, true, false, cond, T, ◌&&◌, List, [], ◌∷◌, ◌++◌, Some, map, take, length, get_or, refl, sym, ap, subst, ◌∙◌, arith, length-append, Ordering, Less}
 use Rattle.std.proofs.lemmas.List.Sorted.{length_permutation}
@@ -43,7 +44,7 @@ module _ (s : ClusterState) (cs : List Change) (runs : IsRunnable s cs) (once : 
       (sym (untouched s (take k cs) (place_of (get_or cs k d)) (each_take (λ c. IsThere s (place_of c)) cs k there_first) (often_before cs once k d lt)))
       (runs.fits k d lt))
 
--- ---- joined changes are fewer where a place stands twice
+-- ---- joining makes the changes fewer if a place occurs twice
 
 some_short : (c : Change) → length (some_of c) ≤ 1
 some_short c = elim (is_zero c.n) as (λ b. length (cond b [] (c ∷ [])) ≤ 1) [
@@ -104,7 +105,7 @@ not_again c d ds few =
     let none : often (place_of c) (d ∷ ds) ≡ 0 = alone_there (is_place (place_of c) (place_of c)) (often (place_of c) (d ∷ ds)) (place_itself (place_of c)) few in
     not_there (is_place (place_of c) (place_of d)) (often (place_of c) ds) none
 
--- all of them are past what is before the first
+-- all of them are after a place that is before the first
 below : (c d : Change) (ds : List Change) → order c d ≡ Less → Rises d ds → T (below_all place_cmp (place_of c) (edits_of (d ∷ ds)))
 below c d [] less h = both_hold (is_lt (order c d)) true (holds (order c d) less) tt
 below c d (e ∷ es) less h =
@@ -136,7 +137,7 @@ pub keys_of_edits : (cs : List Change) → keys_of (edits_of cs) ≡ map place_o
 keys_of_edits [] = refl
 keys_of_edits (c ∷ cs) = ap (λ ks. place_of c ∷ ks) (keys_of_edits cs)
 
--- ---- no more than what they change
+-- ---- no more changes than differences
 
 module _ (s t : ClusterState) (cs ds : List Change)
     (moves : (k : Place) → standing t k ≡ standing s k +ℤ total_at (edits_of cs) k)

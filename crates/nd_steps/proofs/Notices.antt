@@ -1,4 +1,4 @@
--- A notice: a request goes, and its vertex does what it does on a notice.
+-- A notice: a request is removed, and its vertex reacts to the notification.
 use Rattle.std.proofs.Common.{lit<, ◌≡◌, ℕ, ◌+◌, ◌<◌, ℤ, pos, negsuc, ◌+ℤ◌, Bool, true, false, cond, Option, Some, None, List, ◌∷◌, length, length-set, lt_of_not-le, refl, sym, ap, ◌∙◌, arith}
 use Rattle.std.proofs.lemmas.Int.{ints}
 use Rattle.std.proofs.lemmas.Map.Views.{tells_apart}
@@ -38,7 +38,7 @@ pub one_dropped : (b : Bool) (here : Option (Unit {0})) (t : ℤ) → (b ≡ tru
 one_dropped true here t e z = let a : from_request here ≡ pos 1 = ap from_request (e refl) in omega (arith, ints)
 one_dropped false here t e z = omega (arith, ints)
 
--- ---- the performer: a request at y goes, and a vertex keeps other items
+-- ---- the performer: a request at y is removed, and a vertex has other items
 
 module _ (p : ℕ) (q : ProcessorState) (y : Pointstamp) (vertex : ℕ) (items : Items) where
   abbrev pub after_notice : ProcessorState
@@ -50,7 +50,7 @@ module _ (p : ℕ) (q : ProcessorState) (y : Pointstamp) (vertex : ℕ) (items :
   abbrev pub own_notice : List Edit
   own_notice = (place_at p (Request y), negsuc 0) ∷ (place_at p (Unsent y), negsuc 0) ∷ by_items
 
-  -- at a place apart from the two of the request that goes
+  -- a place other than the two of the request that is removed
   past_two : (place : Place) (t : ℤ) → is_place place (place_at p (Request y)) ≡ false → is_place place (place_at p (Unsent y)) ≡ false → total_at by_items place ≡ t → total_at own_notice place ≡ t
   past_two place t a b e = rw (a, b) (let z : pos 0 +ℤ (pos 0 +ℤ total_at by_items place) ≡ t = omega (arith, ints) in z)
 

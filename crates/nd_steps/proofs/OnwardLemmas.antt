@@ -1,4 +1,4 @@
--- The changes of a take by which one thing comes, or nothing, lead to the state after it.
+-- The changes of a take with at most one consequence lead to the state after it.
 use Rattle.std.proofs.Common.{◌≡◌, ◌≢◌, ◌<◌, ◌≤◌, ◌+◌, ◌^◌, ℕ, ℤ, pos, negsuc, All, Bool, true, false, cond, ◌&&◌, List, [], ◌∷◌, ◌++◌, map, length, get_or, nat_eq, nat_lt, inl, inr, lit<, length-append, refl, sym, ap, subst, ◌∙◌, arith}
 use Rattle.std.specs.Prelude.{if◌then◌else◌}
 use Rattle.std.proofs.lemmas.Bool.{cases_lt, lt-ltb}
@@ -69,14 +69,14 @@ module _ (g : Dataflow) (n p vertex : ℕ) (e : Emission) where
   pub one_made : (r : ℕ × Route) → leave ≡ r ∷ [] → (to edge : ℕ) → to ≡ destination r.1 n p e.value → edge ≡ length g.vertices + r.0 → made_by g n p vertex e ≡ (to, record_key edge e.time e.value) ∷ []
   one_made r only to edge to_is edge_is = all_made ∙ ap (map (on_edge g n p e)) only ∙ (λ i. (sym to_is i, record_key (sym edge_is i) e.time e.value) ∷ [])
 
-  -- where one record is made, one edge leaves the port, and the record is on it
+  -- if one record is made, one edge leaves the port, and the record is on that edge
   pub left_once : (r : ℕ × ValueAt) → made_by g n p vertex e ≡ r ∷ [] → length leave ≡ 1
   left_once r made = sym (length-map leave (on_edge g n p e)) ∙ ap length (sym all_made ∙ made)
 
   pub made_at : (r : ℕ × ValueAt) (l : ℕ × Route) → made_by g n p vertex e ≡ r ∷ [] → leave ≡ l ∷ [] → r.1.point.location ≡ length g.vertices + l.0
   made_at r l made only = ap (λ (rs : List (ℕ × ValueAt)). (get_or rs 0 r).1.point.location) (sym made ∙ all_made ∙ ap (map (on_edge g n p e)) only)
 
--- ---- the time of what comes
+-- ---- the time of what arrives
 
 below_is : (m n : ℕ) → m < n → nat_lt m n ≡ true
 below_is m n lt = lt-ltb m n lt
@@ -103,7 +103,7 @@ only_one [] e some few is = absurd (omega (arith, some))
 only_one (x ∷ []) e some few is = ap (λ y. y ∷ []) (sym is)
 only_one (x ∷ y ∷ ys) e some few is = absurd (omega (arith, few))
 
--- ---- no place twice
+-- ---- no place occurs twice
 
 once_before : (c : Change) (cs : List Change) → often (place_of c) cs ≡ 0 → Once cs → Once (c ∷ cs)
 once_before c cs none once k =

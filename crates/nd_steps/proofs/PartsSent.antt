@@ -1,4 +1,4 @@
--- Parts of a change: which entries they have, and what stays without them.
+-- Parts of a change: which entries they have, and what stays after they are removed.
 use Rattle.std.proofs.Common.{◌≡◌, ◌≢◌, ◌<◌, ◌≤◌, ℕ, zero, suc, ℤ, pos, Bool, true, false, cond, List, [], ◌∷◌, length, get_or, Option, Some, None, Ordering, Less, Equal, Greater, refl, sym, ap, subst, ◌∙◌, arith}
 use Rattle.std.specs.Prelude.{Contains}
 use Rattle.std.specs.Ordering.{is_eq, ordering_reverse}
@@ -24,7 +24,7 @@ entry_in_part m ks i x lt is some e =
     let has : has_point x ks ≡ true = list_any_at (is_point x) ks i x lt (ap (is_point x) (sym is) ∙ ap is_eq (tied_itself point_total x)) in
     some (sym (at-part m ks x ∙ ap (λ b. cond b (at m x) (pos 0)) has) ∙ ap (λ c. at c x) e ∙ at-none x)
 
--- with no entry at any of them the part is nothing
+-- if the change has no entry at any of the points, the part is empty
 pub part_is_none : (m : DeltaValue) (ks : List Pointstamp) (i : ℕ) → length ks ≤ i → ((k : ℕ) → k < i → (d : Pointstamp) → at m (get_or ks k d) ≡ pos 0) → part m ks ≡ none
 part_is_none m ks i past h = same (part m ks) none (λ q. at-part m ks q ∙ by q (has_point q ks) refl ∙ sym (at-none q))
   where
@@ -34,12 +34,12 @@ part_is_none m ks i past h = same (part m ks) none (λ q. at-part m ks q ∙ by 
         ap (at m) (sym found.2) ∙ h found.0 (omega (arith, found.1)) q
     by q false e = refl
 
--- a change without entries is nothing
+-- a change of size 0 is the change without entries
 pub none_of_size : (m : DeltaValue) → size m ≡ 0 → m ≡ none
 none_of_size m e =
     same m none (λ q. sym (at-entries m q) ∙ ap (λ es. or_zero (find point_cmp q es)) (nil_from_length (entries m) e) ∙ sym (at-none q))
 
--- the chosen part is a part
+-- the chosen part is a part of the change
 pub chosen_there : {A : Type 0} (p : Part A) (m : DeltaValue) → IsPartOf (chosen p m) m
 chosen_there All m x some = refl
 chosen_there (Points ks) m x some = by (has_point x ks) refl
@@ -48,7 +48,7 @@ chosen_there (Points ks) m x some = by (has_point x ks) refl
     by true e = sym (at-part m ks x ∙ ap (λ b. cond b (at m x) (pos 0)) e)
     by false e = absurd (some (at-part m ks x ∙ ap (λ b. cond b (at m x) (pos 0)) e))
 
--- ---- a part with as many entries as the whole
+-- ---- a part with as many entries as the change
 
 not_tied : (r : Ordering) → r ≢ Equal → is_eq r ≡ false
 not_tied Less h = refl
@@ -56,11 +56,11 @@ not_tied Equal h = absurd (h refl)
 not_tied Greater h = refl
 
 module _ {K X : Type 0} (R : K → K → Ordering) (o : IsTotalOrder R) (exact : IsAntisymmetric R) where
-  -- what is found in the one is found in the other
+  -- what a lookup finds in one list it also finds in the other
   abbrev IsAmong : List (K × X) → List (K × X) → Type 0
   IsAmong es fs = (k : K) (v : X) → find R k es ≡ Some v → find R k fs ≡ Some v
 
-  -- no key is found before that of the first entry
+  -- a lookup finds no key before that of the first entry
   head_first : (f : K × X) (fs : List (K × X)) (k : K) (v : X) → IsListed R (f ∷ fs) → find R k (f ∷ fs) ≡ Some v → R f.0 k ≢ Greater
   head_first f fs k v listed found = let there = found_at R exact (f ∷ fs) k v found in at_index there.index there.in_range there.is
     where
@@ -68,7 +68,7 @@ module _ {K X : Type 0} (R : K → K → Ordering) (o : IsTotalOrder R) (exact :
       at_index zero lt is greater = let tied : R f.0 k ≡ Equal = ap (λ e. R f.0 e.0) (sym is) ∙ tied_itself o f.0 in absurd (cc (tied, greater))
       at_index (suc i) lt is greater = let less : R f.0 k ≡ Less = ap (λ e. R f.0 e.0) (sym is) ∙ rises R o (f ∷ fs) listed 0 (suc i) (k, v) (omega arith) lt in absurd (cc (less, greater))
 
-  -- what is found, and not at the first entry, is found in the others
+  -- a key that is found, but not at the first entry, is found in the others
   past_head : (f : K × X) (fs : List (K × X)) (k : K) (v : X) → is_eq (R k f.0) ≡ false → find R k (f ∷ fs) ≡ Some v → find R k fs ≡ Some v
   past_head f fs k v other found = ap (λ b. cond b (Some f.1) (find R k fs)) (sym other) ∙ found
 
@@ -78,13 +78,13 @@ module _ {K X : Type 0} (R : K → K → Ordering) (o : IsTotalOrder R) (exact :
       let some : find R e.0 es ≡ Some v = ap (λ j. find R j es) (sym (exact k e.0 tied)) ∙ found in
       absurd (cc (nothing, some)))
 
-  -- what is among a list whose first entry is the same, is among its others
+  -- if the first entries are the same, the others of one list are among the others of the other
   among_others : (e f : K × X) (es fs : List (K × X)) → e.0 ≡ f.0 → IsListed R (e ∷ es) → IsAmong (e ∷ es) (f ∷ fs) → IsAmong es fs
   among_others e f es fs key listed among k v found =
       let other = later e es k v listed found in
       past_head f fs k v (subst (λ j. is_eq (R k j) ≡ false) key other) (among k v (ap (λ b. cond b (Some e.1) (find R k es)) other ∙ found))
 
-  -- what is among a list whose first entry comes before, is among its others
+  -- if the other list's first entry comes earlier, the list is among the entries after it
   among_later : (e f : K × X) (es fs : List (K × X)) → R e.0 f.0 ≡ Greater → IsListed R (e ∷ es) → IsAmong (e ∷ es) (f ∷ fs) → IsAmong (e ∷ es) fs
   among_later e f es fs greater listed among k v found =
       past_head f fs k v (not_tied (R k f.0) (λ tied. head_first e es k v listed found (ap (R e.0) (exact k f.0 tied) ∙ greater))) (among k v found)

@@ -1,7 +1,7 @@
--- What stands at the places of a state in which another integer was put at one place, and states of one shape.
---     standing-put, standing-put_other     what stands at the place, and at each other place
+-- The integers at the places of a state after another integer is put at one place, and states of one shape.
+--     standing-put, standing-put_other     the integer at this place, and at each other place
 --     SameShape, shape-put                 states that differ in their maps alone
---     same_state                           states of one shape in which the same stands everywhere are equal
+--     same_state                           states of one shape with the same integer everywhere are equal
 use Rattle.std.proofs.Common.{◌≡◌, ◌≢◌, ◌<◌, ◌+◌, ◌⊎◌, ℕ, zero, suc, ℤ, pos, negsuc, ◌≤ℤ◌, true, false, cond, List, Option, Some, None, length, get_or, set, refl, sym, ap, ◌∙◌, arith, inl, inr, true≢false}
 use Rattle.std.proofs.lemmas.Int.{ints}
 use Rattle.std.proofs.lemmas.Bool.{cases_lt, cases_eq}
@@ -139,7 +139,7 @@ standing-put_other s (place_at p l) z (view_of n y) there ne = refl
 standing-put_other s (view_of q x) z (place_at n m) there ne = refl
 standing-put_other s (view_of q x) z (view_of n y) there ne = other_of_view s q x z n y there ne
 
--- both at once
+-- the integer at this place and at each other place
 pub standing-put_at : (s : ClusterState) (k : Place) (z : ℤ) (j : Place) → IsThere s k → MayStand k z → standing (put_at s k z) j ≡ cond (eq_by_cmp place_cmp j k) z (standing s j)
 standing-put_at s k z j there may = elim (eq_by_cmp place_cmp j k) as (λ b. eq_by_cmp place_cmp j k ≡ b → standing (put_at s k z) j ≡ cond b z (standing s j)) [
   | true ↦ λ t. ap (standing (put_at s k z)) (tells_apart place_exact j k t) ∙ standing-put s k z there may
@@ -199,7 +199,7 @@ shape-put s (view_of q x) z = record {
   queues = refl;
 }
 
--- the maps are there alike
+-- one has the map of a key if the other has it
 slot_alike : (q r : ProcessorState) (l : Slot) → length q.items ≡ length r.items → SlotIsThere q l → SlotIsThere r l
 slot_alike q r (State vertex key) e there = rw (sym e) there
 slot_alike q r l e there = tt
@@ -208,7 +208,7 @@ pub there_alike : (s t : ClusterState) (k : Place) → SameShape s t → IsThere
 there_alike s t (place_at p l) h there = (rw (sym h.processors) there.0, slot_alike (processor s p) (processor t p) l (h.items p) there.1)
 there_alike s t (view_of q point) h there = rw (sym h.views) there
 
--- ---- states in which the same stands everywhere
+-- ---- states with the same integer everywhere
 
 number_same : (m n : ℕ) → pos m ≡ pos n → m ≡ n
 number_same m n e = cc
@@ -242,7 +242,7 @@ same_state s t shape h =
     let views : s.views ≡ t.views = ext_get_or no_change s.views t.views shape.views (λ q lt. same_change (view s q) (view t q) (λ x. h (view_of q x))) in
     λ i. record { graph = shape.graph i; processors = processors i; views = views i; queues = shape.queues i }
 
--- ---- what stands may stand, and stands at a map that is there
+-- ---- the integer at a place is allowed there, and its map exists
 
 request_may : (x : Option (Unit {0})) → (from_request x ≡ pos 0) ⊎ (from_request x ≡ pos 1)
 request_may None = inl refl

@@ -1,4 +1,5 @@
--- A list of changes in which no place stands twice can be run, if nothing is taken out before the last is put in, and leads where its sums say.
+-- A list of changes in which no place occurs twice can be applied, if everything is added before anything is removed, and leads
+-- where its sums say.
 use Rattle.std.proofs.Common.{◌≡◌, ◌≢◌, ◌<◌, ◌≤◌, ◌+◌, ℕ, zero, suc, ℤ, pos, ◌+ℤ◌, ◌-ℤ◌, Bool, true, false, cond, List, [], ◌∷◌, take, length, get_or, T, Option, Some, None, is_some, refl, sym, ap, subst, ◌∙◌, arith, inl, inr, true≢false}
 use Rattle.std.proofs.lemmas.Int.{ints}
 use Rattle.std.proofs.lemmas.List.{take_more, take_all}
@@ -29,11 +30,11 @@ use Rattle.nd_steps.proofs.RunsLemmas.{shape-applied, landed, moved_by, state_no
 use Rattle.nd_steps.proofs.EachLemmas.{total, no_change, each_at, each_take, each_from, each_through, each_moved, often_moved, total_moved, not_there, rest_none, never_added, often_before, gain_alone, untouched, fits_moved}
 use Rattle.nd_steps.proofs.LimitsLemmas.{slot_within}
 
--- changes that reach a state keep the shape
+-- changes that reach a state preserve the shape
 shape_of : (s t : ClusterState) (cs : List Change) → Reaches s t cs → SameShape s t
 shape_of s t cs h = record { graph = sym h.graph; processors = sym h.count; items = λ p. sym (h.items p); views = ap length (sym h.views); queues = sym h.queues }
 
--- ---- a list that can be run
+-- ---- a list that can be applied
 
 pub after_is : (s : ClusterState) (c : Change) → after s.processors c ≡ standing s (place_of c) +ℤ c.n
 unfolding after
@@ -42,7 +43,7 @@ after_is s c = refl
 none_left : (x n z : ℤ) → z ≡ x +ℤ n → z ≡ pos 0 → x ≡ pos 0 → n ≡ pos 0
 none_left x n z e f g = omega (arith, ints, e, f, g)
 
--- the first changes leave something at their places, and the others find something at theirs
+-- after the first changes the integer at their place is not 0, and before the others it is not 0
 module _ (s : ClusterState) (cs : List Change) (once : Once cs) (fit : Each (Fits s) cs) (turn : ℕ)
     (leave : (k : ℕ) (d : Change) → k < length cs → k < turn → standing s (place_of (get_or cs k d)) +ℤ (get_or cs k d).n ≢ pos 0)
     (find : (k : ℕ) (d : Change) → k < length cs → turn ≤ k → standing s (place_of (get_or cs k d)) ≢ pos 0) where
@@ -75,7 +76,7 @@ module _ (s : ClusterState) (cs : List Change) (once : Once cs) (fit : Each (Fit
   pub runnable : IsRunnable s cs
   runnable = record { turn = turn; fits = fits_in_turn; leaves = leaves_in_turn; finds = finds_in_turn }
 
--- ---- where the run leads
+-- ---- where the list leads
 
 plus_none : (x : ℤ) → x +ℤ pos 0 ≡ x
 plus_none x = omega (arith, ints)
@@ -116,7 +117,7 @@ moved s cs runs j =
 
 -- ---- as many changes as places at which the states differ
 
--- the gains in the order of their places
+-- the changes' integers in the order of their places
 sorted : List Change → List (Place × ℤ)
 sorted [] = []
 sorted (c ∷ cs) = put place_cmp (place_of c) (c.n) (sorted cs)
@@ -153,7 +154,7 @@ pub by_found : (b : Bool) (g w : ℤ) (x : Option ℤ) → (b ≡ true → w ≡
 by_found true g w x e h = sym (ap (λ z. g +ℤ z) (e refl) ∙ plus_none g)
 by_found false g w x e h = h ∙ sym (none_plus w)
 
--- what is found among them is what the list adds
+-- what a lookup finds among them is what the list adds
 sorted_found : (cs : List Change) → Once cs → (k : Place) → or_else (pos 0) (find place_cmp k (sorted cs)) ≡ total k cs
 unfolding sorted
 sorted_found [] once k = refl
@@ -196,7 +197,7 @@ as_many s t cs once some totals =
 -- ---- the plan
 
 module _ (s t : ClusterState) (cs : List Change) (h : Reaches s t cs) where
-  -- what the changes alter is there
+  -- the map that a change alters exists
   pub there_by : (k : ℕ) (d : Change) → k < length cs → IsThere s (place_of (get_or cs k d))
   there_by k d lt =
       let c : Change = get_or cs k d in
@@ -229,7 +230,7 @@ module _ (s t : ClusterState) (cs : List Change) (h : Reaches s t cs) where
         };
       })
 
-  -- the changes can be run, lead to t, and are as many as the places and queues at which it differs
+  -- the changes can be applied, lead to t, and are as many as the places and queues at which it differs
   module _ (counts : Each (CountStays s.processors) cs) (entries : Each (EntryStays s.processors) cs) (turn : ℕ)
       (leave : (k : ℕ) (d : Change) → k < length cs → k < turn → standing s (place_of (get_or cs k d)) +ℤ (get_or cs k d).n ≢ pos 0)
       (find : (k : ℕ) (d : Change) → k < length cs → turn ≤ k → standing s (place_of (get_or cs k d)) ≢ pos 0) where
@@ -259,7 +260,7 @@ reaches_moved s t all cs h same = record {
   totals = λ k. h.totals k ∙ ap (λ z. standing s k +ℤ z) (sym (total_moved k all cs same));
 }
 
--- those in order are led to t
+-- changes in order lead to t
 pub planned : (s t : ClusterState) (all cs : List Change) → Reaches s t all → IsInOrder s.processors all cs → Each (CountStays s.processors) all → Each (EntryStays s.processors) all → LeadsTo s t cs
 planned s t all cs h order counts entries =
     let now : Reaches s t cs = reaches_moved s t all cs h order.same in

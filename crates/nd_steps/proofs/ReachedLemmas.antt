@@ -1,4 +1,4 @@
--- The joined list of what a plan finds reaches the state after the step.
+-- The joined list of the changes that a plan finds reaches the state after the step.
 use Rattle.std.proofs.Common.{◌≡◌, ◌≤◌, ◌+◌, ◌^◌, ℕ, ℤ, pos, ◌+ℤ◌, unsigned_abs, true, false, cond, List, [], ◌∷◌, length, get_or, refl, sym, ap, subst, ◌∙◌, arith}
 use Rattle.std.proofs.lemmas.Int.{ints}
 use Rattle.nd_protocol.specs.State.{ClusterState}
@@ -28,7 +28,7 @@ use Rattle.nd_steps.proofs.FoundLemmas.{IsOne, IsSound}
 
 -- ---- what is added at one place
 
--- by ones, at most as much as there are changes
+-- changes by one add at most as much as there are changes
 ones_total : (k : Place) → ((z : ℤ) → IsOne k z → unsigned_abs z ≤ 1) → (cs : List Change) → Each (λ c. IsOne (place_of c) c.n) cs → unsigned_abs (total k cs) ≤ length cs
 ones_total k one [] h = omega arith
 ones_total k one (c ∷ cs) h =
@@ -43,7 +43,7 @@ ones_total k one (c ∷ cs) h =
 alone : (z w : ℤ) → w ≡ pos 0 → z ≡ z +ℤ w
 alone z w e = omega (arith, ints, e)
 
--- at most one change is made there
+-- at most one change is at this place
 once_total : (Q : ℤ → Type 0) (k : Place) (cs : List Change) → often k cs ≤ 1 → Each (λ c. is_place k (place_of c) ≡ true → Q c.n) cs → Q (pos 0) → Q (total k cs)
 once_total Q k [] few h q = q
 once_total Q k (c ∷ cs) few h q =
@@ -91,7 +91,7 @@ module _ (s : ClusterState) (state : IsState s) (cs : List Change) (sound : IsSo
         omega (arith, ints, a, b)
     gains p l = by_ones (place_at p l) (λ z h. h)
 
--- ---- the whole
+-- ---- the complete list
 
 module _ {A : Type 0} (s : ClusterState) (x : Step A) (works : Works x) (state : IsState s) (free : IsFreeBelow s x 13) (cs ds : List Change)
     (adds : (k : Place) → total k cs ≡ total_at (edits s x) k) (sound : IsSound s cs) (few : length cs ≤ 2 ^ 64) (joins : AreJoined cs ds) where

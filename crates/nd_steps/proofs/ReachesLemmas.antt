@@ -1,4 +1,4 @@
--- Changes that reach a state, in the processors that they are of.
+-- Changes that reach a state, in terms of their processors.
 use Rattle.std.proofs.Common.{List, sym, subst}
 use Rattle.nd_processor.specs.State.{ProcessorState}
 use Rattle.nd_protocol.specs.State.{ClusterState}
@@ -24,7 +24,7 @@ module _ (ps : List ProcessorState) (s t : ClusterState) (all : List Change) (h 
   pub readable : Each (IsReadable ps) all
   readable = subst (λ qs. Each (IsReadable qs) all) h.0 (readable_in s t all h.1)
 
-  -- what holds of the changes in the processors holds in the state
+  -- what holds of the changes on the processors holds in the state
   in_state : (P : List ProcessorState → Type 0) → P ps → P s.processors
   in_state P x = subst P (sym h.0) x
 

@@ -1,4 +1,4 @@
--- What a take and a notice change is what they add.
+-- The changes of a take and of a notice are what they add.
 use Rattle.std.proofs.Common.{◌≡◌, ◌≤◌, ◌^◌, ℕ, ℤ, pos, negsuc, All, Bool, true, false, cond, ◌&&◌, List, [], ◌∷◌, ◌++◌, map, length, is_none, refl, sym, ap, subst, ◌∙◌, arith}
 use Rattle.std.proofs.lemmas.Int.{ints}
 use Rattle.std.specs.List.{flat_map}
@@ -37,7 +37,7 @@ taken_edits s p edge t value = edits {A = Unit {0}} s (Take p edge t value)
 abbrev noticed_edits : ClusterState → ℕ → ℕ → Time → List Edit
 noticed_edits s p vertex t = edits {A = Unit {0}} s (Notice p vertex t)
 
--- ---- the records that come
+-- ---- the records that arrive
 
 as_emitted : (g : Dataflow) (n p vertex : ℕ) (t : Time) (es : List (ℕ × ℤ))
     → flat_map (λ (e : Emission). made_on n p vertex e.port e.value e.time (length g.vertices) g.edges) (emissions_of (time_past (op_at g vertex) t) es) ≡ flat_map (emitted g n p vertex t) es

@@ -1,4 +1,4 @@
--- A receive in what is stored of a cluster: where it leads, and where undoing it leads back to.
+-- A receive on the stored parts of a cluster: where it leads, and where undoing it leads back to.
 use Rattle.std.proofs.Common.{◌≡◌, ℕ, ◌<◌, List, [], ◌∷◌, Result, Ok, Err, IsErr, OnOk, refl, length, get_or, set, sym, ap, subst, ◌∙◌, arith, length-set, get_or-set_same}
 use Rattle.std.proofs.lemmas.List.{set-set, set-get_or, length-map}
 use Rattle.std.specs.Prelude.{All}
@@ -16,7 +16,7 @@ use Rattle.nd_steps.specs.Stored.{received-front}
 use Rattle.nd_steps.specs.Records.{CanReceive, Receives}
 use Rattle.nd_steps.specs.Seen.{seen}
 
--- one of the views that are stored, and all with another in its place
+-- one of the stored views, and all views after it is replaced
 module _ (t : ClusterState) (g : Dataflow) (ps : List ProcessorState) (vs : List Kept) (m : List (List (List DeltaValue))) (is : seen g ps vs m ≡ t) (to : ℕ) where
   pub view_there : to < length t.views → to < length vs
   view_there lt =
@@ -31,11 +31,11 @@ module _ (t : ClusterState) (g : Dataflow) (ps : List ProcessorState) (vs : List
     pub view_is_for : All (IsFor g) vs → IsFor g v
     view_is_for all = subst (IsFor g) (sym here) (all to v lt)
 
-    -- the map of the view that takes its place is f of its own
+    -- the map of the new view is f of the old one's
     pub views_after : (w : Kept) (f : DeltaValue → DeltaValue) → w.map ≡ f v.map → maps (set vs to w) ≡ set t.views to (f (view t to))
     views_after w f e = maps-set vs to w ∙ (λ i. set (ap (λ (t : ClusterState). t.views) is i) to ((e ∙ ap f view_seen) i))
 
--- what was put into a queue is taken out again
+-- what was put into a queue is removed again
 pub taken_again : {X E : Type 0} (r : Result X E) (m old new : List (List (List DeltaValue))) (from to : ℕ) (c : DeltaValue) → from < length m → to < length (row m from)
     → old ≡ unpopped m from to c → popped old from to ≡ m → (IsErr r → IsVacant (queue_in old from to)) → OnOk r (new ≡ popped old from to) → new ≡ m
 taken_again (Ok x) m old new from to c f t is back empty new_is = new_is ∙ back
@@ -43,7 +43,7 @@ taken_again (Err e) m old new from to c f t is back empty new_is =
     let some : queue_in old from to ≡ c ∷ queue_in m from to = ap (λ k. queue_in k from to) is ∙ queue-with_queue m from to (c ∷ queue_in m from to) f t in
     absurd (let none : queue_in old from to ≡ [] = empty refl in cc)
 
--- where it leads: a view and a queue change
+-- where a receive leads: a view and a queue change
 pub received_leads : (s : ClusterState) (from to : ℕ) (c : DeltaValue) → CanReceive s from to c → record s { views = set s.views to (plus (view s to) c); queues = popped s.queues from to } ≡ received s from to
 received_leads s from to c h = sym (received-front s from to c h.front)
 

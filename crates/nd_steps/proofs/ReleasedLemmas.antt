@@ -1,4 +1,4 @@
--- What a release changes is what it adds.
+-- The changes of a release are what it adds.
 use Rattle.std.proofs.Common.{◌≡◌, ◌≤◌, ◌^◌, ℕ, pos, negsuc, ◌+ℤ◌, Bool, cond, Option, Some, None, List, [], length, is_none, refl, ap, subst, ◌∙◌, arith}
 use Rattle.std.specs.FinMap as fin
 use Rattle.nd_time.specs.Time.{Time}

@@ -1,4 +1,4 @@
--- A release: a request goes, and a later one may come.
+-- A release: a request is removed, and a later one may be added.
 use Rattle.std.proofs.Common.{lit<, ◌≡◌, inr, ℕ, ◌+◌, ◌<◌, pos, negsuc, ◌+ℤ◌, true, false, cond, Option, Some, None, List, ◌∷◌, length, lt_of_not-le, refl, sym, ap, ◌∙◌, arith}
 use Rattle.std.proofs.lemmas.Int.{ints}
 use Rattle.std.proofs.lemmas.List.{append-nil}
@@ -29,7 +29,7 @@ use Rattle.nd_steps.proofs.Feeds.{one_less, nothing_more}
 use Rattle.nd_steps.proofs.Effects.{requests-move, requests-held, asked-apart, asked-own}
 use Rattle.nd_steps.proofs.Notices.{one_dropped, was_there}
 
--- ---- the performer: a vertex's request at a time goes, and one at a later time may come
+-- ---- the performer: a vertex's request at one time is removed, and one at a later time may be added
 
 module _ (p : ℕ) (q : ProcessorState) (vertex : ℕ) (t : Time) where
   abbrev y : Pointstamp
@@ -47,7 +47,7 @@ module _ (p : ℕ) (q : ProcessorState) (vertex : ℕ) (t : Time) where
   abbrev pub own_release : Option Time → List Edit
   own_release to = (place_at p (Request y), negsuc 0) ∷ (place_at p (Unsent y), negsuc 0) ∷ by_asking to
 
-  -- at places of other kinds there is nothing more
+  -- nothing is added at places of other kinds
   asking_apart : (to : Option Time) (k : Place) → ((x : Pointstamp) → is_place k (place_at p (Request x)) ≡ false) → ((x : Pointstamp) → is_place k (place_at p (Unsent x)) ≡ false) → total_at (by_asking to) k ≡ pos 0
   asking_apart None k a b = refl
   asking_apart (Some to) k a b = asked-apart p (point_at vertex to) true left k (a (point_at vertex to)) (b (point_at vertex to))
@@ -61,7 +61,7 @@ module _ (p : ℕ) (q : ProcessorState) (vertex : ℕ) (t : Time) where
   own_alone None = tt
   own_alone (Some to) = asked-own p (point_at vertex to) true left
 
-  -- ---- the request that goes, and what comes
+  -- ---- the request that is removed, and the one that is added
 
   request_goes : fin.get q.requests y ≡ Some tt → (x : Pointstamp) → from_request (fin.get left x) ≡ from_request (fin.get q.requests x) +ℤ (cond (is_place (place_at p (Request x)) (place_at p (Request y))) (negsuc 0) (pos 0) +ℤ pos 0)
   request_goes found x =

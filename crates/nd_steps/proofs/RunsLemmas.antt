@@ -1,4 +1,4 @@
--- Changes made one after the other, and undone.
+-- Changes applied one after the other, and undone.
 use Rattle.std.proofs.Common.{◌≡◌, ◌<◌, ◌≤◌, ◌+◌, ℕ, ℤ, pos, neg_ℤ, ◌+ℤ◌, cond, List, [], ◌∷◌, ◌++◌, take, length, get_or, refl, sym, ap, subst, ◌∙◌, arith}
 use Rattle.std.proofs.lemmas.Int.{ints}
 use Rattle.std.proofs.lemmas.List.{take_more, take_all}
@@ -13,7 +13,7 @@ use Rattle.nd_steps.specs.Changes.{place_of, inverse, made, Fits, applied, state
 use Rattle.nd_steps.specs.declared.change.Change.{Change}
 use Rattle.nd_steps.proofs.PlacesLemmas.{SameShape, shape-itself, shape-turned, shape-through, shape-put, there_alike, same_state, standing-put, standing-put_at, may_stand}
 
--- ---- one change, made and undone
+-- ---- one change, applied and undone
 
 pub shape-made : (s : ClusterState) (c : Change) → SameShape (made s c) s
 shape-made s c = shape-put s (place_of c) (standing s (place_of c) +ℤ c.n)
@@ -30,14 +30,14 @@ moved_by s c k fits = standing-put_at s (place_of c) (standing s (place_of c) +�
 taken_again : (x y g : ℤ) → y ≡ x +ℤ g → y +ℤ neg_ℤ g ≡ x
 taken_again x y g e = omega (arith, ints, e)
 
--- what stood there before
+-- the integer that was there before
 pub stood : (s : ClusterState) (c : Change) → Fits s c → standing (made s c) (place_of c) +ℤ neg_ℤ (c.n) ≡ standing s (place_of c)
 stood s c fits = taken_again (standing s (place_of c)) (standing (made s c) (place_of c)) (c.n) (landed s c fits)
 
 none_back : (n : ℤ) → neg_ℤ n ≡ pos 0 → n ≡ pos 0
 none_back n e = omega (arith, ints, e)
 
--- the inverse of what was made fits, and leads back
+-- the inverse of an applied change fits, and leads back
 module _ (s : ClusterState) (c : Change) (fits : Fits s c) where
   back_there : IsThere (made s c) (place_of c)
   back_there = there_alike s (made s c) (place_of c) (shape-turned (made s c) s (shape-made s c)) (fits_there s c fits)

@@ -1,4 +1,4 @@
--- A broadcast in what is stored of a cluster: where it leads, and where undoing it leads back to.
+-- A broadcast on the stored parts of a cluster: where it leads, and where undoing it leads back to.
 use Rattle.std.proofs.Common.{◌≡◌, ℕ, ◌<◌, ◌-ℤ◌, List, length, get_or, set, Result, Ok, Err, OnErr, refl, sym, ap, subst, ◌∙◌, arith, length-set, get_or-set_same}
 use Rattle.std.proofs.lemmas.Int.{ints}
 use Rattle.std.proofs.lemmas.List.{set-set, set-get_or, get_or_default}
@@ -15,16 +15,16 @@ use Rattle.nd_steps.specs.Records.{Sends}
 use Rattle.nd_steps.specs.Seen.{seen}
 use Rattle.nd_steps.proofs.Ends.{IsNewest}
 
--- what holds at any rate holds of an error
+-- what always holds, holds in case of an error
 pub on_err : {T E : Type 0} (r : Result T E) {P : Type 0} → P → OnErr r P
 on_err (Ok v) h = tt
 on_err (Err e) h = h
 
--- one of the processors that are stored
+-- one of the stored processors
 pub processor_seen : (t : ClusterState) (g : Dataflow) (ps : List ProcessorState) (vs : List Kept) (m : List (List (List DeltaValue))) → seen g ps vs m ≡ t → (p : ℕ) (q : ProcessorState) → p < length ps → q ≡ get_or ps p q → q ≡ processor t p
 processor_seen t g ps vs m is p q lt here = here ∙ get_or_default ps p q idle lt ∙ ap (λ (t : ClusterState). processor t p) is
 
--- where it leads: a processor and the queues from it change
+-- where a broadcast leads: a processor and the queues from it change
 pub sent_leads : (t : ClusterState) (p : ℕ) (c : DeltaValue) → record t { processors = set t.processors p (record (processor t p) { unsent = minus (processor t p).unsent c }); queues = pushed t.queues p c } ≡ sent t p c
 unfolding sent
 sent_leads t p c = refl

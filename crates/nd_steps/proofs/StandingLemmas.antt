@@ -1,4 +1,4 @@
--- What stands is listed, so the difference of two states tells by how much they differ at each place.
+-- Each place with an integer other than 0 is listed, so the difference of two states says by how much they differ at each place.
 use Rattle.std.proofs.Common.{◌≡◌, ◌≢◌, ◌<◌, ◌+◌, ℕ, zero, suc, ℤ, pos, ◌-ℤ◌, Bool, true, false, cond, ◌||◌, List, [], ◌∷◌, ◌++◌, Option, Some, None, is_some, map, length, get_or, refl, sym, ap, ◌∙◌, arith, inl, inr, true≢false}
 use Rattle.std.proofs.lemmas.List.Folds.{list_any-append}
 use Rattle.std.proofs.lemmas.Map.Lookups.{exact_unsigned}
@@ -50,7 +50,7 @@ module _ {Y : Type 0} (p : Y → Bool) where
       let e : 0 + i ≡ i = omega arith in
       in_flat f 0 xs i d lt (ap (λ m. list_any p (f (m, get_or xs i d))) e ∙ h)
 
--- a key is listed, so its image is
+-- if a key is listed, so is its image
 carried : {K Y E : Type 0} {R : K → K → Ordering} {S : Y → Y → Ordering} (tells : IsAntisymmetric R) (o : IsTotalOrder S) (f : K → Y) (g : E → K) (q : K) (es : List E)
     → list_any (eq_by_cmp R q) (map g es) ≡ true → list_any (eq_by_cmp S (f q)) (map (λ e. f (g e)) es) ≡ true
 carried tells o f g q [] h = h
@@ -68,7 +68,7 @@ carried_keys : {K Y : Type 0} {R : K → K → Ordering} {S : Y → Y → Orderi
     → list_any (eq_by_cmp R q) ks ≡ true → list_any (eq_by_cmp S (f q)) (map f ks) ≡ true
 carried_keys {R = R} tells o f q ks h = carried tells o f (λ k. k) q ks (ap (list_any (eq_by_cmp R q)) (itself ks) ∙ h)
 
--- ---- what is not nothing is listed
+-- ---- integers other than 0 are listed
 
 in_entries : {K X : Type 0} {R : K → K → Ordering} {N : Number X} (m : Counts R N) (q : K) → number_at m q ≢ nil N → has_key R q (keys_of (entries m)) ≡ true
 in_entries {R = R} m q some = elim (has_key R q (keys_of (entries m))) as (λ b. has_key R q (keys_of (entries m)) ≡ b → b ≡ true) [
@@ -132,7 +132,7 @@ listed_processor i = places_of_processor i.0 i.1
 abbrev listed_view : ℕ × DeltaValue → List Place
 listed_view i = map (λ e. view_of i.0 e.0) (listed i.1)
 
--- what stands somewhere is listed
+-- a place whose integer is not 0 is listed
 listed_where : (s : ClusterState) (k : Place) → standing s k ≢ pos 0 → IsThere s k → has_key place_cmp k (places_of s) ≡ true
 listed_where s (place_at p l) some there =
     on_left (eq_by_cmp place_cmp (place_at p l)) (flat_map listed_processor (enumerate_from 0 s.processors)) (flat_map listed_view (enumerate_from 0 s.views))

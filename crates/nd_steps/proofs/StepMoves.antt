@@ -1,4 +1,4 @@
--- What is shown of each kind of step: which performer it writes, with which edits of its own.
+-- What is shown of each kind of step: which performer it writes, with which edits.
 use Rattle.std.proofs.Common.{◌≡◌, ℕ, ◌<◌, List, ◌++◌, length}
 use Rattle.nd_processor.specs.State.{ProcessorState}
 use Rattle.nd_protocol.specs.State.{ClusterState, processor}

@@ -30,7 +30,7 @@ pub total_at-map_apart : {X : Type 0} (f : X → Place) (g : X → ℤ) (k : Pla
 total_at-map_apart f g k apart [] = refl
 total_at-map_apart f g k apart (x ∷ xs) = without_it (is_place k (f x)) (g x) (total_at (map (λ x. (f x, g x)) xs) k) (apart x) (total_at-map_apart f g k apart xs)
 
--- whose map a place is in
+-- the processor whose map a place is in
 abbrev pub owner : Place → Option ℕ
 owner (place_at p slot) = Some p
 owner (view_of q point) = None
@@ -76,7 +76,7 @@ listed_items p vertex (e ∷ es) h key =
     ∙ ap (λ t. cond (eq_by_cmp item_cmp key e.0) e.1 (pos 0) +ℤ t) (listed_items p vertex es (listed-tail item_cmp e es h) key)
     ∙ add_found (eq_by_cmp item_cmp key e.0) e.1 (find item_cmp key es) (λ t. ap (λ k. find item_cmp k es) (tells_apart item_exact key e.0 t) ∙ absent_in_tail item_cmp e es h)
 
--- the edits of a vertex's items make the old ones the new ones
+-- the edits of a vertex's items turn the old items into the new ones
 pub items-here : (p vertex : ℕ) (old new : Items) (key : ItemKey) → number_at new key ≡ number_at old key +ℤ total_at (item_edits p vertex old new) (place_at p (State vertex key))
 items-here p vertex old new key =
     let a : total_at (item_edits p vertex old new) (place_at p (State vertex key)) ≡ or_else (pos 0) (find item_cmp key (entries (difference item_total old new)))

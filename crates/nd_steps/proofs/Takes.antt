@@ -1,4 +1,4 @@
--- A take: a record goes off its edge, and the edge's target does what it does.
+-- A take: a record is removed from its edge, and the edge's target reacts to it.
 use Rattle.std.proofs.Common.{lit<, ◌≡◌, inl, inr, ℕ, zero, suc, ◌+◌, ◌<◌, ◌≤◌, ℤ, pos, negsuc, ◌+ℤ◌, Bool, false, cond, List, ◌∷◌, ◌++◌, length, append_assoc, length-set, lt_of_not-le, refl, sym, ap, ◌∙◌, arith}
 use Rattle.std.proofs.lemmas.Int.{ints}
 use Rattle.std.specs.Prelude.{slice_set}
@@ -35,7 +35,8 @@ use Rattle.nd_steps.proofs.Feeds.{one_less, nothing_more}
 use Rattle.nd_steps.proofs.Effects.{asked, items-move, items-apart, items-own, record-goes, sinks-move, sinks-apart, sinks-own, requests-move, requests-held, asked-apart, asked-own}
 use Rattle.nd_map.specs.Cases.{at_least}
 
--- ---- the performer: a record of key k goes, a request at y may come, a vertex keeps other items, a sink may count a value
+-- ---- the performer: a record of key k is removed, a request at y may be added, a vertex has other items, a sink may count a
+-- value
 
 module _ (p : ℕ) (q : ProcessorState) (k : ValueAt) (y : Pointstamp) (vertex : ℕ) (value : ℤ) (asks counts : Bool) (items : Items) where
   abbrev pub after_take : ProcessorState
@@ -96,7 +97,7 @@ module _ (p : ℕ) (q : ProcessorState) (k : ValueAt) (y : Pointstamp) (vertex :
       in_parts (place_at p (Unsent x)) (total_at by_asking (place_at p (Unsent x))) (pos 0) (pos 0) refl
       (items-apart p vertex (items_at q vertex) items (place_at p (Unsent x)) (λ j. refl)) (sinks-apart p vertex value counts (place_at p (Unsent x)) (λ j. refl)) ∙ omega (arith, ints)
 
-  -- at a place apart from the two of the record that goes
+  -- a place other than the two of the record that is removed
   past_two : (place : Place) (t : ℤ) → is_place place (place_at p (Records k)) ≡ false → is_place place (place_at p (Unsent k.point)) ≡ false → total_at effect place ≡ t → total_at own_take place ≡ t
   past_two place t a b e = rw (a, b) (let z : pos 0 +ℤ (pos 0 +ℤ total_at effect place) ≡ t = omega (arith, ints) in z)
 

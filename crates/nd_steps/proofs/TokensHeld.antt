@@ -1,4 +1,4 @@
--- The pointstamps of a processor's tokens are those at which it holds one, and support the same entries.
+-- The pointstamps of a processor's tokens are those at which it holds one, so they support the same entries.
 use Rattle.std.proofs.Common.{◌≡◌, ◌<◌, ℕ, zero, suc, ℤ, pos, List, [], ◌∷◌, length, map, get_or, Option, Some, None, inl, inr, sym, ap, subst, ◌∙◌, arith}
 use Rattle.std.specs.Prelude.{Contains, IfSome}
 use Rattle.std.proofs.lemmas.Int.{ints}
@@ -45,7 +45,7 @@ holds q x among = at_one x (fin.entries q.tokens) among.0 among.1 among.2
 pub among_tokens : (q : ProcessorState) (x : Pointstamp) → HoldsToken q x → Contains (token_points q) x
 among_tokens q x held = held_at x (fin.entries q.tokens) held
 
--- ---- support by what is held, of two kinds that are one
+-- ---- support by two equal sets of held points
 
 supported : (R : Pointstamp → Pointstamp → Type 0) (H K : Pointstamp → Type 0) (f : Pointstamp → ℤ) → ((x : Pointstamp) → H x → K x) → (x : Pointstamp) → IsSupported R H f x → IsSupported R K f x
 supported R H K f to x s = (s.0, s.1, elim s.2 [ inl negative ↦ inl negative | inr held ↦ inr (to s.0 held) ])
@@ -60,7 +60,7 @@ module _ (R : Pointstamp → Pointstamp → Type 0) (H K : Pointstamp → Type 0
     first = λ y p. l.first y (record { positive = p.positive; alone = λ s. p.alone (supported R H K f to y s) });
   }
 
--- where nothing stays nothing is alone
+-- if nothing stays, nothing stays without support
 pub nothing_alone : (g : Dataflow) (q : ProcessorState) (c : DeltaValue) → minus q.unsent c ≡ none → LeavesUpright g q c
 nothing_alone g q c e x positive = absurd (let z : at (minus q.unsent c) x ≡ pos 0 = ap (λ m. at m x) e ∙ at-none x in omega (arith, ints, positive, z))
 

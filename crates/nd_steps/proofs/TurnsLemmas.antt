@@ -1,4 +1,4 @@
--- Changes put in order from the front: what is known of the first i, one more, and all.
+-- Changes put in order from the front: what is known about the first i, one more, and all.
 use Rattle.std.proofs.Common.{◌≡◌, ◌≢◌, ◌<◌, ◌≤◌, ◌+◌, ℕ, pos, Bool, true, false, ◌&&◌, List, length, get_or, refl, sym, ap, subst, ◌∙◌, inl, inr, arith}
 use Rattle.std.specs.Prelude.{◌↔◌, IsTrue}
 use Rattle.std.specs.List as edits
@@ -17,11 +17,11 @@ use Rattle.nd_steps.specs.Ordered.{StayWithin, StayFails}
 use Rattle.nd_steps.specs.declared.change.Change.{Change}
 use Rattle.nd_steps.proofs.EachLemmas.{each_at, each_from}
 
--- each of the first i has P
+-- each of the first i satisfies P
 abbrev pub Below : (Change → Type 0) → List Change → ℕ → Type 0
 Below P all i = (k : ℕ) (d : Change) → k < i → P (get_or all k d)
 
--- the first i of all are in order in the second list, whose others are as they were
+-- the first i changes of all are in order in the second list; the others are unchanged
 pub record IsPutInOrder (ps : List ProcessorState) (all cs : List Change) (turn i : ℕ) (counts entries : Bool) : Type 0 where
   pub same : IsPermutation all cs
   pub behind : turn ≤ i
@@ -74,7 +74,7 @@ module _ (ps : List ProcessorState) (all cs : List Change) (turn i : ℕ) (count
         λ each. both.1 ((λ k d less. each k d (omega (arith, less))), subst P (of_all x) (each i x (omega arith))),
       )
 
-  -- it leaves nothing, and stays where it stands
+  -- the integer after the change is 0, and the change stays in its position
   nothing : (after ps x ≢ pos 0 → ⊥) → after ps x ≡ pos 0
   nothing not = elim (zero_or_not (after ps x)) [ inl none ↦ none | inr some ↦ absurd (not some) ]
 
@@ -93,7 +93,7 @@ module _ (ps : List ProcessorState) (all cs : List Change) (turn i : ℕ) (count
     entries_stay = below_more (EntryStays ps) entries entry h.entries_stay entry_is;
   }
 
-  -- it leaves something, and changes places with the first that does not
+  -- the integer after the change is not 0, and the change swaps places with the first for which it is 0
   module _ (some : after ps x ≢ pos 0) (ds : List Change) (moved : IsPermutation cs ds) (swapped : ds ≡ edits.swap cs turn i) where
     in_range : i < length cs
     in_range = let e = length_permutation all cs h.same in omega (arith, lt, e)

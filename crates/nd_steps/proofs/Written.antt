@@ -1,4 +1,4 @@
--- A step that writes its performer and lets records come adds what the edits of both say.
+-- A step that writes its performer and lets records arrive adds what the edits of both say.
 use Rattle.std.proofs.Common.{◌≡◌, inl, inr, ℕ, ◌+◌, ◌<◌, ℤ, pos, ◌+ℤ◌, List, length, refl, sym, ap, subst, ◌∙◌, arith, length-set, get_or-set_same, get_or-set_other}
 use Rattle.std.proofs.lemmas.Int.{ints}
 use Rattle.std.proofs.lemmas.Bool.{cases_eq}
@@ -26,7 +26,8 @@ use Rattle.nd_steps.proofs.AlikeLemmas.{other_place}
 use Rattle.nd_steps.proofs.SumsOfSteps.{owner, apart_of, AreOf, total_at-elsewhere}
 use Rattle.nd_steps.proofs.Arrivals.{AreTo, comes, arrives, come-record, come-unsent, come-apart, records-come, count-come}
 
--- processor p, written anew, has more by its edits at each of its places; what is outstanding in it moves as its edits of the unsent change say
+-- the new processor p has more by its edits at each of its places; what is outstanding in it changes as its edits of the unsent
+-- change say
 pub record IsMove (p : ℕ) (q r : ProcessorState) (own : List Edit) : Type 0 where
   pub records : (key : ValueAt) → int_at r.records key ≡ int_at q.records key +ℤ total_at own (place_at p (Records key))
   pub requests : (x : Pointstamp) → from_request (fin.get r.requests x) ≡ from_request (fin.get q.requests x) +ℤ total_at own (place_at p (Request x))
@@ -42,13 +43,13 @@ pub record IsMove (p : ℕ) (q r : ProcessorState) (own : List Edit) : Type 0 wh
 abbrev pub written : List ProcessorState → ℕ → ProcessorState → List (ℕ × ValueAt) → List ProcessorState
 written qs p r rs = with_gain qs p (with_records (slice_set qs p r) rs)
 
--- ---- the shape of it
+-- ---- its shape
 
 pub length-written : (qs : List ProcessorState) (p : ℕ) (r : ProcessorState) (rs : List (ℕ × ValueAt)) → length (written qs p r rs) ≡ length qs
 length-written qs p r rs = length-set (with_records (slice_set qs p r) rs) p _ ∙ length-records (slice_set qs p r) rs ∙ length-set qs p r
 
 module _ {X : Type 0} (f : ProcessorState → X) (keeps : (q : ProcessorState) (m : Counts value_at_cmp naturals) → f (record q { records = m }) ≡ f q) (spares : (q : ProcessorState) (c : DeltaValue) → f (record q { unsent = c }) ≡ f q) where
-  -- what is neither records nor unsent is that of the written performer, and else as it was
+  -- a field other than records and unsent is that of the written performer, or unchanged for other processors
   kept-written : (qs : List ProcessorState) (p : ℕ) (r : ProcessorState) (rs : List (ℕ × ValueAt)) (k : ℕ) → f (slice_index_or (written qs p r rs) k idle) ≡ f (slice_index_or (slice_set qs p r) k idle)
   kept-written qs p r rs k =
       let done : List ProcessorState = with_records (slice_set qs p r) rs in
@@ -61,10 +62,10 @@ pub items-written : (qs : List ProcessorState) (p : ℕ) (r : ProcessorState) (r
 items-written qs p r rs same k =
     ap length (kept-written (λ q. q.items) (λ q m. refl) (λ q c. refl) qs p r rs k) ∙ kept-set (λ q. length q.items) qs p r same k
 
--- ---- what stands there
+-- ---- the integers afterwards
 
 module _ (qs : List ProcessorState) (p : ℕ) (r : ProcessorState) (own : List Edit) (lt : p < length qs) where
-  -- a number of one processor, by its place's edits
+  -- a number of one processor, from the edits at its place
   one_moves : (m : ProcessorState → ℤ) (there : ℕ → Place) → m r ≡ m (slice_index_or qs p idle) +ℤ total_at own (there p) → ((k : ℕ) → (k ≡ p → ⊥) → total_at own (there k) ≡ pos 0)
       → (k : ℕ) → m (slice_index_or (slice_set qs p r) k idle) ≡ m (slice_index_or qs k idle) +ℤ total_at own (there k)
   one_moves m there here others k = elim (cases_eq k p) [
@@ -85,7 +86,7 @@ module _ (qs : List ProcessorState) (p : ℕ) (r : ProcessorState) (own : List E
     abbrev added_at : Place → ℤ
     added_at k = total_at own k +ℤ total_at (come_edits p rs) k
 
-    -- a place at which no record comes
+    -- a place at which no record arrives
     by_own : (place : Place) (a b : ℤ) → a ≡ b +ℤ total_at own place → total_at (come_edits p rs) place ≡ pos 0 → a ≡ b +ℤ added_at place
     by_own place a b e z = omega (arith, ints)
 
@@ -169,7 +170,7 @@ module _ (qs : List ProcessorState) (p : ℕ) (r : ProcessorState) (own : List E
         (let z : total_at own (view_of q x) ≡ pos 0 = total_at-elsewhere p own (view_of q x) move.own_alone (λ e. absurd (cc)) in omega (arith, ints))
         (come-apart p rs (view_of q x) (λ s. refl) (λ s. refl))
 
--- such a step adds at each place what the performer's own edits and those of the records that come add
+-- such a step adds at each place what the performer's edits and those of the arriving records add
 pub standing-written : (s : ClusterState) (p : ℕ) (r : ProcessorState) (own : List Edit) (rs : List (ℕ × ValueAt)) → p < length s.processors → AreTo (length s.processors) rs
     → IsMove p (processor s p) r own → (k : Place) → standing (record s { processors = written s.processors p r rs }) k ≡ standing s k +ℤ (total_at own k +ℤ total_at (come_edits p rs) k)
 standing-written s p r own rs lt to move (place_at k (Records key)) = records_now s.processors p r own lt rs to move k key

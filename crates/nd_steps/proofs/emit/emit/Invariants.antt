@@ -3,7 +3,7 @@ use Rattle.nd_protocol.specs.Steps.{made_on}
 use Rattle.nd_steps.specs.Drafts.{arrivals, made_by}
 use Rattle.nd_steps.proofs.emit.emit.Given as goal
 
--- the records on the edges so far, with those on the rest, are all
+-- the records on the edges so far and those on the rest are all records
 abbrev pub invariant-loop-i : goal.invariant-loop-i
 invariant-loop-i g l = record {
   p : l.draft.p ≡ l.initial.draft.p;

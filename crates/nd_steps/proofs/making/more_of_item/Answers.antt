@@ -17,7 +17,7 @@ use Rattle.nd_steps.proofs.making.more_of_item.Goals as goal
 stored : ℤ → ℤ
 stored z = to_z w128 (of_z w128 z)
 
--- what stood, and what stands then
+-- the number before, and the number after
 module _ (m n : Items) (j k : ItemKey) (is : m ≡ n) (same : j ≡ k) (old : Option ℤ) (found : old ≡ item_of m j) where
   old_is : from_number old ≡ at n k
   old_is = ap from_number (found ∙ (λ i. item_of (is i) (same i))) ∙ was (at n k)

@@ -4,7 +4,7 @@ use Rattle.nd_delta.specs.Least.{AllUpTo}
 use Rattle.nd_steps.proofs.CountsReceived.{IsFitting}
 use Rattle.nd_steps.proofs.receive.is_overfull.Given as goal
 
--- at the points of the entries so far the count is within its limit
+-- the counts at the points of the entries so far are within the limit
 abbrev pub invariant-loop-entry : goal.invariant-loop-entry
 invariant-loop-entry g l = record {
   items : l.entry-items ≡ entries l.change;
