@@ -45,7 +45,7 @@ module _ {X : Type 0} where
   pub among_first : (x : X) (xs : List X) → Contains (x ∷ xs) x
   among_first x xs = All-head (Contains (x ∷ xs)) x xs (All-contains_itself (x ∷ xs))
 
-  -- each element stands before each later one
+  -- each element is before each later one, in the sense of the relation
   abbrev pub InOrder : (X → X → Type 0) → List X → Type 0
   InOrder R [] = Unit {0}
   InOrder R (x ∷ xs) = All (R x) xs × InOrder R xs
@@ -61,7 +61,7 @@ module _ {X : Type 0} where
     in_order_after (z ∷ xs) x ys h = in_order_after xs x ys h.1
 
 module _ {Y : Type 0} (f : ℕ → List Y) where
-  -- what each of the lists from k on has, they have together
+  -- if P holds of all elements of each of the lists from k on, it holds of all elements of the joined list
   pub all_in_turn : (P : Y → Type 0) (k n : ℕ) → ((j : ℕ) → k ≤ j → j < k + n → All P (f j)) → All P (flat_map f (range_with_len k n))
   all_in_turn P k zero h = All-nil P
   all_in_turn P k (suc n) h =
@@ -94,7 +94,7 @@ module _ {Y : Type 0} (f : ℕ → List Y) where
   pub turns_more : (k i : ℕ) → flat_map f (range_with_len k (i + 1)) ≡ flat_map f (range_with_len k i) ++ (f (k + i) ++ [])
   turns_more k i = turns_split k i 0
 
--- ---- steps that cannot each come before the other
+-- ---- steps neither of which comes before the other
 
 less_both : {K : Type 0} (R : K → K → Ordering) → IsTotalOrder R → (a b : K) → R a b ≡ Less → R b a ≡ Less → ⊥
 less_both R o a b p q = absurd (cc (o.trans a b a p q, tied_itself o a))
@@ -112,7 +112,7 @@ module _ {A : Type 0} where
   not_both x y (inr a) (inl b) = omega (arith, a.0, b)
   not_both x y (inr a) (inr b) = listed_both x y a.1 b.1
 
-  -- what is of a lesser rank comes first
+  -- steps of a lesser rank come first
   ranks_apart : (xs ys : List (Step A)) (r : ℕ) → All (λ x. rank x < r) xs → All (λ y. r ≤ rank y) ys → All (λ x. All (ComesFirst x) ys) xs
   ranks_apart xs ys r low high =
       All-weaker (λ x. rank x < r) (λ x. All (ComesFirst x) ys) (λ x lt. All-weaker (λ y. r ≤ rank y) (ComesFirst x) (λ y le. inl (omega (arith, lt, le))) ys high) xs low
@@ -144,7 +144,7 @@ module _ (A : Type 0) (s : ClusterState) (p : ℕ) where
   broadcasts_part : All (IsPart 3) (broadcasts s p)
   broadcasts_part = broadcast_part (updates (processor s p).unsent)
 
-  -- ---- what all of them are
+  -- ---- what the candidates are
 
   all_of : (P : Step A → Type 0) → ((r : ℕ) (x : Step A) → IsPart r x → P x) → All P (candidates_of s p)
   unfolding candidates_of
@@ -320,7 +320,7 @@ module _ {A : Type 0} (s : ClusterState) where
 
   -- ---- the first that is enabled
 
-  -- none of a processor's is
+  -- no candidate of a processor is enabled
   pub none_on : (p : ℕ) → AreRefused {A = A} s (candidates_of s p) → HasNone {A = A} s (IsOf p)
   none_on p h y candidate kind e = All-contains (λ x. IsEnabled s x → ⊥) (candidates_of s p) y h (covers_of p y candidate kind e) e
 
@@ -328,7 +328,7 @@ module _ {A : Type 0} (s : ClusterState) where
     stands : Contains xs x
     stands = subst (λ ys. Contains ys x) (sym h.place) (Contains-append_right h.before (x ∷ h.after) x (among_first x h.after))
 
-    -- of those that are in order, none that is enabled comes before it
+    -- among steps in order, no enabled one comes before it
     none_before : InOrder ComesFirst xs → (y : Step A) → Contains xs y → ComesFirst y x → IsEnabled s y → ⊥
     none_before sorted y there before e =
         elim (Contains-append_cases h.before (x ∷ h.after) y (subst (λ ys. Contains ys y) h.place there)) [
@@ -385,7 +385,7 @@ module _ {A : Type 0} (s : ClusterState) where
         (All-append (λ y. IsEnabled s y → ⊥) (flat_map f (range_with_len 0 i)) (f i ++ []) refused (All-append (λ y. IsEnabled s y → ⊥) (f i) [] h (All-nil (λ y. IsEnabled s y → ⊥))))
 
   module _ (only : Option (List ℕ)) (turn i m n : ℕ) (from : m ≡ length s.processors) (count : n ≡ length s.processors) where
-    -- what is found on the processor whose turn it is
+    -- what is found for the processor whose turn it is
     pub found_after : (x : Step A) → IsFirstEnabled s (candidates_if s only ((turn % m + i) % n)) x → IsFirstEnabled s (candidates_after s turn only i) x
     found_after x h = subst (λ q. IsFirstEnabled s (candidates_if s only q) x) (whose s turn i m n from count) h
 
@@ -395,7 +395,7 @@ module _ {A : Type 0} (s : ClusterState) where
   -- ---- among some processors
 
   module _ (only : Option (List ℕ)) (p : ℕ) where
-    -- an enabled one is found of a processor that may run alone
+    -- an enabled step is found only for a processor that may run
     pub found_if : (x : Step A) → IsFirstEnabled s (candidates_if s only p) x → MayRun only p × IsFirstEnabled s (candidates_of s p) x
     found_if x h = by (may_run only p) (λ t. listed only p t) h
       where
@@ -403,11 +403,11 @@ module _ {A : Type 0} (s : ClusterState) where
         by true goes h = (goes refl, h)
         by false goes h = absurd (omega (arith, ap length h.place, length-append h.before (x ∷ h.after)))
 
-    -- those of a processor that may run
+    -- the candidates of a processor that may run
     pub if_listed : MayRun only p → candidates_if {A = A} s only p ≡ candidates_of s p
     if_listed may = ap (λ b. cond b (candidates_of s p) []) (is_listed only p may)
 
-    -- they are candidates of a processor that may run
+    -- these are candidates of a processor that may run
     kinds_if : All (λ (x : Step A). IsCandidate x × MayRun only (performer x)) (candidates_if s only p)
     kinds_if = by (may_run only p) (λ t. listed only p t)
       where
@@ -416,7 +416,7 @@ module _ {A : Type 0} (s : ClusterState) where
         by false goes = All-nil (λ (x : Step A). IsCandidate x × MayRun only (performer x))
 
   module _ (only : Option (List ℕ)) where
-    -- of those of a processor that may run, none is enabled
+    -- no candidate of a processor that may run is enabled
     pub none_if : (p : ℕ) → AreRefused {A = A} s (candidates_if s only p) → MayRun only p → HasNone {A = A} s (IsOf p)
     none_if p h may = none_on p (subst (AreRefused s) (if_listed only p may) h)
 
@@ -428,16 +428,16 @@ module _ {A : Type 0} (s : ClusterState) where
     kinds_among : All (λ (x : Step A). IsCandidate x × MayRun only (performer x)) (candidates_among s only)
     kinds_among = all_in_turn (candidates_if s only) (λ (x : Step A). IsCandidate x × MayRun only (performer x)) 0 (length s.processors) (λ p low high. kinds_if only p)
 
-    -- if none may be chosen, all are refused
+    -- if the cluster is idle, all candidates are refused
     pub idle_refused : IsIdle A s only → AreRefused {A = A} s (candidates_among s only)
     idle_refused h =
         All-weaker (λ (x : Step A). IsCandidate x × MayRun only (performer x)) (λ x. IsEnabled s x → ⊥) (λ x is e. h.none x is.0 is.1 e) (candidates_among s only) kinds_among
 
-    -- one that is chosen is not refused
+    -- if a step may be chosen, not all candidates are refused
     pub chosen_not_refused : (x : Step A) → IsCandidate x → MayRun only (performer x) → IsEnabled s x → AreRefused {A = A} s (candidates_among s only) → ⊥
     chosen_not_refused x candidate may e h = All-contains (λ y. IsEnabled s y → ⊥) (candidates_among s only) x h (covers_among x candidate may e) e
 
--- ---- what is left of a processor's candidates
+-- ---- the remaining candidates of a processor
 
 module _ {A : Type 0} (s : ClusterState) (p : ℕ) where
   receives_split : (from : ℕ) → from < length s.processors → receives_after {A = A} s p from ≡ receive_of p from (queue s from p) ++ receives_after s p (from + 1)
@@ -445,7 +445,7 @@ module _ {A : Type 0} (s : ClusterState) (p : ℕ) where
       let more : length s.processors - from ≡ suc (length s.processors - (from + 1)) = omega (arith, lt) in
       ap (λ n. receives_from s p (range_with_len from n)) more
 
-  -- a sender has something on its way
+  -- the queue from a sender is not empty
   pub next_receive : (from : ℕ) → from < length s.processors → 0 < length (queue s from p) → receives_after {A = A} s p from ≡ Receive from p ∷ receives_after s p (from + 1)
   next_receive from lt some = receives_split from lt ∙ by (queue s from p) some
     where
@@ -453,7 +453,7 @@ module _ {A : Type 0} (s : ClusterState) (p : ℕ) where
       by [] h = absurd (omega (arith, h))
       by (c ∷ cs) h = refl
 
-  -- it has nothing
+  -- the queue from a sender is empty
   pub no_receive : (from : ℕ) → from < length s.processors → length (queue s from p) ≡ 0 → receives_after {A = A} s p from ≡ receives_after s p (from + 1)
   no_receive from lt nothing = receives_split from lt ∙ by (queue s from p) nothing
     where
@@ -473,7 +473,7 @@ module _ {A : Type 0} (s : ClusterState) (p : ℕ) where
       let some : nat_lt 0 (length (e ∷ es)) ≡ true = grind (arith, nat_tests) in
       ap (λ b. cond b (Broadcast p Whole ∷ []) []) some
 
-  -- at first all are left
+  -- at first all candidates are left
   pub all_left : (q : ProcessorState) (records : List (ValueAt × ℕ)) (requests : List (Pointstamp × Unit {0})) (m : DeltaValue) (n : ℕ)
       → q ≡ processor s p → records ≡ entries q.records → requests ≡ fin.entries q.requests → m ≡ q.unsent → n ≡ size m
       → left_of {A = A} s p 0 records requests (nat_lt 0 n) ≡ candidates_of s p
@@ -486,10 +486,10 @@ module _ {A : Type 0} (s : ClusterState) (p : ℕ) where
       (λ i. receives_from s p (range_with_len 0 (all i)) ++ (map (λ e. take_of p e.0) (rs i) ++ (map (λ e. notice_of p e.0) (qs i) ++ cond (nat_lt 0 (us i)) (Broadcast p Whole ∷ []) [])))
       ∙ ap (λ b. receives s p ++ (takes s p ++ (notices s p ++ b))) (broadcast_if (updates (processor s p).unsent))
 
--- ---- what is listed
+-- ---- the list of candidates
 
 module _ {A : Type 0} (s : ClusterState) (all : List (Step A)) where
-  -- there is room for one step more
+  -- there is room for one more step
   pub with_room : (c : Candidate A) (old new : Candidates A) → AreListed s all old → length old.list < max_told → IsAnswered s c → new.list ≡ old.list ++ c ∷ [] → new.more ≡ old.more → AreListed s (all ++ c.step ∷ []) new
   with_room c old new is room answered pushed same =
       let steps : List (Candidate A) → List (Step A) = map (λ (d : Candidate A). d.step) in
@@ -503,7 +503,7 @@ module _ {A : Type 0} (s : ClusterState) (all : List (Step A)) where
         more = (λ some. absurd (let lt : max_told < length all = is.more.0 (sym same ∙ some) in omega (arith, lt, fewer)), λ lt. absurd (omega (arith, lt, more, fewer)));
       }
 
-  -- there is none
+  -- there is no room
   pub without_room : (x : Step A) (old new : Candidates A) → AreListed s all old → max_told ≤ length old.list → new.list ≡ old.list → new.more ≡ true → AreListed s (all ++ x ∷ []) new
   without_room x old new is full same some =
       let count : length (map (λ (d : Candidate A). d.step) old.list) ≡ length old.list = length-map old.list (λ (d : Candidate A). d.step) in
@@ -513,7 +513,7 @@ module _ {A : Type 0} (s : ClusterState) (all : List (Step A)) where
         more = (λ _. omega (arith, length-append all (x ∷ []), many), λ _. some);
       }
 
-  -- there are more than are listed already
+  -- there are already more than are listed
   pub more_already : (rest : List (Step A)) (listed : Candidates A) → AreListed s all listed → listed.more ≡ true → AreListed s (all ++ rest) listed
   more_already rest listed is some =
       let many : max_told < length all = is.more.0 some in record {
@@ -523,7 +523,7 @@ module _ {A : Type 0} (s : ClusterState) (all : List (Step A)) where
       }
 
 module _ {A : Type 0} (s : ClusterState) where
-  -- the steps of one processor more
+  -- the steps of one more processor
   pub listed_in_turn : (f : ℕ → List (Step A)) (i : ℕ) (old new : Candidates A) → AreListed s (flat_map f (range_with_len 0 i)) old → Lists s (f i) old new → AreListed s (flat_map f (range_with_len 0 (i + 1))) new
   listed_in_turn f i old new is more =
       let this : 0 + i ≡ i = omega arith in

@@ -42,19 +42,19 @@ module _ (n turn : ℕ) (some : 0 < n) where
             ∙ ap (λ k. k % n) (let e : r + (q + n - r) ≡ q + n = omega (arith, within) in e) ∙ add-mod_right q n ∙ mod-eq_of_lt lt
       ]
 
--- ---- a processor's steps
+-- ---- the steps of a processor
 
 abbrev pub IsOf : {A : Type 0} → ℕ → Step A → Type 0
 IsOf p x = performer x ≡ p
 
--- the first of the enabled candidates of a kind
+-- the first of the enabled candidates of some kind
 pub record IsFirst {A : Type 0} (s : ClusterState) (Kind : Step A → Type 0) (x : Step A) : Type 0 where
   pub candidate : IsCandidate x
   pub kind : Kind x
   pub enabled : IsEnabled s x
   pub first : (y : Step A) → IsCandidate y → Kind y → ComesFirst y x → IsEnabled s y → ⊥
 
--- none of a kind is enabled
+-- no step of this kind is enabled
 abbrev pub HasNone : {A : Type 0} → ClusterState → (Step A → Type 0) → Type 0
 HasNone {A} s Kind = (y : Step A) → IsCandidate y → Kind y → IsEnabled s y → ⊥
 
@@ -73,7 +73,7 @@ module _ (A : Type 0) (s : ClusterState) where
   -- ---- all processors that may run
 
   module _ (only : Option (List ℕ)) where
-    -- no candidate of a processor that may run and whose turn came is enabled
+    -- no candidate is enabled of a processor that may run and whose turn has come
     abbrev pub NoneWaits : ℕ → ℕ → Type 0
     NoneWaits turn i = (y : Step A) → IsCandidate y → MayRun only (performer y) → wait (length s.processors) turn (performer y) < i → IsEnabled s y → ⊥
 
@@ -91,7 +91,7 @@ module _ (A : Type 0) (s : ClusterState) where
           ];
         }
 
-    -- the processor whose turn it is has none, or may not run
+    -- the processor whose turn it is has no enabled candidate, or may not run
     pub none_waits_more : 0 < length s.processors → (turn i : ℕ) → NoneWaits turn i
         → (MayRun only ((turn % length s.processors + i) % length s.processors) → HasNone {A = A} s (IsOf ((turn % length s.processors + i) % length s.processors)))
         → NoneWaits turn (i + 1)
@@ -103,7 +103,7 @@ module _ (A : Type 0) (s : ClusterState) where
               here (subst (MayRun only) whose listed) y candidate whose e
         ]
 
-    -- the turn of each came
+    -- the turn of each processor has come
     pub idle_of : 0 < length s.processors → (turn i : ℕ) → length s.processors ≤ i → NoneWaits turn i → IsIdle A s only
     idle_of some turn i all none = record {
       none = λ y candidate listed e. none y candidate listed (omega (arith, all, mod-lt (performer y + length s.processors - turn % length s.processors) some)) e;

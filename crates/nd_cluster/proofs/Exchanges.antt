@@ -1,4 +1,4 @@
--- Why a broadcast and a receive are enabled or refused, and how much they change.
+-- Why a broadcast or a receive is enabled or refused, and how much it changes.
 use Rattle.std.proofs.Common.{◌≡◌, ◌≢◌, ◌⊎◌, inl, inr, ℕ, ◌+◌, ◌-◌, ◌<◌, ◌≤◌, ℤ, pos, List, [], length, Vec, Result, Ok, Err, Some, None, refl, sym, ap, subst, ◌∙◌, arith, get_or-set_same, get_or-set_other}
 use Rattle.std.proofs.lemmas.Bool.{cases_lt, cases_eq}
 use Rattle.std.proofs.lemmas.Int.{ints}
@@ -61,7 +61,7 @@ module _ {A : Type 0} (s : ClusterState) where
         let all : length (flow_changes p gone f) + 0 ≡ changed s (stepped {A = A} s (take_of p gone)) = omega (arith, leads.small) in
         record { enabled = may; makes = (leads.runs, leads.arrives); small = all }
 
-    -- of a take of which what comes tells the changes
+    -- a take whose consequence determines its changes
     pub flow_plans : (x : Step A) → x ≡ take_of p gone → IsEnabled s x → LeadsTo s (stepped s x) (flow_changes p gone f) → Plans s x (Flowed f)
     flow_plans x is may leads =
         subst (λ (y : Step A). Plans s y (Flowed f)) (sym is)
@@ -106,7 +106,7 @@ module _ {A : Type 0} (s : ClusterState) (p : ℕ) (part : Part A) (c : DeltaVal
 
 -- ---- a receive
 
--- the reason for which nothing is received, of the state and of what is stored of it
+-- the reason why nothing is received, in terms of the state and of what is stored of it
 pub fails_in : (v w : DeltaValue) (q r : List DeltaValue) (e f : Refusal) → v ≡ w → q ≡ r → e ≡ f → ReceiveFails w q f → ReceiveFails v r e
 fails_in v w q r e f a b c h = subst (λ x. ReceiveFails x r e) (sym a) (subst (λ x. ReceiveFails w x e) b (subst (ReceiveFails w q) (sym c) h))
 
@@ -120,7 +120,7 @@ error_is r a b h k = ap (error_or a) (sym h ∙ k)
 no_entry : (z : ℤ) → z ≡ pos 0 → max_count < unsigned_abs z → ⊥
 no_entry z e large = omega (arith, ints, e, large)
 
--- no entry is past its limit in a state
+-- no entry in a state exceeds its limit
 small_entries : (s : ClusterState) → IsState s → HasLargeEntry s → ⊥
 small_entries s state (of_unsent p x large) = elim (cases_lt p (length s.processors)) [
   | inl lt ↦ let l : unsigned_abs (at (processor s p).unsent x) ≤ max_count = (state.within.processors p idle lt).unsent x in omega (arith, l, large)
@@ -140,7 +140,7 @@ module _ (A : Type 0) (s : ClusterState) (from to : ℕ) (state : IsState s) (he
   view_there = subst (λ n. to < n) (sym state.fits.each_view) there
 
   module _ (c : DeltaValue) (front : slice_get (queue s from to) 0 ≡ Some c) where
-    -- the view that receives it, and the other views
+    -- the receiver's view, and the other views
     view_now : view (stepped {A = A} s (Receive from to)) to ≡ plus (view s to) c
     unfolding stepped
     view_now = ap (λ (t : ClusterState). view t to) (received-front s from to c front) ∙ get_or-set_same s.views to (plus (view s to) c) none view_there

@@ -1,4 +1,4 @@
--- What fits a graph entry by entry fits it as a map, and parts that fit make a state.
+-- If the entries of a map fit a graph, so does the map; and parts that fit make a state.
 use Rattle.std.proofs.Common.{◌≡◌, ◌≢◌, ◌<◌, ◌≤◌, ◌+◌, inl, inr, ℕ, zero, suc, ℤ, pos, List, [], ◌∷◌, map, length, get_or, Option, Some, None, refl, sym, ap, subst, ◌∙◌, arith, Ordering}
 use Rattle.std.specs.Prelude.{All}
 use Rattle.std.specs.Cmp.{IsTotalOrder}
@@ -38,7 +38,7 @@ integer_of : (o : Option ℤ) → or_zero o ≢ pos 0 → record { value : ℤ; 
 integer_of None h = absurd (h refl)
 integer_of (Some v) h = record { value = v; is = refl }
 
--- what holds of each entry of a change holds where it is not 0
+-- what holds of each entry of a change holds at each pointstamp at which it is not 0
 pub change_from : (g : Dataflow) (c : DeltaValue) → All (λ e. IsAtLocation g e.0) (listed c) → DeltaFits g c
 change_from g c all x some =
     let v = integer_of (find point_cmp x (listed c)) (λ z. some (sym (change-entries c x) ∙ z)) in

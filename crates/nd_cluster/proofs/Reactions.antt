@@ -1,4 +1,4 @@
--- What the tests of a take and of a notice have shown lets their vertices act; and what remains to be refused.
+-- The tests of a take and of a notice show that their vertices may act; and what may still be refused.
 use Rattle.std.proofs.Common.{inl, inr, ◌≡◌, ℕ, zero, suc, ◌-◌, ◌<◌, ◌≤◌, Bool, true, false, cond, not, get_or, ◌&&◌, ◌||◌, ◌==◌, List, [], ◌∷◌, ◌++◌, map, length, Option, Some, None, refl, sym, ap, subst, ◌∙◌, arith, lt_of_not-le}
 use Rattle.std.proofs.lemmas.Bool.Decides.{nat_tests}
 use Rattle.std.specs.Prelude.{nat_lt, slice_get}
@@ -47,7 +47,7 @@ second_none false true c e = absurd (cc)
 second_none false false true e = absurd (cc)
 second_none false false false e = (refl, refl)
 
--- an action that is not misplaced can be taken
+-- an action that is not misplaced can be applied
 may : (a : Action) (d : ℕ) → (stands_in_loop a && d == 0) ≡ false → (nat_lt max_depth d || (leads_in a && d == max_depth)) ≡ false → MayActAt a d
 may Identity d e f = tt
 may Ingress d e f = grind (arith, nat_tests, f)
@@ -60,7 +60,7 @@ may_at (v ∷ vs) zero e f =
     may (action_of v.op) v.depth (or_parts (is_input v.op && nat_lt 0 v.depth) (stands_in_loop (action_of v.op) && v.depth == 0) (or_parts (is_misplaced v) (list_any is_misplaced vs) e).0).1 (or_parts (is_too_deep max_depth v) (list_any (is_too_deep max_depth) vs) f).0
 may_at (v ∷ vs) (suc l) e f = may_at vs l (or_parts (is_misplaced v) (list_any is_misplaced vs) e).1 (or_parts (is_too_deep max_depth v) (list_any (is_too_deep max_depth) vs) f).1
 
--- the depth of an edge stands among those of the edges
+-- the depth of an edge is among those of the edges
 among_edges : (ws : List Vertex) (ds : List ℕ) (l d : ℕ) → length ws ≤ l → slice_get (map (λ (v : Vertex). v.depth) ws ++ ds) l ≡ Some d → slice_get ds (l - length ws) ≡ Some d
 among_edges [] ds l d low e = let same : l - 0 ≡ l = omega arith in ap (slice_get ds) same ∙ e
 among_edges (w ∷ ws) ds zero d low e = absurd (omega arith)

@@ -13,7 +13,7 @@ use Rattle.nd_protocol.specs.Steps.{point_at}
 use Rattle.nd_protocol.specs.declared.times.Times.{Times}
 use Rattle.nd_steps.specs.Drafts.{ReleasesSo, asks_later}
 
--- whether a request is there, by a test that says so
+-- whether a request is there, from a test
 unasked : (v : Option (Unit {0})) (b : Bool) → IsTrue b ↔ (v ≡ Some tt) → not b ≡ is_none v
 unasked None true h = (let none : None ≡ Some tt = h.0 refl in absurd (cc))
 unasked None false h = refl
@@ -21,7 +21,7 @@ unasked (Some u) true h = refl
 unasked (Some u) false h = (let never : IsTrue false = h.1 refl in absurd (cc))
 
 module _ (m : Requests) (x y : Pointstamp) where
-  -- a request goes, and each other one stays
+  -- one request is removed, and each other one stays
   gone : y ≡ x → is_none (fin.get (fin.remove m x) y) ≡ true
   gone e =
       ap is_none (fin.get-remove point_total m x y ∙ ap (λ b. cond b None (fin.get m y)) (ap (λ z. eq_by_cmp point_cmp z x) e ∙ ap is_eq (tied_itself point_total x)))
@@ -40,7 +40,7 @@ module _ (s : ClusterState) (p vertex : ℕ) (times : Times) (kept : fin.get (pr
   abbrev left : Requests
   left = fin.remove (processor s p).requests (point_at vertex times.time)
 
-  -- the capability moves to the time at which it was kept
+  -- the capability moves to the time at which it was held
   pub asks_same : (to : Time) → times.to ≡ Some to → to ≡ times.time → ReleasesSo s p vertex times true
   asks_same to is same = record {
     asked = kept;

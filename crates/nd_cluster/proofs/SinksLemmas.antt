@@ -4,7 +4,7 @@ use Rattle.std.proofs.lemmas.List.{take_all}
 use Rattle.nd_processor.specs.State.{ProcessorState}
 use Rattle.nd_cluster.specs.Sinks.{sunk}
 
--- the sum over as many processors as there are
+-- the sum over all processors
 pub sunk_all : (n : ℕ) (qs : List ProcessorState) (vertex : ℕ) (value : ℤ) (total : ℕ) → length qs ≤ n → total ≡ sunk (take n qs) vertex value → total ≡ sunk qs vertex value
 sunk_all n qs vertex value total past is = is ∙ ap (λ rs. sunk rs vertex value) (take_all n qs past)
 

@@ -1,4 +1,4 @@
--- The start of a cluster: its tokens, counted once for each processor, are all that is outstanding.
+-- The initial state of a cluster: its tokens, counted once for each processor, are all that is outstanding.
 use Rattle.std.proofs.Common.{◌≡◌, ◌<◌, ◌+◌, ◌*◌, ℕ, zero, suc, pos, ◌+ℤ◌, ℤ, Bool, true, false, cond, List, [], ◌∷◌, ◌++◌, map, take, length, get_or, replicate, refl, sym, ap, ◌∙◌, arith}
 use Rattle.std.proofs.Math.Nat.{mul-add}
 use Rattle.std.proofs.lemmas.Int.{ints}
@@ -46,7 +46,7 @@ tokens_turn es i n z d m new p lt is number add h x =
     ∙ add_here (is_point x p) (at m p) (n * tokens_weigh (take i es) x) n (λ t. ap (at m) (sym (tells_apart point_exact x p t)) ∙ h x)
     ∙ ap pos sum
 
--- at a start a processor has its tokens alone
+-- in the initial state a processor holds only its tokens
 held-start : (g : Dataflow) (x : Pointstamp) → held (start_processor g) x ≡ tokens_weigh (fin.entries (start_processor g).tokens) x
 held-start g x = let r = no_records x in let q = no_requests x in omega arith
 

@@ -1,4 +1,4 @@
--- How many requests and tokens of one processor are at a pointstamp, by look-ups.
+-- How many requests and tokens of one processor are at a pointstamp, by lookups.
 use Rattle.std.proofs.Common.{◌≡◌, ◌+◌, ℕ, Bool, true, false, cond, List, [], ◌∷◌, Option, Some, None, refl, sym, ap, ◌∙◌, arith}
 use Rattle.std.proofs.lemmas.Cmp.{tied_itself, nat_cmp_total}
 use Rattle.std.proofs.lemmas.List.Sums.{sum_by-cons}
@@ -64,7 +64,7 @@ no_vertex x (d ∷ es) e =
 no_token : (m : fin.FinMap nat_cmp ℕ) (x : Pointstamp) → fin.get m x.location ≡ None → in_tokens m x ≡ 0
 no_token m x e = no_vertex x (fin.entries m) (sym (fin.get-entries m x.location) ∙ e)
 
--- the token of the pointstamp's vertex alone counts
+-- only the token of the pointstamp's vertex counts
 pub one_token : (m : fin.FinMap nat_cmp ℕ) (x : Pointstamp) → in_tokens m x ≡ token_at x.location (fin.get m x.location) x
 one_token m x =
     let gone : fin.get (fin.remove m x.location) x.location ≡ None = fin.get-remove nat_cmp_total m x.location x.location ∙ ap (λ r. cond (is_eq r) None (fin.get m x.location)) (tied_itself nat_cmp_total x.location) in

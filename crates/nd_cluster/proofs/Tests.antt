@@ -1,4 +1,4 @@
--- What the tests of a plan say together: that a step is enabled, or for which limit or for what comes after them it is refused.
+-- What the tests of a plan say together: that a step is enabled, or because of which limit or later test it is refused.
 use Rattle.std.proofs.Common.{◌≡◌, ◌≢◌, ◌<◌, ℕ, ℤ, refl, sym, subst, arith}
 use Rattle.nd_time.specs.Time.{Time}
 use Rattle.nd_processor.specs.declared.key.ValueAt.{ValueAt}
@@ -48,7 +48,7 @@ module _ {A : Type 0} (s : ClusterState) where
   entry_fails (Broadcast p _) works h = absurd works
   entry_fails (Receive from to) works h = absurd works
 
-  -- a take is refused for nothing that is tested after the limits
+  -- no refusal that is tested after the limits applies to a take
   take_passes : (p edge : ℕ) (t : Time) (value : ℤ) → PassesLast {A = A} s (Take p edge t value)
   take_passes p edge t value = record { free = by; admissible = tt }
     where
@@ -66,7 +66,7 @@ module _ {A : Type 0} (s : ClusterState) where
   record_passes p gone x is = subst (λ (y : Step A). PassesLast s y) (sym is) (take_passes p gone.point.location gone.point.time gone.value)
 
   module _ (x : Step A) (works : Works x) (free : IsFreeBelow s x 13) where
-    -- a refusal for the limit of counts is the one of least number
+    -- a refusal because of the limit of counts has the least number
     count_refused : HasLargeCount (stepped s x) → IsRefused s x CountFull
     count_refused large = record { fails = count_fails x works large; least = free }
 
@@ -79,7 +79,7 @@ module _ {A : Type 0} (s : ClusterState) where
           by CountFull lt h = counts (large_count x works h)
           by r lt h = free.free r (omega (arith, lt)) h
 
-      -- no condition at all holds
+      -- no condition of a refusal holds
       pub enabled : (HasLargeEntry (stepped s x) → ⊥) → PassesLast s x → NumbersFit x → IsEnabled s x
       enabled entries last numbers = record { free = by; admissible = last.admissible; numbers = numbers }
         where
@@ -95,7 +95,7 @@ module _ {A : Type 0} (s : ClusterState) where
           by Memory h = last.free Memory (omega arith) h
           by r h = free.free r (omega arith) h
 
-      -- within the limits, a refusal that is tested after them is the one of least number
+      -- within the limits, a refusal that is tested after them has the least number
       pub last_refused : (HasLargeEntry (stepped s x) → ⊥) → (r : Refusal) → FailsLast s x r → IsRefused s x r
       last_refused entries r last = record { fails = last.fails; least = record { free = by } }
         where
@@ -114,7 +114,7 @@ module _ {A : Type 0} (s : ClusterState) where
       entry_refused : HasLargeEntry (stepped s x) → IsRefused s x DeltaFull
       entry_refused large = record { fails = entry_fails x works large; least = free_below_entries }
 
-    -- a refusal for a limit is the one of least number
+    -- a refusal because of a limit has the least number
     pub limit_refused : (r : Refusal) → LimitFails (stepped s x) r → r ≢ Memory → IsRefused s x r
     limit_refused CountFull h some = count_refused h
     limit_refused DeltaFull h some = entry_refused h.0 h.1

@@ -8,7 +8,7 @@ use Rattle.nd_steps.specs.Records.{Makes}
 use Rattle.nd_protocol.specs.Fitting.{IsState}
 use Rattle.nd_cluster.proofs.cluster.Cluster.commit.Goals as goal
 
--- after the one step of a list
+-- the state after the only step of a list
 finished_after : {A : Type 0} (s : ClusterState) (x : Step A) (p : Pointstamp) → IsFinished (after s (x ∷ [])) p → IsFinished (stepped s x) p
 unfolding after
 finished_after s x p h = h
