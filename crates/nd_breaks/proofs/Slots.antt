@@ -11,7 +11,7 @@ use Rattle.nd_breaks.specs.Breaks.{BreakMap, NoneFrom, IsLeastFree}
 use Rattle.nd_breaks.specs.Slots.{from_slots}
 use Rattle.nd_breaks.specs.Conditions.{ConditionValue}
 
--- the content of a slot, `None` past the last
+-- the content of a slot, `None` after the last
 abbrev pub slot_at : List (Option ConditionValue) → ℕ → Option ConditionValue
 slot_at [] i = None
 slot_at (o ∷ os) zero = o
