@@ -40,7 +40,7 @@ module _ {A : Type 0} where
   planned-push s [] r h p = (p, tt)
   planned-push s (q ∷ rs) r h p = (h.0, planned-push (stepped s q.step) rs r h.1 p)
 
-  -- a step was planned where the steps before it lead
+  -- a step was planned in the state to which the steps before it lead
   pub planned-at : (s : ClusterState) (rs : List (Record A)) (i : ℕ) (d : Record A) → i < length rs → ArePlanned s rs → IsPlanned (get_or rs i d) (after s (take i (steps_of rs)))
   unfolding after
   planned-at s [] i d lt h = absurd (omega arith)
@@ -61,7 +61,7 @@ module _ {A : Type 0} where
   protocol-after law s (suc n) [] was h = was
   protocol-after law s (suc n) (r ∷ rs) was h = protocol-after law (stepped s r.step) n rs (law s r.step h.0.state h.0.enabled was) h.1
 
-  -- planned steps are enabled where the steps before them lead
+  -- planned steps are enabled in the state to which the steps before them lead
   pub enabled-steps : (s : ClusterState) (rs : List (Record A)) → ArePlanned s rs → AreEnabled s (steps_of rs)
   enabled-steps s [] h = tt
   enabled-steps s (r ∷ rs) h = (h.0.enabled, enabled-steps (stepped s r.step) rs h.1)

@@ -18,7 +18,7 @@ use Rattle.nd_timeline.specs.declared.reply.Stop.TheVariants as stop
 use Rattle.nd_timeline.specs.declared.reply.Reply.{Reply}
 use Rattle.nd_timeline.specs.declared.reply.Reply.TheVariants as reply
 
--- ---- steps that are enabled where those before them lead
+-- ---- steps that are enabled in the state to which those before them lead
 
 module _ {A : Type 0} where
   enabled_take : (s : ClusterState) (n : ℕ) (xs : List (Step A)) → AreEnabled s xs → AreEnabled s (take n xs)

@@ -56,7 +56,7 @@ module _ {A : Type 0} where
   one_run only breaks (suc n) m new other h k =
       one_step only h.mid k.mid new other h.step k.step (one_run only breaks n m h.mid k.mid h.earlier k.earlier) h.last k.last
 
-  -- runs of equally many steps
+  -- two runs of the same number of steps lead to the same timeline
   one_run_of : (only : Option (List ℕ)) (breaks : BreakMap) (n c : ℕ) (m new other : TimelineValue A) → n ≡ c → HasRun only breaks n m new → HasRun only breaks c m other → new ≡ other
   one_run_of only breaks n c m new other same h k = one_run only breaks n m new other h (subst (λ n. HasRun only breaks n m other) (sym same) k)
 
