@@ -25,7 +25,7 @@ mapped-at f [] i x at = absurd cc
 mapped-at f (y ∷ xs) zero x at = let same : y ≡ x = cc in ap (λ z. Some (f z)) same
 mapped-at f (y ∷ xs) (suc i) x at = mapped-at f xs i x at
 
--- an element of a mapped list comes from one of the list
+-- an element of a mapped list comes from an element of the list
 found-map : {A B : Type 0} (f : A → B) (xs : List A) (i : ℕ) (y : B) → slice_get (map f xs) i ≡ Some y → (x : A) × (slice_get xs i ≡ Some x) × (f x ≡ y)
 found-map f [] i y at = absurd cc
 found-map f (x ∷ xs) zero y at = (x, refl, cc)

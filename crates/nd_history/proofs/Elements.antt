@@ -15,7 +15,7 @@ module _ {X : Type 0} where
   pub all_none : (P : X → Type 0) (xs : List X) → xs ≡ [] → All P xs
   all_none P xs none = subst (All P) (sym none) (All-nil P)
 
-  -- one more
+  -- one more element
   pub all_more : (P : X → Type 0) (xs ys : List X) (x : X) → ys ≡ xs ++ x ∷ [] → All P xs → P x → All P ys
   all_more P xs ys x is all here = subst (All P) (sym is) (All-append P xs (x ∷ []) all (single P x here))
 
@@ -32,7 +32,7 @@ module _ {X : Type 0} where
   get_below (y ∷ xs) zero x at = omega arith
   get_below (y ∷ xs) (suc i) x at = omega (arith, get_below xs i x at)
 
-  -- what holds of all holds of one
+  -- what holds of all elements holds of one
   pub all_at : (P : X → Type 0) (xs : List X) (i : ℕ) (x : X) → All P xs → slice_get xs i ≡ Some x → P x
   all_at P [] i x all at = absurd cc
   all_at P (y ∷ xs) zero x all at = let same : y ≡ x = cc in subst P same (all zero y (omega arith))
@@ -50,6 +50,6 @@ module _ {X : Type 0} where
   pub length_twice : {Y Z : Type 0} (f : X → Y) (h : Y → Z) (xs : List X) (ys : List Y) → ys ≡ map f xs → length (map h ys) ≡ length xs
   length_twice f h xs ys is = length_of h ys ∙ (ap length is ∙ length_of f xs)
 
-  -- what was borrowed completely comes back
+  -- what was borrowed completely is returned
   pub refilled : (n : ℕ) (xs ws : List X) → n ≡ length xs → length ws ≡ length xs → take n (ws ++ drop (length ws) xs) ≡ ws
   refilled n xs ws is same = take-append-le n ws (drop (length ws) xs) (omega (arith, is, same)) ∙ take_all n ws (omega (arith, is, same))

@@ -4,7 +4,7 @@ use Rattle.nd_history.specs.Works.{IsResult, AreFound}
 use Rattle.nd_history.proofs.Elements.{slice_get-snoc}
 
 module _ (Hit : ℕ → Type 0) (lo hi : ℕ) where
-  -- nothing yet
+  -- nothing is found yet
   pub starts : (claimed : List ℕ) (found : List (Option ℕ)) → claimed ≡ [] → found ≡ [] → AreFound Hit lo hi claimed found
   starts claimed found none nothing =
       let empty : length found ≡ 0 = ap length nothing in record {
@@ -42,7 +42,7 @@ module _ (Hit : ℕ → Type 0) (lo hi : ℕ) where
         ];
       }
 
-  -- and searched
+  -- the piece is searched
   pub ends : (claimed more : List ℕ) (found told : List (Option ℕ)) (j : ℕ) (result : Option ℕ) → AreFound Hit lo hi claimed found → length found ≡ length claimed → IsResult Hit lo hi j result → more ≡ claimed ++ j ∷ [] → told ≡ found ++ result ∷ [] → AreFound Hit lo hi more told
   ends claimed more found told j result w even right is tells =
       subst (λ (os : List (Option ℕ)). AreFound Hit lo hi more os) (sym tells) (subst (λ (ns : List ℕ). AreFound Hit lo hi ns (found ++ result ∷ [])) (sym is) (ended claimed found j result w even right))

@@ -1,4 +1,4 @@
--- What a worker has drawn when it ends.
+-- What a worker has drawn when it stops.
 use Rattle.std.proofs.Common.{◌≡◌, ◌<◌, ◌≤◌, ℕ, ◌+◌, ◌-◌, [], ◌∷◌, ◌++◌, All, length, length-append, append-nil, refl, sym, ap, ◌∙◌, arith}
 use Rattle.std.proofs.lemmas.List.Elements.{All-nil}
 use Rattle.atomic_table.specs.Seated.{TableId}
@@ -8,7 +8,7 @@ use Rattle.nd_history.specs.declared.work.Work.{Work}
 use Rattle.nd_history.proofs.Elements.{all_more}
 
 module _ {A : Type 0} (table : TableId) (p k : ℕ) (work : Work A) (table_is : work.ticket.table_id ≡ table) where
-  -- each number was a piece
+  -- each drawn number was a piece
   pub pieces_drawn : work.ticket.me ≡ (hand (p + 1) (p + 1 - k) work.searched.claimed.items, []) → length work.searched.claimed.items ≡ k → k ≤ p + 1 → All (λ x. x < p) work.searched.claimed.items → HasDrawn table p work
   pieces_drawn me_is count within below =
       let drawn : work.ticket.me.0.drawn ≡ work.searched.claimed.items = ap (λ m. m.0.drawn) me_is in
@@ -22,7 +22,7 @@ module _ {A : Type 0} (table : TableId) (p k : ℕ) (work : Work A) (table_is : 
         drawn = drawn ∙ sym (append-nil work.searched.claimed.items);
       }
 
-  -- the last number was no piece
+  -- the last drawn number was no piece
   pub one_over : (n : ℕ) → p ≤ n → work.ticket.me ≡ (hand (p + 1) (p + 1 - (k + 1)) (work.searched.claimed.items ++ n ∷ []), []) → length work.searched.claimed.items ≡ k → k < p + 1 → All (λ x. x < p) work.searched.claimed.items → HasDrawn table p work
   one_over n over me_is count within below =
       let drawn : work.ticket.me.0.drawn ≡ work.searched.claimed.items ++ n ∷ [] = ap (λ m. m.0.drawn) me_is in

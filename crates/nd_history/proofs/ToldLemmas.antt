@@ -49,7 +49,7 @@ module _ (entry : ℕ → ℤ) where
       ∙ ap (map (changed entry)) (filter-append (is_other entry) (positions lo mid) (positions mid hi))
       ∙ map-append (changed entry) (filter (is_other entry) (positions lo mid)) (filter (is_other entry) (positions mid hi))
 
-  -- there are none between a position and itself
+  -- there are no changes between a position and itself
   pub none_here : (lo : ℕ) → changes_between entry lo lo ≡ []
   unfolding changes_between
   none_here lo = let none : lo - lo ≡ 0 = omega arith in ap (λ n. map (changed entry) (filter (is_other entry) (range_with_len (lo + 1) n))) none
@@ -128,7 +128,7 @@ module _ {A : Type 0} (entry : ℕ → ℤ) (lo i : ℕ) (le : lo ≤ i) where
   pub told_same : (before after : ℤ) (told : Told A) → before ≡ entry i → after ≡ entry (i + 1) → after ≡ before → IsTold (changes_between entry lo i) told → IsTold (changes_between entry lo (i + 1)) told
   told_same before after told was is same tells = subst (λ cs. IsTold cs told) (sym (no_more entry lo i le (sym is ∙ same ∙ was))) tells
 
-  -- there are already more, whatever comes
+  -- there are already more than are listed, whatever follows
   pub told_enough : (hi : ℕ) (told : Told A) → i ≤ hi → IsTold (changes_between entry lo i) told → told.more ≡ true → IsTold (changes_between entry lo hi) told
   told_enough hi told on tells some = subst (λ cs. IsTold cs told) (sym (in_two entry lo i hi le on)) (more_already (changes_between entry lo i) (changes_between entry i hi) told tells some)
 

@@ -3,7 +3,7 @@ use Rattle.nd_history.specs.Least.{HoldsAt}
 use Rattle.nd_history.proofs.AnswersLemmas.{IsSurvey, survey, is_least, answer_called, fault_called, gap}
 use Rattle.nd_history.proofs.searching.search_in.Goals as goal
 
--- what the workers found, in a table that has an answer
+-- what the workers found, in a table with an answer
 answered : (g : _) (c : goal.After-drop-works-in-Ok-1 g) → IsSurvey (HoldsAt c.args.timeline.now c.args.condition.now) (g.G.Gate.called c.args.gate.now) c.args.lo c.args.hi c.args.workers c.in_ok-works.works.items c.as_slice-2.result.now
 answered g c =
     let at = c.in_ok-positions.ensures in
@@ -16,7 +16,7 @@ returns-in-Ok-clause-found g c = is_least c.args.timeline.now c.args.condition.n
 pub returns-in-Ok-clause-called : goal.returns-in-Ok-clause-called
 returns-in-Ok-clause-called g c = answer_called c.args.timeline.now c.args.condition.now _ _ _ _ _ _ (answered g c) c.in-Ok.found c.in-Ok.ensures
 
--- and in one that has a gap
+-- what the workers found, in a table with a gap
 unanswered : (g : _) (c : goal.After-drop-results-in-Err-1 g) → IsSurvey (HoldsAt c.args.timeline.now c.args.condition.now) (g.G.Gate.called c.args.gate.now) c.args.lo c.args.hi c.args.workers c.in_ok-works.works.items c.as_slice-2.result.now
 unanswered g c =
     let at = c.in_ok-positions.ensures in
