@@ -1,4 +1,4 @@
--- Where the elements that pass a test stand
+-- The positions of the elements that pass a test
 use Rattle.std.proofs.Common.{◌≡◌, ℕ, zero, suc, ◌+◌, ◌<◌, ◌≤◌, Bool, true, false, List, [], ◌∷◌, length, take, arith, refl, sym, ap, subst, ◌∙◌}
 use Rattle.std.proofs.lemmas.List.Sums.{sum_by-cons}
 use Rattle.std.specs.Prelude.{slice_get, Some, filter, count_by, cond}
@@ -20,7 +20,7 @@ filter_at {X} p (y ∷ xs) (suc i) x e t =
     let P : ℕ → Type 0 = λ m. slice_get (filter p (y ∷ xs)) m ≡ Some x in
     subst P (sym (count_by-cons p y xs i)) (one_more (filter p xs) y x (count_by p (take i xs)) (p y) rest)
 
--- an element of the filtered list, with its position in the whole one
+-- an element of the filtered list, with its position in the complete list
 pub record Found {X : Type 0} (p : X → Bool) (xs : List X) (k : ℕ) (x : X) : Type 0 where
   pub place : ℕ
   pub at : slice_get xs place ≡ Some x
@@ -51,7 +51,7 @@ some_at [] i lt = absurd (omega arith)
 some_at (x ∷ xs) zero lt = (x, refl)
 some_at (x ∷ xs) (suc i) lt = some_at xs i (omega arith)
 
--- a list that has all elements of another at their positions, and is no longer, is that list
+-- a list that has all elements of another at their positions, and is not longer, is that list
 pub same_list : {X : Type 0} (xs ys : List X) → ((k : ℕ) (y : X) → slice_get ys k ≡ Some y → slice_get xs k ≡ Some y) → length xs ≤ length ys → xs ≡ ys
 same_list [] [] has le = refl
 same_list [] (y ∷ ys) has le = absurd (let h : slice_get [] 0 ≡ Some y = has 0 y refl in cc)

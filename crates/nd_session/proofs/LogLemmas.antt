@@ -1,4 +1,4 @@
--- A log tells the machine after it.
+-- A log determines the machine after it.
 use Rattle.std.proofs.Common.{◌≡◌, List, [], ◌∷◌, sym, subst, ◌∙◌}
 use Rattle.nd_timeline.specs.Moves.{MachineValue}
 use Rattle.nd_timeline.specs.Laws.{RepliesTellMachines}

@@ -37,7 +37,7 @@ slice_get-snoc (z ∷ xs) x (suc i) y e =
 module _ {A : Type 0} where
   -- ---- positions
 
-  -- an entry keeps its position if the log grows
+  -- an entry keeps its position when the log grows
   pub place_stays : (log rest : List (Receipt A)) (i : ℕ) (e : Receipt A) → i ≤ length log → IsPlaced log i e → IsPlaced (log ++ rest) i e
   place_stays log rest i e within p =
       let same : take i (log ++ rest) ≡ take i log = take-append-le i log rest within in record {
@@ -100,14 +100,14 @@ module _ {A : Type 0} where
 
   -- ---- `State`s
 
-  -- a timeline that keeps nothing is one that was opened
+  -- a timeline without kept steps is a new one
   fresh : (t : TimelineValue A) → t.kept ≡ [] → IsTimeline t → t ≡ opened A t.base
   fresh t none is =
       let few : length t.kept ≡ 0 = ap length none in
       let front : t.cursor ≡ 0 = omega (arith, few, is.within) in
       λ i. record { base = t.base; kept = none i; cursor = front i }
 
-  -- a start that keeps nothing
+  -- an initial state without kept steps
   pub kept_new : (t : TimelineValue A) → t.kept ≡ [] → IsTimeline t → IsStart t.base → IsState t.base → KeepsProtocol t.base → IsKept (without_breaks t) [] []
   unfolding Leads
   kept_new t none is start state protocol = record {
@@ -139,13 +139,13 @@ module _ {A : Type 0} where
   placed_last log e index number =
       let whole : take (length log) log ≡ log = take-length log in record { index = index; number = rw whole number }
 
-  -- the fault is another call's
+  -- the error comes from another call
   pub passed_on : {T : Type 0} (P : SessionFault A → Type 0) (r : Result T (SessionFault A)) (e : SessionFault A) → IsErrAnd r (λ f. f ≡ e) → P e → IfErr r P
   passed_on {T} P r e h fails =
       let f = err_from_is_err_and r h in
       let Q : Result T (SessionFault A) → Type 0 = λ r. IfErr r P in
       subst Q (sym f.1) (subst P (sym f.2) fails)
 
-  -- a growth was refused
+  -- memory ran out
   pub refused : {T : Type 0} (P : SessionFault A → Type 0) (r : Result T (SessionFault A)) → IsErrAnd r (λ f. f ≡ Memory) → P Memory → IfErr r P
   refused P r h room = passed_on P r Memory h room

@@ -1,4 +1,4 @@
--- What a start is.
+-- What an initial state is.
 use Rattle.std.proofs.Common.{◌≡◌, All, sym, subst}
 use Rattle.nd_graph.specs.Graph.{Dataflow, ArcAgrees, arcs, depths}
 use Rattle.nd_graph.specs.Checked.{IsFaultless}
@@ -9,7 +9,7 @@ use Rattle.nd_protocol.specs.Invariant.{KeepsProtocol}
 use Rattle.nd_protocol.specs.Laws.{StartIsState, StartKeepsProtocol}
 use Rattle.nd_session.specs.Log.{IsStart}
 
--- it runs its graph
+-- the state has its graph
 graph_is : (s : ClusterState) (is : IsStart s) → s.graph ≡ is.graph
 unfolding start
 graph_is s is i = (is.is i).graph

@@ -1,4 +1,4 @@
--- What a client knows of the log behind the lock, once the lock is given up.
+-- What a client knows about the log under the lock, after the lock is released.
 use Rattle.std.proofs.Common.{◌≡◌, ℕ, zero, suc, ◌-◌, ◌<◌, ◌≤◌, inl, inr, List, [], ◌∷◌, ◌++◌, length, length-append, get_or, arith, refl, sym, ap, subst, ◌∙◌}
 use Rattle.std.specs.Prelude.{slice_get, Option, Some, None, MatchOption, Result, Ok, Err, IfOk, IfErr, OnOk}
 use Rattle.std.specs.Option.{option_map_or}
@@ -46,7 +46,7 @@ module _ {A : Type 0} where
   pub last_below : (log rs : List (Receipt A)) → HoldsLast log rs → IsAboveLast (length log) rs
   last_below log rs h = match_some (last_of rs) (λ r. Holds log r) (λ r. r.index < length log) (λ r p. slice_get_within log r.index r p) h
 
-  -- a history goes on from its base
+  -- a history continues from its base
   pub history_grows : (log next : List (Receipt A)) (m new : MachineValue A) → IsHistory log m → IsLegal (opening_of m) next new → new.timeline.base ≡ m.timeline.base → length next ≤ max_log → IsHistory next new
   history_grows log next m new h legal base few =
       let P : ClusterState → Type 0 = λ s. IsLegal (without_breaks (opened A s)) next new in record {
@@ -59,7 +59,7 @@ module _ {A : Type 0} where
 
   -- ---- a client's own receipts
 
-  -- a bound of the last receipt's index bounds each
+  -- a bound of the last receipt's index bounds the index of each
   below_last : (number : ℕ) (rs : List (Receipt A)) (j : ℕ) (r : Receipt A) (bound : ℕ) → IsOwn number rs → slice_get rs j ≡ Some r → IsAboveLast bound rs → r.index < bound
   below_last number rs j r bound own at above =
       let within : j < length rs = slice_get_within rs j r at in
@@ -101,7 +101,7 @@ module _ {A : Type 0} where
 
   -- ---- the answers of a session
 
-  -- what a command was answered
+  -- the answer to a command
   pub told : (was new : Shared A) (p : ClientValue A) (command : Command A) (result : Result (Receipt A) (SessionFault A))
       → IsHistory was.state.log was.state.machine → IfOk result (IsAnswered was new p command) → IfOk result (IsTold p command)
   told was new p command (Err e) history answered = tt
@@ -121,7 +121,7 @@ module _ {A : Type 0} where
       }
 
   module _ (log : List (Receipt A)) (m : MachineValue A) (history : IsHistory log m) (entered : ℕ) (p : ClientValue A) where
-    -- what a copy is of
+    -- the timeline that a copy has
     pub seen : (result : Result (SnapshotValue A) (SessionFault A)) → IfOk result (λ s. s ≡ snapshot_of m.timeline (length log)) → OnOk result (IsKnown entered log p) → IfOk result (IsSeen p)
     seen (Err e) ok known = tt
     seen (Ok s) ok known =
@@ -146,14 +146,14 @@ module _ {A : Type 0} where
     copy_may_fail (Ok x) fails = tt
     copy_may_fail (Err e) fails = record { log = log; machine = m; entered = entered; history = history; fails = fails }
 
-  -- the command of a client that is known fails as a `State` does
+  -- a command of a known client fails as a command of a `State` does
   pub known_fails : (entered : ℕ) (log : List (Receipt A)) (p : ClientValue A) → IsKnown entered log p → (fault : SessionFault A) → ApplyFails log fault → CommandFails entered log p fault
   known_fails entered log p known (NotThisSession index found) fails = absurd fails
   known_fails entered log p known LogFull full = (known, full)
   known_fails entered log p known TooManyClients fails = absurd fails
   known_fails entered log p known Memory room = inr (known, room)
 
-  -- what a stranger is told
+  -- the answer to an unknown client
   pub stranger : (entered : ℕ) (log : List (Receipt A)) (p : ClientValue A) (read rs : List (Receipt A)) (index : ℕ) (found : Option (Receipt A))
       → IsUnknown entered log p → read ≡ log → rs ≡ p.receipts → index ≡ option_map_or (λ (r : Receipt A). r.index) (last_of rs) 0 → found ≡ slice_get read index
       → IsStranger entered log p index found

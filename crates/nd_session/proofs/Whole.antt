@@ -1,4 +1,4 @@
--- The end of a session: what the tests show of each client's receipts.
+-- The end of a session: what the tests show about each client's receipts.
 use Rattle.std.proofs.Common.{◌≡◌, ◌≢◌, ℕ, ◌<◌, ◌==◌, inl, inr, true, List, length, take, arith, refl, sym, ap, subst, ◌∙◌}
 use Rattle.std.specs.Prelude.{slice_get, Some, filter}
 use Rattle.std.proofs.lemmas.Option.{slice_get_within}
@@ -36,7 +36,7 @@ module _ {A : Type 0} (log : List (Receipt A)) (placed : ArePlaced log) where
   number_at n i e at client =
       let P : ℕ → Type 0 = λ m. e.number ≡ count_of m (take i log) in subst P client (placed i e at).number
 
-  -- the entries of one client count on
+  -- the numbers of one client's entries increase
   count_rises : (n i m : ℕ) (r : Receipt A) → m < i → slice_get log m ≡ Some r → r.client ≡ n → count_of n (take m log) < count_of n (take i log)
   count_rises n i m r below at client =
       let front : slice_get (take i log) m ≡ Some r = to_take log i m r below at in
@@ -83,7 +83,7 @@ module _ {A : Type 0} (log : List (Receipt A)) (placed : ArePlaced log) where
     pub apart_at : (j k : ℕ) (p q : ClientValue A) → j < k → slice_get clients j ≡ Some p → slice_get clients k ≡ Some q → p.number ≢ q.number
     apart_at j k p q below at_j at_k = (right_at k q at_k).new j below p at_j
 
-    -- a number is that of one client alone
+    -- only one client has a given number
     one_place : (j k : ℕ) (p q : ClientValue A) → slice_get clients j ≡ Some p → slice_get clients k ≡ Some q → p.number ≡ q.number → p ≡ q
     one_place j k p q at_j at_k same =
         elim (cases_lt j k) [
@@ -97,7 +97,7 @@ module _ {A : Type 0} (log : List (Receipt A)) (placed : ArePlaced log) where
           ]
         ]
 
-    -- an entry that is at its position is so with the client of its number
+    -- an entry that is at its position is at it with the client of its number
     placed_with : (k : ℕ) (p : ClientValue A) (e : Receipt A) → slice_get clients k ≡ Some p → e.client ≡ p.number → HasInPlace clients e → slice_get p.receipts e.number ≡ Some e
     placed_with k p e at client h =
         let same : h.client ≡ p = one_place h.place k h.client p h.at at (h.has.number_is ∙ client) in

@@ -10,7 +10,7 @@ pub returns-in_err-reply-clause-fails : goal.returns-in_err-reply-clause-fails
 returns-in_err-reply-clause-fails g c =
     passed_on (ApplyFails (c.args.self.now).log) c.from_residual-in_err-reply.result c.in_err-reply.field-0.0 c.from_residual-in_err-reply.ensures.1 c.in_err-reply.ensures.fails
 
--- it is LogFull only if the log was full
+-- LogFull is returned only if the log was full
 pub returns-in_err-reply-clause-full : goal.returns-in_err-reply-clause-full
 returns-in_err-reply-clause-full g c =
     let room : length (c.args.self.now).log < max_log = search rules in (
