@@ -5,7 +5,7 @@ use Rattle.std.proofs.lemmas.Int.{ints}
 use Rattle.nd_paths.specs.declared.point.Pointstamp.{Pointstamp}
 use Rattle.nd_delta.specs.Delta.{DeltaValue, at, part, minus, has_point, at-part, at-minus, IsPartOf, IsApart}
 
--- what is kept or cut to nothing is kept if it is something
+-- what a condition keeps or replaces by 0 is kept if it is not 0
 kept : (b : Bool) (x : ℤ) → cond b x (pos 0) ≢ pos 0 → x ≡ cond b x (pos 0)
 kept true x e = refl
 kept false x e = absurd (e refl)
@@ -13,7 +13,7 @@ kept false x e = absurd (e refl)
 part_of : (m : DeltaValue) (ks : List Pointstamp) → IsPartOf (part m ks) m
 part_of m ks q e = let p = at-part m ks q in kept (has_point q ks) (at m q) (λ z. e (p ∙ z)) ∙ sym p
 
--- a part of a change, which may be told in another way
+-- a part of a change, given in another way
 pub is_part : (m n d : DeltaValue) (ks : List Pointstamp) → d ≡ part m ks → n ≡ m → IsPartOf d n
 is_part m n d ks e f = subst (λ x. IsPartOf x n) (sym e) (subst (λ x. IsPartOf (part m ks) x) (sym f) (part_of m ks))
 
@@ -21,7 +21,7 @@ is_part m n d ks e f = subst (λ x. IsPartOf x n) (sym e) (subst (λ x. IsPartOf
 pub is_all : (m n d : DeltaValue) → d ≡ m → n ≡ m → IsPartOf d n
 is_all m n d e f q here = ap (λ x. at x q) (f ∙ sym e)
 
--- it is apart from what is left
+-- a part is apart from what is left
 pub all_apart : (m n d : DeltaValue) → d ≡ m → n ≡ minus m d → IsApart d n
 all_apart m n d e f q here =
     ap (λ x. at x q) f ∙ at-minus m d q ∙ ap (λ x. at x q -ℤ at d q) (sym e) ∙ (let h : at d q -ℤ at d q ≡ pos 0 = omega (arith, ints) in h)
