@@ -9,7 +9,7 @@ use Rattle.nd_breaks.specs.declared.condition.Quantifier.{Quantifier}
 use Rattle.rewind_forms.specs.Conditions.{lesser, beside, literal_of, literals_of, literals_read, with_literal, with_fault, IsOf}
 use Rattle.rewind_forms.specs.declared.fault.LineFault.{LineFault}
 
--- the literals that were read and those that come, or of their faults that of least number
+-- the literals that were read, followed by the others, or the error with the least number
 abbrev pub ahead : Result (List Literal) LineFault → Result (List Literal) LineFault → Result (List Literal) LineFault
 ahead (Ok ks) (Ok ls) = Ok (ks ++ ls)
 ahead (Ok ks) (Err f) = Err f
@@ -20,14 +20,14 @@ lesser_of_three : (e f h : LineFault) → lesser e (lesser f h) ≡ lesser (less
 unfolding lesser
 lesser_of_three e f h = grind arith
 
--- with a literal next
+-- the next item is a literal
 pub ahead_literal : (r rest : Result (List Literal) LineFault) (l : Literal) → ahead r (beside (Ok l) rest) ≡ ahead (with_literal r l) rest
 ahead_literal (Ok ks) (Ok ls) l = ap Ok (sym (append_assoc ks (l ∷ []) ls))
 ahead_literal (Ok ks) (Err f) l = refl
 ahead_literal (Err e) (Ok ls) l = refl
 ahead_literal (Err e) (Err f) l = refl
 
--- with a fault next
+-- the next item is an error
 pub ahead_fault : (r rest : Result (List Literal) LineFault) (f : LineFault) → ahead r (beside (Err f) rest) ≡ ahead (Err (with_fault r f)) rest
 ahead_fault (Ok ks) (Ok ls) f = refl
 ahead_fault (Ok ks) (Err h) f = refl
@@ -42,7 +42,7 @@ pub record HaveRead (g : Dataflow) (quantifier : Quantifier) (ds : List Data) (i
   pub count : IfOk (literals_read read) (λ literals. length literals ≡ i)
   pub kind : IsOf quantifier read
 
--- the next of a list
+-- the next item of a list
 next_literal : (g : Dataflow) (ds : List Data) (i : ℕ) (d : Data) → i < length ds → d ≡ get_or ds i d
     → literals_of g (drop i ds) ≡ beside (literal_of g d) (literals_of g (drop (i + 1) ds))
 next_literal g ds i d lt is =
@@ -55,7 +55,7 @@ one_more (Ok ls) l i count = length-append ls (l ∷ []) ∙ ap (λ n. n + 1) co
 one_more (Err e) l i count = count
 
 module _ (g : Dataflow) (quantifier : Quantifier) (ds : List Data) (i : ℕ) (d : Data) (lt : i < length ds) (is : d ≡ get_or ds i d) (read : Result (Option ConditionValue) LineFault) where
-  -- one literal more
+  -- one more literal
   pub read_literal : (new : Result (Option ConditionValue) LineFault) (l : Literal) → literal_of g d ≡ Ok l → literals_read new ≡ with_literal (literals_read read) l
       → (IsOf quantifier read → IsOf quantifier new) → HaveRead g quantifier ds i read → HaveRead g quantifier ds (i + 1) new
   read_literal new l literal more kept before = record {
@@ -67,7 +67,7 @@ module _ (g : Dataflow) (quantifier : Quantifier) (ds : List Data) (i : ℕ) (d 
     kind = kept before.kind;
   }
 
-  -- one faulty literal more
+  -- one more faulty literal
   pub read_fault : (f e : LineFault) → literal_of g d ≡ Err f → e ≡ with_fault (literals_read read) f
       → HaveRead g quantifier ds i read → HaveRead g quantifier ds (i + 1) (Err e)
   read_fault f e literal more before = record {

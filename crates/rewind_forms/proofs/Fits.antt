@@ -1,4 +1,4 @@
--- What a step that was read names is in the graph.
+-- The graph has what a step that was read names.
 use Rattle.std.proofs.Common.{◌≡◌, ℕ, ◌<◌, ◌≤◌, Bool, true, false, cond, List, [], ◌∷◌, length, refl, sym, ap, subst, Option, Some, None, Result, Ok, Err, codes}
 use Rattle.std.specs.Prelude.{All as Each, IfOk, nat_eq, nat_lt, slice_get, option_map}
 use Rattle.std.specs.Option.{option_map_or}
@@ -27,7 +27,7 @@ use Rattle.rewind_forms.specs.declared.fault.LineFault.{LineFault}
 use Rattle.rewind_forms.specs.declared.fault.LineFault.TheVariants.{BadShape, BadTime}
 use Rattle.rewind_forms.specs.Fitting.{HasDepth, NamesFit}
 
--- ---- of what is read, if all that it is made of was read
+-- ---- what holds of a reading, if all its parts were read
 
 if_given : {A B : Type 0} (fault : LineFault) (o : Option A) (made : A → Result B LineFault) (P : B → Type 0) → ((x : A) → o ≡ Some x → IfOk (made x) P)
     → IfOk (given fault o made) P
@@ -72,7 +72,7 @@ time_is g l (epoch ∷ counters) t e =
     let parts = cond_some test read t e in
     subst (λ t. HasDepth g l t) parts.1 (depth_is (length counters) (slice_get (depths g) l) parts.0)
 
--- the location is the one that was found, and the time has its depth
+-- the location is the one that was found, and the time has the location's depth
 abbrev IsAt : Dataflow → Option ℕ → Pointstamp → Type 0
 IsAt g found q = (found ≡ Some q.location) × HasDepth g q.location q.time
 

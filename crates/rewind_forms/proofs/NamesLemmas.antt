@@ -1,4 +1,4 @@
--- Names looked up in a graph: what is found is a location; and the name of a location is found there, if all names are distinct.
+-- Names looked up in a graph: what is found is a location; and a location is found by its name, if all names are distinct.
 use Rattle.std.proofs.Common.{◌≡◌, ◌∙◌, ℕ, ◌+◌, ◌<◌, ◌≤◌, zero, suc, Bool, true, false, cond, nat_lt, List, [], ◌∷◌, length, get_or, map, refl, sym, subst, ap, arith, Some, None, length-append}
 use Rattle.std.proofs.lemmas.Bool.{or_parts, lt-ltb, ltb-true, le-ltb, eq-eqb}
 use Rattle.std.proofs.lemmas.List.{length-map}
@@ -23,7 +23,7 @@ none_passes p [] i d none within = absurd (omega arith)
 none_passes p (x ∷ xs) zero d none within = (or_parts (p x) (list_any p xs) none).0
 none_passes p (x ∷ xs) (suc i) d none within = none_passes p xs i d (or_parts (p x) (list_any p xs) none).1 (omega arith)
 
--- an earlier name is another
+-- an earlier name is different
 another : (ks : List (List ℕ)) (k l : ℕ) → has_double ks ≡ false → k < l → l < length ks → bytes_eq (get_or ks l []) (get_or ks k []) ≡ false
 another [] k l once below within = absurd (omega arith)
 another (x ∷ ks) k zero once below within = absurd (omega arith)
@@ -63,7 +63,7 @@ length-depths g =
     ∙ (ap (λ n. n + length (map (λ e. depth_past_vertex g.vertices e.from) g.edges)) (length-map g.vertices (λ v. v.depth))
     ∙ ap (λ n. length g.vertices + n) (length-map g.edges (λ e. depth_past_vertex g.vertices e.from)))
 
--- a location whose depth a time has is one of those that have a name
+-- a location with the depth of a time has a name
 has_name : (g : Dataflow) (l : ℕ) (t : Time) → HasDepth g l t → l < length (names g)
 has_name g l t depth =
     let within = slice_get_within (depths g) l (length t.counters) depth in

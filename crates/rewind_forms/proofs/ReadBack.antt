@@ -147,7 +147,7 @@ read_back g (Broadcast p All) once there fits = rw (all_back p fits.0) refl
 read_back g (Broadcast p (Points points)) once there fits = rw (part_back g p points once there fits.0 fits.1) refl
 read_back g (Receive from to) once there fits = rw (receive_back from to fits.0 fits.1) refl
 
--- two steps with one object are one step
+-- two steps with the same object are equal
 pub one_step : (g : Dataflow) (x y : Step Global) → has_double (names g) ≡ false → NamesFit g x → NumbersFit x → NamesFit g y → NumbersFit y
     → object_of g x ≡ object_of g y → x ≡ y
 one_step g x y once there fits there' fits' same =

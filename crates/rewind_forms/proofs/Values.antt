@@ -16,7 +16,7 @@ use Rattle.nd_protocol.specs.Ranges.{IsSmall, TimeIsSmall}
 
 -- ---- lists
 
--- what is read of each item, if each is what another shows
+-- what is read of each item, if each item is the value of another
 pub every_as : {A B C : Type 0} (f : A → Option C) (shown : B → A) (r : B → C) (xs : List B) → All (λ x. f (shown x) ≡ Some (r x)) xs
     → every f (map shown xs) ≡ Some (map r xs)
 every_as f shown r [] h = refl
@@ -58,7 +58,7 @@ numbers-natural t h = every_back small natural (t.epoch ∷ t.counters) (λ k d 
 
 -- ---- pointstamps
 
--- the name and the numbers that a pointstamp is written with
+-- the name and the numbers with which a pointstamp is written
 abbrev pub named : Dataflow → Pointstamp → List ℕ × List ℕ
 named g q = (name_at g q.location, q.time.epoch ∷ q.time.counters)
 
