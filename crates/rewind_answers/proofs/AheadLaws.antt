@@ -1,4 +1,4 @@
--- How the steps that a run could try, and the times that can arrive at a location, are told.
+-- The replies about the steps that a run could try, and about the times that can arrive at a location.
 use Rattle.std.proofs.Common.{◌≡◌, ◌∙◌, ℕ, ◌<◌, List, length, Result, Ok, Err, IfOk, ap, inr}
 use Rattle.std.specs.declared.alloc.AllocError.{AllocError}
 use Rattle.std.specs.declared.alloc.Global.{Global}
@@ -14,7 +14,7 @@ use Rattle.rewind_forms.specs.Candidates.{candidates_data}
 use Rattle.rewind_forms.specs.Times.{times_data}
 use Rattle.rewind_answers.specs.Ahead.{CandidatesReply, FrontierAtReply}
 
--- by the graph that was read
+-- the reply, with the graph that was read
 pub candidates_replies : (s : ClusterState) (g : Dataflow) (listing : Candidates Global) (d : Data) (r : Result Data AllocError) → g ≡ s.graph → AreListed s (candidates s) listing
     → d ≡ candidates_data g listing.list → IfOk r (λ v. v ≡ told_candidates d listing.more) → IfOk r (CandidatesReply s)
 candidates_replies s g listing d (Ok v) same is shown reply = record {

@@ -1,4 +1,4 @@
--- How a graph's value and a command's value are answered.
+-- The replies to a graph's value and to a command's value.
 use Rattle.std.proofs.Common.{◌≡◌, ◌≢◌, ℕ, ◌+◌, List, [], ◌∷◌, Option, Some, None, Result, Ok, Err, IfOk, refl, sym, ap, subst, ◌∙◌, inl, inr}
 use Rattle.std.specs.Prelude.{◌<◌, ◌≤◌, length, slice_get}
 use Rattle.std.specs.Option.{ok_or, option_to_list}
@@ -36,7 +36,7 @@ use Rattle.nd_timeline.specs.declared.command.Command.{Command}
 use Rattle.nd_timeline.specs.declared.reply.Reply.{Reply}
 use Rattle.rewind_answers.specs.Answers.{Logged, running, refused, most_processors, StartReplies, not_strict, draft_in, checked_in, graph_of, graph_of_draft, AskedReply, CommandReply, moved, FormReplies, LineReplies, FrontierReply, PassedReply, QueryReply, SearchReply, searched, unanswered, search_fault}
 
--- a value that is no draft
+-- a value that is not a draft
 pub graph_of-refused : (v : Version) (d : Data) (e : GraphFault) → IsUnlessMemory (ok_or (draft_in v d) Shape) (Err e) → IsUnlessMemory (graph_of v d) (Err e)
 unfolding graph_of
 graph_of-refused v d e h = passes (draft_in v d) e h
@@ -56,7 +56,7 @@ pub graph_of-draft : (v : Version) (d : Data) (draft : Draft) → ok_or (draft_i
 unfolding graph_of
 graph_of-draft v d draft is = ap (graph_of_draft v) (found (draft_in v d) draft is)
 
--- a fault that is not out of memory is the one that is told
+-- an error other than out of memory is the one that is reported
 pub told : (v : Version) (d : Data) (e : GraphFault) → IsUnlessMemory (graph_of v d) (Err e) → e ≢ Memory → graph_of v d ≡ Err e
 told v d e (inl is) some = is
 told v d e (inr is) some = absurd (some is)
@@ -68,7 +68,7 @@ pub asked_replies : (script : Version) (m : Logged) (n : ℕ) (d : Data) (asked 
 asked_replies script m n d asked (Ok v) new is h = subst (λ (o : Result Asked LineFault). FormReplies script m n o (v ∷ []) (running script new)) (sym is) (v, new, h, refl, refl)
 asked_replies script m n d asked (Err e) new is h = h
 
--- a command that the machine was moved by
+-- a command that moved the machine
 pub moved_replies : (m new : Logged) (asked : Command Global) (answer : Reply) (g : Dataflow) (r : Result Data AllocError) → m.entries ≢ max_log → Moves m.machine asked answer new.machine
     → new.entries ≡ m.entries + 1 → g ≡ (cluster_of new.machine.timeline).graph → IfOk r (λ v. v ≡ reply_data g answer) → IfOk r (λ v. CommandReply m asked v new)
 moved_replies m new asked answer g (Ok v) room move count same told = moved answer room move count (told ∙ ap (λ h. reply_data h answer) same)
@@ -85,7 +85,7 @@ fault_replies script m n d e (Err x) is told = told
 
 -- ---- queries about a processor
 
--- the frontier of the view, by the graph and the view that were read
+-- the frontier of the view, with the graph and the view that were read
 pub blocked_replies : (s : ClusterState) (q : ℕ) (t x : Pointstamp) (d : Data) (r : Result Data AllocError) → q < length s.processors → IsLeast (IsBlocker s.graph (view_in s q) t) x
     → d ≡ point_data s.graph x → IfOk r (λ w. w ≡ not_passed d) → IfOk r (λ w. PassedReply s q t w)
 blocked_replies s q t x d (Ok w) there least shown reply = inr (there, inr (x, least, reply ∙ ap not_passed shown))
@@ -98,7 +98,7 @@ frontier_replies s q g v f d (Ok w) there graph is part shown reply =
     inr (there, (f, subst (λ (h : Dataflow). IsPartWhere (IsOnFrontier h (view_in s q)) (view_in s q) f) graph same, reply ∙ ap frontier shown))
 frontier_replies s q g v f d (Err e) there graph is part shown reply = reply
 
--- a query that the cluster at the cursor answers
+-- a query to which the cluster at the cursor has the answer
 pub answered_at : (P : ClusterState → Data → Type 0) (m : TimelineValue Global) (s : ClusterState) (query asked : Query) (r : Result Data AllocError) → s ≡ cluster_of m → query ≡ asked
     → ((v : Data) → P (cluster_of m) v → QueryReply m asked v) → IfOk r (λ v. P s v) → IfOk r (λ v. QueryReply m query v)
 answered_at P m s query asked (Ok v) same is means reply =

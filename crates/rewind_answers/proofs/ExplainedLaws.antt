@@ -1,4 +1,4 @@
--- How kept steps, what they changed, reasons, changes and turns are told.
+-- The replies about kept steps, what they changed, reasons, changes and turns.
 use Rattle.std.proofs.Common.{◌≡◌, ◌∙◌, ℕ, ◌+◌, ◌-◌, ◌<◌, Bool, List, [], ◌∷◌, ◌++◌, length, take, get_or, map, true, false, Some, Result, Ok, Err, IfOk, refl, sym, ap, inl, inr}
 use Rattle.std.specs.Prelude.{◌↔◌, IsTrue, slice_get}
 use Rattle.std.specs.declared.alloc.AllocError.{AllocError}
@@ -36,7 +36,7 @@ use Rattle.rewind_forms.specs.declared.queries.Turns.{Turns as Turning}
 use Rattle.rewind_answers.specs.Explained.{steps_data, ExportReply, StepReply, TellsWhy, WhyReply, WhyBeforeReply, ChangesReply, told, untold, changes_fault}
 use Rattle.rewind_answers.specs.Explained.{EffectReply, effected, uneffected, effect_fault, TurnsReply, listed, unlisted, turns_fault}
 
--- ---- kept steps, by the graph that was read
+-- ---- kept steps, with the graph that was read
 
 pub export_replies : (m : TimelineValue Global) (g : Dataflow) (at : ℕ) (d : Data) (r : Result Data AllocError) → g ≡ (cluster_of m).graph → at ≡ m.cursor → d ≡ steps_data g m.kept
     → IfOk r (λ v. v ≡ exported at d) → IfOk r (λ v. ExportReply m v)
