@@ -1,4 +1,4 @@
--- What a map of members is without one of its keys.
+-- A map of members without one of its keys.
 use Rattle.std.proofs.Common.{◌≡◌, ◌∙◌, ℕ, List, [], ◌∷◌, String, Global, Bool, true, false, cond, bytes_eq, nat_cmp, string_bytes, refl, ap}
 use Rattle.std.specs.Prelude.{if◌then◌else◌}
 use Rattle.std.specs.BTreeMap.{is_at}

@@ -1,4 +1,4 @@
--- What a version line, a blank one, or one that is no JSON value comes to before the graph's.
+-- The result of a version line, a blank line, or a line that is no JSON value, before the graph's line.
 use Rattle.std.proofs.Common.{◌≡◌, ℕ, [], ◌∷◌, Option, Some, None, Result, Ok, Err, IfOk, refl, ap}
 use Rattle.std.specs.Option.{option_to_list}
 use Rattle.std.specs.declared.alloc.AllocError.{AllocError}

@@ -1,4 +1,4 @@
--- The form of a line, by what it asks for.
+-- The form of a line, from what it asks for.
 use Rattle.std.proofs.Common.{◌≡◌, Bool, true, false, Option, Some, None, Result, Ok, Err, refl, ap, sym, ◌∙◌}
 use Rattle.std.specs.Prelude.{IfOk}
 use Rattle.serde_json.specs.Data.{Data}
@@ -14,12 +14,12 @@ use Rattle.rewind_forms.specs.declared.fault.LineFault.{LineFault}
 use Rattle.rewind_forms.specs.declared.fault.LineFault.TheVariants.{BadShape}
 use Rattle.rewind_clients.specs.Orders.{asks_query, is_query}
 
--- all that may come after a part asks the same way
+-- whatever follows the reading of a part asks for the same kind
 after_asks : {X : Type 0} (b : Bool) (r : Result X LineFault) (f : X → Asked) (a : Asked) → ((x : X) → asks_query (f x) ≡ b) → after r (λ x. Ok (f x)) ≡ Ok a → b ≡ asks_query a
 after_asks b (Ok x) f a asks is = let same : f x ≡ a = cc is in sym (asks x) ∙ ap asks_query same
 after_asks b (Err e) f a asks is = absurd (cc is)
 
--- a line that asks for this has the form of a query if this is one
+-- a line has the form of a query exactly if it asks for one
 pub form_asks : (v : Version) (g : Dataflow) (d : Data) (a : Asked) → asked_of v g d ≡ Ok a → is_query (form_of v d) ≡ asks_query a
 unfolding asked_of
 form_asks v g d a is = by (form_of v d) is

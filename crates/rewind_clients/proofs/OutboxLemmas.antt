@@ -9,7 +9,7 @@ use Rattle.rewind_lines.specs.Texts.{reply_text, text_of}
 use Rattle.rewind_clients.specs.Gathered.{Gathered}
 use Rattle.rewind_clients.specs.Written.{WroteFront}
 
--- the text of all is that of the first and that which waits
+-- the text of all replies is that of the written ones and the text that waits
 whole : (replies : List Data) (waiting before : List ℕ) (after : Known) (h : Gathered replies waiting before after) → text_of replies ≡ text_of h.sent ++ waiting
 whole replies waiting before after h = ap text_of h.split ∙ (text_of-append h.sent h.kept ∙ ap (λ t. text_of h.sent ++ t) (sym h.waits))
 
@@ -39,7 +39,7 @@ pub flush-ok : {E : Type 0} (waiting waits : List ℕ) (old new : Known) (r : Re
 flush-ok waiting waits old new (Ok done) wrote none = λ replies before h. rw none (flushed replies waiting before old new h wrote)
 flush-ok waiting waits old new (Err e) wrote none = tt
 
--- the front of what waited was written
+-- the first bytes of what waited were written
 pub front-written : (replies : List Data) (waiting before : List ℕ) (old new : Known) (n : ℕ) → Gathered replies waiting before old → Appends old new (take n waiting)
     → WroteFront replies before new
 front-written replies waiting before old new n h wrote = record {

@@ -1,4 +1,4 @@
--- A script is read on.
+-- Reading more of a script.
 use Rattle.std.proofs.Common.{◌≡◌, ◌∙◌, ℕ, ◌+◌, ◌<◌, ◌≤◌, false, List, [], ◌∷◌, ◌++◌, length, take, drop, Option, Some, refl, sym, ap, subst, arith, length-append}
 use Rattle.std.proofs.lemmas.List.{length-take}
 use Rattle.std.proofs.Math.Seq.{drop-append_seam}
@@ -29,7 +29,7 @@ pub stands-new : (o : Options) (r : Reader) → r.lines ≡ held_of [] → intak
 unfolding Reads
 stands-new o r held none same = record { held = held; reads = rw whole_lines-empty none; same = same }
 
--- the line goes on
+-- more bytes of the same line
 pub stands-on : (o : Options) (done bytes : List ℕ) (r next : Reader) → has_newline bytes ≡ false → StandsAt o done r
     → ((d : List ℕ) → r.lines ≡ held_of d → next.lines ≡ held_of (d ++ bytes)) → next.intake ≡ r.intake → next.options ≡ r.options
     → StandsAt o (done ++ bytes) next
@@ -57,7 +57,7 @@ stands-next o done r next number reading s at is a hold same = record {
   same = same ∙ s.same;
 }
 
--- ---- the whole of a script
+-- ---- the complete script
 
 -- the reader failed
 pub fails-read : (o : Options) (limit left : ℕ) (input : List ℕ) (old new : Option (List ℕ)) (r : Reader) → Going o limit left input old r → Keeps old new
@@ -70,7 +70,7 @@ fails-read o limit left input old new r g h = record {
   within = let count : left + length g.taken ≡ limit = g.count in omega arith;
 }
 
--- memory ran out once a piece was read
+-- memory ran out after a piece was read
 pub fails-piece : (o : Options) (limit left : ℕ) (input : List ℕ) (old new : Option (List ℕ)) (r : Reader) (chunk : List ℕ) (k : ℕ) → Going o limit left input old r
     → Consumes old new (take k chunk) → k ≤ left → ReadPart limit input new
 fails-piece o limit left input old new r chunk k g h few =
@@ -78,7 +78,7 @@ fails-piece o limit left input old new r chunk k g h few =
     let count : left + length g.taken ≡ limit = g.count in
     record { taken = g.taken ++ take k chunk; rest = m.0; split = m.2; told = m.1; within = omega (arith, length-append g.taken (take k chunk), length-take k chunk) }
 
--- the input goes on past the limit
+-- the input is longer than the limit
 pub fails-long : (o : Options) (limit left : ℕ) (input : List ℕ) (old new : Option (List ℕ)) (r : Reader) (chunk : List ℕ) (k : ℕ) → Going o limit left input old r
     → Consumes old new (take k chunk) → left < k → k ≤ left + 1 → k ≤ length chunk → (limit < length input) × (new ≡ Some (drop (limit + 1) input))
 fails-long o limit left input old new r chunk k g h over one within =
@@ -107,7 +107,7 @@ going-on o limit left after input old new r next chunk k g h few within fewer go
       stands = go o g.taken g.stands;
     }
 
--- all was read
+-- everything was read
 pub read-whole : (o : Options) (limit left : ℕ) (input : List ℕ) (old new : Option (List ℕ)) (r next : Reader) (chunk : List ℕ) (k : ℕ) → Going o limit left input old r
     → Consumes old new (take k chunk) → k ≡ 0 → IsAtEnd new → ((p : Options) (done : List ℕ) → StandsAt p done r → StandsAt p (done ++ 10 ∷ []) next)
     → ReadWhole o.processors o.clients limit input new (intake_view next.intake)

@@ -1,4 +1,4 @@
--- What clients made of their commands, against the log of their session.
+-- What became of the clients' commands, compared with the log of their session.
 use Rattle.std.proofs.Common.{◌≡◌, ◌∙◌, ◌==◌, ◌⊎◌, inl, inr, ℕ, zero, suc, ◌<◌, ◌≤◌, get_or, List, [], ◌∷◌, ◌++◌, All, length, map, Option, Some, None, Global, Vec, refl, sym, ap, subst, arith, length-append}
 use Rattle.std.specs.Prelude.{filter, option_map, slice_get, slice_index_or, slice_set}
 use Rattle.std.proofs.lemmas.Option.{slice_get-map, slice_get_within, slice_get_cases}
@@ -21,7 +21,7 @@ use Rattle.rewind_clients.specs.Told.{Ended, MayEnd, IsServed, Told, Tells, comm
 use Rattle.rewind_clients.specs.declared.drive.Done.{Done}
 use Rattle.rewind_clients.specs.declared.drive.Task.{Task}
 
--- an element of a mapped list comes from one of the list
+-- an element of a mapped list comes from an element of the list
 pub found-map : {A B : Type 0} (f : A → B) (xs : List A) (i : ℕ) (y : B) → slice_get (map f xs) i ≡ Some y → (x : A) × (slice_get xs i ≡ Some x) × (f x ≡ y)
 found-map f xs i y h = from (slice_get xs i) (sym (slice_get-map f xs i) ∙ h) refl
   where
@@ -37,7 +37,7 @@ at-place xs i h = from (slice_get_cases xs i).1
     from (inl c) = (c.0, c.2)
     from (inr c) = absurd (let a = c.0 in omega arith)
 
--- ---- no client made a command
+-- ---- no client has issued a command
 
 abbrev none-of : List (Command Global) → Ended
 none-of [] = None
@@ -56,7 +56,7 @@ all-none [] k d lt = absurd (omega (arith, lt))
 all-none (list ∷ commands) zero d lt = may-none list
 all-none (list ∷ commands) (suc k) d lt = all-none commands k d (omega (arith, lt))
 
--- one more client ended as it may
+-- one more client ended in an allowed way
 pub ended-more : (fs gs : List Ended) (f : Ended) → gs ≡ fs ++ f ∷ [] → All MayEnd fs → MayEnd f → All MayEnd gs
 ended-more fs gs f is all here = subst (All MayEnd) (sym is) (All-append MayEnd fs (f ∷ []) all one)
   where
@@ -64,7 +64,7 @@ ended-more fs gs f is all here = subst (All MayEnd) (sym is) (All-append MayEnd 
     one zero d lt = here
     one (suc k) d lt = absurd (omega (arith, lt))
 
--- there are lines that may be told of commands
+-- there are lines that may be reported for commands
 pub some-lines : (opening : MachineValue Global) (commands : Commands) (machine : MachineValue Global) → machine.timeline.base ≡ opening.timeline.base → IsHistory [] machine
     → (lines : List Data) × Tells opening commands lines
 some-lines opening commands machine begins history = (
@@ -88,12 +88,12 @@ some-lines opening commands machine begins history = (
   },
 )
 
--- a machine's opening, of which nothing was asked
+-- the history of a new machine, to which no command was given
 pub opened-history : (m : MachineValue Global) → IsStart m.timeline.base → IsState m.timeline.base → KeepsProtocol m.timeline.base → IsHistory [] (opening_of m)
 unfolding Leads
 opened-history m start state protocol = record { start = start; state = state; protocol = protocol; legal = record { placed = λ i e at. absurd (cc at); leads = refl }; few = omega arith }
 
--- ---- what the clients made
+-- ---- the commands that the clients issued
 
 -- the client at a position, its task and its commands
 pub record Place (commands : Commands) (ts : List Task) (ds : List Done) (k : ℕ) (d : Done) : Type 0 where
@@ -119,7 +119,7 @@ placed commands ts ds k d fresh done size at =
       served = subst (λ (cs : List (Command Global)). IsServed cs (asked d.client.receipts) d.fault) f.commands_are (g.served f.receipts);
     }
 
--- the receipts of the client of a number are the log's entries of that number
+-- the receipts of the client with a number are the log's entries of that number
 own-entries : (log : List (Receipt Global)) (k : ℕ) (p : ClientValue Global) → p.receipts ≡ filter (λ e. e.client == p.number) log → p.number ≡ k → asked p.receipts ≡ commands_of k log
 own-entries log k p h e = ap asked h ∙ ap (λ (n : ℕ). commands_of n log) e
 
@@ -180,16 +180,16 @@ fresh-more commands ts list t h f = record {
     each i asked u n (inl a) (inr b) = absurd (let x = a.0 in let y = b.0 in omega arith)
     each i asked u n (inr a) (inl b) = absurd (let x = a.0 in let y = b.0 in omega arith)
 
--- ---- commands, one behind another
+-- ---- commands, one after another
 
--- a client has one more
+-- a client has one more command
 pub lists-set : (vs : List (Vec (Command Global) Global)) (i : ℕ) (v d : Vec (Command Global) Global) (x : Command Global) → i < length vs → v.items ≡ (slice_index_or vs i d).items ++ x ∷ []
     → lists_of (slice_set vs i v) ≡ slice_set (lists_of vs) i (slice_index_or (lists_of vs) i [] ++ x ∷ [])
 lists-set [] i v d x h e = absurd (omega arith)
 lists-set (w ∷ ws) zero v d x h e = ap (λ l. l ∷ lists_of ws) e
 lists-set (w ∷ ws) (suc i) v d x h e = ap (λ ls. w.items ∷ ls) (lists-set ws i v d x (omega arith) e)
 
--- ---- a whole list of clients' commands
+-- ---- the complete list of clients' commands
 
 pub lists-one : (ys : List (Vec (Command Global) Global)) (v : Vec (Command Global) Global) → lists_of (ys ++ v ∷ []) ≡ lists_of ys ++ v.items ∷ []
 lists-one ys v = map-append (λ w. w.items) ys (v ∷ [])

@@ -1,4 +1,4 @@
--- Starts with one graph and one number of processors are one, and lists that are one place by place.
+-- Initial states with the same graph and number of processors are equal, and so are lists with the same elements.
 use Rattle.std.proofs.Common.{◌≡◌, ◌<◌, ℕ, zero, suc, List, [], ◌∷◌, length, get_or, refl, sym, ap, ◌∙◌, arith}
 use Rattle.std.specs.Prelude.{replicate}
 use Rattle.nd_graph.specs.Graph.{Dataflow}
@@ -24,7 +24,7 @@ same_start s t a b graphs counts =
     let n : a.count ≡ b.count = sym (ap (λ (u : ClusterState). length u.processors) a.is ∙ count_of_start a.graph a.count) ∙ counts ∙ ap (λ (u : ClusterState). length u.processors) b.is ∙ count_of_start b.graph b.count in
     a.is ∙ (λ i. start (g i) (n i)) ∙ sym b.is
 
--- lists of one length that are one at each place
+-- two lists of the same length with equal elements at each position
 pub same_lists : {X : Type 0} (xs ys : List X) → length xs ≡ length ys → ((k : ℕ) (d : X) → k < length xs → get_or xs k d ≡ get_or ys k d) → xs ≡ ys
 same_lists [] [] long each = refl
 same_lists [] (y ∷ ys) long each = absurd (omega (arith, long))

@@ -1,4 +1,4 @@
--- The lines of a log and of faults, gathered one after another.
+-- The lines of a log and of errors, gathered one after another.
 use Rattle.std.proofs.Common.{◌≡◌, ◌∙◌, ℕ, ◌+◌, ◌<◌, List, [], ◌∷◌, ◌++◌, length, take, drop, get_or, map, Some, None, refl, sym, ap, arith, append_assoc}
 use Rattle.std.proofs.lemmas.List.{length-take, map-append, take-append-drop, take_more}
 use Rattle.std.proofs.Math.Seq.{take-append_seam}
@@ -13,7 +13,7 @@ use Rattle.rewind_clients.specs.Gathered.{Gathered, GatherFails, StopsIn}
 use Rattle.rewind_clients.specs.Written.{WroteFront, WroteLines}
 use Rattle.rewind_clients.specs.Told.{Ended, client_fault, faults_data}
 
--- what was gathered of some replies was written in whole lines
+-- the gathered replies that were written are complete lines
 pub lines-of : (xs ys all : List Data) (waiting before : List ℕ) (after : Known) → Gathered xs waiting before after → xs ++ ys ≡ all → WroteLines all before after
 lines-of xs ys all waiting before after h same = record {
   count = length h.sent;
@@ -22,7 +22,7 @@ lines-of xs ys all waiting before after h same = record {
       (sym (ap (take (length h.sent)) (sym same ∙ (ap (λ (rs : List Data). rs ++ ys) h.split ∙ append_assoc h.sent h.kept ys)) ∙ take-append_seam h.sent (h.kept ++ ys)));
 }
 
--- the front of some replies is one of all
+-- the first bytes of some replies are the first bytes of all
 pub front-of : (xs ys all : List Data) (before : List ℕ) (after : Known) → WroteFront xs before after → xs ++ ys ≡ all → WroteFront all before after
 front-of xs ys all before after h same = record {
   count = length (take h.count (text_of xs));
@@ -56,7 +56,7 @@ pub map-rest : {A : Type 0} (f : A → Data) (xs : List Data) (zs : List A) (i :
 map-rest f xs zs i =
     append_assoc xs (map f (take i zs)) (map f (drop i zs)) ∙ ap (λ ds. xs ++ ds) (sym (map-append f (take i zs) (drop i zs)) ∙ ap (map f) (take-append-drop i zs))
 
--- ---- faults
+-- ---- errors
 
 faults-append : (k : ℕ) (xs ys : List Ended) → faults_data k (xs ++ ys) ≡ faults_data k xs ++ faults_data (k + length xs) ys
 faults-append k [] ys = ap (λ j. faults_data j ys) (omega arith)
@@ -71,7 +71,7 @@ faults-one xs fs i f h at =
     ∙ ap (λ ds. xs ++ ds) (ap (λ j. faults_data 0 (take i fs) ++ faults_data j (f ∷ [])) (sym size)
     ∙ (sym (faults-append 0 (take i fs) (f ∷ [])) ∙ ap (faults_data 0) (ap (λ y. take i fs ++ y ∷ []) at ∙ sym (take_more fs i f h))))
 
--- those up to one of them, that one, and the others
+-- those before one of them, that one, and the others
 pub faults-step : (xs : List Data) (fs : List Ended) (i : ℕ) (f : Ended) → i < length fs → f ≡ get_or fs i f
     → ((xs ++ faults_data 0 (take i fs)) ++ faults_data i (f ∷ [])) ++ faults_data (i + 1) (drop (i + 1) fs) ≡ xs ++ faults_data 0 fs
 faults-step xs fs i f h at =

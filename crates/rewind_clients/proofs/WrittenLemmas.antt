@@ -1,4 +1,4 @@
--- What is written of a script, by how far its run came.
+-- What is written for a script, depending on how far its run came.
 use Rattle.std.proofs.Common.{◌≡◌, ◌∙◌, ℕ, ◌+◌, List, [], ◌∷◌, ◌++◌, length, take, Option, Some, None, Result, Err, Ok, OnOk, IfErr, false, refl, sym, ap, append_assoc}
 use Rattle.std.proofs.lemmas.List.{append-nil}
 use Rattle.std.proofs.Math.Seq.{take-append-add, take-append_seam}
@@ -40,7 +40,7 @@ lines-before xs ys before after h = record {
   written = h.written ∙ ap (λ (rs : List Data). Some (before ++ text_of rs)) (sym (take-clip h.count xs ys));
 }
 
--- it stops in some replies, and in more
+-- it stops among some replies, so it stops among more
 pub stops-more : (xs ys : List Data) (before : List ℕ) (after : Known) (e : DebugFault) → StopsIn xs before after e → StopsIn (xs ++ ys) before after e
 stops-more xs ys before after fault.Memory h = lines-before xs ys before after h
 stops-more xs ys before after fault.Write h = front-of xs ys (xs ++ ys) before after h refl
@@ -71,14 +71,14 @@ front-behind xs ys before after h =
 
 -- ---- how a run ends
 
--- a reply alone
+-- one reply
 pub refused-told : (reply : Data) (before : List ℕ) (after : Known) → after ≡ Some (before ++ text_of (reply ∷ [])) → Writes (refused_graph reply) before after (Err fault.Graph)
 refused-told reply before after e = (tt, (reply ∷ [], refl, e))
 
 pub faulty-told : (reply : Data) (before : List ℕ) (after : Known) → after ≡ Some (before ++ text_of (reply ∷ [])) → Writes (faulty_line reply) before after (Err fault.Script)
 faulty-told reply before after e = (tt, (reply ∷ [], refl, e))
 
--- it could not be written whole, for replies of which these are the first
+-- it could not be written completely, and it is the first of these replies
 pub stops-in : (intake : Intake) (first lines : List Data) (before : List ℕ) (after : Known) (e : DebugFault) → Replies intake (first ++ lines)
     → StopsIn first before after e → Writes intake before after (Err e)
 stops-in intake first lines before after fault.Memory are h = (first ++ lines, are, lines-before first lines before after h)
@@ -117,7 +117,7 @@ stops-driving v opening m commands lines before after fault.Read t h e = absurd 
 stops-driving v opening m commands lines before after fault.Write t h e = absurd h
 stops-driving v opening m commands lines before after fault.TooLong t h e = absurd h
 
--- the lines behind them could not be written whole
+-- the lines after them could not be written completely
 stops-telling : (v : Version) (opening : List Data) (m : Logged) (commands : Commands) (lines : List Data) (before : List ℕ) (after : Known) (e : DebugFault) → Tells m.machine commands lines
     → StopsIn lines (before ++ text_of opening) after e → Writes (script v opening m commands) before after (Err e)
 stops-telling v opening m commands lines before after fault.Memory t h = (opening ++ lines, (lines, t, refl), lines-behind opening lines before after h)
@@ -128,12 +128,12 @@ stops-telling v opening m commands lines before after fault.Read t h = absurd h
 stops-telling v opening m commands lines before after fault.TooLong t h = absurd h
 stops-telling v opening m commands lines before after fault.Close t h = absurd h
 
--- all was written
+-- everything was written
 script-told : (v : Version) (opening : List Data) (m : Logged) (commands : Commands) (lines : List Data) (before : List ℕ) (after : Known) → Tells m.machine commands lines
     → after ≡ Some ((before ++ text_of opening) ++ text_of lines) → Writes (script v opening m commands) before after (Ok tt)
 script-told v opening m commands lines before after t e = (tt, (opening ++ lines, (lines, t, refl), e ∙ ap Some (joined before opening lines)))
 
--- or not all
+-- not everything was written
 pub script-ends : (v : Version) (opening : List Data) (m : Logged) (commands : Commands) (lines : List Data) (before : List ℕ) (old after : Known) (r : Result (Unit {0}) DebugFault)
     → Tells m.machine commands lines → old ≡ Some (before ++ text_of opening) → OnOk r ((b : List ℕ) → old ≡ Some b → after ≡ Some (b ++ text_of lines))
     → IfErr r (λ e. (b : List ℕ) → old ≡ Some b → StopsIn lines b after e) → Writes (script v opening m commands) before after r
