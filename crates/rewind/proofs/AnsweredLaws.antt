@@ -1,4 +1,4 @@
--- What was gathered is written, and a run is answered or ends.
+-- What was gathered is written, and the run continues or ends.
 use Rattle.std.proofs.Common.{◌≡◌, ◌∙◌, ℕ, ◌+◌, List, [], ◌++◌, length, take, drop, Some, Result, Ok, Err, IfOk, IfErr, sym, ap, subst}
 use Rattle.std.proofs.lemmas.List.{append-nil}
 use Rattle.std.proofs.Math.Seq.{take-append-add}
@@ -32,7 +32,7 @@ answered-flush n done before sent old new run next s e h none lines stage replie
   none_waits = none;
 }
 
--- the front of what waited was written
+-- the first bytes of what waited were written
 wrote-front : (n k : ℕ) (lines : List (List ℕ)) (before sent waiting : List ℕ) (old new : Known) (replies : List Data) (phase : Phase) → Replies n lines replies phase
     → text_of replies ≡ sent ++ waiting → old ≡ Some (before ++ sent) → Appends old new (take k waiting) → WroteFront n lines before new
 wrote-front n k lines before sent waiting old new replies phase ran text e h = record {
@@ -44,7 +44,7 @@ wrote-front n k lines before sent waiting old new replies phase ran text e h = r
       ∙ ap (λ t. Some (before ++ t)) (sym (ap (take (length sent + k)) text ∙ take-append-add sent waiting k));
 }
 
--- a write failed, after `P m` was gathered or after a fault
+-- a write failed, after `P m` was gathered or after an error
 pub ends-write : {A : Type 0} (n k : ℕ) (lines : List (List ℕ)) (before sent : List ℕ) (old new : Known) (run : declared.Run) (P : A → List ℕ) (r : Result A DebugFault)
     → IfOk r (λ m. Stands n (P m) sent run) → IfErr r (λ e. Stopped n lines sent run e)
     → ((m : A) → take (length (whole_lines_of (P m))) lines ≡ whole_lines_of (P m))
@@ -58,7 +58,7 @@ ends-write n k lines before sent old new run P (Ok m) s stopped front e h = (
 ends-write n k lines before sent old new run P (Err x) stands s front e h =
     (s.count, wrote-front n k (take s.count lines) before sent run.outbox old new s.replies s.phase s.ran s.text e h)
 
--- a fault, and all that waited was written
+-- an error, and all that waited was written
 pub ends-stopped : (n : ℕ) (lines : List (List ℕ)) (before sent : List ℕ) (old new : Known) (run : declared.Run) (e : DebugFault) → Stopped n lines sent run e
     → old ≡ Some (before ++ sent) → Appends old new run.outbox → EndsEarly n lines before new e
 unfolding EndsEarly Faulted
@@ -86,7 +86,7 @@ ends-stopped n lines before sent old new run fault.Write s e h = absurd s.stops
 ends-stopped n lines before sent old new run fault.TooLong s e h = absurd s.stops
 ends-stopped n lines before sent old new run fault.Close s e h = absurd s.stops
 
--- a write failed on the way
+-- a write failed before the end
 pub feeds-write : (n k from : ℕ) (done bytes before sent : List ℕ) (old new : Known) (run : declared.Run) (r : Result ℕ DebugFault)
     → IfOk r (λ m. Stands n ((done ++ take from bytes) ++ take m (drop from bytes)) sent run)
     → IfErr r (λ e. Stopped n (whole_lines_of ((done ++ take from bytes) ++ drop from bytes)) sent run e)

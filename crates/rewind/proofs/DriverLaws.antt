@@ -17,7 +17,7 @@ use Rattle.rewind_lines.specs.declared.fault.DebugFault.TheVariants as fault
 use Rattle.rewind.specs.declared.run.Run as declared
 use Rattle.rewind.proofs.StandLaws.{phase_of-goes_on}
 
--- the lines before the one that is being read are replied to
+-- the lines before the one that is being read are answered
 abbrev replied-to : (n : ℕ) (done before : List ℕ) (after : Known) (run : declared.Run) (lines : List (List ℕ)) (a : Answered n done before after run) → whole_lines_of done ≡ lines
     → RepliedTo n lines before after
 replied-to n done before after run lines a same = record {
@@ -28,7 +28,7 @@ replied-to n done before after run lines a same = record {
   written = a.written ∙ ap (λ t. Some (before ++ t)) (sym (a.stands.text ∙ (ap (λ t. a.sent ++ t) a.none_waits ∙ append-nil a.sent)));
 }
 
--- all was read and answered
+-- everything was read and answered
 pub ends-ok : (n limit left : ℕ) (input before : List ℕ) (old new old_text new_text : Known) (run next : declared.Run) (piece : List ℕ) → Going n limit left input before old old_text run
     → Consumes old new piece → piece ≡ [] → IsAtEnd new → ((done : List ℕ) → Answered n done before old_text run → Answered n (done ++ 10 ∷ []) before new_text next)
     → Ends n limit input new before new_text (Ok next.replied)
@@ -45,7 +45,7 @@ ends-ok n limit left input before old new old_text new_text run next piece g h n
       ended = r.0;
     }
 
--- a fault on the way is one of the run
+-- an error before the end is one of the run
 ends-fault : (n limit : ℕ) (input taken rest before : List ℕ) (left after : Known) (lines : List (List ℕ)) (e : DebugFault) → input ≡ taken ++ rest → left ≡ Some rest
     → length taken ≤ limit + 1 → ((k : ℕ) → AreRead limit taken rest (take k lines)) → EndsEarly n lines before after e → Ends n limit input left before after (Err e)
 unfolding EndsEarly Faulted
@@ -86,18 +86,18 @@ ends-read n limit left input before old new text run g h = record {
   replied = replied-to n g.taken before text run (whole_lines_of g.taken) g.answered refl;
 }
 
--- what was taken up to the limit, if more was read than that
+-- what was taken up to the limit, if more was read
 over-limit : (limit left k : ℕ) (taken chunk : List ℕ) → left + length taken ≡ limit → left < k → k ≤ length chunk → take limit (taken ++ take k chunk) ≡ taken ++ take left chunk
 over-limit limit left k taken chunk count over within =
     let at : limit ≡ length taken + left = omega arith in
     ap (λ m. take m (taken ++ take k chunk)) at ∙ (take-append-add taken (take k chunk) left ∙ ap (λ zs. taken ++ zs) (take-take left k chunk (omega arith)))
 
--- and if no more was
+-- what was taken up to the limit, if no more was read
 under-limit : (limit left k : ℕ) (taken chunk : List ℕ) → left + length taken ≡ limit → k ≤ left → k ≤ length chunk → take limit (taken ++ take k chunk) ≡ taken ++ take k chunk
 under-limit limit left k taken chunk count under within =
     take_all limit (taken ++ take k chunk) (omega (arith, length-append taken (take k chunk), length-take k chunk))
 
--- the input goes on past the limit
+-- the input is longer than the limit
 pub ends-long : (n limit left : ℕ) (input before : List ℕ) (old new old_text new_text : Known) (run next : declared.Run) (chunk : List ℕ) (k : ℕ)
     → Going n limit left input before old old_text run → Consumes old new (take k chunk) → left < k → k ≤ left + 1 → k ≤ length chunk
     → ((done : List ℕ) → Answered n done before old_text run → Answered n (done ++ take left chunk) before new_text next)
@@ -138,7 +138,7 @@ going-on n limit left after input before old new old_text new_text run next chun
       answered = go g.taken g.answered;
     }
 
--- a fault while the m bytes of a piece that stand within the limit were answered
+-- an error while the m bytes of a piece within the limit were answered
 ends-piece : (n limit left : ℕ) (input before : List ℕ) (old new old_text new_text : Known) (run : declared.Run) (chunk : List ℕ) (k m : ℕ) (e : DebugFault)
     → (g : Going n limit left input before old old_text run) → Consumes old new (take k chunk) → k ≤ left + 1 → k ≤ length chunk
     → take limit (g.taken ++ take k chunk) ≡ g.taken ++ take m chunk
@@ -165,7 +165,7 @@ pub ends-piece-over : (n limit left : ℕ) (input before : List ℕ) (old new ol
 ends-piece-over n limit left input before old new old_text new_text run chunk k e g h over one within go =
     ends-piece n limit left input before old new old_text new_text run chunk k left e g h one within (over-limit limit left k g.taken chunk g.count over within) go
 
--- a fault at the last line
+-- an error at the last line
 pub ends-last : (n limit left : ℕ) (input before : List ℕ) (old new old_text new_text : Known) (run : declared.Run) (piece : List ℕ) (e : DebugFault)
     → Going n limit left input before old old_text run → Consumes old new piece → piece ≡ [] → IsAtEnd new
     → ((done : List ℕ) → Answered n done before old_text run → EndsEarly n (lines_of done) before new_text e)
@@ -177,7 +177,7 @@ ends-last n limit left input before old new old_text new_text run piece e g h no
     ends-fault n limit input g.taken [] before new new_text (lines_of g.taken) e (r.1 ∙ sym (append-nil g.taken)) r.0 (omega arith)
     (λ j. last j refl fits refl) (go g.taken g.answered)
 
--- how many bytes a run took that a line ended
+-- how many bytes a run takes that ends at a line
 pub takes-run : (limit left old mid new n most : ℕ) (e : DebugFault) → IsOfRun e → mid + left ≡ old + limit → new ≡ mid + n → n ≤ most → most ≤ left + 1
     → Takes limit (Err e) (new - old)
 takes-run limit left old mid new n most fault.Graph h given took within few = omega arith
@@ -198,7 +198,7 @@ not-read fault.Read h = absurd h
 not-read fault.TooLong h = absurd h
 not-read fault.Close h = absurd h
 
--- and no fault of several clients
+-- the error is not one of several clients
 pub one-client : (e : DebugFault) → IsOfRun e → (e ≢ fault.Script) × (e ≢ fault.Close)
 one-client fault.Graph h = (λ x. cc, λ x. cc)
 one-client fault.Memory h = (λ x. cc, λ x. cc)

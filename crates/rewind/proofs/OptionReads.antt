@@ -97,7 +97,7 @@ read_of c f id Q how x e no_groups named reads read found first same_x key_id pa
         → x.reading ≡ how → (t : List ℕ) × (one_text f id ≡ Some (read_as how t)) × Q t
     finish hd is = (hd.0.now, one_text_at_entry f id x how (read_as how hd.0.now) found is hd.1, read hd.0 hd.2)
 
--- what the entry of an id gives, if it is an argument's with a first value
+-- what the entry of an id gives, if it belongs to an argument and has a first value
 entry_read : (c : Command) (f : Found) (id : List ℕ) (Q : List ℕ → Type 0) (how : Reading) → ValuesPass c f → groups_of c ≡ [] → (id ≡ [] → ⊥)
     → is_some (first_value f id) ≡ true → ((r : Reading) → HasReading c id r → r ≡ how)
     → ((v : Bor (List ℕ)) → PassesArg c id v.now → Q v.now)

@@ -1,4 +1,4 @@
--- A run under way goes on by a line, or stops.
+-- A run in progress processes one more line, or stops.
 use Rattle.std.proofs.Common.{◌≡◌, ◌∙◌, ℕ, ◌+◌, ◌<◌, ◌≤◌, false, List, [], ◌∷◌, ◌++◌, length, take, refl, sym, ap, subst, arith, append_assoc, length-append}
 use Rattle.std.proofs.lemmas.List.{append-nil}
 use Rattle.std.proofs.Math.Seq.{take-append_seam, take-length}
@@ -19,7 +19,7 @@ use Rattle.rewind_answers.specs.declared.stage.Stage.{Stage}
 use Rattle.rewind_answers.specs.declared.stage.Stage.TheVariants.{Unopened, Unstarted, Running}
 use Rattle.rewind.proofs.RunLaws.{Run-push}
 
--- a stage is no refused graph's
+-- a stage is never that of a refused graph
 pub phase_of-goes_on : (stage : Stage) → phase_of stage ≡ refused → ⊥
 phase_of-goes_on (Unopened processors) e = cc
 phase_of-goes_on (Unstarted version processors) e = cc
@@ -50,19 +50,19 @@ stands-new n run stage held none replied = record {
   replied = replied;
 }
 
--- nothing was put behind what waited
+-- nothing was appended to what waited
 pub adds-none : (waited waits : List ℕ) → waits ≡ waited → AddsOne waited waits
 adds-none waited waits same = record { last = []; at_most_one = omega arith; text = same ∙ sym (append-nil waited) }
 
--- a line's reply was
+-- the reply to a line was appended
 pub adds-reply : (old new : Phase) (number : ℕ) (reading : Reading) (waited waits : List ℕ) (count : ℕ) → Gathers old number reading waited waits count new → count ≤ 1 → AddsOne waited waits
 adds-reply old new number reading waited waits count a one = record { last = a.replies; at_most_one = omega (arith, a.is_count, one); text = a.gathered }
 
--- what waits has room for more
+-- what waits has room for one more reply
 pub waits-few : (waits : List ℕ) → length waits < 65536 → WaitsFew waits
 waits-few waits few = record { before = waits; few = few; more = adds-none waits waits refl }
 
--- memory ran out at a line, of these or of later ones
+-- memory ran out at a line, among these or later ones
 stopped-memory-at : (n : ℕ) (done sent : List ℕ) (run next : declared.Run) (lines : List (List ℕ)) (s : Stands n done sent run) → next.outbox ≡ run.outbox
     → take (length (whole_lines_of done)) lines ≡ whole_lines_of done → Stopped n lines sent next fault.Memory
 stopped-memory-at n done sent run next lines s waits front = record {
@@ -113,7 +113,7 @@ stands-next n done sent run next number reading count s at is a hold replied = r
       omega (arith, length-append s.replies a.replies);
 }
 
--- the line goes on
+-- more bytes of the same line
 pub stands-on : (n : ℕ) (done bytes sent : List ℕ) (run next : declared.Run) → has_newline bytes ≡ false → Stands n done sent run
     → ((d : List ℕ) → run.lines ≡ held_of d → next.lines ≡ held_of (d ++ bytes)) → next.stage ≡ run.stage → next.outbox ≡ run.outbox → next.replied ≡ run.replied
     → Stands n (done ++ bytes) sent next
@@ -125,7 +125,7 @@ stands-on n done bytes sent run next none s hold stage waits replied = record {
   replied = replied ∙ s.replied;
 }
 
--- what stopped a run at a newline stops it also if more comes
+-- what stopped a run at a newline stops it also if more follows
 pub stopped-newline : (n : ℕ) (done more all sent : List ℕ) (run : declared.Run) (e : DebugFault) → (done ++ 10 ∷ []) ++ more ≡ all → Stopped n (lines_of done) sent run e
     → Stopped n (whole_lines_of all) sent run e
 stopped-newline n done more all sent run e same h =
