@@ -13,15 +13,15 @@ pub use faults::Code;
 use std::marker::Model;
 use thiserror::Error;
 
-/// The greatest depth of nested loops.
+/// The most loops that may lie within one another.
 pub const MAX_DEPTH: usize = 6;
 
-/// A loop counter is at its maximum, 4294967295, and cannot be increased.
+/// A loop counter stands at its greatest value, 4294967295, and cannot rise.
 #[derive(Clone, Copy, Debug, PartialEq, Eq, Drop, Error)]
 #[error("the loop counter is at its limit")]
 pub struct CounterFull;
 
-/// Out of memory.
+/// A growth was refused.
 #[derive(Clone, Copy, Debug, PartialEq, Eq, Drop, Error)]
 #[error("out of memory")]
 pub struct NoMemory;
