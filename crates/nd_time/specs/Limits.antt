@@ -1,7 +1,7 @@
 -- The limits of the program. No other file states them (this project's own rule).
 use Rattle.std.specs.Prelude.{ℕ}
 
--- the greatest depth of nested loops, and the greatest in a graph of version 1
+-- the greatest depth of nested loops; `max_depth_v1` is that of a graph of version 1
 abbrev pub max_depth : ℕ
 max_depth = 6
 
@@ -12,7 +12,7 @@ max_depth_v1 = 4
 abbrev pub max_locations : ℕ
 max_locations = 64
 
--- the greatest length of a name in bytes, and the least and the greatest byte in it, '!' and '~'
+-- the greatest length of a name in bytes; the next two are the least and the greatest byte in it, '!' and '~'
 abbrev pub max_name : ℕ
 max_name = 32
 
@@ -22,7 +22,7 @@ least_of_name = 33
 abbrev pub greatest_of_name : ℕ
 greatest_of_name = 126
 
--- the most processors of a cluster, and the most in a script of version 1
+-- the most processors of a cluster; `max_processors_v1` is that of a script of version 1
 abbrev pub max_processors : ℕ
 max_processors = 16
 
