@@ -26,7 +26,7 @@ every read (d ∷ ds) = option_and_then (λ x. option_map (λ xs. x ∷ xs) (eve
 abbrev pub name_of : List ℕ → Option (List ℕ)
 name_of text = if is_name text then Some text else None
 
--- the operators without a constant
+-- the operator without a constant that a text names
 unfoldable pub plain_op : List ℕ → Option Op
 plain_op text =
     if bytes_eq text (codes "input") then Some op.Input else
@@ -38,7 +38,7 @@ plain_op text =
     (if bytes_eq text (codes "hold") then Some op.Hold else
     (if bytes_eq text (codes "sink") then Some op.Sink else None)))))))
 
--- the operators with a constant
+-- the operator with the constant k that a text names
 unfoldable pub numbered_op : List ℕ → ℤ → Option Op
 numbered_op text k =
     if bytes_eq text (codes "add") then Some (op.Add k) else
@@ -51,7 +51,7 @@ route_of text =
     if bytes_eq text (codes "local") then Some Local else
     (if bytes_eq text (codes "exchange") then Some Exchange else None)
 
--- the operator of a vertex; its constant is under "k"
+-- the operator of a vertex; its constant is at the key "k"
 unfoldable pub op_of : Data → Option Op
 op_of d =
     if has_keys (codes "depth" ∷ codes "name" ∷ codes "op" ∷ []) d
@@ -80,7 +80,7 @@ edge_of d =
     (small_at (codes "port") d)) (text_at (codes "from") d)) (name_in d)
     else None
 
--- the vertices or edges under a key
+-- the vertices or edges at a key
 abbrev pub every_at : {X : Type 0} → List ℕ → (Data → Option X) → Data → Option (List X)
 every_at key read d = option_and_then (every read) (list_at key d)
 
@@ -107,7 +107,7 @@ holds _ = false
 abbrev pub is_hold : Vertex → Bool
 is_hold v = holds v.op
 
--- a graph without hold vertices
+-- the draft, if it has no hold vertex
 abbrev pub without_hold : Draft → Option Draft
 without_hold draft = if list_any is_hold draft.vertices then None else Some draft
 

@@ -21,7 +21,7 @@ pub record Facts : Type 0 where
 abbrev pub plain : Action → Facts
 plain a = record { action = a; ports = 1; fed = false; asks = false; counts = false }
 
--- of each operator: its action, its number of ports, and whether it receives values from outside, makes requests and
+-- the facts of each operator: its action, its number of ports, and whether it receives values from outside, makes requests and
 -- counts values
 abbrev pub facts : Op → Facts
 facts op.Input = record { action = Identity; ports = 1; fed = true; asks = false; counts = false }
