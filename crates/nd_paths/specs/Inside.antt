@@ -76,7 +76,7 @@ inner s = record { keep = s.keep; add = s.add; constants = reverse s.constants }
 abbrev pub identity : ℕ → Summary
 identity depth = record { keep = depth; add = 0; constants = [] }
 
--- the innermost counter plus a
+-- the list with a added to the innermost counter
 abbrev pub plus : ℕ → List ℕ → List ℕ
 plus a [] = []
 plus a (x ∷ c) = (x + a) ∷ c
@@ -105,13 +105,13 @@ after (x ∷ w) s = after w (step x.action s)
 abbrev pub summary_of : List ℕ → ℕ → List Arc → Summary
 summary_of depths a w = after w (identity (slice_index depths a))
 
--- s is at most t, for summaries with the same keep: by what they add, then by their constants
+-- s is at most t, if both keep the same number of counters: by what they add, then by their constants
 pub record AtMost (s t : Summary) : Type 0 where
   pub keep : s.keep ≡ t.keep
   pub size : length s.constants ≡ length t.constants
   pub least : (s.add < t.add) ⊎ ((s.add ≡ t.add) × AtOrBefore s.constants t.constants)
 
--- s is less than t, for summaries with the same keep
+-- s is less than t, if both keep the same number of counters
 pub record Below (s t : Summary) : Type 0 where
   pub keep : s.keep ≡ t.keep
   pub size : length s.constants ≡ length t.constants

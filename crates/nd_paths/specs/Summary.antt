@@ -7,7 +7,7 @@ use Rattle.nd_graph.specs.Graph.{Dataflow}
 use Rattle.nd_paths.specs.declared.summary.Summary.{Summary}
 use Rattle.nd_paths.specs.Order.{IsWalk, effect, HasDepth}
 
--- the last number plus a
+-- the list with a added to its last number
 abbrev pub raised : ℕ → List ℕ → List ℕ
 raised a [] = []
 raised a (x ∷ []) = (x + a) ∷ []
@@ -21,7 +21,7 @@ applied s counters = raised s.add (take s.keep counters) ++ s.constants
 abbrev pub left_by : Summary → ℕ
 left_by s = s.keep + length s.constants
 
--- one summary, and then another
+-- the summary of a walk with summary s, followed by a walk with summary t
 abbrev pub composed : Summary → Summary → Summary
 composed s t =
     cond (nat_lt s.keep t.keep)
@@ -42,7 +42,7 @@ pub record IsSummaryOf (g : Dataflow) (from : ℕ) (walk : List Arc) (s : Summar
   pub top : s.keep ≡ 0 → s.add ≡ 0
   pub does : (counters : List ℕ) → length counters ≡ depth → applied s counters ≡ effect walk counters
 
--- s is at most t, for summaries with the same keep: by what they add, then by their constants
+-- s is at most t, if both keep the same number of counters: by what they add, then by their constants
 abbrev pub IsAtMost : Summary → Summary → Type 0
 IsAtMost s t = (s.add < t.add) ⊎ ((s.add ≡ t.add) × IsLexicallyAtMost s.constants t.constants)
 
