@@ -13,7 +13,7 @@ use Rattle.nd_view.specs.Kept.{IsEarlier, IsKeptAt, IsReady}
 abbrev pub AreEarlier : Dataflow → DeltaValue → Pointstamp → ℕ → ℕ → Type 0
 AreEarlier g m t below count = IsCount (IsEarlier g m t below) m count
 
--- each stored count is ready to be moved by one, because x became positive (up) or is no longer positive
+-- each stored count is ready to be moved by one, because x became positive (up) or ceased to be
 abbrev pub AreReady : Dataflow → DeltaValue → Pointstamp → Bool → List (Pointstamp × ℕ) → Type 0
 AreReady g m x up es = (q : Pointstamp) → IsReady g m x up q (find point_cmp q es)
 

@@ -57,7 +57,7 @@ pub record IsEarlier (g : Dataflow) (m : DeltaValue) (t : Pointstamp) (below : �
 abbrev pub IsNear : Pointstamp → Pointstamp → Type 0
 IsNear x t = (x.location ≡ t.location) × (x.time.epoch < t.time.epoch) × (x.time.counters ≡ []) × (t.time.counters ≡ [])
 
--- ---- counts that must still be moved by one, because x became positive (up) or is no longer positive
+-- ---- counts that must still be moved by one, because x became positive (up) or ceased to be
 
 abbrev pub moved : Bool → ℕ → ℕ
 moved true n = n + 1
@@ -68,7 +68,7 @@ IsMovable g m q up None = ⊥
 IsMovable g m q true (Some n) = IsKeptAt g m q (Some (n + 1))
 IsMovable g m q false (Some n) = (1 ≤ n) × IsKeptAt g m q (Some (n - 1))
 
--- a positive point strictly after x has its precursor count except for the one of x; every other point has its own
+-- the count of a positive point strictly after x lacks x (up), or still counts it; every other count is correct
 pub record IsReady (g : Dataflow) (m : DeltaValue) (x : Pointstamp) (up : Bool) (q : Pointstamp) (o : Option ℕ) : Type 0 where
   pub after : pos 0 <ℤ at m q → IsStrictlyBefore g x q → IsMovable g m q up o
   pub others : ((pos 0 <ℤ at m q) × IsStrictlyBefore g x q → ⊥) → IsKeptAt g m q o
