@@ -131,9 +131,8 @@ IsAdmissible s (Broadcast p part) = StaysUpright s p (chosen part (processor s p
 IsAdmissible s (Release p vertex times) = GoesLater times.time times.to
 IsAdmissible s _ = Unit {0}
 
--- no condition of a refusal holds, and the numbers of the step fit their types, as those of every step of a program do. For
--- refusals 16 and 54 `admissible` states what their conditions deny: each entry that stays is supported, and a capability moves
--- only to a later time
+-- no condition of a refusal holds, and the numbers of the step fit their types, as those of every step of a program do;
+-- `admissible` excludes refusals 16 and 54: each entry that stays is supported, and a capability moves only to a later time
 pub record IsEnabled {A : Type 0} (s : ClusterState) (x : Step A) : Type 0 where
   pub free : (r : Refusal) → Fails s x r → ⊥
   pub admissible : IsAdmissible s x

@@ -24,7 +24,7 @@ sent s p c =
       queues = slice_set s.queues p (map (λ changes. changes ++ c ∷ []) (slice_index_or s.queues p []));
     }
 
--- q receives the first of these changes, the queue from p to q
+-- q receives the first of these changes, which are the queue from p to q
 abbrev pub received_from : ClusterState → ℕ → ℕ → List DeltaValue → ClusterState
 received_from s p q [] = s
 received_from s p q (c ∷ rest) = record s {

@@ -77,7 +77,7 @@ pub record QueueIsWithin (changes : List DeltaValue) : Type 0 where
   pub few : length changes ≤ max_queue
   pub entries : All DeltaIsWithin changes
 
--- no number of a cluster exceeds its limit, and there is at least one processor
+-- no number of a cluster exceeds its limit, and there are 1 to max_processors processors
 pub record IsWithinLimits (s : ClusterState) : Type 0 where
   pub some : 0 < length s.processors
   pub few : length s.processors ≤ max_processors

@@ -36,7 +36,7 @@ TruthIsSmall = (s : ClusterState) → IsState s → IsSettled s → (x : Pointst
 
 -- ---- steps; A is the allocator of their values
 
--- an enabled step leads from a state to a state
+-- an enabled step leads from a state that a cluster may be in to such a state
 abbrev pub StepLeadsToState : Type 0 → Type 0
 StepLeadsToState A = (s : ClusterState) (x : Step A) → IsState s → IsEnabled s x → IsState (stepped s x)
 
@@ -58,7 +58,7 @@ RunKeepsProtocol A = (s : ClusterState) (xs : List (Step A)) → IsState s → K
 abbrev pub PassedMeansFinished : Type 0
 PassedMeansFinished = (s : ClusterState) → IsState s → KeepsProtocol s → (q : ℕ) → q < length s.processors → (t : Pointstamp) → IsPassed s.graph (view s q) t → IsFinished s t
 
--- no view has passed a pointstamp that a request could result in: a notification that waits, or a capability that a hold vertex keeps
+-- no view has passed a pointstamp that a request could result in: a notification that waits, or a capability that is held
 abbrev pub HeldIsNotPassed : Type 0
 HeldIsNotPassed = (s : ClusterState) → IsState s → KeepsProtocol s → (p q : ℕ) → p < length s.processors → q < length s.processors → (x t : Pointstamp)
     → fin.get (processor s p).requests x ≡ Some tt → CouldResultIn s.graph x t → IsPassed s.graph (view s q) t → ⊥
@@ -73,6 +73,6 @@ abbrev pub NoticeComesLast : Type 0 → Type 0
 NoticeComesLast A = (s : ClusterState) (p vertex : ℕ) (t : Time) → IsState s → KeepsProtocol s → IsEnabled {A = A} s (Notice p vertex t)
     → (x : Pointstamp) → IsStrictlyBefore s.graph x (point_at vertex t) → at (truth s.processors) x ≡ pos 0
 
--- what is finished stays finished: steps keep it so
+-- what is finished is still finished after enabled steps
 abbrev pub FinishedStaysFinished : Type 0 → Type 0
 FinishedStaysFinished A = (s : ClusterState) (xs : List (Step A)) → IsState s → KeepsProtocol s → AreEnabled s xs → (t : Pointstamp) → IsFinished s t → IsFinished (after s xs) t

@@ -1,5 +1,5 @@
--- The initial state of a cluster: each token is at epoch 0, each view has what is outstanding, and everything else is empty
--- (FORTE 2013).
+-- The initial state of a cluster: each token is at epoch 0, each view has what is outstanding, and all else is empty (FORTE
+-- 2013).
 use Rattle.std.specs.Prelude.{ℕ, List, [], replicate}
 use Rattle.nd_graph.specs.Graph.{Dataflow}
 use Rattle.nd_processor.specs.State.{ProcessorState}
