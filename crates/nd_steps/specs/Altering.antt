@@ -143,7 +143,7 @@ Appends old new e = lists_of new ≡ beside (lists_of old) e
 abbrev pub sent_row : ℕ → Pointstamp × ℤ → Altered Pointstamp ℤ
 sent_row p e = record { p = p; key = e.0; old = e.1; new = pos 0 }
 
--- the queue from p to another processor, which gets one change longer
+-- the queue from p to another processor, which becomes one change longer
 abbrev pub longer_row : List (List (List DeltaValue)) → ℕ → ℕ → Altered ℕ ℕ
 longer_row m p to = record { p = p; key = to; old = length (queue m p to); new = length (queue m p to) + 1 }
 
@@ -155,7 +155,7 @@ longer_rows m p n = joined_below n (λ to. longer_row m p to ∷ [])
 abbrev pub received_row : ℕ → DeltaValue → Pointstamp × ℤ → Altered Pointstamp ℤ
 received_row q v e = record { p = q; key = e.0; old = in_change v e.0; new = in_change v e.0 +ℤ e.1 }
 
--- the queue from which the change is received, which gets one change shorter
+-- the queue from which the change is received, which becomes one change shorter
 abbrev pub shorter_row : List (List (List DeltaValue)) → ℕ → ℕ → Altered ℕ ℕ
 shorter_row m from to = record { p = from; key = to; old = length (queue m from to); new = length (queue m from to) - 1 }
 

@@ -22,7 +22,7 @@ CountStays processors c = CountWithin c.slot (after processors c)
 abbrev pub EntryStays : List ProcessorState → Change → Type 0
 EntryStays processors c = EntryWithin c.slot (after processors c)
 
--- the refusal of changes that lead to t, which exceeds this limit: the limit of counts is tested before that of entries
+-- t exceeds the limit that the refusal names; the limit of counts is tested before that of entries
 abbrev pub LimitFails : ClusterState → Refusal → Type 0
 LimitFails t CountFull = HasLargeCount t
 LimitFails t DeltaFull = (HasLargeCount t → ⊥) × HasLargeEntry t

@@ -19,7 +19,7 @@ use Rattle.nd_steps.specs.declared.flow.Flow.{Flow}
 abbrev pub StayWithin : List ProcessorState → List Change → Type 0
 StayWithin processors cs = Each (CountStays processors) cs × Each (EntryStays processors) cs
 
--- the refusal if a count or an entry exceeds its limit afterwards; that of counts comes first
+-- a count or an entry exceeds the limit that the refusal names; the limit of counts is tested before that of entries
 abbrev pub StayFails : List ProcessorState → List Change → Refusal → Type 0
 StayFails processors cs CountFull = Each (CountStays processors) cs → ⊥
 StayFails processors cs DeltaFull = Each (CountStays processors) cs × (Each (EntryStays processors) cs → ⊥)

@@ -30,8 +30,7 @@ Each P (c ∷ cs) = P c × Each P cs
 abbrev pub StaysRanged : ClusterState → Change → Type 0
 StaysRanged s c = SlotRanged c.slot (standing s (place_of c) +ℤ c.n)
 
--- the changes, in any order, add the difference of t and s, a state that a cluster may be in; s and t differ in their processors
--- only
+-- t differs from s, a state that a cluster may be in, in its processors only, and the changes, in any order, add the difference
 pub record Reaches (s t : ClusterState) (cs : List Change) : Type 0 where
   pub state : IsState s
   pub graph : t.graph ≡ s.graph
