@@ -50,7 +50,7 @@ impl Fault {
         *self == *other
     }
 
-    /// Returns the number and the name that a reply gives the fault.
+    /// Returns the number and the name with which a reply reports the error.
     pub fn code(&self) -> Code
         ensures { result ≡ code_of self.now }
     {
