@@ -33,7 +33,7 @@ abbrev pub HasNoEffect : {A : Type 0} → TimelineValue A → ℕ → EffectFaul
 HasNoEffect m i NoSuchPoint = (i ≡ 0) ⊎ (length m.kept < i)
 HasNoEffect m i Memory = IsLedTo m i
 
--- the number and the name that a reply gives the fault
+-- the number and the name with which a reply reports the error
 abbrev pub code_of_effect : EffectFault → Code
 code_of_effect NoSuchPoint = faults.code_of fault.NoSuchPoint
 code_of_effect Memory = refusals.code_of refusal.Memory

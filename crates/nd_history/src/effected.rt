@@ -45,7 +45,7 @@ impl From<AllocError> for EffectFault {
 }
 
 impl EffectFault {
-    /// Returns the number and the name that a reply gives the fault.
+    /// Returns the number and the name with which a reply reports the error.
     pub fn code(&self) -> Code
         ensures { result ≡ code_of_effect self.now }
     {

@@ -38,7 +38,7 @@ impl<A: Allocator> From<AllocError> for SearchFault<A> {
 }
 
 impl<A: Allocator> SearchFault<A> {
-    /// Returns the number and the name that a reply gives the fault.
+    /// Returns the number and the name with which a reply reports the error.
     pub fn code(&self) -> Code
         ensures { result ≡ code_of_search self.now }
     {
@@ -80,7 +80,7 @@ impl From<AllocError> for ChangesFault {
 }
 
 impl ChangesFault {
-    /// Returns the number and the name that a reply gives the fault.
+    /// Returns the number and the name with which a reply reports the error.
     pub fn code(&self) -> Code
         ensures { result ≡ code_of_changes self.now }
     {
@@ -116,7 +116,7 @@ impl From<AllocError> for TurnsFault {
 }
 
 impl TurnsFault {
-    /// Returns the number and the name that a reply gives the fault.
+    /// Returns the number and the name with which a reply reports the error.
     pub fn code(&self) -> Code
         ensures { result ≡ code_of_turns self.now }
     {
