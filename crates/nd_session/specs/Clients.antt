@@ -83,7 +83,7 @@ pub record IsSeen {A : Type 0} (p : ClientValue A) (s : SnapshotValue A) : Type 
   pub start : IsStart s.timeline.base
   pub protocol : KeepsProtocol s.timeline.base
 
--- ---- strangers
+-- ---- unknown clients
 
 -- the client's number was given out, and the log has its last receipt
 pub record IsKnown {A : Type 0} (entered : ℕ) (log : List (Receipt A)) (p : ClientValue A) : Type 0 where
