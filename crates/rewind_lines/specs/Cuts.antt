@@ -168,7 +168,7 @@ pub up_to-newline : (done bytes rest : List ℕ) (from n : ℕ) → take n (drop
 up_to-newline done bytes rest from n split =
     append_assoc (done ++ take from bytes) rest (10 ∷ []) ∙ (ap (λ zs. (done ++ take from bytes) ++ zs) (sym split) ∙ up_to-more done bytes from n)
 
--- a first part of a first part is a first part
+-- a prefix of a prefix is a prefix
 pub take-clip : {A : Type 0} (n : ℕ) (xs ys : List A) → take (length (take n xs)) (xs ++ ys) ≡ take n xs
 take-clip zero xs ys = refl
 take-clip (suc n) [] ys = refl

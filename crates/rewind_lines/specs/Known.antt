@@ -46,7 +46,7 @@ read-on input taken rest piece old new whole told h =
     let c = Consumes-some new rest piece (subst (λ (o : Known). Consumes o new piece) told h) in
     (c.0, c.1, whole ∙ (ap (λ zs. taken ++ zs) c.2 ∙ sym (append_assoc taken piece c.0)))
 
--- a read that returned no bytes leaves nothing
+-- after a read that returned no bytes, no bytes are left
 pub read-none : (input taken rest piece : List ℕ) (old new : Known) → input ≡ taken ++ rest → old ≡ Some rest → Consumes old new piece → piece ≡ [] → IsAtEnd new
     → (new ≡ Some []) × (input ≡ taken)
 read-none input taken rest piece old new whole told h none end =
