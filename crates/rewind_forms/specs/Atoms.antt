@@ -53,7 +53,7 @@ view_of g d =
     after (point_there g d) (λ point.
     Ok (View q point at_least))))
 
--- the atom under the only key, which names its kind; only the kinds that every version has
+-- the atom at the only key, which names its kind; only the kinds that every version has
 unfoldable pub first_atom_of : Dataflow → Data → Result Atom LineFault
 first_atom_of g d =
     within (inner (codes "passed") (codes "at" ∷ codes "q" ∷ codes "time" ∷ []) d) (passed_of g)
@@ -62,7 +62,7 @@ first_atom_of g d =
     (within (inner (codes "sink") (codes "at_least" ∷ codes "value" ∷ codes "vertex" ∷ []) d) (sink_of g)
     (Err BadShape))))
 
--- the atom under the only key, which names its kind
+-- the atom at the only key, which names its kind
 unfoldable pub atom_of : Dataflow → Data → Result Atom LineFault
 atom_of g d =
     within (inner (codes "finished") (codes "at" ∷ codes "time" ∷ []) d) (finished_of g)

@@ -51,7 +51,7 @@ several_of g quantifier d =
 
 -- ---- one by one
 
--- the first literals of a list that were read, or their fault
+-- the first literals of a list that were read, or their error
 abbrev pub literals_read : Result (Option ConditionValue) LineFault → Result (List Literal) LineFault
 literals_read (Ok None) = Ok []
 literals_read (Ok (Some c)) = Ok c.literals

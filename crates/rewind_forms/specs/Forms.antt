@@ -9,19 +9,19 @@ use Rattle.rewind_forms.specs.declared.fault.LineFault.{LineFault}
 use Rattle.rewind_forms.specs.declared.fault.LineFault.TheVariants.{Memory}
 use Rattle.rewind_forms.specs.declared.points.NamedTime.{NamedTime}
 
--- ---- readings, one after another
+-- ---- combining readings
 
--- what made returns for the value, or the error if there is no value
+-- what `made` returns for the value, or the error if there is no value
 abbrev pub given : {A B : Type 0} → LineFault → Option A → (A → Result B LineFault) → Result B LineFault
 given fault None made = Err fault
 given fault (Some x) made = made x
 
--- what made returns for the value that was read, or the error of its reading
+-- what `made` returns for the value that was read, or the error of its reading
 abbrev pub after : {A B : Type 0} → Result A LineFault → (A → Result B LineFault) → Result B LineFault
 after (Err e) made = Err e
 after (Ok x) made = made x
 
--- what read returns for the value, or other if there is no value
+-- what `read` returns for the value, or `other` if there is no value
 abbrev pub within : {B : Type 0} → Option Data → (Data → Result B LineFault) → Result B LineFault → Result B LineFault
 within None read other = other
 within (Some d) read other = read d

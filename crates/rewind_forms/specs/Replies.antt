@@ -42,7 +42,7 @@ abbrev pub moved : ℕ → ℕ → Data
 moved at kept = object (member (codes "at") (number (unsigned at))
     (member (codes "kept") (number (unsigned kept)) (member (codes "ok") (boolean true) no_members)))
 
--- what a run stopped at: "limit", "idle" or {"break":id}
+-- why a run stopped: "limit", "idle" or {"break":id}
 abbrev pub stop : Stop → Data
 stop end.Limit = string (codes "limit")
 stop end.Idle = string (codes "idle")

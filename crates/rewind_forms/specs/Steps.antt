@@ -24,7 +24,7 @@ use Rattle.rewind_forms.specs.declared.form.StepForm.TheVariants as form
 use Rattle.rewind_forms.specs.declared.fault.LineFault.{LineFault}
 use Rattle.rewind_forms.specs.declared.fault.LineFault.TheVariants.{BadShape, UnknownName, BadTime}
 
--- the epoch n of {"to":n} under "next"
+-- the epoch n of {"to":n} at the key "next"
 unfoldable pub epoch_at : Data → Option ℕ
 epoch_at d = option_and_then small (option_and_then (alone (codes "to")) (get (codes "next") d))
 
