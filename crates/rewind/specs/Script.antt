@@ -32,7 +32,7 @@ pub record RefusedAt (processors : ℕ) (lines : List (List ℕ)) (before : List
   pub run : Replies processors lines replies refused
   pub written : after ≡ Some (before ++ text_of replies)
 
--- The front of the text of the replies to these lines was written.
+-- The first bytes of the text of the replies to these lines were written.
 pub record WroteFront (processors : ℕ) (lines : List (List ℕ)) (before : List ℕ) (after : Option (List ℕ)) : Type 0 where
   pub replies : List Data
   pub phase : Phase
