@@ -103,7 +103,7 @@ AreCopies {A} rows copies = (length copies ≡ length rows) × ((a : ℕ) (d : V
 abbrev pub KeepsPlaces : List (Option Summary) → ℕ → Type 0
 KeepsPlaces row b = (r : ℕ) (s : Summary) → held row b r ≡ Some s → s.keep ≡ r
 
--- the list has all summaries held at b that keep at least low counters, the greatest number of kept counters first
+-- the list has all summaries held at b that keep at least `low` counters, the greatest number of kept counters first
 pub record IsListed (row : List (Option Summary)) (b low : ℕ) (list : List Summary) : Type 0 where
   pub short : length list + low ≤ keeps
   pub each : All (λ s. (low ≤ s.keep) × (held row b s.keep ≡ Some s)) list
