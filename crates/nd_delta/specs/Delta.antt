@@ -1,7 +1,7 @@
 -- A change has an integer for each pointstamp, other than 0 at finitely many of them. It is a map of counts (`nd_map`).
 --     none, at, set             the change without entries; the integer at a pointstamp; another integer at one pointstamp
 --     plus, minus, part         the pointwise sum and difference; the entries at the pointstamps of a list
---     entries, size             the pointstamps with an integer other than 0, each with its integer, in the order of listing; how many
+--     entries, size             the pointstamps with an integer other than 0, each with it, in the order of listing; how many there are
 --     IsPartOf, IsApart         each entry of one change is an entry of the other; the two have no pointstamp in common
 --     same                      changes with the same integer at each pointstamp are equal
 use Rattle.std.specs.Prelude.{◌≡◌, ◌≢◌, ℕ, ℤ, pos, ◌+ℤ◌, ◌-ℤ◌, Bool, true, false, cond, List, [], length, Option, Some, refl, unsigned_abs, ◌+◌, ◌<◌, ◌≤◌}
@@ -87,11 +87,11 @@ IsTooLarge m = (q : Pointstamp) × (max_count < unsigned_abs (at m q))
 abbrev pub IsWithin : DeltaValue → Type 0
 IsWithin m = (q : Pointstamp) → unsigned_abs (at m q) ≤ max_count
 
--- each entry of piece is an entry of m
+-- each entry of `piece` is an entry of m
 abbrev pub IsPartOf : DeltaValue → DeltaValue → Type 0
 IsPartOf piece m = (x : Pointstamp) → at piece x ≢ pos 0 → at m x ≡ at piece x
 
--- m has no entry at a pointstamp at which piece has one
+-- m has no entry at a pointstamp at which `piece` has one
 abbrev pub IsApart : DeltaValue → DeltaValue → Type 0
 IsApart piece m = (x : Pointstamp) → at piece x ≢ pos 0 → at m x ≡ pos 0
 
