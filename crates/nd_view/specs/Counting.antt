@@ -9,7 +9,7 @@ use Rattle.nd_delta.specs.Delta.{DeltaValue}
 use Rattle.nd_view.specs.View.{IsCount}
 use Rattle.nd_view.specs.Kept.{IsEarlier, IsKeptAt, IsReady}
 
--- t has exactly count precursors whose epoch is below the given one
+-- t has exactly `count` precursors whose epoch is below the given one
 abbrev pub AreEarlier : Dataflow → DeltaValue → Pointstamp → ℕ → ℕ → Type 0
 AreEarlier g m t below count = IsCount (IsEarlier g m t below) m count
 
@@ -21,7 +21,7 @@ AreReady g m x up es = (q : Pointstamp) → IsReady g m x up q (find point_cmp q
 abbrev pub AreCounted : Dataflow → DeltaValue → List (Pointstamp × ℕ) → Type 0
 AreCounted g m es = (q : Pointstamp) → IsKeptAt g m q (find point_cmp q es)
 
--- the new list is the old one with the number n in the entry at index
+-- the new list is the old one with the number n in the entry at `index`
 abbrev pub IsPutAt : ℕ → ℕ → List (Pointstamp × ℕ) → List (Pointstamp × ℕ) → Type 0
 IsPutAt index n old new = (d : Pointstamp × ℕ) → new ≡ put point_cmp (get_or old index d).0 n old
 

@@ -14,11 +14,11 @@ IsCut g first second = (s t : Pointstamp) → s.location ≡ first.location → 
 abbrev pub IsEpochal : Dataflow → ℕ → ℕ → Type 0
 IsEpochal g from to = (s t : Pointstamp) → s.location ≡ from → t.location ≡ to → s.time.counters ≡ [] → t.time.counters ≡ [] → s.time.epoch ≤ t.time.epoch → CouldResultIn g s t
 
--- the entries from first up to end, without it, are at one location
+-- the entries from `first` up to `end`, excluded, are at one location
 abbrev pub IsRun : {V : Type 0} → List (Pointstamp × V) → ℕ → ℕ → Type 0
 IsRun es first end = (k : ℕ) (d : Pointstamp × _) → first ≤ k → k < end → (get_or es k d).0.location ≡ (get_or es first d).0.location
 
--- the entries from first up to end, without it, have epochs below the given one; `AreNotSmaller`: none of them has
+-- the entries from `first` up to `end`, excluded, have epochs below the given one; `AreNotSmaller`: none of them has
 abbrev pub AreSmaller : {V : Type 0} → List (Pointstamp × V) → ℕ → ℕ → ℕ → Type 0
 AreSmaller es first end epoch = (k : ℕ) (d : Pointstamp × _) → first ≤ k → k < end → (get_or es k d).0.time.epoch < epoch
 
