@@ -67,11 +67,11 @@ with_request q x = record q { requests = fin.insert q.requests x tt }
 abbrev pub without_request : ProcessorState → Pointstamp → ProcessorState
 without_request q x = record q { requests = fin.remove q.requests x }
 
--- if old does not have the request x, then new without x is old
+-- if `old` does not have the request x, then `new` without x is `old`
 abbrev pub ComesBack : ProcessorState → ProcessorState → Pointstamp → Type 0
 ComesBack old new x = fin.get old.requests x ≡ None → without_request new x ≡ old
 
--- if old has the request x, then new with x added is old
+-- if `old` has the request x, then `new` with x added is `old`
 abbrev pub GoesBack : ProcessorState → ProcessorState → Pointstamp → Type 0
 GoesBack old new x = fin.get old.requests x ≡ Some tt → with_request new x ≡ old
 
