@@ -106,7 +106,7 @@ IsFinishedBefore s strictly t =
 
 -- ---- the reasons
 
--- the account of the reason b of processor q, whose view is known
+-- the account of the reason b of processor q, whose view is `known`
 abbrev pub account_of : List ProcessorState → List (List (List DeltaValue)) → ℕ → DeltaValue → Pointstamp → Account
 account_of processors queues q known b = record { point = b; held = held_at processors b; unheard = unheard_at processors queues q b; view = at known b }
 
@@ -138,7 +138,7 @@ pub record HasReasonBefore (g : Dataflow) (accounts : List Account) (x : Pointst
 
 -- ---- what the numbers say
 
--- how many records, requests and tokens an element of what is held stands for
+-- how many records, requests or tokens a value of `Held` stands for
 abbrev pub amount : Held → ℕ
 amount (Records p value n) = n
 amount (Request p) = 1
