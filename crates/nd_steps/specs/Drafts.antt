@@ -111,7 +111,7 @@ token_changes p vertex epoch (token.To n) =
 abbrev pub fed_changes : ℕ → ℕ → ℕ → Afterwards → List (ℕ × ValueAt) → List Change
 fed_changes p vertex epoch next rs = token_changes p vertex epoch next ++ arrivals p rs
 
--- the changes of a request that was not there; none if asks is false
+-- the changes of a request that was not there; none if `asks` is false
 abbrev pub ask_changes : ℕ → Pointstamp → Bool → List Change
 ask_changes p x true = at_key p (Request x) (pos 1) ∷ at_key p (Unsent x) (pos 1) ∷ []
 ask_changes p x false = []
@@ -156,13 +156,13 @@ pub record Has (g : Dataflow) (n : ℕ) (s : ClusterState) : Type 0 where
   pub graph : s.graph ≡ g
   pub count : length s.processors ≡ n
 
--- effect is the effect of the take on processor p, and asks says whether it makes a request that was not there
+-- `effect` is the effect of the take on processor p, and `asks` says whether it makes a request that was not there
 pub record TakesSo {A : Type 0} (s : ClusterState) (p target : ℕ) (k : ValueAt) (effect : Effect A) (asks : Bool) : Type 0 where
   pub goes : target ≡ target_of s.graph k.point.location
   pub does : IsEffect (items_at (processor s p) target) (op_at s.graph target) k.point.time (take_outcome s p k.point.location k.point.time k.value) effect
   pub anew : asks ≡ (effect.asks && is_none (fin.get (processor s p).requests (point_at target k.point.time)))
 
--- effect is the effect of the notice on processor p, and the notification was requested
+-- `effect` is the effect of the notice on processor p, and the notification was requested
 pub record NoticesSo {A : Type 0} (s : ClusterState) (p : ℕ) (x : Pointstamp) (effect : Effect A) : Type 0 where
   pub asked : fin.get (processor s p).requests x ≡ Some tt
   pub does : IsEffect (items_at (processor s p) x.location) (op_at s.graph x.location) x.time (notice_outcome s p x.location x.time) effect
@@ -172,7 +172,7 @@ abbrev pub asks_later : Requests → ℕ → Option Time → Bool
 asks_later left vertex None = false
 asks_later left vertex (Some to) = is_none (fin.get left (point_at vertex to))
 
--- processor p holds the capability that is released, and asks says whether the release makes a request that was not there
+-- processor p holds the capability that is released, and `asks` says whether the release makes a request that was not there
 pub record ReleasesSo (s : ClusterState) (p vertex : ℕ) (times : Times) (asks : Bool) : Type 0 where
   pub asked : fin.get (processor s p).requests (point_at vertex times.time) ≡ Some tt
   pub anew : asks ≡ asks_later (fin.remove (processor s p).requests (point_at vertex times.time)) vertex times.to

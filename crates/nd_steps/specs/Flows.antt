@@ -15,7 +15,7 @@ use Rattle.nd_steps.specs.declared.come.Come.{Come}
 use Rattle.nd_steps.specs.declared.come.Come.TheVariants.{Nothing, Record, Count}
 use Rattle.nd_steps.specs.declared.flow.Flow.{Flow}
 
--- the time after an action; an ingress at the limit of depth leaves the time as it is
+-- the time after an action; an ingress at the limit of depth, or a feedback at the limit of a counter, leaves the time as it is
 abbrev pub past_action : Action → Time → Time
 past_action Identity t = t
 past_action Ingress t = if nat_lt (length t.counters) max_depth then record { epoch = t.epoch; counters = ingress_of t.counters } else t
@@ -39,7 +39,7 @@ more_unsent p point n = record { p = p; slot = Unsent point; n = n }
 abbrev pub count_more : ℕ → ℕ → ℤ → Change
 count_more p vertex value = record { p = p; slot = Sink (record { vertex = vertex; value = value }); n = pos 1 }
 
--- the changes of what arrives when processor p takes the record gone
+-- the changes of what arrives when processor p takes the record `gone`
 abbrev pub arriving : ℕ → ValueAt → Come → List Change
 arriving p gone Nothing = []
 arriving p gone (Record action q edge value) =

@@ -17,7 +17,7 @@ abbrev pub leaving : ℕ → ℕ → ℕ → List Edge → List (ℕ × Route)
 leaving vertex port i [] = []
 leaving vertex port i (e ∷ es) = (if nat_eq e.from vertex && nat_eq e.port port then (i, e.route) ∷ [] else []) ++ leaving vertex port (i + 1) es
 
--- come is the consequence of taking the record gone: one record, at another pointstamp, from the one emission e of the target
+-- `come` is the consequence of taking the record `gone`: one record, at another pointstamp, from the one emission e of the target
 pub record ComesBy (g : Dataflow) (n p vertex : ℕ) (gone : ValueAt) (e : Emission) (come : Come) : Type 0 where
   pub to : ℕ
   pub edge : ℕ

@@ -27,12 +27,12 @@ use Rattle.nd_steps.specs.declared.react.Taken.{Taken}
 
 -- ---- a draft that grows
 
--- new is a draft of the same processor, with these changes appended to those of old
+-- `new` is a draft of the same processor, with these changes appended to those of `old`
 pub record Adds {A : Type 0} (old new : Draft A) (cs : List Change) : Type 0 where
   pub p : new.p ≡ old.p
   pub changes : new.changes.items ≡ old.changes.items ++ cs
 
--- new is old with the changes of records that arrive, which the draft's processor has to send
+-- `new` is `old` with the changes of records that arrive, which the draft's processor has to send
 abbrev pub AddsRecords : {A : Type 0} → Draft A → Draft A → List (ℕ × ValueAt) → Type 0
 AddsRecords old new rs = Adds old new (arrivals old.p rs)
 
@@ -40,7 +40,7 @@ AddsRecords old new rs = Adds old new (arrivals old.p rs)
 abbrev pub items_changes : ℕ → ℕ → List ItemEdit → List Change
 items_changes p vertex items = map (item_change p vertex) items
 
--- the change of a sink that counts a value; none if counts is false
+-- the change of a sink that counts a value; none if `counts` is false
 abbrev pub count_changes : ℕ → SinkKey → Bool → List Change
 count_changes p key counts = sink_changes p key.vertex key.value counts
 
@@ -96,7 +96,7 @@ NoticeLeads {A} by t effect cs =
     (s : ClusterState) → Has by.graph.now by.n s → NoticesSo s by.p (point_at by.vertex t) effect
     → Leads {A = A} s (Notice by.p by.vertex t) cs
 
--- in each cluster of the performer in which the capability is held, and asks says whether the later request is new, the changes
+-- in each cluster of the performer in which the capability is held, and `asks` says whether the later request is new, the changes
 -- are those of the release
 abbrev pub ReleaseLeads : (A : Type 0) {B : Type 0} → Performer B → Times → Bool → List Change → Type 0
 ReleaseLeads A by times asks cs =
@@ -109,7 +109,7 @@ ReleaseLeads A by times asks cs =
 abbrev pub coming : {B : Type 0} → Performer B → Action → ℕ → Route → Emission → Come
 coming by action edge route e = Record action (destination route by.n by.p e.value) edge e.value
 
--- come is the consequence of taking the record gone, from the one emission e of the vertex
+-- `come` is the consequence of taking the record `gone`, from the one emission e of the vertex
 abbrev pub ComesFor : {B : Type 0} → Performer B → ValueAt → Emission → Come → Type 0
 ComesFor by gone e come = ComesBy by.graph.now by.n by.p by.vertex gone e come
 

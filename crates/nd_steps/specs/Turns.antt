@@ -15,8 +15,8 @@ pub record IsReadable (processors : List ProcessorState) (c : Change) : Type 0 w
   pub there : SlotIsThere (own processors c) c.slot
   pub small : IsGain c.n
 
--- cs has the changes of all in another order: after the first ones, up to turn, the integer at the place is not 0, and after the
--- others it is 0
+-- cs has the changes of `all` in another order: after the first ones, up to `turn`, the integer at the place is not 0, and after
+-- the others it is 0
 pub record IsInOrder (processors : List ProcessorState) (all cs : List Change) : Type 0 where
   pub same : IsPermutation all cs
   pub turn : ℕ

@@ -23,7 +23,7 @@ pub enum Come {
     },
 }
 
-// Applies an action to a time. If the action does not apply, the time stays.
+// Applies an action to a time. If the action does not apply, the time does not change.
 fn pass(action: Action, time: &mut Timestamp)
     ensures { time.new ≡ past_action action time.old }
 {
