@@ -103,7 +103,7 @@ abbrev pub receives_after : {A : Type 0} → ClusterState → ℕ → ℕ → Li
 receives_after s p from = receives_from s p (range_with_len from (length s.processors - from))
 
 -- the candidates of p that are left: the receives from this sender on, the takes and the notices of the records and requests that
--- are left, and the broadcast if sends is true
+-- are left, and the broadcast if `sends` is true
 abbrev pub left_of : {A : Type 0} → ClusterState → ℕ → ℕ → List (ValueAt × ℕ) → List (Pointstamp × Unit {0}) → Bool → List (Step A)
 left_of s p from records requests sends =
     receives_after s p from
@@ -135,6 +135,6 @@ pub record AreListed {A : Type 0} (s : ClusterState) (all : List (Step A)) (list
   pub answered : All (IsAnswered s) listed.list
   pub more : IsTrue listed.more ↔ (max_told < length all)
 
--- if old lists some steps, new lists these and then the given steps
+-- if `old` lists some steps, `new` lists these and then the given steps
 abbrev pub Lists : {A : Type 0} → ClusterState → List (Step A) → Candidates A → Candidates A → Type 0
 Lists {A} s steps old new = (all : List (Step A)) → AreListed s all old → AreListed s (all ++ steps) new

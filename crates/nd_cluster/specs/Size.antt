@@ -26,6 +26,6 @@ queues_size m = sum_by (λ row. length row + sum_by queue_size row) m
 abbrev pub size_of : ClusterState → ℕ
 size_of s = sum_by processor_size s.processors + (sum_by size s.views + queues_size s.queues)
 
--- left is many - n; None if n is greater than many
+-- `left` is `many` - n; None if n is greater than `many`
 abbrev pub Leaves : ℕ → ℕ → Option ℕ → Type 0
 Leaves many n left = MatchOption left (many < n) (λ rest. rest + n ≡ many)
