@@ -28,14 +28,14 @@ NoHitBelow m s id = (k : ℕ) → k < id → HitAt m s k → ⊥
 pub record NoHit (m : BreakMap) (s : ClusterState) : Type 0 where
   pub none : (id : ℕ) → HitAt m s id → ⊥
 
--- id is the least id whose breakpoint holds
+-- `id` is the least id whose breakpoint holds
 pub record FirstHit (m : BreakMap) (s : ClusterState) (id : ℕ) : Type 0 where
   pub hit : HitAt m s id
   pub least : NoHitBelow m s id
 
 -- ---- ids
 
--- id is the least free id
+-- `id` is the least free id
 pub record IsLeastFree (m : BreakMap) (id : ℕ) : Type 0 where
   pub within : id < max_breaks
   pub free : fin.get m id ≡ None
