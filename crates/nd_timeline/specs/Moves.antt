@@ -62,7 +62,7 @@ RedoMoves m (Refused (Memory at)) new = (m.cursor < length m.kept) × (at ≡ m.
 RedoMoves m (Moved at kept) new = (m.cursor < length m.kept) × (at ≡ m.cursor + 1) × (kept ≡ length m.kept) × (new ≡ moved_to m (m.cursor + 1))
 RedoMoves m _ new = ⊥
 
--- at is a position on the way from one position to another; the last position does not count
+-- `at` is a position on the way from one position to another; the last position does not count
 abbrev pub IsOnTheWay : ℕ → ℕ → ℕ → Type 0
 IsOnTheWay from to at = ((from ≤ at) × (at < to)) ⊎ ((to < at) × (at ≤ from))
 
