@@ -22,7 +22,7 @@ client_code A =
     code_by _ (coded× coded_ℕ (coded_list (receipt_code A)))
     (λ p. (p.number, p.receipts)) (λ t. record { number = t.0; receipts = t.1 }) (λ _. refl)
 
--- new is the client old with one more receipt
+-- `new` is the client `old` with one more receipt
 abbrev pub Gains : {A : Type 0} → ClientValue A → ClientValue A → Receipt A → Type 0
 Gains old new r = new ≡ record old { receipts = old.receipts ++ r ∷ [] }
 

@@ -52,7 +52,7 @@ HaveReceiptsBelow {A} log clients n = (i : ℕ) → i < n → (e : Receipt A) �
 
 -- ---- the first error
 
--- index is that of the client's first receipt that the log does not have
+-- `index` is that of the client's first receipt that is not the log's entry at its index
 pub record IsFirstWrong {A : Type 0} (log : List (Receipt A)) (rs : List (Receipt A)) (index : ℕ) : Type 0 where
   pub place : ℕ
   pub receipt : Receipt A
@@ -75,7 +75,7 @@ pub record IsHandedInBefore {A : Type 0} (log : List (Receipt A)) (clients : Lis
 abbrev pub IsWrong : {A : Type 0} → List (Receipt A) → List (ClientValue A) → ℕ → ClientValue A → ℕ → Type 0
 IsWrong log clients k p index = IsFirstWrong log p.receipts index ⊎ IsHandedInBefore log clients k p index
 
--- number is that of the first client with which something is wrong
+-- `number` is that of the first client with which something is wrong
 pub record IsMismatch {A : Type 0} (log : List (Receipt A)) (clients : List (ClientValue A)) (number index : ℕ) : Type 0 where
   pub place : ℕ
   pub client : ClientValue A
@@ -91,7 +91,7 @@ pub record IsMissing {A : Type 0} (log : List (Receipt A)) (clients : List (Clie
   pub earlier : AreInBelow clients number
   pub absent : IsIn clients number → ⊥
 
--- index is that of the first entry that is no client's receipt
+-- `index` is that of the first entry that is no client's receipt
 pub record IsUntold {A : Type 0} (log : List (Receipt A)) (clients : List (ClientValue A)) (entered number index : ℕ) : Type 0 where
   pub right : AreRightBelow log clients (length clients)
   pub all_in : AreInBelow clients entered

@@ -55,7 +55,7 @@ Leads {A} m (e ∷ es) new = record {
   rest : Leads mid es new;
 }
 
--- the log may be one of commands that were given to a machine that began as opening, and led to this machine
+-- the log may be one of commands that were given to a machine that began as `opening`, and led to this machine
 pub record IsLegal {A : Type 0} (opening : MachineValue A) (log : List (Receipt A)) (machine : MachineValue A) : Type 0 where
   pub placed : ArePlaced log
   pub leads : Leads opening log machine
