@@ -25,6 +25,6 @@ numbered n =
 unfoldable pub version_of : Data → Option Version
 version_of d = if has_keys (codes "version" ∷ []) d then option_and_then numbered (whole_at (codes "version") d) else None
 
--- a script of version v has what the version since introduced
+-- a script of version v has what the version `since` introduced
 abbrev pub includes : Version → Version → Bool
 includes v since = nat_le (number_of since) (number_of v)
