@@ -9,7 +9,7 @@ use Rattle.rewind_clients.specs.Intake.{Intake, Reads, nothing, opened, refused_
 use Rattle.rewind_clients.specs.Told.{Tells}
 use Rattle.rewind_clients.specs.Written.{WroteFront, WroteLines}
 
--- the reader had `input` and has `left`: everything was read, at most `limit` bytes, and intake is the result of reading the
+-- the reader had `input` and has `left`: everything was read, at most `limit` bytes, and `intake` is the result of reading the
 -- lines
 pub record ReadWhole (processors clients limit : ℕ) (input : List ℕ) (left : Option (List ℕ)) (intake : Intake) : Type 0 where
   pub reads : Reads processors clients nothing 1 (lines_of input) intake

@@ -76,7 +76,7 @@ machine_of l = record { timeline = l.timeline; breaks = l.breaks }
 abbrev pub lines_data : Dataflow → List (Receipt Global) → List Ended → List Data
 lines_data g log faults = map (entry_data g) log ++ faults_data 0 faults
 
--- the lines after the opening replies, if the machine began as opening
+-- the lines after the opening replies, if the machine began as `opening`
 pub record Tells (opening : MachineValue Global) (commands : Commands) (lines : List Data) : Type 0 where
   pub log : List (Receipt Global)
   pub machine : MachineValue Global
