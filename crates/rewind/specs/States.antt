@@ -11,7 +11,7 @@ use Rattle.rewind_lines.specs.declared.fault.DebugFault.{DebugFault}
 use Rattle.rewind_lines.specs.declared.fault.DebugFault.TheVariants as fault
 use Rattle.rewind.specs.declared.run.Run.{Run}
 
--- the replies to a line were appended to what waited, and their number is count
+-- the replies to a line were appended to what waited, and `count` is their number
 pub record Gathers (old : Phase) (number : ℕ) (reading : Reading) (waited waits : List ℕ) (count : ℕ) (new : Phase) : Type 0 where
   pub replies : List Data
   pub answers : Answers old number reading replies new
@@ -57,7 +57,7 @@ pub record Stopped (processors : ℕ) (lines : List (List ℕ)) (sent : List ℕ
   pub stops : StopsIn e phase
   pub text : text_of replies ≡ sent ++ run.outbox
 
--- new is the run old after these bytes were read and the lines that end in them were answered
+-- `new` is the run `old` after these bytes were read and the lines that end in them were answered
 abbrev pub ReadsOn : Run → List ℕ → Run → Type 0
 ReadsOn old bytes new = (processors : ℕ) (done sent : List ℕ) → Stands processors done sent old → Stands processors (done ++ bytes) sent new
 
