@@ -5,7 +5,7 @@ use Rattle.std.proofs.lemmas.Int.{ints}
 use Rattle.nd_paths.specs.declared.point.Pointstamp.{Pointstamp}
 use Rattle.nd_delta.specs.Delta.{DeltaValue, at, part, minus, has_point, at-part, at-minus, IsPartOf, IsApart}
 
--- what a condition keeps or replaces by 0 is kept if it is not 0
+-- if a condition that keeps x or gives 0 does not give 0, it keeps x
 kept : (b : Bool) (x : ℤ) → cond b x (pos 0) ≢ pos 0 → x ≡ cond b x (pos 0)
 kept true x e = refl
 kept false x e = absurd (e refl)
