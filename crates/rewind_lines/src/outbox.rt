@@ -56,7 +56,7 @@ impl Outbox {
         self.waiting.len() >= WAITING
     }
 
-    /// Writes the waiting text, or a first part of it if the sink fails.
+    /// Writes the waiting text, or only its first bytes if the sink fails.
     pub fn flush<T: Sink>(&mut self, sink: &mut T) -> Result<(), Unwritten>
         requires { T.failed sink.old ≡ false }
         ensures ok { OnOk result (Appends (T.contents sink.old) (T.contents sink.new) self.old) }

@@ -20,7 +20,7 @@ pub trait Sink {
 
     ghost failed: { Self → Bool };
 
-    /// Writes a first part of the bytes, and returns its length.
+    /// Writes the first of the bytes, and returns how many it wrote.
     fn write(&mut self, bytes: &[u8]) -> Result<usize, Unwritten>
         requires { failed self.old ≡ false }
         ensures within { IfOk result (λ n. n ≤ length bytes.now) }
@@ -69,7 +69,7 @@ impl<W: Write> Sink for WriteSink<W> {
     }
 }
 
-/// Writes all of the bytes, or a first part of them if the sink fails.
+/// Writes all of the bytes, or only the first of them if the sink fails.
 pub fn send<S: Sink>(sink: &mut S, bytes: &[u8]) -> Result<(), Unwritten>
     requires { S.failed sink.old ≡ false }
     ensures ok { OnOk result (Appends (S.contents sink.old) (S.contents sink.new) bytes.now) }
