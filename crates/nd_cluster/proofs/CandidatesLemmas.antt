@@ -350,12 +350,6 @@ module _ {A : Type 0} (s : ClusterState) where
     first = λ y candidate kind before e. none_before (candidates_of s p) x h (in_order A s p) y (covers_of p y candidate kind e) before e;
   }
 
-  -- ---- one step after the other
-
-  -- the next step of a list is enabled
-  pub found_next : (done : List (Step A)) (x : Step A) (rest xs : List (Step A)) → xs ≡ done ++ x ∷ rest → AreRefused s done → IsEnabled s x → IsFirstEnabled s xs x
-  found_next done x rest xs place refused e = record { before = done; after = rest; place = place; refused = refused; enabled = e }
-
   -- ---- one processor after the other
 
   module _ (f : ℕ → List (Step A)) (i n : ℕ) (lt : i < n) (refused : AreRefused s (flat_map f (range_with_len 0 i))) where

@@ -1,7 +1,7 @@
 //! What a processor knows of the times that can still arrive.
-ghost use Rattle.std.specs.Prelude.{◌≡◌, ◌↔◌, ◌<◌, IfOk, IsTrue, Some, true, length};
+ghost use Rattle.std.specs.Prelude.{◌≡◌, ◌↔◌, ◌<◌, IfOk, IsTrue, OnErr, Some, true, length};
 ghost use Rattle.std.specs.FinMap as fin;
-ghost use Rattle.nd_view.specs.View.{IsPassedBefore};
+ghost use Rattle.nd_view.specs.View.{IsOnFrontier, IsPassedBefore};
 ghost use Rattle.nd_view.specs.Arrivals.{AreArrivals, AreExact, AreApart};
 ghost use Rattle.nd_paths.specs.declared.point.Pointstamp.{Pointstamp as Point};
 ghost use Rattle.nd_protocol.specs.State.{processor, view};
@@ -33,6 +33,7 @@ impl<A: Allocator + Copy> Cluster<A> {
         ensures exact { IfOk result (λ v.
             AreExact self.now.graph (view self.now q) location v.items) }
         ensures apart { IfOk result (λ v. AreApart v.items) }
+        ensures some { OnErr result ((x : Point) × IsOnFrontier self.now.graph (view self.now q) x) }
     {
         let Ok(times) = self.view(q).arrivals(alloc, self.paths(), location) else {
             return Err(NoMemory);

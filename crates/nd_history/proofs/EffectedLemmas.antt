@@ -1,11 +1,11 @@
 -- The effect of a record at a walk's cluster is that of the kept step.
-use Rattle.std.proofs.Common.{◌≡◌, ◌<◌, ◌+◌, ◌-◌, ℕ, sym, ap, subst, ◌∙◌, arith}
+use Rattle.std.proofs.Common.{◌≡◌, ◌+◌, ℕ, sym, ap, ◌∙◌}
 use Rattle.nd_protocol.specs.State.{ClusterState}
 use Rattle.nd_protocol.specs.Steps.{stepped}
 use Rattle.nd_steps.specs.Standing.{changed}
-use Rattle.nd_steps.specs.Effect.{EffectValue, effect_of, altered_count}
+use Rattle.nd_steps.specs.Effect.{EffectValue, effect_of}
 use Rattle.nd_steps.specs.declared.record.Record.{Record}
-use Rattle.nd_cluster.specs.Records.{IsPlanned, Leads}
+use Rattle.nd_cluster.specs.Records.{Leads}
 use Rattle.nd_timeline.specs.Timeline.{TimelineValue, cluster_of, moved_to}
 use Rattle.nd_history.specs.Effected.{cluster_at}
 
@@ -13,9 +13,6 @@ module _ {A : Type 0} (m : TimelineValue A) (i before at : ℕ) (r : Record A) (
     (leads : Leads r (cluster_at m before) (cluster_at m (before + 1))) (stands : w ≡ cluster_of (moved_to m at)) (there : at ≡ before) where
   here : w ≡ cluster_at m before
   here = stands ∙ ap (cluster_at m) there
-
-  pub planned_there : IsPlanned r w
-  planned_there = subst (IsPlanned r) (sym here) leads.planned
 
   then : stepped w r.step ≡ cluster_at m i
   then = ap (λ s. stepped s r.step) here ∙ sym leads.after ∙ ap (cluster_at m) some

@@ -1,5 +1,5 @@
 -- The minimal times into which walks turn those of a view's frontier are the minimal times that can arrive.
-use Rattle.std.proofs.Common.{◌≡◌, ◌≢◌, ◌<◌, ℕ, ℤ, pos, List, [], length, get_or, Option, Some, None, refl, sym, ap, subst, ◌∙◌, inl, inr}
+use Rattle.std.proofs.Common.{◌≡◌, ◌≢◌, ◌<◌, ℕ, ℤ, pos, List, [], ◌∷◌, length, get_or, Option, Some, None, refl, sym, ap, subst, ◌∙◌, inl, inr, arith}
 use Rattle.std.specs.Prelude.{◌<ℤ◌, Contains, IsPermutation}
 use Rattle.std.specs.FinMap.{find}
 use Rattle.std.proofs.lemmas.List.{get_or_default}
@@ -30,6 +30,21 @@ one_depth g on es x times reached s t (i, li, is_s) (j, lj, is_t) =
     let (e, among, turns) = reached.each k u lt in
     (on e.0 x u (subst (TurnsInto g e.0 x) is turns)).fits_t.depth in
     some_same (length s.counters) (length t.counters) (sym (of s i li is_s) ∙ of t j lj is_t)
+
+-- a time comes from an entry
+pub entry_of_time : (g : Dataflow) (es : List (Pointstamp × ℤ)) (x : ℕ) (times sorted : List Time) → AreReached g es x times → IsPermutation times sorted → sorted ≢ [] → es ≢ []
+entry_of_time g es x times [] reached permuted some none = absurd (some refl)
+entry_of_time g es x times (t ∷ rest) reached permuted some none =
+    let (n, inside, at') = Contains-permutation (t ∷ rest) times t (IsPermutation-sym times (t ∷ rest) permuted) (0, omega arith, refl) in
+    let (e, (i, within, is_e), turns) = reached.each n t inside in
+    omega (arith, within, ap length none)
+
+-- an entry of the part on the frontier is on the frontier
+pub entry_on_frontier : (g : Dataflow) (m f : DeltaValue) → IsPartWhere (IsOnFrontier g m) m f → (es : List (Pointstamp × ℤ)) → es ≡ entries f → es ≢ [] → (x : Pointstamp) × IsOnFrontier g m x
+entry_on_frontier g m f part [] is some = absurd (some refl)
+entry_on_frontier g m f part (e ∷ rest) is some =
+    let x : Pointstamp = (get_or (entries f) 0 e).0 in
+    (x, part.only x (index_some f 0 e (omega (arith, ap length is))))
 
 module _ (g : Dataflow) (order : IsOrder g) (on : WalksLeadOn g) (v : Kept) (kept_for : IsFor g v) (f : DeltaValue) (part : IsPartWhere (IsOnFrontier g v.map) v.map f) (x : ℕ)
     (times sorted : List Time) (reached : AreReached g (entries f) x times) (permuted : IsPermutation times sorted) (least : List Time) (minimal : AreMinimal sorted least) where

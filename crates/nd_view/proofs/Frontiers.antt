@@ -95,6 +95,10 @@ pub frontier_some : (g : Dataflow) (v : Kept) → IsFor g v → (frontier : List
 frontier_some g v h [] room listed some = absurd (some refl)
 frontier_some g v h (x ∷ rest) room listed some = (x, frontier_of_zero g v h x (listed.only x (0, omega arith, refl)))
 
+pub of_err : {X E Q : Type 0} (r : Result X E) → Q → OnErr r Q
+of_err (Ok x) q = record {}
+of_err (Err e) q = q
+
 pub on_err : {X E P Q : Type 0} (r : Result X E) → (P → Q) → OnErr r P → OnErr r Q
 on_err (Ok x) f h = h
 on_err (Err e) f h = f h

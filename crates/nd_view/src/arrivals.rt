@@ -1,6 +1,8 @@
 //! The times that can still arrive at a location, according to a view.
-ghost use Rattle.std.specs.Prelude.{◌≡◌, ◌++◌, IfOk, IsSorted, OnOk};
+ghost use Rattle.std.specs.Prelude.{◌≡◌, ◌≢◌, ◌++◌, [], IfOk, IsSorted, OnErr, OnOk};
 ghost use Rattle.nd_time.specs.Listing.{time_cmp};
+ghost use Rattle.nd_paths.specs.declared.point.Pointstamp.{Pointstamp};
+ghost use Rattle.nd_view.specs.View.{IsOnFrontier};
 ghost use Rattle.nd_view.specs.Kept.{IsFor};
 ghost use Rattle.nd_view.specs.Arrivals.{AreArrivals, AreExact, AreApart, AreReached, AreMinimal, HaveOneDepth};
 
@@ -28,7 +30,8 @@ fn reached_from<A: Allocator, B: Allocator>(
     entries: &[(Pointstamp, i64)],
     location: usize,
 ) -> Result<Vec<ArrivalTime, A>, AllocError>
-    ensures { IfOk result (λ v. AreReached paths.now entries.now location v.items) }
+    ensures value { IfOk result (λ v. AreReached paths.now entries.now location v.items) }
+    ensures some { OnErr result (entries.now ≢ []) }
 {
     let mut times = Vec::new(alloc);
     for entry in entries {
@@ -43,7 +46,8 @@ fn reached_from<A: Allocator, B: Allocator>(
 fn minimal<A: Allocator>(alloc: A, times: &[ArrivalTime]) -> Result<Vec<ArrivalTime, A>, AllocError>
     requires depth { HaveOneDepth times.now }
     requires sorted { IsSorted time_cmp times.now }
-    ensures { IfOk result (λ v. AreMinimal times.now v.items) }
+    ensures value { IfOk result (λ v. AreMinimal times.now v.items) }
+    ensures some { OnErr result (times.now ≢ []) }
 {
     let mut kept: Vec<ArrivalTime, A> = Vec::new(alloc);
     for time in times {
@@ -64,7 +68,7 @@ impl<A: Allocator + Copy> View<A> {
     /// such location.
     ///
     /// A time is passed at the location exactly if none of the returned times is at or before it. None of
-    /// them is at or before another.
+    /// them is at or before another. It takes no memory if no pointstamp is positive.
     pub fn arrivals<B: Allocator>(
         &self,
         alloc: A,
@@ -75,6 +79,7 @@ impl<A: Allocator + Copy> View<A> {
         ensures value { IfOk result (λ v. AreArrivals paths.now self.now.map location v.items) }
         ensures exact { IfOk result (λ v. AreExact paths.now self.now.map location v.items) }
         ensures apart { IfOk result (λ v. AreApart v.items) }
+        ensures some { OnErr result ((x : Pointstamp) × IsOnFrontier paths.now self.now.map x) }
     {
         paths.order_is_partial();
         paths.walks_lead_on();

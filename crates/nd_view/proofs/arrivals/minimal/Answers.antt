@@ -37,5 +37,5 @@ loop-time-preserved g c =
       ])
     ]
 
-pub returns : goal.returns
-returns g c = kept_all c.args.times.now c.loop-time.time-index c.loop-time.kept.items c.loop-time-test.false c.loop-time.invariant
+pub returns-clause-value : goal.returns-clause-value
+returns-clause-value g c = kept_all c.args.times.now c.loop-time.time-index c.loop-time.kept.items c.loop-time-test.false c.loop-time.invariant

@@ -9,5 +9,5 @@ loop-entry-preserved g c =
     reached_one c.args.paths.now c.args.entries.now c.args.location c.loop-entry.entry-index c.entry-item.result c.loop-entry-test.true c.entry-item.is c.loop-entry.times.items own c.push_all.new.times.items more
     c.reached-reached.ensures.each c.reached-reached.ensures.least c.loop-entry.invariant
 
-pub returns : goal.returns
-returns g c = reached_all c.args.paths.now c.args.entries.now c.args.location c.loop-entry.entry-index c.loop-entry.times.items c.loop-entry-test.false c.loop-entry.invariant
+pub returns-clause-value : goal.returns-clause-value
+returns-clause-value g c = reached_all c.args.paths.now c.args.entries.now c.args.location c.loop-entry.entry-index c.loop-entry.times.items c.loop-entry-test.false c.loop-entry.invariant
