@@ -39,7 +39,8 @@ def times(counts, most):
 
 
 def added(counts, time, count):
-    counts[tuple(time)] = counts.get(tuple(time), 0) + count
+    time = tuple(time)
+    counts[time] = counts.get(time, 0) + count
 
 
 def place_counts(state, order, holds, most=None):
