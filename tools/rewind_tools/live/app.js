@@ -168,12 +168,17 @@ function showSteps() {
   const { first, items, messages } = picture.steps;
   const wide = LEFT + (items.length + 1) * STEP_WIDTH, high = y(about.processors - 1) + 18;
   const svg = drawn("svg", { width: wide, height: high, role: "img", "aria-label": "steps and messages" });
-  const now = LEFT + (picture.at - first + 1) * STEP_WIDTH;
+  const now = x(picture.at) + STEP_WIDTH / 2;
   svg.append(...turnParts(high, wide), ...lanes(wide), ...messages.map(message), ...items.map(dot));
   svg.append(drawn("line", { class: "now", x1: now, x2: now, y1: 2, y2: high - 2 }));
   by("spacetime").replaceChildren(svg);
   const end = first + items.length - 1;
   by("range").textContent = picture.kept ? `${first} to ${end} of ${picture.kept}; click one to go there` : "none yet";
+}
+
+// In a narrow window the steps are scrolled to the cursor.
+function showCursor() {
+  by("spacetime").scrollLeft = x(picture.at) - by("spacetime").clientWidth / 2;
 }
 
 // ---- the graph
@@ -496,6 +501,7 @@ function show() {
   showPoints();
   showConditions();
   showProcessors();
+  showCursor();
   showChangedPlace();
 }
 
