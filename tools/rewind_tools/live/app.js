@@ -5,7 +5,9 @@ const about = JSON.parse(document.body.dataset.about);
 const SVG = "http://www.w3.org/2000/svg";
 const STEP_WIDTH = 18, LANE = 30, LEFT = 86;
 const chosen = { q: 0, at: null, time: [0], before: false, place: null };
-let revision = 0, picture = null, turns = null, busy = Promise.resolve(), onlyChosen = new Set();
+// What the page shows beside the cursor: the first point of the table and the first candidate by their numbers, and a condition.
+const sight = { points: 0, candidates: 0, when: null };
+let revision = 0, picture = null, busy = Promise.resolve(), onlyChosen = new Set();
 
 function made(kind, text, className) {
   const it = document.createElement(kind);
@@ -55,8 +57,17 @@ function inTurn(action) {
   return busy;
 }
 
+// The question of the panel "why", if a place is chosen.
+function question() {
+  return chosen.at === null ? null : { q: chosen.q, at: chosen.at, time: chosen.time, before: chosen.before };
+}
+
+function inSight() {
+  return { ...sight, why: question() };
+}
+
 async function refresh() {
-  take(await asked("picture", {}));
+  take(await asked("picture", { sight: inSight() }));
 }
 
 function take(told) {
@@ -73,11 +84,9 @@ function execute(line) {
 }
 
 async function command(line) {
-  const told = await asked("command", { line, revision });
+  const told = await asked("command", { line, revision, sight: inSight() });
   say(told.words.join("; "), told.refused);
   take(told);
-  if (turns) await askTurns();
-  await askWhy();
 }
 
 function warn(line) {
@@ -140,11 +149,12 @@ function dot(step) {
 
 // Where a condition holds among the positions in sight.
 function turnParts(high, wide) {
-  if (!turns || turns.error) return [];
+  if (!picture.turns || picture.turns.error) return [];
+  const { lo, at_lo: atLo, turns } = picture.turns.near;
   const parts = [], last = picture.steps.first + picture.steps.items.length;
-  let holds = turns.at_lo, since = 0;
-  for (const at of [...turns.turns, last]) {
-    if (holds && at > picture.steps.first) {
+  let holds = atLo, since = lo;
+  for (const at of [...turns, last]) {
+    if (holds) {
       const from = Math.max(LEFT - 6, x(since) - STEP_WIDTH / 2);
       parts.push(drawn("rect", { class: "true", x: from, y: 2, width: Math.max(0, Math.min(wide, x(at) - STEP_WIDTH / 2) - from), height: high - 4 }));
     }
@@ -158,12 +168,17 @@ function showSteps() {
   const { first, items, messages } = picture.steps;
   const wide = LEFT + (items.length + 1) * STEP_WIDTH, high = y(about.processors - 1) + 18;
   const svg = drawn("svg", { width: wide, height: high, role: "img", "aria-label": "steps and messages" });
-  const now = LEFT + (picture.at - first + 1) * STEP_WIDTH;
+  const now = x(picture.at) + STEP_WIDTH / 2;
   svg.append(...turnParts(high, wide), ...lanes(wide), ...messages.map(message), ...items.map(dot));
   svg.append(drawn("line", { class: "now", x1: now, x2: now, y1: 2, y2: high - 2 }));
   by("spacetime").replaceChildren(svg);
   const end = first + items.length - 1;
   by("range").textContent = picture.kept ? `${first} to ${end} of ${picture.kept}; click one to go there` : "none yet";
+}
+
+// In a narrow window the steps are scrolled to the cursor.
+function showCursor() {
+  by("spacetime").scrollLeft = x(picture.at) - by("spacetime").clientWidth / 2;
 }
 
 // ---- the graph
@@ -186,6 +201,14 @@ function showPlaces() {
   }
 }
 
+// Marks the places of the reasons why a point is not finished.
+function showHolding() {
+  const reasons = (picture.why && picture.why.reasons) || [], holding = new Set(reasons.map((it) => it.place));
+  for (const place of document.querySelectorAll(".graph .place")) {
+    place.classList.toggle("holds", holding.has(Number(place.dataset.place)));
+  }
+}
+
 // A large graph is scrolled to a place that the last step changed.
 function showChangedPlace() {
   const wide = document.querySelector("#drawing .wide"), place = wide.querySelector(".place.changed");
@@ -196,6 +219,20 @@ function showChangedPlace() {
 }
 
 // ---- what can happen, and what changed
+
+// Which page of a long list is shown, with buttons to the pages before and after it; nothing if one page has all.
+function pager(key, { first, count, more }, shown) {
+  if (shown === count && !more) return [];
+  const go = (to) => { sight[key] = to; inTurn(refresh); };
+  const earlier = button("\u25c0", () => go(Math.max(0, first - 1))), later = button("\u25b6", () => go(first + shown));
+  earlier.title = "show the ones before these";
+  later.title = "show the next ones";
+  earlier.disabled = first === 0;
+  later.disabled = first + shown >= count;
+  const row = made("div", undefined, "bar");
+  row.append(earlier, made("span", `${first + 1} to ${first + shown} of ${more ? "more than " : ""}${count}`, "soft"), later);
+  return [row];
+}
 
 function candidate(it) {
   const row = made("li");
@@ -227,9 +264,9 @@ function explain(it) {
 }
 
 function showCandidates() {
-  const rows = picture.candidates.map(candidate);
-  if (picture.more) rows.push(made("li", "and more", "none"));
+  const rows = picture.candidates.items.map(candidate);
   by("candidates").replaceChildren(...(rows.length ? rows : [made("li", "no step is left but a feed", "none")]));
+  by("more").replaceChildren(...pager("candidates", picture.candidates, rows.length));
 }
 
 function showEffect() {
@@ -275,12 +312,13 @@ function choosePlace(number) {
 }
 
 async function askWhy() {
+  picture.why = await asked("why", question());
   showPlaces();
-  if (chosen.at === null) {
-    return by("why").replaceChildren(made("p", "click a vertex or an edge, a number of a view, or a step that waits", "none"));
-  }
-  const told = await asked("why", { q: chosen.q, at: chosen.at, time: chosen.time, before: chosen.before });
-  const fronts = await asked("frontier", { at: chosen.at });
+  showWhy();
+}
+
+// The processor, the place and the time that are asked about.
+function whyForm() {
   const time = made("input");
   time.value = chosen.time.join(",");
   time.size = 6;
@@ -295,23 +333,27 @@ async function askWhy() {
     field("at", select(about.places.map((it) => it.name), chosen.place, (it) => choosePlace(it))),
     field("time", time), field("strictly before it", before),
   );
+  return form;
+}
+
+function showWhy() {
+  const told = picture.why;
+  showHolding();
+  if (!told) {
+    return by("why").replaceChildren(made("p", "click a vertex or an edge, a number of a view, or a step that waits", "none"));
+  }
   const list = made("ul");
-  const where = document.querySelectorAll(".graph .place");
-  where.forEach((it) => it.classList.remove("holds"));
   if (told.error) {
     list.append(made("li", told.error === "BadTime" ? "the time has another number of loop counters there" : told.error));
-  } else {
-    for (const reason of told.reasons) {
-      list.append(made("li", reason.words));
-      where.forEach((it) => it.classList.toggle("holds", it.classList.contains("holds") || Number(it.dataset.place) === reason.place));
-    }
-    list.append(made("li", told.finished ? "in truth it is finished" : "it is not finished", told.passed ? "" : "none"));
+    return by("why").replaceChildren(whyForm(), list);
   }
-  const verdict = told.error ? "" : told.passed ? "this processor knows that it is finished" : "this processor does not know that it is finished:";
-  const times = fronts.times[chosen.q];
-  const arrive = times.length ? `can still arrive here: ${times.map((it) => `(${it.join(",")})`).join(", ")} and later` : "nothing can arrive here any more";
-  by("why").replaceChildren(form, made("p", verdict), list, made("p", arrive, "none"));
-  return undefined;
+  list.append(...told.reasons.map((it) => made("li", it.words)));
+  if (told.more) list.append(made("li", `and ${told.more} more`, "none"));
+  list.append(made("li", told.finished ? "in truth it is finished" : "it is not finished", told.passed ? "" : "none"));
+  const verdict = told.passed ? "this processor knows that it is finished" : "this processor does not know that it is finished:";
+  const times = told.times.map((it) => `(${it.join(",")})`).join(", ");
+  const arrive = times ? `can still arrive here: ${times} and later` : "nothing can arrive here any more";
+  return by("why").replaceChildren(whyForm(), made("p", verdict), list, made("p", arrive, "none"));
 }
 
 // ---- the table, the processors
@@ -349,7 +391,8 @@ function showPoints() {
   table.append(head, ...picture.state.points.map(pointRow));
   const wide = made("div", undefined, "wide");
   wide.append(picture.state.points.length ? table : made("p", "nothing is outstanding", "none"));
-  by("points").replaceChildren(made("h2", "Truth, views and unsent updates"), wide);
+  const pages = pager("points", picture.state, picture.state.points.length);
+  by("points").replaceChildren(made("h2", "Truth, views and unsent updates"), ...pages, wide);
 }
 
 function showProcessors() {
@@ -357,13 +400,13 @@ function showProcessors() {
     const row = made("div", undefined, "row");
     row.append(made("b", `processor ${p}`));
     for (const [kind, texts] of Object.entries(it)) {
-      if (texts.length) row.append(made("span", `${kind} `, "none"), ...texts.slice(0, 40).map((text) => made("span", text, "chip")));
+      if (texts.length) row.append(made("span", `${kind} `, "none"), ...texts.map((text) => made("span", text, "chip")));
     }
     return row;
   });
   const queues = picture.state.queues.map((it) => {
     const row = made("div", undefined, "row");
-    row.append(made("b", `${it.from} \u2192 ${it.to}`), ...it.changes.slice(0, 12).map((entries) => made("span", entries.join(", "), "chip")));
+    row.append(made("b", `${it.from} \u2192 ${it.to}`), ...it.changes.map((text) => made("span", text, "chip")));
     return row;
   });
   by("processors").replaceChildren(made("h2", "What each processor holds, and the updates on their way"), ...rows, ...queues);
@@ -408,9 +451,9 @@ function atomOf() {
   return whenForm.negated ? { not: atom } : atom;
 }
 
-async function askTurns(asking = turns.asked) {
-  turns = { ...(await asked("turns", { when: asking })), asked: asking };
-  show();
+function askTurns() {
+  sight.when = atomOf();
+  return inTurn(refresh);
 }
 
 function showConditions() {
@@ -420,11 +463,12 @@ function showConditions() {
   when.replaceChildren(
     made("span", "of the point and processor chosen above: "),
     select(texts, kinds.indexOf(whenForm.kind), (at) => { whenForm.kind = kinds[at]; }),
-    button("show where it holds", () => inTurn(() => askTurns(atomOf()))),
+    button("show where it holds", askTurns),
     button("break when it holds", () => execute({ do: "break", when: atomOf() })),
   );
-  const said = !turns ? "" : turns.error ? turns.error : `${turns.when}: ${turnWords()}`;
-  by("turns").replaceChildren(made("p", said), ...(turns && !turns.error ? turns.turns.slice(0, 20).map((at) => button(`${at}`, () => jump(at))) : []));
+  const told = picture.turns, turns = (told && told.turns) || [];
+  const said = !told ? "" : told.error ? told.error : `${told.when}: ${turnWords(told)}`;
+  by("turns").replaceChildren(made("p", said), ...turns.map((at) => button(`${at}`, () => jump(at))));
   by("breaks").replaceChildren(...picture.breaks.map((it) => {
     const row = made("div", undefined, "row");
     row.append(made("b", `breakpoint ${it.id}`), made("span", it.when), button("remove", () => execute({ do: "unbreak", id: it.id })));
@@ -432,9 +476,11 @@ function showConditions() {
   }));
 }
 
-function turnWords() {
-  const start = turns.at_lo ? "holds at the start" : "does not hold at the start";
-  return turns.turns.length ? `${start}, and changes at ${turns.turns.slice(0, 20).join(", ")}${turns.more ? " .." : ""}` : `${start}, and that stays so`;
+function turnWords({ at_lo: atLo, turns, count, more }) {
+  const start = atLo ? "holds at the start" : "does not hold at the start";
+  if (!count) return `${start}, and that stays so`;
+  const rest = more || count > turns.length ? `, ... (${more ? "more than " : ""}${count} in all)` : "";
+  return `${start}, and changes at ${turns.join(", ")}${rest}`;
 }
 
 // ---- all
@@ -448,13 +494,15 @@ function show() {
   document.body.dataset.revision = revision;
   showSteps();
   showPlaces();
-  showChangedPlace();
   showCandidates();
   showEffect();
+  showWhy();
   showFeed();
   showPoints();
   showConditions();
   showProcessors();
+  showCursor();
+  showChangedPlace();
 }
 
 function limit() {
@@ -508,11 +556,8 @@ const beats = new EventSource("beats");
 beats.addEventListener("message", (event) => {
   const [now, ended] = JSON.parse(event.data);
   if (ended) return say(`${ended}; start tools/live again`, true);
-  if (picture && now !== revision) inTurn(refresh);
+  if (picture && now > revision) inTurn(() => (now > revision ? refresh() : undefined));
   return undefined;
 });
 showOnly();
-inTurn(async () => {
-  await refresh();
-  await askWhy();
-});
+inTurn(refresh);

@@ -1,13 +1,21 @@
 """What the page shows of a session at its cursor, all of it from the program's own replies."""
-from rewind_tools.showing.states import shown_state
-from rewind_tools.telling.commands import FIRM, at, command_words, condition, processor_of
+from rewind_tools.live.sight import (
+    CANDIDATES,
+    cut,
+    messages,
+    page_of,
+    plain,
+    shown_step,
+    state_in_sight,
+    window,
+)
+from rewind_tools.live.turned import Turned
+from rewind_tools.telling.commands import at, command_words, processor_of
 from rewind_tools.telling.effects import effect_words
 from rewind_tools.telling.reasons import reason_words
 
-# How many positions around the cursor a picture has, and how many candidates.
-IN_SIGHT, MOST_CANDIDATES = 60, 200
-MOST_TURNS = 1000
-
+# How many changes of a step and how many reasons a picture has.
+MOST_CHANGES, MOST_REASONS = 60, 40
 
 STAYS = "it stays until it is released: a hold is never notified, and no run releases it"
 
@@ -17,38 +25,51 @@ def held_words(step):
     return f"processor {step['p']} holds a capability at {at(step['vertex'], step['time'])}"
 
 
-def plain(text):
-    return text.replace(FIRM, " ")
-
-
 class Pictures:
-    """Asks a session what its page shows; the steps that are kept are asked for once."""
+    """Asks a session what its page shows. The steps of the last picture are kept for the next."""
 
     def __init__(self, session, teller):
         self.session, self.teller = session, teller
         self.order, self.holds = teller.graph.order, teller.graph.holds
-        self.steps = {}
+        self.steps, self.turned = {}, Turned(session)
 
     def forget_from(self, position):
-        """Forgets the steps that lead to positions past this one, since others may be kept there."""
+        """Forgets what leads to positions past this one, since other steps may be kept there."""
         self.steps = {it: step for it, step in self.steps.items() if it <= position}
+        self.turned.forget_from(position)
 
-    def of(self, cursor, kept, window=None):
-        """The picture at the cursor, with the steps that lead to the positions of a window."""
-        queries = [{"do": "state"}, {"do": "candidates"}]
-        queries += [{"do": "frontier", "q": q} for q in range(self.teller.processors)]
-        state, candidates, *fronts = self.session.ask_all(queries)
+    def of(self, cursor, kept, sight):
+        """The picture at the cursor. `sight` names what else is in sight: the numbers of the first point and
+        the first candidate, the question why a point is not finished, and a condition; each may lack."""
+        first, last = window(cursor, kept)
+        lines = [{"do": "state"}, {"do": "candidates"}]
+        lines += [{"do": "frontier", "q": q} for q in range(self.teller.processors)]
+        state, candidates, *fronts = self.session.ask_all(lines)
+        state, steps = state["state"], self.steps_in(first, last)
         return {
             "at": cursor,
             "kept": kept,
-            "state": shown_state(state["state"], self.order, self.holds, [state, *fronts]),
-            "inputs": self.inputs(state["state"]),
-            "candidates": [self.candidate(it) for it in candidates["candidates"][:MOST_CANDIDATES]],
-            "more": candidates.get("more", False) or len(candidates["candidates"]) > MOST_CANDIDATES,
+            "state": state_in_sight(state, self.order, self.holds, fronts, sight.get("points", 0)),
+            "inputs": self.inputs(state),
+            "candidates": self.candidates(candidates, sight.get("candidates", 0)),
             "effect": self.effect(cursor),
-            "steps": self.window(cursor, kept, window),
+            "steps": {
+                "first": first,
+                "items": [shown_step(*it) for it in enumerate(steps, first)],
+                "messages": messages(steps, first, cursor, state["queues"]),
+            },
             "breaks": [{"id": key, "when": plain(when)} for key, when in sorted(self.teller.breaks.items())],
+            "why": self.why(sight["why"]) if sight.get("why") else None,
+            "turns": self.turned.of(sight["when"], kept, first, last) if sight.get("when") else None,
         }
+
+    def steps_in(self, first, last):
+        """The steps that lead to the positions of a window."""
+        new = [it for it in range(first, last + 1) if it not in self.steps]
+        replies = self.session.ask_all([{"do": "step", "to": it} for it in new]) if new else []
+        told = {**self.steps, **{it: reply["step"] for it, reply in zip(new, replies)}}
+        self.steps = {it: told[it] for it in range(first, last + 1)}
+        return [*self.steps.values()]
 
     def inputs(self, state):
         """The inputs that may be fed: each with its processor and its token's epoch."""
@@ -57,6 +78,12 @@ class Pictures:
             for p, it in enumerate(state["processors"])
             for vertex, epoch in it["tokens"]
         ]
+
+    def candidates(self, reply, first):
+        """A page of the steps that a run tries."""
+        first, shown = page_of(reply["candidates"], first, CANDIDATES)
+        count, more = len(reply["candidates"]), reply.get("more", False)
+        return {"items": [self.candidate(it) for it in shown], "first": first, "count": count, "more": more}
 
     def candidate(self, it):
         """A step that a run tries; if it is refused, why. The notice of a hold vertex, which is never run,
@@ -95,80 +122,28 @@ class Pictures:
         }
         return {
             "step": plain(command_words(reply["step"])),
-            "words": [plain(it) for it in effect_words(changed, self.holds)],
+            "words": cut(effect_words(changed, self.holds), MOST_CHANGES, plain),
             "places": sorted(self.order[it] for it in places),
         }
 
-    def window(self, cursor, kept, window):
-        """The steps that lead to the positions of a window around the cursor, with the messages between
-        processors."""
-        first, last = window or (cursor - IN_SIGHT // 2, cursor + IN_SIGHT // 2)
-        first, last = max(1, min(first, kept - IN_SIGHT + 1)), min(kept, max(last, IN_SIGHT))
-        wanted = [it for it in range(first, last + 1) if it not in self.steps]
-        for position, reply in zip(
-            wanted, self.session.ask_all([{"do": "effect", "to": it} for it in wanted]) if wanted else []
-        ):
-            self.steps[position] = self.shown_step(position, reply)
-        steps = [self.steps[it] for it in range(first, last + 1)]
-        return {"first": first, "items": steps, "messages": messages(steps)}
-
-    def shown_step(self, position, reply):
-        step = reply["step"]
-        queues = [it for it in reply["changed"]["queues"]]
-        return {
-            "position": position,
-            "kind": step["do"],
-            "p": processor_of(step),
-            "words": plain(command_words(step)),
-            "queues": queues,
-        }
-
-    # ---- questions
-
-    def why(self, q, place, time, is_before):
-        """The reasons why a processor does not consider a point finished, in words, each with its point."""
-        line = {"do": "why", "q": q, "at": place, "time": time, **({"before": True} if is_before else {})}
-        reply = self.session.ask(line)
+    def why(self, asked):
+        """The reasons why a processor does not consider a point finished, in words, each with its place; and
+        the times that can still arrive there, as far as it knows."""
+        q, place, time = asked["q"], asked["at"], asked["time"]
+        line = {"do": "why", "q": q, "at": place, "time": time}
+        if asked.get("before"):
+            line["before"] = True
+        reply, arriving = self.session.ask_all([line, {"do": "frontier", "q": q, "at": place}])
         if "error" in reply:
             return {"error": reply["error"]}
         reasons = [
-            {
-                "words": plain(reason_words(it, self.holds)),
-                "place": self.order[it["point"][0]],
-                "at": at(*it["point"]),
-            }
-            for it in reply["reasons"]
+            {"words": plain(reason_words(it, self.holds)), "place": self.order[it["point"][0]]}
+            for it in reply["reasons"][:MOST_REASONS]
         ]
-        return {"passed": reply["passed"], "finished": reply["finished"], "reasons": reasons}
-
-    def turns(self, when, kept):
-        """Where a condition holds among the kept positions: whether at the start, and where that changes."""
-        reply = self.session.ask({"do": "turns", "when": when, "lo": 0, "hi": kept})
-        if "error" in reply:
-            return {"error": reply["error"]}
         return {
-            "when": plain(condition(when)),
-            "at_lo": reply["at_lo"],
-            "turns": reply["turns"],
-            "more": reply.get("more", False),
+            "passed": reply["passed"],
+            "finished": reply["finished"],
+            "reasons": reasons,
+            "more": len(reply["reasons"]) - len(reasons),
+            "times": arriving["times"],
         }
-
-
-def messages(steps):
-    """The updates that steps send and receive: sender, receiver, the position of each end, None for one that
-    is not in sight."""
-    waiting, found = {}, []
-    for step in steps:
-        for sender, receiver, old, new in step["queues"]:
-            queue = waiting.setdefault((sender, receiver), [None] * old)
-            if new > old:
-                queue.append(step["position"])
-            elif queue:
-                found.append([sender, receiver, queue.pop(0), step["position"]])
-    found += [
-        [sender, receiver, begin, None]
-        for (sender, receiver), queue in waiting.items()
-        for begin in queue
-        if begin is not None
-    ]
-    return [it for it in found if it[0] != it[1]]

@@ -13,7 +13,7 @@ from html import escape
 from http.server import BaseHTTPRequestHandler, ThreadingHTTPServer
 
 from rewind_tools.live.pictures import Pictures
-from rewind_tools.script import COMMANDS
+from rewind_tools.script import COMMANDS, STEPS
 from rewind_tools.session import Ended, script_of
 from rewind_tools.showing.graphs import graph_svg, laid_out
 from rewind_tools.telling import faults, names
@@ -72,9 +72,9 @@ class Live:
         if reply.get("at") is not None:
             self.at, self.kept = reply["at"], reply.get("kept", self.kept)
 
-    def command(self, value, revision):
-        """Executes a command that a page asks for, if the page has seen the newest state, and tells what it
-        answers."""
+    def command(self, value, revision, sight):
+        """Executes a command that a page asks for, if the page has seen the newest state. Returns its answer
+        and the picture after it."""
         if not isinstance(value, dict) or value.get("do") not in COMMANDS:
             raise Refused(400, "that is no command")
         if revision != self.revision:
@@ -86,20 +86,20 @@ class Live:
         else:
             words = self.teller.told(value, reply, None)
         self.note(value, reply)
-        if self.at != before or self.kept != kept or value["do"] in ("break", "unbreak"):
+        has_moved = self.at != before or self.kept != kept
+        if has_moved or value["do"] in ("break", "unbreak"):
             self.revision += 1
-        if self.kept != kept or self.at > before:
+        if has_moved and value["do"] in (*STEPS, "run"):
             self.pictures.forget_from(before)
         return {
             "words": [it.replace(FIRM, " ") for it in words],
             "refused": "error" in reply,
-            **self.picture({}),
+            **self.picture(sight),
         }
 
-    def picture(self, asked):
-        """The picture at the cursor; of a window of positions, if one is asked for."""
-        window = asked.get("window")
-        return {"revision": self.revision, "picture": self.pictures.of(self.at, self.kept, window)}
+    def picture(self, sight):
+        """The picture at the cursor, with what is in sight of it."""
+        return {"revision": self.revision, "picture": self.pictures.of(self.at, self.kept, sight)}
 
     def answer(self, path, asked):
         """The answer to a question of a page, by its path."""
@@ -114,18 +114,11 @@ class Live:
 
     def answered(self, path, asked):
         if path == "picture":
-            return self.picture(asked)
+            return self.picture(asked.get("sight", {}))
         if path == "command":
-            return self.command(asked.get("line"), asked.get("revision"))
+            return self.command(asked.get("line"), asked.get("revision"), asked.get("sight", {}))
         if path == "why":
-            return self.pictures.why(asked["q"], asked["at"], asked["time"], asked.get("before", False))
-        if path == "frontier":
-            replies = self.session.ask_all(
-                [{"do": "frontier", "q": q, "at": asked["at"]} for q in range(self.teller.processors)]
-            )
-            return {"times": [it["times"] for it in replies]}
-        if path == "turns":
-            return self.pictures.turns(asked["when"], self.kept)
+            return self.pictures.why(asked)
         if path == "save":
             return {"script": script_of(self.session), "words": self.session.words}
         raise Refused(404, "there is nothing here")
@@ -157,6 +150,7 @@ class Handler(BaseHTTPRequestHandler):
     """One request."""
 
     protocol_version = "HTTP/1.1"
+    disable_nagle_algorithm = True  # so that an answer's end does not wait until its beginning has arrived
 
     def log_message(self, *words):
         pass
@@ -209,7 +203,8 @@ class Handler(BaseHTTPRequestHandler):
             answer = self.server.live.answer(path, asked)
         except (ValueError, KeyError, TypeError, AttributeError) as fault:
             raise Refused(400, f"that is no question: {fault}") from fault
-        self.send(200, "application/json", json.dumps(answer, ensure_ascii=False).encode())
+        text = json.dumps(answer, ensure_ascii=False, separators=(",", ":"))
+        self.send(200, "application/json", text.encode())
 
     def send(self, status, kind, body):
         self.send_response(status)

@@ -26,22 +26,26 @@ def changes(entries):
     return [f"{at(place, time)} {number(count, True)}" for place, time, count in entries]
 
 
-def times(counts):
-    """A count by its times: if there is one time it is named, else how many there are."""
+def times(counts, most):
+    """A count by its times: if there is one time it is named, else how many there are; and a line for each
+    time, or for the first `most`."""
     total = sum(counts.values())
     if not total:
         return "", "", []
     there = f"at {time_in(next(iter(counts)))}" if len(counts) == 1 else f"at {len(counts)} times"
-    return str(total), there, [f"{count} at {time_in(time)}" for time, count in sorted(counts.items())]
+    lines = [f"{count} at {time_in(time)}" for time, count in sorted(counts.items())[:most]]
+    more = len(counts) - len(lines)
+    return str(total), there, lines + [f"and {more} more"] * (more > 0)
 
 
 def added(counts, time, count):
-    counts[tuple(time)] = counts.get(tuple(time), 0) + count
+    time = tuple(time)
+    counts[time] = counts.get(time, 0) + count
 
 
-def place_counts(state, order, holds):
+def place_counts(state, order, holds, most=None):
     """What stands at each place over all processors: records, tokens, requests or held capabilities, and
-    what a sink has counted."""
+    what a sink has counted; of the times at most `most`."""
     records, requests, tokens, sinks = ({} for _ in range(4))
     for it in state["processors"]:
         for place, time, _, count in it["records"]:
@@ -55,7 +59,7 @@ def place_counts(state, order, holds):
     shown = {}
     for kind, counts in (("record", records), ("request", requests), ("token", tokens)):
         for place, by_time in counts.items():
-            total, there, lines = times(by_time)
+            total, there, lines = times(by_time, most)
             of = "held" if place in holds else kind + "s" * (total != "1")
             shown[order[place]] = {"n": total, "of": of, "when": there, "by": lines}
     for place, count in sinks.items():
@@ -63,71 +67,72 @@ def place_counts(state, order, holds):
     return shown
 
 
-def point_rows(state, order, fronts):
-    """The points that stand anywhere: the true count, and each processor's view and unsent change."""
-    points = Points(state, order)
-    rows = []
-    for point in points.all():
-        numbers = points.numbers(point)
-
-        def cell(kind, p):
-            return numbers[kind, p]
-
-        rows.append(
-            {
-                "at": at(*point),
-                "truth": number(cell("truth", None)),
-                "view": [number(cell("view", p)) for p in points.processors],
-                "unsent": [
-                    number(cell("unsent", p), True) if cell("unsent", p) else "" for p in points.processors
-                ],
-                "front": [int(point in fronts.get(p, ())) for p in points.processors],
-            }
-        )
-    return rows
+def frontiers_of(replies):
+    """The points on the frontier of each processor's view, from the replies to the queries for them."""
+    return {
+        q: {(place, tuple(time)) for place, time, _ in it["frontier"]}
+        for q, it in enumerate(replies)
+        if "frontier" in it
+    }
 
 
-def holdings(processor, holds):
-    """What one processor holds, in words, by kind; a request at a hold vertex is a capability."""
+def point_row(points, point, fronts):
+    """What stands at a point: the true count, and each processor's view and unsent change."""
+    numbers = points.numbers(point)
+    unsent = [numbers["unsent", p] for p in points.processors]
+    return {
+        "at": at(*point),
+        "truth": number(numbers["truth", None]),
+        "view": [number(numbers["view", p]) for p in points.processors],
+        "unsent": [number(it, True) if it else "" for it in unsent],
+        "front": [int(point in fronts.get(p, ())) for p in points.processors],
+    }
+
+
+def kinds_of(processor, holds):
+    """What one processor holds, by kind: the entries, and what words one of them. A request at a hold vertex
+    is a capability."""
 
     def times_of(count):
         return f" \u00d7{count}" if count > 1 else ""
 
+    def kept(it):
+        place, time, item, count = it
+        return f"{at(place, time)}: {item}{times_of(count)}"
+
+    requests = processor["requests"]
     return {
-        "tokens": [at(place, [epoch]) for place, epoch in processor["tokens"]],
-        "records": [
-            f"{value} on {at(place, time)}{times_of(count)}"
-            for place, time, value, count in processor["records"]
-        ],
-        "requests": [at(*it) for it in processor["requests"] if it[0] not in holds],
-        "capabilities": [at(*it) for it in processor["requests"] if it[0] in holds],
-        "kept by vertices": [
-            f"{at(place, time)}: {item}{times_of(count)}" for place, time, item, count in processor["items"]
-        ],
-        "counted by sinks": [
-            f"{place}: {value}{times_of(count)}" for place, value, count in processor["sinks"]
-        ],
+        "tokens": (processor["tokens"], lambda it: at(it[0], [it[1]])),
+        "records": (processor["records"], lambda it: f"{it[2]} on {at(*it[:2])}{times_of(it[3])}"),
+        "requests": ([it for it in requests if it[0] not in holds], lambda it: at(*it)),
+        "capabilities": ([it for it in requests if it[0] in holds], lambda it: at(*it)),
+        "kept by vertices": (processor["items"], kept),
+        "counted by sinks": (processor["sinks"], lambda it: f"{it[0]}: {it[1]}{times_of(it[2])}"),
     }
+
+
+def holdings(processor, holds):
+    """What one processor holds, in words, by kind."""
+    kinds = kinds_of(processor, holds)
+    return {kind: [words(it) for it in entries] for kind, (entries, words) in kinds.items()}
+
+
+def queues_of(state):
+    """The queues that are not empty, each with its sender, its receiver and its changes."""
+    return [(p, q, queue) for p, row in enumerate(state["queues"]) for q, queue in enumerate(row) if queue]
 
 
 def shown_state(state, order, holds, answers):
     """A state as a page shows it; the frontiers come from the replies to the queries after it."""
-    told = [it for it in answers if "state" not in it]
-    fronts = {
-        q: {(place, tuple(time)) for place, time, _ in it["frontier"]}
-        for q, it in enumerate(told)
-        if "frontier" in it
-    }
-    queues = [
-        {"from": p, "to": q, "changes": [changes(it) for it in queue]}
-        for p, row in enumerate(state["queues"])
-        for q, queue in enumerate(row)
-        if queue
-    ]
+    points = Points(state, order)
+    fronts = frontiers_of([it for it in answers if "state" not in it])
     return {
         "places": place_counts(state, order, holds),
-        "points": point_rows(state, order, fronts),
-        "queues": queues,
+        "points": [point_row(points, it, fronts) for it in points.all()],
+        "queues": [
+            {"from": p, "to": q, "changes": [changes(it) for it in queue]}
+            for p, q, queue in queues_of(state)
+        ],
         "processors": [holdings(it, holds) for it in state["processors"]],
     }
 

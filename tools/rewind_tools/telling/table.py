@@ -23,12 +23,16 @@ class Points:
 
     def add_truth(self, processor):
         """Adds a processor's records, requests and tokens to the true counts."""
-        there = [(place, time, number) for place, time, _, number in processor["records"]]
-        there += [(place, time, 1) for place, time in processor["requests"]]
-        there += [(place, [epoch], 1) for place, epoch in processor["tokens"]]
-        for place, time, number in there:
-            point = place, tuple(time)
-            self.truth[point] = self.truth.get(point, 0) + number
+        for place, time, _, number in processor["records"]:
+            self.add(place, time, number)
+        for place, time in processor["requests"]:
+            self.add(place, time, 1)
+        for place, epoch in processor["tokens"]:
+            self.add(place, [epoch], 1)
+
+    def add(self, place, time, number):
+        point = place, tuple(time)
+        self.truth[point] = self.truth.get(point, 0) + number
 
     def all(self):
         """The points, in the order of listing."""

@@ -1,0 +1,101 @@
+"""What is in sight of a session on its page. Each part is cut to a length that grows neither with the kept
+steps nor with what is outstanding."""
+from rewind_tools.showing.states import changes, frontiers_of, kinds_of, place_counts, point_row, queues_of
+from rewind_tools.telling.commands import FIRM, command_words, processor_of
+from rewind_tools.telling.table import Points
+
+# How much is in sight: positions around the cursor, candidates, points of the table, things of one kind that
+# a processor holds, times at a place, changes of a queue, and entries of a change.
+STEPS, CANDIDATES, POINTS, HELD, TIMES, CHANGES, ENTRIES = 60, 60, 60, 40, 20, 12, 8
+
+
+def plain(text):
+    return text.replace(FIRM, " ")
+
+
+def cut(entries, most, words):
+    """The first entries in words, and a last text that says how many more there are."""
+    more = len(entries) - most
+    return [words(it) for it in entries[:most]] + [f"and {more} more"] * (more > 0)
+
+
+def page_of(listed, first, most):
+    """Of a list the page with number `first`: the number of its first element, and its elements."""
+    first = max(0, min(first, len(listed) - 1)) // most * most
+    return first, listed[first : first + most]
+
+
+def state_in_sight(state, order, holds, fronts, first):
+    """A state as the page shows it. Of the table it has the page with point number `first`; `fronts` are the
+    replies to the queries for frontiers."""
+    points, fronts = Points(state, order), frontiers_of(fronts)
+    listed = points.all()
+    first, shown = page_of(listed, first, POINTS)
+    return {
+        "places": place_counts(state, order, holds, TIMES),
+        "points": [point_row(points, it, fronts) for it in shown],
+        "first": first,
+        "count": len(listed),
+        "queues": [queue_in_sight(*it) for it in queues_of(state)],
+        "processors": [held_in_sight(it, holds) for it in state["processors"]],
+    }
+
+
+def queue_in_sight(sender, receiver, queue):
+    """A queue's first changes, each with its first entries."""
+
+    def change(entries):
+        return ", ".join(cut(entries, ENTRIES, lambda it: changes([it])[0]))
+
+    return {"from": sender, "to": receiver, "changes": cut(queue, CHANGES, change)}
+
+
+def held_in_sight(processor, holds):
+    """What a processor holds, by kind."""
+    return {
+        kind: cut(entries, HELD, words) for kind, (entries, words) in kinds_of(processor, holds).items()
+    }
+
+
+def window(cursor, kept):
+    """The first and the last position in sight."""
+    first, last = cursor - STEPS // 2, cursor + STEPS // 2
+    return max(1, min(first, kept - STEPS + 1)), min(kept, max(last, STEPS))
+
+
+def shown_step(position, step):
+    return {
+        "position": position,
+        "kind": step["do"],
+        "p": processor_of(step),
+        "words": plain(command_words(step)),
+    }
+
+
+def queue_moves(step, processors):
+    """The queues that a step makes longer, by 1, or shorter, by -1: a broadcast adds a change to the queue
+    to each processor, and a receive takes the first change of one queue."""
+    if step["do"] == "broadcast":
+        return [(step["p"], q, 1) for q in range(processors)]
+    return [(step["from"], step["to"], -1)] if step["do"] == "receive" else []
+
+
+def messages(steps, first, cursor, queues):
+    """The updates that steps in sight send and receive: sender, receiver, the position of each end, None for
+    one that is not in sight. `steps` lead to the positions from `first` on, and `queues` are those at the
+    cursor."""
+    moves = [queue_moves(it, len(queues)) for it in steps]
+    older = {(p, q): len(it) for p, row in enumerate(queues) for q, it in enumerate(row)}
+    for p, q, by in (it for moved in moves[: cursor - first + 1] for it in moved):
+        older[p, q] -= by
+    begun, found = {ends: [] for ends in older}, []
+    for position, (p, q, by) in ((at, it) for at, moved in enumerate(moves, first) for it in moved):
+        if by > 0:
+            begun[p, q].append(position)
+        elif older[p, q]:
+            older[p, q] -= 1
+            found.append([p, q, None, position])
+        else:
+            found.append([p, q, begun[p, q].pop(0), position])
+    found += [[p, q, position, None] for (p, q), left in begun.items() for position in left]
+    return [it for it in found if it[0] != it[1]]
