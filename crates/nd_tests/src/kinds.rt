@@ -1,7 +1,7 @@
 //! What the tests of memory go over.
 
 /// What is called, copied, or made large.
-#[derive(Debug, Clone, Copy, Drop)]
+#[derive(Drop)]
 pub enum Kind {
     Changes,
     Views,
