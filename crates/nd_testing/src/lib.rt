@@ -6,5 +6,5 @@ mod requests;
 mod signal;
 
 pub use allocator::Refusing;
-pub use requests::{MANY, in_turn, was_refused};
+pub use requests::{MANY, was_refused};
 pub use signal::Sign;

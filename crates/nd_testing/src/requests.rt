@@ -31,18 +31,20 @@ macro_rules! met {
     }};
 }
 
-/// Refuses the requests of a call one after the other, and returns how many were refused before the call met none.
+/// Refuses one request of a call after the other: the body of a function that returns how many were refused before the call
+/// met none.
 ///
-/// `meets` makes the call on fresh values while the request with this number is refused, and returns whether it met that request.
-pub fn in_turn<F: Fn(u64) -> Option<bool>>(meets: F) -> Option<u64>
-    requires { F.IsAlwaysCallable meets }
-{
-    for n in 0..MANY {
-        if !meets(n)? {
-            return Some(n);
+/// `$meets` makes the call on fresh values with the request of number `$n` refused, and says whether it met that one.
+#[macro_export]
+macro_rules! in_turn {
+    ($n:ident: $meets:expr) => {{
+        for $n in 0..$crate::MANY {
+            if !$meets? {
+                return Some($n);
+            }
         }
-    }
-    None
+        None
+    }};
 }
 
 /// Returns the value of an expression that is evaluated while each request for memory is refused.

@@ -181,7 +181,7 @@ fn processors_tell<A: Allocator + Copy>(heap: &Heap, alloc: A, json: Global) -> 
 
 /// Returns whether the calls of a kind that take no memory answer correctly while every request is
 /// refused.
-fn answers<A: Allocator + Copy>(heap: &Heap, alloc: A, json: Global, kind: Kind) -> Option<bool> {
+fn answers<A: Allocator + Copy>(heap: &Heap, alloc: A, json: Global, kind: &Kind) -> Option<bool> {
     match kind {
         Kind::Changes => changes_tell(heap, alloc, json),
         Kind::Views => views_tell(heap, alloc, json),
@@ -194,9 +194,9 @@ fn answers<A: Allocator + Copy>(heap: &Heap, alloc: A, json: Global, kind: Kind)
 #[test]
 fn calls_that_take_none(rt: HostRuntime) {
     let heap = Refusing::new(rt.alloc());
-    for kind in KINDS {
+    for (i, kind) in KINDS.iter().enumerate() {
         let answers = answers(&heap, &heap, rt.alloc(), kind);
-        assert_eq!(rt; answers, Some(true), "of {kind:?}");
-        assert_eq!(rt; heap.live(), 0, "of {kind:?}");
+        assert!(rt; answers == Some(true), "of kind {i}");
+        assert!(rt; heap.live() == 0, "of kind {i}");
     }
 }

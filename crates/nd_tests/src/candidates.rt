@@ -112,15 +112,12 @@ fn are_candidates(alloc: Global, script: &Script, rows: &[Row]) -> Option<bool> 
 
 #[test]
 fn candidates_of_sum(rt: HostRuntime) {
-    assert_eq!(rt; are_candidates(rt.alloc(), &SUM_BEGUN, &OF_SUM), Some(true));
+    assert!(rt; are_candidates(rt.alloc(), &SUM_BEGUN, &OF_SUM) == Some(true));
 }
 
 #[test]
 fn candidates_of_two_processors(rt: HostRuntime) {
-    assert_eq!(rt;
-        are_candidates(rt.alloc(), &LINE_BEGUN, &OF_LINE),
-        Some(true)
-    );
+    assert!(rt; are_candidates(rt.alloc(), &LINE_BEGUN, &OF_LINE) == Some(true));
 }
 
 #[test]
@@ -129,16 +126,13 @@ fn candidates_of_capabilities(rt: HostRuntime) {
         (&HELD_TAKEN, OF_HELD.as_slice()),
         (&HELD_IDLE, OF_IDLE.as_slice()),
     ] {
-        assert_eq!(rt; are_candidates(rt.alloc(), script, rows), Some(true));
+        assert!(rt; are_candidates(rt.alloc(), script, rows) == Some(true));
     }
 }
 
 #[test]
 fn no_candidates_at_the_start(rt: HostRuntime) {
-    assert_eq!(rt;
-        are_candidates(rt.alloc(), &(LINE, 3, &[]), &[]),
-        Some(true)
-    );
+    assert!(rt; are_candidates(rt.alloc(), &(LINE, 3, &[]), &[]) == Some(true));
 }
 
 /// Returns how many candidates are listed for a line that is fed `count` values, and whether there are more.
@@ -167,7 +161,7 @@ fn first_thousand(rt: HostRuntime) {
         (1000, (1000, true)),
         (1001, (1000, true)),
     ] {
-        assert_eq!(rt; listed(rt.alloc(), count), Some(wanted), "of {count}");
+        assert!(rt; listed(rt.alloc(), count) == Some(wanted), "of {count}");
     }
 }
 
@@ -192,7 +186,7 @@ fn refused<A: Allocator + Copy>(
     json: Global,
     script: &Script,
 ) -> Option<u64> {
-    in_turn(|n| meets(heap, alloc, json, script, n))
+    in_turn!(n: meets(heap, alloc, json, script, n))
 }
 
 #[test]
@@ -200,7 +194,7 @@ fn candidates_out_of_memory(rt: HostRuntime) {
     let heap = Refusing::new(rt.alloc());
     for script in [&SUM_BEGUN, &LINE_BEGUN, &HELD_IDLE] {
         let count = refused(&heap, &heap, rt.alloc(), script);
-        assert_eq!(rt; count.map(|count| count > 1), Some(true));
-        assert_eq!(rt; heap.live(), 0);
+        assert!(rt; matches!(count, Some(n) if n > 1));
+        assert!(rt; heap.live() == 0);
     }
 }

@@ -65,10 +65,10 @@ fn frontier_at_the_sink(rt: HostRuntime) {
     let first: [Numbers; 1] = [&[0]];
     let second: [Numbers; 1] = [&[1]];
     for steps in [1, 3, 9] {
-        assert_eq!(rt; arrive(rt.alloc(), steps, "z", &first), Some(true));
+        assert!(rt; arrive(rt.alloc(), steps, "z", &first) == Some(true));
     }
-    assert_eq!(rt; arrive(rt.alloc(), 3, "a", &second), Some(true));
-    assert_eq!(rt; arrive(rt.alloc(), 9, "a", &[]), Some(true));
+    assert!(rt; arrive(rt.alloc(), 3, "a", &second) == Some(true));
+    assert!(rt; arrive(rt.alloc(), 9, "a", &[]) == Some(true));
 }
 
 /// Returns whether nothing arrives at a location that does not exist.
@@ -83,12 +83,12 @@ fn nothing_elsewhere(alloc: Global) -> Option<bool> {
 
 #[test]
 fn locations_that_are_not_there(rt: HostRuntime) {
-    assert_eq!(rt; nothing_elsewhere(rt.alloc()), Some(true));
+    assert!(rt; nothing_elsewhere(rt.alloc()) == Some(true));
 }
 
 /// What is known about a notice of *sum* at epoch 0: whether it was passed and is finished, at the time and before it,
 /// and how many reasons there are; and whether the first reason at the time is the request alone.
-#[derive(Debug, PartialEq, Eq, Drop)]
+#[derive(PartialEq, Eq, Drop)]
 struct Waiting {
     at: (bool, bool, usize),
     before: (bool, bool, usize),
@@ -142,7 +142,7 @@ fn why_before(rt: HostRuntime) {
         before: (true, true, 0),
         is_own_request: true,
     };
-    assert_eq!(rt; after(rt.alloc(), &STEPS), Some((own, true)));
+    assert!(rt; after(rt.alloc(), &STEPS) == Some((own, true)));
     let steps = [
         Told::Feed(0, "a", &[2, 3], Next::Close),
         Told::Take(0, "as", &[0], 2),
@@ -152,7 +152,7 @@ fn why_before(rt: HostRuntime) {
         before: (false, false, 1),
         is_own_request: false,
     };
-    assert_eq!(rt; after(rt.alloc(), &steps), Some((input, false)));
+    assert!(rt; after(rt.alloc(), &steps) == Some((input, false)));
 }
 
 /// Returns the view that is positive at these points of a graph.
@@ -221,16 +221,15 @@ static ARRIVALS: [Arrival; 10] = [
 #[test]
 fn loops_within_one_another(rt: HostRuntime) {
     for (i, (points, name, times)) in ARRIVALS.iter().enumerate() {
-        assert_eq!(rt;
-            arrive_in_loops(rt.alloc(), points, name, times),
-            Some(true),
+        assert!(rt;
+            arrive_in_loops(rt.alloc(), points, name, times) == Some(true),
             "in row {i}"
         );
     }
 }
 
 /// A query about a cluster.
-#[derive(Debug, Clone, Copy, Drop)]
+#[derive(Drop)]
 enum Call {
     FrontierAt,
     WhyBefore,
@@ -241,7 +240,7 @@ fn meets<A: Allocator + Copy>(
     heap: &Refusing<Global>,
     alloc: A,
     json: Global,
-    call: Call,
+    call: &Call,
     n: u64,
 ) -> Option<bool> {
     let steps = [Told::Feed(0, "a", &[5], Next::Next), Told::All(0)];
@@ -261,12 +260,22 @@ fn meets<A: Allocator + Copy>(
     }
 }
 
+/// Returns how many requests of a query were refused before it met none.
+fn refused<A: Allocator + Copy>(
+    heap: &Refusing<Global>,
+    alloc: A,
+    json: Global,
+    call: &Call,
+) -> Option<u64> {
+    in_turn!(n: meets(heap, alloc, json, call, n))
+}
+
 #[test]
 fn queries_without_memory(rt: HostRuntime) {
     let heap = Refusing::new(rt.alloc());
-    for call in [Call::FrontierAt, Call::WhyBefore] {
-        let count = in_turn(|n| meets(&heap, &heap, rt.alloc(), call, n));
-        assert_eq!(rt; count.map(|count| count > 0), Some(true), "of {call:?}");
-        assert_eq!(rt; heap.live(), 0, "of {call:?}");
+    for (i, call) in [Call::FrontierAt, Call::WhyBefore].iter().enumerate() {
+        let count = refused(&heap, &heap, rt.alloc(), call);
+        assert!(rt; matches!(count, Some(n) if n > 0), "of query {i}");
+        assert!(rt; heap.live() == 0, "of query {i}");
     }
 }

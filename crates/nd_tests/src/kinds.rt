@@ -1,7 +1,7 @@
 //! The kinds of values in the tests of memory.
 
 /// What is called, copied, or made large.
-#[derive(Debug, Clone, Copy, Drop)]
+#[derive(Drop)]
 pub enum Kind {
     Changes,
     Views,

@@ -6,7 +6,7 @@ use crate::scripts::{Told, is_state, state_text};
 use nd_cluster::Next;
 use nd_history::Snapshot;
 use nd_session::{Client, Receipt, Session, SessionFault, State};
-use nd_testing::{MANY, Refusing, in_turn, met};
+use nd_testing::{Refusing, in_turn, met};
 use nd_timeline::{Fault, Reply, Stop};
 use std::alloc::{AllocError, Allocator, Global};
 use std::sync::Wait;
@@ -124,8 +124,52 @@ fn may_answer<A: Allocator + Copy>(
     is_told && after.index().checked_sub(1) == Some(receipt.index)
 }
 
-fn wants_memory<T, A: Allocator>(answer: &Result<T, SessionFault<A>>) -> bool {
-    matches!(answer, Err(SessionFault::Memory))
+/// Returns whether a command is answered as it may be: out of memory, with all as it was before, or as above.
+fn is_right<A: Allocator + Copy>(
+    json: Global,
+    answer: Result<Receipt<A>, SessionFault<A>>,
+    met: bool,
+    wanted: &Wanted,
+    (before, after): (&Snapshot<A>, &Snapshot<A>),
+) -> Option<bool> {
+    match answer {
+        Ok(receipt) => Some(may_answer(&receipt, met, wanted, after)),
+        Err(SessionFault::Memory) => Some(met && are_equal(json, before, after)?),
+        Err(_) => None,
+    }
+}
+
+/// Returns a command in a session with one request refused: whether it met it, if what it says and logs is right.
+fn given<A: Allocator + Copy, R: Wait>(
+    rt: &R,
+    heap: &Heap,
+    json: Global,
+    alloc: A,
+    (session, client): (&Session<A>, &mut Client<A>),
+    row: &Row,
+    n: u64,
+) -> Option<bool> {
+    let (_, asked, wanted) = row;
+    let command = command_of(alloc, &graph_of(json, alloc, LINE)?, asked)?;
+    let before = session.copy(rt, alloc, client).ok()?;
+    heap.refuse(n);
+    let answer = session.command(rt, alloc, client, command);
+    let met = heap.relent(n);
+    let after = session.copy(rt, alloc, client).ok()?;
+    let is_logged = client.receipts().len() as u64 == after.index();
+    if is_logged && is_right(json, answer, met, wanted, (&before, &after))? {
+        Some(met)
+    } else {
+        None
+    }
+}
+
+/// Returns whether a session closes with the receipts of its one client.
+fn closes<A: Allocator + Copy>(alloc: A, session: Session<A>, client: Client<A>) -> Option<bool> {
+    let entries = client.receipts().len();
+    let mut clients = Vec::new(alloc);
+    clients.push(client).ok()?;
+    Some(session.close(clients).ok()?.entries.len() == entries)
 }
 
 /// Issues a command with one request refused, and returns whether the command met it.
@@ -139,24 +183,9 @@ fn commanded<A: Allocator + Copy, R: Wait>(
     row: &Row,
     n: u64,
 ) -> Option<bool> {
-    let (list, asked, wanted) = row;
-    let (session, mut client) = driven(rt, json, alloc, list)?;
-    let before = session.copy(rt, alloc, &client).ok()?;
-    let command = command_of(alloc, &graph_of(json, alloc, LINE)?, asked)?;
-    heap.refuse(n);
-    let answer = session.command(rt, alloc, &mut client, command);
-    let met = heap.relent(n);
-    let after = session.copy(rt, alloc, &client).ok()?;
-    let is_refused = met && wants_memory(&answer);
-    let is_right = match answer.ok() {
-        Some(receipt) => may_answer(&receipt, met, wanted, &after),
-        None => is_refused && are_equal(json, &before, &after)?,
-    };
-    let entries = client.receipts().len();
-    let mut clients = Vec::new(alloc);
-    clients.push(client).ok()?;
-    let log = session.close(clients).ok()?;
-    if is_right && log.entries.len() == entries && entries as u64 == after.index() {
+    let (session, mut client) = driven(rt, json, alloc, row.0)?;
+    let met = given(rt, heap, json, alloc, (&session, &mut client), row, n)?;
+    if closes(alloc, session, client)? {
         Some(met)
     } else {
         None
@@ -171,12 +200,7 @@ fn commanded_in_turn<A: Allocator + Copy, R: Wait>(
     alloc: A,
     row: &Row,
 ) -> Option<u64> {
-    for n in 0..MANY {
-        if !commanded(rt, heap, json, alloc, row, n)? {
-            return Some(n);
-        }
-    }
-    None
+    in_turn!(n: commanded(rt, heap, json, alloc, row, n))
 }
 
 #[test]
@@ -187,7 +211,7 @@ fn command_out_of_memory(rt: HostRuntime) {
         assert!(rt; count.is_some(), "in row {number}");
         assert!(rt; number > 0 || count != Some(0));
     }
-    assert_eq!(rt; heap.live(), 0);
+    assert!(rt; heap.live() == 0);
 }
 
 /// Enters with one request refused, and returns whether the call met it. The next client gets the number that was due.
@@ -204,10 +228,10 @@ fn enters<A: Allocator + Copy, R: Wait>(
     let answer = session.enter(rt, alloc);
     let met = heap.relent(n);
     let next = session.enter(rt, alloc).ok()?.number();
-    let is_refused = met && wants_memory(&answer);
-    let is_right = match answer.ok() {
-        Some(client) => !met && client.number() == 1 && next == 2,
-        None => is_refused && next == 1,
+    let is_right = match answer {
+        Ok(client) => !met && client.number() == 1 && next == 2,
+        Err(SessionFault::Memory) => met && next == 1,
+        Err(_) => false,
     };
     if is_right { Some(met) } else { None }
 }
@@ -226,10 +250,10 @@ fn copied<A: Allocator + Copy, R: Wait>(
     let answer = session.copy(rt, alloc, &client);
     let met = heap.relent(n);
     let after = session.copy(rt, alloc, &client).ok()?;
-    let is_refused = met && wants_memory(&answer);
-    let is_right = match answer.ok() {
-        Some(snapshot) => !met && are_equal(json, &before, &snapshot)?,
-        None => is_refused,
+    let is_right = match answer {
+        Ok(snapshot) => !met && are_equal(json, &before, &snapshot)?,
+        Err(SessionFault::Memory) => met,
+        Err(_) => false,
     };
     if is_right && are_equal(json, &before, &after)? {
         Some(met)
@@ -260,37 +284,40 @@ fn refused<A: Allocator + Copy, R: Wait>(
     }
 }
 
-/// Returns whether each of these calls meets refused requests.
+/// A call of a session that is no command of its own.
+#[derive(Drop)]
+enum Call {
+    Enter,
+    Copy,
+    CopyOfStranger,
+}
+
+/// Returns how many requests of a call were refused before it met none.
 fn calls_in_turn<A: Allocator + Copy, R: Wait>(
     rt: &R,
     heap: &Heap,
     json: Global,
     alloc: A,
-) -> Option<bool> {
-    let mut met = (0, 0, 0);
-    for n in 0..MANY {
-        let each = (
-            enters(rt, heap, json, alloc, n)?,
-            copied(rt, heap, json, alloc, n)?,
-            refused(rt, heap, json, alloc, n)?,
-        );
-        if each == (false, false, false) {
-            return Some(met.0 > 0 && met.1 > 0 && met.2 > 0);
-        }
-        met = (
-            if each.0 { n + 1 } else { met.0 },
-            if each.1 { n + 1 } else { met.1 },
-            if each.2 { n + 1 } else { met.2 },
-        );
+    call: &Call,
+) -> Option<u64> {
+    match call {
+        Call::Enter => in_turn!(n: enters(rt, heap, json, alloc, n)),
+        Call::Copy => in_turn!(n: copied(rt, heap, json, alloc, n)),
+        Call::CopyOfStranger => in_turn!(n: refused(rt, heap, json, alloc, n)),
     }
-    None
 }
 
 #[test]
 fn calls_out_of_memory(rt: HostRuntime) {
     let heap = Refusing::new(rt.alloc());
-    assert_eq!(rt; calls_in_turn(&rt, &heap, rt.alloc(), &heap), Some(true));
-    assert_eq!(rt; heap.live(), 0);
+    for (i, call) in [Call::Enter, Call::Copy, Call::CopyOfStranger]
+        .iter()
+        .enumerate()
+    {
+        let count = calls_in_turn(&rt, &heap, rt.alloc(), &heap, call);
+        assert!(rt; matches!(count, Some(n) if n > 0), "of call {i}");
+    }
+    assert!(rt; heap.live() == 0);
 }
 
 /// Issues a command to a `State`, which answers it.
@@ -305,6 +332,15 @@ fn tell<A: Allocator + Copy>(
     Some(())
 }
 
+/// Returns a `State` that was given these commands.
+fn told<A: Allocator + Copy>(json: Global, alloc: A, list: &[Asked]) -> Option<State<A>> {
+    let mut state = opened(json, alloc, LINE, 1)?;
+    for asked in list {
+        tell(json, alloc, &mut state, asked)?;
+    }
+    Some(state)
+}
+
 /// Issues a command to a `State` with one request refused, and returns whether the command met it. Then nothing is logged, or the
 /// answer is.
 fn applied<A: Allocator + Copy>(
@@ -315,22 +351,15 @@ fn applied<A: Allocator + Copy>(
     n: u64,
 ) -> Option<bool> {
     let (list, asked, wanted) = row;
-    let mut state = opened(json, alloc, LINE, 1)?;
-    for before in *list {
-        tell(json, alloc, &mut state, before)?;
-    }
-    let before = state.snapshot(alloc).ok()?;
     let command = command_of(alloc, &graph_of(json, alloc, LINE)?, asked)?;
+    let mut state = told(json, alloc, list)?;
+    let before = state.snapshot(alloc).ok()?;
     heap.refuse(n);
     let answer = state.apply(alloc, 0, command);
     let met = heap.relent(n);
     let after = state.snapshot(alloc).ok()?;
-    let is_refused = met && wants_memory(&answer);
-    let is_right = match answer.ok() {
-        Some(receipt) => may_answer(&receipt, met, wanted, &after),
-        None => is_refused && are_equal(json, &before, &after)?,
-    };
-    if is_right && state.log().len() as u64 == after.index() {
+    let is_logged = state.log().len() as u64 == after.index();
+    if is_logged && is_right(json, answer, met, wanted, (&before, &after))? {
         Some(met)
     } else {
         None
@@ -344,7 +373,7 @@ fn applied_in_turn<A: Allocator + Copy>(
     alloc: A,
     row: &Row,
 ) -> Option<u64> {
-    in_turn(|n| applied(heap, json, alloc, row, n))
+    in_turn!(n: applied(heap, json, alloc, row, n))
 }
 
 #[test]
@@ -355,7 +384,7 @@ fn apply_out_of_memory(rt: HostRuntime) {
         assert!(rt; count.is_some(), "in row {number}");
         assert!(rt; number > 0 || count != Some(0));
     }
-    assert_eq!(rt; heap.live(), 0);
+    assert!(rt; heap.live() == 0);
 }
 
 /// Returns whether a copy of a receipt met the refused request.
@@ -379,7 +408,7 @@ fn receipt_copies<A: Allocator + Copy>(
     alloc: A,
     asked: &Asked,
 ) -> Option<u64> {
-    in_turn(|n| meets_copy(heap, json, alloc, asked, n))
+    in_turn!(n: meets_copy(heap, json, alloc, asked, n))
 }
 
 #[test]
@@ -389,5 +418,5 @@ fn copy_of_a_receipt_out_of_memory(rt: HostRuntime) {
         let count = receipt_copies(&heap, rt.alloc(), &heap, &asked);
         assert!(rt; matches!(count, Some(n) if n > 0));
     }
-    assert_eq!(rt; heap.live(), 0);
+    assert!(rt; heap.live() == 0);
 }

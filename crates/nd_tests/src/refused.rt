@@ -22,7 +22,7 @@ use std::alloc::{AllocError, Allocator, Global};
 pub type Heap = Refusing<Global>;
 
 /// A call that takes memory for all or for some of its arguments.
-#[derive(Debug, Clone, Copy, Drop)]
+#[derive(Drop)]
 enum Call {
     ReadDraft,
     ReadDraftV4,
@@ -113,7 +113,7 @@ fn graphs<A: Allocator + Copy>(
     heap: &Heap,
     alloc: A,
     json: Global,
-    call: Call,
+    call: &Call,
     n: u64,
 ) -> Option<bool> {
     let value = Value::from_str(json, LOOP).ok()?;
@@ -135,7 +135,7 @@ fn paths<A: Allocator + Copy>(
     heap: &Heap,
     alloc: A,
     json: Global,
-    call: Call,
+    call: &Call,
     n: u64,
 ) -> Option<bool> {
     let paths = paths_of(json, alloc, LOOP)?;
@@ -153,7 +153,7 @@ fn changes<A: Allocator + Copy>(
     heap: &Heap,
     alloc: A,
     graph: &Graph<A>,
-    call: Call,
+    call: &Call,
     n: u64,
 ) -> Option<bool> {
     let (a, az) = (point(graph, "a", &[0])?, point(graph, "az", &[0])?);
@@ -176,7 +176,7 @@ fn views<A: Allocator + Copy>(
     heap: &Heap,
     alloc: A,
     json: Global,
-    call: Call,
+    call: &Call,
     n: u64,
 ) -> Option<bool> {
     let paths = paths_of(json, alloc, LINE)?;
@@ -208,7 +208,7 @@ fn queues<A: Allocator + Copy>(
     heap: &Heap,
     alloc: A,
     change: Delta<A>,
-    call: Call,
+    call: &Call,
     n: u64,
 ) -> Option<bool> {
     let mut mesh = Mesh::new(alloc, 2).ok()?;
@@ -243,7 +243,7 @@ fn edits<A: Allocator + Copy>(
     alloc: A,
     state: &mut VertexState<A>,
     effect: &Effect<A>,
-    call: Call,
+    call: &Call,
     n: u64,
 ) -> Option<bool>
     requires { CanEdit state.old effect.now.items.items }
@@ -261,7 +261,7 @@ fn edits<A: Allocator + Copy>(
 }
 
 /// Does the same for a call on a vertex without items.
-fn vertices<A: Allocator + Copy>(heap: &Heap, alloc: A, call: Call, n: u64) -> Option<bool> {
+fn vertices<A: Allocator + Copy>(heap: &Heap, alloc: A, call: &Call, n: u64) -> Option<bool> {
     let time = time(&[0])?;
     let mut state = VertexState::new(alloc);
     if let Call::ActOnRecord = call {
@@ -277,7 +277,7 @@ fn vertices<A: Allocator + Copy>(heap: &Heap, alloc: A, call: Call, n: u64) -> O
 }
 
 /// Does the same for a call on a vertex with items.
-fn full_vertices<A: Allocator + Copy>(heap: &Heap, alloc: A, call: Call, n: u64) -> Option<bool> {
+fn full_vertices<A: Allocator + Copy>(heap: &Heap, alloc: A, call: &Call, n: u64) -> Option<bool> {
     let time = time(&[0])?;
     let mut state = many(alloc, 12)?;
     if let Call::ActOnNotice = call {
@@ -296,7 +296,7 @@ fn processors<A: Allocator + Copy>(
     heap: &Heap,
     alloc: A,
     graph: &Graph<A>,
-    call: Call,
+    call: &Call,
     n: u64,
 ) -> Option<bool> {
     let mut processor = Processor::start(alloc, graph).ok()?;
@@ -318,7 +318,7 @@ fn additions<A: Allocator + Copy>(
     heap: &Heap,
     alloc: A,
     graph: &Graph<A>,
-    call: Call,
+    call: &Call,
     n: u64,
 ) -> Option<bool> {
     let mut processor = Processor::start(alloc, graph).ok()?;
@@ -366,7 +366,7 @@ fn meets<A: Allocator + Copy>(
     heap: &Heap,
     alloc: A,
     json: Global,
-    call: Call,
+    call: &Call,
     n: u64,
 ) -> Option<bool> {
     match call {
@@ -406,16 +406,16 @@ fn meets<A: Allocator + Copy>(
 }
 
 /// Returns how many requests of a call were refused before it met none.
-fn refused<A: Allocator + Copy>(heap: &Heap, alloc: A, json: Global, call: Call) -> Option<u64> {
-    in_turn(|n| meets(heap, alloc, json, call, n))
+fn refused<A: Allocator + Copy>(heap: &Heap, alloc: A, json: Global, call: &Call) -> Option<u64> {
+    in_turn!(n: meets(heap, alloc, json, call, n))
 }
 
 #[test]
 fn each_request_refused(rt: HostRuntime) {
     let heap = Refusing::new(rt.alloc());
-    for (call, asks) in CALLS {
+    for (i, (call, asks)) in CALLS.iter().enumerate() {
         let count = refused(&heap, &heap, rt.alloc(), call);
-        assert_eq!(rt; count.map(|count| count > 0), Some(asks), "of {call:?}");
-        assert_eq!(rt; heap.live(), 0, "of {call:?}");
+        assert!(rt; matches!(count, Some(n) if (n > 0) == *asks), "in row {i}");
+        assert!(rt; heap.live() == 0, "in row {i}");
     }
 }

@@ -12,7 +12,6 @@ use nd_timeline::Timeline;
 use std::alloc::{AllocError, Allocator, Global};
 use std::rt::Clock;
 use std::sync::atomic::{AtomicBool, AtomicU64, Ordering};
-use std::test::Fail;
 use std::thread::Threads;
 
 /// The allocator of the tests that refuse memory.
@@ -83,41 +82,64 @@ fn sink<A: Allocator + Copy>(snapshot: &Snapshot<A>, value: i64) -> Option<Condi
     }))
 }
 
-#[test]
-fn searches(rt: HostRuntime) -> Result<(), Fail> {
-    let alloc = rt.alloc();
+/// Returns whether a search of a snapshot and one of its timeline find a position.
+fn find<R: Threads + Sync>(
+    rt: &R,
+    alloc: Global,
+    timeline: &Timeline,
+    condition: &Condition,
+    wanted: Option<u64>,
+) -> Option<bool> {
+    let snapshot = Snapshot::of(alloc, timeline, 0).ok()?;
+    let copied = search(rt, alloc, &snapshot, condition, 0, 2, 8, &OpenGate).ok()?;
+    let lent = search_in(rt, alloc, timeline, condition, 0, 2, 8, &OpenGate).ok()?;
+    Some(copied == wanted && lent == wanted)
+}
+
+/// Returns whether searches find where a value is counted by the sink, and where a record and a token are.
+fn find_each<R: Threads + Sync>(rt: &R, alloc: Global, timeline: &Timeline) -> Option<bool> {
+    let snapshot = Snapshot::of(alloc, timeline, 0).ok()?;
+    Some(
+        find(rt, alloc, timeline, &sink(&snapshot, 5)?, Some(2))?
+            && find(rt, alloc, timeline, &count(&snapshot, "a", 0)?, Some(0))?
+            && find(rt, alloc, timeline, &count(&snapshot, "az", 0)?, Some(1))?
+            && find(rt, alloc, timeline, &sink(&snapshot, 6)?, None)?,
+    )
+}
+
+/// Returns the number of the refusal of a search by so many workers.
+fn refused<R: Threads + Sync>(
+    rt: &R,
+    alloc: Global,
+    timeline: &Timeline,
+    range: (u64, u64),
+    workers: u64,
+) -> Option<u64> {
+    let snapshot = Snapshot::of(alloc, timeline, 0).ok()?;
+    let five = sink(&snapshot, 5)?;
+    let (lo, hi) = range;
+    let answer = search(rt, alloc, &snapshot, &five, lo, hi, workers, &OpenGate);
+    Some(answer.err()?.code().number())
+}
+
+/// Returns whether searches of a feed and its take are answered so.
+fn are_answered<R: Threads + Sync>(rt: &R, alloc: Global) -> Option<bool> {
     let steps = (
         Told::Feed(0, "a", &[5], Next::Close),
         Told::Take(0, "az", &[0], 5),
     );
-    let timeline = kept(alloc, alloc, 0, Some(steps), 0).ok_or("no timeline")?;
-    let snapshot = Snapshot::of(alloc, &timeline, 0)?;
-    let five = sink(&snapshot, 5).ok_or("no sink")?;
-    let rows = [
-        (sink(&snapshot, 5), Some(2)),
-        (count(&snapshot, "a", 0), Some(0)),
-        (count(&snapshot, "az", 0), Some(1)),
-        (sink(&snapshot, 6), None),
-    ];
-    for (row, (b, wanted)) in rows.into_iter().enumerate() {
-        let b = b.ok_or("no breakpoint")?;
-        let answer = search(&rt, alloc, &snapshot, &b, 0, 2, 8, &OpenGate);
-        assert!(rt;
-            matches!(answer, Ok(found) if found == wanted),
-            "in row {row}"
-        );
-        let answer = search_in(&rt, alloc, &timeline, &b, 0, 2, 8, &OpenGate);
-        assert!(rt;
-            matches!(answer, Ok(found) if found == wanted),
-            "in row {row} without a copy"
-        );
-    }
-    for (lo, hi, workers, number) in [(2, 1, 8, 50), (0, 2, 0, 51), (0, 3, 8, 22)] {
-        let answer = search(&rt, alloc, &snapshot, &five, lo, hi, workers, &OpenGate);
-        let fault = answer.err().ok_or("an answer")?;
-        assert_eq!(rt; fault.code().number(), number);
-    }
-    Ok(())
+    let timeline = kept(alloc, alloc, 0, Some(steps), 0)?;
+    Some(
+        find_each(rt, alloc, &timeline)?
+            && refused(rt, alloc, &timeline, (2, 1), 8)? == 50
+            && refused(rt, alloc, &timeline, (0, 2), 0)? == 51
+            && refused(rt, alloc, &timeline, (0, 3), 8)? == 22,
+    )
+}
+
+#[test]
+fn searches(rt: HostRuntime) {
+    assert!(rt; are_answered(&rt, rt.alloc()) == Some(true));
 }
 
 /// Which worker reached each of two pieces, counted from 1; 0 if none did.
@@ -131,8 +153,10 @@ impl Recorded {
 
     /// Returns whether this worker reached this piece.
     fn has(&self, who: u64, piece: u64) -> bool {
-        let one = self.0.get(piece as usize);
-        one.is_some_and(|by| by.load(Ordering::SeqCst) == who.wrapping_add(1))
+        match self.0.get(piece as usize) {
+            Some(by) => by.load(Ordering::SeqCst) == who.wrapping_add(1),
+            None => false,
+        }
     }
 }
 
@@ -159,18 +183,20 @@ impl<R: Clock + Sync> Gate for Held<'_, R> {
     }
 }
 
-#[test]
-fn at_the_same_time(rt: HostRuntime) -> Result<(), Fail> {
-    let alloc = rt.alloc();
-    let snapshot = fed(alloc, alloc, 31, None, 0).ok_or("no snapshot")?;
-    let b = count(&snapshot, "az", 0).ok_or("no breakpoint")?;
-    let gate = Held(Sign::new(&rt), Recorded::new());
-    let answer = search(&rt, alloc, &snapshot, &b, 0, 31, 2, &gate);
-    assert!(rt; matches!(answer, Ok(None)));
-    assert!(rt; gate.0.came());
+/// Returns whether two workers were in pieces at the same time, each in one, and found nothing.
+fn are_at_the_same_time<R: Threads + Sync + Clock>(rt: &R, alloc: Global) -> Option<bool> {
+    let snapshot = fed(alloc, alloc, 31, None, 0)?;
+    let nowhere = count(&snapshot, "az", 0)?;
+    let gate = Held(Sign::new(rt), Recorded::new());
+    let found = search(rt, alloc, &snapshot, &nowhere, 0, 31, 2, &gate).ok()?;
     let is_in_order = gate.1.has(0, 0) && gate.1.has(1, 1);
-    assert!(rt; is_in_order || gate.1.has(1, 0) && gate.1.has(0, 1));
-    Ok(())
+    let is_swapped = gate.1.has(1, 0) && gate.1.has(0, 1);
+    Some(found.is_none() && gate.0.came() && (is_in_order || is_swapped))
+}
+
+#[test]
+fn at_the_same_time(rt: HostRuntime) {
+    assert!(rt; are_at_the_same_time(&rt, rt.alloc()) == Some(true));
 }
 
 /// Counts the calls, and those for a worker or a piece that does not exist.
@@ -191,47 +217,74 @@ impl Gate for Counted {
     }
 }
 
-#[test]
-fn least_of_all_hits(rt: HostRuntime) -> Result<(), Fail> {
-    let alloc = rt.alloc();
+/// Whether the token at epoch 39 is searched, or the value 5 at the sink; the range, its number of pieces, and the hit.
+type Row = (bool, u64, u64, u64, Option<u64>);
+
+/// The take is step 16, so the value is counted from there on; the token is at epoch 30 at 31, and at 39 at 40.
+static ROWS: [Row; 10] = [
+    (false, 0, 40, 3, Some(16)),
+    (false, 17, 40, 2, Some(17)),
+    (false, 0, 15, 1, None),
+    (false, 15, 15, 1, None),
+    (false, 16, 16, 1, Some(16)),
+    (true, 0, 40, 3, Some(40)),
+    (true, 25, 40, 1, Some(40)),
+    (true, 24, 40, 2, Some(40)),
+    (true, 0, 39, 3, None),
+    (true, 40, 40, 1, Some(40)),
+];
+
+/// Returns whether a search by so many workers finds the hit of its row, and calls the gate once for each piece.
+fn hits<R: Threads + Sync>(
+    rt: &R,
+    alloc: Global,
+    snapshot: &Snapshot,
+    row: &Row,
+    workers: u64,
+) -> Option<bool> {
+    let (is_token, lo, hi, pieces, wanted) = *row;
+    let condition = if is_token {
+        count(snapshot, "a", 39)?
+    } else {
+        sink(snapshot, 5)?
+    };
+    let gate = Counted {
+        workers: workers.min(64),
+        pieces,
+        calls: AtomicU64::new(0),
+        is_wrong: AtomicBool::new(false),
+    };
+    let found = search(rt, alloc, snapshot, &condition, lo, hi, workers, &gate).ok()?;
+    let is_called = gate.calls.load(Ordering::SeqCst) == pieces;
+    Some(found == wanted && is_called && !gate.is_wrong.load(Ordering::SeqCst))
+}
+
+/// Returns the line that is searched.
+fn searched_line(alloc: Global) -> Option<Snapshot> {
     let steps = (
         Told::Feed(0, "a", &[5], Next::Next),
         Told::Take(0, "az", &[14], 5),
     );
-    // The take is step 16, so the value is counted from there on; the token is at epoch 30 at 31, and at 39 at 40.
-    let snapshot = fed(alloc, alloc, 14, Some(steps), 24).ok_or("no snapshot")?;
-    let five = sink(&snapshot, 5).ok_or("no sink")?;
-    let last = count(&snapshot, "a", 39).ok_or("no token")?;
-    let rows = [
-        (&five, 0, 40, 3, Some(16)),
-        (&five, 17, 40, 2, Some(17)),
-        (&five, 0, 15, 1, None),
-        (&five, 15, 15, 1, None),
-        (&five, 16, 16, 1, Some(16)),
-        (&last, 0, 40, 3, Some(40)),
-        (&last, 25, 40, 1, Some(40)),
-        (&last, 24, 40, 2, Some(40)),
-        (&last, 0, 39, 3, None),
-        (&last, 40, 40, 1, Some(40)),
-    ];
-    for workers in [1, 2, 3, 8, 65, u64::MAX] {
-        for (row, (b, lo, hi, pieces, wanted)) in rows.iter().enumerate() {
-            let gate = Counted {
-                workers: workers.min(64),
-                pieces: *pieces,
-                calls: AtomicU64::new(0),
-                is_wrong: AtomicBool::new(false),
-            };
-            let answer = search(&rt, alloc, &snapshot, b, *lo, *hi, workers, &gate);
-            assert!(rt;
-                matches!(answer, Ok(found) if found == *wanted),
-                "row {row}, {workers} workers"
-            );
-            assert_eq!(rt; gate.calls.load(Ordering::SeqCst), *pieces, "row {row}");
-            assert!(rt; !gate.is_wrong.load(Ordering::SeqCst), "row {row}");
+    fed(alloc, alloc, 14, Some(steps), 24)
+}
+
+/// Returns the first row that so many workers answer otherwise, or how many rows there are.
+fn right_rows<R: Threads + Sync>(rt: &R, alloc: Global, workers: u64) -> Option<usize> {
+    let snapshot = searched_line(alloc)?;
+    for (i, row) in ROWS.iter().enumerate() {
+        if !hits(rt, alloc, &snapshot, row, workers)? {
+            return Some(i);
         }
     }
-    Ok(())
+    Some(ROWS.len())
+}
+
+#[test]
+fn least_of_all_hits(rt: HostRuntime) {
+    for workers in [1, 2, 3, 8, 65, u64::MAX] {
+        let rows = right_rows(&rt, rt.alloc(), workers);
+        assert!(rt; rows == Some(10), "{workers} workers");
+    }
 }
 
 /// Returns whether the lists are together the numbers below some number, each once.
@@ -266,8 +319,17 @@ fn were_called<A: Allocator>(gate: &Recorded, lists: &[Vec<u64, A>]) -> bool {
 
 /// Returns whether a list ends with the piece, and no hit is before it.
 fn is_stopped_in<A: Allocator>(piece: u64, lists: &[Vec<u64, A>], hit: Option<u64>) -> bool {
-    let is_last = lists.iter().any(|list| list.last() == Some(&piece));
-    is_last && hit.is_none_or(|position| position / 16 >= piece)
+    if let Some(position) = hit {
+        if position / 16 < piece {
+            return false;
+        }
+    }
+    for list in lists {
+        if list.last() == Some(&piece) {
+            return true;
+        }
+    }
+    false
 }
 
 /// Searches with two workers and one request refused, and returns whether the search met it, and whether a worker did.
@@ -357,8 +419,8 @@ fn searches_in_turn<A: Allocator + Copy + Send + Sync, R: Threads + Sync>(
 #[test]
 fn search_out_of_memory(rt: HostRuntime) {
     let heap = Refusing::new(rt.alloc());
-    assert_eq!(rt; searches_in_turn(&rt, &heap, rt.alloc(), &heap), Some(true));
-    assert_eq!(rt; heap.live(), 0);
+    assert!(rt; searches_in_turn(&rt, &heap, rt.alloc(), &heap) == Some(true));
+    assert!(rt; heap.live() == 0);
 }
 
 /// Refuses the next request for memory when the gate is called for piece 0, and records which worker reached which piece.
@@ -400,11 +462,8 @@ fn stops_at_the_gate<A: Allocator + Copy + Send + Sync, R: Threads + Sync>(
 #[test]
 fn the_gate_is_called_before_the_walk(rt: HostRuntime) {
     let heap = Refusing::new(rt.alloc());
-    assert_eq!(rt;
-        stops_at_the_gate(&rt, &heap, rt.alloc(), &heap),
-        Some(true)
-    );
-    assert_eq!(rt; heap.live(), 0);
+    assert!(rt; stops_at_the_gate(&rt, &heap, rt.alloc(), &heap) == Some(true));
+    assert!(rt; heap.live() == 0);
 }
 
 /// Returns whether making a snapshot, or a copy of one, met the refused request.
@@ -432,7 +491,7 @@ fn snapshots<A: Allocator + Copy>(
     alloc: A,
     is_copy: bool,
 ) -> Option<u64> {
-    in_turn(|n| meets(heap, json, alloc, is_copy, n))
+    in_turn!(n: meets(heap, json, alloc, is_copy, n))
 }
 
 #[test]
@@ -442,5 +501,5 @@ fn snapshots_out_of_memory(rt: HostRuntime) {
         let count = snapshots(&heap, rt.alloc(), &heap, is_copy);
         assert!(rt; matches!(count, Some(n) if n > 0));
     }
-    assert_eq!(rt; heap.live(), 0);
+    assert!(rt; heap.live() == 0);
 }

@@ -20,7 +20,6 @@ use nd_view::View;
 use std::alloc::Global;
 use std::rt::Clock;
 use std::sync::Wait;
-use std::test::Fail;
 use std::thread;
 use std::thread::Threads;
 
@@ -64,18 +63,17 @@ fn serve<R: Wait>(
 }
 
 /// Returns whether `count` entries are a client's, in its order.
-fn are_numbered(entries: &[Receipt], client: u64, count: usize) -> bool {
-    let own = entries.iter().filter(|entry| entry.client == client);
-    for (number, entry) in own.enumerate() {
-        if entry.number != number as u64 {
-            return false;
+fn are_numbered(entries: &[Receipt], client: u64, count: u64) -> bool {
+    let mut number: u64 = 0;
+    for entry in entries {
+        if entry.client == client {
+            if entry.number != number {
+                return false;
+            }
+            number = number.saturating_add(1);
         }
     }
-    entries
-        .iter()
-        .filter(|entry| entry.client == client)
-        .count()
-        == count
+    number == count
 }
 
 /// Returns whether the entries are of feeds of nothing, the first at the start.
@@ -92,41 +90,53 @@ fn are_feeds(entries: &[Receipt], feed: &Command) -> bool {
     true
 }
 
-#[test]
-fn two_clients(rt: HostRuntime) -> Result<(), Fail> {
-    let alloc = rt.alloc();
-    let session = session_of(alloc, alloc, LINE, 1).ok_or("no session")?;
-    let first = session.enter(&rt, alloc).ok().ok_or("no client")?;
-    let second = session.enter(&rt, alloc).ok().ok_or("no client")?;
-    let five = feeds(alloc, 5).ok_or("no commands")?;
-    let more = feeds(alloc, 5).ok_or("no commands")?;
-    let feed = feeds(alloc, 1)
-        .ok_or("no commands")?
-        .pop()
-        .ok_or("no command")?;
-    let (first, second) = thread::join(
-        &rt,
-        || serve(&rt, alloc, &session, first, five),
-        || serve(&rt, alloc, &session, second, more),
-    );
-    assert!(rt; first.is_whole && second.is_whole);
-    let mut clients = Vec::new(alloc);
-    clients.push(first.client)?;
-    clients.push(second.client)?;
-    let Ok(log) = session.close(clients) else {
-        panic!(rt; "the session did not close")
-    };
-    assert_eq!(rt; (log.entries.len(), log.entered), (10, 2));
-    assert!(rt; are_feeds(log.entries.as_slice(), &feed));
-    for client in 0..2 {
-        assert!(rt;
-            are_numbered(log.entries.as_slice(), client, 5),
-            "of client {client}"
-        );
+/// Returns a client that has entered, and five feeds of nothing.
+fn entered<R: Wait>(rt: &R, alloc: Global, session: &Session) -> Option<(Client, Vec<Command>)> {
+    Some((session.enter(rt, alloc).ok()?, feeds(alloc, 5)?))
+}
+
+/// Returns the log of a session that is closed with both its clients, if all their commands were answered.
+fn closed(alloc: Global, session: Session, first: Served, second: Served) -> Option<Log> {
+    if !first.is_whole || !second.is_whole {
+        return None;
     }
-    assert_eq!(rt; (log.timeline.at(), log.timeline.kept()), (10, 10));
-    assert_eq!(rt; copies(alloc, &log), Some(true));
-    Ok(())
+    let mut clients = Vec::new(alloc);
+    clients.push(first.client).ok()?;
+    clients.push(second.client).ok()?;
+    session.close(clients).ok()
+}
+
+/// Returns the log of a session of two clients in threads that each feed nothing five times.
+fn log_of_two<R: Wait + Threads + Sync>(rt: &R, alloc: Global) -> Option<Log> {
+    let session = session_of(alloc, alloc, LINE, 1)?;
+    let (first, five) = entered(rt, alloc, &session)?;
+    let (second, more) = entered(rt, alloc, &session)?;
+    let (first, second) = thread::join(
+        rt,
+        || serve(rt, alloc, &session, first, five),
+        || serve(rt, alloc, &session, second, more),
+    );
+    closed(alloc, session, first, second)
+}
+
+/// Returns whether the log is of the ten feeds, each client's in order, and is copied as it is.
+fn is_of_two(alloc: Global, log: &Log) -> Option<bool> {
+    let feed = feeds(alloc, 1)?.pop()?;
+    let entries = log.entries.as_slice();
+    let is_whole = (entries.len(), log.entered) == (10, 2) && are_feeds(entries, &feed);
+    let are_in_order = are_numbered(entries, 0, 5) && are_numbered(entries, 1, 5);
+    let is_kept = (log.timeline.at(), log.timeline.kept()) == (10, 10);
+    Some(is_whole && are_in_order && is_kept && copies(alloc, log)?)
+}
+
+/// Returns whether two clients leave such a log.
+fn leave_their_log<R: Wait + Threads + Sync>(rt: &R, alloc: Global) -> Option<bool> {
+    is_of_two(alloc, &log_of_two(rt, alloc)?)
+}
+
+#[test]
+fn two_clients(rt: HostRuntime) {
+    assert!(rt; leave_their_log(&rt, rt.alloc()) == Some(true));
 }
 
 /// Returns a cluster of copies of the parts of a cluster of one processor with empty queues.
@@ -204,37 +214,70 @@ fn is_stranger<T: Drop>(
         }
 }
 
-#[test]
-fn strangers(rt: HostRuntime) -> Result<(), Fail> {
-    let alloc = rt.alloc();
-    let other = session_of(alloc, alloc, LINE, 1).ok_or("no session")?;
-    let mut stranger = other.enter(&rt, alloc).ok().ok_or("no client")?;
-    let unknown = other.enter(&rt, alloc).ok().ok_or("no client")?;
-    let feed = feeds(alloc, 1)
-        .ok_or("no commands")?
-        .pop()
-        .ok_or("no command")?;
-    let told = other.command(&rt, alloc, &mut stranger, feed);
-    assert_eq!(rt; told.ok().ok_or("no receipt")?.index, 0);
-    let session = session_of(alloc, alloc, LINE, 1).ok_or("no session")?;
-    let mut own = session.enter(&rt, alloc).ok().ok_or("no client")?;
-    let answer = session.command(&rt, alloc, &mut stranger, Command::Back);
-    assert!(rt; is_stranger(answer, 0, None));
-    assert!(rt; is_stranger(session.copy(&rt, alloc, &unknown), 0, None));
-    let entry = session.command(&rt, alloc, &mut own, Command::Back);
-    let entry = entry.ok().ok_or("no receipt")?;
-    assert_eq!(rt; entry.reply, Reply::Refused(Fault::AtStart));
-    let answer = session.command(&rt, alloc, &mut stranger, Command::Back);
-    assert!(rt; is_stranger(answer, 0, Some(&entry)));
-    assert!(rt; is_stranger(session.copy(&rt, alloc, &stranger), 0, Some(&entry)));
-    assert!(rt; is_stranger(session.copy(&rt, alloc, &unknown), 0, Some(&entry)));
-    assert_eq!(rt; stranger.receipts().len(), 1);
-    assert!(rt; session.copy(&rt, alloc, &own).is_ok());
+/// Returns a session's first client, whose command is logged there.
+fn logged<R: Wait>(rt: &R, alloc: Global, session: &Session) -> Option<Client> {
+    let mut client = session.enter(rt, alloc).ok()?;
+    let feed = feeds(alloc, 1)?.pop()?;
+    let receipt = session.command(rt, alloc, &mut client, feed).ok()?;
+    if receipt.index == 0 {
+        Some(client)
+    } else {
+        None
+    }
+}
+
+/// Returns whether calls of two strangers are answered 26, with this index; the one that has a receipt of its own session with
+/// the entry there, if there is one.
+fn are_strangers<R: Wait>(
+    rt: &R,
+    alloc: Global,
+    session: &Session,
+    stranger: &mut Client,
+    unknown: &Client,
+    entry: Option<&Receipt>,
+) -> bool {
+    let answer = session.command(rt, alloc, stranger, Command::Back);
+    is_stranger(answer, 0, entry) && is_stranger(session.copy(rt, alloc, unknown), 0, entry)
+}
+
+/// Returns whether a session with a client of its own tells strangers so, before an entry is logged and after it.
+fn tells_strangers<R: Wait>(
+    rt: &R,
+    alloc: Global,
+    stranger: &mut Client,
+    unknown: &Client,
+) -> Option<bool> {
+    let session = session_of(alloc, alloc, LINE, 1)?;
+    let mut own = session.enter(rt, alloc).ok()?;
+    let is_before = are_strangers(rt, alloc, &session, stranger, unknown, None);
+    let entry = session.command(rt, alloc, &mut own, Command::Back).ok()?;
+    let is_after = are_strangers(rt, alloc, &session, stranger, unknown, Some(&entry))
+        && is_stranger(session.copy(rt, alloc, stranger), 0, Some(&entry));
+    let is_own = session.copy(rt, alloc, &own).is_ok();
+    let is_refused = entry.reply == Reply::Refused(Fault::AtStart);
+    Some(is_before && is_after && is_own && is_refused && stranger.receipts().len() == 1)
+}
+
+/// Returns why a session does not close with one client.
+fn why_open(alloc: Global, session: Session, client: Client) -> Option<CloseWhy> {
     let mut clients = Vec::new(alloc);
-    clients.push(stranger)?;
-    let why = other.close(clients).err().ok_or("it closed")?.why;
-    assert_eq!(rt; why, CloseWhy::ClientMissing { client: 1 });
-    Ok(())
+    clients.push(client).ok()?;
+    Some(session.close(clients).err()?.why)
+}
+
+/// Returns whether clients of one session are strangers to another, and their own does not close without one of them.
+fn stay_strangers<R: Wait>(rt: &R, alloc: Global) -> Option<bool> {
+    let other = session_of(alloc, alloc, LINE, 1)?;
+    let mut stranger = logged(rt, alloc, &other)?;
+    let unknown = other.enter(rt, alloc).ok()?;
+    let are_told = tells_strangers(rt, alloc, &mut stranger, &unknown)?;
+    let why = why_open(alloc, other, stranger)?;
+    Some(are_told && why == CloseWhy::ClientMissing { client: 1 })
+}
+
+#[test]
+fn strangers(rt: HostRuntime) {
+    assert!(rt; stay_strangers(&rt, rt.alloc()) == Some(true));
 }
 
 /// The graphs on which clusters start.
@@ -271,27 +314,27 @@ fn opens<R: Wait>(rt: &R, alloc: Global, text: &str, n: u32) -> Option<bool> {
 
 #[test]
 fn session_openings(rt: HostRuntime) {
-    for (row, text) in STARTS.iter().enumerate() {
-        for n in [1, 3] {
-            assert_eq!(rt;
-                opens(&rt, rt.alloc(), text, n),
-                Some(true),
-                "in row {row}, {n} processors"
-            );
-        }
+    for (i, text) in STARTS.iter().enumerate() {
+        assert!(rt; opens(&rt, rt.alloc(), text, 1) == Some(true), "in row {i}");
+        assert!(rt; opens(&rt, rt.alloc(), text, 3) == Some(true), "in row {i}");
     }
 }
 
-#[test]
-fn sixty_four_clients(rt: HostRuntime) -> Result<(), Fail> {
-    let alloc = rt.alloc();
-    let session = session_of(alloc, alloc, LINE, 1).ok_or("no session")?;
+/// Returns whether clients get the numbers from 0 to 63, and no other enters.
+fn enters_sixty_four<R: Wait>(rt: &R, alloc: Global) -> Option<bool> {
+    let session = session_of(alloc, alloc, LINE, 1)?;
     for number in 0..64 {
-        let client = session.enter(&rt, alloc).ok().ok_or("no client")?;
-        assert_eq!(rt; client.number(), number);
+        if session.enter(rt, alloc).ok()?.number() != number {
+            return Some(false);
+        }
     }
-    assert!(rt; matches!(session.enter(&rt, alloc), Err(SessionFault::TooManyClients)));
-    Ok(())
+    let answer = session.enter(rt, alloc);
+    Some(matches!(answer, Err(SessionFault::TooManyClients)))
+}
+
+#[test]
+fn sixty_four_clients(rt: HostRuntime) {
+    assert!(rt; enters_sixty_four(&rt, rt.alloc()) == Some(true));
 }
 
 /// The most entries of a log.
@@ -316,7 +359,7 @@ fn answers_backs(alloc: Global, times: u64) -> Option<bool> {
 
 #[test]
 fn a_log_is_full(rt: HostRuntime) {
-    assert_eq!(rt; answers_backs(rt.alloc(), MOST), Some(true));
+    assert!(rt; answers_backs(rt.alloc(), MOST) == Some(true));
 }
 
 /// Signals that a search has begun, and holds it until a command is answered.
@@ -360,30 +403,41 @@ fn answered<R: Wait + Clock>(
     Some(receipt.reply.copy())
 }
 
-#[test]
-fn at_the_same_time(rt: HostRuntime) -> Result<(), Fail> {
-    let alloc = rt.alloc();
-    let session = session_of(alloc, alloc, LINE, 1).ok_or("no session")?;
-    let first = session.enter(&rt, alloc).ok().ok_or("no client")?;
-    let mut second = session.enter(&rt, alloc).ok().ok_or("no client")?;
-    let three = feeds(alloc, 3).ok_or("no commands")?;
-    let first = serve(&rt, alloc, &session, first, three);
-    let graph = graph_of(alloc, alloc, LINE).ok_or("no graph")?;
+/// Returns whether a search finds the token at epoch 2 where it was, while another client steps back.
+fn are_beside<R: Wait + Threads + Clock + Sync>(
+    rt: &R,
+    alloc: Global,
+    session: &Session,
+    first: &Client,
+    second: &mut Client,
+) -> Option<bool> {
     let condition = only(Atom::Count {
-        point: point(&graph, "a", &[2]).ok_or("no point")?,
+        point: point(&graph_of(alloc, alloc, LINE)?, "a", &[2])?,
         at_least: 1,
     });
     let gate = Between {
-        begun: Sign::new(&rt),
-        answered: Sign::new(&rt),
+        begun: Sign::new(rt),
+        answered: Sign::new(rt),
     };
     let (hit, reply) = thread::join(
-        &rt,
-        || found(&rt, alloc, &session, &first.client, &condition, &gate),
-        || answered(&rt, alloc, &session, &mut second, &gate),
+        rt,
+        || found(rt, alloc, session, first, &condition, &gate),
+        || answered(rt, alloc, session, second, &gate),
     );
-    assert_eq!(rt; reply, Some(Reply::Moved { at: 2, kept: 3 }));
-    assert_eq!(rt; hit, Some(Some(2)));
-    assert!(rt; gate.begun.came() && gate.answered.came());
-    Ok(())
+    let is_answered = reply? == Reply::Moved { at: 2, kept: 3 };
+    Some(is_answered && hit? == Some(2) && gate.begun.came() && gate.answered.came())
+}
+
+/// Does so after three feeds of the first client.
+fn are_at_the_same_time<R: Wait + Threads + Clock + Sync>(rt: &R, alloc: Global) -> Option<bool> {
+    let session = session_of(alloc, alloc, LINE, 1)?;
+    let first = session.enter(rt, alloc).ok()?;
+    let mut second = session.enter(rt, alloc).ok()?;
+    let served = serve(rt, alloc, &session, first, feeds(alloc, 3)?);
+    are_beside(rt, alloc, &session, &served.client, &mut second)
+}
+
+#[test]
+fn at_the_same_time(rt: HostRuntime) {
+    assert!(rt; are_at_the_same_time(&rt, rt.alloc()) == Some(true));
 }

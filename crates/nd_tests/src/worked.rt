@@ -7,14 +7,13 @@ use crate::graphs::{
 use crate::queues::{len, pop, push, unpop, unpush};
 use crate::views::view;
 use nd_delta::{Delta, DeltaFault};
-use nd_graph::{Action, GraphDraft, GraphFault, Op};
+use nd_graph::{Action, Graph, GraphDraft, GraphFault, Op};
 use nd_mesh::{LIMIT, Mesh, PushFault};
-use nd_paths::{Constants, PathFault, Paths, Pointstamp, Summary};
+use nd_paths::{Constants, PathFault, Paths, Summary};
 use nd_time::{CounterFull, Timestamp};
 use nd_vertex::{Effect, VertexFault, VertexState};
 use serde_json::Value;
 use std::alloc::Global;
-use std::test::Fail;
 
 /// Returns the time after a vertex of this action, or `None` if there is no such time.
 fn moved(action: Action, time: &Timestamp) -> Option<Timestamp> {
@@ -31,42 +30,65 @@ fn moved(action: Action, time: &Timestamp) -> Option<Timestamp> {
     }
 }
 
-#[test]
-fn time_limits(rt: HostRuntime) -> Result<(), Fail> {
-    assert_eq!(rt; Timestamp::new(0, &[1, 2, 3, 4, 5, 6, 7]), None);
-    let moves: [(Action, &[u32], Option<&[u32]>); 7] = [
-        (Action::Ingress, &[0, 1, 2, 3, 4], Some(&[0, 1, 2, 3, 4, 0])),
-        (Action::Ingress, &[0, 1, 2, 3, 4, 5, 6], None),
-        (Action::Ingress, &[7], Some(&[7, 0])),
-        (Action::Egress, &[0], None),
-        (Action::Egress, &[0, 3], Some(&[0])),
-        (Action::Feedback, &[0, 1, 4], Some(&[0, 1, 5])),
-        (Action::Feedback, &[0, 4294967295], None),
-    ];
-    for (action, from, to) in moves {
-        let from = time(from).ok_or("no time")?;
-        assert_eq!(rt; moved(action, &from), to.and_then(time), "from {from:?}");
+/// A vertex's action, a time, and the time past the vertex, if there is one.
+type Move = (Action, &'static [u32], Option<&'static [u32]>);
+
+static MOVES: [Move; 7] = [
+    (Action::Ingress, &[0, 1, 2, 3, 4], Some(&[0, 1, 2, 3, 4, 0])),
+    (Action::Ingress, &[0, 1, 2, 3, 4, 5, 6], None),
+    (Action::Ingress, &[7], Some(&[7, 0])),
+    (Action::Egress, &[0], None),
+    (Action::Egress, &[0, 3], Some(&[0])),
+    (Action::Feedback, &[0, 1, 4], Some(&[0, 1, 5])),
+    (Action::Feedback, &[0, 4294967295], None),
+];
+
+/// Returns whether an action leads to the time of its row.
+fn leads(row: &Move) -> Option<bool> {
+    let (action, from, to) = row;
+    let found = moved(*action, &time(from)?);
+    match to {
+        Some(to) => Some(found == Some(time(to)?)),
+        None => Some(found.is_none()),
     }
-    let last = Timestamp::new(0, &[4294967295]).ok_or("no time")?;
-    assert_eq!(rt; last.feedback(), Err(CounterFull));
-    Ok(())
+}
+
+/// Returns what the last counter's feedback is answered.
+fn past_the_last() -> Option<Result<Timestamp, CounterFull>> {
+    Some(Timestamp::new(0, &[4294967295])?.feedback())
 }
 
 #[test]
-fn time_order(rt: HostRuntime) -> Result<(), Fail> {
-    let pairs: [(&[u32], &[u32], bool); 5] = [
-        (&[0, 1, 9], &[0, 2, 0], true),
-        (&[0, 2, 0], &[0, 1, 9], false),
-        (&[1, 0], &[0, 5], false),
-        (&[0], &[0, 0], false),
-        (&[0, 0], &[0], false),
-    ];
-    for (s, t, is_before) in pairs {
-        let s = time(s).ok_or("no time")?;
-        let t = time(t).ok_or("no time")?;
-        assert_eq!(rt; s.at_or_before(&t), is_before, "from {s:?} to {t:?}");
+fn time_limits(rt: HostRuntime) {
+    assert!(rt; Timestamp::new(0, &[1, 2, 3, 4, 5, 6, 7]).is_none());
+    for (i, row) in MOVES.iter().enumerate() {
+        assert!(rt; leads(row) == Some(true), "in row {i}");
     }
-    Ok(())
+    assert!(rt; past_the_last() == Some(Err(CounterFull)));
+}
+
+/// Two times, and whether the first is at or before the second.
+type Pair = (&'static [u32], &'static [u32], bool);
+
+static PAIRS: [Pair; 5] = [
+    (&[0, 1, 9], &[0, 2, 0], true),
+    (&[0, 2, 0], &[0, 1, 9], false),
+    (&[1, 0], &[0, 5], false),
+    (&[0], &[0, 0], false),
+    (&[0, 0], &[0], false),
+];
+
+/// Returns whether the times of a row are ordered as it says.
+fn are_ordered(row: &Pair) -> Option<bool> {
+    let (s, t, is_before) = row;
+    Some(time(s)?.at_or_before(&time(t)?) == *is_before)
+}
+
+#[test]
+fn time_order(rt: HostRuntime) {
+    for (i, row) in PAIRS.iter().enumerate() {
+        assert!(rt; are_ordered(row) == Some(true), "in row {i}");
+    }
 }
 
 /// Returns how many locations a graph has as one of version 1, and as a later one, or its error.
@@ -77,34 +99,40 @@ fn locations(alloc: Global, text: &str) -> Option<[Result<usize, GraphFault>; 2]
         GraphDraft::from_value(alloc, &value).ok()?,
     );
     Some([
-        first.check_v1(alloc).map(|graph| graph.location_count()),
-        later.check(alloc).map(|graph| graph.location_count()),
+        count_of(first.check_v1(alloc)),
+        count_of(later.check(alloc)),
     ])
+}
+
+/// Returns how many locations a graph has, or its fault.
+fn count_of(checked: Result<Graph, GraphFault>) -> Result<usize, GraphFault> {
+    Ok(checked?.location_count())
 }
 
 #[test]
 fn deep_graph(rt: HostRuntime) {
     let too_large = Err(GraphFault::TooLarge);
-    assert_eq!(rt; locations(rt.alloc(), DEEP), Some([too_large, Ok(13)]));
-    assert_eq!(rt; locations(rt.alloc(), LINE), Some([Ok(3), Ok(3)]));
+    assert!(rt; locations(rt.alloc(), DEEP) == Some([too_large, Ok(13)]));
+    assert!(rt; locations(rt.alloc(), LINE) == Some([Ok(3), Ok(3)]));
+}
+
+/// Returns whether the order of a graph is refused for a loop at the vertex of a name, or accepted if there is no name.
+fn is_judged(alloc: Global, text: &str, name: &str) -> Option<bool> {
+    let graph = graph_of(alloc, alloc, text)?;
+    match Paths::of(alloc, &graph) {
+        Err(PathFault::LoopNotStrict { location }) => {
+            Some(graph.location_of(name) == Some(location))
+        }
+        Err(_) => None,
+        Ok(_) => Some(name.is_empty()),
+    }
 }
 
 #[test]
-fn loop_not_strict(rt: HostRuntime) -> Result<(), Fail> {
-    for (text, name) in [
-        (UNGUARDED_LOOP, Some("m")),
-        (CYCLE, Some("m")),
-        (NESTED_LOOP, None),
-    ] {
-        let graph = graph_of(rt.alloc(), rt.alloc(), text).ok_or("no graph")?;
-        let location = match Paths::of(rt.alloc(), &graph) {
-            Err(PathFault::LoopNotStrict { location }) => Some(location),
-            _ => None,
-        };
-        let wanted = name.and_then(|name| graph.location_of(name));
-        assert_eq!(rt; location, wanted, "in {text}");
-    }
-    Ok(())
+fn loop_not_strict(rt: HostRuntime) {
+    assert!(rt; is_judged(rt.alloc(), UNGUARDED_LOOP, "m") == Some(true));
+    assert!(rt; is_judged(rt.alloc(), CYCLE, "m") == Some(true));
+    assert!(rt; is_judged(rt.alloc(), NESTED_LOOP, "") == Some(true));
 }
 
 /// Builds a summary, or returns `None` if there are too many constants.
@@ -127,37 +155,58 @@ fn are_summaries(paths: &Paths, from: &str, to: &str, wanted: &[Summary]) -> Opt
     Some(found.as_slice() == wanted)
 }
 
+/// Returns whether a path of *loop* into it, and one round it, have these summaries.
+fn are_of_the_loop(alloc: Global) -> Option<bool> {
+    let paths = paths_of(alloc, alloc, LOOP)?;
+    let enters = [summary(0, 0, &[1])?];
+    let stays = [summary(1, 0, &[])?];
+    Some(are_summaries(&paths, "a", "fm", &enters)? && are_summaries(&paths, "f", "f", &stays)?)
+}
+
 /// Checks the worked example *summaries-of-the-loop*.
 #[test]
-fn summaries_of_the_loop(rt: HostRuntime) -> Result<(), Fail> {
-    let paths = paths_of(rt.alloc(), rt.alloc(), LOOP).ok_or("no paths")?;
-    let enters = summary(0, 0, &[1]).ok_or("no summary")?;
-    assert_eq!(rt; are_summaries(&paths, "a", "fm", &[enters]), Some(true));
-    let stays = summary(1, 0, &[]).ok_or("no summary")?;
-    assert_eq!(rt; are_summaries(&paths, "f", "f", &[stays]), Some(true));
-    Ok(())
+fn summaries_of_the_loop(rt: HostRuntime) {
+    assert!(rt; are_of_the_loop(rt.alloc()) == Some(true));
+}
+
+/// Returns whether two ways lead from one location to another, one that keeps the counter and one that drops it.
+fn are_two(paths: &Paths) -> Option<bool> {
+    are_summaries(
+        paths,
+        "x",
+        "z",
+        &[summary(1, 0, &[])?, summary(0, 0, &[1])?],
+    )
+}
+
+/// Times at the two locations, and whether the first is before the second.
+static WAYS: [Pair; 3] = [
+    (&[0, 5], &[0, 1], true),
+    (&[0, 5], &[0, 0], false),
+    (&[0, 0], &[0, 0], true),
+];
+
+/// Returns whether points at these locations are ordered as a row says.
+fn are_before(paths: &Paths, row: &Pair) -> Option<bool> {
+    let (s, t, is_before) = row;
+    let (x, z) = (point(paths.graph(), "x", s)?, point(paths.graph(), "z", t)?);
+    Some(paths.before(&x, &z) == *is_before)
+}
+
+/// Returns whether all of these are ordered so.
+fn leads_two_ways(alloc: Global) -> Option<bool> {
+    let paths = paths_of(alloc, alloc, TWO_WAYS)?;
+    for row in &WAYS {
+        if !are_before(&paths, row)? {
+            return Some(false);
+        }
+    }
+    are_two(&paths)
 }
 
 #[test]
-fn two_summaries(rt: HostRuntime) -> Result<(), Fail> {
-    let paths = paths_of(rt.alloc(), rt.alloc(), TWO_WAYS).ok_or("no paths")?;
-    let keeps = summary(1, 0, &[]).ok_or("no summary")?;
-    let drops = summary(0, 0, &[1]).ok_or("no summary")?;
-    assert_eq!(rt;
-        are_summaries(&paths, "x", "z", &[keeps, drops]),
-        Some(true)
-    );
-    let pairs: [(&[u32], &[u32], bool); 3] = [
-        (&[0, 5], &[0, 1], true),
-        (&[0, 5], &[0, 0], false),
-        (&[0, 0], &[0, 0], true),
-    ];
-    for (s, t, is_before) in pairs {
-        let s = point(paths.graph(), "x", s).ok_or("no point")?;
-        let t = point(paths.graph(), "z", t).ok_or("no point")?;
-        assert_eq!(rt; paths.before(&s, &t), is_before, "from {s:?} to {t:?}");
-    }
-    Ok(())
+fn two_summaries(rt: HostRuntime) {
+    assert!(rt; leads_two_ways(rt.alloc()) == Some(true));
 }
 
 /// Returns whether what is added at a point is kept up to the limit.
@@ -190,13 +239,20 @@ fn sums(alloc: Global) -> Option<bool> {
 
 #[test]
 fn change_limits(rt: HostRuntime) {
-    assert_eq!(rt; is_limited(rt.alloc()), Some(true));
-    assert_eq!(rt; sums(rt.alloc()), Some(true));
+    assert!(rt; is_limited(rt.alloc()) == Some(true));
+    assert!(rt; sums(rt.alloc()) == Some(true));
 }
 
-/// Returns the least unsupported pointstamp of the change with these entries.
-fn unsupported(alloc: Global, paths: &Paths, entries: &[Entry]) -> Option<Pointstamp> {
-    change(alloc, paths.graph(), entries)?.unsupported(paths)
+/// The entries of a change that is upright; without the first it is not.
+static UPRIGHT: [Entry; 3] = [("a", 0, -1), ("a", 1, 1), ("az", 0, 1)];
+
+/// Returns whether the change is upright, and what its least unsupported point is without the first entry.
+fn is_upright(alloc: Global, paths: &Paths) -> Option<bool> {
+    let graph = paths.graph();
+    let least = point(graph, "a", &[1])?;
+    let whole = change(alloc, graph, &UPRIGHT)?;
+    let rest = change(alloc, graph, &UPRIGHT[1..])?;
+    Some(whole.unsupported(paths).is_none() && rest.unsupported(paths) == Some(least))
 }
 
 /// Returns whether the view {(a, 0): 3, (az, 0): -1} is blocked at the sink by (a, 0), and has passed the sink once (a, 0)
@@ -216,17 +272,16 @@ fn passes_when_undone(alloc: Global, paths: &Paths) -> Option<bool> {
     Some(is_blocked && is_left && view.passed(paths, &z))
 }
 
+/// Returns whether both are so on *line*.
+fn are_changes_and_views(alloc: Global) -> Option<bool> {
+    let paths = paths_of(alloc, alloc, LINE)?;
+    Some(is_upright(alloc, &paths)? && passes_when_undone(alloc, &paths)?)
+}
+
 /// Checks the worked example *changes-and-views*.
 #[test]
-fn changes_and_views(rt: HostRuntime) -> Result<(), Fail> {
-    let alloc = rt.alloc();
-    let paths = paths_of(alloc, alloc, LINE).ok_or("no paths")?;
-    let upright = [("a", 0, -1), ("a", 1, 1), ("az", 0, 1)];
-    assert_eq!(rt; unsupported(alloc, &paths, &upright), None);
-    let least = point(paths.graph(), "a", &[1]).ok_or("no point")?;
-    assert_eq!(rt; unsupported(alloc, &paths, &upright[1..]), Some(least));
-    assert_eq!(rt; passes_when_undone(alloc, &paths), Some(true));
-    Ok(())
+fn changes_and_views(rt: HostRuntime) {
+    assert!(rt; are_changes_and_views(rt.alloc()) == Some(true));
 }
 
 /// Returns whether a view that was given a change, and then its opposite, undoes both.
@@ -245,24 +300,34 @@ fn is_undone(alloc: Global) -> Option<bool> {
 
 #[test]
 fn view_undone(rt: HostRuntime) {
-    assert_eq!(rt; is_undone(rt.alloc()), Some(true));
+    assert!(rt; is_undone(rt.alloc()) == Some(true));
+}
+
+/// Pushes the change until the queue refuses it: how often it took it, if it is full then.
+fn pushed(mesh: &mut Mesh, change: &Delta) -> Option<usize> {
+    for n in 0..=LIMIT {
+        match push(mesh, 0, change)? {
+            Ok(()) => {}
+            Err(PushFault::QueueFull) => return Some(n),
+            Err(_) => return None,
+        }
+    }
+    None
+}
+
+/// Returns whether a queue takes changes up to the limit, and one more once one is out.
+fn is_full_at_the_limit(alloc: Global) -> Option<bool> {
+    let graph = graph_of(alloc, alloc, LINE)?;
+    let change = change(alloc, &graph, &[("a", 0, 1)])?;
+    let mut mesh = Mesh::new(alloc, 1).ok()?;
+    let is_full = pushed(&mut mesh, &change)? == LIMIT;
+    pop(&mut mesh, 0, 0)?;
+    Some(is_full && push(&mut mesh, 0, &change)?.is_ok())
 }
 
 #[test]
-fn queue_ends(rt: HostRuntime) -> Result<(), Fail> {
-    let graph = graph_of(rt.alloc(), rt.alloc(), LINE).ok_or("no graph")?;
-    let change = change(rt.alloc(), &graph, &[("a", 0, 1)]).ok_or("no change")?;
-    let mut mesh = Mesh::new(rt.alloc(), 1)?;
-    for n in 0..LIMIT {
-        assert_eq!(rt; push(&mut mesh, 0, &change), Some(Ok(())), "at {n}");
-    }
-    assert_eq!(rt;
-        push(&mut mesh, 0, &change),
-        Some(Err(PushFault::QueueFull))
-    );
-    assert!(rt; pop(&mut mesh, 0, 0).is_some());
-    assert_eq!(rt; push(&mut mesh, 0, &change), Some(Ok(())));
-    Ok(())
+fn queue_ends(rt: HostRuntime) {
+    assert!(rt; is_full_at_the_limit(rt.alloc()) == Some(true));
 }
 
 /// Returns whether a change passes through new queues of one processor, and back.
@@ -285,7 +350,7 @@ fn two_go_through(alloc: Global) -> Option<bool> {
 
 #[test]
 fn queue_ends_when_new(rt: HostRuntime) {
-    assert_eq!(rt; two_go_through(rt.alloc()), Some(true));
+    assert!(rt; two_go_through(rt.alloc()) == Some(true));
 }
 
 /// Returns whether an effect asks for a notice and gives the sum 2, and does nothing else.
@@ -314,14 +379,17 @@ fn sums_two(alloc: Global) -> Option<bool> {
     Some(is_set && is_emitted && state.get(&time, 0).is_none())
 }
 
+/// Returns whether a product that does not fit is out of range.
+fn is_out_of_range(alloc: Global, factor: i64, value: i64) -> Option<bool> {
+    let state = VertexState::new(alloc);
+    let answer = state.on_record(alloc, Op::Mul(factor), &time(&[0])?, value);
+    Some(matches!(answer, Err(VertexFault::ValueRange)))
+}
+
 #[test]
-fn operator_effects(rt: HostRuntime) -> Result<(), Fail> {
-    assert_eq!(rt; sums_two(rt.alloc()), Some(true));
-    let time = time(&[0]).ok_or("no time")?;
-    let state = VertexState::new(rt.alloc());
-    let twice = state.on_record(rt.alloc(), Op::Mul(2), &time, 4_611_686_018_427_387_904);
-    assert!(rt; matches!(twice, Err(VertexFault::ValueRange)));
-    let turned = state.on_record(rt.alloc(), Op::Mul(-1), &time, i64::MIN);
-    assert!(rt; matches!(turned, Err(VertexFault::ValueRange)));
-    Ok(())
+fn operator_effects(rt: HostRuntime) {
+    let alloc = rt.alloc();
+    assert!(rt; sums_two(alloc) == Some(true));
+    assert!(rt; is_out_of_range(alloc, 2, 4_611_686_018_427_387_904) == Some(true));
+    assert!(rt; is_out_of_range(alloc, -1, i64::MIN) == Some(true));
 }

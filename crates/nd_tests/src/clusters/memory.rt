@@ -14,7 +14,7 @@ use std::alloc::{AllocError, Allocator, Global};
 pub type Heap = Refusing<Global>;
 
 /// A call on clusters, or on what they are given.
-#[derive(Debug, Clone, Copy, Drop)]
+#[derive(Drop)]
 enum Call {
     Start,
     CopyCluster,
@@ -33,7 +33,7 @@ fn meets<A: Allocator + Copy>(
     heap: &Heap,
     alloc: A,
     json: Global,
-    call: Call,
+    call: &Call,
     n: u64,
 ) -> Option<bool> {
     let cluster = reach(json, alloc, LINE, 2, &[])?;
@@ -64,7 +64,7 @@ fn small_parts<A: Allocator + Copy>(
     heap: &Heap,
     alloc: A,
     json: Global,
-    call: Call,
+    call: &Call,
     n: u64,
 ) -> Option<bool> {
     let mut only = processors_of(alloc, &[0, 1])?.copy(alloc).ok()?;
@@ -98,28 +98,30 @@ fn why<A: Allocator + Copy>(heap: &Heap, alloc: A, json: Global, n: u64) -> Opti
 }
 
 /// Returns how many requests of a call were refused before it met none.
-fn refused<A: Allocator + Copy>(heap: &Heap, alloc: A, json: Global, call: Call) -> Option<u64> {
-    in_turn(|n| meets(heap, alloc, json, call, n))
+fn refused<A: Allocator + Copy>(heap: &Heap, alloc: A, json: Global, call: &Call) -> Option<u64> {
+    in_turn!(n: meets(heap, alloc, json, call, n))
 }
+
+static CALLS: [Call; 10] = [
+    Call::Start,
+    Call::CopyCluster,
+    Call::CopyStep,
+    Call::CopyRelease,
+    Call::CopyRecord,
+    Call::PushValue,
+    Call::BoxTimes,
+    Call::PushProcessor,
+    Call::CopyProcessors,
+    Call::TellWhy,
+];
 
 #[test]
 fn starts_and_copies(rt: HostRuntime) {
     let heap = Refusing::new(rt.alloc());
-    for call in [
-        Call::Start,
-        Call::CopyCluster,
-        Call::CopyStep,
-        Call::CopyRelease,
-        Call::CopyRecord,
-        Call::PushValue,
-        Call::BoxTimes,
-        Call::PushProcessor,
-        Call::CopyProcessors,
-        Call::TellWhy,
-    ] {
+    for (i, call) in CALLS.iter().enumerate() {
         let count = refused(&heap, &heap, rt.alloc(), call);
-        assert_eq!(rt; count.map(|count| count > 0), Some(true), "of {call:?}");
-        assert_eq!(rt; heap.live(), 0, "of {call:?}");
+        assert!(rt; matches!(count, Some(n) if n > 0), "in row {i}");
+        assert!(rt; heap.live() == 0, "in row {i}");
     }
 }
 
@@ -229,21 +231,40 @@ fn meets_back<A: Allocator + Copy>(
     met!(heap, n: cluster.back(&record); NoMemory, is_state(json, cluster, case.after))
 }
 
-/// Does the same for either, on a copy of the cluster.
-fn on_copy<A: Allocator + Copy>(
+/// A call of a step.
+#[derive(Drop)]
+enum Stage {
+    Plan,
+    Commit,
+    Back,
+}
+
+/// Does the same for one of these calls, on a copy of the cluster if it changes that.
+fn meets_stage<A: Allocator + Copy>(
     heap: &Heap,
     alloc: A,
     json: Global,
     case: &Case<A>,
-    is_back: bool,
+    stage: &Stage,
     n: u64,
 ) -> Option<bool> {
     let mut cluster = case.base.copy(alloc).ok()?;
-    if is_back {
-        meets_back(heap, json, &mut cluster, case, n)
-    } else {
-        meets_commit(heap, json, &mut cluster, case, n)
+    match stage {
+        Stage::Plan => meets_plan(heap, json, case, n),
+        Stage::Commit => meets_commit(heap, json, &mut cluster, case, n),
+        Stage::Back => meets_back(heap, json, &mut cluster, case, n),
     }
+}
+
+/// Returns how many requests of such a call were refused before it met none.
+fn stage_in_turn<A: Allocator + Copy>(
+    heap: &Heap,
+    alloc: A,
+    json: Global,
+    case: &Case<A>,
+    stage: &Stage,
+) -> Option<u64> {
+    in_turn!(n: meets_stage(heap, alloc, json, case, stage, n))
 }
 
 /// Returns how many requests were refused for the plan, for the commit and for the back-step of a run's last step. Each refusal
@@ -268,9 +289,9 @@ fn last_in_turn<A: Allocator + Copy>(
         after: after.as_str(),
     };
     Some((
-        in_turn(|n| meets_plan(heap, json, &case, n))?,
-        in_turn(|n| on_copy(heap, alloc, json, &case, false, n))?,
-        in_turn(|n| on_copy(heap, alloc, json, &case, true, n))?,
+        stage_in_turn(heap, alloc, json, &case, &Stage::Plan)?,
+        stage_in_turn(heap, alloc, json, &case, &Stage::Commit)?,
+        stage_in_turn(heap, alloc, json, &case, &Stage::Back)?,
     ))
 }
 
@@ -279,8 +300,10 @@ fn last_steps(rt: HostRuntime) {
     let heap = Refusing::new(rt.alloc());
     for (row, (text, n, steps)) in RUNS.iter().enumerate() {
         let met = last_in_turn(&heap, &heap, rt.alloc(), text, *n, steps);
-        let asked = met.map(|(plans, commits, _)| (plans > 0, commits > 0));
-        assert_eq!(rt; asked, Some((true, true)), "in row {row}");
+        assert!(rt;
+            matches!(met, Some((plans, commits, _)) if plans > 0 && commits > 0),
+            "in row {row}"
+        );
     }
     let (text, n, steps) = &SUM_NOTIFIED;
     for turn in 0..steps.len() {
@@ -288,5 +311,5 @@ fn last_steps(rt: HostRuntime) {
         let met = last_in_turn(&heap, &heap, rt.alloc(), text, *n, run);
         assert!(rt; met.is_some(), "at step {turn} of a sum");
     }
-    assert_eq!(rt; heap.live(), 0);
+    assert!(rt; heap.live() == 0);
 }

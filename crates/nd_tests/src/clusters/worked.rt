@@ -24,10 +24,10 @@ fn is_idle(alloc: Global, text: &str, n: u32) -> Option<bool> {
 #[test]
 fn processor_counts(rt: HostRuntime) {
     for n in [0, 17] {
-        assert_eq!(rt; fault_of(rt.alloc(), n), Some(StartFault::BadCount));
+        assert!(rt; fault_of(rt.alloc(), n) == Some(StartFault::BadCount));
     }
     for (text, n) in [(LINE, 1), (LINE, 16), (LOOP, 3)] {
-        assert_eq!(rt; is_idle(rt.alloc(), text, n), Some(true));
+        assert!(rt; is_idle(rt.alloc(), text, n) == Some(true));
     }
 }
 
@@ -35,14 +35,13 @@ fn processor_counts(rt: HostRuntime) {
 fn number_limits(rt: HostRuntime) {
     let heap = Refusing::new(rt.alloc());
     for (i, row) in ROWS.iter().enumerate() {
-        assert_eq!(rt;
-            number_of(&heap, rt.alloc(), &heap, row),
-            Some(row.3),
+        assert!(rt;
+            number_of(&heap, rt.alloc(), &heap, row) == Some(row.3),
             "in row {i}"
         );
     }
-    assert_eq!(rt; closes(&heap, rt.alloc(), &heap), Some(true));
-    assert_eq!(rt; heap.live(), 0);
+    assert!(rt; closes(&heap, rt.alloc(), &heap) == Some(true));
+    assert!(rt; heap.live() == 0);
 }
 
 /// Returns how many of the changes are of tokens, of records that arrive twice, and of what is unsent.
@@ -84,9 +83,9 @@ fn entry_count(alloc: Global, text: &str, n: u32, steps: &[Told]) -> Option<usiz
 #[test]
 fn inverse_records(rt: HostRuntime) {
     let alloc = rt.alloc();
-    assert_eq!(rt; lists_changes(alloc), Some(true));
+    assert!(rt; lists_changes(alloc) == Some(true));
     let feed = [Told::Feed(0, "a", &[7, 7], Next::Close)];
-    assert_eq!(rt; entry_count(alloc, LINE, 1, &feed), Some(4));
+    assert!(rt; entry_count(alloc, LINE, 1, &feed) == Some(4));
     let steps = [
         Told::Feed(0, "a", &[5], Next::Close),
         Told::Take(2, "az", &[0], 5),
@@ -94,8 +93,8 @@ fn inverse_records(rt: HostRuntime) {
         Told::Receive(2, 1),
         Told::All(0),
     ];
-    assert_eq!(rt; entry_count(alloc, EXCHANGE, 3, &steps[..4]), Some(2));
-    assert_eq!(rt; entry_count(alloc, EXCHANGE, 3, &steps), Some(3));
+    assert!(rt; entry_count(alloc, EXCHANGE, 3, &steps[..4]) == Some(2));
+    assert!(rt; entry_count(alloc, EXCHANGE, 3, &steps) == Some(3));
 }
 
 /// Returns what a step changes on *line* after other steps.
@@ -158,8 +157,8 @@ fn tells_exchange(alloc: Global) -> Option<bool> {
 
 #[test]
 fn entries_of_records(rt: HostRuntime) {
-    assert_eq!(rt; tells_feed(rt.alloc()), Some(true));
-    assert_eq!(rt; tells_exchange(rt.alloc()), Some(true));
+    assert!(rt; tells_feed(rt.alloc()) == Some(true));
+    assert!(rt; tells_exchange(rt.alloc()) == Some(true));
 }
 
 /// Returns whether the record of a step after others holds a flow.
@@ -172,7 +171,7 @@ fn keeps_flow(alloc: Global, text: &str, before: &[Told], told: &Told) -> Option
 #[test]
 fn records_are_small(rt: HostRuntime) {
     assert!(rt; size_of::<Record>() <= 104);
-    assert_eq!(rt; size_of::<Step>(), 64);
+    assert!(rt; size_of::<Step>() == 64);
 }
 
 #[test]
@@ -180,12 +179,12 @@ fn flows_are_kept_of_plain_takes(rt: HostRuntime) {
     let alloc = rt.alloc();
     let fed = [Told::Feed(0, "a", &[2], Next::Close)];
     let sunk = Told::Take(0, "az", &[0], 2);
-    assert_eq!(rt; keeps_flow(alloc, LINE, &fed, &sunk), Some(true));
+    assert!(rt; keeps_flow(alloc, LINE, &fed, &sunk) == Some(true));
     let moved = Told::Take(0, "am", &[0], 2);
-    assert_eq!(rt; keeps_flow(alloc, ADD, &fed, &moved), Some(true));
+    assert!(rt; keeps_flow(alloc, ADD, &fed, &moved) == Some(true));
     let summed = Told::Take(0, "as", &[0], 2);
-    assert_eq!(rt; keeps_flow(alloc, SUM, &fed, &summed), Some(false));
-    assert_eq!(rt; keeps_flow(alloc, LINE, &fed, &Told::All(0)), Some(false));
+    assert!(rt; keeps_flow(alloc, SUM, &fed, &summed) == Some(false));
+    assert!(rt; keeps_flow(alloc, LINE, &fed, &Told::All(0)) == Some(false));
 }
 
 #[test]
@@ -201,9 +200,9 @@ fn flows_are_kept_past_each_action(rt: HostRuntime) {
         Told::Take(0, "ms", &[0, 0], 3),
     ];
     let entered = Told::Take(0, "ai", &[0], 1);
-    assert_eq!(rt; keeps_flow(alloc, LOOP, &steps[..1], &entered), Some(true));
+    assert!(rt; keeps_flow(alloc, LOOP, &steps[..1], &entered) == Some(true));
     let left = Told::Take(0, "se", &[0, 0], 3);
-    assert_eq!(rt; keeps_flow(alloc, LOOP, &steps, &left), Some(true));
+    assert!(rt; keeps_flow(alloc, LOOP, &steps, &left) == Some(true));
     let round = Told::Take(0, "sf", &[0, 0], 2);
-    assert_eq!(rt; keeps_flow(alloc, LOOP, &steps, &round), Some(true));
+    assert!(rt; keeps_flow(alloc, LOOP, &steps, &round) == Some(true));
 }

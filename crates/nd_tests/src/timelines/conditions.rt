@@ -1,18 +1,17 @@
-//! Conditions of one literal and of several: when they hold, where they turn, and what memory they take.
+//! Conditions of one literal and of several: when they hold, where they turn, and that they take no memory.
 
 use crate::graphs::{LINE, point};
 use crate::opened::only;
 use crate::scripts::{Script, Told, start, step_of};
-use crate::timelines::memory::{Heap, is_after, kept};
+use crate::timelines::memory::{Heap, kept};
 use nd_breaks::{Atom, Breaks, Condition, Literal, Quantifier, TooManyLiterals};
 use nd_cluster::{Cluster, Next, Step};
-use nd_history::{Turns, TurnsFault, turns};
+use nd_history::{TurnsFault, turns};
 use nd_paths::Pointstamp;
-use nd_testing::{Refusing, in_turn, met, unasked};
+use nd_testing::{Refusing, unasked};
 use nd_timeline::{Command, Timeline};
 use std::alloc::{Allocator, Global};
 use std::mem::size_of;
-use std::test::Fail;
 
 /// A line whose input is closed, which processor 0 broadcasts and receives.
 const CLOSED: Script = (
@@ -65,137 +64,162 @@ fn both(quantifier: Quantifier, first: Literal, second: Literal) -> Option<Condi
     Some(condition)
 }
 
-/// Returns whether the turns of all kept steps are these.
-fn turns_at<A: Allocator + Copy>(
-    alloc: A,
-    timeline: &Timeline<A>,
-    condition: &Condition,
-    at_lo: bool,
-    at: &[u64],
-) -> Option<bool> {
-    let turns = turns(alloc, timeline, condition, 0, timeline.kept()).ok()?;
-    Some(turns.at_lo == at_lo && *turns.positions.as_slice() == *at && !turns.more)
+/// A condition on *line*.
+#[derive(Drop)]
+enum Tested {
+    Passed,
+    NotPassed,
+    Finished,
+    /// z is finished, and not passed.
+    UnderWay,
+    /// The queue has a change.
+    Queued,
 }
 
-#[test]
-fn turns_of_passed(rt: HostRuntime) -> Result<(), Fail> {
-    let alloc = rt.alloc();
-    let timeline = kept(alloc, alloc, &CLOSED).ok_or("no timeline")?;
-    let z = point(timeline.cluster().graph(), "z", &[0]).ok_or("no point")?;
-    let is_passed = only(passed(&z));
-    assert_eq!(rt;
-        turns_at(alloc, &timeline, &is_passed, false, &[3]),
-        Some(true)
-    );
-    let is_not = Condition::new(Quantifier::Any, Literal::Not(passed(&z)));
-    assert_eq!(rt; turns_at(alloc, &timeline, &is_not, true, &[3]), Some(true));
-    let is_finished = only(finished(&z));
-    assert_eq!(rt;
-        turns_at(alloc, &timeline, &is_finished, false, &[1]),
-        Some(true)
-    );
-    let under_way = both(
-        Quantifier::All,
-        Literal::Is(finished(&z)),
-        Literal::Not(passed(&z)),
-    );
-    let under_way = under_way.ok_or("no condition")?;
-    assert_eq!(rt;
-        turns_at(alloc, &timeline, &under_way, false, &[1, 3]),
-        Some(true)
-    );
-    Ok(())
-}
-
-#[test]
-fn ranges_of_turns(rt: HostRuntime) -> Result<(), Fail> {
-    let alloc = rt.alloc();
-    let timeline = kept(alloc, alloc, &CLOSED).ok_or("no timeline")?;
-    let condition = only(queued(0, 1));
-    let whole = turns(alloc, &timeline, &condition, 2, 3)
-        .ok()
-        .ok_or("no turns")?;
-    assert!(rt; whole.at_lo && whole.positions.as_slice() == [3].as_slice());
-    let here = turns(alloc, &timeline, &condition, 2, 2)
-        .ok()
-        .ok_or("no turns")?;
-    assert!(rt; here.at_lo && here.positions.as_slice().is_empty());
-    let refused = [(3, 2), (3, 4), (5, 4)].map(|range: (u64, u64)| {
-        turns(alloc, &timeline, &condition, range.0, range.1).err()
-    });
-    let wanted = [
-        Some(TurnsFault::BadRange),
-        Some(TurnsFault::NoSuchPoint),
-        Some(TurnsFault::BadRange),
-    ];
-    assert!(rt; refused == wanted);
-    Ok(())
-}
-
-/// Returns whether a condition of the two literals holds.
-fn holds<A: Allocator + Copy>(
-    cluster: &Cluster<A>,
-    quantifier: Quantifier,
-    literals: (bool, bool),
-) -> Option<bool> {
-    let literal = |is: bool| {
-        if is {
-            Literal::Is(queued(0, 0))
-        } else {
-            Literal::Is(queued(0, 1))
-        }
-    };
-    Some(both(quantifier, literal(literals.0), literal(literals.1))?.holds(cluster))
-}
-
-#[test]
-fn all_and_any(rt: HostRuntime) -> Result<(), Fail> {
-    let alloc = rt.alloc();
-    let cluster = start(alloc, alloc, LINE, 1).ok_or("no cluster")?;
-    for (pair, all, any) in [
-        ((false, false), false, false),
-        ((false, true), false, true),
-        ((true, false), false, true),
-        ((true, true), true, true),
-    ] {
-        assert_eq!(rt; holds(&cluster, Quantifier::All, pair), Some(all));
-        assert_eq!(rt; holds(&cluster, Quantifier::Any, pair), Some(any));
+/// Returns the condition that is tested, of z at epoch 0 if it is of a point.
+fn condition_of(tested: &Tested, z: &Pointstamp) -> Option<Condition> {
+    match tested {
+        Tested::Passed => Some(only(passed(z))),
+        Tested::NotPassed => Some(Condition::new(Quantifier::Any, Literal::Not(passed(z)))),
+        Tested::Finished => Some(only(finished(z))),
+        Tested::UnderWay => both(
+            Quantifier::All,
+            Literal::Is(finished(z)),
+            Literal::Not(passed(z)),
+        ),
+        Tested::Queued => Some(only(queued(0, 1))),
     }
+}
+
+/// A condition, a range of positions, whether it holds at the first of them, and where it turns.
+type Row = (Tested, (u64, u64), bool, &'static [u64]);
+
+/// Returns whether a condition turns as its row says.
+fn turns_so(alloc: Global, row: &Row) -> Option<bool> {
+    let (tested, (lo, hi), at_lo, at) = row;
+    let timeline = kept(alloc, alloc, &CLOSED)?;
+    let z = point(timeline.cluster().graph(), "z", &[0])?;
+    let turns = turns(alloc, &timeline, &condition_of(tested, &z)?, *lo, *hi).ok()?;
+    Some(turns.at_lo == *at_lo && turns.positions.as_slice() == *at && !turns.more)
+}
+
+static PASSED: [Row; 4] = [
+    (Tested::Passed, (0, 3), false, &[3]),
+    (Tested::NotPassed, (0, 3), true, &[3]),
+    (Tested::Finished, (0, 3), false, &[1]),
+    (Tested::UnderWay, (0, 3), false, &[1, 3]),
+];
+
+#[test]
+fn turns_of_passed(rt: HostRuntime) {
+    for (i, row) in PASSED.iter().enumerate() {
+        assert!(rt; turns_so(rt.alloc(), row) == Some(true), "in row {i}");
+    }
+}
+
+static RANGES: [Row; 2] = [
+    (Tested::Queued, (2, 3), true, &[3]),
+    (Tested::Queued, (2, 2), true, &[]),
+];
+
+/// Returns why a range is refused.
+fn refused(alloc: Global, lo: u64, hi: u64) -> Option<TurnsFault> {
+    let timeline = kept(alloc, alloc, &CLOSED)?;
+    turns(alloc, &timeline, &only(queued(0, 1)), lo, hi).err()
+}
+
+#[test]
+fn ranges_of_turns(rt: HostRuntime) {
+    let alloc = rt.alloc();
+    for (i, row) in RANGES.iter().enumerate() {
+        assert!(rt; turns_so(alloc, row) == Some(true), "in row {i}");
+    }
+    assert!(rt; refused(alloc, 3, 2) == Some(TurnsFault::BadRange));
+    assert!(rt; refused(alloc, 3, 4) == Some(TurnsFault::NoSuchPoint));
+    assert!(rt; refused(alloc, 5, 4) == Some(TurnsFault::BadRange));
+}
+
+/// Returns a literal that holds at the start, or one that does not.
+fn literal(holds: bool) -> Literal {
+    Literal::Is(queued(0, if holds { 0 } else { 1 }))
+}
+
+/// Whether each of two literals holds, and whether all do, and any.
+static LITERALS: [(bool, bool, bool, bool); 4] = [
+    (false, false, false, false),
+    (false, true, false, true),
+    (true, false, false, true),
+    (true, true, true, true),
+];
+
+/// Returns whether conditions of two literals hold as a row says.
+fn hold(cluster: &Cluster, row: &(bool, bool, bool, bool)) -> Option<bool> {
+    let (first, second, all, any) = row;
+    let each = both(Quantifier::All, literal(*first), literal(*second))?;
+    let one = both(Quantifier::Any, literal(*first), literal(*second))?;
+    Some(each.holds(cluster) == *all && one.holds(cluster) == *any)
+}
+
+/// Returns whether a condition holds that takes eight literals and no more.
+fn takes_eight(cluster: &Cluster) -> Option<bool> {
     let mut condition = only(queued(0, 0));
     for _ in 1..8 {
-        assert_eq!(rt; condition.push(Literal::Not(queued(0, 1))), Ok(()));
+        condition.push(Literal::Not(queued(0, 1))).ok()?;
     }
-    assert_eq!(rt;
-        condition.push(Literal::Is(queued(0, 0))),
-        Err(TooManyLiterals)
-    );
-    assert!(rt; condition.holds(&cluster) && condition.literals().len() == 8);
-    Ok(())
+    let is_full = condition.push(Literal::Is(queued(0, 0))) == Err(TooManyLiterals);
+    Some(is_full && condition.holds(cluster) && condition.literals().len() == 8)
+}
+
+/// Returns whether all of it is so at the start of *line*.
+fn hold_at_the_start(alloc: Global) -> Option<bool> {
+    let cluster = start(alloc, alloc, LINE, 1)?;
+    for row in &LITERALS {
+        if !hold(&cluster, row)? {
+            return Some(false);
+        }
+    }
+    takes_eight(&cluster)
 }
 
 #[test]
-fn processors_that_are_missing(rt: HostRuntime) -> Result<(), Fail> {
-    let alloc = rt.alloc();
-    let cluster = start(alloc, alloc, LINE, 1).ok_or("no cluster")?;
-    let z = point(cluster.graph(), "z", &[0]).ok_or("no point")?;
-    assert!(rt; only(queued(0, 0)).holds(&cluster) && only(entry(0, &z, 0)).holds(&cluster));
-    for atom in [queued(1, 0), entry(1, &z, i64::MIN)] {
-        assert!(rt; !only(atom.copy()).holds(&cluster));
-        assert!(rt; Literal::Not(atom).holds(&cluster));
-    }
-    Ok(())
+fn all_and_any(rt: HostRuntime) {
+    assert!(rt; hold_at_the_start(rt.alloc()) == Some(true));
 }
 
+/// Returns whether an atom does not hold, and its negation does.
+fn fails(cluster: &Cluster, atom: Atom) -> bool {
+    !only(atom.copy()).holds(cluster) && Literal::Not(atom).holds(cluster)
+}
+
+/// Returns whether atoms hold of a processor that is there, and fail of one that is missing.
+fn are_of_processors(alloc: Global) -> Option<bool> {
+    let cluster = start(alloc, alloc, LINE, 1)?;
+    let z = point(cluster.graph(), "z", &[0])?;
+    Some(
+        only(queued(0, 0)).holds(&cluster)
+            && only(entry(0, &z, 0)).holds(&cluster)
+            && fails(&cluster, queued(1, 0))
+            && fails(&cluster, entry(1, &z, i64::MIN)),
+    )
+}
+
+#[test]
+fn processors_that_are_missing(rt: HostRuntime) {
+    assert!(rt; are_of_processors(rt.alloc()) == Some(true));
+}
+
+/// What a line does in each turn.
+static CYCLE: [Told; 3] = [
+    Told::Feed(0, "a", &[], Next::Next),
+    Told::All(0),
+    Told::Receive(0, 0),
+];
+
 /// Returns a line on which a feed of nothing, its broadcast and its receive were repeated `times` times.
-fn cycled<A: Allocator + Copy>(json: Global, alloc: A, times: u64) -> Option<Timeline<A>> {
-    let mut timeline = Timeline::new(alloc, start(json, alloc, LINE, 1)?).ok()?;
-    let cycle = [
-        Told::Feed(0, "a", &[], Next::Next),
-        Told::All(0),
-        Told::Receive(0, 0),
-    ];
+fn cycled(alloc: Global, times: u64) -> Option<Timeline> {
+    let mut timeline = Timeline::new(alloc, start(alloc, alloc, LINE, 1)?).ok()?;
     for _ in 0..times {
-        for told in &cycle {
+        for told in &CYCLE {
             let step = step_of(alloc, timeline.cluster().graph(), told)?;
             timeline.forward(&step).ok()?;
         }
@@ -203,53 +227,27 @@ fn cycled<A: Allocator + Copy>(json: Global, alloc: A, times: u64) -> Option<Tim
     Some(timeline)
 }
 
-/// Returns how many turns are listed, the last of them, and whether there are more.
-fn listed<A: Allocator>(turns: &Turns<A>) -> (usize, Option<u64>, bool) {
+/// Returns whether a thousand turns are listed up to a position, the last at 1500, and whether it is said that there are more.
+fn lists(alloc: Global, timeline: &Timeline, hi: u64, more: bool) -> Option<bool> {
+    let turns = turns(alloc, timeline, &only(queued(0, 1)), 0, hi).ok()?;
     let positions = turns.positions.as_slice();
-    (positions.len(), positions.last().copied(), turns.more)
+    Some(positions.len() == 1000 && *positions.last()? == 1500 && turns.more == more)
+}
+
+/// Returns whether it is so up to the last of them, and past it.
+fn lists_a_thousand(alloc: Global) -> Option<bool> {
+    let timeline = cycled(alloc, 501)?;
+    Some(
+        lists(alloc, &timeline, 1500, false)?
+            && lists(alloc, &timeline, 1501, false)?
+            && lists(alloc, &timeline, 1502, true)?
+            && lists(alloc, &timeline, 1503, true)?,
+    )
 }
 
 #[test]
-fn a_thousand_turns(rt: HostRuntime) -> Result<(), Fail> {
-    let alloc = rt.alloc();
-    let timeline = cycled(alloc, alloc, 501).ok_or("no timeline")?;
-    let condition = only(queued(0, 1));
-    for (hi, more) in [(1500, false), (1501, false), (1502, true), (1503, true)] {
-        let turns = turns(alloc, &timeline, &condition, 0, hi)
-            .ok()
-            .ok_or("no turns")?;
-        assert_eq!(rt; listed(&turns), (1000, Some(1500), more));
-    }
-    Ok(())
-}
-
-/// Returns whether the turns of a condition met the refused request; if they did, everything is
-/// unchanged.
-fn meets_turns<A: Allocator + Copy>(heap: &Heap, json: Global, alloc: A, n: u64) -> Option<bool> {
-    let timeline = kept(json, alloc, &CLOSED)?;
-    let (at, kept) = (timeline.at(), timeline.kept());
-    let condition = only(queued(0, 1));
-    let met =
-        met!(heap, n: turns(alloc, &timeline, &condition, 0, kept); TurnsFault::Memory, true)?;
-    let is_there = (timeline.at(), timeline.kept()) == (at, kept);
-    if is_there && is_after(json, timeline.cluster(), &CLOSED, at)? {
-        Some(met)
-    } else {
-        None
-    }
-}
-
-/// Returns how many requests were refused before the turns met none.
-fn turnings<A: Allocator + Copy>(heap: &Heap, json: Global, alloc: A) -> Option<u64> {
-    in_turn(|n| meets_turns(heap, json, alloc, n))
-}
-
-#[test]
-fn turns_out_of_memory(rt: HostRuntime) {
-    let heap = Refusing::new(rt.alloc());
-    let count = turnings(&heap, rt.alloc(), &heap);
-    assert!(rt; matches!(count, Some(n) if n > 0));
-    assert_eq!(rt; heap.live(), 0);
+fn a_thousand_turns(rt: HostRuntime) {
+    assert!(rt; lists_a_thousand(rt.alloc()) == Some(true));
 }
 
 /// Returns whether a condition is made, copied, set, hit and cleared.
@@ -276,8 +274,8 @@ fn tells_unasked<A: Allocator + Copy>(heap: &Heap, json: Global, alloc: A) -> Op
 #[test]
 fn conditions_take_no_memory(rt: HostRuntime) {
     let heap = Refusing::new(rt.alloc());
-    assert_eq!(rt; tells_unasked(&heap, rt.alloc(), &heap), Some(true));
-    assert_eq!(rt; heap.live(), 0);
+    assert!(rt; tells_unasked(&heap, rt.alloc(), &heap) == Some(true));
+    assert!(rt; heap.live() == 0);
 }
 
 #[test]

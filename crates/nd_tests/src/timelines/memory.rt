@@ -133,7 +133,7 @@ fn jumps<A: Allocator + Copy>(
     script: &Script,
     is_back: bool,
 ) -> Option<u64> {
-    in_turn(|n| meets_jump(heap, json, alloc, script, is_back, n))
+    in_turn!(n: meets_jump(heap, json, alloc, script, is_back, n))
 }
 
 /// Returns whether a jump meets at least `least` refusals, forward and backward.
@@ -155,11 +155,11 @@ fn jump_out_of_memory(rt: HostRuntime) {
     assert!(rt; meets_each_way(&heap, rt.alloc(), &SUM_NOTIFIED, 1));
     assert!(rt; meets_each_way(&heap, rt.alloc(), &HELD_MOVED, 0));
     assert!(rt; meets_each_way(&heap, rt.alloc(), &ALL, 1));
-    assert_eq!(rt; heap.live(), 0);
+    assert!(rt; heap.live() == 0);
 }
 
 /// A move, or a call that makes a timeline.
-#[derive(Debug, Clone, Copy, Drop)]
+#[derive(Drop)]
 enum Move {
     New,
     Copy,
@@ -183,16 +183,22 @@ static MOVES: [(Move, bool); 8] = [
     (Move::CopyCommand, true),
 ];
 
+/// Returns a copy of the timeline that keeps the steps of a script.
+fn copied<A: Allocator + Copy>(json: Global, alloc: A, script: &Script) -> Option<Timeline<A>> {
+    kept(json, alloc, script)?.copy(alloc).ok()
+}
+
 /// Returns whether a run met the refused request; if it did, it stays where it stopped.
 fn meets_run<A: Allocator + Copy>(
     heap: &Heap,
     json: Global,
-    timeline: &mut Timeline<A>,
-    only: Option<&Processors<A>>,
-    breaks: &Breaks<A>,
+    alloc: A,
+    only: &Option<Processors<A>>,
     n: u64,
 ) -> Option<bool> {
-    let met = met!(heap, n: timeline.run(10, only, breaks);
+    let mut timeline = copied(json, alloc, &ONE)?;
+    let breaks = Breaks::new(alloc).ok()?;
+    let met = met!(heap, n: timeline.run(10, only.as_ref(), &breaks);
         Fault::Memory { at: timeline.at() }, true)?;
     let (at, kept) = (timeline.at(), timeline.kept());
     let is_there = is_after(json, timeline.cluster(), &ALL, at)?;
@@ -203,46 +209,50 @@ fn meets_run<A: Allocator + Copy>(
     }
 }
 
-/// Returns whether a move met the refused request; if it did, the timeline is where it was, or a run where it stopped.
-fn meets<A: Allocator + Copy>(
+/// Returns whether a step forward met the request that was refused: then the timeline is where it was.
+fn meets_forward<A: Allocator + Copy>(heap: &Heap, json: Global, alloc: A, n: u64) -> Option<bool> {
+    let mut timeline = copied(json, alloc, &ONE)?;
+    let step = step_of(
+        alloc,
+        timeline.cluster().graph(),
+        &Told::Take(0, "az", &[0], 5),
+    )?;
+    met!(heap, n: timeline.forward(&step); Fault::Memory { at: 1 },
+        is_after(json, timeline.cluster(), &ALL, 1)?)
+}
+
+/// Does the same for the last step back, or the second step again.
+fn meets_again<A: Allocator + Copy>(
     heap: &Heap,
     json: Global,
-    alloc: A,
-    call: Move,
+    timeline: &mut Timeline<A>,
+    call: &Move,
     n: u64,
 ) -> Option<bool> {
-    let base = kept(json, alloc, &ALL)?;
-    let mut timeline = kept(json, alloc, &ONE)?.copy(alloc).ok()?;
-    let mut whole = base.copy(alloc).ok()?;
+    if let Move::Back = call {
+        return met!(heap, n: timeline.back(); Fault::Memory { at: 4 },
+            is_after(json, timeline.cluster(), &ALL, 4)?);
+    }
+    timeline.jump(1).ok()?;
+    met!(heap, n: timeline.redo(); Fault::Memory { at: 1 },
+        is_after(json, timeline.cluster(), &ALL, 1)?)
+}
+
+/// Does the same for a new timeline, and for copies of a timeline and of a command.
+fn meets_copy<A: Allocator + Copy>(
+    heap: &Heap,
+    alloc: A,
+    base: &Timeline<A>,
+    call: &Move,
+    n: u64,
+) -> Option<bool> {
     match call {
         Move::New => {
             let cluster = base.cluster().copy(alloc).ok()?;
             met!(heap, n: Timeline::new(alloc, cluster); AllocError, true)
         }
         Move::Copy => met!(heap, n: base.copy(alloc); AllocError, true),
-        Move::Forward => {
-            let step = step_of(alloc, base.cluster().graph(), &Told::Take(0, "az", &[0], 5))?;
-            met!(heap, n: timeline.forward(&step); Fault::Memory { at: 1 },
-                is_after(json, timeline.cluster(), &ALL, 1)?)
-        }
-        Move::Back => met!(heap, n: whole.back(); Fault::Memory { at: 4 },
-            is_after(json, whole.cluster(), &ALL, 4)?),
-        Move::Redo => {
-            whole.jump(1).ok()?;
-            met!(heap, n: whole.redo(); Fault::Memory { at: 1 },
-                is_after(json, whole.cluster(), &ALL, 1)?)
-        }
-        Move::Run => {
-            let breaks = Breaks::new(alloc).ok()?;
-            let all: Option<Processors<A>> = None;
-            meets_run(heap, json, &mut timeline, all.as_ref(), &breaks, n)
-        }
-        Move::RunOnly => {
-            let breaks = Breaks::new(alloc).ok()?;
-            let only = processors_of(alloc, &[0, 0])?;
-            meets_run(heap, json, &mut timeline, Some(&only), &breaks, n)
-        }
-        Move::CopyCommand => {
+        _ => {
             let asked = Asked::RunOnly(10, &[0, 0]);
             let command = command_of(alloc, base.cluster().graph(), &asked)?;
             met!(heap, n: command.copy(alloc); AllocError, true)
@@ -250,17 +260,44 @@ fn meets<A: Allocator + Copy>(
     }
 }
 
+/// Returns whether a move met the refused request; if it did, the timeline is where it was, or a run where it stopped.
+fn meets<A: Allocator + Copy>(
+    heap: &Heap,
+    json: Global,
+    alloc: A,
+    call: &Move,
+    n: u64,
+) -> Option<bool> {
+    match call {
+        Move::New | Move::Copy | Move::CopyCommand => {
+            meets_copy(heap, alloc, &kept(json, alloc, &ALL)?, call, n)
+        }
+        Move::Forward => meets_forward(heap, json, alloc, n),
+        Move::Back | Move::Redo => {
+            meets_again(heap, json, &mut copied(json, alloc, &ALL)?, call, n)
+        }
+        Move::Run => {
+            let all: Option<Processors<A>> = None;
+            meets_run(heap, json, alloc, &all, n)
+        }
+        Move::RunOnly => {
+            let only = Some(processors_of(alloc, &[0, 0])?);
+            meets_run(heap, json, alloc, &only, n)
+        }
+    }
+}
+
 /// Returns how many requests of a move were refused before it met none.
-fn refused<A: Allocator + Copy>(heap: &Heap, json: Global, alloc: A, call: Move) -> Option<u64> {
-    in_turn(|n| meets(heap, json, alloc, call, n))
+fn refused<A: Allocator + Copy>(heap: &Heap, json: Global, alloc: A, call: &Move) -> Option<u64> {
+    in_turn!(n: meets(heap, json, alloc, call, n))
 }
 
 #[test]
 fn moves_out_of_memory(rt: HostRuntime) {
     let heap = Refusing::new(rt.alloc());
-    for (call, asks) in MOVES {
+    for (i, (call, asks)) in MOVES.iter().enumerate() {
         let count = refused(&heap, rt.alloc(), &heap, call);
-        assert!(rt; matches!(count, Some(n) if n > 0 || !asks), "of {call:?}");
-        assert_eq!(rt; heap.live(), 0, "of {call:?}");
+        assert!(rt; matches!(count, Some(n) if n > 0 || !*asks), "in row {i}");
+        assert!(rt; heap.live() == 0, "in row {i}");
     }
 }

@@ -38,9 +38,12 @@ fn stays<A: Allocator + Copy>(heap: &Heap, json: Global, alloc: A, at: u64) -> O
 fn staying_takes_no_memory(rt: HostRuntime) {
     let heap = Refusing::new(rt.alloc());
     for at in 0..5 {
-        assert_eq!(rt; stays(&heap, rt.alloc(), &heap, at), Some(true), "at {at}");
+        assert!(rt;
+            stays(&heap, rt.alloc(), &heap, at) == Some(true),
+            "at {at}"
+        );
     }
-    assert_eq!(rt; heap.live(), 0);
+    assert!(rt; heap.live() == 0);
 }
 
 /// Returns a copy of a timeline that has run forward, gone back and forward, and then taken other steps.
@@ -67,8 +70,8 @@ fn is_apart<A: Allocator + Copy>(first: &Heap, here: A, there: A, json: Global) 
 fn copies_have_their_own_memory(rt: HostRuntime) {
     let (first, second) = (Refusing::new(rt.alloc()), Refusing::new(rt.alloc()));
     let is_apart = is_apart(&first, &first, &second, rt.alloc());
-    assert_eq!(rt; is_apart, Some(true));
-    assert_eq!(rt; (first.live(), second.live()), (0, 0));
+    assert!(rt; is_apart == Some(true));
+    assert!(rt; (first.live(), second.live()) == (0, 0));
 }
 
 /// Returns a timeline on a line that keeps `times` feeds of nothing.
@@ -106,8 +109,8 @@ fn is_idle<A: Allocator + Copy>(json: Global, alloc: A) -> Option<bool> {
 fn timelines_at_the_ends(rt: HostRuntime) {
     let heap = Refusing::new(rt.alloc());
     for times in [0, 3000] {
-        assert_eq!(rt; goes(rt.alloc(), &heap, times), Some(true), "of {times}");
+        assert!(rt; goes(rt.alloc(), &heap, times) == Some(true), "of {times}");
     }
-    assert_eq!(rt; is_idle(rt.alloc(), &heap), Some(true));
-    assert_eq!(rt; heap.live(), 0);
+    assert!(rt; is_idle(rt.alloc(), &heap) == Some(true));
+    assert!(rt; heap.live() == 0);
 }

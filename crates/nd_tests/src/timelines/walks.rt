@@ -1,11 +1,13 @@
 //! Walks over a timeline's kept steps, and what is listed of them, each request for memory refused in turn.
 
 use crate::graphs::point;
+use crate::opened::only;
 use crate::scripts::{SUM_NOTIFIED, Script};
 use crate::timelines::memory::{ALL, Heap, TEN, is_after, kept};
-use nd_history::{ChangesFault, changes};
+use nd_breaks::Atom;
+use nd_history::{ChangesFault, EffectFault, TurnsFault, changes, effect, turns};
 use nd_testing::{Refusing, in_turn, met};
-use nd_timeline::Fault;
+use nd_timeline::{Fault, Timeline};
 use std::alloc::{AllocError, Allocator, Global};
 
 /// Returns whether the beginning of a walk met the refused request.
@@ -51,12 +53,12 @@ fn walks<A: Allocator + Copy>(
     script: &Script,
     is_back: bool,
 ) -> Option<u64> {
-    in_turn(|n| meets_walk(heap, json, alloc, script, is_back, n))
+    in_turn!(n: meets_walk(heap, json, alloc, script, is_back, n))
 }
 
 /// Does the same for its beginning.
 fn beginnings<A: Allocator + Copy>(heap: &Heap, json: Global, alloc: A) -> Option<u64> {
-    in_turn(|n| meets_beginning(heap, json, alloc, n))
+    in_turn!(n: meets_beginning(heap, json, alloc, n))
 }
 
 #[test]
@@ -70,34 +72,91 @@ fn walk_out_of_memory(rt: HostRuntime) {
             assert!(rt; count.is_some(), "in row {row}");
         }
     }
-    assert_eq!(rt; heap.live(), 0);
+    assert!(rt; heap.live() == 0);
 }
 
-/// Returns whether the changes of processor 0's view of the edge met the refused request; if they did, everything is
-/// unchanged.
-fn meets_changes<A: Allocator + Copy>(heap: &Heap, json: Global, alloc: A, n: u64) -> Option<bool> {
+/// A question about kept steps.
+#[derive(Drop)]
+enum Question {
+    /// What changed in processor 0's view of the edge.
+    Changes,
+    /// Where the queue gets a change, and where it has none any more.
+    Turns,
+    /// What the step that leads to a position changed.
+    Effect(u64),
+}
+
+static QUESTIONS: [Question; 6] = [
+    Question::Changes,
+    Question::Turns,
+    Question::Effect(1),
+    Question::Effect(2),
+    Question::Effect(3),
+    Question::Effect(4),
+];
+
+/// Returns whether a question met the request that was refused.
+fn meets_question<A: Allocator + Copy>(
+    heap: &Heap,
+    alloc: A,
+    timeline: &Timeline<A>,
+    question: &Question,
+    n: u64,
+) -> Option<bool> {
+    let kept = timeline.kept();
+    match question {
+        Question::Changes => {
+            let az = point(timeline.cluster().graph(), "az", &[0])?;
+            met!(heap, n: changes(alloc, timeline, 0, &az, 0, kept); ChangesFault::Memory, true)
+        }
+        Question::Turns => {
+            let condition = only(Atom::Queue {
+                from: 0,
+                to: 0,
+                at_least: 1,
+            });
+            met!(heap, n: turns(alloc, timeline, &condition, 0, kept); TurnsFault::Memory, true)
+        }
+        Question::Effect(to) => {
+            met!(heap, n: effect(alloc, timeline, *to); EffectFault::Memory, true)
+        }
+    }
+}
+
+/// Does the same on the timeline of four steps: then all is where it was.
+fn stays<A: Allocator + Copy>(
+    heap: &Heap,
+    json: Global,
+    alloc: A,
+    question: &Question,
+    n: u64,
+) -> Option<bool> {
     let timeline = kept(json, alloc, &ALL)?;
-    let az = point(timeline.cluster().graph(), "az", &[0])?;
-    let (at, kept) = (timeline.at(), timeline.kept());
-    let met =
-        met!(heap, n: changes(alloc, &timeline, 0, &az, 0, kept); ChangesFault::Memory, true)?;
-    let is_there = (timeline.at(), timeline.kept()) == (at, kept);
-    if is_there && is_after(json, timeline.cluster(), &ALL, at)? {
+    let met = meets_question(heap, alloc, &timeline, question, n)?;
+    let is_there = (timeline.at(), timeline.kept()) == (4, 4);
+    if is_there && is_after(json, timeline.cluster(), &ALL, 4)? {
         Some(met)
     } else {
         None
     }
 }
 
-/// Returns how many requests were refused before the changes met none.
-fn tellings<A: Allocator + Copy>(heap: &Heap, json: Global, alloc: A) -> Option<u64> {
-    in_turn(|n| meets_changes(heap, json, alloc, n))
+/// Returns how many requests of a question were refused before it met none.
+fn questions<A: Allocator + Copy>(
+    heap: &Heap,
+    json: Global,
+    alloc: A,
+    question: &Question,
+) -> Option<u64> {
+    in_turn!(n: stays(heap, json, alloc, question, n))
 }
 
 #[test]
-fn changes_out_of_memory(rt: HostRuntime) {
+fn questions_out_of_memory(rt: HostRuntime) {
     let heap = Refusing::new(rt.alloc());
-    let count = tellings(&heap, rt.alloc(), &heap);
-    assert!(rt; matches!(count, Some(n) if n > 0));
-    assert_eq!(rt; heap.live(), 0);
+    for (i, question) in QUESTIONS.iter().enumerate() {
+        let count = questions(&heap, rt.alloc(), &heap, question);
+        assert!(rt; matches!(count, Some(n) if n > 0), "in row {i}");
+    }
+    assert!(rt; heap.live() == 0);
 }
