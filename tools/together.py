@@ -5,13 +5,13 @@ in different functions of one copy each is refused, or not, as it would be alone
 only if the prover's line of a function that it changes gives a reason of its own, and names a place in that
 function or in its folder of answers, for its meaning: not a name that went, and not another function that is
 not proved. The check is asked for the edited functions alone, so that what stands above them is not read. It
-begins with what the crate's own check proved, so that only what the edits change is proved once more. An edit
-of a function that another edit changes is made in a function of its own: the same once more under another
-name, with its contract and its answers. If all that is said against a function is that its own proof files
-name what the edit took away, the edit is refused with the words that the toolchain has for that: its own
-trial, of the whole crate, reads the same files and refuses it for the same lines. What was not refused so is
-tried again with the rest, and at last alone, by the toolchain's own trial, over what the earlier checks of
-this run proved and then from nothing."""
+begins with what the crate's own check proved, so that only what the edits change is proved once more. An
+edit of a function that another edit changes is made in a function of its own: the same once more under
+another name, with its contract and its answers. If all that is said against a function is that its own proof
+files name what the edit took away, the edit is refused with the words that the toolchain has for that: its
+own trial, of the whole crate, reads the same files and refuses it for the same lines. What was not refused
+so is tried again with the rest, and at last alone, by the toolchain's own trial, over what the earlier
+checks of this run proved and then from nothing."""
 import collections
 import copy
 import functools
@@ -253,15 +253,16 @@ def is_in(line, function):
 
 
 def reason(verdicts, told, function):
-    """What the prover says against this function's own meaning, if it says so: a goal of its own that is left
-    open before an answer that does not fit."""
+    """What the prover says against this function's own meaning, if it says so: a clause of its own that is
+    left open before another goal of its own, and that before an answer that does not fit."""
     paths = [it for it in verdicts if it.partition("::")[2].endswith(function.names)]
     paths = [it for it in paths if re.search(rf"(^|::){re.escape(function.names)}$", it.partition("::")[2])]
     if len(paths) != 1 or not re.match(r"not proved|no proof: expected answers", verdicts[paths[0]]):
         return None
     answers = f"proofs/{paths[0].partition('::')[2].replace('::', '/')}/"
     own = [it for it in told if is_in(it, function)]
-    return next(iter(own or [it for it in told if PLACE.match(it)[1].startswith(answers)]), None)
+    clauses = [it for it in own if "what the function ensures" in it]
+    return next(iter([*clauses, *own, *(it for it in told if PLACE.match(it)[1].startswith(answers))]), None)
 
 
 def module_of(file):
@@ -320,9 +321,9 @@ def copied(crate, edited, room):
 
 
 def begin(rt, crate, start, kept):
-    """Fills the folder with what the crate's own check proved, for the checks of its edits to begin with: with
-    what the last one kept, if that is given, or else with what the crate's library holds of it. A check takes
-    no file of it that does not fit the text, so at worst it is of no use."""
+    """Fills the folder with what the crate's own check proved, for the checks of its edits to begin with:
+    what the last one kept, if that is given, or else what the crate's library holds of it. A check takes no
+    file of it that does not fit the text, so at worst it is of no use."""
     try:
         if start:
             os.rmdir(kept)
@@ -433,12 +434,9 @@ def add_edits(rt, tasks, crate, edits, first, waits, is_well, kept, start=None, 
             return None
         left = [number for number in range(len(edits)) if number not in known()]
         chosen = [edits[it] for it in left]
-        tried = dict(
-            zip(
-                left,
-                must_fail_all(rt, crate, chosen, ["--jobs", "1"], rt.SETTLED.__contains__, rt.REFUSED, start),
-            )
-        )
+        is_settled = rt.SETTLED.__contains__
+        found = must_fail_all(rt, crate, chosen, ["--jobs", "1"], is_settled, rt.REFUSED, start)
+        tried = dict(zip(left, found))
         read = [crate] if in_ci else [crate, *crate.below()]
         for number, (kind, text) in tried.items():
             if kind in rt.SETTLED and all(kept.is_untouched(it) for it in read):
