@@ -13,15 +13,15 @@ pub use faults::Code;
 use std::marker::Model;
 use thiserror::Error;
 
-/// The most loops that may lie within one another.
+/// The greatest number of nested loops.
 pub const MAX_DEPTH: usize = 6;
 
-/// A loop counter stands at its greatest value, 4294967295, and cannot rise.
+/// A loop counter has its greatest value, 4294967295, and cannot grow.
 #[derive(Clone, Copy, Debug, PartialEq, Eq, Drop, Error)]
 #[error("the loop counter is at its limit")]
 pub struct CounterFull;
 
-/// A growth was refused.
+/// Out of memory.
 #[derive(Clone, Copy, Debug, PartialEq, Eq, Drop, Error)]
 #[error("out of memory")]
 pub struct NoMemory;
