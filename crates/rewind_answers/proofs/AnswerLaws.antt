@@ -98,13 +98,6 @@ frontier_replies s q g v f d (Ok w) there graph is part shown reply =
     inr (there, (f, subst (λ (h : Dataflow). IsPartWhere (IsOnFrontier h (view_in s q)) (view_in s q) f) graph same, reply ∙ ap frontier shown))
 frontier_replies s q g v f d (Err e) there graph is part shown reply = reply
 
--- a query that the cluster at the cursor answers
-pub answered_at : (P : ClusterState → Data → Type 0) (m : TimelineValue Global) (s : ClusterState) (query asked : Query) (r : Result Data AllocError) → s ≡ cluster_of m → query ≡ asked
-    → ((v : Data) → P (cluster_of m) v → QueryReply m asked v) → IfOk r (λ v. P s v) → IfOk r (λ v. QueryReply m query v)
-answered_at P m s query asked (Ok v) same is means reply =
-    subst (λ (x : Query). QueryReply m x v) (sym is) (means v (subst (λ (u : ClusterState). P u v) same reply))
-answered_at P m s query asked (Err x) same is means reply = reply
-
 -- ---- searches, of the timeline of a snapshot
 
 pub found_replies : (m t : TimelineValue Global) (s : Search) (least : Option ℕ) (r : Result Data AllocError) → t ≡ m → MaySearch (length t.kept) s.lo s.hi s.workers

@@ -38,11 +38,6 @@ use Rattle.rewind_answers.specs.Explained.{EffectReply, effected, uneffected, ef
 
 -- ---- kept steps, by the graph that was read
 
-pub export_replies : (m : TimelineValue Global) (g : Dataflow) (at : ℕ) (d : Data) (r : Result Data AllocError) → g ≡ (cluster_of m).graph → at ≡ m.cursor → d ≡ steps_data g m.kept
-    → IfOk r (λ v. v ≡ exported at d) → IfOk r (λ v. ExportReply m v)
-export_replies m g at d (Ok v) same cursor shown reply = reply ∙ (λ i. exported (cursor i) ((shown ∙ ap (λ h. steps_data h m.kept) same) i))
-export_replies m g at d (Err e) same cursor shown reply = reply
-
 pub step_replies : (m : TimelineValue Global) (g : Dataflow) (to : ℕ) (x : Step Global) (d : Data) (r : Result Data AllocError) → g ≡ (cluster_of m).graph → 0 < to → slice_get m.kept (to - 1) ≡ Some x
     → d ≡ object_of g x → IfOk r (λ v. v ≡ kept_step d) → IfOk r (λ v. StepReply m to v)
 step_replies m g to x d (Ok v) same some there shown reply = inr (some, (x, there, reply ∙ ap kept_step (shown ∙ ap (λ h. object_of h x) same)))

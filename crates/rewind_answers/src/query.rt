@@ -24,7 +24,8 @@ use std::thread::Threads;
 pub(crate) fn text_of(alloc: Global, reply: Result<Json, AllocError>) -> Result<Vec<u8>, AllocError>
     ensures { IfOk result (λ t. TellsOne (λ value. reply ≡ Ok value) t.items) }
 {
-    reply?.to_bytes(alloc)
+    let value = reply?;
+    value.to_bytes(alloc)
 }
 
 // Replies with the state.

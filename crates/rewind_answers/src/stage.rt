@@ -39,11 +39,11 @@ pub struct Answer {
     pub is_last: bool,
 }
 
-fn goes_on(reply: Vec<u8>) -> Answer
-    ensures { (result.reply ≡ Some reply) × (result.is_last ≡ false) }
+fn goes_on(text: Vec<u8>) -> Answer
+    ensures { (result.reply ≡ Some text) × (result.is_last ≡ false) }
 {
     Answer {
-        reply: Some(reply),
+        reply: Some(text),
         is_last: false,
     }
 }
@@ -61,8 +61,9 @@ fn answer_fault(
         phase_after a.is_last stage.now ≡ after_fault (phase_of stage.now)) }
 {
     let reply = replies::line_fault(alloc, fault, line)?;
+    let text = reply.to_bytes(alloc)?;
     Ok(Answer {
-        reply: Some(reply.to_bytes(alloc)?),
+        reply: Some(text),
         is_last: matches!(stage, Stage::Unopened(_) | Stage::Unstarted(_, _)),
     })
 }
@@ -80,14 +81,17 @@ fn answer_graph(
         replies (phase_after a.is_last stage.new)) a.reply) }
 {
     let (reply, started) = answer_first(alloc, version, processors, value)?;
-    let is_last = started.is_none();
-    if let Some(state) = started {
-        *stage = Stage::Running(Script { version, state });
+    let text = reply.to_bytes(alloc)?;
+    match started {
+        None => Ok(Answer {
+            reply: Some(text),
+            is_last: true,
+        }),
+        Some(state) => {
+            *stage = Stage::Running(Script { version, state });
+            Ok(goes_on(text))
+        }
     }
-    Ok(Answer {
-        reply: Some(reply.to_bytes(alloc)?),
-        is_last,
-    })
 }
 
 // Answers the first line, which gives the script's version or is the graph's.
@@ -105,8 +109,9 @@ fn answer_opening(
         return answer_graph(alloc, stage, Version::First, processors, value);
     };
     let reply = replies::version(alloc, version.number())?;
+    let text = reply.to_bytes(alloc)?;
     *stage = Stage::Unstarted(version, processors);
-    Ok(goes_on(reply.to_bytes(alloc)?))
+    Ok(goes_on(text))
 }
 
 // Answers the first line, the graph's or a later one.
@@ -131,8 +136,8 @@ fn answer_value<R: Threads + Sync>(
             answer_graph(alloc, stage, version, processors, value)
         }
         Stage::Running(script) => {
-            let reply = answer_later(rt, alloc, script, value, line)?;
-            Ok(goes_on(reply))
+            let text = answer_later(rt, alloc, script, value, line)?;
+            Ok(goes_on(text))
         }
     }
 }
