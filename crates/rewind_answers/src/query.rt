@@ -168,7 +168,10 @@ pub fn answer_query<R: Threads + Sync>(
         Query::Candidates => text_of(alloc, answer_candidates(alloc, cluster)),
         Query::Effect(to) => text_of(alloc, answer_effect(alloc, state.timeline(), *to)),
         Query::Turns(asked) => text_of(alloc, answer_turns(alloc, state.timeline(), asked)),
-        Query::FrontierAt(q, location) => text_of(alloc, answer_frontier_at(alloc, cluster, *q, *location)),
+        Query::FrontierAt(q, location) => text_of(
+            alloc,
+            answer_frontier_at(alloc, cluster, *q, *location),
+        ),
         Query::WhyBefore(q, point) => text_of(alloc, answer_why_before(alloc, cluster, *q, point)),
     }
 }

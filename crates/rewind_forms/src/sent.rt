@@ -68,11 +68,7 @@ fn send_time<S: Serializer>(out: &mut S, time: &Timestamp) -> Result<(), S::Erro
 }
 
 // Sends the name of a location, or an empty text if there is no such location.
-fn send_name<S: Serializer>(
-    out: &mut S,
-    graph: &Graph,
-    location: usize,
-) -> Result<(), S::Error>
+fn send_name<S: Serializer>(out: &mut S, graph: &Graph, location: usize) -> Result<(), S::Error>
     ensures { OnOk result (SendsValue (place graph.now location)
         (S.written out.old) (S.written out.new)) }
 {
@@ -80,11 +76,7 @@ fn send_name<S: Serializer>(
 }
 
 // Sends a pointstamp as a list: the name of its location, then its time.
-fn send_point<S: Serializer>(
-    out: &mut S,
-    graph: &Graph,
-    point: &Pointstamp,
-) -> Result<(), S::Error>
+fn send_point<S: Serializer>(out: &mut S, graph: &Graph, point: &Pointstamp) -> Result<(), S::Error>
     ensures { OnOk result (SendsValue (point_data graph.now point.now)
         (S.written out.old) (S.written out.new)) }
 {

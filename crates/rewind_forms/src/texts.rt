@@ -36,24 +36,30 @@ fn send_steps<S: Serializer>(
 }
 
 // Sends a key with all kept steps of a timeline.
-fn steps_at<S: Serializer>(out: &mut S, key: &str, timeline: &Timeline) -> Result<(), S::Error>
+fn steps_at<S: Serializer>(
+    out: &mut S,
+    key: &str,
+    graph: &Graph,
+    timeline: &Timeline,
+) -> Result<(), S::Error>
     ensures { OnOk result (SendsMember key.now
-        (row (map (object_of (cluster_of timeline.now).graph) timeline.now.kept))
+        (row (map (object_of graph.now) timeline.now.kept))
         (S.written out.old) (S.written out.new)) }
 {
     out.key(key)?;
-    send_steps(out, timeline.cluster().graph(), timeline)
+    send_steps(out, graph, timeline)
 }
 
 // The reply that lists all kept steps of a timeline.
 #[derive(Drop)]
 struct ExportReply<'a> {
+    graph: &'a Graph,
     timeline: &'a Timeline,
 }
 
 impl<'a> Described for ExportReply<'a> {
     ghost writes = { λ e. SendsValue (exported_data e.timeline.now.cursor
-        (row (map (object_of (cluster_of e.timeline.now).graph) e.timeline.now.kept))) };
+        (row (map (object_of e.graph.now) e.timeline.now.kept))) };
 }
 
 impl<'a> Serialize for ExportReply<'a> {
@@ -61,7 +67,7 @@ impl<'a> Serialize for ExportReply<'a> {
         out.begin_map(Some(3))?;
         natural_at(out, "at", self.timeline.at())?;
         boolean_at(out, "ok", true)?;
-        steps_at(out, "steps", self.timeline)?;
+        steps_at(out, "steps", self.graph, self.timeline)?;
         out.end_map()
     }
 }
@@ -71,7 +77,8 @@ pub fn exported(alloc: Global, timeline: &Timeline) -> Result<Vec<u8>, AllocErro
     ensures text { IfOk result (λ t. t.items ≡ compact_text (exported_data timeline.now.cursor
         (row (map (object_of (cluster_of timeline.now).graph) timeline.now.kept)))) }
 {
-    match serde_json::to_vec(alloc, &ExportReply { timeline }) {
+    let graph = timeline.cluster().graph();
+    match serde_json::to_vec(alloc, &ExportReply { graph, timeline }) {
         Ok(text) => Ok(text),
         Err(_) => Err(AllocError),
     }

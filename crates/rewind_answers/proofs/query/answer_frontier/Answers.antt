@@ -14,7 +14,7 @@ returns c = record {
       IfOk-weaker c.frontier-2.result _ _ (λ t text. (
         frontier shown,
         frontier_replies s c.args.q c.paths.result.now c.view.result.now.map c.in_ok-first.first shown (Ok (frontier shown)) there
-        c.paths.ensures c.view.ensures.map c.in_ok-first.ensures.value (λ i. entries_data (c.graph.ensures i) (c.entries.ensures.listed i)) refl,
+            c.paths.ensures c.view.ensures.map c.in_ok-first.ensures.value (λ i. entries_data (c.graph.ensures i) (c.entries.ensures.listed i)) refl,
         text,
       )) c.frontier-2.ensures.text;
 }

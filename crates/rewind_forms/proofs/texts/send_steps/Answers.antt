@@ -16,5 +16,5 @@ loop-i-preserved g c =
 pub returns : goal.returns
 returns g c =
     on_ok_weaker c.end_seq.result
-        (sent-all (object_of c.args.graph.now) (c.args.timeline.now).kept c.loop-i.i _ _ _ _ _ (omega (arith, c.loop-i-test.false, c.kept-i-end.ensures)) (search rules)
-        c.loop-i.invariant c.in_ok-begin_seq.ensures) c.end_seq.ensures
+    (sent-all (object_of c.args.graph.now) (c.args.timeline.now).kept c.loop-i.i _ _ _ _ _ (omega (arith, c.loop-i-test.false, c.kept-i-end.ensures)) (search rules)
+    c.loop-i.invariant c.in_ok-begin_seq.ensures) c.end_seq.ensures
