@@ -1,4 +1,4 @@
-use Rattle.nd_state_json.specs.StateText.{entry_data, natural, point_data, whole}
+use Rattle.nd_state_json.specs.StateText.{entry_data}
 use Rattle.rewind_forms.specs.Sent.{SentUpTo}
 use Rattle.rewind_forms.proofs.sent.send_entries.Given as goal
 

@@ -1,7 +1,7 @@
-use Rattle.std.proofs.Common.{rules, arith}
+use Rattle.std.proofs.Common.{rules}
 use Rattle.std.proofs.lemmas.Result.{on_ok_weaker}
-use Rattle.nd_state_json.specs.StateText.{entry_data, natural, point_data, whole}
-use Rattle.rewind_forms.proofs.SentLemmas.{sent-more, sent-all, sent-items}
+use Rattle.nd_state_json.specs.StateText.{whole}
+use Rattle.rewind_forms.proofs.SentLemmas.{sent-all}
 use Rattle.rewind_forms.proofs.sent.send_integers.Goals as goal
 
 pub returns : goal.returns
