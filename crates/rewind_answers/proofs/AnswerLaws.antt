@@ -29,12 +29,11 @@ use Rattle.nd_timeline.specs.Timeline.{TimelineValue, cluster_of}
 use Rattle.nd_history.specs.Least.{HoldsAt, IsLeast as IsLeastHit}
 use Rattle.nd_history.specs.Answers.{MaySearch, SearchFails}
 use Rattle.nd_history.specs.declared.fault.SearchFault.{SearchFault}
-use Rattle.rewind_forms.specs.declared.queries.Query.{Query}
 use Rattle.rewind_forms.specs.declared.queries.Search.{Search}
 use Rattle.nd_timeline.specs.Moves.{Moves}
 use Rattle.nd_timeline.specs.declared.command.Command.{Command}
 use Rattle.nd_timeline.specs.declared.reply.Reply.{Reply}
-use Rattle.rewind_answers.specs.Answers.{Logged, running, refused, most_processors, StartReplies, not_strict, draft_in, checked_in, graph_of, graph_of_draft, AskedReply, CommandReply, moved, FormReplies, LineReplies, FrontierReply, PassedReply, QueryReply, SearchReply, searched, unanswered, search_fault}
+use Rattle.rewind_answers.specs.Answers.{Logged, running, refused, most_processors, StartReplies, not_strict, draft_in, checked_in, graph_of, graph_of_draft, AskedReply, CommandReply, moved, FormReplies, LineReplies, FrontierReply, PassedReply, SearchReply, searched, unanswered, search_fault}
 
 -- a value that is no draft
 pub graph_of-refused : (v : Version) (d : Data) (e : GraphFault) → IsUnlessMemory (ok_or (draft_in v d) Shape) (Err e) → IsUnlessMemory (graph_of v d) (Err e)

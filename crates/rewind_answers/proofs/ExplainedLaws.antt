@@ -1,5 +1,5 @@
 -- How kept steps, what they changed, reasons, changes and turns are told.
-use Rattle.std.proofs.Common.{◌≡◌, ◌∙◌, ℕ, ◌+◌, ◌-◌, ◌<◌, Bool, List, [], ◌∷◌, ◌++◌, length, take, get_or, map, true, false, Some, Result, Ok, Err, IfOk, refl, sym, ap, inl, inr}
+use Rattle.std.proofs.Common.{◌≡◌, ◌∙◌, ℕ, ◌-◌, ◌<◌, Bool, List, length, map, true, Some, Result, Ok, Err, IfOk, ap, inr}
 use Rattle.std.specs.Prelude.{◌↔◌, IsTrue, slice_get}
 use Rattle.std.specs.declared.alloc.AllocError.{AllocError}
 use Rattle.std.specs.declared.alloc.Global.{Global}
@@ -26,14 +26,14 @@ use Rattle.nd_history.specs.declared.effected.EffectFault.{EffectFault}
 use Rattle.nd_history.specs.declared.turned.Turns.{Turns}
 use Rattle.nd_history.specs.declared.fault.TurnsFault.{TurnsFault}
 use Rattle.nd_history.specs.declared.fault.ChangesFault.{ChangesFault}
-use Rattle.rewind_forms.specs.Replies.{exported, kept_step, changed, why, effect, turns}
+use Rattle.rewind_forms.specs.Replies.{kept_step, changed, why, effect, turns}
 use Rattle.rewind_forms.specs.Objects.{object_of}
 use Rattle.rewind_forms.specs.Reasons.{reasons_data}
 use Rattle.rewind_forms.specs.Changes.{changes_data}
 use Rattle.rewind_forms.specs.Effects.{effect_data}
 use Rattle.rewind_forms.specs.declared.queries.ViewChanges.{ViewChanges}
 use Rattle.rewind_forms.specs.declared.queries.Turns.{Turns as Turning}
-use Rattle.rewind_answers.specs.Explained.{steps_data, ExportReply, StepReply, TellsWhy, WhyReply, WhyBeforeReply, ChangesReply, told, untold, changes_fault}
+use Rattle.rewind_answers.specs.Explained.{StepReply, WhyReply, WhyBeforeReply, ChangesReply, told, untold, changes_fault}
 use Rattle.rewind_answers.specs.Explained.{EffectReply, effected, uneffected, effect_fault, TurnsReply, listed, unlisted, turns_fault}
 
 -- ---- kept steps, by the graph that was read
