@@ -61,10 +61,10 @@ impl Run {
     {
         let number = self.lines.number();
         let answer = answer_line(rt, self.alloc, &mut self.stage, reading, number)?;
-        match &answer.reply {
+        match answer.reply {
             None => Ok((0, answer.is_last)),
-            Some(reply) => {
-                self.outbox.add(reply)?;
+            Some(text) => {
+                self.outbox.add_text(text)?;
                 Ok((1, answer.is_last))
             }
         }

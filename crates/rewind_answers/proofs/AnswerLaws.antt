@@ -29,12 +29,11 @@ use Rattle.nd_timeline.specs.Timeline.{TimelineValue, cluster_of}
 use Rattle.nd_history.specs.Least.{HoldsAt, IsLeast as IsLeastHit}
 use Rattle.nd_history.specs.Answers.{MaySearch, SearchFails}
 use Rattle.nd_history.specs.declared.fault.SearchFault.{SearchFault}
-use Rattle.rewind_forms.specs.declared.queries.Query.{Query}
 use Rattle.rewind_forms.specs.declared.queries.Search.{Search}
 use Rattle.nd_timeline.specs.Moves.{Moves}
 use Rattle.nd_timeline.specs.declared.command.Command.{Command}
 use Rattle.nd_timeline.specs.declared.reply.Reply.{Reply}
-use Rattle.rewind_answers.specs.Answers.{Logged, running, refused, most_processors, StartReplies, not_strict, draft_in, checked_in, graph_of, graph_of_draft, AskedReply, CommandReply, moved, FormReplies, LineReplies, FrontierReply, PassedReply, QueryReply, SearchReply, searched, unanswered, search_fault}
+use Rattle.rewind_answers.specs.Answers.{Logged, running, refused, most_processors, StartReplies, not_strict, draft_in, checked_in, graph_of, graph_of_draft, AskedReply, CommandReply, moved, FormReplies, LineReplies, FrontierReply, PassedReply, SearchReply, searched, unanswered, search_fault}
 
 -- a value that is not a draft
 pub graph_of-refused : (v : Version) (d : Data) (e : GraphFault) → IsUnlessMemory (ok_or (draft_in v d) Shape) (Err e) → IsUnlessMemory (graph_of v d) (Err e)
@@ -97,13 +96,6 @@ frontier_replies s q g v f d (Ok w) there graph is part shown reply =
     let same : IsPartWhere (IsOnFrontier g (view_in s q)) (view_in s q) f = subst (λ (u : DeltaValue). IsPartWhere (IsOnFrontier g u) u f) is part in
     inr (there, (f, subst (λ (h : Dataflow). IsPartWhere (IsOnFrontier h (view_in s q)) (view_in s q) f) graph same, reply ∙ ap frontier shown))
 frontier_replies s q g v f d (Err e) there graph is part shown reply = reply
-
--- a query to which the cluster at the cursor has the answer
-pub answered_at : (P : ClusterState → Data → Type 0) (m : TimelineValue Global) (s : ClusterState) (query asked : Query) (r : Result Data AllocError) → s ≡ cluster_of m → query ≡ asked
-    → ((v : Data) → P (cluster_of m) v → QueryReply m asked v) → IfOk r (λ v. P s v) → IfOk r (λ v. QueryReply m query v)
-answered_at P m s query asked (Ok v) same is means reply =
-    subst (λ (x : Query). QueryReply m x v) (sym is) (means v (subst (λ (u : ClusterState). P u v) same reply))
-answered_at P m s query asked (Err x) same is means reply = reply
 
 -- ---- searches, of the timeline of a snapshot
 

@@ -1,5 +1,5 @@
 -- The replies about kept steps, what they changed, reasons, changes and turns.
-use Rattle.std.proofs.Common.{◌≡◌, ◌∙◌, ℕ, ◌+◌, ◌-◌, ◌<◌, Bool, List, [], ◌∷◌, ◌++◌, length, take, get_or, map, true, false, Some, Result, Ok, Err, IfOk, refl, sym, ap, inl, inr}
+use Rattle.std.proofs.Common.{◌≡◌, ◌∙◌, ℕ, ◌-◌, ◌<◌, Bool, List, length, map, true, Some, Result, Ok, Err, IfOk, ap, inr}
 use Rattle.std.specs.Prelude.{◌↔◌, IsTrue, slice_get}
 use Rattle.std.specs.declared.alloc.AllocError.{AllocError}
 use Rattle.std.specs.declared.alloc.Global.{Global}
@@ -26,22 +26,17 @@ use Rattle.nd_history.specs.declared.effected.EffectFault.{EffectFault}
 use Rattle.nd_history.specs.declared.turned.Turns.{Turns}
 use Rattle.nd_history.specs.declared.fault.TurnsFault.{TurnsFault}
 use Rattle.nd_history.specs.declared.fault.ChangesFault.{ChangesFault}
-use Rattle.rewind_forms.specs.Replies.{exported, kept_step, changed, why, effect, turns}
+use Rattle.rewind_forms.specs.Replies.{kept_step, changed, why, effect, turns}
 use Rattle.rewind_forms.specs.Objects.{object_of}
 use Rattle.rewind_forms.specs.Reasons.{reasons_data}
 use Rattle.rewind_forms.specs.Changes.{changes_data}
 use Rattle.rewind_forms.specs.Effects.{effect_data}
 use Rattle.rewind_forms.specs.declared.queries.ViewChanges.{ViewChanges}
 use Rattle.rewind_forms.specs.declared.queries.Turns.{Turns as Turning}
-use Rattle.rewind_answers.specs.Explained.{steps_data, ExportReply, StepReply, TellsWhy, WhyReply, WhyBeforeReply, ChangesReply, told, untold, changes_fault}
+use Rattle.rewind_answers.specs.Explained.{StepReply, WhyReply, WhyBeforeReply, ChangesReply, told, untold, changes_fault}
 use Rattle.rewind_answers.specs.Explained.{EffectReply, effected, uneffected, effect_fault, TurnsReply, listed, unlisted, turns_fault}
 
 -- ---- kept steps, with the graph that was read
-
-pub export_replies : (m : TimelineValue Global) (g : Dataflow) (at : ℕ) (d : Data) (r : Result Data AllocError) → g ≡ (cluster_of m).graph → at ≡ m.cursor → d ≡ steps_data g m.kept
-    → IfOk r (λ v. v ≡ exported at d) → IfOk r (λ v. ExportReply m v)
-export_replies m g at d (Ok v) same cursor shown reply = reply ∙ (λ i. exported (cursor i) ((shown ∙ ap (λ h. steps_data h m.kept) same) i))
-export_replies m g at d (Err e) same cursor shown reply = reply
 
 pub step_replies : (m : TimelineValue Global) (g : Dataflow) (to : ℕ) (x : Step Global) (d : Data) (r : Result Data AllocError) → g ≡ (cluster_of m).graph → 0 < to → slice_get m.kept (to - 1) ≡ Some x
     → d ≡ object_of g x → IfOk r (λ v. v ≡ kept_step d) → IfOk r (λ v. StepReply m to v)

@@ -1,3 +1,4 @@
 pub mod AnswerLaws
 pub mod ExplainedLaws
 pub mod AheadLaws
+pub mod TextLaws

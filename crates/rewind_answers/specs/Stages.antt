@@ -1,6 +1,7 @@
 -- The phases that a run's values stand for.
-use Rattle.std.specs.Prelude.{Bool, true, false, ℕ, List, [], ◌∷◌, length, Option, Some, None, Result}
+use Rattle.std.specs.Prelude.{◌≡◌, Bool, true, false, ℕ, List, [], ◌∷◌, length, Option, Some, None, Result, Vec}
 use Rattle.serde_json.specs.Data.{Data}
+use Rattle.serde_json.specs.Written.{compact_text}
 use Rattle.std.specs.declared.alloc.Global.{Global}
 use Rattle.nd_graph.specs.Graph.{Dataflow}
 use Rattle.nd_graph.specs.declared.fault.GraphFault.{GraphFault}
@@ -38,7 +39,11 @@ abbrev pub phase_after : Bool → Stage → Phase
 phase_after true stage = refused
 phase_after false stage = phase_of stage
 
--- the replies of an answer: none or one
-abbrev pub replies_of : Option Data → List Data
-replies_of None = []
-replies_of (Some reply) = reply ∷ []
+-- the text is that of a reply which may be given
+abbrev pub TellsOne : (Data → Type 0) → List ℕ → Type 0
+TellsOne May text = (reply : Data) × May reply × (text ≡ compact_text reply)
+
+-- the text of an answer, if it has one, is that of replies which may be given: none or one
+abbrev pub Tells : (List Data → Type 0) → Option (Vec ℕ Global) → Type 0
+Tells May None = May []
+Tells May (Some text) = TellsOne (λ reply. May (reply ∷ [])) text.items

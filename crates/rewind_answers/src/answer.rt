@@ -4,11 +4,11 @@ ghost use Rattle.nd_graph.specs.Fault.{IsUnlessMemory};
 ghost use Rattle.nd_graph.specs.declared.fault.GraphFault.TheVariants.{Shape};
 ghost use Rattle.serde_json.specs.View.{view};
 ghost use Rattle.rewind_answers.specs.Answers.{draft_in, checked_in, graph_of as graph_in, most_processors as most_in, LineReplies, AskedReply, CommandReply};
-ghost use Rattle.rewind_answers.specs.Stages.{Starts, logged, phase_in};
+ghost use Rattle.rewind_answers.specs.Stages.{Starts, TellsOne, logged, phase_in};
 ghost use Rattle.nd_protocol.specs.Invariant.{KeepsProtocol};
 ghost use Rattle.nd_timeline.specs.Timeline.{cluster_of};
 
-use crate::query::answer_query;
+use crate::query::{answer_query, text_of};
 use crate::stage::Script;
 use nd_cluster::{Cluster, StartFault};
 use nd_graph::{Graph, GraphDraft, GraphFault};
@@ -138,36 +138,38 @@ fn answer_do(alloc: Global, state: &mut State, command: Command) -> Result<Json,
     }
 }
 
-// Answers a command or a query.
+// Answers a command or a query, and returns the text of the reply.
 fn answer_asked<R: Threads + Sync>(
     rt: &R,
     alloc: Global,
     state: &mut State,
     asked: Asked,
-) -> Result<Json, AllocError>
-    ensures reply { IfOk result (λ v. AskedReply (logged state.old) asked v (logged state.new)) }
+) -> Result<Vec<u8>, AllocError>
+    ensures reply { IfOk result (λ t. TellsOne
+        (λ v. AskedReply (logged state.old) asked v (logged state.new)) t.items) }
 {
     match asked {
-        Asked::Do(command) => answer_do(alloc, state, command),
+        Asked::Do(command) => text_of(alloc, answer_do(alloc, state, command)),
         Asked::Tell(query) => answer_query(rt, alloc, state, &query),
     }
 }
 
-/// Answers a later line of a script.
+/// Answers a later line of a script, and returns the text of the reply.
 pub fn answer_later<R: Threads + Sync>(
     rt: &R,
     alloc: Global,
     script: &mut Script,
     value: &Value,
     line: u64,
-) -> Result<Json, AllocError>
-    ensures replies { IfOk result (λ v. LineReplies script.old.version (logged script.old.state)
-        line (view value.now) (v ∷ []) (phase_in script.new)) }
+) -> Result<Vec<u8>, AllocError>
+    ensures replies { IfOk result (λ t. TellsOne
+        (λ v. LineReplies script.old.version (logged script.old.state)
+        line (view value.now) (v ∷ []) (phase_in script.new)) t.items) }
 {
     let graph = cluster(&script.state).graph();
     let asked = match asked_of(alloc, script.version, graph, value) {
         Ok(asked) => asked,
-        Err(fault) => return replies::line_fault(alloc, fault, line),
+        Err(fault) => return text_of(alloc, replies::line_fault(alloc, fault, line)),
     };
     answer_asked(rt, alloc, &mut script.state, asked)
 }

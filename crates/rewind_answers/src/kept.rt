@@ -1,37 +1,22 @@
 //! The replies that list kept steps, and what one of them changed.
 ghost use Rattle.std.specs.Prelude.{◌≡◌, Some, IfOk};
 ghost use Rattle.rewind_forms.specs.Replies.{fault as fault_data};
-ghost use Rattle.rewind_answers.specs.Explained.{steps_data, ExportReply, StepReply, EffectReply, effect_fault};
+ghost use Rattle.rewind_answers.specs.Stages.{TellsOne};
+ghost use Rattle.rewind_answers.specs.Explained.{ExportReply, StepReply, EffectReply, effect_fault};
 ghost use Rattle.nd_timeline.specs.Faults.{code_of};
 ghost use Rattle.nd_timeline.specs.declared.fault.Fault.TheVariants.{NoSuchPoint};
 
-use nd_graph::Graph;
 use nd_history::{EffectFault, effect};
-use nd_json::{Json, JsonList};
+use nd_json::Json;
 use nd_timeline::{Fault, Timeline};
-use rewind_forms::{effect_value, replies, step_value};
+use rewind_forms::{effect_value, replies, step_value, texts};
 use std::alloc::{AllocError, Global};
 
-// Returns all kept steps, each as the object of its command line.
-fn steps_value(alloc: Global, graph: &Graph, timeline: &Timeline) -> Result<Json, AllocError>
-    ensures reply { IfOk result (λ j. j ≡ steps_data graph.now timeline.now.kept) }
+/// Replies with all kept steps, and the cursor. The reply is made as text.
+pub(crate) fn answer_export(alloc: Global, timeline: &Timeline) -> Result<Vec<u8>, AllocError>
+    ensures reply { IfOk result (λ t. TellsOne (ExportReply timeline.now) t.items) }
 {
-    let mut list = JsonList::new(alloc);
-    for i in 0..timeline.kept() {
-        let Some(step) = timeline.step(i) else {
-            unreachable!()
-        };
-        list.push(step_value(alloc, graph, step)?)?;
-    }
-    Ok(list.into_json())
-}
-
-/// Replies with all kept steps, and the cursor.
-pub(crate) fn answer_export(alloc: Global, timeline: &Timeline) -> Result<Json, AllocError>
-    ensures reply { IfOk result (λ v. ExportReply timeline.now v) }
-{
-    let shown = steps_value(alloc, timeline.cluster().graph(), timeline)?;
-    replies::exported(alloc, timeline.at(), shown)
+    texts::exported(alloc, timeline)
 }
 
 // Replies that no kept step leads to a position.

@@ -1,9 +1,10 @@
 //! The replies to queries.
-ghost use Rattle.std.specs.Prelude.{◌≡◌, Some, IfOk};
+ghost use Rattle.std.specs.Prelude.{◌≡◌, Some, Ok, IfOk};
 ghost use Rattle.nd_protocol.specs.Invariant.{IsSettled, KeepsProtocol};
 ghost use Rattle.nd_state_json.specs.StateText.{state_data};
 ghost use Rattle.rewind_forms.specs.Replies.{count as count_data, state};
 ghost use Rattle.rewind_answers.specs.Answers.{QueryReply, BeforeReply, ViewReply, FrontierReply, PassedReply, SearchReply, search_fault, true_count};
+ghost use Rattle.rewind_answers.specs.Stages.{TellsOne};
 
 use crate::ahead::{answer_candidates, answer_frontier_at};
 use crate::answer::cluster;
@@ -14,10 +15,18 @@ use nd_history::{OpenGate, SearchFault, search_in};
 use nd_json::Json;
 use nd_paths::Pointstamp;
 use nd_session::State;
-use nd_state_json::{counts_value, point_value};
-use rewind_forms::{Query, Search, replies};
+use nd_state_json::point_value;
+use rewind_forms::{Query, Search, replies, texts};
 use std::alloc::{AllocError, Global};
 use std::thread::Threads;
+
+/// Returns the text of a reply.
+pub(crate) fn text_of(alloc: Global, reply: Result<Json, AllocError>) -> Result<Vec<u8>, AllocError>
+    ensures { IfOk result (λ t. TellsOne (λ value. reply ≡ Ok value) t.items) }
+{
+    let value = reply?;
+    value.to_bytes(alloc)
+}
 
 // Replies with the state.
 fn answer_state(alloc: Global, cluster: &Cluster) -> Result<Json, AllocError>
@@ -52,29 +61,27 @@ fn answer_before(
     replies::before(alloc, cluster.paths().before(from, to))
 }
 
-// Replies with the view of a processor.
-fn answer_view(alloc: Global, cluster: &Cluster, q: u32) -> Result<Json, AllocError>
-    ensures reply { IfOk result (λ v. ViewReply cluster.now q v) }
+// Replies with the view of a processor, made as text.
+fn answer_view(alloc: Global, cluster: &Cluster, q: u32) -> Result<Vec<u8>, AllocError>
+    ensures reply { IfOk result (λ t. TellsOne (ViewReply cluster.now q) t.items) }
 {
     let q = q as usize;
     if q >= cluster.n() {
-        return replies::no_processor(alloc);
+        return text_of(alloc, replies::no_processor(alloc));
     }
-    let shown = counts_value(alloc, cluster.graph(), cluster.view(q).entries())?;
-    replies::known(alloc, shown)
+    texts::known(alloc, cluster.graph(), cluster.view(q).entries())
 }
 
-// Replies with the frontier of a processor's view.
-fn answer_frontier(alloc: Global, cluster: &Cluster, q: u32) -> Result<Json, AllocError>
-    ensures reply { IfOk result (λ v. FrontierReply cluster.now q v) }
+// Replies with the frontier of a processor's view, made as text.
+fn answer_frontier(alloc: Global, cluster: &Cluster, q: u32) -> Result<Vec<u8>, AllocError>
+    ensures reply { IfOk result (λ t. TellsOne (FrontierReply cluster.now q) t.items) }
 {
     let q = q as usize;
     if q >= cluster.n() {
-        return replies::no_processor(alloc);
+        return text_of(alloc, replies::no_processor(alloc));
     }
     let first = cluster.view(q).frontier(alloc, cluster.paths())?;
-    let shown = counts_value(alloc, cluster.graph(), first.entries())?;
-    replies::frontier(alloc, shown)
+    texts::frontier(alloc, cluster.graph(), first.entries())
 }
 
 // Replies whether a processor's view has passed a pointstamp.
@@ -135,32 +142,36 @@ fn answer_search<R: Threads + Sync>(
     }
 }
 
-/// Answers a query.
+/// Answers a query, and returns the text of the reply.
 pub fn answer_query<R: Threads + Sync>(
     rt: &R,
     alloc: Global,
     state: &State,
     query: &Query,
-) -> Result<Json, AllocError>
-    ensures reply { IfOk result (λ v. QueryReply state.now.machine.timeline query.now v) }
+) -> Result<Vec<u8>, AllocError>
+    ensures reply { IfOk result (λ t.
+        TellsOne (QueryReply state.now.machine.timeline query.now) t.items) }
 {
     let cluster = cluster(state);
     match query {
-        Query::State => answer_state(alloc, cluster),
-        Query::Count(point) => answer_count(alloc, cluster, point),
-        Query::Before(from, to) => answer_before(alloc, cluster, from, to),
+        Query::State => text_of(alloc, answer_state(alloc, cluster)),
+        Query::Count(point) => text_of(alloc, answer_count(alloc, cluster, point)),
+        Query::Before(from, to) => text_of(alloc, answer_before(alloc, cluster, from, to)),
         Query::View(q) => answer_view(alloc, cluster, *q),
         Query::Frontier(q) => answer_frontier(alloc, cluster, *q),
-        Query::Passed(q, point) => answer_passed(alloc, cluster, *q, point),
-        Query::Search(search) => answer_search(rt, alloc, state, search),
+        Query::Passed(q, point) => text_of(alloc, answer_passed(alloc, cluster, *q, point)),
+        Query::Search(search) => text_of(alloc, answer_search(rt, alloc, state, search)),
         Query::Export => answer_export(alloc, state.timeline()),
-        Query::Why(q, point) => answer_why(alloc, cluster, *q, point),
-        Query::Changes(asked) => answer_changes(alloc, state.timeline(), asked),
-        Query::Step(to) => answer_step(alloc, state.timeline(), *to),
-        Query::Candidates => answer_candidates(alloc, cluster),
-        Query::Effect(to) => answer_effect(alloc, state.timeline(), *to),
-        Query::Turns(asked) => answer_turns(alloc, state.timeline(), asked),
-        Query::FrontierAt(q, location) => answer_frontier_at(alloc, cluster, *q, *location),
-        Query::WhyBefore(q, point) => answer_why_before(alloc, cluster, *q, point),
+        Query::Why(q, point) => text_of(alloc, answer_why(alloc, cluster, *q, point)),
+        Query::Changes(asked) => text_of(alloc, answer_changes(alloc, state.timeline(), asked)),
+        Query::Step(to) => text_of(alloc, answer_step(alloc, state.timeline(), *to)),
+        Query::Candidates => text_of(alloc, answer_candidates(alloc, cluster)),
+        Query::Effect(to) => text_of(alloc, answer_effect(alloc, state.timeline(), *to)),
+        Query::Turns(asked) => text_of(alloc, answer_turns(alloc, state.timeline(), asked)),
+        Query::FrontierAt(q, location) => text_of(
+            alloc,
+            answer_frontier_at(alloc, cluster, *q, *location),
+        ),
+        Query::WhyBefore(q, point) => text_of(alloc, answer_why_before(alloc, cluster, *q, point)),
     }
 }

@@ -7,10 +7,9 @@ ghost use Rattle.rewind_lines.specs.Readings.{reading_view};
 ghost use Rattle.rewind_forms.specs.Replies.{line_fault};
 ghost use Rattle.rewind_answers.specs.Answers.{graph_of, StartReplies, OpeningReplies, Answers, after_fault};
 ghost use Rattle.rewind_forms.specs.Versions.{version_of as version_in};
-ghost use Rattle.rewind_answers.specs.Stages.{phase_of, phase_after, replies_of};
+ghost use Rattle.rewind_answers.specs.Stages.{Tells, phase_of, phase_after};
 
 use crate::answer::{answer_first, answer_later};
-use nd_json::Json;
 use nd_session::State;
 use rewind_forms::{LineFault, Version, replies, version_of};
 use rewind_lines::Reading;
@@ -34,18 +33,18 @@ pub struct Script {
     pub state: State,
 }
 
-/// The reply to a line, if it has one, and whether the run ends there.
+/// The text of the reply to a line, if it has one, and whether the run ends there.
 #[derive(Drop)]
 pub struct Answer {
-    pub reply: Option<Json>,
+    pub reply: Option<Vec<u8>>,
     pub is_last: bool,
 }
 
-fn goes_on(reply: Json) -> Answer
-    ensures { (result.reply ≡ Some reply) × (result.is_last ≡ false) }
+fn goes_on(text: Vec<u8>) -> Answer
+    ensures { (result.reply ≡ Some text) × (result.is_last ≡ false) }
 {
     Answer {
-        reply: Some(reply),
+        reply: Some(text),
         is_last: false,
     }
 }
@@ -57,13 +56,15 @@ fn answer_fault(
     fault: LineFault,
     line: u64,
 ) -> Result<Answer, AllocError>
-    ensures reply { IfOk result (λ a. replies_of a.reply ≡ option_to_list (line_fault fault line)) }
+    ensures reply { IfOk result (λ a.
+        Tells (λ replies. replies ≡ option_to_list (line_fault fault line)) a.reply) }
     ensures after { IfOk result (λ a.
         phase_after a.is_last stage.now ≡ after_fault (phase_of stage.now)) }
 {
     let reply = replies::line_fault(alloc, fault, line)?;
+    let text = reply.to_bytes(alloc)?;
     Ok(Answer {
-        reply: Some(reply),
+        reply: Some(text),
         is_last: matches!(stage, Stage::Unopened(_) | Stage::Unstarted(_, _)),
     })
 }
@@ -76,19 +77,22 @@ fn answer_graph(
     processors: u8,
     value: &Value,
 ) -> Result<Answer, AllocError>
-    ensures answers { IfOk result (λ a.
-        StartReplies version processors (graph_of version (view value.now))
-        (replies_of a.reply) (phase_after a.is_last stage.new)) }
+    ensures answers { IfOk result (λ a. Tells
+        (λ replies. StartReplies version processors (graph_of version (view value.now))
+        replies (phase_after a.is_last stage.new)) a.reply) }
 {
     let (reply, started) = answer_first(alloc, version, processors, value)?;
-    let is_last = started.is_none();
-    if let Some(state) = started {
-        *stage = Stage::Running(Script { version, state });
+    let text = reply.to_bytes(alloc)?;
+    match started {
+        None => Ok(Answer {
+            reply: Some(text),
+            is_last: true,
+        }),
+        Some(state) => {
+            *stage = Stage::Running(Script { version, state });
+            Ok(goes_on(text))
+        }
     }
-    Ok(Answer {
-        reply: Some(reply),
-        is_last,
-    })
 }
 
 // Answers the first line, which names the script's version or is the graph's.
@@ -98,16 +102,17 @@ fn answer_opening(
     processors: u8,
     value: &Value,
 ) -> Result<Answer, AllocError>
-    ensures answers { IfOk result (λ a.
-        OpeningReplies (version_in (view value.now)) processors (view value.now)
-        (replies_of a.reply) (phase_after a.is_last stage.new)) }
+    ensures answers { IfOk result (λ a. Tells
+        (λ replies. OpeningReplies (version_in (view value.now)) processors (view value.now)
+        replies (phase_after a.is_last stage.new)) a.reply) }
 {
     let Some(version) = version_of(value) else {
         return answer_graph(alloc, stage, Version::First, processors, value);
     };
     let reply = replies::version(alloc, version.number())?;
+    let text = reply.to_bytes(alloc)?;
     *stage = Stage::Unstarted(version, processors);
-    Ok(goes_on(reply))
+    Ok(goes_on(text))
 }
 
 // Answers the first line, the graph's or a later one.
@@ -118,8 +123,9 @@ fn answer_value<R: Threads + Sync>(
     value: &Value,
     line: u64,
 ) -> Result<Answer, AllocError>
-    ensures answers { IfOk result (λ a. Answers (phase_of stage.old) line (json (view value.now))
-        (replies_of a.reply) (phase_after a.is_last stage.new)) }
+    ensures answers { IfOk result (λ a. Tells
+        (λ replies. Answers (phase_of stage.old) line (json (view value.now))
+        replies (phase_after a.is_last stage.new)) a.reply) }
 {
     match stage {
         Stage::Unopened(processors) => {
@@ -131,8 +137,8 @@ fn answer_value<R: Threads + Sync>(
             answer_graph(alloc, stage, version, processors, value)
         }
         Stage::Running(script) => {
-            let reply = answer_later(rt, alloc, script, value, line)?;
-            Ok(goes_on(reply))
+            let text = answer_later(rt, alloc, script, value, line)?;
+            Ok(goes_on(text))
         }
     }
 }
@@ -148,8 +154,9 @@ pub fn answer_line<R: Threads + Sync>(
     reading: &Reading,
     line: u64,
 ) -> Result<Answer, AllocError>
-    ensures answers { IfOk result (λ a. Answers (phase_of stage.old) line (reading_view reading.now)
-        (replies_of a.reply) (phase_after a.is_last stage.new)) }
+    ensures answers { IfOk result (λ a. Tells
+        (λ replies. Answers (phase_of stage.old) line (reading_view reading.now)
+        replies (phase_after a.is_last stage.new)) a.reply) }
 {
     match reading {
         Reading::Blank => Ok(Answer {

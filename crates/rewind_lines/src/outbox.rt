@@ -1,5 +1,5 @@
 //! Replies that are collected, and written together.
-ghost use Rattle.std.specs.Prelude.{◌≡◌, ◌++◌, [], ℕ, false, length, nat_le, take, is_err, OnOk, OnErr};
+ghost use Rattle.std.specs.Prelude.{◌≡◌, ◌++◌, ◌∷◌, [], ℕ, false, length, nat_le, take, is_err, OnOk, OnErr};
 ghost use Rattle.std.specs.Io.KnownBytes.{Appends};
 ghost use Rattle.rewind_lines.specs.Texts.{reply_text};
 
@@ -43,8 +43,21 @@ impl Outbox {
         ensures ok { OnOk result (self.new ≡ self.old ++ reply_text reply.now) }
         ensures err { OnErr result (self.new ≡ self.old) }
     {
-        let mut line = reply.to_bytes(self.alloc)?;
+        let text = reply.to_bytes(self.alloc)?;
+        self.add_text(text)
+    }
+
+    /// Appends `text` as a line: the text and a newline. If no reply waits, a long text is moved instead of copied.
+    pub fn add_text(&mut self, text: Vec<u8>) -> Result<(), AllocError>
+        ensures ok { OnOk result (self.new ≡ self.old ++ (text.items ++ 10 ∷ [])) }
+        ensures err { OnErr result (self.new ≡ self.old) }
+    {
+        let mut line = text;
         line.push(b'\n')?;
+        if self.waiting.is_empty() && line.len() >= WAITING {
+            self.waiting = line;
+            return Ok(());
+        }
         self.waiting.extend_from_slice(line.as_slice())?;
         Ok(())
     }

@@ -1,0 +1,14 @@
+use Rattle.serde_json.proofs.FreeTexts.{text_of_value}
+use Rattle.nd_state_json.specs.StateText.{entries_data}
+use Rattle.rewind_forms.specs.Replies.{frontier as frontier_data}
+use Rattle.rewind_forms.proofs.SentLemmas.{no_float-frontier}
+use Rattle.rewind_forms.proofs.texts.frontier.Goals as goal
+
+pub returns-in-Ok : goal.returns-in-Ok
+returns-in-Ok c = record {
+  text =
+      let sent = c.in-Ok.ensures.events in
+      let g = c.args.graph.now in
+      let entries = c.args.entries.now in
+      text_of_value (frontier_data (entries_data g entries)) sent.0 c.in-Ok.text.items sent.1 sent.2 (no_float-frontier g entries);
+}
