@@ -32,7 +32,7 @@ def state_in_sight(state, order, holds, fronts, first):
     listed = points.all()
     first, shown = page_of(listed, first, POINTS)
     return {
-        "places": place_counts(state, order, holds, TIMES),
+        "places": place_counts(state, points, holds, TIMES),
         "points": [point_row(points, it, fronts) for it in shown],
         "first": first,
         "count": len(listed),

@@ -43,13 +43,13 @@ def added(counts, time, count):
     counts[time] = counts.get(time, 0) + count
 
 
-def place_counts(state, order, holds, most=None):
+def place_counts(state, points, holds, most=None):
     """What stands at each place over all processors: records, tokens, requests or held capabilities, and
-    what a sink has counted; of the times at most `most`."""
+    what a sink has counted; of the times at most `most`. `points` are those of the state."""
     records, requests, tokens, sinks = ({} for _ in range(4))
+    for (place, time), count in points.records.items():
+        records.setdefault(place, {})[time] = count
     for it in state["processors"]:
-        for place, time, _, count in it["records"]:
-            added(records.setdefault(place, {}), time, count)
         for place, time in it["requests"]:
             added(requests.setdefault(place, {}), time, 1)
         for place, epoch in it["tokens"]:
@@ -61,9 +61,9 @@ def place_counts(state, order, holds, most=None):
         for place, by_time in counts.items():
             total, there, lines = times(by_time, most)
             of = "held" if place in holds else kind + "s" * (total != "1")
-            shown[order[place]] = {"n": total, "of": of, "when": there, "by": lines}
+            shown[points.order[place]] = {"n": total, "of": of, "when": there, "by": lines}
     for place, count in sinks.items():
-        shown[order[place]] = {"n": str(count), "of": "counted", "when": "", "by": []}
+        shown[points.order[place]] = {"n": str(count), "of": "counted", "when": "", "by": []}
     return shown
 
 
@@ -127,7 +127,7 @@ def shown_state(state, order, holds, answers):
     points = Points(state, order)
     fronts = frontiers_of([it for it in answers if "state" not in it])
     return {
-        "places": place_counts(state, order, holds),
+        "places": place_counts(state, points, holds),
         "points": [point_row(points, it, fronts) for it in points.all()],
         "queues": [
             {"from": p, "to": q, "changes": [changes(it) for it in queue]}

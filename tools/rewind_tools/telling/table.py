@@ -7,6 +7,16 @@ LONG = 12
 NOTHING = "."
 
 
+def record_counts(state):
+    """The number of records at each point, over all processors."""
+    counts = {}
+    for it in state["processors"]:
+        for place, time, _, number in it["records"]:
+            point = place, tuple(time)
+            counts[point] = counts.get(point, 0) + number
+    return counts
+
+
 class Points:
     """The points of a state that stand anywhere, each with its true count and what each processor views and
     has unsent."""
@@ -14,7 +24,8 @@ class Points:
     def __init__(self, state, order):
         self.processors = range(len(state["processors"]))
         self.order = order
-        self.truth, self.cells = {}, {}
+        self.records = record_counts(state)
+        self.truth, self.cells = dict(self.records), {}
         for p, it in enumerate(state["processors"]):
             self.add_truth(it)
             for kind in ("view", "unsent"):
@@ -22,17 +33,11 @@ class Points:
                     self.cells[place, tuple(time), kind, p] = number
 
     def add_truth(self, processor):
-        """Adds a processor's records, requests and tokens to the true counts."""
-        for place, time, _, number in processor["records"]:
-            self.add(place, time, number)
-        for place, time in processor["requests"]:
-            self.add(place, time, 1)
-        for place, epoch in processor["tokens"]:
-            self.add(place, [epoch], 1)
-
-    def add(self, place, time, number):
-        point = place, tuple(time)
-        self.truth[point] = self.truth.get(point, 0) + number
+        """Adds a processor's requests and tokens to the true counts."""
+        points = [(place, tuple(time)) for place, time in processor["requests"]]
+        points += [(place, (epoch,)) for place, epoch in processor["tokens"]]
+        for point in points:
+            self.truth[point] = self.truth.get(point, 0) + 1
 
     def all(self):
         """The points, in the order of listing."""
