@@ -353,8 +353,8 @@ def alone(crate, edited, texts, room):
 
 
 def begin(rt, start, kept):
-    """Fills the folder with links to what a check of the crate kept, if its folder is given. A check takes no
-    file of it that does not fit the text, so at worst it is of no use."""
+    """Fills the folder with links to what a check of the crate kept, if its folder is given. A check takes
+    no file of it that does not fit the text, so at worst it is of no use."""
     try:
         if start:
             os.rmdir(kept)
