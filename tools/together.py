@@ -1,22 +1,23 @@
 """The must-fail edits of a crate, tried together: one check of one copy with all of them.
 
-A function's proof rests on the contracts of what it calls and on no other body. So of bodies that are turned
-in different functions of one copy each is refused, or not, as it would be alone. An edit counts as refused
-only if the prover's line of a function that it changes gives a reason of its own, and names a place in that
-function or in its folder of answers, for its meaning: not a name that went, and not another function that is
-not proved. The check is asked for the edited functions alone, so that what stands above them is not read. It
-begins with what the crate's own check proved, so that only what the edits change is proved once more. An
-edit of a function that another edit changes is made in a function of its own: the same once more under
-another name, with its contract and its answers. If all that is said against a function is that its own proof
-files name what the edit took away, the edit is refused with the words that the toolchain has for that: its
-own trial, of the whole crate, reads the same files and refuses it for the same lines. What was not refused
-so is tried again with the rest, and at last alone, by the toolchain's own trial, over what the earlier
-checks of this run proved and then from nothing."""
+A function's proof rests on the contracts of what it calls and on no other body. So of bodies that are
+turned in different functions of one copy each is refused, or not, as it would be alone. An edit counts as
+refused only if the prover's line of a function that it changes gives a reason of its own, and names a place
+in that function or in its folder of answers, for its meaning: not a name that went, and not another
+function that is not proved. The check is asked for the edited functions alone, so that what stands above
+them is not read; and each other function of the copy has an empty proof and, unless a trait asks for it, a
+body that calls nothing, so that what stands below is not proved once more. It begins with what an earlier
+check of the crate kept, where there is one (rt must-fail; the gate keeps none). An edit of a function that
+another edit changes is made in a function of its own: the same once more under another name, with its
+contract and its answers. If all that is said against a function is that its own proof files name what the
+edit took away, the edit is refused with the words that the toolchain has for that: its own trial, of the
+whole crate, reads the same files and refuses it for the same lines. What was not refused so is tried again
+with the rest, and at last alone, by the toolchain's own trial, over what the earlier checks of this run
+proved and then from nothing."""
 import collections
 import copy
 import functools
 import glob
-import json
 import os
 import re
 import shutil
@@ -293,6 +294,23 @@ def functions_of(folder):
             place += len(line) + 1
 
 
+def without_body(lines, function):
+    """The lines with a body that calls nothing in place of the function's, on as many lines; as they are
+    where the body cannot be told."""
+    indent = re.match(" *", lines[function.last - 1])[0]
+    head = next(it for it in range(function.first - 1, function.last) if FUNCTION.match(lines[it]))
+    begins = [it for it in range(head, function.last) if lines[it] == indent + "{"]
+    begins = begins or [
+        it
+        for it in range(head, function.last)
+        if lines[it].startswith((indent + "fn ", indent + "pub", indent + ")")) and lines[it].endswith(" {")
+    ]
+    first, last = (begins or [function.last])[0] + 1, function.last - 1
+    if "const fn" in lines[head] or first >= last:
+        return lines
+    return [*lines[:first], indent + "    unreachable!()", *[""] * (last - first - 1), *lines[last:]]
+
+
 def give_proofs_again(crate, edited, room):
     """Gives each function that stands once more in the copy the proof of the one that it is made of."""
     proofs = {(at.file, at.names): proof for at, proof in functions_of(crate.folder)}
@@ -309,52 +327,52 @@ def give_proofs_again(crate, edited, room):
                     it.write(text.replace(f"{path}.", f"{path}{ending}."))
 
 
-def copied(crate, edited, room):
-    """A copy of the crate in the room, with a proof for each edited function that stands there once more."""
+def alone(crate, edited, texts, room):
+    """A copy of the crate in the room with these texts, where each function that is not edited has an empty
+    proof and calls nothing, and the texts that it has then."""
     for part in ("src", "specs", "proofs"):
         if os.path.isdir(f"{crate.folder}/{part}"):
             shutil.copytree(f"{crate.folder}/{part}", f"{room}/{part}")
     give_proofs_again(crate, edited, room)
-    made = copy.copy(crate)
-    made.folder = room
-    return made
+    edited, files = {(it.file, it.names) for it in edited}, {}
+    for at, proof in functions_of(crate.folder):
+        if (at.file, at.names) in edited:
+            continue
+        os.makedirs(f"{room}/{proof}", exist_ok=True)
+        for file in glob.glob(f"{glob.escape(f'{room}/{proof}')}/*.antt"):
+            os.remove(file)
+        open(f"{room}/{proof}/Proof.antt", "w", encoding="utf-8").close()
+        if at.file not in files:
+            with open(f"{crate.folder}/{at.file}", encoding="utf-8") as it:
+                files[at.file] = texts.get(at.file, it.read()).split("\n")
+        if not of_trait(files[at.file], at):
+            files[at.file] = without_body(files[at.file], at)
+    copied = copy.copy(crate)
+    copied.folder = room
+    return copied, {**texts, **{file: "\n".join(lines) for file, lines in files.items()}}
 
 
-def begin(rt, crate, start, kept):
-    """Fills the folder with what the crate's own check proved, for the checks of its edits to begin with:
-    what the last one kept, if that is given, or else what the crate's library holds of it. A check takes no
-    file of it that does not fit the text, so at worst it is of no use."""
+def begin(rt, start, kept):
+    """Fills the folder with links to what a check of the crate kept, if its folder is given. A check takes
+    no file of it that does not fit the text, so at worst it is of no use."""
     try:
         if start:
             os.rmdir(kept)
             rt.linked(start, kept)
-            return
-        with open(f"{crate.rlib}/format", encoding="utf-8") as it:
-            name = re.search(r"^rattle-build (\S+)$", it.read(), re.MULTILINE)[1].replace("/", "_")
-        with (
-            open(f"{crate.rlib}/toolchain/checked.json", encoding="utf-8") as list_of_files,
-            open(f"{crate.rlib}/toolchain/checked.a", "rb") as files,
-        ):
-            for module, at, size in map(json.loads, list_of_files):
-                path = f"{kept}/{name}/{module}.oantt"
-                os.makedirs(os.path.dirname(path), exist_ok=True)
-                files.seek(at)
-                with open(path, "wb") as it:
-                    it.write(files.read(size))
-    except (OSError, shutil.Error, ValueError, TypeError):
+    except (OSError, shutil.Error):
         shutil.rmtree(kept, ignore_errors=True)
-        os.makedirs(kept, exist_ok=True)
+        os.mkdir(kept)
 
 
 def refused_together(rt, crate, edits, texts, flags, kept):
     """What one check with all these edits says against each that it refuses, and the edits that keep it from
     judging. What is said only of names that an edit took away has the toolchain's words for that before it.
 
-    The check is asked for the edited functions alone, over what was kept of those that they call."""
+    The check is asked for the edited functions alone, and proves none that they call."""
     only = [word for functions in edits.values() for it in functions for word in ("--only", it.names)]
     with tempfile.TemporaryDirectory(prefix="rt-together-") as room:
-        changed = copied(crate, [it for functions in edits.values() for it in functions], room)
-        ran = rt.checked(changed, texts, [*flags, *only], kept)
+        copied, texts = alone(crate, [it for functions in edits.values() for it in functions], texts, room)
+        ran = rt.checked(copied, texts, [*flags, *only], kept)
     lines = ran.stdout.rstrip("\n").split("\n")
     is_judged = (
         ran.returncode == 1 and lines[-1].startswith("only=") and not rt.rtlib.STALE.search(ran.stdout)
@@ -387,12 +405,12 @@ def refused_together(rt, crate, edits, texts, flags, kept):
 def must_fail_all(rt, crate, edits, flags, is_settled, refusal, start=None):
     """For each edit what a try of the crate with it comes to, and what to say, as the toolchain's own trial
     of one edit; that trial's word for a refusal is handed in, and whether a word of its ends the matter. The
-    trials begin with what an earlier check kept, if its folder is given."""
+    trials begin with what a check of the crate kept, if its folder is given."""
     left, refused = [it for it in edits if not rt.read_edit(it, crate.folder)[1]], {}
     with tempfile.TemporaryDirectory(prefix="rt-together-") as room:
         kept = f"{room}/kept"
         os.mkdir(kept)
-        begin(rt, crate, start, kept)
+        begin(rt, start, kept)
         while left:
             together, texts = chosen(crate.folder, left)
             said, barred = (
