@@ -50,7 +50,7 @@ fn clients_at_the_same_time(rt: HostRuntime) -> Result<(), Fail> {
     let mut source = pieces_of(script.as_bytes(), 1000, NEVER);
     let mut sink = empty_sink(alloc, 1000, NEVER, false);
     let ended = debug_clients(&rt, alloc, &mut source, &mut sink, &TWO, &gate);
-    assert_eq!(rt; ended, Ok(()));
+    assert!(rt; ended == Ok(()));
     assert!(rt; gate.0.came());
     let first = "{\"client\":0,\"number\":0,\"reply\":{\"code\":20,\"error\":\"AtStart\"}}\n";
     let second = "{\"client\":1,\"number\":0,\"reply\":{\"code\":20,\"error\":\"AtStart\"}}\n";
@@ -98,7 +98,7 @@ fn clients_in_turn(rt: HostRuntime) -> Result<(), Fail> {
     let mut source = pieces_of(script.as_bytes(), 1000, NEVER);
     let mut sink = empty_sink(alloc, 1000, NEVER, false);
     let ended = debug_clients(&rt, alloc, &mut source, &mut sink, &TWO, &gate);
-    assert_eq!(rt; ended, Ok(()));
+    assert!(rt; ended == Ok(()));
     assert!(rt; gate.first.came() && gate.second.came());
     let reply = "\"reply\":{\"code\":20,\"error\":\"AtStart\"}}\n";
     let firsts = format!(in alloc;
@@ -148,7 +148,7 @@ fn clients_release_and_run_some(rt: HostRuntime) -> Result<(), Fail> {
     let mut source = pieces_of(script.as_bytes(), 1000, NEVER);
     let mut sink = empty_sink(alloc, 1000, NEVER, false);
     let ended = debug_clients(&rt, alloc, &mut source, &mut sink, &FOUR, &gate);
-    assert_eq!(rt; ended, Ok(()));
+    assert!(rt; ended == Ok(()));
     assert!(rt; gate.first.came() && gate.second.came());
     let [first, second, third, fourth, last] = TURNS.map(|turn| turn.1);
     let begun = format!(in alloc; "{FIFTH_REPLY}{HELD_REPLY}{first}\n{second}\n{third}\n")?;
@@ -175,7 +175,7 @@ fn clients_of_a_source_that_fails(rt: HostRuntime) -> Result<(), Fail> {
         let mut source: Pieces = pieces_of(script.as_slice(), 9, fails_at);
         let mut sink = empty_sink(rt.alloc(), 100, NEVER, false);
         let ended = debug_clients(&rt, rt.alloc(), &mut source, &mut sink, &TWO, &OpenGate);
-        assert_eq!(rt; ended, Err(DebugFault::Read));
+        assert!(rt; ended == Err(DebugFault::Read));
         assert!(rt; sink.bytes.is_empty(), "at {fails_at}");
     }
     Ok(())
@@ -190,7 +190,7 @@ fn clients_of_a_sink_that_fails(rt: HostRuntime) -> Result<(), Fail> {
             let mut source = pieces_of(script.as_slice(), 100, NEVER);
             let mut sink: Taken = empty_sink(rt.alloc(), 5, fails_at, takes_none);
             let ended = debug_clients(&rt, rt.alloc(), &mut source, &mut sink, &TWO, &OpenGate);
-            assert_eq!(rt; ended, Err(DebugFault::Write));
+            assert!(rt; ended == Err(DebugFault::Write));
             assert!(rt; want.as_bytes().starts_with(sink.bytes.as_slice()));
             assert!(rt; sink.bytes.len() <= fails_at.saturating_mul(5));
         }
@@ -213,8 +213,8 @@ fn clients_stop_at_their_limit(rt: HostRuntime) -> Result<(), Fail> {
             &OpenGate,
             limit,
         );
-        assert_eq!(rt; ended, Err(DebugFault::TooLong));
-        assert_eq!(rt; source.given, (limit as u64).saturating_add(1));
+        assert!(rt; ended == Err(DebugFault::TooLong));
+        assert!(rt; source.given == (limit as u64).saturating_add(1));
         assert!(rt; sink.bytes.is_empty());
     }
     let script = feed_of(alloc)?;
@@ -233,8 +233,8 @@ fn clients_stop_at_their_limit(rt: HostRuntime) -> Result<(), Fail> {
             &OpenGate,
             limit,
         );
-        assert_eq!(rt; ended, want);
-        assert_eq!(rt; sink.bytes.is_empty(), want.is_err());
+        assert!(rt; ended == want);
+        assert!(rt; sink.bytes.is_empty() == want.is_err());
     }
     Ok(())
 }
@@ -271,11 +271,11 @@ const HELD_REPLY: &str = "{\"locations\":5,\"ok\":true,\"processors\":2}\n";
 #[test]
 fn clients_of_a_later_version(rt: HostRuntime) -> Result<(), Fail> {
     let (wrote, ended) = run_of(&rt, &[" \n", SECOND, "\n"])?;
-    assert_eq!(rt; ended, Ok(()));
+    assert!(rt; ended == Ok(()));
     assert!(rt; wrote.as_slice() == SECOND_REPLY.as_bytes());
     let (wrote, ended) = run_of(&rt, &[SECOND, LINE, "\n\n", FEED])?;
     let want = format!(in rt.alloc(); "{SECOND_REPLY}{LINE_REPLY}{FEED_REPLY}")?;
-    assert_eq!(rt; ended, Ok(()));
+    assert!(rt; ended == Ok(()));
     assert!(rt; wrote.as_slice() == want.as_bytes());
     Ok(())
 }
@@ -338,7 +338,7 @@ static FAULTS: [(&str, &str, &str); 10] = [
 fn faults_behind_a_version_line(rt: HostRuntime) -> Result<(), Fail> {
     for (first, line, fault) in FAULTS {
         let (wrote, ended) = run_of(&rt, &[first, LINE, "\n", line])?;
-        assert_eq!(rt; ended, Err(DebugFault::Script));
+        assert!(rt; ended == Err(DebugFault::Script));
         assert!(rt; wrote.as_slice() == fault.as_bytes(), "{line}");
     }
     for (line, fault) in [
@@ -347,7 +347,7 @@ fn faults_behind_a_version_line(rt: HostRuntime) -> Result<(), Fail> {
         (HELD, "{\"code\":40,\"error\":\"Shape\"}\n"),
     ] {
         let (wrote, ended) = run_of(&rt, &[SECOND, line])?;
-        assert_eq!(rt; ended, Err(DebugFault::Graph));
+        assert!(rt; ended == Err(DebugFault::Graph));
         assert!(rt; wrote.as_slice() == fault.as_bytes(), "{line}");
     }
     Ok(())

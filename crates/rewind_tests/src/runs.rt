@@ -83,12 +83,11 @@ fn answers_in_any_pieces(rt: HostRuntime) -> Result<(), Fail> {
     for step in [1, 2, 7, 5000] {
         let mut source = pieces_of(script.as_slice(), step, NEVER);
         let mut sink = empty_sink(rt.alloc(), step, NEVER, false);
-        assert_eq!(rt; debug(&rt, rt.alloc(), &mut source, &mut sink, &ONE)?, 6);
+        assert!(rt; debug(&rt, rt.alloc(), &mut source, &mut sink, &ONE)? == 6);
         assert!(rt; sink.bytes.as_slice() == want.as_slice(), "by {step}");
         assert!(rt; source.has_ended && !source.has_failed && !sink.has_failed);
-        assert_eq!(rt;
-            source.calls,
-            script.len().div_ceil(step).saturating_add(1),
+        assert!(rt;
+            source.calls == script.len().div_ceil(step).saturating_add(1),
             "by {step}"
         );
     }
@@ -102,7 +101,7 @@ fn fails_with_its_source(rt: HostRuntime) -> Result<(), Fail> {
         let mut source = pieces_of(script.as_slice(), 1, fails_at);
         let mut sink = empty_sink(rt.alloc(), 100, NEVER, false);
         let ended = debug(&rt, rt.alloc(), &mut source, &mut sink, &ONE);
-        assert_eq!(rt; ended, Err(DebugFault::Read));
+        assert!(rt; ended == Err(DebugFault::Read));
         let want = replies(rt.alloc(), fails_at)?;
         assert!(rt; sink.bytes.as_slice() == want.as_slice(), "at {fails_at}");
     }
@@ -118,7 +117,7 @@ fn fails_with_its_sink(rt: HostRuntime) -> Result<(), Fail> {
             let mut source = pieces_of(script.as_slice(), 100, NEVER);
             let mut sink = empty_sink(rt.alloc(), 1, fails_at, takes_none);
             let ended = debug(&rt, rt.alloc(), &mut source, &mut sink, &ONE);
-            assert_eq!(rt; ended, Err(DebugFault::Write));
+            assert!(rt; ended == Err(DebugFault::Write));
             assert!(rt; sink.bytes.as_slice() == &want.as_slice()[..fails_at]);
         }
     }
@@ -131,10 +130,10 @@ fn gathers_its_replies(rt: HostRuntime) -> Result<(), Fail> {
     let want = replies(rt.alloc(), NEVER)?;
     let mut source = pieces_of(script.as_slice(), 5000, NEVER);
     let mut sink = empty_sink(rt.alloc(), 5000, NEVER, false);
-    assert_eq!(rt; debug(&rt, rt.alloc(), &mut source, &mut sink, &ONE)?, 6);
+    assert!(rt; debug(&rt, rt.alloc(), &mut source, &mut sink, &ONE)? == 6);
     assert!(rt; sink.bytes.as_slice() == want.as_slice());
     // What was read at once is answered at once, and then the last line, which has no newline.
-    assert_eq!(rt; sink.calls, 2);
+    assert!(rt; sink.calls == 2);
     Ok(())
 }
 
@@ -157,9 +156,9 @@ fn writes_before_much_waits(rt: HostRuntime) -> Result<(), Fail> {
     let script = asks_states(rt.alloc(), 2000)?;
     let mut source = pieces_of(script.as_slice(), NEVER, NEVER);
     let mut sink = empty_sink(rt.alloc(), NEVER, NEVER, false);
-    assert_eq!(rt; debug(&rt, rt.alloc(), &mut source, &mut sink, &ONE)?, 2001);
+    assert!(rt; debug(&rt, rt.alloc(), &mut source, &mut sink, &ONE)? == 2001);
     // The first read gives the complete script, and the second its end.
-    assert_eq!(rt; source.calls, 2);
+    assert!(rt; source.calls == 2);
     assert!(rt; sink.bytes.as_slice().ends_with(STATE_REPLY.as_bytes()));
     assert!(rt; sink.bytes.len() > 4 * 65_536);
     assert!(rt; sink.most < 65_536 + STATE_REPLY.len());
@@ -179,10 +178,10 @@ fn answers_before_it_reads_on(rt: HostRuntime) -> Result<(), Fail> {
         taken: empty_sink(rt.alloc(), 7, NEVER, false),
         written: &written,
     };
-    assert_eq!(rt; debug(&rt, rt.alloc(), &mut source, &mut sink, &ONE)?, 6);
+    assert!(rt; debug(&rt, rt.alloc(), &mut source, &mut sink, &ONE)? == 6);
     for (read, seen) in source.seen.iter().enumerate() {
         let want = replies(rt.alloc(), read)?;
-        assert_eq!(rt; *seen, want.len(), "before the byte {read}");
+        assert!(rt; *seen == want.len(), "before the byte {read}");
     }
     Ok(())
 }
@@ -193,8 +192,8 @@ fn stops_at_its_limit(rt: HostRuntime) -> Result<(), Fail> {
         let mut source = Newlines { given: 0 };
         let mut sink = empty_sink(rt.alloc(), 100, NEVER, false);
         let ended = debug_within(&rt, rt.alloc(), &mut source, &mut sink, &ONE, limit);
-        assert_eq!(rt; ended, Err(DebugFault::TooLong));
-        assert_eq!(rt; source.given, (limit as u64).saturating_add(1));
+        assert!(rt; ended == Err(DebugFault::TooLong));
+        assert!(rt; source.given == (limit as u64).saturating_add(1));
         assert!(rt; sink.bytes.is_empty());
     }
     let script = b"{\"vertices\":[],\"edges\":[]}\n{\"do\":\"back\"}\n";
@@ -207,7 +206,7 @@ fn stops_at_its_limit(rt: HostRuntime) -> Result<(), Fail> {
         let mut source = pieces_of(script.as_slice(), 5, NEVER);
         let mut sink = empty_sink(rt.alloc(), 100, NEVER, false);
         let ended = debug_within(&rt, rt.alloc(), &mut source, &mut sink, &ONE, limit);
-        assert_eq!(rt; ended, want);
+        assert!(rt; ended == want);
         let [first, second] = replies;
         let text = format!(in rt.alloc(); "{first}{second}")?;
         assert!(rt; sink.bytes.as_slice() == text.as_bytes(), "within {limit}");
@@ -232,8 +231,8 @@ fn reads_no_more_of_a_reader_that_failed(rt: HostRuntime) -> Result<(), Fail> {
             let mut source = ReadSource::new(reader);
             let mut sink = empty_sink(rt.alloc(), 100, NEVER, false);
             let ended = debug(&rt, rt.alloc(), &mut source, &mut sink, &ONE);
-            assert_eq!(rt; ended, Err(DebugFault::Read), "at {fails_at}");
-            assert_eq!(rt; source.reader.calls, fails_at.saturating_add(1));
+            assert!(rt; ended == Err(DebugFault::Read), "at {fails_at}");
+            assert!(rt; source.reader.calls == fails_at.saturating_add(1));
             assert!(rt; source.has_failed);
         }
     }
@@ -261,10 +260,10 @@ fn writes_no_more_to_a_writer_that_failed(rt: HostRuntime) -> Result<(), Fail> {
                 let mut source = pieces_of(script.as_slice(), 100, NEVER);
                 let mut sink = WriteSink::new(writer);
                 let ended = debug(&rt, rt.alloc(), &mut source, &mut sink, &ONE);
-                assert_eq!(rt; ended, Err(DebugFault::Write), "at {fails_at}");
-                assert_eq!(rt; sink.writer.calls, fails_at.saturating_add(1));
+                assert!(rt; ended == Err(DebugFault::Write), "at {fails_at}");
+                assert!(rt; sink.writer.calls == fails_at.saturating_add(1));
                 assert!(rt; sink.has_failed);
-                assert_eq!(rt; sink.writer.bytes.len(), fails_at);
+                assert!(rt; sink.writer.bytes.len() == fails_at);
                 assert!(rt; want.starts_with(sink.writer.bytes.as_slice()));
             }
         }
@@ -282,7 +281,7 @@ fn passes_over_a_long_line(rt: HostRuntime) -> Result<(), Fail> {
     script.extend_from_slice(b"1\n\xff\n{\"do\":\"back\"}")?;
     let mut source = ReadSource::new(script.as_slice());
     let mut sink = WriteSink::new(Vec::new(rt.alloc()));
-    assert_eq!(rt; debug(&rt, rt.alloc(), &mut source, &mut sink, &ONE)?, 4);
+    assert!(rt; debug(&rt, rt.alloc(), &mut source, &mut sink, &ONE)? == 4);
     let want =
         "{\"locations\":0,\"ok\":true,\"processors\":1}\n{\"code\":33,\"error\":\"LineTooLong\",\"line\":3}\n{\"code\":30,\"error\":\"BadLine\",\"line\":4}\n{\"code\":20,\"error\":\"AtStart\"}\n";
     assert!(rt; sink.writer.as_slice() == want.as_bytes());
@@ -326,7 +325,7 @@ fn refuses_counts_of_processors(rt: HostRuntime) -> Result<(), Fail> {
             clients: 1,
         };
         let (bytes, ended) = run(&rt, rt.alloc(), &options, graph.as_bytes())?;
-        assert_eq!(rt; ended, Err(DebugFault::Graph), "at {name}");
+        assert!(rt; ended == Err(DebugFault::Graph), "at {name}");
         let want = "{\"code\":48,\"error\":\"BadCount\"}\n";
         assert!(rt; bytes.as_slice() == want.as_bytes(), "at {name}");
     }
@@ -347,7 +346,7 @@ fn refuses_long_graph_lines(rt: HostRuntime) -> Result<(), Fail> {
         let mut script = Vec::new(rt.alloc());
         script.resize(length, b'1')?;
         let (bytes, ended) = run(&rt, rt.alloc(), &ONE, script.as_slice())?;
-        assert_eq!(rt; ended, Err(DebugFault::Graph));
+        assert!(rt; ended == Err(DebugFault::Graph));
         assert!(rt; bytes.as_slice() == reply.as_bytes(), "at {length}");
     }
     Ok(())
@@ -372,7 +371,7 @@ fn thousands_of_lines(rt: HostRuntime) -> Result<(), Fail> {
     let script = there_and_back(rt.alloc(), 5000)?;
     let (bytes, ended) = run(&rt, rt.alloc(), &ONE, script.as_slice())?;
     let last = "{\"at\":0,\"kept\":5000,\"ok\":true}\n".as_bytes();
-    assert_eq!(rt; ended, Ok(10_001));
+    assert!(rt; ended == Ok(10_001));
     assert!(rt; bytes.as_slice().ends_with(last));
     Ok(())
 }
@@ -381,7 +380,7 @@ fn thousands_of_lines(rt: HostRuntime) -> Result<(), Fail> {
 #[test]
 fn tells_a_log_mismatch(rt: HostRuntime) -> Result<(), Fail> {
     let told = format!(in rt.alloc(); "{}", DebugFault::Close)?;
-    assert_eq!(rt; told.as_str(), "log mismatch");
-    assert_eq!(rt; DebugFault::Close.status(), 5);
+    assert!(rt; told.as_str() == "log mismatch");
+    assert!(rt; DebugFault::Close.status() == 5);
     Ok(())
 }
