@@ -7,7 +7,7 @@ ghost use Rattle.rewind.specs.Faults.{IsOfLine, IsOfRun};
 ghost use Rattle.rewind_answers.specs.Stages.{phase_of, phase_after};
 ghost use Rattle.rewind.specs.States.{AddsOne, AnswersOn, EndsAmong, Gathers, ReadsOn, Stands, StopsAmong, WaitsFew};
 
-use rewind_answers::{Stage, answer_line};
+use rewind_answers::{Answer, Stage, answer_line};
 use rewind_lines::{DebugFault, LineReader, Outbox, Reading, Sink};
 use std::alloc::{AllocError, Global};
 use std::thread::Threads;
@@ -61,11 +61,12 @@ impl Run {
     {
         let number = self.lines.number();
         let answer = answer_line(rt, self.alloc, &mut self.stage, reading, number)?;
-        match answer.reply {
-            None => Ok((0, answer.is_last)),
+        let Answer { reply, is_last } = answer;
+        match reply {
+            None => Ok((0, is_last)),
             Some(text) => {
                 self.outbox.add_text(text)?;
-                Ok((1, answer.is_last))
+                Ok((1, is_last))
             }
         }
     }

@@ -5,10 +5,12 @@ use Rattle.rewind.proofs.run.Run.answer.Goals as goal
 
 pub returns-in-None-clause-answers : goal.returns-in-None-clause-answers
 returns-in-None-clause-answers g c =
-    gathers-none (phase_of (c.args.self.now).stage) _ (c.args.self.now).lines.number (reading_view c.args.reading.now) c.in_ok-answer.answer.reply (c.args.self.now).outbox
-    c.in-None.is c.in_ok-answer.ensures.answers
+    let run = c.args.self.now in
+    gathers-none (phase_of run.stage) (phase_after c.in_ok-answer.answer.is_last c.answer_line.new.stage) run.lines.number (reading_view c.args.reading.now)
+    c.in_ok-answer.answer.reply run.outbox c.in-None.is c.in_ok-answer.ensures.answers
 
-pub returns-in-Some-clause-answers : goal.returns-in-Some-clause-answers
-returns-in-Some-clause-answers g c =
-    gathers-one (phase_of (c.args.self.now).stage) _ (c.args.self.now).lines.number (reading_view c.args.reading.now) c.in_ok-answer.answer.reply c.in-Some.text (c.args.self.now).outbox _
-    c.in-Some.is c.in_ok-answer.ensures.answers c.in_ok-add_text.ensures.ok
+pub returns-in_ok-add_text-in-Some-clause-answers : goal.returns-in_ok-add_text-in-Some-clause-answers
+returns-in_ok-add_text-in-Some-clause-answers g c =
+    let run = c.args.self.now in
+    gathers-one (phase_of run.stage) (phase_after c.in_ok-answer.answer.is_last c.answer_line.new.stage) run.lines.number (reading_view c.args.reading.now)
+    c.in_ok-answer.answer.reply c.in-Some.text run.outbox _ c.in-Some.is c.in_ok-answer.ensures.answers c.in_ok-add_text.ensures.ok
