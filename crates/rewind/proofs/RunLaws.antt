@@ -29,23 +29,23 @@ Run-push old mid new k n (l ∷ ls) line replies first e h a =
     )
 
 -- a line without a reply
-pub gathers-none : (old new : Phase) (n : ℕ) (reading : Reading) (reply : Option (Vec ℕ Global)) (waited : List ℕ) → reply ≡ None
-    → Tells (λ rs. Answers old n reading rs new) reply → Gathers old n reading waited waited 0 new
-gathers-none old new n reading reply waited is h = record {
+pub gathers-none : (old new : Phase) (n m : ℕ) (reading : Reading) (reply : Option (Vec ℕ Global)) (waited : List ℕ) → reply ≡ None → m ≡ n
+    → Tells (λ rs. Answers old m reading rs new) reply → Gathers old n reading waited waited 0 new
+gathers-none old new n m reading reply waited is same h = record {
   replies = [];
-  answers = subst (λ (r : Option (Vec ℕ Global)). Tells (λ rs. Answers old n reading rs new) r) is h;
+  answers = subst (λ (k : ℕ). Answers old k reading [] new) same (subst (λ (r : Option (Vec ℕ Global)). Tells (λ rs. Answers old m reading rs new) r) is h);
   gathered = sym (append-nil waited);
   is_count = refl;
 }
 
 -- a line whose reply has this text
-pub gathers-one : (old new : Phase) (n : ℕ) (reading : Reading) (reply : Option (Vec ℕ Global)) (text : Vec ℕ Global) (waited waits : List ℕ) → reply ≡ Some text
-    → Tells (λ rs. Answers old n reading rs new) reply → waits ≡ waited ++ (text.items ++ 10 ∷ []) → Gathers old n reading waited waits 1 new
+pub gathers-one : (old new : Phase) (n m : ℕ) (reading : Reading) (reply : Option (Vec ℕ Global)) (text : Vec ℕ Global) (waited waits : List ℕ) → reply ≡ Some text → m ≡ n
+    → Tells (λ rs. Answers old m reading rs new) reply → waits ≡ waited ++ (text.items ++ 10 ∷ []) → Gathers old n reading waited waits 1 new
 unfolding reply_text
-gathers-one old new n reading reply text waited waits is h added =
-    let told = subst (λ (r : Option (Vec ℕ Global)). Tells (λ rs. Answers old n reading rs new) r) is h in record {
+gathers-one old new n m reading reply text waited waits is same h added =
+    let told = subst (λ (r : Option (Vec ℕ Global)). Tells (λ rs. Answers old m reading rs new) r) is h in record {
       replies = told.0 ∷ [];
-      answers = told.1;
+      answers = subst (λ (k : ℕ). Answers old k reading (told.0 ∷ []) new) same told.1;
       gathered = added ∙ ap (λ t. waited ++ (t ++ 10 ∷ [])) told.2 ∙ ap (λ t. waited ++ t) (sym (append-nil (reply_text told.0)));
       is_count = refl;
     }
