@@ -13,4 +13,4 @@ pub returns-in_ok-add_text-in-Some-clause-answers : goal.returns-in_ok-add_text-
 returns-in_ok-add_text-in-Some-clause-answers g c =
     let run = c.args.self.now in
     gathers-one (phase_of run.stage) (phase_after c.in_ok-answer.answer.is_last c.answer_line.new.stage) run.lines.number c.number-number.result (reading_view c.args.reading.now)
-    c.in_ok-answer.answer.reply c.in-Some.text run.outbox _ c.in-Some.is c.number-number.ensures c.in_ok-answer.ensures.answers c.in_ok-add_text.ensures.ok
+    c.in_ok-answer.answer.reply c.in-Some.text run.outbox _ c.in-Some.is c.number-number.ensures c.in_ok-answer.ensures.answers c.in_ok-add_text-in-Some.ensures.ok
