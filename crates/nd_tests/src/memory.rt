@@ -228,7 +228,7 @@ fn enters<A: Allocator + Copy, R: Wait>(
     let answer = session.enter(rt, alloc);
     let met = heap.relent(n);
     let next = session.enter(rt, alloc).ok()?.number();
-    let is_right = match answer {
+    let is_right = match &answer {
         Ok(client) => !met && client.number() == 1 && next == 2,
         Err(SessionFault::Memory) => met && next == 1,
         Err(_) => false,
@@ -250,8 +250,8 @@ fn copied<A: Allocator + Copy, R: Wait>(
     let answer = session.copy(rt, alloc, &client);
     let met = heap.relent(n);
     let after = session.copy(rt, alloc, &client).ok()?;
-    let is_right = match answer {
-        Ok(snapshot) => !met && are_equal(json, &before, &snapshot)?,
+    let is_right = match &answer {
+        Ok(snapshot) => !met && are_equal(json, &before, snapshot)?,
         Err(SessionFault::Memory) => met,
         Err(_) => false,
     };
