@@ -1,7 +1,7 @@
 -- A receive on the stored parts of a cluster: where it leads, and where undoing it leads back to.
 use Rattle.std.proofs.Common.{◌≡◌, ℕ, ◌<◌, List, [], ◌∷◌, Result, Ok, Err, IsErr, OnOk, refl, length, get_or, set, sym, ap, subst, ◌∙◌, arith, length-set, get_or-set_same}
 use Rattle.std.proofs.lemmas.List.{set-set, set-get_or, length-map}
-use Rattle.std.specs.Prelude.{All}
+use Rattle.std.specs.Prelude.{All, None, Some, slice_get}
 use Rattle.nd_graph.specs.Graph.{Dataflow}
 use Rattle.nd_delta.specs.Delta.{DeltaValue, none, plus, minus, minus-plus}
 use Rattle.nd_view.specs.Kept.{Kept, IsFor}
@@ -46,6 +46,31 @@ taken_again (Err e) m old new from to c f t is back empty new_is =
 -- where a receive leads: a view and a queue change
 pub received_leads : (s : ClusterState) (from to : ℕ) (c : DeltaValue) → CanReceive s from to c → record s { views = set s.views to (plus (view s to) c); queues = popped s.queues from to } ≡ received s from to
 received_leads s from to c h = sym (received-front s from to c h.front)
+
+-- the stored parts of a cluster before a receive
+module _ (t : ClusterState) (g : Dataflow) (ps : List ProcessorState) (vs : List Kept) (m : List (List (List DeltaValue))) (is : seen g ps vs m ≡ t) (from to : ℕ) where
+  -- a view that is stored again changes nothing
+  pub stored_again : (v w : Kept) → v ≡ get_or vs to v → w ≡ v → seen g ps (set vs to w) m ≡ t
+  stored_again v w here same = ap (λ (ws : List Kept). seen g ps ws m) ((λ i. set vs to ((same ∙ here) i)) ∙ set-get_or vs to v) ∙ is
+
+  module _ (c : DeltaValue) (state : IsState t) (h : CanReceive t from to c) where
+    pub receiver_stored : to < length vs
+    receiver_stored = view_there t g ps vs m is to (subst (λ n. to < n) (sym state.fits.each_view) h.to_there)
+
+    -- the queue has a front
+    pub not_vacant : IsVacant (queue_in m from to) → ⊥
+    not_vacant vacant =
+        let front : slice_get (queue_in m from to) 0 ≡ Some c = subst (λ (s : ClusterState). slice_get (queue_in s.queues from to) 0 ≡ Some c) (sym is) h.front in
+        let none : slice_get (queue_in m from to) 0 ≡ None = ap (λ (q : List DeltaValue). slice_get q 0) vacant in
+        cc
+
+    -- the parts after it
+    pub received_seen : (v w : Kept) → v ≡ get_or vs to v → w.map ≡ plus v.map c → (k : List (List (List DeltaValue))) → k ≡ popped m from to → seen g ps (set vs to w) k ≡ received t from to
+    received_seen v w here new k rest =
+        let views : maps (set vs to w) ≡ set t.views to (plus (view t to) c) = views_after t g ps vs m is to v receiver_stored here w (λ (d : DeltaValue). plus d c) new in
+        let queues : k ≡ popped t.queues from to = rest ∙ ap (λ (s : ClusterState). popped s.queues from to) is in
+        let parts : seen g ps (set vs to w) k ≡ record t { views = set t.views to (plus (view t to) c); queues = popped t.queues from to } = λ i. record (is i) { views = views i; queues = queues i } in
+        parts ∙ received_leads t from to c h
 
 module _ (s t : ClusterState) (from to : ℕ) (c : DeltaValue) (state : IsState s) (h : Receives s from to c t) where
   arrives : record s { views = set s.views to (plus (view s to) c); queues = popped s.queues from to } ≡ t
@@ -100,3 +125,24 @@ module _ (s t : ClusterState) (from to : ℕ) (c : DeltaValue) (state : IsState 
 
 pub view_stored : (t : ClusterState) (g : Dataflow) (ps : List ProcessorState) (vs : List Kept) (m : List (List (List DeltaValue))) → seen g ps vs m ≡ t → (s : ClusterState) (from to : ℕ) (c : DeltaValue) → IsState s → Receives s from to c t → to < length vs
 view_stored t g ps vs m is s from to c state h = view_there t g ps vs m is to (viewer_there s t from to c state h)
+
+-- the stored parts of a cluster after a receive, which is undone
+module _ (t : ClusterState) (g : Dataflow) (ps : List ProcessorState) (vs : List Kept) (m : List (List (List DeltaValue))) (is : seen g ps vs m ≡ t)
+    (s : ClusterState) (from to : ℕ) (c : DeltaValue) (state : IsState s) (h : Receives s from to c t) (v w : Kept) (here : v ≡ get_or vs to v) where
+  -- the parts before it
+  pub received_back_seen : w.map ≡ minus v.map c → (d : DeltaValue) → d ≡ c → (k : List (List (List DeltaValue))) → k ≡ unpopped m from to d → seen g ps (set vs to w) k ≡ s
+  received_back_seen old d same k after =
+      let lt = view_stored t g ps vs m is s from to c state h in
+      let views : maps (set vs to w) ≡ set t.views to (minus (view t to) c) = views_after t g ps vs m is to v lt here w (λ (e : DeltaValue). minus e c) old in
+      let queues : k ≡ unpopped t.queues from to c = after ∙ (λ i. unpopped (is i).queues from to (same i)) in
+      let parts : seen g ps (set vs to w) k ≡ record t { views = set t.views to (minus (view t to) c); queues = unpopped t.queues from to c } = λ i. record (is i) { views = views i; queues = queues i } in
+      parts ∙ received_back s t from to c state h
+
+  -- the parts if the view is stored again, and the change is removed from its queue again
+  pub taken_again_seen : w ≡ v → {X E : Type 0} (r : Result X E) (d : DeltaValue) (old new : List (List (List DeltaValue)))
+      → old ≡ unpopped m from to d → popped old from to ≡ m → (IsErr r → IsVacant (queue_in old from to)) → OnOk r (new ≡ popped old from to) → seen g ps (set vs to w) new ≡ t
+  taken_again_seen same r d old new after undone empty new_is =
+      let sender : from < length m = subst (λ (t : ClusterState). from < length t.queues) (sym is) (from_row s t from to c state h) in
+      let receiver : to < length (row m from) = subst (λ (t : ClusterState). to < length (row t.queues from)) (sym is) (receiver_there s t from to c state h) in
+      let back : new ≡ m = taken_again r m old new from to d sender receiver after undone empty new_is in
+      ap (λ (k : List (List (List DeltaValue))). seen g ps (set vs to w) k) back ∙ stored_again t g ps vs m is from to v w here same

@@ -1,5 +1,5 @@
 -- A broadcast on the stored parts of a cluster: where it leads, and where undoing it leads back to.
-use Rattle.std.proofs.Common.{◌≡◌, ℕ, ◌<◌, ◌-ℤ◌, List, length, get_or, set, Result, Ok, Err, OnErr, refl, sym, ap, subst, ◌∙◌, arith, length-set, get_or-set_same}
+use Rattle.std.proofs.Common.{◌≡◌, ℕ, ◌<◌, ◌-ℤ◌, List, length, get_or, set, Result, Ok, Err, OnErr, OnOk, ℤ, refl, sym, ap, subst, ◌∙◌, arith, length-set, get_or-set_same}
 use Rattle.std.proofs.lemmas.Int.{ints}
 use Rattle.std.proofs.lemmas.List.{set-set, set-get_or, get_or_default}
 use Rattle.nd_graph.specs.Graph.{Dataflow}
@@ -11,8 +11,10 @@ use Rattle.nd_mesh.specs.Laws.{unpushed-pushed}
 use Rattle.nd_protocol.specs.State.{ClusterState, processor}
 use Rattle.nd_protocol.specs.Exchange.{sent}
 use Rattle.nd_protocol.specs.Fitting.{IsState}
+use Rattle.nd_steps.specs.Changes.{made, made_in}
 use Rattle.nd_steps.specs.Records.{Sends}
 use Rattle.nd_steps.specs.Seen.{seen}
+use Rattle.nd_steps.specs.declared.change.Change.{Change}
 use Rattle.nd_steps.proofs.Ends.{IsNewest}
 
 -- what always holds, holds in case of an error
@@ -28,6 +30,31 @@ processor_seen t g ps vs m is p q lt here = here ∙ get_or_default ps p q idle 
 pub sent_leads : (t : ClusterState) (p : ℕ) (c : DeltaValue) → record t { processors = set t.processors p (record (processor t p) { unsent = minus (processor t p).unsent c }); queues = pushed t.queues p c } ≡ sent t p c
 unfolding sent
 sent_leads t p c = refl
+
+-- the stored parts after a broadcast
+pub sent_seen : (t : ClusterState) (g : Dataflow) (ps : List ProcessorState) (vs : List Kept) (m : List (List (List DeltaValue))) → seen g ps vs m ≡ t → (p : ℕ) (c : DeltaValue) (q r : ProcessorState) → p < length t.processors → q ≡ get_or ps p q
+    → r ≡ record q { unsent = minus q.unsent c } → (k : List (List (List DeltaValue))) → k ≡ pushed m p c → seen g (set ps p r) vs k ≡ sent t p c
+sent_seen t g ps vs m is p c q r lt here taken k rest =
+    let there : p < length ps = subst (λ (s : ClusterState). p < length s.processors) (sym is) lt in
+    let same : q ≡ processor t p = processor_seen t g ps vs m is p q there here in
+    let parts : seen g (set ps p r) vs k ≡ record t { processors = set t.processors p (record (processor t p) { unsent = minus (processor t p).unsent c }); queues = pushed t.queues p c }
+    = (λ i. seen g (set ps p (taken i)) vs (rest i)) ∙ (λ i. record (is i) { processors = set (is i).processors p (record (same i) { unsent = minus (same i).unsent c }); queues = pushed (is i).queues p c }) in
+    parts ∙ sent_leads t p c
+
+-- the stored parts after a change
+pub made_seen : {X E : Type 0} (r : Result X E) (t : ClusterState) (g : Dataflow) (ps : List ProcessorState) (vs : List Kept) (m : List (List (List DeltaValue))) → seen g ps vs m ≡ t → (d : Change) (q new : ProcessorState) (n : ℤ) → n ≡ d.n → d.p < length t.processors
+    → q ≡ get_or ps d.p q → OnOk r (new ≡ made_in q d.slot n) → OnOk r (seen g (set ps d.p new) vs m ≡ made t d)
+made_seen (Ok x) t g ps vs m is d q new n whole lt here e =
+    let there : d.p < length ps = subst (λ (s : ClusterState). d.p < length s.processors) (sym is) lt in
+    let same : q ≡ processor t d.p = processor_seen t g ps vs m is d.p q there here in
+    (λ i. seen g (set ps d.p (e i)) vs m) ∙ (λ i. record (is i) { processors = set (is i).processors d.p (made_in (same i) d.slot (whole i)) })
+made_seen (Err x) t g ps vs m is d q new n whole lt here e = tt
+
+-- the stored parts after a failed change
+pub unmade_seen : {X E : Type 0} (r : Result X E) (t : ClusterState) (g : Dataflow) (ps : List ProcessorState) (vs : List Kept) (m : List (List (List DeltaValue))) → seen g ps vs m ≡ t → (p : ℕ) (q new : ProcessorState) → q ≡ get_or ps p q → OnErr r (new ≡ q)
+    → OnErr r (seen g (set ps p new) vs m ≡ t)
+unmade_seen (Ok x) t g ps vs m is p q new here e = tt
+unmade_seen (Err x) t g ps vs m is p q new here e = ap (λ (qs : List ProcessorState). seen g qs vs m) ((λ i. set ps p ((e ∙ here) i)) ∙ set-get_or ps p q) ∙ is
 
 module _ (s t : ClusterState) (p : ℕ) (c : DeltaValue) (state : IsState s) (h : Sends s p c t) where
   sender : p < length s.queues

@@ -1,4 +1,4 @@
-use Rattle.std.proofs.Common.{◌≡◌, sym, ap, subst, ◌∙◌, arith}
+use Rattle.std.proofs.Common.{◌≡◌, sym, ap, subst, ◌∙◌}
 use Rattle.nd_delta.specs.Delta.{minus, size, IsPartOf}
 use Rattle.nd_steps.proofs.PartsSent.{nothing_stays}
 use Rattle.nd_steps.proofs.TokensHeld.{leaves_upright, leaves_alone, nothing_alone}
@@ -10,7 +10,7 @@ without-requires g c = subst (IsPartOf c.args.change.now) (sym c.unsent-unsent.e
 pub returns-then-len-clause-upright : goal.returns-then-len-clause-upright
 returns-then-len-clause-upright g c = λ _.
     let all : size c.unsent-unsent.result.now ≡ size c.args.processor.now.unsent = ap size c.unsent-unsent.ensures in
-    let as_many : size c.args.change.now ≡ size c.args.processor.now.unsent = omega arith in
+    let as_many : size c.args.change.now ≡ size c.args.processor.now.unsent = sym c.len.ensures ∙ c.if-len.true ∙ c.len-2.ensures ∙ all in
     nothing_alone c.args.paths.now c.args.processor.now c.args.change.now (nothing_stays c.args.processor.now.unsent c.args.change.now c.requires as_many)
 
 pub returns-clause-upright : goal.returns-clause-upright

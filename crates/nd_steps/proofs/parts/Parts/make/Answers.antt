@@ -1,14 +1,12 @@
-use Rattle.std.proofs.Common.{◌≡◌, ◌<◌, ℤ, List, length, set, vec_len, FitsSigned, to_z, of_z, sym, ap, subst, ◌∙◌, rules}
+use Rattle.std.proofs.Common.{◌≡◌, ◌<◌, ℤ, length, vec_len, FitsSigned, to_z, of_z, sym, ap, subst, ◌∙◌, rules}
 use Rattle.std.specs.Int.{w128}
 use Rattle.std.proofs.lemmas.Int.{to_z-of_z}
-use Rattle.std.proofs.lemmas.List.{set-get_or}
-use Rattle.std.proofs.lemmas.Result.{IfOk-weaker, IfErr-weaker}
+use Rattle.std.proofs.lemmas.Result.{IfErr-weaker}
 use Rattle.nd_processor.specs.State.{ProcessorState}
 use Rattle.nd_protocol.specs.State.{ClusterState, processor}
-use Rattle.nd_steps.specs.Changes.{FitsIn, made_in}
+use Rattle.nd_steps.specs.Changes.{FitsIn}
 use Rattle.nd_steps.specs.Slots.{stands}
-use Rattle.nd_steps.specs.Seen.{seen}
-use Rattle.nd_steps.proofs.SentLemmas.{processor_seen}
+use Rattle.nd_steps.proofs.SentLemmas.{processor_seen, made_seen, unmade_seen}
 use Rattle.nd_steps.proofs.parts.Parts.make.Goals as goal
 
 -- the number as it is passed on
@@ -33,23 +31,15 @@ make_in-requires g c =
 pub returns-clause-ok : goal.returns-clause-ok
 returns-clause-ok g c =
     let a = c.self.inside in
-    let t = c.args.self.now in
     let d = c.args.change.now in
-    let q = c.index_mut-processor.result.now in
-    let lt : d.p < length a.processors.items = subst (λ (t : ClusterState). d.p < length t.processors) (sym c.self.view_is) c.requires.owner in
-    let is : q ≡ processor t d.p = processor_seen t a.paths a.processors.items a.views.items a.mesh c.self.view_is d.p q lt c.index_mut-processor.ensures.value in
-    IfOk-weaker c.make_in.result _ _ (λ _ e.
-    (λ i. seen a.paths (set a.processors.items d.p ((e ∙ ap (made_in q d.slot) (kept d.n (search rules))) i)) a.views.items a.mesh)
-    ∙ (λ i. record (c.self.view_is i) { processors = set (c.self.view_is i).processors d.p (made_in (is i) d.slot d.n) })) c.make_in.ensures.ok
+    made_seen c.make_in.result c.args.self.now a.paths a.processors.items a.views.items a.mesh c.self.view_is d c.index_mut-processor.result.now c.make_in.new.processor (to_z w128 (of_z w128 d.n)) (kept d.n (search rules)) c.requires.owner
+    c.index_mut-processor.ensures.value c.make_in.ensures.ok
 
 pub returns-clause-err : goal.returns-clause-err
 returns-clause-err g c =
     let a = c.self.inside in
-    let p = c.args.change.now.p in
-    let q = c.index_mut-processor.result.now in
-    IfErr-weaker c.make_in.result _ _ (λ _ e.
-    (λ i. seen a.paths (set a.processors.items p ((e ∙ c.index_mut-processor.ensures.value) i)) a.views.items a.mesh)
-    ∙ ap (λ (ps : List ProcessorState). seen a.paths ps a.views.items a.mesh) (set-get_or a.processors.items p q) ∙ c.self.view_is) c.make_in.ensures.err
+    unmade_seen c.make_in.result c.args.self.now a.paths a.processors.items a.views.items a.mesh c.self.view_is c.args.change.now.p c.index_mut-processor.result.now c.make_in.new.processor
+    c.index_mut-processor.ensures.value c.make_in.ensures.err
 
 pub returns-clause-absent : goal.returns-clause-absent
 returns-clause-absent g c =
