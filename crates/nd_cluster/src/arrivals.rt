@@ -33,7 +33,8 @@ impl<A: Allocator + Copy> Cluster<A> {
         ensures exact { IfOk result (λ v.
             AreExact self.now.graph (view self.now q) location v.items) }
         ensures apart { IfOk result (λ v. AreApart v.items) }
-        ensures some { OnErr result ((x : Point) × IsOnFrontier self.now.graph (view self.now q) x) }
+        ensures some { OnErr result
+            ((x : Point) × IsOnFrontier self.now.graph (view self.now q) x) }
     {
         let Ok(times) = self.view(q).arrivals(alloc, self.paths(), location) else {
             return Err(NoMemory);

@@ -59,7 +59,8 @@ fn send_counters<S: Serializer>(out: &mut S, counters: &[u32]) -> Result<(), S::
 
 // Sends a time as a list: its epoch, then its counters.
 fn send_time<S: Serializer>(out: &mut S, time: &Timestamp) -> Result<(), S::Error>
-    ensures { OnOk result (SendsValue (time_data time.now) (S.written out.old) (S.written out.new)) }
+    ensures { OnOk result
+        (SendsValue (time_data time.now) (S.written out.old) (S.written out.new)) }
 {
     let counters = time.counters();
     out.begin_seq(Some(1 + counters.len()))?;
@@ -156,7 +157,8 @@ pub(crate) fn boolean_at<S: Serializer>(out: &mut S, key: &str, is_so: bool) -> 
 
 /// Sends a key with a number.
 pub(crate) fn natural_at<S: Serializer>(out: &mut S, key: &str, n: u64) -> Result<(), S::Error>
-    ensures { OnOk result (SendsMember key.now (natural n) (S.written out.old) (S.written out.new)) }
+    ensures { OnOk result
+        (SendsMember key.now (natural n) (S.written out.old) (S.written out.new)) }
 {
     out.key(key)?;
     out.u64(n)
