@@ -170,7 +170,7 @@ fn is_effect(alloc: Global, row: &Row) -> Option<bool> {
     let ((text, n, steps), i, wanted, parts) = row;
     let timeline = kept(alloc, alloc, &(*text, *n, *steps))?;
     let graph = timeline.cluster().graph();
-    let told = effect(alloc, &timeline, *i as u64 + 1).ok()?;
+    let told = effect(alloc, &timeline, (*i as u64).saturating_add(1)).ok()?;
     let step = step_of(alloc, graph, steps.get(*i)?)?;
     let is_whole = told.step.same(&step) && lengths(&told.changed) == *wanted;
     Some(is_whole && has_all(graph, &told.changed, parts)?)
