@@ -228,7 +228,7 @@ fn logged<R: Wait>(rt: &R, alloc: Global, session: &Session) -> Option<Client> {
 
 /// Two clients of another session.
 #[derive(Drop)]
-struct Strangers {
+struct Outsiders {
     /// Has the receipt of a command there.
     with_receipt: Client,
     /// Has issued no command.
@@ -241,23 +241,23 @@ fn are_strangers<R: Wait>(
     rt: &R,
     alloc: Global,
     session: &Session,
-    strangers: &mut Strangers,
+    outsiders: &mut Outsiders,
     entry: Option<&Receipt>,
 ) -> bool {
-    let answer = session.command(rt, alloc, &mut strangers.with_receipt, Command::Back);
-    let copy = session.copy(rt, alloc, &strangers.without);
+    let answer = session.command(rt, alloc, &mut outsiders.with_receipt, Command::Back);
+    let copy = session.copy(rt, alloc, &outsiders.without);
     is_stranger(answer, 0, entry) && is_stranger(copy, 0, entry)
 }
 
 /// Returns whether a session with its own client refuses strangers so, before an entry is logged and after
 /// it, and whether the stranger with a receipt gets no other.
-fn tells_strangers<R: Wait>(rt: &R, alloc: Global, strangers: &mut Strangers) -> Option<bool> {
+fn tells_strangers<R: Wait>(rt: &R, alloc: Global, outsiders: &mut Outsiders) -> Option<bool> {
     let session = session_of(alloc, alloc, LINE, 1)?;
     let mut own = session.enter(rt, alloc).ok()?;
-    let is_before = are_strangers(rt, alloc, &session, strangers, None);
+    let is_before = are_strangers(rt, alloc, &session, outsiders, None);
     let entry = session.command(rt, alloc, &mut own, Command::Back).ok()?;
-    let is_after = are_strangers(rt, alloc, &session, strangers, Some(&entry));
-    let stranger = &strangers.with_receipt;
+    let is_after = are_strangers(rt, alloc, &session, outsiders, Some(&entry));
+    let stranger = &outsiders.with_receipt;
     let is_copy_refused = is_stranger(session.copy(rt, alloc, stranger), 0, Some(&entry));
     let is_own = session.copy(rt, alloc, &own).is_ok();
     let is_refused = entry.reply == Reply::Refused(Fault::AtStart);
@@ -278,12 +278,12 @@ fn stay_strangers<R: Wait>(rt: &R, alloc: Global) -> Option<bool> {
     let other = session_of(alloc, alloc, LINE, 1)?;
     let with_receipt = logged(rt, alloc, &other)?;
     let without = other.enter(rt, alloc).ok()?;
-    let mut strangers = Strangers {
+    let mut outsiders = Outsiders {
         with_receipt,
         without,
     };
-    let are_told = tells_strangers(rt, alloc, &mut strangers)?;
-    let why = why_open(alloc, other, strangers.with_receipt)?;
+    let are_told = tells_strangers(rt, alloc, &mut outsiders)?;
+    let why = why_open(alloc, other, outsiders.with_receipt)?;
     Some(are_told && why == CloseWhy::ClientMissing { client: 1 })
 }
 
