@@ -68,31 +68,43 @@ static ROWS: [Row; 10] = [
     (&[], Asked::Back, Wanted::AtStart),
 ];
 
-/// Issues a command, which is answered.
-fn give<A: Allocator + Copy, R: Wait>(
-    rt: &R,
+/// What the calls of a session take: the runtime that waits, the heap whose requests are refused, the
+/// allocator of JSON values, and the heap as the session's allocator.
+#[derive(Drop)]
+struct Setup<'a, A: Allocator + Copy, R> {
+    rt: &'a R,
+    heap: &'a Heap,
     json: Global,
     alloc: A,
+}
+
+/// Issues a command, which is answered.
+fn give<A: Allocator + Copy, R: Wait>(
+    setup: &Setup<A, R>,
     session: &Session<A>,
     client: &mut Client<A>,
     asked: &Asked,
 ) -> Option<()> {
-    let command = command_of(alloc, &graph_of(json, alloc, LINE)?, asked)?;
-    session.command(rt, alloc, client, command).ok()?;
+    let command = command_of(
+        setup.alloc,
+        &graph_of(setup.json, setup.alloc, LINE)?,
+        asked,
+    )?;
+    session
+        .command(setup.rt, setup.alloc, client, command)
+        .ok()?;
     Some(())
 }
 
 /// Returns a session of the line, and a client of it that has issued these commands.
 fn driven<A: Allocator + Copy, R: Wait>(
-    rt: &R,
-    json: Global,
-    alloc: A,
+    setup: &Setup<A, R>,
     list: &[Asked],
 ) -> Option<(Session<A>, Client<A>)> {
-    let session = session_of(json, alloc, LINE, 1)?;
-    let mut client = session.enter(rt, alloc).ok()?;
+    let session = session_of(setup.json, setup.alloc, LINE, 1)?;
+    let mut client = session.enter(setup.rt, setup.alloc).ok()?;
     for asked in list {
-        give(rt, json, alloc, &session, &mut client, asked)?;
+        give(setup, &session, &mut client, asked)?;
     }
     Some((session, client))
 }
@@ -139,25 +151,30 @@ fn is_right<A: Allocator + Copy>(
     }
 }
 
-/// Returns a command in a session with one request refused: whether it met it, if what it says and logs is right.
+/// Issues a client's command with one request refused, and returns whether the command met it.
+///
+/// Returns `None` if the answer is not allowed, or if the log has not as many entries as the client has
+/// receipts.
 fn given<A: Allocator + Copy, R: Wait>(
-    rt: &R,
-    heap: &Heap,
-    json: Global,
-    alloc: A,
-    (session, client): (&Session<A>, &mut Client<A>),
+    setup: &Setup<A, R>,
+    session: &Session<A>,
+    client: &mut Client<A>,
     row: &Row,
     n: u64,
 ) -> Option<bool> {
     let (_, asked, wanted) = row;
-    let command = command_of(alloc, &graph_of(json, alloc, LINE)?, asked)?;
-    let before = session.copy(rt, alloc, client).ok()?;
-    heap.refuse(n);
-    let answer = session.command(rt, alloc, client, command);
-    let met = heap.relent(n);
-    let after = session.copy(rt, alloc, client).ok()?;
+    let command = command_of(
+        setup.alloc,
+        &graph_of(setup.json, setup.alloc, LINE)?,
+        asked,
+    )?;
+    let before = session.copy(setup.rt, setup.alloc, client).ok()?;
+    setup.heap.refuse(n);
+    let answer = session.command(setup.rt, setup.alloc, client, command);
+    let met = setup.heap.relent(n);
+    let after = session.copy(setup.rt, setup.alloc, client).ok()?;
     let is_logged = client.receipts().len() as u64 == after.index();
-    if is_logged && is_right(json, answer, met, wanted, (&before, &after))? {
+    if is_logged && is_right(setup.json, answer, met, wanted, (&before, &after))? {
         Some(met)
     } else {
         None
@@ -174,18 +191,12 @@ fn closes<A: Allocator + Copy>(alloc: A, session: Session<A>, client: Client<A>)
 
 /// Issues a command with one request refused, and returns whether the command met it.
 ///
-/// Then nothing is logged, or the answer is; and in both cases the session closes with the client's receipts.
-fn commanded<A: Allocator + Copy, R: Wait>(
-    rt: &R,
-    heap: &Heap,
-    json: Global,
-    alloc: A,
-    row: &Row,
-    n: u64,
-) -> Option<bool> {
-    let (session, mut client) = driven(rt, json, alloc, row.0)?;
-    let met = given(rt, heap, json, alloc, (&session, &mut client), row, n)?;
-    if closes(alloc, session, client)? {
+/// Then nothing is logged, or the answer is; and in both cases the session closes with the client's
+/// receipts.
+fn commanded<A: Allocator + Copy, R: Wait>(setup: &Setup<A, R>, row: &Row, n: u64) -> Option<bool> {
+    let (session, mut client) = driven(setup, row.0)?;
+    let met = given(setup, &session, &mut client, row, n)?;
+    if closes(setup.alloc, session, client)? {
         Some(met)
     } else {
         None
@@ -193,41 +204,36 @@ fn commanded<A: Allocator + Copy, R: Wait>(
 }
 
 /// Issues a command with each request refused in turn, and returns how many were refused.
-fn commanded_in_turn<A: Allocator + Copy, R: Wait>(
-    rt: &R,
-    heap: &Heap,
-    json: Global,
-    alloc: A,
-    row: &Row,
-) -> Option<u64> {
-    in_turn!(n: commanded(rt, heap, json, alloc, row, n))
+fn commanded_in_turn<A: Allocator + Copy, R: Wait>(setup: &Setup<A, R>, row: &Row) -> Option<u64> {
+    in_turn!(n: commanded(setup, row, n))
 }
 
 #[test]
 fn command_out_of_memory(rt: HostRuntime) {
     let heap = Refusing::new(rt.alloc());
+    let setup = Setup {
+        rt: &rt,
+        heap: &heap,
+        json: rt.alloc(),
+        alloc: &heap,
+    };
     for (number, row) in ROWS.iter().enumerate() {
-        let count = commanded_in_turn(&rt, &heap, rt.alloc(), &heap, row);
+        let count = commanded_in_turn(&setup, row);
         assert!(rt; count.is_some(), "in row {number}");
         assert!(rt; number > 0 || count != Some(0));
     }
     assert!(rt; heap.live() == 0);
 }
 
-/// Enters with one request refused, and returns whether the call met it. The next client gets the number that was due.
-fn enters<A: Allocator + Copy, R: Wait>(
-    rt: &R,
-    heap: &Heap,
-    json: Global,
-    alloc: A,
-    n: u64,
-) -> Option<bool> {
-    let session = session_of(json, alloc, LINE, 1)?;
-    session.enter(rt, alloc).ok()?;
-    heap.refuse(n);
-    let answer = session.enter(rt, alloc);
-    let met = heap.relent(n);
-    let next = session.enter(rt, alloc).ok()?.number();
+/// Enters with one request refused, and returns whether the call met it. The next client gets the number
+/// that was due.
+fn enters<A: Allocator + Copy, R: Wait>(setup: &Setup<A, R>, n: u64) -> Option<bool> {
+    let session = session_of(setup.json, setup.alloc, LINE, 1)?;
+    session.enter(setup.rt, setup.alloc).ok()?;
+    setup.heap.refuse(n);
+    let answer = session.enter(setup.rt, setup.alloc);
+    let met = setup.heap.relent(n);
+    let next = session.enter(setup.rt, setup.alloc).ok()?.number();
     let is_right = match &answer {
         Ok(client) => !met && client.number() == 1 && next == 2,
         Err(SessionFault::Memory) => met && next == 1,
@@ -237,45 +243,33 @@ fn enters<A: Allocator + Copy, R: Wait>(
 }
 
 /// Copies with one request refused, and returns whether the call met it. Nothing is logged.
-fn copied<A: Allocator + Copy, R: Wait>(
-    rt: &R,
-    heap: &Heap,
-    json: Global,
-    alloc: A,
-    n: u64,
-) -> Option<bool> {
-    let (session, client) = driven(rt, json, alloc, &[FEED])?;
-    let before = session.copy(rt, alloc, &client).ok()?;
-    heap.refuse(n);
-    let answer = session.copy(rt, alloc, &client);
-    let met = heap.relent(n);
-    let after = session.copy(rt, alloc, &client).ok()?;
+fn copied<A: Allocator + Copy, R: Wait>(setup: &Setup<A, R>, n: u64) -> Option<bool> {
+    let (session, client) = driven(setup, &[FEED])?;
+    let before = session.copy(setup.rt, setup.alloc, &client).ok()?;
+    setup.heap.refuse(n);
+    let answer = session.copy(setup.rt, setup.alloc, &client);
+    let met = setup.heap.relent(n);
+    let after = session.copy(setup.rt, setup.alloc, &client).ok()?;
     let is_right = match &answer {
-        Ok(snapshot) => !met && are_equal(json, &before, snapshot)?,
+        Ok(snapshot) => !met && are_equal(setup.json, &before, snapshot)?,
         Err(SessionFault::Memory) => met,
         Err(_) => false,
     };
-    if is_right && are_equal(json, &before, &after)? {
+    if is_right && are_equal(setup.json, &before, &after)? {
         Some(met)
     } else {
         None
     }
 }
 
-/// Issues an unknown client's command with one request refused, and returns whether the command met it. The answer is the entry,
-/// or out of memory.
-fn refused<A: Allocator + Copy, R: Wait>(
-    rt: &R,
-    heap: &Heap,
-    json: Global,
-    alloc: A,
-    n: u64,
-) -> Option<bool> {
-    let (_, stranger) = driven(rt, json, alloc, &[Asked::Back])?;
-    let (session, _) = driven(rt, json, alloc, &[FEED])?;
-    heap.refuse(n);
-    let fault = session.copy(rt, alloc, &stranger).err();
-    let met = heap.relent(n);
+/// Copies for a client of another session with one request refused, and returns whether the call met it.
+/// The error is that of such a client, or out of memory.
+fn refused<A: Allocator + Copy, R: Wait>(setup: &Setup<A, R>, n: u64) -> Option<bool> {
+    let (_, stranger) = driven(setup, &[Asked::Back])?;
+    let (session, _) = driven(setup, &[FEED])?;
+    setup.heap.refuse(n);
+    let fault = session.copy(setup.rt, setup.alloc, &stranger).err();
+    let met = setup.heap.relent(n);
     let number = if met { 29 } else { 26 };
     if fault?.code().number() == number {
         Some(met)
@@ -293,28 +287,28 @@ enum Call {
 }
 
 /// Returns how many requests of a call were refused before it met none.
-fn calls_in_turn<A: Allocator + Copy, R: Wait>(
-    rt: &R,
-    heap: &Heap,
-    json: Global,
-    alloc: A,
-    call: &Call,
-) -> Option<u64> {
+fn calls_in_turn<A: Allocator + Copy, R: Wait>(setup: &Setup<A, R>, call: &Call) -> Option<u64> {
     match call {
-        Call::Enter => in_turn!(n: enters(rt, heap, json, alloc, n)),
-        Call::Copy => in_turn!(n: copied(rt, heap, json, alloc, n)),
-        Call::CopyOfStranger => in_turn!(n: refused(rt, heap, json, alloc, n)),
+        Call::Enter => in_turn!(n: enters(setup, n)),
+        Call::Copy => in_turn!(n: copied(setup, n)),
+        Call::CopyOfStranger => in_turn!(n: refused(setup, n)),
     }
 }
 
 #[test]
 fn calls_out_of_memory(rt: HostRuntime) {
     let heap = Refusing::new(rt.alloc());
+    let setup = Setup {
+        rt: &rt,
+        heap: &heap,
+        json: rt.alloc(),
+        alloc: &heap,
+    };
     for (i, call) in [Call::Enter, Call::Copy, Call::CopyOfStranger]
         .iter()
         .enumerate()
     {
-        let count = calls_in_turn(&rt, &heap, rt.alloc(), &heap, call);
+        let count = calls_in_turn(&setup, call);
         assert!(rt; matches!(count, Some(n) if n > 0), "of call {i}");
     }
     assert!(rt; heap.live() == 0);

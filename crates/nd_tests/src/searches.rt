@@ -234,31 +234,6 @@ static ROWS: [Row; 10] = [
     (true, 40, 40, 1, Some(40)),
 ];
 
-/// Returns whether a search by so many workers finds the hit of its row, and calls the gate once for each piece.
-fn hits<R: Threads + Sync>(
-    rt: &R,
-    alloc: Global,
-    snapshot: &Snapshot,
-    row: &Row,
-    workers: u64,
-) -> Option<bool> {
-    let (is_token, lo, hi, pieces, wanted) = *row;
-    let condition = if is_token {
-        count(snapshot, "a", 39)?
-    } else {
-        sink(snapshot, 5)?
-    };
-    let gate = Counted {
-        workers: workers.min(64),
-        pieces,
-        calls: AtomicU64::new(0),
-        is_wrong: AtomicBool::new(false),
-    };
-    let found = search(rt, alloc, snapshot, &condition, lo, hi, workers, &gate).ok()?;
-    let is_called = gate.calls.load(Ordering::SeqCst) == pieces;
-    Some(found == wanted && is_called && !gate.is_wrong.load(Ordering::SeqCst))
-}
-
 /// Returns the line that is searched.
 fn searched_line(alloc: Global) -> Option<Snapshot> {
     let steps = (
@@ -268,22 +243,34 @@ fn searched_line(alloc: Global) -> Option<Snapshot> {
     fed(alloc, alloc, 14, Some(steps), 24)
 }
 
-/// Returns the first row that so many workers answer otherwise, or how many rows there are.
-fn right_rows<R: Threads + Sync>(rt: &R, alloc: Global, workers: u64) -> Option<usize> {
+/// Returns whether a search by `workers` workers finds the hit of its row, and calls the gate once for
+/// each piece.
+fn hits<R: Threads + Sync>(rt: &R, alloc: Global, row: &Row, workers: u64) -> Option<bool> {
     let snapshot = searched_line(alloc)?;
-    for (i, row) in ROWS.iter().enumerate() {
-        if !hits(rt, alloc, &snapshot, row, workers)? {
-            return Some(i);
-        }
-    }
-    Some(ROWS.len())
+    let (is_token, lo, hi, pieces, wanted) = *row;
+    let condition = if is_token {
+        count(&snapshot, "a", 39)?
+    } else {
+        sink(&snapshot, 5)?
+    };
+    let gate = Counted {
+        workers: workers.min(64),
+        pieces,
+        calls: AtomicU64::new(0),
+        is_wrong: AtomicBool::new(false),
+    };
+    let found = search(rt, alloc, &snapshot, &condition, lo, hi, workers, &gate).ok()?;
+    let is_called = gate.calls.load(Ordering::SeqCst) == pieces;
+    Some(found == wanted && is_called && !gate.is_wrong.load(Ordering::SeqCst))
 }
 
 #[test]
 fn least_of_all_hits(rt: HostRuntime) {
     for workers in [1, 2, 3, 8, 65, u64::MAX] {
-        let rows = right_rows(&rt, rt.alloc(), workers);
-        assert!(rt; rows == Some(10), "{workers} workers");
+        for (i, row) in ROWS.iter().enumerate() {
+            let hits = hits(&rt, rt.alloc(), row, workers);
+            assert!(rt; hits == Some(true), "in row {i}, {workers} workers");
+        }
     }
 }
 

@@ -226,36 +226,43 @@ fn logged<R: Wait>(rt: &R, alloc: Global, session: &Session) -> Option<Client> {
     }
 }
 
-/// Returns whether calls of two strangers are answered 26, with this index; the one that has a receipt of its own session with
-/// the entry there, if there is one.
+/// Two clients of another session.
+#[derive(Drop)]
+struct Outsiders {
+    /// Has the receipt of a command there.
+    with_receipt: Client,
+    /// Has issued no command.
+    without: Client,
+}
+
+/// Returns whether a session refuses a command of the one stranger and a copy for the other with error
+/// 26, its index 0, and this entry or none.
 fn are_strangers<R: Wait>(
     rt: &R,
     alloc: Global,
     session: &Session,
-    stranger: &mut Client,
-    unknown: &Client,
+    outsiders: &mut Outsiders,
     entry: Option<&Receipt>,
 ) -> bool {
-    let answer = session.command(rt, alloc, stranger, Command::Back);
-    is_stranger(answer, 0, entry) && is_stranger(session.copy(rt, alloc, unknown), 0, entry)
+    let answer = session.command(rt, alloc, &mut outsiders.with_receipt, Command::Back);
+    let copy = session.copy(rt, alloc, &outsiders.without);
+    is_stranger(answer, 0, entry) && is_stranger(copy, 0, entry)
 }
 
-/// Returns whether a session with a client of its own tells strangers so, before an entry is logged and after it.
-fn tells_strangers<R: Wait>(
-    rt: &R,
-    alloc: Global,
-    stranger: &mut Client,
-    unknown: &Client,
-) -> Option<bool> {
+/// Returns whether a session with its own client refuses strangers so, before an entry is logged and after
+/// it, and whether the stranger with a receipt gets no other.
+fn tells_strangers<R: Wait>(rt: &R, alloc: Global, outsiders: &mut Outsiders) -> Option<bool> {
     let session = session_of(alloc, alloc, LINE, 1)?;
     let mut own = session.enter(rt, alloc).ok()?;
-    let is_before = are_strangers(rt, alloc, &session, stranger, unknown, None);
+    let is_before = are_strangers(rt, alloc, &session, outsiders, None);
     let entry = session.command(rt, alloc, &mut own, Command::Back).ok()?;
-    let is_after = are_strangers(rt, alloc, &session, stranger, unknown, Some(&entry))
-        && is_stranger(session.copy(rt, alloc, stranger), 0, Some(&entry));
+    let is_after = are_strangers(rt, alloc, &session, outsiders, Some(&entry));
+    let stranger = &outsiders.with_receipt;
+    let is_copy_refused = is_stranger(session.copy(rt, alloc, stranger), 0, Some(&entry));
     let is_own = session.copy(rt, alloc, &own).is_ok();
     let is_refused = entry.reply == Reply::Refused(Fault::AtStart);
-    Some(is_before && is_after && is_own && is_refused && stranger.receipts().len() == 1)
+    let are_told = is_before && is_after && is_copy_refused;
+    Some(are_told && is_own && is_refused && stranger.receipts().len() == 1)
 }
 
 /// Returns why a session does not close with one client.
@@ -265,13 +272,18 @@ fn why_open(alloc: Global, session: Session, client: Client) -> Option<CloseWhy>
     Some(session.close(clients).err()?.why)
 }
 
-/// Returns whether clients of one session are strangers to another, and their own does not close without one of them.
+/// Returns whether clients of one session are strangers to another, and their own does not close without
+/// one of them.
 fn stay_strangers<R: Wait>(rt: &R, alloc: Global) -> Option<bool> {
     let other = session_of(alloc, alloc, LINE, 1)?;
-    let mut stranger = logged(rt, alloc, &other)?;
-    let unknown = other.enter(rt, alloc).ok()?;
-    let are_told = tells_strangers(rt, alloc, &mut stranger, &unknown)?;
-    let why = why_open(alloc, other, stranger)?;
+    let with_receipt = logged(rt, alloc, &other)?;
+    let without = other.enter(rt, alloc).ok()?;
+    let mut outsiders = Outsiders {
+        with_receipt,
+        without,
+    };
+    let are_told = tells_strangers(rt, alloc, &mut outsiders)?;
+    let why = why_open(alloc, other, outsiders.with_receipt)?;
     Some(are_told && why == CloseWhy::ClientMissing { client: 1 })
 }
 

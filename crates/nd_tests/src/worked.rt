@@ -169,44 +169,34 @@ fn summaries_of_the_loop(rt: HostRuntime) {
     assert!(rt; are_of_the_loop(rt.alloc()) == Some(true));
 }
 
-/// Returns whether two ways lead from one location to another, one that keeps the counter and one that drops it.
-fn are_two(paths: &Paths) -> Option<bool> {
-    are_summaries(
-        paths,
-        "x",
-        "z",
-        &[summary(1, 0, &[])?, summary(0, 0, &[1])?],
-    )
+/// Returns whether two ways lead from x to z, one that keeps the counter and one that drops it.
+fn are_two(alloc: Global) -> Option<bool> {
+    let paths = paths_of(alloc, alloc, TWO_WAYS)?;
+    let wanted = [summary(1, 0, &[])?, summary(0, 0, &[1])?];
+    are_summaries(&paths, "x", "z", &wanted)
 }
 
-/// Times at the two locations, and whether the first is before the second.
+/// Times at x and at z, and whether the first is before the second.
 static WAYS: [Pair; 3] = [
     (&[0, 5], &[0, 1], true),
     (&[0, 5], &[0, 0], false),
     (&[0, 0], &[0, 0], true),
 ];
 
-/// Returns whether points at these locations are ordered as a row says.
-fn are_before(paths: &Paths, row: &Pair) -> Option<bool> {
+/// Returns whether points at x and at z are ordered as a row says.
+fn are_before(alloc: Global, row: &Pair) -> Option<bool> {
+    let paths = paths_of(alloc, alloc, TWO_WAYS)?;
     let (s, t, is_before) = row;
     let (x, z) = (point(paths.graph(), "x", s)?, point(paths.graph(), "z", t)?);
     Some(paths.before(&x, &z) == *is_before)
 }
 
-/// Returns whether all of these are ordered so.
-fn leads_two_ways(alloc: Global) -> Option<bool> {
-    let paths = paths_of(alloc, alloc, TWO_WAYS)?;
-    for row in &WAYS {
-        if !are_before(&paths, row)? {
-            return Some(false);
-        }
-    }
-    are_two(&paths)
-}
-
 #[test]
 fn two_summaries(rt: HostRuntime) {
-    assert!(rt; leads_two_ways(rt.alloc()) == Some(true));
+    assert!(rt; are_two(rt.alloc()) == Some(true));
+    for (i, row) in WAYS.iter().enumerate() {
+        assert!(rt; are_before(rt.alloc(), row) == Some(true), "in row {i}");
+    }
 }
 
 /// Returns whether what is added at a point is kept up to the limit.

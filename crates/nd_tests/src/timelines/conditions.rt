@@ -152,38 +152,32 @@ static LITERALS: [(bool, bool, bool, bool); 4] = [
     (true, true, true, true),
 ];
 
-/// Returns whether conditions of two literals hold as a row says.
-fn hold(cluster: &Cluster, row: &(bool, bool, bool, bool)) -> Option<bool> {
+/// Returns whether conditions of two literals hold at the start of *line* as a row says.
+fn hold(alloc: Global, row: &(bool, bool, bool, bool)) -> Option<bool> {
+    let cluster = start(alloc, alloc, LINE, 1)?;
     let (first, second, all, any) = row;
     let each = both(Quantifier::All, literal(*first), literal(*second))?;
     let one = both(Quantifier::Any, literal(*first), literal(*second))?;
-    Some(each.holds(cluster) == *all && one.holds(cluster) == *any)
+    Some(each.holds(&cluster) == *all && one.holds(&cluster) == *any)
 }
 
-/// Returns whether a condition holds that takes eight literals and no more.
-fn takes_eight(cluster: &Cluster) -> Option<bool> {
+/// Returns whether a condition takes eight literals and no more, and holds at the start of *line*.
+fn takes_eight(alloc: Global) -> Option<bool> {
+    let cluster = start(alloc, alloc, LINE, 1)?;
     let mut condition = only(queued(0, 0));
     for _ in 1..8 {
         condition.push(Literal::Not(queued(0, 1))).ok()?;
     }
     let is_full = condition.push(Literal::Is(queued(0, 0))) == Err(TooManyLiterals);
-    Some(is_full && condition.holds(cluster) && condition.literals().len() == 8)
-}
-
-/// Returns whether all of it is so at the start of *line*.
-fn hold_at_the_start(alloc: Global) -> Option<bool> {
-    let cluster = start(alloc, alloc, LINE, 1)?;
-    for row in &LITERALS {
-        if !hold(&cluster, row)? {
-            return Some(false);
-        }
-    }
-    takes_eight(&cluster)
+    Some(is_full && condition.holds(&cluster) && condition.literals().len() == 8)
 }
 
 #[test]
 fn all_and_any(rt: HostRuntime) {
-    assert!(rt; hold_at_the_start(rt.alloc()) == Some(true));
+    for (i, row) in LITERALS.iter().enumerate() {
+        assert!(rt; hold(rt.alloc(), row) == Some(true), "in row {i}");
+    }
+    assert!(rt; takes_eight(rt.alloc()) == Some(true));
 }
 
 /// Returns whether an atom does not hold, and its negation does.
