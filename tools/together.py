@@ -11,9 +11,10 @@ check of the crate kept, where there is one (rt must-fail; the gate keeps none).
 another edit changes is made in a function of its own: the same once more under another name, with its
 contract and its answers. If all that is said against a function is that its own proof files name what the
 edit took away, the edit is refused with the words that the toolchain has for that: its own trial, of the
-whole crate, reads the same files and refuses it for the same lines. What was not refused so is tried again
-with the rest, and at last alone, by the toolchain's own trial, over what the earlier checks of this run
-proved and then from nothing."""
+whole crate, reads the same files and refuses it for the same lines. Edits that cannot be read beside the
+others, as where another changes what a function takes, are tried together once more. What was not refused
+so is tried again with the rest, and at last alone, by the toolchain's own trial, over what the earlier
+checks of this run proved and then from nothing."""
 import collections
 import copy
 import functools
@@ -411,15 +412,20 @@ def must_fail_all(rt, crate, edits, flags, is_settled, refusal, start=None):
         kept = f"{room}/kept"
         os.mkdir(kept)
         begin(rt, start, kept)
-        while left:
-            together, texts = chosen(crate.folder, left)
-            said, barred = (
-                refused_together(rt, crate, together, texts, flags, kept) if together else ({}, [])
-            )
-            if not said and not barred:
-                break
-            refused.update(said)
-            left = [it for it in left if it not in said and it not in barred]
+        before = None
+        while left and left != before:
+            before, later = left, []
+            while left:
+                together, texts = chosen(crate.folder, left)
+                said, barred = (
+                    refused_together(rt, crate, together, texts, flags, kept) if together else ({}, [])
+                )
+                if not said and not barred:
+                    break
+                refused.update(said)
+                later += barred
+                left = [it for it in left if it not in said and it not in barred]
+            left = later
         label = f"must-fail {crate.name}/"
         given = {
             it: (refusal, f"{label}{os.path.basename(it)}: refused, as it must be{why}")
