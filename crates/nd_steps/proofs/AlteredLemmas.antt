@@ -7,7 +7,7 @@ use Rattle.std.specs.List.{flat_map}
 use Rattle.std.specs.List.Sorted.{IsPermutation, IsSorted}
 use Rattle.std.specs.Ordering.{eq_by_cmp}
 use Rattle.std.specs.FinMap as fin
-use Rattle.nd_map.specs.Counts.{at, natural, keys_of, size}
+use Rattle.nd_map.specs.Counts.{at, natural, size}
 use Rattle.nd_delta.specs.Delta.{DeltaValue, at as in_change}
 use Rattle.nd_vertex.specs.Edits.{item_of}
 use Rattle.nd_processor.specs.State.{items_at}
@@ -16,9 +16,8 @@ use Rattle.nd_steps.specs.Places.{Place, place_at, place_cmp}
 use Rattle.nd_steps.specs.Slots.{from_request, from_epoch}
 use Rattle.nd_steps.specs.Standing.{standing, difference, changed, queue_cmp}
 use Rattle.nd_steps.specs.Changes.{place_of, Fits}
-use Rattle.nd_steps.specs.Totals.{total_at, edits_of}
 use Rattle.nd_steps.specs.Records.{RunsTo}
-use Rattle.nd_steps.specs.Plans.{Each}
+use Rattle.nd_steps.specs.Plans.{total_at, Each}
 use Rattle.nd_steps.specs.Effect.{altered, item_at, record_at, request_at, sink_at, token_at, unsent_at, view_at, joined_below, queue_at, queues_altered, places_altered, effect_at, effect_of}
 use Rattle.nd_steps.specs.Altering.{only, nothing, beside, number_from, epoch_from, altered_at, altered_by}
 use Rattle.nd_steps.specs.declared.change.Change.{Change}
@@ -30,7 +29,7 @@ use Rattle.nd_steps.proofs.EachLemmas.{each_through, each_moved, often_moved}
 use Rattle.nd_steps.proofs.CountedLemmas.{queues_same}
 use Rattle.nd_steps.proofs.Differences.{queue_total}
 use Rattle.nd_steps.proofs.PlansLemmas.{moved}
-use Rattle.nd_steps.proofs.NamedLemmas.{fits_first, once, some, gains, listed, keys_of_edits}
+use Rattle.nd_steps.proofs.NamedLemmas.{fits_first, once, some, gains, listed}
 
 -- ---- one processor
 
@@ -110,8 +109,8 @@ module _ (s t : ClusterState) (cs ds : List Change) (runs : RunsTo s cs t) (exac
   kept_queues : t.queues ≡ s.queues
   kept_queues = ap (λ (u : ClusterState). u.queues) (sym runs.1) ∙ (shape-applied s cs).queues
 
-  moves : (k : Place) → standing t k ≡ standing s k +ℤ total_at (edits_of cs) k
-  moves k = ap (λ u. standing u k) (sym runs.1) ∙ moved s cs runs.0 k
+  moves : (k : Place) → standing t k ≡ standing s k +ℤ total_at k cs
+  moves k = ap (λ u. standing u k) (sym runs.1) ∙ moved s cs runs.0.fits k
 
   few : length cs ≤ size (difference s t)
   few = let none = queues_same s t kept_queues in omega (arith, exact, none)
@@ -134,4 +133,4 @@ module _ (s t : ClusterState) (cs ds : List Change) (runs : RunsTo s cs t) (exac
       none = sym (same_queues s t kept_queues)
 
       places : map place_of ds ≡ places_altered s t
-      places = sym (keys_of_edits ds) ∙ ap keys_of (listed s t cs ds moves few same_ones rising)
+      places = listed s t cs ds moves few same_ones rising
