@@ -1,5 +1,5 @@
 -- A feed: the input's token moves, and its values become records.
-use Rattle.std.proofs.Common.{lit<, ◌≡◌, ◌<◌, ◌≤◌, ◌^◌, ℕ, ℤ, List, length, Some, unwrap_or, lt_of_not-le, refl, sym, ap, subst, ◌∙◌, arith}
+use Rattle.std.proofs.Common.{lit<, ◌≡◌, ◌<◌, ◌≤◌, ◌^◌, ℕ, ℤ, List, length, Some, unwrap_or, lt_of_not-le, refl, sym, ap, subst, ◌∙◌}
 use Rattle.std.specs.List.{flat_map}
 use Rattle.std.specs.FinMap as fin
 use Rattle.nd_time.specs.Limits.{max_counter}
@@ -65,5 +65,5 @@ module _ (s : ClusterState) (g : Dataflow) (n p vertex epoch : ℕ) (values : Li
         → (ds : List Change) → AreJoined cs ds → Leads s x ds
     fed_leads fits goes small cs is few ds joins state free =
         let sound : IsSound s (fed_changes p vertex epoch next rs)
-        = sound_more s (token_changes p vertex epoch next) (arrivals p rs) (token_sound s p vertex epoch next held fits (λ e. let h = goes e in omega (arith, h)) small) (arrivals_plain p rs) in
+        = sound_more s (token_changes p vertex epoch next) (arrivals p rs) (token_sound s p vertex epoch next held fits goes small) (arrivals_plain p rs) in
         reaches s x state (fed_changes p vertex epoch next rs) (adds free) sound cs ds is few joins

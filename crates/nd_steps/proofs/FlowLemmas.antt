@@ -10,7 +10,7 @@ use Rattle.nd_processor.specs.State.{ProcessorState}
 use Rattle.nd_processor.specs.declared.key.ValueAt.{ValueAt}
 use Rattle.nd_protocol.specs.State.{ClusterState}
 use Rattle.nd_steps.specs.Standing.{standing}
-use Rattle.nd_steps.specs.Changes.{at_key, place_of}
+use Rattle.nd_steps.specs.Changes.{at_key, place_of, Finds}
 use Rattle.nd_steps.specs.Limits.{after, CountStays, EntryStays}
 use Rattle.nd_steps.specs.Plans.{Each, Reaches, ReachesIn, LeadsTo}
 use Rattle.nd_steps.specs.Ordered.{StayWithin, IsOrderedFlow}
@@ -43,17 +43,14 @@ reached ps s t p gone come late h = (h.0, reaches_moved s t (come_changes p gone
 abbrev leaves : ClusterState → Change → Type 0
 leaves s c = standing s (place_of c) +ℤ c.n ≢ pos 0
 
-abbrev finds : ClusterState → Change → Type 0
-finds s c = standing s (place_of c) ≢ pos 0
-
 leads_split : (s t : ClusterState) (front tail : List Change) → Reaches s t (front ++ tail) → Each (CountStays s.processors) (front ++ tail) → Each (EntryStays s.processors) (front ++ tail)
-    → Each (λ c. standing s (place_of c) +ℤ c.n ≢ pos 0) front → Each (λ c. standing s (place_of c) ≢ pos 0) tail → LeadsTo s t (front ++ tail)
+    → Each (leaves s) front → Each (Finds s) tail → LeadsTo s t (front ++ tail)
 leads_split s t front tail h counts entries leave find =
     planned_so s t (front ++ tail) h counts entries (length front)
-    (λ k d lt first. subst (λ c. standing s (place_of c) +ℤ c.n ≢ pos 0) (sym (get_or_append_left front tail d k first)) (each_at (λ c. standing s (place_of c) +ℤ c.n ≢ pos 0) front k d leave first))
+    (λ k d lt first. subst (leaves s) (sym (get_or_append_left front tail d k first)) (each_at (leaves s) front k d leave first))
     (λ k d lt past.
     let there : k - length front < length tail = omega (arith, past, lt, length-append front tail) in
-    subst (λ c. standing s (place_of c) ≢ pos 0) (sym (get_or-append_right front tail (length front) k d refl past)) (each_at (λ c. standing s (place_of c) ≢ pos 0) tail (k - length front) d find there))
+    subst (Finds s) (sym (get_or-append_right front tail (length front) k d refl past)) (each_at (Finds s) tail (k - length front) d find there))
 
 -- a count from which one is subtracted, or to which one is added
 one_less : (x y : ℤ) (n : ℕ) → y ≡ x +ℤ negsuc 0 → y ≡ pos n → x ≢ pos 0
@@ -67,7 +64,7 @@ last_of x n some e z = some (omega (arith, ints, e, z))
 
 leads_late : (s t : ClusterState) (p : ℕ) (gone : ValueAt) (come : Come) → Reaches s t (flow_changes p gone (record { come = come; late = true }))
     → Each (CountStays s.processors) (flow_changes p gone (record { come = come; late = true })) → Each (EntryStays s.processors) (flow_changes p gone (record { come = come; late = true }))
-    → finds s (at_key p (Records gone) (negsuc 0)) → finds s (at_key p (Unsent gone.point) (negsuc 0)) → LeadsTo s t (flow_changes p gone (record { come = come; late = true }))
+    → Finds s (at_key p (Records gone) (negsuc 0)) → Finds s (at_key p (Unsent gone.point) (negsuc 0)) → LeadsTo s t (flow_changes p gone (record { come = come; late = true }))
 leads_late s t p gone Nothing h counts entries goes unsent = leads_split s t [] (at_key p (Unsent gone.point) (negsuc 0) ∷ at_key p (Records gone) (negsuc 0) ∷ []) h counts entries tt (unsent, (goes, tt))
 leads_late s t p gone (Count vertex) h counts entries goes unsent =
     leads_split s t (at_key p (Sink (record { vertex = vertex; value = gone.value })) (pos 1) ∷ []) (at_key p (Unsent gone.point) (negsuc 0) ∷ at_key p (Records gone) (negsuc 0) ∷ []) h counts entries
@@ -84,7 +81,7 @@ leads_late s t p gone (Record action q edge value) h counts entries goes unsent 
 
 leads_early : (s t : ClusterState) (p : ℕ) (gone : ValueAt) (come : Come) → Reaches s t (flow_changes p gone (record { come = come; late = false }))
     → Each (CountStays s.processors) (flow_changes p gone (record { come = come; late = false })) → Each (EntryStays s.processors) (flow_changes p gone (record { come = come; late = false }))
-    → finds s (at_key p (Records gone) (negsuc 0)) → leaves s (at_key p (Unsent gone.point) (negsuc 0)) → LeadsTo s t (flow_changes p gone (record { come = come; late = false }))
+    → Finds s (at_key p (Records gone) (negsuc 0)) → leaves s (at_key p (Unsent gone.point) (negsuc 0)) → LeadsTo s t (flow_changes p gone (record { come = come; late = false }))
 leads_early s t p gone Nothing h counts entries goes unsent = leads_split s t (at_key p (Unsent gone.point) (negsuc 0) ∷ []) (at_key p (Records gone) (negsuc 0) ∷ []) h counts entries (unsent, tt) (goes, tt)
 leads_early s t p gone (Count vertex) h counts entries goes unsent =
     leads_split s t (at_key p (Unsent gone.point) (negsuc 0) ∷ at_key p (Sink (record { vertex = vertex; value = gone.value })) (pos 1) ∷ []) (at_key p (Records gone) (negsuc 0) ∷ []) h counts entries
@@ -101,7 +98,7 @@ leads_early s t p gone (Record action q edge value) h counts entries goes unsent
     ]
 
 -- the record that is taken is there
-record_there : (s t : ClusterState) (p : ℕ) (gone : ValueAt) (come : Come) → Reaches s t (come_changes p gone come) → finds s (at_key p (Records gone) (negsuc 0))
+record_there : (s t : ClusterState) (p : ℕ) (gone : ValueAt) (come : Come) → Reaches s t (come_changes p gone come) → Finds s (at_key p (Records gone) (negsuc 0))
 record_there s t p gone come h =
     let goes : Change = at_key p (Records gone) (negsuc 0) in
     let then : standing t (place_of goes) ≡ standing s (place_of goes) +ℤ negsuc 0
@@ -129,7 +126,7 @@ module _ (ps : List ProcessorState) (p : ℕ) (gone : ValueAt) (come : Come) whe
       leads_early s t p gone come (early_reached s t h).1 counts entries (record_there s t p gone come h.1) (λ none. here.0 refl (after_is s (at_key p (Unsent gone.point) (negsuc 0)) ∙ none))
   leads s t h counts entries false here =
       let unsent : Change = at_key p (Unsent gone.point) (negsuc 0) in
-      let finds_it : finds s unsent = λ none. absurd (let t : false ≡ true = here.1 (λ e. absurd (omega (arith, ints, none, sym (after_is s unsent) ∙ e))) in cc (t)) in
+      let finds_it : Finds s unsent = λ none. absurd (let t : false ≡ true = here.1 (λ e. absurd (omega (arith, ints, none, sym (after_is s unsent) ∙ e))) in cc (t)) in
       leads_late s t p gone come (reached ps s t p gone come true h).1 (each_late (CountStays s.processors) p gone come counts) (each_late (EntryStays s.processors) p gone come entries)
       (record_there s t p gone come h.1) finds_it
 

@@ -1,5 +1,5 @@
 -- Changes as a plan finds them: by how much each changes, and how often one place occurs among them.
-use Rattle.std.proofs.Common.{◌≡◌, ◌≤◌, ◌+◌, ℕ, suc, ℤ, pos, negsuc, ◌+ℤ◌, ◌-ℤ◌, unsigned_abs, All, Bool, true, false, cond, List, [], ◌∷◌, ◌++◌, Some, refl, ap, subst, arith}
+use Rattle.std.proofs.Common.{◌≡◌, ◌<◌, ◌≤◌, ◌+◌, ℕ, ℤ, pos, negsuc, ◌+ℤ◌, ◌-ℤ◌, unsigned_abs, All, Bool, true, false, cond, List, [], ◌∷◌, ◌++◌, Some, refl, ap, subst, arith}
 use Rattle.std.proofs.lemmas.Int.{ints}
 use Rattle.std.specs.FinMap as fin
 use Rattle.nd_time.specs.Limits.{max_counter}
@@ -50,6 +50,7 @@ pub record IsSound (s : ClusterState) (cs : List Change) : Type 0 where
 
 -- ---- changes by one, at no token and no item
 
+-- the change adds 1 or -1, at no token and no item
 abbrev pub IsPlain : Change → Type 0
 IsPlain c = (IsRanged c.slot → ⊥) × (unsigned_abs c.n ≤ 1)
 
@@ -115,7 +116,7 @@ module _ (s : ClusterState) where
 
 -- ---- which of them are plain
 
--- the changes of n at a key that is in no range, and of what p has to send
+-- the same at a key of another map, and in what p has to send
 pub two_plain : (p q : ℕ) (l : Slot) (x : Pointstamp) (n : ℤ) → (IsRanged l → ⊥) → unsigned_abs n ≤ 1 → (cs : List Change) → Each IsPlain cs → Each IsPlain (at_key q l n ∷ at_key p (Unsent x) n ∷ cs)
 two_plain p q l x n other one cs plain = ((other, one), (((λ h. h), one), plain))
 
@@ -131,11 +132,11 @@ pub sink_plain : (p : ℕ) (key : SinkKey) (sink : Bool) → Each IsPlain (sink_
 sink_plain p key true = (((λ h. h), omega arith), tt)
 sink_plain p key false = tt
 
--- the changes of what p has to send, where a token moves
+-- a change of what p has to send
 sent_plain : (p : ℕ) (x : Pointstamp) (n : ℤ) → unsigned_abs n ≤ 1 → IsPlain (at_key p (Unsent x) n)
 sent_plain p x n one = ((λ h. h), one)
 
-pub token_sound : (s : ClusterState) (p vertex epoch : ℕ) (next : Afterwards) → fin.get (processor s p).tokens vertex ≡ Some epoch → epoch ≤ max_counter → (next ≡ token.Next → suc epoch ≤ max_counter) → NextIsSmall next
+pub token_sound : (s : ClusterState) (p vertex epoch : ℕ) (next : Afterwards) → fin.get (processor s p).tokens vertex ≡ Some epoch → epoch ≤ max_counter → (next ≡ token.Next → epoch < max_counter) → NextIsSmall next
     → IsSound s (token_changes p vertex epoch next)
 token_sound s p vertex epoch token.Stay held fits goes small = sound_none s
 token_sound s p vertex epoch token.Close held fits goes small =
@@ -143,7 +144,7 @@ token_sound s p vertex epoch token.Close held fits goes small =
     sound_token s p vertex (negsuc epoch) (omega (arith, ints, e)) _ (sent_plain p (token_point vertex epoch) (negsuc 0) (omega arith), tt)
 token_sound s p vertex epoch token.Next held fits goes small =
     let e : standing s (place_at p (Token vertex)) ≡ pos (epoch + 1) = ap from_epoch held in
-    let h : suc epoch ≤ max_counter = goes refl in
+    let h = goes refl in
     sound_token s p vertex (pos 1) (omega (arith, ints, e, h)) _ (sent_plain p (token_point vertex epoch) (negsuc 0) (omega arith), (sent_plain p (token_point vertex (epoch + 1)) (pos 1) (omega arith), tt))
 token_sound s p vertex epoch (token.To n) held fits goes small =
     let e : standing s (place_at p (Token vertex)) ≡ pos (epoch + 1) = ap from_epoch held in

@@ -1,5 +1,5 @@
 -- The changes of a vertex's items: each item once, and they turn the old items into the new ones.
-use Rattle.std.proofs.Common.{◌≡◌, ◌<◌, ◌≤◌, ◌+◌, ℕ, zero, suc, ℤ, pos, negsuc, ◌+ℤ◌, ◌-ℤ◌, All, Bool, true, false, cond, List, [], ◌∷◌, map, length, length-set, get_or, get_or-set_same, Option, Some, None, refl, sym, ap, subst, ◌∙◌, arith}
+use Rattle.std.proofs.Common.{◌≡◌, ◌<◌, ◌≤◌, ◌+◌, ℕ, zero, suc, ℤ, pos, negsuc, ◌+ℤ◌, ◌-ℤ◌, All, Bool, true, false, cond, List, [], ◌∷◌, map, length, length-set, get_or, get_or-set_same, Some, None, refl, sym, ap, subst, ◌∙◌, arith}
 use Rattle.std.proofs.lemmas.Int.{ints}
 use Rattle.std.proofs.lemmas.Map.Keys.{IsDistinct-head, IsDistinct-tail}
 use Rattle.std.specs.List.{IsDistinct, AllByRecursion}
@@ -18,7 +18,6 @@ use Rattle.nd_protocol.specs.Ranges.{IsValue}
 use Rattle.nd_protocol.specs.State.{ClusterState, processor}
 use Rattle.nd_steps.specs.Places.{Place, place_at}
 use Rattle.nd_steps.specs.declared.slot.Slot.TheVariants.{State}
-use Rattle.nd_steps.specs.Slots.{from_number}
 use Rattle.nd_steps.specs.Plans.{often, Once, Each, StaysRanged}
 use Rattle.nd_steps.specs.Drafts.{item_change, item_changes, HasValues}
 use Rattle.nd_steps.specs.Places.{is_place}
@@ -27,11 +26,7 @@ use Rattle.nd_steps.proofs.Moves.{Moves, nothing_more, stays, moves_then, put_mo
 
 -- ---- numbers of items
 
-same_number : (n : Option ℤ) → number_of n ≡ from_number n
-same_number None = refl
-same_number (Some z) = refl
-
-pub was : (z : ℤ) → from_number (cond (is_zero z) None (Some z)) ≡ z
+pub was : (z : ℤ) → number_of (cond (is_zero z) None (Some z)) ≡ z
 was (pos zero) = refl
 was (pos (suc n)) = refl
 was (negsuc n) = refl
@@ -81,10 +76,10 @@ module _ (p vertex : ℕ) where
   item_moves : (q : ProcessorState) (e : ItemEdit) → vertex < length q.items → item_found (items_at q vertex) e.key ≡ e.old
       → Moves p p q (record q { items = slice_set q.items vertex (with_item (items_at q vertex) e.key e.new) }) (item_change p vertex e ∷ [])
   item_moves q e lt old =
-      let n : ℤ = from_number e.new -ℤ from_number e.old in
-      let before : from_number e.old ≡ number_at (items_at q vertex) e.key = ap from_number (sym old) ∙ was (number_at (items_at q vertex) e.key) in
-      let then : from_number e.new ≡ number_at (items_at q vertex) e.key +ℤ n = omega (arith, ints, before) in
-      put_moves p p q (State vertex e.key) n [] _ (ap (λ z. record q { items = slice_set q.items vertex (set item_total (items_at q vertex) e.key z) }) (same_number e.new ∙ then))
+      let n : ℤ = number_of e.new -ℤ number_of e.old in
+      let before : number_of e.old ≡ number_at (items_at q vertex) e.key = ap number_of (sym old) ∙ was (number_at (items_at q vertex) e.key) in
+      let then : number_of e.new ≡ number_at (items_at q vertex) e.key +ℤ n = omega (arith, ints, before) in
+      put_moves p p q (State vertex e.key) n [] _ (ap (λ z. record q { items = slice_set q.items vertex (set item_total (items_at q vertex) e.key z) }) then)
       tt lt tt tt (λ x. nothing_more (pos (held q x)))
 
   edits_move : (q : ProcessorState) (es : List ItemEdit) → vertex < length q.items → All (λ e. item_found (items_at q vertex) e.key ≡ e.old) es → IsDistinct (eq_by_cmp item_cmp) (keys es)
@@ -110,8 +105,8 @@ module _ (s : ClusterState) (p vertex : ℕ) where
   abbrev kept : Items
   kept = items_at (processor s p) vertex
 
-  one_ranged : (z : ℤ) (e : ItemEdit) → HasValues e → from_number e.old ≡ z → IsValue (z +ℤ (from_number e.new -ℤ from_number e.old))
-  one_ranged z e h old = subst IsValue (then z (from_number e.old) (from_number e.new) old) h.new
+  one_ranged : (z : ℤ) (e : ItemEdit) → HasValues e → number_of e.old ≡ z → IsValue (z +ℤ (number_of e.new -ℤ number_of e.old))
+  one_ranged z e h old = subst IsValue (then z (number_of e.old) (number_of e.new) old) h.new
     where
       then : (z a b : ℤ) → a ≡ z → b ≡ z +ℤ (b -ℤ a)
       then z a b e = omega (arith, ints, e)
@@ -119,7 +114,7 @@ module _ (s : ClusterState) (p vertex : ℕ) where
   each_ranged : (es : List ItemEdit) → All (λ e. item_found kept e.key ≡ e.old) es → All HasValues es → Each (StaysRanged s) (item_changes p vertex es)
   each_ranged [] olds values = tt
   each_ranged (e ∷ es) olds values = (
-    one_ranged (number_at kept e.key) e (values 0 e (omega arith)) (ap from_number (sym (olds 0 e (omega arith))) ∙ was (number_at kept e.key)),
+    one_ranged (number_at kept e.key) e (values 0 e (omega arith)) (ap number_of (sym (olds 0 e (omega arith))) ∙ was (number_at kept e.key)),
     each_ranged es (λ i d lt. olds (suc i) d (omega (arith, lt))) (λ i d lt. values (suc i) d (omega (arith, lt))),
   )
 

@@ -6,14 +6,14 @@
 --     listed             their places are those at which the two states differ
 use Rattle.std.proofs.Common.{◌≡◌, ◌≢◌, ◌≤◌, ◌+◌, suc, pos, ◌+ℤ◌, true, false, cond, List, [], ◌∷◌, ◌++◌, map, take, length, get_or, refl, sym, ap, subst, ◌∙◌, arith, length-append}
 use Rattle.std.proofs.lemmas.List.Sorted.{length_permutation}
-use Rattle.std.specs.List.Sorted.{IsPermutation, IsSorted}
+use Rattle.std.specs.List.Sorted.{IsPermutation}
 use Rattle.std.specs.FinMap.Entries.{by_order, put}
 use Rattle.nd_map.specs.Counts.{entries, keys_of, size}
 use Rattle.nd_vertex.specs.Table.{is_zero}
 use Rattle.nd_protocol.specs.State.{ClusterState}
 use Rattle.nd_steps.specs.Places.{Place, place_cmp, is_place}
 use Rattle.nd_steps.specs.Standing.{standing, IsThere, difference}
-use Rattle.nd_steps.specs.Changes.{place_of, Fits, state_at, IsRunnable}
+use Rattle.nd_steps.specs.Changes.{place_of, AreByPlace, Fits, state_at, IsRunnable}
 use Rattle.nd_steps.specs.Drafts.{some_of, both, joins, joined, AreJoined}
 use Rattle.nd_steps.specs.Plans.{often, total_at, Once, Each}
 use Rattle.nd_steps.specs.declared.change.Change.{Change}
@@ -106,7 +106,7 @@ unfolding sorted
 places_from c [] h once = refl
 places_from c (d ∷ ds) h once = ap keys_of (put_first c (d ∷ ds) h once) ∙ ap (λ ks. place_of c ∷ ks) (places_from d ds h.1 (once_tail c (d ∷ ds) once))
 
-places_sorted : (cs : List Change) → IsSorted (λ a b. place_cmp (place_of a) (place_of b)) cs → Once cs → keys_of (sorted cs) ≡ map place_of cs
+places_sorted : (cs : List Change) → AreByPlace cs → Once cs → keys_of (sorted cs) ≡ map place_of cs
 unfolding sorted
 places_sorted [] h once = refl
 places_sorted (c ∷ cs) h once = places_from c cs (rises c cs h) once
@@ -116,7 +116,7 @@ places_sorted (c ∷ cs) h once = places_from c cs (rises c cs h) once
 module _ (s t : ClusterState) (cs ds : List Change)
     (moves : (k : Place) → standing t k ≡ standing s k +ℤ total_at k cs)
     (exact : length cs ≤ size (difference s t))
-    (same_ones : IsPermutation cs ds) (rising : IsSorted (λ a b. place_cmp (place_of a) (place_of b)) ds) where
+    (same_ones : IsPermutation cs ds) (rising : AreByPlace ds) where
   join : AreJoined cs (joined ds)
   join = joined_so cs ds same_ones rising
 

@@ -7,6 +7,7 @@ use Rattle.nd_graph.specs.Graph.{Dataflow, op_at}
 use Rattle.nd_graph.specs.declared.graph.Edge.{Edge}
 use Rattle.nd_paths.specs.declared.point.Pointstamp.{Pointstamp}
 use Rattle.nd_vertex.specs.Table.{is_zero}
+use Rattle.nd_vertex.specs.Edits.{number_of}
 use Rattle.nd_vertex.specs.Effects.{IsEffect}
 use Rattle.nd_vertex.specs.declared.effect.Effect.{Effect}
 use Rattle.nd_vertex.specs.declared.effect.Emission.{Emission}
@@ -25,7 +26,6 @@ use Rattle.nd_protocol.specs.declared.step.Next.{Next as Afterwards}
 use Rattle.nd_protocol.specs.declared.step.Next.TheVariants as token
 use Rattle.nd_steps.specs.Places.{Place}
 use Rattle.nd_steps.specs.declared.slot.Slot.TheVariants.{Records, Request, Token, State, Sink, Unsent}
-use Rattle.nd_steps.specs.Slots.{from_number}
 use Rattle.nd_steps.specs.Changes.{at_key, place_of}
 use Rattle.nd_steps.specs.Places.{is_place}
 use Rattle.nd_steps.specs.Plans.{Once, Each, Reaches, total_at}
@@ -40,15 +40,15 @@ arrivals p (r ∷ rs) = at_key r.0 (Records r.1) (pos 1) ∷ at_key p (Unsent r.
 
 -- the change of one item of a vertex to its new number; `item_changes` are those of several items
 abbrev pub item_change : ℕ → ℕ → ItemEdit → Change
-item_change p vertex e = at_key p (State vertex e.key) (from_number e.new -ℤ from_number e.old)
+item_change p vertex e = at_key p (State vertex e.key) (number_of e.new -ℤ number_of e.old)
 
 abbrev pub item_changes : ℕ → ℕ → List ItemEdit → List Change
 item_changes p vertex es = map (item_change p vertex) es
 
 -- the old and the new number of the edit fit 64 bits
 pub record HasValues (e : ItemEdit) : Type 0 where
-  pub old : IsValue (from_number e.old)
-  pub new : IsValue (from_number e.new)
+  pub old : IsValue (number_of e.old)
+  pub new : IsValue (number_of e.new)
 
 -- ---- no place occurs twice
 

@@ -4,7 +4,7 @@ ghost use Rattle.std.specs.Prelude.{◌≡◌, ◌≤◌, ◌^◌, ◌++◌, ◌
 ghost use Rattle.std.specs.Int.{w128};
 ghost use Rattle.std.specs.List.Sorted.{IsPermutation};
 ghost use Rattle.nd_protocol.specs.Steps.{flat, point_at};
-ghost use Rattle.nd_steps.specs.Slots.{from_number};
+ghost use Rattle.nd_vertex.specs.Edits.{number_of};
 ghost use Rattle.nd_steps.specs.Places.{parts, place_cmp};
 ghost use Rattle.nd_steps.specs.Changes.{at_key, place_of, AreByPlace};
 ghost use Rattle.nd_steps.specs.Drafts.{item_changes, ask_changes, sink_changes, HasValues, some_of, both, joined, AreJoined};
@@ -123,7 +123,7 @@ fn join_neighbours<A: Allocator + Copy>(
 
 // Returns the difference between an item's new number and its old one.
 fn gain(item: &ItemEdit) -> i128
-    ensures value { result ≡ from_number item.now.new -ℤ from_number item.now.old }
+    ensures value { result ≡ number_of item.now.new -ℤ number_of item.now.old }
     ensures values { HasValues item.now }
     ensures fits { FitsSigned w128 result }
 {
