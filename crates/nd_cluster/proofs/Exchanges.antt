@@ -25,7 +25,6 @@ use Rattle.nd_steps.specs.Refused.{LeavesUpright, ReceiveFails}
 use Rattle.nd_steps.specs.Standing.{changed}
 use Rattle.nd_steps.specs.Counted.{SentChanges, ReceivedChanges}
 use Rattle.nd_steps.specs.Stored.{received-front}
-use Rattle.nd_steps.specs.Edits.{Works}
 use Rattle.nd_steps.specs.Plans.{LeadsTo}
 use Rattle.nd_steps.specs.declared.change.Change.{Change as Single}
 use Rattle.nd_cluster.specs.Records.{shared, Plans, ComesLast}
@@ -33,7 +32,7 @@ use Rattle.nd_steps.specs.Flows.{flow_changes}
 use Rattle.nd_steps.specs.declared.flow.Flow.{Flow}
 use Rattle.nd_steps.specs.declared.record.Changes.TheVariants.{Each, Flowed, Sent, Received}
 use Rattle.nd_processor.specs.declared.key.ValueAt.{ValueAt}
-use Rattle.nd_cluster.specs.Drafted.{take_of}
+use Rattle.nd_cluster.specs.Drafted.{Works, take_of}
 use Rattle.nd_map.specs.Cases.{zero_or_not}
 
 is_part : (c d : DeltaValue) → IsPartOf c d → IsPart c d

@@ -11,9 +11,8 @@ use Rattle.nd_protocol.specs.declared.step.Step.{Step}
 use Rattle.nd_protocol.specs.declared.step.Step.TheVariants.{Feed, Take, Notice, Release, Broadcast, Receive}
 use Rattle.nd_protocol.specs.declared.refusal.Refusal.{Refusal}
 use Rattle.nd_protocol.specs.declared.refusal.Refusal.TheVariants.{CountFull, DeltaFull, NothingToSend, NotAdmissible, QueueEmpty, QueueFull, NotNotified, NotLater, Memory}
-use Rattle.nd_steps.specs.Edits.{Works}
 use Rattle.nd_steps.specs.Limits.{LimitFails}
-use Rattle.nd_cluster.specs.Drafted.{take_of, PassesLast, FailsLast}
+use Rattle.nd_cluster.specs.Drafted.{Works, take_of, PassesLast, FailsLast}
 
 module _ {A : Type 0} (s : ClusterState) where
   large_count : (x : Step A) → Works x → Fails s x CountFull → HasLargeCount (stepped s x)

@@ -9,12 +9,21 @@ use Rattle.nd_protocol.specs.Enabled.{Fails, IsAdmissible, IsFreeBelow}
 use Rattle.nd_protocol.specs.Refusals.{number_of}
 use Rattle.nd_protocol.specs.declared.refusal.Refusal.{Refusal}
 use Rattle.nd_protocol.specs.declared.step.Step.{Step}
-use Rattle.nd_protocol.specs.declared.step.Step.TheVariants.{Take, Notice}
+use Rattle.nd_protocol.specs.declared.step.Step.TheVariants.{Feed, Take, Notice, Release, Broadcast, Receive}
 use Rattle.nd_steps.specs.declared.change.Change.{Change}
 use Rattle.nd_steps.specs.Plans.{Reaches}
 use Rattle.nd_steps.specs.Flows.{come_changes}
 use Rattle.nd_cluster.specs.declared.work.Drafted.{Drafted}
 use Rattle.nd_cluster.specs.declared.work.Drafted.TheVariants.{Each, Flow}
+
+-- a feed, a take, a notice or a release: the step changes records and capabilities, and others hear of it through what is unsent
+abbrev pub Works : {A : Type 0} → Step A → Type 0
+Works (Feed p vertex values _) = Unit {0}
+Works (Take p edge t value) = Unit {0}
+Works (Notice p vertex t) = Unit {0}
+Works (Release p vertex times) = Unit {0}
+Works (Broadcast p _) = ⊥
+Works (Receive from to) = ⊥
 
 -- the take of the record of a key by processor p
 abbrev pub take_of : {A : Type 0} → ℕ → ValueAt → Step A

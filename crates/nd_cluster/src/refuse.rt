@@ -9,8 +9,7 @@ ghost use Rattle.nd_protocol.specs.Steps.{target_of, point_at, epoch_of};
 ghost use Rattle.nd_protocol.specs.Times.{GoesLater};
 ghost use Rattle.nd_protocol.specs.Enabled.{GoesBack, IsFreeBelow, IsRefused};
 ghost use Rattle.nd_protocol.specs.declared.step.Step.TheVariants.{Feed as Feeding, Release as Releasing};
-ghost use Rattle.nd_steps.specs.Edits.{Works};
-ghost use Rattle.nd_cluster.specs.Drafted.{take_of, notice_of, IsWithinRules, IsLastRefusal};
+ghost use Rattle.nd_cluster.specs.Drafted.{Works, take_of, notice_of, IsWithinRules, IsLastRefusal};
 
 use crate::{Cluster, Next, Refusal, Step};
 use nd_graph::{Graph, Op};

@@ -6,9 +6,8 @@ ghost use Rattle.nd_protocol.specs.Steps.{point_at};
 ghost use Rattle.nd_protocol.specs.Fitting.{IsState};
 ghost use Rattle.nd_protocol.specs.Enabled.{IsRefused, MayWantMemory};
 ghost use Rattle.nd_steps.specs.Drafts.{ReleasesSo};
-ghost use Rattle.nd_steps.specs.Edits.{Works};
 ghost use Rattle.nd_cluster.specs.Records.{Plans};
-ghost use Rattle.nd_cluster.specs.Drafted.{take_of, notice_of, LeadOn, IsWithinRules, IsDraft};
+ghost use Rattle.nd_cluster.specs.Drafted.{Works, take_of, notice_of, LeadOn, IsWithinRules, IsDraft};
 ghost use Rattle.nd_protocol.specs.declared.step.Step.TheVariants.{Feed as Feeding, Release as Releasing};
 ghost use Rattle.nd_protocol.specs.declared.refusal.Refusal.TheVariants.{Memory};
 

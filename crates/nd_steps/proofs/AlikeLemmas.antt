@@ -1,21 +1,18 @@
 -- When two keys, and two places, are equal: places of one processor's map are equal if their keys are.
 use Rattle.std.proofs.Common.{◌≡◌, ◌≢◌, ℕ, true, false, refl, sym, ap, ◌∙◌, true≢false}
-use Rattle.std.proofs.lemmas.Cmp.{tied_itself, nat_cmp_total}
+use Rattle.std.proofs.lemmas.Cmp.{tied_itself}
 use Rattle.std.proofs.lemmas.Map.Views.{tells_apart}
 use Rattle.std.specs.declared.cmp.Ordering.{Ordering}
-use Rattle.std.specs.Ordering.{nat_cmp, eq_by_cmp, is_eq}
+use Rattle.std.specs.Ordering.{eq_by_cmp, is_eq}
 use Rattle.std.specs.Cmp.{IsTotalOrder}
 use Rattle.std.specs.FinMap.{IsAntisymmetric}
-use Rattle.std.specs.FinMap as fin
 use Rattle.nd_paths.specs.Point.{point_cmp, point_total, point_exact}
 use Rattle.nd_paths.specs.declared.point.Pointstamp.{Pointstamp}
 use Rattle.nd_vertex.specs.Items.{item_cmp, item_total, item_exact}
 use Rattle.nd_vertex.specs.declared.key.ItemKey.{ItemKey}
-use Rattle.nd_processor.specs.Keys.{value_at_cmp, value_at_total, value_at_exact, sink_cmp, sink_total, sink_exact}
-use Rattle.nd_processor.specs.declared.key.ValueAt.{ValueAt}
-use Rattle.nd_processor.specs.declared.key.SinkKey.{SinkKey}
 use Rattle.nd_steps.specs.Places.{Place, place_at, place_total, place_exact, is_place}
-use Rattle.nd_steps.specs.declared.slot.Slot.TheVariants.{Records, Request, Token, State, Sink, Unsent}
+use Rattle.nd_steps.specs.declared.slot.Slot.{Slot}
+use Rattle.nd_steps.specs.declared.slot.Slot.TheVariants.{State, Unsent}
 
 -- ---- keys that compare as equal or not
 
@@ -49,25 +46,18 @@ module _ {K : Type 0} {S : K → K → Ordering} (o : IsTotalOrder S) (tells : I
     | false ↦ λ e. other_place (f a) (f b) (λ is. true≢false (sym (ap is_eq (tied_itself o a)) ∙ ap (eq_by_cmp S a) (apart a b is) ∙ e))
   ] refl
 
+-- ---- the processor and the key of a place
+
+pub same_owner : (p q : ℕ) (l m : Slot) → place_at p l ≡ place_at q m → p ≡ q
+same_owner p q l m e = cc
+
+pub same_slot : (p q : ℕ) (l m : Slot) → place_at p l ≡ place_at q m → l ≡ m
+same_slot p q l m e = cc
+
 -- ---- keys of one map of one processor
-
-pub record-test : (p : ℕ) (a b : ValueAt) → is_place (place_at p (Records a)) (place_at p (Records b)) ≡ eq_by_cmp value_at_cmp a b
-record-test p a b = same_test value_at_total value_at_exact (λ k. place_at p (Records k)) (λ c d e. cc) a b
-
-pub request-test : (p : ℕ) (a b : Pointstamp) → is_place (place_at p (Request a)) (place_at p (Request b)) ≡ eq_by_cmp point_cmp a b
-request-test p a b = same_test point_total point_exact (λ k. place_at p (Request k)) (λ c d e. cc) a b
-
-pub token-test : (p : ℕ) (a b : ℕ) → is_place (place_at p (Token a)) (place_at p (Token b)) ≡ eq_by_cmp nat_cmp a b
-token-test p a b = same_test nat_cmp_total fin.nat_cmp-IsAntisymmetric (λ k. place_at p (Token k)) (λ c d e. cc) a b
 
 pub item-test : (p v : ℕ) (a b : ItemKey) → is_place (place_at p (State v a)) (place_at p (State v b)) ≡ eq_by_cmp item_cmp a b
 item-test p v a b = same_test item_total item_exact (λ k. place_at p (State v k)) (λ c d e. cc) a b
-
-pub item_elsewhere : (p v w : ℕ) (a b : ItemKey) → (v ≡ w → ⊥) → is_place (place_at p (State v a)) (place_at p (State w b)) ≡ false
-item_elsewhere p v w a b apart = other_place (place_at p (State v a)) (place_at p (State w b)) (λ e. apart (cc))
-
-pub sink-test : (p : ℕ) (a b : SinkKey) → is_place (place_at p (Sink a)) (place_at p (Sink b)) ≡ eq_by_cmp sink_cmp a b
-sink-test p a b = same_test sink_total sink_exact (λ k. place_at p (Sink k)) (λ c d e. cc) a b
 
 pub unsent-test : (p : ℕ) (a b : Pointstamp) → is_place (place_at p (Unsent a)) (place_at p (Unsent b)) ≡ eq_by_cmp point_cmp a b
 unsent-test p a b = same_test point_total point_exact (λ k. place_at p (Unsent k)) (λ c d e. cc) a b

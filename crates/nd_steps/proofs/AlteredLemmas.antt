@@ -1,24 +1,23 @@
 -- The effect of changes on the processors is what the definition of an effect says of the states before and after.
-use Rattle.std.proofs.Common.{◌≡◌, ◌≢◌, ◌<◌, ◌≤◌, ◌+◌, ℕ, zero, suc, ℤ, pos, ◌+ℤ◌, true, cond, List, [], ◌∷◌, ◌++◌, Option, Some, None, is_some, map, length, get_or, refl, sym, ap, subst, ◌∙◌, arith}
+use Rattle.std.proofs.Common.{◌≡◌, ◌≢◌, ◌≤◌, ◌+◌, ℕ, zero, suc, ℤ, pos, ◌+ℤ◌, true, cond, List, [], ◌∷◌, ◌++◌, Option, Some, None, is_some, map, length, refl, sym, ap, subst, ◌∙◌, arith}
 use Rattle.std.proofs.lemmas.Int.{ints}
 use Rattle.std.proofs.lemmas.List.{append-nil}
 use Rattle.std.specs.Prelude.{not, slice_index_or}
 use Rattle.std.specs.List.{flat_map}
-use Rattle.std.specs.List.Sorted.{IsPermutation, IsSorted}
+use Rattle.std.specs.List.Sorted.{IsPermutation}
 use Rattle.std.specs.Ordering.{eq_by_cmp}
 use Rattle.std.specs.FinMap as fin
-use Rattle.nd_map.specs.Counts.{at, natural, keys_of, size}
+use Rattle.nd_map.specs.Counts.{at, natural, size}
 use Rattle.nd_delta.specs.Delta.{DeltaValue, at as in_change}
 use Rattle.nd_vertex.specs.Edits.{item_of}
 use Rattle.nd_processor.specs.State.{items_at}
 use Rattle.nd_protocol.specs.State.{ClusterState, processor, queue}
-use Rattle.nd_steps.specs.Places.{Place, place_at, place_cmp}
+use Rattle.nd_steps.specs.Places.{Place, place_at}
 use Rattle.nd_steps.specs.Slots.{from_request, from_epoch}
 use Rattle.nd_steps.specs.Standing.{standing, difference, changed, queue_cmp}
-use Rattle.nd_steps.specs.Changes.{place_of, Fits}
-use Rattle.nd_steps.specs.Totals.{total_at, edits_of}
+use Rattle.nd_steps.specs.Changes.{place_of, AreByPlace, Fits}
 use Rattle.nd_steps.specs.Records.{RunsTo}
-use Rattle.nd_steps.specs.Plans.{Each}
+use Rattle.nd_steps.specs.Plans.{total_at, Each}
 use Rattle.nd_steps.specs.Effect.{altered, item_at, record_at, request_at, sink_at, token_at, unsent_at, view_at, joined_below, queue_at, queues_altered, places_altered, effect_at, effect_of}
 use Rattle.nd_steps.specs.Altering.{only, nothing, beside, number_from, epoch_from, altered_at, altered_by}
 use Rattle.nd_steps.specs.declared.change.Change.{Change}
@@ -30,15 +29,7 @@ use Rattle.nd_steps.proofs.EachLemmas.{each_through, each_moved, often_moved}
 use Rattle.nd_steps.proofs.CountedLemmas.{queues_same}
 use Rattle.nd_steps.proofs.Differences.{queue_total}
 use Rattle.nd_steps.proofs.PlansLemmas.{moved}
-use Rattle.nd_steps.proofs.NamedLemmas.{fits_first, once, some, gains, listed, keys_of_edits}
-
--- ---- one processor
-
--- reading a list within its length gives the same for any default
-pub default_free : {X : Type 0} (xs : List X) (i : ℕ) (d e : X) → i < length xs → get_or xs i d ≡ get_or xs i e
-default_free [] i d e lt = absurd (omega (arith, lt))
-default_free (x ∷ xs) zero d e lt = refl
-default_free (x ∷ xs) (suc i) d e lt = default_free xs i d e (omega (arith, lt))
+use Rattle.nd_steps.proofs.NamedLemmas.{fits_first, once, some, gains, listed}
 
 -- ---- one change
 
@@ -106,12 +97,12 @@ module _ (s t : ClusterState) where
 -- ---- the changes of a record, in the order of their places
 
 module _ (s t : ClusterState) (cs ds : List Change) (runs : RunsTo s cs t) (exact : length cs ≤ changed s t)
-    (same_ones : IsPermutation cs ds) (rising : IsSorted (λ a b. place_cmp (place_of a) (place_of b)) ds) where
+    (same_ones : IsPermutation cs ds) (rising : AreByPlace ds) where
   kept_queues : t.queues ≡ s.queues
   kept_queues = ap (λ (u : ClusterState). u.queues) (sym runs.1) ∙ (shape-applied s cs).queues
 
-  moves : (k : Place) → standing t k ≡ standing s k +ℤ total_at (edits_of cs) k
-  moves k = ap (λ u. standing u k) (sym runs.1) ∙ moved s cs runs.0 k
+  moves : (k : Place) → standing t k ≡ standing s k +ℤ total_at k cs
+  moves k = ap (λ u. standing u k) (sym runs.1) ∙ moved s cs runs.0.fits k
 
   few : length cs ≤ size (difference s t)
   few = let none = queues_same s t kept_queues in omega (arith, exact, none)
@@ -134,4 +125,4 @@ module _ (s t : ClusterState) (cs ds : List Change) (runs : RunsTo s cs t) (exac
       none = sym (same_queues s t kept_queues)
 
       places : map place_of ds ≡ places_altered s t
-      places = sym (keys_of_edits ds) ∙ ap keys_of (listed s t cs ds moves few same_ones rising)
+      places = listed s t cs ds moves few same_ones rising

@@ -1,15 +1,20 @@
--- Each record that a step makes goes to a processor that exists.
-use Rattle.std.proofs.Common.{ℕ, ◌+◌, ◌<◌, ℤ, pos, negsuc, Bool, true, false, cond, ◌&&◌, List, [], ◌∷◌, ◌++◌, length, flat_map, unsigned_abs, nat_eq, mod-lt, arith}
+-- The records that a step makes: each goes to a processor that exists, and those of an effect are those of its outcome.
+use Rattle.std.proofs.Common.{◌≡◌, refl, sym, ap, ◌∙◌, ℕ, ◌+◌, ◌<◌, ℤ, pos, negsuc, Bool, true, false, cond, ◌&&◌, List, [], ◌∷◌, ◌++◌, length, flat_map, unsigned_abs, nat_eq, mod-lt, arith}
 use Rattle.std.specs.Int.{int_rem_euclid}
 use Rattle.nd_time.specs.Time.{Time}
 use Rattle.nd_graph.specs.Graph.{Dataflow, op_at}
 use Rattle.nd_graph.specs.declared.op.Route.{Route}
 use Rattle.nd_graph.specs.declared.op.Route.TheVariants.{Local, Exchange}
 use Rattle.nd_graph.specs.declared.graph.Edge.{Edge}
-use Rattle.nd_vertex.specs.Table.{time_past}
+use Rattle.nd_vertex.specs.Table.{Outcome, time_past}
+use Rattle.nd_vertex.specs.Effects.{IsEffect, emitted as emissions_of}
+use Rattle.nd_vertex.specs.declared.effect.Effect.{Effect}
+use Rattle.nd_processor.specs.State.{items_at}
 use Rattle.nd_processor.specs.declared.key.ValueAt.{ValueAt}
+use Rattle.nd_protocol.specs.State.{ClusterState, processor}
 use Rattle.nd_protocol.specs.Steps.{destination, record_key, made_on, emitted}
-use Rattle.nd_steps.proofs.Arrivals.{AreTo}
+use Rattle.nd_steps.specs.Drafts.{Has, emitted_by}
+use Rattle.nd_steps.proofs.StepMoves.{AreTo}
 
 rest_below : (v : ℤ) (n : ℕ) → 0 < n → unsigned_abs (int_rem_euclid v (pos n)) < n
 rest_below (pos a) n some = mod-lt a some
@@ -40,3 +45,15 @@ made_on-below n p vertex port v t l (e ∷ edges) lt =
 
 pub emitted-below : (g : Dataflow) (n p vertex : ℕ) (t : Time) (e : ℕ × ℤ) → p < n → AreTo n (emitted g n p vertex t e)
 emitted-below g n p vertex t e lt = made_on-below n p vertex e.0 e.1 (time_past (op_at g vertex) t) (length g.vertices) g.edges lt
+
+-- ---- the records of an effect
+
+as_emitted : (g : Dataflow) (n p vertex : ℕ) (t : Time) (es : List (ℕ × ℤ)) → flat_map (emitted g n p vertex t) es ≡ emitted_by g n p vertex (emissions_of (time_past (op_at g vertex) t) es)
+as_emitted g n p vertex t [] = refl
+as_emitted g n p vertex t (e ∷ es) = ap (λ rs. made_on n p vertex e.0 e.1 (time_past (op_at g vertex) t) (length g.vertices) g.edges ++ rs) (as_emitted g n p vertex t es)
+
+pub effect_arrives : {A : Type 0} (s : ClusterState) (g : Dataflow) (n : ℕ) → Has g n s → (p : ℕ) (effect : Effect A) (vertex : ℕ) (t : Time) (o : Outcome) → IsEffect (items_at (processor s p) vertex) (op_at s.graph vertex) t o effect
+    → flat_map (emitted s.graph (length s.processors) p vertex t) o.emissions ≡ emitted_by g n p vertex effect.emits.items
+effect_arrives s g n has p effect vertex t o is =
+    as_emitted s.graph (length s.processors) p vertex t o.emissions
+    ∙ (λ i. emitted_by (has.graph i) (has.count i) p vertex (sym is.emits i))

@@ -13,15 +13,14 @@ use Rattle.std.specs.Cmp.{IsTotalOrder}
 use Rattle.std.specs.Cmp.Lexicographic.{slice_cmp}
 use Rattle.std.specs.FinMap.{find, is_sorted}
 use Rattle.std.specs.FinMap.Entries.{below_all}
-use Rattle.nd_map.specs.Counts.{or_else, integers, entries, of_entries, at-of_entries, entries-of_entries, same, size as keys}
+use Rattle.nd_map.specs.Counts.{or_else, entries, size as keys}
 use Rattle.nd_paths.specs.Point.{point_cmp, point_total}
 use Rattle.nd_paths.specs.declared.point.Pointstamp.{Pointstamp}
 use Rattle.nd_delta.specs.Delta.{DeltaValue, at as in_change, entries as listed, size, or_zero, at-entries, sorted-entries, some-entry}
 use Rattle.nd_protocol.specs.State.{ClusterState}
-use Rattle.nd_steps.specs.Places.{Place, parts, place_cmp, place_total, place_exact}
+use Rattle.nd_steps.specs.Places.{Place, parts, place_cmp}
 use Rattle.nd_steps.specs.Standing.{standing, difference, change_cmp, queue_cmp, sum_below}
-use Rattle.nd_steps.specs.Totals.{Edit}
-use Rattle.nd_steps.proofs.StandingLemmas.{at-difference}
+use Rattle.nd_steps.proofs.StandingLemmas.{difference-listed}
 use Rattle.nd_steps.specs.Places.{is_place}
 use Rattle.nd_steps.proofs.AlikeLemmas.{same_key, same_place, other_place, place_itself}
 
@@ -46,7 +45,7 @@ IsNone f k = (x : Pointstamp) → is_place k (f x) ≡ false
 
 -- the entries of a change at the places f x, each with what it adds there
 module _ (f : Pointstamp → Place) (alike : (a b : Pointstamp) → place_cmp (f a) (f b) ≡ point_cmp a b) (back : (x : Pointstamp) → point_of (f x) ≡ x) (g : ℤ → ℤ) where
-  at_places : List (Pointstamp × ℤ) → List Edit
+  at_places : List (Pointstamp × ℤ) → List (Place × ℤ)
   at_places es = map (λ e. (f e.0, g e.1)) es
 
   below_alike : (k : Pointstamp) (es : List (Pointstamp × ℤ)) → below_all place_cmp (f k) (at_places es) ≡ below_all point_cmp k es
@@ -117,11 +116,7 @@ module _ (f : Pointstamp → Place) (alike : (a b : Pointstamp) → place_cmp (f
       -- the entries are the difference of the states
       pub entries_changed : entries (difference s t) ≡ map (λ e. (f e.0, g e.1)) (listed c)
       unfolding at_places
-      entries_changed =
-          let sorted : T (is_sorted place_cmp (at_places (listed c))) = subst T (sym (sorted_alike (listed c))) (sorted-entries c) in
-          let e : of_entries {N = integers} place_total (at_places (listed c)) ≡ difference s t
-          = same place_total place_exact _ _ (λ k. at-of_entries integers place_total place_exact (at_places (listed c)) k ∙ found k ∙ sym (at-difference s t k)) in
-          sym (ap entries e) ∙ entries-of_entries integers place_total place_exact (at_places (listed c)) sorted no_zero
+      entries_changed = difference-listed s t (at_places (listed c)) (subst T (sym (sorted_alike (listed c))) (sorted-entries c)) no_zero found
 
       -- the states differ at one key for each entry
       pub keys_changed : keys (difference s t) ≡ size c

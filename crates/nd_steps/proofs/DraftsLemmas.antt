@@ -13,15 +13,13 @@ use Rattle.nd_vertex.specs.declared.effect.ItemEdit.{ItemEdit}
 use Rattle.nd_processor.specs.declared.key.ValueAt.{ValueAt}
 use Rattle.nd_steps.specs.declared.slot.Slot.TheVariants.{Records, Unsent}
 use Rattle.nd_steps.specs.Places.{Place, place_cmp, place_total}
-use Rattle.nd_steps.specs.Changes.{place_of}
-use Rattle.nd_steps.specs.Totals.{total_at, edits_of}
-use Rattle.nd_steps.specs.Plans.{often, Once, Each}
+use Rattle.nd_steps.specs.Changes.{at_key, place_of}
+use Rattle.nd_steps.specs.Plans.{often, total_at, Once, Each}
 use Rattle.nd_steps.specs.Places.{is_place}
 use Rattle.nd_steps.proofs.AlikeLemmas.{same_place}
-use Rattle.nd_steps.proofs.EachLemmas.{often-append, total-append, each-append}
-use Rattle.nd_steps.specs.Drafts.{at_key, arrivals, made_along, item_change, some_of, both, joins, joined, AreJoined}
+use Rattle.nd_steps.proofs.EachLemmas.{plus_none, often-append, total-append, each-append, total_moved}
+use Rattle.nd_steps.specs.Drafts.{arrivals, made_along, item_change, item_changes, some_of, both, joins, joined, AreJoined}
 use Rattle.nd_steps.specs.declared.change.Change.{Change}
-use Rattle.nd_steps.proofs.EachLemmas.{total_moved}
 
 abbrev order : Change → Change → Ordering
 order a b = place_cmp (place_of a) (place_of b)
@@ -125,9 +123,6 @@ joins_once c (d ∷ ds) h k =
               omega (arith, a, b, z, rest)
         ] refl
 
-plus_none : (x : ℤ) → x +ℤ pos 0 ≡ x
-plus_none x = omega (arith, ints)
-
 zero_is : (z : ℤ) → is_zero z ≡ true → z ≡ pos 0
 zero_is (pos zero) h = refl
 zero_is (pos (suc n)) h = absurd (cc)
@@ -137,8 +132,8 @@ none_either : (b : Bool) → pos 0 ≡ cond b (pos 0) (pos 0)
 none_either true = refl
 none_either false = refl
 
-some_total : (k : Place) (c : Change) → total_at (edits_of (some_of c)) k ≡ cond (is_place k (place_of c)) c.n (pos 0)
-some_total k c = elim (is_zero c.n) as (λ b. is_zero c.n ≡ b → total_at (edits_of (cond b [] (c ∷ []))) k ≡ cond (is_place k (place_of c)) c.n (pos 0)) [
+some_total : (k : Place) (c : Change) → total_at k (some_of c) ≡ cond (is_place k (place_of c)) c.n (pos 0)
+some_total k c = elim (is_zero c.n) as (λ b. is_zero c.n ≡ b → total_at k (cond b [] (c ∷ [])) ≡ cond (is_place k (place_of c)) c.n (pos 0)) [
   | true ↦ λ z. none_either (is_place k (place_of c)) ∙ ap (λ n. cond (is_place k (place_of c)) n (pos 0)) (sym (zero_is c.n z))
   | false ↦ λ z. plus_none (cond (is_place k (place_of c)) c.n (pos 0))
 ] refl
@@ -147,14 +142,14 @@ two : (b : Bool) (x y t : ℤ) → cond b (x +ℤ y) (pos 0) +ℤ t ≡ cond b x
 two true x y t = omega (arith, ints)
 two false x y t = omega (arith, ints)
 
-joins_total : (k : Place) (c : Change) (cs : List Change) → total_at (edits_of (joins c cs)) k ≡ total_at (edits_of (c ∷ cs)) k
+joins_total : (k : Place) (c : Change) (cs : List Change) → total_at k (joins c cs) ≡ total_at k (c ∷ cs)
 joins_total k c [] = some_total k c ∙ sym (plus_none (cond (is_place k (place_of c)) c.n (pos 0)))
 joins_total k c (d ∷ ds) =
-    elim (is_place (place_of c) (place_of d)) as (λ b. is_place (place_of c) (place_of d) ≡ b → total_at (edits_of (cond b (joins (both c d) ds) (some_of c ++ joins d ds))) k ≡ total_at (edits_of (c ∷ d ∷ ds)) k) [
+    elim (is_place (place_of c) (place_of d)) as (λ b. is_place (place_of c) (place_of d) ≡ b → total_at k (cond b (joins (both c d) ds) (some_of c ++ joins d ds)) ≡ total_at k (c ∷ d ∷ ds)) [
       | true ↦ λ t.
           joins_total k (both c d) ds
-          ∙ two (is_place k (place_of c)) c.n d.n (total_at (edits_of ds) k)
-          ∙ ap (λ q. cond (is_place k (place_of c)) c.n (pos 0) +ℤ (cond (is_place k q) d.n (pos 0) +ℤ total_at (edits_of ds) k)) (same_place (place_of c) (place_of d) t)
+          ∙ two (is_place k (place_of c)) c.n d.n (total_at k ds)
+          ∙ ap (λ q. cond (is_place k (place_of c)) c.n (pos 0) +ℤ (cond (is_place k q) d.n (pos 0) +ℤ total_at k ds)) (same_place (place_of c) (place_of d) t)
       | false ↦ λ t.
           let a = total-append k (some_of c) (joins d ds) in
           let b = some_total k c in
@@ -209,8 +204,8 @@ module _ (made all : List Change) (last change : Change) (rest left : List Chang
 
 -- a loop's step: one more item is listed
 pub item_more : (p vertex : ℕ) (items : List ItemEdit) (i : ℕ) (e : ItemEdit) → i < length items → e ≡ get_or items i e
-    → (old now new : List Change) → now ≡ old ++ map (item_change p vertex) (take i items) → (c : Change) → new ≡ now ++ c ∷ [] → c ≡ item_change p vertex e
-    → new ≡ old ++ map (item_change p vertex) (take (i + 1) items)
+    → (old now new : List Change) → now ≡ old ++ item_changes p vertex (take i items) → (c : Change) → new ≡ now ++ c ∷ [] → c ≡ item_change p vertex e
+    → new ≡ old ++ item_changes p vertex (take (i + 1) items)
 item_more p vertex items i e lt is old now new so_far c pushed so =
     let f = item_change p vertex in
     let more : take (i + 1) items ≡ take i items ++ e ∷ [] = take_more items i e lt ∙ ap (λ y. take i items ++ y ∷ []) (sym is) in

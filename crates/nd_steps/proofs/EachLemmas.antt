@@ -10,22 +10,19 @@ use Rattle.std.specs.List.Sorted.{IsPermutation}
 use Rattle.std.specs.Ordering.{eq_by_cmp}
 use Rattle.nd_map.specs.Counts.{natural}
 use Rattle.nd_protocol.specs.State.{ClusterState}
-use Rattle.nd_steps.specs.Places.{Place, place_cmp, place_total}
-use Rattle.nd_steps.proofs.AlikeLemmas.{same_key}
+use Rattle.nd_steps.specs.Places.{Place, place_cmp, place_total, is_place}
+use Rattle.nd_steps.proofs.AlikeLemmas.{same_key, other_place}
 use Rattle.nd_steps.specs.Slots.{SlotMay, SlotWithin}
 use Rattle.nd_steps.specs.Standing.{standing, IsThere}
 use Rattle.nd_steps.specs.Changes.{place_of, made, Fits, applied}
-use Rattle.nd_steps.specs.Totals.{total_at, edits_of}
-use Rattle.nd_steps.specs.Plans.{often, Once, Each}
+use Rattle.nd_steps.specs.Plans.{often, total_at, Once, Each}
 use Rattle.nd_steps.specs.declared.change.Change.{Change}
 use Rattle.nd_steps.specs.declared.slot.Slot.TheVariants.{Token}
 use Rattle.nd_steps.proofs.PlacesLemmas.{SameShape, shape-turned, there_alike, standing-put_other}
 use Rattle.nd_steps.proofs.RunsLemmas.{shape-made}
 
--- ---- sums over lists
-
-abbrev pub total : Place → List Change → ℤ
-total k cs = total_at (edits_of cs) k
+pub plus_none : (x : ℤ) → x +ℤ pos 0 ≡ x
+plus_none x = omega (arith, ints)
 
 -- ---- two lists, one after the other
 
@@ -35,7 +32,7 @@ often-append k [] ds = omega arith
 often-append k (c ∷ cs) ds = let e = often-append k cs ds in omega (arith, e)
 
 -- what both add
-pub total-append : (k : Place) (cs ds : List Change) → total_at (edits_of (cs ++ ds)) k ≡ total_at (edits_of cs) k +ℤ total_at (edits_of ds) k
+pub total-append : (k : Place) (cs ds : List Change) → total_at k (cs ++ ds) ≡ total_at k cs +ℤ total_at k ds
 total-append k [] ds = omega (arith, ints)
 total-append k (c ∷ cs) ds = let e = total-append k cs ds in omega (arith, ints, e)
 
@@ -98,7 +95,7 @@ parted (pos zero) = refl
 parted (pos (suc n)) = omega (arith, ints)
 parted (negsuc n) = omega (arith, ints)
 
-total_parted : (k : Place) (cs : List Change) → total k cs ≡ pos (sum_by (λ c. up (added_at k c)) cs) -ℤ pos (sum_by (λ c. down (added_at k c)) cs)
+total_parted : (k : Place) (cs : List Change) → total_at k cs ≡ pos (sum_by (λ c. up (added_at k c)) cs) -ℤ pos (sum_by (λ c. down (added_at k c)) cs)
 total_parted k [] = omega (arith, ints)
 total_parted k (c ∷ cs) =
     let here = parted (added_at k c) in
@@ -107,7 +104,7 @@ total_parted k (c ∷ cs) =
     let downs = sum_by-cons (λ c. down (added_at k c)) c cs in
     omega (arith, ints, here, rest, ups, downs)
 
-pub total_moved : (k : Place) (cs ds : List Change) → IsPermutation cs ds → total k ds ≡ total k cs
+pub total_moved : (k : Place) (cs ds : List Change) → IsPermutation cs ds → total_at k ds ≡ total_at k cs
 total_moved k cs ds moved =
     total_parted k ds
     ∙ (λ i. pos (sum_by-IsPermutation (λ c. up (added_at k c)) cs ds moved i) -ℤ pos (sum_by-IsPermutation (λ c. down (added_at k c)) cs ds moved i))
@@ -128,10 +125,10 @@ none_added true z w e h = absurd (true≢false e)
 none_added false z w e h = omega (arith, ints, h)
 
 -- nothing is added at a place that does not occur in the list
-pub never_added : (k : Place) (cs : List Change) → often k cs ≡ 0 → total k cs ≡ pos 0
+pub never_added : (k : Place) (cs : List Change) → often k cs ≡ 0 → total_at k cs ≡ pos 0
 never_added k [] e = refl
 never_added k (c ∷ cs) e =
-    none_added (eq_by_cmp place_cmp k (place_of c)) (c.n) (total k cs) (not_there (eq_by_cmp place_cmp k (place_of c)) (often k cs) e)
+    none_added (eq_by_cmp place_cmp k (place_of c)) (c.n) (total_at k cs) (not_there (eq_by_cmp place_cmp k (place_of c)) (often k cs) e)
     (never_added k cs (rest_none (eq_by_cmp place_cmp k (place_of c)) (often k cs) e))
 
 module _ (cs : List Change) (once : Once cs) (k : ℕ) (d : Change) (lt : k < length cs) where
@@ -151,19 +148,27 @@ module _ (cs : List Change) (once : Once cs) (k : ℕ) (d : Change) (lt : k < le
   often_after = let e = around in let h = once (place_of (get_or cs k d)) in omega (arith, e, h)
 
   -- what is added at its place is its integer
-  pub gain_alone : total (place_of (get_or cs k d)) cs ≡ (get_or cs k d).n
+  pub gain_alone : total_at (place_of (get_or cs k d)) cs ≡ (get_or cs k d).n
   gain_alone =
       let c = get_or cs k d in
       let x = place_of c in
-      let split : total x (take k cs) +ℤ total x (drop k cs) ≡ total x cs = sym (total-append x (take k cs) (drop k cs)) ∙ ap (total x) (take-append-drop k cs) in
-      let here : total x (drop k cs) ≡ c.n +ℤ total x (drop (suc k) cs)
-      = ap (total x) (drop-cons cs k d lt) ∙ ap (λ b. cond b (c.n) (pos 0) +ℤ total x (drop (suc k) cs)) (same_key place_total x) in
-      let before : total x (take k cs) ≡ pos 0 = never_added x (take k cs) often_before in
-      let after : total x (drop (suc k) cs) ≡ pos 0 = never_added x (drop (suc k) cs) often_after in
+      let split : total_at x (take k cs) +ℤ total_at x (drop k cs) ≡ total_at x cs = sym (total-append x (take k cs) (drop k cs)) ∙ ap (total_at x) (take-append-drop k cs) in
+      let here : total_at x (drop k cs) ≡ c.n +ℤ total_at x (drop (suc k) cs)
+      = ap (total_at x) (drop-cons cs k d lt) ∙ ap (λ b. cond b (c.n) (pos 0) +ℤ total_at x (drop (suc k) cs)) (same_key place_total x) in
+      let before : total_at x (take k cs) ≡ pos 0 = never_added x (take k cs) often_before in
+      let after : total_at x (drop (suc k) cs) ≡ pos 0 = never_added x (drop (suc k) cs) often_after in
       sym split ∙ (λ i. before i +ℤ here i) ∙ ap (λ z. pos 0 +ℤ (c.n +ℤ z)) after ∙ alone (c.n)
     where
       alone : (z : ℤ) → pos 0 +ℤ (z +ℤ pos 0) ≡ z
       alone z = omega (arith, ints)
+
+-- a place at which no change of the list is
+pub never : (P : Change → Type 0) (k : Place) → ((c : Change) → P c → is_place k (place_of c) ≡ false) → (cs : List Change) → Each P cs → often k cs ≡ 0
+never P k other [] h = refl
+never P k other (c ∷ cs) h = ap (λ b. cond b 1 0 + often k cs) (other c h.0) ∙ (let r = never P k other cs h.1 in omega (arith, r))
+
+pub nothing_at : (P : Change → Type 0) (k : Place) → ((c : Change) → P c → k ≢ place_of c) → (cs : List Change) → Each P cs → total_at k cs ≡ pos 0
+nothing_at P k other cs h = never_added k cs (never P k (λ c i. other_place k (place_of c) (other c i)) cs h)
 
 -- the integer at a place that does not occur in the list stays
 pub untouched : (s : ClusterState) (cs : List Change) (k : Place) → Each (λ c. IsThere s (place_of c)) cs → often k cs ≡ 0 → standing (applied s cs) k ≡ standing s k

@@ -20,11 +20,8 @@ use Rattle.nd_protocol.specs.declared.step.Step.{Step}
 use Rattle.nd_protocol.specs.declared.step.Step.TheVariants.{Release, Broadcast}
 use Rattle.nd_protocol.specs.declared.refusal.Refusal.{Refusal}
 use Rattle.nd_protocol.specs.declared.refusal.Refusal.TheVariants.{NotAdmissible, NotLater}
-use Rattle.nd_steps.proofs.LaterLemmas.{goes_later}
+use Rattle.nd_steps.proofs.LaterLemmas.{Decided, goes_later}
 use Rattle.nd_steps.proofs.TokensHeld.{leaves_upright, leaves_alone}
-
-abbrev Decided : Type 0 → Type 0
-Decided P = P ⊎ (P → ⊥)
 
 less : (i j : ℤ) → Decided (i <ℤ j)
 less i j = by_lt_z i j (λ h. inl h) (λ h. inr (λ k. absurd (omega (arith, ints, h, k))))

@@ -10,7 +10,7 @@ use Rattle.nd_time.specs.Lexical.{decided}
 use Rattle.nd_time.specs.Listing.{time_cmp, time_total, time_exact}
 use Rattle.nd_protocol.specs.Times.{GoesLater}
 
-abbrev Decided : Type 0 → Type 0
+abbrev pub Decided : Type 0 → Type 0
 Decided P = P ⊎ (P → ⊥)
 
 by_test : {P : Type 0} (b : Bool) → IsTrue b ↔ P → Decided P

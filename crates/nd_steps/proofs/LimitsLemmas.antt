@@ -1,5 +1,5 @@
 -- Counts and entries after changes, each at its own place: within their limits, or beyond them.
-use Rattle.std.proofs.Common.{◌≡◌, ◌<◌, ◌≤◌, ◌+◌, ℕ, suc, ℤ, pos, ◌+ℤ◌, unsigned_abs, w64, lit<, Bool, true, false, cond, List, [], ◌∷◌, Option, Some, None, length, get_or, ◌⊎◌, inl, inr, refl, sym, ap, subst, ◌∙◌, arith}
+use Rattle.std.proofs.Common.{◌≡◌, ◌<◌, ◌≤◌, ◌+◌, ℕ, suc, ℤ, pos, ◌+ℤ◌, unsigned_abs, w64, lit<, true, false, cond, List, [], ◌∷◌, Option, Some, None, length, get_or, ◌⊎◌, inl, inr, refl, sym, ap, subst, ◌∙◌, arith}
 use Rattle.std.proofs.lemmas.Int.{ints, fits_signed_from_abs}
 use Rattle.std.proofs.lemmas.Bool.{cases_lt}
 use Rattle.std.proofs.lemmas.List.{get_or_past}
@@ -24,8 +24,7 @@ use Rattle.nd_steps.specs.declared.slot.Slot.TheVariants.{Records, Request, Toke
 use Rattle.nd_steps.specs.Slots.{from_epoch, stands, SlotWithin}
 use Rattle.nd_steps.specs.Standing.{standing, CountAt, EntryAt}
 use Rattle.nd_steps.specs.Changes.{place_of}
-use Rattle.nd_steps.specs.Totals.{total_at, edits_of}
-use Rattle.nd_steps.specs.Plans.{often, Each, Reaches}
+use Rattle.nd_steps.specs.Plans.{often, total_at, Each, Reaches}
 use Rattle.nd_steps.specs.Limits.{after, CountStays, EntryStays}
 use Rattle.nd_steps.specs.declared.change.Change.{Change}
 use Rattle.nd_steps.proofs.PlacesLemmas.{idle_stands}
@@ -34,36 +33,26 @@ use Rattle.nd_steps.proofs.EachLemmas.{no_change as nothing, never_added, gain_a
 -- ---- a property of the integer at a place, in a state that changes reach
 
 module _ (P : Place → ℤ → Type 0) (s : ClusterState) where
-  abbrev After : Change → Type 0
+  abbrev pub After : Change → Type 0
   After c = P (place_of c) (standing s (place_of c) +ℤ c.n)
 
-  module _ (k : Place) where
-    holds_by : (cs : List Change) → often k cs ≤ 1 → Each After cs → (often k cs ≡ 0) ⊎ P k (standing s k +ℤ total_at (edits_of cs) k)
-    holds_by [] once h = inl refl
-    holds_by (c ∷ cs) once h = by (is_place k (place_of c)) refl once (λ few. holds_by cs few h.1)
-      where
-        rest : (often k cs ≡ 0) ⊎ P k (standing s k +ℤ total_at (edits_of cs) k) → (0 + often k cs ≡ 0) ⊎ P k (standing s k +ℤ (pos 0 +ℤ total_at (edits_of cs) k))
-        rest (inl e) = inl (omega (arith, e))
-        rest (inr w) = inr (subst (λ z. P k (standing s k +ℤ z)) (omega (arith, ints)) w)
-
-        by : (b : Bool) → is_place k (place_of c) ≡ b → cond b 1 0 + often k cs ≤ 1 → (often k cs ≤ 1 → (often k cs ≡ 0) ⊎ P k (standing s k +ℤ total_at (edits_of cs) k)) → (cond b 1 0 + often k cs ≡ 0) ⊎ P k (standing s k +ℤ (cond b (c.n) (pos 0) +ℤ total_at (edits_of cs) k))
-        by true t few f =
-            let none : total_at (edits_of cs) k ≡ pos 0 = never_added k cs (omega (arith, few)) in
-            let same : c.n ≡ c.n +ℤ total_at (edits_of cs) k = omega (arith, ints, none) in
-            inr (subst (λ z. P k (standing s k +ℤ z)) same (subst (λ x. P x (standing s x +ℤ c.n)) (sym (same_place k (place_of c) t)) h.0))
-        by false t few f = rest (f (omega (arith, few)))
+  -- it holds at a place that occurs at most once, if it holds there before, and after each change
+  pub holds_at : (k : Place) (cs : List Change) → often k cs ≤ 1 → P k (standing s k) → Each After cs → P k (standing s k +ℤ total_at k cs)
+  holds_at k [] few before h = subst (P k) (omega (arith, ints)) before
+  holds_at k (c ∷ cs) few before h =
+      elim (is_place k (place_of c)) as (λ b. is_place k (place_of c) ≡ b → cond b 1 0 + often k cs ≤ 1 → P k (standing s k +ℤ (cond b c.n (pos 0) +ℤ total_at k cs))) [
+        | true ↦ λ t f.
+            let none : total_at k cs ≡ pos 0 = never_added k cs (omega (arith, f)) in
+            let same : c.n ≡ c.n +ℤ total_at k cs = omega (arith, ints, none) in
+            subst (λ z. P k (standing s k +ℤ z)) same (subst (λ x. P x (standing s x +ℤ c.n)) (sym (same_place k (place_of c) t)) h.0)
+        | false ↦ λ t f.
+            let same : total_at k cs ≡ pos 0 +ℤ total_at k cs = omega (arith, ints) in
+            subst (λ z. P k (standing s k +ℤ z)) same (holds_at k cs (omega (arith, f)) before h.1)
+      ] refl few
 
   module _ (t : ClusterState) (cs : List Change) (reaches : Reaches s t cs) where
-    -- it holds everywhere in t if it holds in s, and after each change
     holds_then : ((k : Place) → P k (standing s k)) → Each After cs → (k : Place) → P k (standing t k)
-    holds_then before after k = by (holds_by k cs (reaches.once k) after)
-      where
-        nothing_more : (x z : ℤ) → z ≡ pos 0 → x ≡ x +ℤ z
-        nothing_more x z e = omega (arith, ints, e)
-
-        by : (often k cs ≡ 0) ⊎ P k (standing s k +ℤ total_at (edits_of cs) k) → P k (standing t k)
-        by (inl e) = subst (P k) (nothing_more (standing s k) (total_at (edits_of cs) k) (never_added k cs e) ∙ sym (reaches.totals k)) (before k)
-        by (inr w) = subst (P k) (sym (reaches.totals k)) w
+    holds_then before after k = subst (P k) (sym (reaches.totals k)) (holds_at k cs (reaches.once k) (before k) after)
 
     -- if it does not hold after a change it does not hold in t
     fails_then : (j : ℕ) (d : Change) → j < length cs → (After (get_or cs j d) → ⊥) → P (place_of (get_or cs j d)) (standing t (place_of (get_or cs j d))) → ⊥

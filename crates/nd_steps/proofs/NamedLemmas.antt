@@ -3,30 +3,26 @@
 --     fits_first         each could be the first
 --     exact              what they must be: no more than the places at which the states differ, and in order
 --     once, some, totals, gains      each place once, with an integer other than 0, the difference of the two states there
---     listed             they are the difference
-use Rattle.std.proofs.Common.{◌≡◌, ◌≢◌, ◌≤◌, ◌+◌, suc, pos, ◌+ℤ◌, Bool, true, false, cond, T, ◌&&◌, List, [], ◌∷◌, ◌++◌, Some, map, take, length, get_or, refl, sym, ap, subst, ◌∙◌, arith, length-append, Ordering, Less}
+--     listed             their places are those at which the two states differ
+use Rattle.std.proofs.Common.{◌≡◌, ◌≢◌, ◌≤◌, ◌+◌, suc, pos, ◌+ℤ◌, true, false, cond, List, [], ◌∷◌, ◌++◌, map, take, length, get_or, refl, sym, ap, subst, ◌∙◌, arith, length-append}
 use Rattle.std.proofs.lemmas.List.Sorted.{length_permutation}
-use Rattle.std.specs.Ordering.{eq_by_cmp, is_lt}
-use Rattle.std.specs.List.Sorted.{IsPermutation, IsSorted}
-use Rattle.std.specs.FinMap.{find, is_sorted}
-use Rattle.std.specs.FinMap.Entries.{below_all}
-use Rattle.nd_map.specs.Counts.{or_else, integers, entries, keys_of, of_entries, at-of_entries, entries-of_entries, same, size}
+use Rattle.std.specs.List.Sorted.{IsPermutation}
+use Rattle.std.specs.FinMap.Entries.{by_order, put}
+use Rattle.nd_map.specs.Counts.{entries, keys_of, size}
 use Rattle.nd_vertex.specs.Table.{is_zero}
 use Rattle.nd_protocol.specs.State.{ClusterState}
-use Rattle.nd_steps.specs.Places.{Place, place_cmp, place_total, place_exact, is_place}
+use Rattle.nd_steps.specs.Places.{Place, place_cmp, is_place}
 use Rattle.nd_steps.specs.Standing.{standing, IsThere, difference}
-use Rattle.nd_steps.specs.Changes.{place_of, Fits, state_at, IsRunnable}
-use Rattle.nd_steps.specs.Totals.{total_at, edits_of}
+use Rattle.nd_steps.specs.Changes.{place_of, AreByPlace, Fits, state_at, IsRunnable}
 use Rattle.nd_steps.specs.Drafts.{some_of, both, joins, joined, AreJoined}
-use Rattle.nd_steps.specs.Plans.{often, Once, Each}
+use Rattle.nd_steps.specs.Plans.{often, total_at, Once, Each}
 use Rattle.nd_steps.specs.declared.change.Change.{Change}
 use Rattle.nd_steps.proofs.AlikeLemmas.{place_itself}
 use Rattle.nd_steps.proofs.PlacesLemmas.{shape-turned, there_alike}
-use Rattle.nd_steps.proofs.StandingLemmas.{at-difference}
 use Rattle.nd_steps.proofs.RunsLemmas.{shape-applied}
-use Rattle.nd_steps.proofs.EachLemmas.{total, each_take, each_from, never_added, often_before, gain_alone, untouched, fits_moved, not_there}
-use Rattle.nd_steps.proofs.DraftsLemmas.{Rises, rises, less_on, first_less, joined_so}
-use Rattle.nd_steps.proofs.PlansLemmas.{once_tail, alone_there, by_found, kept_some, less_by, as_many}
+use Rattle.nd_steps.proofs.EachLemmas.{each_take, each_from, often_before, gain_alone, untouched, fits_moved, not_there}
+use Rattle.nd_steps.proofs.DraftsLemmas.{Rises, rises, first_less, joined_so}
+use Rattle.nd_steps.proofs.PlansLemmas.{once_tail, alone_there, sorted, sorted_entries, as_many}
 
 -- ---- each could be the first
 
@@ -90,59 +86,37 @@ joined_whole (c ∷ cs) h = joins_whole c cs (omega (arith, h))
 
 -- ---- in the order of their places
 
-abbrev order : Change → Change → Ordering
-order c d = place_cmp (place_of c) (place_of d)
-
-both_hold : (a b : Bool) → T a → T b → T (a && b)
-both_hold true b h i = i
-both_hold false b h i = absurd h
-
-holds : (r : Ordering) → r ≡ Less → T (is_lt r)
-holds r e = subst (λ o. T (is_lt o)) (sym e) tt
-
 not_again : (c d : Change) (ds : List Change) → often (place_of c) (c ∷ d ∷ ds) ≤ 1 → is_place (place_of c) (place_of d) ≡ false
 not_again c d ds few =
     let none : often (place_of c) (d ∷ ds) ≡ 0 = alone_there (is_place (place_of c) (place_of c)) (often (place_of c) (d ∷ ds)) (place_itself (place_of c)) few in
     not_there (is_place (place_of c) (place_of d)) (often (place_of c) ds) none
 
--- all of them are after a place that is before the first
-below : (c d : Change) (ds : List Change) → order c d ≡ Less → Rises d ds → T (below_all place_cmp (place_of c) (edits_of (d ∷ ds)))
-below c d [] less h = both_hold (is_lt (order c d)) true (holds (order c d) less) tt
-below c d (e ∷ es) less h =
-    both_hold (is_lt (order c d)) (below_all place_cmp (place_of c) (edits_of (e ∷ es))) (holds (order c d) less) (below c e es (less_on c d e less h.0) h.1)
+-- the first change is put before all others
+put_first : (c : Change) (cs : List Change) → Rises c cs → Once (c ∷ cs) → sorted (c ∷ cs) ≡ (place_of c, c.n) ∷ sorted cs
+unfolding sorted
+put_first c [] h once = refl
+put_first c (d ∷ ds) h once =
+    let rest : sorted (d ∷ ds) ≡ (place_of d, d.n) ∷ sorted ds = put_first d ds h.1 (once_tail c (d ∷ ds) once) in
+    ap (put place_cmp (place_of c) c.n) rest
+    ∙ ap (λ r. by_order r ((place_of c, c.n) ∷ (place_of d, d.n) ∷ sorted ds) ((place_of d, c.n) ∷ sorted ds) ((place_of d, d.n) ∷ put place_cmp (place_of c) c.n (sorted ds))) (first_less c d h.0 (not_again c d ds (once (place_of c))))
+    ∙ ap (λ es. (place_of c, c.n) ∷ es) (sym rest)
 
-in_order : (c : Change) (cs : List Change) → Rises c cs → Once (c ∷ cs) → T (is_sorted place_cmp (edits_of (c ∷ cs)))
-in_order c [] h once = tt
-in_order c (d ∷ ds) h once =
-    both_hold (below_all place_cmp (place_of c) (edits_of (d ∷ ds))) (is_sorted place_cmp (edits_of (d ∷ ds)))
-    (below c d ds (first_less c d h.0 (not_again c d ds (once (place_of c)))) h.1)
-    (in_order d ds h.1 (once_tail c (d ∷ ds) once))
+places_from : (c : Change) (cs : List Change) → Rises c cs → Once (c ∷ cs) → keys_of (sorted (c ∷ cs)) ≡ map place_of (c ∷ cs)
+unfolding sorted
+places_from c [] h once = refl
+places_from c (d ∷ ds) h once = ap keys_of (put_first c (d ∷ ds) h once) ∙ ap (λ ks. place_of c ∷ ks) (places_from d ds h.1 (once_tail c (d ∷ ds) once))
 
-edits_sorted : (cs : List Change) → IsSorted (λ a b. place_cmp (place_of a) (place_of b)) cs → Once cs → T (is_sorted place_cmp (edits_of cs))
-edits_sorted [] h once = tt
-edits_sorted (c ∷ cs) h once = in_order c cs (rises c cs h) once
-
-edits_found : (cs : List Change) → Once cs → (k : Place) → or_else (pos 0) (find place_cmp k (edits_of cs)) ≡ total k cs
-edits_found [] once k = refl
-edits_found (c ∷ cs) once k =
-    by_found (eq_by_cmp place_cmp k (place_of c)) (c.n) (total k cs) (find place_cmp k (edits_of cs))
-    (λ e. never_added k cs (alone_there (eq_by_cmp place_cmp k (place_of c)) (often k cs) e (once k)))
-    (edits_found cs (once_tail c cs once) k)
-
-edits_some : (cs : List Change) → Each (λ c. c.n ≢ pos 0) cs → (k : Place) → find place_cmp k (edits_of cs) ≢ Some (pos 0)
-edits_some [] some k e = cc
-edits_some (c ∷ cs) some k e = kept_some (eq_by_cmp place_cmp k (place_of c)) (c.n) (find place_cmp k (edits_of cs)) some.0 (edits_some cs some.1 k) e
-
-pub keys_of_edits : (cs : List Change) → keys_of (edits_of cs) ≡ map place_of cs
-keys_of_edits [] = refl
-keys_of_edits (c ∷ cs) = ap (λ ks. place_of c ∷ ks) (keys_of_edits cs)
+places_sorted : (cs : List Change) → AreByPlace cs → Once cs → keys_of (sorted cs) ≡ map place_of cs
+unfolding sorted
+places_sorted [] h once = refl
+places_sorted (c ∷ cs) h once = places_from c cs (rises c cs h) once
 
 -- ---- no more changes than differences
 
 module _ (s t : ClusterState) (cs ds : List Change)
-    (moves : (k : Place) → standing t k ≡ standing s k +ℤ total_at (edits_of cs) k)
+    (moves : (k : Place) → standing t k ≡ standing s k +ℤ total_at k cs)
     (exact : length cs ≤ size (difference s t))
-    (same_ones : IsPermutation cs ds) (rising : IsSorted (λ a b. place_cmp (place_of a) (place_of b)) ds) where
+    (same_ones : IsPermutation cs ds) (rising : AreByPlace ds) where
   join : AreJoined cs (joined ds)
   join = joined_so cs ds same_ones rising
 
@@ -158,8 +132,8 @@ module _ (s t : ClusterState) (cs ds : List Change)
   pub some : Each (λ c. c.n ≢ pos 0) ds
   some = subst (Each (λ c. c.n ≢ pos 0)) whole join.some
 
-  totals : (k : Place) → total k ds ≡ total k cs
-  totals k = ap (total k) (sym whole) ∙ join.totals k
+  totals : (k : Place) → total_at k ds ≡ total_at k cs
+  totals k = ap (total_at k) (sym whole) ∙ join.totals k
 
   -- the two states differ by c.n at the place of each change c
   pub gains : Each (λ c. standing t (place_of c) ≡ standing s (place_of c) +ℤ c.n) ds
@@ -167,11 +141,6 @@ module _ (s t : ClusterState) (cs ds : List Change)
       let x : Place = place_of (get_or ds k d) in
       moves x ∙ ap (λ z. standing s x +ℤ z) (sym (totals x) ∙ gain_alone ds once k d lt))
 
-  -- in order they are the difference of the states
-  pub listed : edits_of ds ≡ entries (difference s t)
-  listed =
-      let e : of_entries {N = integers} place_total (edits_of ds) ≡ difference s t
-      = same place_total place_exact _ _ (λ k.
-      at-of_entries integers place_total place_exact (edits_of ds) k ∙ edits_found ds once k ∙ totals k
-      ∙ less_by (standing s k) (standing t k) (total k cs) (moves k) ∙ sym (at-difference s t k)) in
-      sym (entries-of_entries integers place_total place_exact (edits_of ds) (edits_sorted ds rising once) (edits_some ds some)) ∙ ap entries e
+  -- in order their places are those at which the states differ
+  pub listed : map place_of ds ≡ keys_of (entries (difference s t))
+  listed = sym (places_sorted ds rising once) ∙ ap keys_of (sym (sorted_entries s t ds once some (λ k. moves k ∙ ap (λ z. standing s k +ℤ z) (sym (totals k)))))

@@ -24,18 +24,18 @@ use Rattle.nd_protocol.specs.Enabled.{IsFreeBelow}
 use Rattle.nd_protocol.specs.declared.refusal.Refusal.TheVariants.{CounterFull}
 use Rattle.nd_protocol.specs.declared.step.Step.TheVariants.{Take}
 use Rattle.nd_steps.specs.Places.{place_at}
-use Rattle.nd_steps.specs.Changes.{place_of}
+use Rattle.nd_steps.specs.Changes.{at_key, place_of}
 use Rattle.nd_steps.specs.Plans.{often, Once, Each, Reaches}
 use Rattle.nd_steps.specs.Places.{is_place}
 use Rattle.nd_steps.proofs.AlikeLemmas.{same_place, other_place}
-use Rattle.nd_steps.specs.Drafts.{Has, Leads, TakesSo, HasValues, AreJoined, arrivals, item_change, ask_changes, sink_changes, taken_changes, made_by, emitted_by}
-use Rattle.nd_steps.specs.Flows.{past_action, come_key, come_changes, more_records, more_unsent, count_more}
+use Rattle.nd_steps.specs.Drafts.{Has, Leads, TakesSo, HasValues, AreJoined, arrivals, item_changes, ask_changes, sink_changes, taken_changes, made_by, emitted_by}
+use Rattle.nd_steps.specs.Flows.{past_action, come_key, come_changes}
 use Rattle.nd_steps.specs.Onward.{leaving, ComesBy}
 use Rattle.nd_steps.specs.declared.change.Change.{Change}
-use Rattle.nd_steps.specs.declared.slot.Slot.TheVariants.{Records, Unsent}
+use Rattle.nd_steps.specs.declared.slot.Slot.TheVariants.{Records, Sink, Unsent}
 use Rattle.nd_steps.specs.declared.come.Come.{Come}
 use Rattle.nd_steps.specs.declared.come.Come.TheVariants.{Nothing, Record, Count}
-use Rattle.nd_steps.proofs.ReactionLemmas.{taken_leads}
+use Rattle.nd_steps.proofs.Takes.{taken_leads}
 
 -- ---- the one edge that leaves a port
 
@@ -118,7 +118,7 @@ once_one c = once_before c [] refl (λ k. omega arith)
 module _ {A : Type 0} (s : ClusterState) (g : Dataflow) (n p vertex : ℕ) (has : Has g n s) (effect : Effect A) (k : ValueAt) (asks : Bool) (so : TakesSo s p vertex k effect asks)
     (none : asks ≡ false) (still : effect.items.items ≡ []) where
   abbrev gone : List Change
-  gone = more_records p k (negsuc 0) ∷ more_unsent p k.point (negsuc 0) ∷ []
+  gone = at_key p (Records k) (negsuc 0) ∷ at_key p (Unsent k.point) (negsuc 0) ∷ []
 
   abbrev found : List Change
   found = taken_changes p vertex k effect asks (emitted_by g n p vertex effect.emits.items)
@@ -128,19 +128,19 @@ module _ {A : Type 0} (s : ClusterState) (g : Dataflow) (n p vertex : ℕ) (has 
       taken_leads s g n p vertex has effect (subst (All HasValues) (sym still) (λ i d lt. absurd (omega (arith, lt)))) k asks so found refl
       (subst (λ es. length es ≤ 2 ^ 64) (sym is) few) ds (subst (λ es. AreJoined es ds) (sym is) (record { once = once; some = some; totals = λ q. refl }))
 
-  so_found : (sink : Bool) → effect.sink ≡ sink → (es : List Emission) → effect.emits.items ≡ es → found ≡ (gone ++ sink_changes p vertex k.value sink) ++ arrivals p (emitted_by g n p vertex es)
+  so_found : (sink : Bool) → effect.sink ≡ sink → (es : List Emission) → effect.emits.items ≡ es → found ≡ (gone ++ sink_changes p (record { vertex = vertex; value = k.value }) sink) ++ arrivals p (emitted_by g n p vertex es)
   so_found sink sink_is es es_is i =
-      (((gone ++ ask_changes p (point_at vertex k.point.time) (none i)) ++ map (item_change p vertex) (still i)) ++ sink_changes p vertex k.value (sink_is i)) ++ arrivals p (emitted_by g n p vertex (es_is i))
+      (((gone ++ ask_changes p (point_at vertex k.point.time) (none i)) ++ item_changes p vertex (still i)) ++ sink_changes p (record { vertex = vertex; value = k.value }) (sink_is i)) ++ arrivals p (emitted_by g n p vertex (es_is i))
 
   pub none_leads : effect.sink ≡ false → effect.emits.items ≡ [] → Leads {A = A} s (Take p k.point.location k.point.time k.value) (come_changes p k Nothing)
   none_leads sink emits = leads (come_changes p k Nothing) (so_found false sink [] emits) (omega arith)
-      (once_before (more_records p k (negsuc 0)) (more_unsent p k.point (negsuc 0) ∷ []) refl (once_one (more_unsent p k.point (negsuc 0))))
+      (once_before (at_key p (Records k) (negsuc 0)) (at_key p (Unsent k.point) (negsuc 0) ∷ []) refl (once_one (at_key p (Unsent k.point) (negsuc 0))))
       ((λ e. cc), ((λ e. cc), tt))
 
   pub count_leads : effect.sink ≡ true → effect.emits.items ≡ [] → Leads {A = A} s (Take p k.point.location k.point.time k.value) (come_changes p k (Count vertex))
   count_leads sink emits = leads (come_changes p k (Count vertex)) (so_found true sink [] emits) (omega arith)
-      (once_before (more_records p k (negsuc 0)) (more_unsent p k.point (negsuc 0) ∷ count_more p vertex k.value ∷ []) refl
-      (once_before (more_unsent p k.point (negsuc 0)) (count_more p vertex k.value ∷ []) refl (once_one (count_more p vertex k.value))))
+      (once_before (at_key p (Records k) (negsuc 0)) (at_key p (Unsent k.point) (negsuc 0) ∷ at_key p (Sink (record { vertex = vertex; value = k.value })) (pos 1) ∷ []) refl
+      (once_before (at_key p (Unsent k.point) (negsuc 0)) (at_key p (Sink (record { vertex = vertex; value = k.value })) (pos 1) ∷ []) refl (once_one (at_key p (Sink (record { vertex = vertex; value = k.value })) (pos 1)))))
       ((λ e. cc), ((λ e. cc), ((λ e. cc), tt)))
 
   pub one_leads : effect.sink ≡ false → (e : Emission) → effect.emits.items ≡ e ∷ [] → (come : Come) → ComesBy g n p vertex k e come
@@ -156,10 +156,10 @@ module _ {A : Type 0} (s : ClusterState) (g : Dataflow) (n p vertex : ℕ) (has 
       let time : e.time ≡ past_action (action_of o) t = emitted ∙ past_is (action_of o) t (λ f. room (ap (λ a. acted a t.counters) f) deep) rises in
       let one : Come = Record (action_of o) by.to by.edge e.value in
       let key : ValueAt = come_key k one in
-      let a : Change = more_records p k (negsuc 0) in
-      let b : Change = more_unsent p k.point (negsuc 0) in
-      let c : Change = more_records by.to key (pos 1) in
-      let d : Change = more_unsent p key.point (pos 1) in
+      let a : Change = at_key p (Records k) (negsuc 0) in
+      let b : Change = at_key p (Unsent k.point) (negsuc 0) in
+      let c : Change = at_key by.to (Records key) (pos 1) in
+      let d : Change = at_key p (Unsent key.point) (pos 1) in
       let apart : k.point ≢ key.point = λ same. by.apart (ap (λ x. (come_key k x).point) by.is ∙ sym same) in
       let records : is_place (place_of a) (place_of c) ≡ false = other_place (place_of a) (place_of c) (λ same. apart (ap (λ (x : ValueAt). x.point) (same_record p by.to k key same))) in
       let unsent : is_place (place_of b) (place_of d) ≡ false = other_place (place_of b) (place_of d) (λ same. apart (same_point p k.point key.point same)) in

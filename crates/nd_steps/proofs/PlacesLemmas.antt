@@ -170,7 +170,7 @@ shape-through s t u h g = record {
   queues = h.queues ∙ g.queues;
 }
 
-items-puts : (q : ProcessorState) (l : Slot) (z : ℤ) → length (puts q l z).items ≡ length q.items
+pub items-puts : (q : ProcessorState) (l : Slot) (z : ℤ) → length (puts q l z).items ≡ length q.items
 items-puts q (State vertex key) z = length-set q.items vertex _
 items-puts q l z = refl
 

@@ -1,33 +1,30 @@
 -- A list of changes in which no place occurs twice can be applied, if everything is added before anything is removed, and leads
 -- where its sums say.
-use Rattle.std.proofs.Common.{◌≡◌, ◌≢◌, ◌<◌, ◌≤◌, ◌+◌, ℕ, zero, suc, ℤ, pos, ◌+ℤ◌, ◌-ℤ◌, Bool, true, false, cond, List, [], ◌∷◌, take, length, get_or, T, Option, Some, None, is_some, refl, sym, ap, subst, ◌∙◌, arith, inl, inr, true≢false}
+use Rattle.std.proofs.Common.{◌≡◌, ◌≢◌, ◌<◌, ◌≤◌, ◌+◌, ℕ, suc, ℤ, pos, ◌+ℤ◌, ◌-ℤ◌, Bool, true, false, cond, List, [], ◌∷◌, take, length, get_or, T, Option, Some, None, is_some, refl, sym, ap, subst, ◌∙◌, arith, inl, inr, true≢false}
 use Rattle.std.proofs.lemmas.Int.{ints}
-use Rattle.std.proofs.lemmas.List.{take_more, take_all}
 use Rattle.std.proofs.lemmas.Map.Views.{tells_apart}
 use Rattle.std.specs.Ordering.{eq_by_cmp}
 use Rattle.std.specs.List.Sorted.{IsPermutation}
 use Rattle.std.specs.FinMap.{find, is_sorted}
 use Rattle.std.specs.FinMap.Entries.{put, is_sorted-put, find-put, length-put}
 use Rattle.nd_map.specs.Cases.{zero_or_not}
-use Rattle.nd_map.specs.Counts.{or_else, integers, entries, of_entries, at-of_entries, entries-of_entries, same, size}
+use Rattle.nd_map.specs.Counts.{or_else, entries, size}
 use Rattle.nd_protocol.specs.State.{ClusterState}
-use Rattle.nd_steps.specs.Places.{Place, place_cmp, place_total, place_exact}
+use Rattle.nd_steps.specs.Places.{Place, place_cmp, place_total, place_exact, is_place}
 use Rattle.nd_steps.proofs.AlikeLemmas.{same_key}
 use Rattle.nd_steps.specs.Slots.{SlotMay}
 use Rattle.nd_steps.specs.Standing.{standing, IsThere, difference}
 use Rattle.nd_steps.specs.Changes.{place_of, made, Fits, Finds, applied, state_at, IsRunnable}
-use Rattle.nd_steps.specs.Totals.{total_at, edits_of}
 use Rattle.nd_steps.specs.Limits.{after, CountStays, EntryStays}
-use Rattle.nd_steps.specs.Plans.{often, Once, Each, StaysRanged, Reaches, LeadsTo}
+use Rattle.nd_steps.specs.Plans.{often, total_at, Once, Each, StaysRanged, Reaches, LeadsTo}
 use Rattle.nd_steps.specs.Turns.{IsInOrder}
 use Rattle.nd_steps.specs.Undone.{IsGain}
-use Rattle.nd_steps.proofs.EachLemmas.{total-append}
 use Rattle.nd_steps.specs.declared.change.Change.{Change}
 use Rattle.nd_steps.proofs.PlacesLemmas.{SameShape, shape-turned, shape-through, there_alike, there_where, same_state, may_stand}
 use Rattle.nd_steps.proofs.CountedLemmas.{queues_same}
-use Rattle.nd_steps.proofs.StandingLemmas.{at-difference}
-use Rattle.nd_steps.proofs.RunsLemmas.{shape-applied, landed, moved_by, state_none, state_more, all_made}
-use Rattle.nd_steps.proofs.EachLemmas.{total, no_change, each_at, each_take, each_from, each_through, each_moved, often_moved, total_moved, not_there, rest_none, never_added, often_before, gain_alone, untouched, fits_moved}
+use Rattle.nd_steps.proofs.StandingLemmas.{difference-listed}
+use Rattle.nd_steps.proofs.RunsLemmas.{shape-applied, landed, moved_by, state_more}
+use Rattle.nd_steps.proofs.EachLemmas.{plus_none, each_at, each_take, each_from, each_through, each_moved, often_moved, total_moved, not_there, rest_none, never_added, often_before, gain_alone, untouched, fits_moved}
 use Rattle.nd_steps.proofs.LimitsLemmas.{slot_within}
 
 -- changes that reach a state preserve the shape
@@ -78,14 +75,8 @@ module _ (s : ClusterState) (cs : List Change) (once : Once cs) (fit : Each (Fit
 
 -- ---- where the list leads
 
-plus_none : (x : ℤ) → x +ℤ pos 0 ≡ x
-plus_none x = omega (arith, ints)
-
 none_plus : (x : ℤ) → pos 0 +ℤ x ≡ x
 none_plus x = omega (arith, ints)
-
-plus_by : (x y z : ℤ) → (x +ℤ y) +ℤ z ≡ x +ℤ (y +ℤ (z +ℤ pos 0))
-plus_by x y z = omega (arith, ints)
 
 by_key : (b : Bool) (x y g : ℤ) → (b ≡ true → y ≡ x) → cond b (y +ℤ g) x ≡ x +ℤ cond b g (pos 0)
 by_key true x y g e = ap (λ z. z +ℤ g) (e refl)
@@ -96,29 +87,19 @@ moved_more t k c fits =
     moved_by t c k fits
     ∙ by_key (eq_by_cmp place_cmp k (place_of c)) (standing t k) (standing t (place_of c)) (c.n) (λ e. ap (standing t) (sym (tells_apart place_exact k (place_of c) e)))
 
-moved_at : (s : ClusterState) (cs : List Change) (runs : IsRunnable s cs) (j : Place) (k : ℕ) → k ≤ length cs → standing (state_at s cs k) j ≡ standing s j +ℤ total j (take k cs)
-moved_at s cs runs j zero h = ap (λ t. standing t j) (state_none s cs) ∙ sym (plus_none (standing s j))
-moved_at s cs runs j (suc k) h =
-    let lt : k < length cs = omega (arith, h) in
-    let c = get_or cs k no_change in
-    let t = state_at s cs k in
-    let more : suc k ≡ k + 1 = omega arith in
-    let ih : standing t j ≡ standing s j +ℤ total j (take k cs) = moved_at s cs runs j k (omega (arith, h)) in
-    let a : standing (state_at s cs (suc k)) j ≡ standing t j +ℤ cond (eq_by_cmp place_cmp j (place_of c)) (c.n) (pos 0)
-    = ap (λ i. standing (state_at s cs i) j) more ∙ ap (λ u. standing u j) (state_more s cs k no_change lt) ∙ moved_more t j c (runs.fits k no_change lt) in
-    let b : total j (take (suc k) cs) ≡ total j (take k cs) +ℤ (cond (eq_by_cmp place_cmp j (place_of c)) (c.n) (pos 0) +ℤ pos 0)
-    = ap (λ i. total j (take i cs)) more ∙ ap (total j) (take_more cs k no_change lt) ∙ total-append j (take k cs) (c ∷ []) in
-    a ∙ ap (λ x. x +ℤ cond (eq_by_cmp place_cmp j (place_of c)) (c.n) (pos 0)) ih ∙ plus_by (standing s j) (total j (take k cs)) _ ∙ ap (λ x. standing s j +ℤ x) (sym b)
-
-pub moved : (s : ClusterState) (cs : List Change) → IsRunnable s cs → (j : Place) → standing (applied s cs) j ≡ standing s j +ℤ total_at (edits_of cs) j
-moved s cs runs j =
-    ap (λ u. standing u j) (sym (all_made s cs (length cs) (omega arith))) ∙ moved_at s cs runs j (length cs) (omega arith)
-    ∙ ap (λ x. standing s j +ℤ total j x) (take_all (length cs) cs (omega arith))
+-- changes that fit, one after the other, add what they add together
+pub moved : (s : ClusterState) (cs : List Change) → ((k : ℕ) (d : Change) → k < length cs → Fits (state_at s cs k) (get_or cs k d)) → (j : Place) → standing (applied s cs) j ≡ standing s j +ℤ total_at j cs
+unfolding applied state_at
+moved s [] fits j = sym (plus_none (standing s j))
+moved s (c ∷ cs) fits j =
+    let first : standing (made s c) j ≡ standing s j +ℤ cond (is_place j (place_of c)) c.n (pos 0) = moved_more s j c (fits 0 c (omega arith)) in
+    let rest = moved (made s c) cs (λ k d lt. fits (suc k) d (omega (arith, lt))) j in
+    omega (arith, ints, first, rest)
 
 -- ---- as many changes as places at which the states differ
 
 -- the changes' integers in the order of their places
-sorted : List Change → List (Place × ℤ)
+unfoldable pub sorted : List Change → List (Place × ℤ)
 sorted [] = []
 sorted (c ∷ cs) = put place_cmp (place_of c) (c.n) (sorted cs)
 
@@ -150,21 +131,21 @@ pub alone_there : (b : Bool) (n : ℕ) → b ≡ true → cond b 1 0 + n ≤ 1 �
 alone_there true n e h = omega (arith, h)
 alone_there false n e h = absurd (true≢false (sym e))
 
-pub by_found : (b : Bool) (g w : ℤ) (x : Option ℤ) → (b ≡ true → w ≡ pos 0) → or_else (pos 0) x ≡ w → or_else (pos 0) (cond b (Some g) x) ≡ cond b g (pos 0) +ℤ w
+by_found : (b : Bool) (g w : ℤ) (x : Option ℤ) → (b ≡ true → w ≡ pos 0) → or_else (pos 0) x ≡ w → or_else (pos 0) (cond b (Some g) x) ≡ cond b g (pos 0) +ℤ w
 by_found true g w x e h = sym (ap (λ z. g +ℤ z) (e refl) ∙ plus_none g)
 by_found false g w x e h = h ∙ sym (none_plus w)
 
 -- what a lookup finds among them is what the list adds
-sorted_found : (cs : List Change) → Once cs → (k : Place) → or_else (pos 0) (find place_cmp k (sorted cs)) ≡ total k cs
+sorted_found : (cs : List Change) → Once cs → (k : Place) → or_else (pos 0) (find place_cmp k (sorted cs)) ≡ total_at k cs
 unfolding sorted
 sorted_found [] once k = refl
 sorted_found (c ∷ cs) once k =
     ap (or_else (pos 0)) (find-put place_cmp place_total k (place_of c) (c.n) (sorted cs))
-    ∙ by_found (eq_by_cmp place_cmp k (place_of c)) (c.n) (total k cs) (find place_cmp k (sorted cs))
+    ∙ by_found (eq_by_cmp place_cmp k (place_of c)) (c.n) (total_at k cs) (find place_cmp k (sorted cs))
     (λ e. never_added k cs (alone_there (eq_by_cmp place_cmp k (place_of c)) (often k cs) e (once k)))
     (sorted_found cs (once_tail c cs once) k)
 
-pub kept_some : (b : Bool) (v : ℤ) (x : Option ℤ) → v ≢ pos 0 → x ≢ Some (pos 0) → cond b (Some v) x ≢ Some (pos 0)
+kept_some : (b : Bool) (v : ℤ) (x : Option ℤ) → v ≢ pos 0 → x ≢ Some (pos 0) → cond b (Some v) x ≢ Some (pos 0)
 kept_some true v x p q e = p (ap (or_else (pos 0)) e)
 kept_some false v x p q e = q e
 
@@ -185,14 +166,16 @@ sorted_length (c ∷ cs) once =
     ∙ ap (λ x. cond (is_some x) (length (sorted cs)) (length (sorted cs) + 1)) (sorted_without cs (place_of c) none)
     ∙ ap (λ n. n + 1) (sorted_length cs (once_tail c cs once)) ∙ more
 
-pub less_by : (x y z : ℤ) → y ≡ x +ℤ z → z ≡ y -ℤ x
+less_by : (x y z : ℤ) → y ≡ x +ℤ z → z ≡ y -ℤ x
 less_by x y z e = omega (arith, ints, e)
 
-pub as_many : (s t : ClusterState) (cs : List Change) → Once cs → Each (λ c. c.n ≢ pos 0) cs → ((k : Place) → standing t k ≡ standing s k +ℤ total_at (edits_of cs) k) → length cs ≡ size (difference s t)
-as_many s t cs once some totals =
-    let e : of_entries {N = integers} place_total (sorted cs) ≡ difference s t
-    = same place_total place_exact _ _ (λ k. at-of_entries integers place_total place_exact (sorted cs) k ∙ sorted_found cs once k ∙ less_by (standing s k) (standing t k) (total k cs) (totals k) ∙ sym (at-difference s t k)) in
-    sym (sorted_length cs once) ∙ ap length (sym (entries-of_entries integers place_total place_exact (sorted cs) (sorted_is cs) (sorted_some cs some))) ∙ ap (λ m. length (entries m)) e
+-- they are the entries of the difference of the states
+pub sorted_entries : (s t : ClusterState) (cs : List Change) → Once cs → Each (λ c. c.n ≢ pos 0) cs → ((k : Place) → standing t k ≡ standing s k +ℤ total_at k cs) → entries (difference s t) ≡ sorted cs
+sorted_entries s t cs once some totals =
+    difference-listed s t (sorted cs) (sorted_is cs) (sorted_some cs some) (λ k. sorted_found cs once k ∙ less_by (standing s k) (standing t k) (total_at k cs) (totals k))
+
+pub as_many : (s t : ClusterState) (cs : List Change) → Once cs → Each (λ c. c.n ≢ pos 0) cs → ((k : Place) → standing t k ≡ standing s k +ℤ total_at k cs) → length cs ≡ size (difference s t)
+as_many s t cs once some totals = sym (sorted_length cs once) ∙ ap length (sym (sorted_entries s t cs once some totals))
 
 -- ---- the plan
 
@@ -240,7 +223,7 @@ module _ (s t : ClusterState) (cs : List Change) (h : Reaches s t cs) where
     pub planned_so : LeadsTo s t cs
     planned_so = record {
       runs = runs_so;
-      arrives = same_state (applied s cs) t (shape-through (applied s cs) s t (shape-applied s cs) (shape_of s t cs h)) (λ k. moved s cs runs_so k ∙ sym (h.totals k));
+      arrives = same_state (applied s cs) t (shape-through (applied s cs) s t (shape-applied s cs) (shape_of s t cs h)) (λ k. moved s cs runs_so.fits k ∙ sym (h.totals k));
       small = (let keys = as_many s t cs h.once h.some h.totals in let ends = queues_same s t h.queues in omega (arith, keys, ends));
     }
 

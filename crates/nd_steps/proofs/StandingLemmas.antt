@@ -1,5 +1,5 @@
 -- Each place with an integer other than 0 is listed, so the difference of two states says by how much they differ at each place.
-use Rattle.std.proofs.Common.{◌≡◌, ◌≢◌, ◌<◌, ◌+◌, ℕ, zero, suc, ℤ, pos, ◌-ℤ◌, Bool, true, false, cond, ◌||◌, List, [], ◌∷◌, ◌++◌, Option, Some, None, is_some, map, length, get_or, refl, sym, ap, ◌∙◌, arith, inl, inr, true≢false}
+use Rattle.std.proofs.Common.{◌≡◌, ◌≢◌, ◌<◌, ◌+◌, ℕ, zero, suc, ℤ, pos, ◌-ℤ◌, Bool, true, false, cond, ◌||◌, List, [], ◌∷◌, ◌++◌, T, Option, Some, None, is_some, map, length, get_or, refl, sym, ap, ◌∙◌, arith, inl, inr, true≢false}
 use Rattle.std.proofs.lemmas.List.Folds.{list_any-append}
 use Rattle.std.proofs.lemmas.Map.Lookups.{exact_unsigned}
 use Rattle.std.proofs.lemmas.Map.Views.{tells_apart}
@@ -7,9 +7,9 @@ use Rattle.std.specs.List.{list_any, flat_map, enumerate_from}
 use Rattle.std.specs.declared.cmp.Ordering.{Ordering}
 use Rattle.std.specs.Ordering.{eq_by_cmp}
 use Rattle.std.specs.Cmp.{IsTotalOrder}
-use Rattle.std.specs.FinMap.{FinMap, IsAntisymmetric, contains_key-keys}
+use Rattle.std.specs.FinMap.{FinMap, IsAntisymmetric, find, is_sorted, contains_key-keys}
 use Rattle.std.specs.FinMap as fin
-use Rattle.nd_map.specs.Counts.{Counts, Number, nil, integers, at as number_at, none as no_counts, entries, keys_of, has_key, at-absent, at-on_keys}
+use Rattle.nd_map.specs.Counts.{Counts, Number, nil, integers, at as number_at, none as no_counts, entries, keys_of, has_key, or_else, of_entries, at-of_entries, entries-of_entries, same, at-absent, at-on_keys}
 use Rattle.nd_paths.specs.Point.{point_exact}
 use Rattle.nd_paths.specs.declared.point.Pointstamp.{Pointstamp}
 use Rattle.nd_delta.specs.Delta.{DeltaValue, none as no_change, at as in_change, entries as listed, points_of, has_point, at-absent as in_absent}
@@ -156,9 +156,17 @@ less_listed true c x y p q = refl
 less_listed false true x y p q = refl
 less_listed false false x y p q = rw (p refl, q refl) refl
 
-pub at-difference : (s t : ClusterState) (k : Place) → number_at (difference s t) k ≡ standing t k -ℤ standing s k
+at-difference : (s t : ClusterState) (k : Place) → number_at (difference s t) k ≡ standing t k -ℤ standing s k
 unfolding difference
 at-difference s t k =
     at-on_keys integers place_total place_exact (places_of s ++ places_of t) (λ j. standing t j -ℤ standing s j) k
     ∙ ap (λ b. cond b (standing t k -ℤ standing s k) (pos 0)) (list_any-append (eq_by_cmp place_cmp k) (places_of s) (places_of t))
     ∙ less_listed (has_key place_cmp k (places_of s)) (has_key place_cmp k (places_of t)) (standing s k) (standing t k) (unlisted s k) (unlisted t k)
+
+-- a list that has, in order, what t has more than s at each place has the entries of the difference
+pub difference-listed : (s t : ClusterState) (es : List (Place × ℤ)) → T (is_sorted place_cmp es) → ((k : Place) → find place_cmp k es ≢ Some (pos 0)) → ((k : Place) → or_else (pos 0) (find place_cmp k es) ≡ standing t k -ℤ standing s k)
+    → entries (difference s t) ≡ es
+difference-listed s t es in_order some found =
+    let e : of_entries {N = integers} place_total es ≡ difference s t
+    = same place_total place_exact _ _ (λ k. at-of_entries integers place_total place_exact es k ∙ found k ∙ sym (at-difference s t k)) in
+    sym (ap entries e) ∙ entries-of_entries integers place_total place_exact es in_order some

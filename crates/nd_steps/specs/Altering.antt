@@ -86,43 +86,14 @@ token_row q p vertex n = record { p = p; key = vertex; old = fin.get q.tokens ve
 abbrev pub unsent_row : ProcessorState → ℕ → Pointstamp → ℤ → Altered Pointstamp ℤ
 unsent_row q p x n = record { p = p; key = x; old = in_change q.unsent x; new = in_change q.unsent x +ℤ n }
 
--- ---- the effect of that: one element in the list of its map, and none in the others
-
-abbrev pub item_by : ProcessorState → ℕ → Slot → ℤ → List (Altered ItemAt (Option ℤ))
-item_by q p (State vertex key) n = item_row q p vertex key n ∷ []
-item_by q p _ n = []
-
-abbrev pub record_by : ProcessorState → ℕ → Slot → ℤ → List (Altered ValueAt ℕ)
-record_by q p (Records key) n = record_row q p key n ∷ []
-record_by q p _ n = []
-
-abbrev pub request_by : ProcessorState → ℕ → Slot → ℤ → List (Altered Pointstamp Bool)
-request_by q p (Request x) n = request_row q p x ∷ []
-request_by q p _ n = []
-
-abbrev pub sink_by : ProcessorState → ℕ → Slot → ℤ → List (Altered SinkKey ℕ)
-sink_by q p (Sink key) n = sink_row q p key n ∷ []
-sink_by q p _ n = []
-
-abbrev pub token_by : ProcessorState → ℕ → Slot → ℤ → List (Altered ℕ (Option ℕ))
-token_by q p (Token vertex) n = token_row q p vertex n ∷ []
-token_by q p _ n = []
-
-abbrev pub unsent_by : ProcessorState → ℕ → Slot → ℤ → List (Altered Pointstamp ℤ)
-unsent_by q p (Unsent x) n = unsent_row q p x n ∷ []
-unsent_by q p _ n = []
-
+-- the effect of adding n at a key: one element in the list of its map, and none in the others
 abbrev pub altered_at : ProcessorState → ℕ → Slot → ℤ → EffectValue
-altered_at q p l n = record {
-  items = item_by q p l n;
-  queues = [];
-  records = record_by q p l n;
-  requests = request_by q p l n;
-  sinks = sink_by q p l n;
-  tokens = token_by q p l n;
-  unsent = unsent_by q p l n;
-  views = [];
-}
+altered_at q p (Records key) n = record nothing { records = record_row q p key n ∷ [] }
+altered_at q p (Request x) n = record nothing { requests = request_row q p x ∷ [] }
+altered_at q p (Token vertex) n = record nothing { tokens = token_row q p vertex n ∷ [] }
+altered_at q p (State vertex key) n = record nothing { items = item_row q p vertex key n ∷ [] }
+altered_at q p (Sink key) n = record nothing { sinks = sink_row q p key n ∷ [] }
+altered_at q p (Unsent x) n = record nothing { unsent = unsent_row q p x n ∷ [] }
 
 -- the effect of one change on these processors
 abbrev pub altered_of : List ProcessorState → Change → EffectValue

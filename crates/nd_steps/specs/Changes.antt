@@ -10,6 +10,10 @@ use Rattle.nd_steps.specs.Standing.{standing, put_at}
 use Rattle.nd_steps.specs.declared.change.Change.{Change}
 use Rattle.nd_steps.specs.declared.slot.Slot.{Slot}
 
+-- the change that adds n at a key of processor p's maps
+abbrev pub at_key : ℕ → Slot → ℤ → Change
+at_key p slot n = record { p = p; slot = slot; n = n }
+
 -- the place of a change
 abbrev pub place_of : Change → Place
 place_of c = place_at c.p c.slot

@@ -7,11 +7,13 @@ use Rattle.nd_graph.specs.Graph.{Dataflow, op_at}
 use Rattle.nd_graph.specs.declared.graph.Edge.{Edge}
 use Rattle.nd_paths.specs.declared.point.Pointstamp.{Pointstamp}
 use Rattle.nd_vertex.specs.Table.{is_zero}
+use Rattle.nd_vertex.specs.Edits.{number_of}
 use Rattle.nd_vertex.specs.Effects.{IsEffect}
 use Rattle.nd_vertex.specs.declared.effect.Effect.{Effect}
 use Rattle.nd_vertex.specs.declared.effect.Emission.{Emission}
 use Rattle.nd_vertex.specs.declared.effect.ItemEdit.{ItemEdit}
 use Rattle.nd_processor.specs.State.{Requests, token_point, items_at}
+use Rattle.nd_processor.specs.declared.key.SinkKey.{SinkKey}
 use Rattle.nd_processor.specs.declared.key.ValueAt.{ValueAt}
 use Rattle.nd_protocol.specs.Ranges.{IsValue}
 use Rattle.nd_protocol.specs.State.{ClusterState, processor}
@@ -23,34 +25,30 @@ use Rattle.nd_protocol.specs.declared.times.Times.{Times}
 use Rattle.nd_protocol.specs.declared.step.Next.{Next as Afterwards}
 use Rattle.nd_protocol.specs.declared.step.Next.TheVariants as token
 use Rattle.nd_steps.specs.Places.{Place}
-use Rattle.nd_steps.specs.declared.slot.Slot.{Slot}
 use Rattle.nd_steps.specs.declared.slot.Slot.TheVariants.{Records, Request, Token, State, Sink, Unsent}
-use Rattle.nd_steps.specs.Slots.{from_number}
-use Rattle.nd_steps.specs.Changes.{place_of}
-use Rattle.nd_steps.specs.Totals.{total_at, edits_of}
+use Rattle.nd_steps.specs.Changes.{at_key, place_of}
 use Rattle.nd_steps.specs.Places.{is_place}
-use Rattle.nd_steps.specs.Plans.{Once, Each, Reaches}
+use Rattle.nd_steps.specs.Plans.{Once, Each, Reaches, total_at}
 use Rattle.nd_steps.specs.declared.change.Change.{Change}
 
 -- ---- changes, as a plan finds them
-
--- the change that adds n at a key of processor p's maps
-abbrev pub at_key : ℕ → Slot → ℤ → Change
-at_key p slot n = record { p = p; slot = slot; n = n }
 
 -- the changes of records that arrive, each at its processor; p has each of them to send
 abbrev pub arrivals : ℕ → List (ℕ × ValueAt) → List Change
 arrivals p [] = []
 arrivals p (r ∷ rs) = at_key r.0 (Records r.1) (pos 1) ∷ at_key p (Unsent r.1.point) (pos 1) ∷ arrivals p rs
 
--- the change of one item of a vertex to its new number
+-- the change of one item of a vertex to its new number; `item_changes` are those of several items
 abbrev pub item_change : ℕ → ℕ → ItemEdit → Change
-item_change p vertex e = at_key p (State vertex e.key) (from_number e.new -ℤ from_number e.old)
+item_change p vertex e = at_key p (State vertex e.key) (number_of e.new -ℤ number_of e.old)
+
+abbrev pub item_changes : ℕ → ℕ → List ItemEdit → List Change
+item_changes p vertex es = map (item_change p vertex) es
 
 -- the old and the new number of the edit fit 64 bits
 pub record HasValues (e : ItemEdit) : Type 0 where
-  pub old : IsValue (from_number e.old)
-  pub new : IsValue (from_number e.new)
+  pub old : IsValue (number_of e.old)
+  pub new : IsValue (number_of e.new)
 
 -- ---- no place occurs twice
 
@@ -75,7 +73,7 @@ joined (c ∷ cs) = joins c cs
 pub record AreJoined (cs ds : List Change) : Type 0 where
   pub once : Once ds
   pub some : Each (λ c. c.n ≢ pos 0) ds
-  pub totals : (k : Place) → total_at (edits_of ds) k ≡ total_at (edits_of cs) k
+  pub totals : (k : Place) → total_at k ds ≡ total_at k cs
 
 -- ---- the records that arrive
 
@@ -117,22 +115,22 @@ ask_changes p x true = at_key p (Request x) (pos 1) ∷ at_key p (Unsent x) (pos
 ask_changes p x false = []
 
 -- the change of a sink that counts a value; none if it does not count
-abbrev pub sink_changes : ℕ → ℕ → ℤ → Bool → List Change
-sink_changes p vertex value true = at_key p (Sink (record { vertex = vertex; value = value })) (pos 1) ∷ []
-sink_changes p vertex value false = []
+abbrev pub sink_changes : ℕ → SinkKey → Bool → List Change
+sink_changes p key true = at_key p (Sink key) (pos 1) ∷ []
+sink_changes p key false = []
 
 abbrev pub taken_changes : {A : Type 0} → ℕ → ℕ → ValueAt → Effect A → Bool → List (ℕ × ValueAt) → List Change
 taken_changes p target k effect asks rs =
     (((at_key p (Records k) (negsuc 0) ∷ at_key p (Unsent k.point) (negsuc 0) ∷ []
     ++ ask_changes p (point_at target k.point.time) asks)
-    ++ map (item_change p target) effect.items.items)
-    ++ sink_changes p target k.value effect.sink)
+    ++ item_changes p target effect.items.items)
+    ++ sink_changes p (record { vertex = target; value = k.value }) effect.sink)
     ++ arrivals p rs
 
 abbrev pub noticed_changes : {A : Type 0} → ℕ → Pointstamp → Effect A → List (ℕ × ValueAt) → List Change
 noticed_changes p x effect rs =
     (at_key p (Request x) (negsuc 0) ∷ at_key p (Unsent x) (negsuc 0) ∷ []
-    ++ map (item_change p x.location) effect.items.items)
+    ++ item_changes p x.location effect.items.items)
     ++ arrivals p rs
 
 -- the changes of a release's later request; none if there is no new request

@@ -1,14 +1,14 @@
 -- The consequence of a take: what arrives for the record that is taken; and the changes of such a take.
-use Rattle.std.specs.Prelude.{ℕ, ℤ, pos, negsuc, cond, List, [], ◌∷◌, ◌++◌, length, nat_lt, if◌then◌else◌}
+use Rattle.std.specs.Prelude.{ℕ, pos, negsuc, cond, List, [], ◌∷◌, ◌++◌, length, nat_lt, if◌then◌else◌}
 use Rattle.nd_time.specs.Time.{Time, ingress_of, egress_of, feedback_of, last_of}
 use Rattle.nd_time.specs.Limits.{max_depth, max_counter}
 use Rattle.nd_graph.specs.declared.op.Action.{Action}
 use Rattle.nd_graph.specs.declared.op.Action.TheVariants.{Identity, Ingress, Egress, Feedback}
-use Rattle.nd_paths.specs.declared.point.Pointstamp.{Pointstamp}
 use Rattle.nd_processor.specs.declared.key.ValueAt.{ValueAt}
 use Rattle.nd_protocol.specs.Steps.{record_key}
 use Rattle.nd_protocol.specs.declared.step.Step.{Step}
 use Rattle.nd_protocol.specs.declared.step.Step.TheVariants.{Feed, Take, Notice, Release, Broadcast, Receive}
+use Rattle.nd_steps.specs.Changes.{at_key}
 use Rattle.nd_steps.specs.declared.change.Change.{Change}
 use Rattle.nd_steps.specs.declared.slot.Slot.TheVariants.{Records, Sink, Unsent}
 use Rattle.nd_steps.specs.declared.come.Come.{Come}
@@ -28,35 +28,24 @@ come_key gone Nothing = gone
 come_key gone (Record action q edge value) = record_key edge (past_action action gone.point.time) value
 come_key gone (Count vertex) = gone
 
--- the change that adds n records of a key at processor p; `more_unsent` adds n at a pointstamp of what p has to send
-abbrev pub more_records : ℕ → ValueAt → ℤ → Change
-more_records p key n = record { p = p; slot = Records key; n = n }
-
-abbrev pub more_unsent : ℕ → Pointstamp → ℤ → Change
-more_unsent p point n = record { p = p; slot = Unsent point; n = n }
-
--- the change of a sink vertex that counts a value once more
-abbrev pub count_more : ℕ → ℕ → ℤ → Change
-count_more p vertex value = record { p = p; slot = Sink (record { vertex = vertex; value = value }); n = pos 1 }
-
 -- the changes of what arrives when processor p takes the record `gone`
 abbrev pub arriving : ℕ → ValueAt → Come → List Change
 arriving p gone Nothing = []
 arriving p gone (Record action q edge value) =
     let key : ValueAt = come_key gone (Record action q edge value) in
-    more_records q key (pos 1) ∷ more_unsent p key.point (pos 1) ∷ []
-arriving p gone (Count vertex) = count_more p vertex gone.value ∷ []
+    at_key q (Records key) (pos 1) ∷ at_key p (Unsent key.point) (pos 1) ∷ []
+arriving p gone (Count vertex) = at_key p (Sink (record { vertex = vertex; value = gone.value })) (pos 1) ∷ []
 
 -- the changes of a take by processor p with this consequence, in a fixed order
 abbrev pub come_changes : ℕ → ValueAt → Come → List Change
-come_changes p gone come = more_records p gone (negsuc 0) ∷ more_unsent p gone.point (negsuc 0) ∷ arriving p gone come
+come_changes p gone come = at_key p (Records gone) (negsuc 0) ∷ at_key p (Unsent gone.point) (negsuc 0) ∷ arriving p gone come
 
 -- the same in the order in which they are applied: the record is removed last, and its pointstamp is removed from what is unsent
 -- before what arrives is added, or after it if the flow is late
 abbrev pub flow_changes : ℕ → ValueAt → Flow → List Change
 flow_changes p gone f =
-    let unsent : Change = more_unsent p gone.point (negsuc 0) in
-    let goes : List Change = more_records p gone (negsuc 0) ∷ [] in
+    let unsent : Change = at_key p (Unsent gone.point) (negsuc 0) in
+    let goes : List Change = at_key p (Records gone) (negsuc 0) ∷ [] in
     cond f.late (arriving p gone f.come ++ unsent ∷ goes) (unsent ∷ arriving p gone f.come ++ goes)
 
 -- the changes that a flow stands for, in this order; none if the step is not a take

@@ -2,7 +2,6 @@ pub mod Places
 pub mod Slots
 pub mod Standing
 pub mod Changes
-pub mod Totals
 pub mod Undone
 pub mod Plans
 pub mod Seen
@@ -14,7 +13,6 @@ pub mod Turns
 pub mod Ordered
 pub mod Counted
 pub mod Listed
-pub mod Edits
 pub mod Drafts
 pub mod Onward
 pub mod Performers

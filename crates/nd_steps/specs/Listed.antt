@@ -3,7 +3,9 @@ use Rattle.std.specs.Prelude.{ℕ, ℤ, neg_ℤ, List, [], ◌∷◌, ◌++◌, 
 use Rattle.nd_paths.specs.declared.point.Pointstamp.{Pointstamp}
 use Rattle.nd_delta.specs.Delta.{DeltaValue, entries}
 use Rattle.nd_protocol.specs.declared.step.Step.{Step}
-use Rattle.nd_steps.specs.Flows.{more_unsent, told_changes}
+use Rattle.nd_steps.specs.Changes.{at_key}
+use Rattle.nd_steps.specs.Flows.{told_changes}
+use Rattle.nd_steps.specs.declared.slot.Slot.TheVariants.{Unsent}
 use Rattle.nd_steps.specs.declared.listed.Entry.{Entry}
 use Rattle.nd_steps.specs.declared.listed.Entry.TheVariants.{Key, View, Back, Front}
 use Rattle.nd_steps.specs.declared.record.Changes.{Changes}
@@ -12,7 +14,7 @@ use Rattle.nd_steps.specs.declared.record.Record.{Record}
 
 -- an entry of the part that p sends, removed from what is unsent
 abbrev pub leaves : ℕ → Pointstamp × ℤ → Entry
-leaves p e = Key (more_unsent p e.0 (neg_ℤ e.1))
+leaves p e = Key (at_key p (Unsent e.0) (neg_ℤ e.1))
 
 -- an entry of the change that q receives, added to its view
 abbrev pub arrives : ℕ → Pointstamp × ℤ → Entry

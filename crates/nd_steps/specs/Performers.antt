@@ -1,20 +1,17 @@
 -- The changes of a performer's step as they are found, and where they lead.
-use Rattle.std.specs.Prelude.{◌≡◌, ◌≢◌, ℕ, ℤ, ◌++◌, Bool, false, List, [], ◌∷◌, Some, map, ⊤}
+use Rattle.std.specs.Prelude.{◌≡◌, ◌≢◌, ℕ, ◌++◌, Bool, false, List, [], ◌∷◌, Some, ⊤}
 use Rattle.std.specs.FinMap as fin
 use Rattle.nd_time.specs.Time.{Time}
-use Rattle.nd_graph.specs.declared.graph.Edge.{Edge}
 use Rattle.nd_graph.specs.declared.op.Action.{Action}
 use Rattle.nd_graph.specs.declared.op.Route.{Route}
 use Rattle.nd_vertex.specs.declared.effect.Effect.{Effect}
 use Rattle.nd_vertex.specs.declared.effect.Emission.{Emission}
-use Rattle.nd_vertex.specs.declared.effect.ItemEdit.{ItemEdit}
-use Rattle.nd_processor.specs.declared.key.SinkKey.{SinkKey}
 use Rattle.nd_processor.specs.declared.key.ValueAt.{ValueAt}
 use Rattle.nd_protocol.specs.State.{ClusterState, processor}
 use Rattle.nd_protocol.specs.Steps.{destination, flat, point_at}
 use Rattle.nd_protocol.specs.declared.times.Times.{Times}
 use Rattle.nd_protocol.specs.declared.step.Step.TheVariants.{Feed, Take, Notice, Release}
-use Rattle.nd_steps.specs.Drafts.{Has, Leads, TakesSo, NoticesSo, ReleasesSo, arrivals, item_change, sink_changes, made_along, made_by, emitted_by, fed_by, fed_changes, taken_changes, noticed_changes, released_changes}
+use Rattle.nd_steps.specs.Drafts.{Has, Leads, TakesSo, NoticesSo, ReleasesSo, arrivals, made_by, emitted_by, fed_by, fed_changes, taken_changes, noticed_changes, released_changes}
 use Rattle.nd_steps.specs.Flows.{come_changes}
 use Rattle.nd_steps.specs.Onward.{ComesBy}
 use Rattle.nd_steps.specs.declared.change.Change.{Change}
@@ -36,42 +33,17 @@ pub record Adds {A : Type 0} (old new : Draft A) (cs : List Change) : Type 0 whe
 abbrev pub AddsRecords : {A : Type 0} → Draft A → Draft A → List (ℕ × ValueAt) → Type 0
 AddsRecords old new rs = Adds old new (arrivals old.p rs)
 
--- the changes of a vertex's items to their new numbers
-abbrev pub items_changes : ℕ → ℕ → List ItemEdit → List Change
-items_changes p vertex items = map (item_change p vertex) items
-
--- the change of a sink that counts a value; none if `counts` is false
-abbrev pub count_changes : ℕ → SinkKey → Bool → List Change
-count_changes p key counts = sink_changes p key.vertex key.value counts
-
--- ---- the records that the performer's vertex makes
-
--- the record of an emission on the edge at a location, if the edge leaves its port
-abbrev pub records_along : {B : Type 0} → Performer B → Emission → ℕ → Edge → List (ℕ × ValueAt)
-records_along by e location edge = made_along by.n by.p by.vertex e location edge
-
--- the records of one emission; `all_records_by` and `fed_records_by` are those of several, and of the values that the vertex is
--- fed at a time
-abbrev pub records_by : {B : Type 0} → Performer B → Emission → List (ℕ × ValueAt)
-records_by by e = made_by by.graph.now by.n by.p by.vertex e
-
-abbrev pub all_records_by : {B : Type 0} → Performer B → List Emission → List (ℕ × ValueAt)
-all_records_by by es = emitted_by by.graph.now by.n by.p by.vertex es
-
-abbrev pub fed_records_by : {B : Type 0} → Performer B → Time → List ℤ → List (ℕ × ValueAt)
-fed_records_by by t values = fed_by by.graph.now by.n by.p by.vertex t values
-
 -- ---- the changes that are found
 
 -- the changes of a feed; the next three are those of a take, of a notice and of a release
 abbrev pub found_fed : {B : Type 0} → Performer B → Fed → List Change
-found_fed by fed = fed_changes by.p by.vertex fed.epoch fed.next (fed_records_by by (flat fed.epoch) fed.values.now)
+found_fed by fed = fed_changes by.p by.vertex fed.epoch fed.next (fed_by by.graph.now by.n by.p by.vertex (flat fed.epoch) fed.values.now)
 
 abbrev pub found_taken : {A B : Type 0} → Performer B → Taken A → List Change
-found_taken by taken = taken_changes by.p by.vertex taken.key.now taken.effect.now taken.asks (all_records_by by taken.effect.now.emits.items)
+found_taken by taken = taken_changes by.p by.vertex taken.key.now taken.effect.now taken.asks (emitted_by by.graph.now by.n by.p by.vertex taken.effect.now.emits.items)
 
 abbrev pub found_noticed : {A B : Type 0} → Performer B → Time → Effect A → List Change
-found_noticed by t effect = noticed_changes by.p (point_at by.vertex t) effect (all_records_by by effect.emits.items)
+found_noticed by t effect = noticed_changes by.p (point_at by.vertex t) effect (emitted_by by.graph.now by.n by.p by.vertex effect.emits.items)
 
 abbrev pub found_released : {B : Type 0} → Performer B → Times → Bool → List Change
 found_released by times asks = released_changes by.p by.vertex times asks
@@ -119,7 +91,7 @@ FlowLeads by taken come = TakeLeads by taken (come_changes by.p taken.key.now co
 
 -- the emission e makes one record, on another edge than the record that is taken
 abbrev pub PassesOn : {B : Type 0} → Performer B → ValueAt → Emission → Type 0
-PassesOn by gone e = (r : ℕ × ValueAt) × (records_by by e ≡ r ∷ []) × (r.1.point.location ≢ gone.point.location)
+PassesOn by gone e = (r : ℕ × ValueAt) × (made_by by.graph.now by.n by.p by.vertex e ≡ r ∷ []) × (r.1.point.location ≢ gone.point.location)
 
 -- nothing is emitted; or there is one emission, which makes one record, and no sink counts the value
 abbrev pub ComesAlone : {B : Type 0} → Performer B → ValueAt → Bool → List Emission → Type 0

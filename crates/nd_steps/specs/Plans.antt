@@ -1,21 +1,24 @@
--- Lists of changes as a plan makes them: no place occurs twice, and everything is added before anything is removed.
-use Rattle.std.specs.Prelude.{◌≡◌, ◌≢◌, ◌≤◌, ℕ, ◌+◌, pos, ◌+ℤ◌, cond, List, [], ◌∷◌, length}
-use Rattle.std.specs.Ordering.{eq_by_cmp}
+-- Lists of changes: what they add, and the lists that a plan makes, in which no place occurs twice.
+use Rattle.std.specs.Prelude.{◌≡◌, ◌≢◌, ◌≤◌, ℕ, ◌+◌, ℤ, pos, ◌+ℤ◌, cond, List, [], ◌∷◌, length}
 use Rattle.nd_processor.specs.State.{ProcessorState}
 use Rattle.nd_protocol.specs.State.{ClusterState, processor}
 use Rattle.nd_protocol.specs.Fitting.{IsState}
-use Rattle.nd_steps.specs.Places.{Place, place_cmp}
+use Rattle.nd_steps.specs.Places.{Place, is_place}
 use Rattle.nd_steps.specs.Standing.{standing, changed}
 use Rattle.nd_steps.specs.Changes.{place_of, IsRunnable, applied}
 use Rattle.nd_steps.specs.Slots.{SlotRanged}
 use Rattle.nd_steps.specs.Undone.{IsGain}
-use Rattle.nd_steps.specs.Totals.{total_at, edits_of}
 use Rattle.nd_steps.specs.declared.change.Change.{Change}
 
 -- how often a place occurs in a list of changes
 abbrev pub often : Place → List Change → ℕ
 often k [] = 0
-often k (c ∷ cs) = cond (eq_by_cmp place_cmp k (place_of c)) 1 0 + often k cs
+often k (c ∷ cs) = cond (is_place k (place_of c)) 1 0 + often k cs
+
+-- how much all changes together add at a place
+abbrev pub total_at : Place → List Change → ℤ
+total_at k [] = pos 0
+total_at k (c ∷ cs) = cond (is_place k (place_of c)) c.n (pos 0) +ℤ total_at k cs
 
 -- no place occurs twice
 abbrev pub Once : List Change → Type 0
@@ -42,7 +45,7 @@ pub record Reaches (s t : ClusterState) (cs : List Change) : Type 0 where
   pub some : Each (λ c. c.n ≢ pos 0) cs
   pub small : Each (λ c. IsGain c.n) cs
   pub ranged : Each (StaysRanged s) cs
-  pub totals : (k : Place) → standing t k ≡ standing s k +ℤ total_at (edits_of cs) k
+  pub totals : (k : Place) → standing t k ≡ standing s k +ℤ total_at k cs
 
 -- the same, if s has these processors
 abbrev pub ReachesIn : List ProcessorState → ClusterState → ClusterState → List Change → Type 0

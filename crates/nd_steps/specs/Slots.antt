@@ -26,11 +26,6 @@ abbrev pub from_epoch : Option ℕ → ℤ
 from_epoch None = pos 0
 from_epoch (Some epoch) = pos (epoch + 1)
 
--- an item's number, 0 for none
-abbrev pub from_number : Option ℤ → ℤ
-from_number None = pos 0
-from_number (Some n) = n
-
 -- ---- the integer at a key
 
 abbrev pub stands : ProcessorState → Slot → ℤ

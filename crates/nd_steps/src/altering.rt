@@ -4,7 +4,7 @@ ghost use Rattle.nd_time.specs.Limits.{max_count};
 ghost use Rattle.nd_map.specs.Counts.{natural};
 ghost use Rattle.nd_protocol.specs.Ranges.{IsValue};
 ghost use Rattle.nd_steps.specs.declared.slot.Slot.TheVariants.{Records, Token, State, Sink, Unsent};
-ghost use Rattle.nd_steps.specs.Slots.{from_number};
+ghost use Rattle.nd_vertex.specs.Edits.{number_of};
 ghost use Rattle.nd_steps.specs.Changes.{FitsIn, Fits};
 ghost use Rattle.nd_steps.specs.Plans.{Each};
 ghost use Rattle.nd_steps.specs.Altering.{only, altered_at, altered_of, altered_by, number_from, Appends};
@@ -83,8 +83,8 @@ fn token_altered<A: Allocator + Copy>(
 
 // Returns an item's number with `n` added.
 fn number_after(old: Option<i64>, n: i128) -> Option<i64>
-    requires { IsValue (from_number old +ℤ n) }
-    ensures { result ≡ number_from (from_number old +ℤ n) }
+    requires { IsValue (number_of old +ℤ n) }
+    ensures { result ≡ number_from (number_of old +ℤ n) }
 {
     item_number(number(old) + n)
 }

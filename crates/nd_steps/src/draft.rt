@@ -4,11 +4,11 @@ ghost use Rattle.std.specs.Prelude.{◌≡◌, ◌≤◌, ◌^◌, ◌++◌, ◌
 ghost use Rattle.std.specs.Int.{w128};
 ghost use Rattle.std.specs.List.Sorted.{IsPermutation};
 ghost use Rattle.nd_protocol.specs.Steps.{flat, point_at};
-ghost use Rattle.nd_steps.specs.Slots.{from_number};
+ghost use Rattle.nd_vertex.specs.Edits.{number_of};
 ghost use Rattle.nd_steps.specs.Places.{parts, place_cmp};
-ghost use Rattle.nd_steps.specs.Changes.{place_of, AreByPlace};
-ghost use Rattle.nd_steps.specs.Drafts.{at_key, ask_changes, HasValues, some_of, both, joined, AreJoined};
-ghost use Rattle.nd_steps.specs.Performers.{Adds, AddsRecords, items_changes, count_changes};
+ghost use Rattle.nd_steps.specs.Changes.{at_key, place_of, AreByPlace};
+ghost use Rattle.nd_steps.specs.Drafts.{item_changes, ask_changes, sink_changes, HasValues, some_of, both, joined, AreJoined};
+ghost use Rattle.nd_steps.specs.Performers.{Adds, AddsRecords};
 
 use crate::making::number;
 use crate::{Change, Slot};
@@ -123,7 +123,7 @@ fn join_neighbours<A: Allocator + Copy>(
 
 // Returns the difference between an item's new number and its old one.
 fn gain(item: &ItemEdit) -> i128
-    ensures value { result ≡ from_number item.now.new -ℤ from_number item.now.old }
+    ensures value { result ≡ number_of item.now.new -ℤ number_of item.now.old }
     ensures values { HasValues item.now }
     ensures fits { FitsSigned w128 result }
 {
@@ -180,7 +180,7 @@ impl<A: Allocator + Copy> Draft<A> {
     // Adds the changes of a vertex's items to their new numbers.
     pub(crate) fn add_items(&mut self, vertex: usize, items: &[ItemEdit]) -> Result<(), AllocError>
         ensures adds { OnOk result (Adds self.old self.new
-            (items_changes self.old.p vertex items.now)) }
+            (item_changes self.old.p vertex items.now)) }
         ensures values { OnOk result (All HasValues items.now) }
     {
         for item in items {
@@ -203,7 +203,7 @@ impl<A: Allocator + Copy> Draft<A> {
 
     // Adds one to a sink's count of a value, if `counts`.
     pub(crate) fn count(&mut self, key: SinkKey, counts: bool) -> Result<(), AllocError>
-        ensures { OnOk result (Adds self.old self.new (count_changes self.old.p key counts)) }
+        ensures { OnOk result (Adds self.old self.new (sink_changes self.old.p key counts)) }
     {
         if !counts {
             return Ok(());

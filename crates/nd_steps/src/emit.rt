@@ -2,8 +2,8 @@
 ghost use Rattle.std.specs.Prelude.{◌≡◌, ◌<◌, ◌≤◌, ◌+◌, OnOk, length};
 ghost use Rattle.nd_time.specs.Limits.{max_locations};
 ghost use Rattle.nd_protocol.specs.Steps.{destination as destination_of};
-ghost use Rattle.nd_steps.specs.Drafts.{fed_at};
-ghost use Rattle.nd_steps.specs.Performers.{AddsRecords, records_along, records_by, all_records_by, fed_records_by};
+ghost use Rattle.nd_steps.specs.Drafts.{made_along, made_by, fed_at, fed_by, emitted_by};
+ghost use Rattle.nd_steps.specs.Performers.{AddsRecords};
 
 use crate::draft::Draft;
 use crate::record_at;
@@ -61,7 +61,7 @@ fn emit_on<A: Allocator + Copy, B: Allocator>(
 ) -> Result<(), AllocError>
     requires { by.now.p < by.now.n }
     ensures { OnOk result (AddsRecords draft.old draft.new
-        (records_along by.now emission.now location edge.now)) }
+        (made_along by.now.n by.now.p by.now.vertex emission.now location edge.now)) }
 {
     if edge.from != by.vertex || edge.port != emission.port {
         return Ok(());
@@ -77,7 +77,8 @@ fn emit<A: Allocator + Copy, B: Allocator>(
     draft: &mut Draft<A>,
 ) -> Result<(), AllocError>
     requires { by.now.p < by.now.n }
-    ensures { OnOk result (AddsRecords draft.old draft.new (records_by by.now emission.now)) }
+    ensures { OnOk result (AddsRecords draft.old draft.new
+        (made_by by.now.graph.now by.now.n by.now.p by.now.vertex emission.now)) }
 {
     let first = first_edge(by.graph);
     for (i, edge) in by.graph.edges().iter().enumerate() {
@@ -106,7 +107,7 @@ pub(crate) fn emit_fed<A: Allocator + Copy, B: Allocator>(
 ) -> Result<(), AllocError>
     requires { by.now.p < by.now.n }
     ensures { OnOk result (AddsRecords draft.old draft.new
-        (fed_records_by by.now time.now values.now)) }
+        (fed_by by.now.graph.now by.now.n by.now.p by.now.vertex time.now values.now)) }
 {
     for value in values {
         emit(by, &fed(time, value), draft)?;
@@ -122,7 +123,7 @@ pub(crate) fn emit_all<A: Allocator + Copy, B: Allocator>(
 ) -> Result<(), AllocError>
     requires { by.now.p < by.now.n }
     ensures { OnOk result (AddsRecords draft.old draft.new
-        (all_records_by by.now emissions.now)) }
+        (emitted_by by.now.graph.now by.now.n by.now.p by.now.vertex emissions.now)) }
 {
     for emission in emissions {
         emit(by, emission, draft)?;

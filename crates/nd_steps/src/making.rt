@@ -4,7 +4,7 @@ ghost use Rattle.nd_time.specs.Limits.{max_counter};
 ghost use Rattle.nd_vertex.specs.Edits.{number_of};
 ghost use Rattle.nd_protocol.specs.Ranges.{IsValue};
 ghost use Rattle.nd_steps.specs.declared.slot.Slot.TheVariants.{Records, Token, State, Sink, Unsent};
-ghost use Rattle.nd_steps.specs.Slots.{from_epoch, from_number, stands};
+ghost use Rattle.nd_steps.specs.Slots.{from_epoch, stands};
 ghost use Rattle.nd_steps.specs.Changes.{made_in, FitsIn};
 
 use crate::Slot;
@@ -120,8 +120,8 @@ fn move_token<A: Allocator + Copy>(
 
 // Returns the number of an item, 0 if it is not there.
 pub(crate) fn number(n: Option<i64>) -> i128
-    ensures value { result ≡ from_number n }
-    ensures ranged { IsValue (from_number n) }
+    ensures value { result ≡ number_of n }
+    ensures ranged { IsValue (number_of n) }
 {
     match n {
         Some(n) => i128::from(n),

@@ -5,12 +5,11 @@ use Rattle.std.proofs.Math.Facts.{sfits_widen}
 use Rattle.std.proofs.lemmas.Int.{to_z-of_z}
 use Rattle.std.proofs.lemmas.Result.{on_err_weaker}
 use Rattle.nd_map.specs.Counts.{at, set}
-use Rattle.nd_vertex.specs.Edits.{item_of}
+use Rattle.nd_vertex.specs.Edits.{item_of, number_of}
 use Rattle.nd_vertex.specs.Items.{Items, item_key, item_total}
 use Rattle.nd_vertex.specs.declared.key.ItemKey.{ItemKey}
 use Rattle.nd_processor.specs.State.{items_at}
 use Rattle.nd_protocol.specs.Ranges.{IsValue}
-use Rattle.nd_steps.specs.Slots.{from_number}
 use Rattle.nd_steps.proofs.ItemsLemmas.{was}
 use Rattle.nd_steps.proofs.making.more_of_item.Goals as goal
 
@@ -19,10 +18,10 @@ stored z = to_z w128 (of_z w128 z)
 
 -- the number before, and the number after
 module _ (m n : Items) (j k : ItemKey) (is : m ≡ n) (same : j ≡ k) (old : Option ℤ) (found : old ≡ item_of m j) where
-  old_is : from_number old ≡ at n k
-  old_is = ap from_number (found ∙ (λ i. item_of (is i) (same i))) ∙ was (at n k)
+  old_is : number_of old ≡ at n k
+  old_is = ap number_of (found ∙ (λ i. item_of (is i) (same i))) ∙ was (at n k)
 
-  module _ (x y : ℤ) (x_is : x ≡ from_number old) (fits : FitsSigned w128 y) (before : IsValue (at n k)) (after : IsValue (at n k +ℤ y)) where
+  module _ (x y : ℤ) (x_is : x ≡ number_of old) (fits : FitsSigned w128 y) (before : IsValue (at n k)) (after : IsValue (at n k +ℤ y)) where
     now : stored (stored x +ℤ stored y) ≡ at n k +ℤ y
     unfolding stored
     now =
@@ -63,4 +62,4 @@ returns-clause-absent g c =
     let k = c.args.key.now in
     let fits : FitsSigned w64 k.item = search rules in
     on_err_weaker c.set_item.result
-    (λ none. sym (old_is c.vertex_state.result.now (items_at c.args.processor.now c.args.vertex) _ k c.vertex_state.ensures (passed k fits) c.get-old.result c.get-old.ensures.value) ∙ ap from_number none) c.set_item.ensures.absent
+    (λ none. sym (old_is c.vertex_state.result.now (items_at c.args.processor.now c.args.vertex) _ k c.vertex_state.ensures (passed k fits) c.get-old.result c.get-old.ensures.value) ∙ ap number_of none) c.set_item.ensures.absent

@@ -1,5 +1,5 @@
 use Rattle.std.proofs.lemmas.Result.{IfOk-weaker}
-use Rattle.nd_steps.proofs.ReactionLemmas.{noticed_leads}
+use Rattle.nd_steps.proofs.Notices.{noticed_leads}
 use Rattle.nd_steps.proofs.react.notice_changes.Goals as goal
 
 pub returns : goal.returns

@@ -1,5 +1,5 @@
 use Rattle.std.proofs.lemmas.Result.{IfOk-weaker}
-use Rattle.nd_steps.proofs.ReactionLemmas.{taken_leads}
+use Rattle.nd_steps.proofs.Takes.{taken_leads}
 use Rattle.nd_steps.proofs.react.take_changes.Goals as goal
 
 pub returns : goal.returns

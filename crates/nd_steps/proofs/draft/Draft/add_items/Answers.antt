@@ -2,7 +2,8 @@ use Rattle.std.proofs.Common.{◌∙◌, subst}
 use Rattle.std.specs.Int.{w128}
 use Rattle.std.proofs.lemmas.Int.{to_z-of_z}
 use Rattle.std.proofs.lemmas.List.Elements.{All-more}
-use Rattle.nd_steps.specs.Drafts.{at_key, HasValues}
+use Rattle.nd_steps.specs.Changes.{at_key}
+use Rattle.nd_steps.specs.Drafts.{HasValues}
 use Rattle.nd_steps.specs.declared.slot.Slot.TheVariants.{State}
 use Rattle.nd_steps.proofs.DraftsLemmas.{item_more}
 use Rattle.nd_steps.proofs.draft.Draft.add_items.Goals as goal
