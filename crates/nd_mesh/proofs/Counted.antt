@@ -101,10 +101,6 @@ module _ (m : List (List (List DeltaValue))) (from : ℕ) (f : from < length m) 
           some [] e = absurd (cc)
           some (d ∷ q) e = omega arith
 
-      pub one-le-queued : (c : DeltaValue) → slice_get (queue m from to) 0 ≡ Some c → 1 ≤ n
-      one-le-queued c e =
-          omega (arith, is.count, get_or-le-sum_by (sum_by length) m from [] f, get_or-le-sum_by length (row m from) to [] there, some_queued c e)
-
       pub counted_popped : (c : DeltaValue) → slice_get (queue m from to) 0 ≡ Some c → IsCounted (n - 1) (popped m from to)
       counted_popped c e = record {
         mesh = mesh_popped m from to is.mesh f t;
