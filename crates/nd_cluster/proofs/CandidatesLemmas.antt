@@ -21,6 +21,7 @@ use Rattle.nd_paths.specs.Point.{point_cmp, point_total, point_exact}
 use Rattle.nd_paths.specs.declared.point.Pointstamp.{Pointstamp}
 use Rattle.nd_delta.specs.Delta.{DeltaValue, none, same, size, or_zero, at-none}
 use Rattle.nd_delta.specs.Delta.{at-entries as updates-at, entries as updates}
+use Rattle.nd_mesh.specs.Mesh.{AreVacant}
 use Rattle.nd_processor.specs.State.{ProcessorState}
 use Rattle.nd_processor.specs.Keys.{value_at_cmp, value_at_total, value_at_exact}
 use Rattle.nd_processor.specs.declared.key.ValueAt.{ValueAt}
@@ -460,6 +461,14 @@ module _ {A : Type 0} (s : ClusterState) (p : ℕ) where
   no_receives from le =
       let none : length s.processors - from ≡ 0 = omega (arith, le) in
       ap (λ n. receives_from s p (range_with_len from n)) none
+
+  -- no queue has a change
+  pub none_queued : AreVacant s.queues → (from : ℕ) → receives_after {A = A} s p from ≡ []
+  none_queued vacant from = along from (length s.processors - from)
+    where
+      along : (k n : ℕ) → receives_from {A = A} s p (range_with_len k n) ≡ []
+      along k zero = refl
+      along k (suc n) = rw (vacant k p) (along (k + 1) n)
 
   broadcast_if : (es : List (Pointstamp × ℤ)) → ◌≡◌ {A = List (Step A)} (cond (nat_lt 0 (length es)) (Broadcast p Whole ∷ []) []) (broadcast_of p es)
   broadcast_if [] = refl

@@ -66,6 +66,10 @@ impl<A: Allocator + Copy> Cluster<A> {
         ensures next { IsNextSender A self.now p from result }
         ensures few { IfSome result (λ k. k < max_processors) }
     {
+        // A run asks this of each processor at each step.
+        if self.mesh().is_idle() {
+            return None;
+        }
         for sender in from..self.processor_count() {
             if self.queue_len(sender as usize, p as usize) > 0 {
                 return Some(sender);

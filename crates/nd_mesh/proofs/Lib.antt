@@ -1,3 +1,4 @@
+mod Counted
 mod Firsts
 mod Kept
 mod Written

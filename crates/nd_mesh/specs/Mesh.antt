@@ -1,6 +1,6 @@
 -- The queues of a cluster as lists: for each sender the list of its queues, one per receiver; each queue is a list of changes
 -- from front to back.
-use Rattle.std.specs.Prelude.{◌≡◌, ℕ, ◌<◌, ◌≤◌, ◌-◌, zero, suc, List, [], ◌∷◌, ◌++◌, length, map, take, drop, slice_index_or, slice_set}
+use Rattle.std.specs.Prelude.{◌≡◌, ℕ, ◌<◌, ◌≤◌, ◌-◌, zero, suc, List, [], ◌∷◌, ◌++◌, length, map, take, drop, sum_by, slice_index_or, slice_set}
 use Rattle.std.specs.List.{All}
 use Rattle.nd_time.specs.Limits.{max_queue}
 use Rattle.nd_delta.specs.Delta.{DeltaValue}
@@ -61,10 +61,23 @@ unpopped m from to c = with_queue m from to (c ∷ queue m from to)
 abbrev pub HasQueue : (List DeltaValue → Type 0) → List (List DeltaValue) → Type 0
 HasQueue P queues = (to : ℕ) × (to < length queues) × P (slice_index_or queues to [])
 
+-- all queues are empty
+abbrev pub AreVacant : List (List (List DeltaValue)) → Type 0
+AreVacant m = (from to : ℕ) → IsVacant (queue m from to)
+
+-- the number of changes in all queues
+abbrev pub queued : List (List (List DeltaValue)) → ℕ
+queued m = sum_by (sum_by length) m
+
 -- from each processor there is one queue per processor, and no queue exceeds its limit
 pub record IsMesh (m : List (List (List DeltaValue))) : Type 0 where
   pub square : All (λ queues. length queues ≡ length m) m
   pub within : All (λ queues. All (λ q. length q ≤ max_queue) queues) m
+
+-- a mesh with this number of changes in all queues
+pub record IsCounted (waiting : ℕ) (m : List (List (List DeltaValue))) : Type 0 where
+  pub mesh : IsMesh m
+  pub count : waiting ≡ queued m
 
 -- ---- a part of a row
 

@@ -3,7 +3,7 @@
 
 ghost use Rattle.std.specs.Prelude.{◌≡◌, ◌↔◌, ◌<◌, ◌≤◌, [], length, replicate, slice_get, option_copied, Err, IfErr, IfOk, IsErr, IsErrAnd, IsTrue, OnErr, OnOk};
 ghost use Rattle.std.specs.Result.{result_ok};
-ghost use Rattle.nd_mesh.specs.Mesh.{row, queue, pushed, unpushed, popped, unpopped, HasQueue, IsFull, IsVacant, IsMesh};
+ghost use Rattle.nd_mesh.specs.Mesh.{row, queue, pushed, unpushed, popped, unpopped, HasQueue, IsFull, IsVacant, AreVacant, IsMesh};
 
 use crate::outbox::Outbox;
 use nd_delta::Delta;
@@ -47,12 +47,18 @@ impl<A: Allocator + Copy> Drop for NotPut<A> {
 /// the sender to the receiver, the oldest first.
 pub struct Mesh<A: Allocator + Copy = Global> {
     rows: Vec<Outbox<A>, A>,
+    // The number of changes in all queues: it is 0 if and only if all are empty.
+    waiting: usize,
     alloc: A,
 }
 
 impl<A: Allocator + Copy> Drop for Mesh<A> {
     fn drop(self) {
-        let Mesh { rows: _, alloc: _ } = self;
+        let Mesh {
+            rows: _,
+            waiting: _,
+            alloc: _,
+        } = self;
     }
 }
 
@@ -60,7 +66,7 @@ impl<A: Allocator + Copy> Model for Mesh<A> {
     ghost use Rattle.std.specs.Prelude.{List};
     ghost use Rattle.std.specs.Coded.{coded_list};
     ghost use Rattle.nd_delta.specs.Delta.{DeltaValue, delta_code};
-    ghost use Rattle.nd_mesh.specs.Mesh.{IsMesh};
+    ghost use Rattle.nd_mesh.specs.Mesh.{IsCounted};
 
     ghost Value = { List (List (List DeltaValue)) };
 
@@ -68,7 +74,7 @@ impl<A: Allocator + Copy> Model for Mesh<A> {
 
     ghost view = { λ a. a.rows.items };
 
-    ghost invariant = { λ a. IsMesh a.rows.items };
+    ghost invariant = { λ a. IsCounted a.waiting a.rows.items };
 }
 
 impl<A: Allocator + Copy> Mesh<A> {
@@ -80,7 +86,11 @@ impl<A: Allocator + Copy> Mesh<A> {
         for _ in 0..n {
             rows.push(Outbox::new(alloc, n)?)?;
         }
-        Ok(Mesh { rows, alloc })
+        Ok(Mesh {
+            rows,
+            waiting: 0,
+            alloc,
+        })
     }
 
     /// Returns the number of processors.
@@ -111,6 +121,14 @@ impl<A: Allocator + Copy> Mesh<A> {
         self.rows[from].get(to, i)
     }
 
+    /// Returns whether all queues are empty, in constant time.
+    pub fn is_idle(&self) -> bool
+        ensures idle { IsTrue result ↔ AreVacant self.now }
+        ensures mesh { IsMesh self.now }
+    {
+        self.waiting == 0
+    }
+
     /// Returns whether a queue from this processor contains `LIMIT` changes.
     pub fn is_full(&self, from: usize) -> bool
         requires { from < length self.now }
@@ -132,10 +150,15 @@ impl<A: Allocator + Copy> Mesh<A> {
         if self.rows[from].has_full() {
             return Err(PushFault::QueueFull);
         }
+        // More than `usize::MAX` changes do not fit into memory.
+        let Some(waiting) = self.waiting.checked_add(self.rows.len()) else {
+            return Err(PushFault::Memory);
+        };
         let alloc = self.alloc;
         let Ok(()) = self.rows[from].push_all(alloc, change) else {
             return Err(PushFault::Memory);
         };
+        self.waiting = waiting;
         Ok(())
     }
 
@@ -151,6 +174,7 @@ impl<A: Allocator + Copy> Mesh<A> {
             return Err(QueueEmpty);
         }
         self.rows[from].unpush_all();
+        self.waiting -= self.rows.len();
         Ok(())
     }
 
@@ -168,6 +192,7 @@ impl<A: Allocator + Copy> Mesh<A> {
         let Some(change) = self.rows[from].pop(to) else {
             return Err(QueueEmpty);
         };
+        self.waiting -= 1;
         Ok(change)
     }
 
@@ -188,12 +213,20 @@ impl<A: Allocator + Copy> Mesh<A> {
                 change,
             });
         }
+        // More than `usize::MAX` changes do not fit into memory.
+        let Some(waiting) = self.waiting.checked_add(1) else {
+            return Err(NotPut {
+                fault: PushFault::Memory,
+                change,
+            });
+        };
         if let Err(change) = self.rows[from].unpop(to, change) {
             return Err(NotPut {
                 fault: PushFault::Memory,
                 change,
             });
         }
+        self.waiting = waiting;
         Ok(())
     }
 
@@ -206,6 +239,10 @@ impl<A: Allocator + Copy> Mesh<A> {
         for row in &self.rows {
             rows.push(row.copy(alloc)?)?;
         }
-        Ok(Mesh { rows, alloc })
+        Ok(Mesh {
+            rows,
+            waiting: self.waiting,
+            alloc,
+        })
     }
 }

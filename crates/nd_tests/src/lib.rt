@@ -19,6 +19,8 @@ mod graphs;
 #[cfg(test)]
 mod holdings;
 #[cfg(test)]
+mod idle_queues;
+#[cfg(test)]
 mod kinds;
 #[cfg(test)]
 mod memory;

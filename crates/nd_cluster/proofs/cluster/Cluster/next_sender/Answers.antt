@@ -1,6 +1,6 @@
 use Rattle.std.proofs.Common.{◌≡◌, ◌<◌, length, ◌∙◌, arith}
 use Rattle.nd_protocol.specs.State.{queue}
-use Rattle.nd_cluster.proofs.CandidatesLemmas.{next_receive, no_receive, no_receives}
+use Rattle.nd_cluster.proofs.CandidatesLemmas.{next_receive, no_receive, no_receives, none_queued}
 use Rattle.nd_cluster.proofs.cluster.Cluster.next_sender.Goals as goal
 
 pub returns-then-queue_len-gt0-clause-next : goal.returns-then-queue_len-gt0-clause-next
