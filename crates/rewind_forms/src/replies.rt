@@ -1,7 +1,7 @@
 //! The reply values.
 ghost use Rattle.std.specs.Prelude.{◌≡◌, Some, IfOk};
 ghost use Rattle.rewind_forms.specs.Replies.{fault as fault_data, location_fault as location_fault_data, graph as graph_data, moved as moved_data, ran as ran_data, stop as stop_data, reply_data};
-ghost use Rattle.rewind_forms.specs.Replies.{point_fault as point_fault_data, fault_at as fault_at_data, step_refused as step_refused_data, refused as refused_data, before as before_data, faulty as faulty_data, line_fault as line_fault_data, count as count_data, state as state_data};
+ghost use Rattle.rewind_forms.specs.Replies.{point_fault as point_fault_data, fault_at as fault_at_data, step_refused as step_refused_data, refused as refused_data, before as before_data, faulty as faulty_data, line_fault as line_fault_data, count as count_data};
 ghost use Rattle.rewind_forms.specs.Replies.{known as known_data, frontier as frontier_data, passed as passed_data, not_passed as not_passed_data, no_processor as no_processor_data, piece_fault as piece_fault_data, found as found_data};
 ghost use Rattle.rewind_forms.specs.Replies.{version as version_data, exported as exported_data, kept_step as kept_step_data, changed as changed_data, why as why_data};
 ghost use Rattle.rewind_forms.specs.Replies.{candidates as candidates_data, effect as effect_data, turns as turns_data, times as times_data};
@@ -163,13 +163,6 @@ pub fn count(alloc: Global, count: u64) -> Result<Json, AllocError>
     ensures reply { IfOk result (λ j. j ≡ count_data count) }
 {
     reply!(in alloc; {"count": count, "ok": true})
-}
-
-/// Returns the reply to a query for the state, which the value shows.
-pub fn state(alloc: Global, shown: Json) -> Result<Json, AllocError>
-    ensures reply { IfOk result (λ j. j ≡ state_data shown) }
-{
-    reply!(in alloc; {"ok": true, "state": shown})
 }
 
 /// Returns the reply to a query whether one pointstamp could result in another.

@@ -2,7 +2,7 @@
 ghost use Rattle.std.specs.Prelude.{◌≡◌, Some, None, OnOk};
 ghost use Rattle.serde_json.specs.Events.{SendsValue};
 ghost use Rattle.rewind_forms.specs.Objects.{next_data, feed_object, take_object, notice_object, release_object, all_object, part_object, receive_object, object_of};
-ghost use Rattle.rewind_forms.specs.Sent.{SendsMember};
+ghost use Rattle.nd_state_json.specs.Sent.{SendsMember};
 
 use crate::sent::{integer_at, integers_at, name_at, natural_at, points_at, text_at, time_at};
 use nd_graph::Graph;
