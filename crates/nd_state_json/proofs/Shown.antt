@@ -2,23 +2,24 @@
 use Rattle.std.proofs.Common.{◌≡◌, ◌<◌, ◌+◌, ℕ, suc, ℤ, List, [], ◌∷◌, ◌++◌, map, drop, length, get_or, Some, refl, sym, ap, subst, ◌∙◌, arith, drop-cons, add-one}
 use Rattle.std.proofs.lemmas.List.{length-map, length-append}
 use Rattle.std.proofs.lemmas.List.Sums.{sum_by-cons}
-use Rattle.std.specs.List.{flat_map, enumerate_from, zip, sum_by}
+use Rattle.std.specs.List.{flat_map, enumerate_from, sum_by}
 use Rattle.serde.specs.Event.{Log, Logs, seq_begins, seq_ends, unsigned}
 use Rattle.serde_json.specs.Data.{Data}
 use Rattle.serde_json.specs.Events.{SendsValue}
 use Rattle.nd_time.specs.Time.{Time}
 use Rattle.nd_graph.specs.Graph.{Dataflow}
-use Rattle.std.specs.FinMap as fin
-use Rattle.nd_paths.specs.declared.point.Pointstamp.{Pointstamp}
-use Rattle.nd_delta.specs.Delta.{DeltaValue}
 use Rattle.nd_map.specs.Counts.{entries}
-use Rattle.nd_view.specs.Kept.{Kept}
 use Rattle.nd_vertex.specs.Items.{Items}
 use Rattle.nd_vertex.specs.declared.key.ItemKey.{ItemKey}
+use Rattle.std.specs.FinMap as fin
+use Rattle.nd_paths.specs.declared.point.Pointstamp.{Pointstamp}
+use Rattle.nd_delta.specs.Delta.{DeltaValue, entries as listed}
 use Rattle.nd_processor.specs.State.{ProcessorState}
+use Rattle.nd_processor.specs.declared.key.ValueAt.{ValueAt}
+use Rattle.nd_processor.specs.declared.key.SinkKey.{SinkKey}
 use Rattle.nd_state_json.specs.Sent.{SendsEach, SentBefore}
 use Rattle.nd_state_json.specs.SentLaws.{array-sent, each-joined}
-use Rattle.nd_state_json.specs.StateText.{natural, time_data, item_data, processor_data, queues_data, whole_data, state_data}
+use Rattle.nd_state_json.specs.StateText.{row, natural, time_data, item_data, items_data, record_data, point_data, sink_data, token_data, entries_data, processor_members, processor_data}
 
 -- ---- a time
 
@@ -51,21 +52,19 @@ items-more g items v d es all first old mid lt is before sent end h =
     let both = each-joined (map (item_data g v) (entries (get_or items v d))) (items_from g (v + 1) (drop (suc v) items)) old mid end here next in
     before end (subst (λ xs. SendsEach (items_from g v xs) old end) (sym (drop-cons items v d lt)) both)
 
--- ---- processors
+-- ---- a processor
 
--- a processor and its view, as they are kept
-abbrev pub processor_and_view : Dataflow → ProcessorState × Kept → Data
-processor_and_view g e = processor_data g e.0 e.1.map
+mapped_twice : {X Y Z : Type 0} (f : Y → Z) (h : X → Y) (xs : List X) → map f (map h xs) ≡ map (λ x. f (h x)) xs
+mapped_twice f h [] = refl
+mapped_twice f h (x ∷ xs) = ap (λ ys. f (h x) ∷ ys) (mapped_twice f h xs)
 
--- ---- the complete state
-
-zip_mapped : {X Y Z W : Type 0} (f : X × Z → W) (h : Y → Z) (xs : List X) (ys : List Y) → map f (zip xs (map h ys)) ≡ map (λ e. f (e.0, h e.1)) (zip xs ys)
-zip_mapped f h [] ys = refl
-zip_mapped f h (x ∷ xs) [] = refl
-zip_mapped f h (x ∷ xs) (y ∷ ys) = ap (λ ws. f (x, h y) ∷ ws) (zip_mapped f h xs ys)
-
--- the state of these processors, views and queues
-pub state_shown : (g : Dataflow) (ps : List ProcessorState) (vs : List Kept) (m : List (List (List DeltaValue)))
-    → whole_data (map (processor_and_view g) (zip ps vs)) (map (queues_data g) m) ≡ state_data (record { graph = g; processors = ps; views = map (λ (v : Kept). v.map) vs; queues = m })
-unfolding state_data
-state_shown g ps vs m = λ i. whole_data (sym (zip_mapped (λ e. processor_data g e.0 e.1) (λ (v : Kept). v.map) ps vs) i) (map (queues_data g) m)
+-- the members of a processor's object list the entries of its maps
+pub processor_shown : (g : Dataflow) (q : ProcessorState) (view : DeltaValue) (records : List (ValueAt × ℕ)) (requests : List (Pointstamp × Unit {0})) (sinks : List (SinkKey × ℕ)) (tokens : List (ℕ × ℕ)) (unsent known : List (Pointstamp × ℤ))
+    → records ≡ entries q.records → requests ≡ fin.entries q.requests → sinks ≡ entries q.sinks → tokens ≡ fin.entries q.tokens → unsent ≡ listed q.unsent → known ≡ listed view
+    → processor_members (row (items_data g q)) (row (map (record_data g) records)) (row (map (λ e. point_data g e.0) requests)) (row (map (sink_data g) sinks)) (row (map (token_data g) tokens)) (entries_data g unsent) (entries_data g known)
+    ≡ processor_data g q view
+unfolding processor_data
+processor_shown g q view records requests sinks tokens unsent known a r s t u k =
+    let asked : map (λ (e : Pointstamp × Unit {0}). point_data g e.0) requests ≡ map (point_data g) (fin.keys q.requests)
+    = ap (map (λ (e : Pointstamp × Unit {0}). point_data g e.0)) r ∙ sym (mapped_twice (point_data g) (λ (e : Pointstamp × Unit {0}). e.0) (fin.entries q.requests)) in
+    λ i. processor_members (row (items_data g q)) (row (map (record_data g) (a i))) (row (asked i)) (row (map (sink_data g) (s i))) (row (map (token_data g) (t i))) (entries_data g (u i)) (entries_data g (k i))

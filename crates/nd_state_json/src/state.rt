@@ -4,7 +4,7 @@ ghost use Rattle.std.specs.List.{zip};
 ghost use Rattle.serde_json.specs.Events.{SendsValue};
 ghost use Rattle.nd_map.specs.Counts.{entries as numbers};
 ghost use Rattle.nd_mesh.specs.Mesh.{queue, row as queues_from};
-ghost use Rattle.nd_view.specs.Kept.{Kept};
+ghost use Rattle.nd_view.specs.Views.{maps};
 ghost use Rattle.nd_state_json.specs.Sent.{SendsEach};
 ghost use Rattle.nd_state_json.specs.StateText.{item_data, items_data, queue_data, queues_data, processor_data, row, state_data};
 
@@ -20,7 +20,7 @@ use std::alloc::Allocator;
 
 // Returns the number of entries that an iterator has not yet returned.
 fn count_of<K: Key, V: Copy>(entries: Iter<'_, K, V>) -> usize
-    requires { length entries.entry < 2 ^ 63 }
+    requires { length entries < 2 ^ 63 }
     ensures { result ≡ length entries.entry }
 {
     entries.count()
@@ -33,7 +33,7 @@ fn send_map<S: Serializer, K: Listed<V>, V: Copy, A: Allocator>(
     count: usize,
     entries: Iter<'_, K, V>,
 ) -> Result<(), S::Error>
-    requires { count ≡ length entries.entry }
+    requires { count ≡ length entries }
     ensures { OnOk result (SendsValue (row (map (K.listed graph.now) entries.entry))
         (S.written out.old) (S.written out.new)) }
 {
@@ -128,9 +128,19 @@ fn send_processor<S: Serializer, A: Allocator + Copy>(
     out.key("items")?;
     send_items(out, graph, processor)?;
     out.key("records")?;
-    send_map(out, graph, count_of(processor.records()), processor.records())?;
+    send_map(
+        out,
+        graph,
+        count_of(processor.records()),
+        processor.records(),
+    )?;
     out.key("requests")?;
-    send_map(out, graph, count_of(processor.requests()), processor.requests())?;
+    send_map(
+        out,
+        graph,
+        count_of(processor.requests()),
+        processor.requests(),
+    )?;
     out.key("sinks")?;
     send_map(out, graph, count_of(processor.sinks()), processor.sinks())?;
     out.key("tokens")?;
@@ -152,7 +162,7 @@ fn send_processors<S: Serializer, A: Allocator + Copy>(
 ) -> Result<(), S::Error>
     requires { length views.now ≡ length processors.now }
     ensures { OnOk result (SendsValue (row (map
-        (λ e. processor_data graph.now e.0 e.1.map) (zip processors.now views.now)))
+        (λ e. processor_data graph.now e.0 e.1) (zip processors.now (maps views.now))))
         (S.written out.old) (S.written out.new)) }
 {
     out.begin_seq(Some(processors.len()))?;
@@ -220,6 +230,7 @@ fn send_queues<S: Serializer, A: Allocator + Copy>(
 }
 
 /// Sends the state of a cluster: its processors, each with its view, and its queues. Each list is in the order of its keys.
+#[tactic(auto, unfolding(crate::specs::StateText::state_data))]
 pub fn send_state<S: Serializer, A: Allocator + Copy>(
     out: &mut S,
     graph: &Graph<A>,
@@ -231,7 +242,7 @@ pub fn send_state<S: Serializer, A: Allocator + Copy>(
     ensures { OnOk result (SendsValue (state_data (record {
       graph = graph.now;
       processors = processors.now;
-      views = map (λ (k : Kept). k.map) views.now;
+      views = maps views.now;
       queues = mesh.now;
     })) (S.written out.old) (S.written out.new)) }
 {
