@@ -1,1 +1,3 @@
 pub mod StateText
+pub mod Sent
+pub mod SentLaws

@@ -22,12 +22,15 @@ use Rattle.nd_processor.specs.declared.key.SinkKey.{SinkKey}
 abbrev pub name_at : Dataflow → ℕ → List ℕ
 name_at g l = slice_index_or (names g) l []
 
+-- a list of values as a JSON array
 abbrev pub row : List Data → Data
 row ds = array (items_of ds)
 
+-- a natural number
 abbrev pub natural : ℕ → Data
 natural n = number (unsigned n)
 
+-- an integer
 abbrev pub whole : ℤ → Data
 whole z = number (of_integer z)
 

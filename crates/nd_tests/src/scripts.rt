@@ -4,6 +4,7 @@ use crate::graphs::{HELD, SUM, graph_of, point, time};
 use nd_cluster::{Cluster, Next, Part, Points, Step, Values};
 use nd_graph::Graph;
 use nd_protocol::{BoxedTimes, Processors, Times};
+use serde::{Described, Serialize, Serializer};
 use std::alloc::{Allocator, Global};
 
 /// A step: the processor, and the name of the vertex or the edge.
@@ -181,9 +182,23 @@ pub fn reach<A: Allocator + Copy>(
     Some(cluster)
 }
 
+// The state of a cluster as a value that can be serialized.
+#[derive(Drop)]
+struct Shown<'a, A: Allocator + Copy> {
+    cluster: &'a Cluster<A>,
+}
+
+impl<'a, A: Allocator + Copy> Described for Shown<'a, A> {}
+
+impl<'a, A: Allocator + Copy> Serialize for Shown<'a, A> {
+    fn serialize<S: Serializer>(&self, out: &mut S) -> Result<(), S::Error> {
+        self.cluster.send_state(out)
+    }
+}
+
 /// Returns the text of the state.
 pub fn state_text<A: Allocator + Copy>(json: Global, cluster: &Cluster<A>) -> Option<String> {
-    let text = cluster.state_value(json).ok()?.to_bytes(json).ok()?;
+    let text = serde_json::to_vec(json, &Shown { cluster }).ok()?;
     String::from_utf8(text).ok()
 }
 

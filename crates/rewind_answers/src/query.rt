@@ -1,8 +1,7 @@
 //! The replies to queries.
 ghost use Rattle.std.specs.Prelude.{◌≡◌, Some, Ok, IfOk};
 ghost use Rattle.nd_protocol.specs.Invariant.{IsSettled, KeepsProtocol};
-ghost use Rattle.nd_state_json.specs.StateText.{state_data};
-ghost use Rattle.rewind_forms.specs.Replies.{count as count_data, state};
+ghost use Rattle.rewind_forms.specs.Replies.{count as count_data};
 ghost use Rattle.rewind_answers.specs.Answers.{QueryReply, BeforeReply, ViewReply, FrontierReply, PassedReply, SearchReply, search_fault, true_count};
 ghost use Rattle.rewind_answers.specs.Stages.{TellsOne};
 
@@ -26,16 +25,6 @@ pub(crate) fn text_of(alloc: Global, reply: Result<Json, AllocError>) -> Result<
 {
     let value = reply?;
     value.to_bytes(alloc)
-}
-
-// Replies with the state.
-fn answer_state(alloc: Global, cluster: &Cluster) -> Result<Json, AllocError>
-    ensures reply { IfOk result (λ j. j ≡ state (state_data cluster.now)) }
-{
-    let Ok(shown) = cluster.state_value(alloc) else {
-        return Err(AllocError);
-    };
-    replies::state(alloc, shown)
 }
 
 // Replies with the true count of a pointstamp.
@@ -154,7 +143,7 @@ pub fn answer_query<R: Threads + Sync>(
 {
     let cluster = cluster(state);
     match query {
-        Query::State => text_of(alloc, answer_state(alloc, cluster)),
+        Query::State => texts::state(alloc, cluster),
         Query::Count(point) => text_of(alloc, answer_count(alloc, cluster, point)),
         Query::Before(from, to) => text_of(alloc, answer_before(alloc, cluster, from, to)),
         Query::View(q) => answer_view(alloc, cluster, *q),

@@ -4,4 +4,4 @@ pub mod ReadBack
 pub mod Fits
 pub mod ReasonsLemmas
 pub mod ConditionsLemmas
-pub mod SentLemmas
+pub mod NoFloats

@@ -18,4 +18,3 @@ pub mod Changes
 pub mod Candidates
 pub mod Times
 pub mod Effects
-pub mod Sent

@@ -31,15 +31,18 @@ take_object g p edge time value = object (member (codes "do") (string (codes "ta
     (member (codes "edge") (place g edge) (member (codes "p") (natural p)
     (member (codes "time") (time_data time) (member (codes "value") (whole value) no_members)))))
 
+-- {"do":word,"p":n,"time":[epoch,c1,...],"vertex":name}
+abbrev pub vertex_object : List ℕ → Dataflow → ℕ → ℕ → Time → Data
+vertex_object word g p vertex time = object (member (codes "do") (string word)
+    (member (codes "p") (natural p) (member (codes "time") (time_data time) (member (codes "vertex") (place g vertex) no_members))))
+
 -- {"do":"notice","p":n,"time":[epoch,c1,...],"vertex":name}
 abbrev pub notice_object : Dataflow → ℕ → ℕ → Time → Data
-notice_object g p vertex time = object (member (codes "do") (string (codes "notice"))
-    (member (codes "p") (natural p) (member (codes "time") (time_data time) (member (codes "vertex") (place g vertex) no_members))))
+notice_object g p vertex time = vertex_object (codes "notice") g p vertex time
 
 -- {"do":"release","p":n,"time":[epoch,c1,...],"vertex":name}, and "to":[epoch,c1,...] among the keys if there is a later time
 abbrev pub release_object : Dataflow → ℕ → ℕ → Time → Option Time → Data
-release_object g p vertex time None = object (member (codes "do") (string (codes "release"))
-    (member (codes "p") (natural p) (member (codes "time") (time_data time) (member (codes "vertex") (place g vertex) no_members))))
+release_object g p vertex time None = vertex_object (codes "release") g p vertex time
 release_object g p vertex time (Some to) = object (member (codes "do") (string (codes "release"))
     (member (codes "p") (natural p) (member (codes "time") (time_data time)
     (member (codes "to") (time_data to) (member (codes "vertex") (place g vertex) no_members)))))

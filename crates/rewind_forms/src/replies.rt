@@ -1,9 +1,9 @@
 //! The reply values.
 ghost use Rattle.std.specs.Prelude.{◌≡◌, Some, IfOk};
 ghost use Rattle.rewind_forms.specs.Replies.{fault as fault_data, location_fault as location_fault_data, graph as graph_data, moved as moved_data, ran as ran_data, stop as stop_data, reply_data};
-ghost use Rattle.rewind_forms.specs.Replies.{point_fault as point_fault_data, fault_at as fault_at_data, step_refused as step_refused_data, refused as refused_data, before as before_data, faulty as faulty_data, line_fault as line_fault_data, count as count_data, state as state_data};
-ghost use Rattle.rewind_forms.specs.Replies.{known as known_data, frontier as frontier_data, passed as passed_data, not_passed as not_passed_data, no_processor as no_processor_data, piece_fault as piece_fault_data, found as found_data};
-ghost use Rattle.rewind_forms.specs.Replies.{version as version_data, exported as exported_data, kept_step as kept_step_data, changed as changed_data, why as why_data};
+ghost use Rattle.rewind_forms.specs.Replies.{point_fault as point_fault_data, fault_at as fault_at_data, step_refused as step_refused_data, refused as refused_data, before as before_data, faulty as faulty_data, line_fault as line_fault_data, count as count_data};
+ghost use Rattle.rewind_forms.specs.Replies.{passed as passed_data, not_passed as not_passed_data, no_processor as no_processor_data, piece_fault as piece_fault_data, found as found_data};
+ghost use Rattle.rewind_forms.specs.Replies.{version as version_data, kept_step as kept_step_data, changed as changed_data, why as why_data};
 ghost use Rattle.rewind_forms.specs.Replies.{candidates as candidates_data, effect as effect_data, turns as turns_data, times as times_data};
 
 use crate::LineFault;
@@ -165,32 +165,11 @@ pub fn count(alloc: Global, count: u64) -> Result<Json, AllocError>
     reply!(in alloc; {"count": count, "ok": true})
 }
 
-/// Returns the reply to a query for the state, which the value shows.
-pub fn state(alloc: Global, shown: Json) -> Result<Json, AllocError>
-    ensures reply { IfOk result (λ j. j ≡ state_data shown) }
-{
-    reply!(in alloc; {"ok": true, "state": shown})
-}
-
 /// Returns the reply to a query whether one pointstamp could result in another.
 pub fn before(alloc: Global, before: bool) -> Result<Json, AllocError>
     ensures reply { IfOk result (λ j. j ≡ before_data before) }
 {
     reply!(in alloc; {"before": before, "ok": true})
-}
-
-/// Returns the reply to a query for a view, whose entries the value shows.
-pub fn known(alloc: Global, shown: Json) -> Result<Json, AllocError>
-    ensures reply { IfOk result (λ j. j ≡ known_data shown) }
-{
-    reply!(in alloc; {"ok": true, "view": shown})
-}
-
-/// Returns the reply to a query for a frontier, whose entries the value shows.
-pub fn frontier(alloc: Global, shown: Json) -> Result<Json, AllocError>
-    ensures reply { IfOk result (λ j. j ≡ frontier_data shown) }
-{
-    reply!(in alloc; {"frontier": shown, "ok": true})
 }
 
 /// Returns the reply to a query for a pointstamp that a view has passed.
@@ -226,13 +205,6 @@ pub fn version(alloc: Global, number: u64) -> Result<Json, AllocError>
     ensures reply { IfOk result (λ j. j ≡ version_data number) }
 {
     reply!(in alloc; {"ok": true, "version": number})
-}
-
-/// Returns the reply to a query for all kept steps: the steps, which the value shows, and the cursor.
-pub fn exported(alloc: Global, at: u64, shown: Json) -> Result<Json, AllocError>
-    ensures reply { IfOk result (λ j. j ≡ exported_data at shown) }
-{
-    reply!(in alloc; {"at": at, "ok": true, "steps": shown})
 }
 
 /// Returns the reply to a query for one kept step, which the value shows.

@@ -1,8 +1,8 @@
 //! A step as the object of its command line, sent to a serializer.
 ghost use Rattle.std.specs.Prelude.{◌≡◌, Some, None, OnOk};
 ghost use Rattle.serde_json.specs.Events.{SendsValue};
-ghost use Rattle.rewind_forms.specs.Objects.{next_data, feed_object, take_object, notice_object, release_object, all_object, part_object, receive_object, object_of};
-ghost use Rattle.rewind_forms.specs.Sent.{SendsMember};
+ghost use Rattle.rewind_forms.specs.Objects.{next_data, feed_object, take_object, release_object, vertex_object, all_object, part_object, receive_object, object_of};
+ghost use Rattle.nd_state_json.specs.Sent.{SendsMember};
 
 use crate::sent::{integer_at, integers_at, name_at, natural_at, points_at, text_at, time_at};
 use nd_graph::Graph;
@@ -86,38 +86,20 @@ impl<'g> Steps<'g> {
         out.end_map()
     }
 
-    // Sends a notice that a vertex is given.
-    fn notice<S: Serializer>(
+    // Sends the object of a notice, or of a capability that is given up, by its word.
+    fn at_vertex<S: Serializer>(
         &self,
         out: &mut S,
+        word: &str,
         vertex: usize,
         time: &Timestamp,
     ) -> Result<(), S::Error>
         ensures { OnOk result (SendsValue
-            (notice_object self.now.graph.now self.now.p vertex time.now)
+            (vertex_object word.now self.now.graph.now self.now.p vertex time.now)
             (S.written out.old) (S.written out.new)) }
     {
         out.begin_map(Some(4))?;
-        text_at(out, "do", "notice")?;
-        natural_at(out, "p", u64::from(self.p))?;
-        time_at(out, "time", time)?;
-        name_at(out, "vertex", self.graph, vertex)?;
-        out.end_map()
-    }
-
-    // Sends a capability that is given up.
-    fn give_up<S: Serializer>(
-        &self,
-        out: &mut S,
-        vertex: usize,
-        time: &Timestamp,
-    ) -> Result<(), S::Error>
-        ensures { OnOk result (SendsValue
-            (release_object self.now.graph.now self.now.p vertex time.now None)
-            (S.written out.old) (S.written out.new)) }
-    {
-        out.begin_map(Some(4))?;
-        text_at(out, "do", "release")?;
+        text_at(out, "do", word)?;
         natural_at(out, "p", u64::from(self.p))?;
         time_at(out, "time", time)?;
         name_at(out, "vertex", self.graph, vertex)?;
@@ -157,7 +139,7 @@ impl<'g> Steps<'g> {
             (S.written out.old) (S.written out.new)) }
     {
         match &times.to {
-            None => self.give_up(out, vertex, &times.time),
+            None => self.at_vertex(out, "release", vertex, &times.time),
             Some(to) => self.move_on(out, vertex, &times.time, to),
         }
     }
@@ -221,7 +203,7 @@ pub(crate) fn send_step<S: Serializer>(
             time,
             value,
         } => Steps { graph, p: *p }.take(out, *edge, time, *value),
-        Step::Notice { p, vertex, time } => Steps { graph, p: *p }.notice(out, *vertex, time),
+        Step::Notice { p, vertex, time } => Steps { graph, p: *p }.at_vertex(out, "notice", *vertex, time),
         Step::Release { p, vertex, times } => {
             Steps { graph, p: *p }.release(out, *vertex, times.get())
         }

@@ -2,14 +2,15 @@
 ghost use Rattle.std.specs.Prelude.{◌≡◌, IfOk, OnOk, map};
 ghost use Rattle.serde_json.specs.Events.{SendsValue};
 ghost use Rattle.serde_json.specs.Written.{compact_text};
-ghost use Rattle.nd_state_json.specs.StateText.{entries_data, row};
+ghost use Rattle.nd_state_json.specs.Sent.{SendsMember};
+ghost use Rattle.nd_state_json.specs.StateText.{entries_data, row, state_data};
 ghost use Rattle.nd_timeline.specs.Timeline.{cluster_of};
 ghost use Rattle.rewind_forms.specs.Objects.{object_of};
-ghost use Rattle.rewind_forms.specs.Replies.{exported as exported_data, frontier as frontier_data, known as known_data};
-ghost use Rattle.rewind_forms.specs.Sent.{SendsMember};
+ghost use Rattle.rewind_forms.specs.Replies.{exported as exported_data, frontier as frontier_data, known as known_data, state as state_reply};
 
 use crate::sent::{boolean_at, entries_at, natural_at};
 use crate::sent_steps::send_step;
+use nd_cluster::Cluster;
 use nd_graph::Graph;
 use nd_paths::Pointstamp;
 use nd_timeline::Timeline;
@@ -149,6 +150,37 @@ pub fn frontier(
         ≡ compact_text (frontier_data (entries_data graph.now entries.now))) }
 {
     match serde_json::to_vec(alloc, &FrontierReply { graph, entries }) {
+        Ok(text) => Ok(text),
+        Err(_) => Err(AllocError),
+    }
+}
+
+// The reply that shows the state of a cluster.
+#[derive(Drop)]
+struct StateReply<'a> {
+    cluster: &'a Cluster,
+}
+
+impl<'a> Described for StateReply<'a> {
+    ghost writes = { λ k. SendsValue (state_reply (state_data k.cluster.now)) };
+}
+
+impl<'a> Serialize for StateReply<'a> {
+    fn serialize<S: Serializer>(&self, out: &mut S) -> Result<(), S::Error> {
+        out.begin_map(Some(2))?;
+        boolean_at(out, "ok", true)?;
+        out.key("state")?;
+        self.cluster.send_state(out)?;
+        out.end_map()
+    }
+}
+
+/// Returns the text of the reply that shows the state of a cluster.
+pub fn state(alloc: Global, cluster: &Cluster) -> Result<Vec<u8>, AllocError>
+    ensures text { IfOk result (λ t. t.items
+        ≡ compact_text (state_reply (state_data cluster.now))) }
+{
+    match serde_json::to_vec(alloc, &StateReply { cluster }) {
         Ok(text) => Ok(text),
         Err(_) => Err(AllocError),
     }

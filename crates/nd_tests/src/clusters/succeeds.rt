@@ -3,7 +3,7 @@
 
 use crate::clusters::memory::Heap;
 use crate::graphs::{EMPTY, LINE, LONG, point};
-use crate::scripts::{SUM_NOTIFIED, Told, make, reach, start, step_of};
+use crate::scripts::{SUM_NOTIFIED, Told, make, reach, start, state_text, step_of};
 use nd_cluster::{Cluster, Next, Step, Values};
 use nd_testing::{Refusing, unasked};
 use std::alloc::{Allocator, Global};
@@ -92,7 +92,7 @@ fn copies_have_their_own_memory(rt: HostRuntime) {
 /// Returns whether eight processors start on the empty graph, and are copied.
 fn starts_empty<A: Allocator + Copy>(json: Global, alloc: A) -> Option<bool> {
     let cluster = start(json, alloc, EMPTY, 8)?.copy(alloc).ok()?;
-    cluster.state_value(json).ok()?;
+    state_text(json, &cluster)?;
     Some(cluster.first_enabled(0).ok()?.is_none())
 }
 
@@ -117,7 +117,7 @@ fn fed<A: Allocator + Copy>(json: Global, alloc: A, count: i64) -> Option<usize>
     let entries = goes_and_comes_back(&mut cluster, &feed(alloc, count)?.copy(alloc).ok()?)?;
     let all = step_of(alloc, cluster.graph(), &Told::All(7))?;
     goes_and_comes_back(&mut cluster, &all)?;
-    cluster.state_value(json).ok()?;
+    state_text(json, &cluster)?;
     Some(entries)
 }
 

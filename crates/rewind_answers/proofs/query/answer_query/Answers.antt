@@ -1,4 +1,5 @@
 use Rattle.std.proofs.Common.{◌≡◌, refl}
+use Rattle.std.proofs.lemmas.Result.{IfOk-weaker}
 use Rattle.nd_state_json.specs.StateText.{state_data}
 use Rattle.nd_timeline.specs.Timeline.{cluster_of}
 use Rattle.rewind_forms.specs.Replies.{count, state}
@@ -13,16 +14,17 @@ pub returns-in-State : goal.returns-in-State
 returns-in-State g c = record {
   reply =
       let m = c.args.state.now.machine.timeline in
-      query_value (λ s v. v ≡ state (state_data s)) m c.cluster-cluster.result.now (cluster_of m) c.args.query.now State c.answer_state.result c.text_of.result
-      c.cluster-cluster.ensures.value c.in-State.is (λ v h. h) c.answer_state.ensures.reply c.text_of.ensures;
+      let shown = state (state_data c.cluster-cluster.result.now) in
+      query_text (λ s v. v ≡ state (state_data s)) m c.cluster-cluster.result.now (cluster_of m) c.args.query.now State c.state.result
+      c.cluster-cluster.ensures.value c.in-State.is (λ v h. h) (IfOk-weaker c.state.result _ _ (λ t h. (shown, refl, h)) c.state.ensures.text);
 }
 
 pub returns-in-Count : goal.returns-in-Count
 returns-in-Count g c = record {
   reply =
       let m = c.args.state.now.machine.timeline in
-      query_value (λ s v. v ≡ count (true_count s c.in-Count.point)) m c.cluster-cluster.result.now (cluster_of m) c.args.query.now (Count c.in-Count.point) c.answer_count.result c.text_of-in-Count.result
-      c.cluster-cluster.ensures.value c.in-Count.is (λ v h. h) c.answer_count.ensures.reply c.text_of-in-Count.ensures;
+      query_value (λ s v. v ≡ count (true_count s c.in-Count.point)) m c.cluster-cluster.result.now (cluster_of m) c.args.query.now (Count c.in-Count.point) c.answer_count.result c.text_of.result
+      c.cluster-cluster.ensures.value c.in-Count.is (λ v h. h) c.answer_count.ensures.reply c.text_of.ensures;
 }
 
 pub returns-in-Before : goal.returns-in-Before

@@ -5,7 +5,7 @@ use Rattle.nd_graph.specs.Graph.{Dataflow}
 use Rattle.nd_state_json.specs.StateText.{row}
 use Rattle.rewind_forms.specs.Objects.{object_of}
 use Rattle.rewind_forms.specs.Replies.{exported as exported_data}
-use Rattle.rewind_forms.proofs.SentLemmas.{no_float-exported}
+use Rattle.rewind_forms.proofs.NoFloats.{no_float-exported}
 use Rattle.rewind_forms.proofs.texts.exported.Goals as goal
 
 pub returns-in-Ok : goal.returns-in-Ok

@@ -1,7 +1,7 @@
 use Rattle.serde_json.proofs.FreeTexts.{text_of_value}
 use Rattle.nd_state_json.specs.StateText.{entries_data}
 use Rattle.rewind_forms.specs.Replies.{frontier as frontier_data}
-use Rattle.rewind_forms.proofs.SentLemmas.{no_float-frontier}
+use Rattle.rewind_forms.proofs.NoFloats.{no_float-frontier}
 use Rattle.rewind_forms.proofs.texts.frontier.Goals as goal
 
 pub returns-in-Ok : goal.returns-in-Ok

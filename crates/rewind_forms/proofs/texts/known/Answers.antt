@@ -1,7 +1,7 @@
 use Rattle.serde_json.proofs.FreeTexts.{text_of_value}
 use Rattle.nd_state_json.specs.StateText.{entries_data}
 use Rattle.rewind_forms.specs.Replies.{known as known_data}
-use Rattle.rewind_forms.proofs.SentLemmas.{no_float-known}
+use Rattle.rewind_forms.proofs.NoFloats.{no_float-known}
 use Rattle.rewind_forms.proofs.texts.known.Goals as goal
 
 pub returns-in-Ok : goal.returns-in-Ok

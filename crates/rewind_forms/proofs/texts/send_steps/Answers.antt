@@ -1,8 +1,8 @@
 use Rattle.std.proofs.Common.{◌≡◌, get_or, rules, arith, sym}
 use Rattle.std.proofs.lemmas.Option.{get_or_from_slice_get}
 use Rattle.std.proofs.lemmas.Result.{on_ok_weaker}
+use Rattle.nd_state_json.specs.SentLaws.{sent-more, sent-list}
 use Rattle.rewind_forms.specs.Objects.{object_of}
-use Rattle.rewind_forms.proofs.SentLemmas.{sent-more, sent-all}
 use Rattle.rewind_forms.proofs.texts.send_steps.Goals as goal
 
 pub loop-i-preserved : goal.loop-i-preserved
@@ -11,10 +11,10 @@ loop-i-preserved g c =
     let i = c.loop-i.i in
     let step = c.in-Some.step.now in
     let is : get_or steps i step ≡ step = get_or_from_slice_get steps i step step c.in-Some.ensures.some in
-    sent-more (object_of c.args.graph.now) steps i step _ _ _ (omega (arith, c.loop-i-test.true, c.kept-i-end.ensures)) (sym is) c.loop-i.invariant c.in_ok-send_step.ensures
+    sent-more (object_of c.args.graph.now) steps i step _ _ _ _ (omega (arith, c.loop-i-test.true, c.kept-i-end.ensures)) (sym is) c.loop-i.invariant c.in_ok-send_step.ensures
 
 pub returns : goal.returns
 returns g c =
     on_ok_weaker c.end_seq.result
-    (sent-all (object_of c.args.graph.now) (c.args.timeline.now).kept c.loop-i.i _ _ _ _ _ (omega (arith, c.loop-i-test.false, c.kept-i-end.ensures)) (search rules)
+    (sent-list (object_of c.args.graph.now) (c.args.timeline.now).kept c.loop-i.i _ _ _ _ _ (omega (arith, c.loop-i-test.false, c.kept-i-end.ensures)) (search rules)
     c.loop-i.invariant c.in_ok-begin_seq.ensures) c.end_seq.ensures

@@ -1,0 +1,9 @@
+use Rattle.std.proofs.Common.{rules}
+use Rattle.std.proofs.lemmas.Result.{on_ok_weaker}
+use Rattle.nd_state_json.specs.SentLaws.{sent-list}
+use Rattle.nd_state_json.proofs.sent.send_list.Goals as goal
+
+pub returns : goal.returns
+returns g c =
+    on_ok_weaker c.end_seq.result
+    (sent-list (g.K.Listed.listed c.args.graph.now) c.args.entries.now c.loop-entry.entry-index _ _ _ _ _ (search rules) (search rules) c.loop-entry.invariant c.in_ok-begin_seq.ensures) c.end_seq.ensures
