@@ -75,14 +75,14 @@ no_float-exported at g steps = rw (no_float-row (object_of g) steps (no_float-st
 
 -- ---- a state
 
+no_float-then : (g : Dataflow) (v : ℕ) (es : List (ItemKey × ℤ)) (others : List Data) → has_float (row others) ≡ false → has_float (row (map (item_data g v) es ++ others)) ≡ false
+no_float-then g v [] others h = h
+no_float-then g v (e ∷ es) others h = rw (no_float-time e.0.time, no_float-whole e.0.item, no_float-whole e.1) (no_float-then g v es others h)
+
 -- the items of vertices, the first of which has the number v
 no_float-items : (g : Dataflow) (v : ℕ) (items : List Items) → has_float (row (flat_map (λ i. map (item_data g i.0) (numbers i.1)) (enumerate_from v items))) ≡ false
 no_float-items g v [] = refl
-no_float-items g v (i ∷ items) = of_entries (numbers i)
-  where
-    of_entries : (es : List (ItemKey × ℤ)) → has_float (row (map (item_data g v) es ++ flat_map (λ j. map (item_data g j.0) (numbers j.1)) (enumerate_from (v + 1) items))) ≡ false
-    of_entries [] = no_float-items g (v + 1) items
-    of_entries (e ∷ es) = rw (no_float-time e.0.time, no_float-whole e.0.item, no_float-whole e.1) (of_entries es)
+no_float-items g v (i ∷ items) = no_float-then g v (numbers i) (flat_map (λ j. map (item_data g j.0) (numbers j.1)) (enumerate_from (v + 1) items)) (no_float-items g (v + 1) items)
 
 no_float-processor : (g : Dataflow) (q : ProcessorState) (view : DeltaValue) → has_float (processor_data g q view) ≡ false
 unfolding processor_data

@@ -203,7 +203,9 @@ pub(crate) fn send_step<S: Serializer>(
             time,
             value,
         } => Steps { graph, p: *p }.take(out, *edge, time, *value),
-        Step::Notice { p, vertex, time } => Steps { graph, p: *p }.at_vertex(out, "notice", *vertex, time),
+        Step::Notice { p, vertex, time } => Steps { graph, p: *p }.at_vertex(
+            out, "notice", *vertex, time,
+        ),
         Step::Release { p, vertex, times } => {
             Steps { graph, p: *p }.release(out, *vertex, times.get())
         }
