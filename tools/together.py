@@ -261,7 +261,10 @@ def reason(verdicts, told, function):
     paths = [it for it in paths if re.search(rf"(^|::){re.escape(function.names)}$", it.partition("::")[2])]
     if len(paths) != 1 or not re.match(r"not proved|no proof: expected answers", verdicts[paths[0]]):
         return None
-    answers = f"proofs/{paths[0].partition('::')[2].replace('::', '/')}/"
+    path = paths[0].partition("::")[2].replace("::", "/")
+    folder, slash, name = path.rpartition("/")
+    # (the answers of a function that calls itself stand in a folder with a sign before its name)
+    answers = f"proofs/{path}/", f"proofs/{folder}{slash}+{name}/"
     own = [it for it in told if is_in(it, function)]
     clauses = [it for it in own if "what the function ensures" in it]
     return next(iter([*clauses, *own, *(it for it in told if PLACE.match(it)[1].startswith(answers))]), None)
