@@ -1,71 +1,63 @@
 -- A graph is accepted exactly if each closed walk adds to a counter that it keeps; short walks are enough to decide it.
-use Rattle.std.proofs.Common.{◌≡◌, inl, inr, ℕ, zero, suc, ◌-◌, ◌*◌, ◌<◌, ◌≤◌, List, [], ◌∷◌, ◌++◌, length, take, drop, replicate, refl, sym, ◌∙◌, ap, subst, arith, length-append, length-drop, length-take}
+use Rattle.std.proofs.Common.{◌≡◌, inl, inr, ℕ, zero, suc, ◌-◌, ◌*◌, ◌<◌, ◌≤◌, List, [], ◌∷◌, ◌++◌, length, take, drop, replicate, refl, sym, ◌∙◌, ap, subst, arith, length-append, length-take}
 use Rattle.std.specs.Prelude.{slice_index}
 use Rattle.std.proofs.lemmas.Bool.{cases_lt}
-use Rattle.std.proofs.lemmas.List.{take-append-drop, length-replicate, drop_at}
+use Rattle.std.proofs.lemmas.List.{take-append-drop, length-replicate, take_at}
+use Rattle.nd_time.specs.Time.{IsSmallerAtFirstDifference}
 use Rattle.nd_graph.specs.declared.op.Action.{Action}
 use Rattle.nd_graph.specs.declared.op.Action.TheVariants.{Identity, Ingress, Egress, Feedback}
 use Rattle.nd_graph.specs.declared.graph.Arc.{Arc}
-use Rattle.nd_paths.specs.Inside.{Earlier}
-use Rattle.nd_paths.specs.Inside.{IsWalkAlong, effect_of, DepthsAgree, Accepted, Fails}
 use Rattle.nd_graph.specs.Graph.{LeadsTo}
 use Rattle.nd_paths.specs.declared.summary.Summary.{Summary}
-use Rattle.nd_paths.specs.Inside.{summary_of, identity, plus, apply, then_act, step, after, AtMost}
+use Rattle.nd_paths.specs.Order.{effect}
+use Rattle.nd_paths.specs.Summary.{raised, applied}
+use Rattle.nd_paths.specs.Walks.{IsWalkAlong, DepthsAgree, Accepted, Fails, summary_of, identity, then_act, step, after, AtMost}
 use Rattle.nd_paths.specs.Table.{Covers, CoversShort, HasWalks, ShowsFail}
-use Rattle.nd_paths.proofs.Orders.{Earlier-irrefl, Earlier-trans}
-use Rattle.nd_paths.proofs.Summaries.{IsFor, IsFor-step, plus-zero, Earlier-back, apply-Below, compared_summaries, AtMost-refl, AtMost-trans, AtMost-after, apply-after, step-keep, after-append}
-use Rattle.nd_paths.proofs.Walks.{IsFor-walk, IsFor-after, apply-walk, arc_leads, walks_joined}
+use Rattle.nd_paths.proofs.Orders.{smaller_irrefl, smaller_trans, smaller_front, length-acted}
+use Rattle.nd_paths.proofs.Raised.{raised-zero, raised_smaller, length-raised, length-applied}
+use Rattle.nd_paths.proofs.Summaries.{IsFor, IsFor-step, applied-Below, compared_summaries, AtMost-refl, AtMost-trans, AtMost-after, applied-after, step-keep, after-append}
+use Rattle.nd_paths.proofs.Walks.{IsFor-walk, IsFor-after, applied-walk, arc_leads, walks_joined}
 use Rattle.nd_paths.proofs.Tables.{Row, Covers-less}
 use Rattle.nd_paths.proofs.Cuts.{shorten, after-keep, walk_front, walk_back, end_of}
 
-pub length-plus : (a : ℕ) (l : List ℕ) → length (plus a l) ≡ length l
-length-plus a [] = refl
-length-plus a (x ∷ l) = refl
-
-pub length-apply : (d e : ℕ) (s : Summary) (c : List ℕ) → IsFor d e s → length c ≡ d → length (apply s c) ≡ e
-length-apply d e s c f h =
-    omega (arith, f.kept, f.depth, length-append s.constants (plus s.add (drop (length c - s.keep) c)), length-plus s.add (drop (length c - s.keep) c), length-drop (length c - s.keep) c)
-
-plus-rises : (a : ℕ) (l : List ℕ) → 0 < a → 0 < length l → Earlier l (plus a l)
-plus-rises a [] h k = absurd (omega arith)
-plus-rises a (x ∷ l) h k = inr (refl, omega arith)
+pub length-applied_for : (d e : ℕ) (s : Summary) (c : List ℕ) → IsFor d e s → length c ≡ d → length (applied s c) ≡ e
+length-applied_for d e s c f h = length-applied s c (omega (arith, f.kept)) ∙ f.depth
 
 top_keeps : (r a : ℕ) → (r ≡ 0 → a ≡ 0) → 0 < a → 0 < r
 top_keeps zero a h k = absurd (omega (arith, h refl))
 top_keeps (suc r) a h k = omega arith
 
 -- a summary that adds something makes each time later
-pub rises : (d : ℕ) (s : Summary) (c : List ℕ) → IsFor d d s → length c ≡ d → 0 < s.add → Earlier c (apply s c)
+pub rises : (d : ℕ) (s : Summary) (c : List ℕ) → IsFor d d s → length c ≡ d → 0 < s.add → IsSmallerAtFirstDifference c (applied s c)
 rises d s c f h k =
-    let n : ℕ = length c - s.keep in
+    let kept : List ℕ = take s.keep c in
     let keeps = top_keeps s.keep s.add f.top k in
-    let some : 0 < length (drop n c) = omega (arith, length-drop n c, f.kept) in
-    let size : length (take n c) ≡ length s.constants = omega (arith, length-take n c, f.depth, f.kept) in
-    subst (λ l. Earlier l (apply s c)) (take-append-drop n c) (Earlier-back (take n c) s.constants (drop n c) (plus s.add (drop n c)) size (plus-rises s.add (drop n c) k some))
+    let some : 0 < length kept = omega (arith, length-take s.keep c, f.kept) in
+    let more = subst (λ l. IsSmallerAtFirstDifference l (raised s.add kept)) (raised-zero kept) (raised_smaller 0 s.add kept some k) in
+    subst (λ l. IsSmallerAtFirstDifference l (applied s c)) (take-append-drop s.keep c) (smaller_front kept (raised s.add kept) (drop s.keep c) s.constants more)
 
 -- a summary that adds nothing leaves some time as it is
-pub stays : (d : ℕ) (s : Summary) → IsFor d d s → s.add ≡ 0 → (c : List ℕ) × (length c ≡ d) × (apply s c ≡ c)
+pub stays : (d : ℕ) (s : Summary) → IsFor d d s → s.add ≡ 0 → (c : List ℕ) × (length c ≡ d) × (applied s c ≡ c)
 stays d s f z =
     let o : List ℕ = replicate d 0 in
     let size : length o ≡ d = length-replicate d 0 in
-    let rest : List ℕ = plus s.add (drop (length o - s.keep) o) in
-    let c : List ℕ = apply s o in
-    let long : length c ≡ d = length-apply d d s o f size in
-    let n : length s.constants ≡ length c - s.keep = omega (arith, f.depth, f.kept) in
-    let below : drop (length c - s.keep) c ≡ rest = drop_at s.constants rest (length c - s.keep) n in
-    (c, long, ap (λ l. s.constants ++ plus s.add l) below ∙ ap (λ a. s.constants ++ plus a rest) z ∙ ap (λ l. s.constants ++ l) (plus-zero rest))
+    let kept : List ℕ = raised s.add (take s.keep o) in
+    let whole : length kept ≡ s.keep = omega (arith, length-raised s.add (take s.keep o), length-take s.keep o, f.kept, size) in
+    let front : take s.keep (applied s o) ≡ kept = take_at kept s.constants s.keep whole in
+    let same : raised s.add kept ≡ kept = ap (λ a. raised a kept) z ∙ raised-zero kept in
+    (applied s o, length-applied_for d d s o f size, ap (λ l. raised s.add l ++ s.constants) front ∙ ap (λ l. l ++ s.constants) same)
 
 -- a closed walk that adds nothing fails
 pub fails_from_walk : (depths : List ℕ) (arcs : List Arc) (l : ℕ) (x : Arc) (w : List Arc) → DepthsAgree depths arcs → IsWalkAlong arcs l l (x ∷ w) → (summary_of depths l (x ∷ w)).add ≡ 0 → Fails depths arcs l
 fails_from_walk depths arcs l x w g h z =
     let s : Summary = summary_of depths l (x ∷ w) in
     let (c, size, same) = stays (slice_index depths l) s (IsFor-walk depths arcs (x ∷ w) l l g h) z in
-    let does : effect_of (x ∷ w) c ≡ c = sym (apply-walk depths (x ∷ w) l c size) ∙ same in
-    (x, w, c, h, size, λ e. Earlier-irrefl c (subst (λ d. Earlier c d) does e))
+    let does : effect (x ∷ w) c ≡ c = sym (applied-walk depths (x ∷ w) l c size) ∙ same in
+    (x, w, c, h, size, λ e. smaller_irrefl c (subst (λ d. IsSmallerAtFirstDifference c d) does e))
 
-closed_rises : (depths : List ℕ) (arcs w : List Arc) (l : ℕ) (c : List ℕ) → DepthsAgree depths arcs → IsWalkAlong arcs l l w → length c ≡ slice_index depths l → 0 < (summary_of depths l w).add → Earlier c (effect_of w c)
+closed_rises : (depths : List ℕ) (arcs w : List Arc) (l : ℕ) (c : List ℕ) → DepthsAgree depths arcs → IsWalkAlong arcs l l w → length c ≡ slice_index depths l → 0 < (summary_of depths l w).add → IsSmallerAtFirstDifference c (effect w c)
 closed_rises depths arcs w l c g h size k =
-    subst (λ d. Earlier c d) (apply-walk depths w l c size) (rises (slice_index depths l) (summary_of depths l w) c (IsFor-walk depths arcs w l l g h) size k)
+    subst (λ d. IsSmallerAtFirstDifference c d) (applied-walk depths w l c size) (rises (slice_index depths l) (summary_of depths l w) c (IsFor-walk depths arcs w l l g h) size k)
 
 -- a location that fails has a closed walk that adds nothing
 pub walk_from_fails : (depths : List ℕ) (arcs : List Arc) (l : ℕ) → DepthsAgree depths arcs → Fails depths arcs l → (x : Arc) × (w : List Arc) × IsWalkAlong arcs l l (x ∷ w) × ((summary_of depths l (x ∷ w)).add ≡ 0)
@@ -96,15 +88,15 @@ AddsLess-trans s t u h k = record { keep = h.keep ∙ k.keep; size = h.size ∙ 
 
 adds_parts : (x : Action) (r a b : ℕ) (k l : List ℕ) → length k ≡ length l → a ≤ b → AddsLess (then_act x r a k) (then_act x r b l)
 adds_parts Identity r a b k l e h = record { keep = refl; size = e; add = h }
-adds_parts Ingress r a b k l e h = record { keep = refl; size = omega arith; add = h }
+adds_parts Ingress r a b k l e h = record { keep = refl; size = length-acted Ingress k l e; add = h }
 adds_parts Egress r a b [] [] e h = record { keep = refl; size = refl; add = omega arith }
 adds_parts Egress r a b [] (y ∷ l) e h = absurd (omega arith)
 adds_parts Egress r a b (x ∷ k) [] e h = absurd (omega arith)
-adds_parts Egress r a b (x ∷ k) (y ∷ l) e h = record { keep = refl; size = omega arith; add = h }
+adds_parts Egress r a b (x ∷ k) (y ∷ l) e h = record { keep = refl; size = length-acted Egress (x ∷ k) (y ∷ l) e; add = h }
 adds_parts Feedback r a b [] [] e h = record { keep = refl; size = refl; add = omega arith }
 adds_parts Feedback r a b [] (y ∷ l) e h = absurd (omega arith)
 adds_parts Feedback r a b (x ∷ k) [] e h = absurd (omega arith)
-adds_parts Feedback r a b (x ∷ k) (y ∷ l) e h = record { keep = refl; size = omega arith; add = h }
+adds_parts Feedback r a b (x ∷ k) (y ∷ l) e h = record { keep = refl; size = length-acted Feedback (x ∷ k) (y ∷ l) e; add = h }
 
 pub AddsLess-step : (x : Action) (s t : Summary) → AddsLess s t → AddsLess (step x s) (step x t)
 AddsLess-step x s t h =
@@ -144,7 +136,7 @@ round_adds depths arcs d g a s q f h more e =
     let f' = IsFor-after depths arcs q d a a s g h f in
     record { keep = e; size = omega (arith, f.depth, f'.depth); add = add_grows depths arcs q d a a s g h f (omega arith) }
 
-accepted_walk : (depths : List ℕ) (arcs q : List Arc) (a : ℕ) (c : List ℕ) → Accepted depths arcs → IsWalkAlong arcs a a q → 0 < length q → length c ≡ slice_index depths a → Earlier c (effect_of q c)
+accepted_walk : (depths : List ℕ) (arcs q : List Arc) (a : ℕ) (c : List ℕ) → Accepted depths arcs → IsWalkAlong arcs a a q → 0 < length q → length c ≡ slice_index depths a → IsSmallerAtFirstDifference c (effect q c)
 accepted_walk depths arcs [] a c ok h more size = absurd (omega arith)
 accepted_walk depths arcs (x ∷ w) a c ok h more size = ok a x w c h size
 
@@ -157,11 +149,11 @@ round_worse depths arcs d g ok a s q f h more e =
     elim (compared_summaries s (after q s) e (omega (arith, f.depth, f'.depth))) [
       | inl m ↦ m
       | inr b ↦
-          let less = apply-Below (after q s) s d (slice_index depths a) o f size b in
-          let does : apply (after q s) o ≡ effect_of q (apply s o) = apply-after q s o (omega (arith, f.kept, size)) in
-          let back : Earlier (effect_of q (apply s o)) (apply s o) = subst (λ c. Earlier c (apply s o)) does less in
-          let on = accepted_walk depths arcs q a (apply s o) ok h more (length-apply d (slice_index depths a) s o f size) in
-          absurd (Earlier-irrefl (apply s o) (Earlier-trans (apply s o) (effect_of q (apply s o)) (apply s o) on back))
+          let less = applied-Below (after q s) s d (slice_index depths a) o f size b in
+          let does : applied (after q s) o ≡ effect q (applied s o) = applied-after q s o (omega (arith, f.kept, size)) in
+          let back : IsSmallerAtFirstDifference (effect q (applied s o)) (applied s o) = subst (λ c. IsSmallerAtFirstDifference c (applied s o)) does less in
+          let on = accepted_walk depths arcs q a (applied s o) ok h more (length-applied_for d (slice_index depths a) s o f size) in
+          absurd (smaller_irrefl (applied s o) (smaller_trans (applied s o) (effect q (applied s o)) (applied s o) on back))
     ]
 
 -- in an accepted graph a row that covers the short walks covers all walks

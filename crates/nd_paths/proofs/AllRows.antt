@@ -7,14 +7,14 @@ use Rattle.std.proofs.lemmas.List.{get_or_append_left, get_or_push, length_push}
 use Rattle.std.proofs.lemmas.List.Elements.{All-contains}
 use Rattle.nd_graph.specs.declared.graph.Arc.{Arc}
 use Rattle.nd_paths.specs.declared.summary.Summary.{Summary}
-use Rattle.nd_paths.specs.Inside.{keeps, DepthsAgree, Accepted, Fails}
+use Rattle.nd_paths.specs.Walks.{keeps, DepthsAgree, Accepted, Fails}
 use Rattle.nd_graph.specs.Graph.{ArcAgrees}
-use Rattle.nd_paths.specs.Table.{entry, HasWalks, CoversShort, ShowsFail, AreLeast}
+use Rattle.nd_paths.specs.Table.{held, HasWalks, CoversShort, ShowsFail, AreLeast}
 use Rattle.nd_paths.proofs.Acceptance.{accepted_from_none, covers_all, fails_shown, shown_fails}
 
 -- the row covers short walks
 abbrev pub IsShort : List ℕ → List Arc → ℕ → List (Option Summary) → Type 0
-IsShort depths arcs a row = (length row ≡ length depths * keeps) × HasWalks depths arcs a (entry row) × CoversShort depths arcs a (entry row) (keeps * length depths)
+IsShort depths arcs a row = (length row ≡ length depths * keeps) × HasWalks depths arcs a (held row) × CoversShort depths arcs a (held row) (keeps * length depths)
 
 -- what is known while the rows are computed: the rows so far, and that none of their locations fails
 pub record Made {Z : Type 0} (depths : List ℕ) (arcs : List Arc) (rows : List (Vec (Option Summary) Z)) (n : ℕ) : Type 0 where
@@ -58,13 +58,13 @@ made_least depths arcs rows n g deep all h = (
         s.0,
         record {
           walks = s.1;
-          covers = covers_all depths arcs keeps a (entry (get_or rows a d).items) g (made_accepted depths arcs rows n g (omega arith) h) (omega arith) s.2;
+          covers = covers_all depths arcs keeps a (held (get_or rows a d).items) g (made_accepted depths arcs rows n g (omega arith) h) (omega arith) s.2;
         },
       ),
 )
 
-pub shown : (depths : List ℕ) (arcs : List Arc) (a : ℕ) (row : List (Option Summary)) → DepthsAgree depths arcs → IsShort depths arcs a row → ShowsFail arcs a (entry row) → Fails depths arcs a
-shown depths arcs a row g h s = shown_fails depths arcs a (entry row) g h.1 s
+pub shown : (depths : List ℕ) (arcs : List Arc) (a : ℕ) (row : List (Option Summary)) → DepthsAgree depths arcs → IsShort depths arcs a row → ShowsFail arcs a (held row) → Fails depths arcs a
+shown depths arcs a row g h s = shown_fails depths arcs a (held row) g h.1 s
 
-pub not_shown : (depths : List ℕ) (arcs : List Arc) (a : ℕ) (row : List (Option Summary)) → DepthsAgree depths arcs → slice_index depths a ≤ max_depth → IsShort depths arcs a row → (ShowsFail arcs a (entry row) → ⊥) → Fails depths arcs a → ⊥
-not_shown depths arcs a row g low h n f = n (fails_shown depths arcs keeps a (entry row) g (omega arith) h.2 f)
+pub not_shown : (depths : List ℕ) (arcs : List Arc) (a : ℕ) (row : List (Option Summary)) → DepthsAgree depths arcs → slice_index depths a ≤ max_depth → IsShort depths arcs a row → (ShowsFail arcs a (held row) → ⊥) → Fails depths arcs a → ⊥
+not_shown depths arcs a row g low h n f = n (fails_shown depths arcs keeps a (held row) g (omega arith) h.2 f)

@@ -1,9 +1,7 @@
 -- The times into which the summaries held for a location turn a time are those of the least walks.
-use Rattle.std.proofs.Common.{◌≡◌, ℕ, ◌+◌, ◌*◌, ◌<◌, ◌≤◌, Option, Some, None, List, [], ◌∷◌, ◌++◌, length, reverse, length-append, get_or, zero, suc, refl, sym, ◌∙◌, ap, subst, arith, inl, inr}
+use Rattle.std.proofs.Common.{◌≡◌, ℕ, ◌+◌, ◌*◌, ◌<◌, ◌≤◌, Option, Some, None, List, [], ◌∷◌, ◌++◌, length, length-append, get_or, zero, suc, refl, sym, ◌∙◌, ap, subst, arith, inl, inr}
 use Rattle.std.specs.Prelude.{All, Contains, Vec, slice_index}
-use Rattle.std.specs.Option.{option_map}
-use Rattle.std.proofs.lemmas.Bool.{cases_lt, cond_above}
-use Rattle.std.proofs.lemmas.List.{length-reverse}
+use Rattle.std.proofs.lemmas.Bool.{cases_lt}
 use Rattle.std.proofs.lemmas.List.Elements.{Contains-append_left, Contains-append_right, All-append}
 use Rattle.nd_time.specs.Time.{Time}
 use Rattle.nd_graph.specs.declared.graph.Arc.{Arc}
@@ -12,14 +10,14 @@ use Rattle.nd_paths.specs.declared.point.Pointstamp.{Pointstamp}
 use Rattle.nd_paths.specs.declared.summary.Summary.{Summary}
 use Rattle.nd_paths.specs.Order.{Fits, CouldResultIn, effect}
 use Rattle.nd_paths.specs.Summary.{applied}
-use Rattle.nd_paths.specs.Inside.{keeps, DepthsAgree, IsWalkAlong, inner}
-use Rattle.nd_paths.specs.Table.{held, entry, IsLeast, IsTable}
+use Rattle.nd_paths.specs.Walks.{keeps, DepthsAgree, IsWalkAlong}
+use Rattle.nd_paths.specs.Table.{held, IsLeast, IsTable}
 use Rattle.nd_paths.specs.Arrival.{TurnsInto, HasAtOrBefore, turned, HoldsFew, HoldsTurning, AreTurned}
 use Rattle.nd_paths.proofs.Decisions.{held_fit, leads_from_could}
-use Rattle.nd_paths.proofs.Graphs.{fits_size, depth_within, has_depth, length-effect}
-use Rattle.nd_paths.proofs.Reversed.{reverse-effect, walk_along, along_walk}
-use Rattle.nd_paths.proofs.Stored.{length-applied}
-use Rattle.nd_paths.proofs.Unique.{summary_outside}
+use Rattle.nd_paths.proofs.Graphs.{fits_size, depth_within, has_depth, length-effect, walk_along, along_walk}
+use Rattle.nd_paths.proofs.Raised.{length-applied}
+use Rattle.nd_paths.proofs.RowLemmas.{held_past}
+use Rattle.nd_paths.proofs.Unique.{is_summary}
 
 module _ (row : List (Option Summary)) (b : ℕ) (t : Time) where
   -- the times from the summaries of the first keeps
@@ -65,7 +63,7 @@ module _ (row : List (Option Summary)) (b : ℕ) (t : Time) where
 
   -- nothing is held for other keeps
   held_few : (r : ℕ) (s : Summary) → held row b r ≡ Some s → r < keeps
-  held_few r s e = elim (cases_lt r keeps) [ inl less ↦ less | inr more ↦ (let none : None ≡ held row b r = cond_above r keeps (get_or row (b * keeps + r) None) None None more refl in absurd (cc (none, e))) ]
+  held_few r s e = elim (cases_lt r keeps) [ inl less ↦ less | inr more ↦ (let none = held_past row b r more in absurd (cc (none, e))) ]
 
   pub turned_done : (n : ℕ) (times : List Time) → keeps ≤ n → AreTurnedUpTo n times → AreTurned row b t times
   turned_done n times past h = record {
@@ -75,18 +73,18 @@ module _ (row : List (Option Summary)) (b : ℕ) (t : Time) where
 
 module _ {Z : Type 0} (g : Dataflow) (rows : List (Vec (Option Summary) Z)) (table : IsTable g rows) where
   -- each held summary leaves at most max_depth counters
-  pub holds_few : (s : Pointstamp) (b : ℕ) (row : List (Option Summary)) → Fits g s → b < length (depths g) → IsLeast (depths g) (arcs g) s.location (entry row) → HoldsFew row b (length s.time.counters)
+  pub holds_few : (s : Pointstamp) (b : ℕ) (row : List (Option Summary)) → Fits g s → b < length (depths g) → IsLeast (depths g) (arcs g) s.location (held row) → HoldsFew row b (length s.time.counters)
   holds_few s b row fits inside least r u e =
       let fit = held_fit g rows table s.location b row least r u e in
       (omega (arith, fit.0, (fits_size g s fits).1), omega (arith, fit.1, table.deep b 0 inside))
 
   -- each of the times comes from a walk
-  pub each_turned : (s : Pointstamp) (b : ℕ) (row : List (Option Summary)) (times : List Time) → Fits g s → IsLeast (depths g) (arcs g) s.location (entry row) → AreTurned row b s.time times → All (TurnsInto g s b) times
+  pub each_turned : (s : Pointstamp) (b : ℕ) (row : List (Option Summary)) (times : List Time) → Fits g s → IsLeast (depths g) (arcs g) s.location (held row) → AreTurned row b s.time times → All (TurnsInto g s b) times
   each_turned s b row times fits least turned k d lt =
       let (r, u, e, is) = turned.each k d lt in
-      let (w, walk, same, _) = least.walks b r (inner u) (ap (option_map inner) e) in
+      let (w, walk, same, _) = least.walks b r u e in
       let size = fits_size g s fits in
-      let of = summary_outside g table.agree w s.location b u size.0 walk same in
+      let of = is_summary g table.agree w s.location b u size.0 walk same in
       record {
         fits = fits;
         walk = w;
@@ -95,7 +93,7 @@ module _ {Z : Type 0} (g : Dataflow) (rows : List (Vec (Option Summary) Z)) (tab
       }
 
   -- each time that the pointstamp could result in has one of the times at or before it
-  pub least_turned : (s t : Pointstamp) (row : List (Option Summary)) (times : List Time) → IsLeast (depths g) (arcs g) s.location (entry row) → AreTurned row t.location s.time times → CouldResultIn g s t → HasAtOrBefore times t.time
+  pub least_turned : (s t : Pointstamp) (row : List (Option Summary)) (times : List Time) → IsLeast (depths g) (arcs g) s.location (held row) → AreTurned row t.location s.time times → CouldResultIn g s t → HasAtOrBefore times t.time
   least_turned s t row times least turned could =
       let (r, u, e, less) = leads_from_could g rows table s t row least could in
       let fit = held_fit g rows table s.location t.location row least r u e in
@@ -117,7 +115,7 @@ turned_on g agree s x t h =
     let c : List ℕ = s.time.counters in
     let along = walk_along g h.walk s.location x h.leads in
     let inside : x < length (depths g) = ends_inside (depths g) (arcs g) agree h.walk s.location x (fits_size g s h.fits).0 along in
-    let size : length (effect h.walk c) ≡ slice_index (depths g) x = sym (length-reverse (effect h.walk c)) ∙ ap length (reverse-effect h.walk c) ∙ length-effect g h.walk s.location x (reverse c) agree along (length-reverse c ∙ (fits_size g s h.fits).1) in
+    let size : length (effect h.walk c) ≡ slice_index (depths g) x = length-effect g h.walk s.location x c agree along (fits_size g s h.fits).1 in
     let same : length t.counters ≡ length (effect h.walk c) = ap (λ (u : Time). length u.counters) h.time in
     record {
       fits_s = h.fits;

@@ -9,10 +9,10 @@ use Rattle.std.proofs.lemmas.Map.Keys.{IsDistinct-cons}
 use Rattle.std.proofs.lemmas.Map.Steps.{length-le_from_distinct_below}
 use Rattle.std.proofs.lemmas.Nat.{same_from_place, mul-add-lt}
 use Rattle.nd_graph.specs.declared.graph.Arc.{Arc}
-use Rattle.nd_paths.specs.Inside.{IsWalkAlong, DepthsAgree}
+use Rattle.nd_paths.specs.Walks.{IsWalkAlong, DepthsAgree}
 use Rattle.nd_graph.specs.Graph.{ArcAgrees}
 use Rattle.nd_paths.specs.declared.summary.Summary.{Summary}
-use Rattle.nd_paths.specs.Inside.{step, after}
+use Rattle.nd_paths.specs.Walks.{step, after}
 use Rattle.nd_paths.proofs.Summaries.{IsFor, step-keep, after-append}
 use Rattle.nd_paths.proofs.Walks.{walks_joined, IsFor-after}
 

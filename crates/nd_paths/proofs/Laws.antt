@@ -1,22 +1,5 @@
--- On an accepted graph the order of points is a partial order, and finitely many points have a minimal one.
+-- Of finitely many elements of a decidable order one is minimal.
 use Rattle.std.proofs.Common.{◌≡◌, ◌⊎◌, inl, inr, ℕ, List, [], ◌∷◌, ◌++◌, refl, sym, subst}
-use Rattle.nd_graph.specs.declared.graph.Arc.{Arc}
-use Rattle.nd_paths.specs.Inside.{AtOrBefore}
-use Rattle.nd_paths.specs.Inside.{IsWalkAlong, effect_of}
-use Rattle.nd_paths.proofs.Orders.{AtOrBefore-trans, effect_mono, effect-append}
-
--- two walks, one after the other
-pub joined : (w v : List Arc) (a b c : List ℕ) → AtOrBefore (effect_of w a) b → AtOrBefore (effect_of v b) c → AtOrBefore (effect_of (w ++ v) a) c
-joined w v a b c h k =
-    subst (λ d. AtOrBefore d c) (sym (effect-append w v a)) (AtOrBefore-trans (effect_of v (effect_of w a)) (effect_of v b) c (effect_mono v (effect_of w a) b h) k)
-
-pub both_empty : (w v : List Arc) → w ++ v ≡ [] → (w ≡ []) × (v ≡ [])
-both_empty [] v h = (refl, h)
-both_empty (x ∷ w) v h = absurd (cc)
-
-pub empty_walk : (arcs w : List Arc) (k l : ℕ) (c d : List ℕ) → w ≡ [] → IsWalkAlong arcs k l w → AtOrBefore (effect_of w c) d → (k ≡ l) × AtOrBefore c d
-empty_walk arcs w k l c d e walk less =
-    (subst (λ v. IsWalkAlong arcs k l v) e walk, subst (λ v. AtOrBefore (effect_of v c) d) e less)
 
 -- one of the list's elements
 abbrev pub In : {A : Type 0} → List A → A → Type 0

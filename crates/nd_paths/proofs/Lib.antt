@@ -8,7 +8,7 @@ pub mod Acceptance
 pub mod RowLemmas
 pub mod Sweeps
 pub mod AllRows
-pub mod Reversed
+pub mod Raised
 pub mod Stored
 pub mod ClosedWalks
 pub mod Graphs

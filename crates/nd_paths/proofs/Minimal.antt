@@ -1,8 +1,7 @@
 -- The order by walks can be decided, so finitely many points have a minimal one.
-use Rattle.std.proofs.Common.{◌≡◌, ◌⊎◌, inl, inr, ℕ, zero, suc, ◌+◌, ◌*◌, ◌<◌, ◌≤◌, Option, Some, None, List, [], ◌∷◌, length, reverse, get_or, refl, sym, ◌∙◌, subst, arith}
+use Rattle.std.proofs.Common.{◌≡◌, ◌⊎◌, inl, inr, ℕ, zero, suc, ◌+◌, ◌*◌, ◌<◌, ◌≤◌, Option, Some, None, List, [], ◌∷◌, length, get_or, refl, sym, ◌∙◌, subst, arith}
 use Rattle.std.specs.Prelude.{Contains, slice_index, slice_index_or, Vec}
-use Rattle.std.proofs.lemmas.Bool.{cases_lt, cases_eq, cond_above}
-use Rattle.std.proofs.lemmas.List.{length-reverse}
+use Rattle.std.proofs.lemmas.Bool.{cases_lt, cases_eq}
 use Rattle.nd_time.specs.Time.{IsLexicallyAtMost}
 use Rattle.nd_graph.specs.Graph.{Dataflow, depths}
 use Rattle.nd_paths.specs.declared.point.Pointstamp.{Pointstamp}
@@ -10,12 +9,12 @@ use Rattle.nd_paths.specs.declared.summary.Summary.{Summary}
 use Rattle.nd_paths.specs.Order.{Fits, CouldResultIn, IsStrictlyBefore}
 use Rattle.nd_paths.specs.Laws.{IsMinimalAmong}
 use Rattle.nd_paths.specs.Summary.{applied}
-use Rattle.nd_paths.specs.Inside.{keeps}
+use Rattle.nd_paths.specs.Walks.{keeps}
 use Rattle.nd_paths.specs.Table.{held, SomeLeads, HeldFit, IsTable}
-use Rattle.nd_paths.proofs.Orders.{Earlier-irrefl, then_at, compared}
+use Rattle.nd_paths.proofs.Orders.{smaller_irrefl, then_at, compared}
 use Rattle.nd_paths.proofs.Laws.{In, minimal}
-use Rattle.nd_paths.proofs.Reversed.{lexical_from_before, before_from_lexical}
-use Rattle.nd_paths.proofs.Stored.{length-applied}
+use Rattle.nd_paths.proofs.Raised.{length-applied}
+use Rattle.nd_paths.proofs.RowLemmas.{held_past}
 use Rattle.nd_paths.proofs.Graphs.{fits_size, has_depth}
 use Rattle.nd_paths.proofs.Decisions.{held_fit_points, could_from_leads, leads_from_could}
 use Rattle.nd_paths.proofs.TableLemmas.{accepted_inside}
@@ -26,10 +25,7 @@ Decided P = P ⊎ (P → ⊥)
 
 dec_lexical : (a b : List ℕ) → length a ≡ length b → Decided (IsLexicallyAtMost a b)
 dec_lexical a b e =
-    elim (compared (reverse a) (reverse b) (length-reverse a ∙ e ∙ sym (length-reverse b))) [
-      | inl p ↦ inl (lexical_from_before a b e p)
-      | inr p ↦ inr (λ k. Earlier-irrefl (reverse b) (then_at (reverse b) (reverse a) (reverse b) p (before_from_lexical a b e k)))
-    ]
+    elim (compared a b e) [ inl p ↦ inl p | inr p ↦ inr (λ k. smaller_irrefl b (then_at b a b p k)) ]
 
 some_below : (P : ℕ → Type 0) → ((r : ℕ) → Decided (P r)) → (n : ℕ) → ((r : ℕ) × P r) ⊎ ((r : ℕ) → r < n → P r → ⊥)
 some_below P dec zero = inr (λ r h. absurd (omega arith))
@@ -55,9 +51,6 @@ dec_held row b c d r (Some u) e fit =
       | inl p ↦ inl (u, e, p)
       | inr none ↦ inr (λ k. let q : Some u ≡ Some k.0 = sym e ∙ k.1 in let same : k.0 ≡ u = cc in none (subst (λ v. IsLexicallyAtMost (applied v c) d) same k.2))
     ]
-
-held_past : (row : List (Option Summary)) (b r : ℕ) → keeps ≤ r → held row b r ≡ None
-held_past row b r h = sym (cond_above r keeps (get_or row (b * keeps + r) None) None None h refl)
 
 dec_leads : (row : List (Option Summary)) (b : ℕ) (c d : List ℕ) → HeldFit row b (length c) (length d) → Decided (SomeLeads row b c d)
 unfolding Leads

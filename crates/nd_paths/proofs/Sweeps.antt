@@ -4,48 +4,66 @@ use Rattle.std.specs.Bool.{OnFalse}
 use Rattle.std.specs.Prelude.{All, Contains, slice_index}
 use Rattle.std.proofs.lemmas.Bool.{cases_lt, cases_eq}
 use Rattle.std.proofs.lemmas.List.{length-set, length-replicate, get_or-replicate, get_or_past}
-use Rattle.std.proofs.lemmas.List.Elements.{All-contains, All-cons, All-head, All-tail, All-nil, All-weaker}
+use Rattle.std.proofs.lemmas.List.Elements.{All-contains, All-cons, All-head, All-tail, All-nil, All-weaker, All-append}
 use Rattle.std.proofs.lemmas.Nat.{mul-add-lt, mul-lt}
 use Rattle.nd_graph.specs.declared.op.Action.{Action}
 use Rattle.nd_graph.specs.declared.op.Action.TheVariants.{Identity, Ingress, Egress, Feedback}
 use Rattle.nd_graph.specs.declared.graph.Arc.{Arc}
 use Rattle.nd_paths.specs.declared.summary.Summary.{Summary}
-use Rattle.nd_paths.specs.Inside.{IsWalkAlong, DepthsAgree, keeps, inner, summary_of, identity, then_act, step, after, grows, IsWithin}
+use Rattle.nd_paths.specs.Walks.{IsWalkAlong, DepthsAgree, keeps, summary_of, identity, then_act, step, after, grows, IsWithin}
+use Rattle.nd_time.specs.Time.{egress_of, feedback_of}
 use Rattle.nd_graph.specs.Graph.{LeadsTo, ArcAgrees}
-use Rattle.std.specs.Option.{option_map}
 use Rattle.nd_time.specs.Limits.{max_depth, max_locations, max_counter}
-use Rattle.nd_paths.specs.Table.{entry, Covers, CanRelax, Relaxed, Quiet, CoversShort}
+use Rattle.nd_paths.specs.Table.{held, Covers, CanRelax, Relaxed, Quiet, CoversShort}
 use Rattle.nd_paths.proofs.Summaries.{IsFor, IsFor-step, after-append, AtMost-step, AtMost-refl}
 use Rattle.nd_paths.proofs.Walks.{IsFor-walk, walks_joined, arc_leads}
 use Rattle.nd_paths.proofs.Tables.{Covers-less, covered}
 use Rattle.nd_paths.proofs.Cuts.{end_of, walk_front, walk_back}
 use Rattle.nd_paths.proofs.Acceptance.{last_arc}
-use Rattle.nd_paths.proofs.RowLemmas.{entry_within, entry_past, entry-set_same, entry-set_other, at_place, Relaxed-keeps, Relaxed-covers, Relaxed-from, Relaxed-length}
+use Rattle.nd_paths.proofs.RowLemmas.{held_within, held_past, held-set_same, held-set_other, at_place, Relaxed-keeps, Relaxed-covers, Relaxed-from, Relaxed-length}
 
 -- the entries are those of walks from a, with numbers of at most m, and each walk of at most n arcs is covered
 pub record Swept (depths : List ℕ) (arcs : List Arc) (a : ℕ) (row : List (Option Summary)) (n m : ℕ) : Type 0 where
   pub long : length row ≡ length depths * keeps
-  pub walks : (b r : ℕ) (s : Summary) → entry row b r ≡ Some s → (w : List Arc) × IsWalkAlong arcs a b w × (s ≡ summary_of depths a w) × (s.keep ≡ r)
-  pub within : (b r : ℕ) (s : Summary) → entry row b r ≡ Some s → IsWithin m s
-  pub covers : CoversShort depths arcs a (entry row) n
+  pub walks : (b r : ℕ) (s : Summary) → held row b r ≡ Some s → (w : List Arc) × IsWalkAlong arcs a b w × (s ≡ summary_of depths a w) × (s.keep ≡ r)
+  pub within : (b r : ℕ) (s : Summary) → held row b r ≡ Some s → IsWithin m s
+  pub covers : CoversShort depths arcs a (held row) n
 
 -- each walk of at most n arcs to x's start, with a keep below k, is covered after x too
 abbrev pub Followed : List ℕ → List Arc → ℕ → List (Option Summary) → ℕ → ℕ → Arc → Type 0
 Followed depths arcs a row n k x =
-    (w : List Arc) → length w ≤ n → IsWalkAlong arcs a x.from w → (summary_of depths a w).keep < k → Covers (entry row) x.to (step x.action (summary_of depths a w))
+    (w : List Arc) → length w ≤ n → IsWalkAlong arcs a x.from w → (summary_of depths a w).keep < k → Covers (held row) x.to (step x.action (summary_of depths a w))
+
+within_egress : (m : ℕ) (k : List ℕ) → All (λ y. y ≤ m) k → All (λ y. y ≤ m) (egress_of k)
+within_egress m [] h = h
+within_egress m (x ∷ []) h = All-nil (λ y. y ≤ m)
+within_egress m (x ∷ z ∷ k) h =
+    All-cons (λ y. y ≤ m) x (egress_of (z ∷ k)) (All-head (λ y. y ≤ m) x (z ∷ k) h) (within_egress m (z ∷ k) (All-tail (λ y. y ≤ m) x (z ∷ k) h))
+
+more_in_each : (m : ℕ) (k : List ℕ) → All (λ y. y ≤ m) k → All (λ y. y ≤ m + 1) k
+more_in_each m k h = All-weaker (λ y. y ≤ m) (λ y. y ≤ m + 1) (λ y l. omega arith) k h
+
+within_feedback : (m : ℕ) (k : List ℕ) → All (λ y. y ≤ m) k → All (λ y. y ≤ m + 1) (feedback_of k)
+within_feedback m [] h = more_in_each m [] h
+within_feedback m (x ∷ []) h =
+    let last = All-head (λ y. y ≤ m) x [] h in
+    All-cons (λ y. y ≤ m + 1) (x + 1) [] (omega arith) (All-nil (λ y. y ≤ m + 1))
+within_feedback m (x ∷ z ∷ k) h =
+    let first = All-head (λ y. y ≤ m) x (z ∷ k) h in
+    All-cons (λ y. y ≤ m + 1) x (feedback_of (z ∷ k)) (omega arith) (within_feedback m (z ∷ k) (All-tail (λ y. y ≤ m) x (z ∷ k) h))
 
 within_parts : (x : Action) (m r a : ℕ) (k : List ℕ) → a ≤ m → All (λ y. y ≤ m) k → IsWithin (m + 1) (then_act x r a k)
-within_parts Identity m r a k h j = (omega arith, All-weaker (λ y. y ≤ m) (λ y. y ≤ m + 1) (λ y l. omega arith) k j)
-within_parts Ingress m r a k h j = (omega arith, All-cons (λ y. y ≤ m + 1) 0 k (omega arith) (All-weaker (λ y. y ≤ m) (λ y. y ≤ m + 1) (λ y l. omega arith) k j))
+within_parts Identity m r a k h j = (omega arith, more_in_each m k j)
+within_parts Ingress m r a k h j =
+    let zero = All-cons (λ y. y ≤ m + 1) 0 [] (omega arith) (All-nil (λ y. y ≤ m + 1)) in
+    (omega arith, All-append (λ y. y ≤ m + 1) k (0 ∷ []) (more_in_each m k j) zero)
 within_parts Egress m r a [] h j = (omega arith, All-nil (λ y. y ≤ m + 1))
-within_parts Egress m r a (x ∷ k) h j = (omega arith, All-weaker (λ y. y ≤ m) (λ y. y ≤ m + 1) (λ y l. omega arith) k (All-tail (λ y. y ≤ m) x k j))
+within_parts Egress m r a (x ∷ k) h j = (omega arith, more_in_each m (egress_of (x ∷ k)) (within_egress m (x ∷ k) j))
 within_parts Feedback m r a [] h j = (omega arith, All-nil (λ y. y ≤ m + 1))
-within_parts Feedback m r a (x ∷ k) h j =
-    let top = All-head (λ y. y ≤ m) x k j in
-    (omega arith, All-cons (λ y. y ≤ m + 1) (x + 1) k (omega arith) (All-weaker (λ y. y ≤ m) (λ y. y ≤ m + 1) (λ y l. omega arith) k (All-tail (λ y. y ≤ m) x k j)))
+within_parts Feedback m r a (x ∷ k) h j = (omega arith, within_feedback m (x ∷ k) j)
 
 within_more : (m : ℕ) (s : Summary) → IsWithin m s → IsWithin (m + 1) s
-within_more m s h = (omega (arith, h.0), All-weaker (λ y. y ≤ m) (λ y. y ≤ m + 1) (λ y l. omega arith) s.constants h.1)
+within_more m s h = (omega (arith, h.0), more_in_each m s.constants h.1)
 
 grown : (x : Action) (r a : ℕ) (k : List ℕ) (e f : ℕ) → LeadsTo x e f → e ≤ max_depth → f ≤ max_depth → r + length k ≡ e → length k + grows x ≤ max_depth
 grown Identity r a k e f l p q h = omega arith
@@ -62,8 +80,8 @@ module _ (depths : List ℕ) (arcs : List Arc) (g : DepthsAgree depths arcs) (de
       let p = All-contains (ArcAgrees depths) arcs x g h in
       (p.from, p.to)
 
-  entry_for : (row : List (Option Summary)) (n m b r : ℕ) (s : Summary) → Swept depths arcs a row n m → entry row b r ≡ Some s → IsFor (slice_index depths a) (slice_index depths b) s × (s.keep ≡ r)
-  entry_for row n m b r s h e =
+  held_for : (row : List (Option Summary)) (n m b r : ℕ) (s : Summary) → Swept depths arcs a row n m → held row b r ≡ Some s → IsFor (slice_index depths a) (slice_index depths b) s × (s.keep ≡ r)
+  held_for row n m b r s h e =
       let (w, walk, same, keeps) = h.walks b r s e in
       (subst (λ t. IsFor (slice_index depths a) (slice_index depths b) t) (sym same) (IsFor-walk depths arcs w a b g walk), keeps)
 
@@ -75,15 +93,15 @@ module _ (depths : List ℕ) (arcs : List Arc) (g : DepthsAgree depths arcs) (de
         to = omega (arith, h.long, p.1);
         within = low;
         room = λ s e.
-            let f = entry_for row n m x.from r s h e in
+            let f = held_for row n m x.from r s h e in
             let i = h.within x.from r s e in (
               f.1,
               grown x.action s.keep s.add s.constants (slice_index depths x.from) (slice_index depths x.to) (arc_leads depths arcs x g c) (shallow x.from p.0) (shallow x.to p.1) f.0.depth,
               (omega (arith, i.0), All-weaker (λ y. y ≤ m) (λ y. y ≤ (max_counter - 1)) (λ y l. omega arith) s.constants i.1),
             );
         alike = λ s t e e'.
-            let f = entry_for row n m x.from r s h e in
-            let f' = entry_for row n m x.to (step x.action s).keep t h e' in
+            let f = held_for row n m x.from r s h e in
+            let f' = held_for row n m x.to (step x.action s).keep t h e' in
             let f'' = IsFor-step x.action (slice_index depths a) (slice_index depths x.from) (slice_index depths x.to) s (arc_leads depths arcs x g c) f.0 in
             (f'.1, omega (arith, f'.0.depth, f''.depth, f'.1));
       }
@@ -126,14 +144,14 @@ module _ (depths : List ℕ) (arcs : List Arc) (g : DepthsAgree depths arcs) (de
       elim (cases_eq s.keep r) [
         | inl e ↦
             let (t, at', less) = h.covers w x.from l walk in
-            let here : entry old x.from r ≡ Some t = ap (entry old x.from) (sym e) ∙ at' in
-            Covers-less (entry new) x.to (step x.action t) (step x.action s) (AtMost-step x.action t s less) (Relaxed-covers old new x r t can re here)
+            let here : held old x.from r ≡ Some t = ap (held old x.from) (sym e) ∙ at' in
+            Covers-less (held new) x.to (step x.action t) (step x.action s) (AtMost-step x.action t s less) (Relaxed-covers old new x r t can re here)
         | inr ne ↦
             let under : s.keep < r = omega arith in
             Relaxed-keeps old new x r can re x.to (step x.action s) (f w l walk under)
       ]
 
-  covers_ends : (row : List (Option Summary)) (n m : ℕ) (w : List Arc) (y : Arc) (b : ℕ) → slice_index depths a ≤ max_depth → Swept depths arcs a row n m → All (λ x. Followed depths arcs a row n keeps x) arcs → length w ≤ n → IsWalkAlong arcs a b (w ++ (y ∷ [])) → Covers (entry row) b (summary_of depths a (w ++ (y ∷ [])))
+  covers_ends : (row : List (Option Summary)) (n m : ℕ) (w : List Arc) (y : Arc) (b : ℕ) → slice_index depths a ≤ max_depth → Swept depths arcs a row n m → All (λ x. Followed depths arcs a row n keeps x) arcs → length w ≤ n → IsWalkAlong arcs a b (w ++ (y ∷ [])) → Covers (held row) b (summary_of depths a (w ++ (y ∷ [])))
   covers_ends row n m w y b low h f l walk =
       let i : Summary = identity (slice_index depths a) in
       let front : IsWalkAlong arcs a (end_of a w) w = walk_front arcs w (y ∷ []) a b walk in
@@ -142,20 +160,20 @@ module _ (depths : List ℕ) (arcs : List Arc) (g : DepthsAgree depths arcs) (de
       let fits = IsFor-walk depths arcs w a y.from g to_from in
       let follows : Followed depths arcs a row n keeps y = All-contains (λ x. Followed depths arcs a row n keeps x) arcs y f end.0 in
       let done = follows w l to_from (omega (arith, fits.kept)) in
-      let there : Covers (entry row) b (step y.action (after w i)) = subst (λ e. Covers (entry row) e (step y.action (after w i))) end.2 done in
-      subst (λ s. Covers (entry row) b s) (sym (after-append w (y ∷ []) i)) there
+      let there : Covers (held row) b (step y.action (after w i)) = subst (λ e. Covers (held row) e (step y.action (after w i))) end.2 done in
+      subst (λ s. Covers (held row) b s) (sym (after-append w (y ∷ []) i)) there
 
   -- after a round the walks may have one arc more
   pub round_over : (row : List (Option Summary)) (n m : ℕ) → slice_index depths a ≤ max_depth → Swept depths arcs a row n m → All (λ x. Followed depths arcs a row n keeps x) arcs → Swept depths arcs a row (n + 1) m
   round_over row n m low h f = record { long = h.long; walks = h.walks; within = h.within; covers = λ w b l walk. more w b l walk }
     where
-      more : (w : List Arc) (b : ℕ) → length w ≤ n + 1 → IsWalkAlong arcs a b w → Covers (entry row) b (summary_of depths a w)
+      more : (w : List Arc) (b : ℕ) → length w ≤ n + 1 → IsWalkAlong arcs a b w → Covers (held row) b (summary_of depths a w)
       more [] b l walk = h.covers [] b (omega arith) walk
       more (x ∷ w) b l walk =
           let (v, y, e) = last_arc x w in
           let short : length v ≤ n = omega (arith, ap length e, length-append v (y ∷ [])) in
           let whole : IsWalkAlong arcs a b (v ++ (y ∷ [])) = subst (λ u. IsWalkAlong arcs a b u) e walk in
-          subst (λ u. Covers (entry row) b (summary_of depths a u)) (sym e) (covers_ends row n m v y b low h f short whole)
+          subst (λ u. Covers (held row) b (summary_of depths a u)) (sym e) (covers_ends row n m v y b low h f short whole)
 
 -- m may be replaced by an equal number
 pub swept_as : (depths : List ℕ) (arcs : List Arc) (a : ℕ) (row : List (Option Summary)) (n m m' : ℕ) → m ≡ m' → Swept depths arcs a row n m → Swept depths arcs a row n m'
@@ -164,14 +182,14 @@ swept_as depths arcs a row n m m' e h = subst (λ k. Swept depths arcs a row n k
 length-blank : (n : ℕ) → length (replicate {A = Option Summary} n None) ≡ n
 length-blank n = length-replicate n None
 
-nothing : (n b r : ℕ) (s : Summary) → entry (replicate n None) b r ≡ Some s → ⊥
+nothing : (n b r : ℕ) (s : Summary) → held (replicate n None) b r ≡ Some s → ⊥
 nothing n b r s h =
     elim (cases_lt r keeps) [
       | inl low ↦ elim (cases_lt (b * keeps + r) n) [
-        | inl in' ↦ let none : entry (replicate n None) b r ≡ None = entry_within (replicate n None) b r low ∙ ap (option_map inner) (get_or-replicate n (b * keeps + r) None None in') in let e : None ≡ Some s = sym none ∙ h in cc
-        | inr past ↦ let none : entry (replicate n None) b r ≡ None = entry_within (replicate n None) b r low ∙ ap (option_map inner) (get_or_past (replicate n None) (b * keeps + r) None (omega (arith, length-blank n))) in let e : None ≡ Some s = sym none ∙ h in cc
+        | inl in' ↦ let e : None ≡ Some s = sym (get_or-replicate n (b * keeps + r) None None in') ∙ sym (held_within (replicate n None) b r low) ∙ h in cc
+        | inr past ↦ let e : None ≡ Some s = sym (get_or_past (replicate n None) (b * keeps + r) None (omega (arith, length-blank n))) ∙ sym (held_within (replicate n None) b r low) ∙ h in cc
       ]
-      | inr past ↦ let e : None ≡ Some s = sym (entry_past (replicate n None) b r past) ∙ h in cc
+      | inr past ↦ let e : None ≡ Some s = sym (held_past (replicate n None) b r past) ∙ h in cc
     ]
 
 -- at first there is the empty walk only
@@ -186,20 +204,20 @@ module _ (depths : List ℕ) (arcs : List Arc) (a : ℕ) (h : a < length depths)
   unfolding start_row blank
   start_long = length-set blank (a * keeps + slice_index depths a) (Some (identity (slice_index depths a))) ∙ length-replicate (length depths * keeps) None
 
-  start_here : entry start_row a (slice_index depths a) ≡ Some (identity (slice_index depths a))
+  start_here : held start_row a (slice_index depths a) ≡ Some (identity (slice_index depths a))
   unfolding start_row blank
   start_here =
-      entry-set_same blank a (slice_index depths a) (Some (identity (slice_index depths a))) (omega arith) (omega (arith, length-blank (length depths * keeps)))
+      held-set_same blank a (slice_index depths a) (Some (identity (slice_index depths a))) (omega arith) (omega (arith, length-blank (length depths * keeps)))
 
-  start_only : (b r : ℕ) (s : Summary) → entry start_row b r ≡ Some s → (a ≡ b) × (s ≡ identity (slice_index depths a)) × (slice_index depths a ≡ r)
+  start_only : (b r : ℕ) (s : Summary) → held start_row b r ≡ Some s → (a ≡ b) × (s ≡ identity (slice_index depths a)) × (slice_index depths a ≡ r)
   unfolding start_row blank
   start_only b r s e =
       elim (at_place a (slice_index depths a) b r) [
         | inl p ↦
-            let here : entry start_row b r ≡ Some (identity (slice_index depths a)) = ap (λ n. entry start_row n r) (sym p.0) ∙ ap (entry start_row a) (sym p.1) ∙ start_here in
+            let here : held start_row b r ≡ Some (identity (slice_index depths a)) = ap (λ n. held start_row n r) (sym p.0) ∙ ap (held start_row a) (sym p.1) ∙ start_here in
             let same : Some s ≡ Some (identity (slice_index depths a)) = sym e ∙ here in
             (p.0, cc, p.1)
-        | inr n ↦ absurd (nothing (length depths * keeps) b r s (sym (entry-set_other blank a (slice_index depths a) b r (Some (identity (slice_index depths a))) (omega arith) n) ∙ e))
+        | inr n ↦ absurd (nothing (length depths * keeps) b r s (sym (held-set_other blank a (slice_index depths a) b r (Some (identity (slice_index depths a))) (omega arith) n) ∙ e))
       ]
 
   start_swept : Swept depths arcs a start_row 0 0
@@ -210,8 +228,8 @@ module _ (depths : List ℕ) (arcs : List Arc) (a : ℕ) (h : a < length depths)
     covers = λ w b l walk. empty_covers w b l walk;
   }
     where
-      empty_covers : (w : List Arc) (b : ℕ) → length w ≤ 0 → IsWalkAlong arcs a b w → Covers (entry start_row) b (summary_of depths a w)
-      empty_covers [] b l walk = subst (λ n. Covers (entry start_row) n (identity (slice_index depths a))) walk (identity (slice_index depths a), start_here, AtMost-refl (identity (slice_index depths a)))
+      empty_covers : (w : List Arc) (b : ℕ) → length w ≤ 0 → IsWalkAlong arcs a b w → Covers (held start_row) b (summary_of depths a w)
+      empty_covers [] b l walk = subst (λ n. Covers (held start_row) n (identity (slice_index depths a))) walk (identity (slice_index depths a), start_here, AtMost-refl (identity (slice_index depths a)))
       empty_covers (x ∷ w) b l walk = absurd (omega arith)
 
   pub swept_start : (row : List (Option Summary)) → row ≡ set (replicate (length depths * keeps) None) (a * keeps + slice_index depths a) (Some (identity (slice_index depths a))) → Swept depths arcs a row 0 0
@@ -232,22 +250,22 @@ round_done r a j h k = omega arith
 
 -- each entry at x's start with a keep below k, extended by x, is covered
 abbrev pub Closed : List (Option Summary) → ℕ → Arc → Type 0
-Closed row k x = (r : ℕ) (s : Summary) → r < k → entry row x.from r ≡ Some s → Covers (entry row) x.to (step x.action s)
+Closed row k x = (r : ℕ) (s : Summary) → r < k → held row x.from r ≡ Some s → Covers (held row) x.to (step x.action s)
 
-pub closed_all : (depths : List ℕ) (arcs : List Arc) (a : ℕ) (row : List (Option Summary)) (n m : ℕ) → Swept depths arcs a row n m → All (Closed row keeps) arcs → (w : List Arc) (b : ℕ) → IsWalkAlong arcs a b w → Covers (entry row) b (summary_of depths a w)
+pub closed_all : (depths : List ℕ) (arcs : List Arc) (a : ℕ) (row : List (Option Summary)) (n m : ℕ) → Swept depths arcs a row n m → All (Closed row keeps) arcs → (w : List Arc) (b : ℕ) → IsWalkAlong arcs a b w → Covers (held row) b (summary_of depths a w)
 closed_all depths arcs a row n m h f =
-    covered depths arcs a (entry row) (record {
+    covered depths arcs a (held row) (record {
       start = h.covers [] a (omega arith) refl;
       closed = λ x r s c e. elim (cases_lt r keeps) [
         | inl low ↦ (let g : Closed row keeps x = All-contains (Closed row keeps) arcs x f c in g r s low e)
-        | inr past ↦ (let q : None ≡ Some s = sym (entry_past row x.from r past) ∙ e in cc)
+        | inr past ↦ (let q : None ≡ Some s = sym (held_past row x.from r past) ∙ e in cc)
       ];
     })
 
 pub quiet_here : (old new : List (Option Summary)) (x : Arc) (r : ℕ) → Quiet old new x r → Closed old r x → Closed new (r + 1) x
 quiet_here old new x r q f =
     subst (λ row. Closed row (r + 1) x) (sym q.0) (λ k s l e. elim (cases_eq k r) [
-      | inl same ↦ q.1 s (subst (λ n. entry old x.from n ≡ Some s) same e)
+      | inl same ↦ q.1 s (subst (λ n. held old x.from n ≡ Some s) same e)
       | inr ne ↦ f k s (omega arith) e
     ])
 

@@ -1,15 +1,11 @@
--- A table that has the identity, whose entries are summaries of walks, and that is closed under each arc, decides the order.
-use Rattle.std.proofs.Common.{◌≡◌, ℕ, List, [], ◌∷◌, length, Option, Some, sym, ◌∙◌, ap, subst}
+-- A row that has the identity, and that is closed under each arc, covers each walk.
+use Rattle.std.proofs.Common.{◌≡◌, ℕ, List, [], ◌∷◌, Option, Some, sym, ◌∙◌, ap, subst}
 use Rattle.std.specs.Prelude.{Contains, slice_index}
 use Rattle.nd_graph.specs.declared.graph.Arc.{Arc}
-use Rattle.nd_paths.specs.Inside.{AtOrBefore}
-use Rattle.nd_paths.specs.Inside.{IsWalkAlong, effect_of, DepthsAgree, Reaches}
 use Rattle.nd_paths.specs.declared.summary.Summary.{Summary}
-use Rattle.nd_paths.specs.Inside.{summary_of, identity, apply, step, after, AtMost}
-use Rattle.nd_paths.specs.Table.{Covers, IsLeast, SaysReaches}
-use Rattle.nd_paths.proofs.Orders.{AtOrBefore-trans}
-use Rattle.nd_paths.proofs.Summaries.{AtMost-trans, AtMost-step, apply-AtMost}
-use Rattle.nd_paths.proofs.Walks.{IsFor-walk, apply-walk}
+use Rattle.nd_paths.specs.Walks.{IsWalkAlong, summary_of, identity, step, after, AtMost}
+use Rattle.nd_paths.specs.Table.{Covers}
+use Rattle.nd_paths.proofs.Summaries.{AtMost-trans, AtMost-step}
 
 -- a row of the table: the summary for a location and a keep
 abbrev pub Row : Type 0
@@ -36,20 +32,3 @@ module _ (depths : List ℕ) (arcs : List Arc) (a : ℕ) (row : Row) (h : IsClos
   -- a closed row covers each walk
   pub covered : (w : List Arc) (b : ℕ) → IsWalkAlong arcs a b w → Covers row b (summary_of depths a w)
   covered w b walk = covered_after w a b (identity (slice_index depths a)) walk h.start
-
-pub says_sound : (depths : List ℕ) (arcs : List Arc) (row : Row) (a b : ℕ) (c d : List ℕ) → length c ≡ slice_index depths a → IsLeast depths arcs a row → SaysReaches row b c d → Reaches arcs a c b d
-says_sound depths arcs row a b c d f least h =
-    let (r, u, e, k) = h in
-    let (w, walk, same, _) = least.walks b r u e in
-    let does : apply u c ≡ effect_of w c = ap (λ v. apply v c) same ∙ apply-walk depths w a c f in
-    (w, walk, subst (λ v. AtOrBefore v d) does k)
-
-pub says_complete : (depths : List ℕ) (arcs : List Arc) (row : Row) (a b : ℕ) (c d : List ℕ) → DepthsAgree depths arcs → length c ≡ slice_index depths a → IsLeast depths arcs a row → Reaches arcs a c b d → SaysReaches row b c d
-says_complete depths arcs row a b c d g f least h =
-    let (w, walk, k) = h in
-    let (u, e, m) = least.covers w b walk in
-    let whole = summary_of depths a w in
-    let less : AtOrBefore (apply u c) (apply whole c) =
-    apply-AtMost u whole (slice_index depths a) (slice_index depths b) c (IsFor-walk depths arcs w a b g walk) f m in
-    let does : apply whole c ≡ effect_of w c = apply-walk depths w a c f in
-    (whole.keep, u, e, AtOrBefore-trans (apply u c) (effect_of w c) d (subst (λ v. AtOrBefore (apply u c) v) does less) k)

@@ -4,10 +4,12 @@ use Rattle.std.specs.Prelude.{Contains, slice_index}
 use Rattle.std.proofs.lemmas.List.Elements.{All-contains}
 use Rattle.nd_graph.specs.declared.graph.Arc.{Arc}
 use Rattle.nd_graph.specs.Graph.{LeadsTo, ArcAgrees}
-use Rattle.nd_paths.specs.Inside.{IsWalkAlong, effect_of, DepthsAgree}
 use Rattle.nd_paths.specs.declared.summary.Summary.{Summary}
-use Rattle.nd_paths.specs.Inside.{identity, apply, step, after, summary_of}
-use Rattle.nd_paths.proofs.Summaries.{IsFor, IsFor-identity, IsFor-step, apply-after, apply-identity}
+use Rattle.nd_paths.specs.Order.{effect}
+use Rattle.nd_paths.specs.Summary.{applied}
+use Rattle.nd_paths.specs.Walks.{IsWalkAlong, DepthsAgree, identity, step, after, summary_of}
+use Rattle.nd_paths.proofs.Raised.{applied-identity}
+use Rattle.nd_paths.proofs.Summaries.{IsFor, IsFor-identity, IsFor-step, applied-after}
 
 pub walks_joined : (arcs w v : List Arc) (a b c : ℕ) → IsWalkAlong arcs a b w → IsWalkAlong arcs b c v → IsWalkAlong arcs a c (w ++ v)
 walks_joined arcs [] v a b c h k = subst (λ n. IsWalkAlong arcs n c v) (sym h) k
@@ -29,6 +31,6 @@ pub IsFor-walk : (depths : List ℕ) (arcs w : List Arc) (a b : ℕ) → DepthsA
 IsFor-walk depths arcs w a b g h = IsFor-after depths arcs w (slice_index depths a) a b (identity (slice_index depths a)) g h (IsFor-identity (slice_index depths a))
 
 -- a walk does what its summary does
-pub apply-walk : (depths : List ℕ) (w : List Arc) (a : ℕ) (c : List ℕ) → length c ≡ slice_index depths a → apply (summary_of depths a w) c ≡ effect_of w c
-apply-walk depths w a c h =
-    apply-after w (identity (slice_index depths a)) c (omega arith) ∙ ap (effect_of w) (apply-identity c (slice_index depths a) h)
+pub applied-walk : (depths : List ℕ) (w : List Arc) (a : ℕ) (c : List ℕ) → length c ≡ slice_index depths a → applied (summary_of depths a w) c ≡ effect w c
+applied-walk depths w a c h =
+    applied-after w (identity (slice_index depths a)) c (omega arith) ∙ ap (effect w) (applied-identity c (slice_index depths a) h)

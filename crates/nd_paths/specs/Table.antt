@@ -1,21 +1,16 @@
 -- A row of the table has for each location one position for each number of counters that a walk can keep.
 use Rattle.std.specs.Prelude.{◌≡◌, ◌⊎◌, ℕ, All, ◌+◌, ◌-◌, ◌*◌, ◌<◌, ◌≤◌, List, length, Option, Some, None, Vec, nat_lt, cond, Contains, slice_index_or, slice_set}
-use Rattle.std.specs.Option.{option_map}
 use Rattle.nd_time.specs.Limits.{max_depth, max_counter}
 use Rattle.nd_time.specs.Time.{IsLexicallyAtMost}
 use Rattle.nd_graph.specs.declared.graph.Arc.{Arc}
 use Rattle.nd_graph.specs.Graph.{Dataflow, arcs, depths}
 use Rattle.nd_paths.specs.declared.summary.Summary.{Summary}
 use Rattle.nd_paths.specs.Summary.{applied}
-use Rattle.nd_paths.specs.Inside.{keeps, Accepted, AtOrBefore, DepthsAgree, IsWalkAlong, inner, apply, step, grows, AtMost, IsWithin, summary_of}
+use Rattle.nd_paths.specs.Walks.{keeps, Accepted, DepthsAgree, IsWalkAlong, step, grows, AtMost, IsWithin, summary_of}
 
 -- the summary at the position of location b for r kept counters, if there is one
 abbrev pub held : List (Option Summary) → ℕ → ℕ → Option Summary
 held row b r = cond (nat_lt r keeps) (slice_index_or row (b * keeps + r) None) None
-
--- the same, with its constants in the reverse order
-abbrev pub entry : List (Option Summary) → ℕ → ℕ → Option Summary
-entry row b r = option_map inner (held row b r)
 
 -- the row has a summary for location b that is at most s
 abbrev pub Covers : (ℕ → ℕ → Option Summary) → ℕ → Summary → Type 0
@@ -26,19 +21,19 @@ pub record CanRelax (row : List (Option Summary)) (x : Arc) (r : ℕ) : Type 0 w
   pub from : x.from * keeps + keeps ≤ length row
   pub to : x.to * keeps + keeps ≤ length row
   pub within : r < keeps
-  pub room : (s : Summary) → entry row x.from r ≡ Some s → (s.keep ≡ r) × (length s.constants + grows x.action ≤ max_depth) × IsWithin (max_counter - 1) s
-  pub alike : (s t : Summary) → entry row x.from r ≡ Some s → entry row x.to (step x.action s).keep ≡ Some t → (t.keep ≡ (step x.action s).keep) × (length t.constants ≡ length (step x.action s).constants)
+  pub room : (s : Summary) → held row x.from r ≡ Some s → (s.keep ≡ r) × (length s.constants + grows x.action ≤ max_depth) × IsWithin (max_counter - 1) s
+  pub alike : (s t : Summary) → held row x.from r ≡ Some s → held row x.to (step x.action s).keep ≡ Some t → (t.keep ≡ (step x.action s).keep) × (length t.constants ≡ length (step x.action s).constants)
 
 -- nothing was written, since the row already covers the extended entry
 abbrev pub Quiet : List (Option Summary) → List (Option Summary) → Arc → ℕ → Type 0
-Quiet old new x r = (new ≡ old) × ((s : Summary) → entry old x.from r ≡ Some s → Covers (entry old) x.to (step x.action s))
+Quiet old new x r = (new ≡ old) × ((s : Summary) → held old x.from r ≡ Some s → Covers (held old) x.to (step x.action s))
 
 -- the entry at the arc's start, extended by the arc, was written at the arc's end, and is at most the entry that was there
 abbrev pub Written : List (Option Summary) → List (Option Summary) → Arc → ℕ → Type 0
 Written old new x r =
-    (s : Summary) × (n : Summary) × (entry old x.from r ≡ Some s) × (inner n ≡ step x.action s)
-    × (new ≡ slice_set old (x.to * keeps + (step x.action s).keep) (Some n))
-    × ((t : Summary) → entry old x.to (step x.action s).keep ≡ Some t → AtMost (step x.action s) t)
+    (s : Summary) × (held old x.from r ≡ Some s)
+    × (new ≡ slice_set old (x.to * keeps + (step x.action s).keep) (Some (step x.action s)))
+    × ((t : Summary) → held old x.to (step x.action s).keep ≡ Some t → AtMost (step x.action s) t)
 
 abbrev pub Relaxed : List (Option Summary) → List (Option Summary) → Arc → ℕ → Type 0
 Relaxed old new x r = Quiet old new x r ⊎ Written old new x r
@@ -64,11 +59,7 @@ ShowsFail arcs a row =
 
 -- some entry at the arc's start, extended by the arc, adds nothing
 abbrev pub Closes : List (Option Summary) → Arc → Type 0
-Closes row x = (r : ℕ) × (s : Summary) × (entry row x.from r ≡ Some s) × ((step x.action s).add ≡ 0)
-
--- some entry at b turns the counters c into counters at or before d
-abbrev pub SaysReaches : (ℕ → ℕ → Option Summary) → ℕ → List ℕ → List ℕ → Type 0
-SaysReaches row b c d = (r : ℕ) × (u : Summary) × (row b r ≡ Some u) × AtOrBefore (apply u c) d
+Closes row x = (r : ℕ) × (s : Summary) × (held row x.from r ≡ Some s) × ((step x.action s).add ≡ 0)
 
 -- each summary held at b applies to times of depth d, and leaves e counters
 abbrev pub HeldFit : List (Option Summary) → ℕ → ℕ → ℕ → Type 0
@@ -78,7 +69,7 @@ HeldFit row b d e = (r : ℕ) (s : Summary) → held row b r ≡ Some s → (s.k
 abbrev pub HoldsAny : List (Option Summary) → ℕ → Type 0
 HoldsAny row b = (r : ℕ) × (u : Summary) × (held row b r ≡ Some u)
 
--- some summary held at b turns the counters c, outermost first, into counters that are at most d
+-- some summary held at b turns the counters c into counters that are at most d
 abbrev pub SomeLeads : List (Option Summary) → ℕ → List ℕ → List ℕ → Type 0
 SomeLeads row b c d = (r : ℕ) × (u : Summary) × (held row b r ≡ Some u) × IsLexicallyAtMost (applied u c) d
 
@@ -86,7 +77,7 @@ SomeLeads row b c d = (r : ℕ) × (u : Summary) × (held row b r ≡ Some u) ×
 abbrev pub AreLeast : {A : Type 0} → List ℕ → List Arc → List (Vec (Option Summary) A) → ℕ → Type 0
 AreLeast {A} depths arcs rows n =
     (length rows ≡ n)
-    × ((a : ℕ) (d : Vec (Option Summary) A) → a < n → (length (slice_index_or rows a d).items ≡ length depths * keeps) × IsLeast depths arcs a (entry (slice_index_or rows a d).items))
+    × ((a : ℕ) (d : Vec (Option Summary) A) → a < n → (length (slice_index_or rows a d).items ≡ length depths * keeps) × IsLeast depths arcs a (held (slice_index_or rows a d).items))
 
 -- the graph is accepted, and the rows have the least summaries of its walks
 pub record IsTable {A : Type 0} (g : Dataflow) (rows : List (Vec (Option Summary) A)) : Type 0 where

@@ -1,7 +1,7 @@
 //! Which graphs have an order: every walk around a loop increases the time.
 ghost use Rattle.std.specs.Prelude.{◌≡◌, ◌*◌, ◌<◌, ◌≤◌, All, IfErr, IfOk, length};
 ghost use Rattle.nd_time.specs.Limits.{max_depth, max_locations};
-ghost use Rattle.nd_paths.specs.Inside.{Accepted, DepthsAgree, Fails};
+ghost use Rattle.nd_paths.specs.Walks.{Accepted, DepthsAgree, Fails};
 ghost use Rattle.nd_paths.specs.Table.{AreLeast};
 ghost use Rattle.nd_paths.specs.Fault.{IsFaultInside};
 ghost use Rattle.nd_paths.specs.declared.accept.PathFault.TheVariants.{Memory};

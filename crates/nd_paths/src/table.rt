@@ -3,8 +3,8 @@ ghost use Rattle.std.specs.Prelude.{◌≡◌, ◌+◌, ◌*◌, ◌<◌, ◌≤
 ghost use Rattle.std.specs.Bool.{OnFalse};
 ghost use Rattle.std.specs.Option.{option_copied};
 ghost use Rattle.nd_time.specs.Limits.{max_depth, max_locations};
-ghost use Rattle.nd_paths.specs.Inside.{keeps, DepthsAgree, identity};
-ghost use Rattle.nd_paths.specs.Table.{held, entry, CanRelax, Relaxed, Quiet, HasWalks, CoversShort, ShowsFail, Closes, SomeLeads, HeldFit, HoldsAny, AreCopies, KeepsPlaces, IsListed};
+ghost use Rattle.nd_paths.specs.Walks.{keeps, DepthsAgree, identity};
+ghost use Rattle.nd_paths.specs.Table.{held, CanRelax, Relaxed, Quiet, HasWalks, CoversShort, ShowsFail, Closes, SomeLeads, HeldFit, HoldsAny, AreCopies, KeepsPlaces, IsListed};
 
 use crate::Summary;
 use arrayvec::ArrayVec;
@@ -76,8 +76,8 @@ fn sweep(row: &mut [Option<Summary>], depths: &[usize], arcs: &[Arc], from: usiz
     requires few_arcs { length arcs.now ≤ max_locations * 2 }
     requires from { from < length depths.now }
     requires start { row.old ≡ slice_set (replicate (length depths.now * keeps) None) (from * keeps + slice_index depths.now from) (Some (identity (slice_index depths.now from))) }
-    ensures walks { HasWalks depths.now arcs.now from (entry row.new) }
-    ensures covers { CoversShort depths.now arcs.now from (entry row.new) (keeps * length depths.now) }
+    ensures walks { HasWalks depths.now arcs.now from (held row.new) }
+    ensures covers { CoversShort depths.now arcs.now from (held row.new) (keeps * length depths.now) }
 {
     'rounds: for _round in 0..depths.len() * KEEPS {
         let mut changed = false;
@@ -105,8 +105,8 @@ pub fn short_row<A: Allocator>(
     requires few_arcs { length arcs.now ≤ max_locations * 2 }
     requires from { from < length depths.now }
     ensures long { IfOk result (λ row. length row.items ≡ length depths.now * keeps) }
-    ensures walks { IfOk result (λ row. HasWalks depths.now arcs.now from (entry row.items)) }
-    ensures covers { IfOk result (λ row. CoversShort depths.now arcs.now from (entry row.items) (keeps * length depths.now)) }
+    ensures walks { IfOk result (λ row. HasWalks depths.now arcs.now from (held row.items)) }
+    ensures covers { IfOk result (λ row. CoversShort depths.now arcs.now from (held row.items) (keeps * length depths.now)) }
 {
     let mut row = first_row(alloc, depths, from)?;
     sweep(&mut row, depths, arcs, from);
@@ -117,7 +117,7 @@ pub fn short_row<A: Allocator>(
 pub fn shows_fail(row: &[Option<Summary>], depths: &[usize], arcs: &[Arc], location: usize) -> bool
     requires agree { DepthsAgree depths.now arcs.now }
     requires long { length row.now ≡ length depths.now * keeps }
-    ensures { MatchBool result (ShowsFail arcs.now location (entry row.now)) (ShowsFail arcs.now location (entry row.now) → ⊥) }
+    ensures { MatchBool result (ShowsFail arcs.now location (held row.now)) (ShowsFail arcs.now location (held row.now) → ⊥) }
 {
     for arc in arcs {
         if arc.to == location && closes(row, *arc) {

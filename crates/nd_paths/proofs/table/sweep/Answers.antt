@@ -5,7 +5,7 @@ use Rattle.std.proofs.lemmas.List.Elements.{All-weaker, All-more, Contains-get_o
 use Rattle.nd_graph.specs.declared.op.Action.TheVariants.{Identity}
 use Rattle.nd_graph.specs.declared.graph.Arc.{Arc}
 use Rattle.nd_time.specs.Limits.{max_depth}
-use Rattle.nd_paths.specs.Inside.{keeps}
+use Rattle.nd_paths.specs.Walks.{keeps}
 use Rattle.nd_paths.proofs.Sweeps.{Followed, Closed, closed_all, quiet_here, quiet_others, at_false, swept_start, swept_as, can_relax, relaxed_swept, relaxed_followed, relaxed_here, round_over, round_done, budget}
 use Rattle.nd_paths.proofs.table.sweep.Goals as goal
 use Rattle.std.proofs.lemmas.Bool.{or_parts}

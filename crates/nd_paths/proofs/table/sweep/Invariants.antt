@@ -1,6 +1,6 @@
 use Rattle.std.proofs.Common.{◌≡◌, ◌+◌, ◌*◌, false, length, take}
 use Rattle.std.specs.Prelude.{All}
-use Rattle.nd_paths.specs.Inside.{keeps}
+use Rattle.nd_paths.specs.Walks.{keeps}
 use Rattle.nd_paths.proofs.Sweeps.{Swept, Followed, Closed}
 use Rattle.nd_paths.proofs.table.sweep.Given as goal
 

@@ -9,7 +9,7 @@ rows_of-requires-clause-few_arcs g c = rw c.all_arcs.ensures.arcs (few_arcs c.ar
 pub returns-in_err-rows-clause-fault : goal.returns-in_err-rows-clause-fault
 returns-in_err-rows-clause-fault g c =
     let p = err_from_is_err_and c.from_residual.result c.from_residual.ensures.1 in
-    rw (p.1, p.2) (read_fault c.args.graph.now c.depths.result.now c.all_arcs.result.now c.depths.ensures.depths c.all_arcs.ensures.arcs c.in_err-rows.field-0.0 c.all_arcs.ensures.agree c.in_err-rows.ensures.fault)
+    rw (p.1, p.2) (read_fault c.args.graph.now c.depths.result.now c.all_arcs.result.now c.depths.ensures.depths c.all_arcs.ensures.arcs c.in_err-rows.field-0.0 c.in_err-rows.ensures.fault)
 
 pub invariant_of-result : goal.invariant_of-result
 invariant_of-result g c =
@@ -18,4 +18,4 @@ invariant_of-result g c =
 
 pub returns-clause-accepted : goal.returns-clause-accepted
 returns-clause-accepted g c =
-    is_accepted c.args.graph.now c.all_arcs.ensures.agree (read_accepted c.args.graph.now c.depths.result.now c.all_arcs.result.now c.depths.ensures.depths c.all_arcs.ensures.arcs c.in_ok-rows.ensures.accepted)
+    is_accepted c.args.graph.now (read_accepted c.args.graph.now c.depths.result.now c.all_arcs.result.now c.depths.ensures.depths c.all_arcs.ensures.arcs c.in_ok-rows.ensures.accepted)
