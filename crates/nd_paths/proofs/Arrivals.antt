@@ -10,11 +10,12 @@ use Rattle.nd_paths.specs.declared.point.Pointstamp.{Pointstamp}
 use Rattle.nd_paths.specs.declared.summary.Summary.{Summary}
 use Rattle.nd_paths.specs.Order.{Fits, CouldResultIn, effect}
 use Rattle.nd_paths.specs.Summary.{applied}
-use Rattle.nd_paths.specs.Walks.{keeps, DepthsAgree, IsWalkAlong}
+use Rattle.nd_paths.specs.Steps.{keeps}
 use Rattle.nd_paths.specs.Table.{held, IsLeast, IsTable}
 use Rattle.nd_paths.specs.Arrival.{TurnsInto, HasAtOrBefore, turned, HoldsFew, HoldsTurning, AreTurned}
 use Rattle.nd_paths.proofs.Decisions.{held_fit, leads_from_could}
-use Rattle.nd_paths.proofs.Graphs.{fits_size, depth_within, has_depth, length-effect, walk_along, along_walk}
+use Rattle.nd_paths.proofs.Graphs.{DepthsAgree, ends_inside, fits_size, depth_within, has_depth}
+use Rattle.nd_paths.proofs.Walks.{length-effect}
 use Rattle.nd_paths.proofs.Raised.{length-applied}
 use Rattle.nd_paths.proofs.RowLemmas.{held_past}
 use Rattle.nd_paths.proofs.Unique.{is_summary}
@@ -73,13 +74,13 @@ module _ (row : List (Option Summary)) (b : ℕ) (t : Time) where
 
 module _ {Z : Type 0} (g : Dataflow) (rows : List (Vec (Option Summary) Z)) (table : IsTable g rows) where
   -- each held summary leaves at most max_depth counters
-  pub holds_few : (s : Pointstamp) (b : ℕ) (row : List (Option Summary)) → Fits g s → b < length (depths g) → IsLeast (depths g) (arcs g) s.location (held row) → HoldsFew row b (length s.time.counters)
+  pub holds_few : (s : Pointstamp) (b : ℕ) (row : List (Option Summary)) → Fits g s → b < length (depths g) → IsLeast g s.location (held row) → HoldsFew row b (length s.time.counters)
   holds_few s b row fits inside least r u e =
       let fit = held_fit g rows table s.location b row least r u e in
       (omega (arith, fit.0, (fits_size g s fits).1), omega (arith, fit.1, table.deep b 0 inside))
 
   -- each of the times comes from a walk
-  pub each_turned : (s : Pointstamp) (b : ℕ) (row : List (Option Summary)) (times : List Time) → Fits g s → IsLeast (depths g) (arcs g) s.location (held row) → AreTurned row b s.time times → All (TurnsInto g s b) times
+  pub each_turned : (s : Pointstamp) (b : ℕ) (row : List (Option Summary)) (times : List Time) → Fits g s → IsLeast g s.location (held row) → AreTurned row b s.time times → All (TurnsInto g s b) times
   each_turned s b row times fits least turned k d lt =
       let (r, u, e, is) = turned.each k d lt in
       let (w, walk, same, _) = least.walks b r u e in
@@ -88,12 +89,12 @@ module _ {Z : Type 0} (g : Dataflow) (rows : List (Vec (Option Summary) Z)) (tab
       record {
         fits = fits;
         walk = w;
-        leads = along_walk g w s.location b walk;
+        leads = walk;
         time = is ∙ ap (λ c. record { epoch = s.time.epoch; counters = c }) (of.does s.time.counters (size.1 ∙ sym (depth_within g s.location of.depth of.has_depth).1));
       }
 
   -- each time that the pointstamp could result in has one of the times at or before it
-  pub least_turned : (s t : Pointstamp) (row : List (Option Summary)) (times : List Time) → IsLeast (depths g) (arcs g) s.location (held row) → AreTurned row t.location s.time times → CouldResultIn g s t → HasAtOrBefore times t.time
+  pub least_turned : (s t : Pointstamp) (row : List (Option Summary)) (times : List Time) → IsLeast g s.location (held row) → AreTurned row t.location s.time times → CouldResultIn g s t → HasAtOrBefore times t.time
   least_turned s t row times least turned could =
       let (r, u, e, less) = leads_from_could g rows table s t row least could in
       let fit = held_fit g rows table s.location t.location row least r u e in
@@ -102,20 +103,12 @@ module _ {Z : Type 0} (g : Dataflow) (rows : List (Vec (Option Summary) Z)) (tab
       let depth : length (applied u s.time.counters) ≡ length t.time.counters = length-applied u s.time.counters (omega (arith, fit.0, size.1)) ∙ fit.1 ∙ sym size'.1 in
       (record { epoch = s.time.epoch; counters = applied u s.time.counters }, turned.all r u e, record { depth = depth; epoch = could.before.epoch; counters = less })
 
--- a walk ends at a location of the graph
-ends_inside : (ds : List ℕ) (xs : List Arc) → DepthsAgree ds xs → (w : List Arc) (a b : ℕ) → a < length ds → IsWalkAlong xs a b w → b < length ds
-ends_inside ds xs agree [] a b inside same = omega (arith, inside, same)
-ends_inside ds xs agree (x ∷ w) a b inside walk =
-    let (k, lt, is) = walk.0 in
-    ends_inside ds xs agree w x.to b (subst (λ y. y.to < length ds) is (agree k x lt).to) walk.2
-
 -- a pointstamp could result in the time into which a walk turns its own
-pub turned_on : (g : Dataflow) → DepthsAgree (depths g) (arcs g) → (s : Pointstamp) (x : ℕ) (t : Time) → TurnsInto g s x t → CouldResultIn g s (record { location = x; time = t })
+pub turned_on : (g : Dataflow) → DepthsAgree g → (s : Pointstamp) (x : ℕ) (t : Time) → TurnsInto g s x t → CouldResultIn g s (record { location = x; time = t })
 turned_on g agree s x t h =
     let c : List ℕ = s.time.counters in
-    let along = walk_along g h.walk s.location x h.leads in
-    let inside : x < length (depths g) = ends_inside (depths g) (arcs g) agree h.walk s.location x (fits_size g s h.fits).0 along in
-    let size : length (effect h.walk c) ≡ slice_index (depths g) x = length-effect g h.walk s.location x c agree along (fits_size g s h.fits).1 in
+    let inside : x < length (depths g) = ends_inside g agree h.walk s.location x (fits_size g s h.fits).0 h.leads in
+    let size : length (effect h.walk c) ≡ slice_index (depths g) x = length-effect g h.walk s.location x c agree h.leads (fits_size g s h.fits).1 in
     let same : length t.counters ≡ length (effect h.walk c) = ap (λ (u : Time). length u.counters) h.time in
     record {
       fits_s = h.fits;

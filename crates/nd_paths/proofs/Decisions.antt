@@ -8,42 +8,41 @@ use Rattle.nd_paths.specs.declared.point.Pointstamp.{Pointstamp}
 use Rattle.nd_paths.specs.declared.summary.Summary.{Summary}
 use Rattle.nd_paths.specs.Order.{Fits, CouldResultIn, IsWalk, effect}
 use Rattle.nd_paths.specs.Summary.{applied}
-use Rattle.nd_paths.specs.Walks.{keeps, summary_of}
+use Rattle.nd_paths.specs.Steps.{keeps, summary_of}
 use Rattle.nd_paths.specs.Table.{held, IsLeast, SomeLeads, HeldFit, HoldsAny, IsTable}
 use Rattle.nd_paths.proofs.Orders.{most_trans}
 use Rattle.nd_paths.proofs.Summaries.{IsFor, applied-AtMost}
-use Rattle.nd_paths.proofs.Walks.{IsFor-walk, applied-walk}
-use Rattle.nd_paths.proofs.Graphs.{fits_size, length-effect, along_walk, walk_along}
+use Rattle.nd_paths.proofs.Graphs.{fits_size}
+use Rattle.nd_paths.proofs.Walks.{IsFor-walk, applied-walk, length-effect}
 
 module _ {Z : Type 0} (g : Dataflow) (rows : List (Vec (Option Summary) Z)) (h : IsTable g rows) where
-  pub row_least : (a : ℕ) (v : Vec (Option Summary) Z) (row : List (Option Summary)) → a < length (depths g) → v ≡ get_or rows a v → row ≡ v.items → (length row ≡ length (depths g) * keeps) × IsLeast (depths g) (arcs g) a (held row)
+  pub row_least : (a : ℕ) (v : Vec (Option Summary) Z) (row : List (Option Summary)) → a < length (depths g) → v ≡ get_or rows a v → row ≡ v.items → (length row ≡ length (depths g) * keeps) × IsLeast g a (held row)
   row_least a v row l e q =
-      let p = h.least.1 a v l in
       let is : (get_or rows a v).items ≡ row = ap (λ u. u.items) (sym e) ∙ sym q in
-      (ap length (sym is) ∙ p.0, subst (λ r. IsLeast (depths g) (arcs g) a (held r)) is p.1)
+      (ap length (sym is) ∙ h.long a v l, subst (λ r. IsLeast g a (held r)) is (h.least a v l))
 
-  pub held_fit : (a b : ℕ) (row : List (Option Summary)) → IsLeast (depths g) (arcs g) a (held row) → HeldFit row b (slice_index (depths g) a) (slice_index (depths g) b)
+  pub held_fit : (a b : ℕ) (row : List (Option Summary)) → IsLeast g a (held row) → HeldFit row b (slice_index (depths g) a) (slice_index (depths g) b)
   held_fit a b row least r u e =
       let (w, walk, same, _) = least.walks b r u e in
-      let i = subst (IsFor (slice_index (depths g) a) (slice_index (depths g) b)) (sym same) (IsFor-walk (depths g) (arcs g) w a b h.agree walk) in
+      let i = subst (IsFor (slice_index (depths g) a) (slice_index (depths g) b)) (sym same) (IsFor-walk g w a b h.agree walk) in
       (i.kept, i.depth)
 
-  pub held_fit_points : (s t : Pointstamp) (row : List (Option Summary)) → Fits g s → Fits g t → IsLeast (depths g) (arcs g) s.location (held row) → HeldFit row t.location (length s.time.counters) (length t.time.counters)
+  pub held_fit_points : (s t : Pointstamp) (row : List (Option Summary)) → Fits g s → Fits g t → IsLeast g s.location (held row) → HeldFit row t.location (length s.time.counters) (length t.time.counters)
   held_fit_points s t row f f' least r u e =
       let fit = held_fit s.location t.location row least r u e in
       (omega (arith, fit.0, (fits_size g s f).1), fit.1 ∙ sym (fits_size g t f').1)
 
-  pub could_from_leads : (s t : Pointstamp) (row : List (Option Summary)) → Fits g s → Fits g t → IsLeast (depths g) (arcs g) s.location (held row) → s.time.epoch ≤ t.time.epoch → SomeLeads row t.location s.time.counters t.time.counters → CouldResultIn g s t
+  pub could_from_leads : (s t : Pointstamp) (row : List (Option Summary)) → Fits g s → Fits g t → IsLeast g s.location (held row) → s.time.epoch ≤ t.time.epoch → SomeLeads row t.location s.time.counters t.time.counters → CouldResultIn g s t
   could_from_leads s t row f f' least epochs (r, u, e, less) =
       let c : List ℕ = s.time.counters in
       let (w, walk, same, _) = least.walks t.location r u e in
       let size = (fits_size g s f).1 in
-      let does : applied u c ≡ effect w c = ap (λ v. applied v c) same ∙ applied-walk (depths g) w s.location c size in
+      let does : applied u c ≡ effect w c = ap (λ v. applied v c) same ∙ applied-walk g w s.location c size in
       record {
         fits_s = f;
         fits_t = f';
         walk = w;
-        leads = along_walk g w s.location t.location walk;
+        leads = walk;
         before = record {
           depth = length-effect g w s.location t.location c h.agree walk size ∙ sym (fits_size g t f').1;
           epoch = epochs;
@@ -51,26 +50,25 @@ module _ {Z : Type 0} (g : Dataflow) (rows : List (Vec (Option Summary) Z)) (h :
         };
       }
 
-  pub leads_from_could : (s t : Pointstamp) (row : List (Option Summary)) → IsLeast (depths g) (arcs g) s.location (held row) → CouldResultIn g s t → SomeLeads row t.location s.time.counters t.time.counters
+  pub leads_from_could : (s t : Pointstamp) (row : List (Option Summary)) → IsLeast g s.location (held row) → CouldResultIn g s t → SomeLeads row t.location s.time.counters t.time.counters
   leads_from_could s t row least could =
       let c : List ℕ = s.time.counters in
       let w : List Arc = could.walk in
-      let whole : Summary = summary_of (depths g) s.location w in
-      let walk = walk_along g w s.location t.location could.leads in
+      let whole : Summary = summary_of g s.location w in
       let size = (fits_size g s could.fits_s).1 in
-      let (u, e, m) = least.covers w t.location walk in
-      let fits = IsFor-walk (depths g) (arcs g) w s.location t.location h.agree walk in
+      let (u, e, m) = least.covers w t.location could.leads in
+      let fits = IsFor-walk g w s.location t.location h.agree could.leads in
       let less = applied-AtMost u whole (slice_index (depths g) s.location) (slice_index (depths g) t.location) c fits size m in
-      let at' : IsLexicallyAtMost (applied u c) (effect w c) = subst (IsLexicallyAtMost (applied u c)) (applied-walk (depths g) w s.location c size) less in
+      let at' : IsLexicallyAtMost (applied u c) (effect w c) = subst (IsLexicallyAtMost (applied u c)) (applied-walk g w s.location c size) less in
       (whole.keep, u, e, most_trans (applied u c) (effect w c) t.time.counters at' could.before.counters)
 
 -- a summary is held for a location exactly if a walk leads there
-pub walk_from_held : (g : Dataflow) (a b : ℕ) (row : List (Option Summary)) → IsLeast (depths g) (arcs g) a (held row) → HoldsAny row b → (w : List Arc) × IsWalk g a w b
+pub walk_from_held : (g : Dataflow) (a b : ℕ) (row : List (Option Summary)) → IsLeast g a (held row) → HoldsAny row b → (w : List Arc) × IsWalk g a w b
 walk_from_held g a b row least (r, u, e) =
     let (w, walk, _, _) = least.walks b r u e in
-    (w, along_walk g w a b walk)
+    (w, walk)
 
-pub held_from_walk : (g : Dataflow) (a b : ℕ) (row : List (Option Summary)) → IsLeast (depths g) (arcs g) a (held row) → (w : List Arc) × IsWalk g a w b → HoldsAny row b
+pub held_from_walk : (g : Dataflow) (a b : ℕ) (row : List (Option Summary)) → IsLeast g a (held row) → (w : List Arc) × IsWalk g a w b → HoldsAny row b
 held_from_walk g a b row least (w, walk) =
-    let (u, found, _) = least.covers w b (walk_along g w a b walk) in
-    ((summary_of (depths g) a w).keep, u, found)
+    let (u, found, _) = least.covers w b (walk) in
+    ((summary_of g a w).keep, u, found)

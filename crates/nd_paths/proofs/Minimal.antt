@@ -9,7 +9,7 @@ use Rattle.nd_paths.specs.declared.summary.Summary.{Summary}
 use Rattle.nd_paths.specs.Order.{Fits, CouldResultIn, IsStrictlyBefore}
 use Rattle.nd_paths.specs.Laws.{IsMinimalAmong}
 use Rattle.nd_paths.specs.Summary.{applied}
-use Rattle.nd_paths.specs.Walks.{keeps}
+use Rattle.nd_paths.specs.Steps.{keeps}
 use Rattle.nd_paths.specs.Table.{held, SomeLeads, HeldFit, IsTable}
 use Rattle.nd_paths.proofs.Orders.{smaller_irrefl, then_at, compared}
 use Rattle.nd_paths.proofs.Laws.{In, minimal}
@@ -17,7 +17,6 @@ use Rattle.nd_paths.proofs.Raised.{length-applied}
 use Rattle.nd_paths.proofs.RowLemmas.{held_past}
 use Rattle.nd_paths.proofs.Graphs.{fits_size, has_depth}
 use Rattle.nd_paths.proofs.Decisions.{held_fit_points, could_from_leads, leads_from_could}
-use Rattle.nd_paths.proofs.TableLemmas.{accepted_inside}
 use Rattle.nd_paths.proofs.PointOrder.{could_refl, could_antisym, strictly_trans}
 
 abbrev pub Decided : Type 0 → Type 0
@@ -91,14 +90,14 @@ module _ {Z : Type 0} (g : Dataflow) (rows : List (Vec (Option Summary) Z)) (h :
   dec_fitting : (s t : Pointstamp) → Fits g s → Fits g t → Decided (CouldResultIn g s t)
   dec_fitting s t f f' =
       let inside : s.location < length (depths g) = (fits_size g s f).0 in
-      let d : Vec (Option Summary) Z = some_row rows (omega (arith, h.least.0, inside)) in
+      let d : Vec (Option Summary) Z = some_row rows (omega (arith, h.count, inside)) in
       let v : Vec (Option Summary) Z = get_or rows s.location d in
-      let p = h.least.1 s.location d inside in
+      let least = h.least s.location d inside in
       elim (cases_lt t.time.epoch s.time.epoch) [
         | inl late ↦ inr (λ k. omega (arith, k.before.epoch))
-        | inr in' ↦ elim (dec_leads v.items t.location s.time.counters t.time.counters (held_fit_points g rows h s t v.items f f' p.1)) [
-          | inl leads ↦ inl (could_from_leads g rows h s t v.items f f' p.1 in' leads)
-          | inr none ↦ inr (λ k. none (leads_from_could g rows h s t v.items p.1 k))
+        | inr in' ↦ elim (dec_leads v.items t.location s.time.counters t.time.counters (held_fit_points g rows h s t v.items f f' least)) [
+          | inl leads ↦ inl (could_from_leads g rows h s t v.items f f' least in' leads)
+          | inr none ↦ inr (λ k. none (leads_from_could g rows h s t v.items least k))
         ]
       ]
 
@@ -113,7 +112,7 @@ module _ {Z : Type 0} (g : Dataflow) (rows : List (Vec (Option Summary) Z)) (h :
   dec_strictly s t =
       elim (dec_could s t) [
         | inl p ↦ elim (dec_could t s) [
-          | inl q ↦ inr (λ k. k.1 (could_antisym g s t (accepted_inside g rows h) p q))
+          | inl q ↦ inr (λ k. k.1 (could_antisym g s t h.accepted p q))
           | inr none ↦ inl (p, λ e. none (subst (λ v. CouldResultIn g v s) e (could_refl g s p.fits_s)))
         ]
         | inr none ↦ inr (λ k. none k.0)
@@ -122,5 +121,5 @@ module _ {Z : Type 0} (g : Dataflow) (rows : List (Vec (Option Summary) Z)) (h :
   -- among finitely many points there is one such that no other is before it
   pub minimal_point : (p : Pointstamp) (ps : List Pointstamp) → (m : Pointstamp) × IsMinimalAmong g (p ∷ ps) m
   minimal_point p ps =
-      let (m, i, low) = minimal (IsStrictlyBefore g) dec_strictly (λ x k. k.1 refl) (λ x y z. strictly_trans g x y z (accepted_inside g rows h)) p ps in
+      let (m, i, low) = minimal (IsStrictlyBefore g) dec_strictly (λ x k. k.1 refl) (λ x y z. strictly_trans g x y z h.accepted) p ps in
       (m, record { among = in_contains (p ∷ ps) m i; none = λ q c b. low q (contains_in (p ∷ ps) q c.0 c.1 c.2) b })

@@ -5,11 +5,8 @@ use Rattle.nd_graph.specs.declared.graph.Arc.{Arc}
 use Rattle.nd_graph.specs.Graph.{Dataflow}
 use Rattle.nd_paths.specs.declared.point.Pointstamp.{Pointstamp}
 use Rattle.nd_paths.specs.Order.{Fits, CouldResultIn, IsStrictlyBefore, IsAccepted, IsWalk, effect}
+use Rattle.nd_paths.proofs.Graphs.{walks_joined}
 use Rattle.nd_paths.proofs.Orders.{smaller_irrefl, then_at, most_trans, most_antisym, effect_mono, effect-append, same_depth}
-
-walks_chained : (g : Dataflow) (w v : List Arc) (a b c : ℕ) → IsWalk g a w b → IsWalk g b v c → IsWalk g a (w ++ v) c
-walks_chained g [] v a b c h k = subst (λ n. IsWalk g n v c) (sym h) k
-walks_chained g (x ∷ w) v a b c h k = (h.0, h.1, walks_chained g w v x.to b c h.2 k)
 
 -- two walks, one after the other
 joined_depth : (w v : List Arc) (c d e : List ℕ) → length (effect w c) ≡ length d → length (effect v d) ≡ length e → length (effect (w ++ v) c) ≡ length e
@@ -27,7 +24,7 @@ could_trans g s t u h k = record {
   fits_s = h.fits_s;
   fits_t = k.fits_t;
   walk = h.walk ++ k.walk;
-  leads = walks_chained g h.walk k.walk s.location t.location u.location h.leads k.leads;
+  leads = walks_joined g h.walk k.walk s.location t.location u.location h.leads k.leads;
   before = record {
     depth = joined_depth h.walk k.walk s.time.counters t.time.counters u.time.counters h.before.depth k.before.depth;
     epoch = omega (arith, h.before.epoch, k.before.epoch);

@@ -5,7 +5,7 @@ use Rattle.std.proofs.lemmas.Nat.{same_from_place}
 use Rattle.std.proofs.lemmas.List.{get_or-set_same, get_or-set_other, length-set}
 use Rattle.nd_graph.specs.declared.graph.Arc.{Arc}
 use Rattle.nd_paths.specs.declared.summary.Summary.{Summary}
-use Rattle.nd_paths.specs.Walks.{keeps, step, grows, IsWithin, AtMost}
+use Rattle.nd_paths.specs.Steps.{keeps, step, grows, IsWithin, AtMost}
 use Rattle.nd_time.specs.Limits.{max_depth, max_counter}
 use Rattle.nd_paths.specs.Table.{held, Covers, CanRelax, Relaxed, Quiet, Written}
 use Rattle.nd_paths.proofs.Summaries.{step-keep, AtMost-trans, AtMost-refl}

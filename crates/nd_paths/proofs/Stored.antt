@@ -8,7 +8,7 @@ use Rattle.nd_time.specs.Time.{IsLexicallyAtMost}
 use Rattle.nd_time.specs.Lexical.{at_most, compares}
 use Rattle.nd_graph.specs.declared.op.Action.TheVariants.{Egress, Feedback}
 use Rattle.nd_paths.specs.declared.summary.Summary.{Summary}
-use Rattle.nd_paths.specs.Walks.{step, then_act, AtMost}
+use Rattle.nd_paths.specs.Steps.{step, then_act, AtMost}
 use Rattle.nd_paths.proofs.Orders.{compared}
 use Rattle.nd_paths.proofs.Raised.{egress_front, feedback_front}
 

@@ -10,15 +10,19 @@ use Rattle.nd_graph.specs.Graph.{LeadsTo, acted}
 use Rattle.nd_paths.specs.declared.summary.Summary.{Summary}
 use Rattle.nd_paths.specs.Order.{effect}
 use Rattle.nd_paths.specs.Summary.{raised, applied, IsAtMost}
-use Rattle.nd_paths.specs.Walks.{identity, then_act, step, after, AtMost}
+use Rattle.nd_paths.specs.Steps.{identity, then_act, step, after, AtMost}
 use Rattle.nd_paths.proofs.Orders.{smaller_front, smaller_back, most_trans, compared, act_mono, length-acted, length-egress, length-feedback}
-use Rattle.nd_paths.proofs.Raised.{applied-identity, raised_smaller, feedback_raised, feedback_front, egress_front, egress_kept, length-raised}
+use Rattle.nd_paths.proofs.Raised.{applied-identity, raised_smaller, feedback_raised, feedback_front, egress_front, egress_kept, length-applied}
 
 -- s applies to times of depth d, and leaves times of depth e
 pub record IsFor (d e : ℕ) (s : Summary) : Type 0 where
   pub kept : s.keep ≤ d
   pub depth : s.keep + length s.constants ≡ e
   pub top : s.keep ≡ 0 → s.add ≡ 0
+
+-- how many counters a summary leaves
+pub length-applied_for : (d e : ℕ) (s : Summary) (c : List ℕ) → IsFor d e s → length c ≡ d → length (applied s c) ≡ e
+length-applied_for d e s c f h = length-applied s c (omega (arith, f.kept)) ∙ f.depth
 
 pub IsFor-identity : (d : ℕ) → IsFor d d (identity d)
 IsFor-identity d = record { kept = omega arith; depth = omega arith; top = λ _. refl }

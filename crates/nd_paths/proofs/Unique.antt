@@ -4,17 +4,17 @@ use Rattle.std.specs.Prelude.{slice_index}
 use Rattle.std.proofs.lemmas.Bool.{cases_lt}
 use Rattle.std.proofs.lemmas.List.{length-replicate, length-map, get_or-replicate, drop_at}
 use Rattle.nd_graph.specs.declared.graph.Arc.{Arc}
-use Rattle.nd_graph.specs.Graph.{Dataflow, arcs, depths, location_count, depth_past_vertex}
+use Rattle.nd_graph.specs.Graph.{Dataflow, depths}
 use Rattle.nd_paths.specs.declared.summary.Summary.{Summary}
-use Rattle.nd_paths.specs.Order.{effect}
+use Rattle.nd_paths.specs.Order.{IsWalk, effect}
 use Rattle.nd_paths.specs.Summary.{raised, applied, IsSummaryOf, IsAtMost, IsLeastSummary, AreLeastSummaries}
-use Rattle.nd_paths.specs.Walks.{DepthsAgree, IsWalkAlong, summary_of, AtMost}
+use Rattle.nd_paths.specs.Steps.{summary_of, AtMost}
 use Rattle.nd_paths.specs.Table.{held, IsLeast, IsListed, KeepsPlaces}
 use Rattle.nd_paths.proofs.Raised.{length-raised, length-applied}
 use Rattle.nd_paths.proofs.Summaries.{IsFor}
 use Rattle.nd_paths.proofs.SummaryLemmas.{at_constant, at_last}
-use Rattle.nd_paths.proofs.Walks.{IsFor-walk, applied-walk}
-use Rattle.nd_paths.proofs.Graphs.{depth_within, has_depth, length-effect, along_walk, walk_along}
+use Rattle.nd_paths.proofs.Graphs.{DepthsAgree, depth_within, has_depth}
+use Rattle.nd_paths.proofs.Walks.{IsFor-walk, applied-walk, length-effect}
 
 -- ---- what a summary does to counters that are all the same
 
@@ -73,42 +73,36 @@ same_summary d e s t f f' same =
 
 -- ---- the summary of a walk
 
-module _ (g : Dataflow) (agree : DepthsAgree (depths g) (arcs g)) where
+module _ (g : Dataflow) (agree : DepthsAgree g) where
   -- the walk's summary, arc by arc, is a summary of the walk
-  pub is_summary : (w : List Arc) (a b : ℕ) (s : Summary) → a < length (depths g) → IsWalkAlong (arcs g) a b w → s ≡ summary_of (depths g) a w → IsSummaryOf g a w s
+  pub is_summary : (w : List Arc) (a b : ℕ) (s : Summary) → a < length (depths g) → IsWalk g a w b → s ≡ summary_of g a w → IsSummaryOf g a w s
   is_summary w a b s inside walk is =
       let d : ℕ = slice_index (depths g) a in
-      let f : IsFor d (slice_index (depths g) b) s = subst (IsFor d (slice_index (depths g) b)) (sym is) (IsFor-walk (depths g) (arcs g) w a b agree walk) in
+      let f : IsFor d (slice_index (depths g) b) s = subst (IsFor d (slice_index (depths g) b)) (sym is) (IsFor-walk g w a b agree walk) in
       record {
         depth = d;
         has_depth = has_depth g a d inside refl;
         kept = f.kept;
         top = f.top;
-        does = λ c size. ap (λ u. applied u c) is ∙ applied-walk (depths g) w a c size;
+        does = λ c size. ap (λ u. applied u c) is ∙ applied-walk g w a c size;
       }
 
   -- each summary of the walk is that one
-  pub only_summary : (w : List Arc) (a b : ℕ) (s : Summary) → IsWalkAlong (arcs g) a b w → IsSummaryOf g a w s → s ≡ summary_of (depths g) a w
+  pub only_summary : (w : List Arc) (a b : ℕ) (s : Summary) → IsWalk g a w b → IsSummaryOf g a w s → s ≡ summary_of g a w
   only_summary w a b s walk h =
       let d : ℕ = slice_index (depths g) a in
       let e : ℕ = slice_index (depths g) b in
       let is : h.depth ≡ d = (depth_within g a h.depth h.has_depth).1 in
-      let does : (c : List ℕ) → length c ≡ d → applied s c ≡ applied (summary_of (depths g) a w) c = λ c size.
-      h.does c (size ∙ sym is) ∙ sym (applied-walk (depths g) w a c size) in
+      let does : (c : List ℕ) → length c ≡ d → applied s c ≡ applied (summary_of g a w) c = λ c size.
+      h.does c (size ∙ sym is) ∙ sym (applied-walk g w a c size) in
       let o : List ℕ = replicate d 0 in
       let whole : length o ≡ d = length-replicate d 0 in
       let left : length (applied s o) ≡ s.keep + length s.constants = length-applied s o (omega (arith, h.kept)) in
       let depth : s.keep + length s.constants ≡ e = sym left ∙ ap length (h.does o (whole ∙ sym is)) ∙ length-effect g w a b o agree walk whole in
       let f : IsFor d e s = record { kept = omega (arith, h.kept); depth = depth; top = h.top } in
-      same_summary d e s (summary_of (depths g) a w) f (IsFor-walk (depths g) (arcs g) w a b agree walk) does
+      same_summary d e s (summary_of g a w) f (IsFor-walk g w a b agree walk) does
 
-pub length-depths : (g : Dataflow) → length (depths g) ≡ location_count g
-length-depths g =
-    length-append (map (λ v. v.depth) g.vertices) (map (λ e. depth_past_vertex g.vertices e.from) g.edges)
-    ∙ ap (λ n. n + length (map (λ e. depth_past_vertex g.vertices e.from) g.edges)) (length-map g.vertices (λ v. v.depth))
-    ∙ ap (λ n. length g.vertices + n) (length-map g.edges (λ e. depth_past_vertex g.vertices e.from))
-
-module _ (g : Dataflow) (agree : DepthsAgree (depths g) (arcs g)) (a b : ℕ) (row : List (Option Summary)) (inside : a < length (depths g)) (least : IsLeast (depths g) (arcs g) a (held row)) where
+module _ (g : Dataflow) (agree : DepthsAgree g) (a b : ℕ) (row : List (Option Summary)) (inside : a < length (depths g)) (least : IsLeast g a (held row)) where
   pub keeps_places : KeepsPlaces row b
   keeps_places r s h =
       let (w, walk, is, at') = least.walks b r s h in
@@ -119,13 +113,12 @@ module _ (g : Dataflow) (agree : DepthsAgree (depths g) (arcs g)) (a b : ℕ) (r
       let (w, walk, is, _) = least.walks b s.keep s h in
       record {
         walk = w;
-        leads = along_walk g w a b walk;
+        leads = walk;
         summary = is_summary g agree w a b s inside walk is;
         least = λ v t leads of same.
-            let along = walk_along g v a b leads in
-            let whole : t ≡ summary_of (depths g) a v = only_summary g agree v a b t along of in
-            let (u, there, less) = least.covers v b along in
-            let keep : (summary_of (depths g) a v).keep ≡ s.keep = ap (λ x. x.keep) (sym whole) ∙ sym same in
+            let whole : t ≡ summary_of g a v = only_summary g agree v a b t leads of in
+            let (u, there, less) = least.covers v b leads in
+            let keep : (summary_of g a v).keep ≡ s.keep = ap (λ x. x.keep) (sym whole) ∙ sym same in
             let one : Some s ≡ Some u = sym h ∙ ap (held row b) (sym keep) ∙ there in
             let is' : u ≡ s = cc in
             (subst (λ x. AtMost x t) is' (subst (AtMost u) (sym whole) less)).least;
@@ -135,9 +128,8 @@ module _ (g : Dataflow) (agree : DepthsAgree (depths g) (arcs g)) (a b : ℕ) (r
   are_least list h = record {
     each = λ k d l. one_least (get_or list k d) (h.each k d l).1;
     all = λ w leads.
-        let along = walk_along g w a b leads in
-        let whole : Summary = summary_of (depths g) a w in
-        let (k, there, _) = least.covers w b along in
-        (whole, is_summary g agree w a b whole inside along refl, (k, h.all whole.keep k (omega arith) there, keeps_places whole.keep k there));
+        let whole : Summary = summary_of g a w in
+        let (k, there, _) = least.covers w b leads in
+        (whole, is_summary g agree w a b whole inside leads refl, (k, h.all whole.keep k (omega arith) there, keeps_places whole.keep k there));
     falling = h.falling;
   }

@@ -1,12 +1,13 @@
 -- A row of the table has for each location one position for each number of counters that a walk can keep.
-use Rattle.std.specs.Prelude.{◌≡◌, ◌⊎◌, ℕ, All, ◌+◌, ◌-◌, ◌*◌, ◌<◌, ◌≤◌, List, length, Option, Some, None, Vec, nat_lt, cond, Contains, slice_index_or, slice_set}
+use Rattle.std.specs.Prelude.{◌≡◌, ◌⊎◌, ℕ, All, ◌+◌, ◌-◌, ◌*◌, ◌<◌, ◌≤◌, List, length, Option, Some, None, Vec, nat_lt, cond, Contains, replicate, slice_index, slice_index_or, slice_set}
 use Rattle.nd_time.specs.Limits.{max_depth, max_counter}
 use Rattle.nd_time.specs.Time.{IsLexicallyAtMost}
 use Rattle.nd_graph.specs.declared.graph.Arc.{Arc}
-use Rattle.nd_graph.specs.Graph.{Dataflow, arcs, depths}
+use Rattle.nd_graph.specs.Graph.{ArcAgrees, Dataflow, arcs, depths}
 use Rattle.nd_paths.specs.declared.summary.Summary.{Summary}
 use Rattle.nd_paths.specs.Summary.{applied}
-use Rattle.nd_paths.specs.Walks.{keeps, Accepted, DepthsAgree, IsWalkAlong, step, grows, AtMost, IsWithin, summary_of}
+use Rattle.nd_paths.specs.Order.{IsAccepted, IsWalk}
+use Rattle.nd_paths.specs.Steps.{keeps, identity, step, grows, AtMost, IsWithin, summary_of}
 
 -- the summary at the position of location b for r kept counters, if there is one
 abbrev pub held : List (Option Summary) → ℕ → ℕ → Option Summary
@@ -38,19 +39,25 @@ Written old new x r =
 abbrev pub Relaxed : List (Option Summary) → List (Option Summary) → Arc → ℕ → Type 0
 Relaxed old new x r = Quiet old new x r ⊎ Written old new x r
 
+-- a row for a graph with locations of these depths, whose only entry is the identity at the location a
+abbrev pub start_row : List ℕ → ℕ → List (Option Summary)
+start_row ds a =
+    slice_set (replicate (length ds * keeps) None) (a * keeps + slice_index ds a) (Some (identity (slice_index ds a)))
+
 -- each entry is the summary of a walk from a, and keeps as many counters as its position says
-abbrev pub HasWalks : List ℕ → List Arc → ℕ → (ℕ → ℕ → Option Summary) → Type 0
-HasWalks depths arcs a row =
-    (b r : ℕ) (s : Summary) → row b r ≡ Some s → (w : List Arc) × IsWalkAlong arcs a b w × (s ≡ summary_of depths a w) × (s.keep ≡ r)
+abbrev pub HasWalks : Dataflow → ℕ → (ℕ → ℕ → Option Summary) → Type 0
+HasWalks g a row =
+    (b r : ℕ) (s : Summary) → row b r ≡ Some s → (w : List Arc) × IsWalk g a w b × (s ≡ summary_of g a w) × (s.keep ≡ r)
 
 -- the row covers each walk of at most this many arcs
-abbrev pub CoversShort : List ℕ → List Arc → ℕ → (ℕ → ℕ → Option Summary) → ℕ → Type 0
-CoversShort depths arcs a row limit = (w : List Arc) (b : ℕ) → length w ≤ limit → IsWalkAlong arcs a b w → Covers row b (summary_of depths a w)
+abbrev pub CoversShort : Dataflow → ℕ → (ℕ → ℕ → Option Summary) → ℕ → Type 0
+CoversShort g a row limit =
+    (w : List Arc) (b : ℕ) → length w ≤ limit → IsWalk g a w b → Covers row b (summary_of g a w)
 
 -- the row from a: its entries are summaries of walks, and each walk has an entry at most its summary
-pub record IsLeast (depths : List ℕ) (arcs : List Arc) (a : ℕ) (row : ℕ → ℕ → Option Summary) : Type 0 where
-  pub walks : HasWalks depths arcs a row
-  pub covers : (w : List Arc) (b : ℕ) → IsWalkAlong arcs a b w → Covers row b (summary_of depths a w)
+pub record IsLeast (g : Dataflow) (a : ℕ) (row : ℕ → ℕ → Option Summary) : Type 0 where
+  pub walks : HasWalks g a row
+  pub covers : (w : List Arc) (b : ℕ) → IsWalk g a w b → Covers row b (summary_of g a w)
 
 -- what shows that location a fails: an entry that some arc extends to a closed walk, which adds nothing
 abbrev pub ShowsFail : List Arc → ℕ → (ℕ → ℕ → Option Summary) → Type 0
@@ -73,18 +80,16 @@ HoldsAny row b = (r : ℕ) × (u : Summary) × (held row b r ≡ Some u)
 abbrev pub SomeLeads : List (Option Summary) → ℕ → List ℕ → List ℕ → Type 0
 SomeLeads row b c d = (r : ℕ) × (u : Summary) × (held row b r ≡ Some u) × IsLexicallyAtMost (applied u c) d
 
--- these are the rows of the locations below n, each with the least summaries
-abbrev pub AreLeast : {A : Type 0} → List ℕ → List Arc → List (Vec (Option Summary) A) → ℕ → Type 0
-AreLeast {A} depths arcs rows n =
-    (length rows ≡ n)
-    × ((a : ℕ) (d : Vec (Option Summary) A) → a < n → (length (slice_index_or rows a d).items ≡ length depths * keeps) × IsLeast depths arcs a (held (slice_index_or rows a d).items))
-
--- the graph is accepted, and the rows have the least summaries of its walks
+-- the graph is accepted, and there is a row for each location, with the least summaries of its walks
 pub record IsTable {A : Type 0} (g : Dataflow) (rows : List (Vec (Option Summary) A)) : Type 0 where
-  pub agree : DepthsAgree (depths g) (arcs g)
+  pub agree : All (ArcAgrees (depths g)) (arcs g)
   pub deep : All (λ d. d ≤ max_depth) (depths g)
-  pub accepted : Accepted (depths g) (arcs g)
-  pub least : AreLeast (depths g) (arcs g) rows (length (depths g))
+  pub accepted : IsAccepted g
+  pub count : length rows ≡ length (depths g)
+  pub long : (a : ℕ) (d : Vec (Option Summary) A) → a < length (depths g)
+      → length (slice_index_or rows a d).items ≡ length (depths g) * keeps
+  pub least : (a : ℕ) (d : Vec (Option Summary) A) → a < length (depths g)
+      → IsLeast g a (held (slice_index_or rows a d).items)
 
 -- the copies have the same items as the rows
 abbrev pub AreCopies : {A : Type 0} → List (Vec (Option Summary) A) → List (Vec (Option Summary) A) → Type 0

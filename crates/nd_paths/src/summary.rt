@@ -109,7 +109,7 @@ pub struct Summary {
 }
 
 impl Summary {
-    ghost use Rattle.nd_paths.specs.Walks.{step, grows, AtMost, IsWithin};
+    ghost use Rattle.nd_paths.specs.Steps.{step, grows, AtMost, IsWithin};
     ghost use Rattle.nd_paths.specs.Summary.{applied};
 
     /// Returns the summary of the empty walk from a location of this depth.

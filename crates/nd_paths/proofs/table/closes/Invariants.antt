@@ -1,6 +1,6 @@
 use Rattle.std.proofs.Common.{◌≡◌, ◌<◌, ℕ, Some}
 use Rattle.nd_paths.specs.declared.summary.Summary.{Summary}
-use Rattle.nd_paths.specs.Walks.{step}
+use Rattle.nd_paths.specs.Steps.{step}
 use Rattle.nd_paths.specs.Table.{held}
 use Rattle.nd_paths.proofs.table.closes.Given as goal
 

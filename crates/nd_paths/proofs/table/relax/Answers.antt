@@ -1,6 +1,6 @@
 use Rattle.std.proofs.Common.{◌≡◌, inl, inr, Some, refl, sym, subst, arith, rules}
 use Rattle.nd_paths.specs.declared.summary.Summary.{Summary}
-use Rattle.nd_paths.specs.Walks.{step, AtMost}
+use Rattle.nd_paths.specs.Steps.{step, AtMost}
 use Rattle.nd_paths.specs.Table.{held}
 use Rattle.nd_paths.proofs.RowLemmas.{next_keep, stays_quiet}
 use Rattle.nd_paths.proofs.table.relax.Goals as goal

@@ -2,7 +2,7 @@ use Rattle.std.proofs.Common.{◌<◌, length, sym, arith}
 use Rattle.nd_graph.specs.Graph.{Dataflow, depths}
 use Rattle.nd_paths.proofs.TableLemmas.{table_as}
 use Rattle.nd_paths.proofs.Decisions.{row_least, walk_from_held, held_from_walk}
-use Rattle.nd_paths.proofs.Unique.{length-depths}
+use Rattle.nd_paths.proofs.Graphs.{length-depths}
 use Rattle.nd_paths.proofs.paths.Paths.leads.Goals as goal
 
 pub returns : goal.returns

@@ -5,8 +5,7 @@ use Rattle.nd_paths.specs.Order.{Fits, CouldResultIn}
 use Rattle.nd_paths.specs.Arrival.{TurnsInto}
 use Rattle.nd_paths.proofs.Arrivals.{holds_few, each_turned, least_turned}
 use Rattle.nd_paths.proofs.Decisions.{row_least}
-use Rattle.nd_paths.proofs.Graphs.{fits_size}
-use Rattle.nd_paths.proofs.Unique.{length-depths}
+use Rattle.nd_paths.proofs.Graphs.{fits_size, length-depths}
 use Rattle.nd_paths.proofs.paths.Paths.reached.Goals as goal
 
 pub turned_by-requires-clause-few : goal.turned_by-requires-clause-few

@@ -1,8 +1,9 @@
 use Rattle.std.proofs.Common.{◌<◌, length, sym, arith}
 use Rattle.nd_graph.specs.Graph.{Dataflow, depths}
 use Rattle.nd_paths.proofs.TableLemmas.{table_as}
+use Rattle.nd_paths.proofs.Graphs.{length-depths}
 use Rattle.nd_paths.proofs.Decisions.{row_least}
-use Rattle.nd_paths.proofs.Unique.{keeps_places, are_least, length-depths}
+use Rattle.nd_paths.proofs.Unique.{keeps_places, are_least}
 use Rattle.nd_paths.proofs.paths.Paths.summaries.Goals as goal
 
 pub listed-requires-clause-places : goal.listed-requires-clause-places

@@ -1,7 +1,7 @@
 use Rattle.std.proofs.Common.{ap, ◌∙◌}
 use Rattle.std.specs.Option.{is_some}
 use Rattle.nd_graph.specs.declared.op.Action.TheVariants.{Egress, Feedback}
-use Rattle.nd_paths.specs.Walks.{step}
+use Rattle.nd_paths.specs.Steps.{step}
 use Rattle.nd_paths.proofs.Stored.{egress_end, egress_last, feedback_end, feedback_last}
 use Rattle.nd_paths.proofs.summary.Summary.past.Goals as goal
 

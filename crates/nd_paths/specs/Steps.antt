@@ -1,43 +1,18 @@
--- Walks over the depths and the arcs of a graph, and their summaries arc by arc.
-use Rattle.std.specs.Prelude.{◌≡◌, ℕ, ◌+◌, ◌-◌, ◌≤◌, All, Contains, List, [], ◌∷◌, length, slice_index}
+-- The summary of a walk, arc by arc.
+use Rattle.std.specs.Prelude.{◌≡◌, ℕ, ◌+◌, ◌-◌, ◌≤◌, All, List, [], ◌∷◌, length, slice_index}
 use Rattle.nd_time.specs.Limits.{max_depth}
-use Rattle.nd_time.specs.Time.{IsSmallerAtFirstDifference}
 use Rattle.nd_graph.specs.declared.op.Action.{Action}
 use Rattle.nd_graph.specs.declared.op.Action.TheVariants.{Identity, Ingress, Egress, Feedback}
 use Rattle.nd_graph.specs.declared.graph.Arc.{Arc}
-use Rattle.nd_graph.specs.Graph.{ArcAgrees, acted}
+use Rattle.nd_graph.specs.Graph.{Dataflow, acted, depths}
 use Rattle.nd_paths.specs.declared.summary.Summary.{Summary}
-use Rattle.nd_paths.specs.Order.{effect}
 use Rattle.nd_paths.specs.Summary.{IsAtMost}
 
 -- a walk keeps 0 to max_depth counters
 abbrev pub keeps : ℕ
 keeps = max_depth + 1
 
--- ---- walks
-
--- a list of arcs that leads from a to b
-abbrev pub IsWalkAlong : List Arc → ℕ → ℕ → List Arc → Type 0
-IsWalkAlong arcs a b [] = a ≡ b
-IsWalkAlong arcs a b (x ∷ w) = Contains arcs x × (x.from ≡ a) × IsWalkAlong arcs x.to b w
-
-abbrev pub DepthsAgree : List ℕ → List Arc → Type 0
-DepthsAgree depths arcs = All (ArcAgrees depths) arcs
-
--- every closed walk that is not empty strictly increases all counters of the location's depth
-abbrev pub Accepted : List ℕ → List Arc → Type 0
-Accepted depths arcs =
-    (l : ℕ) (x : Arc) (w : List Arc) (c : List ℕ) → IsWalkAlong arcs l l (x ∷ w) → length c ≡ slice_index depths l
-    → IsSmallerAtFirstDifference c (effect (x ∷ w) c)
-
--- some closed walk from l that is not empty fails to increase some counters of l's depth
-abbrev pub Fails : List ℕ → List Arc → ℕ → Type 0
-Fails depths arcs l =
-    (x : Arc) × (w : List Arc) × (c : List ℕ) × IsWalkAlong arcs l l (x ∷ w) × (length c ≡ slice_index depths l)
-    × (IsSmallerAtFirstDifference c (effect (x ∷ w) c) → ⊥)
-
--- ---- summaries
-
+-- the summary of the empty walk from a location of this depth
 abbrev pub identity : ℕ → Summary
 identity depth = record { keep = depth; add = 0; constants = [] }
 
@@ -59,8 +34,8 @@ after [] s = s
 after (x ∷ w) s = after w (step x.action s)
 
 -- the summary of a walk from a location
-abbrev pub summary_of : List ℕ → ℕ → List Arc → Summary
-summary_of depths a w = after w (identity (slice_index depths a))
+abbrev pub summary_of : Dataflow → ℕ → List Arc → Summary
+summary_of g a w = after w (identity (slice_index (depths g) a))
 
 -- s is at most t, and both keep the same number of counters and leave the same number
 pub record AtMost (s t : Summary) : Type 0 where
