@@ -1,5 +1,5 @@
 -- A graph is accepted exactly if each closed walk adds to a counter that it keeps; short walks are enough to decide it.
-use Rattle.std.proofs.Common.{◌≡◌, inl, inr, ℕ, zero, suc, ◌-◌, ◌*◌, ◌<◌, ◌≤◌, List, [], ◌∷◌, ◌++◌, length, take, drop, replicate, refl, sym, ◌∙◌, ap, subst, arith, length-append, length-take}
+use Rattle.std.proofs.Common.{◌≡◌, inl, inr, ℕ, zero, suc, ◌-◌, ◌*◌, ◌<◌, ◌≤◌, List, Option, [], ◌∷◌, ◌++◌, length, take, drop, replicate, refl, sym, ◌∙◌, ap, subst, arith, length-append, length-take}
 use Rattle.std.specs.Prelude.{slice_index}
 use Rattle.std.proofs.lemmas.Bool.{cases_lt}
 use Rattle.std.proofs.lemmas.List.{take-append-drop, length-replicate, take_at}
@@ -12,13 +12,13 @@ use Rattle.nd_paths.specs.declared.summary.Summary.{Summary}
 use Rattle.nd_paths.specs.Order.{FailsAt, IsAccepted, IsWalk, effect}
 use Rattle.nd_paths.specs.Summary.{raised, applied}
 use Rattle.nd_paths.specs.Steps.{summary_of, identity, then_act, step, after, AtMost}
-use Rattle.nd_paths.specs.Table.{Covers, CoversShort, HasWalks, ShowsFail}
+use Rattle.nd_paths.specs.Table.{held, Covers, CoversShort, HasWalks, ShowsFail}
 use Rattle.nd_paths.proofs.Orders.{smaller_irrefl, smaller_trans, smaller_front, length-acted}
 use Rattle.nd_paths.proofs.Raised.{raised-zero, raised_smaller, length-raised}
 use Rattle.nd_paths.proofs.Summaries.{IsFor, IsFor-step, length-applied_for, applied-Below, compared_summaries, AtMost-refl, AtMost-trans, AtMost-after, applied-after, step-keep, after-append}
 use Rattle.nd_paths.proofs.Graphs.{DepthsAgree, arc_leads, depth_within, has_depth, starts_inside, walks_joined}
 use Rattle.nd_paths.proofs.Walks.{IsFor-walk, IsFor-after, applied-walk}
-use Rattle.nd_paths.proofs.Tables.{Row, Covers-less}
+use Rattle.nd_paths.proofs.RowLemmas.{Covers-less}
 use Rattle.nd_paths.proofs.Cuts.{shorten, after-keep, walk_front, walk_back, end_of}
 
 top_keeps : (r a : ℕ) → (r ≡ 0 → a ≡ 0) → 0 < a → 0 < r
@@ -164,7 +164,7 @@ round_worse graph d g ok a s q f h more e =
     ]
 
 -- in an accepted graph a row that covers the short walks covers all walks
-pub covers_all : (graph : Dataflow) (n a : ℕ) (row : Row) → DepthsAgree graph → IsAccepted graph → slice_index (depths graph) a < n → CoversShort graph a row (n * length (depths graph)) → (w : List Arc) (b : ℕ) → IsWalk graph a w b → Covers row b (summary_of graph a w)
+pub covers_all : (graph : Dataflow) (n a : ℕ) (row : List (Option Summary)) → DepthsAgree graph → IsAccepted graph → slice_index (depths graph) a < n → CoversShort graph a row (n * length (depths graph)) → (w : List Arc) (b : ℕ) → IsWalk graph a w b → Covers row b (summary_of graph a w)
 covers_all graph n a row g ok low short w b h =
     let d : ℕ = slice_index (depths graph) a in
     let i : Summary = identity d in
@@ -175,7 +175,7 @@ pub last_arc : (x : Arc) (w : List Arc) → (v : List Arc) × (y : Arc) × (x �
 last_arc x [] = ([], x, refl)
 last_arc x (z ∷ w) = let (v, y, e) = last_arc z w in (x ∷ v, y, ap (λ u. x ∷ u) e)
 
-pub fails_shown : (graph : Dataflow) (n a : ℕ) (row : Row) → DepthsAgree graph → slice_index (depths graph) a < n → CoversShort graph a row (n * length (depths graph)) → FailsAt graph a → ShowsFail (arcs graph) a row
+pub fails_shown : (graph : Dataflow) (n a : ℕ) (row : List (Option Summary)) → DepthsAgree graph → slice_index (depths graph) a < n → CoversShort graph a row (n * length (depths graph)) → FailsAt graph a → ShowsFail (arcs graph) a row
 fails_shown graph n a row g low short fails =
     let d : ℕ = slice_index (depths graph) a in
     let i : Summary = identity d in
@@ -193,9 +193,9 @@ fails_shown graph n a row g low short fails =
     let last : (step y.action (after v i)).add ≡ (after (v ++ (y ∷ [])) i).add = ap (λ t. t.add) (sym (after-append v (y ∷ []) i)) in
     let all : (after (v ++ (y ∷ [])) i).add ≡ (after (x ∷ w) i).add = ap (λ t. (after t i).add) (sym e) in
     let none : (step y.action (after v i)).add ≡ 0 = last ∙ (all ∙ z) in
-    (y, (after k.walk i).keep, u, end.0, end.2, ap (λ b. row b (after k.walk i).keep) end.1 ∙ at', omega (arith, next.add, none))
+    (y, (after k.walk i).keep, u, end.0, end.2, ap (λ b. held row b (after k.walk i).keep) end.1 ∙ at', omega (arith, next.add, none))
 
-pub shown_fails : (graph : Dataflow) (a : ℕ) (row : Row) → DepthsAgree graph → HasWalks graph a row → ShowsFail (arcs graph) a row → FailsAt graph a
+pub shown_fails : (graph : Dataflow) (a : ℕ) (row : List (Option Summary)) → DepthsAgree graph → HasWalks graph a row → ShowsFail (arcs graph) a row → FailsAt graph a
 shown_fails graph a row g walks (x, r, s, in', to, at', z) =
     let (w, h, e, _) = walks x.from r s at' in
     let i : Summary = identity (slice_index (depths graph) a) in

@@ -8,13 +8,13 @@ use Rattle.nd_paths.specs.declared.summary.Summary.{Summary}
 use Rattle.nd_graph.specs.Graph.{Dataflow, arcs, depths}
 use Rattle.nd_paths.specs.Order.{FailsAt}
 use Rattle.nd_paths.specs.Steps.{keeps}
-use Rattle.nd_paths.specs.Table.{held, HasWalks, CoversShort, ShowsFail, IsTable}
+use Rattle.nd_paths.specs.Table.{held, HasWalks, CoversShort, IsTable}
 use Rattle.nd_paths.proofs.Graphs.{DepthsAgree, depth_within}
-use Rattle.nd_paths.proofs.Acceptance.{accepted_from_none, covers_all, fails_shown, shown_fails}
+use Rattle.nd_paths.proofs.Acceptance.{accepted_from_none, covers_all}
 
 -- the row covers short walks
 abbrev pub IsShort : Dataflow → ℕ → List (Option Summary) → Type 0
-IsShort graph a row = (length row ≡ length (depths graph) * keeps) × HasWalks graph a (held row) × CoversShort graph a (held row) (keeps * length (depths graph))
+IsShort graph a row = (length row ≡ length (depths graph) * keeps) × HasWalks graph a row × CoversShort graph a row (keeps * length (depths graph))
 
 -- what is known while the rows are computed: the rows so far, and that none of their locations fails
 pub record Made {Z : Type 0} (graph : Dataflow) (rows : List (Vec (Option Summary) Z)) (n : ℕ) : Type 0 where
@@ -53,11 +53,5 @@ made_table graph rows n g deep all h =
       least = λ a d l.
           let s = h.short a d (omega arith) in
           let low = deep a 0 l in
-          record { walks = s.1; covers = covers_all graph keeps a (held (get_or rows a d).items) g ok (omega arith) s.2 };
+          record { walks = s.1; covers = covers_all graph keeps a (get_or rows a d).items g ok (omega arith) s.2 };
     }
-
-pub shown : (graph : Dataflow) (a : ℕ) (row : List (Option Summary)) → DepthsAgree graph → IsShort graph a row → ShowsFail (arcs graph) a (held row) → FailsAt graph a
-shown graph a row g h s = shown_fails graph a (held row) g h.1 s
-
-pub not_shown : (graph : Dataflow) (a : ℕ) (row : List (Option Summary)) → DepthsAgree graph → slice_index (depths graph) a ≤ max_depth → IsShort graph a row → (ShowsFail (arcs graph) a (held row) → ⊥) → FailsAt graph a → ⊥
-not_shown graph a row g low h n f = n (fails_shown graph keeps a (held row) g (omega arith) h.2 f)

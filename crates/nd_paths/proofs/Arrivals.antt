@@ -10,14 +10,12 @@ use Rattle.nd_paths.specs.declared.point.Pointstamp.{Pointstamp}
 use Rattle.nd_paths.specs.declared.summary.Summary.{Summary}
 use Rattle.nd_paths.specs.Order.{Fits, CouldResultIn, effect}
 use Rattle.nd_paths.specs.Summary.{applied}
-use Rattle.nd_paths.specs.Steps.{keeps}
 use Rattle.nd_paths.specs.Table.{held, IsLeast, IsTable}
 use Rattle.nd_paths.specs.Arrival.{TurnsInto, HasAtOrBefore, turned, HoldsFew, HoldsTurning, AreTurned}
 use Rattle.nd_paths.proofs.Decisions.{held_fit, leads_from_could}
 use Rattle.nd_paths.proofs.Graphs.{DepthsAgree, ends_inside, fits_size, depth_within, has_depth}
 use Rattle.nd_paths.proofs.Walks.{length-effect}
 use Rattle.nd_paths.proofs.Raised.{length-applied}
-use Rattle.nd_paths.proofs.RowLemmas.{held_past}
 use Rattle.nd_paths.proofs.Unique.{is_summary}
 
 module _ (row : List (Option Summary)) (b : ℕ) (t : Time) where
@@ -26,13 +24,6 @@ module _ (row : List (Option Summary)) (b : ℕ) (t : Time) where
     pub short : length times ≤ n
     pub each : All (HoldsTurning row b t) times
     pub all : (r : ℕ) (s : Summary) → r < n → held row b r ≡ Some s → Contains times (turned s t)
-
-  pub turned_none : (times : List Time) → times ≡ [] → AreTurnedUpTo 0 times
-  turned_none times e = record {
-    short = let h = ap length e in omega arith;
-    each = λ k d lt. absurd (let h = ap length e in omega arith);
-    all = λ r s lt. absurd (omega arith);
-  }
 
   pub turned_skip : (n : ℕ) (times : List Time) → held row b n ≡ None → AreTurnedUpTo n times → AreTurnedUpTo (n + 1) times
   turned_skip n times none h = record {
@@ -62,25 +53,15 @@ module _ (row : List (Option Summary)) (b : ℕ) (t : Time) where
     ]);
   }
 
-  -- nothing is held for other keeps
-  held_few : (r : ℕ) (s : Summary) → held row b r ≡ Some s → r < keeps
-  held_few r s e = elim (cases_lt r keeps) [ inl less ↦ less | inr more ↦ (let none = held_past row b r more in absurd (cc (none, e))) ]
-
-  pub turned_done : (n : ℕ) (times : List Time) → keeps ≤ n → AreTurnedUpTo n times → AreTurned row b t times
-  turned_done n times past h = record {
-    each = h.each;
-    all = λ r s e. h.all r s (omega (arith, held_few r s e, past)) e;
-  }
-
 module _ {Z : Type 0} (g : Dataflow) (rows : List (Vec (Option Summary) Z)) (table : IsTable g rows) where
   -- each held summary leaves at most max_depth counters
-  pub holds_few : (s : Pointstamp) (b : ℕ) (row : List (Option Summary)) → Fits g s → b < length (depths g) → IsLeast g s.location (held row) → HoldsFew row b (length s.time.counters)
+  pub holds_few : (s : Pointstamp) (b : ℕ) (row : List (Option Summary)) → Fits g s → b < length (depths g) → IsLeast g s.location row → HoldsFew row b (length s.time.counters)
   holds_few s b row fits inside least r u e =
       let fit = held_fit g rows table s.location b row least r u e in
       (omega (arith, fit.0, (fits_size g s fits).1), omega (arith, fit.1, table.deep b 0 inside))
 
   -- each of the times comes from a walk
-  pub each_turned : (s : Pointstamp) (b : ℕ) (row : List (Option Summary)) (times : List Time) → Fits g s → IsLeast g s.location (held row) → AreTurned row b s.time times → All (TurnsInto g s b) times
+  pub each_turned : (s : Pointstamp) (b : ℕ) (row : List (Option Summary)) (times : List Time) → Fits g s → IsLeast g s.location row → AreTurned row b s.time times → All (TurnsInto g s b) times
   each_turned s b row times fits least turned k d lt =
       let (r, u, e, is) = turned.each k d lt in
       let (w, walk, same, _) = least.walks b r u e in
@@ -94,7 +75,7 @@ module _ {Z : Type 0} (g : Dataflow) (rows : List (Vec (Option Summary) Z)) (tab
       }
 
   -- each time that the pointstamp could result in has one of the times at or before it
-  pub least_turned : (s t : Pointstamp) (row : List (Option Summary)) (times : List Time) → IsLeast g s.location (held row) → AreTurned row t.location s.time times → CouldResultIn g s t → HasAtOrBefore times t.time
+  pub least_turned : (s t : Pointstamp) (row : List (Option Summary)) (times : List Time) → IsLeast g s.location row → AreTurned row t.location s.time times → CouldResultIn g s t → HasAtOrBefore times t.time
   least_turned s t row times least turned could =
       let (r, u, e, less) = leads_from_could g rows table s t row least could in
       let fit = held_fit g rows table s.location t.location row least r u e in

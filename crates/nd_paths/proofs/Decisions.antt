@@ -16,23 +16,23 @@ use Rattle.nd_paths.proofs.Graphs.{fits_size}
 use Rattle.nd_paths.proofs.Walks.{IsFor-walk, applied-walk, length-effect}
 
 module _ {Z : Type 0} (g : Dataflow) (rows : List (Vec (Option Summary) Z)) (h : IsTable g rows) where
-  pub row_least : (a : ℕ) (v : Vec (Option Summary) Z) (row : List (Option Summary)) → a < length (depths g) → v ≡ get_or rows a v → row ≡ v.items → (length row ≡ length (depths g) * keeps) × IsLeast g a (held row)
+  pub row_least : (a : ℕ) (v : Vec (Option Summary) Z) (row : List (Option Summary)) → a < length (depths g) → v ≡ get_or rows a v → row ≡ v.items → IsLeast g a row
   row_least a v row l e q =
       let is : (get_or rows a v).items ≡ row = ap (λ u. u.items) (sym e) ∙ sym q in
-      (ap length (sym is) ∙ h.long a v l, subst (λ r. IsLeast g a (held r)) is (h.least a v l))
+      subst (IsLeast g a) is (h.least a v l)
 
-  pub held_fit : (a b : ℕ) (row : List (Option Summary)) → IsLeast g a (held row) → HeldFit row b (slice_index (depths g) a) (slice_index (depths g) b)
+  pub held_fit : (a b : ℕ) (row : List (Option Summary)) → IsLeast g a row → HeldFit row b (slice_index (depths g) a) (slice_index (depths g) b)
   held_fit a b row least r u e =
       let (w, walk, same, _) = least.walks b r u e in
       let i = subst (IsFor (slice_index (depths g) a) (slice_index (depths g) b)) (sym same) (IsFor-walk g w a b h.agree walk) in
       (i.kept, i.depth)
 
-  pub held_fit_points : (s t : Pointstamp) (row : List (Option Summary)) → Fits g s → Fits g t → IsLeast g s.location (held row) → HeldFit row t.location (length s.time.counters) (length t.time.counters)
+  pub held_fit_points : (s t : Pointstamp) (row : List (Option Summary)) → Fits g s → Fits g t → IsLeast g s.location row → HeldFit row t.location (length s.time.counters) (length t.time.counters)
   held_fit_points s t row f f' least r u e =
       let fit = held_fit s.location t.location row least r u e in
       (omega (arith, fit.0, (fits_size g s f).1), fit.1 ∙ sym (fits_size g t f').1)
 
-  pub could_from_leads : (s t : Pointstamp) (row : List (Option Summary)) → Fits g s → Fits g t → IsLeast g s.location (held row) → s.time.epoch ≤ t.time.epoch → SomeLeads row t.location s.time.counters t.time.counters → CouldResultIn g s t
+  pub could_from_leads : (s t : Pointstamp) (row : List (Option Summary)) → Fits g s → Fits g t → IsLeast g s.location row → s.time.epoch ≤ t.time.epoch → SomeLeads row t.location s.time.counters t.time.counters → CouldResultIn g s t
   could_from_leads s t row f f' least epochs (r, u, e, less) =
       let c : List ℕ = s.time.counters in
       let (w, walk, same, _) = least.walks t.location r u e in
@@ -50,7 +50,7 @@ module _ {Z : Type 0} (g : Dataflow) (rows : List (Vec (Option Summary) Z)) (h :
         };
       }
 
-  pub leads_from_could : (s t : Pointstamp) (row : List (Option Summary)) → IsLeast g s.location (held row) → CouldResultIn g s t → SomeLeads row t.location s.time.counters t.time.counters
+  pub leads_from_could : (s t : Pointstamp) (row : List (Option Summary)) → IsLeast g s.location row → CouldResultIn g s t → SomeLeads row t.location s.time.counters t.time.counters
   leads_from_could s t row least could =
       let c : List ℕ = s.time.counters in
       let w : List Arc = could.walk in
@@ -63,12 +63,12 @@ module _ {Z : Type 0} (g : Dataflow) (rows : List (Vec (Option Summary) Z)) (h :
       (whole.keep, u, e, most_trans (applied u c) (effect w c) t.time.counters at' could.before.counters)
 
 -- a summary is held for a location exactly if a walk leads there
-pub walk_from_held : (g : Dataflow) (a b : ℕ) (row : List (Option Summary)) → IsLeast g a (held row) → HoldsAny row b → (w : List Arc) × IsWalk g a w b
+pub walk_from_held : (g : Dataflow) (a b : ℕ) (row : List (Option Summary)) → IsLeast g a row → HoldsAny row b → (w : List Arc) × IsWalk g a w b
 walk_from_held g a b row least (r, u, e) =
     let (w, walk, _, _) = least.walks b r u e in
     (w, walk)
 
-pub held_from_walk : (g : Dataflow) (a b : ℕ) (row : List (Option Summary)) → IsLeast g a (held row) → (w : List Arc) × IsWalk g a w b → HoldsAny row b
+pub held_from_walk : (g : Dataflow) (a b : ℕ) (row : List (Option Summary)) → IsLeast g a row → (w : List Arc) × IsWalk g a w b → HoldsAny row b
 held_from_walk g a b row least (w, walk) =
     let (u, found, _) = least.covers w b (walk) in
     ((summary_of g a w).keep, u, found)

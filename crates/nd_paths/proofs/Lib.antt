@@ -1,8 +1,6 @@
 pub mod Orders
 pub mod Summaries
 pub mod Walks
-pub mod Tables
-pub mod Laws
 pub mod Cuts
 pub mod Acceptance
 pub mod RowLemmas

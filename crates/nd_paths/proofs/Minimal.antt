@@ -1,7 +1,8 @@
 -- The order by walks can be decided, so finitely many points have a minimal one.
 use Rattle.std.proofs.Common.{◌≡◌, ◌⊎◌, inl, inr, ℕ, zero, suc, ◌+◌, ◌*◌, ◌<◌, ◌≤◌, Option, Some, None, List, [], ◌∷◌, length, get_or, refl, sym, ◌∙◌, subst, arith}
-use Rattle.std.specs.Prelude.{Contains, slice_index, slice_index_or, Vec}
+use Rattle.std.specs.Prelude.{Contains, slice_index, Vec}
 use Rattle.std.proofs.lemmas.Bool.{cases_lt, cases_eq}
+use Rattle.std.proofs.lemmas.List.Elements.{Contains-append_cases, Contains-append_right}
 use Rattle.nd_time.specs.Time.{IsLexicallyAtMost}
 use Rattle.nd_graph.specs.Graph.{Dataflow, depths}
 use Rattle.nd_paths.specs.declared.point.Pointstamp.{Pointstamp}
@@ -12,9 +13,8 @@ use Rattle.nd_paths.specs.Summary.{applied}
 use Rattle.nd_paths.specs.Steps.{keeps}
 use Rattle.nd_paths.specs.Table.{held, SomeLeads, HeldFit, IsTable}
 use Rattle.nd_paths.proofs.Orders.{smaller_irrefl, then_at, compared}
-use Rattle.nd_paths.proofs.Laws.{In, minimal}
 use Rattle.nd_paths.proofs.Raised.{length-applied}
-use Rattle.nd_paths.proofs.RowLemmas.{held_past}
+use Rattle.nd_paths.proofs.RowLemmas.{held_below}
 use Rattle.nd_paths.proofs.Graphs.{fits_size, has_depth}
 use Rattle.nd_paths.proofs.Decisions.{held_fit_points, could_from_leads, leads_from_could}
 use Rattle.nd_paths.proofs.PointOrder.{could_refl, could_antisym, strictly_trans}
@@ -56,10 +56,7 @@ unfolding Leads
 dec_leads row b c d fit =
     elim (some_below (Leads row b c d) (λ r. dec_held row b c d r (held row b r) refl fit) keeps) [
       | inl p ↦ inl (p.0, p.1.0, p.1.1, p.1.2)
-      | inr none ↦ inr (λ k. elim (cases_lt k.0 keeps) [
-        | inl low ↦ none k.0 low (k.1, k.2, k.3)
-        | inr past ↦ let q : None ≡ Some k.1 = sym (held_past row b k.0 past) ∙ k.2 in cc
-      ])
+      | inr none ↦ inr (λ k. none k.0 (held_below row b k.0 k.1 k.2) (k.1, k.2, k.3))
     ]
 
 dec_fits : (g : Dataflow) (s : Pointstamp) → Decided (Fits g s)
@@ -77,14 +74,27 @@ some_row : {Z : Type 0} (xs : List (Vec (Option Summary) Z)) → 0 < length xs �
 some_row [] l = absurd (omega arith)
 some_row (v ∷ xs) l = v
 
-in_contains : (xs : List Pointstamp) (x : Pointstamp) → In xs x → Contains xs x
-in_contains [] x i = absurd i
-in_contains (y ∷ xs) x i = elim i [ inl e ↦ (0, omega arith, e) | inr j ↦ (let c = in_contains xs x j in (suc c.0, omega (arith, c.1), c.2)) ]
+one_contained : {A : Type 0} (x y : A) → Contains (x ∷ []) y → x ≡ y
+one_contained x y (zero, l, e) = e
+one_contained x y (suc k, l, e) = absurd (omega arith)
 
-contains_in : (xs : List Pointstamp) (x : Pointstamp) (k : ℕ) → k < length xs → slice_index_or xs k x ≡ x → In xs x
-contains_in [] x k l e = absurd (omega arith)
-contains_in (y ∷ xs) x zero l e = inl e
-contains_in (y ∷ xs) x (suc k) l e = inr (contains_in xs x k (omega arith) e)
+-- an element of a list that is not empty, such that no other element is below it
+minimal : {A : Type 0} (lt : A → A → Type 0) → ((x y : A) → Decided (lt x y)) → ((x : A) → lt x x → ⊥) → ((x y z : A) → lt x y → lt y z → lt x z) → (x : A) (xs : List A) → (m : A) × Contains (x ∷ xs) m × ((y : A) → Contains (x ∷ xs) y → lt y m → ⊥)
+minimal {A} lt dec irr tr x [] = (x, (0, omega arith, refl), λ y h k. irr x (subst (λ z. lt z x) (sym (one_contained x y h)) k))
+minimal {A} lt dec irr tr x (z ∷ zs) = least_with (minimal lt dec irr tr z zs)
+  where
+    least_with : (m : A) × Contains (z ∷ zs) m × ((y : A) → Contains (z ∷ zs) y → lt y m → ⊥) → (m : A) × Contains (x ∷ z ∷ zs) m × ((y : A) → Contains (x ∷ z ∷ zs) y → lt y m → ⊥)
+    least_with (m, i, low) =
+        elim (dec x m) [
+          | inl l ↦ (x, (0, omega arith, refl), λ y h k. elim (Contains-append_cases (x ∷ []) (z ∷ zs) y h) [
+            | inl e ↦ irr x (subst (λ v. lt v x) (sym (one_contained x y e)) k)
+            | inr f ↦ low y f (tr y x m k l)
+          ])
+          | inr n ↦ (m, Contains-append_right (x ∷ []) (z ∷ zs) m i, λ y h k. elim (Contains-append_cases (x ∷ []) (z ∷ zs) y h) [
+            | inl e ↦ n (subst (λ v. lt v m) (sym (one_contained x y e)) k)
+            | inr f ↦ low y f k
+          ])
+        ]
 
 module _ {Z : Type 0} (g : Dataflow) (rows : List (Vec (Option Summary) Z)) (h : IsTable g rows) where
   dec_fitting : (s t : Pointstamp) → Fits g s → Fits g t → Decided (CouldResultIn g s t)
@@ -122,4 +132,4 @@ module _ {Z : Type 0} (g : Dataflow) (rows : List (Vec (Option Summary) Z)) (h :
   pub minimal_point : (p : Pointstamp) (ps : List Pointstamp) → (m : Pointstamp) × IsMinimalAmong g (p ∷ ps) m
   minimal_point p ps =
       let (m, i, low) = minimal (IsStrictlyBefore g) dec_strictly (λ x k. k.1 refl) (λ x y z. strictly_trans g x y z h.accepted) p ps in
-      (m, record { among = in_contains (p ∷ ps) m i; none = λ q c b. low q (contains_in (p ∷ ps) q c.0 c.1 c.2) b })
+      (m, record { among = i; none = low })

@@ -5,8 +5,7 @@ use Rattle.std.proofs.lemmas.Nat.{same_from_place}
 use Rattle.std.proofs.lemmas.List.{get_or-set_same, get_or-set_other, length-set}
 use Rattle.nd_graph.specs.declared.graph.Arc.{Arc}
 use Rattle.nd_paths.specs.declared.summary.Summary.{Summary}
-use Rattle.nd_paths.specs.Steps.{keeps, step, grows, IsWithin, AtMost}
-use Rattle.nd_time.specs.Limits.{max_depth, max_counter}
+use Rattle.nd_paths.specs.Steps.{keeps, step, AtMost}
 use Rattle.nd_paths.specs.Table.{held, Covers, CanRelax, Relaxed, Quiet, Written}
 use Rattle.nd_paths.proofs.Summaries.{step-keep, AtMost-trans, AtMost-refl}
 
@@ -21,6 +20,9 @@ held_within row b r h = sym (cond_below r keeps (get_or row (b * keeps + r) None
 
 pub held_past : (row : List (Option Summary)) (b r : ℕ) → keeps ≤ r → held row b r ≡ None
 held_past row b r h = sym (cond_above r keeps (get_or row (b * keeps + r) None) None None h refl)
+
+pub held_below : (row : List (Option Summary)) (b r : ℕ) (s : Summary) → held row b r ≡ Some s → r < keeps
+held_below row b r s e = elim (cases_lt r keeps) [ inl low ↦ low | inr past ↦ (let none = held_past row b r past in absurd (cc (none, e))) ]
 
 pub held-set_same : (row : List (Option Summary)) (b r : ℕ) (v : Option Summary) → r < keeps → b * keeps + r < length row → held (set row (b * keeps + r) v) b r ≡ v
 held-set_same row b r v h k = held_within (set row (b * keeps + r) v) b r h ∙ get_or-set_same row (b * keeps + r) v None k
@@ -42,6 +44,9 @@ at_place b r c q =
       | inr n ↦ inr (λ t. n t.0)
     ]
 
+pub Covers-less : (row : List (Option Summary)) (b : ℕ) (s t : Summary) → AtMost s t → Covers row b s → Covers row b t
+Covers-less row b s t m c = (c.0, ap (held row b) (sym m.keep) ∙ c.1, AtMost-trans c.0 s t c.2 m)
+
 -- the write of an extended entry
 module _ (old : List (Option Summary)) (x : Arc) (r : ℕ) (can : CanRelax old x r) (s : Summary) (here : held old x.from r ≡ Some s) where
   low : (step x.action s).keep < keeps
@@ -62,7 +67,7 @@ module _ (old : List (Option Summary)) (x : Arc) (r : ℕ) (can : CanRelax old x
   unfolding written
   written_other c q apart = held-set_other old x.to (step x.action s).keep c q (Some (step x.action s)) low apart
 
-  written_covers : ((t : Summary) → held old x.to (step x.action s).keep ≡ Some t → AtMost (step x.action s) t) → (b : ℕ) (u : Summary) → Covers (held old) b u → Covers (held written) b u
+  written_covers : ((t : Summary) → held old x.to (step x.action s).keep ≡ Some t → AtMost (step x.action s) t) → (b : ℕ) (u : Summary) → Covers old b u → Covers written b u
   written_covers less b u c =
       elim (at_place x.to (step x.action s).keep b u.keep) [
         | inl e ↦
@@ -83,25 +88,25 @@ module _ (old : List (Option Summary)) (x : Arc) (r : ℕ) (can : CanRelax old x
       ]
 
 -- what was covered stays covered
-pub Relaxed-keeps : (old new : List (Option Summary)) (x : Arc) (r : ℕ) → CanRelax old x r → Relaxed old new x r → (b : ℕ) (u : Summary) → Covers (held old) b u → Covers (held new) b u
+pub Relaxed-keeps : (old new : List (Option Summary)) (x : Arc) (r : ℕ) → CanRelax old x r → Relaxed old new x r → (b : ℕ) (u : Summary) → Covers old b u → Covers new b u
 unfolding written
 Relaxed-keeps old new x r can h b u c =
     elim h [
-      | inl p ↦ subst (λ row. Covers (held row) b u) (sym p.0) c
-      | inr (s, here, e, less) ↦ subst (λ row. Covers (held row) b u) (sym e) (written_covers old x r can s here less b u c)
+      | inl p ↦ subst (λ row. Covers row b u) (sym p.0) c
+      | inr (s, here, e, less) ↦ subst (λ row. Covers row b u) (sym e) (written_covers old x r can s here less b u c)
     ]
 
 -- the row covers the extended entry
-pub Relaxed-covers : (old new : List (Option Summary)) (x : Arc) (r : ℕ) (s : Summary) → CanRelax old x r → Relaxed old new x r → held old x.from r ≡ Some s → Covers (held new) x.to (step x.action s)
+pub Relaxed-covers : (old new : List (Option Summary)) (x : Arc) (r : ℕ) (s : Summary) → CanRelax old x r → Relaxed old new x r → held old x.from r ≡ Some s → Covers new x.to (step x.action s)
 unfolding written
 Relaxed-covers old new x r s can h e =
     elim h [
-      | inl p ↦ subst (λ row. Covers (held row) x.to (step x.action s)) (sym p.0) (p.1 s e)
+      | inl p ↦ subst (λ row. Covers row x.to (step x.action s)) (sym p.0) (p.1 s e)
       | inr (t, here, w, less) ↦
           let same : Some t ≡ Some s = sym here ∙ e in
           let one : t ≡ s = cc in
-          let now : Covers (held (written old x r can t here)) x.to (step x.action t) = (step x.action t, written_same old x r can t here, AtMost-refl (step x.action t)) in
-          subst (λ u. Covers (held new) x.to (step x.action u)) one (subst (λ row. Covers (held row) x.to (step x.action t)) (sym w) now)
+          let now : Covers (written old x r can t here) x.to (step x.action t) = (step x.action t, written_same old x r can t here, AtMost-refl (step x.action t)) in
+          subst (λ u. Covers new x.to (step x.action u)) one (subst (λ row. Covers row x.to (step x.action t)) (sym w) now)
     ]
 
 -- each entry was there before, or is the extended one
@@ -129,5 +134,5 @@ stays_quiet row x r f k here e less = (
   refl,
   λ s h.
       let one : f ≡ s = cc in
-      subst (λ t. Covers (held row) x.to (step x.action t)) one (k, e, less),
+      subst (λ t. Covers row x.to (step x.action t)) one (k, e, less),
 )

@@ -10,7 +10,7 @@ use Rattle.nd_graph.specs.declared.op.Action.{Action}
 use Rattle.nd_graph.specs.declared.op.Action.TheVariants.{Identity, Ingress, Egress, Feedback}
 use Rattle.nd_graph.specs.declared.graph.Arc.{Arc}
 use Rattle.nd_paths.specs.declared.summary.Summary.{Summary}
-use Rattle.nd_paths.specs.Steps.{keeps, summary_of, identity, then_act, step, after, grows, IsWithin}
+use Rattle.nd_paths.specs.Steps.{keeps, summary_of, identity, then_act, step, after, IsWithin}
 use Rattle.nd_time.specs.Time.{egress_of, feedback_of}
 use Rattle.nd_graph.specs.Graph.{LeadsTo, ArcAgrees, Dataflow, arcs, depths, location_count}
 use Rattle.nd_paths.specs.Order.{IsWalk}
@@ -19,22 +19,21 @@ use Rattle.nd_paths.specs.Table.{held, start_row, Covers, CanRelax, Relaxed, Qui
 use Rattle.nd_paths.proofs.Summaries.{IsFor, IsFor-step, after-append, AtMost-step, AtMost-refl}
 use Rattle.nd_paths.proofs.Graphs.{DepthsAgree, few_arcs, length-depths, walks_joined, arc_leads}
 use Rattle.nd_paths.proofs.Walks.{IsFor-walk}
-use Rattle.nd_paths.proofs.Tables.{Covers-less, covered}
 use Rattle.nd_paths.proofs.Cuts.{end_of, walk_front, walk_back}
 use Rattle.nd_paths.proofs.Acceptance.{last_arc}
-use Rattle.nd_paths.proofs.RowLemmas.{held_within, held_past, held-set_same, held-set_other, at_place, Relaxed-keeps, Relaxed-covers, Relaxed-from, Relaxed-length}
+use Rattle.nd_paths.proofs.RowLemmas.{Covers-less, held_below, held_within, held-set_same, held-set_other, at_place, Relaxed-keeps, Relaxed-covers, Relaxed-from, Relaxed-length}
 
 -- the entries are those of walks from a, with numbers of at most m, and each walk of at most n arcs is covered
 pub record Swept (graph : Dataflow) (a : ℕ) (row : List (Option Summary)) (n m : ℕ) : Type 0 where
   pub long : length row ≡ length (depths graph) * keeps
   pub walks : (b r : ℕ) (s : Summary) → held row b r ≡ Some s → (w : List Arc) × IsWalk graph a w b × (s ≡ summary_of graph a w) × (s.keep ≡ r)
   pub within : (b r : ℕ) (s : Summary) → held row b r ≡ Some s → IsWithin m s
-  pub covers : CoversShort graph a (held row) n
+  pub covers : CoversShort graph a row n
 
 -- each walk of at most n arcs to x's start, with a keep below k, is covered after x too
 abbrev pub Followed : Dataflow → ℕ → List (Option Summary) → ℕ → ℕ → Arc → Type 0
 Followed graph a row n k x =
-    (w : List Arc) → length w ≤ n → IsWalk graph a w x.from → (summary_of graph a w).keep < k → Covers (held row) x.to (step x.action (summary_of graph a w))
+    (w : List Arc) → length w ≤ n → IsWalk graph a w x.from → (summary_of graph a w).keep < k → Covers row x.to (step x.action (summary_of graph a w))
 
 within_egress : (m : ℕ) (k : List ℕ) → All (λ y. y ≤ m) k → All (λ y. y ≤ m) (egress_of k)
 within_egress m [] h = h
@@ -67,11 +66,8 @@ within_parts Feedback m r a (x ∷ k) h j = (omega arith, within_feedback m (x �
 within_more : (m : ℕ) (s : Summary) → IsWithin m s → IsWithin (m + 1) s
 within_more m s h = (omega (arith, h.0), more_in_each m s.constants h.1)
 
-grown : (x : Action) (r a : ℕ) (k : List ℕ) (e f : ℕ) → LeadsTo x e f → e ≤ max_depth → f ≤ max_depth → r + length k ≡ e → length k + grows x ≤ max_depth
-grown Identity r a k e f l p q h = omega arith
-grown Ingress r a k e f l p q h = omega arith
-grown Egress r a k e f l p q h = omega arith
-grown Feedback r a k e f l p q h = omega arith
+grown : (x : Action) (r : ℕ) (k : List ℕ) (e f : ℕ) → LeadsTo x e f → f ≤ max_depth → r + length k ≡ e → x ≡ Ingress → length k < max_depth
+grown x r k e f l deep h is = let more : f ≡ e + 1 = subst (λ y. LeadsTo y e f) is l in omega arith
 
 module _ (graph : Dataflow) (g : DepthsAgree graph) (deep : All (λ d. d ≤ max_depth) (depths graph)) (a : ℕ) where
   shallow : (b : ℕ) → b < length (depths graph) → slice_index (depths graph) b ≤ max_depth
@@ -98,7 +94,7 @@ module _ (graph : Dataflow) (g : DepthsAgree graph) (deep : All (λ d. d ≤ max
             let f = held_for row n m x.from r s h e in
             let i = h.within x.from r s e in (
               f.1,
-              grown x.action s.keep s.add s.constants (slice_index (depths graph) x.from) (slice_index (depths graph) x.to) (arc_leads graph g x c) (shallow x.from p.0) (shallow x.to p.1) f.0.depth,
+              grown x.action s.keep s.constants (slice_index (depths graph) x.from) (slice_index (depths graph) x.to) (arc_leads graph g x c) (shallow x.to p.1) f.0.depth,
               (omega (arith, i.0), All-weaker (λ y. y ≤ m) (λ y. y ≤ (max_counter - 1)) (λ y l. omega arith) s.constants i.1),
             );
         alike = λ s t e e'.
@@ -147,13 +143,13 @@ module _ (graph : Dataflow) (g : DepthsAgree graph) (deep : All (λ d. d ≤ max
         | inl e ↦
             let (t, at', less) = h.covers w x.from l walk in
             let here : held old x.from r ≡ Some t = ap (held old x.from) (sym e) ∙ at' in
-            Covers-less (held new) x.to (step x.action t) (step x.action s) (AtMost-step x.action t s less) (Relaxed-covers old new x r t can re here)
+            Covers-less new x.to (step x.action t) (step x.action s) (AtMost-step x.action t s less) (Relaxed-covers old new x r t can re here)
         | inr ne ↦
             let under : s.keep < r = omega arith in
             Relaxed-keeps old new x r can re x.to (step x.action s) (f w l walk under)
       ]
 
-  covers_ends : (row : List (Option Summary)) (n m : ℕ) (w : List Arc) (y : Arc) (b : ℕ) → slice_index (depths graph) a ≤ max_depth → Swept graph a row n m → All (λ x. Followed graph a row n keeps x) (arcs graph) → length w ≤ n → IsWalk graph a (w ++ (y ∷ [])) b → Covers (held row) b (summary_of graph a (w ++ (y ∷ [])))
+  covers_ends : (row : List (Option Summary)) (n m : ℕ) (w : List Arc) (y : Arc) (b : ℕ) → slice_index (depths graph) a ≤ max_depth → Swept graph a row n m → All (λ x. Followed graph a row n keeps x) (arcs graph) → length w ≤ n → IsWalk graph a (w ++ (y ∷ [])) b → Covers row b (summary_of graph a (w ++ (y ∷ [])))
   covers_ends row n m w y b low h f l walk =
       let i : Summary = identity (slice_index (depths graph) a) in
       let front : IsWalk graph a w (end_of a w) = walk_front graph w (y ∷ []) a b walk in
@@ -162,20 +158,20 @@ module _ (graph : Dataflow) (g : DepthsAgree graph) (deep : All (λ d. d ≤ max
       let fits = IsFor-walk graph w a y.from g to_from in
       let follows : Followed graph a row n keeps y = All-contains (λ x. Followed graph a row n keeps x) (arcs graph) y f end.0 in
       let done = follows w l to_from (omega (arith, fits.kept)) in
-      let there : Covers (held row) b (step y.action (after w i)) = subst (λ e. Covers (held row) e (step y.action (after w i))) end.2 done in
-      subst (λ s. Covers (held row) b s) (sym (after-append w (y ∷ []) i)) there
+      let there : Covers row b (step y.action (after w i)) = subst (λ e. Covers row e (step y.action (after w i))) end.2 done in
+      subst (λ s. Covers row b s) (sym (after-append w (y ∷ []) i)) there
 
   -- after a round the walks may have one arc more
   pub round_over : (row : List (Option Summary)) (n m : ℕ) → slice_index (depths graph) a ≤ max_depth → Swept graph a row n m → All (λ x. Followed graph a row n keeps x) (arcs graph) → Swept graph a row (n + 1) m
   round_over row n m low h f = record { long = h.long; walks = h.walks; within = h.within; covers = λ w b l walk. more w b l walk }
     where
-      more : (w : List Arc) (b : ℕ) → length w ≤ n + 1 → IsWalk graph a w b → Covers (held row) b (summary_of graph a w)
+      more : (w : List Arc) (b : ℕ) → length w ≤ n + 1 → IsWalk graph a w b → Covers row b (summary_of graph a w)
       more [] b l walk = h.covers [] b (omega arith) walk
       more (x ∷ w) b l walk =
           let (v, y, e) = last_arc x w in
           let short : length v ≤ n = omega (arith, ap length e, length-append v (y ∷ [])) in
           let whole : IsWalk graph a (v ++ (y ∷ [])) b = subst (λ u. IsWalk graph a u b) e walk in
-          subst (λ u. Covers (held row) b (summary_of graph a u)) (sym e) (covers_ends row n m v y b low h f short whole)
+          subst (λ u. Covers row b (summary_of graph a u)) (sym e) (covers_ends row n m v y b low h f short whole)
 
 -- m may be replaced by an equal number
 pub swept_as : (graph : Dataflow) (a : ℕ) (row : List (Option Summary)) (n m m' : ℕ) → m ≡ m' → Swept graph a row n m → Swept graph a row n m'
@@ -186,12 +182,10 @@ length-blank n = length-replicate n None
 
 nothing : (n b r : ℕ) (s : Summary) → held (replicate n None) b r ≡ Some s → ⊥
 nothing n b r s h =
-    elim (cases_lt r keeps) [
-      | inl low ↦ elim (cases_lt (b * keeps + r) n) [
-        | inl in' ↦ let e : None ≡ Some s = sym (get_or-replicate n (b * keeps + r) None None in') ∙ sym (held_within (replicate n None) b r low) ∙ h in cc
-        | inr past ↦ let e : None ≡ Some s = sym (get_or_past (replicate n None) (b * keeps + r) None (omega (arith, length-blank n))) ∙ sym (held_within (replicate n None) b r low) ∙ h in cc
-      ]
-      | inr past ↦ let e : None ≡ Some s = sym (held_past (replicate n None) b r past) ∙ h in cc
+    let here = sym (held_within (replicate n None) b r (held_below (replicate n None) b r s h)) ∙ h in
+    elim (cases_lt (b * keeps + r) n) [
+      | inl in' ↦ let e : None ≡ Some s = sym (get_or-replicate n (b * keeps + r) None None in') ∙ here in cc
+      | inr past ↦ let e : None ≡ Some s = sym (get_or_past (replicate n None) (b * keeps + r) None (omega (arith, length-blank n))) ∙ here in cc
     ]
 
 -- at first there is the empty walk only
@@ -230,8 +224,8 @@ module _ (graph : Dataflow) (a : ℕ) (h : a < length (depths graph)) (low : sli
     covers = λ w b l walk. empty_covers w b l walk;
   }
     where
-      empty_covers : (w : List Arc) (b : ℕ) → length w ≤ 0 → IsWalk graph a w b → Covers (held start) b (summary_of graph a w)
-      empty_covers [] b l walk = subst (λ n. Covers (held start) n (identity (slice_index (depths graph) a))) walk (identity (slice_index (depths graph) a), start_here, AtMost-refl (identity (slice_index (depths graph) a)))
+      empty_covers : (w : List Arc) (b : ℕ) → length w ≤ 0 → IsWalk graph a w b → Covers start b (summary_of graph a w)
+      empty_covers [] b l walk = subst (λ n. Covers start n (identity (slice_index (depths graph) a))) walk (identity (slice_index (depths graph) a), start_here, AtMost-refl (identity (slice_index (depths graph) a)))
       empty_covers (x ∷ w) b l walk = absurd (omega arith)
 
   pub swept_start : (row : List (Option Summary)) → row ≡ start_row (depths graph) a → Swept graph a row 0 0
@@ -256,17 +250,20 @@ round_done r a j h k = omega arith
 
 -- each entry at x's start with a keep below k, extended by x, is covered
 abbrev pub Closed : List (Option Summary) → ℕ → Arc → Type 0
-Closed row k x = (r : ℕ) (s : Summary) → r < k → held row x.from r ≡ Some s → Covers (held row) x.to (step x.action s)
+Closed row k x = (r : ℕ) (s : Summary) → r < k → held row x.from r ≡ Some s → Covers row x.to (step x.action s)
 
-pub closed_all : (graph : Dataflow) (a : ℕ) (row : List (Option Summary)) (n m : ℕ) → Swept graph a row n m → All (Closed row keeps) (arcs graph) → (w : List Arc) (b : ℕ) → IsWalk graph a w b → Covers (held row) b (summary_of graph a w)
-closed_all graph a row n m h f =
-    covered graph a (held row) (record {
-      start = h.covers [] a (omega arith) refl;
-      closed = λ x r s c e. elim (cases_lt r keeps) [
-        | inl low ↦ (let g : Closed row keeps x = All-contains (Closed row keeps) (arcs graph) x f c in g r s low e)
-        | inr past ↦ (let q : None ≡ Some s = sym (held_past row x.from r past) ∙ e in cc)
-      ];
-    })
+covers_after : (graph : Dataflow) (row : List (Option Summary)) → All (Closed row keeps) (arcs graph) → (w : List Arc) (b c : ℕ) (s : Summary) → IsWalk graph b w c → Covers row b s → Covers row c (after w s)
+covers_after graph row f [] b c s walk k = subst (λ n. Covers row n s) walk k
+covers_after graph row f (x ∷ w) b c s walk k =
+    let at_from : held row x.from s.keep ≡ Some k.0 = ap (λ n. held row n s.keep) walk.1 ∙ k.1 in
+    let closed : Closed row keeps x = All-contains (Closed row keeps) (arcs graph) x f walk.0 in
+    let next = closed s.keep k.0 (held_below row x.from s.keep k.0 at_from) at_from in
+    covers_after graph row f w x.to c (step x.action s) walk.2 (Covers-less row x.to (step x.action k.0) (step x.action s) (AtMost-step x.action k.0 s k.2) next)
+
+-- a row that extending an entry by an arc does not change covers each walk
+pub closed_all : (graph : Dataflow) (a : ℕ) (row : List (Option Summary)) (n m : ℕ) → Swept graph a row n m → All (Closed row keeps) (arcs graph) → (w : List Arc) (b : ℕ) → IsWalk graph a w b → Covers row b (summary_of graph a w)
+closed_all graph a row n m h f w b walk =
+    covers_after graph row f w a b (identity (slice_index (depths graph) a)) walk (h.covers [] a (omega arith) refl)
 
 pub quiet_here : (old new : List (Option Summary)) (x : Arc) (r : ℕ) → Quiet old new x r → Closed old r x → Closed new (r + 1) x
 quiet_here old new x r q f =

@@ -15,5 +15,5 @@ table_copied g g' rows copies e c h = table_as g g' copies e (record {
   accepted = h.accepted;
   count = c.0 ∙ h.count;
   long = λ a d l. ap length (c.1 a d (omega (arith, h.count))) ∙ h.long a d l;
-  least = λ a d l. subst (λ row. IsLeast g a (held row)) (sym (c.1 a d (omega (arith, h.count)))) (h.least a d l);
+  least = λ a d l. subst (λ row. IsLeast g a row) (sym (c.1 a d (omega (arith, h.count)))) (h.least a d l);
 })

@@ -102,7 +102,7 @@ module _ (g : Dataflow) (agree : DepthsAgree g) where
       let f : IsFor d e s = record { kept = omega (arith, h.kept); depth = depth; top = h.top } in
       same_summary d e s (summary_of g a w) f (IsFor-walk g w a b agree walk) does
 
-module _ (g : Dataflow) (agree : DepthsAgree g) (a b : ℕ) (row : List (Option Summary)) (inside : a < length (depths g)) (least : IsLeast g a (held row)) where
+module _ (g : Dataflow) (agree : DepthsAgree g) (a b : ℕ) (row : List (Option Summary)) (inside : a < length (depths g)) (least : IsLeast g a row) where
   pub keeps_places : KeepsPlaces row b
   keeps_places r s h =
       let (w, walk, is, at') = least.walks b r s h in

@@ -43,13 +43,6 @@ pub record AtMost (s t : Summary) : Type 0 where
   pub size : length s.constants ≡ length t.constants
   pub least : IsAtMost s t
 
--- how many constants an action adds
-abbrev pub grows : Action → ℕ
-grows Identity = 0
-grows Ingress = 1
-grows Egress = 0
-grows Feedback = 0
-
 -- no number of the summary is above m
 abbrev pub IsWithin : ℕ → Summary → Type 0
 IsWithin m s = (s.add ≤ m) × All (λ x. x ≤ m) s.constants

@@ -109,7 +109,8 @@ pub struct Summary {
 }
 
 impl Summary {
-    ghost use Rattle.nd_paths.specs.Steps.{step, grows, AtMost, IsWithin};
+    ghost use Rattle.nd_graph.specs.declared.op.Action.TheVariants.{Ingress};
+    ghost use Rattle.nd_paths.specs.Steps.{step, AtMost, IsWithin};
     ghost use Rattle.nd_paths.specs.Summary.{applied};
 
     /// Returns the summary of the empty walk from a location of this depth.
@@ -136,7 +137,7 @@ impl Summary {
 
     // Returns this summary followed by one action.
     pub(crate) fn past(&self, action: Action) -> Summary
-        requires room { length self.now.constants + grows action ≤ max_depth }
+        requires room { action ≡ Ingress → length self.now.constants < max_depth }
         requires within { IsWithin (max_counter - 1) self.now }
         ensures { result ≡ step action self.now }
     {

@@ -73,8 +73,8 @@ fn first_row<A: Allocator>(
 fn sweep<A: Allocator>(row: &mut [Option<Summary>], graph: &Graph<A>, from: usize)
     requires from { from < length (depths_of graph.now) }
     requires start { row.old ≡ start_row (depths_of graph.now) from }
-    ensures walks { HasWalks graph.now from (held row.new) }
-    ensures covers { CoversShort graph.now from (held row.new)
+    ensures walks { HasWalks graph.now from row.new }
+    ensures covers { CoversShort graph.now from row.new
         (keeps * length (depths_of graph.now)) }
 {
     let arcs = graph.all_arcs();
@@ -99,8 +99,8 @@ pub fn short_row<A: Allocator>(
 ) -> Result<Vec<Option<Summary>, A>, AllocError>
     requires from { from < length (depths_of graph.now) }
     ensures long { IfOk result (λ row. length row.items ≡ length (depths_of graph.now) * keeps) }
-    ensures walks { IfOk result (λ row. HasWalks graph.now from (held row.items)) }
-    ensures covers { IfOk result (λ row. CoversShort graph.now from (held row.items)
+    ensures walks { IfOk result (λ row. HasWalks graph.now from row.items) }
+    ensures covers { IfOk result (λ row. CoversShort graph.now from row.items
         (keeps * length (depths_of graph.now))) }
 {
     let mut row = first_row(alloc, graph.depths(), from)?;
@@ -112,8 +112,8 @@ pub fn short_row<A: Allocator>(
 pub fn shows_fail(row: &[Option<Summary>], depths: &[usize], arcs: &[Arc], location: usize) -> bool
     requires agree { All (ArcAgrees depths.now) arcs.now }
     requires long { length row.now ≡ length depths.now * keeps }
-    ensures { MatchBool result (ShowsFail arcs.now location (held row.now))
-        (ShowsFail arcs.now location (held row.now) → ⊥) }
+    ensures { MatchBool result (ShowsFail arcs.now location row.now)
+        (ShowsFail arcs.now location row.now → ⊥) }
 {
     for arc in arcs {
         if arc.to == location && closes(row, *arc) {

@@ -12,7 +12,7 @@ listed-requires-clause-places g c =
     let table = table_as c.self.inside.graph graph c.self.inside.rows.items (sym c.self.view_is) c.self.invariant in
     let inside : c.args.from < length (depths graph) = omega (arith, length-depths graph, c.requires.from) in
     let least = row_least graph c.self.inside.rows.items table c.args.from c.index.result.now c.deref.result.now inside c.index.ensures c.deref.ensures.value in
-    keeps_places graph table.agree c.args.from c.args.to c.deref.result.now inside least.1
+    keeps_places graph table.agree c.args.from c.args.to c.deref.result.now inside least
 
 pub returns : goal.returns
 returns g c =
@@ -20,4 +20,4 @@ returns g c =
     let table = table_as c.self.inside.graph graph c.self.inside.rows.items (sym c.self.view_is) c.self.invariant in
     let inside : c.args.from < length (depths graph) = omega (arith, length-depths graph, c.requires.from) in
     let least = row_least graph c.self.inside.rows.items table c.args.from c.index.result.now c.deref.result.now inside c.index.ensures c.deref.ensures.value in
-    are_least graph table.agree c.args.from c.args.to c.deref.result.now inside least.1 c.listed.result.items c.listed.ensures
+    are_least graph table.agree c.args.from c.args.to c.deref.result.now inside least c.listed.result.items c.listed.ensures
