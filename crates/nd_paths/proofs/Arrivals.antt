@@ -2,7 +2,8 @@
 use Rattle.std.proofs.Common.{◌≡◌, ℕ, ◌+◌, ◌*◌, ◌<◌, ◌≤◌, Option, Some, None, List, [], ◌∷◌, ◌++◌, length, length-append, get_or, zero, suc, refl, sym, ◌∙◌, ap, subst, arith, inl, inr}
 use Rattle.std.specs.Prelude.{All, Contains, Vec, slice_index}
 use Rattle.std.proofs.lemmas.Bool.{cases_lt}
-use Rattle.std.proofs.lemmas.List.Elements.{Contains-append_left, Contains-append_right, All-append}
+use Rattle.std.proofs.lemmas.List.{length_push}
+use Rattle.std.proofs.lemmas.List.Elements.{All-push, Contains-append_left, Contains-push}
 use Rattle.nd_time.specs.Time.{Time}
 use Rattle.nd_graph.specs.declared.graph.Arc.{Arc}
 use Rattle.nd_graph.specs.Graph.{Dataflow, arcs, depths}
@@ -35,22 +36,18 @@ module _ (row : List (Option Summary)) (b : ℕ) (t : Time) where
     ];
   }
 
-  one : (u : Time) → HoldsTurning row b t u → All (HoldsTurning row b t) (u ∷ [])
-  one u h zero d lt = h
-  one u h (suc k) d lt = absurd (omega arith)
-
-  pub turned_one : (n : ℕ) (s : Summary) (times more : List Time) (u : Time) → held row b n ≡ Some s → u ≡ turned s t → more ≡ times ++ u ∷ [] → AreTurnedUpTo n times → AreTurnedUpTo (n + 1) more
-  turned_one n s times more u some is more_is h = record {
-    short = let l = h.short in let m = ap length more_is in let a = length-append times (u ∷ []) in omega arith;
-    each = subst (All (HoldsTurning row b t)) (sym more_is) (All-append (HoldsTurning row b t) times (u ∷ []) h.each (one u (n, s, some, is)));
-    all = λ r v lt e. subst (λ l. Contains l (turned v t)) (sym more_is) (elim (cases_lt r n) [
-      | inl less ↦ Contains-append_left times (u ∷ []) (turned v t) (h.all r v less e)
+  pub turned_one : (n : ℕ) (s : Summary) (times : List Time) → held row b n ≡ Some s → AreTurnedUpTo n times → AreTurnedUpTo (n + 1) (times ++ turned s t ∷ [])
+  turned_one n s times some h = record {
+    short = let l = h.short in let a = length_push times (turned s t) in omega arith;
+    each = All-push (HoldsTurning row b t) times (turned s t) h.each (n, s, some, refl);
+    all = λ r v lt e. elim (cases_lt r n) [
+      | inl less ↦ Contains-append_left times (turned s t ∷ []) (turned v t) (h.all r v less e)
       | inr m ↦
           let same : r ≡ n = omega arith in
           let known : Some s ≡ Some v = cc in
-          let same_summary : s ≡ v = cc in
-          Contains-append_right times (u ∷ []) (turned v t) (0, omega arith, is ∙ ap (λ x. turned x t) same_summary)
-    ]);
+          let is : s ≡ v = cc in
+          subst (λ u. Contains (times ++ turned s t ∷ []) (turned u t)) is (Contains-push times (turned s t))
+    ];
   }
 
 module _ {Z : Type 0} (g : Dataflow) (rows : List (Vec (Option Summary) Z)) (table : IsTable g rows) where

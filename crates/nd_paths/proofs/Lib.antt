@@ -8,7 +8,6 @@ pub mod Sweeps
 pub mod AllRows
 pub mod Raised
 pub mod Stored
-pub mod ClosedWalks
 pub mod Graphs
 pub mod Decisions
 pub mod TableLemmas

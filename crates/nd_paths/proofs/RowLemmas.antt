@@ -1,12 +1,14 @@
 -- What extending one entry by one arc does to a row.
-use Rattle.std.proofs.Common.{◌≡◌, ◌⊎◌, inl, inr, ℕ, ◌+◌, ◌-◌, ◌*◌, ◌<◌, ◌≤◌, Option, Some, None, List, length, get_or, set, refl, sym, ◌∙◌, ap, subst, arith}
+use Rattle.std.proofs.Common.{◌≡◌, ◌⊎◌, inl, inr, ℕ, ◌+◌, ◌-◌, ◌*◌, ◌<◌, ◌≤◌, Option, Some, None, List, length, get_or, set, take, refl, sym, ◌∙◌, ap, subst, arith}
+use Rattle.std.specs.Prelude.{All}
 use Rattle.std.proofs.lemmas.Bool.{cases_lt, cases_eq, cond_below, cond_above}
 use Rattle.std.proofs.lemmas.Nat.{same_from_place}
-use Rattle.std.proofs.lemmas.List.{get_or-set_same, get_or-set_other, length-set}
+use Rattle.std.proofs.lemmas.List.{get_or-set_same, get_or-set_other, length-set, take_all}
+use Rattle.std.proofs.lemmas.List.Elements.{All-contains}
 use Rattle.nd_graph.specs.declared.graph.Arc.{Arc}
 use Rattle.nd_paths.specs.declared.summary.Summary.{Summary}
 use Rattle.nd_paths.specs.Steps.{keeps, step, AtMost}
-use Rattle.nd_paths.specs.Table.{held, Covers, CanRelax, Relaxed, Quiet, Written}
+use Rattle.nd_paths.specs.Table.{held, Covers, CanRelax, Relaxed, Quiet, Written, ShowsFail, Closes}
 use Rattle.nd_paths.proofs.Summaries.{step-keep, AtMost-trans, AtMost-refl}
 
 -- the extended entry has a position
@@ -136,3 +138,13 @@ stays_quiet row x r f k here e less = (
       let one : f ≡ s = cc in
       subst (λ t. Covers row x.to (step x.action t)) one (k, e, less),
 )
+
+-- an arc into l doesn't close a walk that adds nothing
+abbrev pub IsFine : List (Option Summary) → ℕ → Arc → Type 0
+IsFine row l x = x.to ≡ l → Closes row x → ⊥
+
+pub none_closes : (row : List (Option Summary)) (arcs : List Arc) (l n : ℕ) → length arcs ≤ n → All (IsFine row l) (take n arcs) → ShowsFail arcs l row → ⊥
+none_closes row arcs l n past fine (x, r, s, in', to, at', z) =
+    let all = subst (λ xs. All (IsFine row l) xs) (take_all n arcs past) fine in
+    let here : IsFine row l x = All-contains (IsFine row l) arcs x all in' in
+    here to (r, s, at', z)

@@ -15,7 +15,7 @@ use Rattle.nd_time.specs.Time.{egress_of, feedback_of}
 use Rattle.nd_graph.specs.Graph.{LeadsTo, ArcAgrees, Dataflow, arcs, depths, location_count}
 use Rattle.nd_paths.specs.Order.{IsWalk}
 use Rattle.nd_time.specs.Limits.{max_depth, max_locations, max_counter}
-use Rattle.nd_paths.specs.Table.{held, start_row, Covers, CanRelax, Relaxed, Quiet, CoversShort}
+use Rattle.nd_paths.specs.Table.{held, start_row, Covers, CanRelax, Relaxed, Quiet, HasWalks, CoversShort}
 use Rattle.nd_paths.proofs.Summaries.{IsFor, IsFor-step, after-append, AtMost-step, AtMost-refl}
 use Rattle.nd_paths.proofs.Graphs.{DepthsAgree, few_arcs, length-depths, walks_joined, arc_leads}
 use Rattle.nd_paths.proofs.Walks.{IsFor-walk}
@@ -26,7 +26,7 @@ use Rattle.nd_paths.proofs.RowLemmas.{Covers-less, held_below, held_within, held
 -- the entries are those of walks from a, with numbers of at most m, and each walk of at most n arcs is covered
 pub record Swept (graph : Dataflow) (a : ℕ) (row : List (Option Summary)) (n m : ℕ) : Type 0 where
   pub long : length row ≡ length (depths graph) * keeps
-  pub walks : (b r : ℕ) (s : Summary) → held row b r ≡ Some s → (w : List Arc) × IsWalk graph a w b × (s ≡ summary_of graph a w) × (s.keep ≡ r)
+  pub walks : HasWalks graph a row
   pub within : (b r : ℕ) (s : Summary) → held row b r ≡ Some s → IsWithin m s
   pub covers : CoversShort graph a row n
 

@@ -16,7 +16,7 @@ keeps = max_depth + 1
 abbrev pub identity : ℕ → Summary
 identity depth = record { keep = depth; add = 0; constants = [] }
 
--- a summary followed by one action, which changes the last of the numbers that it leaves
+-- the summary that keeps r counters, adds a and appends k, followed by one action
 abbrev pub then_act : Action → ℕ → ℕ → List ℕ → Summary
 then_act Identity r a k = record { keep = r; add = a; constants = k }
 then_act Ingress r a k = record { keep = r; add = a; constants = acted Ingress k }
@@ -25,6 +25,7 @@ then_act Egress r a (x ∷ k) = record { keep = r; add = a; constants = acted Eg
 then_act Feedback r a [] = record { keep = r; add = a + 1; constants = [] }
 then_act Feedback r a (x ∷ k) = record { keep = r; add = a; constants = acted Feedback (x ∷ k) }
 
+-- a summary followed by one action
 abbrev pub step : Action → Summary → Summary
 step act s = then_act act s.keep s.add s.constants
 

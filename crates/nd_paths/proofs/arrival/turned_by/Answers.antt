@@ -24,7 +24,7 @@ loop-keep-preserved c =
           let is : held row to c.loop-keep.keep ≡ Some w.in-Some.summary.now = sym c.look.ensures ∙ ap option_copied w.in-Some.is in
           let made : Time = record { epoch = w.epoch.result; counters = w.reached.result.items } in
           let same : made ≡ turned w.in-Some.summary.now t = λ i. record { epoch = w.epoch.ensures i; counters = (w.reached.ensures ∙ ap (applied w.in-Some.summary.now) w.counters.ensures.value) i } in
-          turned_one row to t c.loop-keep.keep w.in-Some.summary.now c.loop-keep.times.items c.match-look.times.items made is same (ap (λ v. v.items) w.times-is ∙ w.push.ensures.items) c.loop-keep.invariant
+          rw (w.times-is, w.push.ensures.items, same) (turned_one row to t c.loop-keep.keep w.in-Some.summary.now c.loop-keep.times.items is c.loop-keep.invariant)
       | in_default w ↦
           let is : held row to c.loop-keep.keep ≡ None = sym c.look.ensures ∙ ap option_copied w.in_default.is in
           rw w.times-is (turned_skip row to t c.loop-keep.keep c.loop-keep.times.items is c.loop-keep.invariant)
