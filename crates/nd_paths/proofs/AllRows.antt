@@ -1,14 +1,14 @@
 -- The rows from all locations.
 use Rattle.std.proofs.Common.{◌≡◌, inl, inr, ℕ, ◌+◌, ◌*◌, ◌<◌, ◌≤◌, Option, List, [], ◌∷◌, ◌++◌, length, get_or, sym, ◌∙◌, ap, subst, arith}
-use Rattle.std.specs.Prelude.{All, slice_index, Vec}
+use Rattle.std.specs.Prelude.{All, Vec}
 use Rattle.nd_time.specs.Limits.{max_depth}
 use Rattle.std.proofs.lemmas.Bool.{cases_lt}
 use Rattle.std.proofs.lemmas.List.{get_or_append_left, get_or_push, length_push}
 use Rattle.nd_paths.specs.declared.summary.Summary.{Summary}
-use Rattle.nd_graph.specs.Graph.{Dataflow, arcs, depths}
+use Rattle.nd_graph.specs.Graph.{Dataflow, depths}
 use Rattle.nd_paths.specs.Order.{FailsAt}
 use Rattle.nd_paths.specs.Steps.{keeps}
-use Rattle.nd_paths.specs.Table.{held, HasWalks, CoversShort, IsTable}
+use Rattle.nd_paths.specs.Table.{HasWalks, CoversShort, IsTable}
 use Rattle.nd_paths.proofs.Graphs.{DepthsAgree, depth_within}
 use Rattle.nd_paths.proofs.Acceptance.{accepted_from_none, covers_all}
 

@@ -1,12 +1,11 @@
 -- The times into which the summaries held for a location turn a time are those of the least walks.
-use Rattle.std.proofs.Common.{◌≡◌, ℕ, ◌+◌, ◌*◌, ◌<◌, ◌≤◌, Option, Some, None, List, [], ◌∷◌, ◌++◌, length, length-append, get_or, zero, suc, refl, sym, ◌∙◌, ap, subst, arith, inl, inr}
+use Rattle.std.proofs.Common.{◌≡◌, ℕ, ◌+◌, ◌<◌, ◌≤◌, Option, Some, None, List, [], ◌∷◌, ◌++◌, length, refl, sym, ◌∙◌, ap, subst, arith, inl, inr}
 use Rattle.std.specs.Prelude.{All, Contains, Vec, slice_index}
 use Rattle.std.proofs.lemmas.Bool.{cases_lt}
 use Rattle.std.proofs.lemmas.List.{length_push}
 use Rattle.std.proofs.lemmas.List.Elements.{All-push, Contains-append_left, Contains-push}
 use Rattle.nd_time.specs.Time.{Time}
-use Rattle.nd_graph.specs.declared.graph.Arc.{Arc}
-use Rattle.nd_graph.specs.Graph.{Dataflow, arcs, depths}
+use Rattle.nd_graph.specs.Graph.{Dataflow, depths}
 use Rattle.nd_paths.specs.declared.point.Pointstamp.{Pointstamp}
 use Rattle.nd_paths.specs.declared.summary.Summary.{Summary}
 use Rattle.nd_paths.specs.Order.{Fits, CouldResultIn, effect}

@@ -1,15 +1,15 @@
 -- The order that the table computes is the order by walks.
-use Rattle.std.proofs.Common.{◌≡◌, ℕ, ◌*◌, ◌<◌, ◌≤◌, Option, List, length, get_or, sym, ◌∙◌, ap, subst, arith}
+use Rattle.std.proofs.Common.{◌≡◌, ℕ, ◌<◌, ◌≤◌, Option, List, length, get_or, sym, ◌∙◌, ap, subst, arith}
 use Rattle.std.specs.Prelude.{slice_index, Vec}
 use Rattle.nd_time.specs.Time.{IsLexicallyAtMost}
 use Rattle.nd_graph.specs.declared.graph.Arc.{Arc}
-use Rattle.nd_graph.specs.Graph.{Dataflow, arcs, depths}
+use Rattle.nd_graph.specs.Graph.{Dataflow, depths}
 use Rattle.nd_paths.specs.declared.point.Pointstamp.{Pointstamp}
 use Rattle.nd_paths.specs.declared.summary.Summary.{Summary}
 use Rattle.nd_paths.specs.Order.{Fits, CouldResultIn, IsWalk, effect}
 use Rattle.nd_paths.specs.Summary.{applied}
-use Rattle.nd_paths.specs.Steps.{keeps, summary_of}
-use Rattle.nd_paths.specs.Table.{held, IsLeast, SomeLeads, HeldFit, HoldsAny, IsTable}
+use Rattle.nd_paths.specs.Steps.{summary_of}
+use Rattle.nd_paths.specs.Table.{IsLeast, SomeLeads, HeldFit, HoldsAny, IsTable}
 use Rattle.nd_paths.proofs.Orders.{most_trans}
 use Rattle.nd_paths.proofs.Summaries.{IsFor, applied-AtMost}
 use Rattle.nd_paths.proofs.Graphs.{fits_size}

@@ -1,5 +1,5 @@
 -- The order by walks can be decided, so finitely many points have a minimal one.
-use Rattle.std.proofs.Common.{◌≡◌, ◌⊎◌, inl, inr, ℕ, zero, suc, ◌+◌, ◌*◌, ◌<◌, ◌≤◌, Option, Some, None, List, [], ◌∷◌, length, get_or, refl, sym, ◌∙◌, subst, arith}
+use Rattle.std.proofs.Common.{◌≡◌, ◌⊎◌, inl, inr, ℕ, zero, suc, ◌<◌, Option, Some, None, List, [], ◌∷◌, length, get_or, refl, sym, ◌∙◌, subst, arith}
 use Rattle.std.specs.Prelude.{Contains, slice_index, Vec}
 use Rattle.std.proofs.lemmas.Bool.{cases_lt, cases_eq}
 use Rattle.std.proofs.lemmas.List.Elements.{Contains-append_cases, Contains-append_right}
@@ -86,14 +86,22 @@ minimal {A} lt dec irr tr x (z ∷ zs) = least_with (minimal lt dec irr tr z zs)
     least_with : (m : A) × Contains (z ∷ zs) m × ((y : A) → Contains (z ∷ zs) y → lt y m → ⊥) → (m : A) × Contains (x ∷ z ∷ zs) m × ((y : A) → Contains (x ∷ z ∷ zs) y → lt y m → ⊥)
     least_with (m, i, low) =
         elim (dec x m) [
-          | inl l ↦ (x, (0, omega arith, refl), λ y h k. elim (Contains-append_cases (x ∷ []) (z ∷ zs) y h) [
-            | inl e ↦ irr x (subst (λ v. lt v x) (sym (one_contained x y e)) k)
-            | inr f ↦ low y f (tr y x m k l)
-          ])
-          | inr n ↦ (m, Contains-append_right (x ∷ []) (z ∷ zs) m i, λ y h k. elim (Contains-append_cases (x ∷ []) (z ∷ zs) y h) [
-            | inl e ↦ n (subst (λ v. lt v m) (sym (one_contained x y e)) k)
-            | inr f ↦ low y f k
-          ])
+          | inl l ↦ (
+            x,
+            (0, omega arith, refl),
+            λ y h k. elim (Contains-append_cases (x ∷ []) (z ∷ zs) y h) [
+              | inl e ↦ irr x (subst (λ v. lt v x) (sym (one_contained x y e)) k)
+              | inr f ↦ low y f (tr y x m k l)
+            ],
+          )
+          | inr n ↦ (
+            m,
+            Contains-append_right (x ∷ []) (z ∷ zs) m i,
+            λ y h k. elim (Contains-append_cases (x ∷ []) (z ∷ zs) y h) [
+              | inl e ↦ n (subst (λ v. lt v m) (sym (one_contained x y e)) k)
+              | inr f ↦ low y f k
+            ],
+          )
         ]
 
 module _ {Z : Type 0} (g : Dataflow) (rows : List (Vec (Option Summary) Z)) (h : IsTable g rows) where

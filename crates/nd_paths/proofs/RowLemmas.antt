@@ -1,5 +1,5 @@
 -- What extending one entry by one arc does to a row.
-use Rattle.std.proofs.Common.{◌≡◌, ◌⊎◌, inl, inr, ℕ, ◌+◌, ◌-◌, ◌*◌, ◌<◌, ◌≤◌, Option, Some, None, List, length, get_or, set, take, refl, sym, ◌∙◌, ap, subst, arith}
+use Rattle.std.proofs.Common.{◌≡◌, ◌⊎◌, inl, inr, ℕ, ◌+◌, ◌*◌, ◌<◌, ◌≤◌, Option, Some, None, List, length, get_or, set, take, refl, sym, ◌∙◌, ap, subst, arith}
 use Rattle.std.specs.Prelude.{All}
 use Rattle.std.proofs.lemmas.Bool.{cases_lt, cases_eq, cond_below, cond_above}
 use Rattle.std.proofs.lemmas.Nat.{same_from_place}
@@ -8,7 +8,7 @@ use Rattle.std.proofs.lemmas.List.Elements.{All-contains}
 use Rattle.nd_graph.specs.declared.graph.Arc.{Arc}
 use Rattle.nd_paths.specs.declared.summary.Summary.{Summary}
 use Rattle.nd_paths.specs.Steps.{keeps, step, AtMost}
-use Rattle.nd_paths.specs.Table.{held, Covers, CanRelax, Relaxed, Quiet, Written, ShowsFail, Closes}
+use Rattle.nd_paths.specs.Table.{held, Covers, CanRelax, Relaxed, Quiet, ShowsFail, Closes}
 use Rattle.nd_paths.proofs.Summaries.{step-keep, AtMost-trans, AtMost-refl}
 
 -- the extended entry has a position

@@ -9,10 +9,10 @@ use Rattle.nd_graph.specs.declared.graph.Arc.{Arc}
 use Rattle.nd_graph.specs.Graph.{LeadsTo, acted}
 use Rattle.nd_paths.specs.declared.summary.Summary.{Summary}
 use Rattle.nd_paths.specs.Order.{effect}
-use Rattle.nd_paths.specs.Summary.{raised, applied, IsAtMost}
+use Rattle.nd_paths.specs.Summary.{raised, applied}
 use Rattle.nd_paths.specs.Steps.{identity, then_act, step, after, AtMost}
 use Rattle.nd_paths.proofs.Orders.{smaller_front, smaller_back, most_trans, compared, act_mono, length-acted, length-egress, length-feedback}
-use Rattle.nd_paths.proofs.Raised.{applied-identity, raised_smaller, feedback_raised, feedback_front, egress_front, egress_kept, length-applied}
+use Rattle.nd_paths.proofs.Raised.{raised_smaller, feedback_raised, feedback_front, egress_front, egress_kept, length-applied}
 
 -- s applies to times of depth d, and leaves times of depth e
 pub record IsFor (d e : ℕ) (s : Summary) : Type 0 where

@@ -1,13 +1,13 @@
 -- A walk has one summary, and the table lists the least of them.
-use Rattle.std.proofs.Common.{◌≡◌, inl, inr, ℕ, ◌+◌, ◌-◌, ◌<◌, ◌≤◌, Option, Some, List, [], ◌∷◌, ◌++◌, length, map, take, drop, get_or, replicate, refl, sym, ◌∙◌, ap, subst, arith, length-append, length-take}
+use Rattle.std.proofs.Common.{◌≡◌, inl, inr, ℕ, ◌+◌, ◌-◌, ◌<◌, ◌≤◌, Option, Some, List, length, take, drop, get_or, replicate, refl, sym, ◌∙◌, ap, subst, arith, length-take}
 use Rattle.std.specs.Prelude.{slice_index}
 use Rattle.std.proofs.lemmas.Bool.{cases_lt}
-use Rattle.std.proofs.lemmas.List.{length-replicate, length-map, get_or-replicate, drop_at}
+use Rattle.std.proofs.lemmas.List.{length-replicate, get_or-replicate, drop_at}
 use Rattle.nd_graph.specs.declared.graph.Arc.{Arc}
 use Rattle.nd_graph.specs.Graph.{Dataflow, depths}
 use Rattle.nd_paths.specs.declared.summary.Summary.{Summary}
-use Rattle.nd_paths.specs.Order.{IsWalk, effect}
-use Rattle.nd_paths.specs.Summary.{raised, applied, IsSummaryOf, IsAtMost, IsLeastSummary, AreLeastSummaries}
+use Rattle.nd_paths.specs.Order.{IsWalk}
+use Rattle.nd_paths.specs.Summary.{raised, applied, IsSummaryOf, IsLeastSummary, AreLeastSummaries}
 use Rattle.nd_paths.specs.Steps.{summary_of, AtMost}
 use Rattle.nd_paths.specs.Table.{held, IsLeast, IsListed, KeepsPlaces}
 use Rattle.nd_paths.proofs.Raised.{length-raised, length-applied}

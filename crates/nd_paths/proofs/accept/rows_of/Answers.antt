@@ -1,5 +1,5 @@
-use Rattle.std.proofs.Common.{◌≡◌, length, refl, subst, arith}
-use Rattle.nd_graph.specs.Graph.{arcs, depths}
+use Rattle.std.proofs.Common.{◌≡◌, length, arith}
+use Rattle.nd_graph.specs.Graph.{arcs}
 use Rattle.nd_paths.specs.Order.{FailsAt}
 use Rattle.nd_paths.specs.Steps.{keeps}
 use Rattle.nd_paths.specs.Table.{ShowsFail}
