@@ -1,86 +1,85 @@
 -- A graph is accepted exactly if each closed walk adds to a counter that it keeps; short walks are enough to decide it.
-use Rattle.std.proofs.Common.{◌≡◌, inl, inr, ℕ, zero, suc, ◌-◌, ◌*◌, ◌<◌, ◌≤◌, List, [], ◌∷◌, ◌++◌, length, take, drop, replicate, refl, sym, ◌∙◌, ap, subst, arith, length-append, length-drop, length-take}
+use Rattle.std.proofs.Common.{◌≡◌, inl, inr, ℕ, zero, suc, ◌*◌, ◌<◌, ◌≤◌, List, Option, [], ◌∷◌, ◌++◌, length, take, drop, replicate, refl, sym, ◌∙◌, ap, subst, arith, length-append, length-take}
 use Rattle.std.specs.Prelude.{slice_index}
 use Rattle.std.proofs.lemmas.Bool.{cases_lt}
-use Rattle.std.proofs.lemmas.List.{take-append-drop, length-replicate, drop_at}
+use Rattle.std.proofs.lemmas.List.{take-append-drop, length-replicate, take_at}
+use Rattle.nd_time.specs.Time.{IsSmallerAtFirstDifference}
 use Rattle.nd_graph.specs.declared.op.Action.{Action}
 use Rattle.nd_graph.specs.declared.op.Action.TheVariants.{Identity, Ingress, Egress, Feedback}
 use Rattle.nd_graph.specs.declared.graph.Arc.{Arc}
-use Rattle.nd_paths.specs.Inside.{Earlier}
-use Rattle.nd_paths.specs.Inside.{IsWalkAlong, effect_of, DepthsAgree, Accepted, Fails}
-use Rattle.nd_graph.specs.Graph.{LeadsTo}
+use Rattle.nd_graph.specs.Graph.{Dataflow, LeadsTo, arcs, depths}
 use Rattle.nd_paths.specs.declared.summary.Summary.{Summary}
-use Rattle.nd_paths.specs.Inside.{summary_of, identity, plus, apply, then_act, step, after, AtMost}
-use Rattle.nd_paths.specs.Table.{Covers, CoversShort, HasWalks, ShowsFail}
-use Rattle.nd_paths.proofs.Orders.{Earlier-irrefl, Earlier-trans}
-use Rattle.nd_paths.proofs.Summaries.{IsFor, IsFor-step, plus-zero, Earlier-back, apply-Below, compared_summaries, AtMost-refl, AtMost-trans, AtMost-after, apply-after, step-keep, after-append}
-use Rattle.nd_paths.proofs.Walks.{IsFor-walk, IsFor-after, apply-walk, arc_leads, walks_joined}
-use Rattle.nd_paths.proofs.Tables.{Row, Covers-less}
+use Rattle.nd_paths.specs.Order.{FailsAt, IsAccepted, IsWalk, effect}
+use Rattle.nd_paths.specs.Summary.{raised, applied}
+use Rattle.nd_paths.specs.Steps.{summary_of, identity, then_act, step, after, AtMost}
+use Rattle.nd_paths.specs.Table.{held, Covers, CoversShort, HasWalks, ShowsFail}
+use Rattle.nd_paths.proofs.Orders.{smaller_irrefl, smaller_trans, smaller_front, length-acted}
+use Rattle.nd_paths.proofs.Raised.{raised-zero, raised_smaller, length-raised}
+use Rattle.nd_paths.proofs.Summaries.{IsFor, IsFor-step, length-applied_for, applied-Below, compared_summaries, AtMost-refl, AtMost-trans, AtMost-after, applied-after, step-keep, after-append}
+use Rattle.nd_paths.proofs.Graphs.{DepthsAgree, arc_leads, depth_within, has_depth, starts_inside, walks_joined}
+use Rattle.nd_paths.proofs.Walks.{IsFor-walk, IsFor-after, applied-walk}
+use Rattle.nd_paths.proofs.RowLemmas.{Covers-less}
 use Rattle.nd_paths.proofs.Cuts.{shorten, after-keep, walk_front, walk_back, end_of}
-
-pub length-plus : (a : ℕ) (l : List ℕ) → length (plus a l) ≡ length l
-length-plus a [] = refl
-length-plus a (x ∷ l) = refl
-
-pub length-apply : (d e : ℕ) (s : Summary) (c : List ℕ) → IsFor d e s → length c ≡ d → length (apply s c) ≡ e
-length-apply d e s c f h =
-    omega (arith, f.kept, f.depth, length-append s.constants (plus s.add (drop (length c - s.keep) c)), length-plus s.add (drop (length c - s.keep) c), length-drop (length c - s.keep) c)
-
-plus-rises : (a : ℕ) (l : List ℕ) → 0 < a → 0 < length l → Earlier l (plus a l)
-plus-rises a [] h k = absurd (omega arith)
-plus-rises a (x ∷ l) h k = inr (refl, omega arith)
 
 top_keeps : (r a : ℕ) → (r ≡ 0 → a ≡ 0) → 0 < a → 0 < r
 top_keeps zero a h k = absurd (omega (arith, h refl))
 top_keeps (suc r) a h k = omega arith
 
 -- a summary that adds something makes each time later
-pub rises : (d : ℕ) (s : Summary) (c : List ℕ) → IsFor d d s → length c ≡ d → 0 < s.add → Earlier c (apply s c)
+pub rises : (d : ℕ) (s : Summary) (c : List ℕ) → IsFor d d s → length c ≡ d → 0 < s.add → IsSmallerAtFirstDifference c (applied s c)
 rises d s c f h k =
-    let n : ℕ = length c - s.keep in
+    let kept : List ℕ = take s.keep c in
     let keeps = top_keeps s.keep s.add f.top k in
-    let some : 0 < length (drop n c) = omega (arith, length-drop n c, f.kept) in
-    let size : length (take n c) ≡ length s.constants = omega (arith, length-take n c, f.depth, f.kept) in
-    subst (λ l. Earlier l (apply s c)) (take-append-drop n c) (Earlier-back (take n c) s.constants (drop n c) (plus s.add (drop n c)) size (plus-rises s.add (drop n c) k some))
+    let some : 0 < length kept = omega (arith, length-take s.keep c, f.kept) in
+    let more = subst (λ l. IsSmallerAtFirstDifference l (raised s.add kept)) (raised-zero kept) (raised_smaller 0 s.add kept some k) in
+    subst (λ l. IsSmallerAtFirstDifference l (applied s c)) (take-append-drop s.keep c) (smaller_front kept (raised s.add kept) (drop s.keep c) s.constants more)
 
 -- a summary that adds nothing leaves some time as it is
-pub stays : (d : ℕ) (s : Summary) → IsFor d d s → s.add ≡ 0 → (c : List ℕ) × (length c ≡ d) × (apply s c ≡ c)
+pub stays : (d : ℕ) (s : Summary) → IsFor d d s → s.add ≡ 0 → (c : List ℕ) × (length c ≡ d) × (applied s c ≡ c)
 stays d s f z =
     let o : List ℕ = replicate d 0 in
     let size : length o ≡ d = length-replicate d 0 in
-    let rest : List ℕ = plus s.add (drop (length o - s.keep) o) in
-    let c : List ℕ = apply s o in
-    let long : length c ≡ d = length-apply d d s o f size in
-    let n : length s.constants ≡ length c - s.keep = omega (arith, f.depth, f.kept) in
-    let below : drop (length c - s.keep) c ≡ rest = drop_at s.constants rest (length c - s.keep) n in
-    (c, long, ap (λ l. s.constants ++ plus s.add l) below ∙ ap (λ a. s.constants ++ plus a rest) z ∙ ap (λ l. s.constants ++ l) (plus-zero rest))
+    let kept : List ℕ = raised s.add (take s.keep o) in
+    let whole : length kept ≡ s.keep = omega (arith, length-raised s.add (take s.keep o), length-take s.keep o, f.kept, size) in
+    let front : take s.keep (applied s o) ≡ kept = take_at kept s.constants s.keep whole in
+    let same : raised s.add kept ≡ kept = ap (λ a. raised a kept) z ∙ raised-zero kept in
+    (applied s o, length-applied_for d d s o f size, ap (λ l. raised s.add l ++ s.constants) front ∙ ap (λ l. l ++ s.constants) same)
 
 -- a closed walk that adds nothing fails
-pub fails_from_walk : (depths : List ℕ) (arcs : List Arc) (l : ℕ) (x : Arc) (w : List Arc) → DepthsAgree depths arcs → IsWalkAlong arcs l l (x ∷ w) → (summary_of depths l (x ∷ w)).add ≡ 0 → Fails depths arcs l
-fails_from_walk depths arcs l x w g h z =
-    let s : Summary = summary_of depths l (x ∷ w) in
-    let (c, size, same) = stays (slice_index depths l) s (IsFor-walk depths arcs (x ∷ w) l l g h) z in
-    let does : effect_of (x ∷ w) c ≡ c = sym (apply-walk depths (x ∷ w) l c size) ∙ same in
-    (x, w, c, h, size, λ e. Earlier-irrefl c (subst (λ d. Earlier c d) does e))
+pub fails_from_walk : (graph : Dataflow) (l : ℕ) (x : Arc) (w : List Arc) → DepthsAgree graph → IsWalk graph l (x ∷ w) l → (summary_of graph l (x ∷ w)).add ≡ 0 → FailsAt graph l
+fails_from_walk graph l x w g h z =
+    let s : Summary = summary_of graph l (x ∷ w) in
+    let (c, size, same) = stays (slice_index (depths graph) l) s (IsFor-walk graph (x ∷ w) l l g h) z in
+    let does : effect (x ∷ w) c ≡ c = sym (applied-walk graph (x ∷ w) l c size) ∙ same in
+    record {
+      arc = x;
+      walk = w;
+      counters = c;
+      closed = h;
+      depth = has_depth graph l (length c) (starts_inside graph g x w l l h) size;
+      fails = λ e. smaller_irrefl c (subst (IsSmallerAtFirstDifference c) does e);
+    }
 
-closed_rises : (depths : List ℕ) (arcs w : List Arc) (l : ℕ) (c : List ℕ) → DepthsAgree depths arcs → IsWalkAlong arcs l l w → length c ≡ slice_index depths l → 0 < (summary_of depths l w).add → Earlier c (effect_of w c)
-closed_rises depths arcs w l c g h size k =
-    subst (λ d. Earlier c d) (apply-walk depths w l c size) (rises (slice_index depths l) (summary_of depths l w) c (IsFor-walk depths arcs w l l g h) size k)
+-- one that adds something increases each time
+closed_rises : (graph : Dataflow) (w : List Arc) (l : ℕ) (c : List ℕ) → DepthsAgree graph → IsWalk graph l w l → length c ≡ slice_index (depths graph) l → 0 < (summary_of graph l w).add → IsSmallerAtFirstDifference c (effect w c)
+closed_rises graph w l c g h size k =
+    subst (IsSmallerAtFirstDifference c) (applied-walk graph w l c size) (rises (slice_index (depths graph) l) (summary_of graph l w) c (IsFor-walk graph w l l g h) size k)
 
 -- a location that fails has a closed walk that adds nothing
-pub walk_from_fails : (depths : List ℕ) (arcs : List Arc) (l : ℕ) → DepthsAgree depths arcs → Fails depths arcs l → (x : Arc) × (w : List Arc) × IsWalkAlong arcs l l (x ∷ w) × ((summary_of depths l (x ∷ w)).add ≡ 0)
-walk_from_fails depths arcs l g (x, w, c, h, size, still) =
-    elim (cases_lt 0 (summary_of depths l (x ∷ w)).add) [
-      | inl k ↦ absurd (still (closed_rises depths arcs (x ∷ w) l c g h size k))
-      | inr z ↦ (x, w, h, omega arith)
+pub walk_from_fails : (graph : Dataflow) (l : ℕ) → DepthsAgree graph → (f : FailsAt graph l) → (summary_of graph l (f.arc ∷ f.walk)).add ≡ 0
+walk_from_fails graph l g f =
+    elim (cases_lt 0 (summary_of graph l (f.arc ∷ f.walk)).add) [
+      | inl k ↦ absurd (f.fails (closed_rises graph (f.arc ∷ f.walk) l f.counters g f.closed (depth_within graph l (length f.counters) f.depth).1 k))
+      | inr z ↦ omega arith
     ]
 
-pub accepted_from_none : (depths : List ℕ) (arcs : List Arc) → DepthsAgree depths arcs → ((l : ℕ) → Fails depths arcs l → ⊥) → Accepted depths arcs
-accepted_from_none depths arcs g none l x w c h size =
-    elim (cases_lt 0 (summary_of depths l (x ∷ w)).add) [
-      | inl k ↦ closed_rises depths arcs (x ∷ w) l c g h size k
-      | inr z ↦ absurd (none l (fails_from_walk depths arcs l x w g h (omega arith)))
-    ]
+pub accepted_from_none : (graph : Dataflow) → DepthsAgree graph → ((l : ℕ) → FailsAt graph l → ⊥) → IsAccepted graph
+accepted_from_none graph g none = record {
+  strict = λ l x w c h depth. elim (cases_lt 0 (summary_of graph l (x ∷ w)).add) [
+    | inl k ↦ closed_rises graph (x ∷ w) l c g h (depth_within graph l (length c) depth).1 k
+    | inr z ↦ absurd (none l (fails_from_walk graph l x w g h (omega arith)))
+  ];
+}
 
 -- s adds at most as much as t, for summaries with the same keep
 pub record AddsLess (s t : Summary) : Type 0 where
@@ -96,15 +95,15 @@ AddsLess-trans s t u h k = record { keep = h.keep ∙ k.keep; size = h.size ∙ 
 
 adds_parts : (x : Action) (r a b : ℕ) (k l : List ℕ) → length k ≡ length l → a ≤ b → AddsLess (then_act x r a k) (then_act x r b l)
 adds_parts Identity r a b k l e h = record { keep = refl; size = e; add = h }
-adds_parts Ingress r a b k l e h = record { keep = refl; size = omega arith; add = h }
+adds_parts Ingress r a b k l e h = record { keep = refl; size = length-acted Ingress k l e; add = h }
 adds_parts Egress r a b [] [] e h = record { keep = refl; size = refl; add = omega arith }
 adds_parts Egress r a b [] (y ∷ l) e h = absurd (omega arith)
 adds_parts Egress r a b (x ∷ k) [] e h = absurd (omega arith)
-adds_parts Egress r a b (x ∷ k) (y ∷ l) e h = record { keep = refl; size = omega arith; add = h }
+adds_parts Egress r a b (x ∷ k) (y ∷ l) e h = record { keep = refl; size = length-acted Egress (x ∷ k) (y ∷ l) e; add = h }
 adds_parts Feedback r a b [] [] e h = record { keep = refl; size = refl; add = omega arith }
 adds_parts Feedback r a b [] (y ∷ l) e h = absurd (omega arith)
 adds_parts Feedback r a b (x ∷ k) [] e h = absurd (omega arith)
-adds_parts Feedback r a b (x ∷ k) (y ∷ l) e h = record { keep = refl; size = omega arith; add = h }
+adds_parts Feedback r a b (x ∷ k) (y ∷ l) e h = record { keep = refl; size = length-acted Feedback (x ∷ k) (y ∷ l) e; add = h }
 
 pub AddsLess-step : (x : Action) (s t : Summary) → AddsLess s t → AddsLess (step x s) (step x t)
 AddsLess-step x s t h =
@@ -125,83 +124,85 @@ add_stays Egress r a (x ∷ k) t h = omega arith
 add_stays Feedback r a [] t h = omega arith
 add_stays Feedback r a (x ∷ k) t h = omega arith
 
-add_grows : (depths : List ℕ) (arcs w : List Arc) (d a b : ℕ) (s : Summary) → DepthsAgree depths arcs → IsWalkAlong arcs a b w → IsFor d (slice_index depths a) s → s.keep ≤ (after w s).keep → s.add ≤ (after w s).add
-add_grows depths arcs [] d a b s g h f k = omega arith
-add_grows depths arcs (x ∷ w) d a b s g h f k =
-    let l : LeadsTo x.action (slice_index depths a) (slice_index depths x.to) =
-    subst (λ n. LeadsTo x.action (slice_index depths n) (slice_index depths x.to)) h.1 (arc_leads depths arcs x g h.0) in
+add_grows : (graph : Dataflow) (w : List Arc) (d a b : ℕ) (s : Summary) → DepthsAgree graph → IsWalk graph a w b → IsFor d (slice_index (depths graph) a) s → s.keep ≤ (after w s).keep → s.add ≤ (after w s).add
+add_grows graph [] d a b s g h f k = omega arith
+add_grows graph (x ∷ w) d a b s g h f k =
+    let l : LeadsTo x.action (slice_index (depths graph) a) (slice_index (depths graph) x.to) =
+    subst (λ n. LeadsTo x.action (slice_index (depths graph) n) (slice_index (depths graph) x.to)) h.1 (arc_leads graph g x h.0) in
     let t : Summary = step x.action s in
-    let f' = IsFor-step x.action d (slice_index depths a) (slice_index depths x.to) s l f in
+    let f' = IsFor-step x.action d (slice_index (depths graph) a) (slice_index (depths graph) x.to) s l f in
     let low : t.keep ≤ s.keep = step-keep x.action s.keep s.add s.constants in
     let low' : (after w t).keep ≤ t.keep = after-keep w t in
     let first = add_stays x.action s.keep s.add s.constants f.top (omega arith) in
-    let rest = add_grows depths arcs w d x.to b t g h.2 f' (omega arith) in
+    let rest = add_grows graph w d x.to b t g h.2 f' (omega arith) in
     omega (arith, first, rest)
 
 -- a closed part of a walk does not make the added number smaller, in any graph
-round_adds : (depths : List ℕ) (arcs : List Arc) (d : ℕ) → DepthsAgree depths arcs → (a : ℕ) (s : Summary) (q : List Arc) → IsFor d (slice_index depths a) s → IsWalkAlong arcs a a q → 0 < length q → s.keep ≡ (after q s).keep → AddsLess s (after q s)
-round_adds depths arcs d g a s q f h more e =
-    let f' = IsFor-after depths arcs q d a a s g h f in
-    record { keep = e; size = omega (arith, f.depth, f'.depth); add = add_grows depths arcs q d a a s g h f (omega arith) }
+round_adds : (graph : Dataflow) (d : ℕ) → DepthsAgree graph → (a : ℕ) (s : Summary) (q : List Arc) → IsFor d (slice_index (depths graph) a) s → IsWalk graph a q a → 0 < length q → s.keep ≡ (after q s).keep → AddsLess s (after q s)
+round_adds graph d g a s q f h more e =
+    let f' = IsFor-after graph q d a a s g h f in
+    record { keep = e; size = omega (arith, f.depth, f'.depth); add = add_grows graph q d a a s g h f (omega arith) }
 
-accepted_walk : (depths : List ℕ) (arcs q : List Arc) (a : ℕ) (c : List ℕ) → Accepted depths arcs → IsWalkAlong arcs a a q → 0 < length q → length c ≡ slice_index depths a → Earlier c (effect_of q c)
-accepted_walk depths arcs [] a c ok h more size = absurd (omega arith)
-accepted_walk depths arcs (x ∷ w) a c ok h more size = ok a x w c h size
+accepted_walk : (graph : Dataflow) (q : List Arc) (a : ℕ) (c : List ℕ) → DepthsAgree graph → IsAccepted graph → IsWalk graph a q a → 0 < length q → length c ≡ slice_index (depths graph) a → IsSmallerAtFirstDifference c (effect q c)
+accepted_walk graph [] a c g ok h more size = absurd (omega arith)
+accepted_walk graph (x ∷ w) a c g ok h more size = ok.strict a x w c h (has_depth graph a (length c) (starts_inside graph g x w a a h) size)
 
 -- a closed part of a walk does not make a summary smaller, in an accepted graph
-round_worse : (depths : List ℕ) (arcs : List Arc) (d : ℕ) → DepthsAgree depths arcs → Accepted depths arcs → (a : ℕ) (s : Summary) (q : List Arc) → IsFor d (slice_index depths a) s → IsWalkAlong arcs a a q → 0 < length q → s.keep ≡ (after q s).keep → AtMost s (after q s)
-round_worse depths arcs d g ok a s q f h more e =
-    let f' = IsFor-after depths arcs q d a a s g h f in
+round_worse : (graph : Dataflow) (d : ℕ) → DepthsAgree graph → IsAccepted graph → (a : ℕ) (s : Summary) (q : List Arc) → IsFor d (slice_index (depths graph) a) s → IsWalk graph a q a → 0 < length q → s.keep ≡ (after q s).keep → AtMost s (after q s)
+round_worse graph d g ok a s q f h more e =
+    let f' = IsFor-after graph q d a a s g h f in
     let o : List ℕ = replicate d 0 in
     let size : length o ≡ d = length-replicate d 0 in
     elim (compared_summaries s (after q s) e (omega (arith, f.depth, f'.depth))) [
       | inl m ↦ m
       | inr b ↦
-          let less = apply-Below (after q s) s d (slice_index depths a) o f size b in
-          let does : apply (after q s) o ≡ effect_of q (apply s o) = apply-after q s o (omega (arith, f.kept, size)) in
-          let back : Earlier (effect_of q (apply s o)) (apply s o) = subst (λ c. Earlier c (apply s o)) does less in
-          let on = accepted_walk depths arcs q a (apply s o) ok h more (length-apply d (slice_index depths a) s o f size) in
-          absurd (Earlier-irrefl (apply s o) (Earlier-trans (apply s o) (effect_of q (apply s o)) (apply s o) on back))
+          let less = applied-Below (after q s) s d (slice_index (depths graph) a) o f size b in
+          let does : applied (after q s) o ≡ effect q (applied s o) = applied-after q s o (omega (arith, f.kept, size)) in
+          let back : IsSmallerAtFirstDifference (effect q (applied s o)) (applied s o) = subst (λ c. IsSmallerAtFirstDifference c (applied s o)) does less in
+          let on = accepted_walk graph q a (applied s o) g ok h more (length-applied_for d (slice_index (depths graph) a) s o f size) in
+          absurd (smaller_irrefl (applied s o) (smaller_trans (applied s o) (effect q (applied s o)) (applied s o) on back))
     ]
 
 -- in an accepted graph a row that covers the short walks covers all walks
-pub covers_all : (depths : List ℕ) (arcs : List Arc) (n a : ℕ) (row : Row) → DepthsAgree depths arcs → Accepted depths arcs → slice_index depths a < n → CoversShort depths arcs a row (n * length depths) → (w : List Arc) (b : ℕ) → IsWalkAlong arcs a b w → Covers row b (summary_of depths a w)
-covers_all depths arcs n a row g ok low short w b h =
-    let d : ℕ = slice_index depths a in
+pub covers_all : (graph : Dataflow) (n a : ℕ) (row : List (Option Summary)) → DepthsAgree graph → IsAccepted graph → slice_index (depths graph) a < n → CoversShort graph a row (n * length (depths graph)) → (w : List Arc) (b : ℕ) → IsWalk graph a w b → Covers row b (summary_of graph a w)
+covers_all graph n a row g ok low short w b h =
+    let d : ℕ = slice_index (depths graph) a in
     let i : Summary = identity d in
-    let v = shorten depths arcs g n d AtMost AtMost-refl AtMost-trans AtMost-after (round_worse depths arcs d g ok) (length w) a b i w (omega arith) h (IsFor-walk depths arcs [] a a g refl) low in
+    let v = shorten graph g n d AtMost AtMost-refl AtMost-trans AtMost-after (round_worse graph d g ok) (length w) a b i w (omega arith) h (IsFor-walk graph [] a a g refl) low in
     Covers-less row b (after v.walk i) (after w i) v.gives (short v.walk b v.short v.leads)
 
 pub last_arc : (x : Arc) (w : List Arc) → (v : List Arc) × (y : Arc) × (x ∷ w ≡ v ++ (y ∷ []))
 last_arc x [] = ([], x, refl)
 last_arc x (z ∷ w) = let (v, y, e) = last_arc z w in (x ∷ v, y, ap (λ u. x ∷ u) e)
 
-pub fails_shown : (depths : List ℕ) (arcs : List Arc) (n a : ℕ) (row : Row) → DepthsAgree depths arcs → slice_index depths a < n → CoversShort depths arcs a row (n * length depths) → Fails depths arcs a → ShowsFail arcs a row
-fails_shown depths arcs n a row g low short fails =
-    let d : ℕ = slice_index depths a in
+pub fails_shown : (graph : Dataflow) (n a : ℕ) (row : List (Option Summary)) → DepthsAgree graph → slice_index (depths graph) a < n → CoversShort graph a row (n * length (depths graph)) → FailsAt graph a → ShowsFail (arcs graph) a row
+fails_shown graph n a row g low short fails =
+    let d : ℕ = slice_index (depths graph) a in
     let i : Summary = identity d in
-    let (x, w, h, z) = walk_from_fails depths arcs a g fails in
+    let x : Arc = fails.arc in
+    let w : List Arc = fails.walk in
+    let z = walk_from_fails graph a g fails in
     let (v, y, e) = last_arc x w in
-    let whole : IsWalkAlong arcs a a (v ++ (y ∷ [])) = subst (λ u. IsWalkAlong arcs a a u) e h in
-    let front : IsWalkAlong arcs a (end_of a v) v = walk_front arcs v (y ∷ []) a a whole in
-    let end : IsWalkAlong arcs (end_of a v) a (y ∷ []) = walk_back arcs v (y ∷ []) a a whole in
-    let k = shorten depths arcs g n d AddsLess AddsLess-refl AddsLess-trans AddsLess-after (round_adds depths arcs d g) (length v) a (end_of a v) i v (omega arith) front (IsFor-walk depths arcs [] a a g refl) low in
+    let whole : IsWalk graph a (v ++ (y ∷ [])) a = subst (λ u. IsWalk graph a u a) e fails.closed in
+    let front : IsWalk graph a v (end_of a v) = walk_front graph v (y ∷ []) a a whole in
+    let end : IsWalk graph (end_of a v) (y ∷ []) a = walk_back graph v (y ∷ []) a a whole in
+    let k = shorten graph g n d AddsLess AddsLess-refl AddsLess-trans AddsLess-after (round_adds graph d g) (length v) a (end_of a v) i v (omega arith) front (IsFor-walk graph [] a a g refl) low in
     let (u, at', m) = short k.walk (end_of a v) k.short k.leads in
     let less : AddsLess u (after k.walk i) = record { keep = m.keep; size = m.size; add = elim m.least [ inl p ↦ omega (arith, p) | inr p ↦ omega (arith, p.0) ] } in
     let next = AddsLess-step y.action u (after v i) (AddsLess-trans u (after k.walk i) (after v i) less k.gives) in
     let last : (step y.action (after v i)).add ≡ (after (v ++ (y ∷ [])) i).add = ap (λ t. t.add) (sym (after-append v (y ∷ []) i)) in
     let all : (after (v ++ (y ∷ [])) i).add ≡ (after (x ∷ w) i).add = ap (λ t. (after t i).add) (sym e) in
     let none : (step y.action (after v i)).add ≡ 0 = last ∙ (all ∙ z) in
-    (y, (after k.walk i).keep, u, end.0, end.2, ap (λ b. row b (after k.walk i).keep) end.1 ∙ at', omega (arith, next.add, none))
+    (y, (after k.walk i).keep, u, end.0, end.2, ap (λ b. held row b (after k.walk i).keep) end.1 ∙ at', omega (arith, next.add, none))
 
-pub shown_fails : (depths : List ℕ) (arcs : List Arc) (a : ℕ) (row : Row) → DepthsAgree depths arcs → HasWalks depths arcs a row → ShowsFail arcs a row → Fails depths arcs a
-shown_fails depths arcs a row g walks (x, r, s, in', to, at', z) =
+pub shown_fails : (graph : Dataflow) (a : ℕ) (row : List (Option Summary)) → DepthsAgree graph → HasWalks graph a row → ShowsFail (arcs graph) a row → FailsAt graph a
+shown_fails graph a row g walks (x, r, s, in', to, at', z) =
     let (w, h, e, _) = walks x.from r s at' in
-    let i : Summary = identity (slice_index depths a) in
-    let closed : IsWalkAlong arcs a a (w ++ (x ∷ [])) = walks_joined arcs w (x ∷ []) a x.from a h (in', refl, to) in
+    let i : Summary = identity (slice_index (depths graph) a) in
+    let closed : IsWalk graph a (w ++ (x ∷ [])) a = walks_joined graph w (x ∷ []) a x.from a h (in', refl, to) in
     let none : (after (w ++ (x ∷ [])) i).add ≡ 0 = ap (λ t. t.add) (after-append w (x ∷ []) i) ∙ ap (λ t. (step x.action t).add) (sym e) ∙ z in
-    fails_from_list depths arcs a (w ++ (x ∷ [])) g (omega (arith, length-append w (x ∷ []))) closed none
+    fails_from_list graph a (w ++ (x ∷ [])) g (omega (arith, length-append w (x ∷ []))) closed none
   where
-    fails_from_list : (depths : List ℕ) (arcs : List Arc) (a : ℕ) (w : List Arc) → DepthsAgree depths arcs → 0 < length w → IsWalkAlong arcs a a w → (summary_of depths a w).add ≡ 0 → Fails depths arcs a
-    fails_from_list depths arcs a [] g k h z = absurd (omega arith)
-    fails_from_list depths arcs a (x ∷ w) g k h z = fails_from_walk depths arcs a x w g h z
+    fails_from_list : (graph : Dataflow) (a : ℕ) (w : List Arc) → DepthsAgree graph → 0 < length w → IsWalk graph a w a → (summary_of graph a w).add ≡ 0 → FailsAt graph a
+    fails_from_list graph a [] g k h z = absurd (omega arith)
+    fails_from_list graph a (x ∷ w) g k h z = fails_from_walk graph a x w g h z

@@ -1,14 +1,12 @@
 -- The composition of two summaries does what the first does, and then what the second does.
-use Rattle.std.proofs.Common.{◌≡◌, inl, inr, cond, nat_eq, ℕ, zero, suc, ◌+◌, ◌-◌, ◌<◌, ◌≤◌, List, [], ◌∷◌, ◌++◌, length, take, reverse, refl, sym, ◌∙◌, ap, subst, arith, append_assoc, add_assoc, length-take}
+use Rattle.std.proofs.Common.{◌≡◌, inl, inr, cond, nat_eq, ℕ, zero, suc, ◌+◌, ◌-◌, ◌<◌, ◌≤◌, List, [], ◌∷◌, ◌++◌, length, take, refl, sym, ◌∙◌, ap, subst, arith, append_assoc, length-take}
 use Rattle.std.proofs.lemmas.Bool.{cases_lt, cases_eq, lt-ltb, le-ltb, eq-eqb, ne_eqb}
-use Rattle.std.proofs.lemmas.List.{take-append-le, take-take, take_all, reverse-reverse}
+use Rattle.std.proofs.lemmas.List.{take-append-le, take-take, take_all}
 use Rattle.nd_paths.specs.declared.summary.Summary.{Summary}
 use Rattle.std.specs.Prelude.{All}
 use Rattle.nd_time.specs.Limits.{max_depth, max_counter}
 use Rattle.nd_paths.specs.Summary.{raised, applied, composed, left_by, IsInLimits}
-use Rattle.nd_paths.specs.Inside.{plus}
-use Rattle.nd_paths.proofs.Reversed.{reverse-raised}
-use Rattle.nd_paths.proofs.Stored.{length-raised, length-applied}
+use Rattle.nd_paths.proofs.Raised.{length-raised, length-applied, raised-front, raised-raised}
 
 take-append-past : (p q : List ℕ) (n : ℕ) → length p ≤ n → take n (p ++ q) ≡ p ++ take (n - length p) q
 take-append-past [] q n h = let e : n ≡ n - 0 = omega arith in ap (λ m. take m q) e
@@ -16,22 +14,6 @@ take-append-past (x ∷ p) q zero h = absurd (omega arith)
 take-append-past (x ∷ p) q (suc n) h =
     let e : n - length p ≡ suc n - suc (length p) = omega arith in
     ap (λ l. x ∷ l) (take-append-past p q n (omega arith) ∙ ap (λ m. p ++ take m q) e)
-
-raised-front : (a : ℕ) (k l : List ℕ) → 0 < length l → raised a (k ++ l) ≡ k ++ raised a l
-raised-front a [] l h = refl
-raised-front a (x ∷ []) [] h = absurd (omega arith)
-raised-front a (x ∷ []) (y ∷ l) h = refl
-raised-front a (x ∷ z ∷ k) l h = ap (λ m. x ∷ m) (raised-front a (z ∷ k) l h)
-
-plus-plus : (a b : ℕ) (l : List ℕ) → plus b (plus a l) ≡ plus (a + b) l
-plus-plus a b [] = refl
-plus-plus a b (x ∷ l) = ap (λ n. n ∷ l) (add_assoc x a b)
-
-raised-raised : (a b : ℕ) (c : List ℕ) → raised b (raised a c) ≡ raised (a + b) c
-raised-raised a b c =
-    let turned : reverse (raised b (raised a c)) ≡ reverse (raised (a + b) c) =
-    reverse-raised b (raised a c) ∙ ap (plus b) (reverse-raised a c) ∙ plus-plus a b (reverse c) ∙ sym (reverse-raised (a + b) c) in
-    sym (reverse-reverse (raised b (raised a c))) ∙ ap reverse turned ∙ reverse-reverse (raised (a + b) c)
 
 take-raised : (n a : ℕ) (c : List ℕ) → n < length c → take n (raised a c) ≡ take n c
 take-raised n a [] h = absurd (omega arith)

@@ -9,25 +9,26 @@ use Rattle.std.proofs.lemmas.Map.Keys.{IsDistinct-cons}
 use Rattle.std.proofs.lemmas.Map.Steps.{length-le_from_distinct_below}
 use Rattle.std.proofs.lemmas.Nat.{same_from_place, mul-add-lt}
 use Rattle.nd_graph.specs.declared.graph.Arc.{Arc}
-use Rattle.nd_paths.specs.Inside.{IsWalkAlong, DepthsAgree}
-use Rattle.nd_graph.specs.Graph.{ArcAgrees}
+use Rattle.nd_graph.specs.Graph.{ArcAgrees, Dataflow, arcs, depths}
+use Rattle.nd_paths.specs.Order.{IsWalk}
 use Rattle.nd_paths.specs.declared.summary.Summary.{Summary}
-use Rattle.nd_paths.specs.Inside.{step, after}
+use Rattle.nd_paths.specs.Steps.{step, after}
 use Rattle.nd_paths.proofs.Summaries.{IsFor, step-keep, after-append}
-use Rattle.nd_paths.proofs.Walks.{walks_joined, IsFor-after}
+use Rattle.nd_paths.proofs.Graphs.{DepthsAgree, walks_joined}
+use Rattle.nd_paths.proofs.Walks.{IsFor-after}
 
 -- the location at which a walk ends
 abbrev pub end_of : ℕ → List Arc → ℕ
 end_of a [] = a
 end_of a (x ∷ w) = end_of x.to w
 
-pub walk_front : (arcs w v : List Arc) (a b : ℕ) → IsWalkAlong arcs a b (w ++ v) → IsWalkAlong arcs a (end_of a w) w
-walk_front arcs [] v a b h = refl
-walk_front arcs (x ∷ w) v a b h = (h.0, h.1, walk_front arcs w v x.to b h.2)
+pub walk_front : (graph : Dataflow) (w v : List Arc) (a b : ℕ) → IsWalk graph a (w ++ v) b → IsWalk graph a w (end_of a w)
+walk_front graph [] v a b h = refl
+walk_front graph (x ∷ w) v a b h = (h.0, h.1, walk_front graph w v x.to b h.2)
 
-pub walk_back : (arcs w v : List Arc) (a b : ℕ) → IsWalkAlong arcs a b (w ++ v) → IsWalkAlong arcs (end_of a w) b v
-walk_back arcs [] v a b h = h
-walk_back arcs (x ∷ w) v a b h = walk_back arcs w v x.to b h.2
+pub walk_back : (graph : Dataflow) (w v : List Arc) (a b : ℕ) → IsWalk graph a (w ++ v) b → IsWalk graph (end_of a w) v b
+walk_back graph [] v a b h = h
+walk_back graph (x ∷ w) v a b h = walk_back graph w v x.to b h.2
 
 -- a number for the location and the keep after a walk, if keeps are below n
 abbrev state : ℕ → ℕ → Summary → List Arc → ℕ
@@ -80,13 +81,13 @@ goes_round n a s (x ∷ w) =
       ]
     ]
 
-states_below : (depths : List ℕ) (arcs w : List Arc) (n a b : ℕ) (s : Summary) → DepthsAgree depths arcs → IsWalkAlong arcs a b w → s.keep < n → AllByRecursion (λ y. y < n * length depths) (states n a s w)
-states_below depths arcs [] n a b s g h k = tt
-states_below depths arcs (x ∷ w) n a b s g h k =
-    let in' : x.to < length depths = (All-contains (ArcAgrees depths) arcs x g h.0).to in
+states_below : (graph : Dataflow) (w : List Arc) (n a b : ℕ) (s : Summary) → DepthsAgree graph → IsWalk graph a w b → s.keep < n → AllByRecursion (λ y. y < n * length (depths graph)) (states n a s w)
+states_below graph [] n a b s g h k = tt
+states_below graph (x ∷ w) n a b s g h k =
+    let in' : x.to < length (depths graph) = (All-contains (ArcAgrees (depths graph)) (arcs graph) x g h.0).to in
     let less = step-keep x.action s.keep s.add s.constants in
     let low : (step x.action s).keep < n = omega (arith, less) in
-    (mul-add-lt x.to n (step x.action s).keep (length depths) in' low, states_below depths arcs w n x.to b (step x.action s) g h.2 low)
+    (mul-add-lt x.to n (step x.action s).keep (length (depths graph)) in' low, states_below graph w n x.to b (step x.action s) g h.2 low)
 
 one_below : (xs : List ℕ) (n m : ℕ) → AllByRecursion (λ y. y < n) xs → list_any (eqb m) xs ≡ true → m < n
 one_below [] n m h k = absurd (cc)
@@ -97,12 +98,12 @@ one_below (x ∷ xs) n m h k =
     ]
 
 -- a walk with more arcs than there are locations and keeps has a closed part
-pub must_go_round : (depths : List ℕ) (arcs w : List Arc) (n a b : ℕ) (s : Summary) → DepthsAgree depths arcs → IsWalkAlong arcs a b w → s.keep < n → n * length depths < length w → Round n a s w
-must_go_round depths arcs w n a b s g h k long =
+pub must_go_round : (graph : Dataflow) (w : List Arc) (n a b : ℕ) (s : Summary) → DepthsAgree graph → IsWalk graph a w b → s.keep < n → n * length (depths graph) < length w → Round n a s w
+must_go_round graph w n a b s g h k long =
     elim (goes_round n a s w) [
       | inl r ↦ r
       | inr d ↦
-          let few = length-le_from_distinct_below (states n a s w) (n * length depths) d (λ m. one_below (states n a s w) (n * length depths) m (states_below depths arcs w n a b s g h k)) in
+          let few = length-le_from_distinct_below (states n a s w) (n * length (depths graph)) d (λ m. one_below (states n a s w) (n * length (depths graph)) m (states_below graph w n a b s g h k)) in
           absurd (omega (arith, few, length-states n a s w))
     ]
 
@@ -111,42 +112,42 @@ after-keep [] s = omega arith
 after-keep (x ∷ w) s = omega (arith, after-keep w (step x.action s), step-keep x.action s.keep s.add s.constants)
 
 -- a shorter walk, whose summary and that of w satisfy R
-pub record Shorter (arcs : List Arc) (R : Summary → Summary → Type 0) (a b : ℕ) (s : Summary) (w : List Arc) (limit : ℕ) : Type 0 where
+pub record Shorter (graph : Dataflow) (R : Summary → Summary → Type 0) (a b : ℕ) (s : Summary) (w : List Arc) (limit : ℕ) : Type 0 where
   pub walk : List Arc
-  pub leads : IsWalkAlong arcs a b walk
+  pub leads : IsWalk graph a walk b
   pub short : length walk ≤ limit
   pub gives : R (after walk s) (after w s)
 
 -- if a closed part only makes a summary worse, each walk is at most as good as a short one
-module _ (depths : List ℕ) (arcs : List Arc) (g : DepthsAgree depths arcs) (n d : ℕ) (R : Summary → Summary → Type 0) (R-refl : (s : Summary) → R s s) (R-trans : (s t u : Summary) → R s t → R t u → R s u) (R-after : (w : List Arc) (s t : Summary) → R s t → R (after w s) (after w t)) (R-round : (a : ℕ) (s : Summary) (q : List Arc) → IsFor d (slice_index depths a) s → IsWalkAlong arcs a a q → 0 < length q → s.keep ≡ (after q s).keep → R s (after q s)) where
-  without_round : (a b : ℕ) (s : Summary) (w : List Arc) → IsWalkAlong arcs a b w → IsFor d (slice_index depths a) s → s.keep < n → (r : Round n a s w) → IsWalkAlong arcs a b (r.p ++ r.z) × R (after (r.p ++ r.z) s) (after w s)
+module _ (graph : Dataflow) (g : DepthsAgree graph) (n d : ℕ) (R : Summary → Summary → Type 0) (R-refl : (s : Summary) → R s s) (R-trans : (s t u : Summary) → R s t → R t u → R s u) (R-after : (w : List Arc) (s t : Summary) → R s t → R (after w s) (after w t)) (R-round : (a : ℕ) (s : Summary) (q : List Arc) → IsFor d (slice_index (depths graph) a) s → IsWalk graph a q a → 0 < length q → s.keep ≡ (after q s).keep → R s (after q s)) where
+  without_round : (a b : ℕ) (s : Summary) (w : List Arc) → IsWalk graph a w b → IsFor d (slice_index (depths graph) a) s → s.keep < n → (r : Round n a s w) → IsWalk graph a (r.p ++ r.z) b × R (after (r.p ++ r.z) s) (after w s)
   without_round a b s w h f k r =
       let m : ℕ = end_of a r.p in
       let t : Summary = after r.p s in
-      let whole : IsWalkAlong arcs a b (r.p ++ (r.q ++ r.z)) = subst (λ v. IsWalkAlong arcs a b v) r.whole h in
-      let to_m : IsWalkAlong arcs a m r.p = walk_front arcs r.p (r.q ++ r.z) a b whole in
-      let rest : IsWalkAlong arcs m b (r.q ++ r.z) = walk_back arcs r.p (r.q ++ r.z) a b whole in
-      let round : IsWalkAlong arcs m (end_of m r.q) r.q = walk_front arcs r.q r.z m b rest in
-      let from : IsWalkAlong arcs (end_of m r.q) b r.z = walk_back arcs r.q r.z m b rest in
+      let whole : IsWalk graph a (r.p ++ (r.q ++ r.z)) b = subst (λ v. IsWalk graph a v b) r.whole h in
+      let to_m : IsWalk graph a r.p m = walk_front graph r.p (r.q ++ r.z) a b whole in
+      let rest : IsWalk graph m (r.q ++ r.z) b = walk_back graph r.p (r.q ++ r.z) a b whole in
+      let round : IsWalk graph m r.q (end_of m r.q) = walk_front graph r.q r.z m b rest in
+      let from : IsWalk graph (end_of m r.q) r.z b = walk_back graph r.q r.z m b rest in
       let low : t.keep < n = omega (arith, after-keep r.p s) in
       let low' : (after r.q t).keep < n = omega (arith, after-keep r.q t) in
       let same = same_from_place m t.keep (end_of m r.q) (after r.q t).keep n low low' r.same in
-      let closed : IsWalkAlong arcs m m r.q = subst (λ e. IsWalkAlong arcs m e r.q) (sym same.0) round in
-      let back : IsWalkAlong arcs m b r.z = subst (λ e. IsWalkAlong arcs e b r.z) (sym same.0) from in
-      let fits : IsFor d (slice_index depths m) t = IsFor-after depths arcs r.p d a m s g to_m f in
+      let closed : IsWalk graph m r.q m = subst (λ e. IsWalk graph m r.q e) (sym same.0) round in
+      let back : IsWalk graph m r.z b = subst (λ e. IsWalk graph e r.z b) (sym same.0) from in
+      let fits : IsFor d (slice_index (depths graph) m) t = IsFor-after graph r.p d a m s g to_m f in
       let worse : R t (after r.q t) = R-round m t r.q fits closed r.more same.1 in
       let tail : R (after r.z t) (after r.z (after r.q t)) = R-after r.z t (after r.q t) worse in
       let left : after (r.p ++ r.z) s ≡ after r.z t = after-append r.p r.z s in
       let right : after w s ≡ after r.z (after r.q t) = ap (λ v. after v s) r.whole ∙ after-append r.p (r.q ++ r.z) s ∙ after-append r.q r.z t in
-      (walks_joined arcs r.p r.z a m b to_m back, subst (λ u. R u (after w s)) (sym left) (subst (λ u. R (after r.z t) u) (sym right) tail))
+      (walks_joined graph r.p r.z a m b to_m back, subst (λ u. R u (after w s)) (sym left) (subst (λ u. R (after r.z t) u) (sym right) tail))
 
-  pub shorten : (fuel a b : ℕ) (s : Summary) (w : List Arc) → length w ≤ fuel → IsWalkAlong arcs a b w → IsFor d (slice_index depths a) s → s.keep < n → Shorter arcs R a b s w (n * length depths)
+  pub shorten : (fuel a b : ℕ) (s : Summary) (w : List Arc) → length w ≤ fuel → IsWalk graph a w b → IsFor d (slice_index (depths graph) a) s → s.keep < n → Shorter graph R a b s w (n * length (depths graph))
   shorten zero a b s w l h f k = record { walk = w; leads = h; short = omega arith; gives = R-refl (after w s) }
   shorten (suc fuel) a b s w l h f k =
-      elim (cases_lt (n * length depths) (length w)) [
+      elim (cases_lt (n * length (depths graph)) (length w)) [
         | inr le ↦ record { walk = w; leads = h; short = le; gives = R-refl (after w s) }
         | inl long ↦
-            let r = must_go_round depths arcs w n a b s g h k long in
+            let r = must_go_round graph w n a b s g h k long in
             let cut = without_round a b s w h f k r in
             let fewer : length (r.p ++ r.z) ≤ fuel = omega (arith, ap length r.whole, length-append r.p (r.q ++ r.z), length-append r.q r.z, length-append r.p r.z, r.more) in
             let short = shorten fuel a b s (r.p ++ r.z) fewer cut.0 f k in

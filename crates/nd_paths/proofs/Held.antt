@@ -6,7 +6,7 @@ use Rattle.nd_time.specs.Time.{IsLexicallyAtMost}
 use Rattle.nd_paths.specs.declared.summary.Summary.{Summary}
 use Rattle.nd_paths.specs.Summary.{applied}
 use Rattle.nd_paths.specs.Table.{held, SomeLeads, HeldFit, KeepsPlaces}
-use Rattle.nd_paths.proofs.Stored.{length-applied}
+use Rattle.nd_paths.proofs.Raised.{length-applied}
 
 no_numbers : (xs : List ℕ) → length xs ≡ 0 → xs ≡ []
 no_numbers [] h = refl

@@ -1,16 +1,13 @@
 pub mod Orders
 pub mod Summaries
 pub mod Walks
-pub mod Tables
-pub mod Laws
 pub mod Cuts
 pub mod Acceptance
 pub mod RowLemmas
 pub mod Sweeps
 pub mod AllRows
-pub mod Reversed
+pub mod Raised
 pub mod Stored
-pub mod ClosedWalks
 pub mod Graphs
 pub mod Decisions
 pub mod TableLemmas

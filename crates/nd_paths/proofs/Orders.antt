@@ -1,71 +1,168 @@
 -- Counters are ordered, and actions keep the order.
-use Rattle.std.proofs.Common.{◌≡◌, ◌⊎◌, inl, inr, ℕ, List, [], ◌∷◌, ◌++◌, length, refl, sym, ◌∙◌, ap, subst, arith}
+use Rattle.std.proofs.Common.{◌≡◌, ◌⊎◌, inl, inr, ℕ, ◌+◌, ◌-◌, ◌<◌, List, [], ◌∷◌, ◌++◌, length, refl, sym, ◌∙◌, ap, subst, arith, append_assoc, length-append}
 use Rattle.std.proofs.lemmas.Bool.{cases_lt, cases_eq}
+use Rattle.nd_time.specs.Time.{IsSmallerAtFirstDifference, IsLexicallyAtMost, egress_of, feedback_of}
 use Rattle.nd_graph.specs.declared.op.Action.{Action}
 use Rattle.nd_graph.specs.declared.op.Action.TheVariants.{Identity, Ingress, Egress, Feedback}
 use Rattle.nd_graph.specs.declared.graph.Arc.{Arc}
-use Rattle.nd_paths.specs.Inside.{Earlier, AtOrBefore}
-use Rattle.nd_paths.specs.Inside.{act}
-use Rattle.nd_paths.specs.Inside.{effect_of}
+use Rattle.nd_graph.specs.Graph.{acted}
+use Rattle.nd_paths.specs.Order.{effect}
 
-pub Earlier-trans : (a b c : List ℕ) → Earlier a b → Earlier b c → Earlier a c
-Earlier-trans [] b c h k = absurd h
-Earlier-trans (x ∷ a) [] c h k = absurd h
-Earlier-trans (x ∷ a) (y ∷ b) [] h k = absurd k
-Earlier-trans (x ∷ a) (y ∷ b) (z ∷ c) h k =
-    elim h [
-      | inl p ↦ elim k [ inl q ↦ inl (Earlier-trans a b c p q) | inr q ↦ inl (subst (λ d. Earlier a d) q.0 p) ]
-      | inr p ↦ elim k [ inl q ↦ inl (subst (λ d. Earlier d c) (sym p.0) q) | inr q ↦ inr (p.0 ∙ q.0, omega (arith, p.1, q.1)) ]
+-- ---- the first difference of two lists
+
+pub smaller_here : (x y : ℕ) (xs ys : List ℕ) → x < y → IsSmallerAtFirstDifference (x ∷ xs) (y ∷ ys)
+smaller_here x y xs ys h = record { common = []; x = x; y = y; xs_rest = xs; ys_rest = ys; xs_is = refl; ys_is = refl; smaller = h }
+
+-- the same numbers in front keep the order
+pub smaller_back : (k a b : List ℕ) → IsSmallerAtFirstDifference a b → IsSmallerAtFirstDifference (k ++ a) (k ++ b)
+smaller_back k a b d = record {
+  common = k ++ d.common;
+  x = d.x;
+  y = d.y;
+  xs_rest = d.xs_rest;
+  ys_rest = d.ys_rest;
+  xs_is = ap (λ l. k ++ l) d.xs_is ∙ sym (append_assoc k d.common (d.x ∷ d.xs_rest));
+  ys_is = ap (λ l. k ++ l) d.ys_is ∙ sym (append_assoc k d.common (d.y ∷ d.ys_rest));
+  smaller = d.smaller;
+}
+
+-- the order of the first parts of two lists decides
+pub smaller_front : (k l a b : List ℕ) → IsSmallerAtFirstDifference k l → IsSmallerAtFirstDifference (k ++ a) (l ++ b)
+smaller_front k l a b d = record {
+  common = d.common;
+  x = d.x;
+  y = d.y;
+  xs_rest = d.xs_rest ++ a;
+  ys_rest = d.ys_rest ++ b;
+  xs_is = ap (λ m. m ++ a) d.xs_is ∙ append_assoc d.common (d.x ∷ d.xs_rest) a;
+  ys_is = ap (λ m. m ++ b) d.ys_is ∙ append_assoc d.common (d.y ∷ d.ys_rest) b;
+  smaller = d.smaller;
+}
+
+smaller_rest : (x y : ℕ) (xs ys : List ℕ) → x ≡ y → IsSmallerAtFirstDifference xs ys → IsSmallerAtFirstDifference (x ∷ xs) (y ∷ ys)
+smaller_rest x y xs ys e d = subst (λ z. IsSmallerAtFirstDifference (x ∷ xs) (z ∷ ys)) e (smaller_back (x ∷ []) xs ys d)
+
+-- the first numbers differ, or the rests do
+first_or_rest : (x y : ℕ) (xs ys common : List ℕ) (a b : ℕ) (r s : List ℕ) → x ∷ xs ≡ common ++ a ∷ r → y ∷ ys ≡ common ++ b ∷ s → a < b → (x < y) ⊎ ((x ≡ y) × IsSmallerAtFirstDifference xs ys)
+first_or_rest x y xs ys [] a b r s e f h =
+    let p : x ≡ a = cc in
+    let q : y ≡ b = cc in
+    inl (omega (arith, p, q, h))
+first_or_rest x y xs ys (c ∷ common) a b r s e f h =
+    inr (cc, record { common = common; x = a; y = b; xs_rest = r; ys_rest = s; xs_is = cc; ys_is = cc; smaller = h })
+
+compared_firsts : (x y : ℕ) (xs ys : List ℕ) → IsSmallerAtFirstDifference (x ∷ xs) (y ∷ ys) → (x < y) ⊎ ((x ≡ y) × IsSmallerAtFirstDifference xs ys)
+compared_firsts x y xs ys d = first_or_rest x y xs ys d.common d.x d.y d.xs_rest d.ys_rest d.xs_is d.ys_is d.smaller
+
+not_empty : (xs ys : List ℕ) → IsSmallerAtFirstDifference xs ys → (0 < length xs) × (0 < length ys)
+not_empty xs ys d =
+    (omega (arith, ap length d.xs_is, length-append d.common (d.x ∷ d.xs_rest)), omega (arith, ap length d.ys_is, length-append d.common (d.y ∷ d.ys_rest)))
+
+-- ---- the order
+
+pub smaller_trans : (a b c : List ℕ) → IsSmallerAtFirstDifference a b → IsSmallerAtFirstDifference b c → IsSmallerAtFirstDifference a c
+smaller_trans [] b c h k = absurd (omega (arith, (not_empty [] b h).0))
+smaller_trans (x ∷ a) [] c h k = absurd (omega (arith, (not_empty [] c k).0))
+smaller_trans (x ∷ a) (y ∷ b) [] h k = absurd (omega (arith, (not_empty (y ∷ b) [] k).1))
+smaller_trans (x ∷ a) (y ∷ b) (z ∷ c) h k =
+    elim (compared_firsts x y a b h) [
+      | inl p ↦ elim (compared_firsts y z b c k) [ inl q ↦ smaller_here x z a c (omega (arith, p, q)) | inr q ↦ smaller_here x z a c (omega (arith, p, q.0)) ]
+      | inr p ↦ elim (compared_firsts y z b c k) [ inl q ↦ smaller_here x z a c (omega (arith, p.0, q)) | inr q ↦ smaller_rest x z a c (p.0 ∙ q.0) (smaller_trans a b c p.1 q.1) ]
     ]
 
-pub Earlier-irrefl : (a : List ℕ) → Earlier a a → ⊥
-Earlier-irrefl [] h = h
-Earlier-irrefl (x ∷ a) h = elim h [ inl p ↦ Earlier-irrefl a p | inr p ↦ omega (arith, p.1) ]
+pub smaller_irrefl : (a : List ℕ) → IsSmallerAtFirstDifference a a → ⊥
+smaller_irrefl [] h = omega (arith, (not_empty [] [] h).0)
+smaller_irrefl (x ∷ a) h = elim (compared_firsts x x a a h) [ inl p ↦ omega (arith, p) | inr p ↦ smaller_irrefl a p.1 ]
 
-pub then_at : (a b c : List ℕ) → Earlier a b → AtOrBefore b c → Earlier a c
-then_at a b c h k = elim k [ inl q ↦ Earlier-trans a b c h q | inr q ↦ subst (λ d. Earlier a d) q h ]
+pub then_at : (a b c : List ℕ) → IsSmallerAtFirstDifference a b → IsLexicallyAtMost b c → IsSmallerAtFirstDifference a c
+then_at a b c h k = elim k [ inl q ↦ subst (λ d. IsSmallerAtFirstDifference a d) q h | inr q ↦ smaller_trans a b c h q ]
 
-pub AtOrBefore-trans : (a b c : List ℕ) → AtOrBefore a b → AtOrBefore b c → AtOrBefore a c
-AtOrBefore-trans a b c h k = elim h [ inl p ↦ inl (then_at a b c p k) | inr p ↦ subst (λ d. AtOrBefore d c) (sym p) k ]
+pub most_trans : (a b c : List ℕ) → IsLexicallyAtMost a b → IsLexicallyAtMost b c → IsLexicallyAtMost a c
+most_trans a b c h k = elim h [ inl p ↦ subst (λ d. IsLexicallyAtMost d c) (sym p) k | inr p ↦ inr (then_at a b c p k) ]
 
-pub AtOrBefore-antisym : (a b : List ℕ) → AtOrBefore a b → AtOrBefore b a → a ≡ b
-AtOrBefore-antisym a b h k = elim h [ inl p ↦ absurd (Earlier-irrefl a (then_at a b a p k)) | inr p ↦ p ]
+pub most_antisym : (a b : List ℕ) → IsLexicallyAtMost a b → IsLexicallyAtMost b a → a ≡ b
+most_antisym a b h k = elim h [ inl p ↦ p | inr p ↦ absurd (smaller_irrefl a (then_at a b a p k)) ]
 
-same_outer : (x y : ℕ) (a b : List ℕ) → a ≡ b → AtOrBefore (x ∷ a) (y ∷ b) ⊎ Earlier (y ∷ b) (x ∷ a)
-same_outer x y a b q =
-    elim (cases_lt y x) [
-      | inl l ↦ inr (inr (sym q, l))
-      | inr l ↦ elim (cases_eq x y) [ inl e ↦ inl (inr (cc)) | inr n ↦ inl (inl (inr (q, omega arith))) ]
-    ]
+most_rest : (x y : ℕ) (a b : List ℕ) → x ≡ y → IsLexicallyAtMost a b → IsLexicallyAtMost (x ∷ a) (y ∷ b)
+most_rest x y a b e h = elim h [ inl p ↦ inl (cc) | inr p ↦ inr (smaller_rest x y a b e p) ]
 
-with_heads : (x y : ℕ) (a b : List ℕ) → AtOrBefore a b ⊎ Earlier b a → AtOrBefore (x ∷ a) (y ∷ b) ⊎ Earlier (y ∷ b) (x ∷ a)
-with_heads x y a b h =
-    elim h [ inl p ↦ elim p [ inl q ↦ inl (inl (inl q)) | inr q ↦ same_outer x y a b q ] | inr p ↦ inr (inl p) ]
-
--- of two lists of the same length, one is earlier, or they are equal
-pub compared : (a b : List ℕ) → length a ≡ length b → AtOrBefore a b ⊎ Earlier b a
-compared [] [] e = inl (inr refl)
+-- of two lists of the same length, one is smaller, or they are equal
+pub compared : (a b : List ℕ) → length a ≡ length b → IsLexicallyAtMost a b ⊎ IsSmallerAtFirstDifference b a
+compared [] [] e = inl (inl refl)
 compared [] (y ∷ b) e = absurd (omega arith)
 compared (x ∷ a) [] e = absurd (omega arith)
-compared (x ∷ a) (y ∷ b) e = with_heads x y a b (compared a b (omega arith))
+compared (x ∷ a) (y ∷ b) e =
+    elim (cases_lt x y) [
+      | inl l ↦ inl (inr (smaller_here x y a b l))
+      | inr l ↦ elim (cases_eq x y) [
+        | inl q ↦ elim (compared a b (omega arith)) [ inl p ↦ inl (most_rest x y a b q p) | inr p ↦ inr (smaller_rest y x b a (sym q) p) ]
+        | inr n ↦ inr (smaller_here y x b a (omega arith))
+      ]
+    ]
 
-pub act-Earlier : (x : Action) (a b : List ℕ) → Earlier a b → AtOrBefore (act x a) (act x b)
-act-Earlier Identity a b h = inl h
-act-Earlier Ingress a b h = inl (inl h)
-act-Earlier Egress [] b h = absurd h
-act-Earlier Egress (x ∷ a) [] h = absurd h
-act-Earlier Egress (x ∷ a) (y ∷ b) h = elim h [ inl p ↦ inl p | inr p ↦ inr p.0 ]
-act-Earlier Feedback [] b h = absurd h
-act-Earlier Feedback (x ∷ a) [] h = absurd h
-act-Earlier Feedback (x ∷ a) (y ∷ b) h = elim h [ inl p ↦ inl (inl p) | inr p ↦ inl (inr (p.0, omega (arith, p.1))) ]
+-- ---- actions and walks
 
-pub act_mono : (x : Action) (a b : List ℕ) → AtOrBefore a b → AtOrBefore (act x a) (act x b)
-act_mono x a b h = elim h [ inl p ↦ act-Earlier x a b p | inr p ↦ inr (ap (act x) p) ]
+pub length-egress : (c : List ℕ) → length (egress_of c) ≡ length c - 1
+length-egress [] = refl
+length-egress (x ∷ []) = refl
+length-egress (x ∷ y ∷ c) = let h = length-egress (y ∷ c) in omega arith
 
-pub effect_mono : (w : List Arc) (a b : List ℕ) → AtOrBefore a b → AtOrBefore (effect_of w a) (effect_of w b)
-effect_mono [] a b h = h
-effect_mono (x ∷ w) a b h = effect_mono w (act x.action a) (act x.action b) (act_mono x.action a b h)
+pub length-feedback : (c : List ℕ) → length (feedback_of c) ≡ length c
+length-feedback [] = refl
+length-feedback (x ∷ []) = refl
+length-feedback (x ∷ y ∷ c) = let h = length-feedback (y ∷ c) in omega arith
 
-pub effect-append : (w v : List Arc) (c : List ℕ) → effect_of (w ++ v) c ≡ effect_of v (effect_of w c)
+-- the number of counters after an action depends only on their number before it
+pub length-acted : (x : Action) (c d : List ℕ) → length c ≡ length d → length (acted x c) ≡ length (acted x d)
+length-acted Identity c d e = e
+length-acted Ingress c d e = omega (arith, length-append c (0 ∷ []), length-append d (0 ∷ []))
+length-acted Egress c d e = omega (arith, length-egress c, length-egress d)
+length-acted Feedback c d e = omega (arith, length-feedback c, length-feedback d)
+
+pub same_depth : (w : List Arc) (c d : List ℕ) → length c ≡ length d → length (effect w c) ≡ length (effect w d)
+same_depth [] c d e = e
+same_depth (x ∷ w) c d e = same_depth w (acted x.action c) (acted x.action d) (length-acted x.action c d e)
+
+egress_mono : (a b : List ℕ) → length a ≡ length b → IsSmallerAtFirstDifference a b → IsLexicallyAtMost (egress_of a) (egress_of b)
+egress_mono [] b e h = absurd (omega (arith, (not_empty [] b h).0))
+egress_mono (x ∷ a) [] e h = absurd (omega arith)
+egress_mono (x ∷ []) (y ∷ []) e h = inl refl
+egress_mono (x ∷ []) (y ∷ z ∷ b) e h = absurd (omega arith)
+egress_mono (x ∷ w ∷ a) (y ∷ []) e h = absurd (omega arith)
+egress_mono (x ∷ w ∷ a) (y ∷ z ∷ b) e h =
+    elim (compared_firsts x y (w ∷ a) (z ∷ b) h) [
+      | inl p ↦ inr (smaller_here x y (egress_of (w ∷ a)) (egress_of (z ∷ b)) p)
+      | inr p ↦ most_rest x y (egress_of (w ∷ a)) (egress_of (z ∷ b)) p.0 (egress_mono (w ∷ a) (z ∷ b) (omega arith) p.1)
+    ]
+
+last_mono : (x y : ℕ) → IsSmallerAtFirstDifference (x ∷ []) (y ∷ []) → x < y
+last_mono x y h = elim (compared_firsts x y [] [] h) [ inl p ↦ p | inr p ↦ absurd (omega (arith, (not_empty [] [] p.1).0)) ]
+
+feedback_mono : (a b : List ℕ) → length a ≡ length b → IsSmallerAtFirstDifference a b → IsSmallerAtFirstDifference (feedback_of a) (feedback_of b)
+feedback_mono [] b e h = absurd (omega (arith, (not_empty [] b h).0))
+feedback_mono (x ∷ a) [] e h = absurd (omega arith)
+feedback_mono (x ∷ []) (y ∷ []) e h = smaller_here (x + 1) (y + 1) [] [] (omega (arith, last_mono x y h))
+feedback_mono (x ∷ []) (y ∷ z ∷ b) e h = absurd (omega arith)
+feedback_mono (x ∷ w ∷ a) (y ∷ []) e h = absurd (omega arith)
+feedback_mono (x ∷ w ∷ a) (y ∷ z ∷ b) e h =
+    elim (compared_firsts x y (w ∷ a) (z ∷ b) h) [
+      | inl p ↦ smaller_here x y (feedback_of (w ∷ a)) (feedback_of (z ∷ b)) p
+      | inr p ↦ smaller_rest x y (feedback_of (w ∷ a)) (feedback_of (z ∷ b)) p.0 (feedback_mono (w ∷ a) (z ∷ b) (omega arith) p.1)
+    ]
+
+act_smaller : (x : Action) (a b : List ℕ) → length a ≡ length b → IsSmallerAtFirstDifference a b → IsLexicallyAtMost (acted x a) (acted x b)
+act_smaller Identity a b e h = inr h
+act_smaller Ingress a b e h = inr (smaller_front a b (0 ∷ []) (0 ∷ []) h)
+act_smaller Egress a b e h = egress_mono a b e h
+act_smaller Feedback a b e h = inr (feedback_mono a b e h)
+
+pub act_mono : (x : Action) (a b : List ℕ) → length a ≡ length b → IsLexicallyAtMost a b → IsLexicallyAtMost (acted x a) (acted x b)
+act_mono x a b e h = elim h [ inl p ↦ inl (ap (acted x) p) | inr p ↦ act_smaller x a b e p ]
+
+pub effect_mono : (w : List Arc) (a b : List ℕ) → length a ≡ length b → IsLexicallyAtMost a b → IsLexicallyAtMost (effect w a) (effect w b)
+effect_mono [] a b e h = h
+effect_mono (x ∷ w) a b e h = effect_mono w (acted x.action a) (acted x.action b) (length-acted x.action a b e) (act_mono x.action a b e h)
+
+pub effect-append : (w v : List Arc) (c : List ℕ) → effect (w ++ v) c ≡ effect v (effect w c)
 effect-append [] v c = refl
-effect-append (x ∷ w) v c = effect-append w v (act x.action c)
+effect-append (x ∷ w) v c = effect-append w v (acted x.action c)

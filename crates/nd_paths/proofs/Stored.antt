@@ -1,17 +1,16 @@
--- Summaries as they are stored, outermost constant first: extending them by an action, and comparing them.
-use Rattle.std.proofs.Common.{◌≡◌, inl, inr, ◌↔◌, ℕ, ◌+◌, ◌-◌, ◌<◌, ◌≤◌, Bool, true, false, IsTrue, IsSome, MatchBool, Option, Some, None, List, [], ◌∷◌, ◌++◌, length, take, reverse, refl, sym, ◌∙◌, ap, arith, length-append, length-take}
+-- Comparing summaries, and extending them by an action that takes a constant away.
+use Rattle.std.proofs.Common.{◌≡◌, inl, inr, ◌↔◌, ℕ, ◌+◌, ◌-◌, ◌<◌, Bool, true, false, IsTrue, IsSome, MatchBool, Option, Some, None, List, [], ◌∷◌, ◌++◌, length, refl, sym, ◌∙◌, ap, arith}
 use Rattle.std.specs.Option.{is_some, option_to_list}
 use Rattle.std.specs.Ordering.{nat_cmp, is_le}
 use Rattle.std.specs.Cmp.Lexicographic.{slice_cmp}
-use Rattle.std.proofs.lemmas.List.{length-reverse}
+use Rattle.std.proofs.lemmas.List.{append-nil}
 use Rattle.nd_time.specs.Time.{IsLexicallyAtMost}
 use Rattle.nd_time.specs.Lexical.{at_most, compares}
 use Rattle.nd_graph.specs.declared.op.Action.TheVariants.{Egress, Feedback}
 use Rattle.nd_paths.specs.declared.summary.Summary.{Summary}
-use Rattle.nd_paths.specs.Summary.{raised, applied}
-use Rattle.nd_paths.specs.Inside.{inner, step, then_act, AtMost}
+use Rattle.nd_paths.specs.Steps.{step, then_act, AtMost}
 use Rattle.nd_paths.proofs.Orders.{compared}
-use Rattle.nd_paths.proofs.Reversed.{before_from_lexical, lexical_from_before}
+use Rattle.nd_paths.proofs.Raised.{egress_front, feedback_front}
 
 left_none : (k left : List ℕ) (o : Option ℕ) → is_some o ≡ false → IsSome o ↔ (0 < length k) → k ≡ left ++ option_to_list o → (k ≡ []) × (left ≡ [])
 left_none [] [] o n h e = (refl, refl)
@@ -20,38 +19,43 @@ left_none (x ∷ k) left None n h e = let some = h.1 (omega arith) in absurd (cc
 left_none (x ∷ k) left (Some y) n h e = absurd (cc)
 
 -- an egress of a summary without constants
-pub egress_end : (s : Summary) (k : ℕ) (left : List ℕ) (o : Option ℕ) → is_some o ≡ false → IsSome o ↔ (0 < length s.constants) → s.constants ≡ left ++ option_to_list o → k ≡ s.keep - 1 → inner (record { keep = k; add = 0; constants = left }) ≡ step Egress (inner s)
+pub egress_end : (s : Summary) (k : ℕ) (left : List ℕ) (o : Option ℕ) → is_some o ≡ false → IsSome o ↔ (0 < length s.constants) → s.constants ≡ left ++ option_to_list o → k ≡ s.keep - 1 → record { keep = k; add = 0; constants = left } ≡ step Egress s
 egress_end s k left o n h e q =
     let parts = left_none s.constants left o n h e in
-    ap (λ c. inner (record { keep = k; add = 0; constants = c })) parts.1 ∙ ap (λ r. record { keep = r; add = 0; constants = [] }) q ∙ ap (λ c. then_act Egress s.keep s.add (reverse c)) (sym parts.0)
+    ap (λ c. record { keep = k; add = 0; constants = c }) parts.1 ∙ ap (λ r. record { keep = r; add = 0; constants = [] }) q ∙ ap (λ c. then_act Egress s.keep s.add c) (sym parts.0)
 
 -- a feedback of a summary without constants
-pub feedback_end : (s : Summary) (left : List ℕ) (o : Option ℕ) → is_some o ≡ false → IsSome o ↔ (0 < length s.constants) → s.constants ≡ left ++ option_to_list o → inner (record { keep = s.keep; add = s.add + 1; constants = left }) ≡ step Feedback (inner s)
+pub feedback_end : (s : Summary) (left : List ℕ) (o : Option ℕ) → is_some o ≡ false → IsSome o ↔ (0 < length s.constants) → s.constants ≡ left ++ option_to_list o → record { keep = s.keep; add = s.add + 1; constants = left } ≡ step Feedback s
 feedback_end s left o n h e =
     let parts = left_none s.constants left o n h e in
-    ap (λ c. inner (record { keep = s.keep; add = s.add + 1; constants = c })) parts.1 ∙ ap (λ c. then_act Feedback s.keep s.add (reverse c)) (sym parts.0)
+    ap (λ c. record { keep = s.keep; add = s.add + 1; constants = c }) parts.1 ∙ ap (λ c. then_act Feedback s.keep s.add c) (sym parts.0)
 
-inner_same : (s t : Summary) → s.keep ≡ t.keep → length s.constants ≡ length t.constants → length (inner s).constants ≡ length (inner t).constants
-inner_same s t e h = length-reverse s.constants ∙ h ∙ sym (length-reverse t.constants)
+-- an egress takes the last constant away
+pub egress_last : (s : Summary) (left : List ℕ) (o : Option ℕ) → is_some o ≡ true → s.constants ≡ left ++ option_to_list o → record { keep = s.keep; add = s.add; constants = left } ≡ step Egress s
+egress_last s left None n e = absurd (cc)
+egress_last s left (Some x) n e = sym (by_last left) ∙ ap (then_act Egress s.keep s.add) (sym e)
+  where
+    by_last : (k : List ℕ) → then_act Egress s.keep s.add (k ++ x ∷ []) ≡ record { keep = s.keep; add = s.add; constants = k }
+    by_last [] = refl
+    by_last (y ∷ k) = ap (λ c. record { keep = s.keep; add = s.add; constants = c }) (egress_front (y ∷ k) x [] ∙ append-nil (y ∷ k))
+
+-- a feedback adds 1 to the last constant
+pub feedback_last : (s : Summary) (left : List ℕ) (x : ℕ) → s.constants ≡ left ++ x ∷ [] → record { keep = s.keep; add = s.add; constants = left ++ (x + 1) ∷ [] } ≡ step Feedback s
+feedback_last s left x e = sym (by_last left) ∙ ap (then_act Feedback s.keep s.add) (sym e)
+  where
+    by_last : (k : List ℕ) → then_act Feedback s.keep s.add (k ++ x ∷ []) ≡ record { keep = s.keep; add = s.add; constants = k ++ (x + 1) ∷ [] }
+    by_last [] = refl
+    by_last (y ∷ k) = ap (λ c. record { keep = s.keep; add = s.add; constants = c }) (feedback_front (y ∷ k) x [])
 
 -- comparing the constants of summaries that add the same number
-pub compares_parts : (s t : Summary) (b : Bool) → s.keep ≡ t.keep → length s.constants ≡ length t.constants → s.add ≡ t.add → b ≡ is_le (slice_cmp nat_cmp s.constants t.constants) → MatchBool b (AtMost (inner s) (inner t)) (AtMost (inner t) (inner s))
+pub compares_parts : (s t : Summary) (b : Bool) → s.keep ≡ t.keep → length s.constants ≡ length t.constants → s.add ≡ t.add → b ≡ is_le (slice_cmp nat_cmp s.constants t.constants) → MatchBool b (AtMost s t) (AtMost t s)
 compares_parts s t true e h a is =
-    record { keep = e; size = inner_same s t e h; least = inr (a, before_from_lexical s.constants t.constants h (at_most s.constants t.constants h (sym is))) }
+    record { keep = e; size = h; least = inr (a, at_most s.constants t.constants h (sym is)) }
 compares_parts s t false e h a is =
-    elim (compared (reverse s.constants) (reverse t.constants) (inner_same s t e h)) [
-      | inl p ↦ (let yes = compares s.constants t.constants (lexical_from_before s.constants t.constants h p) in absurd (cc))
-      | inr p ↦ record { keep = sym e; size = sym (inner_same s t e h); least = inr (sym a, inl p) }
+    elim (compared s.constants t.constants h) [
+      | inl p ↦ (let yes = compares s.constants t.constants p in absurd (cc))
+      | inr p ↦ record { keep = sym e; size = sym h; least = inr (sym a, inr p) }
     ]
-
-pub length-raised : (a : ℕ) (c : List ℕ) → length (raised a c) ≡ length c
-length-raised a [] = refl
-length-raised a (x ∷ []) = refl
-length-raised a (x ∷ y ∷ c) = let h = length-raised a (y ∷ c) in omega arith
-
-pub length-applied : (s : Summary) (c : List ℕ) → s.keep ≤ length c → length (applied s c) ≡ s.keep + length s.constants
-length-applied s c h =
-    omega (arith, length-append (raised s.add (take s.keep c)) s.constants, length-raised s.add (take s.keep c), length-take s.keep c)
 
 -- comparing decides the lexicographic order
 pub lexical_decided : (b : Bool) (xs ys : List ℕ) → length xs ≡ length ys → b ≡ is_le (slice_cmp nat_cmp xs ys) → IsTrue b ↔ IsLexicallyAtMost xs ys

@@ -6,7 +6,7 @@ use Rattle.std.proofs.lemmas.Bool.Decides.{nat_tests}
 use Rattle.std.proofs.lemmas.List.{drop_more, drop_all, get_or-take, get_or_append_left, get_or-append_right}
 use Rattle.nd_paths.specs.declared.summary.Summary.{Summary}
 use Rattle.nd_paths.specs.Summary.{raised, applied}
-use Rattle.nd_paths.proofs.Stored.{length-raised}
+use Rattle.nd_paths.proofs.Raised.{length-raised}
 
 -- ---- the number at a position
 

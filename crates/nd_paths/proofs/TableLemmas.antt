@@ -1,28 +1,9 @@
--- From the rows to an accepted graph with its table, and from one table to an equal one.
-use Rattle.std.proofs.Common.{◌≡◌, ℕ, ◌+◌, ◌*◌, ◌≤◌, Option, List, length, sym, ◌∙◌, ap, subst, arith}
-use Rattle.std.specs.Prelude.{All, Vec}
-use Rattle.nd_time.specs.Limits.{max_depth, max_locations}
-use Rattle.nd_graph.specs.declared.graph.Arc.{Arc}
-use Rattle.nd_graph.specs.Graph.{Dataflow, arcs, depths}
-use Rattle.nd_paths.specs.declared.accept.PathFault.{PathFault}
-use Rattle.nd_paths.specs.declared.accept.PathFault.TheVariants.{LoopNotStrict, Memory}
+-- From one table to an equal one.
+use Rattle.std.proofs.Common.{◌≡◌, Option, List, sym, ◌∙◌, ap, subst, arith, length}
+use Rattle.std.specs.Prelude.{Vec}
+use Rattle.nd_graph.specs.Graph.{Dataflow}
 use Rattle.nd_paths.specs.declared.summary.Summary.{Summary}
-use Rattle.nd_paths.specs.Order.{IsAccepted}
-use Rattle.nd_paths.specs.Fault.{IsFault, IsFaultInside}
-use Rattle.nd_paths.specs.Inside.{DepthsAgree, Accepted}
-use Rattle.nd_paths.specs.Table.{entry, IsLeast, AreLeast, AreCopies, IsTable}
-use Rattle.nd_paths.proofs.Graphs.{fails_at, fails_from, is_accepted, length-arcs_from}
-
-pub few_arcs : (g : Dataflow) → length g.vertices + length g.edges ≤ max_locations → length (arcs g) ≤ max_locations * 2
-few_arcs g h = let e = length-arcs_from g.vertices (length g.vertices) g.edges in omega arith
-
-pub fault_outside : (g : Dataflow) (e : PathFault) → DepthsAgree (depths g) (arcs g) → IsFaultInside (depths g) (arcs g) e → IsFault g e
-fault_outside g (LoopNotStrict l) agree (inside, fails, first) =
-    (fails_at g l agree inside fails, λ k low f. first k low (fails_from g k agree f))
-fault_outside g Memory agree h = tt
-
-pub accepted_inside : {Z : Type 0} (g : Dataflow) (rows : List (Vec (Option Summary) Z)) → IsTable g rows → IsAccepted g
-accepted_inside g rows h = is_accepted g h.agree h.accepted
+use Rattle.nd_paths.specs.Table.{IsLeast, AreCopies, IsTable}
 
 pub table_as : {Z : Type 0} (g g' : Dataflow) (rows : List (Vec (Option Summary) Z)) → g' ≡ g → IsTable g rows → IsTable g' rows
 table_as g g' rows e h = subst (λ x. IsTable x rows) (sym e) h
@@ -32,26 +13,7 @@ table_copied g g' rows copies e c h = table_as g g' copies e (record {
   agree = h.agree;
   deep = h.deep;
   accepted = h.accepted;
-  least = (
-    c.0 ∙ h.least.0,
-    λ a d l.
-        let same = c.1 a d (omega (arith, h.least.0)) in
-        let p = h.least.1 a d l in
-        (ap length same ∙ p.0, subst (λ row. IsLeast (depths g) (arcs g) a (entry row)) (sym same) p.1),
-  );
+  count = c.0 ∙ h.count;
+  long = λ a d l. ap length (c.1 a d (omega (arith, h.count))) ∙ h.long a d l;
+  least = λ a d l. subst (λ row. IsLeast g a row) (sym (c.1 a d (omega (arith, h.count)))) (h.least a d l);
 })
-
--- the lists that a graph's readers return are its depths and its arcs
-module _ (g : Dataflow) (ds : List ℕ) (xs : List Arc) (e : ds ≡ depths g) (q : xs ≡ arcs g) where
-  of_graph : (P : List ℕ → List Arc → Type 0) → P ds xs → P (depths g) (arcs g)
-  of_graph P p = subst (λ d. P d (arcs g)) e (subst (λ x. P ds x) q p)
-
-  pub read_accepted : Accepted ds xs → Accepted (depths g) (arcs g)
-  read_accepted h = of_graph Accepted h
-
-  pub read_fault : (f : PathFault) → DepthsAgree (depths g) (arcs g) → IsFaultInside ds xs f → IsFault g f
-  read_fault f agree h = fault_outside g f agree (of_graph (λ d x. IsFaultInside d x f) h)
-
-  pub read_table : {Z : Type 0} (rows : List (Vec (Option Summary) Z)) → DepthsAgree (depths g) (arcs g) → All (λ d. d ≤ max_depth) (depths g) → Accepted ds xs → AreLeast ds xs rows (length ds) → IsTable g rows
-  read_table rows agree deep ok least =
-      record { agree = agree; deep = deep; accepted = read_accepted ok; least = of_graph (λ d x. AreLeast d x rows (length d)) least }

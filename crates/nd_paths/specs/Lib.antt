@@ -1,7 +1,7 @@
 pub mod Point
 pub mod Order
 pub mod Summary
-pub mod Inside
+pub mod Steps
 pub mod Table
 pub mod Fault
 pub mod Laws

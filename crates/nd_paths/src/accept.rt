@@ -1,14 +1,12 @@
 //! Which graphs have an order: every walk around a loop increases the time.
-ghost use Rattle.std.specs.Prelude.{◌≡◌, ◌*◌, ◌<◌, ◌≤◌, All, IfErr, IfOk, length};
-ghost use Rattle.nd_time.specs.Limits.{max_depth, max_locations};
-ghost use Rattle.nd_paths.specs.Inside.{Accepted, DepthsAgree, Fails};
-ghost use Rattle.nd_paths.specs.Table.{AreLeast};
-ghost use Rattle.nd_paths.specs.Fault.{IsFaultInside};
+ghost use Rattle.std.specs.Prelude.{◌≡◌, IfErr, IfOk};
+ghost use Rattle.nd_paths.specs.Table.{IsTable};
+ghost use Rattle.nd_paths.specs.Fault.{IsFault};
 ghost use Rattle.nd_paths.specs.declared.accept.PathFault.TheVariants.{Memory};
 
 use crate::Summary;
 use crate::table::{short_row, shows_fail};
-use nd_graph::Arc;
+use nd_graph::Graph;
 use std::alloc::{AllocError, Allocator};
 use thiserror::Error;
 
@@ -36,20 +34,16 @@ impl From<AllocError> for PathFault {
 /// increase a time.
 pub fn rows_of<A: Allocator + Copy>(
     alloc: A,
-    depths: &[usize],
-    arcs: &[Arc],
+    graph: &Graph<A>,
 ) -> Result<Vec<Vec<Option<Summary>, A>, A>, PathFault>
-    requires agree { DepthsAgree depths.now arcs.now }
-    requires deep { All (λ d. d ≤ max_depth) depths.now }
-    requires few { length depths.now ≤ max_locations }
-    requires few_arcs { length arcs.now ≤ max_locations * 2 }
-    ensures accepted { IfOk result (λ _. Accepted depths.now arcs.now) }
-    ensures rows { IfOk result (λ rows. AreLeast depths.now arcs.now rows.items (length depths.now)) }
-    ensures fault { IfErr result (λ e. IsFaultInside depths.now arcs.now e) }
+    ensures table { IfOk result (λ rows. IsTable graph.now rows.items) }
+    ensures fault { IfErr result (λ e. IsFault graph.now e) }
 {
+    let depths = graph.depths();
+    let arcs = graph.all_arcs();
     let mut rows = Vec::new(alloc);
     for location in 0..depths.len() {
-        let row = short_row(alloc, depths, arcs, location)?;
+        let row = short_row(alloc, graph, location)?;
         if shows_fail(&row, depths, arcs, location) {
             return Err(PathFault::LoopNotStrict { location });
         }

@@ -3,7 +3,7 @@ ghost use Rattle.std.specs.Prelude.{◌≡◌, ◌+◌, ◌*◌, ◌≤◌, ◌�
 ghost use Rattle.nd_time.specs.Time.{Time, IsAtOrBefore};
 ghost use Rattle.nd_time.specs.Listing.{time_cmp};
 ghost use Rattle.nd_time.specs.Limits.{max_depth, max_counter};
-ghost use Rattle.nd_paths.specs.Inside.{keeps};
+ghost use Rattle.nd_paths.specs.Steps.{keeps};
 ghost use Rattle.nd_paths.specs.Arrival.{HoldsFew, AreTurned};
 
 use crate::Summary;

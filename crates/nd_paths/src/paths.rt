@@ -54,7 +54,7 @@ impl<A: Allocator> Paths<A> {
         ensures accepted { IfOk result (λ _. IsAccepted graph.now) }
         ensures fault { IfErr result (λ e. IsFault graph.now e) }
     {
-        let rows = rows_of(alloc, graph.depths(), graph.all_arcs())?;
+        let rows = rows_of(alloc, graph)?;
         let graph = graph.copy(alloc)?;
         Ok(Paths { graph, rows })
     }

@@ -109,7 +109,8 @@ pub struct Summary {
 }
 
 impl Summary {
-    ghost use Rattle.nd_paths.specs.Inside.{inner, step, grows, AtMost, IsWithin};
+    ghost use Rattle.nd_graph.specs.declared.op.Action.TheVariants.{Ingress};
+    ghost use Rattle.nd_paths.specs.Steps.{step, AtMost, IsWithin};
     ghost use Rattle.nd_paths.specs.Summary.{applied};
 
     /// Returns the summary of the empty walk from a location of this depth.
@@ -136,9 +137,9 @@ impl Summary {
 
     // Returns this summary followed by one action.
     pub(crate) fn past(&self, action: Action) -> Summary
-        requires room { length (inner self.now).constants + grows action ≤ max_depth }
-        requires within { IsWithin (max_counter - 1) (inner self.now) }
-        ensures { inner result ≡ step action (inner self.now) }
+        requires room { action ≡ Ingress → length self.now.constants < max_depth }
+        requires within { IsWithin (max_counter - 1) self.now }
+        ensures { result ≡ step action self.now }
     {
         let mut next = self.copy();
         match action {
@@ -160,7 +161,7 @@ impl Summary {
 
     // Returns whether this summary followed by one action adds nothing.
     pub(crate) fn adds_nothing(&self, action: Action) -> bool
-        ensures { IsTrue result ↔ ((step action (inner self.now)).add ≡ 0) }
+        ensures { IsTrue result ↔ ((step action self.now).add ≡ 0) }
     {
         let ends = self.constants.as_slice().is_empty();
         match action {
@@ -175,8 +176,7 @@ impl Summary {
     pub(crate) fn is_at_most(&self, other: &Summary) -> bool
         requires keep { self.now.keep ≡ other.now.keep }
         requires size { length self.now.constants ≡ length other.now.constants }
-        ensures { MatchBool result (AtMost (inner self.now) (inner other.now))
-            (AtMost (inner other.now) (inner self.now)) }
+        ensures { MatchBool result (AtMost self.now other.now) (AtMost other.now self.now) }
     {
         if self.add != other.add {
             return self.add < other.add;

@@ -1,14 +1,15 @@
 //! The table of least summaries, row by row.
-ghost use Rattle.std.specs.Prelude.{◌≡◌, ◌+◌, ◌*◌, ◌<◌, ◌≤◌, ◌↔◌, All, IfOk, IsTrue, MatchBool, None, Some, length, replicate, slice_index, slice_set};
+ghost use Rattle.std.specs.Prelude.{◌≡◌, ◌+◌, ◌*◌, ◌<◌, ◌≤◌, ◌↔◌, All, IfOk, IsTrue, MatchBool, length, slice_index};
 ghost use Rattle.std.specs.Bool.{OnFalse};
 ghost use Rattle.std.specs.Option.{option_copied};
 ghost use Rattle.nd_time.specs.Limits.{max_depth, max_locations};
-ghost use Rattle.nd_paths.specs.Inside.{keeps, DepthsAgree, identity};
-ghost use Rattle.nd_paths.specs.Table.{held, entry, CanRelax, Relaxed, Quiet, HasWalks, CoversShort, ShowsFail, Closes, SomeLeads, HeldFit, HoldsAny, AreCopies, KeepsPlaces, IsListed};
+ghost use Rattle.nd_graph.specs.Graph.{depths as depths_of, ArcAgrees};
+ghost use Rattle.nd_paths.specs.Steps.{keeps};
+ghost use Rattle.nd_paths.specs.Table.{held, start_row, CanRelax, Relaxed, Quiet, HasWalks, CoversShort, ShowsFail, Closes, SomeLeads, HeldFit, HoldsAny, AreCopies, KeepsPlaces, IsListed};
 
 use crate::Summary;
 use arrayvec::ArrayVec;
-use nd_graph::Arc;
+use nd_graph::{Arc, Graph};
 use nd_time::MAX_DEPTH;
 use std::alloc::{AllocError, Allocator};
 
@@ -57,7 +58,7 @@ fn first_row<A: Allocator>(
     requires few { length depths.now ≤ max_locations }
     requires from { from < length depths.now }
     requires deep { slice_index depths.now from ≤ max_depth }
-    ensures { IfOk result (λ row. row.items ≡ slice_set (replicate (length depths.now * keeps) None) (from * keeps + slice_index depths.now from) (Some (identity (slice_index depths.now from)))) }
+    ensures { IfOk result (λ row. row.items ≡ start_row depths.now from) }
 {
     let mut row = Vec::with_capacity(alloc, depths.len() * KEEPS)?;
     for _place in 0..depths.len() * KEEPS {
@@ -69,17 +70,15 @@ fn first_row<A: Allocator>(
 
 // Extends every entry by every arc until nothing changes, and at most as many times as a walk without
 // detours has arcs.
-fn sweep(row: &mut [Option<Summary>], depths: &[usize], arcs: &[Arc], from: usize)
-    requires agree { DepthsAgree depths.now arcs.now }
-    requires deep { All (λ d. d ≤ max_depth) depths.now }
-    requires few { length depths.now ≤ max_locations }
-    requires few_arcs { length arcs.now ≤ max_locations * 2 }
-    requires from { from < length depths.now }
-    requires start { row.old ≡ slice_set (replicate (length depths.now * keeps) None) (from * keeps + slice_index depths.now from) (Some (identity (slice_index depths.now from))) }
-    ensures walks { HasWalks depths.now arcs.now from (entry row.new) }
-    ensures covers { CoversShort depths.now arcs.now from (entry row.new) (keeps * length depths.now) }
+fn sweep<A: Allocator>(row: &mut [Option<Summary>], graph: &Graph<A>, from: usize)
+    requires from { from < length (depths_of graph.now) }
+    requires start { row.old ≡ start_row (depths_of graph.now) from }
+    ensures walks { HasWalks graph.now from row.new }
+    ensures covers { CoversShort graph.now from row.new
+        (keeps * length (depths_of graph.now)) }
 {
-    'rounds: for _round in 0..depths.len() * KEEPS {
+    let arcs = graph.all_arcs();
+    'rounds: for _round in 0..graph.depths().len() * KEEPS {
         let mut changed = false;
         'arcs: for arc in arcs {
             'keeps: for keep in 0..KEEPS {
@@ -95,29 +94,26 @@ fn sweep(row: &mut [Option<Summary>], depths: &[usize], arcs: &[Arc], from: usiz
 /// Returns the least summaries of the walks from a location that are no longer than a walk without detours.
 pub fn short_row<A: Allocator>(
     alloc: A,
-    depths: &[usize],
-    arcs: &[Arc],
+    graph: &Graph<A>,
     from: usize,
 ) -> Result<Vec<Option<Summary>, A>, AllocError>
-    requires agree { DepthsAgree depths.now arcs.now }
-    requires deep { All (λ d. d ≤ max_depth) depths.now }
-    requires few { length depths.now ≤ max_locations }
-    requires few_arcs { length arcs.now ≤ max_locations * 2 }
-    requires from { from < length depths.now }
-    ensures long { IfOk result (λ row. length row.items ≡ length depths.now * keeps) }
-    ensures walks { IfOk result (λ row. HasWalks depths.now arcs.now from (entry row.items)) }
-    ensures covers { IfOk result (λ row. CoversShort depths.now arcs.now from (entry row.items) (keeps * length depths.now)) }
+    requires from { from < length (depths_of graph.now) }
+    ensures long { IfOk result (λ row. length row.items ≡ length (depths_of graph.now) * keeps) }
+    ensures walks { IfOk result (λ row. HasWalks graph.now from row.items) }
+    ensures covers { IfOk result (λ row. CoversShort graph.now from row.items
+        (keeps * length (depths_of graph.now))) }
 {
-    let mut row = first_row(alloc, depths, from)?;
-    sweep(&mut row, depths, arcs, from);
+    let mut row = first_row(alloc, graph.depths(), from)?;
+    sweep(&mut row, graph, from);
     Ok(row)
 }
 
 /// Returns whether a closed walk from the location of the row fails to increase some time.
 pub fn shows_fail(row: &[Option<Summary>], depths: &[usize], arcs: &[Arc], location: usize) -> bool
-    requires agree { DepthsAgree depths.now arcs.now }
+    requires agree { All (ArcAgrees depths.now) arcs.now }
     requires long { length row.now ≡ length depths.now * keeps }
-    ensures { MatchBool result (ShowsFail arcs.now location (entry row.now)) (ShowsFail arcs.now location (entry row.now) → ⊥) }
+    ensures { MatchBool result (ShowsFail arcs.now location row.now)
+        (ShowsFail arcs.now location row.now → ⊥) }
 {
     for arc in arcs {
         if arc.to == location && closes(row, *arc) {

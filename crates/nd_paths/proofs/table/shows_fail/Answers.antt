@@ -2,7 +2,7 @@ use Rattle.std.proofs.Common.{get_or}
 use Rattle.std.proofs.lemmas.List.Elements.{All-more}
 use Rattle.nd_graph.specs.declared.graph.Arc.{Arc}
 use Rattle.nd_graph.specs.declared.op.Action.TheVariants.{Identity}
-use Rattle.nd_paths.proofs.ClosedWalks.{IsFine, none_closes}
+use Rattle.nd_paths.proofs.RowLemmas.{IsFine, none_closes}
 use Rattle.nd_paths.proofs.table.shows_fail.Goals as goal
 use Rattle.nd_paths.proofs.table.shows_fail.Goals.{else-arc-location-via-then-arc-location+else-closes, else-arc-location-via-else-arc-location}
 

@@ -1,6 +1,6 @@
 use Rattle.std.proofs.Common.{take}
 use Rattle.std.specs.Prelude.{All}
-use Rattle.nd_paths.proofs.ClosedWalks.{IsFine}
+use Rattle.nd_paths.proofs.RowLemmas.{IsFine}
 use Rattle.nd_paths.proofs.table.shows_fail.Given as goal
 
 -- none of the arcs so far closes a walk that adds nothing

@@ -1,7 +1,6 @@
 use Rattle.std.proofs.Common.{subst}
 use Rattle.nd_paths.specs.Order.{IsAccepted}
-use Rattle.nd_paths.proofs.TableLemmas.{accepted_inside}
 use Rattle.nd_paths.proofs.paths.Paths.graph.Goals as goal
 
 pub returns-clause-accepted : goal.returns-clause-accepted
-returns-clause-accepted g c = subst IsAccepted c.self.view_is (accepted_inside c.self.inside.graph c.self.inside.rows.items c.self.invariant)
+returns-clause-accepted g c = subst IsAccepted c.self.view_is c.self.invariant.accepted

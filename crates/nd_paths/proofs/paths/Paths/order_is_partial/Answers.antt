@@ -1,5 +1,5 @@
 use Rattle.std.proofs.Common.{sym}
-use Rattle.nd_paths.proofs.TableLemmas.{accepted_inside, table_as}
+use Rattle.nd_paths.proofs.TableLemmas.{table_as}
 use Rattle.nd_paths.proofs.PointOrder.{could_trans, could_antisym, strictly_trans}
 use Rattle.nd_paths.proofs.Minimal.{minimal_point}
 use Rattle.nd_paths.proofs.paths.Paths.order_is_partial.Goals as goal
@@ -10,12 +10,12 @@ returns-clause-transitive g c = could_trans c.args.self.now
 pub returns-clause-antisymmetric : goal.returns-clause-antisymmetric
 returns-clause-antisymmetric g c =
     let table = table_as c.self.inside.graph c.args.self.now c.self.inside.rows.items (sym c.self.view_is) c.self.invariant in
-    λ s t. could_antisym c.args.self.now s t (accepted_inside c.args.self.now c.self.inside.rows.items table)
+    λ s t. could_antisym c.args.self.now s t table.accepted
 
 pub returns-clause-strict : goal.returns-clause-strict
 returns-clause-strict g c =
     let table = table_as c.self.inside.graph c.args.self.now c.self.inside.rows.items (sym c.self.view_is) c.self.invariant in
-    λ s t u. strictly_trans c.args.self.now s t u (accepted_inside c.args.self.now c.self.inside.rows.items table)
+    λ s t u. strictly_trans c.args.self.now s t u table.accepted
 
 pub returns-clause-minimal : goal.returns-clause-minimal
 returns-clause-minimal g c =

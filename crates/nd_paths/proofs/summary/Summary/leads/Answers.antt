@@ -1,7 +1,8 @@
 use Rattle.std.proofs.Common.{◌≡◌, ◌∙◌, sym, ap, get_or, length, nat_lt, true, arith}
 use Rattle.std.specs.Ordering.{is_le}
 use Rattle.nd_paths.specs.Summary.{applied}
-use Rattle.nd_paths.proofs.Stored.{lexical_decided, length-applied}
+use Rattle.nd_paths.proofs.Stored.{lexical_decided}
+use Rattle.nd_paths.proofs.Raised.{length-applied}
 use Rattle.nd_paths.proofs.SummaryLemmas.{same_at, differ_at, same_past}
 use Rattle.nd_paths.proofs.summary.Summary.leads.Goals as goal
 
