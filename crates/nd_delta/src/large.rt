@@ -16,14 +16,9 @@ use std::marker::Model;
 ///
 /// A look-up or an edit takes time logarithmic in the number of entries. A `Delta` moves all entries after
 /// one that is added or removed.
+#[derive(Drop)]
 pub struct LargeDelta<A: Allocator = Global> {
     map: GrowingMap<Pointstamp, i64, A>,
-}
-
-impl<A: Allocator> Drop for LargeDelta<A> {
-    fn drop(self) {
-        let LargeDelta { map: _ } = self;
-    }
 }
 
 impl<A: Allocator> Model for LargeDelta<A> {
@@ -131,18 +126,6 @@ impl<A: Allocator> LargeDelta<A> {
         self.map.len()
     }
 
-    /// Returns an equal change as a `Delta`.
-    pub fn whole(&self, alloc: A) -> Result<Delta<A>, AllocError>
-        ensures equal { IfOk result (λ d. d ≡ self.now) }
-        ensures within { IsWithin self.now }
-    {
-        let mut made = Delta::new(alloc);
-        for (point, n) in self.iter() {
-            made.put(point, *n)?;
-        }
-        Ok(made)
-    }
-
     /// Returns the entries at these pointstamps. A repeated pointstamp counts once, and one without an entry
     /// adds nothing. It takes no memory if there are no pointstamps.
     pub fn part(&self, alloc: A, points: &[Pointstamp]) -> Result<Delta<A>, AllocError>
@@ -150,12 +133,10 @@ impl<A: Allocator> LargeDelta<A> {
         ensures within { IsWithin self.now }
         ensures some { OnErr result (points.now ≢ []) }
     {
-        let _ = &self.map;
+        let _ = self.iter();
         let mut kept = Delta::new(alloc);
         for point in points {
-            let Ok(()) = kept.put(point, self.get(point)) else {
-                return Err(AllocError);
-            };
+            kept.put(point, self.get(point))?;
         }
         Ok(kept)
     }
@@ -175,6 +156,14 @@ impl<A: Allocator> LargeDelta<A> {
 }
 
 impl<A: Allocator + Copy> LargeDelta<A> {
+    /// Returns an equal change as a `Delta`.
+    pub fn whole(&self, alloc: A) -> Result<Delta<A>, AllocError>
+        ensures equal { IfOk result (λ d. d ≡ self.now) }
+        ensures within { IsWithin self.now }
+    {
+        self.without(alloc, &Delta::new(alloc))
+    }
+
     /// Returns the change with no entry. It takes no memory.
     pub fn new(alloc: A) -> LargeDelta<A>
         ensures { result ≡ none }
@@ -184,8 +173,8 @@ impl<A: Allocator + Copy> LargeDelta<A> {
         }
     }
 
-    /// Sets the integer of a pointstamp to `n`. It takes memory only if the pointstamp has no integer.
-    pub fn put(&mut self, point: &Pointstamp, n: i64) -> Result<(), AllocError>
+    // Sets the integer of a pointstamp to `n`. It takes memory only if the pointstamp has no integer.
+    fn put(&mut self, point: &Pointstamp, n: i64) -> Result<(), AllocError>
         requires { unsigned_abs n ≤ max_count }
         ensures ok { OnOk result (self.new ≡ set self.old point.now n) }
         ensures err { OnErr result (self.new ≡ self.old) }
@@ -248,6 +237,7 @@ impl<A: Allocator + Copy> LargeDelta<A> {
         ensures equal { IfOk result (λ d. d ≡ self.now) }
         ensures within { IsWithin self.now }
     {
+        let _ = self.iter();
         Ok(LargeDelta {
             map: self.map.copy(alloc)?,
         })
