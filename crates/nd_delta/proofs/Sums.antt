@@ -1,18 +1,17 @@
 -- A change that is computed point by point, and the sum and the difference computed in this way.
-use Rattle.std.proofs.Common.{◌≡◌, ◌≢◌, ◌≤◌, ◌<◌, ◌+◌, ◌*◌, ◌||◌, ◌⊎◌, ℕ, zero, suc, ℤ, pos, negsuc, append_assoc, length-append, ◌+ℤ◌, ◌-ℤ◌, Bool, true, false, cond, List, [], ◌∷◌, ◌++◌, take, drop, length, get_or, Option, Some, None, w64, to_z, of_z, FitsSigned, unsigned_abs, refl, sym, ap, subst, ◌∙◌, arith, below_more}
+use Rattle.std.proofs.Common.{◌≡◌, ◌≢◌, ◌≤◌, ◌<◌, ◌+◌, ◌*◌, ◌||◌, ◌⊎◌, ℕ, zero, suc, ℤ, pos, negsuc, append_assoc, length-append, ◌+ℤ◌, ◌-ℤ◌, Bool, true, false, cond, List, [], ◌∷◌, ◌++◌, take, drop, length, get_or, w64, to_z, of_z, FitsSigned, unsigned_abs, refl, sym, ap, subst, ◌∙◌, arith}
 use Rattle.std.proofs.lemmas.Int.{ints, to_z-of_z, fits_signed_from_abs}
 use Rattle.std.proofs.Common.{inl, inr}
 use Rattle.std.specs.Prelude.{Any}
-use Rattle.std.proofs.lemmas.List.{take_more, take_all, map-append, get_or_default, append-nil, take-append-drop}
+use Rattle.std.proofs.lemmas.List.{take_more, take_all, map-append, append-nil, take-append-drop}
 use Rattle.std.proofs.Math.Seq.{get_or-append_seam}
 use Rattle.std.proofs.lemmas.List.Folds.{list_any-append}
-use Rattle.std.specs.FinMap.{find}
 use Rattle.std.proofs.lemmas.Map.Views.{tells_apart}
 use Rattle.nd_time.specs.Limits.{max_count}
 use Rattle.nd_map.specs.Cases.{zero_or_not}
-use Rattle.nd_paths.specs.Point.{point_cmp, point_exact}
+use Rattle.nd_paths.specs.Point.{point_exact}
 use Rattle.nd_paths.specs.declared.point.Pointstamp.{Pointstamp}
-use Rattle.nd_delta.specs.Delta.{DeltaValue, at, set, plus, minus, combined, entries, points_of, has_point, same, or_zero, is_point, at-set, at-plus, at-minus, at-part, at-entries, at-absent, at-present, at-none, none, part, IsTooLarge, IsWithin, IsPartOf, IsApart}
+use Rattle.nd_delta.specs.Delta.{DeltaValue, at, set, plus, minus, combined, entries, points_of, has_point, same, is_point, at-set, at-plus, at-minus, at-part, at-absent, at-present, at-none, none, part, IsTooLarge, IsWithin, IsPartOf, IsApart}
 use Rattle.nd_delta.specs.Least.{at-index}
 use Rattle.nd_delta.proofs.Among.{entry_of}
 

@@ -56,6 +56,15 @@ fn passes_limit(n: i64) -> bool
     n > LIMIT || n < -LIMIT
 }
 
+// Returns the sum of two integers, or `None` if it exceeds `LIMIT`.
+fn sum_within(held: i64, n: i64) -> Option<i64>
+    ensures none { IsNone result ↔ (max_count < unsigned_abs (held +ℤ n)) }
+    ensures some { IfSome result (λ sum. sum ≡ held +ℤ n) }
+{
+    let sum = held.checked_add(n)?;
+    if passes_limit(sum) { None } else { Some(sum) }
+}
+
 // Returns whether one of the pointstamps is strictly before `point`.
 fn any_before<B: Allocator>(points: &[Pointstamp], paths: &Paths<B>, point: &Pointstamp) -> bool
     ensures { IsTrue result ↔ Any (λ x. IsStrictlyBefore paths.now x point.now) points.now }
@@ -74,9 +83,8 @@ fn any_negative_before<B: Allocator>(
     ensures { IsTrue result
         ↔ Any (λ e. (e.1 <ℤ pos 0) × IsStrictlyBefore paths.now e.0 point.now) entries.now }
 {
-    entries
-        .iter()
-        .any(|entry: &(Pointstamp, i64)| entry.1 < 0 && paths.strictly_before(&entry.0, point))
+    entries.iter().any(|entry: &(Pointstamp, i64)| entry.1 < 0
+        && paths.strictly_before(&entry.0, point))
 }
 
 // Returns whether there is a pointstamp `first` and it is at or before `point`.
@@ -170,12 +178,9 @@ impl<A: Allocator> Delta<A> {
         ensures nothing { n ≡ pos 0 → result ≢ Err (DeltaFault.Memory) }
         ensures within { unsigned_abs (at self.old point.now) ≤ max_count }
     {
-        let Some(sum) = self.get(point).checked_add(n) else {
+        let Some(sum) = sum_within(self.get(point), n) else {
             return Err(DeltaFault::DeltaFull);
         };
-        if passes_limit(sum) {
-            return Err(DeltaFault::DeltaFull);
-        }
         let Ok(()) = self.put(point, sum) else {
             return Err(DeltaFault::Memory);
         };
@@ -209,9 +214,9 @@ impl<A: Allocator> Delta<A> {
             ↔ Any (λ e. max_count < unsigned_abs (at (combined minus self.now other.now) e.0))
             entries.now }
     {
-        entries
-            .iter()
-            .any(|entry: &(Pointstamp, i64)| passes_limit(self.combined_at(other, minus, &entry.0)))
+        entries.iter().any(|entry: &(Pointstamp, i64)| passes_limit(self.combined_at(
+            other, minus, &entry.0,
+        )))
     }
 
     /// Returns whether some entry of the difference, or of the sum, exceeds `LIMIT`.

@@ -11,8 +11,7 @@ pub returns-else-any_before : goal.returns-else-any_before
 returns-else-any_before g c =
     let m = c.args.self.now in
     let IsNegativeBefore = λ (y : Pointstamp) (z : ℤ). (z <ℤ pos 0) × IsStrictlyBefore c.args.paths.now y c.args.point.now in
-    let negatives = rw c.entries.ensures.listed at c.any_negative_before.ensures in
-    (
+    let negatives = rw c.entries.ensures.listed at c.any_negative_before.ensures in (
       λ e. let found = point_of m IsNegativeBefore (negatives.0 e) in (found.0, found.1.1, inl found.1.0),
       λ support. elim support.2 [
         | inl negative ↦ negatives.1 (entry_of m IsNegativeBefore support.0 (not_zero_below (at m support.0) negative) (negative, support.1))
