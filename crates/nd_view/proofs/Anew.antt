@@ -12,9 +12,8 @@ use Rattle.nd_delta.specs.Delta.{DeltaValue, at, entries}
 use Rattle.nd_delta.specs.Least.{at-index, place_of}
 use Rattle.nd_view.specs.View.{IsPrecursor, IsCount}
 use Rattle.nd_view.specs.Kept.{IsKeptAt, AreKept, IsFor, kept_of}
-use Rattle.nd_view.proofs.Moves.{alike, apart}
+use Rattle.nd_view.proofs.Moves.{alike, apart, found_put, found_other}
 use Rattle.nd_view.proofs.Parts.{IsAmong, split}
-use Rattle.nd_view.proofs.Shifts.{found_put, found_other}
 use Rattle.nd_map.specs.Cases.{not_zero}
 
 module _ (g : Dataflow) (m : DeltaValue) where

@@ -1,19 +1,19 @@
 -- Views whose precursor counts are those of a graph.
-use Rattle.std.proofs.Common.{cond, ◌≡◌, ℕ, ℤ, pos, List, [], Option, Some, None, refl, sym, ap, subst, ◌∙◌, ◌⊎◌, inl, inr, zero, suc, negsuc, arith, Result, Ok, Err, ◌<◌}
+use Rattle.std.proofs.Common.{◌≡◌, ℕ, ℤ, pos, List, [], Option, Some, None, refl, sym, ap, subst, ◌∙◌, ◌⊎◌, inl, inr, zero, suc, negsuc, arith, Result, Ok, Err, ◌<◌}
 use Rattle.std.specs.Prelude.{◌<ℤ◌, OnOk, OnErr}
 use Rattle.std.proofs.lemmas.Int.{ints}
 use Rattle.std.specs.FinMap.{find, put}
-use Rattle.std.specs.FinMap.Entries.{find-put, same_entries}
-use Rattle.nd_map.specs.Maps.{find-without, listed-put, listed-without}
+use Rattle.std.specs.FinMap.Entries.{same_entries}
+use Rattle.nd_map.specs.Maps.{listed-put, listed-without}
 use Rattle.nd_graph.specs.Graph.{Dataflow}
 use Rattle.nd_map.specs.Listed.{IsListed, without}
 use Rattle.nd_paths.specs.Point.{point_cmp, point_total, point_exact}
 use Rattle.nd_paths.specs.declared.point.Pointstamp.{Pointstamp}
-use Rattle.nd_delta.specs.Delta.{DeltaValue, none, at, set, is_point, at-none, entries, or_zero, at-entries, some-entry}
+use Rattle.nd_delta.specs.Delta.{DeltaValue, none, at, set, at-none, entries, or_zero, at-entries, some-entry}
 use Rattle.nd_delta.specs.Least.{place_of}
 use Rattle.nd_view.specs.View.{IsOnFrontier}
 use Rattle.nd_view.specs.Kept.{Kept, IsKeptAt, IsFor, kept_of}
-use Rattle.nd_view.proofs.Moves.{kept_positive, kept_other, first_one, alike, itself}
+use Rattle.nd_view.proofs.Moves.{kept_positive, kept_other, first_one, alike, found_other, found_gone, found_still}
 use Rattle.nd_map.specs.Cases.{not_zero}
 
 pub signed : (z : ℤ) → (pos 0 <ℤ z) ⊎ (pos 0 <ℤ z → ⊥)
@@ -88,11 +88,7 @@ pub taken_out : (g : Dataflow) (v : Kept) (x : Pointstamp) (c : ℕ) → IsFor g
 taken_out g v x c h never =
     same_entries point_cmp point_total point_exact (without point_cmp x (put point_cmp x c v.counts)) v.counts
     (listed-without point_cmp x (put point_cmp x c v.counts) (listed-put point_cmp point_total x c v.counts h.listed)) h.listed
-    (λ q. find-without point_cmp point_total q x (put point_cmp x c v.counts) ∙ elim (alike q x) [
-      | inl same ↦
-          ap (λ b. cond b None (find point_cmp q (put point_cmp x c v.counts))) (ap (λ z. is_point z x) same ∙ itself x)
-          ∙ sym (ap (λ y. find point_cmp y v.counts) same ∙ kept_none g v.map x (find point_cmp x v.counts) (h.each x) never)
-      | inr other ↦
-          ap (λ b. cond b None (find point_cmp q (put point_cmp x c v.counts))) other
-          ∙ find-put point_cmp point_total q x c v.counts ∙ ap (λ b. cond b (Some c) (find point_cmp q v.counts)) other
+    (λ q. elim (alike q x) [
+      | inl same ↦ found_gone q x (put point_cmp x c v.counts) same ∙ sym (ap (λ y. find point_cmp y v.counts) same ∙ kept_none g v.map x (find point_cmp x v.counts) (h.each x) never)
+      | inr other ↦ found_still q x (put point_cmp x c v.counts) other ∙ found_other q x c v.counts other
     ])

@@ -62,16 +62,16 @@ through g order true y x t (inr earlier) before = order.strict y x t earlier bef
 through g order false y x t (inl same) before = subst (λ z. CouldResultIn g z t) (sym same) before
 through g order false y x t (inr earlier) before = order.transitive y x t earlier.0 before
 
--- if nothing on the frontier is before t, nothing positive is
-pub passed_by_frontier : (g : Dataflow) → IsOrder g → (v : Kept) → IsFor g v → (strictly : Bool) (t : Pointstamp) → ((y : Pointstamp) → IsOnFrontier g v.map y → IsBefore g strictly y t → ⊥)
-    → (x : Pointstamp) → IsPositiveBefore g v.map strictly t x → ⊥
-passed_by_frontier g order v h strictly t none x b = by (find point_cmp x v.counts) (h.each x)
+-- if something positive is before t, something on the frontier is
+pub frontier_hinders : (g : Dataflow) → IsOrder g → (v : Kept) → IsFor g v → (strictly : Bool) (t x : Pointstamp) → IsPositiveBefore g v.map strictly t x
+    → (y : Pointstamp) × IsOnFrontier g v.map y × IsBefore g strictly y t
+frontier_hinders g order v h strictly t x b = by (find point_cmp x v.counts) (h.each x)
   where
-    by : (o : Option ℕ) → IsKeptAt g v.map x o → ⊥
-    by None never = never b.positive
+    by : (o : Option ℕ) → IsKeptAt g v.map x o → (y : Pointstamp) × IsOnFrontier g v.map y × IsBefore g strictly y t
+    by None never = absurd (never b.positive)
     by (Some n) kept =
         let least = frontier_before g order v.map x n kept.0 kept.1 in
-        none least.0 least.1 (through g order strictly least.0 x t least.2 b.before)
+        (least.0, least.1, through g order strictly least.0 x t least.2 b.before)
 
 -- the part at the listed points is the part on the frontier
 pub frontier_part : (g : Dataflow) (v : Kept) → IsFor g v → (m : DeltaValue) → m ≡ v.map → (frontier : List Pointstamp) (room : ℕ) → IsFrontierList v.counts frontier room → (f : DeltaValue) → f ≡ part m frontier → IsPartWhere (IsOnFrontier g v.map) v.map f
@@ -106,20 +106,3 @@ on_err (Err e) f h = f h
 pub if_ok : {X E : Type 0} (r : Result X E) (P Q : X → Type 0) → ((x : X) → P x → Q x) → IfOk r P → IfOk r Q
 if_ok (Ok x) P Q f p = f x p
 if_ok (Err e) P Q f p = p
-
--- ---- blockers and precursors
-pub to_blocker : (g : Dataflow) (v : DeltaValue) (t x : Pointstamp) → IsPositiveBefore g v false t x → IsBlocker g v t x
-to_blocker g v t x p = record { positive = p.positive; before = p.before }
-
-pub of_blocker : (g : Dataflow) (v : DeltaValue) (t x : Pointstamp) → IsBlocker g v t x → IsPositiveBefore g v false t x
-of_blocker g v t x p = record { positive = p.positive; before = p.before }
-
-pub to_precursor : (g : Dataflow) (v : DeltaValue) (t x : Pointstamp) → IsPositiveBefore g v true t x → IsPrecursor g v t x
-to_precursor g v t x p = record { positive = p.positive; before = p.before }
-
-pub of_precursor : (g : Dataflow) (v : DeltaValue) (t x : Pointstamp) → IsPrecursor g v t x → IsPositiveBefore g v true t x
-of_precursor g v t x p = record { positive = p.positive; before = p.before }
-
-pub least_as : (P Q : Pointstamp → Type 0) → ((x : Pointstamp) → P x → Q x) → ((x : Pointstamp) → Q x → P x) → (o : Option Pointstamp) → IfSome o (IsLeast P) → IfSome o (IsLeast Q)
-least_as P Q to of None h = h
-least_as P Q to of (Some x) h = record { is_one = to x h.is_one; first = λ y q. h.first y (of y q) }

@@ -1,6 +1,5 @@
 -- The part of a change at the points with a property, built entry by entry.
-use Rattle.std.proofs.Common.{◌≡◌, ◌≢◌, ◌<◌, ◌≤◌, ◌+◌, ℕ, ℤ, pos, Bool, true, false, cond, length, get_or, refl, sym, ap, subst, ◌∙◌, ◌⊎◌, inl, inr, Less, Equal, arith, true≢false}
-use Rattle.std.specs.Ordering.{is_eq}
+use Rattle.std.proofs.Common.{◌≡◌, ◌≢◌, ◌<◌, ◌≤◌, ◌+◌, ℕ, ℤ, pos, Bool, true, false, cond, length, get_or, refl, sym, ap, subst, ◌∙◌, ◌⊎◌, inl, inr, Less, Equal, arith}
 use Rattle.std.proofs.lemmas.Bool.{cases_lt}
 use Rattle.std.proofs.lemmas.List.{get_or_default}
 use Rattle.std.proofs.lemmas.Cmp.{tied_itself}
@@ -11,7 +10,7 @@ use Rattle.nd_paths.specs.declared.point.Pointstamp.{Pointstamp}
 use Rattle.nd_delta.specs.Delta.{DeltaValue, at, set, size, entries, is_point, at-set, size-set, sorted-entries}
 use Rattle.nd_delta.specs.Least.{place_of, at-index}
 use Rattle.nd_view.specs.View.{IsCount}
-use Rattle.nd_view.proofs.Moves.{size_within}
+use Rattle.nd_view.proofs.Moves.{alike, apart, size_within}
 use Rattle.nd_map.specs.Cases.{zero_or_not}
 
 -- the point of one of the first entries
@@ -88,7 +87,7 @@ module _ (m : DeltaValue) (P B : Pointstamp → Type 0) where
           value q
           ∙ one_of (is_point q x.0) x.1 (at f q) (at m q)
           (λ e. at-index m i x lt is ∙ ap (at m) (sym (tells_apart point_exact q x.0 e)))
-          (λ e. elim (split q among) [ inl before ↦ part.all q before k | inr here ↦ absurd (apart q e here) ]);
+          (λ e. elim (split q among) [ inl before ↦ part.all q before k | inr here ↦ absurd (apart q x.0 e here) ]);
       base = λ q b.
           value q
           ∙ one_of (is_point q x.0) x.1 (at f q) (at m q)
@@ -104,15 +103,11 @@ module _ (m : DeltaValue) (P B : Pointstamp → Type 0) where
         value : (q : Pointstamp) → at g q ≡ cond (is_point q x.0) x.1 (at f q)
         value q = ap (λ c. at c q) set_is ∙ at-set f x.0 x.1 q
 
-        apart : (q : Pointstamp) → is_point q x.0 ≡ false → q ≡ x.0 → ⊥
-        apart q e here = true≢false (sym (ap (λ z. is_point z x.0) here ∙ ap is_eq (tied_itself point_total x.0)) ∙ e)
-
         reached : (q : Pointstamp) → at g q ≢ pos 0 → (q ≡ x.0) ⊎ (at f q ≢ pos 0)
-        reached q some = by (is_point q x.0) refl
-          where
-            by : (b : Bool) → is_point q x.0 ≡ b → (q ≡ x.0) ⊎ (at f q ≢ pos 0)
-            by true e = inl (tells_apart point_exact q x.0 e)
-            by false e = inr (λ z. some (value q ∙ ap (λ a. cond a x.1 (at f q)) e ∙ z))
+        reached q some = elim (alike q x.0) [
+          | inl here ↦ inl here
+          | inr other ↦ inr (λ z. some (value q ∙ ap (λ a. cond a x.1 (at f q)) other ∙ z))
+        ]
 
     pub count_skip : (n : ℕ) → (P x.0 → B x.0) → IsCountUpTo m P B i n → IsCountUpTo m P B (i + 1) n
     count_skip n never counted = record { part = counted.part; is_part = part_skip counted.part never counted.is_part; many = counted.many }

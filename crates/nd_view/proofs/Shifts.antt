@@ -1,7 +1,7 @@
 -- Precursor counts that are moved by one, entry by entry.
 use Rattle.std.proofs.Common.{◌≡◌, ◌<◌, ◌≤◌, ◌+◌, ℕ, Bool, true, false, cond, List, length, get_or, Option, Some, None, refl, sym, ap, subst, ◌∙◌, ◌⊎◌, inl, inr, Less, Equal, arith}
 use Rattle.std.specs.FinMap.{find, put}
-use Rattle.std.specs.FinMap.Entries.{find-put, length-put, length_without}
+use Rattle.std.specs.FinMap.Entries.{length-put, length_without}
 use Rattle.std.specs.Option.{is_some}
 use Rattle.std.proofs.lemmas.Bool.{cases_lt}
 use Rattle.std.proofs.lemmas.Cmp.{tied_itself}
@@ -17,14 +17,8 @@ use Rattle.nd_delta.specs.Delta.{DeltaValue, at, size, is_point}
 use Rattle.nd_view.specs.View.{IsPrecursor}
 use Rattle.nd_view.specs.Kept.{IsKeptAt, IsMovable, IsReady, moved}
 use Rattle.nd_view.proofs.Fors.{signed}
-use Rattle.nd_view.proofs.Moves.{alike, apart, itself, count_small}
+use Rattle.nd_view.proofs.Moves.{alike, apart, found_put, found_other, count_small}
 use Rattle.nd_map.specs.Cases.{not_zero}
-
-pub found_put : (q k : Pointstamp) (n : ℕ) (es : List (Pointstamp × ℕ)) → q ≡ k → find point_cmp q (put point_cmp k n es) ≡ Some n
-found_put q k n es same = find-put point_cmp point_total q k n es ∙ ap (λ b. cond b (Some n) (find point_cmp q es)) (ap (λ z. is_point z k) same ∙ itself k)
-
-pub found_other : (q k : Pointstamp) (n : ℕ) (es : List (Pointstamp × ℕ)) → is_point q k ≡ false → find point_cmp q (put point_cmp k n es) ≡ find point_cmp q es
-found_other q k n es other = find-put point_cmp point_total q k n es ∙ ap (λ b. cond b (Some n) (find point_cmp q es)) other
 
 -- a put adds at most one entry
 pub size_grown : (es fs : List (Pointstamp × ℕ)) (k : Pointstamp) (i : ℕ) → IsListed point_cmp es → fs ≡ put point_cmp k i es → length fs ≤ length es + 1

@@ -8,13 +8,12 @@ use Rattle.std.proofs.lemmas.List.Elements.{All-contains, All-contains_itself, A
 use Rattle.nd_map.specs.Counts.{keys_of}
 use Rattle.nd_map.specs.Entries.{find-index}
 use Rattle.nd_map.specs.Listed.{IsListed, without}
-use Rattle.nd_map.specs.Maps.{find-without}
 use Rattle.nd_paths.specs.Point.{point_cmp, point_total}
 use Rattle.nd_paths.specs.declared.point.Pointstamp.{Pointstamp}
 use Rattle.nd_delta.specs.Delta.{is_point}
 use Rattle.nd_view.specs.Kept.{IsFrontierList, IsFrontierBut}
-use Rattle.nd_view.proofs.Moves.{alike, apart, itself}
-use Rattle.nd_view.proofs.Shifts.{found_other, found_put, many_keys}
+use Rattle.nd_view.proofs.Moves.{alike, apart, itself, found_put, found_other, found_still}
+use Rattle.nd_view.proofs.Shifts.{many_keys}
 
 stays_behind : {X : Type 0} (b : Bool) (x : X) (xs : List X) (q : X) → Contains xs q → Contains (cond b (x ∷ xs) xs) q
 stays_behind true x xs q among = (suc among.0, omega (arith, among.1), among.2)
@@ -105,13 +104,7 @@ pub same_put : (es : List (Pointstamp × ℕ)) (x : Pointstamp) (n : ℕ) (q : P
 same_put es x n q ne = elim (alike q x) [ inl same ↦ absurd (ne same) | inr other ↦ found_other q x n es other ]
 
 pub same_without : (es : List (Pointstamp × ℕ)) (x q : Pointstamp) → q ≢ x → find point_cmp q (without point_cmp x es) ≡ find point_cmp q es
-same_without es x q ne = elim (alike q x) [
-  | inl same ↦ absurd (ne same)
-  | inr other ↦ find-without point_cmp point_total q x es ∙ ap (λ b. cond b None (find point_cmp q es)) other
-]
-
-pub none_without : (es : List (Pointstamp × ℕ)) (x : Pointstamp) → find point_cmp x (without point_cmp x es) ≡ None
-none_without es x = find-without point_cmp point_total x x es ∙ ap (λ b. cond b None (find point_cmp x es)) (itself x)
+same_without es x q ne = elim (alike q x) [ inl same ↦ absurd (ne same) | inr other ↦ found_still q x es other ]
 
 -- the count that a lookup finds is 0 if the number is 0
 pub zero_told : (n : ℕ) (o : Option ℕ) → o ≡ Some n → (IsTrue (eqb n 0) ↔ (o ≡ Some 0))

@@ -17,18 +17,10 @@ use std::marker::Model;
 ///
 /// The pointstamps with number 0 are also in a list of their own, in no order, so that reading them does
 /// not visit the others.
+#[derive(Drop)]
 pub struct PrecursorCounts<A: Allocator = Global> {
     counts: SortedMap<Pointstamp, u64, A>,
     frontier: Vec<Pointstamp, A>,
-}
-
-impl<A: Allocator> Drop for PrecursorCounts<A> {
-    fn drop(self) {
-        let PrecursorCounts {
-            counts: _,
-            frontier: _,
-        } = self;
-    }
 }
 
 impl<A: Allocator> Model for PrecursorCounts<A> {

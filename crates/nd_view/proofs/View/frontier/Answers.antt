@@ -1,4 +1,4 @@
-use Rattle.std.proofs.Common.{ap, ◌∙◌, subst, length}
+use Rattle.std.proofs.Common.{ap, subst, length}
 use Rattle.nd_view.specs.Kept.{IsFrontierList}
 use Rattle.nd_view.proofs.Frontiers.{frontier_part, frontier_some, if_ok, on_err}
 use Rattle.nd_view.proofs.View.frontier.Goals as goal
@@ -7,7 +7,7 @@ pub returns-clause-value : goal.returns-clause-value
 returns-clause-value g c =
     let v = c.args.self.now in
     let listed = subst (λ k. IsFrontierList k.counts c.frontier.result.now (length k.counts)) c.self.view_is c.frontier.ensures in
-    if_ok c.part.result _ _ (frontier_part c.args._paths.now v c.requires c.counts.result.now (c.counts.ensures ∙ ap (λ k. k.map) c.self.view_is) c.frontier.result.now (length v.counts) listed) c.part.ensures.ok
+    if_ok c.part.result _ _ (frontier_part c.args._paths.now v c.requires c.self.inside.counts (ap (λ k. k.map) c.self.view_is) c.frontier.result.now (length v.counts) listed) c.part.ensures.ok
 
 pub returns-clause-some : goal.returns-clause-some
 returns-clause-some g c =

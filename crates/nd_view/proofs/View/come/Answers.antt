@@ -7,8 +7,8 @@ use Rattle.nd_delta.specs.Delta.{set}
 use Rattle.nd_view.specs.Kept.{IsFor, IsReady, kept_of}
 use Rattle.nd_view.proofs.Fors.{taken_out}
 use Rattle.nd_view.proofs.Moves.{ready_up}
-use Rattle.nd_view.proofs.stored.Stored.come.Given.{Over}
-use Rattle.nd_view.proofs.stored.Stored.come.Goals as goal
+use Rattle.nd_view.proofs.View.come.Given.{Over}
+use Rattle.nd_view.proofs.View.come.Goals as goal
 
 pub shift-requires-clause-ready : goal.shift-requires-clause-ready
 shift-requires-clause-ready g c = λ q.

@@ -6,7 +6,7 @@ use Rattle.nd_paths.specs.Point.{point_cmp}
 use Rattle.nd_delta.specs.Delta.{set}
 use Rattle.nd_view.specs.Kept.{IsReady}
 use Rattle.nd_view.proofs.Moves.{ready_down}
-use Rattle.nd_view.proofs.stored.Stored.go.Goals as goal
+use Rattle.nd_view.proofs.View.go.Goals as goal
 
 pub shift-requires-clause-ready : goal.shift-requires-clause-ready
 shift-requires-clause-ready g c = λ q.

@@ -1,5 +1,5 @@
 use Rattle.nd_view.proofs.Points.{rest_listed, rest_within, first_within}
-use Rattle.nd_view.proofs.stored.first_and_rest.Goals as goal
+use Rattle.nd_view.proofs.adding.first_and_rest.Goals as goal
 
 pub returns-clause-listed : goal.returns-clause-listed
 returns-clause-listed c = rest_listed c.args.entries.now c.in-Some.first.now c.in-Some.rest.now c.in-Some.ensures.cases.0 c.requires.listed

@@ -2,7 +2,7 @@ use Rattle.std.proofs.Common.{sym, subst}
 use Rattle.nd_view.specs.Kept.{IsFor}
 use Rattle.nd_view.specs.View.{IsPrecursor, IsCount}
 use Rattle.nd_view.proofs.Anew.{are_kept}
-use Rattle.nd_view.proofs.stored.Stored.count_before.Goals as goal
+use Rattle.nd_view.proofs.View.count_before.Goals as goal
 
 pub count_before-requires-clause-kept : goal.count_before-requires-clause-kept
 count_before-requires-clause-kept g c =

@@ -2,7 +2,7 @@ use Rattle.std.proofs.Common.{ap, w64}
 use Rattle.std.proofs.lemmas.Int.{to_z-of_z}
 use Rattle.nd_view.specs.Kept.{kept_of}
 use Rattle.nd_view.proofs.Fors.{for_same}
-use Rattle.nd_view.proofs.stored.Stored.stay.Goals as goal
+use Rattle.nd_view.proofs.View.stay.Goals as goal
 
 pub returns-clause-paths : goal.returns-clause-paths
 returns-clause-paths g c = λ d for.

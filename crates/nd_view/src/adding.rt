@@ -1,4 +1,4 @@
-//! The counts of pointstamps, and the precursor counts of the positive ones, changed together.
+//! Adding a change to a view entry by entry: the counts and the precursor counts are changed together.
 
 ghost use Rattle.std.specs.Prelude.{◌≡◌, ◌≢◌, [], ◌∷◌, ◌↔◌, ◌≤◌, ◌<ℤ◌, ◌+◌, ◌*◌, ◌+ℤ◌, ◌-ℤ◌, cond, pos, length, unsigned_abs, OnOk, OnErr, IfOk, IfSome, IsNone, IsTrue};
 ghost use Rattle.nd_time.specs.Limits.{max_count};
@@ -11,38 +11,12 @@ ghost use Rattle.nd_view.specs.View.{IsPrecursor, IsCount};
 ghost use Rattle.nd_view.specs.Kept.{IsKeptAt, IsFor, IsFrontierList};
 ghost use Rattle.nd_view.specs.Room.{IsWithinRoom, AreWithin, IsAdded};
 
+use crate::View;
 use crate::entry_tests::takes_room;
-use crate::keeping::{count_before, counted_anew, shift};
-use crate::precursor_counts::PrecursorCounts;
+use crate::keeping::{count_before, shift};
 use nd_delta::{Delta, DeltaFault, LIMIT};
 use nd_paths::{Paths, Pointstamp};
-use std::alloc::{AllocError, Allocator, Global};
-use std::marker::Model;
-
-/// The counts of pointstamps, and for each positive one the number of positive ones strictly before it.
-pub struct Stored<A: Allocator = Global> {
-    counts: Delta<A>,
-    precursor_counts: PrecursorCounts<A>,
-}
-
-impl<A: Allocator> Drop for Stored<A> {
-    fn drop(self) {
-        let Stored {
-            counts: _,
-            precursor_counts: _,
-        } = self;
-    }
-}
-
-impl<A: Allocator> Model for Stored<A> {
-    ghost use Rattle.nd_view.specs.Kept.{Kept, kept_code};
-
-    ghost Value = { Kept };
-
-    ghost coded = { kept_code };
-
-    ghost view = { λ a. record { map = a.counts; counts = a.precursor_counts } };
-}
+use std::alloc::{AllocError, Allocator};
 
 // Returns `old` with `by` added or, if `minus`, subtracted.
 fn counted(old: i64, by: i64, minus: bool) -> i64
@@ -79,74 +53,9 @@ fn first_and_rest<'a>(
     Some((first, rest))
 }
 
-impl<A: Allocator> Stored<A> {
-    /// Returns the value with no entry, for any paths. It takes no memory.
-    pub fn new(alloc: A) -> Stored<A>
-    where
-        A: Copy,
-        ensures value { result.map ≡ none }
-        ensures empty { result.counts ≡ [] }
-        ensures for_all { (g : Dataflow) → IsFor g result }
-    {
-        Stored {
-            counts: Delta::new(alloc),
-            precursor_counts: PrecursorCounts::new(alloc),
-        }
-    }
-
-    /// Returns these counts with their precursor counts.
-    pub fn of<B: Allocator>(
-        alloc: A,
-        counts: Delta<A>,
-        paths: &Paths<B>,
-    ) -> Result<Stored<A>, AllocError>
-    where
-        A: Copy,
-        ensures map { IfOk result (λ s. s.map ≡ counts) }
-        ensures paths { IfOk result (IsFor paths.now) }
-    {
-        let precursor_counts = counted_anew(alloc, &counts, paths)?;
-        Ok(Stored {
-            counts,
-            precursor_counts,
-        })
-    }
-
-    /// Returns the counts.
-    pub fn counts(&self) -> &Delta<A>
-        ensures { result.now ≡ self.now.map }
-    {
-        &self.counts
-    }
-
-    /// Returns the precursor count of a positive pointstamp.
-    pub fn kept(&self, point: &Pointstamp) -> Option<u64>
-        ensures { (g : Dataflow) → IsFor g self.now → IsKeptAt g self.now.map point.now result }
-    {
-        self.precursor_counts.get(point)
-    }
-
-    /// Returns the pointstamps whose precursor count is 0.
-    pub fn frontier(&self) -> &[Pointstamp]
-        ensures { IsFrontierList self.now.counts result.now (length self.now.counts) }
-    {
-        self.precursor_counts.frontier()
-    }
-
-    /// Returns an equal value.
-    pub fn copy(&self, alloc: A) -> Result<Stored<A>, AllocError>
-    where
-        A: Copy,
-        ensures { IfOk result (λ s. s ≡ self.now) }
-    {
-        Ok(Stored {
-            counts: self.counts.copy(alloc)?,
-            precursor_counts: self.precursor_counts.copy(alloc)?,
-        })
-    }
-
-    /// Returns why a change is refused: it exceeds the limit, or memory ran out.
-    pub fn refusal(&self, delta: &Delta<A>, minus: bool) -> DeltaFault
+impl<A: Allocator + Copy> View<A> {
+    // Returns why a change is refused: it exceeds the limit, or memory ran out.
+    pub(crate) fn refusal(&self, delta: &Delta<A>, minus: bool) -> DeltaFault
         ensures { (result ≡ DeltaFault.DeltaFull)
             ↔ IsTooLarge (combined minus self.now.map delta.now) }
     {
@@ -157,8 +66,12 @@ impl<A: Allocator> Stored<A> {
         }
     }
 
-    /// Returns the number of positive entries strictly before a pointstamp.
-    pub fn count_before<B: Allocator>(&self, paths: &Paths<B>, point: &Pointstamp) -> u64
+    // Returns the number of positive entries strictly before a pointstamp.
+    pub(crate) fn count_before<B: Allocator>(
+        &self,
+        paths: &Paths<B>,
+        point: &Pointstamp,
+    ) -> u64
         requires { IsFor paths.now self.now }
         ensures { IsCount (IsPrecursor paths.now self.now.map point.now) self.now.map result }
     {
@@ -265,12 +178,12 @@ impl<A: Allocator> Stored<A> {
         }
     }
 
-    /// Adds the entries of a change or, if `minus`, subtracts them, and returns whether it did: it changes all
-    /// entries or, if one exceeds the limit or memory runs out, none.
-    ///
-    /// It calls itself for the entries after the first. The entries that may take memory are changed before
-    /// that call, the others after it.
-    pub fn add<B: Allocator>(
+    // Adds the entries of a change or, if `minus`, subtracts them, and returns whether it did: it changes all
+    // entries or, if one exceeds the limit or memory runs out, none.
+    //
+    // It calls itself for the entries after the first. The entries that may take memory are changed before
+    // that call, the others after it.
+    pub(crate) fn add<B: Allocator>(
         &mut self,
         paths: &Paths<B>,
         entries: &[(Pointstamp, i64)],
@@ -286,7 +199,7 @@ impl<A: Allocator> Stored<A> {
         let Some((entry, others)) = first_and_rest(entries) else {
             return true;
         };
-        let was = self.counts.get(&entry.0);
+        let was = self.get(&entry.0);
         let n = counted(was, entry.1, minus);
         if !is_within(n) {
             return false;
