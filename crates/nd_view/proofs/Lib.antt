@@ -1,6 +1,7 @@
 mod Anew
 mod First
 mod FrontierLists
+mod Early
 mod Fors
 mod Frontiers
 mod LinksLemmas

@@ -12,8 +12,8 @@ use Rattle.nd_paths.specs.Point.{point_cmp, point_total}
 use Rattle.nd_paths.specs.declared.point.Pointstamp.{Pointstamp}
 use Rattle.nd_delta.specs.Delta.{is_point}
 use Rattle.nd_view.specs.Kept.{IsFrontierList, IsFrontierBut}
+use Rattle.nd_view.proofs.Early.{many_keys}
 use Rattle.nd_view.proofs.Moves.{alike, apart, itself, found_put, found_other, found_still}
-use Rattle.nd_view.proofs.Shifts.{many_keys}
 
 stays_behind : {X : Type 0} (b : Bool) (x : X) (xs : List X) (q : X) → Contains xs q → Contains (cond b (x ∷ xs) xs) q
 stays_behind true x xs q among = (suc among.0, omega (arith, among.1), among.2)
