@@ -1,6 +1,6 @@
 -- If nothing on the frontier is before a point, nothing positive is.
 use Rattle.std.proofs.Common.{◌≡◌, ◌≢◌, ◌<◌, ℕ, zero, suc, pos, Bool, true, false, List, [], ◌∷◌, length, get_or, Option, Some, None, Result, Ok, Err, cond, sym, ap, subst, ◌∙◌, ◌⊎◌, inl, inr, arith, refl}
-use Rattle.std.specs.Prelude.{◌<ℤ◌, Contains, slice_index_or, IfOk, IfSome, OnErr}
+use Rattle.std.specs.Prelude.{◌<ℤ◌, Contains, slice_index_or, IfOk, OnErr}
 use Rattle.std.proofs.lemmas.List.{get_or-map, length-map}
 use Rattle.std.specs.FinMap.{find}
 use Rattle.nd_paths.specs.Point.{point_cmp, point_exact}
@@ -9,8 +9,8 @@ use Rattle.nd_paths.specs.Order.{CouldResultIn, IsStrictlyBefore}
 use Rattle.nd_paths.specs.Laws.{IsMinimalAmong}
 use Rattle.nd_paths.specs.declared.point.Pointstamp.{Pointstamp}
 use Rattle.nd_delta.specs.Delta.{DeltaValue, at, entries, points_of, part, has_point, is_point, at-part}
-use Rattle.nd_delta.specs.Least.{IsLeast, place_of}
-use Rattle.nd_view.specs.View.{IsBefore, IsPositiveBefore, IsBlocker, IsPrecursor, IsOnFrontier, IsPartWhere, IsCount}
+use Rattle.nd_delta.specs.Least.{place_of}
+use Rattle.nd_view.specs.View.{IsBefore, IsPositiveBefore, IsPrecursor, IsOnFrontier, IsPartWhere, IsCount}
 use Rattle.nd_view.specs.Kept.{Kept, IsKeptAt, IsFor, IsFrontierList}
 use Rattle.nd_view.proofs.Moves.{index_some, itself}
 use Rattle.nd_view.proofs.Fors.{zero_of_frontier, frontier_of_zero}

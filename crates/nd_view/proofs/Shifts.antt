@@ -1,19 +1,16 @@
 -- Precursor counts that are moved by one, entry by entry.
-use Rattle.std.proofs.Common.{◌≡◌, ◌<◌, ◌≤◌, ◌+◌, ℕ, Bool, true, false, cond, List, length, get_or, Option, Some, None, refl, sym, ap, subst, ◌∙◌, ◌⊎◌, inl, inr, Less, Equal, arith}
+use Rattle.std.proofs.Common.{◌≡◌, ◌<◌, ◌≤◌, ◌+◌, ℕ, Bool, true, false, cond, List, length, get_or, Option, Some, None, refl, sym, ap, subst, ◌∙◌, inl, inr, arith}
 use Rattle.std.specs.FinMap.{find, put}
 use Rattle.std.specs.FinMap.Entries.{length-put, length_without}
 use Rattle.std.specs.Option.{is_some}
-use Rattle.std.proofs.lemmas.Bool.{cases_lt}
-use Rattle.std.proofs.lemmas.Cmp.{tied_itself}
-use Rattle.std.proofs.lemmas.List.{get_or-map, get_or_default, length-map}
 use Rattle.nd_map.specs.Counts.{keys_of}
-use Rattle.nd_map.specs.Entries.{rises, find-index, found_at}
+use Rattle.nd_map.specs.Entries.{find-index, found_at}
 use Rattle.nd_map.specs.Listed.{IsListed, without}
 use Rattle.nd_graph.specs.Graph.{Dataflow}
 use Rattle.nd_paths.specs.Order.{IsStrictlyBefore}
 use Rattle.nd_paths.specs.Point.{point_cmp, point_total, point_exact}
 use Rattle.nd_paths.specs.declared.point.Pointstamp.{Pointstamp}
-use Rattle.nd_delta.specs.Delta.{DeltaValue, at, size, is_point}
+use Rattle.nd_delta.specs.Delta.{DeltaValue, at, size}
 use Rattle.nd_view.specs.View.{IsPrecursor}
 use Rattle.nd_view.specs.Kept.{IsKeptAt, IsMovable, IsReady, moved}
 use Rattle.nd_view.proofs.Early.{IsEarly, IsNext, later, last, split, many_keys, key_at, next_key}

@@ -67,11 +67,7 @@ impl<A: Allocator + Copy> View<A> {
     }
 
     // Returns the number of positive entries strictly before a pointstamp.
-    pub(crate) fn count_before<B: Allocator>(
-        &self,
-        paths: &Paths<B>,
-        point: &Pointstamp,
-    ) -> u64
+    pub(crate) fn count_before<B: Allocator>(&self, paths: &Paths<B>, point: &Pointstamp) -> u64
         requires { IsFor paths.now self.now }
         ensures { IsCount (IsPrecursor paths.now self.now.map point.now) self.now.map result }
     {
