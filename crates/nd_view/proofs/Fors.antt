@@ -27,9 +27,6 @@ for_none g m es m_is es_is = record {
   each = λ q. subst (IsKeptAt g m q) (sym (ap (find point_cmp q) es_is)) (λ p. not_zero (at m q) p (ap (λ c. at c q) m_is ∙ at-none q));
 }
 
-pub for_kept : (g : Dataflow) (v : Kept) (q : Pointstamp) (o : Option ℕ) (es : List (Pointstamp × ℕ)) → o ≡ find point_cmp q es → es ≡ v.counts → IsFor g v → IsKeptAt g v.map q o
-for_kept g v q o es o_is es_is h = subst (IsKeptAt g v.map q) (sym (o_is ∙ ap (find point_cmp q) es_is)) (h.each q)
-
 -- an integer of the same sign
 pub for_stay : (g : Dataflow) (m n : DeltaValue) (es : List (Pointstamp × ℕ)) (x : Pointstamp) (z : ℤ) → IsFor g (kept_of m es) → n ≡ set m x z
     → ((pos 0 <ℤ z → pos 0 <ℤ at m x) × (pos 0 <ℤ at m x → pos 0 <ℤ z)) → IsFor g (kept_of n es)
@@ -46,10 +43,6 @@ pub for_same : (g : Dataflow) {E : Type 0} (r : Result (Unit {0}) E) (v w : Kept
     → ((pos 0 <ℤ z → pos 0 <ℤ at v.map x) × (pos 0 <ℤ at v.map x → pos 0 <ℤ z)) → IsFor g v → IsFor g w
 for_same g (Ok u) v w x z ok err same sign h = for_stay g v.map w.map w.counts x z (subst (λ es. IsFor g (kept_of v.map es)) (sym same) h) ok sign
 for_same g (Err e) v w x z ok err same sign h = subst (IsFor g) (λ j. kept_of (sym err j) (sym same j)) h
-
-pub on_ok : {E : Type 0} (r : Result (Unit {0}) E) (P Q : Type 0) → (P → Q) → OnOk r P → OnOk r Q
-on_ok (Ok x) P Q f p = f p
-on_ok (Err e) P Q f p = tt
 
 -- ---- precursor counts of 0
 pub frontier_of_none : (g : Dataflow) (m : DeltaValue) (q : Pointstamp) → IsKeptAt g m q (Some 0) → IsOnFrontier g m q

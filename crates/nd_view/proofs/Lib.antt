@@ -1,5 +1,4 @@
 mod Anew
-mod First
 mod FrontierLists
 mod Early
 mod Fors

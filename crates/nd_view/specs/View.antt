@@ -15,11 +15,11 @@ pub record IsPositiveBefore (g : Dataflow) (v : DeltaValue) (strictly : Bool) (t
   pub positive : pos 0 <ℤ at v x
   pub before : IsBefore g strictly x t
 
--- x is positive, and could result in t
+-- what is positive, and could result in t
 abbrev pub IsBlocker : Dataflow → DeltaValue → Pointstamp → Pointstamp → Type 0
 IsBlocker g v t = IsPositiveBefore g v false t
 
--- x is positive, and strictly before t
+-- what is positive, and strictly before t
 abbrev pub IsPrecursor : Dataflow → DeltaValue → Pointstamp → Pointstamp → Type 0
 IsPrecursor g v t = IsPositiveBefore g v true t
 
