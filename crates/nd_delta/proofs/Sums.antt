@@ -1,19 +1,19 @@
 -- A change that is computed point by point, and the sum and the difference computed in this way.
-use Rattle.std.proofs.Common.{◌≡◌, ◌≢◌, ◌≤◌, ◌<◌, ◌+◌, ◌*◌, ◌||◌, ◌⊎◌, ℕ, zero, suc, ℤ, pos, negsuc, append_assoc, length-append, ◌+ℤ◌, ◌-ℤ◌, Bool, true, false, cond, List, [], ◌∷◌, ◌++◌, take, drop, length, get_or, Option, Some, None, w64, to_z, of_z, FitsSigned, unsigned_abs, refl, sym, ap, subst, ◌∙◌, arith, below_more}
+use Rattle.std.proofs.Common.{◌≡◌, ◌≢◌, ◌≤◌, ◌<◌, ◌+◌, ◌*◌, ◌||◌, ◌⊎◌, ℕ, zero, suc, ℤ, pos, negsuc, append_assoc, length-append, ◌+ℤ◌, ◌-ℤ◌, Bool, true, false, cond, List, [], ◌∷◌, ◌++◌, take, drop, length, get_or, w64, to_z, of_z, FitsSigned, unsigned_abs, refl, sym, ap, subst, ◌∙◌, arith}
 use Rattle.std.proofs.lemmas.Int.{ints, to_z-of_z, fits_signed_from_abs}
 use Rattle.std.proofs.Common.{inl, inr}
-use Rattle.std.proofs.lemmas.Bool.{cases_lt}
-use Rattle.std.proofs.lemmas.List.{take_more, take_all, map-append, get_or_default, append-nil, take-append-drop}
+use Rattle.std.specs.Prelude.{Any}
+use Rattle.std.proofs.lemmas.List.{take_more, take_all, map-append, append-nil, take-append-drop}
 use Rattle.std.proofs.Math.Seq.{get_or-append_seam}
 use Rattle.std.proofs.lemmas.List.Folds.{list_any-append}
-use Rattle.std.specs.FinMap.{find}
 use Rattle.std.proofs.lemmas.Map.Views.{tells_apart}
 use Rattle.nd_time.specs.Limits.{max_count}
-use Rattle.nd_map.specs.Entries.{found_all}
-use Rattle.nd_paths.specs.Point.{point_cmp, point_exact}
+use Rattle.nd_map.specs.Cases.{zero_or_not}
+use Rattle.nd_paths.specs.Point.{point_exact}
 use Rattle.nd_paths.specs.declared.point.Pointstamp.{Pointstamp}
-use Rattle.nd_delta.specs.Delta.{DeltaValue, at, set, plus, minus, combined, entries, points_of, has_point, same, or_zero, is_point, at-set, at-plus, at-minus, at-part, at-entries, at-absent, at-present, at-none, none, part, IsTooLarge, IsWithin, IsPartOf, IsApart}
+use Rattle.nd_delta.specs.Delta.{DeltaValue, at, set, plus, minus, combined, entries, points_of, has_point, same, is_point, at-set, at-plus, at-minus, at-part, at-absent, at-present, at-none, none, part, IsTooLarge, IsWithin, IsPartOf, IsApart}
 use Rattle.nd_delta.specs.Least.{at-index}
+use Rattle.nd_delta.proofs.Among.{entry_of}
 
 -- ---- point by point
 added : (b c : Bool) (x y z w : ℤ) → (b ≡ true → x ≡ y) → w ≡ cond c y z → cond b x w ≡ cond (c || b) y z
@@ -93,30 +93,15 @@ module _ (m : DeltaValue) (ps : List Pointstamp) where
   taken_all i s past h = same s (part m ps) (λ q. h q ∙ ap (λ ks. cond (has_point q ks) (at m q) (pos 0)) (take_all i ps past) ∙ sym (at-part m ps q))
 
 -- ---- whether it is within the limit
-pub not_past : (x : ℤ) → (max_count < unsigned_abs x → ⊥) → unsigned_abs x ≤ max_count
-not_past x h = elim (cases_lt max_count (unsigned_abs x)) [ inl lt ↦ absurd (h lt) | inr le ↦ le ]
-
--- the integers at the points of the first entries are within the limit
-abbrev pub AllFit : (Pointstamp → ℤ) → List (Pointstamp × ℤ) → ℕ → Type 0
-AllFit f es i = (k : ℕ) → k < i → (d : Pointstamp × ℤ) → unsigned_abs (f (get_or es k d).0) ≤ max_count
-
-pub fits_more : (f : Pointstamp → ℤ) (es : List (Pointstamp × ℤ)) (i : ℕ) (x : Pointstamp × ℤ) → i < length es → x ≡ get_or es i x → unsigned_abs (f x.0) ≤ max_count → AllFit f es i → AllFit f es (i + 1)
-fits_more f es i x lt is fit h = below_more _ _ h (λ d. subst (λ y. unsigned_abs (f y.0) ≤ max_count) (is ∙ get_or_default es i x d lt) fit)
-
-pub not_too_large : (b : Bool) (m n : DeltaValue) (i : ℕ) → length (entries n) ≤ i → IsWithin m → AllFit (at (combined b m n)) (entries n) i → IsTooLarge (combined b m n) → ⊥
-not_too_large b m n i past within h large = by (find point_cmp large.0 (entries n)) refl
-  where
-    by : (o : Option ℤ) → find point_cmp large.0 (entries n) ≡ o → ⊥
-    by None e =
-        let z : at n large.0 ≡ pos 0 = sym (at-entries n large.0) ∙ ap or_zero e in
-        let alone : at (combined b m n) large.0 ≡ at m large.0 = combined_alone b m n large.0 z in
-        let small : unsigned_abs (at m large.0) ≤ max_count = within large.0 in
-        let wide : max_count < unsigned_abs (at m large.0) = rw alone at large.1 in
-        omega (arith, small, wide)
-    by (Some v) e =
-        let small : unsigned_abs (at (combined b m n) large.0) ≤ max_count
-        = found_all point_cmp point_exact (λ k _. unsigned_abs (at (combined b m n) k) ≤ max_count) (entries n) (λ k d lt. h k (omega (arith, lt, past)) d) large.0 v e in
-        omega (arith, small, large.1)
+-- if the result exceeds the limit and the first does not, the result exceeds it at an entry of the second
+pub large_entry : (b : Bool) (m n : DeltaValue) → IsWithin m → IsTooLarge (combined b m n) → Any (λ e. max_count < unsigned_abs (at (combined b m n) e.0)) (entries n)
+large_entry b m n within large = elim (zero_or_not (at n large.0)) [
+  | inl absent ↦
+      let small : unsigned_abs (at m large.0) ≤ max_count = within large.0 in
+      let wide : max_count < unsigned_abs (at m large.0) = rw (combined_alone b m n large.0 absent) at large.1 in
+      absurd (omega (arith, small, wide))
+  | inr some ↦ entry_of n (λ q _. max_count < unsigned_abs (at (combined b m n) q)) large.0 some large.1
+]
 
 -- ---- a change that is built from the entries of another, one by one
 -- s has the integers of n at the entries of m so far, and no other entries; rest has the remaining entries
@@ -156,6 +141,9 @@ module _ (m n : DeltaValue) where
       by false x e = sym (e refl)
 
 -- ---- what stays after a part is removed
+pub minus_none : (m : DeltaValue) → minus m none ≡ m
+minus_none m = same _ _ (λ q. let d = at-minus m none q in let e = at-none q in omega (arith, ints, d, e))
+
 stays_of : (x y : ℤ) → (y ≢ pos 0 → x ≡ y) → (x -ℤ y ≡ x) ⊎ (x -ℤ y ≡ pos 0)
 stays_of x (pos zero) h = inl (omega (arith, ints))
 stays_of x (pos (suc k)) h = let e : x ≡ pos (suc k) = h (λ z. absurd (cc)) in inr (omega (arith, ints))

@@ -12,7 +12,7 @@ use Rattle.std.specs.List.{list_any}
 use Rattle.std.specs.Ordering.{eq_by_cmp}
 use Rattle.std.specs.FinMap.{find, is_sorted}
 use Rattle.nd_time.specs.Limits.{max_count}
-use Rattle.nd_map.specs.Counts.{Counts, integers, or_else, or_else-cond, keys_of}
+use Rattle.nd_map.specs.Counts.{Counts, integers, or_else, keys_of}
 use Rattle.nd_map.specs.Counts as counts
 use Rattle.nd_paths.specs.Point.{point_cmp, point_code, point_total, point_exact}
 use Rattle.nd_paths.specs.declared.point.Pointstamp.{Pointstamp}
@@ -95,19 +95,12 @@ IsPartOf piece m = (x : Pointstamp) → at piece x ≢ pos 0 → at m x ≡ at p
 abbrev pub IsApart : DeltaValue → DeltaValue → Type 0
 IsApart piece m = (x : Pointstamp) → at piece x ≢ pos 0 → at m x ≡ pos 0
 
--- no pointstamp in the list has 0
-abbrev pub NoZeros : List (Pointstamp × ℤ) → Type 0
-NoZeros es = (q : Pointstamp) → find point_cmp q es ≢ Some (pos 0)
-
 -- ---- the laws of counts, for changes
 
 -- changes that have the same integer at each pointstamp are equal
 pub same : (m n : DeltaValue) → ((q : Pointstamp) → at m q ≡ at n q) → m ≡ n
 unfolding at
 same m n h = counts.same point_total point_exact m n h
-
-pub or_zero-cond : (b : Bool) (x y : Option ℤ) → or_zero (cond b x y) ≡ cond b (or_zero x) (or_zero y)
-or_zero-cond b x y = or_else-cond (pos 0) b x y
 
 pub at-none : (q : Pointstamp) → at none q ≡ pos 0
 unfolding at none
@@ -139,18 +132,9 @@ pub at-present : (m : DeltaValue) (q : Pointstamp) → has_point q (points_of (e
 unfolding at entries
 at-present m q e = counts.at-present m q e
 
-pub at-of_entries : (es : List (Pointstamp × ℤ)) (q : Pointstamp) → at (of_entries es) q ≡ or_zero (find point_cmp q es)
-unfolding at of_entries
-at-of_entries es q = counts.at-of_entries integers point_total point_exact es q
-
 pub of_entries-nil : of_entries [] ≡ none
 unfolding of_entries none
 of_entries-nil = counts.of_entries-nil integers point_total
-
--- entries in order and without zeros are the entries of their change
-pub entries-of_entries : (es : List (Pointstamp × ℤ)) → T (is_sorted point_cmp es) → NoZeros es → entries (of_entries es) ≡ es
-unfolding entries of_entries
-entries-of_entries es sorted some = counts.entries-of_entries integers point_total point_exact es sorted some
 
 pub at-entries : (m : DeltaValue) (q : Pointstamp) → or_zero (find point_cmp q (entries m)) ≡ at m q
 unfolding entries at

@@ -1,6 +1,5 @@
 -- Upright changes (this project's own rule), for any order R of points.
 use Rattle.std.specs.Prelude.{ℤ, pos, ◌<ℤ◌, ◌⊎◌}
-use Rattle.nd_paths.specs.declared.point.Pointstamp.{Pointstamp}
 
 -- strictly before x there is a point at which f is negative, or one that is held
 abbrev pub IsSupported : {P : Type 0} → (P → P → Type 0) → (P → Type 0) → (P → ℤ) → P → Type 0
@@ -14,7 +13,3 @@ IsUpright {P} R H f = (x : P) → pos 0 <ℤ f x → IsSupported R H f x
 pub record IsUnsupported {P : Type 0} (R : P → P → Type 0) (H : P → Type 0) (f : P → ℤ) (x : P) : Type 0 where
   pub positive : pos 0 <ℤ f x
   pub alone : IsSupported R H f x → ⊥
-
--- no point is held
-abbrev pub HoldsNothing : Pointstamp → Type 0
-HoldsNothing x = ⊥

@@ -1,13 +1,12 @@
 //! Changes stored in maps that may grow large.
-ghost use Rattle.std.specs.Prelude.{◌≡◌, ◌≢◌, [], ◌↔◌, ◌<◌, ◌≤◌, ◌^◌, ◌+ℤ◌, ℤ, pos, unsigned_abs, cond, length, OnOk, OnErr, IfOk, Ok, Err, Some, IsTrue, false};
+ghost use Rattle.std.specs.Prelude.{◌≡◌, ◌≢◌, [], ◌↔◌, ◌<◌, ◌≤◌, ◌^◌, ◌+ℤ◌, ℤ, pos, unsigned_abs, cond, length, OnOk, OnErr, IfOk, Err};
 ghost use Rattle.std.specs.Map.Iter.{ShowsInOrder, deref_pair};
 ghost use Rattle.nd_time.specs.Limits.{max_count};
-ghost use Rattle.nd_map.specs.declared.tree.Edit.TheVariants.{Keep, Put, Remove};
 ghost use Rattle.nd_paths.specs.declared.point.Pointstamp.{Pointstamp as Point};
 ghost use Rattle.nd_delta.specs.Delta.{none, at, set, size, plus, minus, part, has_point, points_of, IsWithin, IsPartOf, IsApart, entries as listed};
 
-use crate::{Delta, DeltaFault, passes_limit};
-use nd_map::{Edit, GrowingMap, Iter};
+use crate::{Delta, DeltaFault, sum_within};
+use nd_map::{GrowingMap, Iter};
 use nd_paths::Pointstamp;
 use std::alloc::{AllocError, Allocator, Global};
 use std::marker::Model;
@@ -16,14 +15,9 @@ use std::marker::Model;
 ///
 /// A look-up or an edit takes time logarithmic in the number of entries. A `Delta` moves all entries after
 /// one that is added or removed.
+#[derive(Drop)]
 pub struct LargeDelta<A: Allocator = Global> {
     map: GrowingMap<Pointstamp, i64, A>,
-}
-
-impl<A: Allocator> Drop for LargeDelta<A> {
-    fn drop(self) {
-        let LargeDelta { map: _ } = self;
-    }
 }
 
 impl<A: Allocator> Model for LargeDelta<A> {
@@ -37,36 +31,6 @@ impl<A: Allocator> Model for LargeDelta<A> {
     ghost view = { λ a. of_entries a.map };
 
     ghost invariant = { λ a. IsKept a.map };
-}
-
-// Returns the edit that adds `n` to an integer: `Keep` if the sum exceeds the limit, `Remove` if it is 0.
-fn summed(held: i64, n: i64) -> Edit<i64>
-    ensures full { max_count < unsigned_abs (held +ℤ n) → result ≡ Keep }
-    ensures none { held +ℤ n ≡ pos 0 → result ≡ Remove }
-    ensures some { unsigned_abs (held +ℤ n) ≤ max_count → held +ℤ n ≢ pos 0
-        → result ≡ Put (held +ℤ n) }
-{
-    let Some(sum) = held.checked_add(n) else {
-        return Edit::Keep;
-    };
-    if passes_limit(sum) {
-        return Edit::Keep;
-    }
-    if sum == 0 {
-        return Edit::Remove;
-    }
-    Edit::Put(sum)
-}
-
-// Returns the result of an addition, from the edit of the integer that was there.
-fn outcome_of(said: Option<Edit<i64>>) -> Result<(), DeltaFault>
-    ensures full { said ≡ Some Keep → result ≡ Err (DeltaFault.DeltaFull) }
-    ensures ok { said ≢ Some Keep → result ≡ Ok tt }
-{
-    match said {
-        Some(Edit::Keep) => Err(DeltaFault::DeltaFull),
-        _ => Ok(()),
-    }
 }
 
 impl<A: Allocator> LargeDelta<A> {
@@ -89,14 +53,6 @@ impl<A: Allocator> LargeDelta<A> {
         ensures within { IsWithin self.now }
     {
         self.map.iter()
-    }
-
-    // Returns whether the pointstamp has no integer and `n` alone exceeds the limit.
-    fn is_past_limit_alone(&self, point: &Pointstamp, n: i64) -> bool
-        ensures past { IsTrue result → max_count < unsigned_abs (at self.now point.now +ℤ n) }
-        ensures fits { result ≡ false → at self.now point.now ≡ pos 0 → unsigned_abs n ≤ max_count }
-    {
-        passes_limit(n) && self.get(point) == 0
     }
 
     // Removes the integer of a pointstamp.
@@ -131,18 +87,6 @@ impl<A: Allocator> LargeDelta<A> {
         self.map.len()
     }
 
-    /// Returns an equal change as a `Delta`.
-    pub fn whole(&self, alloc: A) -> Result<Delta<A>, AllocError>
-        ensures equal { IfOk result (λ d. d ≡ self.now) }
-        ensures within { IsWithin self.now }
-    {
-        let mut made = Delta::new(alloc);
-        for (point, n) in self.iter() {
-            made.put(point, *n)?;
-        }
-        Ok(made)
-    }
-
     /// Returns the entries at these pointstamps. A repeated pointstamp counts once, and one without an entry
     /// adds nothing. It takes no memory if there are no pointstamps.
     pub fn part(&self, alloc: A, points: &[Pointstamp]) -> Result<Delta<A>, AllocError>
@@ -150,12 +94,10 @@ impl<A: Allocator> LargeDelta<A> {
         ensures within { IsWithin self.now }
         ensures some { OnErr result (points.now ≢ []) }
     {
-        let _ = &self.map;
+        let _ = self.iter();
         let mut kept = Delta::new(alloc);
         for point in points {
-            let Ok(()) = kept.put(point, self.get(point)) else {
-                return Err(AllocError);
-            };
+            kept.put(point, self.get(point))?;
         }
         Ok(kept)
     }
@@ -175,6 +117,14 @@ impl<A: Allocator> LargeDelta<A> {
 }
 
 impl<A: Allocator + Copy> LargeDelta<A> {
+    /// Returns an equal change as a `Delta`.
+    pub fn whole(&self, alloc: A) -> Result<Delta<A>, AllocError>
+        ensures equal { IfOk result (λ d. d ≡ self.now) }
+        ensures within { IsWithin self.now }
+    {
+        self.without(alloc, &Delta::new(alloc))
+    }
+
     /// Returns the change with no entry. It takes no memory.
     pub fn new(alloc: A) -> LargeDelta<A>
         ensures { result ≡ none }
@@ -184,8 +134,8 @@ impl<A: Allocator + Copy> LargeDelta<A> {
         }
     }
 
-    /// Sets the integer of a pointstamp to `n`. It takes memory only if the pointstamp has no integer.
-    pub fn put(&mut self, point: &Pointstamp, n: i64) -> Result<(), AllocError>
+    // Sets the integer of a pointstamp to `n`. It takes memory only if the pointstamp has no integer.
+    fn put(&mut self, point: &Pointstamp, n: i64) -> Result<(), AllocError>
         requires { unsigned_abs n ≤ max_count }
         ensures ok { OnOk result (self.new ≡ set self.old point.now n) }
         ensures err { OnErr result (self.new ≡ self.old) }
@@ -212,17 +162,13 @@ impl<A: Allocator + Copy> LargeDelta<A> {
         ensures nothing { n ≡ pos 0 → result ≢ Err (DeltaFault.Memory) }
         ensures within { unsigned_abs (at self.old point.now) ≤ max_count }
     {
-        let _ = &self.map;
-        if n == 0 {
-            return Ok(());
-        }
-        if self.is_past_limit_alone(point, n) {
+        let Some(sum) = sum_within(self.get(point), n) else {
             return Err(DeltaFault::DeltaFull);
-        }
-        let Ok(said) = self.map.put_or_edit(point, n, |held| summed(held, n)) else {
+        };
+        let Ok(()) = self.put(point, sum) else {
             return Err(DeltaFault::Memory);
         };
-        outcome_of(said)
+        Ok(())
     }
 
     /// Adds the entries of another change, at pointstamps that have none: all entries or, if memory runs out,
@@ -248,6 +194,7 @@ impl<A: Allocator + Copy> LargeDelta<A> {
         ensures equal { IfOk result (λ d. d ≡ self.now) }
         ensures within { IsWithin self.now }
     {
+        let _ = self.iter();
         Ok(LargeDelta {
             map: self.map.copy(alloc)?,
         })

@@ -2,11 +2,11 @@
 //! A `Delta` stores them in a sorted list, a `LargeDelta` in a map that becomes a tree as it grows.
 #![tactic(auto)]
 
-ghost use Rattle.std.specs.Prelude.{◌≡◌, ◌≢◌, [], ◌↔◌, ◌<◌, ◌≤◌, ◌+ℤ◌, ◌<ℤ◌, ◌*◌, pos, unsigned_abs, length, ◌⊎◌, OnOk, OnErr, IfOk, IfSome, IsSomeAnd, IsNone, IsTrue, Err, Contains};
+ghost use Rattle.std.specs.Prelude.{◌≡◌, ◌≢◌, [], ◌↔◌, ◌<◌, ◌≤◌, ◌+ℤ◌, ◌<ℤ◌, ◌*◌, pos, unsigned_abs, length, ◌⊎◌, OnOk, OnErr, IfOk, IfSome, IsSomeAnd, IsNone, IsTrue, Err, Any, Contains};
 ghost use Rattle.nd_time.specs.Limits.{max_count};
 ghost use Rattle.nd_paths.specs.Order.{CouldResultIn, IsStrictlyBefore};
 ghost use Rattle.nd_paths.specs.declared.point.Pointstamp.{Pointstamp};
-ghost use Rattle.nd_delta.specs.Upright.{IsSupported, IsUnsupported, IsUpright, HoldsNothing};
+ghost use Rattle.nd_delta.specs.Upright.{IsSupported, IsUnsupported, IsUpright};
 ghost use Rattle.nd_delta.specs.Least.{IsLeast};
 ghost use Rattle.nd_delta.specs.Delta.{none, at, set, size, plus, minus, part, combined, IsTooLarge, IsWithin, entries as listed};
 
@@ -31,14 +31,9 @@ pub enum DeltaFault {
 }
 
 /// A finite map from pointstamps to integers other than 0, each at most `LIMIT` in absolute value.
+#[derive(Drop)]
 pub struct Delta<A: Allocator = Global> {
     map: SortedMap<Pointstamp, i64, A>,
-}
-
-impl<A: Allocator> Drop for Delta<A> {
-    fn drop(self) {
-        let Delta { map: _ } = self;
-    }
 }
 
 impl<A: Allocator> Model for Delta<A> {
@@ -61,29 +56,35 @@ fn passes_limit(n: i64) -> bool
     n > LIMIT || n < -LIMIT
 }
 
-// Returns whether an entry is negative and strictly before a pointstamp.
-fn is_negative_before<B: Allocator>(
-    entry: &(Pointstamp, i64),
+// Returns the sum of two integers, or `None` if it exceeds `LIMIT`.
+fn sum_within(held: i64, n: i64) -> Option<i64>
+    ensures none { IsNone result ↔ (max_count < unsigned_abs (held +ℤ n)) }
+    ensures some { IfSome result (λ sum. sum ≡ held +ℤ n) }
+{
+    let sum = held.checked_add(n)?;
+    if passes_limit(sum) { None } else { Some(sum) }
+}
+
+// Returns whether one of the pointstamps is strictly before `point`.
+fn any_before<B: Allocator>(points: &[Pointstamp], paths: &Paths<B>, point: &Pointstamp) -> bool
+    ensures { IsTrue result ↔ Any (λ x. IsStrictlyBefore paths.now x point.now) points.now }
+{
+    points
+        .iter()
+        .any(|one: &Pointstamp| paths.strictly_before(one, point))
+}
+
+// Returns whether one of the entries is negative and strictly before `point`.
+fn any_negative_before<B: Allocator>(
+    entries: &[(Pointstamp, i64)],
     paths: &Paths<B>,
     point: &Pointstamp,
 ) -> bool
     ensures { IsTrue result
-        ↔ ((entry.now.1 <ℤ pos 0) × IsStrictlyBefore paths.now entry.now.0 point.now) }
+        ↔ Any (λ e. (e.1 <ℤ pos 0) × IsStrictlyBefore paths.now e.0 point.now) entries.now }
 {
-    entry.1 < 0 && paths.strictly_before(&entry.0, point)
-}
-
-// Returns whether one of the pointstamps `held` is strictly before `point`.
-fn any_before<B: Allocator>(held: &[Pointstamp], paths: &Paths<B>, point: &Pointstamp) -> bool
-    ensures { IsTrue result
-        ↔ ((x : Pointstamp) × Contains held.now x × IsStrictlyBefore paths.now x point.now) }
-{
-    for one in held {
-        if paths.strictly_before(one, point) {
-            return true;
-        }
-    }
-    false
+    entries.iter().any(|entry: &(Pointstamp, i64)| entry.1 < 0
+        && paths.strictly_before(&entry.0, point))
 }
 
 // Returns whether there is a pointstamp `first` and it is at or before `point`.
@@ -177,12 +178,9 @@ impl<A: Allocator> Delta<A> {
         ensures nothing { n ≡ pos 0 → result ≢ Err (DeltaFault.Memory) }
         ensures within { unsigned_abs (at self.old point.now) ≤ max_count }
     {
-        let Some(sum) = self.get(point).checked_add(n) else {
+        let Some(sum) = sum_within(self.get(point), n) else {
             return Err(DeltaFault::DeltaFull);
         };
-        if passes_limit(sum) {
-            return Err(DeltaFault::DeltaFull);
-        }
         let Ok(()) = self.put(point, sum) else {
             return Err(DeltaFault::Memory);
         };
@@ -194,6 +192,7 @@ impl<A: Allocator> Delta<A> {
         ensures equal { IfOk result (λ d. d ≡ self.now) }
         ensures within { IsWithin self.now }
     {
+        let _ = self.entries();
         Ok(Delta {
             map: self.map.copy(alloc)?,
         })
@@ -209,18 +208,24 @@ impl<A: Allocator> Delta<A> {
         if minus { here - there } else { here + there }
     }
 
+    // Returns whether the difference, or the sum, exceeds the limit at the pointstamp of one of these entries.
+    fn any_passes(&self, other: &Delta<A>, minus: bool, entries: &[(Pointstamp, i64)]) -> bool
+        ensures { IsTrue result
+            ↔ Any (λ e. max_count < unsigned_abs (at (combined minus self.now other.now) e.0))
+            entries.now }
+    {
+        entries.iter().any(|entry: &(Pointstamp, i64)| passes_limit(self.combined_at(
+            other, minus, &entry.0,
+        )))
+    }
+
     /// Returns whether some entry of the difference, or of the sum, exceeds `LIMIT`.
     pub fn is_overfull(&self, other: &Delta<A>, minus: bool) -> bool
         ensures passes { IsTrue result ↔ IsTooLarge (combined minus self.now other.now) }
         ensures within { IsWithin self.now × IsWithin other.now }
     {
-        let _ = &self.map;
-        for entry in other.entries() {
-            if passes_limit(self.combined_at(other, minus, &entry.0)) {
-                return true;
-            }
-        }
-        false
+        let _ = self.entries();
+        self.any_passes(other, minus, other.entries())
     }
 
     /// Returns the difference, or the sum, if it fits. It merges the two sorted lists.
@@ -283,12 +288,10 @@ impl<A: Allocator> Delta<A> {
         ensures within { IsWithin self.now }
         ensures some { OnErr result (points.now ≢ []) }
     {
-        let _ = &self.map;
+        let _ = self.entries();
         let mut kept = Delta::new(alloc);
         for point in points {
-            let Ok(()) = kept.put(point, self.get(point)) else {
-                return Err(AllocError);
-            };
+            kept.put(point, self.get(point))?;
         }
         Ok(kept)
     }
@@ -303,26 +306,7 @@ impl<A: Allocator> Delta<A> {
         ensures { IsTrue result
             ↔ IsSupported (IsStrictlyBefore paths.now) (Contains held.now) (at self.now) point.now }
     {
-        if any_before(held, paths, point) {
-            return true;
-        }
-        for entry in self.entries() {
-            if is_negative_before(entry, paths, point) {
-                return true;
-            }
-        }
-        false
-    }
-
-    /// Returns the least pointstamp with a positive integer and nothing negative strictly before it, or
-    /// `None` if the change is upright (this project's own rule).
-    pub fn unsupported<B: Allocator>(&self, paths: &Paths<B>) -> Option<Pointstamp>
-        ensures upright { IsNone result
-            ↔ IsUpright (IsStrictlyBefore paths.now) HoldsNothing (at self.now) }
-        ensures least { IfSome result
-            (IsLeast (IsUnsupported (IsStrictlyBefore paths.now) HoldsNothing (at self.now))) }
-    {
-        self.unsupported_by(paths, &[])
+        any_before(held, paths, point) || any_negative_before(self.entries(), paths, point)
     }
 
     /// Returns the least pointstamp with a positive integer and, strictly before it, neither a negative

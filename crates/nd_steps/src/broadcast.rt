@@ -37,7 +37,7 @@ fn is_nothing<A: Allocator>(change: &LargeDelta<A>, part: &Part<A>) -> bool
 }
 
 // Returns the part of `change`.
-fn part_of<A: Allocator>(
+fn part_of<A: Allocator + Copy>(
     alloc: A,
     change: &LargeDelta<A>,
     part: &Part<A>,

@@ -1,20 +1,19 @@
 -- Precursor counts that are counted again, entry by entry.
-use Rattle.std.proofs.Common.{◌≡◌, ◌≢◌, ◌<◌, ◌≤◌, ◌+◌, ℕ, ℤ, pos, List, length, get_or, Option, Some, None, refl, sym, ap, subst, ◌∙◌, inl, inr, arith}
+use Rattle.std.proofs.Common.{◌≡◌, ◌≢◌, ◌<◌, ◌≤◌, ◌+◌, ℕ, ℤ, pos, List, length, get_or, Option, Some, None, refl, sym, ap, subst, ◌∙◌, inl, inr}
 use Rattle.std.specs.Prelude.{◌<ℤ◌}
 use Rattle.std.specs.FinMap.{find, put}
-use Rattle.std.proofs.lemmas.List.{get_or_default}
 use Rattle.nd_map.specs.Listed.{IsListed}
 use Rattle.nd_map.specs.Maps.{listed-put}
 use Rattle.nd_graph.specs.Graph.{Dataflow}
 use Rattle.nd_paths.specs.Point.{point_cmp, point_total}
 use Rattle.nd_paths.specs.declared.point.Pointstamp.{Pointstamp}
-use Rattle.nd_delta.specs.Delta.{DeltaValue, at, entries}
-use Rattle.nd_delta.specs.Least.{at-index, place_of}
+use Rattle.nd_delta.specs.Delta.{DeltaValue, at, entries, points_of, sorted-entries}
+use Rattle.nd_delta.specs.Least.{at-index}
 use Rattle.nd_view.specs.View.{IsPrecursor, IsCount}
 use Rattle.nd_view.specs.Kept.{IsKeptAt, AreKept, IsFor, kept_of}
-use Rattle.nd_view.proofs.Moves.{alike, apart}
-use Rattle.nd_view.proofs.Parts.{IsAmong, split}
-use Rattle.nd_view.proofs.Shifts.{found_put, found_other}
+use Rattle.nd_view.proofs.Moves.{alike, apart, found_put, found_other}
+use Rattle.nd_view.proofs.Early.{IsNext, split, next_key}
+use Rattle.nd_view.proofs.Parts.{IsAmong, among_all}
 use Rattle.nd_map.specs.Cases.{not_zero}
 
 module _ (g : Dataflow) (m : DeltaValue) where
@@ -25,6 +24,9 @@ module _ (g : Dataflow) (m : DeltaValue) where
     pub some : (q : Pointstamp) → IsAmong m i q → pos 0 <ℤ at m q → find point_cmp q es ≢ None
 
   module _ (i : ℕ) (e : Pointstamp × ℤ) (lt : i < length (entries m)) (is : e ≡ get_or (entries m) i e) where
+    next : IsNext (points_of (entries m)) i e.0
+    next = next_key (entries m) (points_of (entries m)) refl (sorted-entries m) i e lt is
+
     positive : pos 0 <ℤ at m e.0 → pos 0 <ℤ e.1
     positive p = subst (λ z. pos 0 <ℤ z) (sym (at-index m i e lt is)) p
 
@@ -32,7 +34,7 @@ module _ (g : Dataflow) (m : DeltaValue) where
     counted_skip es never h = record {
       listed = h.listed;
       kept = h.kept;
-      some = λ q among p. elim (split m (λ _. Unit {0}) (λ _. Unit {0}) i e lt is q among) [
+      some = λ q among p. elim (split _ i e.0 next q among) [
         | inl before ↦ h.some q before p
         | inr same ↦ absurd (never (positive (subst (λ y. pos 0 <ℤ at m y) same p)))
       ];
@@ -49,7 +51,7 @@ module _ (g : Dataflow) (m : DeltaValue) where
       ];
       some = λ q among p none. elim (alike q e.0) [
         | inl same ↦ let stored : find point_cmp q fs ≡ Some n = ap (find point_cmp q) put_is ∙ found_put q e.0 n es same in absurd (cc (stored, none))
-        | inr other ↦ elim (split m (λ _. Unit {0}) (λ _. Unit {0}) i e lt is q among) [
+        | inr other ↦ elim (split _ i e.0 next q among) [
           | inl before ↦ h.some q before p (sym (ap (find point_cmp q) put_is ∙ found_other q e.0 n es other) ∙ none)
           | inr same ↦ absurd (apart q e.0 other same)
         ]
@@ -61,11 +63,7 @@ module _ (g : Dataflow) (m : DeltaValue) where
   counted_done i es past h = record { listed = h.listed; each = λ q. by q (find point_cmp q es) refl }
     where
       by : (q : Pointstamp) (o : Option ℕ) → find point_cmp q es ≡ o → IsKeptAt g m q (find point_cmp q es)
-      by q None e = subst (IsKeptAt g m q) (sym e) (λ p.
-          let place = place_of m q (not_zero (at m q) p) in
-          h.some q
-          (record { index = place.index; early = omega (arith, place.in_range, past); in_range = place.in_range; is = ap (λ y. y.0) (get_or_default (entries m) place.index (q, pos 0) (q, at m q) place.in_range) ∙ place.is })
-          p e)
+      by q None e = subst (IsKeptAt g m q) (sym e) (λ p. h.some q (among_all m i q past (not_zero (at m q) p)) p e)
       by q (Some n) e = subst (IsKeptAt g m q) (sym e) (h.kept q n e)
 
 -- each count stored in a view of a graph is correct

@@ -1,22 +1,20 @@
 -- The minimal times into which walks turn those of a view's frontier are the minimal times that can arrive.
-use Rattle.std.proofs.Common.{◌≡◌, ◌≢◌, ◌<◌, ℕ, ℤ, pos, List, [], ◌∷◌, length, get_or, Option, Some, None, refl, sym, ap, subst, ◌∙◌, inl, inr, arith}
+use Rattle.std.proofs.Common.{◌≡◌, ◌≢◌, ◌<◌, ℕ, ℤ, pos, List, [], ◌∷◌, length, get_or, Some, false, refl, sym, ap, subst, ◌∙◌, arith}
 use Rattle.std.specs.Prelude.{◌<ℤ◌, Contains, IsPermutation}
-use Rattle.std.specs.FinMap.{find}
 use Rattle.std.proofs.lemmas.List.{get_or_default}
 use Rattle.std.proofs.lemmas.List.Sorted.{IsPermutation-sym, Contains-permutation}
 use Rattle.nd_time.specs.Time.{Time, IsAtOrBefore}
 use Rattle.nd_graph.specs.Graph.{Dataflow}
 use Rattle.nd_paths.specs.Order.{HasDepth, CouldResultIn}
 use Rattle.nd_paths.specs.Arrival.{TurnsInto, HasAtOrBefore, WalksLeadOn}
-use Rattle.nd_paths.specs.Point.{point_cmp}
 use Rattle.nd_paths.specs.declared.point.Pointstamp.{Pointstamp}
 use Rattle.nd_delta.specs.Delta.{DeltaValue, at, entries}
 use Rattle.nd_delta.specs.Least.{place_of}
 use Rattle.nd_map.specs.Cases.{not_zero}
 use Rattle.nd_view.specs.View.{IsOnFrontier, IsPartWhere}
-use Rattle.nd_view.specs.Kept.{Kept, IsKeptAt, IsFor}
+use Rattle.nd_view.specs.Kept.{Kept, IsFor}
 use Rattle.nd_view.specs.Arrivals.{CanArrive, AreArrivals, AreExact, AreReached, AreMinimal, HaveOneDepth}
-use Rattle.nd_view.proofs.Frontiers.{IsOrder, frontier_before}
+use Rattle.nd_view.proofs.Frontiers.{IsOrder, frontier_hinders}
 use Rattle.nd_view.proofs.Moves.{index_some}
 use Rattle.nd_view.proofs.TimeOrder.{before_through, before_both}
 
@@ -48,20 +46,10 @@ entry_on_frontier g m f part (e ∷ rest) is some =
 
 module _ (g : Dataflow) (order : IsOrder g) (on : WalksLeadOn g) (v : Kept) (kept_for : IsFor g v) (f : DeltaValue) (part : IsPartWhere (IsOnFrontier g v.map) v.map f) (x : ℕ)
     (times sorted : List Time) (reached : AreReached g (entries f) x times) (permuted : IsPermutation times sorted) (least : List Time) (minimal : AreMinimal sorted least) where
-  -- some point on the frontier could result in everything that a positive point could result in
-  near : (s t : Pointstamp) → pos 0 <ℤ at v.map s → CouldResultIn g s t → (y : Pointstamp) × IsOnFrontier g v.map y × CouldResultIn g y t
-  near s t positive could = by (find point_cmp s v.counts) (kept_for.each s)
-    where
-      by : (o : Option ℕ) → IsKeptAt g v.map s o → (y : Pointstamp) × IsOnFrontier g v.map y × CouldResultIn g y t
-      by None never = absurd (never positive)
-      by (Some n) here =
-          let (y, front, close) = frontier_before g order v.map s n here.0 here.1 in
-          (y, front, elim close [ inl same ↦ subst (λ z. CouldResultIn g z t) (sym same) could | inr less ↦ order.transitive y s t less.0 could ])
-
   -- each time that a positive point could result in has one of the least times at or before it
   found : (s : Pointstamp) (t : Time) → pos 0 <ℤ at v.map s → CouldResultIn g s (record { location = x; time = t }) → HasAtOrBefore least t
   found s t positive could =
-      let (y, front, close) = near s (record { location = x; time = t }) positive could in
+      let (y, front, close) = frontier_hinders g order v kept_for false (record { location = x; time = t }) s (record { positive = positive; before = could }) in
       let some : at f y ≢ pos 0 = λ e. not_zero (at v.map y) front.positive (sym (part.all y front) ∙ e) in
       let place = place_of f y some in
       let e = get_or (entries f) place.index (y, at f y) in

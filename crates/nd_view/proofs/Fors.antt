@@ -1,19 +1,19 @@
 -- Views whose precursor counts are those of a graph.
-use Rattle.std.proofs.Common.{cond, ◌≡◌, ℕ, ℤ, pos, List, [], Option, Some, None, refl, sym, ap, subst, ◌∙◌, ◌⊎◌, inl, inr, zero, suc, negsuc, arith, Result, Ok, Err, ◌<◌}
+use Rattle.std.proofs.Common.{◌≡◌, ℕ, ℤ, pos, List, [], Option, Some, None, refl, sym, ap, subst, ◌∙◌, ◌⊎◌, inl, inr, zero, suc, negsuc, arith, Result, Ok, Err, ◌<◌}
 use Rattle.std.specs.Prelude.{◌<ℤ◌, OnOk, OnErr}
 use Rattle.std.proofs.lemmas.Int.{ints}
 use Rattle.std.specs.FinMap.{find, put}
-use Rattle.std.specs.FinMap.Entries.{find-put, same_entries}
-use Rattle.nd_map.specs.Maps.{find-without, listed-put, listed-without}
+use Rattle.std.specs.FinMap.Entries.{same_entries}
+use Rattle.nd_map.specs.Maps.{listed-put, listed-without}
 use Rattle.nd_graph.specs.Graph.{Dataflow}
 use Rattle.nd_map.specs.Listed.{IsListed, without}
 use Rattle.nd_paths.specs.Point.{point_cmp, point_total, point_exact}
 use Rattle.nd_paths.specs.declared.point.Pointstamp.{Pointstamp}
-use Rattle.nd_delta.specs.Delta.{DeltaValue, none, at, set, is_point, at-none, entries, or_zero, at-entries, some-entry}
+use Rattle.nd_delta.specs.Delta.{DeltaValue, none, at, set, at-none, entries, or_zero, at-entries, some-entry}
 use Rattle.nd_delta.specs.Least.{place_of}
 use Rattle.nd_view.specs.View.{IsOnFrontier}
 use Rattle.nd_view.specs.Kept.{Kept, IsKeptAt, IsFor, kept_of}
-use Rattle.nd_view.proofs.Moves.{kept_positive, kept_other, first_one, alike, itself}
+use Rattle.nd_view.proofs.Moves.{kept_positive, kept_other, first_one, alike, found_other, found_gone, found_still}
 use Rattle.nd_map.specs.Cases.{not_zero}
 
 pub signed : (z : ℤ) → (pos 0 <ℤ z) ⊎ (pos 0 <ℤ z → ⊥)
@@ -26,9 +26,6 @@ for_none g m es m_is es_is = record {
   listed = subst (IsListed point_cmp) (sym es_is) tt;
   each = λ q. subst (IsKeptAt g m q) (sym (ap (find point_cmp q) es_is)) (λ p. not_zero (at m q) p (ap (λ c. at c q) m_is ∙ at-none q));
 }
-
-pub for_kept : (g : Dataflow) (v : Kept) (q : Pointstamp) (o : Option ℕ) (es : List (Pointstamp × ℕ)) → o ≡ find point_cmp q es → es ≡ v.counts → IsFor g v → IsKeptAt g v.map q o
-for_kept g v q o es o_is es_is h = subst (IsKeptAt g v.map q) (sym (o_is ∙ ap (find point_cmp q) es_is)) (h.each q)
 
 -- an integer of the same sign
 pub for_stay : (g : Dataflow) (m n : DeltaValue) (es : List (Pointstamp × ℕ)) (x : Pointstamp) (z : ℤ) → IsFor g (kept_of m es) → n ≡ set m x z
@@ -46,10 +43,6 @@ pub for_same : (g : Dataflow) {E : Type 0} (r : Result (Unit {0}) E) (v w : Kept
     → ((pos 0 <ℤ z → pos 0 <ℤ at v.map x) × (pos 0 <ℤ at v.map x → pos 0 <ℤ z)) → IsFor g v → IsFor g w
 for_same g (Ok u) v w x z ok err same sign h = for_stay g v.map w.map w.counts x z (subst (λ es. IsFor g (kept_of v.map es)) (sym same) h) ok sign
 for_same g (Err e) v w x z ok err same sign h = subst (IsFor g) (λ j. kept_of (sym err j) (sym same j)) h
-
-pub on_ok : {E : Type 0} (r : Result (Unit {0}) E) (P Q : Type 0) → (P → Q) → OnOk r P → OnOk r Q
-on_ok (Ok x) P Q f p = f p
-on_ok (Err e) P Q f p = tt
 
 -- ---- precursor counts of 0
 pub frontier_of_none : (g : Dataflow) (m : DeltaValue) (q : Pointstamp) → IsKeptAt g m q (Some 0) → IsOnFrontier g m q
@@ -88,11 +81,7 @@ pub taken_out : (g : Dataflow) (v : Kept) (x : Pointstamp) (c : ℕ) → IsFor g
 taken_out g v x c h never =
     same_entries point_cmp point_total point_exact (without point_cmp x (put point_cmp x c v.counts)) v.counts
     (listed-without point_cmp x (put point_cmp x c v.counts) (listed-put point_cmp point_total x c v.counts h.listed)) h.listed
-    (λ q. find-without point_cmp point_total q x (put point_cmp x c v.counts) ∙ elim (alike q x) [
-      | inl same ↦
-          ap (λ b. cond b None (find point_cmp q (put point_cmp x c v.counts))) (ap (λ z. is_point z x) same ∙ itself x)
-          ∙ sym (ap (λ y. find point_cmp y v.counts) same ∙ kept_none g v.map x (find point_cmp x v.counts) (h.each x) never)
-      | inr other ↦
-          ap (λ b. cond b None (find point_cmp q (put point_cmp x c v.counts))) other
-          ∙ find-put point_cmp point_total q x c v.counts ∙ ap (λ b. cond b (Some c) (find point_cmp q v.counts)) other
+    (λ q. elim (alike q x) [
+      | inl same ↦ found_gone q x (put point_cmp x c v.counts) same ∙ sym (ap (λ y. find point_cmp y v.counts) same ∙ kept_none g v.map x (find point_cmp x v.counts) (h.each x) never)
+      | inr other ↦ found_still q x (put point_cmp x c v.counts) other ∙ found_other q x c v.counts other
     ])

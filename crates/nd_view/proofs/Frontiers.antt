@@ -1,6 +1,6 @@
 -- If nothing on the frontier is before a point, nothing positive is.
-use Rattle.std.proofs.Common.{◌≡◌, ◌≢◌, ◌<◌, ℕ, zero, suc, pos, Bool, true, false, List, [], ◌∷◌, length, get_or, Option, Some, None, Result, Ok, Err, cond, sym, ap, subst, ◌∙◌, ◌⊎◌, inl, inr, arith, refl}
-use Rattle.std.specs.Prelude.{◌<ℤ◌, Contains, slice_index_or, IfOk, IfSome, OnErr}
+use Rattle.std.proofs.Common.{◌≡◌, ◌≢◌, ◌<◌, ℕ, zero, suc, pos, Bool, true, false, List, [], ◌∷◌, length, get_or, Option, Some, None, cond, sym, ap, subst, ◌∙◌, ◌⊎◌, inl, inr, arith, refl}
+use Rattle.std.specs.Prelude.{◌<ℤ◌, Contains, slice_index_or}
 use Rattle.std.proofs.lemmas.List.{get_or-map, length-map}
 use Rattle.std.specs.FinMap.{find}
 use Rattle.nd_paths.specs.Point.{point_cmp, point_exact}
@@ -9,8 +9,8 @@ use Rattle.nd_paths.specs.Order.{CouldResultIn, IsStrictlyBefore}
 use Rattle.nd_paths.specs.Laws.{IsMinimalAmong}
 use Rattle.nd_paths.specs.declared.point.Pointstamp.{Pointstamp}
 use Rattle.nd_delta.specs.Delta.{DeltaValue, at, entries, points_of, part, has_point, is_point, at-part}
-use Rattle.nd_delta.specs.Least.{IsLeast, place_of}
-use Rattle.nd_view.specs.View.{IsBefore, IsPositiveBefore, IsBlocker, IsPrecursor, IsOnFrontier, IsPartWhere, IsCount}
+use Rattle.nd_delta.specs.Least.{place_of}
+use Rattle.nd_view.specs.View.{IsBefore, IsPositiveBefore, IsPrecursor, IsOnFrontier, IsPartWhere, IsCount}
 use Rattle.nd_view.specs.Kept.{Kept, IsKeptAt, IsFor, IsFrontierList}
 use Rattle.nd_view.proofs.Moves.{index_some, itself}
 use Rattle.nd_view.proofs.Fors.{zero_of_frontier, frontier_of_zero}
@@ -62,16 +62,16 @@ through g order true y x t (inr earlier) before = order.strict y x t earlier bef
 through g order false y x t (inl same) before = subst (λ z. CouldResultIn g z t) (sym same) before
 through g order false y x t (inr earlier) before = order.transitive y x t earlier.0 before
 
--- if nothing on the frontier is before t, nothing positive is
-pub passed_by_frontier : (g : Dataflow) → IsOrder g → (v : Kept) → IsFor g v → (strictly : Bool) (t : Pointstamp) → ((y : Pointstamp) → IsOnFrontier g v.map y → IsBefore g strictly y t → ⊥)
-    → (x : Pointstamp) → IsPositiveBefore g v.map strictly t x → ⊥
-passed_by_frontier g order v h strictly t none x b = by (find point_cmp x v.counts) (h.each x)
+-- if something positive is before t, something on the frontier is
+pub frontier_hinders : (g : Dataflow) → IsOrder g → (v : Kept) → IsFor g v → (strictly : Bool) (t x : Pointstamp) → IsPositiveBefore g v.map strictly t x
+    → (y : Pointstamp) × IsOnFrontier g v.map y × IsBefore g strictly y t
+frontier_hinders g order v h strictly t x b = by (find point_cmp x v.counts) (h.each x)
   where
-    by : (o : Option ℕ) → IsKeptAt g v.map x o → ⊥
-    by None never = never b.positive
+    by : (o : Option ℕ) → IsKeptAt g v.map x o → (y : Pointstamp) × IsOnFrontier g v.map y × IsBefore g strictly y t
+    by None never = absurd (never b.positive)
     by (Some n) kept =
         let least = frontier_before g order v.map x n kept.0 kept.1 in
-        none least.0 least.1 (through g order strictly least.0 x t least.2 b.before)
+        (least.0, least.1, through g order strictly least.0 x t least.2 b.before)
 
 -- the part at the listed points is the part on the frontier
 pub frontier_part : (g : Dataflow) (v : Kept) → IsFor g v → (m : DeltaValue) → m ≡ v.map → (frontier : List Pointstamp) (room : ℕ) → IsFrontierList v.counts frontier room → (f : DeltaValue) → f ≡ part m frontier → IsPartWhere (IsOnFrontier g v.map) v.map f
@@ -94,32 +94,3 @@ frontier_part g v h m m_is frontier room listed f f_is = record {
 pub frontier_some : (g : Dataflow) (v : Kept) → IsFor g v → (frontier : List Pointstamp) (room : ℕ) → IsFrontierList v.counts frontier room → frontier ≢ [] → (x : Pointstamp) × IsOnFrontier g v.map x
 frontier_some g v h [] room listed some = absurd (some refl)
 frontier_some g v h (x ∷ rest) room listed some = (x, frontier_of_zero g v h x (listed.only x (0, omega arith, refl)))
-
-pub of_err : {X E Q : Type 0} (r : Result X E) → Q → OnErr r Q
-of_err (Ok x) q = record {}
-of_err (Err e) q = q
-
-pub on_err : {X E P Q : Type 0} (r : Result X E) → (P → Q) → OnErr r P → OnErr r Q
-on_err (Ok x) f h = h
-on_err (Err e) f h = f h
-
-pub if_ok : {X E : Type 0} (r : Result X E) (P Q : X → Type 0) → ((x : X) → P x → Q x) → IfOk r P → IfOk r Q
-if_ok (Ok x) P Q f p = f x p
-if_ok (Err e) P Q f p = p
-
--- ---- blockers and precursors
-pub to_blocker : (g : Dataflow) (v : DeltaValue) (t x : Pointstamp) → IsPositiveBefore g v false t x → IsBlocker g v t x
-to_blocker g v t x p = record { positive = p.positive; before = p.before }
-
-pub of_blocker : (g : Dataflow) (v : DeltaValue) (t x : Pointstamp) → IsBlocker g v t x → IsPositiveBefore g v false t x
-of_blocker g v t x p = record { positive = p.positive; before = p.before }
-
-pub to_precursor : (g : Dataflow) (v : DeltaValue) (t x : Pointstamp) → IsPositiveBefore g v true t x → IsPrecursor g v t x
-to_precursor g v t x p = record { positive = p.positive; before = p.before }
-
-pub of_precursor : (g : Dataflow) (v : DeltaValue) (t x : Pointstamp) → IsPrecursor g v t x → IsPositiveBefore g v true t x
-of_precursor g v t x p = record { positive = p.positive; before = p.before }
-
-pub least_as : (P Q : Pointstamp → Type 0) → ((x : Pointstamp) → P x → Q x) → ((x : Pointstamp) → Q x → P x) → (o : Option Pointstamp) → IfSome o (IsLeast P) → IfSome o (IsLeast Q)
-least_as P Q to of None h = h
-least_as P Q to of (Some x) h = record { is_one = to x h.is_one; first = λ y q. h.first y (of y q) }

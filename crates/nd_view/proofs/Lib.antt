@@ -1,6 +1,6 @@
 mod Anew
-mod First
 mod FrontierLists
+mod Early
 mod Fors
 mod Frontiers
 mod LinksLemmas

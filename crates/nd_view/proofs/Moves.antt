@@ -35,6 +35,19 @@ apart q x e here = true≢false (sym (ap (λ z. is_point z x) here ∙ itself x)
 pub at-elsewhere : (m : DeltaValue) (x : Pointstamp) (v : ℤ) (q : Pointstamp) → is_point q x ≡ false → at (set m x v) q ≡ at m q
 at-elsewhere m x v q e = at-set m x v q ∙ ap (λ b. cond b v (at m q)) e
 
+-- ---- what is found after a count is put or removed
+pub found_put : (q x : Pointstamp) (n : ℕ) (es : List (Pointstamp × ℕ)) → q ≡ x → find point_cmp q (put point_cmp x n es) ≡ Some n
+found_put q x n es same = find-put point_cmp point_total q x n es ∙ ap (λ b. cond b (Some n) (find point_cmp q es)) (ap (λ z. is_point z x) same ∙ itself x)
+
+pub found_other : (q x : Pointstamp) (n : ℕ) (es : List (Pointstamp × ℕ)) → is_point q x ≡ false → find point_cmp q (put point_cmp x n es) ≡ find point_cmp q es
+found_other q x n es other = find-put point_cmp point_total q x n es ∙ ap (λ b. cond b (Some n) (find point_cmp q es)) other
+
+pub found_gone : (q x : Pointstamp) (es : List (Pointstamp × ℕ)) → q ≡ x → find point_cmp q (without point_cmp x es) ≡ None
+found_gone q x es same = find-without point_cmp point_total q x es ∙ ap (λ b. cond b None (find point_cmp q es)) (ap (λ z. is_point z x) same ∙ itself x)
+
+pub found_still : (q x : Pointstamp) (es : List (Pointstamp × ℕ)) → is_point q x ≡ false → find point_cmp q (without point_cmp x es) ≡ find point_cmp q es
+found_still q x es other = find-without point_cmp point_total q x es ∙ ap (λ b. cond b None (find point_cmp q es)) other
+
 -- ---- sizes
 pub size_gone : (f : DeltaValue) (x : Pointstamp) → at f x ≢ pos 0 → size f ≡ size (set f x (pos 0)) + 1
 size_gone f x some = ap size (sym (set-set f x (pos 0) (at f x) ∙ set-at f x)) ∙ size-set (set f x (pos 0)) x (at f x) some (at-set_same f x (pos 0))
@@ -201,20 +214,16 @@ module _ (m n : DeltaValue) (x : Pointstamp) (v : ℤ) (is : n ≡ set m x v) wh
 
     pub ready_up : (c : ℕ) (es : List (Pointstamp × ℕ)) → (pos 0 <ℤ at m x → ⊥) → pos 0 <ℤ v → IsCount (IsPrecursor g m x) m c → ((q : Pointstamp) → IsKeptAt g m q (find point_cmp q es))
         → (q : Pointstamp) → IsReady g n x true q (find point_cmp q (put point_cmp x c es))
-    ready_up c es old new counted each q = subst (IsReady g n x true q) (sym (find-put point_cmp point_total q x c es)) (elim (alike q x) [
-      | inl same ↦
-          let e : cond (is_point q x) (Some c) (find point_cmp q es) ≡ Some c = ap (λ b. cond b (Some c) (find point_cmp q es)) (ap (λ z. is_point z x) same ∙ itself x) in
-          subst (IsReady g n x true q) (sym e) (record {
-            after = λ p before. absurd (before.1 (sym same));
-            others = λ _. subst (λ y. IsKeptAt g n y (Some c)) (sym same) (subst (λ z. pos 0 <ℤ z) (sym here) new, count_away g x c (λ p. p.before.1 refl) (λ p. p.before.1 refl) counted);
-          })
-      | inr other ↦
-          let e : cond (is_point q x) (Some c) (find point_cmp q es) ≡ find point_cmp q es = ap (λ b. cond b (Some c) (find point_cmp q es)) other in
-          subst (IsReady g n x true q) (sym e) (record {
-            after = λ p before. come q other old new p before (find point_cmp q es) (each q);
-            others = λ never. kept_elsewhere q other (λ p before. never (p, before)) (find point_cmp q es) (each q);
-          })
-    ])
+    ready_up c es old new counted each q = elim (alike q x) [
+      | inl same ↦ subst (IsReady g n x true q) (sym (found_put q x c es same)) (record {
+        after = λ p before. absurd (before.1 (sym same));
+        others = λ _. subst (λ y. IsKeptAt g n y (Some c)) (sym same) (subst (λ z. pos 0 <ℤ z) (sym here) new, count_away g x c (λ p. p.before.1 refl) (λ p. p.before.1 refl) counted);
+      })
+      | inr other ↦ subst (IsReady g n x true q) (sym (found_other q x c es other)) (record {
+        after = λ p before. come q other old new p before (find point_cmp q es) (each q);
+        others = λ never. kept_elsewhere q other (λ p before. never (p, before)) (find point_cmp q es) (each q);
+      })
+    ]
 
     -- ---- x ceases to be positive
     go : (q : Pointstamp) → is_point q x ≡ false → pos 0 <ℤ at m x → (pos 0 <ℤ v → ⊥) → pos 0 <ℤ at n q → IsStrictlyBefore g x q → (o : Option ℕ) → IsKeptAt g m q o → IsMovable g n q false o
@@ -225,18 +234,12 @@ module _ (m n : DeltaValue) (x : Pointstamp) (v : ℤ) (is : n ≡ set m x v) wh
 
     pub ready_down : (es : List (Pointstamp × ℕ)) → pos 0 <ℤ at m x → (pos 0 <ℤ v → ⊥) → ((q : Pointstamp) → IsKeptAt g m q (find point_cmp q es))
         → (q : Pointstamp) → IsReady g n x false q (find point_cmp q (without point_cmp x es))
-    ready_down es old new each q = subst (IsReady g n x false q) (sym (find-without point_cmp point_total q x es)) (elim (alike q x) [
+    ready_down es old new each q = elim (alike q x) [
       | inl same ↦
-          let e : cond (is_point q x) None (find point_cmp q es) ≡ None = ap (λ b. cond b None (find point_cmp q es)) (ap (λ z. is_point z x) same ∙ itself x) in
           let never : pos 0 <ℤ at n q → ⊥ = λ p. new (subst (λ z. pos 0 <ℤ z) here (subst (λ y. pos 0 <ℤ at n y) same p)) in
-          subst (IsReady g n x false q) (sym e) (record {
-            after = λ p before. absurd (never p);
-            others = λ _. never;
-          })
-      | inr other ↦
-          let e : cond (is_point q x) None (find point_cmp q es) ≡ find point_cmp q es = ap (λ b. cond b None (find point_cmp q es)) other in
-          subst (IsReady g n x false q) (sym e) (record {
-            after = λ p before. go q other old new p before (find point_cmp q es) (each q);
-            others = λ never. kept_elsewhere q other (λ p before. never (p, before)) (find point_cmp q es) (each q);
-          })
-    ])
+          subst (IsReady g n x false q) (sym (found_gone q x es same)) (record { after = λ p before. absurd (never p); others = λ _. never })
+      | inr other ↦ subst (IsReady g n x false q) (sym (found_still q x es other)) (record {
+        after = λ p before. go q other old new p before (find point_cmp q es) (each q);
+        others = λ never. kept_elsewhere q other (λ p before. never (p, before)) (find point_cmp q es) (each q);
+      })
+    ]

@@ -23,6 +23,16 @@ count_nothing g m t = (
   size-none,
 )
 
+-- what could result in s could result in t, at the location of s with the same counters, if its epoch is not later
+beside : (g : Dataflow) (x s t : Pointstamp) → s.location ≡ t.location → s.time.counters ≡ t.time.counters → x.time.epoch ≤ t.time.epoch → CouldResultIn g x s → CouldResultIn g x t
+beside g x s t place counters epoch h = record {
+  fits_s = h.fits_s;
+  fits_t = record { depth = subst (λ cs. HasDepth g t.location (length cs)) counters (subst (λ l. HasDepth g l (length s.time.counters)) place h.fits_t.depth) };
+  walk = h.walk;
+  leads = subst (IsWalk g x.location h.walk) place h.leads;
+  before = record { depth = h.before.depth ∙ ap length counters; epoch = epoch; counters = subst (IsLexicallyAtMost (effect h.walk x.time.counters)) counters h.before.counters };
+}
+
 module _ (g : Dataflow) (m : DeltaValue) (es : List (Pointstamp × ℕ)) (t : Pointstamp) (e : Pointstamp × ℕ) (listed : IsListed point_cmp es) (kept : AreKept g m es) (among : Contains es e) (near : IsNear e.0 t) where
   -- the count stored for the entry is correct
   pub kept_near : IsKeptAt g m e.0 (Some e.1)
@@ -32,22 +42,10 @@ module _ (g : Dataflow) (m : DeltaValue) (es : List (Pointstamp × ℕ)) (t : Po
 
   -- a point before the entry's is before t
   up : (x : Pointstamp) → CouldResultIn g x e.0 → CouldResultIn g x t
-  up x h = record {
-    fits_s = h.fits_s;
-    fits_t = record { depth = subst (λ cs. HasDepth g t.location (length cs)) (near.2 ∙ sym near.3) (subst (λ l. HasDepth g l (length e.0.time.counters)) near.0 h.fits_t.depth) };
-    walk = h.walk;
-    leads = subst (IsWalk g x.location h.walk) near.0 h.leads;
-    before = record { depth = h.before.depth ∙ ap length (near.2 ∙ sym near.3); epoch = omega (arith, h.before.epoch, near.1); counters = subst (IsLexicallyAtMost (effect h.walk x.time.counters)) (near.2 ∙ sym near.3) h.before.counters };
-  }
+  up x h = beside g x e.0 t near.0 (near.2 ∙ sym near.3) (omega (arith, h.before.epoch, near.1)) h
 
   down : (x : Pointstamp) → x.time.epoch ≤ e.0.time.epoch → CouldResultIn g x t → CouldResultIn g x e.0
-  down x low h = record {
-    fits_s = h.fits_s;
-    fits_t = record { depth = subst (λ cs. HasDepth g e.0.location (length cs)) (near.3 ∙ sym near.2) (subst (λ l. HasDepth g l (length t.time.counters)) (sym near.0) h.fits_t.depth) };
-    walk = h.walk;
-    leads = subst (IsWalk g x.location h.walk) (sym near.0) h.leads;
-    before = record { depth = h.before.depth ∙ ap length (near.3 ∙ sym near.2); epoch = low; counters = subst (IsLexicallyAtMost (effect h.walk x.time.counters)) (near.3 ∙ sym near.2) h.before.counters };
-  }
+  down x low h = beside g x t e.0 (sym near.0) (near.3 ∙ sym near.2) low h
 
   -- a precursor of the entry's point is an earlier precursor of t
   earlier_of : (x : Pointstamp) → IsPrecursor g m e.0 x → IsEarlier g m t (e.0.time.epoch + 1) x

@@ -1,25 +1,30 @@
 -- The part of a change at the points with a property, built entry by entry.
-use Rattle.std.proofs.Common.{◌≡◌, ◌≢◌, ◌<◌, ◌≤◌, ◌+◌, ℕ, ℤ, pos, Bool, true, false, cond, length, get_or, refl, sym, ap, subst, ◌∙◌, ◌⊎◌, inl, inr, Less, Equal, arith, true≢false}
-use Rattle.std.specs.Ordering.{is_eq}
-use Rattle.std.proofs.lemmas.Bool.{cases_lt}
-use Rattle.std.proofs.lemmas.List.{get_or_default}
-use Rattle.std.proofs.lemmas.Cmp.{tied_itself}
+use Rattle.std.proofs.Common.{◌≡◌, ◌≢◌, ◌<◌, ◌≤◌, ◌+◌, ℕ, ℤ, pos, Bool, true, false, cond, length, get_or, refl, sym, ap, subst, ◌∙◌, ◌⊎◌, inl, inr, arith}
 use Rattle.std.proofs.lemmas.Map.Views.{tells_apart}
-use Rattle.nd_map.specs.Entries.{rises}
-use Rattle.nd_paths.specs.Point.{point_cmp, point_total, point_exact}
+use Rattle.nd_paths.specs.Point.{point_exact}
 use Rattle.nd_paths.specs.declared.point.Pointstamp.{Pointstamp}
-use Rattle.nd_delta.specs.Delta.{DeltaValue, at, set, size, entries, is_point, at-set, size-set, sorted-entries}
+use Rattle.nd_delta.specs.Delta.{DeltaValue, at, set, size, entries, points_of, is_point, at-set, size-set, sorted-entries}
 use Rattle.nd_delta.specs.Least.{place_of, at-index}
 use Rattle.nd_view.specs.View.{IsCount}
-use Rattle.nd_view.proofs.Moves.{size_within}
+use Rattle.nd_view.proofs.Early.{IsEarly, IsNext, later, last, split, many_keys, key_at, next_key}
+use Rattle.nd_view.proofs.Moves.{alike, apart, size_within}
 use Rattle.nd_map.specs.Cases.{zero_or_not}
 
 -- the point of one of the first entries
-pub record IsAmong (m : DeltaValue) (i : ℕ) (q : Pointstamp) : Type 0 where
-  pub index : ℕ
-  pub early : index < i
-  pub in_range : index < length (entries m)
-  pub is : (get_or (entries m) index (q, pos 0)).0 ≡ q
+abbrev pub IsAmong : DeltaValue → ℕ → Pointstamp → Type 0
+IsAmong m i q = IsEarly (points_of (entries m)) i q
+
+-- a point with an integer other than 0 is among the points of all entries
+pub among_all : (m : DeltaValue) (i : ℕ) (q : Pointstamp) → length (entries m) ≤ i → at m q ≢ pos 0 → IsAmong m i q
+among_all m i q past some =
+    let place = place_of m q some in
+    let many = many_keys (entries m) (points_of (entries m)) refl in
+    record {
+      index = place.index;
+      early = omega (arith, place.in_range, past);
+      in_range = omega (arith, place.in_range, many);
+      is = key_at (entries m) (points_of (entries m)) refl place.index (q, at m q) q place.in_range ∙ place.is;
+    }
 
 -- f is the part of m at the first entries that satisfy P, and at the points that satisfy B
 pub record IsPartUpTo (m : DeltaValue) (P B : Pointstamp → Type 0) (i : ℕ) (f : DeltaValue) : Type 0 where
@@ -35,46 +40,27 @@ pub record IsCountUpTo (m : DeltaValue) (P B : Pointstamp → Type 0) (i n : ℕ
   pub many : size part ≡ n
 
 module _ (m : DeltaValue) (P B : Pointstamp → Type 0) where
-  pub later : (i : ℕ) (q : Pointstamp) → IsAmong m i q → IsAmong m (i + 1) q
-  later i q among = record { index = among.index; early = omega (arith, among.early); in_range = among.in_range; is = among.is }
-
   module _ (i : ℕ) (x : Pointstamp × ℤ) (lt : i < length (entries m)) (is : x ≡ get_or (entries m) i x) where
-    pub last : IsAmong m (i + 1) x.0
-    last = record { index = i; early = omega arith; in_range = lt; is = ap (λ y. y.0) (get_or_default (entries m) i (x.0, pos 0) x lt ∙ sym is) }
-
-    pub split : (q : Pointstamp) → IsAmong m (i + 1) q → IsAmong m i q ⊎ (q ≡ x.0)
-    split q among = elim (cases_lt among.index i) [
-      | inl before ↦ inl (record { index = among.index; early = before; in_range = among.in_range; is = among.is })
-      | inr at_least ↦
-          let same : among.index ≡ i = omega (arith, at_least, among.early) in
-          inr (sym among.is ∙ ap (λ k. (get_or (entries m) k (q, pos 0)).0) same ∙ ap (λ y. y.0) (get_or_default (entries m) i (q, pos 0) x lt ∙ sym is))
-    ]
-
-    pub fresh : IsAmong m i x.0 → ⊥
-    fresh among =
-        let d : Pointstamp × ℤ = (x.0, pos 0) in
-        let rise : point_cmp (get_or (entries m) among.index d).0 (get_or (entries m) i d).0 ≡ Less = rises point_cmp point_total (entries m) (sorted-entries m) among.index i d among.early lt in
-        let second : (get_or (entries m) i d).0 ≡ x.0 = ap (λ y. y.0) (get_or_default (entries m) i d x lt ∙ sym is) in
-        let tied : point_cmp (get_or (entries m) among.index d).0 (get_or (entries m) i d).0 ≡ Equal = (λ j. point_cmp (among.is j) (second j)) ∙ tied_itself point_total x.0 in
-        absurd (cc (rise, tied))
+    next : IsNext (points_of (entries m)) i x.0
+    next = next_key (entries m) (points_of (entries m)) refl (sorted-entries m) i x lt is
 
     -- the new entry's point has no entry yet
     pub part_fresh : (f : DeltaValue) → (B x.0 → ⊥) → IsPartUpTo m P B i f → at f x.0 ≡ pos 0
     part_fresh f never part = elim (zero_or_not (at f x.0)) [
       | inl e ↦ e
-      | inr some ↦ elim (part.early x.0 some) [ inl among ↦ absurd (fresh among) | inr base ↦ absurd (never base) ]
+      | inr some ↦ elim (part.early x.0 some) [ inl among ↦ absurd (next.fresh among) | inr base ↦ absurd (never base) ]
     ]
 
     -- an entry that does not satisfy P, unless it satisfies B
     pub part_skip : (f : DeltaValue) → (P x.0 → B x.0) → IsPartUpTo m P B i f → IsPartUpTo m P B (i + 1) f
     part_skip f never part = record {
-      all = λ q among p. elim (split q among) [
+      all = λ q among p. elim (split _ i x.0 next q among) [
         | inl before ↦ part.all q before p
         | inr here ↦ part.base q (subst B (sym here) (never (subst P here p)))
       ];
       base = part.base;
       some = part.some;
-      early = λ q some. elim (part.early q some) [ inl among ↦ inl (later i q among) | inr base ↦ inr base ];
+      early = λ q some. elim (part.early q some) [ inl among ↦ inl (later _ i q among) | inr base ↦ inr base ];
     }
 
     one_of : (b : Bool) (y z w : ℤ) → (b ≡ true → y ≡ w) → (b ≡ false → z ≡ w) → cond b y z ≡ w
@@ -88,7 +74,7 @@ module _ (m : DeltaValue) (P B : Pointstamp → Type 0) where
           value q
           ∙ one_of (is_point q x.0) x.1 (at f q) (at m q)
           (λ e. at-index m i x lt is ∙ ap (at m) (sym (tells_apart point_exact q x.0 e)))
-          (λ e. elim (split q among) [ inl before ↦ part.all q before k | inr here ↦ absurd (apart q e here) ]);
+          (λ e. elim (split _ i x.0 next q among) [ inl before ↦ part.all q before k | inr here ↦ absurd (apart q x.0 e here) ]);
       base = λ q b.
           value q
           ∙ one_of (is_point q x.0) x.1 (at f q) (at m q)
@@ -96,23 +82,19 @@ module _ (m : DeltaValue) (P B : Pointstamp → Type 0) where
           (λ e. part.base q b);
       some = λ q some. elim (reached q some) [ inl here ↦ subst P (sym here) p | inr old ↦ part.some q old ];
       early = λ q some. elim (reached q some) [
-        | inl here ↦ inl (subst (IsAmong m (i + 1)) (sym here) last)
-        | inr old ↦ elim (part.early q old) [ inl among ↦ inl (later i q among) | inr base ↦ inr base ]
+        | inl here ↦ inl (subst (IsAmong m (i + 1)) (sym here) (last _ i x.0 next))
+        | inr old ↦ elim (part.early q old) [ inl among ↦ inl (later _ i q among) | inr base ↦ inr base ]
       ];
     }
       where
         value : (q : Pointstamp) → at g q ≡ cond (is_point q x.0) x.1 (at f q)
         value q = ap (λ c. at c q) set_is ∙ at-set f x.0 x.1 q
 
-        apart : (q : Pointstamp) → is_point q x.0 ≡ false → q ≡ x.0 → ⊥
-        apart q e here = true≢false (sym (ap (λ z. is_point z x.0) here ∙ ap is_eq (tied_itself point_total x.0)) ∙ e)
-
         reached : (q : Pointstamp) → at g q ≢ pos 0 → (q ≡ x.0) ⊎ (at f q ≢ pos 0)
-        reached q some = by (is_point q x.0) refl
-          where
-            by : (b : Bool) → is_point q x.0 ≡ b → (q ≡ x.0) ⊎ (at f q ≢ pos 0)
-            by true e = inl (tells_apart point_exact q x.0 e)
-            by false e = inr (λ z. some (value q ∙ ap (λ a. cond a x.1 (at f q)) e ∙ z))
+        reached q some = elim (alike q x.0) [
+          | inl here ↦ inl here
+          | inr other ↦ inr (λ z. some (value q ∙ ap (λ a. cond a x.1 (at f q)) other ∙ z))
+        ]
 
     pub count_skip : (n : ℕ) → (P x.0 → B x.0) → IsCountUpTo m P B i n → IsCountUpTo m P B (i + 1) n
     count_skip n never counted = record { part = counted.part; is_part = part_skip counted.part never counted.is_part; many = counted.many }
@@ -142,11 +124,7 @@ module _ (m : DeltaValue) (P B : Pointstamp → Type 0) where
   count_done n i past has counted = (
     counted.part,
     record {
-      all = λ q p.
-          let place = place_of m q (has q p) in
-          counted.is_part.all q
-          (record { index = place.index; early = omega (arith, place.in_range, past); in_range = place.in_range; is = ap (λ y. y.0) (get_or_default (entries m) place.index (q, pos 0) (q, at m q) place.in_range) ∙ place.is })
-          p;
+      all = λ q p. counted.is_part.all q (among_all m i q past (has q p)) p;
       only = counted.is_part.some;
     },
     counted.many,

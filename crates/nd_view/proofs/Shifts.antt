@@ -1,30 +1,22 @@
 -- Precursor counts that are moved by one, entry by entry.
-use Rattle.std.proofs.Common.{◌≡◌, ◌<◌, ◌≤◌, ◌+◌, ℕ, Bool, true, false, cond, List, length, get_or, Option, Some, None, refl, sym, ap, subst, ◌∙◌, ◌⊎◌, inl, inr, Less, Equal, arith}
+use Rattle.std.proofs.Common.{◌≡◌, ◌<◌, ◌≤◌, ◌+◌, ℕ, Bool, true, false, cond, List, length, get_or, Option, Some, None, refl, sym, ap, subst, ◌∙◌, inl, inr, arith}
 use Rattle.std.specs.FinMap.{find, put}
-use Rattle.std.specs.FinMap.Entries.{find-put, length-put, length_without}
+use Rattle.std.specs.FinMap.Entries.{length-put, length_without}
 use Rattle.std.specs.Option.{is_some}
-use Rattle.std.proofs.lemmas.Bool.{cases_lt}
-use Rattle.std.proofs.lemmas.Cmp.{tied_itself}
-use Rattle.std.proofs.lemmas.List.{get_or-map, get_or_default, length-map}
 use Rattle.nd_map.specs.Counts.{keys_of}
-use Rattle.nd_map.specs.Entries.{rises, find-index, found_at}
+use Rattle.nd_map.specs.Entries.{find-index, found_at}
 use Rattle.nd_map.specs.Listed.{IsListed, without}
 use Rattle.nd_graph.specs.Graph.{Dataflow}
 use Rattle.nd_paths.specs.Order.{IsStrictlyBefore}
 use Rattle.nd_paths.specs.Point.{point_cmp, point_total, point_exact}
 use Rattle.nd_paths.specs.declared.point.Pointstamp.{Pointstamp}
-use Rattle.nd_delta.specs.Delta.{DeltaValue, at, size, is_point}
+use Rattle.nd_delta.specs.Delta.{DeltaValue, at, size}
 use Rattle.nd_view.specs.View.{IsPrecursor}
 use Rattle.nd_view.specs.Kept.{IsKeptAt, IsMovable, IsReady, moved}
+use Rattle.nd_view.proofs.Early.{IsEarly, IsNext, later, last, split, many_keys, key_at, next_key}
 use Rattle.nd_view.proofs.Fors.{signed}
-use Rattle.nd_view.proofs.Moves.{alike, apart, itself, count_small}
+use Rattle.nd_view.proofs.Moves.{alike, apart, found_put, found_other, count_small}
 use Rattle.nd_map.specs.Cases.{not_zero}
-
-pub found_put : (q k : Pointstamp) (n : ℕ) (es : List (Pointstamp × ℕ)) → q ≡ k → find point_cmp q (put point_cmp k n es) ≡ Some n
-found_put q k n es same = find-put point_cmp point_total q k n es ∙ ap (λ b. cond b (Some n) (find point_cmp q es)) (ap (λ z. is_point z k) same ∙ itself k)
-
-pub found_other : (q k : Pointstamp) (n : ℕ) (es : List (Pointstamp × ℕ)) → is_point q k ≡ false → find point_cmp q (put point_cmp k n es) ≡ find point_cmp q es
-found_other q k n es other = find-put point_cmp point_total q k n es ∙ ap (λ b. cond b (Some n) (find point_cmp q es)) other
 
 -- a put adds at most one entry
 pub size_grown : (es fs : List (Pointstamp × ℕ)) (k : Pointstamp) (i : ℕ) → IsListed point_cmp es → fs ≡ put point_cmp k i es → length fs ≤ length es + 1
@@ -41,26 +33,11 @@ size_without es fs k listed e =
     let same = ap length e in
     omega (arith, counted, same)
 
--- one of the first keys
-pub record IsEarly (ks : List Pointstamp) (i : ℕ) (q : Pointstamp) : Type 0 where
-  pub index : ℕ
-  pub early : index < i
-  pub in_range : index < length ks
-  pub is : get_or ks index q ≡ q
-
--- there are as many keys as entries
-pub many_keys : (es : List (Pointstamp × ℕ)) (ks : List Pointstamp) → keys_of es ≡ ks → length es ≡ length ks
-many_keys es ks keys = sym (length-map es (λ e. e.0)) ∙ ap length keys
-
--- the key of an entry
-key_at : (es : List (Pointstamp × ℕ)) (ks : List Pointstamp) (i : ℕ) (d : Pointstamp × ℕ) (q : Pointstamp) → keys_of es ≡ ks → i < length es → get_or ks i q ≡ (get_or es i d).0
-key_at es ks i d q keys lt = ap (λ l. get_or l i q) (sym keys) ∙ get_or-map (λ e. e.0) es i d q lt
-
 -- entries of which only the values have changed
 pub same_key : (es fs : List (Pointstamp × ℕ)) (i : ℕ) (d : Pointstamp × ℕ) → keys_of fs ≡ keys_of es → i < length es → (get_or fs i d).0 ≡ (get_or es i d).0
 same_key es fs i d keys lt =
     let many = many_keys fs (keys_of es) keys ∙ sym (many_keys es (keys_of es) refl) in
-    sym (key_at fs (keys_of es) i d d.0 keys (omega (arith, lt, many))) ∙ key_at es (keys_of es) i d d.0 refl lt
+    sym (key_at fs (keys_of es) keys i d d.0 (omega (arith, lt, many))) ∙ key_at es (keys_of es) refl i d d.0 lt
 
 module _ (g : Dataflow) (m : DeltaValue) (x : Pointstamp) (up : Bool) where
   -- the first keys have their counts, and those of the others are ready to be moved
@@ -93,40 +70,14 @@ module _ (g : Dataflow) (m : DeltaValue) (x : Pointstamp) (up : Bool) where
       by false k = k.1
 
   module _ (ks : List Pointstamp) (i : ℕ) (es : List (Pointstamp × ℕ)) (h : IsShifted ks i es) (e : Pointstamp × ℕ) (lt : i < length es) (is : e ≡ get_or es i e) where
-    here : get_or ks i e.0 ≡ e.0
-    here = key_at es ks i e e.0 h.keys lt ∙ ap (λ y. y.0) (sym is)
-
-    in_keys : i < length ks
-    in_keys = let many = many_keys es ks h.keys in omega (arith, lt, many)
-
-    -- the entry's key is not among the first
-    fresh : IsEarly ks i e.0 → ⊥
-    fresh early =
-        let k = early.index in
-        let before : (get_or es k e).0 ≡ e.0 = sym (key_at es ks k e e.0 h.keys (omega (arith, early.early, lt))) ∙ early.is in
-        let rise : point_cmp (get_or es k e).0 (get_or es i e).0 ≡ Less = rises point_cmp point_total es h.listed k i e early.early lt in
-        let tied : point_cmp (get_or es k e).0 (get_or es i e).0 ≡ Equal = (λ j. point_cmp (before j) (ap (λ y. y.0) (sym is) j)) ∙ tied_itself point_total e.0 in
-        absurd (cc (rise, tied))
-
-    later : (q : Pointstamp) → IsEarly ks i q → IsEarly ks (i + 1) q
-    later q early = record { index = early.index; early = omega (arith, early.early); in_range = early.in_range; is = early.is }
-
-    last : IsEarly ks (i + 1) e.0
-    last = record { index = i; early = omega arith; in_range = in_keys; is = here }
-
-    split : (q : Pointstamp) → IsEarly ks (i + 1) q → IsEarly ks i q ⊎ (q ≡ e.0)
-    split q early = elim (cases_lt early.index i) [
-      | inl before ↦ inl (record { index = early.index; early = before; in_range = early.in_range; is = early.is })
-      | inr at_least ↦
-          let same : early.index ≡ i = omega (arith, at_least, early.early) in
-          inr (sym early.is ∙ ap (λ k. get_or ks k q) same ∙ get_or_default ks i q e.0 in_keys ∙ here)
-    ]
+    next : IsNext ks i e.0
+    next = next_key es ks h.keys h.listed i e lt is
 
     -- what is stored for the key before it is moved
     waiting : IsReady g m x up e.0 (Some e.1)
     waiting =
         let found : find point_cmp e.0 es ≡ Some e.1 = ap (λ y. find point_cmp y.0 es) is ∙ find-index point_cmp point_total es i e h.listed lt ∙ ap (λ y. Some y.1) (sym is) in
-        subst (IsReady g m x up e.0) found (h.rest e.0 fresh)
+        subst (IsReady g m x up e.0) found (h.rest e.0 next.fresh)
 
     pub movable : IsStrictlyBefore g x e.0 → IsMovable g m e.0 up (Some e.1)
     movable before = elim (signed (at m e.0)) [
@@ -138,11 +89,11 @@ module _ (g : Dataflow) (m : DeltaValue) (x : Pointstamp) (up : Bool) where
     shifted_skip never = record {
       keys = h.keys;
       listed = h.listed;
-      done = λ q early. elim (split q early) [
+      done = λ q early. elim (split ks i e.0 next q early) [
         | inl before ↦ h.done q before
-        | inr same ↦ subst (λ y. IsKeptAt g m y (find point_cmp y es)) (sym same) ((h.rest e.0 fresh).others (λ both. never both.1))
+        | inr same ↦ subst (λ y. IsKeptAt g m y (find point_cmp y es)) (sym same) ((h.rest e.0 next.fresh).others (λ both. never both.1))
       ];
-      rest = λ q none. h.rest q (λ early. none (later q early));
+      rest = λ q none. h.rest q (λ early. none (later ks i q early));
     }
 
     pub shifted_take : (fs : List (Pointstamp × ℕ)) → ((d : Pointstamp × ℕ) → fs ≡ put point_cmp (get_or es i d).0 (moved up e.1) es) → keys_of fs ≡ keys_of es → IsListed point_cmp fs → IsMovable g m e.0 up (Some e.1) → IsShifted ks (i + 1) fs
@@ -154,14 +105,14 @@ module _ (g : Dataflow) (m : DeltaValue) (x : Pointstamp) (up : Bool) where
           listed = listed;
           done = λ q early. elim (alike q e.0) [
             | inl same ↦ subst (IsKeptAt g m q) (sym (ap (find point_cmp q) put_is ∙ found_put q e.0 n es same)) (subst (λ y. IsKeptAt g m y (Some n)) (sym same) (arrived e.0 e.1 ready))
-            | inr other ↦ elim (split q early) [
+            | inr other ↦ elim (split ks i e.0 next q early) [
               | inl before ↦ subst (IsKeptAt g m q) (sym (ap (find point_cmp q) put_is ∙ found_other q e.0 n es other)) (h.done q before)
               | inr same ↦ absurd (apart q e.0 other same)
             ]
           ];
           rest = λ q none. elim (alike q e.0) [
-            | inl same ↦ absurd (none (subst (IsEarly ks (i + 1)) (sym same) last))
-            | inr other ↦ subst (IsReady g m x up q) (sym (ap (find point_cmp q) put_is ∙ found_other q e.0 n es other)) (h.rest q (λ early. none (later q early)))
+            | inl same ↦ absurd (none (subst (IsEarly ks (i + 1)) (sym same) (last ks i e.0 next)))
+            | inr other ↦ subst (IsReady g m x up q) (sym (ap (find point_cmp q) put_is ∙ found_other q e.0 n es other)) (h.rest q (λ early. none (later ks i q early)))
           ];
         }
 
@@ -173,7 +124,7 @@ module _ (g : Dataflow) (m : DeltaValue) (x : Pointstamp) (up : Bool) where
       absent none early =
           let within : early.index < length es = let many = many_keys es ks h.keys in omega (arith, early.in_range, many) in
           let d : Pointstamp × ℕ = (q, 0) in
-          let key : (get_or es early.index d).0 ≡ q = sym (key_at es ks early.index d q h.keys within) ∙ early.is in
+          let key : (get_or es early.index d).0 ≡ q = sym (key_at es ks h.keys early.index d q within) ∙ early.is in
           let found = ap (λ k. find point_cmp k es) (sym key) ∙ find-index point_cmp point_total es early.index d h.listed within in
           absurd (cc (none, found))
 
@@ -187,5 +138,5 @@ module _ (g : Dataflow) (m : DeltaValue) (x : Pointstamp) (up : Bool) where
             index = found.index;
             early = omega (arith, found.in_range, past);
             in_range = let many = many_keys es ks h.keys in omega (arith, found.in_range, many);
-            is = key_at es ks found.index (q, n) q h.keys found.in_range ∙ ap (λ y. y.0) found.is;
+            is = key_at es ks h.keys found.index (q, n) q found.in_range ∙ ap (λ y. y.0) found.is;
           })

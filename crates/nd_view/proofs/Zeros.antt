@@ -1,5 +1,5 @@
 -- The list of the points whose precursor count is 0, updated as the counts change one by one.
-use Rattle.std.proofs.Common.{eqb, ◌≡◌, ◌≢◌, ◌<◌, ◌≤◌, ℕ, zero, suc, Bool, true, false, cond, not, List, [], ◌∷◌, ◌++◌, length, get_or, Option, Some, None, refl, sym, ap, subst, ◌∙◌, inl, inr, arith}
+use Rattle.std.proofs.Common.{eqb, ◌≡◌, ◌≢◌, ◌<◌, ◌≤◌, ℕ, zero, suc, Bool, true, false, cond, not, List, [], ◌∷◌, ◌++◌, length, get_or, Option, Some, refl, sym, ap, subst, ◌∙◌, inl, inr, arith}
 use Rattle.std.specs.Prelude.{Contains, IsTrue, ◌↔◌}
 use Rattle.std.specs.List.{filter}
 use Rattle.std.specs.FinMap.{find, put}
@@ -8,13 +8,12 @@ use Rattle.std.proofs.lemmas.List.Elements.{All-contains, All-contains_itself, A
 use Rattle.nd_map.specs.Counts.{keys_of}
 use Rattle.nd_map.specs.Entries.{find-index}
 use Rattle.nd_map.specs.Listed.{IsListed, without}
-use Rattle.nd_map.specs.Maps.{find-without}
 use Rattle.nd_paths.specs.Point.{point_cmp, point_total}
 use Rattle.nd_paths.specs.declared.point.Pointstamp.{Pointstamp}
 use Rattle.nd_delta.specs.Delta.{is_point}
 use Rattle.nd_view.specs.Kept.{IsFrontierList, IsFrontierBut}
-use Rattle.nd_view.proofs.Moves.{alike, apart, itself}
-use Rattle.nd_view.proofs.Shifts.{found_other, found_put, many_keys}
+use Rattle.nd_view.proofs.Early.{many_keys}
+use Rattle.nd_view.proofs.Moves.{alike, apart, itself, found_put, found_other, found_still}
 
 stays_behind : {X : Type 0} (b : Bool) (x : X) (xs : List X) (q : X) → Contains xs q → Contains (cond b (x ∷ xs) xs) q
 stays_behind true x xs q among = (suc among.0, omega (arith, among.1), among.2)
@@ -88,30 +87,11 @@ module _ (es fs : List (Pointstamp × ℕ)) (frontier : List Pointstamp) (x : Po
   pub right_but : IsFrontierBut fs frontier x
   right_but = record { all = λ q ne e. h.all q (sym (same q ne) ∙ e); only = λ q ne among. same q ne ∙ h.only q among }
 
-  pub still_right : (space : ℕ) → (find point_cmp x es ≡ Some 0 → ⊥) → (find point_cmp x fs ≡ Some 0 → ⊥) → length fs ≤ space → IsFrontierList fs frontier space
-  still_right space was is enough = record {
-    all = λ q e. elim (alike q x) [
-      | inl one ↦ absurd (is (ap (λ z. find point_cmp z fs) (sym one) ∙ e))
-      | inr other ↦ right_but.all q (apart q x other) e
-    ];
-    only = λ q among. elim (alike q x) [
-      | inl one ↦ absurd (was (ap (λ z. find point_cmp z es) (sym one) ∙ h.only q among))
-      | inr other ↦ right_but.only q (apart q x other) among
-    ];
-    enough = enough;
-  }
-
 pub same_put : (es : List (Pointstamp × ℕ)) (x : Pointstamp) (n : ℕ) (q : Pointstamp) → q ≢ x → find point_cmp q (put point_cmp x n es) ≡ find point_cmp q es
 same_put es x n q ne = elim (alike q x) [ inl same ↦ absurd (ne same) | inr other ↦ found_other q x n es other ]
 
 pub same_without : (es : List (Pointstamp × ℕ)) (x q : Pointstamp) → q ≢ x → find point_cmp q (without point_cmp x es) ≡ find point_cmp q es
-same_without es x q ne = elim (alike q x) [
-  | inl same ↦ absurd (ne same)
-  | inr other ↦ find-without point_cmp point_total q x es ∙ ap (λ b. cond b None (find point_cmp q es)) other
-]
-
-pub none_without : (es : List (Pointstamp × ℕ)) (x : Pointstamp) → find point_cmp x (without point_cmp x es) ≡ None
-none_without es x = find-without point_cmp point_total x x es ∙ ap (λ b. cond b None (find point_cmp x es)) (itself x)
+same_without es x q ne = elim (alike q x) [ inl same ↦ absurd (ne same) | inr other ↦ found_still q x es other ]
 
 -- the count that a lookup finds is 0 if the number is 0
 pub zero_told : (n : ℕ) (o : Option ℕ) → o ≡ Some n → (IsTrue (eqb n 0) ↔ (o ≡ Some 0))
@@ -134,6 +114,3 @@ module _ (es fs : List (Pointstamp × ℕ)) (i n : ℕ) (e : Pointstamp × ℕ) 
 
 pub same_length : (es fs : List (Pointstamp × ℕ)) → keys_of fs ≡ keys_of es → length fs ≡ length es
 same_length es fs keys = many_keys fs (keys_of es) keys ∙ sym (many_keys es (keys_of es) refl)
-
-pub not_zero_told : (o : Option ℕ) (n : ℕ) → o ≡ Some n → n ≢ 0 → o ≡ Some 0 → ⊥
-not_zero_told o n e some z = some (let one : Some n ≡ Some 0 = sym e ∙ z in cc)

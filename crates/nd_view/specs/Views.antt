@@ -2,14 +2,12 @@
 --     maps, AreFor              their maps;  the precursor counts of each view are those of the graph
 --     maps-get, maps-set        the map of one view, and the maps after one view is replaced
 --     for_set                   the counts are still those of the graph after one view is replaced
---     same_all                  the lists are equal if their maps are
 use Rattle.std.proofs.Common.{◌≡◌, ◌<◌, ℕ, zero, suc, List, [], ◌∷◌, length, map, get_or, set, refl, ap, sym, ◌∙◌, arith}
 use Rattle.std.specs.Prelude.{All}
 use Rattle.std.proofs.lemmas.List.{get_or-map}
 use Rattle.nd_graph.specs.Graph.{Dataflow}
 use Rattle.nd_delta.specs.Delta.{DeltaValue}
 use Rattle.nd_view.specs.Kept.{Kept, IsFor}
-use Rattle.nd_view.specs.Settled.{same_views}
 
 -- the maps of views, without their precursor counts
 abbrev pub maps : List Kept → List DeltaValue
@@ -38,14 +36,3 @@ pub for_set : (g : Dataflow) (vs : List Kept) (q : ℕ) (v : Kept) → AreFor g 
 for_set g [] q v h for = h
 for_set g (w ∷ vs) zero v h for = for_cons g v vs for (for_tail g w vs h)
 for_set g (w ∷ vs) (suc q) v h for = for_cons g w (set vs q v) (h 0 w (omega arith)) (for_set g vs q v (for_tail g w vs h) for)
-
-pub same_all : (g : Dataflow) (vs ws : List Kept) → AreFor g vs → AreFor g ws → maps vs ≡ maps ws → vs ≡ ws
-same_all g [] [] a b e = refl
-same_all g [] (w ∷ ws) a b e = absurd (cc)
-same_all g (v ∷ vs) [] a b e = absurd (cc)
-same_all g (v ∷ vs) (w ∷ ws) a b e =
-    let first : v.map ≡ w.map = cc in
-    let rest : maps vs ≡ maps ws = cc in
-    let head = same_views g v w (a 0 v (omega arith)) (b 0 w (omega arith)) first in
-    let tail = same_all g vs ws (for_tail g v vs a) (for_tail g w ws b) rest in
-    λ i. head i ∷ tail i

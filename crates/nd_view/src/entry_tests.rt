@@ -1,6 +1,6 @@
 //! Tests of single entries.
 
-ghost use Rattle.std.specs.Prelude.{◌↔◌, ◌<ℤ◌, pos, IsTrue};
+ghost use Rattle.std.specs.Prelude.{◌↔◌, ◌<ℤ◌, pos, Any, IsTrue};
 ghost use Rattle.nd_view.specs.View.{IsBefore};
 ghost use Rattle.nd_view.specs.Room.{IsWithinRoom};
 
@@ -21,6 +21,20 @@ pub fn is_before<B: Allocator>(
     } else {
         paths.before(first, point)
     }
+}
+
+/// Returns whether one of the pointstamps is at or before `point` or, if `strictly`, strictly before it.
+pub fn any_before<B: Allocator>(
+    points: &[Pointstamp],
+    paths: &Paths<B>,
+    point: &Pointstamp,
+    strictly: bool,
+) -> bool
+    ensures { IsTrue result ↔ Any (λ x. IsBefore paths.now strictly x point.now) points.now }
+{
+    points
+        .iter()
+        .any(|one: &Pointstamp| is_before(one, paths, point, strictly))
 }
 
 /// Returns whether an entry is positive and at or before `point` or, if `strictly`, strictly before it.

@@ -2,12 +2,12 @@
 //! number of positive ones strictly before it (Naiad, SOSP 2013, section 3.3).
 #![tactic(auto)]
 
+mod adding;
 mod arrivals;
 mod entry_tests;
 mod keeping;
 mod links;
 mod precursor_counts;
-mod stored;
 
 ghost use Rattle.std.specs.Prelude.{◌≡◌, ◌↔◌, ◌≤◌, unsigned_abs, OnOk, OnErr, IfOk, IfSome, IsNone, IsTrue, Err};
 ghost use Rattle.nd_time.specs.Limits.{max_count};
@@ -20,12 +20,13 @@ ghost use Rattle.nd_view.specs.View.{IsPassed, IsBlocker, IsPrecursor, IsOnFront
 ghost use Rattle.nd_view.specs.Kept.{Kept, IsKeptAt, IsFor};
 
 pub use entry_tests::is_before;
-use entry_tests::is_positive_before;
+use entry_tests::{any_before, is_positive_before};
+use keeping::counted_anew;
 use nd_delta::{Delta, DeltaFault};
 use nd_paths::{Paths, Pointstamp};
+use precursor_counts::PrecursorCounts;
 use std::alloc::{AllocError, Allocator, Global};
 use std::marker::Model;
-use stored::Stored;
 
 // A change with more entries rebuilds the complete view: the lists are merged, and each precursor count is
 // counted once.
@@ -33,18 +34,11 @@ const MANY: usize = 200;
 
 /// A finite map from pointstamps to counts other than 0, which may be negative for a while, and for each
 /// positive pointstamp its precursor count: the number of positive ones strictly before it.
+#[derive(Drop)]
 pub struct View<A: Allocator + Copy = Global> {
-    stored: Stored<A>,
+    counts: Delta<A>,
+    precursor_counts: PrecursorCounts<A>,
     alloc: A,
-}
-
-impl<A: Allocator + Copy> Drop for View<A> {
-    fn drop(self) {
-        let View {
-            stored: _,
-            alloc: _,
-        } = self;
-    }
 }
 
 impl<A: Allocator + Copy> Model for View<A> {
@@ -54,7 +48,7 @@ impl<A: Allocator + Copy> Model for View<A> {
 
     ghost coded = { kept_code };
 
-    ghost view = { λ a. a.stored };
+    ghost view = { λ a. record { map = a.counts; counts = a.precursor_counts } };
 }
 
 impl<A: Allocator + Copy> View<A> {
@@ -64,7 +58,8 @@ impl<A: Allocator + Copy> View<A> {
         ensures for_all { (g : Dataflow) → IsFor g result }
     {
         View {
-            stored: Stored::new(alloc),
+            counts: Delta::new(alloc),
+            precursor_counts: PrecursorCounts::new(alloc),
             alloc,
         }
     }
@@ -74,7 +69,7 @@ impl<A: Allocator + Copy> View<A> {
         ensures value { result ≡ at self.now.map point.now }
         ensures within { unsigned_abs result ≤ max_count }
     {
-        self.stored.counts().get(point)
+        self.counts.get(point)
     }
 
     /// Returns the entries in the order of listing.
@@ -82,7 +77,7 @@ impl<A: Allocator + Copy> View<A> {
         ensures listed { result.now ≡ listed self.now.map }
         ensures within { IsWithin self.now.map }
     {
-        self.stored.counts().entries()
+        self.counts.entries()
     }
 
     /// Returns the precursor count of a positive pointstamp by the paths of the earlier calls, and `None` for
@@ -90,7 +85,7 @@ impl<A: Allocator + Copy> View<A> {
     pub fn kept(&self, point: &Pointstamp) -> Option<u64>
         ensures { (g : Dataflow) → IsFor g self.now → IsKeptAt g self.now.map point.now result }
     {
-        self.stored.kept(point)
+        self.precursor_counts.get(point)
     }
 
     /// States that the map determines the precursor counts: two views of one order are equal if their maps
@@ -99,7 +94,7 @@ impl<A: Allocator + Copy> View<A> {
         ensures { (g : Dataflow) (v : Kept) → IsFor g v → IsFor g self.now
             → v.map ≡ self.now.map → v ≡ self.now }
     {
-        let _ = &self.stored;
+        let _ = &self.counts;
     }
 
     /// Returns an equal view.
@@ -107,7 +102,8 @@ impl<A: Allocator + Copy> View<A> {
         ensures { IfOk result (λ v. v ≡ self.now) }
     {
         Ok(View {
-            stored: self.stored.copy(alloc)?,
+            counts: self.counts.copy(alloc)?,
+            precursor_counts: self.precursor_counts.copy(alloc)?,
             alloc,
         })
     }
@@ -126,11 +122,12 @@ impl<A: Allocator + Copy> View<A> {
         ensures full { (result ≡ Err (DeltaFault.DeltaFull))
             ↔ IsTooLarge (combined minus self.old.map delta.now) }
     {
-        let counts = self.stored.counts().combine(self.alloc, delta, minus)?;
-        let Ok(stored) = Stored::of(self.alloc, counts, paths) else {
+        let counts = self.counts.combine(self.alloc, delta, minus)?;
+        let Ok(precursor_counts) = counted_anew(self.alloc, &counts, paths) else {
             return Err(DeltaFault::Memory);
         };
-        self.stored = stored;
+        self.counts = counts;
+        self.precursor_counts = precursor_counts;
         Ok(())
     }
 
@@ -151,11 +148,11 @@ impl<A: Allocator + Copy> View<A> {
         if delta.len() > MANY {
             return self.change_anew(paths, delta, minus);
         }
-        if !self.stored.add(paths, delta.entries(), minus) {
-            return Err(self.stored.refusal(delta, minus));
+        if !self.add(paths, delta.entries(), minus) {
+            return Err(self.refusal(delta, minus));
         }
         // The entries are within the limit.
-        let _ = self.stored.counts().entries();
+        let _ = self.entries();
         Ok(())
     }
 
@@ -206,12 +203,7 @@ impl<A: Allocator + Copy> View<A> {
             × IsPositiveBefore paths.now self.now.map strictly point.now x) }
     {
         paths.order_is_partial();
-        for member in self.stored.frontier() {
-            if is_before(member, paths, point, strictly) {
-                return true;
-            }
-        }
-        false
+        any_before(self.precursor_counts.frontier(), paths, point, strictly)
     }
 
     // Returns the least positive pointstamp at or before `point` or, if `strictly`, strictly before it.
@@ -277,7 +269,7 @@ impl<A: Allocator + Copy> View<A> {
     {
         match self.kept(point) {
             Some(n) => n,
-            None => self.stored.count_before(paths, point),
+            None => self.count_before(paths, point),
         }
     }
 
@@ -293,6 +285,6 @@ impl<A: Allocator + Copy> View<A> {
             (IsPartWhere (IsOnFrontier _paths.now self.now.map) self.now.map) }
         ensures some { OnErr result ((x : Pointstamp) × IsOnFrontier _paths.now self.now.map x) }
     {
-        self.stored.counts().part(alloc, self.stored.frontier())
+        self.counts.part(alloc, self.precursor_counts.frontier())
     }
 }

@@ -17,18 +17,10 @@ use std::marker::Model;
 ///
 /// The pointstamps with number 0 are also in a list of their own, in no order, so that reading them does
 /// not visit the others.
+#[derive(Drop)]
 pub struct PrecursorCounts<A: Allocator = Global> {
     counts: SortedMap<Pointstamp, u64, A>,
     frontier: Vec<Pointstamp, A>,
-}
-
-impl<A: Allocator> Drop for PrecursorCounts<A> {
-    fn drop(self) {
-        let PrecursorCounts {
-            counts: _,
-            frontier: _,
-        } = self;
-    }
 }
 
 impl<A: Allocator> Model for PrecursorCounts<A> {
@@ -190,16 +182,14 @@ impl<A: Allocator> PrecursorCounts<A> {
     {
         let was = self.counts.entries()[index].1;
         self.counts.put_at(index, n);
-        if was == 0 || n == 0 {
-            let point = self.counts.entries()[index].0.copy();
-            set_right(
-                self.counts.entries(),
-                &mut self.frontier,
-                &point,
-                was == 0,
-                n == 0,
-            );
-        }
+        let counts = self.counts.entries();
+        set_right(
+            counts,
+            &mut self.frontier,
+            &counts[index].0,
+            was == 0,
+            n == 0,
+        );
     }
 
     /// Removes a pointstamp and its number, if it has one. It takes no memory.

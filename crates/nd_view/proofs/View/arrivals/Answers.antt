@@ -1,11 +1,12 @@
-use Rattle.std.proofs.Common.{◌≢◌, List, [], refl, sym, subst}
+use Rattle.std.proofs.Common.{◌≢◌, List, [], Result, Ok, Err, OnErr, refl, sym, subst}
 use Rattle.std.proofs.lemmas.List.Sorted.{IsPermutation-sym, Contains-permutation}
-use Rattle.std.proofs.lemmas.Result.{IfOk-weaker}
+use Rattle.std.proofs.lemmas.Result.{IfOk-weaker, on_err_weaker}
 use Rattle.nd_time.specs.Time.{Time}
 use Rattle.nd_view.specs.Arrivals.{AreReached, AreMinimal, HaveOneDepth}
 use Rattle.nd_delta.specs.Delta.{entries}
 use Rattle.nd_view.proofs.ArrivalLemmas.{one_depth, are_arrivals, are_exact, entry_of_time, entry_on_frontier}
-use Rattle.nd_view.proofs.Frontiers.{IsOrder, on_err, of_err}
+use Rattle.nd_view.proofs.Frontiers.{IsOrder}
+use Rattle.nd_view.proofs.View.arrivals.Given.{Over}
 use Rattle.nd_view.proofs.View.arrivals.Goals as goal
 
 pub minimal-requires-clause-depth : goal.minimal-requires-clause-depth
@@ -16,27 +17,28 @@ minimal-requires-clause-depth g c =
     let back = IsPermutation-sym times sorted c.sort_unstable.ensures.permutation in
     subst HaveOneDepth (sym c.deref.ensures.value) (λ s t i j. alike s t (Contains-permutation sorted times s back i) (Contains-permutation sorted times t back j))
 
+of_err : {X E Q : Type 0} (r : Result X E) → Q → OnErr r Q
+of_err (Ok x) q = tt
+of_err (Err e) q = q
+
+order : (g : Over) (c : goal.After-drop-frontier-inside-2 g) → IsOrder c.args.paths.now
+order g c = let laws = c.order_is_partial.ensures in record { transitive = laws.transitive; strict = laws.strict; minimal = laws.minimal }
+
+-- the times reached from the frontier
+reached : (g : Over) (c : goal.After-drop-frontier-inside-2 g) → AreReached c.args.paths.now (entries c.in_ok-frontier.frontier) c.args.location c.in_ok-times.times.items
+reached g c = subst (λ es. AreReached c.args.paths.now es c.args.location c.in_ok-times.times.items) c.entries.ensures.listed c.in_ok-times.ensures.value
+
 pub returns-clause-value : goal.returns-clause-value
 returns-clause-value g c =
-    let g' = c.args.paths.now in
-    let times : List Time = c.in_ok-times.times.items in
-    let sorted : List Time = c.sort_unstable.new.self.items in
-    let laws = c.order_is_partial.ensures in
-    let order : IsOrder g' = record { transitive = laws.transitive; strict = laws.strict; minimal = laws.minimal } in
-    let f = c.in_ok-frontier.frontier in
-    let reached : AreReached g' (entries f) c.args.location times = subst (λ es. AreReached g' es c.args.location times) c.entries.ensures.listed c.in_ok-times.ensures.value in
-    IfOk-weaker c.minimal.result _ _ (λ w least. are_arrivals g' order c.walks_lead_on.ensures c.args.self.now c.requires f c.in_ok-frontier.ensures.value c.args.location times sorted reached c.sort_unstable.ensures.permutation w.items (subst (λ l. AreMinimal l w.items) c.deref.ensures.value least)) c.minimal.ensures.value
+    IfOk-weaker c.minimal.result _ _ (λ w least.
+    are_arrivals c.args.paths.now (order g c) c.walks_lead_on.ensures c.args.self.now c.requires c.in_ok-frontier.frontier c.in_ok-frontier.ensures.value c.args.location c.in_ok-times.times.items c.sort_unstable.new.self.items
+    (reached g c) c.sort_unstable.ensures.permutation w.items (subst (λ l. AreMinimal l w.items) c.deref.ensures.value least)) c.minimal.ensures.value
 
 pub returns-clause-exact : goal.returns-clause-exact
 returns-clause-exact g c =
-    let g' = c.args.paths.now in
-    let times : List Time = c.in_ok-times.times.items in
-    let sorted : List Time = c.sort_unstable.new.self.items in
-    let laws = c.order_is_partial.ensures in
-    let order : IsOrder g' = record { transitive = laws.transitive; strict = laws.strict; minimal = laws.minimal } in
-    let f = c.in_ok-frontier.frontier in
-    let reached : AreReached g' (entries f) c.args.location times = subst (λ es. AreReached g' es c.args.location times) c.entries.ensures.listed c.in_ok-times.ensures.value in
-    IfOk-weaker c.minimal.result _ _ (λ w least. are_exact g' order c.walks_lead_on.ensures c.args.self.now c.requires f c.in_ok-frontier.ensures.value c.args.location times sorted reached c.sort_unstable.ensures.permutation w.items (subst (λ l. AreMinimal l w.items) c.deref.ensures.value least)) c.minimal.ensures.value
+    IfOk-weaker c.minimal.result _ _ (λ w least.
+    are_exact c.args.paths.now (order g c) c.walks_lead_on.ensures c.args.self.now c.requires c.in_ok-frontier.frontier c.in_ok-frontier.ensures.value c.args.location c.in_ok-times.times.items c.sort_unstable.new.self.items
+    (reached g c) c.sort_unstable.ensures.permutation w.items (subst (λ l. AreMinimal l w.items) c.deref.ensures.value least)) c.minimal.ensures.value
 
 pub returns-in_err-times-clause-some : goal.returns-in_err-times-clause-some
 returns-in_err-times-clause-some g c =
@@ -46,9 +48,6 @@ returns-in_err-times-clause-some g c =
 
 pub returns-clause-some : goal.returns-clause-some
 returns-clause-some g c =
-    let times : List Time = c.in_ok-times.times.items in
-    let sorted : List Time = c.sort_unstable.new.self.items in
     let f = c.in_ok-frontier.frontier in
-    let reached : AreReached c.args.paths.now (entries f) c.args.location times = subst (λ es. AreReached c.args.paths.now es c.args.location times) c.entries.ensures.listed c.in_ok-times.ensures.value in
-    on_err c.minimal.result (λ some. entry_on_frontier c.args.paths.now c.args.self.now.map f c.in_ok-frontier.ensures.value (entries f) refl
-    (entry_of_time c.args.paths.now (entries f) c.args.location times sorted reached c.sort_unstable.ensures.permutation (subst (λ l. l ≢ []) c.deref.ensures.value some))) c.minimal.ensures.some
+    on_err_weaker c.minimal.result (λ some. entry_on_frontier c.args.paths.now c.args.self.now.map f c.in_ok-frontier.ensures.value (entries f) refl
+    (entry_of_time c.args.paths.now (entries f) c.args.location c.in_ok-times.times.items c.sort_unstable.new.self.items (reached g c) c.sort_unstable.ensures.permutation (subst (λ l. l ≢ []) c.deref.ensures.value some))) c.minimal.ensures.some

@@ -1,4 +1,4 @@
-use Rattle.std.proofs.Common.{◌≡◌, ◌≤◌, refl, sym, ap, subst, ◌∙◌, arith, true≢false, unsigned_abs}
+use Rattle.std.proofs.Common.{◌≡◌, ◌≤◌, refl, sym, subst, arith, true≢false, unsigned_abs}
 use Rattle.nd_time.specs.Limits.{max_count}
 use Rattle.nd_map.specs.Listed.{IsListed}
 use Rattle.nd_paths.specs.Point.{point_cmp}
@@ -16,21 +16,21 @@ add-requires-clause-within g c = subst AreWithin (sym c.entries.ensures.listed) 
 
 pub returns-then-not-add-clause-err : goal.returns-then-not-add-clause-err
 returns-then-not-add-clause-err g c =
-    same_views c.args.paths.now c.add.new.self c.args.self.now c.add.ensures.paths c.requires (c.if-not-add.ensures.none (λ yes. true≢false (sym yes)) ∙ ap (λ v. v.map) c.self.view_is)
+    same_views c.args.paths.now c.add.new.self c.args.self.now c.add.ensures.paths c.requires (c.if-not-add.ensures.none (λ yes. true≢false (sym yes)))
 
 pub returns-clause-ok : goal.returns-clause-ok
 returns-clause-ok g c =
     let minus = c.args.minus in
+    let m = c.args.self.now.map in
     let n = c.add.new.self.map in
-    let added : IsAdded minus c.entries.result.now c.args.self.now.map n = subst (λ v. IsAdded minus c.entries.result.now v.map n) c.self.view_is (c.if-not-add.ensures.added refl) in
-    added_all minus c.args.delta.now c.args.self.now.map n (subst (λ es. IsAdded minus es c.args.self.now.map n) c.entries.ensures.listed added)
+    added_all minus c.args.delta.now m n (subst (λ es. IsAdded minus es m n) c.entries.ensures.listed (c.if-not-add.ensures.added refl))
 
 pub returns-clause-full : goal.returns-clause-full
 returns-clause-full g c =
     let minus = c.args.minus in
+    let m = c.args.self.now.map in
     let n = c.add.new.self.map in
-    let added : IsAdded minus c.entries.result.now c.args.self.now.map n = subst (λ v. IsAdded minus c.entries.result.now v.map n) c.self.view_is (c.if-not-add.ensures.added refl) in
-    let is : n ≡ combined minus c.args.self.now.map c.args.delta.now = added_all minus c.args.delta.now c.args.self.now.map n (subst (λ es. IsAdded minus es c.args.self.now.map n) c.entries.ensures.listed added) in (
+    let is : n ≡ combined minus m c.args.delta.now = added_all minus c.args.delta.now m n (subst (λ es. IsAdded minus es m n) c.entries.ensures.listed (c.if-not-add.ensures.added refl)) in (
       λ e. absurd (cc),
-      λ large. absurd (let within = subst (λ m. unsigned_abs (at m large.0) ≤ max_count) (c.counts.ensures ∙ is) (c.entries-2.ensures.within large.0) in omega (arith, within, large.1)),
+      λ large. absurd (let within = subst (λ d. unsigned_abs (at d large.0) ≤ max_count) is (c.entries-2.ensures.within large.0) in omega (arith, within, large.1)),
     )

@@ -1,16 +1,17 @@
-use Rattle.std.proofs.Common.{ap, ◌∙◌, subst, length}
+use Rattle.std.proofs.Common.{ap, subst, length}
+use Rattle.std.proofs.lemmas.Result.{IfOk-weaker, on_err_weaker}
 use Rattle.nd_view.specs.Kept.{IsFrontierList}
-use Rattle.nd_view.proofs.Frontiers.{frontier_part, frontier_some, if_ok, on_err}
+use Rattle.nd_view.proofs.Frontiers.{frontier_part, frontier_some}
 use Rattle.nd_view.proofs.View.frontier.Goals as goal
 
 pub returns-clause-value : goal.returns-clause-value
 returns-clause-value g c =
     let v = c.args.self.now in
     let listed = subst (λ k. IsFrontierList k.counts c.frontier.result.now (length k.counts)) c.self.view_is c.frontier.ensures in
-    if_ok c.part.result _ _ (frontier_part c.args._paths.now v c.requires c.counts.result.now (c.counts.ensures ∙ ap (λ k. k.map) c.self.view_is) c.frontier.result.now (length v.counts) listed) c.part.ensures.ok
+    IfOk-weaker c.part.result _ _ (frontier_part c.args._paths.now v c.requires c.self.inside.counts (ap (λ k. k.map) c.self.view_is) c.frontier.result.now (length v.counts) listed) c.part.ensures.ok
 
 pub returns-clause-some : goal.returns-clause-some
 returns-clause-some g c =
     let v = c.args.self.now in
     let listed = subst (λ k. IsFrontierList k.counts c.frontier.result.now (length k.counts)) c.self.view_is c.frontier.ensures in
-    on_err c.part.result (frontier_some c.args._paths.now v c.requires c.frontier.result.now (length v.counts) listed) c.part.ensures.some
+    on_err_weaker c.part.result (frontier_some c.args._paths.now v c.requires c.frontier.result.now (length v.counts) listed) c.part.ensures.some

@@ -5,7 +5,8 @@ use Rattle.nd_paths.specs.Point.{point_cmp}
 use Rattle.nd_map.specs.Counts.{keys_of}
 use Rattle.nd_view.specs.Links.{IsRun, AreSmaller}
 use Rattle.nd_view.proofs.Runs.{onward, in_run}
-use Rattle.nd_view.proofs.Shifts.{IsShifted, shifted_skip, shifted_take, shifted_done, same_key, movable, many_keys, room, some}
+use Rattle.nd_view.proofs.Early.{many_keys}
+use Rattle.nd_view.proofs.Shifts.{IsShifted, shifted_skip, shifted_take, shifted_done, same_key, movable, room, some}
 use Rattle.nd_view.proofs.keeping.shift.Goals as goal
 use Rattle.nd_view.proofs.keeping.shift.Goals.{then-is_strictly_before, else-is_strictly_before}
 

@@ -1,33 +1,13 @@
-use Rattle.std.proofs.Common.{◌≡◌, ◌∷◌, ◌≤◌, unsigned_abs, ◌∙◌, arith}
-use Rattle.std.specs.Map.Iter.{deref_pair}
-use Rattle.std.proofs.lemmas.Map.Iter.{rest_more}
-use Rattle.nd_time.specs.Limits.{max_count}
-use Rattle.nd_delta.specs.Delta.{at}
-use Rattle.nd_delta.proofs.Sums.{kept, made_first, made_more, made_next, made_last}
+use Rattle.std.proofs.Common.{ap, ◌∙◌}
+use Rattle.nd_delta.specs.Delta.{at, at-none}
+use Rattle.nd_delta.proofs.Sums.{minus_none}
 use Rattle.nd_delta.proofs.large.LargeDelta.whole.Goals as goal
 
-pub loop-point-init : goal.loop-point-init
-loop-point-init g c =
-    made_first c.args.self.now c.args.self.now c.into_iter-point-iterator.result c.new-made.result (c.into_iter-point-iterator.ensures.into_iter_gives ∙ c.iter-point-items.ensures.rest) c.new-made.ensures
-
-pub put-requires : goal.put-requires
-put-requires g c =
-    let m = c.args.self.now in
-    let step : c.loop-point.point-iterator ≡ (c.in-Some.point.now, c.in-Some.n.now) ∷ c.next.new.self
-    = rest_more deref_pair c.loop-point.point-iterator c.next.new.self c.next.result (c.in-Some.point, c.in-Some.n) c.in-Some.is c.next.ensures.steps in
-    let is : c.in-Some.n.now ≡ at m c.in-Some.point.now = made_next m m c.loop-point.point-iterator c.next.new.self (c.in-Some.point.now, c.in-Some.n.now) c.loop-point.made step c.loop-point.invariant in
-    let small : unsigned_abs c.in-Some.n.now ≤ max_count = rw is (c.iter-point-items.ensures.within c.in-Some.point.now) in
-    rw (kept c.in-Some.n.now (omega (arith, small))) small
-
-pub loop-point-preserved : goal.loop-point-preserved
-loop-point-preserved g c =
-    let m = c.args.self.now in
-    let step : c.loop-point.point-iterator ≡ (c.in-Some.point.now, c.in-Some.n.now) ∷ c.next.new.self
-    = rest_more deref_pair c.loop-point.point-iterator c.next.new.self c.next.result (c.in-Some.point, c.in-Some.n) c.in-Some.is c.next.ensures.steps in
-    let is : c.in-Some.n.now ≡ at m c.in-Some.point.now = made_next m m c.loop-point.point-iterator c.next.new.self (c.in-Some.point.now, c.in-Some.n.now) c.loop-point.made step c.loop-point.invariant in
-    let small : unsigned_abs c.in-Some.n.now ≤ max_count = rw is (c.iter-point-items.ensures.within c.in-Some.point.now) in
-    let set_is = rw (kept c.in-Some.n.now (omega (arith, small)), is) at c.in_ok-put.ensures.ok in
-    made_more m m c.loop-point.point-iterator c.next.new.self (c.in-Some.point.now, c.in-Some.n.now) c.loop-point.made c.put.new.self step c.loop-point.invariant set_is
+pub without-requires : goal.without-requires
+without-requires g c x some = absurd (some (ap (λ d. at d x) c.new.ensures ∙ at-none x))
 
 pub returns-clause-equal : goal.returns-clause-equal
-returns-clause-equal g c = made_last c.args.self.now c.args.self.now c.loop-point.point-iterator c.loop-point.made c.in-None.ensures.steps.0 (λ q e. e) c.loop-point.invariant
+returns-clause-equal g c =
+    let same = minus_none c.args.self.now in
+    let is = c.new.ensures in
+    simp (is, same) at c.without-2.ensures.ok

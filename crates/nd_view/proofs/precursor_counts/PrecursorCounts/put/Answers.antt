@@ -3,7 +3,8 @@ use Rattle.std.specs.Prelude.{Contains}
 use Rattle.std.specs.FinMap.{find, put}
 use Rattle.nd_paths.specs.Point.{point_cmp}
 use Rattle.nd_view.specs.Kept.{IsFrontierBut}
-use Rattle.nd_view.proofs.Shifts.{found_put, size_grown}
+use Rattle.nd_view.proofs.Moves.{found_put}
+use Rattle.nd_view.proofs.Shifts.{size_grown}
 use Rattle.nd_view.proofs.Zeros.{right_but, same_put, zero_told}
 use Rattle.nd_view.proofs.precursor_counts.PrecursorCounts.put.Given.{Over}
 use Rattle.nd_view.proofs.precursor_counts.PrecursorCounts.put.Goals as goal

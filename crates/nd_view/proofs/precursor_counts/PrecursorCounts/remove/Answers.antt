@@ -1,9 +1,10 @@
-use Rattle.std.proofs.Common.{◌≡◌, None, Some, ap, sym, ◌∙◌, arith, true≢false, vec_capacity}
+use Rattle.std.proofs.Common.{◌≡◌, None, Some, refl, ap, sym, ◌∙◌, arith, true≢false, vec_capacity}
 use Rattle.std.specs.FinMap.{find}
 use Rattle.nd_map.specs.Listed.{without}
 use Rattle.nd_paths.specs.Point.{point_cmp}
+use Rattle.nd_view.proofs.Moves.{found_gone}
 use Rattle.nd_view.proofs.Shifts.{size_without}
-use Rattle.nd_view.proofs.Zeros.{right_but, same_without, none_without}
+use Rattle.nd_view.proofs.Zeros.{right_but, same_without}
 use Rattle.nd_view.proofs.precursor_counts.PrecursorCounts.remove.Given.{Over}
 use Rattle.nd_view.proofs.precursor_counts.PrecursorCounts.remove.Goals as goal
 
@@ -25,7 +26,7 @@ set_right-requires-clause-others g c =
 pub set_right-requires-clause-zero : goal.set_right-requires-clause-zero
 set_right-requires-clause-zero g c =
     let p = c.args.point.now in
-    let none : find point_cmp p c.entries.result.now ≡ None = ap (find point_cmp p) (taken_out g c) ∙ none_without c.self.inside.counts p in
+    let none : find point_cmp p c.entries.result.now ≡ None = ap (find point_cmp p) (taken_out g c) ∙ found_gone p p c.self.inside.counts refl in
     (λ t. absurd (true≢false (sym t)), λ z. absurd (let one : None ≡ Some 0 = sym none ∙ z in cc))
 
 pub set_right-requires-clause-fresh : goal.set_right-requires-clause-fresh

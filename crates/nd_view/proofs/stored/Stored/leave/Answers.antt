@@ -1,4 +1,0 @@
-use Rattle.nd_view.proofs.stored.Stored.leave.Goals as goal
-
-pub returns-in-Ok-clause-paths : goal.returns-in-Ok-clause-paths
-returns-in-Ok-clause-paths g c = c.stay.ensures.paths c.args.paths.now c.requires.paths
