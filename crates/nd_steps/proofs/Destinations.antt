@@ -1,4 +1,5 @@
--- The records that a step makes: each goes to a processor that exists, and those of an effect are those of its outcome.
+-- The records that a step makes: each goes to a processor that exists, and those of an effect are
+-- those of its outcome.
 use Rattle.std.proofs.Common.{◌≡◌, refl, sym, ap, ◌∙◌, ℕ, ◌+◌, ◌<◌, ℤ, pos, negsuc, Bool, true, false, cond, ◌&&◌, List, [], ◌∷◌, ◌++◌, length, flat_map, unsigned_abs, nat_eq, mod-lt, arith}
 use Rattle.std.specs.Int.{int_rem_euclid}
 use Rattle.nd_time.specs.Time.{Time}

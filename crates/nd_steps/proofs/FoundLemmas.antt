@@ -1,4 +1,4 @@
--- Changes as a plan finds them: by how much each changes, and how often one place occurs among them.
+-- Changes as a plan finds them: how much each adds, and how often one place occurs among them.
 use Rattle.std.proofs.Common.{◌≡◌, ◌<◌, ◌≤◌, ◌+◌, ℕ, ℤ, pos, negsuc, ◌+ℤ◌, ◌-ℤ◌, unsigned_abs, All, Bool, true, false, cond, List, [], ◌∷◌, ◌++◌, Some, refl, ap, subst, arith}
 use Rattle.std.proofs.lemmas.Int.{ints}
 use Rattle.std.specs.FinMap as fin

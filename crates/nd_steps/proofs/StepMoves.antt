@@ -1,5 +1,5 @@
--- A step of processor p adds what its changes say: p is written, and then each record arrives at its
--- processor.
+-- A step of processor p adds what its changes say: p is written, and then each record arrives at
+-- its processor.
 --     AreWritten                      the processors before and after
 --     performs                        p is written, and records arrive
 --     StepAdds, standing-stepped      the step
@@ -32,8 +32,8 @@ use Rattle.nd_steps.proofs.Writes.{record_comes}
 abbrev at : List ProcessorState → ℕ → ProcessorState
 at qs k = slice_index_or qs k idle
 
--- the changes say what the new processors have more than the old ones; a change of what p has to send
--- says how much more is outstanding in all of them
+-- the changes say what the new processors have more than the old ones; a change of what p has to
+-- send says how much more is outstanding in all of them
 pub record AreWritten (p : ℕ) (old new : List ProcessorState) (cs : List Change) : Type 0 where
   pub keys : (k : ℕ) (l : Slot) → IsWritten l → stands (at new k) l ≡ stands (at old k) l +ℤ total_at (place_at k l) cs
   pub outstanding : (x : Pointstamp) → pos (count new x) ≡ pos (count old x) +ℤ total_at (place_at p (Unsent x)) cs

@@ -1,5 +1,5 @@
--- What a step writes in one processor, each with its changes: a record arrives or is taken, a request
--- is removed or made, a sink counts a value, or the token of an input moves.
+-- What a step writes in one processor, each with its changes: a record arrives or is taken, a
+-- request is removed or made, a sink counts a value, or the token of an input moves.
 use Rattle.std.proofs.Common.{◌≡◌, inl, inr, ℕ, suc, ◌+◌, ◌≤◌, ℤ, pos, negsuc, ◌+ℤ◌, ◌-ℤ◌, ◌≤ℤ◌, Bool, true, false, cond, ◌&&◌, is_none, Option, Some, None, List, [], ◌∷◌, refl, sym, ap, subst, ◌∙◌, arith}
 use Rattle.std.proofs.lemmas.Int.{ints}
 use Rattle.std.proofs.lemmas.Map.Views.{tells_apart}
