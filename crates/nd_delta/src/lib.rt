@@ -309,6 +309,17 @@ impl<A: Allocator> Delta<A> {
         any_before(held, paths, point) || any_negative_before(self.entries(), paths, point)
     }
 
+    /// Returns the least pointstamp with a positive integer and no negative entry strictly before it; or
+    /// `None` if there is none (this project's own rule).
+    pub fn unsupported<B: Allocator>(&self, paths: &Paths<B>) -> Option<Pointstamp>
+        ensures upright { IsNone result
+            ↔ IsUpright (IsStrictlyBefore paths.now) (Contains []) (at self.now) }
+        ensures least { IfSome result
+            (IsLeast (IsUnsupported (IsStrictlyBefore paths.now) (Contains []) (at self.now))) }
+    {
+        self.unsupported_by(paths, &[])
+    }
+
     /// Returns the least pointstamp with a positive integer and, strictly before it, neither a negative
     /// entry nor a pointstamp in `held`; or `None` if there is none (this project's own rule).
     pub fn unsupported_by<B: Allocator>(
