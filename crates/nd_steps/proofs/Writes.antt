@@ -61,7 +61,7 @@ request_goes p q y found =
     let b = one_less p y x [] in
     omega (arith, ints, a, b))
 
--- a request that is made again changes nothing
+-- a request that stands already changes nothing
 made_again : (m : Requests) (y : Pointstamp) → fin.get m y ≡ Some tt → fin.insert m y tt ≡ m
 made_again m y found = fin.same_map point_total point_exact (fin.insert m y tt) m (λ x.
     fin.get-insert point_total m y tt x ∙ by (eq_by_cmp point_cmp x y) (fin.get m x) (λ t. ap (fin.get m) (tells_apart point_exact x y t) ∙ found))
