@@ -83,7 +83,16 @@ impl Timestamp {
     pub fn copy(&self) -> Timestamp
         ensures { result ≡ self.now }
     {
-        Timestamp::new(self.epoch, self.counters()).unwrap()
+        let mut counters = ArrayVec::new();
+        match self.counters() {
+            [] => {}
+            [only] => counters.push(*only),
+            all => return Timestamp::new(self.epoch, all).unwrap(),
+        }
+        Timestamp {
+            epoch: self.epoch,
+            counters,
+        }
     }
 
     /// Returns whether this timestamp is at or before `other`. It is not if their depths differ.
