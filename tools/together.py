@@ -12,9 +12,9 @@ another edit changes is made in a function of its own: the same once more under 
 contract and its answers. If all that is said against a function is that its own proof files name what the
 edit took away, the edit is refused with the words that the toolchain has for that: its own trial, of the
 whole crate, reads the same files and refuses it for the same lines. Edits that cannot be read beside the
-others, as where another changes what a function takes, are tried together once more. What was not refused
-so is tried again with the rest, and at last alone, by the toolchain's own trial, over what the earlier
-checks of this run proved and then from nothing."""
+others, as where another changes what a function takes, are tried together again, as long as that leaves
+fewer. What was not refused so is tried again with the rest, and at last alone, by the toolchain's own
+trial, over what the earlier checks of this run proved and then from nothing."""
 import collections
 import copy
 import functools
@@ -263,7 +263,7 @@ def reason(verdicts, told, function):
         return None
     path = paths[0].partition("::")[2].replace("::", "/")
     folder, slash, name = path.rpartition("/")
-    # (the answers of a function that calls itself stand in a folder with a sign before its name)
+    # (the answers of a function that calls itself stand in a folder with `+` before its name)
     answers = f"proofs/{path}/", f"proofs/{folder}{slash}+{name}/"
     own = [it for it in told if is_in(it, function)]
     clauses = [it for it in own if "what the function ensures" in it]

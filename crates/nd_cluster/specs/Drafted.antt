@@ -16,7 +16,8 @@ use Rattle.nd_steps.specs.Flows.{come_changes}
 use Rattle.nd_cluster.specs.declared.work.Drafted.{Drafted}
 use Rattle.nd_cluster.specs.declared.work.Drafted.TheVariants.{Each, Flow}
 
--- a feed, a take, a notice or a release: the step changes records and capabilities, and others hear of it through what is unsent
+-- a feed, a take, a notice or a release: the step changes records and capabilities, and others hear of
+-- it through what is unsent
 abbrev pub Works : {A : Type 0} → Step A → Type 0
 Works (Feed p vertex values _) = Unit {0}
 Works (Take p edge t value) = Unit {0}

@@ -67,7 +67,7 @@ impl<A: Allocator + Copy> Cluster<A> {
         ensures few { IfSome result (λ k. k < max_processors) }
     {
         // A run asks this of each processor at each step.
-        if self.mesh().is_idle() {
+        if self.mesh().is_vacant() {
             return None;
         }
         for sender in from..self.processor_count() {

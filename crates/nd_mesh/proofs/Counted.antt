@@ -44,8 +44,8 @@ vacant-queued [] none from to = refl
 vacant-queued (r ∷ m) none zero to = row-vacant r (omega (arith, sum_by-cons (sum_by length) r m, none)) to
 vacant-queued (r ∷ m) none (suc from) to = vacant-queued m (omega (arith, sum_by-cons (sum_by length) r m, none)) from to
 
-pub counted_idle : {n : ℕ} (m : List (List (List DeltaValue))) → IsCounted n m → IsTrue (nat_eq n 0) ↔ AreVacant m
-counted_idle {n} m is = (λ h. vacant-queued m (sym is.count ∙ zero_is n h), λ vacant. is_zero n (is.count ∙ queued-vacant m vacant))
+pub counted_vacant : {n : ℕ} (m : List (List (List DeltaValue))) → IsCounted n m → IsTrue (nat_eq n 0) ↔ AreVacant m
+counted_vacant {n} m is = (λ h. vacant-queued m (sym is.count ∙ zero_is n h), λ vacant. is_zero n (is.count ∙ queued-vacant m vacant))
   where
     zero_is : (k : ℕ) → IsTrue (nat_eq k 0) → k ≡ 0
     zero_is k h = grind (arith, nat_tests)

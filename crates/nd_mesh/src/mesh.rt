@@ -122,8 +122,8 @@ impl<A: Allocator + Copy> Mesh<A> {
     }
 
     /// Returns whether all queues are empty, in constant time.
-    pub fn is_idle(&self) -> bool
-        ensures idle { IsTrue result ↔ AreVacant self.now }
+    pub fn is_vacant(&self) -> bool
+        ensures vacant { IsTrue result ↔ AreVacant self.now }
         ensures mesh { IsMesh self.now }
     {
         self.waiting == 0

@@ -40,11 +40,12 @@ pub fn rows_of<A: Allocator + Copy>(
     ensures fault { IfErr result (λ e. IsFault graph.now e) }
 {
     let depths = graph.depths();
-    let arcs = graph.all_arcs();
+    // The action of each arc agrees with the depths of its ends.
+    let _ = graph.all_arcs();
     let mut rows = Vec::new(alloc);
     for location in 0..depths.len() {
         let row = short_row(alloc, graph, location)?;
-        if shows_fail(&row, depths, arcs, location) {
+        if shows_fail(&row, graph, location) {
             return Err(PathFault::LoopNotStrict { location });
         }
         match rows.push(row) {

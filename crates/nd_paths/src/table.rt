@@ -1,9 +1,9 @@
 //! The table of least summaries, row by row.
-ghost use Rattle.std.specs.Prelude.{◌≡◌, ◌+◌, ◌*◌, ◌<◌, ◌≤◌, ◌↔◌, All, IfOk, IsTrue, MatchBool, length, slice_index};
+ghost use Rattle.std.specs.Prelude.{◌≡◌, ◌+◌, ◌*◌, ◌<◌, ◌≤◌, ◌↔◌, IfOk, IsTrue, MatchBool, length, slice_index};
 ghost use Rattle.std.specs.Bool.{OnFalse};
 ghost use Rattle.std.specs.Option.{option_copied};
 ghost use Rattle.nd_time.specs.Limits.{max_depth, max_locations};
-ghost use Rattle.nd_graph.specs.Graph.{depths as depths_of, ArcAgrees};
+ghost use Rattle.nd_graph.specs.Graph.{arcs as arcs_of, depths as depths_of};
 ghost use Rattle.nd_paths.specs.Steps.{keeps};
 ghost use Rattle.nd_paths.specs.Table.{held, start_row, CanRelax, Relaxed, Quiet, HasWalks, CoversShort, ShowsFail, Closes, SomeLeads, HeldFit, HoldsAny, AreCopies, KeepsPlaces, IsListed};
 
@@ -109,12 +109,12 @@ pub fn short_row<A: Allocator>(
 }
 
 /// Returns whether a closed walk from the location of the row fails to increase some time.
-pub fn shows_fail(row: &[Option<Summary>], depths: &[usize], arcs: &[Arc], location: usize) -> bool
-    requires agree { All (ArcAgrees depths.now) arcs.now }
-    requires long { length row.now ≡ length depths.now * keeps }
-    ensures { MatchBool result (ShowsFail arcs.now location row.now)
-        (ShowsFail arcs.now location row.now → ⊥) }
+pub fn shows_fail<A: Allocator>(row: &[Option<Summary>], graph: &Graph<A>, location: usize) -> bool
+    requires { length row.now ≡ length (depths_of graph.now) * keeps }
+    ensures { MatchBool result (ShowsFail (arcs_of graph.now) location row.now)
+        (ShowsFail (arcs_of graph.now) location row.now → ⊥) }
 {
+    let arcs = graph.all_arcs();
     for arc in arcs {
         if arc.to == location && closes(row, *arc) {
             return true;

@@ -38,10 +38,11 @@ abbrev pub arrivals : ℕ → List (ℕ × ValueAt) → List Change
 arrivals p [] = []
 arrivals p (r ∷ rs) = at_key r.0 (Records r.1) (pos 1) ∷ at_key p (Unsent r.1.point) (pos 1) ∷ arrivals p rs
 
--- the change of one item of a vertex to its new number; `item_changes` are those of several items
+-- the change of one item of a vertex to its new number
 abbrev pub item_change : ℕ → ℕ → ItemEdit → Change
 item_change p vertex e = at_key p (State vertex e.key) (number_of e.new -ℤ number_of e.old)
 
+-- the changes of several items of a vertex to their new numbers
 abbrev pub item_changes : ℕ → ℕ → List ItemEdit → List Change
 item_changes p vertex es = map (item_change p vertex) es
 

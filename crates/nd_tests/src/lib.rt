@@ -19,8 +19,6 @@ mod graphs;
 #[cfg(test)]
 mod holdings;
 #[cfg(test)]
-mod idle_queues;
-#[cfg(test)]
 mod kinds;
 #[cfg(test)]
 mod memory;
@@ -42,6 +40,8 @@ mod sessions;
 mod succeeds;
 #[cfg(test)]
 mod timelines;
+#[cfg(test)]
+mod vacant_queues;
 #[cfg(test)]
 mod views;
 #[cfg(test)]

@@ -215,14 +215,14 @@ fn queues<A: Allocator + Copy>(
     match call {
         Call::MakeMesh => met!(heap, n: Mesh::new(alloc, 2); AllocError, true),
         Call::PushToAll => met!(heap, n: push(&mut mesh, 0, &change)?; PushFault::Memory,
-            (len(&mesh, 0, 0), len(&mesh, 0, 1)) == (Some(0), Some(0)) && mesh.is_idle()),
+            (len(&mesh, 0, 0), len(&mesh, 0, 1)) == (Some(0), Some(0)) && mesh.is_vacant()),
         Call::PutBack => {
             met!(heap, n: unpop(&mut mesh, 0, 1, change)?; PushFault::Memory,
-                len(&mesh, 0, 1) == Some(0) && mesh.is_idle())
+                len(&mesh, 0, 1) == Some(0) && mesh.is_vacant())
         }
         _ => {
             push(&mut mesh, 1, &change)?.ok()?;
-            met!(heap, n: mesh.copy(alloc); AllocError, !mesh.is_idle())
+            met!(heap, n: mesh.copy(alloc); AllocError, !mesh.is_vacant())
         }
     }
 }

@@ -86,7 +86,7 @@ impl<'g> Steps<'g> {
         out.end_map()
     }
 
-    // Sends the object of a notice, or of a capability that is given up, by its word.
+    // Sends the object of a notice, or of a release without a later time; `word` is which.
     fn at_vertex<S: Serializer>(
         &self,
         out: &mut S,

@@ -4,9 +4,9 @@ use Rattle.nd_protocol.specs.State.{queue}
 use Rattle.nd_cluster.proofs.CandidatesLemmas.{next_receive, no_receive, no_receives, none_queued}
 use Rattle.nd_cluster.proofs.cluster.Cluster.next_sender.Goals as goal
 
-pub returns-then-is_idle-clause-next : goal.returns-then-is_idle-clause-next
-returns-then-is_idle-clause-next g c =
-    none_queued {A = g.row.A.Denot} c.args.self.now c.args.p (subst AreVacant c.mesh.ensures.value (c.if-is_idle.ensures.idle.0 refl)) c.args.from
+pub returns-then-is_vacant-clause-next : goal.returns-then-is_vacant-clause-next
+returns-then-is_vacant-clause-next g c =
+    none_queued {A = g.row.A.Denot} c.args.self.now c.args.p (subst AreVacant c.mesh.ensures.value (c.if-is_vacant.ensures.vacant.0 refl)) c.args.from
 
 pub returns-then-queue_len-gt0-clause-next : goal.returns-then-queue_len-gt0-clause-next
 returns-then-queue_len-gt0-clause-next g c =
