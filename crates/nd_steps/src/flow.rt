@@ -1,5 +1,5 @@
 //! Takes that are kept in little memory: the consequence determines the changes.
-ghost use Rattle.std.specs.Prelude.{◌≡◌, ◌≤◌, IfOk, IfErr, length};
+ghost use Rattle.std.specs.Prelude.{◌≡◌, ◌≤◌, ◌++◌, IfOk, IfErr, length};
 ghost use Rattle.nd_steps.specs.Ordered.{CanReach, IsOrderedFlow, PassLimit};
 ghost use Rattle.nd_steps.specs.Flows.{arriving, come_changes, flow_changes, told_changes};
 
@@ -23,14 +23,14 @@ pub struct Flow {
     pub late: bool,
 }
 
-// Lists the changes of what arrives when processor `p` takes a record.
-fn arrivals(come: &Come, p: u32, gone: &ValueAt) -> ArrayVec<Change, MOST>
-    ensures list { result.items ≡ arriving p gone.now come.now }
-    ensures few { length result.items ≤ 2 }
+// Appends the changes of what arrives when processor `p` takes a record.
+fn push_arrivals(list: &mut ArrayVec<Change, MOST>, come: &Come, p: u32, gone: &ValueAt)
+    requires { length list.old.items ≤ 1 }
+    ensures list { list.new.items ≡ list.old.items ++ arriving p gone.now come.now }
+    ensures few { length list.new.items ≤ 3 }
 {
-    let mut list = ArrayVec::new();
     match come {
-        Come::Nothing => list,
+        Come::Nothing => {}
         Come::Record { p: to, .. } => {
             let key = come.key(gone);
             let point = key.point.copy();
@@ -44,7 +44,6 @@ fn arrivals(come: &Come, p: u32, gone: &ValueAt) -> ArrayVec<Change, MOST>
                 slot: Slot::Unsent(point),
                 n: 1,
             });
-            list
         }
         Come::Count { vertex } => {
             let key = SinkKey {
@@ -56,7 +55,6 @@ fn arrivals(come: &Come, p: u32, gone: &ValueAt) -> ArrayVec<Change, MOST>
                 slot: Slot::Sink(key),
                 n: 1,
             });
-            list
         }
     }
 }
@@ -66,24 +64,24 @@ impl Flow {
     fn changes(&self, p: u32, gone: &ValueAt) -> ArrayVec<Change, MOST>
         ensures { result.items ≡ flow_changes p gone.now self.now }
     {
-        let mut list = arrivals(&self.come, p, gone);
         let unsent = Change {
             p,
             slot: Slot::Unsent(gone.point.copy()),
             n: -1,
         };
-        let goes = Change {
+        let mut list = ArrayVec::new();
+        if self.late {
+            push_arrivals(&mut list, &self.come, p, gone);
+            list.push(unsent);
+        } else {
+            list.push(unsent);
+            push_arrivals(&mut list, &self.come, p, gone);
+        }
+        list.push(Change {
             p,
             slot: Slot::Records(gone.copy()),
             n: -1,
-        };
-        if self.late {
-            list.push(unsent);
-            list.push(goes);
-            return list;
-        }
-        list.insert(0, unsent);
-        list.push(goes);
+        });
         list
     }
 
