@@ -11,7 +11,7 @@ use std::alloc::Allocator;
 impl<A: Allocator + Copy> Cluster<A> {
     /// Sends the state to a serializer, with the names of locations. Each list is in the order of listing.
     ///
-    /// No value of the state is built, so the memory that a text of it takes is that of the text alone.
+    /// No value of the state is built.
     pub fn send_state<S: Serializer>(&self, out: &mut S) -> Result<(), S::Error>
         ensures { OnOk result
             (SendsValue (state_data self.now) (S.written out.old) (S.written out.new)) }

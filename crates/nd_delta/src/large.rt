@@ -94,6 +94,7 @@ impl<A: Allocator> LargeDelta<A> {
         ensures within { IsWithin self.now }
         ensures some { OnErr result (points.now ≢ []) }
     {
+        // The entries are within the limit.
         let _ = self.iter();
         let mut kept = Delta::new(alloc);
         for point in points {
@@ -117,14 +118,6 @@ impl<A: Allocator> LargeDelta<A> {
 }
 
 impl<A: Allocator + Copy> LargeDelta<A> {
-    /// Returns an equal change as a `Delta`.
-    pub fn whole(&self, alloc: A) -> Result<Delta<A>, AllocError>
-        ensures equal { IfOk result (λ d. d ≡ self.now) }
-        ensures within { IsWithin self.now }
-    {
-        self.without(alloc, &Delta::new(alloc))
-    }
-
     /// Returns the change with no entry. It takes no memory.
     pub fn new(alloc: A) -> LargeDelta<A>
         ensures { result ≡ none }
@@ -132,6 +125,14 @@ impl<A: Allocator + Copy> LargeDelta<A> {
         LargeDelta {
             map: GrowingMap::new(alloc),
         }
+    }
+
+    /// Returns an equal change as a `Delta`.
+    pub fn whole(&self, alloc: A) -> Result<Delta<A>, AllocError>
+        ensures equal { IfOk result (λ d. d ≡ self.now) }
+        ensures within { IsWithin self.now }
+    {
+        self.without(alloc, &Delta::new(alloc))
     }
 
     // Sets the integer of a pointstamp to `n`. It takes memory only if the pointstamp has no integer.
@@ -194,6 +195,7 @@ impl<A: Allocator + Copy> LargeDelta<A> {
         ensures equal { IfOk result (λ d. d ≡ self.now) }
         ensures within { IsWithin self.now }
     {
+        // The entries are within the limit.
         let _ = self.iter();
         Ok(LargeDelta {
             map: self.map.copy(alloc)?,

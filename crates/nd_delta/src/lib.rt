@@ -192,6 +192,7 @@ impl<A: Allocator> Delta<A> {
         ensures equal { IfOk result (λ d. d ≡ self.now) }
         ensures within { IsWithin self.now }
     {
+        // The entries are within the limit.
         let _ = self.entries();
         Ok(Delta {
             map: self.map.copy(alloc)?,
@@ -208,13 +209,14 @@ impl<A: Allocator> Delta<A> {
         if minus { here - there } else { here + there }
     }
 
-    // Returns whether the difference, or the sum, exceeds the limit at the pointstamp of one of these entries.
-    fn any_passes(&self, other: &Delta<A>, minus: bool, entries: &[(Pointstamp, i64)]) -> bool
-        ensures { IsTrue result
+    // Returns whether the difference, or the sum, exceeds the limit at the pointstamp of an entry of `other`.
+    fn any_passes(&self, other: &Delta<A>, minus: bool) -> bool
+        ensures passes { IsTrue result
             ↔ Any (λ e. max_count < unsigned_abs (at (combined minus self.now other.now) e.0))
-            entries.now }
+            (listed other.now) }
+        ensures within { IsWithin other.now }
     {
-        entries.iter().any(|entry: &(Pointstamp, i64)| passes_limit(self.combined_at(
+        other.entries().iter().any(|entry: &(Pointstamp, i64)| passes_limit(self.combined_at(
             other, minus, &entry.0,
         )))
     }
@@ -224,8 +226,9 @@ impl<A: Allocator> Delta<A> {
         ensures passes { IsTrue result ↔ IsTooLarge (combined minus self.now other.now) }
         ensures within { IsWithin self.now × IsWithin other.now }
     {
+        // The entries are within the limit.
         let _ = self.entries();
-        self.any_passes(other, minus, other.entries())
+        self.any_passes(other, minus)
     }
 
     /// Returns the difference, or the sum, if it fits. It merges the two sorted lists.
@@ -288,6 +291,7 @@ impl<A: Allocator> Delta<A> {
         ensures within { IsWithin self.now }
         ensures some { OnErr result (points.now ≢ []) }
     {
+        // The entries are within the limit.
         let _ = self.entries();
         let mut kept = Delta::new(alloc);
         for point in points {

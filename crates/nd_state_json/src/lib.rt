@@ -1,4 +1,5 @@
-//! The state of a cluster and its parts as JSON, with the names of locations: sent to a serializer, and small parts as values.
+//! The state of a cluster and its parts as JSON, with the names of locations: sent to a serializer, and
+//! small parts as values.
 #![tactic(auto)]
 
 ghost use Rattle.std.specs.Prelude.{◌≡◌, IfOk};

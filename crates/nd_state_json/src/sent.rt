@@ -105,7 +105,8 @@ pub fn send_points<S: Serializer, A: Allocator>(
 
 // ---- entries
 
-/// The key of a map in the state, sent as a list of the names of locations, the rest of the key, and the key's value.
+/// A key of a map in the state. An entry is sent as a list: the name of the key's location, the rest of
+/// the key, and the value, if there is one.
 pub(crate) trait Listed<V>: Key {
     ghost listed: { Dataflow → Self × V → Data };
 
@@ -217,7 +218,8 @@ pub(crate) fn send_list<S: Serializer, K: Listed<V>, V, A: Allocator>(
     out.end_seq()
 }
 
-/// Sends the counts of pointstamps in the given order, each as a list: the name of the location, the time and the count.
+/// Sends the counts of pointstamps in the given order, each as a list: the name of the location, the time
+/// and the count.
 pub fn send_entries<S: Serializer, A: Allocator>(
     out: &mut S,
     graph: &Graph<A>,

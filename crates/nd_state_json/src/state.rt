@@ -147,7 +147,7 @@ fn send_processor<S: Serializer, A: Allocator + Copy>(
     send_list(out, graph, processor.tokens())?;
     out.key("unsent")?;
     let unsent = processor.unsent();
-    send_map(out, graph, count_of(unsent.iter()), unsent.iter())?;
+    send_map(out, graph, unsent.len(), unsent.iter())?;
     out.key("view")?;
     send_entries(out, graph, known.entries())?;
     out.end_map()
@@ -229,7 +229,8 @@ fn send_queues<S: Serializer, A: Allocator + Copy>(
     out.end_seq()
 }
 
-/// Sends the state of a cluster: its processors, each with its view, and its queues. Each list is in the order of its keys.
+/// Sends the state of a cluster: its processors, each with its view, and its queues. Each list is in the
+/// order of its keys.
 #[tactic(auto, unfolding(crate::specs::StateText::state_data))]
 pub fn send_state<S: Serializer, A: Allocator + Copy>(
     out: &mut S,

@@ -112,5 +112,12 @@ module _ (es fs : List (Pointstamp × ℕ)) (i n : ℕ) (e : Pointstamp × ℕ) 
   pub others_there : (q : Pointstamp) → q ≢ e.0 → find point_cmp q fs ≡ find point_cmp q es
   others_there q ne = ap (find point_cmp q) put_there ∙ same_put es e.0 n q ne
 
+  -- the list is correct as it is, if the number was not 0 and is not
+  pub right_still : (frontier : List Pointstamp) (room : ℕ) → IsFrontierList es frontier room → length fs ≡ length es → e.1 ≢ 0 → n ≢ 0 → IsFrontierList fs frontier room
+  right_still frontier room h many was now =
+      right_without fs frontier frontier e.0 room (right_but es fs frontier e.0 room others_there h)
+      (λ among. was (let one : Some e.1 ≡ Some 0 = sym found_there ∙ h.only e.0 among in cc)) (λ q ne. (λ a. a, λ a. a)) (omega (arith, many, h.enough))
+      (λ z. now (let one : Some n ≡ Some 0 = sym found_now ∙ z in cc))
+
 pub same_length : (es fs : List (Pointstamp × ℕ)) → keys_of fs ≡ keys_of es → length fs ≡ length es
 same_length es fs keys = many_keys fs (keys_of es) keys ∙ sym (many_keys es (keys_of es) refl)

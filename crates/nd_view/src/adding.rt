@@ -1,14 +1,14 @@
 //! Adding a change to a view entry by entry: the counts and the precursor counts are changed together.
 
-ghost use Rattle.std.specs.Prelude.{◌≡◌, ◌≢◌, [], ◌∷◌, ◌↔◌, ◌≤◌, ◌<ℤ◌, ◌+◌, ◌*◌, ◌+ℤ◌, ◌-ℤ◌, cond, pos, length, unsigned_abs, OnOk, OnErr, IfOk, IfSome, IsNone, IsTrue};
+ghost use Rattle.std.specs.Prelude.{◌≡◌, ◌≢◌, ◌∷◌, ◌↔◌, ◌≤◌, ◌<ℤ◌, ◌*◌, ◌+ℤ◌, ◌-ℤ◌, cond, pos, length, unsigned_abs, OnOk, OnErr, IfSome, IsNone, IsTrue};
 ghost use Rattle.nd_time.specs.Limits.{max_count};
 ghost use Rattle.nd_graph.specs.Graph.{Dataflow};
 ghost use Rattle.nd_map.specs.Listed.{IsListed};
 ghost use Rattle.nd_paths.specs.Point.{point_cmp};
 ghost use Rattle.nd_delta.specs.declared.DeltaFault.{DeltaFault};
-ghost use Rattle.nd_delta.specs.Delta.{none, at, set, combined, IsTooLarge};
+ghost use Rattle.nd_delta.specs.Delta.{at, set, combined, IsTooLarge};
 ghost use Rattle.nd_view.specs.View.{IsPrecursor, IsCount};
-ghost use Rattle.nd_view.specs.Kept.{IsKeptAt, IsFor, IsFrontierList};
+ghost use Rattle.nd_view.specs.Kept.{IsFor};
 ghost use Rattle.nd_view.specs.Room.{IsWithinRoom, AreWithin, IsAdded};
 
 use crate::View;

@@ -1,4 +1,4 @@
-//! Tests of single entries.
+//! Tests of entries and pointstamps.
 
 ghost use Rattle.std.specs.Prelude.{◌↔◌, ◌<ℤ◌, pos, Any, IsTrue};
 ghost use Rattle.nd_view.specs.View.{IsBefore};

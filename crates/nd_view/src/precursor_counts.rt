@@ -182,14 +182,17 @@ impl<A: Allocator> PrecursorCounts<A> {
     {
         let was = self.counts.entries()[index].1;
         self.counts.put_at(index, n);
-        let counts = self.counts.entries();
-        set_right(
-            counts,
-            &mut self.frontier,
-            &counts[index].0,
-            was == 0,
-            n == 0,
-        );
+        // The list stays as it is if the number neither was nor is 0.
+        if was == 0 || n == 0 {
+            let counts = self.counts.entries();
+            set_right(
+                counts,
+                &mut self.frontier,
+                &counts[index].0,
+                was == 0,
+                n == 0,
+            );
+        }
     }
 
     /// Removes a pointstamp and its number, if it has one. It takes no memory.

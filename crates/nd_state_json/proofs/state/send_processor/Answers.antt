@@ -1,4 +1,4 @@
-use Rattle.std.proofs.Common.{◌∙◌, length, ap, sym, arith}
+use Rattle.std.proofs.Common.{◌∙◌, length, ap, sym}
 use Rattle.std.proofs.lemmas.Result.{on_ok_weaker}
 use Rattle.nd_delta.specs.Delta.{entries}
 use Rattle.nd_state_json.proofs.Shown.{processor_shown}
@@ -7,16 +7,13 @@ use Rattle.nd_state_json.proofs.state.send_processor.Goals as goal
 pub send_map-requires-3 : goal.send_map-requires-3
 send_map-requires-3 g c = c.count_of-3.ensures ∙ ap length (c.sinks.ensures.rest ∙ sym c.sinks-2.ensures.rest)
 
-pub count_of-requires-4 : goal.count_of-requires-4
-count_of-requires-4 g c = omega (arith, ap length c.iter.ensures.rest, c.iter.ensures.fits)
-
 pub send_map-requires-4 : goal.send_map-requires-4
-send_map-requires-4 g c = c.count_of-4.ensures ∙ ap length (c.iter.ensures.rest ∙ sym c.iter-2.ensures.rest)
+send_map-requires-4 g c = c.len.ensures ∙ sym (ap length c.iter.ensures.rest)
 
 pub returns : goal.returns
 returns g c =
-    let shown = processor_shown c.args.graph.now c.args.processor.now c.args.known.now.map c.records-2.result c.requests-2.result c.sinks-2.result c.tokens.result.now c.iter-2.result c.entries.result.now
-    c.records-2.ensures.rest c.requests-2.ensures.rest c.sinks-2.ensures.rest c.tokens.ensures (c.iter-2.ensures.rest ∙ ap entries c.unsent-unsent.ensures) c.entries.ensures.listed in
+    let shown = processor_shown c.args.graph.now c.args.processor.now c.args.known.now.map c.records-2.result c.requests-2.result c.sinks-2.result c.tokens.result.now c.iter.result c.entries.result.now
+    c.records-2.ensures.rest c.requests-2.ensures.rest c.sinks-2.ensures.rest c.tokens.ensures (c.iter.ensures.rest ∙ ap entries c.unsent-unsent.ensures) c.entries.ensures.listed in
     on_ok_weaker c.end_map.result
     (λ ended. rw (sym shown) (
       _,

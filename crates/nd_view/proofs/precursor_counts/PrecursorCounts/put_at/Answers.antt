@@ -5,7 +5,7 @@ use Rattle.std.specs.FinMap.{find, put}
 use Rattle.nd_paths.specs.Point.{point_cmp}
 use Rattle.nd_view.specs.Kept.{IsFrontierBut}
 use Rattle.nd_view.proofs.Shifts.{same_key}
-use Rattle.nd_view.proofs.Zeros.{right_but, found_there, found_now, others_there, same_length, zero_told}
+use Rattle.nd_view.proofs.Zeros.{right_but, found_there, found_now, others_there, right_still, same_length, zero_told}
 use Rattle.nd_view.proofs.precursor_counts.PrecursorCounts.put_at.Given.{Over}
 use Rattle.nd_view.proofs.precursor_counts.PrecursorCounts.put_at.Goals as goal
 
@@ -54,5 +54,19 @@ set_right-requires-clause-fresh g c = λ never among.
     let was = found_there es c.put_at.new.self c.args.index c.args.n e c.put_at.ensures.was_listed lt (entry_is g c) c.put_at.ensures.value in
     never ((zero_told _ (find point_cmp e.0 es) (was ∙ ap (λ y. Some y.1) c.index-entries-index.is)).1 (c.self.invariant.only e.0 (subst (Contains c.self.inside.frontier.items) (the_point g c) among)))
 
-pub returns-clause-value : goal.returns-clause-value
-returns-clause-value g c = λ d. subst (λ es. c.put_at.new.self ≡ put point_cmp (get_or es c.args.index d).0 c.args.n es) c.self.view_is (c.put_at.ensures.value d)
+-- a number that was not 0 and is not
+pub invariant_of-self : goal.invariant_of-self
+invariant_of-self g c =
+    let es = c.self.inside.counts in
+    let e = c.index-entries-index.result in
+    let lt : c.args.index < length es = rw (sym c.self.view_is) at c.requires in
+    let is : e ≡ get_or es c.args.index e = c.index-entries-index.is ∙ ap (λ l. get_or l c.args.index e) c.entries.ensures.value in
+    right_still es c.put_at.new.self c.args.index c.args.n e c.put_at.ensures.was_listed lt is c.put_at.ensures.value
+    c.self.inside.frontier.items (vec_capacity c.self.inside.frontier) c.self.invariant (same_length es c.put_at.new.self c.put_at.ensures.keys)
+    (λ z. c.if-was-eq0.false (sym (ap (λ y. y.1) c.index-entries-index.is) ∙ z)) c.if-n-eq0.false
+
+pub returns-then-was-eq0-clause-value : goal.returns-then-was-eq0-clause-value
+returns-then-was-eq0-clause-value g c = λ d. subst (λ es. c.put_at.new.self ≡ put point_cmp (get_or es c.args.index d).0 c.args.n es) c.self.view_is (c.put_at.ensures.value d)
+
+pub returns-else-n-eq0-clause-value : goal.returns-else-n-eq0-clause-value
+returns-else-n-eq0-clause-value g c = λ d. subst (λ es. c.put_at.new.self ≡ put point_cmp (get_or es c.args.index d).0 c.args.n es) c.self.view_is (c.put_at.ensures.value d)
