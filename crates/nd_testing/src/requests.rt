@@ -1,4 +1,5 @@
 //! Calls whose requests for memory are refused, one after the other or all.
+ghost use Rattle.std.specs.Prelude.{◌≡◌, ◌↔◌, IfSome, IsNone, IsSome, IsTrue};
 
 /// More than the requests of any call.
 pub const MANY: u64 = 1000;
@@ -10,7 +11,12 @@ pub fn was_refused<E: PartialEq + Drop>(
     fault: Option<E>,
     want: E,
     is_as_before: bool,
-) -> Option<bool> {
+) -> Option<bool>
+    ensures met { IfSome result (λ met. met ≡ refused) }
+    ensures answered { IsSome result → (IsTrue refused ↔ IsSome fault) }
+    ensures unchanged { IsSome result → IsTrue refused → IsTrue is_as_before }
+    ensures right { (IsTrue refused → ⊥) → IsNone fault → IsSome result }
+{
     let is_right = match fault {
         None => !refused,
         Some(fault) => refused && is_as_before && fault == want,
