@@ -83,6 +83,7 @@ impl Timestamp {
     pub fn copy(&self) -> Timestamp
         ensures { result ≡ self.now }
     {
+        // Most times have at most one counter, and those need no copy of a slice.
         let mut counters = ArrayVec::new();
         match self.counters() {
             [] => {}
