@@ -75,6 +75,31 @@ pub combined_alone : (b : Bool) (m n : DeltaValue) (q : Pointstamp) → at n q �
 combined_alone true m n q e = let d = at-minus m n q in omega (arith, ints, d, e)
 combined_alone false m n q e = let d = at-plus m n q in omega (arith, ints, d, e)
 
+chosen : (b : Bool) (x y z : ℤ) → (b ≡ true → x ≡ z) → (b ≡ false → y ≡ z) → cond b x y ≡ z
+chosen true x y z f g = f refl
+chosen false x y z f g = g refl
+
+-- ---- the sum or the difference, computed at the entries of the second
+-- s has the combined integers at the points of the first entries of n, and the integers of m elsewhere
+abbrev pub IsCombined : Bool → DeltaValue → DeltaValue → ℕ → DeltaValue → Type 0
+IsCombined b m n i s = (q : Pointstamp) → at s q ≡ cond (has_point q (points_of (take i (entries n)))) (at (combined b m n) q) (at m q)
+
+module _ (b : Bool) (m n : DeltaValue) where
+  pub combined_first : (s : DeltaValue) → s ≡ m → IsCombined b m n 0 s
+  combined_first s is q = ap (λ c. at c q) is
+
+  pub combined_more : (i : ℕ) (x : Pointstamp × ℤ) (s t : DeltaValue) → i < length (entries n) → x ≡ get_or (entries n) i x → IsCombined b m n i s
+      → t ≡ set s x.0 (at (combined b m n) x.0) → IsCombined b m n (i + 1) t
+  combined_more i x s t lt is h set_is = next_entry (entries n) i x lt is (at (combined b m n)) (at m) s t h set_is
+
+  pub combined_all : (i : ℕ) (s : DeltaValue) → length (entries n) ≤ i → IsCombined b m n i s → s ≡ combined b m n
+  combined_all i s past h =
+      same s (combined b m n) (λ q.
+      h q ∙ ap (λ es. cond (has_point q (points_of es)) (at (combined b m n) q) (at m q)) (take_all i (entries n) past)
+      ∙ chosen (has_point q (points_of (entries n))) (at (combined b m n) q) (at m q) (at (combined b m n) q)
+      (λ _. refl)
+      (λ f. sym (combined_alone b m n q (at-absent n q f))))
+
 -- ---- a part that is copied point by point
 -- s has the integers of m at the first points, and no other entries
 abbrev pub IsTaken : DeltaValue → List Pointstamp → ℕ → DeltaValue → Type 0
@@ -163,10 +188,6 @@ module _ (m piece : DeltaValue) (h : IsPartOf piece m) where
 -- ---- a part that is removed or added
 pub entry_within : (m : DeltaValue) (i : ℕ) (x : Pointstamp × ℤ) → IsWithin m → i < length (entries m) → x ≡ get_or (entries m) i x → unsigned_abs x.1 ≤ max_count
 entry_within m i x within lt is = rw (at-index m i x lt is) (within x.0)
-
-chosen : (b : Bool) (x y z : ℤ) → (b ≡ true → x ≡ z) → (b ≡ false → y ≡ z) → cond b x y ≡ z
-chosen true x y z f g = f refl
-chosen false x y z f g = g refl
 
 module _ (old piece : DeltaValue) where
   -- s has no entries at the part's pointstamps

@@ -1,11 +1,11 @@
 //! Changes stored in maps that may grow large.
-ghost use Rattle.std.specs.Prelude.{◌≡◌, ◌≢◌, [], ◌↔◌, ◌<◌, ◌≤◌, ◌^◌, ◌+ℤ◌, ℤ, pos, unsigned_abs, cond, length, OnOk, OnErr, IfOk, Err};
+ghost use Rattle.std.specs.Prelude.{◌≡◌, ◌≢◌, [], ◌↔◌, ◌<◌, ◌≤◌, ◌^◌, ◌*◌, ◌+ℤ◌, ℤ, pos, unsigned_abs, cond, length, OnOk, OnErr, IfOk, IsTrue, Err, Any};
 ghost use Rattle.std.specs.Map.Iter.{ShowsInOrder, deref_pair};
 ghost use Rattle.nd_time.specs.Limits.{max_count};
 ghost use Rattle.nd_paths.specs.declared.point.Pointstamp.{Pointstamp as Point};
-ghost use Rattle.nd_delta.specs.Delta.{none, at, set, size, plus, minus, part, has_point, points_of, IsWithin, IsPartOf, IsApart, entries as listed};
+ghost use Rattle.nd_delta.specs.Delta.{none, at, set, size, plus, minus, combined, part, has_point, points_of, IsTooLarge, IsWithin, IsPartOf, IsApart, entries as listed};
 
-use crate::{Delta, DeltaFault, sum_within};
+use crate::{Delta, DeltaFault, passes_limit, sum_within};
 use nd_map::{GrowingMap, Iter};
 use nd_paths::Pointstamp;
 use std::alloc::{AllocError, Allocator, Global};
@@ -103,6 +103,38 @@ impl<A: Allocator> LargeDelta<A> {
         Ok(kept)
     }
 
+    // Returns the integer of a pointstamp in the difference of two changes, or in their sum.
+    fn combined_at(&self, other: &Delta<A>, minus: bool, point: &Pointstamp) -> i64
+        ensures value { result ≡ at (combined minus self.now other.now) point.now }
+        ensures fits { unsigned_abs result ≤ 2 * max_count }
+    {
+        let here = self.get(point);
+        let there = other.get(point);
+        if minus { here - there } else { here + there }
+    }
+
+    // Returns whether the difference, or the sum, exceeds the limit at the pointstamp of an entry of `other`.
+    fn any_passes(&self, other: &Delta<A>, minus: bool) -> bool
+        ensures passes { IsTrue result
+            ↔ Any (λ e. max_count < unsigned_abs (at (combined minus self.now other.now) e.0))
+            (listed other.now) }
+        ensures within { IsWithin other.now }
+    {
+        other.entries().iter().any(|entry: &(Pointstamp, i64)| passes_limit(self.combined_at(
+            other, minus, &entry.0,
+        )))
+    }
+
+    /// Returns whether some entry of the difference, or of the sum, exceeds `LIMIT`.
+    pub fn is_overfull(&self, other: &Delta<A>, minus: bool) -> bool
+        ensures passes { IsTrue result ↔ IsTooLarge (combined minus self.now other.now) }
+        ensures within { IsWithin self.now × IsWithin other.now }
+    {
+        // The entries are within the limit.
+        let _ = self.iter();
+        self.any_passes(other, minus)
+    }
+
     /// Returns the change without a part of it.
     pub fn without(&self, alloc: A, part: &Delta<A>) -> Result<Delta<A>, AllocError>
         requires { IsPartOf part.now self.now }
@@ -135,8 +167,8 @@ impl<A: Allocator + Copy> LargeDelta<A> {
         self.without(alloc, &Delta::new(alloc))
     }
 
-    // Sets the integer of a pointstamp to `n`. It takes memory only if the pointstamp has no integer.
-    fn put(&mut self, point: &Pointstamp, n: i64) -> Result<(), AllocError>
+    /// Sets the integer of a pointstamp to `n`. It takes memory only if the pointstamp has no integer.
+    pub fn put(&mut self, point: &Pointstamp, n: i64) -> Result<(), AllocError>
         requires { unsigned_abs n ≤ max_count }
         ensures ok { OnOk result (self.new ≡ set self.old point.now n) }
         ensures err { OnErr result (self.new ≡ self.old) }
@@ -200,5 +232,32 @@ impl<A: Allocator + Copy> LargeDelta<A> {
         Ok(LargeDelta {
             map: self.map.copy(alloc)?,
         })
+    }
+
+    /// Returns the difference, or the sum, if it fits. It changes a copy at the entries of `other`.
+    pub fn combine(
+        &self,
+        alloc: A,
+        other: &Delta<A>,
+        minus: bool,
+    ) -> Result<LargeDelta<A>, DeltaFault>
+        ensures ok { IfOk result (λ d. d ≡ combined minus self.now other.now) }
+        ensures full { (result ≡ Err (DeltaFault.DeltaFull))
+            ↔ IsTooLarge (combined minus self.now other.now) }
+        ensures within { IsWithin self.now × IsWithin other.now }
+    {
+        if self.is_overfull(other, minus) {
+            return Err(DeltaFault::DeltaFull);
+        }
+        let Ok(mut made) = self.copy(alloc) else {
+            return Err(DeltaFault::Memory);
+        };
+        for entry in other.entries() {
+            let point = &entry.0;
+            let Ok(()) = made.put(point, self.combined_at(other, minus, point)) else {
+                return Err(DeltaFault::Memory);
+            };
+        }
+        Ok(made)
     }
 }

@@ -199,8 +199,8 @@ impl<A: Allocator> Delta<A> {
         })
     }
 
-    /// Returns the integer of a pointstamp in the difference of two deltas, or in their sum.
-    pub fn combined_at(&self, other: &Delta<A>, minus: bool, point: &Pointstamp) -> i64
+    // Returns the integer of a pointstamp in the difference of two deltas, or in their sum.
+    fn combined_at(&self, other: &Delta<A>, minus: bool, point: &Pointstamp) -> i64
         ensures value { result ≡ at (combined minus self.now other.now) point.now }
         ensures fits { unsigned_abs result ≤ 2 * max_count }
     {
@@ -221,8 +221,8 @@ impl<A: Allocator> Delta<A> {
         )))
     }
 
-    /// Returns whether some entry of the difference, or of the sum, exceeds `LIMIT`.
-    pub fn is_overfull(&self, other: &Delta<A>, minus: bool) -> bool
+    // Returns whether some entry of the difference, or of the sum, exceeds `LIMIT`.
+    fn is_overfull(&self, other: &Delta<A>, minus: bool) -> bool
         ensures passes { IsTrue result ↔ IsTooLarge (combined minus self.now other.now) }
         ensures within { IsWithin self.now × IsWithin other.now }
     {
@@ -231,8 +231,8 @@ impl<A: Allocator> Delta<A> {
         self.any_passes(other, minus)
     }
 
-    /// Returns the difference, or the sum, if it fits. It merges the two sorted lists.
-    pub fn combine(&self, alloc: A, other: &Delta<A>, minus: bool) -> Result<Delta<A>, DeltaFault>
+    // Returns the difference, or the sum, if it fits. It merges the two sorted lists.
+    fn combine(&self, alloc: A, other: &Delta<A>, minus: bool) -> Result<Delta<A>, DeltaFault>
         ensures ok { IfOk result (λ d. d ≡ combined minus self.now other.now) }
         ensures full { (result ≡ Err (DeltaFault.DeltaFull))
             ↔ IsTooLarge (combined minus self.now other.now) }
