@@ -4,11 +4,12 @@ use Rattle.std.specs.Prelude.{Contains}
 use Rattle.std.specs.FinMap.{find}
 use Rattle.std.proofs.lemmas.List.{get_or_default}
 use Rattle.std.proofs.lemmas.List.Elements.{Contains-append_left, Contains-append_right, Contains-append_cases}
-use Rattle.nd_map.specs.Entries.{find-index, found_at}
+use Rattle.nd_map.specs.Entries.{found_at}
 use Rattle.nd_map.specs.Listed.{IsListed}
-use Rattle.nd_paths.specs.Point.{point_cmp, point_total, point_exact}
+use Rattle.nd_paths.specs.Point.{point_cmp, point_exact}
 use Rattle.nd_paths.specs.declared.point.Pointstamp.{Pointstamp}
 use Rattle.nd_view.specs.Kept.{IsFrontierList}
+use Rattle.nd_view.proofs.Early.{entry_found}
 
 module _ (es : List (Pointstamp × ℕ)) where
   -- the list has only points with count 0, and all of those among the first entries
@@ -16,10 +17,11 @@ module _ (es : List (Pointstamp × ℕ)) where
     pub only : (q : Pointstamp) → Contains frontier q → find point_cmp q es ≡ Some 0
     pub all : (k : ℕ) → k < i → (d : Pointstamp × ℕ) → (get_or es k d).1 ≡ 0 → Contains frontier (get_or es k d).0
 
-  pub listed_none : (frontier : List Pointstamp) → frontier ≡ [] → IsListedUpTo 0 frontier
-  listed_none frontier e = record {
-    only = λ q among. absurd (omega (arith, among.1, ap length e));
-    all = λ k lt. absurd (omega (arith, lt));
+  -- before the first entry
+  pub listed_none : (i : ℕ) → i ≡ 0 → IsListedUpTo i []
+  listed_none i first = record {
+    only = λ q among. let lt = among.1 in absurd (omega (arith, lt));
+    all = λ k lt d e. absurd (omega (arith, lt, first));
   }
 
   one : (x q : Pointstamp) → Contains (x ∷ []) q → x ≡ q
@@ -31,7 +33,7 @@ module _ (es : List (Pointstamp × ℕ)) where
     listed_take frontier more more_is none h = record {
       only = λ q among. elim (Contains-append_cases frontier (x.0 ∷ []) q (subst (λ l. Contains l q) more_is among)) [
         | inl before ↦ h.only q before
-        | inr here ↦ ap (λ y. find point_cmp y es) (sym (one x.0 q here)) ∙ ap (λ y. find point_cmp y.0 es) is ∙ find-index point_cmp point_total es i x listed lt ∙ ap (λ y. Some y.1) (sym is) ∙ ap Some none
+        | inr here ↦ ap (λ y. find point_cmp y es) (sym (one x.0 q here)) ∙ entry_found es i x listed lt is ∙ ap Some none
       ];
       all = below_more _ _
           (λ k less d e. subst (λ l. Contains l (get_or es k d).0) (sym more_is) (Contains-append_left frontier (x.0 ∷ []) (get_or es k d).0 (h.all k less d e)))

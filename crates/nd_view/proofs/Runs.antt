@@ -1,5 +1,5 @@
 -- Neighbouring entries at one location: their epochs increase.
-use Rattle.std.proofs.Common.{◌≡◌, ◌<◌, ◌≤◌, ◌+◌, ◌-◌, ◌⊎◌, inl, inr, ℕ, zero, suc, List, length, get_or, refl, sym, ap, subst, ◌∙◌, arith, Ordering, Less, Equal, Greater}
+use Rattle.std.proofs.Common.{◌≡◌, ◌<◌, ◌≤◌, ◌+◌, ◌⊎◌, inl, inr, ℕ, zero, suc, List, length, get_or, refl, sym, ap, subst, ◌∙◌, arith, Ordering, Less, Equal, Greater}
 use Rattle.std.specs.Ordering.{nat_cmp, ordering_then}
 use Rattle.std.proofs.lemmas.Bool.{cases_lt}
 use Rattle.std.proofs.lemmas.Cmp.{ranked}
@@ -33,7 +33,7 @@ rising p q h = elim (decided p.location q.location _ h) [
 ]
 
 module _ {V : Type 0} (es : List (Pointstamp × V)) (listed : IsListed point_cmp es) where
-  pub rising_at : (i j : ℕ) (d : Pointstamp × V) → i ≤ j → j < length es
+  rising_at : (i j : ℕ) (d : Pointstamp × V) → i ≤ j → j < length es
       → ((get_or es i d).0.location ≤ (get_or es j d).0.location) × ((get_or es i d).0.location ≡ (get_or es j d).0.location → (get_or es i d).0.time.epoch ≤ (get_or es j d).0.time.epoch)
   rising_at i j d le lt = elim (cases_lt i j) [
     | inl before ↦ rising (get_or es i d).0 (get_or es j d).0 (rises point_cmp point_total es listed i j d before lt)
@@ -42,35 +42,25 @@ module _ {V : Type 0} (es : List (Pointstamp × V)) (listed : IsListed point_cmp
         (omega (arith, ap (λ k. (get_or es k d).0.location) same), λ _. omega (arith, ap (λ k. (get_or es k d).0.time.epoch) same))
   ]
 
-  -- if the last of some entries is at the location of the first, so are those between
-  pub one_run : (first end : ℕ) → end ≤ length es → ((k : ℕ) → k + 1 ≡ end → (d : Pointstamp × V) → (get_or es k d).0.location ≡ (get_or es first d).0.location) → IsRun es first end
-  one_run first end within here k d from upto =
-      let last : end - 1 + 1 ≡ end = omega (arith, upto) in
-      let low = (rising_at first k d from (omega (arith, upto, within))).0 in
-      let high = (rising_at k (end - 1) d (omega (arith, upto)) (omega (arith, upto, within))).0 in
-      let at = here (end - 1) last d in
-      omega (arith, low, high, at)
+  module _ (run : IsRun es 0 (length es)) where
+    -- two entries of a run
+    pub in_run : (i j : ℕ) (x y : Pointstamp × V) → i ≤ j → j < length es → x ≡ get_or es i x → y ≡ get_or es j y → (x.0.location ≡ y.0.location) × (x.0.time.epoch ≤ y.0.time.epoch)
+    in_run i j x y le lt is at =
+        let here : y ≡ get_or es j x = at ∙ get_or_default es j y x lt in
+        let place = run i x (omega arith) (omega (arith, le, lt)) ∙ sym (run j x (omega arith) lt) in
+        let rise = (rising_at i j x le lt).1 place in
+        (ap (λ e. e.0.location) is ∙ place ∙ sym (ap (λ e. e.0.location) here), omega (arith, ap (λ e. e.0.time.epoch) is, rise, ap (λ e. e.0.time.epoch) here))
 
-  -- two entries of a run
-  pub in_run : (first end : ℕ) → IsRun es first end → end ≤ length es → (i j : ℕ) (x y : Pointstamp × V) → first ≤ i → i ≤ j → j < end → x ≡ get_or es i x → y ≡ get_or es j y
-      → (x.0.location ≡ y.0.location) × (x.0.time.epoch ≤ y.0.time.epoch)
-  in_run first end run within i j x y from le upto is at =
-      let lt : j < length es = omega (arith, upto, within) in
-      let here : y ≡ get_or es j x = at ∙ get_or_default es j y x lt in
-      let place = run i x from (omega (arith, le, upto)) ∙ sym (run j x (omega (arith, from, le)) upto) in
-      let rise = (rising_at i j x le lt).1 place in
-      (ap (λ e. e.0.location) is ∙ place ∙ sym (ap (λ e. e.0.location) here), omega (arith, ap (λ e. e.0.time.epoch) is, rise, ap (λ e. e.0.time.epoch) here))
+    -- what is known about the epoch of one entry of a run
+    module _ (i epoch : ℕ) (x : Pointstamp × V) (inside : i < length es) (is : x ≡ get_or es i x) where
+      pub smaller_upto : x.0.time.epoch < epoch → AreSmaller es 0 (i + 1) epoch
+      smaller_upto less k d _ late =
+          let e = get_or es k d in
+          let rise = (in_run k i e x (omega (arith, late)) inside (get_or_default es k d e (omega (arith, late, inside))) is).1 in
+          omega (arith, rise, less)
 
-  -- what is known about the epoch of one entry of a run
-  module _ (first end : ℕ) (run : IsRun es first end) (within : end ≤ length es) (i epoch : ℕ) (x : Pointstamp × V) (from : first ≤ i) (upto : i < end) (is : x ≡ get_or es i x) where
-    pub smaller_upto : x.0.time.epoch < epoch → AreSmaller es first (i + 1) epoch
-    smaller_upto less k d early late =
-        let e = get_or es k d in
-        let rise = (in_run first end run within k i e x early (omega (arith, late)) upto (get_or_default es k d e (omega (arith, late, upto, within))) is).1 in
-        omega (arith, rise, less)
-
-    pub not_smaller_from : (x.0.time.epoch < epoch → ⊥) → AreNotSmaller es i end epoch
-    not_smaller_from never k d early late =
-        let e = get_or es k d in
-        let rise = (in_run first end run within i k x e from early late is (get_or_default es k d e (omega (arith, late, within)))).1 in
-        elim (cases_lt x.0.time.epoch epoch) [ inl less ↦ absurd (never less) | inr more ↦ omega (arith, rise, more) ]
+      pub not_smaller_from : (x.0.time.epoch < epoch → ⊥) → AreNotSmaller es i (length es) epoch
+      not_smaller_from never k d early late =
+          let e = get_or es k d in
+          let rise = (in_run i k x e early late is (get_or_default es k d e late)).1 in
+          elim (cases_lt x.0.time.epoch epoch) [ inl less ↦ absurd (never less) | inr more ↦ omega (arith, rise, more) ]

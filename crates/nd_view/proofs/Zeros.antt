@@ -1,18 +1,15 @@
 -- The list of the points whose precursor count is 0, updated as the counts change one by one.
-use Rattle.std.proofs.Common.{eqb, ◌≡◌, ◌≢◌, ◌<◌, ◌≤◌, ℕ, zero, suc, Bool, true, false, cond, not, List, [], ◌∷◌, ◌++◌, length, get_or, Option, Some, refl, sym, ap, subst, ◌∙◌, inl, inr, arith}
+use Rattle.std.proofs.Common.{eqb, ◌≡◌, ◌≢◌, ◌≤◌, ℕ, zero, suc, Bool, true, false, cond, not, List, [], ◌∷◌, ◌++◌, length, Option, Some, refl, sym, ap, subst, ◌∙◌, inl, inr, arith}
 use Rattle.std.specs.Prelude.{Contains, IsTrue, ◌↔◌}
 use Rattle.std.specs.List.{filter}
 use Rattle.std.specs.FinMap.{find, put}
 use Rattle.std.proofs.lemmas.Bool.{eqb-true, eq-eqb}
 use Rattle.std.proofs.lemmas.List.Elements.{All-contains, All-contains_itself, All-filter, filter_passes, Contains-append_left, Contains-push, Contains-push_cases}
-use Rattle.nd_map.specs.Counts.{keys_of}
-use Rattle.nd_map.specs.Entries.{find-index}
-use Rattle.nd_map.specs.Listed.{IsListed, without}
-use Rattle.nd_paths.specs.Point.{point_cmp, point_total}
+use Rattle.nd_map.specs.Listed.{without}
+use Rattle.nd_paths.specs.Point.{point_cmp}
 use Rattle.nd_paths.specs.declared.point.Pointstamp.{Pointstamp}
 use Rattle.nd_delta.specs.Delta.{is_point}
 use Rattle.nd_view.specs.Kept.{IsFrontierList, IsFrontierBut}
-use Rattle.nd_view.proofs.Early.{many_keys}
 use Rattle.nd_view.proofs.Moves.{alike, apart, itself, found_put, found_other, found_still}
 
 stays_behind : {X : Type 0} (b : Bool) (x : X) (xs : List X) (q : X) → Contains xs q → Contains (cond b (x ∷ xs) xs) q
@@ -98,26 +95,16 @@ pub zero_told : (n : ℕ) (o : Option ℕ) → o ≡ Some n → (IsTrue (eqb n 0
 zero_told n o e = (λ t. e ∙ ap Some (eqb-true n 0 t), λ z. eq-eqb n 0 (let one : Some n ≡ Some 0 = sym e ∙ z in cc))
 
 -- an entry whose number changed
-module _ (es fs : List (Pointstamp × ℕ)) (i n : ℕ) (e : Pointstamp × ℕ) (listed : IsListed point_cmp es) (lt : i < length es) (is : e ≡ get_or es i e)
-    (told : (d : Pointstamp × ℕ) → fs ≡ put point_cmp (get_or es i d).0 n es) where
-  put_there : fs ≡ put point_cmp e.0 n es
-  put_there = told e ∙ ap (λ z. put point_cmp z.0 n es) (sym is)
-
-  pub found_there : find point_cmp e.0 es ≡ Some e.1
-  found_there = ap (λ z. find point_cmp z.0 es) is ∙ find-index point_cmp point_total es i e listed lt ∙ ap (λ z. Some z.1) (sym is)
-
+module _ (es fs : List (Pointstamp × ℕ)) (n : ℕ) (e : Pointstamp × ℕ) (found : find point_cmp e.0 es ≡ Some e.1) (put_is : fs ≡ put point_cmp e.0 n es) where
   pub found_now : find point_cmp e.0 fs ≡ Some n
-  found_now = ap (find point_cmp e.0) put_there ∙ found_put e.0 e.0 n es refl
+  found_now = ap (find point_cmp e.0) put_is ∙ found_put e.0 e.0 n es refl
 
   pub others_there : (q : Pointstamp) → q ≢ e.0 → find point_cmp q fs ≡ find point_cmp q es
-  others_there q ne = ap (find point_cmp q) put_there ∙ same_put es e.0 n q ne
+  others_there q ne = ap (find point_cmp q) put_is ∙ same_put es e.0 n q ne
 
   -- the list is correct as it is, if the number was not 0 and is not
   pub right_still : (frontier : List Pointstamp) (room : ℕ) → IsFrontierList es frontier room → length fs ≡ length es → e.1 ≢ 0 → n ≢ 0 → IsFrontierList fs frontier room
   right_still frontier room h many was now =
       right_without fs frontier frontier e.0 room (right_but es fs frontier e.0 room others_there h)
-      (λ among. was (let one : Some e.1 ≡ Some 0 = sym found_there ∙ h.only e.0 among in cc)) (λ q ne. (λ a. a, λ a. a)) (omega (arith, many, h.enough))
+      (λ among. was (let one : Some e.1 ≡ Some 0 = sym found ∙ h.only e.0 among in cc)) (λ q ne. (λ a. a, λ a. a)) (omega (arith, many, h.enough))
       (λ z. now (let one : Some n ≡ Some 0 = sym found_now ∙ z in cc))
-
-pub same_length : (es fs : List (Pointstamp × ℕ)) → keys_of fs ≡ keys_of es → length fs ≡ length es
-same_length es fs keys = many_keys fs (keys_of es) keys ∙ sym (many_keys es (keys_of es) refl)

@@ -1,13 +1,12 @@
--- Lists of precursor counts: correct, or ready to be moved by one; and lists that differ at one point.
-use Rattle.std.specs.Prelude.{◌≡◌, ◌≢◌, ◌↔◌, ℕ, Bool, List, Contains}
-use Rattle.std.proofs.Common.{get_or}
-use Rattle.std.specs.FinMap.{find, put}
+-- Lists of precursor counts: correct, ready to be moved by one, or still to be counted; and lists that differ at one point.
+use Rattle.std.specs.Prelude.{◌≢◌, ◌↔◌, ℕ, Bool, List, Contains}
+use Rattle.std.specs.FinMap.{find}
 use Rattle.nd_graph.specs.Graph.{Dataflow}
 use Rattle.nd_paths.specs.Point.{point_cmp}
 use Rattle.nd_paths.specs.declared.point.Pointstamp.{Pointstamp}
 use Rattle.nd_delta.specs.Delta.{DeltaValue}
 use Rattle.nd_view.specs.View.{IsCount}
-use Rattle.nd_view.specs.Kept.{IsEarlier, IsKeptAt, IsReady}
+use Rattle.nd_view.specs.Kept.{IsEarlier, IsHeldAt, IsKeptAt, IsReady}
 
 -- t has exactly `count` precursors whose epoch is below the given one
 abbrev pub AreEarlier : Dataflow → DeltaValue → Pointstamp → ℕ → ℕ → Type 0
@@ -21,9 +20,9 @@ AreReady g m x up es = (q : Pointstamp) → IsReady g m x up q (find point_cmp q
 abbrev pub AreCounted : Dataflow → DeltaValue → List (Pointstamp × ℕ) → Type 0
 AreCounted g m es = (q : Pointstamp) → IsKeptAt g m q (find point_cmp q es)
 
--- the new list is the old one with the number n in the entry at `index`
-abbrev pub IsPutAt : ℕ → ℕ → List (Pointstamp × ℕ) → List (Pointstamp × ℕ) → Type 0
-IsPutAt index n old new = (d : Pointstamp × ℕ) → new ≡ put point_cmp (get_or old index d).0 n old
+-- exactly the positive points have a number
+abbrev pub ArePositive : DeltaValue → List (Pointstamp × ℕ) → Type 0
+ArePositive m es = (q : Pointstamp) → IsHeldAt m q (find point_cmp q es)
 
 -- two lists have the same points, except for x
 abbrev pub AreSameBut : Pointstamp → List Pointstamp → List Pointstamp → Type 0

@@ -27,6 +27,11 @@ abbrev pub IsKeptAt : Dataflow → DeltaValue → Pointstamp → Option ℕ → 
 IsKeptAt g m q None = pos 0 <ℤ at m q → ⊥
 IsKeptAt g m q (Some n) = (pos 0 <ℤ at m q) × IsCount (IsPrecursor g m q) m n
 
+-- whether a number is stored for q: one is exactly if q is positive
+abbrev pub IsHeldAt : DeltaValue → Pointstamp → Option ℕ → Type 0
+IsHeldAt m q None = pos 0 <ℤ at m q → ⊥
+IsHeldAt m q (Some n) = pos 0 <ℤ at m q
+
 -- the precursor counts are those of the graph g
 pub record IsFor (g : Dataflow) (v : Kept) : Type 0 where
   pub listed : IsListed point_cmp v.counts

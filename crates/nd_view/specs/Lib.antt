@@ -2,6 +2,7 @@ pub mod Counting
 pub mod Kept
 pub mod Links
 pub mod Room
+pub mod Rows
 pub mod Settled
 pub mod View
 pub mod Views

@@ -71,7 +71,8 @@ impl<A: Allocator + Copy> View<A> {
         requires { IsFor paths.now self.now }
         ensures { IsCount (IsPrecursor paths.now self.now.map point.now) self.now.map result }
     {
-        count_before(&self.counts, self.precursor_counts.entries(), paths, point)
+        let near = self.precursor_counts.at_location(point.location);
+        count_before(&self.counts, &self.precursor_counts, near, paths, point)
     }
 
     // Sets the count of a pointstamp, which stays positive or stays not positive.
@@ -104,7 +105,10 @@ impl<A: Allocator + Copy> View<A> {
         ensures err { OnErr result (self.new.map ≡ self.old.map) }
     {
         let count = self.count_before(paths, point);
-        self.precursor_counts.put(point, count)?;
+        // There are fewer than 2^63 entries, and at most as many precursor counts.
+        let _ = self.entries();
+        let most = self.counts.len() + 1;
+        self.precursor_counts.put(point, count, most)?;
         let Ok(()) = self.counts.put(point, n) else {
             self.precursor_counts.remove(point);
             return Err(AllocError);

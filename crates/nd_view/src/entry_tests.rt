@@ -1,6 +1,6 @@
 //! Tests of entries and pointstamps.
 
-ghost use Rattle.std.specs.Prelude.{◌↔◌, ◌<ℤ◌, pos, Any, IsTrue};
+ghost use Rattle.std.specs.Prelude.{◌↔◌, Any, IsTrue};
 ghost use Rattle.nd_view.specs.View.{IsBefore};
 ghost use Rattle.nd_view.specs.Room.{IsWithinRoom};
 
@@ -35,19 +35,6 @@ pub fn any_before<B: Allocator>(
     points
         .iter()
         .any(|one: &Pointstamp| is_before(one, paths, point, strictly))
-}
-
-/// Returns whether an entry is positive and at or before `point` or, if `strictly`, strictly before it.
-pub fn is_positive_before<B: Allocator>(
-    entry: &(Pointstamp, i64),
-    paths: &Paths<B>,
-    point: &Pointstamp,
-    strictly: bool,
-) -> bool
-    ensures { IsTrue result
-        ↔ ((pos 0 <ℤ entry.now.1) × IsBefore paths.now strictly entry.now.0 point.now) }
-{
-    entry.1 > 0 && is_before(&entry.0, paths, point, strictly)
 }
 
 /// Returns whether it takes memory to replace the integer `old` by `new`.

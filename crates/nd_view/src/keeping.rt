@@ -1,15 +1,16 @@
 //! Precursor counts: counted again, or adjusted when a pointstamp became positive or ceased to be.
 
-ghost use Rattle.std.specs.Prelude.{◌≡◌, ◌↔◌, ◌≤◌, ◌+◌, ◌<◌, ◌^◌, Contains, IsTrue, IfOk, IfSome, length};
+ghost use Rattle.std.specs.Prelude.{◌≡◌, ◌↔◌, ◌≤◌, ◌+◌, ◌<◌, ◌^◌, Contains, IsTrue, IfOk, IfSome};
 ghost use Rattle.nd_map.specs.Listed.{IsListed};
 ghost use Rattle.nd_paths.specs.Point.{point_cmp};
 ghost use Rattle.nd_view.specs.View.{IsPrecursor, IsCount};
-ghost use Rattle.nd_view.specs.Counting.{AreCounted, AreEarlier, AreReady};
+ghost use Rattle.nd_view.specs.Counting.{AreCounted, AreEarlier, ArePositive, AreReady};
 ghost use Rattle.nd_view.specs.Kept.{AreKept, IsNear, IsFor, kept_of, moved};
+ghost use Rattle.nd_view.specs.Rows.{joined};
 
-use crate::links::{epoch_from, is_epochal, is_outside, is_strictly_before, leads, run_end};
+use crate::links::{epoch_from, is_epochal, is_outside, is_strictly_before, leads};
 use crate::precursor_counts::PrecursorCounts;
-use nd_delta::Delta;
+use nd_delta::LargeDelta;
 use nd_paths::{Paths, Pointstamp};
 use std::alloc::{AllocError, Allocator};
 
@@ -49,7 +50,7 @@ fn nearest<'a>(kept: &'a [(Pointstamp, u64)], point: &Pointstamp) -> Option<&'a 
 // Returns what the count of the nearest positive entry says of `point`: up to the epoch of that entry both
 // have the same precursors, except for the entry itself.
 fn known_before<A: Allocator, B: Allocator>(
-    counts: &Delta<A>,
+    counts: &LargeDelta<A>,
     kept: &[(Pointstamp, u64)],
     paths: &Paths<B>,
     point: &Pointstamp,
@@ -79,65 +80,61 @@ fn known_before<A: Allocator, B: Allocator>(
     }
 }
 
-// Returns the number of positive entries strictly before a pointstamp. It adds those whose epochs are not
-// below `known.below` to the known number.
-fn count_from<A: Allocator, B: Allocator>(
-    counts: &Delta<A>,
+// Returns the number of positive pointstamps strictly before one. It adds those whose epochs are not below
+// `known.below` to the known number.
+fn count_from<A: Allocator + Copy, B: Allocator>(
+    counts: &LargeDelta<A>,
+    positive: &PrecursorCounts<A>,
     paths: &Paths<B>,
     point: &Pointstamp,
     known: &Known,
 ) -> u64
-    requires { AreEarlier paths.now counts.now point.now known.now.below known.now.count }
+    requires known { AreEarlier paths.now counts.now point.now known.now.below known.now.count }
+    requires positive { ArePositive counts.now (joined positive.now) }
     ensures { IsCount (IsPrecursor paths.now counts.now point.now) counts.now result }
 {
     // No count is greater than the number of entries, which is a `usize`.
     let _ = counts.len();
-    let entries = counts.entries();
     let mut count = known.count;
-    let mut i = 0;
-    while i < entries.len() {
-        let end = run_end(entries, i);
-        let first = &entries[i].0;
-        if leads(paths, first, point) {
-            let is_epochal = is_epochal(paths, first, point);
-            let start = epoch_from(entries, i, end, known.below);
-            for k in start..end {
-                let entry = &entries[k];
-                if point.time.epoch() < entry.0.time.epoch() {
+    for r in 0..positive.len() {
+        let row = positive.row(r);
+        if row.len() > 0 && leads(paths, &row[0].0, point) {
+            let is_epochal = is_epochal(paths, &row[0].0, point);
+            let start = epoch_from(row, known.below);
+            for k in start..row.len() {
+                let first = &row[k].0;
+                if point.time.epoch() < first.time.epoch() {
                     break;
                 }
-                if entry.1 > 0 && is_strictly_before(paths, is_epochal, &entry.0, point) {
+                if is_strictly_before(paths, is_epochal, first, point) {
                     count += 1;
                 }
             }
         }
-        i = end;
     }
     count
 }
 
-/// Returns the number of positive entries strictly before a pointstamp.
+/// Returns the number of positive pointstamps strictly before `point`. Each entry of `near` has its count.
 ///
-/// It begins with the count of the nearest positive entry, if that entry has no counters. Then each
-/// location from which a walk leads to this one takes time logarithmic in its number of entries, and a test
-/// for each entry whose epoch lies between the two. Otherwise it tests each entry whose epoch is not
-/// greater.
-pub fn count_before<A: Allocator, B: Allocator>(
-    counts: &Delta<A>,
-    kept: &[(Pointstamp, u64)],
+/// If the last entry of `near` before `point` is at the same location, and neither has counters, its count
+/// holds up to its epoch. Each location from which a walk leads to `point` then takes time logarithmic in
+/// its number of entries, and a test for each entry between the two epochs. Otherwise each positive
+/// pointstamp whose epoch is not greater is tested.
+pub fn count_before<A: Allocator + Copy, B: Allocator>(
+    counts: &LargeDelta<A>,
+    positive: &PrecursorCounts<A>,
+    near: &[(Pointstamp, u64)],
     paths: &Paths<B>,
     point: &Pointstamp,
 ) -> u64
-    requires listed { IsListed point_cmp kept.now }
-    requires kept { AreKept paths.now counts.now kept.now }
+    requires listed { IsListed point_cmp near.now }
+    requires kept { AreKept paths.now counts.now near.now }
+    requires positive { ArePositive counts.now (joined positive.now) }
     ensures { IsCount (IsPrecursor paths.now counts.now point.now) counts.now result }
 {
-    count_from(
-        counts,
-        paths,
-        point,
-        &known_before(counts, kept, paths, point),
-    )
+    let known = known_before(counts, near, paths, point);
+    count_from(counts, positive, paths, point, &known)
 }
 
 // Returns one more or one less.
@@ -154,54 +151,80 @@ fn moved_by_one(n: u64, up: bool) -> u64
 ///
 /// At each location to which a walk leads it skips the entries with smaller epochs, in time logarithmic in
 /// their number. Outside loops it adjusts each of the others; inside loops it tests each first.
-pub fn shift<A: Allocator, B: Allocator>(
+pub fn shift<A: Allocator + Copy, B: Allocator>(
     precursor_counts: &mut PrecursorCounts<A>,
-    counts: &Delta<A>,
+    counts: &LargeDelta<A>,
     paths: &Paths<B>,
     point: &Pointstamp,
     up: bool,
 )
-    requires listed { IsListed point_cmp precursor_counts.old }
-    requires ready { AreReady paths.now counts.now point.now up precursor_counts.old }
-    ensures listed { IsListed point_cmp precursor_counts.new }
-    ensures kept { AreCounted paths.now counts.now precursor_counts.new }
+    requires { AreReady paths.now counts.now point.now up (joined precursor_counts.old) }
+    ensures listed { IsListed point_cmp (joined precursor_counts.new) }
+    ensures kept { AreCounted paths.now counts.now (joined precursor_counts.new) }
 {
     // No count is greater than the number of entries, which is a `usize`.
     let _ = counts.len();
-    let mut i = 0;
-    while i < precursor_counts.len() {
-        let entries = precursor_counts.entries();
-        let end = run_end(entries, i);
-        let last = &entries[end - 1].0;
-        if leads(paths, point, last) {
-            let is_epochal = is_epochal(paths, point, last);
-            let start = epoch_from(entries, i, end, point.time.epoch());
+    for r in 0..precursor_counts.len() {
+        let row = precursor_counts.row(r);
+        let end = row.len();
+        if end > 0 && leads(paths, point, &row[end - 1].0) {
+            let is_epochal = is_epochal(paths, point, &row[end - 1].0);
+            let start = epoch_from(row, point.time.epoch());
             for k in start..end {
-                let entry = &precursor_counts.entries()[k];
+                let entry = &precursor_counts.row(r)[k];
                 if is_strictly_before(paths, is_epochal, point, &entry.0) {
                     let n = moved_by_one(entry.1, up);
-                    precursor_counts.put_at(k, n);
+                    precursor_counts.put_at(r, k, n);
                 }
             }
         }
-        i = end;
+    }
+}
+
+// Returns the positive pointstamps, each with the number 1.
+fn positive_points<A: Allocator + Copy>(
+    alloc: A,
+    counts: &LargeDelta<A>,
+) -> Result<PrecursorCounts<A>, AllocError>
+    ensures { IfOk result (λ rows. ArePositive counts.now (joined rows)) }
+{
+    let mut positive = PrecursorCounts::new(alloc);
+    for (point, n) in counts.iter() {
+        if *n > 0 {
+            positive.put(point, 1, counts.len())?;
+        }
+    }
+    Ok(positive)
+}
+
+// Sets the number of each positive pointstamp to the number of positive ones strictly before it.
+fn count_all<A: Allocator + Copy, B: Allocator>(
+    made: &mut PrecursorCounts<A>,
+    counts: &LargeDelta<A>,
+    paths: &Paths<B>,
+)
+    requires { ArePositive counts.now (joined made.old) }
+    ensures listed { IsListed point_cmp (joined made.new) }
+    ensures counted { AreCounted paths.now counts.now (joined made.new) }
+{
+    for r in 0..made.len() {
+        for k in 0..made.row(r).len() {
+            let row = made.row(r);
+            let count = count_before(counts, made, &row[..k], paths, &row[k].0);
+            made.put_at(r, k, count);
+        }
     }
 }
 
 /// Returns for each positive pointstamp the number of positive ones strictly before it.
 pub fn counted_anew<A: Allocator + Copy, B: Allocator>(
     alloc: A,
-    counts: &Delta<A>,
+    counts: &LargeDelta<A>,
     paths: &Paths<B>,
 ) -> Result<PrecursorCounts<A>, AllocError>
-    ensures { IfOk result (λ es. IsFor paths.now (kept_of counts.now es)) }
+    ensures { IfOk result (λ rows. IsFor paths.now (kept_of counts.now (joined rows))) }
 {
-    let mut precursor_counts = PrecursorCounts::new(alloc);
-    for entry in counts.entries() {
-        if entry.1 > 0 {
-            let count = count_before(counts, precursor_counts.entries(), paths, &entry.0);
-            precursor_counts.put(&entry.0, count)?;
-        }
-    }
-    Ok(precursor_counts)
+    let mut made = positive_points(alloc, counts)?;
+    count_all(&mut made, counts, paths);
+    Ok(made)
 }

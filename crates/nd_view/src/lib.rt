@@ -8,8 +8,10 @@ mod entry_tests;
 mod keeping;
 mod links;
 mod precursor_counts;
+mod rows;
 
-ghost use Rattle.std.specs.Prelude.{◌≡◌, ◌↔◌, ◌≤◌, unsigned_abs, OnOk, OnErr, IfOk, IfSome, IsNone, IsTrue, Err};
+ghost use Rattle.std.specs.Prelude.{◌≡◌, ◌↔◌, ◌≤◌, ◌<◌, ◌^◌, ℤ, length, unsigned_abs, OnOk, OnErr, IfOk, IfSome, IsNone, IsTrue, Err};
+ghost use Rattle.std.specs.Map.Iter.{ShowsInOrder, deref_pair};
 ghost use Rattle.nd_time.specs.Limits.{max_count};
 ghost use Rattle.nd_graph.specs.Graph.{Dataflow};
 ghost use Rattle.nd_paths.specs.declared.point.Pointstamp.{Pointstamp};
@@ -19,36 +21,38 @@ ghost use Rattle.nd_delta.specs.Least.{IsLeast};
 ghost use Rattle.nd_view.specs.View.{IsPassed, IsBlocker, IsPrecursor, IsOnFrontier, IsCount, IsPartWhere, IsPositiveBefore};
 ghost use Rattle.nd_view.specs.Kept.{Kept, IsKeptAt, IsFor};
 
+use entry_tests::any_before;
 pub use entry_tests::is_before;
-use entry_tests::{any_before, is_positive_before};
 use keeping::counted_anew;
-use nd_delta::{Delta, DeltaFault};
+use nd_delta::{Delta, DeltaFault, LargeDelta};
+use nd_map::Iter;
 use nd_paths::{Paths, Pointstamp};
 use precursor_counts::PrecursorCounts;
 use std::alloc::{AllocError, Allocator, Global};
 use std::marker::Model;
 
-// A change with more entries rebuilds the complete view: the lists are merged, and each precursor count is
-// counted once.
+// A change with more entries rebuilds the complete view: a copy of the counts is changed, and each
+// precursor count is counted once. `add` calls itself once for each entry, so this also limits its depth.
 const MANY: usize = 200;
 
 /// A finite map from pointstamps to counts other than 0, which may be negative for a while, and for each
 /// positive pointstamp its precursor count: the number of positive ones strictly before it.
 #[derive(Drop)]
 pub struct View<A: Allocator + Copy = Global> {
-    counts: Delta<A>,
+    counts: LargeDelta<A>,
     precursor_counts: PrecursorCounts<A>,
     alloc: A,
 }
 
 impl<A: Allocator + Copy> Model for View<A> {
     ghost use Rattle.nd_view.specs.Kept.{Kept, kept_code};
+    ghost use Rattle.nd_view.specs.Rows.{joined};
 
     ghost Value = { Kept };
 
     ghost coded = { kept_code };
 
-    ghost view = { λ a. record { map = a.counts; counts = a.precursor_counts } };
+    ghost view = { λ a. record { map = a.counts; counts = joined a.precursor_counts } };
 }
 
 impl<A: Allocator + Copy> View<A> {
@@ -58,7 +62,7 @@ impl<A: Allocator + Copy> View<A> {
         ensures for_all { (g : Dataflow) → IsFor g result }
     {
         View {
-            counts: Delta::new(alloc),
+            counts: LargeDelta::new(alloc),
             precursor_counts: PrecursorCounts::new(alloc),
             alloc,
         }
@@ -72,12 +76,21 @@ impl<A: Allocator + Copy> View<A> {
         self.counts.get(point)
     }
 
-    /// Returns the entries in the order of listing.
-    pub fn entries(&self) -> &[(Pointstamp, i64)]
-        ensures listed { result.now ≡ listed self.now.map }
+    /// Returns the counts.
+    pub fn counts(&self) -> &LargeDelta<A>
+        ensures { result.now ≡ self.now.map }
+    {
+        &self.counts
+    }
+
+    /// Returns an iterator over the entries in the order of listing.
+    pub fn entries(&self) -> Iter<'_, Pointstamp, i64>
+        ensures rest { result ≡ listed self.now.map }
+        ensures runs { ShowsInOrder (deref_pair {K = Pointstamp} {X = ℤ}) }
+        ensures fits { length (listed self.now.map) < 2 ^ 63 }
         ensures within { IsWithin self.now.map }
     {
-        self.counts.entries()
+        self.counts.iter()
     }
 
     /// Returns the precursor count of a positive pointstamp by the paths of the earlier calls, and `None` for
@@ -222,9 +235,9 @@ impl<A: Allocator + Copy> View<A> {
         if !self.is_hindered(paths, point, strictly) {
             return None;
         }
-        for entry in self.entries() {
-            if is_positive_before(entry, paths, point, strictly) {
-                return Some(entry.0.copy());
+        for (first, n) in self.entries() {
+            if *n > 0 && is_before(first, paths, point, strictly) {
+                return Some(first.copy());
             }
         }
         None

@@ -67,50 +67,21 @@ pub fn is_strictly_before<B: Allocator>(
     paths.strictly_before(first, second)
 }
 
-/// Returns the index after the last entry at the location of the entry `first`, in time logarithmic in
-/// their number.
+/// Returns the index of the first entry of a row whose epoch is not less than `epoch`, in time logarithmic
+/// in the number of entries.
 #[inline(always)]
-pub fn run_end<V>(entries: &[(Pointstamp, V)], first: usize) -> usize
-    requires listed { IsListed point_cmp entries.now }
-    requires within { first < length entries.now }
-    ensures more { first < result }
-    ensures within { result ≤ length entries.now }
-    ensures run { IsRun entries.now first result }
+pub fn epoch_from<V>(row: &[(Pointstamp, V)], epoch: u32) -> usize
+    requires listed { IsListed point_cmp row.now }
+    requires run { IsRun row.now 0 (length row.now) }
+    ensures upto { result ≤ length row.now }
+    ensures smaller { AreSmaller row.now 0 result epoch }
+    ensures others { AreNotSmaller row.now result (length row.now) epoch }
 {
-    let location = entries[first].0.location;
-    let mut end = first + 1;
-    let mut step = 1;
-    while step <= entries.len() - end && entries[end + step - 1].0.location == location {
-        end += step;
-        step *= 2;
-    }
-    'narrowing: while step > 0 {
-        if step <= entries.len() - end && entries[end + (step - 1)].0.location == location {
-            end += step;
-        }
-        step /= 2;
-    }
-    end
-}
-
-/// Returns the index after the last entry of a run whose epoch is less than `epoch`, in time logarithmic in
-/// their number.
-#[inline(always)]
-pub fn epoch_from<V>(entries: &[(Pointstamp, V)], first: usize, end: usize, epoch: u32) -> usize
-    requires listed { IsListed point_cmp entries.now }
-    requires rise { first ≤ end }
-    requires within { end ≤ length entries.now }
-    requires run { IsRun entries.now first end }
-    ensures from { first ≤ result }
-    ensures upto { result ≤ end }
-    ensures smaller { AreSmaller entries.now first result epoch }
-    ensures others { AreNotSmaller entries.now result end epoch }
-{
-    let mut low = first;
-    let mut high = end;
+    let mut low = 0;
+    let mut high = row.len();
     while low < high {
         let middle = low + (high - low) / 2;
-        if entries[middle].0.time.epoch() < epoch {
+        if row[middle].0.time.epoch() < epoch {
             low = middle + 1;
         } else {
             high = middle;

@@ -1,59 +1,75 @@
 //! The precursor counts of pointstamps, and the list of the pointstamps whose count is 0, changed together.
 
-ghost use Rattle.std.specs.Prelude.{◌≡◌, ◌≢◌, [], ◌↔◌, ◌≤◌, ◌<◌, Contains, IfOk, IsTrue, None, OnErr, OnOk, Some, length, vec_capacity};
+ghost use Rattle.std.specs.Prelude.{◌≡◌, ◌≢◌, [], ◌↔◌, ◌≤◌, ◌<◌, Contains, IfOk, IfSome, IsTrue, None, OnErr, OnOk, Some, length, vec_capacity};
 ghost use Rattle.std.specs.FinMap.{find, put};
-ghost use Rattle.nd_map.specs.Counts.{keys_of};
 ghost use Rattle.nd_map.specs.Listed.{IsListed, without};
 ghost use Rattle.nd_paths.specs.Point.{point_cmp};
-ghost use Rattle.nd_view.specs.Counting.{AreSameBut, IsPutAt};
+ghost use Rattle.nd_view.specs.Counting.{AreSameBut};
 ghost use Rattle.nd_view.specs.Kept.{IsFrontierBut, IsFrontierList};
+ghost use Rattle.nd_view.specs.Links.{IsRun};
+ghost use Rattle.nd_view.specs.Rows.{IsPutIn, joined, points_by_row, row_of};
 
-use nd_map::SortedMap;
+use crate::rows::Rows;
 use nd_paths::Pointstamp;
 use std::alloc::{AllocError, Allocator, Global};
 use std::marker::Model;
 
-/// A map from pointstamps to numbers, seen as the list of its entries.
+/// A map from pointstamps to numbers, seen as the list of its rows: the entries at each location that has
+/// had one, in the order of listing.
 ///
 /// The pointstamps with number 0 are also in a list of their own, in no order, so that reading them does
 /// not visit the others.
 #[derive(Drop)]
 pub struct PrecursorCounts<A: Allocator = Global> {
-    counts: SortedMap<Pointstamp, u64, A>,
+    counts: Rows<A>,
     frontier: Vec<Pointstamp, A>,
 }
 
 impl<A: Allocator> Model for PrecursorCounts<A> {
-    ghost use Rattle.std.specs.Prelude.{ℕ, List, vec_capacity};
-    ghost use Rattle.nd_paths.specs.declared.point.Pointstamp.{Pointstamp as Point};
+    ghost use Rattle.std.specs.Prelude.{List, vec_capacity};
     ghost use Rattle.nd_view.specs.Kept.{IsFrontierList};
+    ghost use Rattle.nd_view.specs.Rows.{Row, joined};
 
-    ghost Value = { List (Point × ℕ) };
+    ghost Value = { List Row };
 
     ghost view = { λ a. a.counts };
 
-    ghost invariant = { λ a. IsFrontierList a.counts a.frontier.items (vec_capacity a.frontier) };
+    ghost invariant = { λ a. IsFrontierList (joined a.counts) a.frontier.items
+        (vec_capacity a.frontier) };
 }
 
 // Lists the pointstamps whose count is 0. It takes no memory.
-fn list_zeros<A: Allocator>(counts: &[(Pointstamp, u64)], frontier: &mut Vec<Pointstamp, A>)
-    requires listed { IsListed point_cmp counts.now }
-    requires room { length counts.now ≤ vec_capacity frontier.old }
-    ensures { IsFrontierList counts.now frontier.new.items (vec_capacity frontier.new) }
+fn list_zeros<A: Allocator + Copy>(counts: &Rows<A>, frontier: &mut Vec<Pointstamp, A>)
+    requires { length (joined counts.now) ≤ vec_capacity frontier.old }
+    ensures { IsFrontierList (joined counts.now) frontier.new.items (vec_capacity frontier.new) }
 {
     frontier.clear();
-    for entry in counts {
-        if entry.1 == 0 {
-            let Ok(()) = frontier.push(entry.0.copy()) else {
-                return;
-            };
+    for r in 0..counts.len() {
+        for entry in counts.row(r) {
+            if entry.1 == 0 {
+                let Ok(()) = frontier.push(entry.0.copy()) else {
+                    return;
+                };
+            }
         }
     }
 }
 
+// Returns the number of entries, or `None` if it exceeds a `usize`.
+fn count_entries<A: Allocator + Copy>(counts: &Rows<A>) -> Option<usize>
+    ensures { IfSome result (λ n. n ≡ length (joined counts.now)) }
+{
+    let mut count: usize = 0;
+    for r in 0..counts.len() {
+        count = count.checked_add(counts.row(r).len())?;
+    }
+    Some(count)
+}
+
 // Returns whether a pointstamp has the number 0.
-fn is_zero_at<A: Allocator>(counts: &SortedMap<Pointstamp, u64, A>, point: &Pointstamp) -> bool
-    ensures { IsTrue result ↔ (find point_cmp point.now counts.now ≡ Some 0) }
+fn is_zero_at<A: Allocator + Copy>(counts: &Rows<A>, point: &Pointstamp) -> bool
+    ensures listed { IsListed point_cmp (joined counts.now) }
+    ensures zero { IsTrue result ↔ (find point_cmp point.now (joined counts.now) ≡ Some 0) }
 {
     match counts.get(point) {
         Some(n) => n == 0,
@@ -79,26 +95,25 @@ fn forget<A: Allocator>(frontier: &mut Vec<Pointstamp, A>, point: &Pointstamp, i
 }
 
 // Corrects the list at `point`, if it is correct at all other pointstamps. It takes no memory.
-fn set_right<A: Allocator>(
-    counts: &[(Pointstamp, u64)],
+fn set_right<A: Allocator + Copy>(
+    counts: &Rows<A>,
     frontier: &mut Vec<Pointstamp, A>,
     point: &Pointstamp,
     was_zero: bool,
     is_zero: bool,
 )
-    requires listed { IsListed point_cmp counts.now }
-    requires room { length counts.now ≤ vec_capacity frontier.old }
-    requires others { IsFrontierBut counts.now frontier.old.items point.now }
+    requires room { length (joined counts.now) ≤ vec_capacity frontier.old }
+    requires others { IsFrontierBut (joined counts.now) frontier.old.items point.now }
     requires fresh { (IsTrue was_zero → ⊥) → Contains frontier.old.items point.now → ⊥ }
-    requires zero { IsTrue is_zero ↔ (find point_cmp point.now counts.now ≡ Some 0) }
-    ensures { IsFrontierList counts.now frontier.new.items (vec_capacity frontier.new) }
+    requires zero { IsTrue is_zero ↔ (find point_cmp point.now (joined counts.now) ≡ Some 0) }
+    ensures { IsFrontierList (joined counts.now) frontier.new.items (vec_capacity frontier.new) }
 {
     forget(frontier, point, was_zero);
     if !is_zero {
         return;
     }
-    // There is room, since there is room for all entries. A list that is too long is rebuilt.
-    if frontier.len() >= counts.len() {
+    // There is room for all entries, so a list without room is too long and is rebuilt.
+    if frontier.len() == frontier.capacity() {
         list_zeros(counts, frontier);
         return;
     }
@@ -107,121 +122,116 @@ fn set_right<A: Allocator>(
     };
 }
 
-impl<A: Allocator> PrecursorCounts<A> {
+impl<A: Allocator + Copy> PrecursorCounts<A> {
     /// Returns the map with no entry. It takes no memory.
     pub fn new(alloc: A) -> PrecursorCounts<A>
-    where
-        A: Copy,
         ensures { result ≡ [] }
     {
         PrecursorCounts {
-            counts: SortedMap::new(alloc),
+            counts: Rows::new(alloc),
             frontier: Vec::new(alloc),
         }
     }
 
     /// Returns the number of a pointstamp, if it has one.
     pub fn get(&self, point: &Pointstamp) -> Option<u64>
-        ensures value { result ≡ find point_cmp point.now self.now }
-        ensures listed { IsListed point_cmp self.now }
+        ensures value { result ≡ find point_cmp point.now (joined self.now) }
+        ensures listed { IsListed point_cmp (joined self.now) }
     {
         self.counts.get(point)
     }
 
-    /// Returns the entries in the order of listing.
-    pub fn entries(&self) -> &[(Pointstamp, u64)]
-        ensures value { result.now ≡ self.now }
-        ensures listed { IsListed point_cmp self.now }
-    {
-        self.counts.entries()
-    }
-
-    /// Returns the number of entries.
+    /// Returns the number of rows.
     pub fn len(&self) -> usize
-        ensures { result ≡ length self.now }
+        ensures value { result ≡ length self.now }
+        ensures listed { IsListed point_cmp (joined self.now) }
     {
         self.counts.len()
     }
 
+    /// Returns the entries of a row, which are at one location, in the order of listing.
+    pub fn row(&self, r: usize) -> &[(Pointstamp, u64)]
+        requires { r < length self.now }
+        ensures value { result.now ≡ row_of self.now r }
+        ensures listed { IsListed point_cmp result.now }
+        ensures run { IsRun result.now 0 (length result.now) }
+        ensures all { IsListed point_cmp (joined self.now) }
+    {
+        self.counts.row(r)
+    }
+
+    /// Returns the entries at a location, in the order of listing.
+    pub fn at_location(&self, location: usize) -> &[(Pointstamp, u64)]
+        ensures listed { IsListed point_cmp result.now }
+        ensures among { (e : _) → Contains result.now e → Contains (joined self.now) e }
+        ensures all { IsListed point_cmp (joined self.now) }
+    {
+        self.counts.at_location(location)
+    }
+
     /// Returns the pointstamps whose number is 0.
     pub fn frontier(&self) -> &[Pointstamp]
-        ensures { IsFrontierList self.now result.now (length self.now) }
+        ensures { IsFrontierList (joined self.now) result.now (length (joined self.now)) }
     {
         &self.frontier
     }
 
-    /// Sets the number of a pointstamp.
-    pub fn put(&mut self, point: &Pointstamp, n: u64) -> Result<(), AllocError>
-        ensures ok { OnOk result (self.new ≡ put point_cmp point.now n self.old) }
-        ensures err { OnErr result (self.new ≡ self.old) }
-        ensures listed { IsListed point_cmp self.new }
-        ensures was_listed { IsListed point_cmp self.old }
+    /// Sets the number of a pointstamp. `most` exceeds the number of entries.
+    pub fn put(&mut self, point: &Pointstamp, n: u64, most: usize) -> Result<(), AllocError>
+        requires { length (joined self.old) < most }
+        ensures ok { OnOk result (joined self.new ≡ put point_cmp point.now n (joined self.old)) }
+        ensures err { OnErr result (joined self.new ≡ joined self.old) }
+        ensures listed { IsListed point_cmp (joined self.new) }
+        ensures was_listed { IsListed point_cmp (joined self.old) }
     {
-        let most = self.entries().len().saturating_add(1);
+        let was_zero = is_zero_at(&self.counts, point);
         self.frontier
             .reserve(most.saturating_sub(self.frontier.len()))?;
-        let was_zero = is_zero_at(&self.counts, point);
         self.counts.put(point, n)?;
-        set_right(
-            self.counts.entries(),
-            &mut self.frontier,
-            point,
-            was_zero,
-            n == 0,
-        );
+        set_right(&self.counts, &mut self.frontier, point, was_zero, n == 0);
         Ok(())
     }
 
-    /// Sets the number of the entry at `index` in the order of listing. It takes no memory.
-    pub fn put_at(&mut self, index: usize, n: u64)
-        requires { index < length self.old }
-        ensures value { IsPutAt index n self.old self.new }
-        ensures keys { keys_of self.new ≡ keys_of self.old }
-        ensures listed { IsListed point_cmp self.new }
-        ensures was_listed { IsListed point_cmp self.old }
+    /// Sets the number of an entry of a row. It takes no memory.
+    pub fn put_at(&mut self, r: usize, k: usize, n: u64)
+        requires row { r < length self.old }
+        requires entry { k < length (row_of self.old r) }
+        ensures value { IsPutIn r k n self.old self.new }
+        ensures points { points_by_row self.new ≡ points_by_row self.old }
+        ensures listed { IsListed point_cmp (joined self.new) }
+        ensures was_listed { IsListed point_cmp (joined self.old) }
     {
-        let was = self.counts.entries()[index].1;
-        self.counts.put_at(index, n);
+        let was = self.counts.row(r)[k].1;
+        self.counts.put_at(r, k, n);
         // The list stays as it is if the number neither was nor is 0.
         if was == 0 || n == 0 {
-            let counts = self.counts.entries();
-            set_right(
-                counts,
-                &mut self.frontier,
-                &counts[index].0,
-                was == 0,
-                n == 0,
-            );
+            let point = &self.counts.row(r)[k].0;
+            set_right(&self.counts, &mut self.frontier, point, was == 0, n == 0);
         }
     }
 
     /// Removes a pointstamp and its number, if it has one. It takes no memory.
     pub fn remove(&mut self, point: &Pointstamp)
-        ensures value { self.new ≡ without point_cmp point.now self.old }
-        ensures listed { IsListed point_cmp self.new }
-        ensures was_listed { IsListed point_cmp self.old }
+        ensures value { joined self.new ≡ without point_cmp point.now (joined self.old) }
+        ensures listed { IsListed point_cmp (joined self.new) }
+        ensures was_listed { IsListed point_cmp (joined self.old) }
     {
         let was_zero = is_zero_at(&self.counts, point);
         self.counts.remove(point);
-        set_right(
-            self.counts.entries(),
-            &mut self.frontier,
-            point,
-            was_zero,
-            false,
-        );
+        set_right(&self.counts, &mut self.frontier, point, was_zero, false);
     }
 
     /// Returns an equal map.
     pub fn copy(&self, alloc: A) -> Result<PrecursorCounts<A>, AllocError>
-    where
-        A: Copy,
         ensures equal { IfOk result (λ m. m ≡ self.now) }
-        ensures listed { IsListed point_cmp self.now }
+        ensures listed { IsListed point_cmp (joined self.now) }
     {
         let counts = self.counts.copy(alloc)?;
-        let mut frontier = Vec::with_capacity(alloc, counts.len())?;
-        list_zeros(counts.entries(), &mut frontier);
+        let Some(most) = count_entries(&counts) else {
+            return Err(AllocError);
+        };
+        let mut frontier = Vec::with_capacity(alloc, most)?;
+        list_zeros(&counts, &mut frontier);
         Ok(PrecursorCounts { counts, frontier })
     }
 }

@@ -1,12 +1,14 @@
-use Rattle.std.proofs.Common.{◌≡◌}
-use Rattle.nd_delta.specs.Delta.{entries}
-use Rattle.nd_delta.specs.Least.{AllUpTo}
+use Rattle.std.proofs.Common.{◌≢◌, None}
+use Rattle.std.specs.FinMap.{find}
+use Rattle.nd_paths.specs.Point.{point_cmp}
+use Rattle.nd_paths.specs.declared.point.Pointstamp.{Pointstamp}
 use Rattle.nd_view.specs.View.{IsPositiveBefore}
+use Rattle.nd_view.proofs.Left.{IsLeft}
 use Rattle.nd_view.proofs.View.least_before.Given as goal
 
--- none of the entries so far is positive and before
-abbrev pub invariant-loop-entry : goal.invariant-loop-entry
-invariant-loop-entry g l = record {
-  items : l.entry-items ≡ entries l.self.map;
-  others : AllUpTo (λ y. IsPositiveBefore l.paths l.self.map l.strictly l.point y → ⊥) (entries l.self.map) l.entry-index;
+-- what is positive and before is among the entries left
+abbrev pub invariant-loop-first : goal.invariant-loop-first
+invariant-loop-first g l = record {
+  left : IsLeft l.self.map l.first-iterator;
+  all : (q : Pointstamp) → IsPositiveBefore l.paths l.self.map l.strictly l.point q → find point_cmp q l.first-iterator ≢ None;
 }

@@ -1,20 +1,19 @@
-use Rattle.std.proofs.Common.{◌≡◌, ◌-◌, length}
-use Rattle.nd_map.specs.Counts.{keys_of}
-use Rattle.nd_view.proofs.Shifts.{IsShifted}
+use Rattle.std.proofs.Common.{◌≡◌, ◌+◌}
+use Rattle.nd_view.specs.Kept.{IsReady}
+use Rattle.nd_view.specs.Rows.{joined, points_by_row}
+use Rattle.nd_view.proofs.Shifts.{IsMovedUpTo}
+use Rattle.nd_view.proofs.Starts.{all_points, start}
 use Rattle.nd_view.proofs.keeping.shift.Given as goal
 
--- the entries so far have their counts
-abbrev pub invariant-loop-i : goal.invariant-loop-i
-invariant-loop-i g l = record {
-  size : length l.precursor_counts ≡ length l.initial.precursor_counts;
-  shifted : IsShifted l.paths l.counts l.point l.up (keys_of l.initial.precursor_counts) l.i l.precursor_counts;
+-- the entries of the rows so far have their counts
+abbrev pub invariant-loop-r : goal.invariant-loop-r
+invariant-loop-r g l = record {
+  points : points_by_row l.precursor_counts ≡ points_by_row l.fn.precursor_counts;
+  moved : IsMovedUpTo l.paths l.counts (IsReady l.paths l.counts l.point l.up) (all_points (points_by_row l.fn.precursor_counts)) (start (points_by_row l.fn.precursor_counts) l.r) (joined l.precursor_counts);
 }
-
-abbrev pub decreases-loop-i : goal.decreases-loop-i
-decreases-loop-i g l = length l.precursor_counts - l.i
 
 abbrev pub invariant-loop-k : goal.invariant-loop-k
 invariant-loop-k g l = record {
-  size : length l.precursor_counts ≡ length l.initial.precursor_counts;
-  shifted : IsShifted l.paths l.counts l.point l.up (keys_of l.initial.precursor_counts) l.k l.precursor_counts;
+  points : points_by_row l.precursor_counts ≡ points_by_row l.fn.precursor_counts;
+  moved : IsMovedUpTo l.paths l.counts (IsReady l.paths l.counts l.point l.up) (all_points (points_by_row l.fn.precursor_counts)) (start (points_by_row l.fn.precursor_counts) l.r + l.k) (joined l.precursor_counts);
 }

@@ -7,11 +7,10 @@ loop-low-preserved-then-epoch g c =
     let h = c.loop-low.invariant in
     let middle = c.loop-low.low + (c.loop-low.high - c.loop-low.low) / 2 in
     record {
-      from = omega (arith, h.from);
       rise = omega (arith, c.loop-low-test.true);
       upto = h.upto;
-      smaller = smaller_upto c.args.entries.now c.requires.listed c.args.first c.args.end c.requires.run c.requires.within middle c.args.epoch c.index-entries-middle.result
-          (omega (arith, h.from)) (omega (arith, c.loop-low-test.true, h.upto)) c.index-entries-middle.is (omega (arith, ap (λ e. e.0.time.epoch) c.index-entries-middle.is, c.epoch.ensures, c.if-epoch.true));
+      smaller = smaller_upto c.args.row.now c.requires.listed c.requires.run middle c.args.epoch c.index-row-middle.result (omega (arith, c.loop-low-test.true, h.upto)) c.index-row-middle.is
+          (omega (arith, ap (λ e. e.0.time.epoch) c.index-row-middle.is, c.epoch.ensures, c.if-epoch.true));
       others = h.others;
     }
 
@@ -20,10 +19,9 @@ loop-low-preserved g c =
     let h = c.loop-low.invariant in
     let middle = c.loop-low.low + (c.loop-low.high - c.loop-low.low) / 2 in
     record {
-      from = h.from;
       rise = omega arith;
       upto = omega (arith, c.loop-low-test.true, h.upto);
       smaller = h.smaller;
-      others = not_smaller_from c.args.entries.now c.requires.listed c.args.first c.args.end c.requires.run c.requires.within middle c.args.epoch c.index-entries-middle.result
-          (omega (arith, h.from)) (omega (arith, c.loop-low-test.true, h.upto)) c.index-entries-middle.is (λ less. absurd (omega (arith, ap (λ e. e.0.time.epoch) c.index-entries-middle.is, c.epoch.ensures, c.if-epoch.false, less)));
+      others = not_smaller_from c.args.row.now c.requires.listed c.requires.run middle c.args.epoch c.index-row-middle.result (omega (arith, c.loop-low-test.true, h.upto)) c.index-row-middle.is
+          (λ less. absurd (omega (arith, ap (λ e. e.0.time.epoch) c.index-row-middle.is, c.epoch.ensures, c.if-epoch.false, less)));
     }
