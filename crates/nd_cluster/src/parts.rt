@@ -14,7 +14,7 @@ ghost use Rattle.nd_protocol.specs.Fitting.{IsAtVertex, IsAtEdge, IsAtLocation, 
 use crate::Cluster;
 use crate::refuse::op_at;
 use crate::start::MAX_PROCESSORS;
-use nd_delta::Delta;
+use nd_delta::{Delta, LargeDelta};
 use nd_graph::{Graph, Op};
 use nd_mesh::Mesh;
 use nd_paths::{Paths, Pointstamp};
@@ -179,13 +179,12 @@ fn change_fits<A: Allocator>(graph: &Graph<A>, change: &Delta<A>) -> bool
     entries_fit(graph, change.entries())
 }
 
-// Returns whether what a processor has not sent is only at pointstamps of the graph.
-fn unsent_fits<A: Allocator + Copy>(graph: &Graph<A>, processor: &Processor<A>) -> bool
-    ensures { IsTrue result
-        ↔ All (λ e. IsAtLocation graph.now e.0) (entries_of processor.now.unsent) }
+// Returns whether the entries of a change that may be large are only at pointstamps of the graph.
+fn counts_fit<A: Allocator>(graph: &Graph<A>, counts: &LargeDelta<A>) -> bool
+    ensures fits { IsTrue result ↔ All (λ e. IsAtLocation graph.now e.0) (entries_of counts.now) }
+    ensures within { DeltaIsWithin counts.now }
 {
-    processor
-        .unsent()
+    counts
         .iter()
         .all(|e: (&Pointstamp, &i64)| is_at_location(graph, e.0))
 }
@@ -221,7 +220,7 @@ fn processor_fits<A: Allocator + Copy>(graph: &Graph<A>, processor: &Processor<A
     if !sinks_fit(graph, processor) {
         return false;
     }
-    unsent_fits(graph, processor)
+    counts_fit(graph, processor.unsent())
 }
 
 // Returns whether each key of some processors is one of the graph.
@@ -243,7 +242,7 @@ fn view_fits<A: Allocator + Copy>(graph: &Graph<A>, view: &View<A>) -> bool
     ensures fits { IsTrue result ↔ DeltaFits graph.now view.now.map }
     ensures within { DeltaIsWithin view.now.map }
 {
-    entries_fit(graph, view.entries())
+    counts_fit(graph, view.counts())
 }
 
 // Returns whether all views have entries only at pointstamps of the graph.

@@ -69,7 +69,7 @@ fn after_views<A: Allocator + Copy>(mut left: u64, views: &[View<A>]) -> Option<
     ensures { Leaves left (sum_by (λ v. size v.map) views.now) result }
 {
     for view in views {
-        left = less(left, view.entries().len())?;
+        left = less(left, view.counts().len())?;
     }
     Some(left)
 }

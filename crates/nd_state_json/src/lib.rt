@@ -13,7 +13,7 @@ use nd_json::{Json, list_of, reply};
 use nd_paths::Pointstamp;
 use nd_time::Timestamp;
 pub use sent::{send_entries, send_integer, send_integers, send_name, send_points, send_time};
-pub use state::send_state;
+pub use state::{send_counts, send_state};
 use std::alloc::{AllocError, Allocator, Global};
 
 /// Returns the name of a location, or an empty text if there is no such location.

@@ -3,12 +3,14 @@ ghost use Rattle.std.specs.Prelude.{◌≡◌, ◌<◌, ◌^◌, IfSome, OnOk, l
 ghost use Rattle.std.specs.List.{zip};
 ghost use Rattle.serde_json.specs.Events.{SendsValue};
 ghost use Rattle.nd_map.specs.Counts.{entries as numbers};
+ghost use Rattle.nd_delta.specs.Delta.{entries};
 ghost use Rattle.nd_mesh.specs.Mesh.{queue, row as queues_from};
 ghost use Rattle.nd_view.specs.Views.{maps};
 ghost use Rattle.nd_state_json.specs.Sent.{SendsEach};
-ghost use Rattle.nd_state_json.specs.StateText.{item_data, items_data, queue_data, queues_data, processor_data, row, state_data};
+ghost use Rattle.nd_state_json.specs.StateText.{entries_data, item_data, items_data, queue_data, queues_data, processor_data, row, state_data};
 
 use crate::sent::{Listed, send_entries, send_integer, send_list, send_name, send_time};
+use nd_delta::LargeDelta;
 use nd_graph::Graph;
 use nd_map::{Iter, Key};
 use nd_mesh::Mesh;
@@ -42,6 +44,18 @@ fn send_map<S: Serializer, K: Listed<V>, V: Copy, A: Allocator>(
         key.send(value, out, graph)?;
     }
     out.end_seq()
+}
+
+/// Sends the entries of a change that may be large, in the order of listing, as [`send_entries`] does.
+pub fn send_counts<S: Serializer, A: Allocator>(
+    out: &mut S,
+    graph: &Graph<A>,
+    counts: &LargeDelta<A>,
+) -> Result<(), S::Error>
+    ensures { OnOk result (SendsValue (entries_data graph.now (entries counts.now))
+        (S.written out.old) (S.written out.new)) }
+{
+    send_map(out, graph, counts.len(), counts.iter())
 }
 
 // ---- items
@@ -146,10 +160,9 @@ fn send_processor<S: Serializer, A: Allocator + Copy>(
     out.key("tokens")?;
     send_list(out, graph, processor.tokens())?;
     out.key("unsent")?;
-    let unsent = processor.unsent();
-    send_map(out, graph, unsent.len(), unsent.iter())?;
+    send_counts(out, graph, processor.unsent())?;
     out.key("view")?;
-    send_entries(out, graph, known.entries())?;
+    send_counts(out, graph, known.counts())?;
     out.end_map()
 }
 

@@ -58,7 +58,7 @@ fn answer_view(alloc: Global, cluster: &Cluster, q: u32) -> Result<Vec<u8>, Allo
     if q >= cluster.n() {
         return text_of(alloc, replies::no_processor(alloc));
     }
-    texts::known(alloc, cluster.graph(), cluster.view(q).entries())
+    texts::known(alloc, cluster.graph(), cluster.view(q).counts())
 }
 
 // Replies with the frontier of a processor's view, made as text.

@@ -1,12 +1,16 @@
 //! The members of objects, each sent to a serializer without a value in memory.
 ghost use Rattle.std.specs.Prelude.{◌≡◌, OnOk, map};
 ghost use Rattle.serde_json.specs.Data.{boolean, string};
+ghost use Rattle.nd_delta.specs.Delta.{entries};
 ghost use Rattle.nd_state_json.specs.Sent.{SendsMember};
 ghost use Rattle.nd_state_json.specs.StateText.{entries_data, natural, place, point_data, row, time_data, whole};
 
+use nd_delta::LargeDelta;
 use nd_graph::Graph;
 use nd_paths::Pointstamp;
-use nd_state_json::{send_entries, send_integer, send_integers, send_name, send_points, send_time};
+use nd_state_json::{
+    send_counts, send_entries, send_integer, send_integers, send_name, send_points, send_time,
+};
 use nd_time::Timestamp;
 use serde::Serializer;
 
@@ -84,6 +88,20 @@ pub(crate) fn entries_at<S: Serializer>(
 {
     out.key(key)?;
     send_entries(out, graph, entries)
+}
+
+/// Sends a key with the entries of a change that may be large.
+pub(crate) fn counts_at<S: Serializer>(
+    out: &mut S,
+    key: &str,
+    graph: &Graph,
+    counts: &LargeDelta,
+) -> Result<(), S::Error>
+    ensures { OnOk result (SendsMember key.now (entries_data graph.now (entries counts.now))
+        (S.written out.old) (S.written out.new)) }
+{
+    out.key(key)?;
+    send_counts(out, graph, counts)
 }
 
 /// Sends a key with a time.

@@ -2,15 +2,17 @@
 ghost use Rattle.std.specs.Prelude.{◌≡◌, IfOk, OnOk, map};
 ghost use Rattle.serde_json.specs.Events.{SendsValue};
 ghost use Rattle.serde_json.specs.Written.{compact_text};
+ghost use Rattle.nd_delta.specs.Delta.{entries};
 ghost use Rattle.nd_state_json.specs.Sent.{SendsMember};
 ghost use Rattle.nd_state_json.specs.StateText.{entries_data, row, state_data};
 ghost use Rattle.nd_timeline.specs.Timeline.{cluster_of};
 ghost use Rattle.rewind_forms.specs.Objects.{object_of};
 ghost use Rattle.rewind_forms.specs.Replies.{exported as exported_data, frontier as frontier_data, known as known_data, state as state_reply};
 
-use crate::sent::{boolean_at, entries_at, natural_at};
+use crate::sent::{boolean_at, counts_at, entries_at, natural_at};
 use crate::sent_steps::send_step;
 use nd_cluster::Cluster;
+use nd_delta::LargeDelta;
 use nd_graph::Graph;
 use nd_paths::Pointstamp;
 use nd_timeline::Timeline;
@@ -89,32 +91,29 @@ pub fn exported(alloc: Global, timeline: &Timeline) -> Result<Vec<u8>, AllocErro
 #[derive(Drop)]
 struct ViewReply<'a> {
     graph: &'a Graph,
-    entries: &'a [(Pointstamp, i64)],
+    counts: &'a LargeDelta,
 }
 
 impl<'a> Described for ViewReply<'a> {
-    ghost writes = { λ k. SendsValue (known_data (entries_data k.graph.now k.entries.now)) };
+    ghost writes = { λ k. SendsValue
+        (known_data (entries_data k.graph.now (entries k.counts.now))) };
 }
 
 impl<'a> Serialize for ViewReply<'a> {
     fn serialize<S: Serializer>(&self, out: &mut S) -> Result<(), S::Error> {
         out.begin_map(Some(2))?;
         boolean_at(out, "ok", true)?;
-        entries_at(out, "view", self.graph, self.entries)?;
+        counts_at(out, "view", self.graph, self.counts)?;
         out.end_map()
     }
 }
 
-/// Returns the text of the reply that shows a view: its entries, in the given order.
-pub fn known(
-    alloc: Global,
-    graph: &Graph,
-    entries: &[(Pointstamp, i64)],
-) -> Result<Vec<u8>, AllocError>
+/// Returns the text of the reply that shows a view with these counts: its entries, in the order of listing.
+pub fn known(alloc: Global, graph: &Graph, counts: &LargeDelta) -> Result<Vec<u8>, AllocError>
     ensures text { IfOk result (λ t. t.items
-        ≡ compact_text (known_data (entries_data graph.now entries.now))) }
+        ≡ compact_text (known_data (entries_data graph.now (entries counts.now)))) }
 {
-    match serde_json::to_vec(alloc, &ViewReply { graph, entries }) {
+    match serde_json::to_vec(alloc, &ViewReply { graph, counts }) {
         Ok(text) => Ok(text),
         Err(_) => Err(AllocError),
     }

@@ -7,13 +7,10 @@ use Rattle.nd_state_json.proofs.state.send_processor.Goals as goal
 pub send_map-requires-3 : goal.send_map-requires-3
 send_map-requires-3 g c = c.count_of-3.ensures ∙ ap length (c.sinks.ensures.rest ∙ sym c.sinks-2.ensures.rest)
 
-pub send_map-requires-4 : goal.send_map-requires-4
-send_map-requires-4 g c = c.len.ensures ∙ sym (ap length c.iter.ensures.rest)
-
 pub returns : goal.returns
 returns g c =
-    let shown = processor_shown c.args.graph.now c.args.processor.now c.args.known.now.map c.records-2.result c.requests-2.result c.sinks-2.result c.tokens.result.now c.iter.result c.entries.result.now
-    c.records-2.ensures.rest c.requests-2.ensures.rest c.sinks-2.ensures.rest c.tokens.ensures (c.iter.ensures.rest ∙ ap entries c.unsent-unsent.ensures) c.entries.ensures.listed in
+    let shown = processor_shown c.args.graph.now c.args.processor.now c.args.known.now.map c.records-2.result c.requests-2.result c.sinks-2.result c.tokens.result.now (entries c.unsent.result.now) (entries c.counts.result.now)
+    c.records-2.ensures.rest c.requests-2.ensures.rest c.sinks-2.ensures.rest c.tokens.ensures (ap entries c.unsent.ensures) (ap entries c.counts.ensures) in
     on_ok_weaker c.end_map.result
     (λ ended. rw (sym shown) (
       _,
@@ -47,12 +44,12 @@ returns g c =
                   _,
                   _,
                   c.in_ok-key-6.ensures,
-                  c.in_ok-send_map-4.ensures,
+                  c.in_ok-send_counts.ensures,
                   (
                     _,
                     _,
                     c.in_ok-key-7.ensures,
-                    c.in_ok-send_entries.ensures,
+                    c.in_ok-send_counts-2.ensures,
                     ended,
                   ),
                 ),

@@ -9,6 +9,6 @@ pub returns : goal.returns
 returns c = record {
   reply =
       let there : c.args.q < length (c.args.cluster.now).processors = omega (arith, c.n.ensures.value) in
-      let listed = c.entries.ensures.listed ∙ ap entries c.view.ensures.map in
+      let listed = ap entries (c.counts.ensures ∙ c.view.ensures.map) in
       IfOk-weaker c.known.result _ _ (λ t text. (_, inr (there, λ i. known (entries_data (c.graph.ensures i) (listed i))), text)) c.known.ensures.text;
 }

@@ -1,4 +1,5 @@
 use Rattle.serde_json.proofs.FreeTexts.{text_of_value}
+use Rattle.nd_delta.specs.Delta.{entries}
 use Rattle.nd_state_json.specs.StateText.{entries_data}
 use Rattle.rewind_forms.specs.Replies.{known as known_data}
 use Rattle.rewind_forms.proofs.NoFloats.{no_float-known}
@@ -9,6 +10,6 @@ returns-in-Ok c = record {
   text =
       let sent = c.in-Ok.ensures.events in
       let g = c.args.graph.now in
-      let entries = c.args.entries.now in
-      text_of_value (known_data (entries_data g entries)) sent.0 c.in-Ok.text.items sent.1 sent.2 (no_float-known g entries);
+      let listed = entries c.args.counts.now in
+      text_of_value (known_data (entries_data g listed)) sent.0 c.in-Ok.text.items sent.1 sent.2 (no_float-known g listed);
 }
