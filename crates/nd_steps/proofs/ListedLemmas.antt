@@ -13,10 +13,11 @@ use Rattle.std.proofs.lemmas.Int.{ints, to_z-of_z, fits_signed_from_abs}
 use Rattle.nd_delta.specs.Delta.{DeltaValue, entries, IsWithin, at-entries, sorted-entries, or_zero}
 use Rattle.nd_protocol.specs.declared.step.Step.{Step}
 use Rattle.nd_steps.specs.Flows.{told_changes}
+use Rattle.nd_steps.specs.Fed.{fed_changes}
 use Rattle.nd_steps.specs.Listed.{leaves, arrives, listed_by, listed}
 use Rattle.nd_steps.specs.Records.{named_by, named}
 use Rattle.nd_steps.specs.declared.record.Changes.{Changes}
-use Rattle.nd_steps.specs.declared.record.Changes.TheVariants.{Each, Flowed, Sent, Received}
+use Rattle.nd_steps.specs.declared.record.Changes.TheVariants.{Each, Flowed, Fed, Sent, Received}
 use Rattle.nd_steps.specs.declared.record.Record.{Record}
 use Rattle.nd_steps.specs.declared.listed.Entry.TheVariants.{Key, Back, Front}
 
@@ -101,6 +102,7 @@ module _ (c : DeltaValue) (within : IsWithin c) (es : List (Pointstamp × ℤ)) 
 named_as_listed : {A : Type 0} (x : Step A) (c : Changes A) → length (listed_by x c) ≡ named_by x c
 named_as_listed x (Each changes) = length-map changes.items Key
 named_as_listed x (Flowed flow) = length-map (told_changes x flow) Key
+named_as_listed x (Fed at) = length-map (fed_changes x at) Key
 named_as_listed x (Sent p part) = length-append (map (leaves p) (entries part)) (Back p ∷ []) ∙ ap (λ n. n + 1) (length-map (entries part) (leaves p))
 named_as_listed x (Received from to change) = length-append (map (arrives to) (entries change)) (Front from to ∷ []) ∙ ap (λ n. n + 1) (length-map (entries change) (arrives to))
 

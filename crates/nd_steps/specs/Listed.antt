@@ -1,15 +1,18 @@
 -- What the record of a step changes, as one list for every kind of step.
-use Rattle.std.specs.Prelude.{ℕ, ℤ, neg_ℤ, List, [], ◌∷◌, ◌++◌, map}
+use Rattle.std.specs.Prelude.{◌≡◌, ℕ, ℤ, neg_ℤ, List, [], ◌∷◌, ◌++◌, map}
 use Rattle.nd_paths.specs.declared.point.Pointstamp.{Pointstamp}
 use Rattle.nd_delta.specs.Delta.{DeltaValue, entries}
+use Rattle.nd_protocol.specs.State.{ClusterState}
 use Rattle.nd_protocol.specs.declared.step.Step.{Step}
 use Rattle.nd_steps.specs.Changes.{at_key}
 use Rattle.nd_steps.specs.Flows.{told_changes}
+use Rattle.nd_steps.specs.Fed.{fed_changes}
+use Rattle.nd_steps.specs.Records.{named_by, MakesBy}
 use Rattle.nd_steps.specs.declared.slot.Slot.TheVariants.{Unsent}
 use Rattle.nd_steps.specs.declared.listed.Entry.{Entry}
 use Rattle.nd_steps.specs.declared.listed.Entry.TheVariants.{Key, View, Back, Front}
 use Rattle.nd_steps.specs.declared.record.Changes.{Changes}
-use Rattle.nd_steps.specs.declared.record.Changes.TheVariants.{Each, Flowed, Sent, Received}
+use Rattle.nd_steps.specs.declared.record.Changes.TheVariants.{Each, Flowed, Fed, Sent, Received}
 use Rattle.nd_steps.specs.declared.record.Record.{Record}
 
 -- an entry of the part that p sends, removed from what is unsent
@@ -32,8 +35,15 @@ listed_received from to change = map (arrives to) (entries change) ++ Front from
 abbrev pub listed_by : {A : Type 0} → Step A → Changes A → List Entry
 listed_by x (Each changes) = map Key changes.items
 listed_by x (Flowed flow) = map Key (told_changes x flow)
+listed_by x (Fed at) = map Key (fed_changes x at)
 listed_by x (Sent p part) = listed_sent p part
 listed_by x (Received from to change) = listed_received from to change
+
+-- the changes ds of a step name what its changes cs name, in the same order, and lead wherever these lead
+pub record TellsWhat {A : Type 0} (x : Step A) (cs ds : Changes A) : Type 0 where
+  pub listed : listed_by x ds ≡ listed_by x cs
+  pub many : named_by x ds ≡ named_by x cs
+  pub makes : (s t : ClusterState) → MakesBy s x cs t → MakesBy s x ds t
 
 -- the keys of maps and the ends of queues that a record changes, in order
 abbrev pub listed : {A : Type 0} → Record A → List Entry

@@ -8,15 +8,17 @@ use Rattle.nd_protocol.specs.Fitting.{IsState}
 use Rattle.nd_protocol.specs.declared.step.Step.{Step}
 use Rattle.nd_steps.specs.Changes.{IsRunnable, applied}
 use Rattle.nd_steps.specs.Flows.{told_changes}
+use Rattle.nd_steps.specs.Fed.{fed_changes}
 use Rattle.nd_steps.specs.declared.change.Change.{Change}
 use Rattle.nd_steps.specs.declared.record.Changes.{Changes}
-use Rattle.nd_steps.specs.declared.record.Changes.TheVariants.{Each, Flowed, Sent, Received}
+use Rattle.nd_steps.specs.declared.record.Changes.TheVariants.{Each, Flowed, Fed, Sent, Received}
 use Rattle.nd_steps.specs.declared.record.Record.{Record}
 
 -- how many keys of maps and ends of queues the changes of a step name; a broadcast names one end for all its queues
 abbrev pub named_by : {A : Type 0} → Step A → Changes A → ℕ
 named_by x (Each changes) = length changes.items
 named_by x (Flowed flow) = length (told_changes x flow)
+named_by x (Fed at) = length (fed_changes x at)
 named_by x (Sent p part) = size part + 1
 named_by x (Received from to change) = size change + 1
 
@@ -28,6 +30,7 @@ named r = named_by r.step r.changes
 abbrev pub AreEqual : {A : Type 0} → Changes A → Changes A → Type 0
 AreEqual (Each changes) (Each others) = others.items ≡ changes.items
 AreEqual (Flowed flow) (Flowed other) = other ≡ flow
+AreEqual (Fed at) (Fed other) = other ≡ at
 AreEqual (Sent p part) (Sent q other) = (q ≡ p) × (other ≡ part)
 AreEqual (Received from to change) (Received k l other) = (k ≡ from) × (l ≡ to) × (other ≡ change)
 AreEqual _ _ = ⊥
@@ -63,6 +66,7 @@ Receives s from to c t = CanReceive s from to c × (received s from to ≡ t)
 abbrev pub MakesBy : {A : Type 0} → ClusterState → Step A → Changes A → ClusterState → Type 0
 MakesBy s x (Each changes) t = RunsTo s changes.items t
 MakesBy s x (Flowed flow) t = RunsTo s (told_changes x flow) t
+MakesBy s x (Fed at) t = RunsTo s (fed_changes x at) t
 MakesBy s x (Sent p part) t = Sends s p part t
 MakesBy s x (Received from to change) t = Receives s from to change t
 

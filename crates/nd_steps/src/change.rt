@@ -1,5 +1,5 @@
 //! A change at one place of a cluster's state: a place, and a number.
-ghost use Rattle.std.specs.Prelude.{◌≡◌, pos};
+ghost use Rattle.std.specs.Prelude.{◌≡◌, IsTrue, pos};
 ghost use Rattle.nd_steps.specs.Changes.{inverse};
 ghost use Rattle.nd_steps.specs.Undone.{IsGain};
 
@@ -37,6 +37,13 @@ impl Change {
             slot: self.slot.copy(),
             n: self.n,
         }
+    }
+
+    // Returns whether the two changes are equal.
+    pub(crate) fn same(&self, other: &Change) -> bool
+        ensures { IsTrue result → self.now ≡ other.now }
+    {
+        self.p == other.p && self.slot.same(&other.slot) && self.n == other.n
     }
 
     /// Returns the change that undoes this one.

@@ -4,6 +4,7 @@ ghost use Rattle.nd_protocol.specs.State.{ClusterState};
 ghost use Rattle.nd_protocol.specs.Fitting.{IsState};
 ghost use Rattle.nd_steps.specs.Records.{Makes, CameFrom, IsWhere, IsBackAt};
 
+use crate::told::Told;
 use crate::{Changes, Parts, Record};
 use std::alloc::{AllocError, Allocator};
 
@@ -16,8 +17,12 @@ impl<A: Allocator + Copy> Parts<A> {
         ensures err { OnErr result (self.new ≡ self.old) }
     {
         match &planned.changes {
-            Changes::Each(changes) => self.make_all(changes),
-            Changes::Flowed(flow) => self.make_all(&flow.told(&planned.step)),
+            Changes::Each(changes) => self.make_all(&Told::whole(changes)),
+            Changes::Flowed(flow) => self.make_all(&Told::whole(&flow.told(&planned.step))),
+            Changes::Fed(at) => {
+                let rest = at.rest(&planned.step);
+                self.make_all(&at.told(&planned.step, &rest))
+            }
             Changes::Sent { p, part } => self.send(*p as usize, part),
             Changes::Received { from, to, change } => {
                 self.receive(*from as usize, *to as usize, change)
@@ -32,8 +37,12 @@ impl<A: Allocator + Copy> Parts<A> {
         ensures err { OnErr result (self.new ≡ self.old) }
     {
         match &made.changes {
-            Changes::Each(changes) => self.undo_all(changes),
-            Changes::Flowed(flow) => self.undo_all(&flow.told(&made.step)),
+            Changes::Each(changes) => self.undo_all(&Told::whole(changes)),
+            Changes::Flowed(flow) => self.undo_all(&Told::whole(&flow.told(&made.step))),
+            Changes::Fed(at) => {
+                let rest = at.rest(&made.step);
+                self.undo_all(&at.told(&made.step, &rest))
+            }
             Changes::Sent { p, part } => self.unsend(*p as usize, part),
             Changes::Received { from, to, change } => {
                 self.unreceive(alloc, *from as usize, *to as usize, change)

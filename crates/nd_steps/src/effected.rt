@@ -16,6 +16,7 @@ ghost use Rattle.nd_steps.specs.Altering.{sent_row, longer_row, longer_rows, rec
 use crate::draft::sorted;
 use crate::receive::count_after;
 use crate::record::copied;
+use crate::told::Told;
 use crate::{Altered, Change, Changes, Effect, Parts, Record};
 use nd_delta::Delta;
 use nd_mesh::Mesh;
@@ -24,7 +25,7 @@ use nd_view::View;
 use std::alloc::{AllocError, Allocator};
 
 // Returns the changes in the order of their places.
-fn in_order<A: Allocator + Copy>(alloc: A, changes: &[Change]) -> Result<Vec<Change, A>, AllocError>
+fn in_order<A: Allocator + Copy>(alloc: A, changes: &Told<'_>) -> Result<Vec<Change, A>, AllocError>
     ensures same { IfOk result (λ v. IsPermutation changes.now v.items) }
     ensures order { IfOk result (λ v. AreByPlace v.items) }
 {
@@ -142,7 +143,7 @@ fn shorter<A: Allocator + Copy>(mesh: &Mesh<A>, from: u32, to: u32) -> Altered<u
 
 impl<A: Allocator + Copy> Parts<A> {
     // Returns the effect of changes of the processors.
-    fn changes_effect(&self, alloc: A, changes: &[Change]) -> Result<Effect<A>, AllocError>
+    fn changes_effect(&self, alloc: A, changes: &Told<'_>) -> Result<Effect<A>, AllocError>
         requires { (t : ClusterState) × RunsExactly self.now changes.now t }
         ensures { IfOk result (IsEffectTo self.now (RunsTo self.now changes.now)) }
     {
@@ -189,8 +190,14 @@ impl<A: Allocator + Copy> Parts<A> {
         ensures { IfOk result (IsEffectTo self.now (Makes self.now planned.now)) }
     {
         match &planned.changes {
-            Changes::Each(changes) => self.changes_effect(alloc, changes),
-            Changes::Flowed(flow) => self.changes_effect(alloc, &flow.told(&planned.step)),
+            Changes::Each(changes) => self.changes_effect(alloc, &Told::whole(changes)),
+            Changes::Flowed(flow) => {
+                self.changes_effect(alloc, &Told::whole(&flow.told(&planned.step)))
+            }
+            Changes::Fed(at) => {
+                let rest = at.rest(&planned.step);
+                self.changes_effect(alloc, &at.told(&planned.step, &rest))
+            }
             Changes::Sent { p, part } => self.sent_effect(alloc, *p, part),
             Changes::Received { from, to, change } => {
                 self.received_effect(alloc, *from, *to, change)

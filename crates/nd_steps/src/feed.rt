@@ -34,7 +34,7 @@ fn closes(epoch: u32) -> i128
 }
 
 // Returns the number that is added when a token moves to epoch `n`.
-fn moves(epoch: u32, n: u32) -> i128
+pub(crate) fn moves(epoch: u32, n: u32) -> i128
     ensures value { result ≡ pos n -ℤ pos epoch }
     ensures fits { FitsSigned w128 result }
 {

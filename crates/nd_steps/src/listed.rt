@@ -3,6 +3,7 @@ ghost use Rattle.std.specs.Prelude.{◌≡◌, length, map, slice_get};
 ghost use Rattle.nd_steps.specs.Listed.{listed_sent, listed_received, listed};
 ghost use Rattle.nd_steps.specs.Records.{named};
 
+use crate::told::Told;
 use crate::{Change, Changes, Record, Slot};
 use nd_delta::Delta;
 use nd_paths::Pointstamp;
@@ -40,13 +41,13 @@ impl<'a, A: Allocator + Copy> Model for Entries<'a, A> {
 }
 
 // Returns change `i` of a feed, a take or a notice.
-fn of_step(changes: &[Change], i: usize) -> Option<Entry>
+fn of_step(changes: &Told<'_>, i: usize) -> Option<Entry>
     ensures { result ≡ slice_get (map Entry.Key changes.now) i }
 {
-    match changes.get(i) {
-        Some(change) => Some(Entry::Key(change.copy())),
-        None => None,
+    if i >= changes.len() {
+        return None;
     }
+    Some(Entry::Key(changes.get(i)))
 }
 
 // Returns change `i` of a broadcast: first the entries of its part, and then the ends of the queues.
@@ -93,8 +94,9 @@ impl<A: Allocator + Copy> Record<A> {
         ensures { result ≡ slice_get (listed self.now) i }
     {
         match &self.changes {
-            Changes::Each(changes) => of_step(changes, i),
-            Changes::Flowed(flow) => of_step(&flow.told(&self.step), i),
+            Changes::Each(changes) => of_step(&Told::whole(changes), i),
+            Changes::Flowed(flow) => of_step(&Told::whole(&flow.told(&self.step)), i),
+            Changes::Fed(at) => of_step(&at.told(&self.step, &at.rest(&self.step)), i),
             Changes::Sent { p, part } => of_sent(*p, part, i),
             Changes::Received { from, to, change } => of_received(*from, *to, change, i),
         }

@@ -1,5 +1,5 @@
 //! Receives: the front of a queue is added to the receiver's view.
-ghost use Rattle.std.specs.Prelude.{◌≡◌, ◌↔◌, ◌<◌, ◌≤◌, ◌*◌, ◌+ℤ◌, unsigned_abs, length, slice_get, Some, IfErr, IfOk, IsTrue, OnErr, OnOk};
+ghost use Rattle.std.specs.Prelude.{◌≡◌, ◌<◌, ◌≤◌, ◌*◌, ◌+ℤ◌, unsigned_abs, length, slice_get, Some, IfErr, IfOk, OnErr, OnOk};
 ghost use Rattle.nd_time.specs.Limits.{max_count};
 ghost use Rattle.nd_delta.specs.Delta.{at, plus, IsTooLarge};
 ghost use Rattle.nd_mesh.specs.Mesh.{queue};
@@ -9,19 +9,12 @@ ghost use Rattle.nd_steps.specs.Refused.{ReceiveFails};
 ghost use Rattle.nd_steps.specs.Records.{CanReceive, Receives, CameFrom, IsBackAt};
 
 use crate::Parts;
-use nd_delta::{Delta, LIMIT};
+use nd_delta::Delta;
 use nd_mesh::Mesh;
 use nd_paths::Pointstamp;
 use nd_protocol::Refusal;
 use nd_view::View;
 use std::alloc::{AllocError, Allocator};
-
-// Returns whether a count exceeds its limit.
-fn passes_limit(n: i64) -> bool
-    ensures { IsTrue result ↔ (max_count < unsigned_abs n) }
-{
-    n > LIMIT || n < -LIMIT
-}
 
 // Returns the count of an entry's pointstamp if the entry were added to a view.
 pub(crate) fn count_after<A: Allocator + Copy>(view: &View<A>, entry: &(Pointstamp, i64)) -> i64
@@ -30,20 +23,6 @@ pub(crate) fn count_after<A: Allocator + Copy>(view: &View<A>, entry: &(Pointsta
     ensures fits { unsigned_abs result ≤ 2 * max_count }
 {
     view.get(&entry.0) + entry.1
-}
-
-// Returns whether some count would exceed its limit if `change` were added to a view. It takes no memory.
-fn is_overfull<A: Allocator + Copy>(view: &View<A>, change: &Delta<A>) -> bool
-    ensures { IsTrue result ↔ IsTooLarge (plus view.now.map change.now) }
-{
-    // The present counts do not exceed it.
-    let _counts = view.entries();
-    for entry in change.entries() {
-        if passes_limit(count_after(view, entry)) {
-            return true;
-        }
-    }
-    false
 }
 
 /// Returns the change that a receive adds to a view, or why the receive is refused.
@@ -63,7 +42,7 @@ pub fn planned_front<A: Allocator + Copy>(
     let Some(front) = mesh.get(from, to, 0) else {
         return Err(Refusal::QueueEmpty);
     };
-    if is_overfull(view, front) {
+    if view.counts().is_overfull(front, false) {
         return Err(Refusal::DeltaFull);
     }
     let Ok(change) = front.copy(alloc) else {

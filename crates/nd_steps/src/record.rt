@@ -1,8 +1,10 @@
 //! Records of steps: the changes of each.
 ghost use Rattle.std.specs.Prelude.{◌≡◌, IfOk};
 ghost use Rattle.nd_steps.specs.Records.{named, AreEqual, MakesWhat};
+ghost use Rattle.nd_steps.specs.Listed.{listed, TellsWhat};
 
-use crate::{Change, Flow};
+use crate::told::Told;
+use crate::{Change, FedAt, Flow};
 use nd_delta::Delta;
 use nd_protocol::Step;
 use std::alloc::{AllocError, Allocator, Global};
@@ -14,6 +16,8 @@ pub enum Changes<A: Allocator + Copy = Global> {
     Each(Vec<Change, A>),
     /// The part of a take's changes that the step doesn't determine: so small that many steps can be kept.
     Flowed(Flow),
+    /// The same of a feed's changes, if they list its values in order.
+    Fed(FedAt),
     /// A part of what is unsent is appended to every queue from `p`.
     Sent {
         p: u32,
@@ -45,13 +49,14 @@ impl<A: Allocator + Copy> Drop for Record<A> {
 // Copies changes.
 pub(crate) fn copied<A: Allocator + Copy>(
     alloc: A,
-    changes: &[Change],
+    changes: &Told<'_>,
 ) -> Result<Vec<Change, A>, AllocError>
     ensures { IfOk result (λ v. v.items ≡ changes.now) }
 {
-    let mut list = Vec::with_capacity(alloc, changes.len())?;
-    for change in changes {
-        list.push(change.copy())?;
+    let count = changes.len();
+    let mut list = Vec::with_capacity(alloc, count)?;
+    for i in 0..count {
+        list.push(changes.get(i))?;
     }
     Ok(list)
 }
@@ -62,8 +67,9 @@ impl<A: Allocator + Copy> Changes<A> {
         ensures { IfOk result (AreEqual self.now) }
     {
         match self {
-            Changes::Each(changes) => Ok(Changes::Each(copied(alloc, changes)?)),
+            Changes::Each(changes) => { Ok(Changes::Each(copied(alloc, &Told::whole(changes))?)) }
             Changes::Flowed(flow) => Ok(Changes::Flowed(*flow)),
+            Changes::Fed(at) => Ok(Changes::Fed(*at)),
             Changes::Sent { p, part } => Ok(Changes::Sent {
                 p: *p,
                 part: part.copy(alloc)?,
@@ -74,6 +80,18 @@ impl<A: Allocator + Copy> Changes<A> {
                 change: change.copy(alloc)?,
             }),
         }
+    }
+
+    // Returns the same changes of a step, with a `FedAt` in place of a list if one stands for it.
+    fn small(self, step: &Step<A>) -> Changes<A>
+        ensures { TellsWhat step.now self result }
+    {
+        if let Changes::Each(list) = &self {
+            if let Some(at) = FedAt::telling(step, list) {
+                return Changes::Fed(at);
+            }
+        }
+        self
     }
 }
 
@@ -86,6 +104,7 @@ impl<A: Allocator + Copy> Record<A> {
         match &self.changes {
             Changes::Each(changes) => changes.len(),
             Changes::Flowed(flow) => flow.told(&self.step).len(),
+            Changes::Fed(at) => at.told(&self.step, &at.rest(&self.step)).len(),
             Changes::Sent { p: _, part } => part.entries().len() + 1,
             Changes::Received {
                 from: _,
@@ -113,5 +132,18 @@ impl<A: Allocator + Copy> Record<A> {
             step: self.step.copy(alloc)?,
             changes: self.changes.copy(alloc)?,
         })
+    }
+
+    /// Returns a record of the same step with the same changes in the same order. It holds a [`FedAt`] in
+    /// place of a list for which it finds one.
+    pub fn small(self) -> Record<A>
+        ensures step { result.step ≡ self.step }
+        ensures listed { listed result ≡ listed self }
+        ensures many { named result ≡ named self }
+        ensures makes { MakesWhat self result }
+    {
+        let Record { step, changes } = self;
+        let changes = changes.small(&step);
+        Record { step, changes }
     }
 }

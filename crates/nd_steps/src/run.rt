@@ -4,6 +4,7 @@ ghost use Rattle.nd_steps.specs.Changes.{inverse, made, applied, Fits, FindsNoth
 ghost use Rattle.nd_steps.specs.Records.{RunsTo, CameFrom, IsBackAt};
 
 use crate::making::make_in;
+use crate::told::Told;
 use crate::{Change, Parts};
 use std::alloc::{AllocError, Allocator};
 
@@ -31,15 +32,18 @@ impl<A: Allocator + Copy> Parts<A> {
 
     // Applies changes, one after the other. If memory runs out midway, it undoes those that it has applied, by
     // removals.
-    pub(crate) fn make_all(&mut self, changes: &[Change]) -> Result<(), AllocError>
+    pub(crate) fn make_all(&mut self, changes: &Told<'_>) -> Result<(), AllocError>
         requires { IsRunnable self.old changes.now }
         ensures ok { OnOk result (self.new ≡ applied self.old changes.now) }
         ensures err { OnErr result (self.new ≡ self.old) }
     {
-        for i in 0..changes.len() {
-            let Ok(()) = self.make(&changes[i]) else {
+        let count = changes.len();
+        for i in 0..count {
+            let change = changes.get(i);
+            let Ok(()) = self.make(&change) else {
                 for j in (0..i).rev() {
-                    let Ok(()) = self.undo(&changes[j]) else {
+                    let past = changes.get(j);
+                    let Ok(()) = self.undo(&past) else {
                         return Err(AllocError);
                     };
                 }
@@ -50,16 +54,18 @@ impl<A: Allocator + Copy> Parts<A> {
     }
 
     // Undoes changes, from the last to the first. If memory runs out midway, it redoes those that it has undone.
-    pub(crate) fn undo_all(&mut self, changes: &[Change]) -> Result<(), AllocError>
+    pub(crate) fn undo_all(&mut self, changes: &Told<'_>) -> Result<(), AllocError>
         requires { CameFrom (λ s. RunsTo s changes.now self.old) }
         ensures ok { OnOk result (IsBackAt (λ s. RunsTo s changes.now self.old) self.new) }
         ensures err { OnErr result (self.new ≡ self.old) }
     {
         let count = changes.len();
         for i in (0..count).rev() {
-            let Ok(()) = self.undo(&changes[i]) else {
+            let change = changes.get(i);
+            let Ok(()) = self.undo(&change) else {
                 for j in i + 1..count {
-                    let Ok(()) = self.make(&changes[j]) else {
+                    let past = changes.get(j);
+                    let Ok(()) = self.make(&past) else {
                         return Err(AllocError);
                     };
                 }

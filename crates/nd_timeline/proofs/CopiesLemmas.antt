@@ -8,10 +8,12 @@ use Rattle.nd_protocol.specs.declared.step.Step.{Step}
 use Rattle.nd_steps.specs.Standing.{changed}
 use Rattle.nd_steps.specs.Records.{named, named_by, AreEqual, Makes}
 use Rattle.nd_steps.specs.Flows.{told_changes}
+use Rattle.nd_steps.specs.Fed.{fed_changes}
+use Rattle.nd_steps.specs.declared.fed_at.FedAt.{FedAt}
 use Rattle.nd_steps.specs.declared.flow.Flow.{Flow}
 use Rattle.nd_steps.specs.declared.record.Record.{Record}
 use Rattle.nd_steps.specs.declared.record.Changes.{Changes}
-use Rattle.nd_steps.specs.declared.record.Changes.TheVariants.{Each, Flowed, Sent, Received}
+use Rattle.nd_steps.specs.declared.record.Changes.TheVariants.{Each, Flowed, Fed, Sent, Received}
 use Rattle.nd_cluster.specs.Records.{shared, IsPlanned}
 use Rattle.nd_timeline.specs.Timeline.{TimelineValue}
 use Rattle.nd_timeline.specs.Reached.{steps_of, ArePlanned, IsReached, IsCopy, AreCopies}
@@ -21,21 +23,27 @@ module _ {A : Type 0} where
   names : (x : Step A) (cs ds : Changes A) → AreEqual cs ds → named_by x ds ≡ named_by x cs
   names x (Each cs) (Each ds) is = ap length is
   names x (Flowed f) (Flowed h) is = ap (λ (h : Flow). length (told_changes x h)) is
+  names x (Fed f) (Fed h) is = ap (λ (h : FedAt). length (fed_changes x h)) is
   names x (Sent p c) (Sent q d) is = ap (λ (d : DeltaValue). size d + 1) is.1
   names x (Received from to c) (Received k l d) is = ap (λ (d : DeltaValue). size d + 1) is.2
   names x _ _ is = absurd is
 
-  -- a copy is planned wherever the record is
-  pub copy_planned : (s : ClusterState) (r q : Record A) → q.step ≡ r.step → AreEqual r.changes q.changes → (Makes s r (stepped s r.step) → Makes s q (stepped s r.step)) → IsPlanned r s → IsPlanned q s
-  copy_planned s r q step equal makes h =
+  -- a record of the same step is planned wherever r is, if it names as much and leads where r leads
+  pub likewise_planned : (s : ClusterState) (r q : Record A) → q.step ≡ r.step → named q ≡ named r → (Makes s r (stepped s r.step) → Makes s q (stepped s r.step)) → IsPlanned r s → IsPlanned q s
+  likewise_planned s r q step count makes h =
       let same : r.step ≡ q.step = sym step in
-      let count : named q ≡ named r = ap (λ (x : Step A). named_by x q.changes) step ∙ names r.step r.changes q.changes equal in
       record {
         state = h.state;
         enabled = subst (λ (x : Step A). IsEnabled s x) same h.enabled;
         makes = subst (λ (x : Step A). Makes s q (stepped s x)) same (makes h.makes);
         small = subst (λ (x : Step A). named q + shared s x ≡ changed s (stepped s x)) same (ap (λ n. n + shared s r.step) count ∙ h.small);
       }
+
+  -- a copy is planned wherever the record is
+  pub copy_planned : (s : ClusterState) (r q : Record A) → q.step ≡ r.step → AreEqual r.changes q.changes → (Makes s r (stepped s r.step) → Makes s q (stepped s r.step)) → IsPlanned r s → IsPlanned q s
+  copy_planned s r q step equal makes h =
+      let count : named q ≡ named r = ap (λ (x : Step A). named_by x q.changes) step ∙ names r.step r.changes q.changes equal in
+      likewise_planned s r q step count makes h
 
   planned_copies : (s : ClusterState) (rs qs : List (Record A)) → AreCopies rs qs → ArePlanned s rs → ArePlanned s qs
   planned_copies s [] [] is h = tt

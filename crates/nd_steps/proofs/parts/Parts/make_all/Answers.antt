@@ -11,33 +11,33 @@ pub make-requires : goal.make-requires
 make-requires g c =
     let s : ClusterState = c.args.self.now in
     let cs : List Change = c.args.changes.now in
-    let lt : c.loop-i.i < length cs = omega (arith, c.loop-i-test.true) in
-    fits_now s cs c.requires c.loop-i.i c.index-changes-i.result c.index-changes-i.is lt c.loop-i.self c.loop-i.invariant
+    let lt : c.loop-i.i < length cs = omega (arith, c.loop-i-test.true, c.len-count.ensures) in
+    fits_now s cs c.requires c.loop-i.i c.get-change.result c.get-change.ensures lt c.loop-i.self c.loop-i.invariant
 
 pub loop-i-preserved : goal.loop-i-preserved
 loop-i-preserved g c =
     let s : ClusterState = c.args.self.now in
     let cs : List Change = c.args.changes.now in
-    let lt : c.loop-i.i < length cs = omega (arith, c.loop-i-test.true) in
-    c.in-Ok.ensures.ok ∙ next_here s cs c.requires c.loop-i.i c.index-changes-i.result c.index-changes-i.is lt c.loop-i.self c.loop-i.invariant
+    let lt : c.loop-i.i < length cs = omega (arith, c.loop-i-test.true, c.len-count.ensures) in
+    c.in-Ok.ensures.ok ∙ next_here s cs c.requires c.loop-i.i c.get-change.result c.get-change.ensures lt c.loop-i.self c.loop-i.invariant
 
 pub undo-requires : goal.undo-requires
 undo-requires g c =
     let s : ClusterState = c.args.self.now in
     let cs : List Change = c.args.changes.now in
-    let lt : c.loop-j.j - 1 < length cs = omega (arith, c.loop-i-test.true, c.loop-j.invariant.before, c.loop-j-test.true) in
+    let lt : c.loop-j.j - 1 < length cs = omega (arith, c.loop-i-test.true, c.len-count.ensures, c.loop-j.invariant.before, c.loop-j-test.true) in
     let above : c.loop-j.j ≡ c.loop-j.j - 1 + 1 = omega (arith, c.loop-j-test.true) in
-    fits_here s cs c.requires (c.loop-j.j - 1) c.index-changes-j.result c.index-changes-j.is lt c.loop-j.self c.loop-j.j above c.loop-j.invariant.now
+    fits_here s cs c.requires (c.loop-j.j - 1) c.get-past.result c.get-past.ensures lt c.loop-j.self c.loop-j.j above c.loop-j.invariant.now
 
 pub loop-j-preserved : goal.loop-j-preserved
 loop-j-preserved g c =
     let s : ClusterState = c.args.self.now in
     let cs : List Change = c.args.changes.now in
-    let lt : c.loop-j.j - 1 < length cs = omega (arith, c.loop-i-test.true, c.loop-j.invariant.before, c.loop-j-test.true) in
+    let lt : c.loop-j.j - 1 < length cs = omega (arith, c.loop-i-test.true, c.len-count.ensures, c.loop-j.invariant.before, c.loop-j-test.true) in
     let above : c.loop-j.j ≡ c.loop-j.j - 1 + 1 = omega (arith, c.loop-j-test.true) in
     record {
       now = c.in-Ok-undo.ensures.ok
-          ∙ back_here s cs c.requires (c.loop-j.j - 1) c.index-changes-j.result c.index-changes-j.is lt c.loop-j.self c.loop-j.j above c.loop-j.invariant.now;
+          ∙ back_here s cs c.requires (c.loop-j.j - 1) c.get-past.result c.get-past.ensures lt c.loop-j.self c.loop-j.j above c.loop-j.invariant.now;
       before = omega (arith, c.loop-j.invariant.before);
     }
 
@@ -49,5 +49,5 @@ returns-in_default-clause-err g c =
 pub returns-clause-ok : goal.returns-clause-ok
 returns-clause-ok g c =
     let cs : List Change = c.args.changes.now in
-    let past : length cs ≤ c.loop-i.i = omega (arith, c.loop-i-test.false) in
+    let past : length cs ≤ c.loop-i.i = omega (arith, c.loop-i-test.false, c.len-count.ensures) in
     c.loop-i.invariant ∙ all_made c.args.self.now cs c.loop-i.i past

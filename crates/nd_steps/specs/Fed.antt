@@ -1,0 +1,50 @@
+-- The changes of a feed whose values arrive one by one: on one edge, at one processor, in the order in which they are fed.
+use Rattle.std.specs.Prelude.{ℕ, ℤ, pos, negsuc, ◌-ℤ◌, cond, nat_eq, List, [], ◌∷◌, ◌++◌, length, map}
+use Rattle.nd_protocol.specs.Steps.{flat, point_at, record_key}
+use Rattle.nd_protocol.specs.declared.step.Step.{Step}
+use Rattle.nd_protocol.specs.declared.step.Step.TheVariants.{Feed, Take, Notice, Release, Broadcast, Receive}
+use Rattle.nd_steps.specs.Changes.{at_key}
+use Rattle.nd_steps.specs.Drafts.{some_of}
+use Rattle.nd_steps.specs.declared.change.Change.{Change}
+use Rattle.nd_steps.specs.declared.slot.Slot.TheVariants.{Records, Token, Unsent}
+use Rattle.nd_steps.specs.declared.fed_at.FedAt.{FedAt}
+
+-- the values of a feed; none if the step is not a feed
+abbrev pub values_of : {A : Type 0} → Step A → List ℤ
+values_of (Feed p vertex values _) = values
+values_of (Take p edge t value) = []
+values_of (Notice p vertex t) = []
+values_of (Release p vertex times) = []
+values_of (Broadcast p part) = []
+values_of (Receive from to) = []
+
+-- a value arrives
+abbrev pub arrived : FedAt → ℤ → Change
+arrived f v = at_key f.to (Records (record_key f.edge (flat f.epoch) v)) (pos 1)
+
+-- the pointstamp of n records that arrive is added to what p has to send
+abbrev pub announced : FedAt → ℕ → ℕ → List Change
+announced f p n = some_of (at_key p (Unsent (point_at f.edge (flat f.epoch))) (pos n))
+
+-- the token of p's vertex moves, if it moves, and n records are announced; what is removed from what is unsent comes first, or
+-- last if the feed is late
+abbrev pub moved : FedAt → ℕ → ℕ → ℕ → List Change
+moved f p vertex n =
+    let token : Change = at_key p (Token vertex) (pos f.next -ℤ pos f.epoch) in
+    let goes : Change = at_key p (Unsent (point_at vertex (flat f.epoch))) (negsuc 0) in
+    let comes : Change = at_key p (Unsent (point_at vertex (flat f.next))) (pos 1) in
+    cond (nat_eq f.next f.epoch) (announced f p n)
+    (token ∷ cond f.late (comes ∷ announced f p n ++ goes ∷ []) (goes ∷ comes ∷ announced f p n))
+
+-- the changes after those of the records; none if the step is not a feed
+abbrev pub rest_of : {A : Type 0} → Step A → FedAt → List Change
+rest_of (Feed p vertex values _) f = moved f p vertex (length values)
+rest_of (Take p edge t value) f = []
+rest_of (Notice p vertex t) f = []
+rest_of (Release p vertex times) f = []
+rest_of (Broadcast p part) f = []
+rest_of (Receive from to) f = []
+
+-- the changes of a feed, in the order in which they are applied; none if the step is not a feed
+abbrev pub fed_changes : {A : Type 0} → Step A → FedAt → List Change
+fed_changes x f = map (arrived f) (values_of x) ++ rest_of x f
