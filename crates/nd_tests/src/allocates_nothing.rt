@@ -49,7 +49,7 @@ fn view_tells<A: Allocator + Copy>(paths: &Paths<A>, view: &View<A>) -> Option<b
     let graph = paths.graph();
     let (a, z) = (point(graph, "a", &[0])?, point(graph, "z", &[0])?);
     Some(
-        (view.get(&a), view.entries().len()) == (3, 2)
+        (view.get(&a), view.counts().len(), view.entries().count()) == (3, 2, 2)
             && !view.passed(paths, &z)
             && view.blocker_before(paths, &a) == None
             && view.precursors(paths, &z) == 1

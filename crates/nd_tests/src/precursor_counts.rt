@@ -164,10 +164,10 @@ fn has_entries(
     requires { IsFor paths.now view.now }
 {
     let graph = paths.graph();
+    let all = view.counts().whole(alloc).ok()?;
     let first = view.frontier(alloc, paths).ok()?;
     Some(
-        are_entries(graph, view.entries(), entries)
-            && are_entries(graph, first.entries(), frontier),
+        are_entries(graph, all.entries(), entries) && are_entries(graph, first.entries(), frontier),
     )
 }
 

@@ -7,7 +7,7 @@ use crate::graphs::{DISTINCT, LINE, LOOP, change, graph_of, paths_of, point, tim
 use crate::holdings::{move_token, set, set_item, take_all};
 use crate::queues::{len, push, unpop};
 use crate::views::view;
-use nd_delta::{Delta, DeltaFault};
+use nd_delta::{Delta, DeltaFault, LargeDelta};
 use nd_graph::{Graph, GraphDraft, GraphFault, Op};
 use nd_mesh::{Mesh, PushFault};
 use nd_paths::{PathFault, Paths};
@@ -37,7 +37,9 @@ enum Call {
     SubtractChanges,
     TakePartOfChange,
     CopyChange,
+    CombineLarge,
     ApplyToView,
+    ApplyManyToView,
     UnapplyFromView,
     ListFrontier,
     CopyView,
@@ -66,7 +68,7 @@ enum Call {
 }
 
 /// Each call, and whether it asks for memory.
-static CALLS: [(Call, bool); 39] = [
+static CALLS: [(Call, bool); 41] = [
     (Call::ReadDraft, true),
     (Call::ReadDraftV4, true),
     (Call::CheckDraft, true),
@@ -80,7 +82,9 @@ static CALLS: [(Call, bool); 39] = [
     (Call::SubtractChanges, true),
     (Call::TakePartOfChange, true),
     (Call::CopyChange, true),
+    (Call::CombineLarge, true),
     (Call::ApplyToView, true),
+    (Call::ApplyManyToView, true),
     (Call::UnapplyFromView, true),
     (Call::ListFrontier, true),
     (Call::CopyView, true),
@@ -167,8 +171,22 @@ fn changes<A: Allocator + Copy>(
         Call::AddChanges => met!(heap, n: one.plus(alloc, &other); DeltaFault::Memory, true),
         Call::SubtractChanges => met!(heap, n: one.minus(alloc, &other); DeltaFault::Memory, true),
         Call::TakePartOfChange => met!(heap, n: one.part(alloc, &[a]); AllocError, true),
+        Call::CombineLarge => {
+            let mut large = LargeDelta::new(alloc);
+            large.add(&a, 1).ok()?;
+            met!(heap, n: large.combine(alloc, &other, false); DeltaFault::Memory, true)
+        }
         _ => met!(heap, n: one.copy(alloc); AllocError, true),
     }
+}
+
+/// Returns a change of more entries than are added to a view one by one.
+fn large_change<A: Allocator + Copy>(alloc: A, graph: &Graph<A>) -> Option<Delta<A>> {
+    let mut made = Delta::new(alloc);
+    for epoch in 0..201 {
+        made.add(&point(graph, "z", &[epoch])?, 1).ok()?;
+    }
+    Some(made)
 }
 
 /// Does the same for a call on views.
@@ -195,9 +213,14 @@ fn views<A: Allocator + Copy>(
     let mut view = view(alloc, &paths, &olds)?;
     match call {
         Call::ApplyToView => met!(heap, n: view.apply(&paths, &news); DeltaFault::Memory,
-            view.entries().len() == 1 && view.kept(&a) == Some(0)),
+            view.counts().len() == 1 && view.kept(&a) == Some(0)),
+        Call::ApplyManyToView => {
+            let large = large_change(alloc, paths.graph())?;
+            met!(heap, n: view.apply(&paths, &large); DeltaFault::Memory,
+                view.counts().len() == 1 && view.kept(&a) == Some(0))
+        }
         Call::UnapplyFromView => met!(heap, n: view.unapply(&paths, &news); DeltaFault::Memory,
-            view.entries().len() == 1 && view.kept(&a) == Some(0)),
+            view.counts().len() == 1 && view.kept(&a) == Some(0)),
         Call::ListFrontier => met!(heap, n: view.frontier(alloc, &paths); AllocError, true),
         _ => met!(heap, n: view.copy(alloc); AllocError, true),
     }
@@ -379,10 +402,13 @@ fn meets<A: Allocator + Copy>(
         | Call::AddChanges
         | Call::SubtractChanges
         | Call::TakePartOfChange
-        | Call::CopyChange => changes(heap, alloc, &graph_of(json, alloc, LINE)?, call, n),
-        Call::ApplyToView | Call::UnapplyFromView | Call::ListFrontier | Call::CopyView => {
-            views(heap, alloc, json, call, n)
-        }
+        | Call::CopyChange
+        | Call::CombineLarge => changes(heap, alloc, &graph_of(json, alloc, LINE)?, call, n),
+        Call::ApplyToView
+        | Call::ApplyManyToView
+        | Call::UnapplyFromView
+        | Call::ListFrontier
+        | Call::CopyView => views(heap, alloc, json, call, n),
         Call::MakeMesh | Call::PushToAll | Call::PutBack | Call::CopyMesh => {
             let graph = graph_of(json, alloc, LINE)?;
             let change = change(alloc, &graph, &[("a", 0, 1), ("z", 0, 1)])?;

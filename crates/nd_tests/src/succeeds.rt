@@ -76,9 +76,9 @@ fn returns<A: Allocator + Copy>(
     let mut copy = base.copy(alloc).ok()?;
     let frontier = copy.frontier(alloc, paths).ok()?;
     copy.unapply(paths, news).ok()?;
-    let is_empty = copy.entries().is_empty();
+    let is_empty = copy.entries().next().is_none();
     copy.apply(paths, news).ok()?;
-    Some(is_empty && frontier.len() == news.len() && copy.entries().len() == news.len())
+    Some(is_empty && frontier.len() == news.len() && copy.entries().count() == news.len())
 }
 
 fn views<A: Allocator + Copy>(

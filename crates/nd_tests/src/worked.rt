@@ -6,7 +6,7 @@ use crate::graphs::{
 };
 use crate::queues::{len, pop, push, unpop, unpush};
 use crate::views::view;
-use nd_delta::{Delta, DeltaFault};
+use nd_delta::{Delta, DeltaFault, LargeDelta};
 use nd_graph::{Action, Graph, GraphDraft, GraphFault, Op};
 use nd_mesh::{LIMIT, Mesh, PushFault};
 use nd_paths::{Constants, PathFault, Paths, Summary};
@@ -227,10 +227,52 @@ fn sums(alloc: Global) -> Option<bool> {
     )
 }
 
+/// Returns a large change of these entries.
+fn large(alloc: Global, graph: &Graph, entries: &[Entry]) -> Option<LargeDelta> {
+    let whole = change(alloc, graph, entries)?;
+    let mut made = LargeDelta::new(alloc);
+    for entry in whole.entries() {
+        made.add(&entry.0, entry.1).ok()?;
+    }
+    Some(made)
+}
+
+/// Returns whether the sum and the difference of a large change with a change are what they should be.
+fn large_sums(alloc: Global) -> Option<bool> {
+    let graph = graph_of(alloc, alloc, LINE)?;
+    let one = large(alloc, &graph, &[("a", 0, 2)])?;
+    let other = change(alloc, &graph, &[("a", 0, -2), ("z", 0, 1)])?;
+    let sum = one.combine(alloc, &other, false).ok()?.whole(alloc).ok()?;
+    let difference = one.combine(alloc, &other, true).ok()?.whole(alloc).ok()?;
+    Some(
+        are_entries(&graph, sum.entries(), &[("z", 0, 1)])
+            && are_entries(&graph, difference.entries(), &[("a", 0, 4), ("z", 0, -1)]),
+    )
+}
+
+/// Returns whether the difference is refused at the limit, and the sum is not.
+fn is_large_limited(alloc: Global) -> Option<bool> {
+    let graph = graph_of(alloc, alloc, LINE)?;
+    let p = point(&graph, "a", &[0])?;
+    let mut full = LargeDelta::new(alloc);
+    full.put(&p, 1_099_511_627_776).ok()?;
+    let less = change(alloc, &graph, &[("a", 0, -1)])?;
+    let refused = full.combine(alloc, &less, true);
+    let sum = full.combine(alloc, &less, false).ok()?;
+    Some(
+        full.is_overfull(&less, true)
+            && !full.is_overfull(&less, false)
+            && matches!(refused, Err(DeltaFault::DeltaFull))
+            && sum.get(&p) == 1_099_511_627_775,
+    )
+}
+
 #[test]
 fn change_limits(rt: HostRuntime) {
     assert!(rt; is_limited(rt.alloc()) == Some(true));
     assert!(rt; sums(rt.alloc()) == Some(true));
+    assert!(rt; large_sums(rt.alloc()) == Some(true));
+    assert!(rt; is_large_limited(rt.alloc()) == Some(true));
 }
 
 /// The entries of a change that is upright; without the first it is not.
@@ -258,7 +300,8 @@ fn passes_when_undone(alloc: Global, paths: &Paths) -> Option<bool> {
         && view.blocker(paths, &z) == Some(a);
     view.unapply(paths, &change(alloc, graph, &[("a", 0, 3)])?)
         .ok()?;
-    let is_left = are_entries(graph, view.entries(), &[("az", 0, -1)]);
+    let left = view.counts().whole(alloc).ok()?;
+    let is_left = are_entries(graph, left.entries(), &[("az", 0, -1)]);
     Some(is_blocked && is_left && view.passed(paths, &z))
 }
 
@@ -281,11 +324,12 @@ fn is_undone(alloc: Global) -> Option<bool> {
     let less = change(alloc, paths.graph(), &[("a", 0, -1)])?;
     let mut view = view(alloc, &paths, &more)?;
     view.apply(&paths, &less).ok()?;
-    let is_gone = view.entries().is_empty();
+    let is_gone = view.counts().len() == 0;
     view.unapply(&paths, &less).ok()?;
-    let is_back = view.entries() == more.entries();
+    let back = view.counts().whole(alloc).ok()?;
+    let is_back = back.entries() == more.entries();
     view.unapply(&paths, &more).ok()?;
-    Some(is_gone && is_back && view.entries().is_empty())
+    Some(is_gone && is_back && view.counts().len() == 0)
 }
 
 #[test]

@@ -21,7 +21,7 @@ fn tells<A: Allocator + Copy>(cluster: &Cluster<A>) -> Option<bool> {
     let z = point(cluster.paths().graph(), "z", &[0])?;
     let _ = cluster.n();
     let counts = (
-        cluster.view(0).entries().len(),
+        cluster.view(0).counts().len(),
         cluster.queue_len(0, 0),
         cluster.processor(0).vertex_count(),
     );

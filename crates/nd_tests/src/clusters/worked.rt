@@ -187,6 +187,30 @@ fn flows_are_kept_of_plain_takes(rt: HostRuntime) {
     assert!(rt; keeps_flow(alloc, LINE, &fed, &Told::All(0)) == Some(false));
 }
 
+/// Returns whether the small record of a feed of *line*, after another, has no list.
+fn keeps_no_list(alloc: Global, before: Next, values: &'static [i64], next: Next) -> Option<bool> {
+    let before = [Told::Feed(0, "a", &[7], before)];
+    let cluster = reach(alloc, alloc, LINE, 1, &before)?;
+    let step = step_of(alloc, cluster.graph(), &Told::Feed(0, "a", values, next))?;
+    let record = cluster.plan(&step).ok()?.small();
+    Some(matches!(record.changes, Changes::Fed(_)))
+}
+
+#[test]
+fn feeds_in_order_are_kept_without_a_list(rt: HostRuntime) {
+    let alloc = rt.alloc();
+    for before in [Next::Stay, Next::Next, Next::To(5)] {
+        for next in [Next::Stay, Next::Next, Next::To(9)] {
+            assert!(rt; keeps_no_list(alloc, before, &[7], next) == Some(true));
+            assert!(rt; keeps_no_list(alloc, before, &[1, 2, 8], next) == Some(true));
+        }
+        assert!(rt; keeps_no_list(alloc, before, &[], Next::Next) == Some(true));
+        assert!(rt; keeps_no_list(alloc, before, &[2, 1], Next::Stay) == Some(false));
+        assert!(rt; keeps_no_list(alloc, before, &[7, 7], Next::Stay) == Some(false));
+        assert!(rt; keeps_no_list(alloc, before, &[7], Next::Close) == Some(false));
+    }
+}
+
 #[test]
 fn flows_are_kept_past_each_action(rt: HostRuntime) {
     let alloc = rt.alloc();
