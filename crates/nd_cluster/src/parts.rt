@@ -181,7 +181,8 @@ fn change_fits<A: Allocator>(graph: &Graph<A>, change: &Delta<A>) -> bool
 
 // Returns whether the entries of a change that may be large are only at pointstamps of the graph.
 fn counts_fit<A: Allocator>(graph: &Graph<A>, counts: &LargeDelta<A>) -> bool
-    ensures fits { IsTrue result ↔ All (λ e. IsAtLocation graph.now e.0) (entries_of counts.now) }
+    ensures fits { IsTrue result
+        ↔ All (λ e. IsAtLocation graph.now e.0) (entries_of counts.now) }
     ensures within { DeltaIsWithin counts.now }
 {
     counts
