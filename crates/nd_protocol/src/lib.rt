@@ -8,6 +8,7 @@ mod processors;
 mod refusal;
 mod step;
 mod times;
+mod values;
 
 pub use laws::{protocol_is_safe, starts_keep_protocol, steps_keep_protocol, truth_is_small};
 pub use nd_time::NoMemory;
@@ -15,5 +16,6 @@ pub use numbers::times_are_small;
 pub use part::{Part, Points};
 pub use processors::Processors;
 pub use refusal::Refusal;
-pub use step::{Next, Step, Values};
+pub use step::{Next, Step};
 pub use times::{BoxedTimes, Times};
+pub use values::Values;

@@ -1,67 +1,9 @@
 //! The steps that a cluster can execute.
-ghost use Rattle.std.specs.Prelude.{◌≡◌, ◌≢◌, [], ◌∷◌, ◌++◌, IfOk, OnOk, OnErr, MatchBool};
+ghost use Rattle.std.specs.Prelude.{◌≡◌, ◌≢◌, IfOk, MatchBool};
 
-use crate::{BoxedTimes, Part};
+use crate::{BoxedTimes, Part, Values};
 use nd_time::Timestamp;
 use std::alloc::{AllocError, Allocator, Global};
-use std::marker::Model;
-
-/// A list of values, in the order in which they are fed.
-#[derive(Drop)]
-pub struct Values<A: Allocator = Global> {
-    items: Vec<i64, A>,
-}
-
-impl<A: Allocator> Model for Values<A> {
-    ghost use Rattle.std.specs.Prelude.{List, ℤ};
-
-    ghost Value = { List ℤ };
-
-    ghost view = { λ a. a.items.items };
-}
-
-impl<A: Allocator> Values<A> {
-    /// Returns an empty list.
-    pub fn new(alloc: A) -> Values<A>
-        ensures { result ≡ [] }
-    {
-        Values {
-            items: Vec::new(alloc),
-        }
-    }
-
-    /// Returns the values.
-    pub fn as_slice(&self) -> &[i64]
-        ensures { result.now ≡ self.now }
-    {
-        &self.items
-    }
-
-    /// Appends a value.
-    pub fn push(&mut self, value: i64) -> Result<(), AllocError>
-        ensures ok { OnOk result (self.new ≡ self.old ++ value ∷ []) }
-        ensures err { OnErr result (self.new ≡ self.old) }
-    {
-        self.items.push(value)?;
-        Ok(())
-    }
-
-    /// Returns an equal list.
-    pub fn copy(&self, alloc: A) -> Result<Values<A>, AllocError>
-        ensures { IfOk result (λ v. v ≡ self.now) }
-    {
-        Ok(Values {
-            items: Vec::from_slice(alloc, &self.items)?,
-        })
-    }
-
-    // Returns whether the two lists are equal.
-    pub(crate) fn same(&self, other: &Values<A>) -> bool
-        ensures { MatchBool result (self.now ≡ other.now) (self.now ≢ other.now) }
-    {
-        self.items.as_slice() == other.items.as_slice()
-    }
-}
 
 /// What happens to an input's token after a feed.
 #[derive(Clone, Copy, Debug, PartialEq, Eq, Drop)]

@@ -8,6 +8,7 @@ use crate::holdings::{item, move_token, set, set_item};
 use crate::kinds::{KINDS, Kind};
 use crate::queues::{len, pop, push, unpush};
 use crate::refused::{Heap, many};
+use crate::scripts::values_of;
 use crate::views::view;
 use nd_delta::Delta;
 use nd_graph::Graph;
@@ -189,6 +190,19 @@ fn answers<A: Allocator + Copy>(heap: &Heap, alloc: A, json: Global, kind: &Kind
         Kind::Queues => queues_tell(heap, alloc, json),
         Kind::Processors => processors_tell(heap, alloc, json),
     }
+}
+
+/// Returns whether three values to feed, made and copied, take no memory and stand in their order.
+fn values_tell<A: Allocator + Copy>(heap: &Heap, alloc: A) -> Option<bool> {
+    let three = unasked!(heap: values_of(alloc, &[7, 5, 7])?.copy(alloc).ok()?);
+    Some(three.as_slice() == [7, 5, 7].as_slice())
+}
+
+#[test]
+fn three_values_take_none(rt: HostRuntime) {
+    let heap = Refusing::new(rt.alloc());
+    assert!(rt; values_tell(&heap, &heap) == Some(true));
+    assert!(rt; heap.live() == 0);
 }
 
 #[test]

@@ -17,6 +17,9 @@ type Heap = Refusing<Global>;
 /// A feed of a value.
 const FEED: Asked = Asked::Forward(Told::Feed(0, "a", &[5], Next::Next));
 
+/// A feed of so many values that each copy of it takes memory.
+const FEED_OF_FOUR: Asked = Asked::Forward(Told::Feed(0, "a", &[5, 6, 7, 8], Next::Next));
+
 /// The answer to a command with ample memory.
 #[derive(Drop)]
 enum Wanted {
@@ -266,7 +269,7 @@ fn copied<A: Allocator + Copy, R: Wait>(setup: &Setup<A, R>, n: u64) -> Option<b
 /// The error is that of such a client, or out of memory.
 fn refused<A: Allocator + Copy, R: Wait>(setup: &Setup<A, R>, n: u64) -> Option<bool> {
     let (_, stranger) = driven(setup, &[Asked::Back])?;
-    let (session, _) = driven(setup, &[FEED])?;
+    let (session, _) = driven(setup, &[FEED_OF_FOUR])?;
     setup.heap.refuse(n);
     let fault = session.copy(setup.rt, setup.alloc, &stranger).err();
     let met = setup.heap.relent(n);
@@ -408,7 +411,7 @@ fn receipt_copies<A: Allocator + Copy>(
 #[test]
 fn copy_of_a_receipt_out_of_memory(rt: HostRuntime) {
     let heap = Refusing::new(rt.alloc());
-    for asked in [FEED, Asked::RunOnly(10, &[0])] {
+    for asked in [FEED_OF_FOUR, Asked::RunOnly(10, &[0])] {
         let count = receipt_copies(&heap, rt.alloc(), &heap, &asked);
         assert!(rt; matches!(count, Some(n) if n > 0));
     }

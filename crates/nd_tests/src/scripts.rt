@@ -82,7 +82,7 @@ pub fn start<A: Allocator + Copy>(
 }
 
 /// Returns the list of these values.
-pub fn values_of<A: Allocator>(alloc: A, list: &[i64]) -> Option<Values<A>> {
+pub fn values_of<A: Allocator + Copy>(alloc: A, list: &[i64]) -> Option<Values<A>> {
     let mut values = Values::new(alloc);
     for value in list {
         values.push(*value).ok()?;

@@ -37,7 +37,7 @@ fn meets<A: Allocator + Copy>(
     n: u64,
 ) -> Option<bool> {
     let cluster = reach(json, alloc, LINE, 2, &[])?;
-    let told = Told::Feed(0, "a", &[5, 6], Next::Close);
+    let told = Told::Feed(0, "a", &[5, 6, 7, 8], Next::Close);
     let step = step_of(alloc, cluster.graph(), &told)?;
     match call {
         Call::Start => {
@@ -51,8 +51,8 @@ fn meets<A: Allocator + Copy>(
             met!(heap, n: record.copy(alloc); AllocError, true)
         }
         Call::PushValue => {
-            let mut values = values_of(alloc, &[1, 2])?.copy(alloc).ok()?;
-            met!(heap, n: values.push(3); AllocError, values.as_slice() == [1, 2].as_slice())
+            let mut values = values_of(alloc, &[1, 2, 3])?.copy(alloc).ok()?;
+            met!(heap, n: values.push(4); AllocError, values.as_slice() == [1, 2, 3].as_slice())
         }
         Call::TellWhy => why(heap, alloc, json, n),
         _ => small_parts(heap, alloc, json, call, n),

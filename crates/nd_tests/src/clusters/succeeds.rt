@@ -97,7 +97,7 @@ fn starts_empty<A: Allocator + Copy>(json: Global, alloc: A) -> Option<bool> {
 }
 
 /// Returns the feed of the numbers below `count`.
-fn feed<A: Allocator>(alloc: A, count: i64) -> Option<Step<A>> {
+fn feed<A: Allocator + Copy>(alloc: A, count: i64) -> Option<Step<A>> {
     let mut values = Values::new(alloc);
     for value in 0..count {
         values.push(value).ok()?;
