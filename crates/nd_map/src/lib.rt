@@ -3,7 +3,7 @@
 
 ghost use Rattle.std.specs.Prelude.{◌≡◌, ◌<◌, ◌≤◌, ◌↔◌, ◌^◌, [], OnOk, OnErr, IfOk, IfErr, IsTrue, None, length, not, slice_get};
 ghost use Rattle.std.specs.Option.{ForSome, option_map};
-ghost use Rattle.std.specs.FinMap.{find, put};
+ghost use Rattle.std.specs.FinMap.{IsAntisymmetric, find, nat_cmp-IsAntisymmetric, put};
 ghost use Rattle.std.specs.List.{filter};
 ghost use Rattle.std.specs.BTreeMap.Range.{IsLeBy, is_from_start, is_past_end, entries_between};
 ghost use Rattle.std.specs.declared.ops.Bound.TheVariants.{Included};
@@ -27,12 +27,17 @@ pub trait Key: Ord + Drop {
     /// Returns an equal key.
     fn duplicate(&self) -> Self
         ensures { result ≡ self.now };
+
+    /// Keys that compare equal are equal.
+    ghost exact: { IsAntisymmetric Self.Ord.cmp };
 }
 
 impl Key for usize {
     fn duplicate(&self) -> usize {
         *self
     }
+
+    ghost exact = { nat_cmp-IsAntisymmetric };
 }
 
 /// A finite map, seen as the list of its entries in the order of their keys.

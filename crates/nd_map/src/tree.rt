@@ -166,15 +166,18 @@ impl<K: Key, V: Copy, A: Allocator + Clone> TreeMap<K, V, A> {
         }
     }
 
-    // Returns a copy of the map.
+    // Returns a copy of the map. It takes time linear in the number of entries.
     pub(crate) fn copy(&self, alloc: A) -> Result<TreeMap<K, V, A>, AllocError>
         ensures equal { IfOk result (λ m. m ≡ self.now) }
         ensures listed { IsListed K.cmp self.now }
     {
-        let mut copied = TreeMap::new(alloc);
-        for (key, value) in self.iter() {
-            copied.put(key, *value)?;
+        let left = self.iter();
+        let mut entries = Vec::with_capacity(alloc.clone()?, self.len())?;
+        for (key, value) in left {
+            entries.push((key.duplicate(), *value))?;
         }
-        Ok(copied)
+        Ok(TreeMap {
+            tree: BTreeMap::from_iter(alloc, entries)?,
+        })
     }
 }
